@@ -1,0 +1,6 @@
+pub mod Key
+pub mod Listing
+pub mod Name
+pub mod Paid
+pub mod Route
+pub mod Time

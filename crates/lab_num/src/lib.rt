@@ -1,0 +1,18 @@
+//! Numbers, names, times and keys that all crates of the laboratory share.
+#![tactic(auto)]
+
+mod key;
+mod name;
+mod number;
+mod post;
+mod rows;
+mod text;
+mod time;
+
+pub use key::{Key, Member};
+pub use name::is_name;
+pub use number::{BoardNo, Micros, NoMemory, PostNo};
+pub use post::{Entry, Payload, Post, What};
+pub use rows::Rows;
+pub use text::Text;
+pub use time::{TimeFault, read_time};
