@@ -26,12 +26,13 @@ abbrev pub with_cut : {X : Type 0} → Option (List ℕ × List ℕ) → X → (
 with_cut None alone both = alone
 with_cut (Some x) alone both = both x.0 x.1
 
--- the number that one to `most` decimal digits write, and nothing for any other text
+-- from one to `most` decimal digits, and nothing else
+abbrev pub are_digits : ℕ → List ℕ → Bool
+are_digits most text = nat_le 1 (length text) && nat_le (length text) most && list_all is_ascii_digit text
+
+-- the number that they write
 abbrev pub digits : ℕ → List ℕ → Option ℕ
-digits most text =
-    if nat_le 1 (length text) && nat_le (length text) most && list_all is_ascii_digit text
-    then Some (digits_value 10 text)
-    else None
+digits most text = if are_digits most text then Some (digits_value 10 text) else None
 
 -- minutes, or the seconds behind them: one or two digits, at most 59
 abbrev pub sixtieths : List ℕ → Option ℕ

@@ -2,6 +2,7 @@
 #![tactic(auto)]
 
 mod key;
+mod listing;
 mod name;
 mod number;
 mod post;
@@ -10,6 +11,7 @@ mod text;
 mod time;
 
 pub use key::{Key, Member};
+pub use listing::listing_laws;
 pub use name::is_name;
 pub use number::{BoardNo, Micros, NoMemory, PostNo};
 pub use post::{Entry, Payload, Post, What};
