@@ -53,8 +53,8 @@ module _ {T : Type 0} (key : T → Key) where
       members_if (is_lt (key_cmp (key item) (key x))) (item ∷ x ∷ xs) (item ∷ x ∷ xs) (x ∷ insert_by_key key item xs)
       (IsPermutation-refl (item ∷ x ∷ xs))
       (IsPermutation-trans (item ∷ x ∷ xs) (x ∷ item ∷ xs) (x ∷ insert_by_key key item xs)
-        (IsPermutation-middle (item ∷ []) x xs)
-        (IsPermutation-cons x (item ∷ xs) (insert_by_key key item xs) (insert_members item xs)))
+      (IsPermutation-middle (item ∷ []) x xs)
+      (IsPermutation-cons x (item ∷ xs) (insert_by_key key item xs) (insert_members item xs)))
 
   -- one step of `insert_rising`, by how the item's key compares with the first key
   insert_step :
@@ -108,7 +108,7 @@ module _ {T : Type 0} (key : T → Key) where
   -- ---- a listing is the only one
 
   -- what holds of all of one list holds of all of another
-  HoldsOn : List T → List T → Type 1
+  abbrev HoldsOn : List T → List T → Type 1
   HoldsOn xs ys = (P : T → Type 0) → AllByRecursion P xs → AllByRecursion P ys
 
   both_all :
@@ -124,3 +124,76 @@ module _ {T : Type 0} (key : T → Key) where
   key_all : (R : Key → Type 0) (ys : List T) → AllByRecursion R (map key ys) → AllByRecursion (λ z. R (key z)) ys
   key_all R [] all = tt
   key_all R (y ∷ ys) all = (all.0, key_all R ys all.1)
+
+  first_of_both :
+      (x y : T) → (x ≡ y) ⊎ (key_cmp (key y) (key x) ≡ Less) → (y ≡ x) ⊎ (key_cmp (key x) (key y) ≡ Less) → x ≡ y
+  first_of_both x y (inl is) back = is
+  first_of_both x y (inr below) (inl is) = sym is
+  first_of_both x y (inr below) (inr above) =
+      let turned : Less ≡ Greater = sym below ∙ key_total.antisymm (key y) (key x) ∙ ap ordering_reverse above in
+      absurd (cc)
+
+  -- lists with the same members that rise begin with the same item
+  first_is :
+      (x y : T) (xs ys : List T) → HoldsOn (x ∷ xs) (y ∷ ys) → HoldsOn (y ∷ ys) (x ∷ xs) →
+      AllByRecursion (λ z. key_cmp (key x) z ≡ Less) (map key xs) →
+      AllByRecursion (λ z. key_cmp (key y) z ≡ Less) (map key ys) → x ≡ y
+  first_is x y xs ys to from up down =
+      let P : T → Type 0 = λ z. (z ≡ y) ⊎ (key_cmp (key y) (key z) ≡ Less) in
+      let Q : T → Type 0 = λ z. (z ≡ x) ⊎ (key_cmp (key x) (key z) ≡ Less) in
+      let later : AllByRecursion P ys =
+      any_all (λ z. key_cmp (key y) (key z) ≡ Less) P (λ z below. inr below) ys (key_all (λ z. key_cmp (key y) z ≡ Less) ys down) in
+      let sooner : AllByRecursion Q xs =
+      any_all (λ z. key_cmp (key x) (key z) ≡ Less) Q (λ z below. inr below) xs (key_all (λ z. key_cmp (key x) z ≡ Less) xs up) in
+      let there : AllByRecursion P (x ∷ xs) = from P (inl refl, later) in
+      let here : AllByRecursion Q (y ∷ ys) = to Q (inl refl, sooner) in
+      first_of_both x y there.0 here.0
+
+  not_first :
+      (x y z : T) (P : T → Type 0) → x ≡ y → (P z) ⊎ (z ≡ x) → key_cmp (key y) (key z) ≡ Less → P z
+  not_first x y z P is (inl holds) below = holds
+  not_first x y z P is (inr first) below =
+      let one : key_cmp (key y) (key y) ≡ Less = subst (λ w. key_cmp (key y) (key w) ≡ Less) (first ∙ is) below in
+      let turned : Less ≡ Equal = sym one ∙ tied_itself key_total (key y) in
+      absurd (cc)
+
+  -- behind one first item they have the same members
+  rest_holds :
+      (x y : T) (xs ys : List T) → x ≡ y → HoldsOn (x ∷ xs) (y ∷ ys) →
+      AllByRecursion (λ z. key_cmp (key y) z ≡ Less) (map key ys) → HoldsOn xs ys
+  rest_holds x y xs ys is to down P all =
+      let Q : T → Type 0 = λ z. (P z) ⊎ (z ≡ x) in
+      let given : AllByRecursion Q xs = any_all P Q (λ z holds. inl holds) xs all in
+      let there : AllByRecursion Q (y ∷ ys) = to Q (inr refl, given) in
+      both_all P Q (λ z. key_cmp (key y) z ≡ Less) (λ z either below. not_first x y z P is either below) ys there.1 down
+
+  -- lists with the same members that rise are one
+  same_rising :
+      (xs ys : List T) → HoldsOn xs ys → HoldsOn ys xs →
+      IsStrictlySortedBy key_cmp (map key xs) → IsStrictlySortedBy key_cmp (map key ys) → xs ≡ ys
+  unfolding IsStrictlySortedBy
+  same_rising [] [] to from up down = refl
+  same_rising [] (y ∷ ys) to from up down = absurd (to (λ z. ⊥) tt).0
+  same_rising (x ∷ xs) [] to from up down = absurd (from (λ z. ⊥) tt).0
+  same_rising (x ∷ xs) (y ∷ ys) to from up down =
+      let first : x ≡ y = first_is x y xs ys to from up.0 down.0 in
+      let rest : xs ≡ ys =
+      same_rising xs ys (rest_holds x y xs ys first to down.0) (rest_holds y x ys xs (sym first) from up.0) up.1 down.1 in
+      cc
+
+  holds_on : (xs ys : List T) → IsPermutation xs ys → HoldsOn xs ys
+  holds_on xs ys moved P all = recursion_from_All P ys (All-permutation P xs ys moved (All-from_recursion P xs all))
+
+  -- a listing is the items in rising order of key
+  pub only_listing : (items listed : List T) → IsListing key items listed → listed ≡ listing key items
+  only_listing items listed is =
+      let back = IsPermutation-sym items listed is.members in
+      let differ : KeysDiffer key items =
+      IsDistinct-IsPermutation (eq_by_cmp key_cmp) (eq_by_cmp_equiv key_total).symm (map key listed) (map key items)
+      (IsPermutation-map key listed items back)
+      (IsDistinct-from_sorted key_cmp (map key listed) is.rising) in
+      let other = is_listing items differ in
+      let over = IsPermutation-trans listed items (listing key items) back other.members in
+      same_rising listed (listing key items) (holds_on listed (listing key items) over)
+      (holds_on (listing key items) listed (IsPermutation-sym listed (listing key items) over))
+      is.rising other.rising

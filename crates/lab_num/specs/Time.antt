@@ -10,7 +10,6 @@ use Rattle.lab_num.specs.declared.time.TimeFault.{TimeFault}
 use Rattle.lab_num.specs.declared.time.TimeFault.TheVariants.{Form, Limit}
 
 infixl 10 ◌>>=◌
-
 abbrev ◌>>=◌ : {A B : Type 0} → Option A → (A → Option B) → Option B
 o >>= f = option_and_then f o
 

@@ -23,3 +23,18 @@ pub fn is_name(text: &str) -> bool
 {
     !text.is_empty() && are_name_chars(text)
 }
+
+#[cfg(test)]
+mod tests {
+    use super::*;
+
+    #[test]
+    fn tells_names_from_other_texts(rt: HostRuntime) {
+        for text in ["m", "m0", "machine-0", "A_b-9", "-", "_", "0"] {
+            assert!(rt; is_name(text), "{text}");
+        }
+        for text in ["", " ", "a b", "a.b", "$a", "a/b", "\"a\"", "é", "a\n"] {
+            assert!(rt; !is_name(text), "{text}");
+        }
+    }
+}

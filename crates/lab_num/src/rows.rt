@@ -52,3 +52,19 @@ impl<T: Eq> Eq for Rows<T> {
 
     ghost laws = { lists_equiv T.Eq.laws };
 }
+
+#[cfg(test)]
+mod tests {
+    use super::*;
+    use std::test::Fail;
+
+    #[test]
+    fn keeps_its_items_in_order(rt: HostRuntime) -> Result<(), Fail> {
+        let rows = Rows::of(vec![in rt.alloc(); 3, 1, 2]?);
+        assert_eq!(rt; rows.items(), [3, 1, 2].as_slice());
+        assert!(rt; rows == rows.clone()?);
+        assert!(rt; rows != Rows::of(vec![in rt.alloc(); 1, 2, 3]?));
+        assert_eq!(rt; rows.into_items().as_slice(), [3, 1, 2].as_slice());
+        Ok(())
+    }
+}

@@ -9,6 +9,6 @@ pub returns : goal.returns
 returns c =
     let some : 0 < length c.args.text.now = grind (arith, nat_tests) in
     let said : c.ok.result ≡ times.digits c.args.most c.args.text.now =
-      c.ok.ensures.value
-      ∙ digits_parse c.args.most c.args.text.now _ c.parse.ensures.value.0 c.requires some (omega arith) (search rules) in
+    c.ok.ensures.value
+    ∙ digits_parse c.args.most c.args.text.now _ c.parse.ensures.value.0 c.requires some (omega arith) (search rules) in
     record { value = said; fits = rw said (digits_fit c.args.most c.args.text.now) }
