@@ -1,2 +1,4 @@
+-- Lemmas of lab_num.
 pub mod DigitLemmas
+mod Examples
 pub mod ListingLemmas

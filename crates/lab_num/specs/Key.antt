@@ -1,5 +1,5 @@
 -- The order of keys, and when keys differ and members are one.
-use Rattle.std.specs.Prelude.{ℕ, Bool, ◌==◌, ◌&&◌, List, map}
+use Rattle.std.specs.Prelude.{Bool, ◌==◌, ◌&&◌, List, map}
 use Rattle.std.specs.List.{IsDistinct}
 use Rattle.std.specs.declared.cmp.Ordering.{Ordering}
 use Rattle.std.specs.Ordering.{nat_cmp, ordering_then, eq_by_cmp}

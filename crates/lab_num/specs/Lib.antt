@@ -1,3 +1,4 @@
+-- What contracts of lab_num and of the crates above cite.
 pub mod Key
 pub mod Listing
 pub mod Name

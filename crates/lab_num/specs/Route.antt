@@ -1,5 +1,5 @@
 -- To whom a hub hands on what a member sends.
-use Rattle.std.specs.Prelude.{Bool, not, List, [], filter, find, unwrap_or}
+use Rattle.std.specs.Prelude.{not, List, [], filter, find, unwrap_or}
 use Rattle.std.specs.List.{list_any}
 use Rattle.lab_num.specs.declared.key.Member.{Member}
 use Rattle.lab_num.specs.Key.{same_member}

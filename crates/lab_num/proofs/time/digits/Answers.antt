@@ -1,5 +1,5 @@
 -- `parse` gives what the digits say, which is below 10 to their number.
-use Rattle.std.proofs.Common.{◌≡◌, ◌<◌, ◌^◌, ◌∙◌, IfSome, length, arith, rules}
+use Rattle.std.proofs.Common.{◌≡◌, ◌<◌, ◌∙◌, length, arith, rules}
 use Rattle.std.proofs.lemmas.Bool.Decides.{nat_tests}
 use Rattle.lab_num.proofs.DigitLemmas.{digits_fit, digits_parse}
 use Rattle.lab_num.specs.Time as times
