@@ -1,0 +1,56 @@
+//! The standard output as an output that counts its faults.
+ghost use Rattle.std.specs.Prelude.{◌≡◌, ◌≢◌, ◌≤◌, [], length, take, None};
+ghost use Rattle.lab_io.specs.Known.{grown, Rose};
+ghost use Rattle.lab_io.specs.Sink.{IsTaken, taken};
+
+use crate::sink::{Sink, Wrote};
+use std::marker::Model;
+
+/// The standard output. What has been written is not told: of it contracts see how many faults there
+/// have been.
+#[derive(Drop)]
+pub struct OutSink<'a, R> {
+    rt: &'a R,
+    faults: u64,
+}
+
+impl<'a, R> Model for OutSink<'a, R> {
+    ghost use Rattle.std.specs.Prelude.{ℕ};
+
+    ghost Value = { ℕ };
+
+    ghost view = { λ sink. sink.faults };
+}
+
+impl<'a, R: Print> OutSink<'a, R> {
+    /// There has been no fault yet.
+    pub fn new(rt: &'a R) -> OutSink<'a, R>
+        ensures { result ≡ 0 }
+    {
+        OutSink { rt, faults: 0 }
+    }
+}
+
+impl<R: Print> Sink for OutSink<'_, R> {
+    ghost written = { λ _. None };
+
+    ghost faults = { λ faults. faults };
+
+    /// An output that takes nothing has failed.
+    fn write(&mut self, piece: &[u8]) -> Wrote
+        requires { piece.now ≢ [] }
+        ensures taken { IsTaken result (length piece.now) }
+        ensures written { None ≡ grown None (take (taken result) piece.now) }
+        ensures failed { result ≡ Wrote.Failed → Rose self.old self.new }
+        ensures faults { self.old ≤ self.new }
+        ensures never_memory { result ≢ Wrote.Memory }
+    {
+        match self.rt.write_some(piece) {
+            Ok(count) if count > 0 => Wrote::Took(count),
+            _ => {
+                self.faults = self.faults.saturating_add(1);
+                Wrote::Failed
+            }
+        }
+    }
+}
