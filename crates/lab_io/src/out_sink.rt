@@ -54,3 +54,63 @@ impl<R: Print> Sink for OutSink<'_, R> {
         }
     }
 }
+
+#[cfg(test)]
+mod tests {
+    use super::*;
+    use crate::sink::{WriteFault, write_whole};
+    use std::fmt::Display;
+    use std::io;
+    use std::test::Fail;
+
+    #[test]
+    fn a_piece_reaches_the_standard_output(rt: HostRuntime) {
+        let mut out = OutSink::new(&rt);
+        assert_eq!(rt;
+            write_whole(&mut out, b"written by a test of OutSink\n"),
+            Ok(())
+        );
+        assert_eq!(rt; out.faults, 0);
+    }
+
+    /// An output that takes at most so many bytes, or that is broken.
+    #[derive(Drop)]
+    enum Terminal {
+        Takes(usize),
+        Broken,
+    }
+
+    impl Print for Terminal {
+        fn print<D: Display + Drop>(&self, _value: D) -> io::Result<()> {
+            Ok(())
+        }
+
+        fn println<D: Display + Drop>(&self, _value: D) -> io::Result<()> {
+            Ok(())
+        }
+
+        fn write_all(&self, _bytes: &[u8]) -> io::Result<()> {
+            Ok(())
+        }
+
+        fn write_some(&self, bytes: &[u8]) -> io::Result<usize> {
+            match self {
+                Terminal::Takes(most) => Ok(bytes.len().min(*most)),
+                Terminal::Broken => Err(io::ErrorKind::BrokenPipe.into()),
+            }
+        }
+    }
+
+    #[test]
+    fn an_output_that_takes_nothing_is_a_counted_fault(rt: HostRuntime) {
+        for (terminal, answer, faults) in [
+            (Terminal::Takes(2), Ok(()), 0),
+            (Terminal::Takes(0), Err(WriteFault::Unwritten), 1),
+            (Terminal::Broken, Err(WriteFault::Unwritten), 1),
+        ] {
+            let mut out = OutSink::new(&terminal);
+            assert_eq!(rt; write_whole(&mut out, b"abcde"), answer);
+            assert_eq!(rt; out.faults, faults);
+        }
+    }
+}

@@ -1,5 +1,5 @@
 //! An output that takes bytes piece by piece, and the write of a whole piece.
-ghost use Rattle.std.specs.Prelude.{◌≡◌, ◌≢◌, ℕ, ◌≤◌, List, [], Option, length, take, OnOk, OnErr, IsErrOf};
+ghost use Rattle.std.specs.Prelude.{◌≡◌, ◌≢◌, ℕ, ◌≤◌, List, [], Option, length, take, OnOk, OnErr, IsErrOf, IsOk};
 ghost use Rattle.lab_io.specs.Known.{grown, Rose};
 ghost use Rattle.lab_io.specs.Sink.{IsTaken, taken, IsPartWritten};
 
@@ -48,7 +48,7 @@ pub fn write_whole<K: Sink>(out: &mut K, piece: &[u8]) -> Result<(), WriteFault>
     ensures part { OnErr result (IsPartWritten (K.written out.old) piece.now (K.written out.new)) }
     ensures unwritten { IsErrOf result WriteFault.Unwritten → Rose (K.faults out.old) (K.faults out.new) }
 
-    ensures empty { piece.now ≡ [] → out.new ≡ out.old }
+    ensures empty { piece.now ≡ [] → (IsOk result) × (out.new ≡ out.old) }
     ensures faults { K.faults out.old ≤ K.faults out.new }
 {
     let mut at = 0;
@@ -60,4 +60,43 @@ pub fn write_whole<K: Sink>(out: &mut K, piece: &[u8]) -> Result<(), WriteFault>
         }
     }
     Ok(())
+}
+
+#[cfg(test)]
+mod tests {
+    use super::*;
+    use crate::mem_sink::MemSink;
+    use std::test::Fail;
+
+    #[test]
+    fn a_piece_is_written_whole_byte_by_byte(rt: HostRuntime) -> Result<(), Fail> {
+        let mut out = MemSink::new(rt.alloc(), 1);
+        // The third write is the last of the first piece.
+        out.fail_at(3)?;
+        assert_eq!(rt; write_whole(&mut out, b"abc"), Ok(()));
+        assert_eq!(rt; write_whole(&mut out, b"d"), Err(WriteFault::Unwritten));
+        assert_eq!(rt; write_whole(&mut out, b"ef"), Ok(()));
+        assert_eq!(rt; out.bytes(), b"abcef".as_slice());
+        Ok(())
+    }
+
+    #[test]
+    fn a_fault_in_mid_stream_leaves_the_front(rt: HostRuntime) -> Result<(), Fail> {
+        let mut out = MemSink::new(rt.alloc(), 2);
+        out.fail_at(2)?;
+        assert_eq!(rt; write_whole(&mut out, b"abcde"), Err(WriteFault::Unwritten));
+        assert_eq!(rt; out.bytes(), b"abcd".as_slice());
+        assert_eq!(rt; write_whole(&mut out, b"fgh"), Ok(()));
+        assert_eq!(rt; out.bytes(), b"abcdfgh".as_slice());
+        Ok(())
+    }
+
+    #[test]
+    fn an_empty_piece_makes_no_write(rt: HostRuntime) -> Result<(), Fail> {
+        let mut out = MemSink::new(rt.alloc(), 1);
+        out.fail_at(0)?;
+        assert_eq!(rt; write_whole(&mut out, b""), Ok(()));
+        assert_eq!(rt; write_whole(&mut out, b"a"), Err(WriteFault::Unwritten));
+        Ok(())
+    }
 }
