@@ -82,14 +82,14 @@ mod tests {
     #[test]
     fn real_files_are_read_whole(rt: HostRuntime) -> Result<(), Fail> {
         let alloc = rt.alloc();
-        // More than two fillings of the buffer.
-        let text = vec![in alloc; b'a'; 10_000]?;
+        // More than one filling of the buffer.
+        let text = vec![in alloc; b'a'; 5_000]?;
         fs::write(&rt, "lab_io_real_file", text.as_slice())?;
         let mut files = DiskFiles::new(&rt);
         for (name, limit, answer, len) in [
-            ("lab_io_real_file", 67_108_864, ReadAnswer::Done, 10_000),
-            ("lab_io_real_file", 10_000, ReadAnswer::Done, 10_000),
-            ("lab_io_real_file", 9_999, ReadAnswer::TooLarge, 0),
+            ("lab_io_real_file", 9_000, ReadAnswer::Done, 5_000),
+            ("lab_io_real_file", 5_000, ReadAnswer::Done, 5_000),
+            ("lab_io_real_file", 4_999, ReadAnswer::TooLarge, 0),
             ("lab_io_no_such_file", 64, ReadAnswer::Failed, 0),
             // A folder may be opened, and not be read.
             (".", 64, ReadAnswer::Failed, 0),
