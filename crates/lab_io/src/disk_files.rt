@@ -94,6 +94,7 @@ mod tests {
             // A folder may be opened, and not be read.
             (".", 64, ReadAnswer::Failed, 0),
         ] {
+            assert!(rt; limit <= 9_000);
             let mut into = Vec::new(alloc);
             assert_eq!(rt;
                 files.read(name, limit, &mut into),
