@@ -1,0 +1,5 @@
+pub mod Known
+pub mod Held
+pub mod Sink
+pub mod FilesSeen
+pub mod SinkSeen

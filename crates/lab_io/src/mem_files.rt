@@ -1,0 +1,205 @@
+//! Files in memory, whose reads can be made to fail.
+ghost use Rattle.std.specs.Prelude.{◌≡◌, ◌≢◌, ◌↔◌, ◌≤◌, ◌++◌, ◌∷◌, [], Some, IsNone, OnOk, OnErr, IsTrue, Contains};
+ghost use Rattle.std.specs.Option.{option_copied};
+ghost use Rattle.std.specs.FinMap as map;
+ghost use Rattle.lab_io.specs.Known.{grown, Rose};
+ghost use Rattle.lab_io.specs.Held.{IsReadAs, asks};
+
+use crate::files::{Files, ReadAnswer};
+use std::alloc::{AllocError, Global};
+use std::collections::VecDeque;
+use std::marker::Model;
+
+/// A name and the bytes that it was given.
+#[derive(Drop)]
+struct Stored {
+    name: String,
+    bytes: Vec<u8>,
+}
+
+/// Files in memory. Each read has a number, counted from 0, and those that are listed fail.
+/// The number stands still at 2^64 - 1 once it is there.
+#[derive(Drop)]
+pub struct MemFiles {
+    alloc: Global,
+    /// The newest first, so that of two files of one name the newer is found.
+    stored: VecDeque<Stored>,
+    asked: Vec<String>,
+    failing: Vec<u64>,
+    calls: u64,
+    faults: u64,
+}
+
+impl Model for MemFiles {
+    ghost use Rattle.std.specs.Prelude.{map, string_bytes};
+    ghost use Rattle.std.specs.FinMap.{from_entries};
+    ghost use Rattle.lab_io.specs.FilesSeen.{FilesSeen, files_code, entry_of};
+
+    ghost Value = { FilesSeen };
+
+    ghost coded = { files_code };
+
+    ghost view = { λ files. record {
+      held = from_entries (map entry_of files.stored.items);
+      asked = map string_bytes files.asked.items;
+      failing = files.failing.items;
+      calls = files.calls;
+      faults = files.faults;
+    } };
+}
+
+impl MemFiles {
+    /// No name holds anything, and no read is to fail.
+    pub fn new(alloc: Global) -> MemFiles
+        ensures { result ≡ record { held = map.empty; asked = []; failing = []; calls = 0; faults = 0 } }
+    {
+        MemFiles {
+            alloc,
+            stored: VecDeque::new(alloc),
+            asked: Vec::new(alloc),
+            failing: Vec::new(alloc),
+            calls: 0,
+            faults: 0,
+        }
+    }
+
+    /// Lets the name hold these bytes from now on, in place of those it held.
+    pub fn put(&mut self, name: &str, bytes: &[u8]) -> Result<(), AllocError>
+        ensures ok { OnOk result (self.new ≡ record self.old { held = map.insert self.old.held name.now bytes.now }) }
+        ensures err { OnErr result (self.new ≡ self.old) }
+    {
+        let name = String::from_str(self.alloc, name)?;
+        let bytes = Vec::from_slice(self.alloc, bytes)?;
+        self.stored.push_front(Stored { name, bytes })?;
+        Ok(())
+    }
+
+    /// Lets the read with this number fail.
+    pub fn fail_at(&mut self, call: u64) -> Result<(), AllocError>
+        ensures ok { OnOk result (self.new ≡ record self.old { failing = self.old.failing ++ call ∷ [] }) }
+        ensures err { OnErr result (self.new ≡ self.old) }
+    {
+        self.failing.push(call)?;
+        Ok(())
+    }
+
+    /// The bytes that a name holds.
+    fn find(&self, name: &str) -> Option<&[u8]>
+        ensures { option_copied result ≡ map.get self.now.held name.now }
+    {
+        for stored in &self.stored {
+            if name == stored.name.as_str() {
+                return Some(stored.bytes.as_slice());
+            }
+        }
+        None
+    }
+
+    /// Gives the bytes of a name, if they are not too many.
+    fn give(&self, name: &str, limit: usize, into: &mut Vec<u8>) -> ReadAnswer
+        requires { into.old.items ≡ [] }
+        ensures given { IsReadAs (Some self.now.held) name.now limit result into.new.items }
+        ensures failed { result ≢ ReadAnswer.Memory → (result ≡ ReadAnswer.Failed ↔ IsNone (map.get self.now.held name.now)) }
+    {
+        match self.find(name) {
+            None => ReadAnswer::Failed,
+            Some(bytes) if bytes.len() > limit => ReadAnswer::TooLarge,
+            Some(bytes) => match into.extend_from_slice(bytes) {
+                Ok(()) => ReadAnswer::Done,
+                Err(_) => ReadAnswer::Memory,
+            },
+        }
+    }
+
+    /// Whether the number of the read that comes next is listed.
+    fn is_listed(&self) -> bool
+        ensures { IsTrue result ↔ Contains self.now.failing self.now.calls }
+    {
+        self.failing.contains(&self.calls)
+    }
+}
+
+impl Files for MemFiles {
+    ghost use Rattle.lab_io.specs.FilesSeen.{IsToFail, after_read};
+
+    ghost held = { λ files. Some files.held };
+
+    ghost asked = { λ files. Some files.asked };
+
+    ghost faults = { λ files. files.faults };
+
+    fn read(&mut self, name: &str, limit: usize, into: &mut Vec<u8>) -> ReadAnswer
+        requires empty { into.old.items ≡ [] }
+        requires limit { limit ≤ 67108864 }
+
+        ensures bytes { IsReadAs (Some self.old.held) name.now limit result into.new.items }
+        ensures failed { result ≡ ReadAnswer.Failed → Rose self.old.faults self.new.faults }
+
+        ensures held { Some self.new.held ≡ Some self.old.held }
+        ensures asked { Some self.new.asked ≡ grown (Some self.old.asked) (asks result name.now) }
+        ensures faults { self.old.faults ≤ self.new.faults }
+        ensures unfailed { result ≢ ReadAnswer.Failed → self.new.faults ≡ self.old.faults }
+
+        // It fails exactly where it is to, unless it finds no memory.
+        ensures fails { result ≢ ReadAnswer.Memory → (result ≡ ReadAnswer.Failed ↔ IsToFail self.old name.now) }
+        ensures after { self.new ≡ after_read self.old name.now result }
+    {
+        let is_listed = self.is_listed();
+        self.calls = self.calls.saturating_add(1);
+        let Ok(asked) = String::from_str(self.alloc, name) else {
+            return ReadAnswer::Memory;
+        };
+        if self.asked.reserve(1).is_err() {
+            return ReadAnswer::Memory;
+        }
+        let answer = if is_listed {
+            ReadAnswer::Failed
+        } else {
+            self.give(name, limit, into)
+        };
+        match answer {
+            ReadAnswer::Memory => return ReadAnswer::Memory,
+            ReadAnswer::Failed => self.faults = self.faults.saturating_add(1),
+            ReadAnswer::Done | ReadAnswer::TooLarge => {}
+        }
+        let Ok(()) = self.asked.push(asked) else {
+            unreachable!()
+        };
+        answer
+    }
+}
+
+#[cfg(test)]
+mod tests {
+    use super::*;
+    use std::test::Fail;
+
+    #[test]
+    fn a_read_answers_by_name_limit_and_number(rt: HostRuntime) -> Result<(), Fail> {
+        let alloc = rt.alloc();
+        let mut files = MemFiles::new(alloc);
+        files.put("three", b"one")?;
+        files.put("empty", b"")?;
+        files.put("three", b"abc")?;
+        files.fail_at(6)?;
+        for (name, limit, answer, bytes) in [
+            ("three", 64, ReadAnswer::Done, b"abc".as_slice()),
+            ("three", 3, ReadAnswer::Done, b"abc".as_slice()),
+            ("three", 2, ReadAnswer::TooLarge, b"".as_slice()),
+            ("empty", 0, ReadAnswer::Done, b"".as_slice()),
+            ("absent", 64, ReadAnswer::Failed, b"".as_slice()),
+            ("", 64, ReadAnswer::Failed, b"".as_slice()),
+            ("three", 64, ReadAnswer::Failed, b"".as_slice()),
+            ("three", 64, ReadAnswer::Done, b"abc".as_slice()),
+        ] {
+            let mut into = Vec::new(alloc);
+            assert_eq!(rt;
+                files.read(name, limit, &mut into),
+                answer,
+                "{name} at {limit}"
+            );
+            assert_eq!(rt; into.as_slice(), bytes, "{name} at {limit}");
+        }
+        Ok(())
+    }
+}
