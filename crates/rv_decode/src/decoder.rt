@@ -54,10 +54,34 @@ fn instr_from(op: Op, word: u32) -> Instr
     let rs1 = register(word, 15);
     let rs2 = register(word, 20);
     match op.format() {
-        Format::I => Instr { op, rd, rs1, rs2: 0, imm: immediate_i(word) },
-        Format::S => Instr { op, rd: 0, rs1, rs2, imm: immediate_s(word) },
-        Format::U => Instr { op, rd, rs1: 0, rs2: 0, imm: immediate_u(word) },
-        Format::J => Instr { op, rd, rs1: 0, rs2: 0, imm: immediate_j(word) },
+        Format::I => Instr {
+            op,
+            rd,
+            rs1,
+            rs2: 0,
+            imm: immediate_i(word),
+        },
+        Format::S => Instr {
+            op,
+            rd: 0,
+            rs1,
+            rs2,
+            imm: immediate_s(word),
+        },
+        Format::U => Instr {
+            op,
+            rd,
+            rs1: 0,
+            rs2: 0,
+            imm: immediate_u(word),
+        },
+        Format::J => Instr {
+            op,
+            rd,
+            rs1: 0,
+            rs2: 0,
+            imm: immediate_j(word),
+        },
     }
 }
 
@@ -75,5 +99,7 @@ pub fn decode(word: u32) -> Option<Instr>
 /// No word matches two rows of the table.
 pub fn rows_differ()
     ensures { (word : ℕ) → match_count word table ≤ 1 }
-{
-}
+{}
+
+#[cfg(test)]
+mod tests;

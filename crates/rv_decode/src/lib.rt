@@ -5,8 +5,5 @@ mod decoder;
 mod immediate;
 mod instruction;
 
-pub use decoder::decode;
-pub use decoder::rows_differ;
-pub use instruction::Format;
-pub use instruction::Instr;
-pub use instruction::Op;
+pub use decoder::{decode, rows_differ};
+pub use instruction::{Format, Instr, Op};
