@@ -1,10 +1,10 @@
 -- The search of the table by masks gives what the decoder's branches give.
-use Rattle.std.proofs.Common.{◌≡◌, ℕ, ◌^◌, ◌<◌, Bool, true, false, cond, ◌&&◌, ◌==◌, refl, ◌∙◌, List, [], ◌∷◌, ◌++◌, inl, inr, lit<, arith}
+use Rattle.std.proofs.Common.{◌≡◌, ℕ, Bool, true, false, cond, ◌&&◌, ◌==◌, refl, ◌∙◌, List, [], ◌∷◌, ◌++◌, inl, inr, lit<}
 use Rattle.std.specs.Prelude.{Option, Some, None, if◌then◌else◌}
 use Rattle.std.proofs.lemmas.Bool.Decides.{eqb_tells}
 use Rattle.rv_decode.specs.declared.instruction.Op.{Op}
 use Rattle.rv_decode.specs.declared.instruction.Op.TheVariants.{Lui, Jal, Sb, Addi}
-use Rattle.rv_decode.specs.Table.{Row, matches, op_in, op_of, table, upper_rows, jump_rows, store_rows, immediate_rows}
+use Rattle.rv_decode.specs.Table.{Row, matches, op_in, op_of, upper_rows, jump_rows, store_rows, immediate_rows}
 use Rattle.rv_decode.specs.Fields.{op_by, store_by, immediate_by}
 use Rattle.rv_decode.proofs.Masks.{opcode, funct3, mask_opcode, mask_funct3}
 

@@ -54,34 +54,10 @@ fn instr_from(op: Op, word: u32) -> Instr
     let rs1 = register(word, 15);
     let rs2 = register(word, 20);
     match op.format() {
-        Format::I => Instr {
-            op,
-            rd,
-            rs1,
-            rs2: 0,
-            imm: immediate_i(word),
-        },
-        Format::S => Instr {
-            op,
-            rd: 0,
-            rs1,
-            rs2,
-            imm: immediate_s(word),
-        },
-        Format::U => Instr {
-            op,
-            rd,
-            rs1: 0,
-            rs2: 0,
-            imm: immediate_u(word),
-        },
-        Format::J => Instr {
-            op,
-            rd,
-            rs1: 0,
-            rs2: 0,
-            imm: immediate_j(word),
-        },
+        Format::I => Instr::from_fields(op, rd, rs1, 0, immediate_i(word)),
+        Format::S => Instr::from_fields(op, 0, rs1, rs2, immediate_s(word)),
+        Format::U => Instr::from_fields(op, rd, 0, 0, immediate_u(word)),
+        Format::J => Instr::from_fields(op, rd, 0, 0, immediate_j(word)),
     }
 }
 

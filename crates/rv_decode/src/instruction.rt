@@ -47,3 +47,18 @@ impl Op {
         }
     }
 }
+
+impl Instr {
+    /// An instruction with these fields.
+    pub(crate) fn from_fields(op: Op, rd: u8, rs1: u8, rs2: u8, imm: u32) -> Self
+        ensures { result ≡ record { op = op; rd = rd; rs1 = rs1; rs2 = rs2; imm = imm } }
+    {
+        Self {
+            op,
+            rd,
+            rs1,
+            rs2,
+            imm,
+        }
+    }
+}
