@@ -1,5 +1,5 @@
 //! Files that are read whole, by name.
-ghost use Rattle.std.specs.Prelude.{◌≡◌, ◌≢◌, ℕ, ◌≤◌, List, [], Option};
+ghost use Rattle.std.specs.Prelude.{◌≡◌, ℕ, ◌≤◌, List, [], Option};
 ghost use Rattle.lab_io.specs.Known.{grown, Rose};
 ghost use Rattle.lab_io.specs.Held.{Held, IsReadAs, asks};
 
@@ -37,6 +37,5 @@ pub trait Files {
 
         ensures held { held self.new ≡ held self.old }
         ensures asked { asked self.new ≡ grown (asked self.old) (asks result name.now) }
-        ensures faults { faults self.old ≤ faults self.new }
-        ensures unfailed { result ≢ ReadAnswer.Failed → faults self.new ≡ faults self.old };
+        ensures faults { faults self.old ≤ faults self.new };
 }

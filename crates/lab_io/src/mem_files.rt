@@ -138,7 +138,6 @@ impl Files for MemFiles {
         ensures held { Some self.new.held ≡ Some self.old.held }
         ensures asked { Some self.new.asked ≡ grown (Some self.old.asked) (asks result name.now) }
         ensures faults { self.old.faults ≤ self.new.faults }
-        ensures unfailed { result ≢ ReadAnswer.Failed → self.new.faults ≡ self.old.faults }
 
         // It fails exactly where it is to, unless it finds no memory.
         ensures fails { result ≢ ReadAnswer.Memory → (result ≡ ReadAnswer.Failed ↔ IsToFail self.old name.now) }

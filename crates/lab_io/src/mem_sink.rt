@@ -88,7 +88,6 @@ impl Sink for MemSink {
         ensures written { Some self.new.bytes ≡ grown (Some self.old.bytes) (take (taken result) piece.now) }
         ensures failed { result ≡ Wrote.Failed → Rose self.old.faults self.new.faults }
         ensures faults { self.old.faults ≤ self.new.faults }
-        ensures unfailed { result ≢ Wrote.Failed → self.new.faults ≡ self.old.faults }
 
         ensures fails { result ≡ Wrote.Failed ↔ Contains self.old.failing self.old.calls }
         ensures most { TakesMost self.old.most result (length piece.now) }

@@ -43,7 +43,6 @@ impl<R: Print> Sink for OutSink<'_, R> {
         ensures written { None ≡ grown None (take (taken result) piece.now) }
         ensures failed { result ≡ Wrote.Failed → Rose self.old self.new }
         ensures faults { self.old ≤ self.new }
-        ensures unfailed { result ≢ Wrote.Failed → self.new ≡ self.old }
         ensures never_memory { result ≢ Wrote.Memory }
     {
         match self.rt.write_some(piece) {

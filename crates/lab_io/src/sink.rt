@@ -38,8 +38,7 @@ pub trait Sink {
         ensures taken { IsTaken result (length piece.now) }
         ensures written { written self.new ≡ grown (written self.old) (take (taken result) piece.now) }
         ensures failed { result ≡ Wrote.Failed → Rose (faults self.old) (faults self.new) }
-        ensures faults { faults self.old ≤ faults self.new }
-        ensures unfailed { result ≢ Wrote.Failed → faults self.new ≡ faults self.old };
+        ensures faults { faults self.old ≤ faults self.new };
 }
 
 /// Writes the whole piece, by as many writes as it takes, and none where it is empty.
@@ -51,7 +50,6 @@ pub fn write_whole<K: Sink>(out: &mut K, piece: &[u8]) -> Result<(), WriteFault>
 
     ensures empty { piece.now ≡ [] → (IsOk result) × (out.new ≡ out.old) }
     ensures faults { K.faults out.old ≤ K.faults out.new }
-    ensures unfailed { result ≢ Err WriteFault.Unwritten → K.faults out.new ≡ K.faults out.old }
 {
     let mut at = 0;
     while at < piece.len() {

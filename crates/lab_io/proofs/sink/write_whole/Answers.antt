@@ -1,5 +1,5 @@
 -- A write that takes bytes goes on from the front of the rest, and takes at least one.
-use Rattle.std.proofs.Common.{ℕ, ◌∙◌, arith, length-drop}
+use Rattle.std.proofs.Common.{ℕ, arith, length-drop}
 use Rattle.std.proofs.lemmas.List.{length-take}
 use Rattle.lab_io.proofs.Grown.{grown-take}
 use Rattle.lab_io.proofs.sink.write_whole.Goals as goal
@@ -9,5 +9,5 @@ loop-at-preserved g c = record {
   within = omega (arith, c.in-Took.ensures.taken, length-take {A = ℕ}, length-drop {A = ℕ});
   untouched = λ none. absurd (omega (arith, none, c.in-Took.ensures.taken));
   written = grown-take _ _ _ _ _ _ c.loop-at.invariant.written c.in-Took.ensures.written;
-  faults = c.in-Took.ensures.unfailed (λ is. cc) ∙ c.loop-at.invariant.faults;
+  faults = omega (arith, c.in-Took.ensures.faults);
 }

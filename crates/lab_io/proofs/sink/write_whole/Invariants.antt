@@ -8,7 +8,7 @@ invariant-loop-at g l = record {
   within : l.at ≤ length l.piece;
   untouched : l.at ≡ 0 → l.out ≡ l.fn.out;
   written : g.K.Sink.written l.out ≡ grown (g.K.Sink.written l.fn.out) (take l.at l.piece);
-  faults : g.K.Sink.faults l.out ≡ g.K.Sink.faults l.fn.out;
+  faults : g.K.Sink.faults l.fn.out ≤ g.K.Sink.faults l.out;
 }
 
 abbrev pub decreases-loop-at : goal.decreases-loop-at

@@ -1,0 +1,59 @@
+-- Laws of slots one after another.
+use Rattle.std.proofs.Common.{◌≡◌, ℕ, zero, suc, ◌+◌, ◌*◌, ◌/◌, ◌<◌, ◌≤◌, List, [], ◌∷◌, ◌++◌, sum, refl, sym, ap, ◌∙◌, append_assoc, add-one, add-zero, add-suc, add_assoc, arith}
+use Rattle.std.proofs.lemmas.List.{append-nil}
+use Rattle.std.proofs.lemmas.List.Sums.{sum_by-cons}
+use Rattle.std.proofs.Math.Nat.{mul-le-mul}
+use Rattle.lab_num.specs.Paid.{slot_at}
+use Rattle.board.specs.View.{View, State}
+use Rattle.board.specs.Slot.{Slotted, slot}
+use Rattle.board.specs.Stretch.{stretch, after, entries_in_turns}
+use Rattle.board.proofs.SlotLemmas.{speed-slot}
+
+-- no slots leave the board as it is
+pub after_none : (s : State) (from a : ℕ) → s ≡ after s (stretch s.view from a 0)
+unfolding stretch
+after_none s from a = sym (rw append-nil refl)
+
+-- one slot more
+pub after_more :
+    (s mid new : State) (from a i t : ℕ) →
+    mid ≡ after s (stretch s.view from a i) →
+    new ≡ after mid (slot mid.view t) →
+    t ≡ slot_at from s.view.speed (a + i) →
+    new ≡ after s (stretch s.view from a (i + 1))
+unfolding stretch
+after_more s mid new from a i t reached slotted time =
+    slotted ∙ rw (reached, time, add-one, append_assoc) refl
+
+-- a slot that lies before the last microsecond has a number that fits
+pub slots_fit : (x speed last : ℕ) → 1 ≤ speed → speed ≤ 1000 → x / speed ≤ last → x < 1000 * last + 1000
+slots_fit x speed last least most within =
+    let product : speed * (x / speed) ≤ 1000 * last = mul-le-mul most within in
+    omega arith
+
+pub speed-stretch : (v : View) (from a n : ℕ) → (stretch v from a n).view.speed ≡ v.speed
+unfolding stretch
+speed-stretch v from a zero = refl
+speed-stretch v from a (suc n) = speed-slot (stretch v from a n).view _ ∙ speed-stretch v from a n
+
+-- a stretch and the one behind it are one stretch
+pub stretch-add :
+    (v : View) (from a m n : ℕ) →
+    stretch v from a (m + n) ≡ record {
+      view = (stretch (stretch v from a m).view from (a + m) n).view;
+      entries = (stretch v from a m).entries ++ (stretch (stretch v from a m).view from (a + m) n).entries;
+    }
+unfolding stretch
+stretch-add v from a m zero = rw (add-zero, append-nil) refl
+stretch-add v from a m (suc n) =
+    rw (add-suc, stretch-add v from a m n, speed-stretch v from a m, add_assoc, append_assoc) refl
+
+stretch-none : (v : View) (from a : ℕ) → (stretch v from a 0).entries ≡ []
+unfolding stretch
+stretch-none v from a = refl
+
+-- turns one after another make the entries of the whole stretch
+pub turns-add : (v : View) (from a : ℕ) (turns : List ℕ) → entries_in_turns v from a turns ≡ (stretch v from a (sum turns)).entries
+turns-add v from a [] = sym (stretch-none v from a)
+turns-add v from a (n ∷ turns) =
+    rw (sum_by-cons (λ x. x) n turns, stretch-add v from a n (sum turns), turns-add (stretch v from a n).view from (a + n) turns) refl

@@ -1,0 +1,32 @@
+-- Slots one after another, each in the microsecond that the time framework gives it.
+use Rattle.std.specs.Prelude.{◌≡◌, ℕ, zero, suc, ◌+◌, ◌<◌, List, [], ◌∷◌, ◌++◌}
+use Rattle.lab_num.specs.declared.post.Entry.{Entry}
+use Rattle.lab_num.specs.Paid.{slot_at}
+use Rattle.board.specs.declared.board.Turn.{Turn}
+use Rattle.board.specs.declared.board.Turn.TheVariants.{Used, Starved}
+use Rattle.board.specs.View.{View, State}
+use Rattle.board.specs.Slot.{Slotted, slot}
+
+-- what so many slots have come to, and then one more in this microsecond
+abbrev pub go_on : Slotted → ℕ → Slotted
+go_on run t = record { view = (slot run.view t).view; entries = run.entries ++ (slot run.view t).entries }
+
+-- the slots `a` to `a + n - 1` of the grant that begins at `from`
+unfoldable pub stretch : View → ℕ → ℕ → ℕ → Slotted
+stretch v from a zero = record { view = v; entries = [] }
+stretch v from a (suc n) = go_on (stretch v from a n) (slot_at from v.speed (a + n))
+
+-- a board after that
+abbrev pub after : State → Slotted → State
+after s run = record { view = run.view; entries = s.entries ++ run.entries }
+
+-- A turn of `n` slots takes all of them, or stops after exactly so many for want of memory.
+abbrev pub IsTurn : State → ℕ → ℕ → ℕ → Turn → State → Type 0
+IsTurn old from a n (Used m) new = (m ≡ n) × (new ≡ after old (stretch old.view from a n))
+IsTurn old from a n (Starved m) new = (m < n) × (new ≡ after old (stretch old.view from a m))
+
+-- the entries of turns of these lengths, one after another, from slot `a` of the grant on
+abbrev pub entries_in_turns : View → ℕ → ℕ → List ℕ → List Entry
+entries_in_turns v from a [] = []
+entries_in_turns v from a (n ∷ turns) =
+    (stretch v from a n).entries ++ entries_in_turns (stretch v from a n).view from (a + n) turns

@@ -1,0 +1,10 @@
+//! One emulated board: a processor, 64 KiB of memory and a UART, run slot by slot on virtual time.
+#![tactic(auto)]
+
+mod board;
+mod hart;
+mod memory;
+mod turns;
+
+pub use board::{Board, SlotAt, Turn};
+pub use turns::{stretches_join, turns_join};

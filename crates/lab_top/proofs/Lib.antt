@@ -1,0 +1,7 @@
+pub mod Courses
+pub mod Pieces
+pub mod Digits
+pub mod Scripts
+pub mod Openings
+pub mod Logs
+pub mod LineLemmas

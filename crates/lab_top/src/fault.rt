@@ -1,0 +1,64 @@
+//! Faults of scripts.
+use lab_num::Text;
+use std::fmt;
+
+/// Why a script's line is refused.
+#[derive(Clone, Copy, PartialEq, Eq, Debug)]
+pub enum ScriptCause {
+    /// S1: the line is no command.
+    Unknown,
+}
+
+impl fmt::Display for ScriptCause {
+    ghost use Rattle.std.specs.Prelude.{Some};
+    ghost use Rattle.lab_top.specs.Fault.{script_cause_text};
+
+    ghost output = { λ cause. Some (script_cause_text cause) };
+
+    fn fmt<W: fmt::Write>(&self, f: &mut fmt::Formatter<W>) -> fmt::Result {
+        match self {
+            ScriptCause::Unknown => write!(f, "S1 unknown command"),
+        }
+    }
+}
+
+/// Why a run is refused at a place in a file.
+#[derive(Clone, Copy, PartialEq, Eq, Debug)]
+pub enum Cause {
+    Script(ScriptCause),
+}
+
+impl fmt::Display for Cause {
+    ghost use Rattle.std.specs.Prelude.{Some};
+    ghost use Rattle.lab_top.specs.Fault.{cause_text};
+
+    ghost output = { λ cause. Some (cause_text cause) };
+
+    fn fmt<W: fmt::Write>(&self, f: &mut fmt::Formatter<W>) -> fmt::Result {
+        match self {
+            Cause::Script(cause) => write!(f, "{cause}"),
+        }
+    }
+}
+
+/// A fault, and where it is: the file's name and the line, counted from 1.
+#[derive(Drop, Debug)]
+pub struct ScriptFault {
+    pub file: Text,
+    pub line: u32,
+    pub cause: Cause,
+}
+
+impl fmt::Display for ScriptFault {
+    ghost use Rattle.std.specs.Prelude.{Some};
+    ghost use Rattle.lab_top.specs.Fault.{fault_text};
+
+    ghost output = { λ fault. Some (fault_text fault) };
+
+    fn fmt<W: fmt::Write>(&self, f: &mut fmt::Formatter<W>) -> fmt::Result {
+        let file = self.file.as_str();
+        let line = self.line;
+        let cause = self.cause;
+        write!(f, "error: {file}:{line}: {cause}")
+    }
+}
