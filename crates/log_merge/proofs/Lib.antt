@@ -1,0 +1,2 @@
+-- Lemmas of log_merge.
+pub mod SortLemmas
