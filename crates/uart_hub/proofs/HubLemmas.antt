@@ -1,11 +1,9 @@
--- What becomes of the members of all hubs where a hub or a member is added.
+-- Where a member is connected that stood in no hub, no member stands twice.
 use Rattle.std.proofs.Common.{◌≡◌, ◌∙◌, sym, ap, refl, ℕ, zero, suc, ◌<◌, Bool, true, false, ◌||◌, List, [], ◌∷◌, ◌++◌, length, append_assoc, arith}
 use Rattle.std.specs.Cmp.{IsEquivalence}
 use Rattle.std.specs.List.{list_any, flat_map, IsDistinct}
 use Rattle.std.specs.List.Sorted.{IsPermutation}
 use Rattle.std.proofs.lemmas.Cmp.{and_equiv, on_equiv, nat_eq_equiv}
-use Rattle.std.proofs.lemmas.List.{append-nil}
-use Rattle.std.proofs.lemmas.List.Concat.{flat_map-append}
 use Rattle.std.proofs.lemmas.List.Folds.{list_any-append}
 use Rattle.std.proofs.lemmas.List.Sorted.{IsPermutation-to_front, IsPermutation-append_right}
 use Rattle.std.proofs.lemmas.Map.Keys.{IsDistinct-push, IsDistinct-IsPermutation}
@@ -48,7 +46,3 @@ connected_once hubs hub m below absent once =
     IsDistinct-IsPermutation same_member member_equiv.symm (all_of hubs ++ m ∷ []) (all_of (connected hubs hub m))
     (joined hubs hub m below)
     (IsDistinct-push member_equiv (all_of hubs) m once (among hubs m ∙ absent))
-
--- a hub without members adds none
-pub created_once : (hubs : List (List Member)) → StandOnce hubs → StandOnce (hubs ++ [] ∷ [])
-created_once hubs once = rw (flat_map-append (λ (hub : List Member). hub) hubs ([] ∷ []), append-nil) once
