@@ -1,2 +1,1 @@
 -- Lemmas of log_merge.
-pub mod SortLemmas
