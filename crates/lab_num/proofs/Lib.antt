@@ -2,3 +2,4 @@
 pub mod DigitLemmas
 mod Examples
 pub mod ListingLemmas
+pub mod SortLemmas

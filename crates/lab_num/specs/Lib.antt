@@ -3,5 +3,6 @@ pub mod Key
 pub mod Listing
 pub mod Name
 pub mod Paid
+pub mod Post
 pub mod Route
 pub mod Time

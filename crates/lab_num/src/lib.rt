@@ -11,7 +11,7 @@ mod text;
 mod time;
 
 pub use key::{Key, Member};
-pub use listing::listing_laws;
+pub use listing::{key_laws, listing_laws};
 pub use name::is_name;
 pub use number::{BoardNo, Micros, NoMemory, PostNo};
 pub use post::{Entry, Payload, Post, What};

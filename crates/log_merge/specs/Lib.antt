@@ -1,0 +1,2 @@
+-- What contracts of log_merge cite.
+pub mod Merge

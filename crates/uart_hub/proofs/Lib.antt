@@ -1,0 +1,2 @@
+-- Lemmas of uart_hub.
+pub mod HubLemmas

@@ -1,0 +1,1 @@
+-- What contracts of uart_hub cite.

@@ -1,0 +1,189 @@
+//! The hubs of the laboratory.
+ghost use Rattle.std.specs.Prelude.{◌≡◌, ◌+◌, ◌^◌, ◌<◌, ◌↔◌, ◌++◌, ◌∷◌, [], length, IsTrue, IfOk, OnOk, OnErr, List, slice_index_or, find};
+ghost use Rattle.std.specs.Option.{option_map};
+ghost use Rattle.lab_num.specs.Route.{StandOnce, is_connected, connected, has_member};
+ghost use Rattle.lab_num.specs.Route as routes;
+
+use crate::hub::Hub;
+use lab_num::{Member, NoMemory};
+use std::alloc::Global;
+use std::marker::Model;
+
+/// Why a member was not connected.
+#[derive(Clone, Copy, PartialEq, Eq, Debug)]
+pub enum HubFault {
+    /// The member stands in some hub.
+    Already,
+    /// Memory ran out.
+    Memory,
+}
+
+impl From<NoMemory> for HubFault {
+    ghost use Rattle.std.specs.Prelude.{◌≡◌};
+    ghost use Rattle.uart_hub.specs.declared.hubs.HubFault.TheVariants.{Memory};
+
+    ghost from_gives = { λ _ fault. fault ≡ Memory };
+
+    fn from(_fault: NoMemory) -> HubFault {
+        HubFault::Memory
+    }
+}
+
+/// The hubs that connect UARTs, numbered from 0 in order of creation. Contracts see them as the
+/// lists of their members, in order of connection. No member stands twice in all of them together.
+#[derive(Drop, Debug)]
+pub struct UartHubs {
+    alloc: Global,
+    hubs: Vec<Hub>,
+}
+
+impl Model for UartHubs {
+    ghost use Rattle.std.specs.Prelude.{List};
+    ghost use Rattle.lab_num.specs.declared.key.Member.{Member};
+    ghost use Rattle.lab_num.specs.Route.{StandOnce};
+
+    ghost Value = { List (List Member) };
+
+    ghost view = { λ h. h.hubs.items };
+
+    ghost invariant = { λ h. StandOnce h.hubs.items };
+}
+
+impl UartHubs {
+    /// No hubs yet. Nothing is allocated.
+    pub fn new(alloc: Global) -> UartHubs
+        ensures { result ≡ [] }
+    {
+        UartHubs {
+            alloc,
+            hubs: Vec::new(alloc),
+        }
+    }
+
+    /// How many hubs there are.
+    pub fn len(&self) -> usize
+        ensures { result ≡ length self.now }
+    {
+        self.hubs.len()
+    }
+
+    pub fn is_empty(&self) -> bool
+        ensures { IsTrue result ↔ (self.now ≡ []) }
+    {
+        self.hubs.is_empty()
+    }
+
+    /// A new hub without members. Its number is the count of hubs before.
+    pub fn create(&mut self) -> Result<u32, NoMemory>
+        requires { length self.old + 1 < 2 ^ 32 }
+        ensures number { IfOk result (λ hub. hub ≡ length self.old) }
+        ensures ok { OnOk result (self.new ≡ self.old ++ [] ∷ []) }
+        ensures err { OnErr result (self.new ≡ self.old) }
+    {
+        let number = self.hubs.len() as u32;
+        self.hubs.push(Hub::new(self.alloc))?;
+        Ok(number)
+    }
+
+    fn is_connected(&self, member: Member) -> bool
+        ensures { result ≡ routes.is_connected self.now member }
+    {
+        self.hubs.iter().any(|hub| hub.contains(member))
+    }
+
+    /// The hub that has a member.
+    fn hub_of(&self, member: Member) -> Option<&Hub>
+        ensures { option_map (λ hub. hub.now) result ≡ find (λ hub. has_member hub member) self.now }
+    {
+        self.hubs.iter().find(|hub| hub.contains(member))
+    }
+
+    /// Puts a member at the end of a hub.
+    pub fn connect(&mut self, hub: u32, member: Member) -> Result<(), HubFault>
+        requires { hub < length self.old }
+        ensures ok { OnOk result (self.new ≡ connected self.old hub member) }
+        ensures already { (result ≡ Err HubFault.Already) ↔ IsTrue (is_connected self.old member) }
+        ensures err { OnErr result (self.new ≡ self.old) }
+    {
+        if self.is_connected(member) {
+            return Err(HubFault::Already);
+        }
+        self.hubs[hub as usize].push(member)?;
+        Ok(())
+    }
+
+    /// The other members of the hub of `from`, in order of connection. Where `from` stands in no
+    /// hub there are none.
+    pub fn route(&self, alloc: Global, from: Member) -> Result<Vec<Member>, NoMemory>
+        ensures { IfOk result (λ list. list.items ≡ routes.route self.now from) }
+    {
+        match self.hub_of(from) {
+            Some(hub) => hub.others(alloc, from),
+            None => Ok(Vec::new(alloc)),
+        }
+    }
+
+    /// The members of a hub, in order of connection.
+    pub fn members(&self, hub: u32) -> &[Member]
+        requires { hub < length self.now }
+        ensures value { result.now ≡ slice_index_or self.now hub [] }
+        ensures once { StandOnce self.now }
+    {
+        self.hubs[hub as usize].members()
+    }
+}
+
+#[cfg(test)]
+mod tests {
+    use super::*;
+    use lab_num::BoardNo;
+    use std::test::Fail;
+
+    fn uart(board: u8, dev: u8) -> Member {
+        Member {
+            board: BoardNo(board),
+            dev,
+        }
+    }
+
+    #[test]
+    fn a_hub_hands_on_to_its_other_members_in_order_of_connection(
+        rt: HostRuntime,
+    ) -> Result<(), Fail> {
+        let alloc = rt.alloc();
+        let mut hubs = UartHubs::new(alloc);
+        assert!(rt; hubs.is_empty());
+        let first = hubs.create()?;
+        let second = hubs.create()?;
+        assert_eq!(rt; (first, second, hubs.len()), (0, 1, 2));
+        for member in [uart(2, 0), uart(0, 1), uart(0, 0)] {
+            assert_eq!(rt; hubs.len(), 2);
+            assert_eq!(rt; hubs.connect(1, member), Ok(()));
+        }
+        assert_eq!(rt; hubs.len(), 2);
+        assert_eq!(rt; hubs.connect(0, uart(1, 0)), Ok(()));
+        assert_eq!(rt; hubs.members(0), [uart(1, 0)].as_slice());
+        assert_eq!(rt;
+            hubs.members(second),
+            [uart(2, 0), uart(0, 1), uart(0, 0)].as_slice()
+        );
+        let others = hubs.route(alloc, uart(0, 1))?;
+        assert_eq!(rt; others.as_slice(), [uart(2, 0), uart(0, 0)].as_slice());
+        assert!(rt; hubs.route(alloc, uart(1, 0))?.is_empty());
+        assert!(rt; hubs.route(alloc, uart(1, 1))?.is_empty());
+        Ok(())
+    }
+
+    #[test]
+    fn a_member_is_connected_once(rt: HostRuntime) -> Result<(), Fail> {
+        let mut hubs = UartHubs::new(rt.alloc());
+        let first = hubs.create()?;
+        let second = hubs.create()?;
+        assert_eq!(rt; hubs.connect(first, uart(3, 1)), Ok(()));
+        assert_eq!(rt; hubs.connect(first, uart(3, 1)), Err(HubFault::Already));
+        assert_eq!(rt; hubs.connect(second, uart(3, 1)), Err(HubFault::Already));
+        assert_eq!(rt; hubs.members(first), [uart(3, 1)].as_slice());
+        assert!(rt; hubs.members(second).is_empty());
+        Ok(())
+    }
+}
