@@ -1,2 +1,4 @@
 pub mod SlotLemmas
+pub mod MemoryLemmas
+pub mod NumberLemmas
 pub mod StretchLemmas

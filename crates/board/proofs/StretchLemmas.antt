@@ -4,15 +4,19 @@ use Rattle.std.proofs.lemmas.List.{append-nil}
 use Rattle.std.proofs.lemmas.List.Sums.{sum_by-cons}
 use Rattle.std.proofs.Math.Nat.{mul-le-mul}
 use Rattle.lab_num.specs.Paid.{slot_at}
-use Rattle.board.specs.View.{View, State}
-use Rattle.board.specs.Slot.{Slotted, slot}
-use Rattle.board.specs.Stretch.{stretch, after, entries_in_turns}
-use Rattle.board.proofs.SlotLemmas.{speed-slot}
+use Rattle.board.specs.View.{View, State, after}
+use Rattle.board.specs.Slot.{slot, quiet}
+use Rattle.board.specs.Stretch.{stretch, entries_in_turns}
+use Rattle.board.proofs.SlotLemmas.{quiet-behind, speed-slot}
+
+-- what is made one after another comes in order
+after-after : (s run more : State) → after (after s run) more ≡ after s (after run more)
+after-after s run more = rw (append_assoc s.posts run.posts more.posts, append_assoc s.entries run.entries more.entries) refl
 
 -- no slots leave the board as it is
 pub after_none : (s : State) (from a : ℕ) → s ≡ after s (stretch s.view from a 0)
 unfolding stretch
-after_none s from a = sym (rw append-nil refl)
+after_none s from a = quiet-behind s
 
 -- one slot more
 pub after_more :
@@ -23,7 +27,7 @@ pub after_more :
     new ≡ after s (stretch s.view from a (i + 1))
 unfolding stretch
 after_more s mid new from a i t reached slotted time =
-    slotted ∙ rw (reached, time, add-one, append_assoc) refl
+    slotted ∙ rw (reached, time, add-one) (after-after s (stretch s.view from a i) _)
 
 -- a slot that lies before the last microsecond has a number that fits
 pub slots_fit : (x speed last : ℕ) → 1 ≤ speed → speed ≤ 1000 → x / speed ≤ last → x < 1000 * last + 1000
@@ -38,15 +42,11 @@ speed-stretch v from a (suc n) = speed-slot (stretch v from a n).view _ ∙ spee
 
 -- a stretch and the one behind it are one stretch
 pub stretch-add :
-    (v : View) (from a m n : ℕ) →
-    stretch v from a (m + n) ≡ record {
-      view = (stretch (stretch v from a m).view from (a + m) n).view;
-      entries = (stretch v from a m).entries ++ (stretch (stretch v from a m).view from (a + m) n).entries;
-    }
+    (v : View) (from a m n : ℕ) → stretch v from a (m + n) ≡ after (stretch v from a m) (stretch (stretch v from a m).view from (a + m) n)
 unfolding stretch
-stretch-add v from a m zero = rw (add-zero, append-nil) refl
+stretch-add v from a m zero = rw (add-zero) (quiet-behind (stretch v from a m))
 stretch-add v from a m (suc n) =
-    rw (add-suc, stretch-add v from a m n, speed-stretch v from a m, add_assoc, append_assoc) refl
+    rw (add-suc, stretch-add v from a m n, speed-stretch v from a m, add_assoc) (after-after (stretch v from a m) (stretch (stretch v from a m).view from (a + m) n) _)
 
 stretch-none : (v : View) (from a : ℕ) → (stretch v from a 0).entries ≡ []
 unfolding stretch

@@ -5,6 +5,7 @@ use Rattle.rv_decode.specs.declared.instruction.Op.{Op}
 use Rattle.rv_decode.specs.declared.instruction.Op.TheVariants.{Lui, Addi, Sb, Jal}
 use Rattle.rv_decode.specs.Means.{means}
 use Rattle.board.specs.Core.{Core, add, reg, next, finish, jump, halt}
+use Rattle.board.specs.Wires.{Wires, stored}
 
 -- It is done, or it asks for one store of so many bytes at an address.
 pub data Effect : Type 0 where
@@ -19,6 +20,20 @@ effect_by Sb core i = Store (add (reg core i.rs1) i.imm) 1 (reg core i.rs2 % 256
 effect_by Addi core i = Done (finish core i.rd (add (reg core i.rs1) i.imm))
 
 -- what the instruction at a word does, or a halt where the word means none
-abbrev pub effect_of : Core → Option Instr → Effect
+abbrev pub decoded : Core → Option Instr → Effect
+decoded core None = Done (halt core)
+decoded core (Some i) = effect_by i.op core i
+
+-- what the processor does with what it has fetched, or a halt where no memory holds that
+abbrev pub effect_of : Core → Option ℕ → Effect
 effect_of core None = Done (halt core)
-effect_of core (Some i) = effect_by i.op core i
+effect_of core (Some word) = decoded core (means word)
+
+-- the processor, and what it is wired to, after an effect
+abbrev pub core_after : Effect → Core
+core_after (Done core) = core
+core_after (Store at width value core) = core
+
+abbrev pub wires_after : Wires → Effect → Wires
+wires_after w (Done core) = w
+wires_after w (Store at width value core) = stored w at width value

@@ -1,7 +1,11 @@
 pub mod Core
 pub mod Effect
 pub mod Space
+pub mod Uart
+pub mod Wires
 pub mod View
 pub mod Slot
 pub mod Stretch
+pub mod Numbered
+pub mod Taken
 pub mod Early

@@ -1,26 +1,40 @@
--- What addresses reach: one memory and one UART.
-use Rattle.std.specs.Prelude.{ℕ, ◌+◌, ◌-◌, ◌*◌, nat_le, ◌&&◌, Bool, if◌then◌else◌, List, length, slice_index, slice_set, Option, None, Some}
+-- What addresses reach: one memory and one UART. An access reaches the region that holds all its bytes.
+use Rattle.std.specs.Prelude.{ℕ, zero, suc, ◌+◌, ◌-◌, ◌*◌, ◌/◌, ◌%◌, ◌==◌, nat_le, ◌&&◌, Bool, if◌then◌else◌, List, ◌++◌, length, take, drop, slice_index, slice_set}
 
--- where the memory begins, and where the UART's only register stands
+-- where the memory begins, and where the UART's registers begin
 abbrev pub memory_base : ℕ
 memory_base = 0x80000000
 
 abbrev pub uart_base : ℕ
 uart_base = 0x10000000
 
--- the memory holds all of so many bytes from an address on
-abbrev pub holds : List ℕ → ℕ → ℕ → Bool
-holds memory at width = nat_le memory_base at && nat_le (at - memory_base + width) (length memory)
+-- a region of so many bytes holds all of so many bytes from an address on
+abbrev pub is_within : ℕ → ℕ → ℕ → ℕ → Bool
+is_within base size at count = nat_le base at && nat_le (at - base + count) size
 
--- the little-endian number of four bytes, from a place on
-abbrev pub word_of : List ℕ → ℕ → ℕ
-word_of bytes i =
+abbrev pub in_memory : List ℕ → ℕ → ℕ → Bool
+in_memory memory at count = is_within memory_base (length memory) at count
+
+abbrev pub in_uart : ℕ → ℕ → Bool
+in_uart at count = is_within uart_base 0x100 at count
+
+-- the little-endian numbers of two and of four bytes, from a place on
+abbrev pub half_at : List ℕ → ℕ → ℕ
+half_at bytes i = slice_index bytes i + slice_index bytes (i + 1) * 0x100
+
+abbrev pub word_at : List ℕ → ℕ → ℕ
+word_at bytes i =
     slice_index bytes i + slice_index bytes (i + 1) * 0x100 + slice_index bytes (i + 2) * 0x10000 + slice_index bytes (i + 3) * 0x1000000
 
--- the word at an address, if the memory holds it
-abbrev pub fetched : List ℕ → ℕ → Option ℕ
-fetched memory at = if holds memory at 4 then Some (word_of memory (at - memory_base)) else None
+-- the number of 1, 2 or 4 bytes from a place on
+abbrev pub value_at : List ℕ → ℕ → ℕ → ℕ
+value_at bytes i width = if width == 1 then slice_index bytes i else if width == 2 then half_at bytes i else word_at bytes i
 
--- the memory after a byte was stored, which changes nothing where the memory does not hold the address
-abbrev pub stored : List ℕ → ℕ → ℕ → List ℕ
-stored memory at value = if holds memory at 1 then slice_set memory (at - memory_base) value else memory
+-- bytes with the lowest bytes of a value in so many places from one on, the lowest first
+abbrev pub put_value : List ℕ → ℕ → ℕ → ℕ → List ℕ
+put_value bytes i zero value = bytes
+put_value bytes i (suc width) value = put_value (slice_set bytes i (value % 0x100)) (i + 1) width (value / 0x100)
+
+-- bytes with these in their place from one on
+abbrev pub put_bytes : List ℕ → ℕ → List ℕ → List ℕ
+put_bytes bytes i part = take i bytes ++ (part ++ drop (i + length part) bytes)

@@ -1,24 +1,21 @@
 -- Slots one after another, each in the microsecond that the time framework gives it.
-use Rattle.std.specs.Prelude.{◌≡◌, ℕ, zero, suc, ◌+◌, ◌<◌, List, [], ◌∷◌, ◌++◌}
+use Rattle.std.specs.Prelude.{◌≡◌, ℕ, zero, suc, ◌+◌, ◌<◌, ◌≤◌, List, [], ◌∷◌, ◌++◌}
+use Rattle.lab_num.specs.declared.key.Key.{Key}
 use Rattle.lab_num.specs.declared.post.Entry.{Entry}
 use Rattle.lab_num.specs.Paid.{slot_at}
 use Rattle.board.specs.declared.board.Turn.{Turn}
 use Rattle.board.specs.declared.board.Turn.TheVariants.{Used, Starved}
-use Rattle.board.specs.View.{View, State}
-use Rattle.board.specs.Slot.{Slotted, slot}
+use Rattle.board.specs.View.{View, State, after}
+use Rattle.board.specs.Slot.{slot, quiet}
 
 -- what so many slots have come to, and then one more in this microsecond
-abbrev pub go_on : Slotted → ℕ → Slotted
-go_on run t = record { view = (slot run.view t).view; entries = run.entries ++ (slot run.view t).entries }
+abbrev pub go_on : State → ℕ → State
+go_on run t = after run (slot run.view t)
 
--- the slots `a` to `a + n - 1` of the grant that begins at `from`
-unfoldable pub stretch : View → ℕ → ℕ → ℕ → Slotted
-stretch v from a zero = record { view = v; entries = [] }
+-- the slots `a` to `a + n - 1` of the grant that begins at `from`: the board after them, and what they have made
+unfoldable pub stretch : View → ℕ → ℕ → ℕ → State
+stretch v from a zero = quiet v
 stretch v from a (suc n) = go_on (stretch v from a n) (slot_at from v.speed (a + n))
-
--- a board after that
-abbrev pub after : State → Slotted → State
-after s run = record { view = run.view; entries = s.entries ++ run.entries }
 
 -- A turn of `n` slots takes all of them, or stops after exactly so many for want of memory.
 abbrev pub IsTurn : State → ℕ → ℕ → ℕ → Turn → State → Type 0

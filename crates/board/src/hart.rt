@@ -52,6 +52,12 @@ impl Hart {
         self.pc
     }
 
+    pub fn set_pc(&mut self, pc: u32)
+        ensures { self.new ≡ record self.old { pc = pc } }
+    {
+        self.pc = pc;
+    }
+
     pub fn is_halted(&self) -> bool
         ensures { result ≡ self.now.halted }
     {

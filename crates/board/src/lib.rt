@@ -4,7 +4,11 @@
 mod board;
 mod hart;
 mod memory;
+mod step;
 mod turns;
+mod uart;
+mod wires;
 
 pub use board::{Board, SlotAt, Turn};
-pub use turns::{stretches_join, turns_join};
+pub use turns::{stretches_join, stretches_number, turns_join};
+pub use uart::Taken;

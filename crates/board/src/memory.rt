@@ -1,6 +1,6 @@
 //! The board's memory.
-ghost use Rattle.std.specs.Prelude.{◌≡◌, ◌-◌, ◌≤◌, ◌++◌, length, IfOk, SomeIff};
-ghost use Rattle.board.specs.Space.{memory_base, fetched, stored};
+ghost use Rattle.std.specs.Prelude.{◌≡◌, ℕ, ◌+◌, ◌-◌, ◌^◌, ◌<◌, ◌≤◌, ◌⊎◌, ◌++◌, length, IfOk, IsTrue};
+ghost use Rattle.board.specs.Space.{memory_base, in_memory, half_at, word_at, value_at, put_value, put_bytes};
 ghost use Rattle.board.specs.Early.{zeros};
 
 use lab_num::NoMemory;
@@ -10,7 +10,7 @@ use std::marker::Model;
 /// The address at which the memory begins.
 pub const MEMORY_BASE: u32 = 0x8000_0000;
 
-/// Bytes from `MEMORY_BASE` on.
+/// Bytes from `MEMORY_BASE` on. Words and half-words are little-endian.
 #[derive(Drop)]
 pub struct Memory {
     bytes: Vec<u8>,
@@ -25,48 +25,82 @@ impl Model for Memory {
 }
 
 impl Memory {
-    /// A memory of so many bytes that begins with a program, with 0 in all other bytes.
-    pub fn with_program(alloc: Global, program: &[u8], size: usize) -> Result<Memory, NoMemory>
-        requires { length program.now ≤ size }
-        ensures { IfOk result (λ memory. memory ≡ program.now ++ zeros (size - length program.now)) }
+    /// So many bytes of 0.
+    #[tactic(auto, unfolding(crate::specs::Early::zeros))]
+    pub fn new(alloc: Global, size: usize) -> Result<Memory, NoMemory>
+        ensures { IfOk result (λ memory. memory ≡ zeros size) }
     {
-        let mut bytes = Vec::from_slice(alloc, program)?;
+        let mut bytes = Vec::new(alloc);
         bytes.resize(size, 0)?;
         Ok(Memory { bytes })
     }
 
-    /// The place of an address, if it is not below the memory.
-    fn place(at: u32) -> Option<usize>
-        ensures { SomeIff result (memory_base ≤ at) (at - memory_base) }
+    /// Whether the memory holds all of so many bytes from an address on.
+    pub fn holds(&self, at: u32, count: usize) -> bool
+        requires { count < 2 ^ 63 }
+        ensures { result ≡ in_memory self.now at count }
     {
-        Some(at.checked_sub(MEMORY_BASE)? as usize)
+        at >= MEMORY_BASE && place(at) + count <= self.bytes.len()
     }
 
-    /// The little-endian word at an address. None exactly where the memory does not hold all four bytes.
-    pub fn fetch(&self, at: u32) -> Option<u32>
-        ensures { result ≡ fetched self.now at }
+    /// The number of 1, 2 or 4 bytes from an address on.
+    pub fn load(&self, at: u32, width: u8) -> u32
+        requires held { IsTrue (in_memory self.now at width) }
+        requires width { (width ≡ 1) ⊎ (width ≡ 2) ⊎ (width ≡ 4) }
+        ensures value { result ≡ value_at self.now (at - memory_base) width }
+        ensures fits { result < 256 ^ width }
     {
-        let place = Memory::place(at)?;
-        if place + 4 > self.bytes.len() {
-            return None;
+        let i = place(at);
+        match width {
+            1 => u32::from(self.bytes[i]),
+            2 => u32::from(half_of(&self.bytes, i)),
+            _ => word_of(&self.bytes, i),
         }
-        let bytes = &self.bytes;
-        Some(u32::from_le_bytes([
-            bytes[place],
-            bytes[place + 1],
-            bytes[place + 2],
-            bytes[place + 3],
-        ]))
     }
 
-    /// Stores a byte. Nothing changes where the memory does not hold the address.
-    pub fn store_byte(&mut self, at: u32, value: u8)
-        ensures { self.new ≡ stored self.old at value }
+    /// Stores the lowest bytes of a value from an address on.
+    pub fn store(&mut self, at: u32, width: u8, value: u32)
+        requires { IsTrue (in_memory self.old at width) }
+        ensures { self.new ≡ put_value self.old (at - memory_base) width value }
     {
-        if let Some(place) = Memory::place(at)
-            && place < self.bytes.len()
-        {
-            self.bytes[place] = value;
+        let i = place(at);
+        let mut rest = value;
+        for k in 0..usize::from(width) {
+            self.bytes[i + k] = (rest % 0x100) as u8;
+            rest /= 0x100;
         }
     }
+
+    /// Writes bytes from an address on.
+    pub fn copy_in(&mut self, at: u32, bytes: &[u8])
+        requires { IsTrue (in_memory self.old at (length bytes.now)) }
+        ensures { self.new ≡ put_bytes self.old (at - memory_base) bytes.now }
+    {
+        let i = place(at);
+        self.bytes[i..i + bytes.len()].copy_from_slice(bytes);
+    }
+}
+
+/// The place of an address of the memory.
+fn place(at: u32) -> usize
+    requires { memory_base ≤ at }
+    ensures { result ≡ at - memory_base }
+{
+    (at - MEMORY_BASE) as usize
+}
+
+/// The half-word at a place.
+fn half_of(bytes: &[u8], i: usize) -> u16
+    requires { i + 2 ≤ length bytes.now }
+    ensures { result ≡ half_at bytes.now i }
+{
+    u16::from_le_bytes([bytes[i], bytes[i + 1]])
+}
+
+/// The word at a place.
+fn word_of(bytes: &[u8], i: usize) -> u32
+    requires { i + 4 ≤ length bytes.now }
+    ensures { result ≡ word_at bytes.now i }
+{
+    u32::from_le_bytes([bytes[i], bytes[i + 1], bytes[i + 2], bytes[i + 3]])
 }

@@ -3,7 +3,7 @@ use Rattle.board.proofs.StretchLemmas.{after_none, after_more, slots_fit}
 use Rattle.board.proofs.board.Board.turn.Goals as goal
 
 pub loop-i-init : goal.loop-i-init
-loop-i-init c = record { run = after_none _ _ _; entered = omega arith; speed = refl }
+loop-i-init c = record { run = after_none _ _ _; speed = refl }
 
 pub overflow_add-micros : goal.overflow_add-micros
 overflow_add-micros c =
@@ -18,6 +18,5 @@ loop-i-preserved c =
       run =
           after_more _ _ _ _ _ _ _ c.loop-i.invariant.run ok.ok
           (ap (λ s. c.args.at.from.0 + (c.args.at.first + c.loop-i.i) / s) speed);
-      entered = omega (arith, ok.entered);
       speed = ok.speed ∙ c.loop-i.invariant.speed;
     }

@@ -1,11 +1,11 @@
-use Rattle.std.proofs.Common.{◌≡◌, ◌+◌, ◌≤◌}
-use Rattle.board.specs.Stretch.{after, stretch}
+use Rattle.std.proofs.Common.{◌≡◌, ◌+◌}
+use Rattle.board.specs.View.{after}
+use Rattle.board.specs.Stretch.{stretch}
 use Rattle.board.proofs.board.Board.turn.Given as goal
 
 -- The board is as after the slots so far.
 abbrev pub invariant-loop-i : goal.invariant-loop-i
 invariant-loop-i l = record {
   run : l.self ≡ after l.fn.self (stretch l.fn.self.view l.at.from.0 l.at.first l.i);
-  entered : l.self.view.entered ≤ l.fn.self.view.entered + l.i;
   speed : l.self.view.speed ≡ l.fn.self.view.speed;
 }
