@@ -3,9 +3,12 @@ ghost use Rattle.std.specs.Prelude.{◌≡◌, ℕ, ◌%◌, ◌<◌, SomeIff};
 ghost use Rattle.rv_hart.specs.Core.{first, reg, put, next, finish, ticked, retired};
 ghost use Rattle.rv_hart.specs.HartState.{IsHartState, core_of, state_of};
 
+mod csr;
+mod trap;
+
 use std::marker::Model;
 
-use crate::state::HartState;
+use crate::state::{HartState, is_hart_state};
 
 /// A hart of RV32IM with machine mode alone.
 #[derive(Clone, Copy, PartialEq, Eq, Debug)]
@@ -84,5 +87,80 @@ impl Hart {
         ensures { self.new ≡ record self.old { pc = pc } }
     {
         self.state.pc = pc;
+    }
+
+    /// Whether the hart waits for an interrupt.
+    pub fn waiting(&self) -> bool
+        ensures { result ≡ self.now.waiting }
+    {
+        self.state.waiting
+    }
+
+    pub fn set_waiting(&mut self, on: bool)
+        ensures { self.new ≡ record self.old { waiting = on } }
+    {
+        self.state.waiting = on;
+    }
+
+    /// Whether the hart is to do nothing.
+    pub fn halted(&self) -> bool
+        ensures { result ≡ self.now.halted }
+    {
+        self.state.halted
+    }
+
+    pub fn set_halted(&mut self, on: bool)
+        ensures { self.new ≡ record self.old { halted = on } }
+    {
+        self.state.halted = on;
+    }
+
+    /// Adds one to mcycle, modulo 2^64.
+    pub fn tick(&mut self)
+        ensures { self.new ≡ ticked self.old }
+    {
+        self.state.mcycle = self.state.mcycle.wrapping_add(1);
+    }
+
+    /// Adds one to minstret, modulo 2^64.
+    pub fn retire(&mut self)
+        ensures { self.new ≡ retired self.old }
+    {
+        self.state.minstret = self.state.minstret.wrapping_add(1);
+    }
+
+    /// Goes on to the next instruction. The counters stay.
+    pub fn advance(&mut self)
+        ensures { self.new ≡ next self.old }
+    {
+        self.state.pc = self.state.pc.wrapping_add(4);
+    }
+
+    /// Writes a register, but for register 0, and goes on to the next instruction. The counters stay.
+    pub fn finish(&mut self, rd: u8, value: u32)
+        requires { rd < 32 }
+        ensures { self.new ≡ finish self.old rd value }
+    {
+        self.set_register(rd, value);
+        self.advance();
+    }
+
+    /// All that the hart holds.
+    pub fn state(&self) -> HartState
+        ensures value { result ≡ state_of self.now }
+        ensures valid { IsHartState result }
+    {
+        self.state
+    }
+
+    /// The hart of a state, if there is one.
+    pub fn of(s: &HartState) -> Option<Hart>
+        ensures { SomeIff result (IsHartState s.now) (core_of s.now) }
+    {
+        if is_hart_state(s) {
+            Some(Hart { state: *s })
+        } else {
+            None
+        }
     }
 }

@@ -1,4 +1,9 @@
 // A hart's state as plain data.
+ghost use Rattle.std.specs.Prelude.{◌↔◌, ◌^◌, ◌<◌, ◌==◌, ◌≡◌, IsTrue};
+ghost use Rattle.rv_hart.specs.HartState.{IsHartState};
+ghost use Rattle.rv_hart.specs.Trap.{is_set};
+
+use crate::bits::{INTERRUPT_BITS, is_set};
 
 /// All that a hart holds.
 #[derive(Clone, Copy, PartialEq, Eq, Debug)]
@@ -22,4 +27,16 @@ pub struct HartState {
     pub waiting: bool,
     /// The board lets the hart do nothing.
     pub halted: bool,
+}
+
+/// Whether a hart can have this state: register 0 is 0, mie has no bit but 3, 7 and 11, bit 1 of mtvec is 0, and mepc
+/// and pc are divisible by 4.
+pub fn is_hart_state(s: &HartState) -> bool
+    ensures { IsTrue result ↔ IsHartState s.now }
+{
+    s.registers[0] == 0
+        && s.mie & INTERRUPT_BITS == s.mie
+        && !is_set(s.mtvec, 1)
+        && s.mepc % 4 == 0
+        && s.pc % 4 == 0
 }

@@ -1,0 +1,93 @@
+// Trap entry and return, the choice of an interrupt, and the jump, which may trap.
+ghost use Rattle.std.specs.Prelude.{◌≡◌, ◌%◌, ◌<◌, ◌==◌, ◌||◌, not, is_none, bit_and};
+ghost use Rattle.rv_hart.specs.Trap.{chosen, enter, interrupt, jump, leave, target};
+
+use crate::bits::{aligned, is_set};
+use crate::hart::Hart;
+
+/// The bit of a cause that says that the trap is an interrupt.
+const INTERRUPT: u32 = 1 << 31;
+
+/// The interrupts of machine mode, the most urgent first: external, software, timer.
+const BY_PRIORITY: [u8; 3] = [11, 3, 7];
+
+impl Hart {
+    /// The interrupt that is taken now, of those whose lines are set in `mip`.
+    pub fn pending(&self, mip: u32) -> Option<u8>
+        ensures value { result ≡ chosen self.now mip }
+        ensures none { is_none result ≡ (not self.now.on || bit_and mip self.now.mie == 0) }
+    {
+        if !self.state.on {
+            return None;
+        }
+        let ready = mip & self.state.mie;
+        if is_set(ready, 11) {
+            Some(11)
+        } else if is_set(ready, 3) {
+            Some(3)
+        } else if is_set(ready, 7) {
+            Some(7)
+        } else {
+            None
+        }
+    }
+
+    /// Where a trap of this cause goes.
+    fn trap_target(&self, cause: u32) -> u32
+        ensures value { result ≡ target self.now cause }
+        ensures aligned { result % 4 ≡ 0 }
+    {
+        let mtvec = self.state.mtvec;
+        let base = aligned(mtvec);
+        if is_set(cause, 31) && is_set(mtvec, 0) {
+            base.wrapping_add((cause % INTERRUPT).wrapping_mul(4))
+        } else {
+            base
+        }
+    }
+
+    /// Enters a trap: an exception, or the interrupt n where the cause is 2^31 + n.
+    pub fn enter_trap(&mut self, cause: u32, value: u32)
+        ensures { self.new ≡ enter self.old cause value }
+    {
+        let target = self.trap_target(cause);
+        self.state.mepc = self.state.pc;
+        self.state.mcause = cause;
+        self.state.mtval = value;
+        self.state.before = self.state.on;
+        self.state.on = false;
+        self.state.pc = target;
+    }
+
+    /// Enters the interrupt n, as one that `pending` gives.
+    pub fn enter_interrupt(&mut self, n: u8)
+        ensures { self.new ≡ interrupt self.old n }
+    {
+        self.enter_trap(INTERRUPT + u32::from(n), 0);
+    }
+
+    /// Returns from a trap, as MRET does.
+    pub fn leave_trap(&mut self)
+        ensures { self.new ≡ leave self.old }
+    {
+        self.state.pc = self.state.mepc;
+        self.state.on = self.state.before;
+        self.state.before = true;
+    }
+
+    /// Jumps to the target, with the pc of the next instruction in a register, and answers true. A target that is not
+    /// divisible by 4 is the exception of cause 0 in its place, and the answer is false. The counters stay.
+    pub fn jump(&mut self, rd: u8, target: u32) -> bool
+        requires { rd < 32 }
+        ensures core { self.new ≡ jump self.old rd target }
+        ensures arrived { result ≡ (target % 4 == 0) }
+    {
+        if target % 4 != 0 {
+            self.enter_trap(0, target);
+            return false;
+        }
+        self.finish(rd, self.pc().wrapping_add(4));
+        self.set_pc(target);
+        true
+    }
+}
