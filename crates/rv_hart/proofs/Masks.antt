@@ -1,12 +1,12 @@
 -- What a mask leaves of a word: the bits of the interrupts, which are 0 where none of the three is set, and a mode.
-use Rattle.std.proofs.Common.{◌≡◌, ℕ, ◌^◌, ◌<◌, ◌≢◌, false, arith, rules, inl, inr, sym, ◌∙◌, ap}
+use Rattle.std.proofs.Common.{◌≡◌, ℕ, ◌^◌, ◌<◌, ◌≢◌, ◌==◌, ◌||◌, not, true, false, is_none, arith, inl, inr, refl, sym, ap}
 use Rattle.std.specs.Prelude.{bit_and, bit_or}
 use Rattle.std.specs.Int.{bit_at}
-use Rattle.std.proofs.lemmas.Bool.{cases_eq, eqb-false}
+use Rattle.std.proofs.lemmas.Bool.{cases_Bool, cases_eq, eq-eqb, eqb-false, eqb-true, ne_eqb}
 use Rattle.std.proofs.lemmas.Nat.Bits.{bit_at_and, bit_at_or, bit_at-pow_other, bit_at-lt, bit_at-zero, same_from_bits}
 use Rattle.std.proofs.lemmas.Nat.{and_assoc}
-use Rattle.rv_hart.specs.Core.{interrupt_bits}
-use Rattle.rv_hart.specs.Trap.{is_set}
+use Rattle.rv_hart.specs.Core.{Core, interrupt_bits}
+use Rattle.rv_hart.specs.Trap.{chosen, is_set}
 
 -- a bit that is not set is 0
 pub bit_at-unset : (word n : ℕ) → is_set word n ≡ false → bit_at word n ≡ 0
@@ -39,6 +39,32 @@ ready-none mip mie enables no_11 no_3 no_7 =
           ]
         ]
       ])
+
+-- a word with a bit set is not 0
+pub eqb-set : (word n : ℕ) → is_set word n ≡ true → (word == 0) ≡ false
+eqb-set word n set =
+    ne_eqb word 0 (λ zero.
+      let at_zero : bit_at word n ≡ 0 = rw zero (bit_at-zero n) in
+      let at_one : bit_at word n ≡ 1 = eqb-true (bit_at word n) 1 set in
+      omega arith)
+
+-- there is no interrupt to take exactly where MIE is 0 or none is both pending and enabled
+pub is_none-chosen : (core : Core) (mip : ℕ) → bit_and core.mie interrupt_bits ≡ core.mie → is_none (chosen core mip) ≡ (not core.on || bit_and mip core.mie == 0)
+is_none-chosen core mip enables =
+    let word = bit_and mip core.mie in
+    elim (cases_Bool core.on) [
+      inr off ↦ rw off refl
+    | inl on ↦ elim (cases_Bool (is_set word 11)) [
+        inl set ↦ rw (on, set) (sym (eqb-set word 11 set))
+      | inr no_11 ↦ elim (cases_Bool (is_set word 3)) [
+          inl set ↦ rw (on, no_11, set) (sym (eqb-set word 3 set))
+        | inr no_3 ↦ elim (cases_Bool (is_set word 7)) [
+            inl set ↦ rw (on, no_11, no_3, set) (sym (eqb-set word 7 set))
+          | inr no_7 ↦ rw (on, no_11, no_3, no_7) (sym (eq-eqb word 0 (ready-none mip core.mie enables no_11 no_3 no_7)))
+          ]
+        ]
+      ]
+    ]
 
 -- a word that has only the bits of the interrupts keeps them under their mask
 pub interrupt_bits-twice : (word : ℕ) → bit_and (bit_and word interrupt_bits) interrupt_bits ≡ bit_and word interrupt_bits

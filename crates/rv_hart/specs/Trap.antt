@@ -38,12 +38,13 @@ interrupt core n = enter core (2 ^ 31 + n) 0
 abbrev pub leave : Core → Core
 leave core = record core { pc = core.mepc; on = core.before; before = true }
 
--- the interrupt that is taken now: none where MIE is 0, and else the first of external, software and timer that is
--- both pending and enabled (Privileged ISA 3.1.9)
+-- of the interrupts whose bits are set the most urgent: external, then software, then timer (Privileged ISA 3.1.9)
+abbrev pub most_urgent : ℕ → Option ℕ
+most_urgent ready = find (λ n. is_set ready n) (11 ∷ 3 ∷ 7 ∷ [])
+
+-- the interrupt that is taken now: none where MIE is 0, and else the most urgent that is both pending and enabled
 abbrev pub chosen : Core → ℕ → Option ℕ
-chosen core mip =
-    let ready = bit_and mip core.mie in
-    if core.on then find (λ n. is_set ready n) (11 ∷ 3 ∷ 7 ∷ []) else None
+chosen core mip = if core.on then most_urgent (bit_and mip core.mie) else None
 
 -- a jump to a target divisible by 4, with the pc of the next instruction in the register; any other target is an
 -- instruction address misaligned, cause 0, with the target as mtval, and leaves the register (Unprivileged ISA 2.2, 2.5)

@@ -1,6 +1,6 @@
 // Trap entry and return, the choice of an interrupt, and the jump, which may trap.
 ghost use Rattle.std.specs.Prelude.{◌≡◌, ◌%◌, ◌<◌, ◌==◌, ◌||◌, not, is_none, bit_and};
-ghost use Rattle.rv_hart.specs.Trap.{chosen, enter, interrupt, jump, leave, target};
+ghost use Rattle.rv_hart.specs.Trap.{chosen, enter, interrupt, jump, leave, most_urgent, target};
 
 use crate::bits::{aligned, is_set};
 use crate::hart::Hart;
@@ -11,6 +11,16 @@ const INTERRUPT: u32 = 1 << 31;
 /// The interrupts of machine mode, the most urgent first: external, software, timer.
 const BY_PRIORITY: [u8; 3] = [11, 3, 7];
 
+/// The most urgent of these interrupts.
+fn most_urgent(ready: u32) -> Option<u8>
+    ensures { result ≡ most_urgent ready }
+{
+    BY_PRIORITY
+        .iter()
+        .copied()
+        .find(|n| is_set(ready, u32::from(*n)))
+}
+
 impl Hart {
     /// The interrupt that is taken now, of those whose lines are set in `mip`.
     pub fn pending(&self, mip: u32) -> Option<u8>
@@ -20,16 +30,7 @@ impl Hart {
         if !self.state.on {
             return None;
         }
-        let ready = mip & self.state.mie;
-        if is_set(ready, 11) {
-            Some(11)
-        } else if is_set(ready, 3) {
-            Some(3)
-        } else if is_set(ready, 7) {
-            Some(7)
-        } else {
-            None
-        }
+        most_urgent(mip & self.state.mie)
     }
 
     /// Where a trap of this cause goes.

@@ -1,7 +1,9 @@
--- No interrupt is ready where none of the three bits is set.
+-- There is no interrupt to take exactly where none is enabled and pending.
 use Rattle.std.proofs.Common.{arith}
-use Rattle.rv_hart.proofs.Masks.{ready-none}
+use Rattle.rv_hart.specs.HartState.{core_of}
+use Rattle.rv_hart.proofs.Masks.{is_none-chosen}
 use Rattle.rv_hart.proofs.hart.Hart.pending.Goals as goal
 
-pub returns-else-is_set-3-clause-none : goal.returns-else-is_set-3-clause-none
-returns-else-is_set-3-clause-none c = grind (arith, ready-none)
+pub returns-clause-none : goal.returns-clause-none
+returns-clause-none c =
+    grind (arith, is_none-chosen (core_of c.self.inside.state) c.args.mip c.self.invariant.enables)
