@@ -36,7 +36,7 @@ first = record {
   mcycle = 0;
   minstret = 0;
   waiting = false;
-  halted = false
+  halted = false;
 }
 
 -- a register's word

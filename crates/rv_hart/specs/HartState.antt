@@ -18,7 +18,7 @@ core_of s = record {
   mcycle = s.mcycle;
   minstret = s.minstret;
   waiting = s.waiting;
-  halted = s.halted
+  halted = s.halted;
 }
 
 -- the state of a core
@@ -37,7 +37,7 @@ state_of core = record {
   mcycle = core.mcycle;
   minstret = core.minstret;
   waiting = core.waiting;
-  halted = core.halted
+  halted = core.halted;
 }
 
 -- a state that a hart can have

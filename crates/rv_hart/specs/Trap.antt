@@ -1,5 +1,5 @@
 -- Trap entry and return in machine mode, the choice of an interrupt, and the jump, which may trap.
-use Rattle.std.specs.Prelude.{ℕ, ◌+◌, ◌*◌, ◌/◌, ◌%◌, ◌^◌, ◌==◌, ◌&&◌, Bool, true, false, if◌then◌else◌, List, [], ◌∷◌, Option, None, find, bit_and}
+use Rattle.std.specs.Prelude.{ℕ, ◌+◌, ◌*◌, ◌/◌, ◌%◌, ◌^◌, ◌==◌, ◌&&◌, not, Bool, true, false, if◌then◌else◌, List, [], ◌∷◌, Option, None, find, bit_and}
 use Rattle.std.specs.Int.{bit_at}
 use Rattle.rv_hart.specs.Core.{Core, put, next_pc}
 
@@ -27,7 +27,7 @@ enter core cause value =
       mcause = cause;
       mtval = value;
       before = core.on;
-      on = false
+      on = false;
     }
 
 -- the entry of the interrupt n
@@ -45,6 +45,10 @@ most_urgent ready = find (λ n. is_set ready n) (11 ∷ 3 ∷ 7 ∷ [])
 -- the interrupt that is taken now: none where MIE is 0, and else the most urgent that is both pending and enabled
 abbrev pub chosen : Core → ℕ → Option ℕ
 chosen core mip = if core.on then most_urgent (bit_and mip core.mie) else None
+
+-- whether an interrupt is both pending and enabled, which ends a wait whatever MIE is (Privileged ISA 3.3.3)
+abbrev pub is_ready : Core → ℕ → Bool
+is_ready core mip = not (bit_and mip core.mie == 0)
 
 -- a jump to a target divisible by 4, with the pc of the next instruction in the register; any other target is an
 -- instruction address misaligned, cause 0, with the target as mtval, and leaves the register (Unprivileged ISA 2.2, 2.5)

@@ -6,9 +6,8 @@ ghost use Rattle.rv_hart.specs.HartState.{IsHartState, core_of, state_of};
 mod csr;
 mod trap;
 
-use std::marker::Model;
-
 use crate::state::{HartState, is_hart_state};
+use std::marker::Model;
 
 /// A hart of RV32IM with machine mode alone.
 #[derive(Clone, Copy, PartialEq, Eq, Debug)]
@@ -162,5 +161,13 @@ impl Hart {
         } else {
             None
         }
+    }
+}
+
+impl Default for Hart {
+    ghost is_default = { λ h. h ≡ first };
+
+    fn default() -> Hart {
+        Hart::new()
     }
 }

@@ -5,9 +5,14 @@ mod bits;
 mod csr;
 mod hart;
 mod laws;
+mod numbers;
 mod state;
 
 pub use csr::{CsrFault, Lines};
 pub use hart::Hart;
+pub use laws::{counters_stay, read_back, return_after_entry, zero_register};
+pub use numbers::{is_mcycle, is_minstret};
 pub use state::HartState;
-pub use laws::{read_back, return_after_entry, zero_register};
+
+#[cfg(test)]
+mod tests;

@@ -1,6 +1,6 @@
 // Trap entry and return, the choice of an interrupt, and the jump, which may trap.
 ghost use Rattle.std.specs.Prelude.{◌≡◌, ◌%◌, ◌<◌, ◌==◌, ◌||◌, not, is_none, bit_and};
-ghost use Rattle.rv_hart.specs.Trap.{chosen, enter, interrupt, jump, leave, most_urgent, target};
+ghost use Rattle.rv_hart.specs.Trap.{chosen, enter, interrupt, is_ready, jump, leave, most_urgent, target};
 
 use crate::bits::{aligned, is_set};
 use crate::hart::Hart;
@@ -31,6 +31,13 @@ impl Hart {
             return None;
         }
         most_urgent(mip & self.state.mie)
+    }
+
+    /// Whether an interrupt is both pending and enabled by mie, whatever MIE is. It ends a wait.
+    pub fn is_ready(&self, mip: u32) -> bool
+        ensures { result ≡ is_ready self.now mip }
+    {
+        mip & self.state.mie != 0
     }
 
     /// Where a trap of this cause goes.

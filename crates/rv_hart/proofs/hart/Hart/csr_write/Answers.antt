@@ -9,7 +9,7 @@ invariant_of-self-in-772 c = record {
   enables = interrupt_bits-twice c.args.value;
   mode = c.self.invariant.mode;
   return_pc = c.self.invariant.return_pc;
-  aligned = c.self.invariant.aligned
+  aligned = c.self.invariant.aligned;
 }
 
 pub invariant_of-self-in-773 : goal.invariant_of-self-in-773
@@ -18,5 +18,5 @@ invariant_of-self-in-773 c = record {
   enables = c.self.invariant.enables;
   mode = bit_at-mode c.args.value;
   return_pc = c.self.invariant.return_pc;
-  aligned = c.self.invariant.aligned
+  aligned = c.self.invariant.aligned;
 }
