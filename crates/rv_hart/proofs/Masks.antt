@@ -6,7 +6,7 @@ use Rattle.std.proofs.lemmas.Bool.{cases_Bool, cases_eq, eq-eqb, eqb-false, eqb-
 use Rattle.std.proofs.lemmas.Nat.Bits.{bit_at_and, bit_at_or, bit_at-pow_other, bit_at-lt, bit_at-zero, same_from_bits}
 use Rattle.std.proofs.lemmas.Nat.{and_assoc}
 use Rattle.rv_hart.specs.Core.{Core, interrupt_bits}
-use Rattle.rv_hart.specs.Trap.{chosen, is_set}
+use Rattle.rv_hart.specs.Trap.{chosen, is_set, most_urgent}
 
 -- a bit that is not set is 0
 pub bit_at-unset : (word n : ℕ) → is_set word n ≡ false → bit_at word n ≡ 0
@@ -50,6 +50,7 @@ eqb-set word n set =
 
 -- there is no interrupt to take exactly where MIE is 0 or none is both pending and enabled
 pub is_none-chosen : (core : Core) (mip : ℕ) → bit_and core.mie interrupt_bits ≡ core.mie → is_none (chosen core mip) ≡ (not core.on || bit_and mip core.mie == 0)
+unfolding chosen most_urgent
 is_none-chosen core mip enables =
     let word = bit_and mip core.mie in
     elim (cases_Bool core.on) [

@@ -52,19 +52,19 @@ abbrev pub next_pc : Core → ℕ
 next_pc core = (core.pc + 4) % 2 ^ 32
 
 -- on to the next instruction
-abbrev pub next : Core → Core
+unfoldable pub next : Core → Core
 next core = record core { pc = next_pc core }
 
 -- on to the next instruction, with this word in the register
-abbrev pub finish : Core → ℕ → ℕ → Core
+unfoldable pub finish : Core → ℕ → ℕ → Core
 finish core rd value = record core { x = put core.x rd value; pc = next_pc core }
 
 -- one cycle more (Privileged ISA 3.1.10)
-abbrev pub ticked : Core → Core
+unfoldable pub ticked : Core → Core
 ticked core = record core { mcycle = (core.mcycle + 1) % 2 ^ 64 }
 
 -- one instruction retired (Privileged ISA 3.1.10)
-abbrev pub retired : Core → Core
+unfoldable pub retired : Core → Core
 retired core = record core { minstret = (core.minstret + 1) % 2 ^ 64 }
 
 -- the bits of the software, timer and external interrupts of machine mode: 3, 7 and 11 (Privileged ISA 3.1.9)

@@ -13,13 +13,13 @@ is_interrupt cause = is_set cause 31
 
 -- where a trap goes: to the base of mtvec, and in the vectored mode, which is bit 0 of mtvec, an interrupt n goes 4 n
 -- beyond it (Privileged ISA 3.1.7)
-abbrev pub target : Core → ℕ → ℕ
+unfoldable pub target : Core → ℕ → ℕ
 target core cause =
     let base = core.mtvec / 4 * 4 in
     if is_interrupt cause && is_set core.mtvec 0 then (base + 4 * (cause % 2 ^ 31)) % 2 ^ 32 else base
 
 -- the entry of a trap: an exception, or an interrupt n as the cause 2 ^ 31 + n (Privileged ISA 3.1.6.1, 3.1.14 to 3.1.16)
-abbrev pub enter : Core → ℕ → ℕ → Core
+unfoldable pub enter : Core → ℕ → ℕ → Core
 enter core cause value =
     record core {
       pc = target core cause;
@@ -35,15 +35,15 @@ abbrev pub interrupt : Core → ℕ → Core
 interrupt core n = enter core (2 ^ 31 + n) 0
 
 -- the return from a trap, MRET (Privileged ISA 3.1.6.1, 3.3.2)
-abbrev pub leave : Core → Core
+unfoldable pub leave : Core → Core
 leave core = record core { pc = core.mepc; on = core.before; before = true }
 
 -- of the interrupts whose bits are set the most urgent: external, then software, then timer (Privileged ISA 3.1.9)
-abbrev pub most_urgent : ℕ → Option ℕ
+unfoldable pub most_urgent : ℕ → Option ℕ
 most_urgent ready = find (λ n. is_set ready n) (11 ∷ 3 ∷ 7 ∷ [])
 
 -- the interrupt that is taken now: none where MIE is 0, and else the most urgent that is both pending and enabled
-abbrev pub chosen : Core → ℕ → Option ℕ
+unfoldable pub chosen : Core → ℕ → Option ℕ
 chosen core mip = if core.on then most_urgent (bit_and mip core.mie) else None
 
 -- whether an interrupt is both pending and enabled, which ends a wait whatever MIE is (Privileged ISA 3.3.3)
@@ -52,6 +52,6 @@ is_ready core mip = not (bit_and mip core.mie == 0)
 
 -- a jump to a target divisible by 4, with the pc of the next instruction in the register; any other target is an
 -- instruction address misaligned, cause 0, with the target as mtval, and leaves the register (Unprivileged ISA 2.2, 2.5)
-abbrev pub jump : Core → ℕ → ℕ → Core
+unfoldable pub jump : Core → ℕ → ℕ → Core
 jump core rd target =
     if target % 4 == 0 then record core { x = put core.x rd (next_pc core); pc = target } else enter core 0 target

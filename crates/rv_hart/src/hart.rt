@@ -115,6 +115,7 @@ impl Hart {
     }
 
     /// Adds one to mcycle, modulo 2^64.
+    #[tactic(auto, unfolding(crate::specs::Core::ticked))]
     pub fn tick(&mut self)
         ensures { self.new ≡ ticked self.old }
     {
@@ -122,6 +123,7 @@ impl Hart {
     }
 
     /// Adds one to minstret, modulo 2^64.
+    #[tactic(auto, unfolding(crate::specs::Core::retired))]
     pub fn retire(&mut self)
         ensures { self.new ≡ retired self.old }
     {
@@ -129,6 +131,7 @@ impl Hart {
     }
 
     /// Goes on to the next instruction. The counters stay.
+    #[tactic(auto, unfolding(crate::specs::Core::next))]
     pub fn advance(&mut self)
         ensures { self.new ≡ next self.old }
     {
@@ -136,6 +139,7 @@ impl Hart {
     }
 
     /// Writes a register, but for register 0, and goes on to the next instruction. The counters stay.
+    #[tactic(auto, unfolding(crate::specs::Core::finish, crate::specs::Core::next))]
     pub fn finish(&mut self, rd: u8, value: u32)
         requires { rd < 32 }
         ensures { self.new ≡ finish self.old rd value }

@@ -10,6 +10,7 @@ ghost use Rattle.rv_hart.specs.Laws.{
 };
 
 /// A return after the entry of a trap goes on as if there had been none.
+#[tactic(auto, unfolding(crate::specs::Trap::enter, crate::specs::Trap::leave))]
 pub fn return_after_entry()
     ensures pc { ReturnsToPc }
     ensures mie { ReturnsMie }

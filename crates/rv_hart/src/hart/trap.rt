@@ -12,6 +12,7 @@ const INTERRUPT: u32 = 1 << 31;
 const BY_PRIORITY: [u8; 3] = [11, 3, 7];
 
 /// The most urgent of these interrupts.
+#[tactic(auto, unfolding(crate::specs::Trap::most_urgent))]
 fn most_urgent(ready: u32) -> Option<u8>
     ensures { result ≡ most_urgent ready }
 {
@@ -23,6 +24,7 @@ fn most_urgent(ready: u32) -> Option<u8>
 
 impl Hart {
     /// The interrupt that is taken now, of those whose lines are set in `mip`.
+    #[tactic(auto, unfolding(crate::specs::Trap::chosen))]
     pub fn pending(&self, mip: u32) -> Option<u8>
         ensures value { result ≡ chosen self.now mip }
         ensures none { is_none result ≡ (not self.now.on || bit_and mip self.now.mie == 0) }
@@ -41,6 +43,7 @@ impl Hart {
     }
 
     /// Where a trap of this cause goes.
+    #[tactic(auto, unfolding(crate::specs::Trap::target))]
     fn trap_target(&self, cause: u32) -> u32
         ensures value { result ≡ target self.now cause }
         ensures aligned { result % 4 ≡ 0 }
@@ -55,6 +58,7 @@ impl Hart {
     }
 
     /// Enters a trap: an exception, or the interrupt n where the cause is 2^31 + n.
+    #[tactic(auto, unfolding(crate::specs::Trap::enter))]
     pub fn enter_trap(&mut self, cause: u32, value: u32)
         ensures { self.new ≡ enter self.old cause value }
     {
@@ -75,6 +79,7 @@ impl Hart {
     }
 
     /// Returns from a trap, as MRET does.
+    #[tactic(auto, unfolding(crate::specs::Trap::leave))]
     pub fn leave_trap(&mut self)
         ensures { self.new ≡ leave self.old }
     {
@@ -85,6 +90,7 @@ impl Hart {
 
     /// Jumps to the target, with the pc of the next instruction in a register, and answers true. A target that is not
     /// divisible by 4 is the exception of cause 0 in its place, and the answer is false. The counters stay.
+    #[tactic(auto, unfolding(crate::specs::Trap::jump, crate::specs::Core::finish))]
     pub fn jump(&mut self, rd: u8, target: u32) -> bool
         requires { rd < 32 }
         ensures core { self.new ≡ jump self.old rd target }
