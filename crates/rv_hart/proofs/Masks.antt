@@ -1,5 +1,5 @@
 -- What a mask leaves of a word: the bits of the interrupts, which are 0 where none of the three is set, and a mode.
-use Rattle.std.proofs.Common.{◌≡◌, ℕ, ◌^◌, ◌<◌, ◌≢◌, ◌==◌, ◌||◌, not, true, false, is_none, arith, inl, inr, refl, sym, ap}
+use Rattle.std.proofs.Common.{◌≡◌, ℕ, ◌^◌, ◌≢◌, ◌==◌, ◌||◌, not, true, false, is_none, arith, inl, inr, refl, sym, ap}
 use Rattle.std.specs.Prelude.{bit_and, bit_or}
 use Rattle.std.specs.Int.{bit_at}
 use Rattle.std.proofs.lemmas.Bool.{cases_Bool, cases_eq, eq-eqb, eqb-false, eqb-true, ne_eqb}

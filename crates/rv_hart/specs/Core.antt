@@ -21,8 +21,8 @@ pub record Core : Type 0 where
   pub halted : Bool
 
 -- the core of a new hart
-abbrev pub first : Core
-first = record {
+abbrev pub initial : Core
+initial = record {
   x = replicate 32 0;
   pc = 0;
   on = false;

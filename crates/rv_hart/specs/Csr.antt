@@ -1,5 +1,5 @@
 -- The table of the CSRs: what each number reads, and what a write of it leaves.
-use Rattle.std.specs.Prelude.{ℕ, ◌+◌, ◌*◌, ◌/◌, ◌%◌, ◌^◌, ◌==◌, ◌&&◌, ◌||◌, not, Bool, if◌then◌else◌, List, [], ◌∷◌, Option, Some, None, find, option_and_then, option_map, is_some, bit_and}
+use Rattle.std.specs.Prelude.{ℕ, ◌+◌, ◌*◌, ◌/◌, ◌%◌, ◌^◌, ◌==◌, ◌||◌, Bool, if◌then◌else◌, List, [], ◌∷◌, Option, Some, None, find, option_and_then, option_map, is_some, bit_and}
 use Rattle.rv_hart.specs.declared.csr.Lines.{Lines}
 use Rattle.rv_hart.specs.Core.{Core, interrupt_bits}
 use Rattle.rv_hart.specs.Trap.{is_set}
@@ -38,34 +38,45 @@ read_write number read write = record { number = number; read = read; write = So
 abbrev pub read_only : ℕ → (Core → Lines → ℕ) → Row
 read_only number read = record { number = number; read = read; write = None }
 
--- mstatus, mstatush, misa, mie, mtvec; mscratch, mepc, mcause, mtval, mip; mcycle and minstret by halves; cycle, instret
--- and time by halves; mvendorid, marchid, mimpid, mhartid (Privileged ISA 2.2 and 3.1.1 to 3.1.16, Unprivileged ISA 10)
+-- a CSR that reads 0, and one whose writes are ignored
+abbrev pub zero_word : Core → Lines → ℕ
+zero_word core lines = 0
+
+abbrev pub ignored : Core → ℕ → Core
+ignored core value = core
+
+-- the CSRs of machine mode (Privileged ISA 2.2, 3.1.1 to 3.1.16) and the counters (Unprivileged ISA 10)
 abbrev pub rows : List Row
 rows =
+    -- mstatus, mstatush, misa, mie, mtvec
     read_write 0x300 (λ core lines. status core) (λ core value. record core { on = is_set value 3; before = is_set value 7 }) ∷
-    read_write 0x310 (λ core lines. 0) (λ core value. core) ∷
-    read_write 0x301 (λ core lines. 0x40001100) (λ core value. core) ∷
+    read_write 0x310 zero_word ignored ∷
+    read_write 0x301 (λ core lines. 0x40001100) ignored ∷
     read_write 0x304 (λ core lines. core.mie) (λ core value. record core { mie = bit_and value interrupt_bits }) ∷
     read_write 0x305 (λ core lines. core.mtvec) (λ core value. record core { mtvec = bit_and value 0xFFFFFFFD }) ∷
+    -- mscratch, mepc, mcause, mtval, mip
     read_write 0x340 (λ core lines. core.mscratch) (λ core value. record core { mscratch = value }) ∷
     read_write 0x341 (λ core lines. core.mepc) (λ core value. record core { mepc = bit_and value 0xFFFFFFFC }) ∷
     read_write 0x342 (λ core lines. core.mcause) (λ core value. record core { mcause = value }) ∷
     read_write 0x343 (λ core lines. core.mtval) (λ core value. record core { mtval = value }) ∷
-    read_write 0x344 (λ core lines. bit_and lines.mip interrupt_bits) (λ core value. core) ∷
+    read_write 0x344 (λ core lines. bit_and lines.mip interrupt_bits) ignored ∷
+    -- mcycle, mcycleh, minstret, minstreth
     read_write 0xB00 (λ core lines. low core.mcycle) (λ core value. record core { mcycle = with_low core.mcycle value }) ∷
     read_write 0xB80 (λ core lines. high core.mcycle) (λ core value. record core { mcycle = with_high core.mcycle value }) ∷
     read_write 0xB02 (λ core lines. low core.minstret) (λ core value. record core { minstret = with_low core.minstret value }) ∷
     read_write 0xB82 (λ core lines. high core.minstret) (λ core value. record core { minstret = with_high core.minstret value }) ∷
+    -- cycle, cycleh, instret, instreth, time, timeh
     read_only 0xC00 (λ core lines. low core.mcycle) ∷
     read_only 0xC80 (λ core lines. high core.mcycle) ∷
     read_only 0xC02 (λ core lines. low core.minstret) ∷
     read_only 0xC82 (λ core lines. high core.minstret) ∷
     read_only 0xC01 (λ core lines. low lines.mtime) ∷
     read_only 0xC81 (λ core lines. high lines.mtime) ∷
-    read_only 0xF11 (λ core lines. 0) ∷
-    read_only 0xF12 (λ core lines. 0) ∷
-    read_only 0xF13 (λ core lines. 0) ∷
-    read_only 0xF14 (λ core lines. 0) ∷
+    -- mvendorid, marchid, mimpid, mhartid
+    read_only 0xF11 zero_word ∷
+    read_only 0xF12 zero_word ∷
+    read_only 0xF13 zero_word ∷
+    read_only 0xF14 zero_word ∷
     []
 
 -- the row of a number, if there is one

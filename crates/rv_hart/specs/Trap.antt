@@ -1,5 +1,5 @@
 -- Trap entry and return in machine mode, the choice of an interrupt, and the jump, which may trap.
-use Rattle.std.specs.Prelude.{ℕ, ◌+◌, ◌*◌, ◌/◌, ◌%◌, ◌^◌, ◌==◌, ◌&&◌, not, Bool, true, false, if◌then◌else◌, List, [], ◌∷◌, Option, None, find, bit_and}
+use Rattle.std.specs.Prelude.{ℕ, ◌+◌, ◌*◌, ◌/◌, ◌%◌, ◌^◌, ◌==◌, ◌&&◌, not, Bool, true, false, if◌then◌else◌, [], ◌∷◌, Option, None, find, bit_and}
 use Rattle.std.specs.Int.{bit_at}
 use Rattle.rv_hart.specs.Core.{Core, put, next_pc}
 

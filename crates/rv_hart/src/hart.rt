@@ -1,6 +1,6 @@
 // The hart: its registers and switches, and its state as a whole.
 ghost use Rattle.std.specs.Prelude.{◌≡◌, ℕ, ◌%◌, ◌<◌, SomeIff};
-ghost use Rattle.rv_hart.specs.Core.{first, reg, put, next, finish, ticked, retired};
+ghost use Rattle.rv_hart.specs.Core.{initial, reg, put, next, finish, ticked, retired};
 ghost use Rattle.rv_hart.specs.HartState.{IsHartState, core_of, state_of};
 
 mod csr;
@@ -31,7 +31,7 @@ impl Model for Hart {
 impl Hart {
     /// A hart with all registers and CSRs 0, which neither waits nor is halted.
     pub fn new() -> Hart
-        ensures { result ≡ first }
+        ensures { result ≡ initial }
     {
         Hart {
             state: HartState {
@@ -81,6 +81,7 @@ impl Hart {
         self.state.pc
     }
 
+    /// Moves the hart to a place that is divisible by 4.
     pub fn set_pc(&mut self, pc: u32)
         requires { pc % 4 ≡ 0 }
         ensures { self.new ≡ record self.old { pc = pc } }
@@ -95,6 +96,7 @@ impl Hart {
         self.state.waiting
     }
 
+    /// Makes the hart wait for an interrupt, or go on.
     pub fn set_waiting(&mut self, on: bool)
         ensures { self.new ≡ record self.old { waiting = on } }
     {
@@ -108,6 +110,7 @@ impl Hart {
         self.state.halted
     }
 
+    /// Halts the hart, or lets it go on.
     pub fn set_halted(&mut self, on: bool)
         ensures { self.new ≡ record self.old { halted = on } }
     {
@@ -156,7 +159,8 @@ impl Hart {
         self.state
     }
 
-    /// The hart of a state, if there is one.
+    /// The hart of a state. There is none where register 0 is not 0, mie has a bit other than 3, 7 and 11, bit 1 of
+    /// mtvec is set, or mepc or pc is not divisible by 4.
     pub fn of(s: &HartState) -> Option<Hart>
         ensures { SomeIff result (IsHartState s.now) (core_of s.now) }
     {
@@ -169,7 +173,7 @@ impl Hart {
 }
 
 impl Default for Hart {
-    ghost is_default = { λ h. h ≡ first };
+    ghost is_default = { λ h. h ≡ initial };
 
     fn default() -> Hart {
         Hart::new()

@@ -5,7 +5,7 @@ ghost use Rattle.rv_hart.specs.Trap.{is_set};
 
 use crate::bits::{INTERRUPT_BITS, is_set};
 
-/// All that a hart holds.
+/// All that a hart holds: its registers, the fields of the CSRs that hold a value, and two switches.
 #[derive(Clone, Copy, PartialEq, Eq, Debug)]
 pub struct HartState {
     /// x0 to x31.
@@ -29,8 +29,7 @@ pub struct HartState {
     pub halted: bool,
 }
 
-/// Whether a hart can have this state: register 0 is 0, mie has no bit but 3, 7 and 11, bit 1 of mtvec is 0, and mepc
-/// and pc are divisible by 4.
+/// Whether a hart can have this state.
 pub fn is_hart_state(s: &HartState) -> bool
     ensures { IsTrue result ↔ IsHartState s.now }
 {

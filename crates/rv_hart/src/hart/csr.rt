@@ -56,7 +56,7 @@ impl Hart {
         (u32::from(self.state.on) << 3) + (u32::from(self.state.before) << 7) + (0b11 << 11)
     }
 
-    /// Reads a CSR. Lines are read by mip, time and timeh.
+    /// Reads a CSR (Privileged ISA 2.2 and 3.1). `lines` gives what mip, time and timeh read.
     #[tactic(auto, unfolding(crate::specs::Csr::csr_read, crate::specs::Csr::is_listed))]
     pub fn csr_read(&self, number: u32, lines: Lines) -> Result<u32, CsrFault>
         ensures value { result ≡ ok_or (csr_read self.now lines number) CsrFault.Illegal }
@@ -84,7 +84,7 @@ impl Hart {
         }
     }
 
-    /// Writes a CSR.
+    /// Writes a CSR (Privileged ISA 2.2 and 3.1), of which the bits that it does not hold are ignored.
     #[tactic(auto, unfolding(crate::specs::Csr::csr_written, crate::specs::Csr::is_listed))]
     pub fn csr_write(&mut self, number: u32, value: u32) -> Result<(), CsrFault>
         ensures written { self.new ≡ unwrap_or (csr_written self.old number value) self.old }

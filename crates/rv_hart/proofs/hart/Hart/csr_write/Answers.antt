@@ -1,5 +1,4 @@
 -- What is written of mie and mtvec keeps the core sound.
-use Rattle.std.proofs.Common.{arith}
 use Rattle.rv_hart.proofs.Masks.{interrupt_bits-twice, bit_at-mode}
 use Rattle.rv_hart.proofs.hart.Hart.csr_write.Goals as goal
 
