@@ -1,9 +1,9 @@
 // The fields of a word and its immediates, by format.
 ghost use Rattle.std.specs.Prelude.{◌≡◌, ◌+◌, ◌^◌, ◌<◌, ◌≤◌};
-ghost use Rattle.rv_decode.specs.Immediate.{field, sign_extended, imm_i, imm_s, imm_u, imm_j};
+ghost use Rattle.rv_decode.specs.Immediate.{field, sign_extended, imm_i, imm_s, imm_b, imm_u, imm_j};
 
 /// `count` bits of a word, from bit `low` on.
-fn bits(word: u32, low: u32, count: u32) -> u32
+pub fn bits(word: u32, low: u32, count: u32) -> u32
     requires low { low < 32 }
     requires count { count < 32 }
     ensures value { result ≡ field word low count }
@@ -45,6 +45,18 @@ pub fn immediate_s(word: u32) -> u32
     ensures { result ≡ imm_s word }
 {
     sign_extend((bits(word, 25, 7) << 5) | bits(word, 7, 5), 12)
+}
+
+pub fn immediate_b(word: u32) -> u32
+    ensures { result ≡ imm_b word }
+{
+    sign_extend(
+        bits(word, 31, 1) * (1 << 12)
+            + bits(word, 7, 1) * (1 << 11)
+            + bits(word, 25, 6) * (1 << 5)
+            + bits(word, 8, 4) * 2,
+        13,
+    )
 }
 
 pub fn immediate_u(word: u32) -> u32
