@@ -1,12 +1,12 @@
 -- The search of the table by masks gives what the decoder's branches give.
-use Rattle.std.proofs.Common.{◌≡◌, ℕ, ◌+◌, ◌*◌, ◌^◌, ◌<◌, Bool, true, false, not, ◌&&◌, ◌==◌, refl, sym, ap, ◌∙◌, List, [], ◌∷◌, ◌++◌, inl, inr, lit<, arith}
+use Rattle.std.proofs.Common.{◌≡◌, ℕ, ◌+◌, ◌*◌, ◌^◌, ◌<◌, Bool, true, false, not, ◌&&◌, ◌==◌, refl, sym, ◌∙◌, List, [], ◌∷◌, ◌++◌, inl, inr, lit<}
 use Rattle.std.specs.Prelude.{Option, Some, None, if◌then◌else◌, nat_lt}
 use Rattle.std.specs.List.{list_all}
 use Rattle.std.proofs.lemmas.Bool.{and_parts, ltb-true}
 use Rattle.std.proofs.lemmas.Bool.Decides.{eqb_tells}
 use Rattle.rv_decode.specs.declared.instruction.Op.{Op}
 use Rattle.rv_decode.specs.declared.instruction.Op.TheVariants.{Lui, Auipc, Jal, Jalr, Beq, Bne, Blt, Bge, Bltu, Bgeu, Lb, Lh, Lw, Lbu, Lhu, Sb, Sh, Sw, Addi, Slti, Sltiu, Xori, Ori, Andi, Slli, Srli, Srai, Add, Sub, Sll, Slt, Sltu, Xor, Srl, Sra, Or, And, Fence, Ecall, Ebreak, FenceI, Csrrw, Csrrs, Csrrc, Csrrwi, Csrrsi, Csrrci, Mul, Mulh, Mulhsu, Mulhu, Div, Divu, Rem, Remu, Mret, Wfi}
-use Rattle.rv_decode.specs.Table.{Row, by_opcode, by_funct3, by_funct7, matches, op_in, op_of, table, jal_rows, jalr_rows, branch_rows, load_rows, store_rows, immediate_rows, shift_rows, register_rows, multiply_rows, fence_rows, system_rows, csr_rows}
+use Rattle.rv_decode.specs.Table.{Row, by_opcode, by_funct3, by_funct7, matches, op_in, op_of, jal_rows, jalr_rows, branch_rows, load_rows, store_rows, immediate_rows, shift_rows, register_rows, multiply_rows, fence_rows, system_rows, csr_rows}
 use Rattle.rv_decode.specs.Fields.{op_by, jalr_by, branch_by, load_by, store_by, immediate_by, register_by, fence_by, csr_by, system_by}
 use Rattle.rv_decode.proofs.Masks.{opcode, funct3, funct7, mask_opcode, mask_funct3, mask_funct7, mask_word}
 
@@ -175,10 +175,10 @@ fixed_entries = (0x73, Ecall) ∷ (0x100073, Ebreak) ∷ (0x30200073, Mret) ∷ 
 fixed_if :
     (t : Bool) (w : ℕ) →
     (if t && (w == 0x73) then Some Ecall
-     else if t && (w == 0x100073) then Some Ebreak
-     else if t && (w == 0x30200073) then Some Mret
-     else if t && (w == 0x10500073) then Some Wfi
-     else None) ≡
+    else if t && (w == 0x100073) then Some Ebreak
+    else if t && (w == 0x30200073) then Some Mret
+    else if t && (w == 0x10500073) then Some Wfi
+    else None) ≡
     (if t then op_at fixed_entries w None else None)
 fixed_if true w = refl
 fixed_if false w = refl
@@ -189,8 +189,8 @@ op_in-system :
 op_in-system w fits =
     op_in-joined system_rows csr_rows w (opcode w == 0x73) (op_at fixed_entries w None) (csr_by (funct3 w))
     (rw
-      (mask_word w 0x73 fits, mask_word w 0x100073 fits, mask_word w 0x30200073 fits, mask_word w 0x10500073 fits)
-      (fixed_if (opcode w == 0x73) w))
+    (mask_word w 0x73 fits, mask_word w 0x100073 fits, mask_word w 0x30200073 fits, mask_word w 0x10500073 fits)
+    (fixed_if (opcode w == 0x73) w))
     (op_in-funct3 w 0x73 ((1, Csrrw) ∷ (2, Csrrs) ∷ (3, Csrrc) ∷ (5, Csrrwi) ∷ (6, Csrrsi) ∷ (7, Csrrci) ∷ []) (lit< tt)) ∙
     rw (option_or-op_at fixed_entries w (csr_by (funct3 w))) refl
 
