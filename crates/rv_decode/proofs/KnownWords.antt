@@ -1,9 +1,9 @@
 -- What known words mean, computed from the definition.
-use Rattle.std.proofs.Common.{◌≡◌, refl}
+use Rattle.std.proofs.Common.{◌≡◌, refl, lit<}
 use Rattle.std.specs.Prelude.{Some, None}
 use Rattle.rv_decode.specs.declared.instruction.Op.TheVariants.{Lui, Jal, Bne, Blt, Lbu, Sb, Addi, Srai, Sub, Remu, Fence, Csrrs, Csrrwi, Ebreak, Mret}
 use Rattle.rv_decode.specs.Table.{op_of}
-use Rattle.rv_decode.specs.Means.{means}
+use Rattle.rv_decode.specs.Means.{means, IsValid}
 
 -- lui x5, 0x10000
 means-lui : means 0x100002B7 ≡ Some (record { op = Lui; rd = 5; rs1 = 0; rs2 = 0; imm = 0x10000000 })
@@ -119,3 +119,7 @@ means-slli_32 = refl
 means-sret : means 0x10200073 ≡ None
 unfolding means op_of
 means-sret = refl
+
+-- so the instruction of a known word is valid
+IsValid-addi : IsValid (record { op = Addi; rd = 6; rs1 = 0; rs2 = 0; imm = 65 })
+IsValid-addi = (0x04100313, lit< tt, means-addi)

@@ -17,6 +17,7 @@ abbrev option_or : Option Op → Option Op → Option Op
 option_or None n = n
 option_or (Some op) n = Some op
 
+-- no second
 option_or-none : (m : Option Op) → option_or m None ≡ m
 option_or-none None = refl
 option_or-none (Some op) = refl
@@ -28,6 +29,7 @@ option_or-if :
 option_or-if true m n = refl
 option_or-if false m n = refl
 
+-- two lists of rows
 op_in-append : (xs ys : List Row) (w : ℕ) → op_in (xs ++ ys) w ≡ option_or (op_in xs w) (op_in ys w)
 op_in-append [] ys w = refl
 op_in-append (x ∷ xs) ys w = first (matches w x) _ _ _ (op_in-append xs ys w)
@@ -52,6 +54,7 @@ abbrev op_at : List (ℕ × Op) → ℕ → Option Op → Option Op
 op_at [] key n = n
 op_at (e ∷ es) key n = if key == e.0 then Some e.1 else op_at es key n
 
+-- the other answer may come after
 option_or-op_at : (es : List (ℕ × Op)) (key : ℕ) (n : Option Op) → option_or (op_at es key None) n ≡ op_at es key n
 option_or-op_at [] key n = refl
 option_or-op_at (e ∷ es) key n = step (key == e.0) (op_at es key None) (op_at es key n) (option_or-op_at es key n)
@@ -80,10 +83,12 @@ if-and true true op m n e = refl
 if-and true false op m n e = e
 if-and false t op m n e = e
 
+-- rows of this opcode, each with a funct3
 abbrev rows_of_funct3 : ℕ → List (ℕ × Op) → List Row
 rows_of_funct3 c [] = []
 rows_of_funct3 c (e ∷ es) = by_funct3 (c + 4096 * e.0) e.1 ∷ rows_of_funct3 c es
 
+-- what they give a word
 op_in-funct3 :
     (w c : ℕ) (es : List (ℕ × Op)) → c < 128 →
     op_in (rows_of_funct3 c es) w ≡ (if opcode w == c then op_at es (funct3 w) None else None)
@@ -91,13 +96,16 @@ op_in-funct3 w c [] h = if-same (opcode w == c) None
 op_in-funct3 w c (e ∷ es) h =
     rw (mask_funct3 w c e.0 h) (if-and (opcode w == c) (funct3 w == e.0) e.1 _ _ (op_in-funct3 w c es h))
 
+-- rows of this opcode, each with a funct3 and a funct7
 abbrev rows_of_funct7 : ℕ → List (ℕ × ℕ × Op) → List Row
 rows_of_funct7 c [] = []
 rows_of_funct7 c (e ∷ es) = by_funct7 (c + 4096 * e.0 + 2 ^ 25 * e.1) e.2 ∷ rows_of_funct7 c es
 
+-- each funct3 has three bits
 abbrev are_small : List (ℕ × ℕ × Op) → Bool
 are_small es = list_all (λ e. nat_lt e.0 8) es
 
+-- what they give a word
 op_in-funct7 :
     (w c : ℕ) (es : List (ℕ × ℕ × Op)) → w < 2 ^ 32 → c < 128 → are_small es ≡ true →
     op_in (rows_of_funct7 c es) w ≡ (if opcode w == c then op_at_both es (funct3 w) (funct7 w) else None)
@@ -128,6 +136,7 @@ op_in-store w = op_in-funct3 w 0x23 ((0, Sb) ∷ (1, Sh) ∷ (2, Sw) ∷ []) (li
 op_in-fence : (w : ℕ) → op_in fence_rows w ≡ (if opcode w == 0x0F then fence_by (funct3 w) else None)
 op_in-fence w = op_in-funct3 w 0x0F ((0, Fence) ∷ (1, FenceI) ∷ []) (lit< tt)
 
+-- OP-IMM: those without a funct7, then the shifts
 abbrev plain_entries : List (ℕ × Op)
 plain_entries = (0, Addi) ∷ (2, Slti) ∷ (3, Sltiu) ∷ (4, Xori) ∷ (6, Ori) ∷ (7, Andi) ∷ []
 
@@ -143,6 +152,7 @@ op_in-immediate w fits =
     (op_in-funct7 w 0x13 shift_entries fits (lit< tt) refl) ∙
     rw (option_or-op_at plain_entries (funct3 w) (op_at_both shift_entries (funct3 w) (funct7 w))) refl
 
+-- OP: by funct3 and funct7
 abbrev register_entries : List (ℕ × ℕ × Op)
 register_entries = (0, 0x0, Add) ∷ (0, 0x20, Sub) ∷ (1, 0x0, Sll) ∷ (2, 0x0, Slt) ∷ (3, 0x0, Sltu) ∷ (4, 0x0, Xor) ∷ (5, 0x0, Srl) ∷ (5, 0x20, Sra) ∷ (6, 0x0, Or) ∷ (7, 0x0, And) ∷ (0, 0x1, Mul) ∷ (1, 0x1, Mulh) ∷ (2, 0x1, Mulhsu) ∷ (3, 0x1, Mulhu) ∷ (4, 0x1, Div) ∷ (5, 0x1, Divu) ∷ (6, 0x1, Rem) ∷ (7, 0x1, Remu) ∷ []
 
@@ -169,9 +179,11 @@ op_in-register w fits =
     op_in-funct7 w 0x33 register_entries fits (lit< tt) refl ∙
     rw (op_at_both-register (funct3 w) (funct7 w)) refl
 
+-- SYSTEM: the fixed words, then those by funct3
 abbrev fixed_entries : List (ℕ × Op)
 fixed_entries = (0x73, Ecall) ∷ (0x100073, Ebreak) ∷ (0x30200073, Mret) ∷ (0x10500073, Wfi) ∷ []
 
+-- the test of the opcode says nothing more
 fixed_if :
     (t : Bool) (w : ℕ) →
     (if t && (w == 0x73) then Some Ecall
@@ -203,6 +215,7 @@ record Group (w : ℕ) : Type 0 where
   op : Option Op
   is : op_in rows w ≡ (if opcode w == code then op else None)
 
+-- the rows of the groups, one after the other
 abbrev all_rows : (w : ℕ) → List (Group w) → List Row
 all_rows w [] = []
 all_rows w (g ∷ gs) = g.rows ++ all_rows w gs
@@ -217,6 +230,7 @@ abbrev is_new : (w : ℕ) → ℕ → List (Group w) → Bool
 is_new w code [] = true
 is_new w code (g ∷ gs) = not (code == g.code) && is_new w code gs
 
+-- no two groups have one opcode
 abbrev are_distinct : (w : ℕ) → List (Group w) → Bool
 are_distinct w [] = true
 are_distinct w (g ∷ gs) = is_new w g.code gs && are_distinct w gs
@@ -225,6 +239,7 @@ false_from_not : (b : Bool) → not b ≡ true → b ≡ false
 false_from_not true h = sym h
 false_from_not false h = refl
 
+-- rows of other opcodes give nothing
 op_in-new : (w : ℕ) (gs : List (Group w)) → is_new w (opcode w) gs ≡ true → op_in (all_rows w gs) w ≡ None
 op_in-new w [] h = refl
 op_in-new w (g ∷ gs) h =
@@ -232,6 +247,7 @@ op_in-new w (g ∷ gs) h =
     let off = false_from_not (opcode w == g.code) parts.0 in
     op_in-append g.rows (all_rows w gs) w ∙ rw (g.is, off) (op_in-new w gs parts.1)
 
+-- the search of all rows is the search of the one group
 op_in-groups : (w : ℕ) (gs : List (Group w)) → are_distinct w gs ≡ true → op_in (all_rows w gs) w ≡ by_code w gs
 op_in-groups w [] h = refl
 op_in-groups w (g ∷ gs) h =
@@ -244,6 +260,7 @@ op_in-groups w (g ∷ gs) h =
       | inr other ↦ rw (g.is, other.0) (op_in-groups w gs parts.1)
     ]
 
+-- the groups of the table
 abbrev groups : (w : ℕ) → w < 2 ^ 32 → List (Group w)
 groups w fits =
     record { rows = by_opcode 0x37 Lui ∷ []; code = 0x37; op = Some Lui; is = op_in-opcode w 0x37 Lui } ∷

@@ -65,14 +65,14 @@ base_by funct3 =
     else if funct3 == 7 then Some And
     else None
 
--- one with funct7 0x20
+-- an operation on two registers with funct7 0x20, by its funct3
 abbrev pub alternate_by : ℕ → Option Op
 alternate_by funct3 =
     if funct3 == 0 then Some Sub
     else if funct3 == 5 then Some Sra
     else None
 
--- one with funct7 1, a product or a quotient
+-- an operation on two registers with funct7 1, a product or a quotient, by its funct3
 abbrev pub multiply_by : ℕ → Option Op
 multiply_by funct3 =
     if funct3 == 0 then Some Mul

@@ -9,19 +9,22 @@ use Rattle.rv_decode.specs.Instruction.{format_of}
 use Rattle.rv_decode.specs.Immediate.{field, imm_i, imm_s, imm_b, imm_u, imm_j}
 use Rattle.rv_decode.specs.Table.{op_of}
 
--- the registers' numbers in a word (section 2.2)
+-- the number of the destination register (section 2.2)
 abbrev pub rd_of : ℕ → ℕ
 rd_of word = field word 7 5
 
+-- the number of the first source register
 abbrev pub rs1_of : ℕ → ℕ
 rs1_of word = field word 15 5
 
+-- the number of the second source register
 abbrev pub rs2_of : ℕ → ℕ
 rs2_of word = field word 20 5
 
 -- the fields of a word of this format, 0 where the format lacks one (section 2.3).
--- A shift's amount is bits 24 to 20 (section 2.4.1). A fence's sets (section 2.7) and the number of a
--- control and status register (section 9.1) are bits 31 to 20, without a sign.
+-- A shift's amount is bits 24 to 20 (section 2.4). A fence's sets (section 2.7) and the number of a
+-- control and status register (section 9.1) are bits 31 to 20, without a sign; the number in place of
+-- a register, which some accesses have, is in the bits of `rs1`.
 abbrev pub fields_by : Format → Op → ℕ → Instr
 fields_by R op word = record { op = op; rd = rd_of word; rs1 = rs1_of word; rs2 = rs2_of word; imm = 0 }
 fields_by I op word = record { op = op; rd = rd_of word; rs1 = rs1_of word; rs2 = 0; imm = imm_i word }

@@ -25,26 +25,26 @@ by_funct7 bits op = record { mask = 0xFE00707F; bits = bits; op = op }
 abbrev pub by_word : ℕ → Op → Row
 by_word bits op = record { mask = 0xFFFFFFFF; bits = bits; op = op }
 
--- upper immediates (section 2.4.1)
+-- upper immediates (section 2.4)
 abbrev pub upper_rows : List Row
 upper_rows =
     by_opcode 0x37 Lui ∷
     by_opcode 0x17 Auipc ∷
     []
 
--- jumps (section 2.5.1)
+-- jumps (section 2.5)
 abbrev pub jal_rows : List Row
 jal_rows =
     by_opcode 0x6F Jal ∷
     []
 
--- jumps to a register (section 2.5.1)
+-- jumps to an address in a register (section 2.5)
 abbrev pub jalr_rows : List Row
 jalr_rows =
     by_funct3 0x67 Jalr ∷
     []
 
--- conditional branches (section 2.5.2)
+-- conditional branches (section 2.5)
 abbrev pub branch_rows : List Row
 branch_rows =
     by_funct3 0x63 Beq ∷
@@ -73,7 +73,7 @@ store_rows =
     by_funct3 0x2023 Sw ∷
     []
 
--- a register and an immediate (section 2.4.1)
+-- operations on a register and an immediate (section 2.4)
 abbrev pub immediate_rows : List Row
 immediate_rows =
     by_funct3 0x13 Addi ∷
@@ -84,7 +84,7 @@ immediate_rows =
     by_funct3 0x7013 Andi ∷
     []
 
--- shifts by an immediate (section 2.4.1)
+-- shifts by an immediate (section 2.4)
 abbrev pub shift_rows : List Row
 shift_rows =
     by_funct7 0x1013 Slli ∷
@@ -92,7 +92,7 @@ shift_rows =
     by_funct7 0x40005013 Srai ∷
     []
 
--- two registers (section 2.4.2)
+-- operations on two registers (section 2.4)
 abbrev pub register_rows : List Row
 register_rows =
     by_funct7 0x33 Add ∷
@@ -120,14 +120,15 @@ multiply_rows =
     by_funct7 0x2007033 Remu ∷
     []
 
--- fences (section 2.7, chapter 3)
+-- fences of data (section 2.7) and of instructions (chapter 3)
 abbrev pub fence_rows : List Row
 fence_rows =
     by_funct3 0xF Fence ∷
     by_funct3 0x100F FenceI ∷
     []
 
--- calls (section 2.8), and what the privileged manual adds (RISC-V Privileged Architecture 20211203, sections 3.3.2 and 3.3.3)
+-- calls and breakpoints (section 2.8); the return from a trap and the wait for an interrupt
+-- (RISC-V Privileged Architecture 20211203, sections 3.3.2 and 3.3.3)
 abbrev pub system_rows : List Row
 system_rows =
     by_word 0x73 Ecall ∷
@@ -147,6 +148,7 @@ csr_rows =
     by_funct3 0x7073 Csrrci ∷
     []
 
+-- all rows
 abbrev pub table : List Row
 table =
     upper_rows ++ (jal_rows ++ (jalr_rows ++ (branch_rows ++ (load_rows ++ (store_rows ++ (immediate_rows ++

@@ -95,7 +95,7 @@ fn base_op(funct3: u32) -> Option<Op>
     }
 }
 
-/// One with funct7 0x20.
+/// An operation on two registers with funct7 0x20, by its funct3.
 fn alternate_op(funct3: u32) -> Option<Op>
     ensures { result ≡ alternate_by funct3 }
 {
@@ -106,7 +106,7 @@ fn alternate_op(funct3: u32) -> Option<Op>
     }
 }
 
-/// One with funct7 1, of the extension M.
+/// An operation on two registers with funct7 1, of the extension M, by its funct3.
 fn multiply_op(funct3: u32) -> Option<Op>
     ensures { result ≡ multiply_by funct3 }
 {
@@ -197,6 +197,7 @@ fn op_by_fields(word: u32) -> Option<Op>
     }
 }
 
+/// The name of the instruction that the table gives the word.
 fn decode_op(word: u32) -> Option<Op>
     ensures { result ≡ op_of word }
 {

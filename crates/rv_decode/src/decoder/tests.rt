@@ -50,6 +50,8 @@ fn words_of_an_assembler_mean_their_instructions(rt: HostRuntime) {
         (0x01EEFE33, Op::And, 28, 29, 30, 0), // and x28, x29, x30
         (0x0310000F, Op::Fence, 0, 0, 0, 0x31), // fence rw, w
         (0x0FF0000F, Op::Fence, 0, 0, 0, 0xFF), // fence iorw, iorw
+        (0x8330000F, Op::Fence, 0, 0, 0, 0x833), // fence.tso
+        (0x0FF5028F, Op::Fence, 5, 10, 0, 0xFF), // fence iorw, iorw with its reserved fields set
         (0x00000073, Op::Ecall, 0, 0, 0, 0), // ecall
         (0x00100073, Op::Ebreak, 0, 0, 0, 0), // ebreak
         (0x0000100F, Op::FenceI, 0, 0, 0, 0), // fence.i

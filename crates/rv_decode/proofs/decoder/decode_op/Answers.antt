@@ -1,3 +1,4 @@
+-- The fields give what the search of the table gives.
 use Rattle.std.proofs.Common.{◌∙◌, sym, arith}
 use Rattle.rv_decode.proofs.TableLemmas.{op_of-by}
 use Rattle.rv_decode.proofs.decoder.decode_op.Goals as goal
