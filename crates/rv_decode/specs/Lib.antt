@@ -1,0 +1,6 @@
+-- What the contracts of this crate cite.
+pub mod Instruction
+pub mod Immediate
+pub mod Table
+pub mod Fields
+pub mod Means
