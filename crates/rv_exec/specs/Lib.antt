@@ -1,0 +1,6 @@
+-- The definitions that the contracts of `rv_exec` cite.
+pub mod Word
+pub mod Access
+pub mod Csr
+pub mod Effect
+pub mod Group

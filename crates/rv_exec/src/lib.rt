@@ -1,0 +1,13 @@
+//! One instruction of a RISC-V hart of 32 bits in machine mode, over any bus.
+#![tactic(auto)]
+
+mod access;
+mod alu;
+mod bus;
+mod compute;
+mod csr;
+mod execute;
+mod finish;
+
+pub use bus::{Bus, NoMemory};
+pub use execute::step;
