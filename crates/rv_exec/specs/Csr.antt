@@ -27,19 +27,19 @@ writes Set i = not (i.rs1 == 0)
 writes Clear i = not (i.rs1 == 0)
 
 -- the value that is read, or 0 where none is; there is none where the CSR cannot be read
-abbrev pub old_value : Core → Lines → Change → Instr → Option ℕ
-old_value core lines change i = if reads change i then csr_read core lines i.imm else Some 0
+abbrev pub old_value : Change → Core → Instr → Lines → Option ℕ
+old_value change core i lines = if reads change i then csr_read core lines i.imm else Some 0
 
 -- the core after the write, if there is one; there is none where the CSR cannot be written
-abbrev pub after_write : Core → Change → Instr → ℕ → Option Core
-after_write core change i value = if writes change i then csr_written core i.imm value else Some core
+abbrev pub after_write : Change → ℕ → Core → Instr → Option Core
+after_write change value core i = if writes change i then csr_written core i.imm value else Some core
 
 -- the core after the access, but for the counters; there is none where the access is illegal
-abbrev pub accessed : Core → Lines → Change → Instr → ℕ → Option Core
-accessed core lines change i operand =
+abbrev pub accessed : Change → ℕ → Core → Instr → Lines → Option Core
+accessed change operand core i lines =
     option_and_then
-    (λ old. option_map (λ after. finish after i.rd old) (after_write core change i (changed change old operand)))
-    (old_value core lines change i)
+    (λ old. option_map (λ after. finish after i.rd old) (after_write change (changed change old operand) core i))
+    (old_value change core i lines)
 
 -- the counters after a write of a CSR: one of which a half was written stays as written (Privileged ISA 3.1.10)
 abbrev pub counted : ℕ → Core → Core

@@ -69,11 +69,11 @@ stores core i width =
 
 -- an access of a CSR, or the exception 2 where it is illegal, which changes nothing else (Unprivileged ISA 9.1, Privileged
 -- ISA 2.1)
-abbrev pub changes : Change → Core → Instr → ℕ → Lines → ℕ → Core
-changes change core i word lines operand =
+abbrev pub changes : Change → ℕ → Core → Instr → ℕ → Lines → Core
+changes change operand core i word lines =
     option_map_or
     (λ after. if writes change i then counted i.imm after else retires after)
-    (accessed core lines change i operand)
+    (accessed change operand core i lines)
     (traps core 2 word)
 
 -- the core after an instruction that asks nothing of the bus and accesses no CSR; that of the others is in `effect_by`
@@ -144,12 +144,12 @@ effect_by Sb core i word lines = stores core i 1
 effect_by Sh core i word lines = stores core i 2
 effect_by Sw core i word lines = stores core i 4
 -- control and status registers; the operand is a register, or the number in its place (9.1)
-effect_by Csrrw core i word lines = Done (changes Write core i word lines (reg core i.rs1))
-effect_by Csrrs core i word lines = Done (changes Set core i word lines (reg core i.rs1))
-effect_by Csrrc core i word lines = Done (changes Clear core i word lines (reg core i.rs1))
-effect_by Csrrwi core i word lines = Done (changes Write core i word lines i.rs1)
-effect_by Csrrsi core i word lines = Done (changes Set core i word lines i.rs1)
-effect_by Csrrci core i word lines = Done (changes Clear core i word lines i.rs1)
+effect_by Csrrw core i word lines = Done (changes Write (reg core i.rs1) core i word lines)
+effect_by Csrrs core i word lines = Done (changes Set (reg core i.rs1) core i word lines)
+effect_by Csrrc core i word lines = Done (changes Clear (reg core i.rs1) core i word lines)
+effect_by Csrrwi core i word lines = Done (changes Write i.rs1 core i word lines)
+effect_by Csrrsi core i word lines = Done (changes Set i.rs1 core i word lines)
+effect_by Csrrci core i word lines = Done (changes Clear i.rs1 core i word lines)
 effect_by op core i word lines = Done (core_by op core i)
 
 -- what a word does; one that means no instruction is the exception 2 (Privileged ISA 3.1.15)
@@ -160,13 +160,17 @@ effect core word lines = option_map_or (λ i. effect_by i.op core i word lines) 
 unfoldable pub effect_of_fetch : Core → Option ℕ → Lines → Effect
 effect_of_fetch core fetched lines = option_map_or (λ word. effect core word lines) fetched (Done (traps core 1 core.pc))
 
--- the core after an effect, on a bus whose loads give these answers
-abbrev pub core_after : {B : Type 0} → (B → ℕ → ℕ → ℕ) → B → Effect → Core
-core_after answer bus (Done core) = core
-core_after answer bus (Load at width complete) = complete (answer bus at width)
-core_after answer bus (Store at width value core) = core
+-- the core after an effect, where a load gives these answers
+abbrev pub core_with : (ℕ → ℕ → ℕ) → Effect → Core
+core_with answer (Done core) = core
+core_with answer (Load at width complete) = complete (answer at width)
+core_with answer (Store at width value core) = core
 
--- the bus after an effect, where this is a bus after a load and after a store
+-- the core after an effect on a bus, whose loads give these answers
+abbrev pub core_after : {B : Type 0} → (B → ℕ → ℕ → ℕ) → B → Effect → Core
+core_after answer bus effect = core_with (answer bus) effect
+
+-- the bus after an effect, where these are the buses after a load and after a store
 abbrev pub bus_after : {B : Type 0} → (B → ℕ → ℕ → B) → (B → ℕ → ℕ → ℕ → B) → B → Effect → B
 bus_after loaded stored bus (Done core) = bus
 bus_after loaded stored bus (Load at width complete) = loaded bus at width

@@ -4,3 +4,4 @@ pub mod Access
 pub mod Csr
 pub mod Effect
 pub mod Group
+pub mod Laws

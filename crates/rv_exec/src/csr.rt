@@ -1,6 +1,5 @@
 // The instructions that read and change a CSR (RISC-V Unprivileged ISA 20191213, section 9.1).
-ghost use Rattle.std.specs.Prelude.{◌≡◌, ◌<◌, ok_or, OnErr, is_ok, is_some, unwrap_or, OnOk, Some};
-ghost use Rattle.rv_hart.specs.declared.csr.CsrFault.TheVariants.{Illegal};
+ghost use Rattle.std.specs.Prelude.{◌≡◌, is_ok, is_some, ok_or, unwrap_or};
 ghost use Rattle.rv_decode.specs.Means.{IsInstr};
 ghost use Rattle.rv_exec.specs.Csr.{accessed, after_write, changed, counted, old_value, reads, writes};
 ghost use Rattle.rv_exec.specs.Effect.{changes};
@@ -54,8 +53,8 @@ impl Change {
 }
 
 /// Reads the CSR if the instruction does.
-fn read(hart: &Hart, lines: Lines, change: Change, i: &Instr) -> Result<u32, CsrFault>
-    ensures { result ≡ ok_or (old_value hart.now lines change i.now) CsrFault.Illegal }
+fn read(hart: &Hart, change: Change, i: &Instr, lines: Lines) -> Result<u32, CsrFault>
+    ensures { result ≡ ok_or (old_value change hart.now i.now lines) CsrFault.Illegal }
 {
     if change.reads(i) {
         hart.csr_read(i.imm, lines)
@@ -65,9 +64,9 @@ fn read(hart: &Hart, lines: Lines, change: Change, i: &Instr) -> Result<u32, Csr
 }
 
 /// Writes the CSR if the instruction does.
-fn write(hart: &mut Hart, change: Change, i: &Instr, value: u32) -> Result<(), CsrFault>
-    ensures core { hart.new ≡ unwrap_or (after_write hart.old change i.now value) hart.old }
-    ensures answer { is_ok result ≡ is_some (after_write hart.old change i.now value) }
+fn write(hart: &mut Hart, change: Change, value: u32, i: &Instr) -> Result<(), CsrFault>
+    ensures core { hart.new ≡ unwrap_or (after_write change value hart.old i.now) hart.old }
+    ensures answer { is_ok result ≡ is_some (after_write change value hart.old i.now) }
 {
     if change.writes(i) {
         hart.csr_write(i.imm, value)
@@ -79,17 +78,17 @@ fn write(hart: &mut Hart, change: Change, i: &Instr, value: u32) -> Result<(), C
 /// Reads the CSR into a register and changes it, but leaves the counters.
 fn access(
     hart: &mut Hart,
-    lines: Lines,
     change: Change,
-    i: &Instr,
     operand: u32,
+    i: &Instr,
+    lines: Lines,
 ) -> Result<(), CsrFault>
     requires { IsInstr i.now }
-    ensures core { hart.new ≡ unwrap_or (accessed hart.old lines change i.now operand) hart.old }
-    ensures answer { is_ok result ≡ is_some (accessed hart.old lines change i.now operand) }
+    ensures core { hart.new ≡ unwrap_or (accessed change operand hart.old i.now lines) hart.old }
+    ensures answer { is_ok result ≡ is_some (accessed change operand hart.old i.now lines) }
 {
-    let old = read(hart, lines, change, i)?;
-    write(hart, change, i, change.of(old, operand))?;
+    let old = read(hart, change, i, lines)?;
+    write(hart, change, change.of(old, operand), i)?;
     hart.finish(i.rd, old);
     Ok(())
 }
@@ -107,11 +106,11 @@ fn count(hart: &mut Hart, number: u32)
 }
 
 /// Reads a CSR into a register and changes it by the operand, or enters the trap of an illegal access.
-pub fn change_csr(hart: &mut Hart, change: Change, i: &Instr, word: u32, lines: Lines, operand: u32)
+pub fn change_csr(hart: &mut Hart, change: Change, operand: u32, i: &Instr, word: u32, lines: Lines)
     requires { IsInstr i.now }
-    ensures { hart.new ≡ changes change hart.old i.now word lines operand }
+    ensures { hart.new ≡ changes change operand hart.old i.now word lines }
 {
-    if access(hart, lines, change, i, operand).is_err() {
+    if access(hart, change, operand, i, lines).is_err() {
         trap(hart, 2, word);
     } else if change.writes(i) {
         count(hart, i.imm);

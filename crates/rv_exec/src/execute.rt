@@ -62,8 +62,6 @@ fn execute<B: Bus>(
     ensures core_err { OnErr result (hart.new ≡ hart.old) }
     ensures bus_err { OnErr result (bus.new ≡ bus.old) }
 {
-    let operand = hart.register(i.rs1);
-    let number = u32::from(i.rs1);
     match i.op {
         Op::Lb => load(hart, bus, i, 1, Shape::SignedByte)?,
         Op::Lh => load(hart, bus, i, 2, Shape::SignedHalf)?,
@@ -73,12 +71,12 @@ fn execute<B: Bus>(
         Op::Sb => store(hart, bus, i, 1)?,
         Op::Sh => store(hart, bus, i, 2)?,
         Op::Sw => store(hart, bus, i, 4)?,
-        Op::Csrrw => change_csr(hart, Change::Write, i, word, lines, operand),
-        Op::Csrrs => change_csr(hart, Change::Set, i, word, lines, operand),
-        Op::Csrrc => change_csr(hart, Change::Clear, i, word, lines, operand),
-        Op::Csrrwi => change_csr(hart, Change::Write, i, word, lines, number),
-        Op::Csrrsi => change_csr(hart, Change::Set, i, word, lines, number),
-        Op::Csrrci => change_csr(hart, Change::Clear, i, word, lines, number),
+        Op::Csrrw => change_csr(hart, Change::Write, hart.register(i.rs1), i, word, lines),
+        Op::Csrrs => change_csr(hart, Change::Set, hart.register(i.rs1), i, word, lines),
+        Op::Csrrc => change_csr(hart, Change::Clear, hart.register(i.rs1), i, word, lines),
+        Op::Csrrwi => change_csr(hart, Change::Write, u32::from(i.rs1), i, word, lines),
+        Op::Csrrsi => change_csr(hart, Change::Set, u32::from(i.rs1), i, word, lines),
+        Op::Csrrci => change_csr(hart, Change::Clear, u32::from(i.rs1), i, word, lines),
         _ => execute_local(hart, i),
     }
     Ok(())

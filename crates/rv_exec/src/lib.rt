@@ -8,6 +8,8 @@ mod compute;
 mod csr;
 mod execute;
 mod finish;
+mod laws;
 
 pub use bus::{Bus, NoMemory};
 pub use execute::step;
+pub use laws::{mcycle_rises, minstret_rises, zero_register_stays};
