@@ -1,0 +1,2 @@
+-- Lemmas of `rv_exec`.
+pub mod Slots
