@@ -2,9 +2,7 @@
 #![tactic(auto)]
 
 mod board;
-mod hart;
 mod memory;
-mod step;
 mod turns;
 mod uart;
 mod wires;
