@@ -1,2 +1,6 @@
 pub mod Digits
 pub mod ScriptLemmas
+pub mod Pieces
+pub mod Courses
+pub mod Onward
+pub mod Openings

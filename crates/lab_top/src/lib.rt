@@ -1,10 +1,15 @@
 //! The whole program: what the command words ask for, from the script's bytes to the log's.
 #![tactic(auto)]
 
+mod builtin;
 mod fault;
 mod log;
+mod run;
 mod script;
+mod session;
 mod status;
+mod step;
 
 pub use fault::{Cause, ScriptCause, ScriptFault};
+pub use run::run_lab;
 pub use status::{Status, UsageCause};

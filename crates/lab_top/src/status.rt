@@ -5,7 +5,9 @@ use lab_io::WriteFault;
 /// Why the command words are refused.
 #[derive(Clone, Copy, PartialEq, Eq, Debug)]
 pub enum UsageCause {
-    /// They are not `run` and the name of a script that does not begin with `-`.
+    /// There is no word, or the first is not `run`.
+    Command,
+    /// What follows `run` is not one name of a script that does not begin with `-`.
     Words,
 }
 
@@ -24,4 +26,37 @@ pub enum Status {
     Unread,
     /// The output could not be written.
     Unwritten,
+}
+
+impl Status {
+    ghost use Rattle.std.specs.Prelude.{◌≡◌};
+    ghost use Rattle.lab_top.specs.Headline.{number_of};
+
+    /// The number with which the program ends.
+    pub fn number(&self) -> u8
+        ensures { result ≡ number_of self.now }
+    {
+        match self {
+            Status::Done => 0,
+            Status::Memory => 1,
+            Status::Usage(_) => 2,
+            Status::Script(_) => 3,
+            Status::Unread => 4,
+            Status::Unwritten => 5,
+        }
+    }
+}
+
+impl From<WriteFault> for Status {
+    ghost use Rattle.std.specs.Prelude.{◌≡◌};
+    ghost use Rattle.lab_top.specs.Course.{refusal};
+
+    ghost from_gives = { λ fault status. status ≡ refusal fault };
+
+    fn from(fault: WriteFault) -> Status {
+        match fault {
+            WriteFault::Unwritten => Status::Unwritten,
+            WriteFault::Memory => Status::Memory,
+        }
+    }
 }

@@ -1,6 +1,7 @@
-//! Laws of slots one after another. Each is the contract of a function that does nothing.
-ghost use Rattle.std.specs.Prelude.{◌≡◌, ℕ, ◌+◌, ◌<◌, ◌^◌, List, sum};
+//! Laws of boards and of slots one after another. Each is the contract of a function that does nothing.
+ghost use Rattle.std.specs.Prelude.{◌≡◌, ℕ, ◌+◌, ◌<◌, ◌^◌, List, length, sum};
 ghost use Rattle.board.specs.View.{View, after};
+ghost use Rattle.board.specs.Early.{early};
 ghost use Rattle.board.specs.Stretch.{stretch, entries_in_turns};
 ghost use Rattle.board.specs.Numbered.{IsNumbered};
 
@@ -20,4 +21,9 @@ pub fn turns_join()
 /// after another from the counts on.
 pub fn stretches_number()
     ensures { (v : View) (from a n : ℕ) → v.posted + n < 2 ^ 64 → v.entered + n < 2 ^ 64 → IsNumbered v n (stretch v from a n) }
+{}
+
+/// An early board has 64 KiB of memory.
+pub fn early_memory_is_64_kib()
+    ensures { (number : ℕ) → length (early number).memory ≡ 0x10000 }
 {}

@@ -1,0 +1,163 @@
+-- How a run goes on: the course of what is left, behind what was read and written before, is the course of the whole.
+use Rattle.std.proofs.Common.{◌≡◌, ℕ, ◌+◌, List, [], ◌∷◌, ◌++◌, length, map, take, drop, Option, None, refl, sym, ap, append_assoc, length-append}
+use Rattle.std.proofs.lemmas.List.{take-append-drop, map-append}
+use Rattle.lab_io.specs.Known.{grown}
+use Rattle.lab_io.specs.Sink.{IsPartWritten}
+use Rattle.lab_io.specs.declared.sink.WriteFault.{WriteFault}
+use Rattle.lab_io.specs.declared.sink.WriteFault.TheVariants as write_fault
+use Rattle.lab_top.specs.declared.status.Status.{Status}
+use Rattle.lab_top.specs.declared.status.Status.TheVariants as end_by
+use Rattle.lab_top.specs.Transcript.{Outcome, Done, Read, Transcript, after, ended, read_now, read_later, last_line}
+use Rattle.lab_top.specs.Course.{Course, IsLastAt, IsEnd, final, refusal, names_of}
+use Rattle.lab_top.proofs.Pieces.{grown-nil, grown-append}
+
+-- the names of reads stay as they are
+names_of-now : (names : List (List ℕ)) → names_of (map read_now names) ≡ names
+names_of-now [] = refl
+names_of-now (name ∷ names) = ap (λ rest. name ∷ rest) (names_of-now names)
+
+names_of-later : (n : ℕ) (reads : List Read) → names_of (map (read_later n) reads) ≡ names_of reads
+names_of-later n [] = refl
+names_of-later n (read ∷ reads) = ap (λ rest. read.name ∷ rest) (names_of-later n reads)
+
+names_of-after : (names : List (List ℕ)) (n : ℕ) (reads : List Read) → names_of (map read_now names ++ map (read_later n) reads) ≡ names ++ names_of reads
+names_of-after names n reads = rw (map-append, names_of-now, names_of-later) refl
+
+-- the last read is still the last behind others, and comes later
+last_after : (front : List Read) (n k : ℕ) (reads : List Read) → IsLastAt reads k → IsLastAt (front ++ map (read_later n) reads) (n + k)
+last_after front n k reads is = record {
+  earlier = front ++ map (read_later n) is.earlier;
+  last = read_later n is.last;
+  all = rw (is.all, map-append, append_assoc) refl;
+  before = ap (λ m. n + m) is.before;
+}
+
+-- these names were read and this text was written, and then the rest went by its course
+pub course_after :
+    (names : List (List ℕ)) (text : List ℕ) (rest : Transcript) (status : Status)
+    (out mid out' : Option (List ℕ)) (log between log' : Option (List (List ℕ))) →
+    mid ≡ grown out text → between ≡ grown log names →
+    Course rest status mid out' between log' → Course (after names text rest) status out out' log log'
+course_after names text rest status out mid out' log between log' wrote asked course = record {
+  bytes = text ++ course.bytes;
+  unwritten = course.unwritten;
+  passed = map read_now names ++ map (read_later (length text)) course.passed;
+  coming = map (read_later (length text)) course.coming;
+  all_bytes = rw (course.all_bytes, append_assoc) refl;
+  all_reads = rw (course.all_reads, map-append, append_assoc) refl;
+  written = rw (course.written, wrote, grown-append out text course.bytes) refl;
+  asked = rw (course.asked, asked, grown-append log names (names_of course.passed), names_of-after) refl;
+  ended = course.ended;
+  unread = λ is. rw length-append (last_after _ _ _ _ (course.unread is));
+}
+
+-- a first read failed
+pub course_unread :
+    (name : List ℕ) (rest : Transcript) (out : Option (List ℕ)) (log log' : Option (List (List ℕ))) →
+    log' ≡ grown log (name ∷ []) → Course (after (name ∷ []) [] rest) end_by.Unread out out log log'
+course_unread name rest out log log' asked = record {
+  bytes = [];
+  unwritten = rest.bytes;
+  passed = read_now name ∷ [];
+  coming = map (read_later 0) rest.reads;
+  all_bytes = refl;
+  all_reads = refl;
+  written = sym (grown-nil out);
+  asked = asked;
+  ended = tt;
+  unread = λ _. record { earlier = []; last = read_now name; all = refl; before = refl };
+}
+
+-- a first read found no memory
+pub course_memory : (all : Transcript) (out : Option (List ℕ)) (log : Option (List (List ℕ))) → Course all end_by.Memory out out log log
+course_memory all out log = record {
+  bytes = [];
+  unwritten = all.bytes;
+  passed = [];
+  coming = all.reads;
+  all_bytes = refl;
+  all_reads = refl;
+  written = sym (grown-nil out);
+  asked = sym (grown-nil log);
+  ended = tt;
+  unread = λ is. cc;
+}
+
+-- the last text and the last line were written, or a part of them
+pub course_ended :
+    (text : List ℕ) (outcome : Outcome) (status : Status) (out out' : Option (List ℕ)) (log : Option (List (List ℕ))) →
+    IsEnd text outcome status out out' → Course (after [] text (ended outcome)) status out out' log log
+course_ended text outcome status out out' log end = record {
+  bytes = end.bytes;
+  unwritten = end.unwritten;
+  passed = [];
+  coming = [];
+  all_bytes = end.all;
+  all_reads = refl;
+  written = end.grows;
+  asked = sym (grown-nil log);
+  ended = end.ended;
+  unread = λ is. absurd (end.never is);
+}
+
+cut_by : (fault : WriteFault) → final (refusal fault) ≡ None
+cut_by write_fault.Unwritten = refl
+cut_by write_fault.Memory = refl
+
+not_unread : (fault : WriteFault) → refusal fault ≡ end_by.Unread → ⊥
+not_unread write_fault.Unwritten is = cc
+not_unread write_fault.Memory is = cc
+
+-- a part of the last text and the last line was written
+pub end_cut :
+    (text : List ℕ) (outcome : Outcome) (fault : WriteFault) (out out' : Option (List ℕ)) →
+    IsPartWritten out (text ++ last_line outcome) out' → IsEnd text outcome (refusal fault) out out'
+end_cut text outcome fault out out' part = record {
+  bytes = take part.count (text ++ last_line outcome);
+  unwritten = drop part.count (text ++ last_line outcome);
+  all = sym (take-append-drop part.count (text ++ last_line outcome));
+  grows = part.written;
+  ended = rw (cut_by fault) tt;
+  never = not_unread fault;
+}
+
+-- memory ran out before anything of them was written
+pub end_memory : (text : List ℕ) (outcome : Outcome) (out : Option (List ℕ)) → IsEnd text outcome end_by.Memory out out
+end_memory text outcome out = record {
+  bytes = [];
+  unwritten = text ++ last_line outcome;
+  all = refl;
+  grows = sym (grown-nil out);
+  ended = tt;
+  never = λ is. cc;
+}
+
+-- the last text was written whole, and the last line after it, or a part of that
+pub end_after :
+    (text : List ℕ) (outcome : Outcome) (status : Status) (out mid out' : Option (List ℕ)) →
+    mid ≡ grown out text → IsEnd [] outcome status mid out' → IsEnd text outcome status out out'
+end_after text outcome status out mid out' wrote end = record {
+  bytes = text ++ end.bytes;
+  unwritten = end.unwritten;
+  all = rw (append_assoc, ← end.all) refl;
+  grows = rw (end.grows, wrote, grown-append out text end.bytes) refl;
+  ended = end.ended;
+  never = end.never;
+}
+
+-- a part of a text was written, and no more
+pub course_cut :
+    (text : List ℕ) (rest : Transcript) (fault : WriteFault) (out out' : Option (List ℕ)) (log : Option (List (List ℕ))) →
+    IsPartWritten out text out' → Course (after [] text rest) (refusal fault) out out' log log
+course_cut text rest fault out out' log part = record {
+  bytes = take part.count text;
+  unwritten = drop part.count text ++ rest.bytes;
+  passed = [];
+  coming = map (read_later (length text)) rest.reads;
+  all_bytes = rw (← append_assoc, take-append-drop part.count text) refl;
+  all_reads = refl;
+  written = part.written;
+  asked = sym (grown-nil log);
+  ended = rw (cut_by fault) tt;
+  unread = λ is. absurd (not_unread fault is);
+}
