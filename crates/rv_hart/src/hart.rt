@@ -1,5 +1,5 @@
 // The hart: its registers and switches, and its state as a whole.
-ghost use Rattle.std.specs.Prelude.{◌≡◌, ℕ, ◌%◌, ◌<◌, SomeIff};
+ghost use Rattle.std.specs.Prelude.{◌≡◌, ◌%◌, ◌<◌, SomeIff};
 ghost use Rattle.rv_hart.specs.Core.{initial, reg, put, next, finish, ticked, retired};
 ghost use Rattle.rv_hart.specs.HartState.{IsHartState, core_of, state_of};
 

@@ -1,5 +1,5 @@
 // The reads and writes of the CSRs.
-ghost use Rattle.std.specs.Prelude.{◌≡◌, ◌+◌, ◌*◌, ◌&&◌, not, OnErr, is_ok, is_some, ok_or, unwrap_or};
+ghost use Rattle.std.specs.Prelude.{◌≡◌, ◌&&◌, not, OnErr, is_ok, is_some, ok_or, unwrap_or};
 ghost use Rattle.rv_hart.specs.Csr.{
   csr_read,
   csr_written,
