@@ -49,7 +49,8 @@ mod tests {
     use std::test::Fail;
 
     fn key(at: u64, board: u8, number: u64) -> Key
-        ensures { result ≡ record { at = record { 0 = at }; board = record { 0 = board }; number = record { 0 = number } } }
+        ensures { result
+            ≡ record { at = record { 0 = at }; board = record { 0 = board }; number = record { 0 = number } } }
     {
         Key {
             at: Micros(at),
