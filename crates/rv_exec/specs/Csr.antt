@@ -1,5 +1,5 @@
 -- The instructions that read and change a CSR (RISC-V Unprivileged ISA 20191213, section 9.1).
-use Rattle.std.specs.Prelude.{ℕ, ◌==◌, not, Bool, true, if◌then◌else◌, Option, Some, option_and_then, option_map, bit_and, bit_or}
+use Rattle.std.specs.Prelude.{ℕ, ◌==◌, ◌&&◌, not, Bool, true, if◌then◌else◌, Option, Some, option_and_then, option_map, bit_and, bit_or}
 use Rattle.std.specs.Int.{w32, bit_not}
 use Rattle.rv_decode.specs.declared.instruction.Instr.{Instr}
 use Rattle.rv_hart.specs.declared.csr.Lines.{Lines}
@@ -41,8 +41,8 @@ accessed change operand core i lines =
     (λ old. option_map (λ after. finish after i.rd old) (after_write change (changed change old operand) core i))
     (old_value change core i lines)
 
--- the counters after a write of a CSR: one of which a half was written stays as written (Privileged ISA 3.1.10)
-abbrev pub counted : ℕ → Core → Core
-counted number core =
-    let after = if is_minstret number then core else retired core in
-    if is_mcycle number then after else ticked after
+-- the counters after the access: one of which a half was written stays as written (Privileged ISA 3.1.10)
+abbrev pub counted : Change → Instr → Core → Core
+counted change i core =
+    let after = if writes change i && is_minstret i.imm then core else retired core in
+    if writes change i && is_mcycle i.imm then after else ticked after

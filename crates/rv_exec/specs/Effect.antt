@@ -14,7 +14,7 @@ use Rattle.rv_exec.specs.declared.csr.Change.{Change}
 use Rattle.rv_exec.specs.declared.csr.Change.TheVariants.{Write, Set, Clear}
 use Rattle.rv_exec.specs.Word.{signed, add, sub, shift_left, shift_right, shift_right_signed, less, less_unsigned, product, upper_signed, upper_mixed, upper_unsigned, quotient, remainder, quotient_unsigned, remainder_unsigned}
 use Rattle.rv_exec.specs.Access.{shaped}
-use Rattle.rv_exec.specs.Csr.{writes, accessed, counted}
+use Rattle.rv_exec.specs.Csr.{accessed, counted}
 
 -- the slot is done with this core, or it asks the bus for one load, at an address and of a width, whose answer gives the core,
 -- or for one store, at an address, of a width and of a value, and is done with this core
@@ -71,27 +71,24 @@ stores core i width =
 -- ISA 2.1)
 abbrev pub changes : Change → ℕ → Core → Instr → ℕ → Lines → Core
 changes change operand core i word lines =
-    option_map_or
-    (λ after. if writes change i then counted i.imm after else retires after)
-    (accessed change operand core i lines)
-    (traps core 2 word)
+    option_map_or (counted change i) (accessed change operand core i lines) (traps core 2 word)
 
 -- the core after an instruction that asks nothing of the bus and accesses no CSR; that of the others is in `effect_by`
 unfoldable pub core_by : Op → Core → Instr → Core
--- upper immediates (2.4.1)
+-- upper immediates (2.4)
 core_by Lui core i = retires (finish core i.rd i.imm)
 core_by Auipc core i = retires (finish core i.rd (add core.pc i.imm))
--- unconditional jumps; JALR sets the lowest bit of its target to zero (2.5.1)
+-- unconditional jumps; JALR sets the lowest bit of its target to zero (2.5)
 core_by Jal core i = jumps core i.rd (add core.pc i.imm)
 core_by Jalr core i = jumps core i.rd (add (reg core i.rs1) i.imm / 2 * 2)
--- conditional branches (2.5.2)
+-- conditional branches (2.5)
 core_by Beq core i = branches core (reg core i.rs1 == reg core i.rs2) i.imm
 core_by Bne core i = branches core (not (reg core i.rs1 == reg core i.rs2)) i.imm
 core_by Blt core i = branches core (int_lt (signed (reg core i.rs1)) (signed (reg core i.rs2))) i.imm
 core_by Bge core i = branches core (not (int_lt (signed (reg core i.rs1)) (signed (reg core i.rs2)))) i.imm
 core_by Bltu core i = branches core (nat_lt (reg core i.rs1) (reg core i.rs2)) i.imm
 core_by Bgeu core i = branches core (not (nat_lt (reg core i.rs1) (reg core i.rs2))) i.imm
--- a register and an immediate (2.4.1)
+-- a register and an immediate (2.4)
 core_by Addi core i = with_immediate add core i
 core_by Slti core i = with_immediate less core i
 core_by Sltiu core i = with_immediate less_unsigned core i
@@ -101,7 +98,7 @@ core_by Andi core i = with_immediate bit_and core i
 core_by Slli core i = with_immediate shift_left core i
 core_by Srli core i = with_immediate shift_right core i
 core_by Srai core i = with_immediate shift_right_signed core i
--- two registers (2.4.2)
+-- two registers (2.4)
 core_by Add core i = with_registers add core i
 core_by Sub core i = with_registers sub core i
 core_by Sll core i = with_registers shift_left core i
@@ -121,7 +118,7 @@ core_by Div core i = with_registers quotient core i
 core_by Divu core i = with_registers quotient_unsigned core i
 core_by Rem core i = with_registers remainder core i
 core_by Remu core i = with_registers remainder_unsigned core i
--- fences, which order nothing here: each access is done before the next instruction (2.7, 3.1)
+-- fences, which order nothing here: each access is done before the next instruction (2.7, chapter 3)
 core_by Fence core i = retires (next core)
 core_by FenceI core i = retires (next core)
 -- environment call and breakpoint (2.8)

@@ -14,7 +14,7 @@ IsProduct Rem = Unit {0}
 IsProduct Remu = Unit {0}
 IsProduct _ = ⊥
 
--- operations on two registers (section 2.4.2 and chapter 7)
+-- operations on two registers (section 2.4 and chapter 7)
 abbrev pub IsOnRegisters : Op → Type 0
 IsOnRegisters Add = Unit {0}
 IsOnRegisters Sub = Unit {0}

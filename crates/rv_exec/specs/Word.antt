@@ -10,14 +10,14 @@ signed a = cast_signed w32 a
 abbrev pub word_of : ℤ → ℕ
 word_of z = cast_unsigned w32 z
 
--- ADD and SUB (section 2.4.2)
+-- ADD and SUB (section 2.4)
 abbrev pub add : ℕ → ℕ → ℕ
 add a b = (a + b) % 2 ^ 32
 
 abbrev pub sub : ℕ → ℕ → ℕ
 sub a b = (a + (2 ^ 32 - b)) % 2 ^ 32
 
--- the shifts go by the lower five bits of the second operand (section 2.4.2)
+-- the shifts go by the lower five bits of the second operand (section 2.4)
 abbrev pub shift_left : ℕ → ℕ → ℕ
 shift_left a b = a * 2 ^ (b % 32) % 2 ^ 32
 
@@ -28,7 +28,7 @@ shift_right a b = a / 2 ^ (b % 32)
 abbrev pub shift_right_signed : ℕ → ℕ → ℕ
 shift_right_signed a b = word_of (int_shr (signed a) (b % 32))
 
--- SLT and SLTU: 1 where the first operand is less, or else 0 (section 2.4.2)
+-- SLT and SLTU: 1 where the first operand is less, or else 0 (section 2.4)
 abbrev pub less : ℕ → ℕ → ℕ
 less a b = flag (int_lt (signed a) (signed b))
 

@@ -74,8 +74,10 @@ pub fn load<B: Bus>(
 ) -> Result<(), NoMemory>
     requires fields { IsInstr i.now }
     requires width { IsWidthOf shape width }
-    ensures core { OnOk result (hart.new ≡ core_after B.answer bus.old (loads hart.old i.now width shape)) }
-    ensures bus { OnOk result (bus.new ≡ bus_after B.loaded B.stored bus.old (loads hart.old i.now width shape)) }
+    ensures core { let effect = loads hart.old i.now width shape in
+        OnOk result (hart.new ≡ core_after B.answer bus.old effect) }
+    ensures bus { let effect = loads hart.old i.now width shape in
+        OnOk result (bus.new ≡ bus_after B.loaded B.stored bus.old effect) }
     ensures core_err { OnErr result (hart.new ≡ hart.old) }
     ensures bus_err { OnErr result (bus.new ≡ bus.old) }
 {
@@ -93,8 +95,10 @@ pub fn load<B: Bus>(
 pub fn store<B: Bus>(hart: &mut Hart, bus: &mut B, i: &Instr, width: u8) -> Result<(), NoMemory>
     requires fields { IsInstr i.now }
     requires width { IsWidth width }
-    ensures core { OnOk result (hart.new ≡ core_after B.answer bus.old (stores hart.old i.now width)) }
-    ensures bus { OnOk result (bus.new ≡ bus_after B.loaded B.stored bus.old (stores hart.old i.now width)) }
+    ensures core { let effect = stores hart.old i.now width in
+        OnOk result (hart.new ≡ core_after B.answer bus.old effect) }
+    ensures bus { let effect = stores hart.old i.now width in
+        OnOk result (bus.new ≡ bus_after B.loaded B.stored bus.old effect) }
     ensures core_err { OnErr result (hart.new ≡ hart.old) }
     ensures bus_err { OnErr result (bus.new ≡ bus.old) }
 {

@@ -6,8 +6,7 @@ ghost use Rattle.rv_exec.specs.Access.{IsAccess};
 #[derive(Clone, Copy, PartialEq, Eq, Debug)]
 pub struct NoMemory;
 
-/// What a hart fetches its words from, loads from and stores to. Addresses and widths are in bytes, and words are
-/// little-endian.
+/// What a hart fetches its words from, loads from and stores to. Addresses and widths are in bytes.
 pub trait Bus {
     /// What a fetch answers.
     ghost fetched: { Self → ℕ → Option ℕ };
@@ -26,7 +25,7 @@ pub trait Bus {
         ensures value { result ≡ fetched self.old at }
         ensures same { self.new ≡ self.old };
 
-    /// The `width` bytes at an address, as a number. `NoMemory` is the only refusal.
+    /// The number of `width` bytes at an address. `NoMemory` is the only refusal.
     fn load(&mut self, at: u32, width: u8) -> Result<u32, NoMemory>
         requires { IsAccess at width }
         ensures answer { IfOk result (λ value. value ≡ answer self.old at width) }

@@ -1,10 +1,10 @@
 // The instructions that read and change a CSR (RISC-V Unprivileged ISA 20191213, section 9.1).
-ghost use Rattle.std.specs.Prelude.{◌≡◌, is_ok, is_some, ok_or, unwrap_or};
+ghost use Rattle.std.specs.Prelude.{◌≡◌, ◌&&◌, is_ok, is_some, ok_or, unwrap_or};
 ghost use Rattle.rv_decode.specs.Means.{IsInstr};
 ghost use Rattle.rv_exec.specs.Csr.{accessed, after_write, changed, counted, old_value, reads, writes};
 ghost use Rattle.rv_exec.specs.Effect.{changes};
 
-use crate::finish::{retire, trap};
+use crate::finish::trap;
 use rv_decode::Instr;
 use rv_hart::{CsrFault, Hart, Lines, is_mcycle, is_minstret};
 
@@ -93,28 +93,27 @@ fn access(
     Ok(())
 }
 
-/// Counts an instruction that wrote a CSR.
-fn count(hart: &mut Hart, number: u32)
-    ensures { hart.new ≡ counted number hart.old }
+/// Counts the access, but leaves a counter that it wrote.
+fn count(hart: &mut Hart, change: Change, i: &Instr)
+    ensures { hart.new ≡ counted change i.now hart.old }
 {
-    if !is_minstret(number) {
+    let is_write = change.writes(i);
+    if !(is_write && is_minstret(i.imm)) {
         hart.retire();
     }
-    if !is_mcycle(number) {
+    if !(is_write && is_mcycle(i.imm)) {
         hart.tick();
     }
 }
 
-/// Reads a CSR into a register and changes it by the operand, or enters the trap of an illegal access.
+/// Reads a CSR into a register and changes it, or enters the trap of an illegal access.
 pub fn change_csr(hart: &mut Hart, change: Change, operand: u32, i: &Instr, word: u32, lines: Lines)
     requires { IsInstr i.now }
     ensures { hart.new ≡ changes change operand hart.old i.now word lines }
 {
-    if access(hart, change, operand, i, lines).is_err() {
-        trap(hart, 2, word);
-    } else if change.writes(i) {
-        count(hart, i.imm);
+    if access(hart, change, operand, i, lines).is_ok() {
+        count(hart, change, i);
     } else {
-        retire(hart);
+        trap(hart, 2, word);
     }
 }

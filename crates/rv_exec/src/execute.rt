@@ -57,8 +57,10 @@ fn execute<B: Bus>(
     lines: Lines,
 ) -> Result<(), NoMemory>
     requires { IsInstr i.now }
-    ensures core { OnOk result (hart.new ≡ core_after B.answer bus.old (effect_by i.now.op hart.old i.now word lines)) }
-    ensures bus { OnOk result (bus.new ≡ bus_after B.loaded B.stored bus.old (effect_by i.now.op hart.old i.now word lines)) }
+    ensures core { let effect = effect_by i.now.op hart.old i.now word lines in
+        OnOk result (hart.new ≡ core_after B.answer bus.old effect) }
+    ensures bus { let effect = effect_by i.now.op hart.old i.now word lines in
+        OnOk result (bus.new ≡ bus_after B.loaded B.stored bus.old effect) }
     ensures core_err { OnErr result (hart.new ≡ hart.old) }
     ensures bus_err { OnErr result (bus.new ≡ bus.old) }
 {
@@ -82,15 +84,18 @@ fn execute<B: Bus>(
     Ok(())
 }
 
-/// Does one instruction from the hart's pc, or enters its exception: the word is fetched, decoded and done, and the
-/// counters rise (RISC-V Unprivileged ISA 20191213, Privileged Architecture 20211203). `lines` are the pending
-/// interrupts and the time that it reads; no interrupt is taken.
+/// Does the instruction at the hart's pc, or enters the trap of its exception, and raises the counters (RISC-V
+/// Unprivileged ISA 20191213, Privileged Architecture 20211203, 3.1.10 and 3.3). `lines` is what the instruction
+/// reads of the pending interrupts and of the time. No interrupt is taken, and a hart that waits or is halted does
+/// the instruction too.
 ///
-/// `NoMemory` comes where the bus refuses the load or the store of the instruction.
+/// `NoMemory` comes only where the bus refuses the load or the store of the instruction.
 #[tactic(auto, unfolding(crate::specs::Effect::effect, crate::specs::Effect::effect_of_fetch))]
 pub fn step<B: Bus>(hart: &mut Hart, bus: &mut B, lines: Lines) -> Result<(), NoMemory>
-    ensures core { OnOk result (hart.new ≡ core_after B.answer bus.old (effect_of_fetch hart.old (B.fetched bus.old hart.old.pc) lines)) }
-    ensures bus { OnOk result (bus.new ≡ bus_after B.loaded B.stored bus.old (effect_of_fetch hart.old (B.fetched bus.old hart.old.pc) lines)) }
+    ensures core { let effect = effect_of_fetch hart.old (B.fetched bus.old hart.old.pc) lines in
+        OnOk result (hart.new ≡ core_after B.answer bus.old effect) }
+    ensures bus { let effect = effect_of_fetch hart.old (B.fetched bus.old hart.old.pc) lines in
+        OnOk result (bus.new ≡ bus_after B.loaded B.stored bus.old effect) }
     ensures core_err { OnErr result (hart.new ≡ hart.old) }
     ensures bus_err { OnErr result (bus.new ≡ bus.old) }
 {

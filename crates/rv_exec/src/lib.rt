@@ -13,3 +13,6 @@ mod laws;
 pub use bus::{Bus, NoMemory};
 pub use execute::step;
 pub use laws::{mcycle_rises, minstret_rises, zero_register_stays};
+
+#[cfg(test)]
+mod tests;

@@ -1,5 +1,5 @@
 -- mcycle rises in each slot that does not write it.
-use Rattle.rv_exec.proofs.Slots.{after_slot-slot}
+use Rattle.rv_exec.proofs.Instructions.{after_slot-slot}
 use Rattle.rv_exec.proofs.laws.mcycle_rises.Goals as goal
 
 pub returns : goal.returns

@@ -1,5 +1,5 @@
 -- x0 stays in each slot.
-use Rattle.rv_exec.proofs.Slots.{after_slot-slot}
+use Rattle.rv_exec.proofs.Instructions.{after_slot-slot}
 use Rattle.rv_exec.proofs.laws.zero_register_stays.Goals as goal
 
 pub returns : goal.returns
