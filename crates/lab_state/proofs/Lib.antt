@@ -1,0 +1,2 @@
+-- Lemmas of lab_state.
+pub mod SoundLemmas
