@@ -1,2 +1,4 @@
 -- Lemmas of lab_state.
 pub mod SoundLemmas
+pub mod KeyLemmas
+pub mod RoundLemmas

@@ -35,7 +35,7 @@ set-quiet (v ∷ vs) (suc i) f old new below is made =
 
 -- what keeps a board standing keeps the boards standing
 pub standing-change :
-    (most first : ℕ) (vs : List View) (i : ℕ) (f : View → View) → ((no : ℕ) (v : View) → IsStanding most no v → IsStanding most no (f v)) →
+    (most first : ℕ) (vs : List View) (i : ℕ) (f : View → View) → ((b : ℕ) (v : View) → IsStanding most b v → IsStanding most b (f v)) →
     AreStanding most first vs → AreStanding most first (change_at vs i f)
 standing-change most first [] i f keeps all = tt
 standing-change most first (v ∷ vs) zero f keeps all = (keeps first v all.0, all.1)
@@ -62,7 +62,7 @@ pub sound-change :
     (names : List (List ℕ)) (boards : List State) (hub_names : List (List ℕ)) (hubs : List (List Member)) (now quantum : ℕ)
     (i : ℕ) (f : View → View) (old new : State) →
     IsSound names boards hub_names hubs now quantum → i < length boards → old ≡ get_or boards i old → new ≡ record old { view = f old.view } →
-    ((no : ℕ) (v : View) → IsStanding (1000 * now) no v → IsStanding (1000 * now) no (f v)) →
+    ((b : ℕ) (v : View) → IsStanding (1000 * now) b v → IsStanding (1000 * now) b (f v)) →
     IsSound names (set boards i new) hub_names hubs now quantum × (views (set boards i new) ≡ change_at (views boards) i f)
 sound-change names boards hub_names hubs now quantum i f old new sound below is made keeps =
     let within : i < length (views boards) = rw length-map below in
@@ -174,12 +174,12 @@ pub sound-try :
     (i : ℕ) (f : View → View) (old new : State) →
     IsSound names boards hub_names hubs now quantum → i < length boards → old ≡ get_or boards i old →
     OnOk r (new ≡ record old { view = f old.view }) → OnErr r (new ≡ old) →
-    ((no : ℕ) (v : View) → IsStanding (1000 * now) no v → IsStanding (1000 * now) no (f v)) →
+    ((b : ℕ) (v : View) → IsStanding (1000 * now) b v → IsStanding (1000 * now) b (f v)) →
     IsSound names (set boards i new) hub_names hubs now quantum × OnOk r (views (set boards i new) ≡ change_at (views boards) i f)
 sound-try (Ok x) names boards hub_names hubs now quantum i f old new sound below is made same keeps =
     sound-change names boards hub_names hubs now quantum i f old new sound below is made keeps
 sound-try (Err e) names boards hub_names hubs now quantum i f old new sound below is made same keeps =
-    ((sound-change names boards hub_names hubs now quantum i (λ v. v) old new sound below is same (λ no v is. is)).0, tt)
+    ((sound-change names boards hub_names hubs now quantum i (λ v. v) old new sound below is same (λ b v is. is)).0, tt)
 
 -- a board of the laboratory is one of the boards
 pub inside_below : (boards : List State) (vs : List View) (i : ℕ) → views boards ≡ vs → i < length vs → i < length boards

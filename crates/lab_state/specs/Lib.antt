@@ -6,3 +6,4 @@ pub mod Run
 pub mod Standing
 pub mod Names
 pub mod One
+pub mod Made

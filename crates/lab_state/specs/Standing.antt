@@ -10,8 +10,8 @@ abbrev pub views : List State → List View
 views boards = map (λ board. board.view) boards
 
 -- a board of this number, at a speed that a board may have, which has made at most so many posts and entries
-pub record IsStanding (most no : ℕ) (v : View) : Type 0 where
-  pub number : v.number ≡ no
+pub record IsStanding (most b : ℕ) (v : View) : Type 0 where
+  pub number : v.number ≡ b
   pub least_speed : 1 ≤ v.speed
   pub most_speed : v.speed ≤ 1000
   pub few_posts : v.posted ≤ most

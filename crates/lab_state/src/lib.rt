@@ -6,6 +6,8 @@ mod faults;
 mod hubs;
 mod lab;
 mod names;
+mod round;
 
 pub use faults::{AddFault, ConnectFault, HubNameFault, LabFault, RunFault};
 pub use lab::Lab;
+pub use round::RoundLog;
