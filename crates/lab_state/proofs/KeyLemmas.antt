@@ -68,16 +68,18 @@ From b first key = (key.board.0 ≡ b) × (first ≤ key.number.0)
 
 numbered_from : (b first : ℕ) (keys : List Key) → AreNumbered b first keys → AllByRecursion (From b first) keys
 numbered_from b first [] is = tt
-numbered_from b first (key ∷ keys) is =
-    ((is.0, omega (arith, is.1)),
-    any_all (From b (first + 1)) (From b first) (λ k from. (from.0, omega (arith, from.1))) keys (numbered_from b (first + 1) keys is.2))
+numbered_from b first (key ∷ keys) is = (
+  (is.0, omega (arith, is.1)),
+  any_all (From b (first + 1)) (From b first) (λ k from. (from.0, omega (arith, from.1))) keys (numbered_from b (first + 1) keys is.2),
+)
 
 numbered_distinct : (b first : ℕ) (keys : List Key) → AreNumbered b first keys → IsDistinct (eq_by_cmp key_cmp) keys
 unfolding IsDistinct
 numbered_distinct b first [] is = tt
-numbered_distinct b first (key ∷ keys) is =
-    (any_all (From b (first + 1)) (Apart key) (λ k from. apart_numbers key k (omega (arith, is.1, from.1))) keys (numbered_from b (first + 1) keys is.2),
-    numbered_distinct b (first + 1) keys is.2)
+numbered_distinct b first (key ∷ keys) is = (
+  any_all (From b (first + 1)) (Apart key) (λ k from. apart_numbers key k (omega (arith, is.1, from.1))) keys (numbered_from b (first + 1) keys is.2),
+  numbered_distinct b (first + 1) keys is.2,
+)
 
 module _ {T : Type 0} (key : T → Key) (made : State → List T) where
   -- each of these boards, numbered one after another from this number on, has made items with numbers one after another

@@ -2,3 +2,4 @@
 pub mod SoundLemmas
 pub mod KeyLemmas
 pub mod RoundLemmas
+pub mod RunLemmas

@@ -212,7 +212,7 @@ pub route_more :
     new ≡ map quiet (fold (to_route hubs) vs (take (i + 1) posts))
 route_more hubs vs boards new posts i d to below so made is =
     let more : fold (to_route hubs) vs (take (i + 1) posts) ≡ to_route hubs (fold (to_route hubs) vs (take i posts)) (get_or posts i d) =
-      fold_more (to_route hubs) vs posts i d below in
+    fold_more (to_route hubs) vs posts i d below in
     made ∙ rw (is, views-is boards (fold (to_route hubs) vs (take i posts)) so, more) refl
 
 -- what holds holds of an answer

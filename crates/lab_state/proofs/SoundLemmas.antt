@@ -68,21 +68,23 @@ sound-change names boards hub_names hubs now quantum i f old new sound below is 
     let within : i < length (views boards) = rw length-map below in
     let at : old ≡ get_or (map quiet (views boards)) i old = rw (← sound.taken) is in
     let written : set boards i new ≡ map quiet (change_at (views boards) i f) =
-      ap (λ bs. set bs i new) sound.taken ∙ set-quiet (views boards) i f old new within at made in
+    ap (λ bs. set bs i new) sound.taken ∙ set-quiet (views boards) i f old new within at made in
     let seen : views (set boards i new) ≡ change_at (views boards) i f = ap views written ∙ views-quiet _ in
-    let long : length (set boards i new) ≡ length boards = ap length written ∙ length-map _ _ ∙ length-change _ _ _ ∙ length-map _ _ in
-    (record {
-      board_names = sound.board_names ∙ sym long;
-      names_of_hubs = sound.names_of_hubs;
-      few_boards = rw long sound.few_boards;
-      few_hubs = sound.few_hubs;
-      taken = written ∙ ap (map quiet) (sym seen);
-      standing = rw seen (standing-change (1000 * now) 0 (views boards) i f keeps sound.standing);
-      devices = rw long sound.devices;
-      time = sound.time;
-      least_quantum = sound.least_quantum;
-      most_quantum = sound.most_quantum;
-    }, seen)
+    let long : length (set boards i new) ≡ length boards = ap length written ∙ length-map _ _ ∙ length-change _ _ _ ∙ length-map _ _ in (
+      record {
+        board_names = sound.board_names ∙ sym long;
+        names_of_hubs = sound.names_of_hubs;
+        few_boards = rw long sound.few_boards;
+        few_hubs = sound.few_hubs;
+        taken = written ∙ ap (map quiet) (sym seen);
+        standing = rw seen (standing-change (1000 * now) 0 (views boards) i f keeps sound.standing);
+        devices = rw long sound.devices;
+        time = sound.time;
+        least_quantum = sound.least_quantum;
+        most_quantum = sound.most_quantum;
+      },
+      seen,
+    )
 
 -- devices of some boards are devices of more
 more_members : (m n : ℕ) → m ≤ n → (hub : List Member) → AllByRecursion (IsDevice m) hub → AllByRecursion (IsDevice n) hub

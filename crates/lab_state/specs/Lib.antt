@@ -7,3 +7,4 @@ pub mod Standing
 pub mod Names
 pub mod One
 pub mod Made
+pub mod Came

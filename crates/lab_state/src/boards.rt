@@ -19,7 +19,12 @@ use lab_num::{BoardNo, Member, NoMemory, Text};
 const MOST_BOARDS: usize = 16;
 
 /// Puts a name and a board at the ends of their lists, or neither.
-fn push_both(names: &mut Vec<Text>, boards: &mut Vec<Board>, name: Text, board: Board) -> Result<(), NoMemory>
+fn push_both(
+    names: &mut Vec<Text>,
+    boards: &mut Vec<Board>,
+    name: Text,
+    board: Board,
+) -> Result<(), NoMemory>
     ensures name { OnOk result (names.new.items ≡ names.old.items ++ name ∷ []) }
     ensures board { OnOk result (boards.new.items ≡ boards.old.items ++ board ∷ []) }
     ensures no_name { OnErr result (names.new.items ≡ names.old.items) }
@@ -46,10 +51,12 @@ impl Lab {
         requires unspent { self.old.spent ≡ false }
         requires is_name { IsTrue (name_spec.is_name name.now) }
         ensures number { IfOk result (λ board. board.0 ≡ length self.old.lab.boards) }
-        ensures ok { OnOk result (self.new ≡ record self.old { lab = record self.old.lab {
+        ensures ok { OnOk result (self.new ≡ record self.old {
+          lab = record self.old.lab {
             names = self.old.lab.names ++ name.now ∷ [];
             boards = self.old.lab.boards ++ early (length self.old.lab.boards) ∷ [];
-        } }) }
+          };
+        }) }
 
         // A name that is taken is reported as such, even where there are 16 boards.
         ensures taken { (result ≡ Err AddFault.Taken) ↔ IsTrue (names_spec.is_taken self.old.lab name.now) }

@@ -29,7 +29,6 @@ fn create_both(names: &mut Vec<Text>, hubs: &mut UartHubs, name: Text) -> Result
 
 impl From<HubFault> for ConnectFault {
     ghost use Rattle.lab_state.specs.Names.{fault_of};
-
     ghost use Rattle.std.specs.Prelude.{◌≡◌};
 
     ghost from_gives = { λ hub fault. fault ≡ fault_of hub };
@@ -48,10 +47,12 @@ impl Lab {
         requires unspent { self.old.spent ≡ false }
         requires is_name { IsTrue (name_spec.is_name name.now) }
         requires room { length self.old.lab.hubs + 1 < 2 ^ 32 }
-        ensures ok { OnOk result (self.new ≡ record self.old { lab = record self.old.lab {
+        ensures ok { OnOk result (self.new ≡ record self.old {
+          lab = record self.old.lab {
             hub_names = self.old.lab.hub_names ++ name.now ∷ [];
             hubs = self.old.lab.hubs ++ [] ∷ [];
-        } }) }
+          };
+        }) }
         ensures taken { (result ≡ Err HubNameFault.Taken) ↔ IsTrue (names_spec.is_taken self.old.lab name.now) }
         ensures err { OnErr result (self.new ≡ self.old) }
     {
@@ -67,9 +68,11 @@ impl Lab {
     pub fn connect(&mut self, member: Member, hub: &str) -> Result<(), ConnectFault>
         requires unspent { self.old.spent ≡ false }
         requires device { IsDevice (length self.old.lab.boards) member }
-        ensures ok { OnOk result (self.new ≡ record self.old { lab = record self.old.lab {
+        ensures ok { OnOk result (self.new ≡ record self.old {
+          lab = record self.old.lab {
             hubs = names_spec.connected_to self.old.lab.hubs (names_spec.number_of self.old.lab.hub_names hub.now) member;
-        } }) }
+          };
+        }) }
 
         // A hub that does not exist is reported as such, even where the device is in another.
         ensures name { (result ≡ Err ConnectFault.Name) ↔ (names_spec.number_of self.old.lab.hub_names hub.now ≡ None) }

@@ -31,15 +31,15 @@ impl Model for Lab {
     ghost Value = { Seen };
 
     ghost view = { λ l. record {
-        lab = record {
-            names = l.names.items;
-            boards = views l.boards.items;
-            hub_names = l.hub_names.items;
-            hubs = l.hubs;
-            now = l.time.0;
-            quantum = l.quantum;
-        };
-        spent = l.spent;
+      lab = record {
+        names = l.names.items;
+        boards = views l.boards.items;
+        hub_names = l.hub_names.items;
+        hubs = l.hubs;
+        now = l.time.0;
+        quantum = l.quantum;
+      };
+      spent = l.spent;
     } };
 
     ghost invariant = { λ l. l.spent ≡ false → IsSound l.names.items l.boards.items l.hub_names.items l.hubs l.time.0 l.quantum };

@@ -5,9 +5,12 @@ mod boards;
 mod faults;
 mod hubs;
 mod lab;
+mod laws;
 mod names;
 mod round;
+mod run;
 
 pub use faults::{AddFault, ConnectFault, HubNameFault, LabFault, RunFault};
 pub use lab::Lab;
+pub use laws::{boundaries_agree, runs_join};
 pub use round::RoundLog;

@@ -89,7 +89,12 @@ fn hand_over(boards: &mut [Board], to: &[Member], payload: &Payload)
 }
 
 /// Hands each post to the other members of its device's hub.
-fn hand_over_all(alloc: Global, boards: &mut [Board], hubs: &UartHubs, posts: &[Post]) -> Result<(), NoMemory>
+fn hand_over_all(
+    alloc: Global,
+    boards: &mut [Board],
+    hubs: &UartHubs,
+    posts: &[Post],
+) -> Result<(), NoMemory>
     requires taken { boards.old ≡ map quiet (views boards.old) }
     requires devices { AreDevices (length boards.old) hubs.now }
     ensures { OnOk result (boards.new ≡ map quiet (fold (to_route hubs.now) (views boards.old) posts.now)) }
@@ -121,7 +126,13 @@ fn items_of(alloc: Global, entries: &[Entry]) -> Result<Vec<LogItem>, NoMemory>
 }
 
 /// Runs the boards for a round of `q` microseconds, and hands over what they have sent. Gives the items of the log.
-pub(crate) fn play(alloc: Global, boards: &mut [Board], hubs: &UartHubs, from: Micros, q: u64) -> Result<Vec<LogItem>, NoMemory>
+pub(crate) fn play(
+    alloc: Global,
+    boards: &mut [Board],
+    hubs: &UartHubs,
+    from: Micros,
+    q: u64,
+) -> Result<Vec<LogItem>, NoMemory>
     requires within { from.0 + q ≤ 10000000000 }
     requires taken { boards.old ≡ map quiet (views boards.old) }
     requires standing { AreStanding (1000 * from.0) 0 (views boards.old) }

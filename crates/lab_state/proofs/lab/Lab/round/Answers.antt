@@ -8,7 +8,6 @@ use Rattle.lab_state.specs.Standing.{views}
 use Rattle.lab_state.proofs.RoundLemmas.{given_back, sound-round, seen_round, seen_items, never_paused}
 use Rattle.lab_state.proofs.lab.Lab.round.Goals as goal
 
-
 pub invariant_of-self-2 : goal.invariant_of-self-2
 invariant_of-self-2 c h =
     let now : c.self.inside.time.0 ≡ c.args.self.now.lab.now = ap (λ s. s.lab.now) c.self.view_is in
