@@ -1,0 +1,82 @@
+//! Why a call on a laboratory is refused.
+use lab_num::NoMemory;
+
+/// Why a board was not added.
+#[derive(Clone, Copy, PartialEq, Eq, Debug)]
+pub enum AddFault {
+    /// A board or a hub has the name.
+    Taken,
+    /// There are 16 boards.
+    Boards,
+    /// Memory ran out.
+    Memory,
+}
+
+/// Why a hub was not created.
+#[derive(Clone, Copy, PartialEq, Eq, Debug)]
+pub enum HubNameFault {
+    /// A board or a hub has the name.
+    Taken,
+    /// Memory ran out.
+    Memory,
+}
+
+/// Why a device was not connected.
+#[derive(Clone, Copy, PartialEq, Eq, Debug)]
+pub enum ConnectFault {
+    /// No hub has the name.
+    Name,
+    /// The device is in some hub.
+    Already,
+    /// Memory ran out.
+    Memory,
+}
+
+/// Why a round was not run.
+#[derive(Clone, Copy, PartialEq, Eq, Debug)]
+pub enum LabFault {
+    /// Memory ran out, in this round or in one before. The laboratory is spent.
+    Memory,
+}
+
+/// Why a run was not made.
+#[derive(Clone, Copy, PartialEq, Eq, Debug)]
+pub enum RunFault {
+    /// It would go past the last microsecond that a laboratory has.
+    TooLong,
+    /// Memory ran out, in this run or in one before. The laboratory is spent.
+    Memory,
+}
+
+impl From<NoMemory> for AddFault {
+    ghost use Rattle.std.specs.Prelude.{◌≡◌};
+    ghost use Rattle.lab_state.specs.declared.faults.AddFault.TheVariants.{Memory};
+
+    ghost from_gives = { λ _ fault. fault ≡ Memory };
+
+    fn from(_fault: NoMemory) -> AddFault {
+        AddFault::Memory
+    }
+}
+
+impl From<NoMemory> for HubNameFault {
+    ghost use Rattle.std.specs.Prelude.{◌≡◌};
+    ghost use Rattle.lab_state.specs.declared.faults.HubNameFault.TheVariants.{Memory};
+
+    ghost from_gives = { λ _ fault. fault ≡ Memory };
+
+    fn from(_fault: NoMemory) -> HubNameFault {
+        HubNameFault::Memory
+    }
+}
+
+impl From<LabFault> for RunFault {
+    ghost use Rattle.std.specs.Prelude.{◌≡◌};
+    ghost use Rattle.lab_state.specs.declared.faults.RunFault.TheVariants.{Memory};
+
+    ghost from_gives = { λ _ fault. fault ≡ Memory };
+
+    fn from(_fault: LabFault) -> RunFault {
+        RunFault::Memory
+    }
+}

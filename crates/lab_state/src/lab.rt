@@ -1,0 +1,102 @@
+//! The laboratory, its time and its quantum.
+ghost use Rattle.std.specs.Prelude.{◌≡◌, ◌≤◌, [], false, IfOk};
+
+use board::Board;
+use lab_num::{Micros, NoMemory, Text};
+use std::alloc::Global;
+use std::marker::Model;
+use uart_hub::UartHubs;
+
+/// The quantum of a new laboratory, in microseconds.
+const QUANTUM: u64 = 100;
+
+/// Boards and the hubs between them, paused between two rounds. It is spent once memory ran out inside a round.
+#[derive(Drop)]
+pub struct Lab {
+    pub(crate) alloc: Global,
+    pub(crate) names: Vec<Text>,
+    pub(crate) boards: Vec<Board>,
+    pub(crate) hub_names: Vec<Text>,
+    pub(crate) hubs: UartHubs,
+    pub(crate) time: Micros,
+    pub(crate) quantum: u64,
+    pub(crate) spent: bool,
+}
+
+impl Model for Lab {
+    ghost use Rattle.std.specs.Prelude.{◌≡◌, false};
+    ghost use Rattle.lab_state.specs.Lab.{Seen};
+    ghost use Rattle.lab_state.specs.Standing.{views, IsSound};
+
+    ghost Value = { Seen };
+
+    ghost view = { λ l. record {
+      lab = record {
+        names = l.names.items;
+        boards = views l.boards.items;
+        hub_names = l.hub_names.items;
+        hubs = l.hubs;
+        now = l.time.0;
+        quantum = l.quantum;
+      };
+      spent = l.spent;
+    } };
+
+    ghost invariant = { λ l. l.spent ≡ false → IsSound l.names.items l.boards.items l.hub_names.items l.hubs l.time.0 l.quantum };
+}
+
+impl Lab {
+    ghost use Rattle.lab_state.specs.Lab.{Lab, Seen};
+
+    /// A laboratory at time 0, without boards and hubs, at a quantum of 100 microseconds.
+    pub fn new(alloc: Global) -> Result<Lab, NoMemory>
+        ensures { IfOk result (λ made. made ≡ record { lab = record { names = []; boards = []; hub_names = []; hubs = []; now = 0; quantum = 100 }; spent = false }) }
+    {
+        Ok(Lab {
+            alloc,
+            names: Vec::new(alloc),
+            boards: Vec::new(alloc),
+            hub_names: Vec::new(alloc),
+            hubs: UartHubs::new(alloc),
+            time: Micros(0),
+            quantum: QUANTUM,
+            spent: false,
+        })
+    }
+
+    /// The time, in microseconds since the laboratory was made.
+    pub fn now(&self) -> Micros
+        requires { self.now.spent ≡ false }
+        ensures value { result.0 ≡ self.now.lab.now }
+        ensures last { result.0 ≤ 10000000000 }
+    {
+        self.time
+    }
+
+    /// The length of a round in a run, in microseconds.
+    pub fn quantum(&self) -> u64
+        requires { self.now.spent ≡ false }
+        ensures value { result ≡ self.now.lab.quantum }
+        ensures least { 1 ≤ result }
+        ensures most { result ≤ 1000000 }
+    {
+        self.quantum
+    }
+
+    /// Sets the length of a round for the runs to come.
+    pub fn set_quantum(&mut self, quantum: u64)
+        requires unspent { self.old.spent ≡ false }
+        requires least { 1 ≤ quantum }
+        requires most { quantum ≤ 1000000 }
+        ensures { self.new ≡ record self.old { lab = record self.old.lab { quantum = quantum } } }
+    {
+        self.quantum = quantum;
+    }
+
+    /// Whether memory ran out inside a round. Nothing but a round and a run may be asked of a spent laboratory then.
+    pub fn is_spent(&self) -> bool
+        ensures { result ≡ self.now.spent }
+    {
+        self.spent
+    }
+}

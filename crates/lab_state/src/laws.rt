@@ -1,0 +1,26 @@
+//! Laws of rounds and runs. Each is the contract of a function that does nothing.
+ghost use Rattle.std.specs.Prelude.{◌≡◌, ℕ, ◌+◌, ◌%◌, ◌<◌, List};
+ghost use Rattle.std.specs.List.Sorted.{IsPermutation};
+ghost use Rattle.lab_num.specs.declared.key.Member.{Member};
+ghost use Rattle.lab_num.specs.declared.post.Post.{Post};
+ghost use Rattle.lab_num.specs.Key.{KeysDiffer};
+ghost use Rattle.lab_num.specs.Post.{post_key};
+ghost use Rattle.board.specs.View.{View};
+ghost use Rattle.lab_state.specs.Boundary.{boundary};
+ghost use Rattle.lab_state.specs.Lab.{Lab};
+ghost use Rattle.lab_state.specs.Run.{run, behind};
+
+use lab_num::{Post as BoardPost, listing_laws};
+
+/// A run of a whole number of quanta and the run behind it are one run.
+pub fn runs_join()
+    ensures { (lab : Lab) (d e : ℕ) → 0 < lab.quantum → d % lab.quantum ≡ 0 → run lab (d + e) ≡ behind (run lab d) (run (run lab d).lab e) }
+{}
+
+/// What the boards are handed at a boundary does not depend on the order in which the posts were gathered.
+pub fn boundaries_agree()
+    ensures { (hubs : List (List Member)) (boards : List View) (posts others : List Post) →
+        KeysDiffer post_key posts → IsPermutation posts others → boundary hubs boards posts ≡ boundary hubs boards others }
+{
+    listing_laws::<BoardPost>();
+}

@@ -1,0 +1,16 @@
+//! The laboratory: boards and the hubs between them, run round by round on one thread.
+#![tactic(auto)]
+
+mod boards;
+mod faults;
+mod hubs;
+mod lab;
+mod laws;
+mod names;
+mod round;
+mod run;
+
+pub use faults::{AddFault, ConnectFault, HubNameFault, LabFault, RunFault};
+pub use lab::Lab;
+pub use laws::{boundaries_agree, runs_join};
+pub use round::RoundLog;

@@ -1,0 +1,71 @@
+//! Runs: rounds of one quantum each, and a shorter one for what is left.
+ghost use Rattle.std.specs.Prelude.{◌≡◌, ◌+◌, ◌<◌, ◌≤◌, ◌↔◌, true, false, IfOk, OnOk, OnErr};
+ghost use Rattle.lab_state.specs.Came.{came_to};
+ghost use Rattle.lab_state.specs.Run as run_spec;
+
+use crate::faults::{LabFault, RunFault};
+use crate::lab::Lab;
+use crate::round::RoundLog;
+use lab_num::{Micros, Rows};
+
+/// The last microsecond that a laboratory has: ten thousand seconds.
+const LAST: u64 = 10_000_000_000;
+
+impl Lab {
+    /// A round more of a run, unless the run has paused.
+    fn go_on(&mut self, run: RoundLog, q: u64) -> Result<RoundLog, LabFault>
+        requires unspent { self.old.spent ≡ false }
+        requires some { 0 < q }
+        requires within { self.old.lab.now + q ≤ 10000000000 }
+        ensures ok { IfOk result (λ log. came_to self.new.lab log ≡ run_spec.go_on (came_to self.old.lab run) q) }
+        ensures unspent { OnOk result (self.new.spent ≡ false) }
+        ensures err { OnErr result (self.new.spent ≡ true) }
+    {
+        if run.paused.is_some() {
+            return Ok(run);
+        }
+        let more = self.round(q)?;
+        let mut lines = run.lines.into_items();
+        if lines.extend_from_slice(more.lines.items()).is_err() {
+            self.spent = true;
+            return Err(LabFault::Memory);
+        }
+        Ok(RoundLog {
+            lines: Rows::of(lines),
+            paused: more.paused,
+        })
+    }
+
+    /// Runs for `d` microseconds: rounds of one quantum each, and then a shorter one if the quanta do not fill `d`.
+    /// A run of 0 changes nothing. `RunFault::Memory` spends the laboratory.
+    pub fn run_for(&mut self, d: Micros) -> Result<RoundLog, RunFault>
+        ensures lab { OnOk result (self.new ≡ record { lab = (run_spec.run self.old.lab d.0).lab; spent = false }) }
+        ensures lines { IfOk result (λ log. log.lines ≡ (run_spec.run self.old.lab d.0).items) }
+        ensures paused { IfOk result (λ log. log.paused ≡ (run_spec.run self.old.lab d.0).paused) }
+
+        ensures too_long { (result ≡ Err RunFault.TooLong) ↔ ((self.old.spent ≡ false) × (10000000000 < self.old.lab.now + d.0)) }
+        ensures unchanged { result ≡ Err RunFault.TooLong → self.new ≡ self.old }
+        ensures memory { result ≡ Err RunFault.Memory → self.new.spent ≡ true }
+        ensures spent { self.old.spent ≡ true → result ≡ Err RunFault.Memory }
+    {
+        if self.spent {
+            return Err(RunFault::Memory);
+        }
+        if d.0 > LAST - self.time.0 {
+            return Err(RunFault::TooLong);
+        }
+        let q = self.quantum;
+        let mut run = RoundLog {
+            lines: Rows::of(Vec::new(self.alloc)),
+            paused: None,
+        };
+        'rounds: for _ in 0..d.0 / q {
+            run = self.go_on(run, q)?;
+        }
+        let rest = d.0 % q;
+        if rest != 0 {
+            run = self.go_on(run, rest)?;
+        }
+        Ok(run)
+    }
+}
