@@ -27,7 +27,7 @@ mask_opcode w c = rw (and_mask w 7) refl
 split_at_12 : (w : ℕ) → w ≡ w / 2 ^ 12 * 2 ^ 12 + w % 2 ^ 12
 split_at_12 w = omega arith
 
-mask_funct3_value : (w : ℕ) → bit_and w 0x707F ≡ opcode w + 4096 * funct3 w
+pub mask_funct3_value : (w : ℕ) → bit_and w 0x707F ≡ opcode w + 4096 * funct3 w
 mask_funct3_value w =
     let low : w % 2 ^ 12 % 2 ^ 7 ≡ w % 128 = omega arith in
     let whole = and_block 12 (w / 2 ^ 12) 7 (w % 2 ^ 12) 127 (omega arith) (omega arith) in
@@ -45,7 +45,7 @@ three_fields :
     (x + 4096 * y + 2 ^ 25 * z == c + 4096 * k + 2 ^ 25 * j) ≡ ((x == c) && ((z == j) && (y == k)))
 three_fields x y z c k j hx hc hy hk = grind (arith, nat_tests)
 
-mask_funct7_value :
+pub mask_funct7_value :
     (w : ℕ) → w < 2 ^ 32 → bit_and w 0xFE00707F ≡ opcode w + 4096 * funct3 w + 2 ^ 25 * funct7 w
 mask_funct7_value w fits =
     let split : w ≡ w / 2 ^ 25 * 2 ^ 25 + w % 2 ^ 25 = omega arith in

@@ -2,7 +2,9 @@
 ghost use Rattle.std.specs.Prelude.{◌≡◌, ℕ, ◌/◌, ◌%◌, ◌^◌, ◌<◌, ◌≤◌, IfSome};
 ghost use Rattle.rv_decode.specs.Table.{op_of, match_count, table};
 ghost use Rattle.rv_decode.specs.Fields.{op_by, jalr_by, branch_by, load_by, store_by, immediate_by, base_by, alternate_by, multiply_by, register_by, fence_by, csr_by, system_by};
-ghost use Rattle.rv_decode.specs.Means.{means, instr_of, IsInstr};
+ghost use Rattle.rv_decode.specs.Instruction.{format_of};
+ghost use Rattle.rv_decode.specs.FixedBits.{bits_of, fixed_of};
+ghost use Rattle.rv_decode.specs.Means.{means, instr_of, IsInstr, IsValid};
 
 use crate::immediate::{
     bits, immediate_b, immediate_i, immediate_j, immediate_s, immediate_u, register,
@@ -239,6 +241,16 @@ pub fn decode(word: u32) -> Option<Instr>
 /// No word matches two rows of the table.
 pub fn rows_differ()
     ensures { (word : ℕ) → match_count word table ≤ 1 }
+{}
+
+/// The bits that a row fixes are those of its instruction, in each word that the row matches.
+pub fn rows_fix_bits()
+    ensures { (word : ℕ) → (op : Op) → word < 2 ^ 32 → op_of word ≡ Some op → fixed_of (format_of op) word ≡ bits_of op }
+{}
+
+/// The fields of a valid instruction fit.
+pub fn valid_fits()
+    ensures { (i : Instr) → IsValid i → IsInstr i }
 {}
 
 #[cfg(test)]

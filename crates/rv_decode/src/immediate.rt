@@ -2,7 +2,7 @@
 ghost use Rattle.std.specs.Prelude.{◌≡◌, ◌+◌, ◌^◌, ◌<◌, ◌≤◌};
 ghost use Rattle.rv_decode.specs.Immediate.{field, sign_extended, imm_i, imm_s, imm_b, imm_u, imm_j};
 
-/// `count` bits of a word, from bit `low` on.
+/// `count` bits of a word, from bit `low` on: at most 31 bits.
 pub fn bits(word: u32, low: u32, count: u32) -> u32
     requires low { low < 32 }
     requires count { count < 32 }
