@@ -4,3 +4,4 @@ pub mod Pieces
 pub mod Courses
 pub mod Onward
 pub mod Openings
+mod Equipping

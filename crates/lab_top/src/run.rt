@@ -1,5 +1,5 @@
 //! The whole program, from the command words to the status.
-ghost use Rattle.std.specs.Prelude.{◌≡◌, ◌≤◌, [], false, length, IfSome, MatchResult, map, string_bytes, Option, List, ℕ};
+ghost use Rattle.std.specs.Prelude.{◌≡◌, ◌≢◌, ◌≤◌, [], false, length, IfSome, MatchResult, map, string_bytes, Option, List, ℕ};
 ghost use Rattle.lab_io.specs.Known.{Rose};
 ghost use Rattle.lab_top.specs.Script.{lines_of};
 ghost use Rattle.lab_top.specs.Log.{rest};
@@ -128,6 +128,7 @@ fn run_script<K: Sink>(alloc: Global, script: &str, bytes: &[u8], out: &mut K) -
     requires { length bytes.now ≤ 16777216 }
     ensures course { (log : Option (List (List ℕ))) → Course (from script.now 1 started (lines_of bytes.now)) result (K.written out.old) (K.written out.new) log log }
     ensures usage { IsNoUsage result }
+    ensures never { result ≢ Status.Unread }
     ensures unwritten { result ≡ Status.Unwritten → Rose (K.faults out.old) (K.faults out.new) }
 {
     let Ok(mut session) = Session::new(alloc) else {
@@ -148,6 +149,7 @@ fn take_lines<K: Sink>(
     requires unspent { session.old.spent ≡ false }
     ensures course { (log : Option (List (List ℕ))) → Course (from script.now 1 session.old.state (lines_of bytes.now)) result (K.written out.old) (K.written out.new) log log }
     ensures usage { IsNoUsage result }
+    ensures never { result ≢ Status.Unread }
     ensures unwritten { result ≡ Status.Unwritten → Rose (K.faults out.old) (K.faults out.new) }
 {
     let mut rest = bytes;
@@ -172,6 +174,7 @@ fn take_lines<K: Sink>(
 fn stop<K: Sink>(session: &Session, out: &mut K) -> Status
     ensures course { IsEnd (rest session.now.state.lines) Done result (K.written out.old) (K.written out.new) }
     ensures usage { IsNoUsage result }
+    ensures never { result ≢ Status.Unread }
     ensures unwritten { result ≡ Status.Unwritten → Rose (K.faults out.old) (K.faults out.new) }
 {
     let Ok(text) = session.rest() else {
@@ -194,6 +197,7 @@ fn stop_at<K: Sink>(
 ) -> Status
     ensures course { IsEnd (rest session.now.state.lines) (Script (fault_at script.now number cause)) result (K.written out.old) (K.written out.new) }
     ensures usage { IsNoUsage result }
+    ensures never { result ≢ Status.Unread }
     ensures unwritten { result ≡ Status.Unwritten → Rose (K.faults out.old) (K.faults out.new) }
 {
     let Ok(text) = session.rest() else {
@@ -215,6 +219,7 @@ fn refuse_line<K: Sink>(
 ) -> Status
     ensures course { IsEnd [] (Script (fault_at script.now number cause)) result (K.written out.old) (K.written out.new) }
     ensures usage { IsNoUsage result }
+    ensures never { result ≢ Status.Unread }
     ensures unwritten { result ≡ Status.Unwritten → Rose (K.faults out.old) (K.faults out.new) }
     ensures faults { K.faults out.old ≤ K.faults out.new }
 {
