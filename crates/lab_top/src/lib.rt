@@ -13,3 +13,6 @@ mod step;
 pub use fault::{Cause, ScriptCause, ScriptFault};
 pub use run::run_lab;
 pub use status::{Status, UsageCause};
+
+#[cfg(test)]
+mod tests;

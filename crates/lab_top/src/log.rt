@@ -125,11 +125,7 @@ impl OpenLine {
 
 /// What the items print, in order. The lines, one for each board in order of their numbers, gather the bytes that end no
 /// line. After an `Err` nothing is known of them.
-pub fn text_of(
-    alloc: Global,
-    lines: &mut [OpenLine],
-    items: &[LogItem],
-) -> Result<String, NoMemory>
+pub fn text_of(alloc: Global, lines: &mut [OpenLine], items: &[LogItem]) -> Result<String, NoMemory>
     ensures text { IfOk result (λ printed. string_bytes printed ≡ text lines.old items.now) }
     ensures lines { OnOk result (lines.new ≡ open_lines lines.old items.now) }
 {
@@ -178,3 +174,6 @@ fn show(byte: u8, text: &mut String) -> Result<(), NoMemory>
     }
     Ok(())
 }
+
+#[cfg(test)]
+mod tests;

@@ -18,7 +18,8 @@ use lab_num::Text;
 use std::alloc::Global;
 
 /// The line that says how the program is called.
-const USAGE: &str = "usage: lab run SCRIPT [--workers N] [--until TIME] | check SCRIPT | gen SEED BOARDS [--workers N]\n";
+const USAGE: &str =
+    "usage: lab run SCRIPT [--workers N] [--until TIME] | check SCRIPT | gen SEED BOARDS [--workers N]\n";
 
 /// The most bytes of one file.
 const MOST_BYTES: usize = 16_777_216;
@@ -37,7 +38,7 @@ pub fn run_lab<F: Files, K: Sink>(
     // Else it wrote what the transcript begins with, and after a failed read all that comes before that read.
     ensures prefix { IfSome (F.held files.old) (λ held.
         WritesPart (transcript (map string_bytes words.now) held) result
-            (K.written out.old) (K.written out.new) (F.asked files.old) (F.asked files.new)) }
+        (K.written out.old) (K.written out.new) (F.asked files.old) (F.asked files.new)) }
 
     // Only a fault that was counted cuts it short, or want of memory, and it asks for no name that the transcript does not.
     ensures counted { IsCounted result (F.faults files.old) (F.faults files.new) (K.faults out.old) (K.faults out.new) }

@@ -14,7 +14,7 @@ pub returns-then-end-script-clause-lines : goal.returns-then-end-script-clause-l
 returns-then-end-script-clause-lines c =
     let some : (length c.args.script.now == 0) ≡ false = sym c.is_empty.ensures ∙ c.if-is_empty.false in
     let rest : length (take (length c.args.script.now - c.first-end.result) (drop c.first-end.result c.args.script.now)) ≡ 0 =
-        rw take_rest (omega (arith, length-drop c.first-end.result c.args.script.now)) in
+    rw take_rest (omega (arith, length-drop c.first-end.result c.args.script.now)) in
     lines_of-one c.args.script.now c.first-end.result (λ none. grind (arith, nat_tests)) c.if-end-script.true c.first-end.ensures.before
     ∙ ap (λ rest. c.args.script.now ∷ rest) (sym (lines_of-none _ rest))
 
