@@ -157,6 +157,12 @@ effect core word lines = option_map_or (λ i. effect_by i.op core i word lines) 
 unfoldable pub effect_of_fetch : Core → Option ℕ → Lines → Effect
 effect_of_fetch core fetched lines = option_map_or (λ word. effect core word lines) fetched (Done (traps core 1 core.pc))
 
+-- whether an effect asks the bus for a load or a store, which may be refused
+abbrev pub AsksBus : Effect → Type 0
+AsksBus (Done core) = ⊥
+AsksBus (Load at width complete) = Unit {0}
+AsksBus (Store at width value core) = Unit {0}
+
 -- the core after an effect, where a load gives these answers
 abbrev pub core_with : (ℕ → ℕ → ℕ) → Effect → Core
 core_with answer (Done core) = core

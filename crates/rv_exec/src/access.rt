@@ -4,7 +4,7 @@ ghost use Rattle.std.specs.Int.{w8, w16};
 ghost use Rattle.rv_decode.specs.Means.{IsInstr};
 ghost use Rattle.rv_exec.specs.Word.{extended};
 ghost use Rattle.rv_exec.specs.Access.{IsWidth, IsWidthOf, shaped};
-ghost use Rattle.rv_exec.specs.Effect.{bus_after, core_after, loads, stores};
+ghost use Rattle.rv_exec.specs.Effect.{AsksBus, bus_after, core_after, loads, stores};
 
 use crate::alu::add;
 use crate::bus::{Bus, NoMemory};
@@ -78,6 +78,7 @@ pub fn load<B: Bus>(
         OnOk result (hart.new ≡ core_after B.answer bus.old effect) }
     ensures bus { let effect = loads hart.old i.now width shape in
         OnOk result (bus.new ≡ bus_after B.loaded B.stored bus.old effect) }
+    ensures asked { OnErr result (AsksBus (loads hart.old i.now width shape)) }
     ensures core_err { OnErr result (hart.new ≡ hart.old) }
     ensures bus_err { OnErr result (bus.new ≡ bus.old) }
 {
@@ -99,6 +100,7 @@ pub fn store<B: Bus>(hart: &mut Hart, bus: &mut B, i: &Instr, width: u8) -> Resu
         OnOk result (hart.new ≡ core_after B.answer bus.old effect) }
     ensures bus { let effect = stores hart.old i.now width in
         OnOk result (bus.new ≡ bus_after B.loaded B.stored bus.old effect) }
+    ensures asked { OnErr result (AsksBus (stores hart.old i.now width)) }
     ensures core_err { OnErr result (hart.new ≡ hart.old) }
     ensures bus_err { OnErr result (bus.new ≡ bus.old) }
 {

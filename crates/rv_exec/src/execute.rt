@@ -3,6 +3,7 @@ ghost use Rattle.std.specs.Prelude.{◌≡◌, OnOk, OnErr};
 ghost use Rattle.rv_decode.specs.Means.{IsInstr};
 ghost use Rattle.rv_exec.specs.Group.{IsLocal};
 ghost use Rattle.rv_exec.specs.Effect.{
+  AsksBus,
   bus_after,
   core_after,
   core_by,
@@ -61,6 +62,7 @@ fn execute<B: Bus>(
         OnOk result (hart.new ≡ core_after B.answer bus.old effect) }
     ensures bus { let effect = effect_by i.now.op hart.old i.now word lines in
         OnOk result (bus.new ≡ bus_after B.loaded B.stored bus.old effect) }
+    ensures asked { OnErr result (AsksBus (effect_by i.now.op hart.old i.now word lines)) }
     ensures core_err { OnErr result (hart.new ≡ hart.old) }
     ensures bus_err { OnErr result (bus.new ≡ bus.old) }
 {
@@ -96,6 +98,8 @@ pub fn step<B: Bus>(hart: &mut Hart, bus: &mut B, lines: Lines) -> Result<(), No
         OnOk result (hart.new ≡ core_after B.answer bus.old effect) }
     ensures bus { let effect = effect_of_fetch hart.old (B.fetched bus.old hart.old.pc) lines in
         OnOk result (bus.new ≡ bus_after B.loaded B.stored bus.old effect) }
+    ensures asked { let effect = effect_of_fetch hart.old (B.fetched bus.old hart.old.pc) lines in
+        OnErr result (AsksBus effect) }
     ensures core_err { OnErr result (hart.new ≡ hart.old) }
     ensures bus_err { OnErr result (bus.new ≡ bus.old) }
 {

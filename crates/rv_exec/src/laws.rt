@@ -1,7 +1,7 @@
 // Laws of the effect of a slot, each the contract of a function that does nothing.
 ghost use Rattle.rv_exec.specs.Laws.{KeepsZero, RaisesMcycle, RaisesMinstret};
 
-/// x0 reads 0 after every step.
+/// No step changes what x0 reads, which is 0.
 pub fn zero_register_stays()
     ensures { KeepsZero }
 {}

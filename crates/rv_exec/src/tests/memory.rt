@@ -1,5 +1,20 @@
 // A bus for the tests: a few words of memory.
-ghost use Rattle.std.specs.Prelude.{Some, None, ◌≡◌, ◌+◌, ◌-◌, ◌*◌, ◌/◌, ◌%◌, ◌^◌, nat_lt, if◌then◌else◌, slice_index, slice_set, bit_and, bit_or};
+ghost use Rattle.std.specs.Prelude.{
+  bit_and,
+  bit_or,
+  if◌then◌else◌,
+  nat_lt,
+  slice_index,
+  slice_set,
+  None,
+  Some,
+  ◌%◌,
+  ◌*◌,
+  ◌-◌,
+  ◌/◌,
+  ◌≡◌,
+  ◌^◌,
+};
 ghost use Rattle.std.specs.Int.{w32, bit_not};
 ghost use Rattle.rv_exec.specs.Access.{IsWidth};
 
@@ -44,7 +59,12 @@ impl Bus for Memory {
 
     ghost loaded = { λ m at width. m };
 
-    ghost stored = { λ m at width value. record m { words = slice_set m.words (at / 4 % 16) (bit_or (bit_and (slice_index m.words (at / 4 % 16)) (bit_not w32 ((256 ^ width - 1) * 2 ^ (8 * (at % 4)) % 2 ^ 32))) (value * 2 ^ (8 * (at % 4)) % 2 ^ 32)) } };
+    ghost stored = { λ m at width value.
+        let place = at / 4 % 16 in
+        let low = 2 ^ (8 * (at % 4)) in
+        let mask = (256 ^ width - 1) * low % 2 ^ 32 in
+        let kept = bit_and (slice_index m.words place) (bit_not w32 mask) in
+        record m { words = slice_set m.words place (bit_or kept (value * low % 2 ^ 32)) } };
 
     fn fetch(&mut self, at: u32) -> Option<u32> {
         if at < 64 {
