@@ -2,5 +2,6 @@
 #![tactic(auto)]
 
 mod encoder;
+mod texts;
 
 pub use encoder::{encode, is_valid};
