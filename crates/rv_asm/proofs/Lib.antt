@@ -1,3 +1,4 @@
 -- The lemmas of this crate.
 pub mod RoundTrip
 pub mod BoundaryLemmas
+pub mod NumeralLemmas

@@ -1,3 +1,6 @@
 -- What the contracts of this crate cite.
 pub mod Encoded
+pub mod Mnemonics
+pub mod Numbers
+pub mod Shapes
 pub mod Texts

@@ -2,6 +2,9 @@
 #![tactic(auto)]
 
 mod encoder;
+mod mnemonics;
+mod numbers;
+mod shapes;
 mod texts;
 
 pub use encoder::{encode, is_valid};

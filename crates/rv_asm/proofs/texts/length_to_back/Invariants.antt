@@ -8,7 +8,7 @@ abbrev pub invariant-loop-n : goal.invariant-loop-n
 invariant-loop-n l = record {
   within : l.n ≤ length l.bytes;
   counts : l.n + suffix_len is_blank l.bytes ≡ length l.bytes + suffix_len is_blank (take l.n l.bytes);
-  blank : l.n < length l.bytes → is_blank (get_or l.bytes l.n 0) ≡ true
+  blank : l.n < length l.bytes → is_blank (get_or l.bytes l.n 0) ≡ true;
 }
 
 abbrev pub decreases-loop-n : goal.decreases-loop-n
