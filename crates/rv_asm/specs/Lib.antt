@@ -2,5 +2,6 @@
 pub mod Encoded
 pub mod Mnemonics
 pub mod Numbers
+pub mod Operands
 pub mod Shapes
 pub mod Texts

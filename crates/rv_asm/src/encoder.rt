@@ -140,6 +140,22 @@ fn word_of(i: &Instr) -> u32
     }
 }
 
+/// The word of these fields.
+pub(crate) fn word_of_fields(op: Op, rd: u8, rs1: u8, rs2: u8, imm: u32) -> u32
+    requires rd { rd < 32 }
+    requires rs1 { rs1 < 32 }
+    requires rs2 { rs2 < 32 }
+    ensures { result ≡ encoded (record { op = op; rd = rd; rs1 = rs1; rs2 = rs2; imm = imm }) }
+{
+    word_of(&Instr {
+        op,
+        rd,
+        rs1,
+        rs2,
+        imm,
+    })
+}
+
 /// Whether the numbers of the registers are below 32.
 fn fits(i: &Instr) -> bool
     ensures { IsTrue result ↔ IsInstr i.now }

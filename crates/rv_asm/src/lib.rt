@@ -2,9 +2,12 @@
 #![tactic(auto)]
 
 mod encoder;
+mod fault;
 mod mnemonics;
 mod numbers;
+mod operands;
 mod shapes;
 mod texts;
 
 pub use encoder::{encode, is_valid};
+pub use fault::{AsmCause, AsmFault};
