@@ -1,7 +1,9 @@
 -- What the contracts of this crate cite.
 pub mod Encoded
+pub mod Lines
 pub mod Mnemonics
 pub mod Numbers
 pub mod Operands
+pub mod Places
 pub mod Shapes
 pub mod Texts

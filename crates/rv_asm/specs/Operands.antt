@@ -1,18 +1,11 @@
 -- The word that an instruction's operands give: of another shape (Form), or with a number outside its field (None).
-use Rattle.std.specs.Prelude.{ℕ, ◌+◌, ◌-◌, ◌*◌, ◌^◌, ◌==◌, nat_lt, length, Bool, true, false, List, if◌then◌else◌, Option, Some, None, Result, Ok, Err}
-use Rattle.std.specs.Option.{option_map, option_and_then, ok_or}
+use Rattle.std.specs.Prelude.{ℕ, ◌+◌, ◌-◌, ◌*◌, ◌^◌, ◌==◌, length, List, if◌then◌else◌, Option, Some, None}
+use Rattle.std.specs.Option.{option_map, option_and_then}
 use Rattle.rv_decode.specs.declared.instruction.Op.{Op}
-use Rattle.rv_asm.specs.declared.mnemonics.Mnemonic.{Mnemonic}
-use Rattle.rv_asm.specs.declared.mnemonics.Mnemonic.TheVariants.{Word, Instruction}
 use Rattle.rv_asm.specs.declared.numbers.Number.{Number}
-use Rattle.rv_asm.specs.declared.shapes.Shape.{Shape}
-use Rattle.rv_asm.specs.declared.shapes.Shape.TheVariants as shapes
-use Rattle.rv_asm.specs.declared.fault.AsmCause.{AsmCause}
-use Rattle.rv_asm.specs.declared.fault.AsmCause.TheVariants as causes
 use Rattle.rv_asm.specs.Encoded.{encoded}
-use Rattle.rv_asm.specs.Texts.{trimmed, cut, is_name, register_of}
+use Rattle.rv_asm.specs.Texts.{trimmed, cut, register_of}
 use Rattle.rv_asm.specs.Numbers.{number_of, in_field, even_in_field}
-use Rattle.rv_asm.specs.Shapes.{shape_of}
 
 infixl 10 ◌>>=◌
 abbrev pub ◌>>=◌ : {A B : Type 0} → Option A → (A → Option B) → Option B
@@ -113,3 +106,10 @@ bare_word op text =
 -- `.word number`, of 32 bits with or without a sign
 unfoldable pub directive_word : List ℕ → Option (Option ℕ)
 directive_word text = option_map (λ number. in_field (2 ^ 31) (2 ^ 32 - 1) number) (number_of text)
+
+-- two registers, and what follows the second's comma
+unfoldable pub two_registers_and : List ℕ → Option (ℕ × ℕ × List ℕ)
+two_registers_and text = do
+  rs1 ← register_and text
+  rs2 ← register_and rs1.1
+  Some (rs1.0, rs2.0, rs2.1)

@@ -3,6 +3,7 @@
 
 mod encoder;
 mod fault;
+mod lines;
 mod mnemonics;
 mod numbers;
 mod operands;

@@ -2,7 +2,7 @@
 // outside its field `Some(None)`.
 ghost use Rattle.std.specs.Prelude.{◌≡◌, ◌<◌, ◌≤◌, ◌^◌, IfSome};
 ghost use Rattle.std.specs.Option.{option_map};
-ghost use Rattle.rv_asm.specs.Operands.{operand_and, register_and, number_and, place_of, registers_word, immediate_word, load_word, store_word, upper_word, csr_word, csr_immediate_fields, csr_immediate_word, bare_word, directive_word};
+ghost use Rattle.rv_asm.specs.Operands.{operand_and, register_and, number_and, place_of, registers_word, immediate_word, load_word, store_word, upper_word, csr_word, csr_immediate_fields, csr_immediate_word, bare_word, directive_word, two_registers_and};
 
 use crate::encoder::word_of_fields;
 use crate::numbers::{Number, number_of};
@@ -177,4 +177,16 @@ pub(crate) fn directive_word(text: &str) -> Option<Option<u32>>
 {
     let number = number_of(text)?;
     Some(number.in_field(1 << 31, u32::MAX))
+}
+
+/// Two registers, and what follows the second's comma.
+#[tactic(auto, unfolding(crate::specs::Operands::two_registers_and))]
+pub(crate) fn two_registers_and(text: &str) -> Option<(u8, u8, &str)>
+    ensures value { option_map (λ x. (x.0, x.1, x.2.now)) result ≡ two_registers_and text.now }
+    ensures first { IfSome result (λ x. x.0 < 32) }
+    ensures second { IfSome result (λ x. x.1 < 32) }
+{
+    let (rs1, rest) = register_and(text)?;
+    let (rs2, rest) = register_and(rest)?;
+    Some((rs1, rs2, rest))
 }
