@@ -2,3 +2,4 @@
 pub mod RoundTrip
 pub mod BoundaryLemmas
 pub mod NumeralLemmas
+pub mod ProgramLemmas

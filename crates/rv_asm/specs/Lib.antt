@@ -5,5 +5,7 @@ pub mod Mnemonics
 pub mod Numbers
 pub mod Operands
 pub mod Places
+pub mod Program
+pub mod Gives
 pub mod Shapes
 pub mod Texts

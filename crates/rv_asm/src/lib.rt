@@ -1,6 +1,7 @@
 // An assembler of RV32 instructions, the inverse of the decoder.
 #![tactic(auto)]
 
+mod assembler;
 mod encoder;
 mod fault;
 mod lines;
@@ -10,5 +11,6 @@ mod operands;
 mod shapes;
 mod texts;
 
+pub use assembler::assemble;
 pub use encoder::{encode, is_valid};
 pub use fault::{AsmCause, AsmFault};
