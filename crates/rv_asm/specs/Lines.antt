@@ -1,8 +1,7 @@
 -- The word of a line, or the first of its faults in the order Name, Form, Label, Range.
-use Rattle.std.specs.Prelude.{ℕ, ◌+◌, ◌-◌, ◌*◌, ◌^◌, ◌==◌, nat_lt, length, drop, Bool, true, false, not, List, if◌then◌else◌, Option, Some, None, Result, Ok, Err}
+use Rattle.std.specs.Prelude.{ℕ, ◌-◌, ◌^◌, ◌==◌, nat_lt, length, drop, Bool, true, false, not, List, if◌then◌else◌, Option, Some, None, Result, Ok, Err}
 use Rattle.std.specs.Option.{option_map, ok_or}
 use Rattle.std.specs.List.{position_or_len, before_first}
-use Rattle.std.specs.Str.{bytes_eq}
 use Rattle.rv_decode.specs.declared.instruction.Op.{Op}
 use Rattle.rv_asm.specs.declared.mnemonics.Mnemonic.{Mnemonic}
 use Rattle.rv_asm.specs.declared.mnemonics.Mnemonic.TheVariants.{Word, Instruction}

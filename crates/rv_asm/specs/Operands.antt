@@ -1,11 +1,11 @@
 -- The word that an instruction's operands give: of another shape (Form), or with a number outside its field (None).
-use Rattle.std.specs.Prelude.{ℕ, ◌+◌, ◌-◌, ◌*◌, ◌^◌, ◌==◌, length, List, if◌then◌else◌, Option, Some, None}
+use Rattle.std.specs.Prelude.{ℕ, ◌-◌, ◌*◌, ◌^◌, ◌==◌, length, List, if◌then◌else◌, Option, Some, None}
 use Rattle.std.specs.Option.{option_map, option_and_then}
 use Rattle.rv_decode.specs.declared.instruction.Op.{Op}
 use Rattle.rv_asm.specs.declared.numbers.Number.{Number}
 use Rattle.rv_asm.specs.Encoded.{encoded}
 use Rattle.rv_asm.specs.Texts.{trimmed, cut, register_of}
-use Rattle.rv_asm.specs.Numbers.{number_of, in_field, even_in_field}
+use Rattle.rv_asm.specs.Numbers.{number_of, in_field}
 
 infixl 10 ◌>>=◌
 abbrev pub ◌>>=◌ : {A B : Type 0} → Option A → (A → Option B) → Option B

@@ -1,10 +1,10 @@
 -- The words of a text, or its first fault.
-use Rattle.std.specs.Prelude.{◌≡◌, ℕ, ◌+◌, ◌==◌, Bool, true, false, List, [], ◌∷◌, if◌then◌else◌, Option, Some, None, Result, Ok, Err}
+use Rattle.std.specs.Prelude.{ℕ, ◌+◌, ◌==◌, Bool, false, List, [], ◌∷◌, if◌then◌else◌, Option, Some, None, Result, Ok, Err}
 use Rattle.std.specs.List.{slice_split}
 use Rattle.std.specs.Str.{bytes_eq}
 use Rattle.rv_asm.specs.declared.fault.AsmCause.{AsmCause}
 use Rattle.rv_asm.specs.declared.fault.AsmFault.{AsmFault}
-use Rattle.rv_asm.specs.declared.fault.AsmFault.TheVariants.{Line, Memory}
+use Rattle.rv_asm.specs.declared.fault.AsmFault.TheVariants.{Line}
 use Rattle.rv_asm.specs.Lines.{gives_word, label_of, line_word}
 
 -- the lines of a text, each of which ends at an LF or at the text's end

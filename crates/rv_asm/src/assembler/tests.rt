@@ -1,4 +1,6 @@
 // Texts with the words that another assembler gives, and faulty lines with their causes.
+ghost use Rattle.std.specs.Prelude.{◌≤◌, length};
+
 use super::*;
 use crate::fault::AsmCause;
 use std::test::Fail;
@@ -53,6 +55,7 @@ fn each_shape_of_operands(rt: HostRuntime) -> Result<(), Fail> {
         ("a_1 : mul x1, x2, x3 # : no label", 0x023100B3),
     ];
     for (line, word) in lines {
+        assert!(rt; line.len() < 100);
         let words = assemble(rt.alloc(), line)?;
         assert_eq!(rt; words.as_slice(), [word].as_slice(), "at {line}");
     }
@@ -74,7 +77,9 @@ fn labels_are_found_before_and_behind(rt: HostRuntime) -> Result<(), Fail> {
 }
 
 /// The number of the first line with a fault, and the cause.
-fn fault_of(alloc: Global, text: &str) -> Option<(u32, AsmCause)> {
+fn fault_of(alloc: Global, text: &str) -> Option<(u32, AsmCause)>
+    requires { length text.now ≤ 100 }
+{
     match assemble(alloc, text) {
         Err(AsmFault::Line { n, cause }) => Some((n, cause)),
         _ => None,
@@ -132,6 +137,7 @@ fn the_first_fault_of_a_text(rt: HostRuntime) {
         ("jal x0, a\na: ecall\na: nop", 3, AsmCause::Name),
     ];
     for (text, n, cause) in texts {
+        assert!(rt; text.len() <= 100);
         assert_eq!(rt; fault_of(rt.alloc(), text), Some((n, cause)), "at {text}");
     }
 }

@@ -1,6 +1,6 @@
 -- The map has the label, where it had none.
-use Rattle.std.proofs.Common.{◌≡◌, ◌∙◌, sym, rules, Bool, false, ℕ, List, None}
-use Rattle.std.specs.Prelude.{Option, is_some}
+use Rattle.std.proofs.Common.{◌≡◌, ◌∙◌, sym, false}
+use Rattle.std.specs.Prelude.{is_some}
 use Rattle.std.proofs.lemmas.Map.Text.{hash_map_updates_str}
 use Rattle.rv_asm.specs.Places.{place_in}
 use Rattle.rv_asm.proofs.ProgramLemmas.{update-absent}

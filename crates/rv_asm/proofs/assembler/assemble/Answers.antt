@@ -1,6 +1,4 @@
 -- The places in the map are the places of the text's labels.
-use Rattle.std.proofs.Common.{◌≡◌, ◌≤◌, ◌+◌, ◌∙◌, sym, ap, length, arith, rules}
-use Rattle.rv_asm.specs.Program.{lines_of}
 use Rattle.rv_asm.proofs.ProgramLemmas.{lines_few}
 use Rattle.rv_asm.proofs.assembler.assemble.Goals as goal
 

@@ -1,7 +1,6 @@
 -- A line more: its label has a place, or the line gives no word.
-use Rattle.std.proofs.Common.{◌≡◌, ◌+◌, ◌<◌, ◌∷◌, ◌∙◌, sym, true, false, length, drop, arith, rules}
+use Rattle.std.proofs.Common.{◌<◌, ◌∙◌, sym, length, arith}
 use Rattle.rv_asm.specs.Places.{place_in}
-use Rattle.rv_asm.specs.Lines.{gives_word}
 use Rattle.rv_asm.proofs.ProgramLemmas.{texts, line_at, next_text, places_blank, places_more}
 use Rattle.rv_asm.proofs.assembler.labels_of.Goals as goal
 use Rattle.rv_asm.proofs.assembler.labels_of.Goals.{then-gives_word+in_ok-add_label_of, else-gives_word}

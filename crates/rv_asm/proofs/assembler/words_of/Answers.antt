@@ -1,8 +1,7 @@
 -- A line more: its word, its fault, or nothing.
-use Rattle.std.proofs.Common.{◌≡◌, ◌+◌, ◌<◌, ◌∷◌, ◌∙◌, sym, true, false, length, drop, arith, rules}
+use Rattle.std.proofs.Common.{◌<◌, ◌∙◌, sym, length, arith}
 use Rattle.std.proofs.lemmas.Result.{err_from_is_err_and}
 use Rattle.rv_asm.specs.Places.{place_in}
-use Rattle.rv_asm.specs.Lines.{gives_word}
 use Rattle.rv_asm.proofs.ProgramLemmas.{texts, line_at, gives_fault, next_text, words_blank, words_more, words_fault}
 use Rattle.rv_asm.proofs.assembler.words_of.Goals as goal
 use Rattle.rv_asm.proofs.assembler.words_of.Goals.{then-gives_word+in_ok-word+in_ok-push_word, else-gives_word}

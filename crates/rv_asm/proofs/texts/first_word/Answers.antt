@@ -1,5 +1,5 @@
 -- The text is cut before a blank.
-use Rattle.std.proofs.Common.{◌≡◌, ◌<◌}
+use Rattle.std.proofs.Common.{◌≡◌}
 use Rattle.std.specs.List.{position_or_len}
 use Rattle.rv_asm.specs.Texts.{is_blank}
 use Rattle.rv_asm.proofs.BoundaryLemmas.{word_boundary}

@@ -1,7 +1,6 @@
 -- The text is cut behind blanks.
-use Rattle.std.proofs.Common.{◌≡◌, ◌<◌, ap, ◌∙◌, subst, ℕ}
+use Rattle.std.proofs.Common.{◌≡◌}
 use Rattle.std.specs.List.{prefix_len}
-use Rattle.std.specs.Str.{IsCharBoundary}
 use Rattle.rv_asm.specs.Texts.{is_blank}
 use Rattle.rv_asm.proofs.BoundaryLemmas.{front_boundary}
 use Rattle.rv_asm.proofs.texts.without_front.Goals as goal
