@@ -16,7 +16,8 @@ use Rattle.rv_asm.specs.declared.fault.AsmFault.{AsmFault}
 use Rattle.rv_asm.specs.declared.fault.AsmFault.TheVariants.{Line, Memory}
 use Rattle.rv_asm.specs.Lines.{gives_word, label_of, line_word}
 use Rattle.rv_asm.specs.Gives.{Gives}
-use Rattle.rv_asm.specs.Program.{lines_of, is_label, place_from, at_line, words_from, ◌>>=◌}
+use Rattle.rv_asm.specs.Places.{is_label}
+use Rattle.rv_asm.specs.Program.{lines_of, place_from, at_line, words_from, ◌>>=◌}
 
 -- the texts of lines
 abbrev pub texts : List (Bor (List ℕ)) → List (List ℕ)

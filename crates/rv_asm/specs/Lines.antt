@@ -102,8 +102,8 @@ labelled_word places here label statement = do
   mnemonic ← mnemonic_in statement
   name ← (if is_name label then Ok label else Err Form)
   word ← word_by places here (operands_in statement) mnemonic
-  first ← (if is_here here (places name) then Ok word else Err Label)
-  ok_or first Range
+  fitting ← (if is_here here (places name) then Ok word else Err Label)
+  ok_or fitting Range
 
 -- the label of a line, if it has one
 abbrev pub label_of : List ℕ → Option (List ℕ)

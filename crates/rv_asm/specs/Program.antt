@@ -1,7 +1,7 @@
 -- The words of a text, or its first fault.
-use Rattle.std.specs.Prelude.{ℕ, ◌+◌, ◌==◌, Bool, false, List, [], ◌∷◌, if◌then◌else◌, Option, Some, None, Result, Ok, Err}
+use Rattle.std.specs.Prelude.{ℕ, ◌+◌, ◌==◌, List, [], ◌∷◌, if◌then◌else◌, Option, Some, None, Result, Ok, Err}
 use Rattle.std.specs.List.{slice_split}
-use Rattle.std.specs.Str.{bytes_eq}
+use Rattle.rv_asm.specs.Places.{is_label}
 use Rattle.rv_asm.specs.declared.fault.AsmCause.{AsmCause}
 use Rattle.rv_asm.specs.declared.fault.AsmFault.{AsmFault}
 use Rattle.rv_asm.specs.declared.fault.AsmFault.TheVariants.{Line}
@@ -10,11 +10,6 @@ use Rattle.rv_asm.specs.Lines.{gives_word, label_of, line_word}
 -- the lines of a text, each of which ends at an LF or at the text's end
 abbrev pub lines_of : List ℕ → List (List ℕ)
 lines_of text = slice_split (λ b. b == 10) text
-
--- whether a label is this name
-abbrev pub is_label : List ℕ → Option (List ℕ) → Bool
-is_label name None = false
-is_label name (Some label) = bytes_eq label name
 
 -- the place of the first line that gives the label of this name: four bytes for each word before it
 abbrev pub place_from : ℕ → List (List ℕ) → List ℕ → Option ℕ

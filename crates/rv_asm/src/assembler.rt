@@ -1,10 +1,8 @@
 // From a text to its words: once over the lines for the labels, and once for the words.
 ghost use Rattle.std.specs.Prelude.{◌≡◌, ℕ, ◌+◌, ◌*◌, ◌^◌, ◌≤◌, [], ◌∷◌, ◌++◌, List, if◌then◌else◌, Some, None, map, length, IfOk, IfErr, OnOk};
-ghost use Rattle.std.specs.Option.{option_or};
-ghost use Rattle.std.specs.Str.{bytes_eq};
-ghost use Rattle.rv_asm.specs.Places.{place_in};
+ghost use Rattle.rv_asm.specs.Places.{place_in, HasPlaces, with_label};
 ghost use Rattle.rv_asm.specs.Lines.{label_of, line_word};
-ghost use Rattle.rv_asm.specs.Program.{lines_of, is_label, place_from, at_line, words_from, assembled};
+ghost use Rattle.rv_asm.specs.Program.{lines_of, place_from, at_line, words_from, assembled};
 ghost use Rattle.rv_asm.specs.Gives.{Gives};
 
 use crate::fault::AsmFault;
@@ -25,7 +23,7 @@ fn add_label<'a>(
     label: &'a str,
     address: u32,
 ) -> Result<(), AllocError>
-    ensures { OnOk result ((name : List ℕ) → place_in labels.new name ≡ option_or (place_in labels.old name) (if bytes_eq label.now name then Some address else None)) }
+    ensures { OnOk result (HasPlaces labels.new (with_label (place_in labels.old) (Some label.now) address)) }
 {
     if labels.contains_key(&label) {
         return Ok(());
@@ -40,7 +38,7 @@ fn add_label_of<'a>(
     line: &'a str,
     address: u32,
 ) -> Result<(), AllocError>
-    ensures { OnOk result ((name : List ℕ) → place_in labels.new name ≡ option_or (place_in labels.old name) (if is_label name (label_of line.now) then Some address else None)) }
+    ensures { OnOk result (HasPlaces labels.new (with_label (place_in labels.old) (label_of line.now) address)) }
 {
     match label_of(line) {
         Some(label) => add_label(labels, label, address),
@@ -51,7 +49,7 @@ fn add_label_of<'a>(
 /// The address of each label, where the first line that gives it stands.
 fn labels_of<'a>(alloc: Global, lines: &[&'a str]) -> Result<HashMap<&'a str, u32>, AllocError>
     requires { length lines.now ≤ 2 ^ 24 + 1 }
-    ensures { IfOk result (λ labels. (name : List ℕ) → place_in labels name ≡ place_from 0 (map (λ line. line.now) lines.now) name) }
+    ensures { IfOk result (λ labels. HasPlaces labels (place_from 0 (map (λ line. line.now) lines.now))) }
 {
     let mut labels = HashMap::new(alloc);
     let mut address = 0;
@@ -108,9 +106,14 @@ fn words_of(
 
 /// The words of a text's lines, in order.
 ///
-/// A line has a label or not, `label:`, and then one instruction or `.word`; `#` begins a comment. A line
-/// without any of these gives no word. A line ends at an LF, and blanks are space and tab.
-/// `Line` is answered for the first line with a fault. `Memory` comes where memory is wanting alone.
+/// A line ends at an LF or at the text's end. `#` begins a comment, and blanks are space and tab; a line
+/// with nothing else gives no word. Any other line has a label or not, `label:`, and then one instruction
+/// that `decode` knows, or `.word n`, with its operands parted by commas: registers `x0` to `x31`; numbers,
+/// decimal or hexadecimal behind `0x`, with or without `-`; `n(xR)` at loads, stores and `jalr`; a label or
+/// an offset in bytes at branches and `jal`; the upper 20 bits at `lui` and `auipc`; the number of a
+/// control and status register between two operands. Fences stand without operands and have all fields 0.
+///
+/// `Line` is answered for the first line with a fault, and `Memory` where memory is wanting alone.
 pub fn assemble(alloc: Global, text: &str) -> Result<Vec<u32>, AsmFault>
     requires { length text.now ≤ 2 ^ 24 }
     ensures { Gives result (assembled text.now) }

@@ -160,6 +160,7 @@ pub(crate) fn word_of_fields(op: Op, rd: u8, rs1: u8, rs2: u8, imm: u32) -> u32
 fn fits(i: &Instr) -> bool
     ensures { IsTrue result ↔ IsInstr i.now }
 {
+    // any 32 bits may be an immediate
     let _imm = i.imm;
     i.rd < 32 && i.rs1 < 32 && i.rs2 < 32
 }
@@ -188,7 +189,8 @@ fn is_meant(word: u32, i: &Instr) -> bool
     }
 }
 
-/// The word of a valid instruction, the inverse of `decode`.
+/// The word of a valid instruction, with its fields in the places of its format (RISC-V Unprivileged
+/// ISA 20191213, section 2.3). It is the inverse of `decode`.
 pub fn encode(i: &Instr) -> u32
     requires { IsValid i.now }
     ensures meaning { means result ≡ Some i.now }
