@@ -1,2 +1,5 @@
 -- The lemmas of this crate.
 pub mod RoundTrip
+pub mod BoundaryLemmas
+pub mod NumeralLemmas
+pub mod ProgramLemmas

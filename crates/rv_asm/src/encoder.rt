@@ -140,10 +140,27 @@ fn word_of(i: &Instr) -> u32
     }
 }
 
+/// The word of these fields.
+pub(crate) fn word_of_fields(op: Op, rd: u8, rs1: u8, rs2: u8, imm: u32) -> u32
+    requires rd { rd < 32 }
+    requires rs1 { rs1 < 32 }
+    requires rs2 { rs2 < 32 }
+    ensures { result ≡ encoded (record { op = op; rd = rd; rs1 = rs1; rs2 = rs2; imm = imm }) }
+{
+    word_of(&Instr {
+        op,
+        rd,
+        rs1,
+        rs2,
+        imm,
+    })
+}
+
 /// Whether the numbers of the registers are below 32.
 fn fits(i: &Instr) -> bool
     ensures { IsTrue result ↔ IsInstr i.now }
 {
+    // any 32 bits may be an immediate
     let _imm = i.imm;
     i.rd < 32 && i.rs1 < 32 && i.rs2 < 32
 }
@@ -172,7 +189,8 @@ fn is_meant(word: u32, i: &Instr) -> bool
     }
 }
 
-/// The word of a valid instruction, the inverse of `decode`.
+/// The word of a valid instruction, with its fields in the places of its format (RISC-V Unprivileged
+/// ISA 20191213, section 2.3). It is the inverse of `decode`.
 pub fn encode(i: &Instr) -> u32
     requires { IsValid i.now }
     ensures meaning { means result ≡ Some i.now }

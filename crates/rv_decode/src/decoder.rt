@@ -245,7 +245,8 @@ pub fn rows_differ()
 
 /// The bits that a row fixes are those of its instruction, in each word that the row matches.
 pub fn rows_fix_bits()
-    ensures { (word : ℕ) → (op : Op) → word < 2 ^ 32 → op_of word ≡ Some op → fixed_of (format_of op) word ≡ bits_of op }
+    ensures { (word : ℕ) → (op : Op) → word < 2 ^ 32 → op_of word ≡ Some op →
+        fixed_of (format_of op) word ≡ bits_of op }
 {}
 
 /// The fields of a valid instruction fit.

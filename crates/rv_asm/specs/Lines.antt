@@ -1,0 +1,121 @@
+-- The word of a line, or the first of its faults in the order Name, Form, Label, Range.
+use Rattle.std.specs.Prelude.{ℕ, ◌-◌, ◌^◌, ◌==◌, nat_lt, length, drop, Bool, true, false, not, List, if◌then◌else◌, Option, Some, None, Result, Ok, Err}
+use Rattle.std.specs.Option.{option_map, ok_or}
+use Rattle.std.specs.List.{position_or_len, before_first}
+use Rattle.rv_decode.specs.declared.instruction.Op.{Op}
+use Rattle.rv_asm.specs.declared.mnemonics.Mnemonic.{Mnemonic}
+use Rattle.rv_asm.specs.declared.mnemonics.Mnemonic.TheVariants.{Word, Instruction}
+use Rattle.rv_asm.specs.declared.numbers.Number.{Number}
+use Rattle.rv_asm.specs.declared.shapes.Shape.{Shape}
+use Rattle.rv_asm.specs.declared.shapes.Shape.TheVariants.{Registers, Immediate, Shift, Load, Store, Branch, Upper, Jump, Csr, CsrImmediate, Bare}
+use Rattle.rv_asm.specs.declared.fault.AsmCause.{AsmCause}
+use Rattle.rv_asm.specs.declared.fault.AsmCause.TheVariants.{Name, Form, Label, Range}
+use Rattle.rv_asm.specs.Encoded.{encoded}
+use Rattle.rv_asm.specs.Texts.{is_blank, trimmed, cut, with_cut, code_of, is_name}
+use Rattle.rv_asm.specs.Numbers.{number_of, even_in_field}
+use Rattle.rv_asm.specs.Mnemonics.{mnemonic_of}
+use Rattle.rv_asm.specs.Shapes.{shape_of}
+use Rattle.rv_asm.specs.Operands.{register_and, two_registers_and, registers_word, immediate_word, load_word, store_word, upper_word, csr_word, csr_immediate_word, bare_word, directive_word}
+
+infixl 10 ◌>>=◌
+abbrev pub ◌>>=◌ : {A B : Type 0} → Result A AsmCause → (A → Result B AsmCause) → Result B AsmCause
+(Ok x) >>= f = f x
+(Err cause) >>= f = Err cause
+
+-- how far it is from here to there, in bytes
+abbrev pub distance : ℕ → ℕ → Number
+distance here there =
+    if nat_lt there here
+    then record { negative = true; magnitude = here - there }
+    else record { negative = false; magnitude = there - here }
+
+-- the offset of a label, by the address that it has
+abbrev pub offset_by : ℕ → Option ℕ → Result Number AsmCause
+offset_by here None = Err Label
+offset_by here (Some there) = Ok (distance here there)
+
+-- the offset that a target gives, which is a number or else a name
+abbrev pub target_by : (List ℕ → Option ℕ) → ℕ → List ℕ → Option Number → Result Number AsmCause
+target_by places here text None = if is_name text then offset_by here (places text) else Err Form
+target_by places here text (Some number) = Ok number
+
+-- the offset of a target, where labels have these places
+unfoldable pub target_of : (List ℕ → Option ℕ) → ℕ → List ℕ → Result Number AsmCause
+target_of places here text = target_by places here text (number_of text)
+
+-- `rs1, rs2, target`, an even offset of 13 bits
+unfoldable pub branch_word : (List ℕ → Option ℕ) → ℕ → Op → List ℕ → Result (Option ℕ) AsmCause
+branch_word places here op text = do
+  operands ← ok_or (two_registers_and text) Form
+  offset ← target_of places here operands.2
+  Ok (option_map (λ imm. encoded (record { op = op; rd = 0; rs1 = operands.0; rs2 = operands.1; imm = imm })) (even_in_field 4096 4095 offset))
+
+-- `rd, target`, an even offset of 21 bits
+unfoldable pub jump_word : (List ℕ → Option ℕ) → ℕ → Op → List ℕ → Result (Option ℕ) AsmCause
+jump_word places here op text = do
+  rd ← ok_or (register_and text) Form
+  offset ← target_of places here rd.1
+  Ok (option_map (λ imm. encoded (record { op = op; rd = rd.0; rs1 = 0; rs2 = 0; imm = imm })) (even_in_field (2 ^ 20) (2 ^ 20 - 1) offset))
+
+-- the word of an instruction's operands, if its number is in its field
+abbrev pub operands_word : (List ℕ → Option ℕ) → ℕ → Op → List ℕ → Shape → Result (Option ℕ) AsmCause
+operands_word places here op text Registers = ok_or (registers_word op text) Form
+operands_word places here op text Immediate = ok_or (immediate_word op 2048 2047 text) Form
+operands_word places here op text Shift = ok_or (immediate_word op 0 31 text) Form
+operands_word places here op text Load = ok_or (load_word op text) Form
+operands_word places here op text Store = ok_or (store_word op text) Form
+operands_word places here op text Branch = branch_word places here op text
+operands_word places here op text Upper = ok_or (upper_word op text) Form
+operands_word places here op text Jump = jump_word places here op text
+operands_word places here op text Csr = ok_or (csr_word op text) Form
+operands_word places here op text CsrImmediate = ok_or (csr_immediate_word op text) Form
+operands_word places here op text Bare = ok_or (bare_word op text) Form
+
+abbrev pub word_by : (List ℕ → Option ℕ) → ℕ → List ℕ → Mnemonic → Result (Option ℕ) AsmCause
+word_by places here text Word = ok_or (directive_word text) Form
+word_by places here text (Instruction op) = operands_word places here op text (shape_of op)
+
+-- the first word of a statement
+unfoldable pub mnemonic_in : List ℕ → Result Mnemonic AsmCause
+mnemonic_in statement =
+    if length statement == 0 then Err Form else ok_or (mnemonic_of (before_first is_blank statement)) Name
+
+-- what follows it
+unfoldable pub operands_in : List ℕ → List ℕ
+operands_in statement = trimmed (drop (position_or_len is_blank statement) statement)
+
+-- a line without a label
+unfoldable pub plain_word : (List ℕ → Option ℕ) → ℕ → List ℕ → Result ℕ AsmCause
+plain_word places here statement = do
+  mnemonic ← mnemonic_in statement
+  word ← word_by places here (operands_in statement) mnemonic
+  ok_or word Range
+
+-- whether the place is here
+abbrev pub is_here : ℕ → Option ℕ → Bool
+is_here here None = false
+is_here here (Some there) = there == here
+
+-- a line with a label. Each line with a label gives a word, so a label whose place is elsewhere is given by an earlier line.
+unfoldable pub labelled_word : (List ℕ → Option ℕ) → ℕ → List ℕ → List ℕ → Result ℕ AsmCause
+labelled_word places here label statement = do
+  mnemonic ← mnemonic_in statement
+  name ← (if is_name label then Ok label else Err Form)
+  word ← word_by places here (operands_in statement) mnemonic
+  fitting ← (if is_here here (places name) then Ok word else Err Label)
+  ok_or fitting Range
+
+-- the label of a line, if it has one
+abbrev pub label_of : List ℕ → Option (List ℕ)
+label_of line = option_map (λ x. trimmed x.0) (cut 58 (code_of line))
+
+-- the word of a line that is not blank, where labels have these places
+unfoldable pub line_word : (List ℕ → Option ℕ) → ℕ → List ℕ → Result ℕ AsmCause
+line_word places here line =
+    with_cut (cut 58 (code_of line))
+    (plain_word places here (trimmed (code_of line)))
+    (λ label statement. labelled_word places here (trimmed label) (trimmed statement))
+
+-- whether a line has more than blanks and a comment
+unfoldable pub gives_word : List ℕ → Bool
+gives_word line = not (length (trimmed (code_of line)) == 0)

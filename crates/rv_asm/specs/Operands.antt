@@ -1,0 +1,115 @@
+-- The word that an instruction's operands give: of another shape (Form), or with a number outside its field (None).
+use Rattle.std.specs.Prelude.{ℕ, ◌-◌, ◌*◌, ◌^◌, ◌==◌, length, List, if◌then◌else◌, Option, Some, None}
+use Rattle.std.specs.Option.{option_map, option_and_then}
+use Rattle.rv_decode.specs.declared.instruction.Op.{Op}
+use Rattle.rv_asm.specs.declared.numbers.Number.{Number}
+use Rattle.rv_asm.specs.Encoded.{encoded}
+use Rattle.rv_asm.specs.Texts.{trimmed, cut, register_of}
+use Rattle.rv_asm.specs.Numbers.{number_of, in_field}
+
+infixl 10 ◌>>=◌
+abbrev pub ◌>>=◌ : {A B : Type 0} → Option A → (A → Option B) → Option B
+o >>= f = option_and_then f o
+
+-- the first operand and what follows its comma, without blanks around them
+unfoldable pub operand_and : List ℕ → Option (List ℕ × List ℕ)
+operand_and text = option_map (λ x. (trimmed x.0, trimmed x.1)) (cut 44 text)
+
+-- a register, and what follows its comma
+unfoldable pub register_and : List ℕ → Option (ℕ × List ℕ)
+register_and text = do
+  parts ← operand_and text
+  register ← register_of parts.0
+  Some (register, parts.1)
+
+-- a number, and what follows its comma
+unfoldable pub number_and : List ℕ → Option (Number × List ℕ)
+number_and text = do
+  parts ← operand_and text
+  number ← number_of parts.0
+  Some (number, parts.1)
+
+-- `number(register)`
+unfoldable pub place_of : List ℕ → Option (Number × ℕ)
+place_of text = do
+  parts ← cut 40 text
+  inside ← cut 41 parts.1
+  number ← number_of parts.0
+  base ← register_of inside.0
+  if length inside.1 == 0 then Some (number, base) else None
+
+-- `rd, rs1, rs2`
+unfoldable pub registers_word : Op → List ℕ → Option (Option ℕ)
+registers_word op text = do
+  rd ← register_and text
+  rs1 ← register_and rd.1
+  rs2 ← register_of rs1.1
+  Some (Some (encoded (record { op = op; rd = rd.0; rs1 = rs1.0; rs2 = rs2; imm = 0 })))
+
+-- `rd, rs1, number`, the number from -least to greatest
+unfoldable pub immediate_word : Op → ℕ → ℕ → List ℕ → Option (Option ℕ)
+immediate_word op least greatest text = do
+  rd ← register_and text
+  rs1 ← register_and rd.1
+  number ← number_of rs1.1
+  Some (option_map (λ imm. encoded (record { op = op; rd = rd.0; rs1 = rs1.0; rs2 = 0; imm = imm })) (in_field least greatest number))
+
+-- `rd, number(rs1)`
+unfoldable pub load_word : Op → List ℕ → Option (Option ℕ)
+load_word op text = do
+  rd ← register_and text
+  place ← place_of rd.1
+  Some (option_map (λ imm. encoded (record { op = op; rd = rd.0; rs1 = place.1; rs2 = 0; imm = imm })) (in_field 2048 2047 place.0))
+
+-- `rs2, number(rs1)`
+unfoldable pub store_word : Op → List ℕ → Option (Option ℕ)
+store_word op text = do
+  rs2 ← register_and text
+  place ← place_of rs2.1
+  Some (option_map (λ imm. encoded (record { op = op; rd = 0; rs1 = place.1; rs2 = rs2.0; imm = imm })) (in_field 2048 2047 place.0))
+
+-- `rd, number`, the upper 20 bits
+unfoldable pub upper_word : Op → List ℕ → Option (Option ℕ)
+upper_word op text = do
+  rd ← register_and text
+  number ← number_of rd.1
+  Some (option_map (λ upper. encoded (record { op = op; rd = rd.0; rs1 = 0; rs2 = 0; imm = upper * 2 ^ 12 })) (in_field 0 0xFFFFF number))
+
+-- `rd, number, rs1`, the number of a control and status register
+unfoldable pub csr_word : Op → List ℕ → Option (Option ℕ)
+csr_word op text = do
+  rd ← register_and text
+  csr ← number_and rd.1
+  rs1 ← register_of csr.1
+  Some (option_map (λ imm. encoded (record { op = op; rd = rd.0; rs1 = rs1; rs2 = 0; imm = imm })) (in_field 0 4095 csr.0))
+
+-- both numbers of an access with an immediate, which stands in the place of rs1
+abbrev pub csr_immediate_fields : Op → ℕ → Number → Number → Option ℕ
+csr_immediate_fields op rd csr value = do
+  imm ← in_field 0 4095 csr
+  rs1 ← in_field 0 31 value
+  Some (encoded (record { op = op; rd = rd; rs1 = rs1; rs2 = 0; imm = imm }))
+
+-- `rd, number, number`
+unfoldable pub csr_immediate_word : Op → List ℕ → Option (Option ℕ)
+csr_immediate_word op text = do
+  rd ← register_and text
+  csr ← number_and rd.1
+  value ← number_of csr.1
+  Some (csr_immediate_fields op rd.0 csr.0 value)
+
+-- no operands
+unfoldable pub bare_word : Op → List ℕ → Option (Option ℕ)
+bare_word op text =
+    if length text == 0 then Some (Some (encoded (record { op = op; rd = 0; rs1 = 0; rs2 = 0; imm = 0 }))) else None
+
+-- `.word number`, of 32 bits with or without a sign
+unfoldable pub directive_word : List ℕ → Option (Option ℕ)
+directive_word text = option_map (λ number. in_field (2 ^ 31) (2 ^ 32 - 1) number) (number_of text)
+
+-- two registers, and what follows the second's comma
+unfoldable pub two_registers_and : List ℕ → Option (ℕ × ℕ × List ℕ)
+two_registers_and text = do
+  rs1 ← register_and text
+  rs2 ← register_and rs1.1
+  Some (rs1.0, rs2.0, rs2.1)

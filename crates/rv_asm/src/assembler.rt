@@ -1,0 +1,131 @@
+// From a text to its words: once over the lines for the labels, and once for the words.
+ghost use Rattle.std.specs.Prelude.{◌≡◌, ℕ, ◌+◌, ◌*◌, ◌^◌, ◌≤◌, [], ◌∷◌, ◌++◌, List, if◌then◌else◌, Some, None, map, length, IfOk, IfErr, OnOk};
+ghost use Rattle.rv_asm.specs.Places.{place_in, HasPlaces, with_label};
+ghost use Rattle.rv_asm.specs.Lines.{label_of, line_word};
+ghost use Rattle.rv_asm.specs.Program.{lines_of, place_from, at_line, words_from, assembled};
+ghost use Rattle.rv_asm.specs.Gives.{Gives};
+
+use crate::fault::AsmFault;
+use crate::lines::{gives_word, label_of, line_word};
+use std::alloc::{AllocError, Global};
+use std::collections::HashMap;
+
+/// The lines of a text.
+fn lines_of(alloc: Global, text: &str) -> Result<Vec<&str>, AllocError>
+    ensures { IfOk result (λ lines. map (λ line. line.now) lines.items ≡ lines_of text.now) }
+{
+    text.split('\n').collect(alloc)
+}
+
+/// Gives the label this address, unless it has one.
+fn add_label<'a>(
+    labels: &mut HashMap<&'a str, u32>,
+    label: &'a str,
+    address: u32,
+) -> Result<(), AllocError>
+    ensures { OnOk result (HasPlaces labels.new (with_label (place_in labels.old) (Some label.now) address)) }
+{
+    if labels.contains_key(&label) {
+        return Ok(());
+    }
+    labels.insert(label, address)?;
+    Ok(())
+}
+
+/// Gives the line's label this address, unless it has one.
+fn add_label_of<'a>(
+    labels: &mut HashMap<&'a str, u32>,
+    line: &'a str,
+    address: u32,
+) -> Result<(), AllocError>
+    ensures { OnOk result (HasPlaces labels.new (with_label (place_in labels.old) (label_of line.now) address)) }
+{
+    match label_of(line) {
+        Some(label) => add_label(labels, label, address),
+        None => Ok(()),
+    }
+}
+
+/// The address of each label, where the first line that gives it stands.
+fn labels_of<'a>(alloc: Global, lines: &[&'a str]) -> Result<HashMap<&'a str, u32>, AllocError>
+    requires { length lines.now ≤ 2 ^ 24 + 1 }
+    ensures { IfOk result (λ labels. HasPlaces labels (place_from 0 (map (λ line. line.now) lines.now))) }
+{
+    let mut labels = HashMap::new(alloc);
+    let mut address = 0;
+    for line in lines {
+        if gives_word(line) {
+            add_label_of(&mut labels, line, address)?;
+            address += 4;
+        }
+    }
+    Ok(labels)
+}
+
+/// The word of the line with this number.
+fn word_at(labels: &HashMap<&str, u32>, n: u32, address: u32, line: &str) -> Result<u32, AsmFault>
+    ensures { result ≡ at_line n (line_word (place_in labels.now) address line.now) }
+{
+    match line_word(labels, address, line) {
+        Ok(word) => Ok(word),
+        Err(cause) => Err(AsmFault::Line { n, cause }),
+    }
+}
+
+/// Puts the word behind the others.
+fn push_word(words: &mut Vec<u32>, word: u32) -> Result<(), AsmFault>
+    ensures ok { OnOk result (words.new.items ≡ words.old.items ++ word ∷ []) }
+    ensures err { IfErr result (λ fault. fault ≡ AsmFault.Memory) }
+{
+    match words.push(word) {
+        Ok(()) => Ok(()),
+        Err(_) => Err(AsmFault::Memory),
+    }
+}
+
+/// The words of the lines.
+fn words_of(
+    alloc: Global,
+    labels: &HashMap<&str, u32>,
+    lines: &[&str],
+) -> Result<Vec<u32>, AsmFault>
+    requires { length lines.now ≤ 2 ^ 24 + 1 }
+    ensures { Gives result (words_from (place_in labels.now) 1 0 (map (λ line. line.now) lines.now)) }
+{
+    let mut words = Vec::new(alloc);
+    let mut address = 0;
+    for (i, line) in lines.iter().enumerate() {
+        if gives_word(line) {
+            let word = word_at(labels, i as u32 + 1, address, line)?;
+            push_word(&mut words, word)?;
+            address += 4;
+        }
+    }
+    Ok(words)
+}
+
+/// The words of a text's lines, in order.
+///
+/// A line ends at an LF or at the text's end. `#` begins a comment, and blanks are space and tab; a line
+/// with nothing else gives no word. Any other line has a label or not, `label:`, and then one instruction
+/// that `decode` knows, or `.word n`, with its operands parted by commas: registers `x0` to `x31`; numbers,
+/// decimal or hexadecimal behind `0x`, with or without `-`; `n(xR)` at loads, stores and `jalr`; a label or
+/// an offset in bytes at branches and `jal`; the upper 20 bits at `lui` and `auipc`; the number of a
+/// control and status register between two operands. Fences stand without operands and have all fields 0.
+///
+/// `Line` is answered for the first line with a fault, and `Memory` where memory is wanting alone.
+pub fn assemble(alloc: Global, text: &str) -> Result<Vec<u32>, AsmFault>
+    requires { length text.now ≤ 2 ^ 24 }
+    ensures { Gives result (assembled text.now) }
+{
+    let Ok(lines) = lines_of(alloc, text) else {
+        return Err(AsmFault::Memory);
+    };
+    let Ok(labels) = labels_of(alloc, &lines) else {
+        return Err(AsmFault::Memory);
+    };
+    words_of(alloc, &labels, &lines)
+}
+
+#[cfg(test)]
+mod tests;

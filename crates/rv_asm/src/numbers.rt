@@ -1,0 +1,104 @@
+// Numbers in a text, and the fields that they fit.
+ghost use Rattle.std.specs.Prelude.{◌≡◌, ◌^◌, ◌≤◌, ◌<◌, length, IfSome};
+ghost use Rattle.std.specs.List.{list_all};
+ghost use Rattle.std.specs.Char.{is_ascii_digit, is_ascii_hexdigit};
+ghost use Rattle.rv_asm.specs.Numbers.{numeral, magnitude_of, number_of, in_field, even_in_field};
+
+/// A number: its sign, and its magnitude up to 2^64 - 1, which stands for those above too.
+#[derive(Clone, Copy, PartialEq, Eq, Debug)]
+pub(crate) struct Number {
+    pub(crate) negative: bool,
+    pub(crate) magnitude: u64,
+}
+
+fn are_digits(text: &str) -> bool
+    ensures { result ≡ list_all is_ascii_digit text.now }
+{
+    text.bytes().all(|b| b.is_ascii_digit())
+}
+
+fn are_hexadecimal_digits(text: &str) -> bool
+    ensures { result ≡ list_all is_ascii_hexdigit text.now }
+{
+    text.bytes().all(|b| b.is_ascii_hexdigit())
+}
+
+fn decimal(text: &str) -> Option<u64>
+    ensures { result ≡ numeral is_ascii_digit 10 text.now }
+{
+    if text.is_empty() || !are_digits(text) {
+        return None;
+    }
+    Some(u64::from_str_radix(text, 10).unwrap_or(u64::MAX))
+}
+
+fn hexadecimal(text: &str) -> Option<u64>
+    ensures { result ≡ numeral is_ascii_hexdigit 16 text.now }
+{
+    if text.is_empty() || !are_hexadecimal_digits(text) {
+        return None;
+    }
+    Some(u64::from_str_radix(text, 16).unwrap_or(u64::MAX))
+}
+
+fn magnitude_of(text: &str) -> Option<u64>
+    ensures { result ≡ magnitude_of text.now }
+{
+    match text.strip_prefix("0x") {
+        Some(digits) => hexadecimal(digits),
+        None => decimal(text),
+    }
+}
+
+/// The number that the text writes.
+pub(crate) fn number_of(text: &str) -> Option<Number>
+    ensures { result ≡ number_of text.now }
+{
+    match text.strip_prefix("-") {
+        Some(digits) => {
+            let magnitude = magnitude_of(digits)?;
+            Some(Number {
+                negative: true,
+                magnitude,
+            })
+        }
+        None => {
+            let magnitude = magnitude_of(text)?;
+            Some(Number {
+                negative: false,
+                magnitude,
+            })
+        }
+    }
+}
+
+impl Number {
+    /// The number as 32 bits, if it is from -least to greatest.
+    pub(crate) fn in_field(self, least: u32, greatest: u32) -> Option<u32>
+        ensures { result ≡ in_field least greatest self }
+    {
+        if !self.negative {
+            return if self.magnitude <= u64::from(greatest) {
+                Some(self.magnitude as u32)
+            } else {
+                None
+            };
+        }
+        if self.magnitude <= u64::from(least) {
+            Some(0u32.wrapping_sub(self.magnitude as u32))
+        } else {
+            None
+        }
+    }
+
+    /// The same, if the number is even.
+    pub(crate) fn even_in_field(self, least: u32, greatest: u32) -> Option<u32>
+        ensures { result ≡ even_in_field least greatest self }
+    {
+        if self.magnitude % 2 == 0 {
+            self.in_field(least, greatest)
+        } else {
+            None
+        }
+    }
+}
