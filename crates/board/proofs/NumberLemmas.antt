@@ -4,18 +4,19 @@ use Rattle.std.specs.Prelude.{if◌then◌else◌}
 use Rattle.std.proofs.lemmas.List.{map-append, length-map}
 use Rattle.lab_num.specs.declared.key.Key.{Key}
 use Rattle.lab_num.specs.Paid.{slot_at}
-use Rattle.board.specs.Core.{Core}
+use Rattle.rv_hart.specs.Core.{Core, ticked}
 use Rattle.board.specs.Space.{uart_base, memory_base, in_memory, in_uart, put_value}
-use Rattle.board.specs.Wires.{Wires, sent, posted, entered, fetched}
-use Rattle.board.specs.Effect.{Effect, Done, Store, effect_of, core_after, wires_after}
+use Rattle.board.specs.Wires.{Wires, sent, posted, entered, fetched, answer}
+use Rattle.rv_exec.specs.Effect.{Effect, Done, Load, Store, effect_of_fetch}
+use Rattle.board.specs.Uart.{Uart, uart_loaded}
 use Rattle.board.specs.View.{View, State, wires_of, state_of, after}
-use Rattle.board.specs.Slot.{slot, quiet, carried_out, instruction}
+use Rattle.board.specs.Slot.{slot, quiet, idle, no_lines, carried_out, instruction}
 use Rattle.board.specs.Stretch.{stretch, go_on}
 use Rattle.board.specs.Numbered.{AreNumbered, IsNumbered}
 
 -- nothing was made
-numbered_none : (v : View) (n : ℕ) (core : Core) (memory : List ℕ) → IsNumbered v n (quiet (record v { core = core; memory = memory }))
-numbered_none v n core memory = record {
+numbered_none : (v : View) (n : ℕ) (core : Core) (memory : List ℕ) (uart : Uart) → IsNumbered v n (quiet (record v { core = core; memory = memory; uart = uart }))
+numbered_none v n core memory uart = record {
   number = refl;
   speed = refl;
   posted = omega arith;
@@ -57,24 +58,32 @@ numbered_sent v t byte core posts entries = chosen v.shown
 
 numbered_effect :
     (v : View) (t : ℕ) (effect : Effect) → v.posted + 1 < 2 ^ 64 → v.entered + 1 < 2 ^ 64 → IsNumbered v 1 (carried_out v.speed (wires_of v t) effect)
-numbered_effect v t (Done core) posts entries = numbered_none v 1 core v.memory
+numbered_effect v t (Done core) posts entries = numbered_none v 1 core v.memory v.uart
+numbered_effect v t (Load at width complete) posts entries = chosen (in_memory v.memory at width) (in_uart at width)
+  where
+    chosen : (first second : Bool) → IsNumbered v 1 (state_of v.speed (complete (answer (wires_of v t) at width))
+        (if first then wires_of v t else if second then record (wires_of v t) { uart = uart_loaded v.uart (at - uart_base) } else wires_of v t))
+    chosen true second = numbered_none v 1 (complete (answer (wires_of v t) at width)) v.memory v.uart
+    chosen false true = numbered_none v 1 (complete (answer (wires_of v t) at width)) v.memory (uart_loaded v.uart (at - uart_base))
+    chosen false false = numbered_none v 1 (complete (answer (wires_of v t) at width)) v.memory v.uart
 numbered_effect v t (Store at width value core) posts entries =
     chosen (in_memory v.memory at width) (in_uart at width && (at == uart_base))
   where
     chosen : (first second : Bool) → IsNumbered v 1 (state_of v.speed core
         (if first then record (wires_of v t) { memory = put_value v.memory (at - memory_base) width value }
         else if second then sent (wires_of v t) (value % 0x100) else wires_of v t))
-    chosen true second = numbered_none v 1 core (put_value v.memory (at - memory_base) width value)
+    chosen true second = numbered_none v 1 core (put_value v.memory (at - memory_base) width value) v.uart
     chosen false true = numbered_sent v t (value % 0x100) core posts entries
-    chosen false false = numbered_none v 1 core v.memory
+    chosen false false = numbered_none v 1 core v.memory v.uart
 
 numbered_slot : (v : View) (t : ℕ) → v.posted + 1 < 2 ^ 64 → v.entered + 1 < 2 ^ 64 → IsNumbered v 1 (slot v t)
 unfolding slot
-numbered_slot v t posts entries = chosen v.core.halted
+numbered_slot v t posts entries = chosen v.core.halted v.core.waiting
   where
-    chosen : (halted : Bool) → IsNumbered v 1 (if halted then quiet v else instruction v (wires_of v t))
-    chosen true = numbered_none v 1 v.core v.memory
-    chosen false = numbered_effect v t (effect_of v.core (fetched (wires_of v t) v.core.pc)) posts entries
+    chosen : (halted waiting : Bool) → IsNumbered v 1 (if halted then quiet v else if waiting then idle v else instruction v (wires_of v t))
+    chosen true waiting = numbered_none v 1 v.core v.memory v.uart
+    chosen false true = numbered_none v 1 (ticked v.core) v.memory v.uart
+    chosen false false = numbered_effect v t (effect_of_fetch v.core (fetched (wires_of v t) v.core.pc) no_lines) posts entries
 
 -- keys that come behind others go on with the numbers
 AreNumbered-append : (board first : ℕ) (xs ys : List Key) → AreNumbered board first xs → AreNumbered board (first + length xs) ys → AreNumbered board first (xs ++ ys)
@@ -106,7 +115,7 @@ numbered_after v m n run more first second = record {
 -- a stretch numbers what it makes
 pub numbered_stretch : (v : View) (from a n : ℕ) → v.posted + n < 2 ^ 64 → v.entered + n < 2 ^ 64 → IsNumbered v n (stretch v from a n)
 unfolding stretch
-numbered_stretch v from a zero posts entries = numbered_none v 0 v.core v.memory
+numbered_stretch v from a zero posts entries = numbered_none v 0 v.core v.memory v.uart
 numbered_stretch v from a (suc n) posts entries =
     let run = numbered_stretch v from a n (omega arith) (omega arith) in
     let more = numbered_slot (stretch v from a n).view (slot_at from v.speed (a + n)) (omega (arith, run.posted, run.few_posts)) (omega (arith, run.entered, run.few_entries)) in

@@ -1,5 +1,6 @@
 -- The board in its early form at lab time 0.
-use Rattle.std.specs.Prelude.{ℕ, false, List, [], replicate}
+use Rattle.std.specs.Prelude.{ℕ, false, List, replicate}
+use Rattle.rv_hart.specs.Core.{initial}
 use Rattle.board.specs.Space.{memory_base}
 use Rattle.board.specs.Uart.{silent}
 use Rattle.board.specs.View.{View}
@@ -15,7 +16,7 @@ unfoldable pub early : ℕ → View
 early number = record {
   number = number;
   speed = 1;
-  core = record { x = replicate 32 0; pc = memory_base; halted = false };
+  core = record initial { pc = memory_base };
   memory = zeros 0x10000;
   uart = silent;
   shown = false;

@@ -1,5 +1,3 @@
-pub mod Core
-pub mod Effect
 pub mod Space
 pub mod Uart
 pub mod Wires

@@ -2,7 +2,7 @@
 use Rattle.std.specs.Prelude.{◌≡◌, ℕ, ◌+◌, Bool, List, [], ◌∷◌, ◌++◌}
 use Rattle.lab_num.specs.declared.post.Post.{Post}
 use Rattle.lab_num.specs.declared.post.Entry.{Entry}
-use Rattle.board.specs.Core.{Core}
+use Rattle.rv_hart.specs.Core.{Core}
 use Rattle.board.specs.Uart.{Uart}
 use Rattle.board.specs.Wires.{Wires}
 

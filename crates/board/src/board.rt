@@ -1,12 +1,12 @@
 //! The board: its slots, and what they make.
-ghost use Rattle.std.specs.Prelude.{◌≡◌, ◌≢◌, ◌+◌, ◌-◌, ◌/◌, ◌%◌, ◌^◌, ◌<◌, ◌≤◌, ◌++◌, [], true, length, drop, slice_get, take, OnOk, OnErr, IfOk, IfSome, IsTrue};
+ghost use Rattle.std.specs.Prelude.{◌≡◌, ◌≢◌, ◌+◌, ◌-◌, ◌/◌, ◌%◌, ◌^◌, ◌<◌, ◌≤◌, ◌++◌, [], true, length, drop, slice_get, take, OnOk, OnErr, IfOk, IsTrue, Some, None, ◌==◌, ◌&&◌, if◌then◌else◌};
 
-use crate::hart::Hart;
 use crate::memory::{MEMORY_BASE, Memory};
-use crate::step::step;
 use crate::uart::{EarlyUart, Taken};
 use crate::wires::Wires;
 use lab_num::{BoardNo, Entry, Micros, NoMemory, Payload, Post};
+use rv_exec::step;
+use rv_hart::{Hart, Lines};
 use std::alloc::Global;
 use std::collections::VecDeque;
 use std::marker::Model;
@@ -14,6 +14,9 @@ use std::mem;
 
 /// Bytes of memory.
 const MEMORY_SIZE: usize = 0x1_0000;
+
+/// What the interrupt lines and the timer show: nothing is wired to the processor's pins yet.
+const NO_LINES: Lines = Lines { mip: 0, mtime: 0 };
 
 /// Where a turn begins: slot `first` of the grant that begins at microsecond `from`.
 #[derive(Clone, Copy, PartialEq, Eq, Debug)]
@@ -53,11 +56,11 @@ impl Model for Board {
 
 impl Board {
     ghost use Rattle.board.specs.Early.{early};
-    ghost use Rattle.board.specs.Space.{memory_base, in_memory, put_bytes};
+    ghost use Rattle.board.specs.Space.{memory_base, in_memory, value_at, put_bytes};
     ghost use Rattle.board.specs.Taken.{taken_by, handed};
     ghost use Rattle.board.specs.View.{View, State, after, wires_of, state_of};
     ghost use Rattle.board.specs.Slot.{quiet, slot, instruction, carried_out};
-    ghost use Rattle.board.specs.Effect.{effect_by};
+    ghost use Rattle.rv_hart.specs.Core.{reg};
     ghost use Rattle.board.specs.Stretch.{IsTurn};
 
     /// A board of this number in its early form, at lab time 0: one instruction a microsecond, 64 KiB of memory at
@@ -71,9 +74,11 @@ impl Board {
         ensures entered { IfOk result (λ board. board.view.entered ≡ 0) }
     {
         let memory = Memory::new(alloc, MEMORY_SIZE)?;
+        let mut hart = Hart::new();
+        hart.set_pc(MEMORY_BASE);
         Ok(Board {
             speed: 1,
-            hart: Hart::at(MEMORY_BASE),
+            hart,
             wires: Wires {
                 number,
                 at: Micros(0),
@@ -120,11 +125,18 @@ impl Board {
         ensures speed { self.new.view.speed ≡ self.old.view.speed }
         ensures err { OnErr result (self.new ≡ self.old) }
     {
-        if self.hart.is_halted() {
+        if self.hart.halted() {
+            return Ok(());
+        }
+        if self.hart.waiting() {
+            self.hart.tick();
             return Ok(());
         }
         self.wires.begin_slot(at);
-        step(&mut self.hart, &mut self.wires)
+        let Ok(()) = step(&mut self.hart, &mut self.wires, NO_LINES) else {
+            return Err(NoMemory);
+        };
+        Ok(())
     }
 
     /// Hands what another board has sent to a device. The early board has one device, its UART, as number 0.
@@ -194,5 +206,52 @@ impl Board {
         ensures { self.new ≡ record self.old { view = record self.old.view { core = record self.old.view.core { pc = pc } } } }
     {
         self.hart.set_pc(pc);
+    }
+
+    /// The address of the next instruction.
+    pub fn pc(&self) -> u32
+        ensures { result ≡ self.now.view.core.pc }
+    {
+        self.hart.pc()
+    }
+
+    /// Whether the processor is halted: its slots pass and change nothing.
+    pub fn halted(&self) -> bool
+        ensures { result ≡ self.now.view.core.halted }
+    {
+        self.hart.halted()
+    }
+
+    /// Halts the processor, or lets it run.
+    pub fn set_halted(&mut self, on: bool)
+        ensures { self.new ≡ record self.old { view = record self.old.view { core = record self.old.view.core { halted = on } } } }
+    {
+        self.hart.set_halted(on);
+    }
+
+    /// What a register reads.
+    pub fn register(&self, n: u8) -> u32
+        requires { n < 32 }
+        ensures { result ≡ reg self.now.view.core n }
+    {
+        self.hart.register(n)
+    }
+
+    /// How many instructions the processor has retired, by its CSR minstret.
+    pub fn retired(&self) -> u64
+        ensures { result ≡ self.now.view.core.minstret }
+    {
+        self.hart.state().minstret
+    }
+
+    /// The word of memory at an address. None exactly where the address is not a multiple of 4 or the memory does not hold
+    /// all four bytes.
+    pub fn load_word(&self, at: u32) -> Option<u32>
+        ensures { result ≡ (if (at % 4 == 0) && in_memory self.now.view.memory at 4 then Some (value_at self.now.view.memory (at - memory_base) 4) else None) }
+    {
+        if at % 4 != 0 || !self.wires.memory.holds(at, 4) {
+            return None;
+        }
+        Some(self.wires.memory.load(at, 4))
     }
 }

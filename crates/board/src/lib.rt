@@ -2,13 +2,11 @@
 #![tactic(auto)]
 
 mod board;
-mod hart;
+mod laws;
 mod memory;
-mod step;
-mod turns;
 mod uart;
 mod wires;
 
 pub use board::{Board, SlotAt, Turn};
-pub use turns::{stretches_join, stretches_number, turns_join};
+pub use laws::{early_memory_is_64_kib, stretches_join, stretches_number, turns_join};
 pub use uart::Taken;

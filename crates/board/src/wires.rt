@@ -5,7 +5,8 @@ ghost use Rattle.board.specs.Space.{in_uart, uart_base};
 
 use crate::memory::Memory;
 use crate::uart::EarlyUart;
-use lab_num::{BoardNo, Entry, Key, Member, Micros, NoMemory, Payload, Post, PostNo, What};
+use lab_num::{BoardNo, Entry, Key, Member, Micros, Payload, Post, PostNo, What};
+use rv_exec::{Bus, NoMemory as OutOfMemory};
 use std::collections::VecDeque;
 use std::marker::Model;
 
@@ -59,58 +60,17 @@ impl Wires {
         self.at = at;
     }
 
-    /// The word at an address. None exactly where the memory does not hold all four bytes.
-    pub fn fetch(&self, at: u32) -> Option<u32>
-        ensures { result ≡ fetched self.now at }
-    {
-        if !self.memory.holds(at, 4) {
-            return None;
-        }
-        Some(self.memory.load(at, 4))
-    }
-
-    /// Loads 1, 2 or 4 bytes: of the memory, or the UART's register at that address, or 0.
-    pub fn load(&mut self, at: u32, width: u8) -> u32
-        requires { (width ≡ 1) ⊎ (width ≡ 2) ⊎ (width ≡ 4) }
-        ensures answer { result ≡ answer self.old at width }
-        ensures after { self.new ≡ loaded self.old at width }
-    {
-        if self.memory.holds(at, usize::from(width)) {
-            return self.memory.load(at, width);
-        }
-        match uart_register(at, width) {
-            Some(register) => u32::from(self.uart.load(register)),
-            None => 0,
-        }
-    }
-
-    /// Stores 1, 2 or 4 bytes into the memory, or sends the lowest by the UART's register 0, or does nothing.
-    /// After an `Err` all is as before.
-    pub fn store(&mut self, at: u32, width: u8, value: u32) -> Result<(), NoMemory>
-        requires { (width ≡ 1) ⊎ (width ≡ 2) ⊎ (width ≡ 4) }
-        ensures ok { OnOk result (self.new ≡ stored self.old at width value) }
-        ensures err { OnErr result (self.new ≡ self.old) }
-    {
-        if self.memory.holds(at, usize::from(width)) {
-            self.memory.store(at, width, value);
-            return Ok(());
-        }
-        match uart_register(at, width) {
-            Some(0) => self.send((value % 0x100) as u8),
-            _ => Ok(()),
-        }
-    }
-
     /// Sends a byte by the UART: a post, and an entry where the UART is shown.
     #[tactic(auto, unfolding(crate::specs::Wires::sent))]
-    fn send(&mut self, byte: u8) -> Result<(), NoMemory>
+    fn send(&mut self, byte: u8) -> Result<(), OutOfMemory>
         ensures ok { OnOk result (self.new ≡ sent self.old byte) }
         ensures err { OnErr result (self.new ≡ self.old) }
     {
         let post = self.post_of(byte);
         let entry = self.entry_of(byte);
-        self.entries.reserve(1)?;
-        self.posts.push_back(post)?;
+        if self.entries.reserve(1).is_err() || self.posts.push_back(post).is_err() {
+            return Err(OutOfMemory);
+        }
         self.posted = self.posted.saturating_add(1);
         if self.shown {
             let Ok(()) = self.entries.push(entry) else {
@@ -154,6 +114,46 @@ impl Wires {
             at: self.at,
             board: self.number,
             number: PostNo(number),
+        }
+    }
+}
+
+impl Bus for Wires {
+    ghost fetched = { fetched };
+
+    ghost answer = { answer };
+
+    ghost loaded = { loaded };
+
+    ghost stored = { stored };
+
+    fn fetch(&mut self, at: u32) -> Option<u32> {
+        if !self.memory.holds(at, 4) {
+            return None;
+        }
+        Some(self.memory.load(at, 4))
+    }
+
+    /// Loads from the memory, or the UART's register at the address, or 0. It is never refused.
+    fn load(&mut self, at: u32, width: u8) -> Result<u32, OutOfMemory> {
+        if self.memory.holds(at, usize::from(width)) {
+            return Ok(self.memory.load(at, width));
+        }
+        match uart_register(at, width) {
+            Some(register) => Ok(u32::from(self.uart.load(register))),
+            None => Ok(0),
+        }
+    }
+
+    /// Stores into the memory, or sends the lowest byte by the UART's register 0, or does nothing.
+    fn store(&mut self, at: u32, width: u8, value: u32) -> Result<(), OutOfMemory> {
+        if self.memory.holds(at, usize::from(width)) {
+            self.memory.store(at, width, value);
+            return Ok(());
+        }
+        match uart_register(at, width) {
+            Some(0) => self.send((value % 0x100) as u8),
+            _ => Ok(()),
         }
     }
 }

@@ -19,8 +19,11 @@ pub fn key_laws()
 /// are a listing of them, as is every other way to sort them by key; and whatever is a listing of
 /// them is that list.
 pub fn listing_laws<T>()
-    ensures is_listing { (key : T → Key) (items : List T) → KeysDiffer key items → IsListing key items (listing key items) }
+    ensures is_listing { (key : T → Key) (items : List T) →
+        KeysDiffer key items → IsListing key items (listing key items) }
     ensures sorted { (key : T → Key) (items sorted : List T) →
-        KeysDiffer key items → IsPermutation items sorted → IsSortedByKey key key_cmp sorted → IsListing key items sorted }
-    ensures only { (key : T → Key) (items listed : List T) → IsListing key items listed → listed ≡ listing key items }
+        KeysDiffer key items → IsPermutation items sorted → IsSortedByKey key key_cmp sorted →
+        IsListing key items sorted }
+    ensures only { (key : T → Key) (items listed : List T) →
+        IsListing key items listed → listed ≡ listing key items }
 {}

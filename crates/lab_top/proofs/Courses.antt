@@ -131,3 +131,33 @@ end_memory text outcome out = record {
   ended = tt;
   never = λ is. cc;
 }
+
+-- the last text was written whole, and the last line after it, or a part of that
+pub end_after :
+    (text : List ℕ) (outcome : Outcome) (status : Status) (out mid out' : Option (List ℕ)) →
+    mid ≡ grown out text → IsEnd [] outcome status mid out' → IsEnd text outcome status out out'
+end_after text outcome status out mid out' wrote end = record {
+  bytes = text ++ end.bytes;
+  unwritten = end.unwritten;
+  all = rw (append_assoc, ← end.all) refl;
+  grows = rw (end.grows, wrote, grown-append out text end.bytes) refl;
+  ended = end.ended;
+  never = end.never;
+}
+
+-- a part of a text was written, and no more
+pub course_cut :
+    (text : List ℕ) (rest : Transcript) (fault : WriteFault) (out out' : Option (List ℕ)) (log : Option (List (List ℕ))) →
+    IsPartWritten out text out' → Course (after [] text rest) (refusal fault) out out' log log
+course_cut text rest fault out out' log part = record {
+  bytes = take part.count text;
+  unwritten = drop part.count text ++ rest.bytes;
+  passed = [];
+  coming = map (read_later (length text)) rest.reads;
+  all_bytes = rw (← append_assoc, take-append-drop part.count text) refl;
+  all_reads = refl;
+  written = part.written;
+  asked = sym (grown-nil log);
+  ended = rw (cut_by fault) tt;
+  unread = λ is. absurd (not_unread fault is);
+}

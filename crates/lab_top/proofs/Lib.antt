@@ -1,7 +1,7 @@
-pub mod Courses
-pub mod Pieces
 pub mod Digits
-pub mod Scripts
+pub mod ScriptLemmas
+pub mod Pieces
+pub mod Courses
+pub mod Onward
 pub mod Openings
-pub mod Logs
-pub mod LineLemmas
+mod Equipping

@@ -1,7 +1,9 @@
 pub mod Script
 pub mod Log
-pub mod Turns
 pub mod Fault
+pub mod Commands
+pub mod Builtin
+pub mod Session
 pub mod Transcript
 pub mod Course
 pub mod Headline

@@ -1,46 +1,33 @@
--- The text of the log: the lines of a shown UART.
-use Rattle.std.specs.Prelude.{ℕ, ◌+◌, ◌-◌, ◌/◌, ◌%◌, ◌==◌, nat_le, ◌&&◌, ◌||◌, Bool, false, if◌then◌else◌, List, [], ◌∷◌, ◌++◌, length, replicate, codes}
+-- The text of the log: the lines of shown UARTs. Each board has one UART, so a line is known by its board.
+use Rattle.std.specs.Prelude.{ℕ, ◌+◌, ◌-◌, ◌/◌, ◌%◌, ◌==◌, nat_le, nat_lt, ◌&&◌, ◌||◌, Bool, false, if◌then◌else◌, List, [], ◌∷◌, ◌++◌, length, replicate, slice_index_or, slice_set, codes}
 use Rattle.std.specs.List.{flat_map}
 use Rattle.std.specs.Fmt.{decimal, digit_glyph}
 use Rattle.lab_num.specs.declared.post.What.{What}
 use Rattle.lab_num.specs.declared.post.What.TheVariants.{Byte}
-use Rattle.lab_num.specs.declared.post.Entry.{Entry}
+use Rattle.log_merge.specs.declared.item.LogItem.{LogItem}
+use Rattle.log_merge.specs.declared.item.LogItem.TheVariants.{Slot}
 
--- the byte that an entry has sent
-abbrev pub byte_of : What → ℕ
-byte_of (Byte dev value) = value
-
--- bytes that a UART has sent one after another, and the microsecond of the last
+-- the name of a board, the bytes that its UART has sent one after another, and the microsecond of the last
 pub record Line : Type 0 where
+  pub board : List ℕ
   pub at : ℕ
   pub bytes : List ℕ
 
 -- a line that has not begun
-abbrev pub blank : Line
-blank = record { at = 0; bytes = [] }
+abbrev pub blank : List ℕ → Line
+blank board = record { board = board; at = 0; bytes = [] }
 
 -- a line feed ends a line, and so does its 128th byte
-abbrev pub is_ending : Line → Entry → Bool
-is_ending line entry = (byte_of entry.what == 10) || nat_le 127 (length line.bytes)
+abbrev pub is_ending : Line → ℕ → Bool
+is_ending line byte = (byte == 10) || nat_le 127 (length line.bytes)
 
--- a line with one byte more. A line feed is no part of it.
-abbrev pub gathered : Line → Entry → Line
-gathered line entry = record {
-  at = entry.key.at.0;
-  bytes = if byte_of entry.what == 10 then line.bytes else line.bytes ++ byte_of entry.what ∷ [];
-}
+-- a line with one byte more, sent at this microsecond. A line feed is no part of it.
+abbrev pub gathered : Line → ℕ → ℕ → Line
+gathered line at byte = record line { at = at; bytes = if byte == 10 then line.bytes else line.bytes ++ byte ∷ [] }
 
--- the lines that entries end, the first of them begun before
-abbrev pub ended_lines : Line → List Entry → List Line
-ended_lines line [] = []
-ended_lines line (entry ∷ entries) =
-    if is_ending line entry then gathered line entry ∷ ended_lines blank entries
-    else ended_lines (gathered line entry) entries
-
--- the line that is open behind them
-abbrev pub open_line : Line → List Entry → Line
-open_line line [] = line
-open_line line (entry ∷ entries) = open_line (if is_ending line entry then blank else gathered line entry) entries
+-- the line that is open after one byte more
+abbrev pub left_open : Line → ℕ → ℕ → Line
+left_open line at byte = if is_ending line byte then blank line.board else gathered line at byte
 
 -- a byte of a line, as it is shown
 abbrev pub escaped : ℕ → List ℕ
@@ -59,18 +46,41 @@ six_digits n = replicate (6 - length (decimal n)) 48 ++ decimal n
 abbrev pub seconds : ℕ → List ℕ
 seconds at = decimal (at / 1000000) ++ codes "." ++ six_digits (at % 1000000)
 
--- what stands before a line's text: the time of its last byte, and where it comes from
+-- what stands before a line's text: the time of its last byte, and the board and the device that it comes from
 abbrev pub heading : Line → List ℕ
-heading line = codes "[" ++ seconds line.at ++ codes "] m0/uart: "
+heading line = codes "[" ++ seconds line.at ++ codes "] " ++ line.board ++ codes "/uart: "
 
 -- a line as it is printed
-abbrev pub line_text : Line → List ℕ
+unfoldable pub line_text : Line → List ℕ
 line_text line = heading line ++ flat_map escaped line.bytes ++ codes "\n"
 
--- what entries print, behind a line that is open
-abbrev pub text : Line → List Entry → List ℕ
-text line entries = flat_map line_text (ended_lines line entries)
+-- the open line of a board
+abbrev pub line_at : List Line → ℕ → Line
+line_at lines board = slice_index_or lines board (blank [])
 
--- what is printed of a line that is open at the end
-abbrev pub rest : Line → List ℕ
-rest line = if length line.bytes == 0 then [] else line_text line
+-- what an item prints: the line that its byte ends, or nothing
+abbrev pub printed : List Line → LogItem → List ℕ
+printed lines (Slot from (Byte dev byte)) =
+    if nat_lt from.board.0 (length lines) && is_ending (line_at lines from.board.0) byte
+    then line_text (gathered (line_at lines from.board.0) from.at.0 byte) else []
+
+-- the open lines after an item
+abbrev pub opened : List Line → LogItem → List Line
+opened lines (Slot from (Byte dev byte)) = slice_set lines from.board.0 (left_open (line_at lines from.board.0) from.at.0 byte)
+
+-- what items print one after another, and the lines that are open then
+abbrev pub text : List Line → List LogItem → List ℕ
+text lines [] = []
+text lines (item ∷ items) = printed lines item ++ text (opened lines item) items
+
+abbrev pub open_lines : List Line → List LogItem → List Line
+open_lines lines [] = lines
+open_lines lines (item ∷ items) = open_lines (opened lines item) items
+
+-- what is printed at the end of a line that is open
+abbrev pub rest_of : Line → List ℕ
+rest_of line = if length line.bytes == 0 then [] else line_text line
+
+-- what is printed at the end of all lines, in order of the boards
+abbrev pub rest : List Line → List ℕ
+rest lines = flat_map rest_of lines

@@ -1,27 +1,53 @@
--- Scripts: one line, which runs the laboratory for less than a second.
-use Rattle.std.specs.Prelude.{ℕ, ◌+◌, ◌-◌, ◌*◌, ◌&&◌, ◌||◌, Bool, if◌then◌else◌, List, take, drop, fold, codes, Option, None, Some}
-use Rattle.std.specs.Char.{is_ascii_digit}
-use Rattle.std.specs.List.{list_all}
-use Rattle.std.specs.Str.{bytes_eq}
+-- Scripts: lines, each of which runs the laboratory or sets its quantum.
+use Rattle.std.specs.Prelude.{ℕ, ◌==◌, not, Bool, if◌then◌else◌, List, [], ◌∷◌, ◌++◌, length, take, drop, take_while, codes, Option, None, Some, Result, Ok, Err}
+use Rattle.std.specs.Str.{bytes_eq, is_utf8}
+use Rattle.lab_num.specs.declared.number.Micros.{Micros}
+use Rattle.lab_num.specs.declared.time.TimeFault.{TimeFault}
+use Rattle.lab_num.specs.declared.time.TimeFault.TheVariants.{Form}
+use Rattle.lab_num.specs.Time.{time_of}
+use Rattle.lab_top.specs.declared.script.Command.{Command}
+use Rattle.lab_top.specs.declared.script.Command.TheVariants.{RunFor, SetQuantum}
 
--- what a script begins with
-abbrev pub opening : List ℕ
-opening = codes "emulation RunFor \"0."
+-- a byte at the head of the first of some lines
+abbrev pub grown_line : ℕ → List (List ℕ) → List (List ℕ)
+grown_line byte [] = (byte ∷ []) ∷ []
+grown_line byte (line ∷ lines) = (byte ∷ line) ∷ lines
 
--- the number that digits write, the greatest place first
-abbrev pub number_of : List ℕ → ℕ
-number_of digits = fold (λ n digit. 10 * n + (digit - 48)) 0 digits
+-- the lines of a script, each without the line feed that ends it; the last may lack its line feed
+unfoldable pub lines_of : List ℕ → List (List ℕ)
+lines_of [] = []
+lines_of (byte ∷ bytes) = if byte == 10 then [] ∷ lines_of bytes else grown_line byte (lines_of bytes)
 
--- what a script ends with: the quote, and at most one line feed
-abbrev pub is_ending : List ℕ → Bool
-is_ending bytes = bytes_eq bytes (codes "\"") || bytes_eq bytes (codes "\"\n")
+-- the time that bytes say; bytes that are not UTF-8 are of no form
+abbrev pub time_in : List ℕ → Result Micros TimeFault
+time_in bytes = if is_utf8 bytes then time_of bytes else Err Form
 
--- the number of six digits with an ending behind them, if the signs are that
-abbrev pub closed_digits : List ℕ → Option ℕ
-closed_digits signs =
-    if is_ending (drop 6 signs) && list_all is_ascii_digit (take 6 signs) then Some (number_of (take 6 signs)) else None
+-- any byte but a quote
+abbrev pub is_unquoted : ℕ → Bool
+is_unquoted byte = not (byte == 34)
 
--- The microseconds of the run, where the bytes are a script: its opening of 20 signs, the six digits of a part of a second,
--- and an ending.
-unfoldable pub run_time : List ℕ → Option ℕ
-run_time bytes = if bytes_eq (take 20 bytes) opening then closed_digits (drop 20 bytes) else None
+-- what stands before a quote that is the last sign and the only quote, if the signs are so
+abbrev pub closed : List ℕ → Option (List ℕ)
+closed signs =
+    if bytes_eq signs (take_while is_unquoted signs ++ 34 ∷ []) then Some (take_while is_unquoted signs) else None
+
+-- what stands between the opening, which ends with a quote, and the only further quote, at the line's end
+abbrev pub quoted : List ℕ → List ℕ → Option (List ℕ)
+quoted opening line = if bytes_eq (take (length opening) line) opening then closed (drop (length opening) line) else None
+
+-- the first where there is one, and else the second
+abbrev pub either : Option Command → Option Command → Option Command
+either None second = second
+either (Some command) second = Some command
+
+abbrev pub run_for : Option (List ℕ) → Option Command
+run_for None = None
+run_for (Some time) = Some (RunFor (time_in time))
+
+abbrev pub set_quantum : Option (List ℕ) → Option Command
+set_quantum None = None
+set_quantum (Some time) = Some (SetQuantum (time_in time))
+
+-- the command of a line, if it is one
+unfoldable pub command_of : List ℕ → Option Command
+command_of line = either (run_for (quoted (codes "emulation RunFor \"") line)) (set_quantum (quoted (codes "emulation SetGlobalQuantum \"") line))

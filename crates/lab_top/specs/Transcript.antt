@@ -1,21 +1,20 @@
 -- All that the program writes and reads, for any words and files.
-use Rattle.std.specs.Prelude.{ℕ, ◌+◌, nat_eq, not, ◌&&◌, if◌then◌else◌, List, [], ◌∷◌, ◌++◌, length, map, codes, Option, None, Some}
+use Rattle.std.specs.Prelude.{ℕ, ◌+◌, nat_eq, nat_lt, if◌then◌else◌, List, [], ◌∷◌, ◌++◌, length, map, codes, Option, None, Some}
 use Rattle.std.specs.List.{starts_with}
 use Rattle.std.specs.Str.{bytes_eq}
 use Rattle.std.specs.FinMap.{get}
-use Rattle.lab_num.specs.declared.post.Entry.{Entry}
 use Rattle.lab_io.specs.Held.{Held}
-use Rattle.lab_num.specs.Paid.{paid}
-use Rattle.board.specs.Early.{early_view}
-use Rattle.board.specs.Stretch.{stretch}
 use Rattle.lab_top.specs.declared.status.UsageCause.{UsageCause}
-use Rattle.lab_top.specs.declared.status.UsageCause.TheVariants.{Words}
-use Rattle.lab_top.specs.declared.fault.Cause.TheVariants as cause
-use Rattle.lab_top.specs.declared.fault.ScriptCause.TheVariants.{Unknown}
+use Rattle.lab_top.specs.declared.status.UsageCause.TheVariants.{Command, Words}
+use Rattle.lab_top.specs.declared.fault.Cause.TheVariants as fault_cause
+use Rattle.lab_top.specs.declared.fault.ScriptCause.{ScriptCause}
+use Rattle.lab_top.specs.declared.fault.ScriptCause.TheVariants.{Size}
 use Rattle.lab_top.specs.declared.fault.ScriptFault.{ScriptFault}
 use Rattle.lab_top.specs.Fault.{fault_text}
-use Rattle.lab_top.specs.Script.{run_time}
-use Rattle.lab_top.specs.Log.{blank, text, open_line, rest}
+use Rattle.lab_top.specs.Script.{lines_of, command_of}
+use Rattle.lab_top.specs.Log.{rest}
+use Rattle.lab_top.specs.Commands.{State, Did, Goes, Faults, did}
+use Rattle.lab_top.specs.Builtin.{started}
 
 -- How a run ends that nothing from outside cuts short. It ends as absent where a name that it reads holds nothing.
 pub data Outcome : Type 0 where
@@ -68,33 +67,37 @@ pub data Request : Type 0 where
   Refused : UsageCause → Request
   Run : List ℕ → Request
 
--- exactly two words ask for a run: `run`, and the name of a script that does not begin with `-`
+-- the words behind `run` are one script, whose name does not begin with `-`
+abbrev pub script_of : List (List ℕ) → Request
+script_of (script ∷ []) = if starts_with nat_eq script (codes "-") then Refused Words else Run script
+script_of _ = Refused Words
+
 abbrev pub request_of : List (List ℕ) → Request
-request_of (command ∷ script ∷ []) =
-    if bytes_eq command (codes "run") && not (starts_with nat_eq script (codes "-")) then Run script else Refused Words
-request_of _ = Refused Words
+request_of [] = Refused Command
+request_of (command ∷ words) = if bytes_eq command (codes "run") then script_of words else Refused Command
 
--- the entries of the built-in board in the slots that its first microseconds pay for
-unfoldable pub entries_of : ℕ → List Entry
-entries_of micros = (stretch early_view 0 0 (paid 0 micros early_view.speed)).entries
+-- a fault of a line of a script
+abbrev pub fault_at : List ℕ → ℕ → ScriptCause → ScriptFault
+fault_at script line cause = record { file = script; line = line; cause = fault_cause.Script cause }
 
--- all that they print: the lines that end, and then the one that is open
-abbrev pub log_of : List Entry → List ℕ
-log_of entries = text blank entries ++ rest (open_line blank entries)
+-- a run that stops here first prints what is left of its lines
+abbrev pub stopped : State → Outcome → Transcript
+stopped s outcome = after [] (rest s.lines) (ended outcome)
 
--- a script that is no command
-abbrev pub unknown_at : List ℕ → ScriptFault
-unknown_at script = record { file = script; line = 1; cause = cause.Script Unknown }
-
--- a run of so many microseconds, or none
-abbrev pub ran : List ℕ → Option ℕ → Transcript
-ran script None = ended (Script (unknown_at script))
-ran script (Some micros) = after [] (log_of (entries_of micros)) (ended Done)
+-- what is left of a run of a script at these lines, the first of this number
+unfoldable pub from : List ℕ → ℕ → State → List (List ℕ) → Transcript
+from script number s [] = stopped s Done
+from script number s (line ∷ lines) =
+    elim (did s (command_of line)) [
+      | Goes text next ↦ after [] text (from script (number + 1) next lines)
+      | Faults cause ↦ stopped s (Script (fault_at script number cause))
+    ]
 
 -- how a run goes on with what its script holds
 abbrev pub begun : List ℕ → Option (List ℕ) → Transcript
 begun script None = ended Absent
-begun script (Some bytes) = ran script (run_time bytes)
+begun script (Some bytes) =
+    if nat_lt 16777216 (length bytes) then ended (Script (fault_at script 0 Size)) else from script 1 started (lines_of bytes)
 
 -- all that the run of a script writes and reads
 abbrev pub run_of : Held → List ℕ → Transcript

@@ -7,6 +7,12 @@ use std::fmt;
 pub enum ScriptCause {
     /// S1: the line is no command.
     Unknown,
+    /// S10: a time is of no form or above 10,000 seconds, or a quantum is not 1 to 1,000,000 microseconds.
+    Time,
+    /// S14: the run would end above 10,000 seconds of lab time.
+    LabTime,
+    /// S19: the script has more than 16 MiB.
+    Size,
 }
 
 impl fmt::Display for ScriptCause {
@@ -18,6 +24,9 @@ impl fmt::Display for ScriptCause {
     fn fmt<W: fmt::Write>(&self, f: &mut fmt::Formatter<W>) -> fmt::Result {
         match self {
             ScriptCause::Unknown => write!(f, "S1 unknown command"),
+            ScriptCause::Time => write!(f, "S10 time"),
+            ScriptCause::LabTime => write!(f, "S14 lab time"),
+            ScriptCause::Size => write!(f, "S19 size"),
         }
     }
 }
@@ -41,7 +50,7 @@ impl fmt::Display for Cause {
     }
 }
 
-/// A fault, and where it is: the file's name and the line, counted from 1.
+/// A fault, and where it is: the file's name and the line, counted from 1, or 0 for the whole file.
 #[derive(Drop, Debug)]
 pub struct ScriptFault {
     pub file: Text,

@@ -1,8 +1,9 @@
 //! The text of the log.
-ghost use Rattle.std.specs.Prelude.{◌≡◌, ◌≤◌, ◌++◌, length, OnOk, IfOk, string_bytes};
-ghost use Rattle.lab_top.specs.Log.{escaped, text, rest, line_text, blank, gathered, is_ending, open_line};
+ghost use Rattle.std.specs.Prelude.{◌≡◌, ◌≤◌, ◌<◌, ◌++◌, ◌∷◌, [], length, replicate, if◌then◌else◌, OnOk, IfOk, string_bytes};
+ghost use Rattle.lab_top.specs.Log.{escaped, heading, line_text, blank, gathered, is_ending, left_open, rest_of, text, rest, open_lines, printed, opened};
 
-use lab_num::{Entry, Micros, NoMemory, What};
+use lab_num::{Micros, NoMemory, Text, What};
+use log_merge::LogItem;
 use std::alloc::Global;
 use std::fmt;
 use std::marker::Model;
@@ -27,9 +28,11 @@ impl fmt::Display for Seconds {
     }
 }
 
-/// The line of a shown UART that has not ended: its bytes, at most 127 and no line feed, and the microsecond of the last.
+/// The line of a board's UART that has not ended: the board's name, the line's bytes, at most 127 and no line feed, and
+/// the microsecond of the last.
 #[derive(Drop)]
 pub struct OpenLine {
+    board: Text,
     at: Micros,
     bytes: Vec<u8>,
 }
@@ -39,87 +42,123 @@ impl Model for OpenLine {
 
     ghost Value = { Line };
 
-    ghost view = { λ l. record { at = l.at.0; bytes = l.bytes.items } };
+    ghost view = { λ l. record { board = l.board; at = l.at.0; bytes = l.bytes.items } };
 }
 
 impl OpenLine {
-    pub fn new(alloc: Global) -> OpenLine
-        ensures { result ≡ blank }
+    /// A line of this board that has not begun.
+    pub fn new(alloc: Global, board: Text) -> OpenLine
+        ensures { result ≡ blank board }
     {
         OpenLine {
+            board,
             at: Micros(0),
             bytes: Vec::new(alloc),
         }
     }
 
-    /// What the entries print. After an `Err` nothing is known of the line.
-    pub fn text(&mut self, alloc: Global, entries: &[Entry]) -> Result<String, NoMemory>
-        ensures text { IfOk result (λ printed. string_bytes printed ≡ text self.old entries.now) }
-        ensures line { OnOk result (self.new ≡ open_line self.old entries.now) }
+    /// Takes a byte that was sent at this microsecond, and prints the line where the byte ends it.
+    fn take(&mut self, at: Micros, byte: u8, text: &mut String) -> Result<(), NoMemory>
+        ensures text { OnOk result (string_bytes text.new ≡ string_bytes text.old ++ (if is_ending self.old byte then line_text (gathered self.old at.0 byte) else [])) }
+        ensures line { OnOk result (self.new ≡ left_open self.old at.0 byte) }
     {
-        let mut text = String::new(alloc);
-        for entry in entries {
-            let is_ending = self.is_ending(entry);
-            self.gather(entry)?;
-            if is_ending {
-                self.print(&mut text)?;
-                self.clear();
-            }
+        let is_ending = self.is_ending(byte);
+        self.gather(at, byte)?;
+        if is_ending {
+            self.print(text)?;
+            self.clear();
         }
-        Ok(text)
+        Ok(())
     }
 
-    /// What is printed of the line where the log ends.
-    pub fn rest(&self, alloc: Global) -> Result<String, NoMemory>
-        ensures { IfOk result (λ printed. string_bytes printed ≡ rest self.now) }
+    /// Whether a byte ends the line: a line feed, or the 128th byte.
+    fn is_ending(&self, byte: u8) -> bool
+        ensures { result ≡ is_ending self.now byte }
     {
-        let mut text = String::new(alloc);
-        if !self.bytes.is_empty() {
-            self.print(&mut text)?;
-        }
-        Ok(text)
+        byte == b'\n' || self.bytes.len() + 1 >= MOST_BYTES
     }
 
-    /// Whether an entry's byte ends the line: a line feed, or the 128th byte.
-    fn is_ending(&self, entry: &Entry) -> bool
-        ensures { result ≡ is_ending self.now entry.now }
+    /// Takes a byte into the line, unless it is a line feed.
+    fn gather(&mut self, at: Micros, byte: u8) -> Result<(), NoMemory>
+        ensures { OnOk result (self.new ≡ gathered self.old at.0 byte) }
     {
-        let What::Byte { value, .. } = entry.what;
-        value == b'\n' || self.bytes.len() + 1 >= MOST_BYTES
-    }
-
-    /// Takes the byte of an entry into the line, unless it is a line feed.
-    fn gather(&mut self, entry: &Entry) -> Result<(), NoMemory>
-        ensures { OnOk result (self.new ≡ gathered self.old entry.now) }
-    {
-        let What::Byte { value, .. } = entry.what;
-        if value != b'\n' {
-            self.bytes.push(value)?;
+        if byte != b'\n' {
+            self.bytes.push(byte)?;
         }
-        self.at = entry.key.at;
+        self.at = at;
         Ok(())
     }
 
     /// Begins the next line.
     fn clear(&mut self)
-        ensures { self.new ≡ blank }
+        ensures { self.new ≡ blank self.old.board }
     {
         self.at = Micros(0);
         self.bytes.clear();
     }
 
+    /// Prints what is left of the line at the end of the log.
+    fn print_rest(&self, text: &mut String) -> Result<(), NoMemory>
+        ensures { OnOk result (string_bytes text.new ≡ string_bytes text.old ++ rest_of self.now) }
+    {
+        if self.bytes.is_empty() {
+            return Ok(());
+        }
+        self.print(text)
+    }
+
     /// Writes the line to the end of the text.
+    #[tactic(auto, unfolding(crate::specs::Log::line_text))]
     fn print(&self, text: &mut String) -> Result<(), NoMemory>
         ensures { OnOk result (string_bytes text.new ≡ string_bytes text.old ++ line_text self.now) }
     {
         let at = Seconds(self.at);
-        write!(text, "[{at}] m0/uart: ")?;
+        let board = self.board.as_str();
+        write!(text, "[{at}] {board}/uart: ")?;
         for &byte in &self.bytes {
             show(byte, text)?;
         }
         text.push('\n')?;
         Ok(())
     }
+}
+
+/// What the items print, in order. The lines, one for each board in order of their numbers, gather the bytes that end no
+/// line. After an `Err` nothing is known of them.
+pub fn text_of(alloc: Global, lines: &mut [OpenLine], items: &[LogItem]) -> Result<String, NoMemory>
+    ensures text { IfOk result (λ printed. string_bytes printed ≡ text lines.old items.now) }
+    ensures lines { OnOk result (lines.new ≡ open_lines lines.old items.now) }
+{
+    let mut text = String::new(alloc);
+    for item in items {
+        print_item(lines, item, &mut text)?;
+    }
+    Ok(text)
+}
+
+/// Prints the line that an item ends, if it ends one.
+fn print_item(lines: &mut [OpenLine], item: &LogItem, text: &mut String) -> Result<(), NoMemory>
+    ensures text { OnOk result (string_bytes text.new ≡ string_bytes text.old ++ printed lines.old item.now) }
+    ensures lines { OnOk result (lines.new ≡ opened lines.old item.now) }
+{
+    let LogItem::Slot(from, What::Byte { value, .. }) = item;
+    let board = usize::from(from.board.0);
+    if board < lines.len() {
+        let line = &mut lines[board];
+        line.take(from.at, *value, text)?;
+    }
+    Ok(())
+}
+
+/// What is printed of all lines at the end of the log, in order.
+pub fn rest_of(alloc: Global, lines: &[OpenLine]) -> Result<String, NoMemory>
+    ensures { IfOk result (λ printed. string_bytes printed ≡ rest lines.now) }
+{
+    let mut text = String::new(alloc);
+    for line in lines {
+        line.print_rest(&mut text)?;
+    }
+    Ok(text)
 }
 
 /// Writes a byte as it is shown: printable ones as they are, and others escaped.
@@ -137,66 +176,4 @@ fn show(byte: u8, text: &mut String) -> Result<(), NoMemory>
 }
 
 #[cfg(test)]
-mod tests {
-    use super::*;
-    use lab_num::{BoardNo, Key, PostNo};
-    use std::test::Fail;
-
-    /// What these bytes print, the first sent at 1.000000 and each one microsecond after the one before.
-    fn printed(alloc: Global, bytes: &[u8]) -> Result<(String, String), Fail>
-        requires { length bytes.now ≤ 1000 }
-    {
-        let mut entries = Vec::new(alloc);
-        for (i, &value) in bytes.iter().enumerate() {
-            let key = Key {
-                at: Micros(1_000_000 + i as u64),
-                board: BoardNo(0),
-                number: PostNo(i as u64),
-            };
-            let what = What::Byte { dev: 0, value };
-            entries.push(Entry { key, what })?;
-        }
-        let mut line = OpenLine::new(alloc);
-        let ended = line.text(alloc, &entries)?;
-        Ok((ended, line.rest(alloc)?))
-    }
-
-    #[test]
-    fn lines_end_at_a_line_feed_or_the_128th_byte(rt: HostRuntime) -> Result<(), Fail> {
-        let alloc = rt.alloc();
-        let mut signs = Vec::new(alloc);
-        signs.resize(128, b'x')?;
-        signs.extend_from_slice(b"\nab\n\nc")?;
-        assert_eq!(rt; signs.len(), 134);
-        let (ended, rest) = printed(alloc, &signs)?;
-        let mut wanted = String::from_str(alloc, "[1.000127] m0/uart: ")?;
-        for _ in 0..128 {
-            wanted.push('x')?;
-        }
-        wanted.push_str("\n[1.000128] m0/uart: \n[1.000131] m0/uart: ab\n[1.000132] m0/uart: \n")?;
-        assert_eq!(rt; ended.as_str(), wanted.as_str());
-        assert_eq!(rt; rest.as_str(), "[1.000133] m0/uart: c\n");
-        Ok(())
-    }
-
-    #[test]
-    fn bytes_are_shown_as_they_are_or_escaped(rt: HostRuntime) -> Result<(), Fail> {
-        let rows: [(&[u8], &str); 7] = [
-            (b" ~", " ~"),
-            (b"\\b", "\\\\b"),
-            (b"\t\r", "\\t\\r"),
-            (b"\x00\x1f", "\\x00\\x1f"),
-            (b"\x7f\x80", "\\x7f\\x80"),
-            (b"\xab\xff", "\\xab\\xff"),
-            (b"\"'", "\"'"),
-        ];
-        for (bytes, shown) in rows {
-            assert!(rt; bytes.len() <= 1000);
-            let (ended, rest) = printed(rt.alloc(), bytes)?;
-            let wanted = format!(in rt.alloc(); "[1.000001] m0/uart: {shown}\n")?;
-            assert_eq!(rt; ended.as_str(), "", "{shown}");
-            assert_eq!(rt; rest.as_str(), wanted.as_str(), "{shown}");
-        }
-        Ok(())
-    }
-}
+mod tests;

@@ -1,18 +1,20 @@
 //! The whole program, from the command words to the status.
-ghost use Rattle.std.specs.Prelude.{◌≡◌, ◌<◌, ◌++◌, [], Ok, IfOk, IfSome, MatchResult, OnOk, OnErr, IsErrOf, map, string_bytes};
-ghost use Rattle.lab_io.specs.Known.{grown, Rose};
-ghost use Rattle.lab_io.specs.Sink.{IsPartWritten};
-ghost use Rattle.lab_top.specs.Transcript.{transcript, run_of, request_of, Run, Refused, Script, Usage, Done, entries_of, log_of, unknown_at};
+ghost use Rattle.std.specs.Prelude.{◌≡◌, ◌≢◌, ◌≤◌, [], false, length, IfSome, MatchResult, map, string_bytes, Option, List, ℕ};
+ghost use Rattle.lab_io.specs.Known.{Rose};
+ghost use Rattle.lab_top.specs.Script.{lines_of};
+ghost use Rattle.lab_top.specs.Log.{rest};
+ghost use Rattle.lab_top.specs.Builtin.{started};
+ghost use Rattle.lab_top.specs.Transcript.{transcript, run_of, request_of, Run, Refused, Script, Usage, Done, from, fault_at};
 ghost use Rattle.lab_top.specs.Course.{Told, Course, IsEnd, final};
 ghost use Rattle.lab_top.specs.Headline.{IsWhole, WritesPart, AsksPart, IsCounted, HasAll, IsUncut, IsUsageBy, IsNoUsage};
 
 use crate::fault::{Cause, ScriptCause, ScriptFault};
-use crate::log::OpenLine;
 use crate::script;
+use crate::session::Session;
 use crate::status::{Status, UsageCause};
-use board::{Board, SlotAt, Turn};
-use lab_io::{Files, ReadAnswer, Sink, WriteFault, write_whole};
-use lab_num::{Micros, NoMemory, Text};
+use crate::step::Step;
+use lab_io::{Files, ReadAnswer, Sink, write_whole};
+use lab_num::Text;
 use std::alloc::Global;
 
 /// The line that says how the program is called.
@@ -21,13 +23,6 @@ const USAGE: &str =
 
 /// The most bytes of one file.
 const MOST_BYTES: usize = 16_777_216;
-
-/// What the built-in board prints: the lines that ended, and what is left of the one that did not.
-#[derive(Drop)]
-struct Log {
-    ended: String,
-    rest: String,
-}
 
 /// Runs the program for its command words, reading from `files` and writing to `out`.
 pub fn run_lab<F: Files, K: Sink>(
@@ -86,10 +81,16 @@ fn script_of(words: &[String]) -> Result<&str, UsageCause>
         (λ script. request_of (map string_bytes words.now) ≡ Run script.now)
         (λ cause. request_of (map string_bytes words.now) ≡ Refused cause) }
 {
-    let [command, script] = words else {
+    let Some((command, rest)) = words.split_first() else {
+        return Err(UsageCause::Command);
+    };
+    if command.as_str() != "run" {
+        return Err(UsageCause::Command);
+    }
+    let [script] = rest else {
         return Err(UsageCause::Words);
     };
-    if command.as_str() != "run" || script.as_bytes().starts_with(b"-") {
+    if script.as_bytes().starts_with(b"-") {
         return Err(UsageCause::Words);
     }
     Ok(script.as_str())
@@ -116,29 +117,120 @@ fn run_file<F: Files, K: Sink>(alloc: Global, script: &str, files: &mut F, out: 
 {
     let mut bytes = Vec::new(alloc);
     match files.read(script, MOST_BYTES, &mut bytes) {
-        ReadAnswer::Done => match script::run_time(&bytes) {
-            Some(micros) => run_for(alloc, micros, out),
-            None => refuse_script(alloc, script, out),
-        },
-        ReadAnswer::TooLarge => refuse_script(alloc, script, out),
+        ReadAnswer::Done => run_script(alloc, script, &bytes, out),
+        ReadAnswer::TooLarge => refuse_line(alloc, script, 0, ScriptCause::Size, out),
         ReadAnswer::Failed => Status::Unread,
         ReadAnswer::Memory => Status::Memory,
     }
 }
 
-/// Says that a script is no command.
-fn refuse_script<K: Sink>(alloc: Global, script: &str, out: &mut K) -> Status
-    ensures course { IsEnd [] (Script (unknown_at script.now)) result (K.written out.old) (K.written out.new) }
+/// Runs the built-in laboratory by a script.
+fn run_script<K: Sink>(alloc: Global, script: &str, bytes: &[u8], out: &mut K) -> Status
+    requires { length bytes.now ≤ 16777216 }
+    ensures course { (log : Option (List (List ℕ))) → Course (from script.now 1 started (lines_of bytes.now)) result (K.written out.old) (K.written out.new) log log }
     ensures usage { IsNoUsage result }
+    ensures never { result ≢ Status.Unread }
     ensures unwritten { result ≡ Status.Unwritten → Rose (K.faults out.old) (K.faults out.new) }
+{
+    let Ok(mut session) = Session::new(alloc) else {
+        return Status::Memory;
+    };
+    take_lines(alloc, script, bytes, &mut session, out)
+}
+
+/// Takes the lines of a script to the end or the first fault, and writes what each prints before the next is taken.
+fn take_lines<K: Sink>(
+    alloc: Global,
+    script: &str,
+    bytes: &[u8],
+    session: &mut Session,
+    out: &mut K,
+) -> Status
+    requires short { length bytes.now ≤ 16777216 }
+    requires unspent { session.old.spent ≡ false }
+    ensures course { (log : Option (List (List ℕ))) → Course (from script.now 1 session.old.state (lines_of bytes.now)) result (K.written out.old) (K.written out.new) log log }
+    ensures usage { IsNoUsage result }
+    ensures never { result ≢ Status.Unread }
+    ensures unwritten { result ≡ Status.Unwritten → Rose (K.faults out.old) (K.faults out.new) }
+{
+    let mut rest = bytes;
+    let mut number = 1;
+    'lines: while let Some((line, behind)) = script::next_line(rest) {
+        match session.take(line) {
+            Step::Text(text) => {
+                if let Err(fault) = write_whole(out, text.as_bytes()) {
+                    return Status::from(fault);
+                }
+            }
+            Step::Fault(cause) => return stop_at(alloc, session, script, number, cause, out),
+            Step::Memory => return Status::Memory,
+        }
+        rest = behind;
+        number += 1;
+    }
+    stop(session, out)
+}
+
+/// Writes what is left of the lines where a script has ended.
+fn stop<K: Sink>(session: &Session, out: &mut K) -> Status
+    ensures course { IsEnd (rest session.now.state.lines) Done result (K.written out.old) (K.written out.new) }
+    ensures usage { IsNoUsage result }
+    ensures never { result ≢ Status.Unread }
+    ensures unwritten { result ≡ Status.Unwritten → Rose (K.faults out.old) (K.faults out.new) }
+{
+    let Ok(text) = session.rest() else {
+        return Status::Memory;
+    };
+    match write_whole(out, text.as_bytes()) {
+        Ok(()) => Status::Done,
+        Err(fault) => Status::from(fault),
+    }
+}
+
+/// Writes what is left of the lines where a line of a script is refused, and then says so.
+fn stop_at<K: Sink>(
+    alloc: Global,
+    session: &Session,
+    script: &str,
+    number: u32,
+    cause: ScriptCause,
+    out: &mut K,
+) -> Status
+    ensures course { IsEnd (rest session.now.state.lines) (Script (fault_at script.now number cause)) result (K.written out.old) (K.written out.new) }
+    ensures usage { IsNoUsage result }
+    ensures never { result ≢ Status.Unread }
+    ensures unwritten { result ≡ Status.Unwritten → Rose (K.faults out.old) (K.faults out.new) }
+{
+    let Ok(text) = session.rest() else {
+        return Status::Memory;
+    };
+    if let Err(fault) = write_whole(out, text.as_bytes()) {
+        return Status::from(fault);
+    }
+    refuse_line(alloc, script, number, cause, out)
+}
+
+/// Says that a line of a script is refused.
+fn refuse_line<K: Sink>(
+    alloc: Global,
+    script: &str,
+    number: u32,
+    cause: ScriptCause,
+    out: &mut K,
+) -> Status
+    ensures course { IsEnd [] (Script (fault_at script.now number cause)) result (K.written out.old) (K.written out.new) }
+    ensures usage { IsNoUsage result }
+    ensures never { result ≢ Status.Unread }
+    ensures unwritten { result ≡ Status.Unwritten → Rose (K.faults out.old) (K.faults out.new) }
+    ensures faults { K.faults out.old ≤ K.faults out.new }
 {
     let Ok(file) = Text::of(alloc, script) else {
         return Status::Memory;
     };
     let fault = ScriptFault {
         file,
-        line: 1,
-        cause: Cause::Script(ScriptCause::Unknown),
+        line: number,
+        cause: Cause::Script(cause),
     };
     let Ok(line) = format!(in alloc; "{fault}\n") else {
         return Status::Memory;
@@ -147,50 +239,4 @@ fn refuse_script<K: Sink>(alloc: Global, script: &str, out: &mut K) -> Status
         Ok(()) => Status::Script(fault),
         Err(fault) => Status::from(fault),
     }
-}
-
-/// Runs the built-in board for so many microseconds, and writes its log.
-fn run_for<K: Sink>(alloc: Global, micros: u64, out: &mut K) -> Status
-    requires { micros < 1000000 }
-    ensures course { IsEnd (log_of (entries_of micros)) Done result (K.written out.old) (K.written out.new) }
-    ensures usage { IsNoUsage result }
-    ensures unwritten { result ≡ Status.Unwritten → Rose (K.faults out.old) (K.faults out.new) }
-{
-    let Ok(log) = board_log(alloc, micros) else {
-        return Status::Memory;
-    };
-    match write_log(&log, out) {
-        Ok(()) => Status::Done,
-        Err(fault) => Status::from(fault),
-    }
-}
-
-/// What the built-in board prints in its first microseconds.
-#[tactic(auto, unfolding(crate::specs::Transcript::entries_of))]
-fn board_log(alloc: Global, micros: u64) -> Result<Log, NoMemory>
-    requires { micros < 1000000 }
-    ensures { IfOk result (λ log. string_bytes log.ended ++ string_bytes log.rest ≡ log_of (entries_of micros)) }
-{
-    let mut board = Board::early(alloc)?;
-    let start = SlotAt {
-        from: Micros(0),
-        first: 0,
-    };
-    let Turn::Used(_) = board.turn(start, micros) else {
-        return Err(NoMemory);
-    };
-    let mut line = OpenLine::new(alloc);
-    let ended = line.text(alloc, &board.take_entries())?;
-    let rest = line.rest(alloc)?;
-    Ok(Log { ended, rest })
-}
-
-/// Writes the lines that ended, and then the one that did not.
-fn write_log<K: Sink>(log: &Log, out: &mut K) -> Result<(), WriteFault>
-    ensures whole { OnOk result (K.written out.new ≡ grown (K.written out.old) (string_bytes log.now.ended ++ string_bytes log.now.rest)) }
-    ensures part { OnErr result (IsPartWritten (K.written out.old) (string_bytes log.now.ended ++ string_bytes log.now.rest) (K.written out.new)) }
-    ensures unwritten { IsErrOf result WriteFault.Unwritten → Rose (K.faults out.old) (K.faults out.new) }
-{
-    write_whole(out, log.ended.as_bytes())?;
-    write_whole(out, log.rest.as_bytes())
 }

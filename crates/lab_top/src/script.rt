@@ -1,59 +1,87 @@
-//! The script: one line, `emulation RunFor "0.` with six digits of a part of a second and a closing quote.
-ghost use Rattle.std.specs.Prelude.{◌≡◌, ◌^◌, ◌<◌, length, if◌then◌else◌, Some, None, IfSome};
-ghost use Rattle.std.specs.Char.{is_ascii_digit};
+//! Scripts: lines that run the laboratory or set its quantum.
+ghost use Rattle.std.specs.Prelude.{◌≡◌, ◌==◌, ◌<◌, ◌≤◌, not, true, [], ◌∷◌, length, take, slice_index, IfSome, MatchOption};
 ghost use Rattle.std.specs.List.{list_all};
-ghost use Rattle.lab_top.specs.Script.{run_time, closed_digits, number_of, is_ending};
+ghost use Rattle.std.specs.Option.{option_map};
+ghost use Rattle.lab_top.specs.Script.{lines_of, time_in, closed, quoted, command_of};
 
-/// The signs before the digits.
-const OPENING: &[u8] = b"emulation RunFor \"0.";
+use lab_num::{Micros, TimeFault, read_time};
+use std::str;
 
-/// How many digits stand behind the point.
-const DIGITS: usize = 6;
-
-/// The microseconds of the run. None exactly where the bytes are no script: the opening, six digits, a quote, and
-/// at most one line feed.
-#[tactic(auto, unfolding(crate::specs::Script::run_time))]
-pub fn run_time(script: &[u8]) -> Option<u64>
-    ensures value { result ≡ run_time script.now }
-    ensures fits { IfSome result (λ micros. micros < 1000000) }
-{
-    closed_digits(script.strip_prefix(OPENING)?)
+/// What a line of a script asks for.
+#[derive(Clone, Copy, PartialEq, Eq, Debug)]
+pub enum Command {
+    /// `emulation RunFor "T"`: run for this long.
+    RunFor(Result<Micros, TimeFault>),
+    /// `emulation SetGlobalQuantum "T"`: let rounds be this long.
+    SetQuantum(Result<Micros, TimeFault>),
 }
 
-/// The number of six digits with an ending behind them. None exactly where the signs are not that.
-fn closed_digits(signs: &[u8]) -> Option<u64>
-    ensures value { result ≡ closed_digits signs.now }
-    ensures fits { IfSome result (λ number. number < 1000000) }
+/// The first line, without its line feed, and what is behind it. None exactly where nothing is left.
+pub fn next_line(script: &[u8]) -> Option<(&[u8], &[u8])>
+    ensures lines { MatchOption result (lines_of script.now ≡ []) (λ next. lines_of script.now ≡ next.0.now ∷ lines_of next.1.now) }
+    ensures shorter { IfSome result (λ next. length next.1.now < length script.now) }
 {
-    if signs.len() < DIGITS {
+    if script.is_empty() {
         return None;
     }
-    let (digits, ending) = signs.split_at(DIGITS);
-    if !is_ending(ending) {
-        return None;
+    let end = first(b'\n', script);
+    if end == script.len() {
+        return Some((script, &script[end..]));
     }
-    number(digits)
+    Some((&script[..end], &script[end + 1..]))
 }
 
-/// Whether this is the quote, and at most one line feed.
-fn is_ending(signs: &[u8]) -> bool
-    ensures { result ≡ is_ending signs.now }
+/// The place of the first byte of this value, or the number of bytes where there is none.
+fn first(byte: u8, bytes: &[u8]) -> usize
+    ensures within { result ≤ length bytes.now }
+    ensures before { list_all (λ b. not (b == byte)) (take result bytes.now) ≡ true }
+    ensures found { result < length bytes.now → slice_index bytes.now result ≡ byte }
 {
-    signs == b"\"".as_slice() || signs == b"\"\n".as_slice()
-}
-
-/// The number that digits write. None exactly where one of the signs is no digit.
-fn number(digits: &[u8]) -> Option<u64>
-    requires { length digits.now < 20 }
-    ensures value { result ≡ (if list_all is_ascii_digit digits.now then Some (number_of digits.now) else None) }
-    ensures fits { IfSome result (λ number. number < 10 ^ length digits.now) }
-{
-    let mut number = 0;
-    for &digit in digits {
-        if !digit.is_ascii_digit() {
-            return None;
+    for (i, b) in bytes.iter().enumerate() {
+        if *b == byte {
+            return i;
         }
-        number = 10 * number + u64::from(digit - b'0');
     }
-    Some(number)
+    bytes.len()
+}
+
+/// What the line asks for. None exactly where it is no command.
+#[tactic(auto, unfolding(crate::specs::Script::command_of))]
+pub fn command_of(line: &[u8]) -> Option<Command>
+    ensures { result ≡ command_of line.now }
+{
+    if let Some(time) = quoted(b"emulation RunFor \"", line) {
+        return Some(Command::RunFor(time_in(time)));
+    }
+    let time = quoted(b"emulation SetGlobalQuantum \"", line)?;
+    Some(Command::SetQuantum(time_in(time)))
+}
+
+/// What stands between the opening and a quote at the line's end. None exactly where the line does not begin with the
+/// opening or has no quote or more than one behind it.
+fn quoted<'a>(opening: &[u8], line: &'a [u8]) -> Option<&'a [u8]>
+    ensures { option_map (λ time. time.now) result ≡ quoted opening.now line.now }
+{
+    closed(line.strip_prefix(opening)?)
+}
+
+/// What stands before the last sign. None exactly where that is no quote or not the only one.
+fn closed(signs: &[u8]) -> Option<&[u8]>
+    ensures { option_map (λ text. text.now) result ≡ closed signs.now }
+{
+    let end = first(b'"', signs);
+    if end + 1 != signs.len() {
+        return None;
+    }
+    Some(&signs[..end])
+}
+
+/// The time that the bytes say.
+fn time_in(bytes: &[u8]) -> Result<Micros, TimeFault>
+    ensures { result ≡ time_in bytes.now }
+{
+    match str::from_utf8(bytes) {
+        Ok(text) => read_time(text),
+        Err(_) => Err(TimeFault::Form),
+    }
 }

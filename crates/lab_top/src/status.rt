@@ -5,7 +5,9 @@ use lab_io::WriteFault;
 /// Why the command words are refused.
 #[derive(Clone, Copy, PartialEq, Eq, Debug)]
 pub enum UsageCause {
-    /// They are not `run` and the name of a script that does not begin with `-`.
+    /// There is no word, or the first is not `run`.
+    Command,
+    /// What follows `run` is not one name of a script that does not begin with `-`.
     Words,
 }
 

@@ -7,6 +7,8 @@ use std::test::Fail;
 const USAGE: &str =
     "usage: lab run SCRIPT [--workers N] [--until TIME] | check SCRIPT | gen SEED BOARDS [--workers N]\n";
 
+const BOTH_LINES: &str = "[0.000002] m0/uart: A\n[0.000104] m1/uart: A\n";
+
 fn words_of(alloc: Global, words: &[&str]) -> Result<Vec<String>, Fail> {
     let mut owned = Vec::new(alloc);
     for word in words {
@@ -26,52 +28,98 @@ fn run(alloc: Global, words: &[&str], script: &[u8]) -> Result<(u8, Vec<u8>), Fa
 }
 
 #[test]
-fn the_first_byte_is_printed_once_its_slot_is_paid(rt: HostRuntime) -> Result<(), Fail> {
+fn the_second_board_answers_in_the_round_behind_the_first_byte(
+    rt: HostRuntime,
+) -> Result<(), Fail> {
     let rows = [
-        ("0.000000", ""),
-        ("0.000002", ""),
-        ("0.000003", "[0.000002] m0/uart: A\n"),
-        ("0.002000", "[0.000002] m0/uart: A\n"),
+        ("", ""),
+        ("emulation RunFor \"0\"\n", ""),
+        ("emulation RunFor \"0.000002\"\n", ""),
+        ("emulation RunFor \"0.000003\"\n", "[0.000002] m0/uart: A\n"),
+        ("emulation RunFor \"0.000104\"\n", "[0.000002] m0/uart: A\n"),
+        ("emulation RunFor \"0.000105\"\n", BOTH_LINES),
+        ("emulation RunFor \"0.0003\"\n", BOTH_LINES),
+        ("emulation RunFor \"0.0003\"", BOTH_LINES),
+        ("emulation RunFor \"0:00:00.0003\"", BOTH_LINES),
+        (
+            "emulation RunFor \"0.0001\"\nemulation RunFor \"0.0002\"\n",
+            BOTH_LINES,
+        ),
+        (
+            "emulation SetGlobalQuantum \"0.000070\"\nemulation RunFor \"0.0003\"\n",
+            "[0.000002] m0/uart: A\n[0.000074] m1/uart: A\n",
+        ),
     ];
-    for (time, log) in rows {
-        let script = format!(in rt.alloc(); "emulation RunFor \"{time}\"\n")?;
+    for (script, log) in rows {
         let (number, written) = run(rt.alloc(), &["run", "s.resc"], script.as_bytes())?;
-        assert_eq!(rt; number, 0, "{time}");
-        assert_eq!(rt; written.as_slice(), log.as_bytes(), "{time}");
+        assert_eq!(rt; number, 0, "{script}");
+        assert_eq!(rt; written.as_slice(), log.as_bytes(), "{script}");
     }
     Ok(())
 }
 
 #[test]
-fn a_script_of_another_form_is_an_unknown_command(rt: HostRuntime) -> Result<(), Fail> {
-    let scripts = [
-        "",
-        "emulation RunFor \"3\"",
-        "emulation RunFor \"0.000003",
-        "emulation RunFor \"0.00003\"",
-        "emulation RunFor \"0.0000030\"",
-        "emulation RunFor \"0.00000x\"",
-        "emulation RunFor \"1.000003\"",
-        "emulation RunFor \"0.000003\"\n\n",
-        "emulation RunFor \"0.000003\"\r\n",
-        " emulation RunFor \"0.000003\"",
-        "emulation runfor \"0.000003\"",
+fn a_line_is_refused_by_its_number_and_cause(rt: HostRuntime) -> Result<(), Fail> {
+    let rows = [
+        ("\n", "1: S1 unknown command"),
+        ("emulation runfor \"1\"\n", "1: S1 unknown command"),
+        ("emulation RunFor \"1\n", "1: S1 unknown command"),
+        ("emulation RunFor \"1\"\"\n", "1: S1 unknown command"),
+        ("emulation RunFor \"0\"\r\n", "1: S1 unknown command"),
+        ("emulation RunFor \"0\"\nquit\n", "2: S1 unknown command"),
+        ("emulation RunFor \"3s\"\n", "1: S10 time"),
+        ("emulation RunFor \"\"\n", "1: S10 time"),
+        ("emulation RunFor \"0.0000001\"\n", "1: S10 time"),
+        ("emulation RunFor \"10000.000001\"\n", "1: S10 time"),
+        ("emulation SetGlobalQuantum \"0\"\n", "1: S10 time"),
+        ("emulation SetGlobalQuantum \"1.000001\"\n", "1: S10 time"),
+        (
+            "emulation SetGlobalQuantum \"1\"\nemulation RunFor \"0:60:00\"\n",
+            "2: S10 time",
+        ),
     ];
-    for script in scripts {
+    for (script, fault) in rows {
         let (number, written) = run(rt.alloc(), &["run", "s.resc"], script.as_bytes())?;
+        let wanted = format!(in rt.alloc(); "error: s.resc:{fault}\n")?;
         assert_eq!(rt; number, 3, "{script}");
-        assert_eq!(rt;
-            written.as_slice(),
-            b"error: s.resc:1: S1 unknown command\n".as_slice(),
-            "{script}"
-        );
+        assert_eq!(rt; written.as_slice(), wanted.as_bytes(), "{script}");
     }
-    let (number, _) = run(
-        rt.alloc(),
-        &["run", "s.resc"],
-        b"emulation RunFor \"0.000002\"",
-    )?;
-    assert_eq!(rt; number, 0);
+    Ok(())
+}
+
+#[test]
+fn the_log_stands_before_the_fault_and_nothing_behind_it_is_read(
+    rt: HostRuntime,
+) -> Result<(), Fail> {
+    let rows = [
+        ("emulation RunFor \"10000\"\n", "2: S14 lab time"),
+        (
+            "emulation RunFor \"x\"\nemulation RunFor \"0.0003\"\n",
+            "2: S10 time",
+        ),
+        ("\nquit\n", "2: S1 unknown command"),
+    ];
+    for (rest, fault) in rows {
+        let alloc = rt.alloc();
+        let script = format!(in alloc; "emulation RunFor \"0.0003\"\n{rest}")?;
+        let (number, written) = run(alloc, &["run", "s.resc"], script.as_bytes())?;
+        let wanted = format!(in alloc; "{BOTH_LINES}error: s.resc:{fault}\n")?;
+        assert_eq!(rt; number, 3, "{rest}");
+        assert_eq!(rt; written.as_slice(), wanted.as_bytes(), "{rest}");
+    }
+    Ok(())
+}
+
+#[test]
+fn a_script_above_16_mib_is_refused_whole(rt: HostRuntime) -> Result<(), Fail> {
+    let mut script = Vec::new(rt.alloc());
+    script.resize(16_777_217, b'\n')?;
+    let (number, written) = run(rt.alloc(), &["run", "s.resc"], &script)?;
+    assert_eq!(rt; number, 3);
+    assert_eq!(rt;
+        written.as_slice(),
+        b"error: s.resc:0: S19 size\n".as_slice()
+    );
     Ok(())
 }
 
@@ -86,7 +134,7 @@ fn other_words_are_answered_by_the_usage_line(rt: HostRuntime) -> Result<(), Fai
         &["run", "s.resc", "s.resc"],
     ];
     for words in rows {
-        let (number, written) = run(rt.alloc(), words, b"emulation RunFor \"0.000003\"")?;
+        let (number, written) = run(rt.alloc(), words, b"emulation RunFor \"0.0003\"")?;
         assert_eq!(rt; number, 2, "{words:?}");
         assert_eq!(rt; written.as_slice(), USAGE.as_bytes(), "{words:?}");
     }
@@ -98,11 +146,11 @@ fn a_sink_that_takes_one_byte_a_call_is_written_the_same(rt: HostRuntime) -> Res
     let alloc = rt.alloc();
     let words = words_of(alloc, &["run", "s.resc"])?;
     let mut files = MemFiles::new(alloc);
-    files.put("s.resc", b"emulation RunFor \"0.000003\"")?;
+    files.put("s.resc", b"emulation RunFor \"0.0003\"")?;
     let mut out = MemSink::new(alloc, 1);
     let status = run_lab(alloc, &words, &mut files, &mut out);
     assert_eq!(rt; status.number(), 0);
-    assert_eq!(rt; out.bytes(), b"[0.000002] m0/uart: A\n".as_slice());
+    assert_eq!(rt; out.bytes(), BOTH_LINES.as_bytes());
     Ok(())
 }
 
@@ -110,7 +158,7 @@ fn a_sink_that_takes_one_byte_a_call_is_written_the_same(rt: HostRuntime) -> Res
 fn faults_outside_cut_a_run_short(rt: HostRuntime) -> Result<(), Fail> {
     let alloc = rt.alloc();
     let words = words_of(alloc, &["run", "s.resc"])?;
-    let script = b"emulation RunFor \"0.000003\"".as_slice();
+    let script = b"emulation RunFor \"0.0003\"".as_slice();
 
     // The first write fails, and then one in mid-stream.
     for (call, written) in [(0, b"".as_slice()), (2, b"[0.00000".as_slice())] {

@@ -48,7 +48,10 @@ mod tests {
     use lab_num::{BoardNo, Key, Member, Micros, Payload, PostNo, What};
     use std::test::Fail;
 
-    fn key(at: u64, board: u8, number: u64) -> Key {
+    fn key(at: u64, board: u8, number: u64) -> Key
+        ensures { result
+            ≡ record { at = record { 0 = at }; board = record { 0 = board }; number = record { 0 = number } } }
+    {
         Key {
             at: Micros(at),
             board: BoardNo(board),
@@ -56,18 +59,22 @@ mod tests {
         }
     }
 
-    fn entry(at: u64, board: u8, number: u64) -> Entry {
+    fn entry(key: Key, value: u8) -> Entry
+        ensures { result.key ≡ key }
+    {
         Entry {
-            key: key(at, board, number),
-            what: What::Byte { dev: 0, value: board },
+            key,
+            what: What::Byte { dev: 0, value },
         }
     }
 
-    fn post(at: u64, board: u8, value: u8) -> Post {
+    fn post(key: Key, value: u8) -> Post
+        ensures { result.key ≡ key }
+    {
         Post {
-            key: key(at, board, 0),
+            key,
             from: Member {
-                board: BoardNo(board),
+                board: key.board,
                 dev: 0,
             },
             payload: Payload::Byte(value),
@@ -75,23 +82,33 @@ mod tests {
     }
 
     #[test]
-    fn entries_of_three_boards_come_in_order_of_time_and_board(rt: HostRuntime) -> Result<(), Fail> {
+    fn entries_of_three_boards_come_in_order_of_time_and_board(
+        rt: HostRuntime,
+    ) -> Result<(), Fail> {
         let alloc = rt.alloc();
-        let first = vec![in alloc; entry(2, 0, 0), entry(2, 0, 1), entry(9, 0, 2)]?;
-        let third = vec![in alloc; entry(1, 2, 0), entry(2, 2, 1)]?;
+        let a = entry(key(2, 0, 0), b'a');
+        let b = entry(key(2, 0, 1), b'b');
+        let c = entry(key(9, 0, 2), b'c');
+        let d = entry(key(1, 2, 0), b'd');
+        let e = entry(key(2, 2, 1), b'e');
+        let first = vec![in alloc; a, b, c]?;
+        let third = vec![in alloc; d, e]?;
         let lists = vec![in alloc; first, Vec::new(alloc), third]?;
         let merged = merge_entries(alloc, lists)?;
-        let want = [entry(1, 2, 0), entry(2, 0, 0), entry(2, 0, 1), entry(2, 2, 1), entry(9, 0, 2)];
-        assert_eq!(rt; merged.as_slice(), want.as_slice());
+        assert_eq!(rt; merged.as_slice(), [d, a, b, e, c].as_slice());
         Ok(())
     }
 
     #[test]
-    fn three_senders_of_one_microsecond_come_in_order_of_board(rt: HostRuntime) -> Result<(), Fail> {
-        let list = vec![in rt.alloc(); post(2, 1, b'B'), post(2, 2, b'C'), post(2, 0, b'A')]?;
+    fn three_senders_of_one_microsecond_come_in_order_of_board(
+        rt: HostRuntime,
+    ) -> Result<(), Fail> {
+        let a = post(key(2, 0, 0), b'A');
+        let b = post(key(2, 1, 0), b'B');
+        let c = post(key(2, 2, 0), b'C');
+        let list = vec![in rt.alloc(); b, c, a]?;
         let merged = merge_posts(list)?;
-        let want = [post(2, 0, b'A'), post(2, 1, b'B'), post(2, 2, b'C')];
-        assert_eq!(rt; merged.as_slice(), want.as_slice());
+        assert_eq!(rt; merged.as_slice(), [a, b, c].as_slice());
         Ok(())
     }
 }

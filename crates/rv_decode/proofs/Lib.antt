@@ -2,4 +2,6 @@
 pub mod Masks
 pub mod Sole
 pub mod TableLemmas
+pub mod FixedLemmas
+pub mod FitLemmas
 mod KnownWords

@@ -3,4 +3,5 @@ pub mod Instruction
 pub mod Immediate
 pub mod Table
 pub mod Fields
+pub mod FixedBits
 pub mod Means

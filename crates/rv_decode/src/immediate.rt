@@ -1,9 +1,9 @@
-// The fields of a word and its immediates, by format.
+// The fields of a word, and its immediates by format (RISC-V Unprivileged ISA 20191213, section 2.3).
 ghost use Rattle.std.specs.Prelude.{◌≡◌, ◌+◌, ◌^◌, ◌<◌, ◌≤◌};
-ghost use Rattle.rv_decode.specs.Immediate.{field, sign_extended, imm_i, imm_s, imm_u, imm_j};
+ghost use Rattle.rv_decode.specs.Immediate.{field, sign_extended, imm_i, imm_s, imm_b, imm_u, imm_j};
 
-/// `count` bits of a word, from bit `low` on.
-fn bits(word: u32, low: u32, count: u32) -> u32
+/// `count` bits of a word, from bit `low` on: at most 31 bits.
+pub fn bits(word: u32, low: u32, count: u32) -> u32
     requires low { low < 32 }
     requires count { count < 32 }
     ensures value { result ≡ field word low count }
@@ -35,24 +35,41 @@ fn sign_extend(n: u32, count: u32) -> u32
     }
 }
 
+/// The immediate of format I, bits 31 to 20.
 pub fn immediate_i(word: u32) -> u32
     ensures { result ≡ imm_i word }
 {
     sign_extend(bits(word, 20, 12), 12)
 }
 
+/// The immediate of format S, whose lower five bits stand in the place of `rd`.
 pub fn immediate_s(word: u32) -> u32
     ensures { result ≡ imm_s word }
 {
     sign_extend((bits(word, 25, 7) << 5) | bits(word, 7, 5), 12)
 }
 
+/// The immediate of format B, an even offset of 13 bits.
+pub fn immediate_b(word: u32) -> u32
+    ensures { result ≡ imm_b word }
+{
+    sign_extend(
+        bits(word, 31, 1) * (1 << 12)
+            + bits(word, 7, 1) * (1 << 11)
+            + bits(word, 25, 6) * (1 << 5)
+            + bits(word, 8, 4) * 2,
+        13,
+    )
+}
+
+/// The immediate of format U, the upper 20 bits.
 pub fn immediate_u(word: u32) -> u32
     ensures { result ≡ imm_u word }
 {
     word & 0xFFFF_F000
 }
 
+/// The immediate of format J, an even offset of 21 bits.
 pub fn immediate_j(word: u32) -> u32
     ensures { result ≡ imm_j word }
 {

@@ -5,5 +5,6 @@ mod decoder;
 mod immediate;
 mod instruction;
 
-pub use decoder::{decode, rows_differ};
+pub use decoder::{decode, rows_differ, rows_fix_bits, valid_fits};
+pub use immediate::bits;
 pub use instruction::{Format, Instr, Op};

@@ -9,6 +9,6 @@ pub returns : goal.returns
 returns c =
     let sorted = c.in_ok-sort_by_key.ensures.sorted post_key (answers_always _ _ _ (λ f a r g h. search rules)) in
     let is : IsListing post_key c.args.list.items c.sort_by_key.new.self.items =
-      c.listing_laws.ensures.sorted post_key c.args.list.items c.sort_by_key.new.self.items c.requires
-      c.in_ok-sort_by_key.ensures.permutation sorted in
+    c.listing_laws.ensures.sorted post_key c.args.list.items c.sort_by_key.new.self.items c.requires
+    c.in_ok-sort_by_key.ensures.permutation sorted in
     record { is_listing = is; value = c.listing_laws.ensures.only post_key c.args.list.items c.sort_by_key.new.self.items is }

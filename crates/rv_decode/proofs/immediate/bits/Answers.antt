@@ -1,3 +1,4 @@
+-- A shift and a mask of ones take a field.
 use Rattle.std.proofs.Common.{◌≡◌, ◌<◌, ◌*◌, ◌%◌, ◌^◌, refl, arith}
 use Rattle.std.proofs.Math.Pow.{pow-lt}
 use Rattle.std.proofs.lemmas.Nat.{and_mask}

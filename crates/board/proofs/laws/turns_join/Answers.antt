@@ -1,0 +1,5 @@
+use Rattle.board.proofs.StretchLemmas.{turns-add}
+use Rattle.board.proofs.laws.turns_join.Goals as goal
+
+pub returns : goal.returns
+returns c = turns-add

@@ -1,5 +1,0 @@
-use Rattle.board.proofs.StretchLemmas.{stretch-add}
-use Rattle.board.proofs.turns.stretches_join.Goals as goal
-
-pub returns : goal.returns
-returns c = stretch-add

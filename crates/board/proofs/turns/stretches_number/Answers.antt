@@ -1,5 +1,0 @@
-use Rattle.board.proofs.NumberLemmas.{numbered_stretch}
-use Rattle.board.proofs.turns.stretches_number.Goals as goal
-
-pub returns : goal.returns
-returns c = numbered_stretch

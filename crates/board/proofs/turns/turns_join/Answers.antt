@@ -1,5 +1,0 @@
-use Rattle.board.proofs.StretchLemmas.{turns-add}
-use Rattle.board.proofs.turns.turns_join.Goals as goal
-
-pub returns : goal.returns
-returns c = turns-add

@@ -1,0 +1,61 @@
+-- The built-in laboratory.
+use Rattle.std.specs.Prelude.{ℕ, true, List, [], ◌∷◌, codes}
+use Rattle.lab_num.specs.declared.key.Member.{Member}
+use Rattle.board.specs.Space.{put_bytes}
+use Rattle.board.specs.View.{View}
+use Rattle.board.specs.Early.{early}
+use Rattle.lab_state.specs.Lab.{Lab}
+use Rattle.lab_state.specs.One.{changed}
+use Rattle.lab_state.specs.Names.{number_of, connected_to}
+use Rattle.lab_top.specs.Commands.{State}
+use Rattle.lab_top.specs.Log.{blank}
+
+-- a program that sends one byte, `A`, in slot 2, and then runs in place: lui x5, 0x10000; addi x6, x0, 65;
+-- sb x6, 0(x5); jal x0, 0
+abbrev pub send_a : List ℕ
+send_a =
+    0xB7 ∷ 0x02 ∷ 0x00 ∷ 0x10 ∷ 0x13 ∷ 0x03 ∷ 0x10 ∷ 0x04 ∷ 0x23 ∷ 0x80 ∷ 0x62 ∷ 0x00 ∷ 0x6F ∷ 0x00 ∷ 0x00 ∷ 0x00 ∷ []
+
+-- a program that waits for one byte, sends it, and then runs in place: lui x5, 0x10000; lbu x6, 5(x5); andi x6, x6, 1;
+-- beq x6, x0, -8; lbu x7, 0(x5); sb x7, 0(x5); jal x0, 0
+abbrev pub echo : List ℕ
+echo =
+    0xB7 ∷ 0x02 ∷ 0x00 ∷ 0x10 ∷ 0x03 ∷ 0xC3 ∷ 0x52 ∷ 0x00 ∷ 0x13 ∷ 0x73 ∷ 0x13 ∷ 0x00 ∷ 0xE3 ∷ 0x0C ∷ 0x03 ∷ 0xFE
+    ∷ 0x83 ∷ 0xC3 ∷ 0x02 ∷ 0x00 ∷ 0x23 ∷ 0x80 ∷ 0x72 ∷ 0x00 ∷ 0x6F ∷ 0x00 ∷ 0x00 ∷ 0x00 ∷ []
+
+-- a board of this number at the first word of its program, its UART shown
+abbrev pub prepared : ℕ → List ℕ → View
+prepared number program = record (early number) { memory = put_bytes (early number).memory 0 program; shown = true }
+
+-- the UART of a board, which is its first device
+abbrev pub uart_of : ℕ → Member
+uart_of number = record { board = record { 0 = number }; dev = 0 }
+
+-- a laboratory in which a board was given its program
+abbrev pub programmed : Lab → ℕ → List ℕ → Lab
+programmed lab b program = changed lab b (λ v. record v { memory = put_bytes v.memory 0 program })
+
+-- a laboratory in which the UART of a board is shown
+abbrev pub showing : Lab → ℕ → Lab
+showing lab b = changed lab b (λ v. record v { shown = true })
+
+-- a laboratory in which a board was given its program, and its UART shown and put on the hub
+abbrev pub equipped : Lab → ℕ → List ℕ → Lab
+equipped lab b program = record (showing (programmed lab b program) b) {
+  hubs = connected_to lab.hubs (number_of lab.hub_names (codes "hub")) (uart_of b);
+}
+
+-- two boards at lab time 0, the one that sends and the one that echoes, their UARTs on one hub
+unfoldable pub built_in : Lab
+built_in = record {
+  names = codes "m0" ∷ codes "m1" ∷ [];
+  boards = prepared 0 send_a ∷ prepared 1 echo ∷ [];
+  hub_names = codes "hub" ∷ [];
+  hubs = (uart_of 0 ∷ uart_of 1 ∷ []) ∷ [];
+  now = 0;
+  quantum = 100;
+}
+
+-- a run before its first command
+abbrev pub started : State
+started = record { lab = built_in; lines = blank (codes "m0") ∷ blank (codes "m1") ∷ [] }

@@ -1,0 +1,196 @@
+// From an instruction to its word.
+ghost use Rattle.std.specs.Prelude.{◌≡◌, ℕ, ◌^◌, ◌<◌, ◌↔◌, Some, IsTrue};
+ghost use Rattle.rv_decode.specs.Instruction.{format_of};
+ghost use Rattle.rv_decode.specs.Immediate.{field};
+ghost use Rattle.rv_decode.specs.Means.{means, IsInstr, IsValid};
+ghost use Rattle.rv_decode.specs.FixedBits.{bits_of};
+ghost use Rattle.rv_asm.specs.Encoded.{encoded, placed_s, placed_b, placed_j};
+
+use rv_decode::{Format, Instr, Op, bits, decode, rows_fix_bits, valid_fits};
+
+/// Bits 6 to 0 of the instruction's words.
+fn opcode(op: Op) -> u32
+    ensures value { result ≡ field (bits_of op) 0 7 }
+    ensures fits { result < 2 ^ 7 }
+{
+    match op {
+        Op::Lui => 0x37,
+        Op::Auipc => 0x17,
+        Op::Jal => 0x6F,
+        Op::Jalr => 0x67,
+        Op::Beq | Op::Bne | Op::Blt | Op::Bge | Op::Bltu | Op::Bgeu => 0x63,
+        Op::Lb | Op::Lh | Op::Lw | Op::Lbu | Op::Lhu => 0x03,
+        Op::Sb | Op::Sh | Op::Sw => 0x23,
+        Op::Addi
+        | Op::Slti
+        | Op::Sltiu
+        | Op::Xori
+        | Op::Ori
+        | Op::Andi
+        | Op::Slli
+        | Op::Srli
+        | Op::Srai => 0x13,
+        Op::Fence | Op::FenceI => 0x0F,
+        Op::Ecall
+        | Op::Ebreak
+        | Op::Mret
+        | Op::Wfi
+        | Op::Csrrw
+        | Op::Csrrs
+        | Op::Csrrc
+        | Op::Csrrwi
+        | Op::Csrrsi
+        | Op::Csrrci => 0x73,
+        _ => 0x33,
+    }
+}
+
+/// Bits 14 to 12 of the instruction's words, 0 where a field stands there.
+fn funct3(op: Op) -> u32
+    ensures value { result ≡ field (bits_of op) 12 3 }
+    ensures fits { result < 2 ^ 3 }
+{
+    match op {
+        Op::Bne | Op::Lh | Op::Sh | Op::Slli | Op::Sll | Op::FenceI | Op::Csrrw | Op::Mulh => 1,
+        Op::Lw | Op::Sw | Op::Slti | Op::Slt | Op::Csrrs | Op::Mulhsu => 2,
+        Op::Sltiu | Op::Sltu | Op::Csrrc | Op::Mulhu => 3,
+        Op::Blt | Op::Lbu | Op::Xori | Op::Xor | Op::Div => 4,
+        Op::Bge | Op::Lhu | Op::Srli | Op::Srai | Op::Srl | Op::Sra | Op::Csrrwi | Op::Divu => 5,
+        Op::Bltu | Op::Ori | Op::Or | Op::Csrrsi | Op::Rem => 6,
+        Op::Bgeu | Op::Andi | Op::And | Op::Csrrci | Op::Remu => 7,
+        _ => 0,
+    }
+}
+
+/// Bits 31 to 25 of the instruction's words, 0 where a field stands there.
+fn funct7(op: Op) -> u32
+    ensures value { result ≡ field (bits_of op) 25 7 }
+    ensures fits { result < 2 ^ 7 }
+{
+    match op {
+        Op::Mul | Op::Mulh | Op::Mulhsu | Op::Mulhu | Op::Div | Op::Divu | Op::Rem | Op::Remu =>
+            0x01,
+        Op::Wfi => 0x08,
+        Op::Mret => 0x18,
+        Op::Srai | Op::Sub | Op::Sra => 0x20,
+        _ => 0x00,
+    }
+}
+
+/// The word of an instruction without fields.
+fn fixed_word(op: Op) -> u32
+    ensures { format_of op ≡ Format.Fixed → result ≡ bits_of op }
+{
+    match op {
+        Op::Ecall => 0x0000_0073,
+        Op::Ebreak => 0x0010_0073,
+        Op::Mret => 0x3020_0073,
+        Op::Wfi => 0x1050_0073,
+        _ => 0,
+    }
+}
+
+/// The immediate of format S, in the places of its bits.
+fn place_s(imm: u32) -> u32
+    ensures { result ≡ placed_s imm }
+{
+    (bits(imm, 0, 5) << 7) + (bits(imm, 5, 7) << 25)
+}
+
+/// The immediate of format B, in the places of its bits.
+fn place_b(imm: u32) -> u32
+    ensures { result ≡ placed_b imm }
+{
+    (bits(imm, 11, 1) << 7)
+        + (bits(imm, 1, 4) << 8)
+        + (bits(imm, 5, 6) << 25)
+        + (bits(imm, 12, 1) << 31)
+}
+
+/// The immediate of format J, in the places of its bits.
+fn place_j(imm: u32) -> u32
+    ensures { result ≡ placed_j imm }
+{
+    (bits(imm, 12, 8) << 12)
+        + (bits(imm, 11, 1) << 20)
+        + (bits(imm, 1, 10) << 21)
+        + (bits(imm, 20, 1) << 31)
+}
+
+/// The word that has the instruction's fields in the places of its format.
+#[tactic(auto, unfolding(crate::specs::Encoded::encoded))]
+fn word_of(i: &Instr) -> u32
+    requires { IsInstr i.now }
+    ensures { result ≡ encoded i.now }
+{
+    let low = opcode(i.op) + (funct3(i.op) << 12);
+    let rd = u32::from(i.rd) << 7;
+    let rs1 = u32::from(i.rs1) << 15;
+    let rs2 = u32::from(i.rs2) << 20;
+    let high = funct7(i.op) << 25;
+    match i.op.format() {
+        Format::R => low + high + rd + rs1 + rs2,
+        Format::I | Format::IUnsigned => low + rd + rs1 + (bits(i.imm, 0, 12) << 20),
+        Format::IShift => low + high + rd + rs1 + (bits(i.imm, 0, 5) << 20),
+        Format::S => low + rs1 + rs2 + place_s(i.imm),
+        Format::B => low + rs1 + rs2 + place_b(i.imm),
+        Format::U => opcode(i.op) + rd + (bits(i.imm, 12, 20) << 12),
+        Format::J => opcode(i.op) + rd + place_j(i.imm),
+        Format::Fixed => fixed_word(i.op),
+    }
+}
+
+/// Whether the numbers of the registers are below 32.
+fn fits(i: &Instr) -> bool
+    ensures { IsTrue result ↔ IsInstr i.now }
+{
+    let _imm = i.imm;
+    i.rd < 32 && i.rs1 < 32 && i.rs2 < 32
+}
+
+/// Whether two names of instructions are one.
+fn is_same_op(a: Op, b: Op) -> bool
+    ensures { IsTrue result ↔ (a ≡ b) }
+{
+    a == b
+}
+
+/// Whether two instructions are one.
+fn is_same(a: &Instr, b: &Instr) -> bool
+    ensures { IsTrue result ↔ (a.now ≡ b.now) }
+{
+    is_same_op(a.op, b.op) && a.rd == b.rd && a.rs1 == b.rs1 && a.rs2 == b.rs2 && a.imm == b.imm
+}
+
+/// Whether the word means the instruction.
+fn is_meant(word: u32, i: &Instr) -> bool
+    ensures { IsTrue result ↔ (means word ≡ Some i.now) }
+{
+    match decode(word) {
+        Some(meant) => is_same(&meant, i),
+        None => false,
+    }
+}
+
+/// The word of a valid instruction, the inverse of `decode`.
+pub fn encode(i: &Instr) -> u32
+    requires { IsValid i.now }
+    ensures meaning { means result ≡ Some i.now }
+    ensures inverse { (word : ℕ) → word < 2 ^ 32 → means word ≡ Some i.now → result ≡ word }
+{
+    rows_fix_bits();
+    valid_fits();
+    word_of(i)
+}
+
+/// Whether some word means the instruction, as `encode` requires.
+pub fn is_valid(i: &Instr) -> bool
+    ensures { IsTrue result ↔ IsValid i.now }
+{
+    rows_fix_bits();
+    valid_fits();
+    fits(i) && is_meant(word_of(i), i)
+}
+
+#[cfg(test)]
+mod tests;

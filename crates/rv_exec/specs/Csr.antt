@@ -1,0 +1,48 @@
+-- The instructions that read and change a CSR (RISC-V Unprivileged ISA 20191213, section 9.1).
+use Rattle.std.specs.Prelude.{ℕ, ◌==◌, ◌&&◌, not, Bool, true, if◌then◌else◌, Option, Some, option_and_then, option_map, bit_and, bit_or}
+use Rattle.std.specs.Int.{w32, bit_not}
+use Rattle.rv_decode.specs.declared.instruction.Instr.{Instr}
+use Rattle.rv_hart.specs.declared.csr.Lines.{Lines}
+use Rattle.rv_hart.specs.Core.{Core, finish, ticked, retired}
+use Rattle.rv_hart.specs.Csr.{csr_read, csr_written, is_mcycle, is_minstret}
+use Rattle.rv_exec.specs.declared.csr.Change.{Change}
+use Rattle.rv_exec.specs.declared.csr.Change.TheVariants.{Write, Set, Clear}
+
+-- the value that is written, of the old value and the operand
+abbrev pub changed : Change → ℕ → ℕ → ℕ
+changed Write old operand = operand
+changed Set old operand = bit_or old operand
+changed Clear old operand = bit_and old (bit_not w32 operand)
+
+-- a write with rd 0 does not read the CSR
+abbrev pub reads : Change → Instr → Bool
+reads Write i = not (i.rd == 0)
+reads Set i = true
+reads Clear i = true
+
+-- with rs1 0, which is x0 or the immediate 0, bits are neither set nor cleared
+abbrev pub writes : Change → Instr → Bool
+writes Write i = true
+writes Set i = not (i.rs1 == 0)
+writes Clear i = not (i.rs1 == 0)
+
+-- the value that is read, or 0 where none is; there is none where the CSR cannot be read
+abbrev pub old_value : Change → Core → Instr → Lines → Option ℕ
+old_value change core i lines = if reads change i then csr_read core lines i.imm else Some 0
+
+-- the core after the write, if there is one; there is none where the CSR cannot be written
+abbrev pub after_write : Change → ℕ → Core → Instr → Option Core
+after_write change value core i = if writes change i then csr_written core i.imm value else Some core
+
+-- the core after the access, but for the counters; there is none where the access is illegal
+abbrev pub accessed : Change → ℕ → Core → Instr → Lines → Option Core
+accessed change operand core i lines =
+    option_and_then
+    (λ old. option_map (λ after. finish after i.rd old) (after_write change (changed change old operand) core i))
+    (old_value change core i lines)
+
+-- the counters after the access: one of which a half was written stays as written (Privileged ISA 3.1.10)
+abbrev pub counted : Change → Instr → Core → Core
+counted change i core =
+    let after = if writes change i && is_minstret i.imm then core else retired core in
+    if writes change i && is_mcycle i.imm then after else ticked after

@@ -1,0 +1,7 @@
+-- The definitions that the contracts of `rv_exec` cite.
+pub mod Word
+pub mod Access
+pub mod Csr
+pub mod Effect
+pub mod Group
+pub mod Laws

@@ -1,0 +1,113 @@
+// Loads and stores (RISC-V Unprivileged ISA 20191213, section 2.6).
+ghost use Rattle.std.specs.Prelude.{◌≡◌, ◌%◌, ◌^◌, ◌<◌, OnOk, OnErr};
+ghost use Rattle.std.specs.Int.{w8, w16};
+ghost use Rattle.rv_decode.specs.Means.{IsInstr};
+ghost use Rattle.rv_exec.specs.Word.{extended};
+ghost use Rattle.rv_exec.specs.Access.{IsWidth, IsWidthOf, shaped};
+ghost use Rattle.rv_exec.specs.Effect.{bus_after, core_after, loads, stores};
+
+use crate::alu::add;
+use crate::bus::{Bus, NoMemory};
+use crate::finish::{advance, finish, trap};
+use rv_decode::Instr;
+use rv_hart::Hart;
+
+/// How a loaded number fills a register.
+#[derive(Clone, Copy, PartialEq, Eq, Debug)]
+pub enum Shape {
+    /// With zeros above.
+    Unsigned,
+    /// A byte, with its sign above.
+    SignedByte,
+    /// A half word, with its sign above.
+    SignedHalf,
+}
+
+/// A byte, with its sign above.
+fn extend_byte(answer: u32) -> u32
+    requires { answer < 256 }
+    ensures { result ≡ extended w8 answer }
+{
+    i32::from((answer as u8).cast_signed()).cast_unsigned()
+}
+
+/// A half word, with its sign above.
+fn extend_half(answer: u32) -> u32
+    requires { answer < 65536 }
+    ensures { result ≡ extended w16 answer }
+{
+    i32::from((answer as u16).cast_signed()).cast_unsigned()
+}
+
+/// The word that a register gets of a loaded number.
+fn shape_word(shape: Shape, width: u8, answer: u32) -> u32
+    requires width { IsWidthOf shape width }
+    requires fits { answer < 256 ^ width }
+    ensures { result ≡ shaped shape answer }
+{
+    match shape {
+        Shape::Unsigned => answer,
+        Shape::SignedByte => extend_byte(answer),
+        Shape::SignedHalf => extend_half(answer),
+    }
+}
+
+/// The lower bytes of a word.
+fn low_bytes(value: u32, width: u8) -> u32
+    requires { IsWidth width }
+    ensures { result ≡ value % 256 ^ width }
+{
+    match width {
+        1 => value % 256,
+        2 => value % 65536,
+        _ => value,
+    }
+}
+
+/// Loads into a register.
+pub fn load<B: Bus>(
+    hart: &mut Hart,
+    bus: &mut B,
+    i: &Instr,
+    width: u8,
+    shape: Shape,
+) -> Result<(), NoMemory>
+    requires fields { IsInstr i.now }
+    requires width { IsWidthOf shape width }
+    ensures core { let effect = loads hart.old i.now width shape in
+        OnOk result (hart.new ≡ core_after B.answer bus.old effect) }
+    ensures bus { let effect = loads hart.old i.now width shape in
+        OnOk result (bus.new ≡ bus_after B.loaded B.stored bus.old effect) }
+    ensures core_err { OnErr result (hart.new ≡ hart.old) }
+    ensures bus_err { OnErr result (bus.new ≡ bus.old) }
+{
+    let at = add(hart.register(i.rs1), i.imm);
+    if at % u32::from(width) != 0 {
+        trap(hart, 4, at);
+        return Ok(());
+    }
+    let answer = bus.load(at, width)?;
+    finish(hart, i.rd, shape_word(shape, width, answer));
+    Ok(())
+}
+
+/// Stores the lower bytes of a register.
+pub fn store<B: Bus>(hart: &mut Hart, bus: &mut B, i: &Instr, width: u8) -> Result<(), NoMemory>
+    requires fields { IsInstr i.now }
+    requires width { IsWidth width }
+    ensures core { let effect = stores hart.old i.now width in
+        OnOk result (hart.new ≡ core_after B.answer bus.old effect) }
+    ensures bus { let effect = stores hart.old i.now width in
+        OnOk result (bus.new ≡ bus_after B.loaded B.stored bus.old effect) }
+    ensures core_err { OnErr result (hart.new ≡ hart.old) }
+    ensures bus_err { OnErr result (bus.new ≡ bus.old) }
+{
+    let at = add(hart.register(i.rs1), i.imm);
+    if at % u32::from(width) != 0 {
+        trap(hart, 6, at);
+        return Ok(());
+    }
+    bus.store(at, width, low_bytes(hart.register(i.rs2), width))?;
+    advance(hart);
+    Ok(())
+}

@@ -1,0 +1,119 @@
+// The instructions that read and change a CSR (RISC-V Unprivileged ISA 20191213, section 9.1).
+ghost use Rattle.std.specs.Prelude.{◌≡◌, ◌&&◌, is_ok, is_some, ok_or, unwrap_or};
+ghost use Rattle.rv_decode.specs.Means.{IsInstr};
+ghost use Rattle.rv_exec.specs.Csr.{accessed, after_write, changed, counted, old_value, reads, writes};
+ghost use Rattle.rv_exec.specs.Effect.{changes};
+
+use crate::finish::trap;
+use rv_decode::Instr;
+use rv_hart::{CsrFault, Hart, Lines, is_mcycle, is_minstret};
+
+/// What becomes of a CSR by an operand.
+#[derive(Clone, Copy, PartialEq, Eq, Debug)]
+pub enum Change {
+    /// The operand is written.
+    Write,
+    /// The bits of the operand are set.
+    Set,
+    /// The bits of the operand are cleared.
+    Clear,
+}
+
+impl Change {
+    /// Whether the instruction reads the CSR.
+    fn reads(self, i: &Instr) -> bool
+        ensures { result ≡ reads self i.now }
+    {
+        match self {
+            Change::Write => i.rd != 0,
+            Change::Set | Change::Clear => true,
+        }
+    }
+
+    /// Whether the instruction writes the CSR.
+    fn writes(self, i: &Instr) -> bool
+        ensures { result ≡ writes self i.now }
+    {
+        match self {
+            Change::Write => true,
+            Change::Set | Change::Clear => i.rs1 != 0,
+        }
+    }
+
+    /// The new value of the CSR.
+    fn of(self, old: u32, operand: u32) -> u32
+        ensures { result ≡ changed self old operand }
+    {
+        match self {
+            Change::Write => operand,
+            Change::Set => old | operand,
+            Change::Clear => old & !operand,
+        }
+    }
+}
+
+/// Reads the CSR if the instruction does.
+fn read(hart: &Hart, change: Change, i: &Instr, lines: Lines) -> Result<u32, CsrFault>
+    ensures { result ≡ ok_or (old_value change hart.now i.now lines) CsrFault.Illegal }
+{
+    if change.reads(i) {
+        hart.csr_read(i.imm, lines)
+    } else {
+        Ok(0)
+    }
+}
+
+/// Writes the CSR if the instruction does.
+fn write(hart: &mut Hart, change: Change, value: u32, i: &Instr) -> Result<(), CsrFault>
+    ensures core { hart.new ≡ unwrap_or (after_write change value hart.old i.now) hart.old }
+    ensures answer { is_ok result ≡ is_some (after_write change value hart.old i.now) }
+{
+    if change.writes(i) {
+        hart.csr_write(i.imm, value)
+    } else {
+        Ok(())
+    }
+}
+
+/// Reads the CSR into a register and changes it, but leaves the counters.
+fn access(
+    hart: &mut Hart,
+    change: Change,
+    operand: u32,
+    i: &Instr,
+    lines: Lines,
+) -> Result<(), CsrFault>
+    requires { IsInstr i.now }
+    ensures core { hart.new ≡ unwrap_or (accessed change operand hart.old i.now lines) hart.old }
+    ensures answer { is_ok result ≡ is_some (accessed change operand hart.old i.now lines) }
+{
+    let old = read(hart, change, i, lines)?;
+    write(hart, change, change.of(old, operand), i)?;
+    hart.finish(i.rd, old);
+    Ok(())
+}
+
+/// Counts the access, but leaves a counter that it wrote.
+fn count(hart: &mut Hart, change: Change, i: &Instr)
+    ensures { hart.new ≡ counted change i.now hart.old }
+{
+    let is_write = change.writes(i);
+    if !(is_write && is_minstret(i.imm)) {
+        hart.retire();
+    }
+    if !(is_write && is_mcycle(i.imm)) {
+        hart.tick();
+    }
+}
+
+/// Reads a CSR into a register and changes it, or enters the trap of an illegal access.
+pub fn change_csr(hart: &mut Hart, change: Change, operand: u32, i: &Instr, word: u32, lines: Lines)
+    requires { IsInstr i.now }
+    ensures { hart.new ≡ changes change operand hart.old i.now word lines }
+{
+    if access(hart, change, operand, i, lines).is_ok() {
+        count(hart, change, i);
+    } else {
+        trap(hart, 2, word);
+    }
+}

@@ -1,0 +1,2 @@
+-- Lemmas of `rv_hart`.
+pub mod Masks

@@ -1,0 +1,45 @@
+-- A hart's state as plain data, and its core.
+use Rattle.rv_hart.specs.declared.state.HartState.{HartState}
+use Rattle.rv_hart.specs.Core.{Core, IsSound}
+
+-- the core of a state
+abbrev pub core_of : HartState → Core
+core_of s = record {
+  x = s.registers;
+  pc = s.pc;
+  on = s.on;
+  before = s.before;
+  mie = s.mie;
+  mtvec = s.mtvec;
+  mscratch = s.mscratch;
+  mepc = s.mepc;
+  mcause = s.mcause;
+  mtval = s.mtval;
+  mcycle = s.mcycle;
+  minstret = s.minstret;
+  waiting = s.waiting;
+  halted = s.halted;
+}
+
+-- the state of a core
+abbrev pub state_of : Core → HartState
+state_of core = record {
+  registers = core.x;
+  pc = core.pc;
+  on = core.on;
+  before = core.before;
+  mie = core.mie;
+  mtvec = core.mtvec;
+  mscratch = core.mscratch;
+  mepc = core.mepc;
+  mcause = core.mcause;
+  mtval = core.mtval;
+  mcycle = core.mcycle;
+  minstret = core.minstret;
+  waiting = core.waiting;
+  halted = core.halted;
+}
+
+-- a state that a hart can have
+abbrev pub IsHartState : HartState → Type 0
+IsHartState s = IsSound (core_of s)

@@ -1,0 +1,6 @@
+-- The definitions that the contracts of `rv_hart` cite.
+pub mod Core
+pub mod Csr
+pub mod HartState
+pub mod Laws
+pub mod Trap

@@ -1,0 +1,18 @@
+//! One RISC-V hart of 32 bits in machine mode: its registers, CSRs and traps.
+#![tactic(auto)]
+
+mod bits;
+mod csr;
+mod hart;
+mod laws;
+mod numbers;
+mod state;
+
+pub use csr::{CsrFault, Lines};
+pub use hart::Hart;
+pub use laws::{counters_stay, read_back, return_after_entry, zero_register};
+pub use numbers::{is_mcycle, is_minstret};
+pub use state::HartState;
+
+#[cfg(test)]
+mod tests;

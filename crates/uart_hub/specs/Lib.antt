@@ -1,1 +1,0 @@
--- What contracts of uart_hub cite.
