@@ -1,6 +1,6 @@
 -- The steps of a round, and what they keep.
-use Rattle.std.proofs.Common.{◌≡◌, ◌∙◌, sym, ap, refl, Bool, true, false, cond, not, ◌||◌, ℕ, zero, suc, ◌+◌, ◌-◌, ◌*◌, ◌^◌, ◌<◌, ◌≤◌, List, [], ◌∷◌, ◌++◌, length, map, fold, filter, find, unwrap_or, Option, Some, None, Result, Ok, Err, OnOk, set, get_or, take, drop, append_assoc, add-zero, add-one, arith}
-use Rattle.std.proofs.lemmas.List.{map-append, length-map, append-nil, take_more, take_more_set, drop-set-lt, get_or-drop}
+use Rattle.std.proofs.Common.{◌≡◌, ◌∙◌, sym, ap, refl, Bool, true, false, cond, not, ℕ, zero, suc, ◌+◌, ◌-◌, ◌*◌, ◌^◌, ◌<◌, ◌≤◌, List, [], ◌∷◌, ◌++◌, length, map, fold, find, unwrap_or, Option, Some, None, Result, Ok, Err, OnOk, set, get_or, take, drop, append_assoc, add-one, arith}
+use Rattle.std.proofs.lemmas.List.{append-nil, take_more}
 use Rattle.std.proofs.lemmas.List.Concat.{flat_map-append}
 use Rattle.std.proofs.lemmas.List.Sums.{fold_more}
 use Rattle.std.proofs.Math.Nat.{mul-le-mul_left}
@@ -10,7 +10,6 @@ use Rattle.lab_num.specs.declared.key.Member.{Member}
 use Rattle.lab_num.specs.declared.post.Payload.{Payload}
 use Rattle.lab_num.specs.declared.post.Payload.TheVariants.{Byte}
 use Rattle.lab_num.specs.declared.post.Post.{Post}
-use Rattle.lab_num.specs.declared.post.Entry.{Entry}
 use Rattle.lab_num.specs.Key.{same_member, KeysDiffer}
 use Rattle.lab_num.specs.Listing.{listing}
 use Rattle.lab_num.specs.Paid.{paid}
@@ -21,13 +20,13 @@ use Rattle.board.specs.Slot.{quiet}
 use Rattle.board.specs.Stretch.{stretch}
 use Rattle.board.specs.Numbered.{IsNumbered}
 use Rattle.board.specs.Taken.{handed}
-use Rattle.lab_state.specs.Boundary.{change_at, to_member, to_route, boundary}
+use Rattle.lab_state.specs.Boundary.{to_member, to_route, boundary}
 use Rattle.lab_state.specs.Made.{run_of, runs_of}
 use Rattle.lab_state.specs.Lab.{Lab, Seen}
 use Rattle.lab_state.specs.Round.{granted, item_of, round}
 use Rattle.lab_state.specs.Standing.{views, IsStanding, AreStanding, IsDevice, AreDevices, IsSound}
 use Rattle.lab_state.proofs.KeyLemmas.{AreKeyed, keyed_differ}
-use Rattle.lab_state.proofs.SoundLemmas.{views-quiet, set-quiet, standing-change, length-change}
+use Rattle.lab_state.proofs.SoundLemmas.{views-quiet, standing-change, length-change}
 
 map_next :
     {A : Type 0} (F : A → A) (now old : List A) (i : ℕ) (item new : A) → i < length now → length now ≡ length old →

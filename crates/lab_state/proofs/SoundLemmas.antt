@@ -8,7 +8,7 @@ use Rattle.lab_num.specs.Route.{connected}
 use Rattle.board.specs.View.{View, State}
 use Rattle.board.specs.Slot.{quiet}
 use Rattle.board.specs.Early.{early}
-use Rattle.lab_state.specs.Lab.{Lab, Seen}
+use Rattle.lab_state.specs.Lab.{Seen}
 use Rattle.lab_state.specs.Boundary.{change_at}
 use Rattle.lab_state.specs.One.{changed}
 use Rattle.lab_state.specs.Standing.{views, IsStanding, AreStanding, IsDevice, AreDevices, IsSound}

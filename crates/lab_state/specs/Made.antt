@@ -1,6 +1,6 @@
 -- What a board has made at the end of a round, together with what it had made before.
 use Rattle.std.specs.Prelude.{ℕ, ◌+◌, List, map}
-use Rattle.board.specs.View.{View, State, after}
+use Rattle.board.specs.View.{State, after}
 use Rattle.lab_state.specs.Round.{granted}
 use Rattle.lab_state.specs.Standing.{views}
 

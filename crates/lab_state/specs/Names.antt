@@ -1,5 +1,5 @@
 -- How boards and hubs are found by name.
-use Rattle.std.specs.Prelude.{ℕ, Bool, ◌||◌, nat_eq, List, ◌++◌, Option, None, Some}
+use Rattle.std.specs.Prelude.{ℕ, Bool, ◌||◌, nat_eq, List, Option, None, Some}
 use Rattle.std.specs.List.{list_any, position}
 use Rattle.std.specs.Cmp.Lexicographic.{pointwise}
 use Rattle.lab_num.specs.declared.key.Member.{Member}

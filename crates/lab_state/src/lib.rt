@@ -14,3 +14,6 @@ pub use faults::{AddFault, ConnectFault, HubNameFault, LabFault, RunFault};
 pub use lab::Lab;
 pub use laws::{boundaries_agree, runs_join};
 pub use round::RoundLog;
+
+#[cfg(test)]
+mod tests;

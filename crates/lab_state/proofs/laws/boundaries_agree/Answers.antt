@@ -1,3 +1,4 @@
+-- The listing of the posts is the same in any order.
 use Rattle.lab_state.proofs.RunLemmas.{boundaries-agree}
 use Rattle.lab_state.proofs.laws.boundaries_agree.Goals as goal
 

@@ -1,15 +1,8 @@
 -- One post more was handed over.
-use Rattle.std.proofs.Common.{◌≡◌, ◌∙◌, sym, ap, subst, ℕ, ◌<◌, List, length, get_or, take, fold, map, arith}
-use Rattle.std.proofs.lemmas.List.{length-map}
-use Rattle.std.proofs.lemmas.List.Sums.{fold_more}
-use Rattle.std.specs.List.{AllByRecursion}
-use Rattle.lab_num.specs.declared.key.Member.{Member}
+use Rattle.std.proofs.Common.{◌≡◌, ◌∙◌, length, arith}
 use Rattle.lab_num.specs.declared.post.Post.{Post}
 use Rattle.lab_num.specs.declared.post.Payload.TheVariants.{Byte}
-use Rattle.board.specs.View.{View}
-use Rattle.board.specs.Slot.{quiet}
-use Rattle.lab_state.specs.Boundary.{to_member, to_route}
-use Rattle.lab_state.specs.Standing.{views, IsDevice}
+use Rattle.lab_state.specs.Standing.{views}
 use Rattle.lab_state.proofs.RoundLemmas.{quiet_again, route_devices, route_more}
 use Rattle.lab_state.proofs.round.hand_over_all.Goals as goal
 

@@ -1,18 +1,17 @@
 -- The steps together are the round.
-use Rattle.std.proofs.Common.{◌≡◌, ◌∙◌, sym, ap, ◌+◌, ◌*◌, ◌++◌, length, map, OnOk, IfOk}
+use Rattle.std.proofs.Common.{◌≡◌, ◌∙◌, ap, ◌+◌, ◌*◌, ◌++◌, length, map}
 use Rattle.std.proofs.lemmas.List.{length-map}
 use Rattle.std.proofs.lemmas.Result.{IfOk-weaker}
 use Rattle.std.specs.List.{flat_map}
 use Rattle.lab_num.specs.Listing.{listing}
-use Rattle.lab_num.specs.Post.{post_key, entry_key}
-use Rattle.lab_num.specs.Key.{KeysDiffer}
+use Rattle.lab_num.specs.Post.{entry_key}
 use Rattle.log_merge.specs.Merge.{all_entries}
 use Rattle.board.specs.Slot.{quiet}
 use Rattle.lab_state.specs.Boundary.{boundary}
 use Rattle.lab_state.specs.Made.{run_of, runs_of}
 use Rattle.lab_state.specs.Round.{granted}
 use Rattle.lab_state.specs.Round as round_spec
-use Rattle.lab_state.specs.Standing.{views, AreStanding, AreDevices}
+use Rattle.lab_state.specs.Standing.{views}
 use Rattle.lab_state.proofs.RoundLemmas.{posts_differ, entries_differ, posts-runs, entries-runs, runs_views, quiet_again, views-is, standing_runs, standing_boundary, boundary_is, always_ok}
 use Rattle.lab_state.proofs.round.play.Goals as goal
 

@@ -1,8 +1,7 @@
 -- No post is left.
-use Rattle.std.proofs.Common.{◌≡◌, ◌∙◌, sym, ap, List, [], ◌∷◌, ◌++◌, Option, None, slice_get}
+use Rattle.std.proofs.Common.{◌≡◌, ◌∙◌, sym, ap, List, [], ◌∷◌, ◌++◌, None, slice_get}
 use Rattle.std.proofs.lemmas.List.{append-nil}
 use Rattle.lab_num.specs.declared.post.Post.{Post}
-use Rattle.board.specs.View.{State}
 use Rattle.lab_state.proofs.round.take_posts.Goals as goal
 
 none_left : (posts : List Post) → None ≡ slice_get posts 0 → posts ≡ []

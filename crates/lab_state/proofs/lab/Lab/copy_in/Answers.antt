@@ -1,8 +1,8 @@
 -- What changes of the board is no part of what holds of the laboratory.
-use Rattle.std.proofs.Common.{◌≡◌, ◌∙◌, ◌<◌, ◌-◌, ap, true, false, length}
+use Rattle.std.proofs.Common.{◌≡◌, ◌∙◌, ◌-◌, ap, false}
 use Rattle.std.proofs.lemmas.Result.{on_ok_weaker}
 use Rattle.board.specs.Space.{memory_base, put_bytes}
-use Rattle.lab_state.proofs.SoundLemmas.{sound-change, sound-try, inside_below, seen-change}
+use Rattle.lab_state.proofs.SoundLemmas.{sound-try, inside_below, seen-change}
 use Rattle.lab_state.proofs.lab.Lab.copy_in.Goals as goal
 
 pub invariant_of-self : goal.invariant_of-self

@@ -1,10 +1,5 @@
 -- What the boards and the hubs come to in a round is what the laboratory comes to.
-use Rattle.std.proofs.Common.{◌≡◌, ◌∙◌, sym, ap, ◌+◌, ◌≤◌, List, length, map, false, arith}
-use Rattle.std.specs.List.{flat_map}
-use Rattle.board.specs.Slot.{quiet}
-use Rattle.lab_state.specs.Boundary.{boundary}
-use Rattle.lab_state.specs.Made.{runs_of}
-use Rattle.lab_state.specs.Standing.{views}
+use Rattle.std.proofs.Common.{◌≡◌, ◌∙◌, sym, ap, ◌+◌, ◌≤◌, length, false, arith}
 use Rattle.lab_state.proofs.RoundLemmas.{given_back, sound-round, seen_round, seen_items, never_paused}
 use Rattle.lab_state.proofs.lab.Lab.round.Goals as goal
 

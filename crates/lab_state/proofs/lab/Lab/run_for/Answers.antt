@@ -1,5 +1,5 @@
 -- The rounds are those of the run.
-use Rattle.std.proofs.Common.{◌≡◌, ◌≢◌, ◌∙◌, sym, ap, ℕ, ◌+◌, ◌*◌, ◌/◌, ◌%◌, ◌<◌, ◌≤◌, List, None, false, arith}
+use Rattle.std.proofs.Common.{◌≡◌, ◌∙◌, sym, ap, ◌+◌, ◌/◌, ◌≤◌, List, None, false, arith}
 use Rattle.log_merge.specs.declared.item.LogItem.{LogItem}
 use Rattle.lab_state.specs.Came.{came_to}
 use Rattle.lab_state.specs.Run.{go_on, rounds, run}

@@ -1,5 +1,5 @@
 -- What changes of the board is no part of what holds of the laboratory.
-use Rattle.std.proofs.Common.{◌≡◌, ◌∙◌, ◌<◌, ◌-◌, ap, true, false, length}
+use Rattle.std.proofs.Common.{◌≡◌, ◌∙◌, ap, false}
 use Rattle.lab_state.proofs.SoundLemmas.{sound-change, inside_below, seen-change}
 use Rattle.lab_state.proofs.lab.Lab.set_pc.Goals as goal
 
