@@ -1,17 +1,17 @@
 -- A stretch numbers what it makes.
-use Rattle.std.proofs.Common.{◌≡◌, ℕ, zero, suc, ◌+◌, ◌-◌, ◌%◌, ◌^◌, ◌<◌, ◌==◌, ◌&&◌, Bool, true, false, List, [], ◌∷◌, ◌++◌, length, map, Option, refl, ap, ◌∙◌, length-append, add-zero, add-one, arith}
+use Rattle.std.proofs.Common.{◌≡◌, ℕ, zero, suc, ◌+◌, ◌-◌, ◌%◌, ◌^◌, ◌<◌, ◌==◌, ◌&&◌, Bool, true, false, List, [], ◌∷◌, ◌++◌, length, map, refl, ◌∙◌, length-append, add-zero, add-one, arith}
 use Rattle.std.specs.Prelude.{if◌then◌else◌}
 use Rattle.std.proofs.lemmas.List.{map-append, length-map}
 use Rattle.lab_num.specs.declared.key.Key.{Key}
 use Rattle.lab_num.specs.Paid.{slot_at}
 use Rattle.rv_hart.specs.Core.{Core, ticked}
 use Rattle.board.specs.Space.{uart_base, memory_base, in_memory, in_uart, put_value}
-use Rattle.board.specs.Wires.{Wires, sent, posted, entered, fetched, answer}
+use Rattle.board.specs.Wires.{sent, posted, entered, fetched, answer}
 use Rattle.rv_exec.specs.Effect.{Effect, Done, Load, Store, effect_of_fetch}
 use Rattle.board.specs.Uart.{Uart, uart_loaded}
 use Rattle.board.specs.View.{View, State, wires_of, state_of, after}
 use Rattle.board.specs.Slot.{slot, quiet, idle, no_lines, carried_out, instruction}
-use Rattle.board.specs.Stretch.{stretch, go_on}
+use Rattle.board.specs.Stretch.{stretch}
 use Rattle.board.specs.Numbered.{AreNumbered, IsNumbered}
 
 -- nothing was made

@@ -1,9 +1,8 @@
 -- What a slot makes comes behind what was made before.
-use Rattle.std.proofs.Common.{◌≡◌, ℕ, ◌-◌, ◌%◌, ◌==◌, ◌&&◌, Bool, true, false, List, [], ◌++◌, refl, sym, ap, ◌∙◌}
+use Rattle.std.proofs.Common.{◌≡◌, ℕ, ◌-◌, ◌%◌, ◌==◌, ◌&&◌, Bool, true, false, [], ◌++◌, refl, sym, ap, ◌∙◌}
 use Rattle.std.specs.Prelude.{if◌then◌else◌}
 use Rattle.std.proofs.lemmas.List.{append-nil}
 use Rattle.rv_hart.specs.Core.{Core}
-use Rattle.rv_hart.specs.declared.csr.Lines.{Lines}
 use Rattle.board.specs.Space.{uart_base, memory_base, in_memory, in_uart, put_value}
 use Rattle.board.specs.Uart.{uart_loaded}
 use Rattle.board.specs.Wires.{Wires, posted, entered, sent, fetched, answer, loaded, stored}

@@ -1,11 +1,10 @@
 -- Laws of slots one after another.
-use Rattle.std.proofs.Common.{◌≡◌, ℕ, zero, suc, ◌+◌, ◌*◌, ◌/◌, ◌<◌, ◌≤◌, List, [], ◌∷◌, ◌++◌, sum, refl, sym, ap, ◌∙◌, append_assoc, add-one, add-zero, add-suc, add_assoc, arith}
-use Rattle.std.proofs.lemmas.List.{append-nil}
+use Rattle.std.proofs.Common.{◌≡◌, ℕ, zero, suc, ◌+◌, ◌*◌, ◌/◌, ◌<◌, ◌≤◌, List, [], ◌∷◌, sum, refl, sym, ◌∙◌, append_assoc, add-one, add-zero, add-suc, add_assoc, arith}
 use Rattle.std.proofs.lemmas.List.Sums.{sum_by-cons}
 use Rattle.std.proofs.Math.Nat.{mul-le-mul}
 use Rattle.lab_num.specs.Paid.{slot_at}
 use Rattle.board.specs.View.{View, State, after}
-use Rattle.board.specs.Slot.{slot, quiet}
+use Rattle.board.specs.Slot.{slot}
 use Rattle.board.specs.Stretch.{stretch, entries_in_turns}
 use Rattle.board.proofs.SlotLemmas.{quiet-behind, speed-slot}
 

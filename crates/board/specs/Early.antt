@@ -4,7 +4,6 @@ use Rattle.rv_hart.specs.Core.{initial}
 use Rattle.board.specs.Space.{memory_base}
 use Rattle.board.specs.Uart.{silent}
 use Rattle.board.specs.View.{View}
-use Rattle.board.specs.Slot.{quiet}
 
 -- so many bytes of 0
 unfoldable pub zeros : ℕ → List ℕ

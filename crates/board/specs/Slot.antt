@@ -1,7 +1,7 @@
 -- One slot of a board.
 use Rattle.std.specs.Prelude.{ℕ, if◌then◌else◌, []}
 use Rattle.rv_hart.specs.declared.csr.Lines.{Lines}
-use Rattle.rv_hart.specs.Core.{Core, ticked}
+use Rattle.rv_hart.specs.Core.{ticked}
 use Rattle.rv_exec.specs.Effect.{Effect, effect_of_fetch, core_after, bus_after}
 use Rattle.board.specs.Wires.{Wires, fetched, answer, loaded, stored}
 use Rattle.board.specs.View.{View, State, wires_of, state_of}

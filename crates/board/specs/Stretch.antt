@@ -1,6 +1,5 @@
 -- Slots one after another, each in the microsecond that the time framework gives it.
-use Rattle.std.specs.Prelude.{◌≡◌, ℕ, zero, suc, ◌+◌, ◌<◌, ◌≤◌, List, [], ◌∷◌, ◌++◌}
-use Rattle.lab_num.specs.declared.key.Key.{Key}
+use Rattle.std.specs.Prelude.{◌≡◌, ℕ, zero, suc, ◌+◌, ◌<◌, List, [], ◌∷◌, ◌++◌}
 use Rattle.lab_num.specs.declared.post.Entry.{Entry}
 use Rattle.lab_num.specs.Paid.{slot_at}
 use Rattle.board.specs.declared.board.Turn.{Turn}

@@ -1,5 +1,5 @@
 -- What a board is, apart from what it has made and nobody has taken.
-use Rattle.std.specs.Prelude.{◌≡◌, ℕ, ◌+◌, Bool, List, [], ◌∷◌, ◌++◌}
+use Rattle.std.specs.Prelude.{ℕ, Bool, List, [], ◌++◌}
 use Rattle.lab_num.specs.declared.post.Post.{Post}
 use Rattle.lab_num.specs.declared.post.Entry.{Entry}
 use Rattle.rv_hart.specs.Core.{Core}

@@ -10,3 +10,6 @@ mod wires;
 pub use board::{Board, SlotAt, Turn};
 pub use laws::{early_memory_is_64_kib, stretches_join, stretches_number, turns_join};
 pub use uart::Taken;
+
+#[cfg(test)]
+mod tests;

@@ -1,4 +1,4 @@
-use Rattle.std.proofs.Common.{◌≡◌, ◌+◌}
+use Rattle.std.proofs.Common.{◌≡◌}
 use Rattle.board.specs.View.{after}
 use Rattle.board.specs.Stretch.{stretch}
 use Rattle.board.proofs.board.Board.turn.Given as goal
