@@ -3,6 +3,7 @@
 
 mod builtin;
 mod fault;
+mod laws;
 mod log;
 mod run;
 mod script;
@@ -11,6 +12,7 @@ mod status;
 mod step;
 
 pub use fault::{Cause, ScriptCause, ScriptFault};
+pub use laws::prints_join;
 pub use run::run_lab;
 pub use status::{Status, UsageCause};
 
