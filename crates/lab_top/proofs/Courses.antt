@@ -7,7 +7,7 @@ use Rattle.lab_io.specs.declared.sink.WriteFault.{WriteFault}
 use Rattle.lab_io.specs.declared.sink.WriteFault.TheVariants as write_fault
 use Rattle.lab_top.specs.declared.status.Status.{Status}
 use Rattle.lab_top.specs.declared.status.Status.TheVariants as end_by
-use Rattle.lab_top.specs.Transcript.{Outcome, Done, Read, Transcript, after, ended, read_now, read_later, last_line}
+use Rattle.lab_top.specs.Transcript.{Outcome, Read, Transcript, after, ended, read_now, read_later, last_line}
 use Rattle.lab_top.specs.Course.{Course, IsLastAt, IsEnd, final, refusal, names_of}
 use Rattle.lab_top.proofs.Pieces.{grown-nil, grown-append}
 

@@ -1,5 +1,5 @@
 -- What a format writes of numbers, and how large the numbers are that digits write.
-use Rattle.std.proofs.Common.{◌≡◌, ℕ, suc, ◌+◌, ◌-◌, ◌*◌, ◌^◌, ◌<◌, ◌≤◌, List, [], ◌∷◌, ◌++◌, length, refl, true, false, codes, ◌⊎◌, append-nil, add-one, lit<, arith}
+use Rattle.std.proofs.Common.{◌≡◌, ℕ, ◌+◌, ◌-◌, ◌*◌, ◌^◌, ◌<◌, ◌≤◌, [], ◌++◌, true, false, codes, ◌⊎◌, append-nil, add-one, lit<, arith}
 use Rattle.std.proofs.Math.Nat.{sub-zero, pow-le-pow_right, pow-suc}
 use Rattle.std.specs.Fmt.{decimal, digits, padded_integral, format_spec, char_count}
 use Rattle.std.specs.Char.{is_ascii_digit}

@@ -1,15 +1,14 @@
 -- One line of a script, in its transcript and in its course.
-use Rattle.std.proofs.Common.{◌≡◌, ℕ, ◌+◌, List, [], ◌∷◌, string_bytes, String, Global, Option, refl, sym}
+use Rattle.std.proofs.Common.{◌≡◌, ℕ, ◌+◌, List, [], ◌∷◌, Option, refl, sym}
 use Rattle.lab_io.specs.Known.{grown}
 use Rattle.lab_io.specs.Sink.{IsPartWritten}
 use Rattle.lab_io.specs.declared.sink.WriteFault.{WriteFault}
 use Rattle.lab_top.specs.declared.fault.ScriptCause.{ScriptCause}
 use Rattle.lab_top.specs.declared.status.Status.{Status}
-use Rattle.lab_top.specs.declared.status.Status.TheVariants as end_by
 use Rattle.lab_top.specs.Script.{command_of}
 use Rattle.lab_top.specs.Log.{rest}
 use Rattle.lab_top.specs.Commands.{State, Did, Goes, Faults, did}
-use Rattle.lab_top.specs.Transcript.{Transcript, Done, Script, after, ended, stopped, fault_at, from}
+use Rattle.lab_top.specs.Transcript.{Transcript, Done, Script, after, stopped, fault_at, from}
 use Rattle.lab_top.specs.Course.{Course, IsEnd, refusal}
 use Rattle.lab_top.proofs.Pieces.{grown-nil}
 use Rattle.lab_top.proofs.Courses.{course_after, course_cut, course_ended}

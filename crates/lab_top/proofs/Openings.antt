@@ -1,7 +1,6 @@
 -- The course of a run, from the words and the read of its script on.
-use Rattle.std.proofs.Common.{◌≡◌, ℕ, ◌<◌, ◌≤◌, List, [], ◌∷◌, length, Option, None, Some, IfSome, IsSomeAnd, refl, sym, arith}
+use Rattle.std.proofs.Common.{◌≡◌, ℕ, ◌<◌, ◌≤◌, List, [], ◌∷◌, length, Option, None, Some, IfSome, IsSomeAnd, sym, arith}
 use Rattle.std.proofs.lemmas.Bool.Decides.{nat_tests}
-use Rattle.std.specs.Prelude.{nat_lt, if◌then◌else◌}
 use Rattle.std.specs.FinMap.{get}
 use Rattle.lab_io.specs.Known.{grown}
 use Rattle.lab_io.specs.Held.{Held}
@@ -11,7 +10,7 @@ use Rattle.lab_top.specs.declared.status.Status.{Status}
 use Rattle.lab_top.specs.declared.status.Status.TheVariants as end_by
 use Rattle.lab_top.specs.Script.{lines_of}
 use Rattle.lab_top.specs.Builtin.{started}
-use Rattle.lab_top.specs.Transcript.{Transcript, Usage, Script, after, ended, fault_at, from, begun, run_of, transcript, request_of, Refused}
+use Rattle.lab_top.specs.Transcript.{Usage, Script, ended, fault_at, from, begun, run_of, transcript, request_of, Refused}
 use Rattle.lab_top.specs.Course.{Told, Course, IsEnd}
 use Rattle.lab_top.proofs.Pieces.{grown-nil}
 use Rattle.lab_top.proofs.Courses.{course_after, course_unread, course_ended}

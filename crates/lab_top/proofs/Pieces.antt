@@ -1,5 +1,5 @@
 -- Pieces of what is told, and of what is written.
-use Rattle.std.proofs.Common.{◌≡◌, ℕ, Result, Ok, Err, ◌+◌, List, [], ◌++◌, length, take, min, Option, None, Some, refl, append_assoc, append-nil, ◌∙◌, sym, ap, arith}
+use Rattle.std.proofs.Common.{◌≡◌, ℕ, Result, Ok, Err, ◌+◌, List, [], ◌++◌, length, take, Option, None, Some, refl, append_assoc, append-nil, ◌∙◌, sym, ap, arith}
 use Rattle.std.specs.Prelude.{OnErr}
 use Rattle.std.proofs.lemmas.List.{length-take, take-append-le, take_min}
 use Rattle.std.proofs.Math.Seq.{take-append-add}

@@ -5,7 +5,7 @@ use Rattle.lab_io.specs.Known.{grown, Rose}
 use Rattle.lab_io.specs.Held.{Held}
 use Rattle.lab_top.specs.declared.status.Status.{Status}
 use Rattle.lab_top.specs.declared.status.Status.TheVariants.{Done, Memory, Usage, Script, Unread, Unwritten}
-use Rattle.lab_top.specs.Transcript.{Outcome, Read, Transcript, Request, Refused, Run}
+use Rattle.lab_top.specs.Transcript.{Read, Transcript, Request, Refused, Run}
 use Rattle.lab_top.specs.Transcript as run
 use Rattle.lab_top.specs.Course.{final, names_of}
 

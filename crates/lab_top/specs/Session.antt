@@ -1,6 +1,5 @@
 -- What one step of a run has done.
 use Rattle.std.specs.Prelude.{◌≡◌, Bool, false, string_bytes}
-use Rattle.lab_top.specs.declared.fault.ScriptCause.{ScriptCause}
 use Rattle.lab_top.specs.declared.step.Step.{Step}
 use Rattle.lab_top.specs.declared.step.Step.TheVariants.{Text, Fault, Memory}
 use Rattle.lab_top.specs.Commands.{State, Did, Goes, Faults}

@@ -13,7 +13,7 @@ use Rattle.lab_top.specs.declared.fault.ScriptFault.{ScriptFault}
 use Rattle.lab_top.specs.Fault.{fault_text}
 use Rattle.lab_top.specs.Script.{lines_of, command_of}
 use Rattle.lab_top.specs.Log.{rest}
-use Rattle.lab_top.specs.Commands.{State, Did, Goes, Faults, did}
+use Rattle.lab_top.specs.Commands.{State, Goes, Faults, did}
 use Rattle.lab_top.specs.Builtin.{started}
 
 -- How a run ends that nothing from outside cuts short. It ends as absent where a name that it reads holds nothing.

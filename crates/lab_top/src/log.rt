@@ -1,6 +1,6 @@
 //! The text of the log.
-ghost use Rattle.std.specs.Prelude.{◌≡◌, ◌≤◌, ◌<◌, ◌++◌, ◌∷◌, [], length, replicate, if◌then◌else◌, OnOk, IfOk, string_bytes};
-ghost use Rattle.lab_top.specs.Log.{escaped, heading, line_text, blank, gathered, is_ending, left_open, rest_of, text, rest, open_lines, printed, opened};
+ghost use Rattle.std.specs.Prelude.{◌≡◌, ◌++◌, [], if◌then◌else◌, OnOk, IfOk, string_bytes};
+ghost use Rattle.lab_top.specs.Log.{escaped, line_text, blank, gathered, is_ending, left_open, rest_of, text, rest, open_lines, printed, opened};
 
 use lab_num::{Micros, NoMemory, Text, What};
 use log_merge::LogItem;

@@ -1,4 +1,6 @@
 //! Lines of the log, from the bytes that boards send.
+ghost use Rattle.std.specs.Prelude.{◌≤◌, length};
+
 use super::*;
 use lab_num::BoardNo;
 use log_merge::Member0;

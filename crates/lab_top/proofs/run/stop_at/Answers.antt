@@ -1,4 +1,4 @@
-use Rattle.std.proofs.Common.{◌≡◌, ℕ}
+use Rattle.std.proofs.Common.{◌≡◌}
 use Rattle.lab_io.specs.Known.{grown}
 use Rattle.lab_io.specs.Sink.{IsPartWritten}
 use Rattle.lab_top.specs.Log.{rest}

@@ -1,4 +1,4 @@
-use Rattle.std.proofs.Common.{sym, ◌∙◌, arith}
+use Rattle.std.proofs.Common.{sym, arith}
 use Rattle.lab_top.proofs.ScriptLemmas.{closed-at, closed-none}
 use Rattle.lab_top.proofs.script.closed.Goals as goal
 

@@ -1,7 +1,7 @@
-use Rattle.std.proofs.Common.{◌≡◌, ◌-◌, ◌+◌, ◌<◌, ◌==◌, ◌∷◌, ◌∙◌, false, ap, sym, length, length-drop, take, drop, refl, add-one, arith}
+use Rattle.std.proofs.Common.{◌≡◌, ◌-◌, ◌<◌, ◌==◌, ◌∷◌, ◌∙◌, false, ap, sym, length, length-drop, take, drop, refl, add-one, arith}
 use Rattle.std.proofs.lemmas.Bool.{eqb-true}
 use Rattle.std.proofs.lemmas.Bool.Decides.{nat_tests}
-use Rattle.std.proofs.lemmas.List.{take_all, take_rest}
+use Rattle.std.proofs.lemmas.List.{take_rest}
 use Rattle.lab_top.specs.Script.{lines_of}
 use Rattle.lab_top.proofs.ScriptLemmas.{lines_of-none, lines_of-one, lines_of-ended}
 use Rattle.lab_top.proofs.script.next_line.Goals as goal

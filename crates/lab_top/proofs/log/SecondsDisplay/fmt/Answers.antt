@@ -1,4 +1,4 @@
-use Rattle.std.proofs.Common.{◌%◌, append_assoc}
+use Rattle.std.proofs.Common.{append_assoc}
 use Rattle.lab_top.proofs.Digits.{padded-six_digits}
 use Rattle.lab_top.proofs.log.SecondsDisplay.fmt.Goals as goal
 
