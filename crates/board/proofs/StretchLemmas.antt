@@ -4,8 +4,8 @@ use Rattle.std.proofs.lemmas.List.Sums.{sum_by-cons}
 use Rattle.std.proofs.Math.Nat.{mul-le-mul}
 use Rattle.lab_num.specs.Paid.{slot_at}
 use Rattle.board.specs.View.{View, State, after}
-use Rattle.board.specs.Slot.{slot}
-use Rattle.board.specs.Stretch.{stretch, entries_in_turns}
+use Rattle.board.specs.Slot.{slot, quiet}
+use Rattle.board.specs.Stretch.{stretch, in_turns}
 use Rattle.board.proofs.SlotLemmas.{quiet-behind, speed-slot}
 
 -- what is made one after another comes in order
@@ -47,12 +47,12 @@ stretch-add v from a m zero = rw (add-zero) (quiet-behind (stretch v from a m))
 stretch-add v from a m (suc n) =
     rw (add-suc, stretch-add v from a m n, speed-stretch v from a m, add_assoc) (after-after (stretch v from a m) (stretch (stretch v from a m).view from (a + m) n) _)
 
-stretch-none : (v : View) (from a : ℕ) → (stretch v from a 0).entries ≡ []
+stretch-none : (v : View) (from a : ℕ) → quiet v ≡ stretch v from a 0
 unfolding stretch
 stretch-none v from a = refl
 
--- turns one after another make the entries of the whole stretch
-pub turns-add : (v : View) (from a : ℕ) (turns : List ℕ) → entries_in_turns v from a turns ≡ (stretch v from a (sum turns)).entries
-turns-add v from a [] = sym (stretch-none v from a)
+-- turns one after another are the whole stretch
+pub turns-add : (v : View) (from a : ℕ) (turns : List ℕ) → in_turns v from a turns ≡ stretch v from a (sum turns)
+turns-add v from a [] = stretch-none v from a
 turns-add v from a (n ∷ turns) =
     rw (sum_by-cons (λ x. x) n turns, stretch-add v from a n (sum turns), turns-add (stretch v from a n).view from (a + n) turns) refl

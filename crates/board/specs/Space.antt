@@ -1,5 +1,5 @@
 -- What addresses reach: one memory and one UART. An access reaches the region that holds all its bytes.
-use Rattle.std.specs.Prelude.{ℕ, zero, suc, ◌+◌, ◌-◌, ◌*◌, ◌/◌, ◌%◌, ◌==◌, nat_le, ◌&&◌, Bool, if◌then◌else◌, List, ◌++◌, length, take, drop, slice_index, slice_set}
+use Rattle.std.specs.Prelude.{ℕ, zero, suc, ◌+◌, ◌-◌, ◌*◌, ◌/◌, ◌%◌, ◌==◌, nat_le, ◌&&◌, ◌||◌, Bool, if◌then◌else◌, List, ◌++◌, length, take, drop, slice_index, slice_set, Option, Some, None}
 
 -- where the memory begins, and where the UART's registers begin
 abbrev pub memory_base : ℕ
@@ -29,6 +29,14 @@ word_at bytes i =
 -- the number of 1, 2 or 4 bytes from a place on
 abbrev pub value_at : List ℕ → ℕ → ℕ → ℕ
 value_at bytes i width = if width == 1 then slice_index bytes i else if width == 2 then half_at bytes i else word_at bytes i
+
+-- whether each of so many bytes from an address on is in the memory
+abbrev pub holds_each : List ℕ → ℕ → ℕ → Bool
+holds_each memory at count = (count == 0) || in_memory memory at count
+
+-- the word at an address, if that is a multiple of 4 and the memory holds all four bytes
+abbrev pub word_held : List ℕ → ℕ → Option ℕ
+word_held memory at = if (at % 4 == 0) && in_memory memory at 4 then Some (word_at memory (at - memory_base)) else None
 
 -- bytes with the lowest bytes of a value in so many places from one on, the lowest first
 abbrev pub put_value : List ℕ → ℕ → ℕ → ℕ → List ℕ

@@ -1,6 +1,5 @@
 -- Slots one after another, each in the microsecond that the time framework gives it.
-use Rattle.std.specs.Prelude.{◌≡◌, ℕ, zero, suc, ◌+◌, ◌<◌, List, [], ◌∷◌, ◌++◌}
-use Rattle.lab_num.specs.declared.post.Entry.{Entry}
+use Rattle.std.specs.Prelude.{◌≡◌, ℕ, zero, suc, ◌+◌, ◌<◌, List, [], ◌∷◌}
 use Rattle.lab_num.specs.Paid.{slot_at}
 use Rattle.board.specs.declared.board.Turn.{Turn}
 use Rattle.board.specs.declared.board.Turn.TheVariants.{Used, Starved}
@@ -21,8 +20,7 @@ abbrev pub IsTurn : State → ℕ → ℕ → ℕ → Turn → State → Type 0
 IsTurn old from a n (Used m) new = (m ≡ n) × (new ≡ after old (stretch old.view from a n))
 IsTurn old from a n (Starved m) new = (m < n) × (new ≡ after old (stretch old.view from a m))
 
--- the entries of turns of these lengths, one after another, from slot `a` of the grant on
-abbrev pub entries_in_turns : View → ℕ → ℕ → List ℕ → List Entry
-entries_in_turns v from a [] = []
-entries_in_turns v from a (n ∷ turns) =
-    (stretch v from a n).entries ++ entries_in_turns (stretch v from a n).view from (a + n) turns
+-- turns of these lengths, one after another, from slot `a` of the grant on: the board after them, and what they have made
+abbrev pub in_turns : View → ℕ → ℕ → List ℕ → State
+in_turns v from a [] = quiet v
+in_turns v from a (n ∷ turns) = after (stretch v from a n) (in_turns (stretch v from a n).view from (a + n) turns)

@@ -1,5 +1,5 @@
 //! The board: its slots, and what they make.
-ghost use Rattle.std.specs.Prelude.{◌≡◌, ◌≢◌, ◌+◌, ◌-◌, ◌/◌, ◌%◌, ◌^◌, ◌<◌, ◌≤◌, ◌++◌, [], true, length, drop, slice_get, take, OnOk, OnErr, IfOk, IsTrue, Some, None, ◌==◌, ◌&&◌, if◌then◌else◌};
+ghost use Rattle.std.specs.Prelude.{◌≡◌, ◌≢◌, ◌+◌, ◌-◌, ◌/◌, ◌%◌, ◌^◌, ◌<◌, ◌≤◌, ◌++◌, [], true, length, drop, slice_get, take, OnOk, OnErr, IfOk, IsTrue};
 
 use crate::memory::{MEMORY_BASE, Memory};
 use crate::uart::{EarlyUart, Taken};
@@ -56,15 +56,16 @@ impl Model for Board {
 
 impl Board {
     ghost use Rattle.board.specs.Early.{early};
-    ghost use Rattle.board.specs.Space.{memory_base, in_memory, value_at, put_bytes};
+    ghost use Rattle.board.specs.Space.{memory_base, holds_each, word_held, put_bytes};
     ghost use Rattle.board.specs.Taken.{taken_by, handed};
     ghost use Rattle.board.specs.View.{View, State, after, wires_of, state_of};
     ghost use Rattle.board.specs.Slot.{quiet, slot, instruction, carried_out};
     ghost use Rattle.rv_hart.specs.Core.{reg};
     ghost use Rattle.board.specs.Stretch.{IsTurn};
 
-    /// A board of this number in its early form, at lab time 0: one instruction a microsecond, 64 KiB of memory at
-    /// 0x80000000 with 0 in each byte, a UART at 0x10000000 that is not shown, and the pc at 0x80000000.
+    /// A board of this number in its early form, at lab time 0: one instruction a microsecond, 64
+    /// KiB of memory at 0x80000000 with 0 in each byte, a UART at 0x10000000 that is not shown, and
+    /// the pc at 0x80000000.
     #[tactic(auto, unfolding(crate::specs::Early::early))]
     pub fn early(alloc: Global, number: BoardNo) -> Result<Board, NoMemory>
         ensures state { IfOk result (λ board. board ≡ quiet (early number.0)) }
@@ -102,8 +103,9 @@ impl Board {
         self.speed
     }
 
-    /// Takes the next `n` slots. Slot `i` of the call lies in microsecond `at.from + (at.first + i) / speed`.
-    /// A halted board's slots pass and change nothing. `Starved` is for want of memory alone.
+    /// Takes the next `n` slots. Slot `i` of the call lies in microsecond `at.from + (at.first + i)
+    /// / speed`. A halted board's slots pass and change nothing. `Starved` is for want of memory
+    /// alone.
     pub fn turn(&mut self, at: SlotAt, n: u64) -> Turn
         requires { at.from.0 + (at.first + n) / self.old.view.speed ≤ 10000000000 }
         ensures { IsTurn self.old at.from.0 at.first n result self.new }
@@ -139,7 +141,8 @@ impl Board {
         Ok(())
     }
 
-    /// Hands what another board has sent to a device. The early board has one device, its UART, as number 0.
+    /// Hands what another board has sent to a device. The early board has one device, its UART, as
+    /// number 0.
     #[tactic(auto, unfolding(crate::specs::Taken::handed))]
     pub fn deliver(&mut self, dev: u8, payload: &Payload) -> Taken
         requires { dev ≡ 0 }
@@ -166,7 +169,8 @@ impl Board {
         let _ = self.wires.posts.pop_front();
     }
 
-    /// Hands out the log entries since the last call, in the order in which they were made, and keeps none.
+    /// Hands out the log entries since the last call, in the order in which they were made, and
+    /// keeps none.
     pub fn take_entries(&mut self) -> Vec<Entry>
         ensures taken { result.items ≡ self.old.entries }
         ensures left { self.new ≡ record self.old { entries = [] } }
@@ -175,7 +179,8 @@ impl Board {
         mem::replace(&mut self.wires.entries, none)
     }
 
-    /// Shows a device: from now on each byte that it sends makes a log entry. Again, it changes nothing.
+    /// Shows a device: from now on each byte that it sends makes a log entry. Again, it changes
+    /// nothing.
     pub fn show(&mut self, dev: u8)
         requires { dev ≡ 0 }
         ensures { self.new ≡ record self.old { view = record self.old.view { shown = true } } }
@@ -183,27 +188,36 @@ impl Board {
         self.wires.shown = true;
     }
 
-    /// Whether a memory holds all of so many bytes from an address on.
+    /// Whether each of so many bytes from an address on is in the memory. No bytes are held at any
+    /// address.
     pub fn holds(&self, at: u32, count: u32) -> bool
-        ensures { result ≡ in_memory self.now.view.memory at count }
+        ensures { result ≡ holds_each self.now.view.memory at count }
     {
-        self.wires.memory.holds(at, count as usize)
+        count == 0 || self.wires.memory.holds(at, count as usize)
     }
 
     /// Writes bytes into the memory from an address on.
     pub fn copy_in(&mut self, at: u32, bytes: &[u8]) -> Result<(), NoMemory>
-        requires { IsTrue (in_memory self.old.view.memory at (length bytes.now)) }
-        ensures ok { OnOk result (self.new ≡ record self.old { view = record self.old.view { memory = put_bytes self.old.view.memory (at - memory_base) bytes.now } }) }
+        requires { IsTrue (holds_each self.old.view.memory at (length bytes.now)) }
+        ensures ok { OnOk result (self.new ≡ record self.old {
+          view = record self.old.view {
+            memory = put_bytes self.old.view.memory (at - memory_base) bytes.now;
+          };
+        }) }
         ensures err { OnErr result (self.new ≡ self.old) }
     {
-        self.wires.memory.copy_in(at, bytes);
+        if !bytes.is_empty() {
+            self.wires.memory.copy_in(at, bytes);
+        }
         Ok(())
     }
 
     /// Sets the address of the next instruction.
     pub fn set_pc(&mut self, pc: u32)
         requires { pc % 4 ≡ 0 }
-        ensures { self.new ≡ record self.old { view = record self.old.view { core = record self.old.view.core { pc = pc } } } }
+        ensures { self.new ≡ record self.old {
+          view = record self.old.view { core = record self.old.view.core { pc = pc } };
+        } }
     {
         self.hart.set_pc(pc);
     }
@@ -224,7 +238,9 @@ impl Board {
 
     /// Halts the processor, or lets it run.
     pub fn set_halted(&mut self, on: bool)
-        ensures { self.new ≡ record self.old { view = record self.old.view { core = record self.old.view.core { halted = on } } } }
+        ensures { self.new ≡ record self.old {
+          view = record self.old.view { core = record self.old.view.core { halted = on } };
+        } }
     {
         self.hart.set_halted(on);
     }
@@ -244,10 +260,10 @@ impl Board {
         self.hart.state().minstret
     }
 
-    /// The word of memory at an address. None exactly where the address is not a multiple of 4 or the memory does not hold
-    /// all four bytes.
+    /// The word of memory at an address. None exactly where the address is not a multiple of 4 or
+    /// the memory does not hold all four bytes.
     pub fn load_word(&self, at: u32) -> Option<u32>
-        ensures { result ≡ (if (at % 4 == 0) && in_memory self.now.view.memory at 4 then Some (value_at self.now.view.memory (at - memory_base) 4) else None) }
+        ensures { result ≡ word_held self.now.view.memory at }
     {
         if at % 4 != 0 || !self.wires.memory.holds(at, 4) {
             return None;

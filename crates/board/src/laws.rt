@@ -1,26 +1,30 @@
-//! Laws of boards and of slots one after another. Each is the contract of a function that does nothing.
+//! Laws of boards and of slots one after another. Each is the contract of a function that does
+//! nothing.
 ghost use Rattle.std.specs.Prelude.{◌≡◌, ℕ, ◌+◌, ◌<◌, ◌^◌, List, length, sum};
 ghost use Rattle.board.specs.View.{View, after};
 ghost use Rattle.board.specs.Early.{early};
-ghost use Rattle.board.specs.Stretch.{stretch, entries_in_turns};
+ghost use Rattle.board.specs.Stretch.{stretch, in_turns};
 ghost use Rattle.board.specs.Numbered.{IsNumbered};
 
 /// A stretch of slots and the one behind it are one stretch.
 pub fn stretches_join()
     ensures { (v : View) (from a m n : ℕ) →
-        stretch v from a (m + n) ≡ after (stretch v from a m) (stretch (stretch v from a m).view from (a + m) n) }
+        stretch v from a (m + n)
+        ≡ after (stretch v from a m) (stretch (stretch v from a m).view from (a + m) n) }
 {}
 
-/// However a stretch is cut into turns, it makes the same entries.
+/// However a stretch is cut into turns, it is the same: the board after it, its posts and its
+/// entries.
 pub fn turns_join()
     ensures { (v : View) (from a : ℕ) (turns : List ℕ) →
-        entries_in_turns v from a turns ≡ (stretch v from a (sum turns)).entries }
+        in_turns v from a turns ≡ stretch v from a (sum turns) }
 {}
 
-/// A stretch keeps the board's number and speed, makes at most one post and one entry a slot, and numbers them one
-/// after another from the counts on.
+/// A stretch keeps the board's number and speed, makes at most one post and one entry a slot, and
+/// numbers them one after another from the counts on.
 pub fn stretches_number()
-    ensures { (v : View) (from a n : ℕ) → v.posted + n < 2 ^ 64 → v.entered + n < 2 ^ 64 → IsNumbered v n (stretch v from a n) }
+    ensures { (v : View) (from a n : ℕ) → v.posted + n < 2 ^ 64 → v.entered + n < 2 ^ 64 →
+        IsNumbered v n (stretch v from a n) }
 {}
 
 /// An early board has 64 KiB of memory.

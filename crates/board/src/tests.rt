@@ -1,4 +1,5 @@
-//! Short programs on a board, and each public call. The words are those of the manual's instruction formats.
+//! Short programs on a board, and each public call. The words are those of the manual's instruction
+//! formats.
 use super::*;
 use lab_num::{BoardNo, Entry, Key, Member, Micros, NoMemory, Payload, Post, PostNo, What};
 use std::alloc::Global;
@@ -15,7 +16,8 @@ const SEND_A: [u32; 4] = [0x1000_02B7, 0x0410_0313, 0x0062_8023, 0x0000_006F];
 /// lui x5, 0x10000; addi x6, x0, 65; sb x6, 0(x5); jal x0, -4
 const SEND_A_AGAIN: [u32; 4] = [0x1000_02B7, 0x0410_0313, 0x0062_8023, 0xFFDF_F06F];
 
-/// lui x5, 0x10000; lbu x6, 5(x5); andi x6, x6, 1; beq x6, x0, -8; lbu x7, 0(x5); sb x7, 0(x5); jal x0, -20
+/// lui x5, 0x10000; lbu x6, 5(x5); andi x6, x6, 1; beq x6, x0, -8; lbu x7, 0(x5); sb x7, 0(x5);
+/// jal x0, -20
 const ECHO: [u32; 7] = [
     0x1000_02B7,
     0x0052_C303,
@@ -44,8 +46,8 @@ const SET_HANDLER: [u32; 3] = [0x0000_0397, 0x0403_8393, 0x3053_9073];
 /// csrrs x8, mcause, x0; csrrs x9, mepc, x0; csrrs x10, mtval, x0
 const HANDLER: [u32; 3] = [0x3420_2473, 0x3410_24F3, 0x3430_2573];
 
-/// A word at 0x8000000C, where x7 is 0x80000040 and all else 0, the slots after it in which its trap is entered, and
-/// the trap's cause, pc and value.
+/// A word at 0x8000000C, where x7 is 0x80000040 and all else 0, the slots after it in which its
+/// trap is entered, and the trap's cause, pc and value.
 const TRAPS: [(u32, u64, u32, u32, u32); 5] = [
     (0x0013_A303, 0, 4, 0x8000_000C, 0x8000_0041), // lw x6, 1(x7)
     (0x0063_A123, 0, 6, 0x8000_000C, 0x8000_0042), // sw x6, 2(x7)
@@ -55,7 +57,7 @@ const TRAPS: [(u32, u64, u32, u32, u32); 5] = [
 ];
 
 /// An address, a count of bytes, and whether the memory holds them.
-const HELD: [(u32, u32, bool); 10] = [
+const HELD: [(u32, u32, bool); 12] = [
     (0x8000_0000, 0x1_0000, true),
     (0x8000_0000, 0x1_0001, false),
     (0x8000_0001, 0x1_0000, false),
@@ -66,6 +68,8 @@ const HELD: [(u32, u32, bool); 10] = [
     (0x7FFF_FFFF, 2, false),
     (0x1000_0000, 1, false),
     (0xFFFF_FFFF, 0xFFFF_FFFF, false),
+    (0x8000_0000, 0, true),
+    (0x0000_0000, 0, true),
 ];
 
 /// Writes words into the memory of a board from an address on.
@@ -207,6 +211,8 @@ fn memory_ends_with_its_last_byte(rt: HostRuntime) -> Result<(), Fail> {
     for (at, count, held) in HELD {
         assert_eq!(rt; board.holds(at, count), held, "{at:x} {count:x}");
     }
+    assert!(rt; board.holds(0, 0));
+    board.copy_in(0, &[])?;
     assert!(rt; board.holds(0x8000_FFFB, 5));
     board.copy_in(0x8000_FFFB, &[0x55, 0x44, 0x33, 0x22, 0x11])?;
     let words = [

@@ -1,5 +1,5 @@
-//! The board's UART in its early form: the receiver buffer, the transmitter and the line status register of the
-//! NS16550A, with the FIFOs off.
+//! The board's UART in its early form: the receiver buffer, the transmitter and the line status
+//! register of the NS16550A, with the FIFOs off.
 ghost use Rattle.std.specs.Prelude.{◌≡◌, ◌^◌, ◌<◌};
 ghost use Rattle.board.specs.Uart.{silent, uart_answer, uart_loaded, uart_taken, line_status, is_ready};
 ghost use Rattle.board.specs.Taken.{taken_by};
@@ -48,7 +48,8 @@ impl EarlyUart {
         }
     }
 
-    /// Loads a register: the receiver buffer gives its byte, and the line status clears the overrun.
+    /// Loads a register: the receiver buffer gives its byte, and the line status clears the
+    /// overrun.
     pub fn load(&mut self, register: u32) -> u8
         ensures value { result ≡ uart_answer self.old register }
         ensures after { self.new ≡ uart_loaded self.old register }

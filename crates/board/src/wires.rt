@@ -19,7 +19,8 @@ const UART_SIZE: u32 = 0x100;
 /// The place of the UART among the board's devices.
 pub const UART: u8 = 0;
 
-/// The memory and the UART of a board, and what the board has made by them and nobody has taken yet.
+/// The memory and the UART of a board, and what the board has made by them and nobody has taken
+/// yet.
 #[derive(Drop)]
 pub struct Wires {
     pub number: BoardNo,

@@ -1,4 +1,5 @@
-//! The program: it runs `lab` over the real files and the standard output, and ends with the status's number.
+//! The program: it runs `lab` over the real files and the standard output, and ends with the
+//! status's number.
 #![tactic(auto)]
 
 use lab_io::{DiskFiles, OutSink};

@@ -6,8 +6,8 @@ ghost use Rattle.lab_io.specs.Sink.{IsTaken, taken};
 use crate::sink::{Sink, Wrote};
 use std::marker::Model;
 
-/// The standard output. What has been written is not told: of it contracts see how many faults there
-/// have been.
+/// The standard output. What has been written is not told: of it contracts see how many faults
+/// there have been.
 #[derive(Drop)]
 pub struct OutSink<'a, R> {
     rt: &'a R,

@@ -3,3 +3,4 @@ pub mod SoundLemmas
 pub mod KeyLemmas
 pub mod RoundLemmas
 pub mod RunLemmas
+mod TurnLemmas

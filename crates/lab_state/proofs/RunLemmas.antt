@@ -16,7 +16,7 @@ use Rattle.board.specs.View.{View}
 use Rattle.lab_state.specs.Boundary.{boundary}
 use Rattle.lab_state.specs.Lab.{Lab}
 use Rattle.lab_state.specs.Round.{Rounded, round}
-use Rattle.lab_state.specs.Run.{behind, go_on, still, rounds, run}
+use Rattle.lab_state.specs.Run.{behind, go_on, still, rounds, run, run_by}
 use Rattle.lab_state.proofs.RoundLemmas.{never_paused}
 
 -- ---- the time and the quantum
@@ -38,18 +38,18 @@ on_quantum true run more is = refl
 on_quantum false run more is = is
 
 -- rounds take no longer than their lengths together
-pub rounds_now : (lab : Lab) (q n : ℕ) → (rounds lab q n).lab.now ≤ lab.now + q * n
+pub rounds_now : (lab : Lab) (q n : ℕ) → (rounds round lab q n).lab.now ≤ lab.now + q * n
 unfolding rounds
 rounds_now lab q zero = omega arith
 rounds_now lab q (suc n) =
-    let before = rounds lab q n in
+    let before = rounds round lab q n in
     omega (arith, on_now (is_some before.paused) before (round before.lab q) q (round_now before.lab q), rounds_now lab q n)
 
-rounds_quantum : (lab : Lab) (q n : ℕ) → (rounds lab q n).lab.quantum ≡ lab.quantum
+rounds_quantum : (lab : Lab) (q n : ℕ) → (rounds round lab q n).lab.quantum ≡ lab.quantum
 unfolding rounds
 rounds_quantum lab q zero = refl
 rounds_quantum lab q (suc n) =
-    let before = rounds lab q n in
+    let before = rounds round lab q n in
     on_quantum (is_some before.paused) before (round before.lab q) (round_quantum before.lab q) ∙ rounds_quantum lab q n
 
 -- the rounds so far leave room for one more
@@ -63,20 +63,20 @@ room_left now q d seen within so = omega (arith, div-add-mod d q)
 
 -- ---- rounds as the code makes them
 
-pub rounds_none : (lab : Lab) (q : ℕ) → still lab ≡ rounds lab q 0
+pub rounds_none : (lab : Lab) (q : ℕ) → still lab ≡ rounds round lab q 0
 unfolding rounds
 rounds_none lab q = refl
 
-pub rounds_more : (lab : Lab) (q n : ℕ) → go_on (rounds lab q n) q ≡ rounds lab q (n + 1)
+pub rounds_more : (lab : Lab) (q n : ℕ) → go_on round (rounds round lab q n) q ≡ rounds round lab q (n + 1)
 unfolding rounds
 rounds_more lab q n = rw add-one refl
 
-pub run_whole : (lab : Lab) (d : ℕ) → (d % lab.quantum == 0) ≡ true → rounds lab lab.quantum (d / lab.quantum) ≡ run lab d
-unfolding run
+pub run_whole : (lab : Lab) (d : ℕ) → (d % lab.quantum == 0) ≡ true → rounds round lab lab.quantum (d / lab.quantum) ≡ run lab d
+unfolding run_by
 run_whole lab d whole = rw whole refl
 
-pub run_rest : (lab : Lab) (d : ℕ) → (d % lab.quantum == 0) ≡ false → go_on (rounds lab lab.quantum (d / lab.quantum)) (d % lab.quantum) ≡ run lab d
-unfolding run
+pub run_rest : (lab : Lab) (d : ℕ) → (d % lab.quantum == 0) ≡ false → go_on round (rounds round lab lab.quantum (d / lab.quantum)) (d % lab.quantum) ≡ run lab d
+unfolding run_by
 run_rest lab d rest = rw rest refl
 
 -- ---- runs one behind the other
@@ -87,48 +87,48 @@ behind-behind a b c = ap (λ items. record { lab = c.lab; items = items; paused 
 on_unpaused : (run more : Rounded) → run.paused ≡ None → (if is_some run.paused then run else behind run more) ≡ behind run more
 on_unpaused run more unpaused = rw unpaused refl
 
-rounds_unpaused : (lab : Lab) (q n : ℕ) → (rounds lab q n).paused ≡ None
+rounds_unpaused : (lab : Lab) (q n : ℕ) → (rounds round lab q n).paused ≡ None
 unfolding rounds
 rounds_unpaused lab q zero = refl
 rounds_unpaused lab q (suc n) =
-    let before = rounds lab q n in
+    let before = rounds round lab q n in
     ap (λ run. run.paused) (on_unpaused before (round before.lab q) (rounds_unpaused lab q n)) ∙ never_paused before.lab q
 
 on_behind : (paused : Bool) (a b more : Rounded) → (if paused then behind a b else behind (behind a b) more) ≡ behind a (if paused then b else behind b more)
 on_behind true a b more = refl
 on_behind false a b more = behind-behind a b more
 
-go_on-behind : (a b : Rounded) (q : ℕ) → go_on (behind a b) q ≡ behind a (go_on b q)
+go_on-behind : (a b : Rounded) (q : ℕ) → go_on round (behind a b) q ≡ behind a (go_on round b q)
 go_on-behind a b q = on_behind (is_some b.paused) a b (round b.lab q)
 
 behind-still : (a : Rounded) → a.paused ≡ None → a ≡ behind a (still a.lab)
 behind-still a unpaused = λ i. record { lab = a.lab; items = sym (append-nil a.items) i; paused = unpaused i }
 
-rounds-add : (lab : Lab) (q m n : ℕ) → rounds lab q (m + n) ≡ behind (rounds lab q m) (rounds (rounds lab q m).lab q n)
+rounds-add : (lab : Lab) (q m n : ℕ) → rounds round lab q (m + n) ≡ behind (rounds round lab q m) (rounds round (rounds round lab q m).lab q n)
 unfolding rounds
-rounds-add lab q m zero = rw add-zero (behind-still (rounds lab q m) (rounds_unpaused lab q m))
+rounds-add lab q m zero = rw add-zero (behind-still (rounds round lab q m) (rounds_unpaused lab q m))
 rounds-add lab q m (suc n) =
     rw add-suc
-    (ap (λ before. go_on before q) (rounds-add lab q m n) ∙ go_on-behind (rounds lab q m) (rounds (rounds lab q m).lab q n) q)
+    (ap (λ before. go_on round before q) (rounds-add lab q m n) ∙ go_on-behind (rounds round lab q m) (rounds round (rounds round lab q m).lab q n) q)
 
 -- a run at a quantum that is named
 abbrev run_at : Lab → ℕ → ℕ → Rounded
-run_at lab q d = if d % q == 0 then rounds lab q (d / q) else go_on (rounds lab q (d / q)) (d % q)
+run_at lab q d = if d % q == 0 then rounds round lab q (d / q) else go_on round (rounds round lab q (d / q)) (d % q)
 
 run-at : (lab : Lab) (d : ℕ) → run lab d ≡ run_at lab lab.quantum d
-unfolding run
+unfolding run_by
 run-at lab d = refl
 
 either_way :
     (whole : Bool) (lab : Lab) (q m n rest : ℕ) →
-    (if whole then rounds lab q (m + n) else go_on (rounds lab q (m + n)) rest)
-    ≡ behind (rounds lab q m) (if whole then rounds (rounds lab q m).lab q n else go_on (rounds (rounds lab q m).lab q n) rest)
+    (if whole then rounds round lab q (m + n) else go_on round (rounds round lab q (m + n)) rest)
+    ≡ behind (rounds round lab q m) (if whole then rounds round (rounds round lab q m).lab q n else go_on round (rounds round (rounds round lab q m).lab q n) rest)
 either_way true lab q m n rest = rounds-add lab q m n
 either_way false lab q m n rest =
-    ap (λ before. go_on before rest) (rounds-add lab q m n) ∙ go_on-behind (rounds lab q m) (rounds (rounds lab q m).lab q n) rest
+    ap (λ before. go_on round before rest) (rounds-add lab q m n) ∙ go_on-behind (rounds round lab q m) (rounds round (rounds round lab q m).lab q n) rest
 
 -- the rounds of a whole number of quanta, and a run behind them
-rounds-run : (lab : Lab) (q m e : ℕ) → 0 < q → run_at lab q (q * m + e) ≡ behind (rounds lab q m) (run_at (rounds lab q m).lab q e)
+rounds-run : (lab : Lab) (q m e : ℕ) → 0 < q → run_at lab q (q * m + e) ≡ behind (rounds round lab q m) (run_at (rounds round lab q m).lab q e)
 rounds-run lab q m e some =
     rw (mul-add-mod_self_left q m e, mul-add-div some m e) (either_way (e % q == 0) lab q m (e / q) (e % q))
 
@@ -137,11 +137,11 @@ runs-join lab d e some whole =
     let q = lab.quantum in
     let m = d / lab.quantum in
     let parts : q * m ≡ d = omega (arith, div-add-mod d q, whole) in
-    let first : run lab d ≡ rounds lab q m = sym (run_whole lab d (rw whole refl)) in
-    let second : run (rounds lab q m).lab e ≡ run_at (rounds lab q m).lab q e =
-    run-at (rounds lab q m).lab e ∙ ap (λ quantum. run_at (rounds lab q m).lab quantum e) (rounds_quantum lab q m) in
+    let first : run lab d ≡ rounds round lab q m = sym (run_whole lab d (rw whole refl)) in
+    let second : run (rounds round lab q m).lab e ≡ run_at (rounds round lab q m).lab q e =
+    run-at (rounds round lab q m).lab e ∙ ap (λ quantum. run_at (rounds round lab q m).lab quantum e) (rounds_quantum lab q m) in
     run-at lab (d + e) ∙ ap (λ length. run_at lab q (length + e)) (sym parts) ∙ rounds-run lab q m e some
-    ∙ ap (behind (rounds lab q m)) (sym second) ∙ ap (λ before. behind before (run before.lab e)) (sym first)
+    ∙ ap (behind (rounds round lab q m)) (sym second) ∙ ap (λ before. behind before (run before.lab e)) (sym first)
 
 -- ---- the order of the posts
 
@@ -161,11 +161,11 @@ boundaries-agree is only hubs boards posts others differ same =
 
 -- ---- the end of a run
 
-pub ends_whole : (lab : Lab) (q d n : ℕ) (r : Rounded) → q ≡ lab.quantum → n ≡ d / q → d % q ≡ 0 → r ≡ rounds lab q n → r ≡ run lab d
+pub ends_whole : (lab : Lab) (q d n : ℕ) (r : Rounded) → q ≡ lab.quantum → n ≡ d / q → d % q ≡ 0 → r ≡ rounds round lab q n → r ≡ run lab d
 ends_whole lab q d n r same count whole so =
     so ∙ rw (count, same) (run_whole lab d (eq-eqb _ _ (rw (← same) whole)))
 
 pub ends_rest :
-    (lab : Lab) (q d n : ℕ) (r end : Rounded) → q ≡ lab.quantum → n ≡ d / q → d % q ≢ 0 → r ≡ rounds lab q n → end ≡ go_on r (d % q) → end ≡ run lab d
+    (lab : Lab) (q d n : ℕ) (r end : Rounded) → q ≡ lab.quantum → n ≡ d / q → d % q ≢ 0 → r ≡ rounds round lab q n → end ≡ go_on round r (d % q) → end ≡ run lab d
 ends_rest lab q d n r end same count rest so more =
     more ∙ rw (so, count, same) (run_rest lab d (ne_eqb _ _ (rw (← same) rest)))

@@ -154,16 +154,16 @@ devices-connected n (h ∷ hs) (suc k) m all is = (all.0, devices-connected n hs
 -- a laboratory with a member more in one of its hubs
 pub sound-connected :
     (names : List (List ℕ)) (boards : List State) (hub_names : List (List ℕ)) (hubs : List (List Member)) (now quantum : ℕ) (hub : ℕ) (m : Member) →
-    IsSound names boards hub_names hubs now quantum → IsDevice (length boards) m →
+    IsSound names boards hub_names hubs now quantum → m.board.0 < length boards → m.dev ≡ 0 →
     IsSound names boards hub_names (connected hubs hub m) now quantum
-sound-connected names boards hub_names hubs now quantum hub m sound is = record {
+sound-connected names boards hub_names hubs now quantum hub m sound exists device = record {
   board_names = sound.board_names;
   names_of_hubs = sound.names_of_hubs ∙ sym (length-connected hubs hub m);
   few_boards = sound.few_boards;
   few_hubs = omega (arith, length-connected hubs hub m, sound.few_hubs);
   taken = sound.taken;
   standing = sound.standing;
-  devices = devices-connected (length boards) hubs hub m sound.devices is;
+  devices = devices-connected (length boards) hubs hub m sound.devices (record { board = exists; dev = device });
   time = sound.time;
   least_quantum = sound.least_quantum;
   most_quantum = sound.most_quantum;
@@ -195,3 +195,14 @@ pub seen-change :
     record { lab = record { names = names; boards = after; hub_names = hub_names; hubs = hubs; now = now; quantum = quantum }; spent = spent }
     ≡ record s { lab = changed s.lab b f }
 seen-change s names hub_names hubs now quantum spent before after b f is made = rw (← is, made) refl
+
+-- a change of one board leaves as many boards
+pub boards-changed : (s new : Seen) (b : ℕ) (f : View → View) → new ≡ record s { lab = changed s.lab b f } → length new.lab.boards ≡ length s.lab.boards
+boards-changed s new b f is = ap (λ seen. length seen.lab.boards) is ∙ length-change s.lab.boards b f
+
+-- and so does one that may be refused
+pub boards-tried :
+    {T E : Type 0} (r : Result T E) (s new : Seen) (b : ℕ) (f : View → View) →
+    OnOk r (new ≡ record s { lab = changed s.lab b f }) → OnErr r (new ≡ s) → length new.lab.boards ≡ length s.lab.boards
+boards-tried (Ok x) s new b f is same = boards-changed s new b f is
+boards-tried (Err e) s new b f is same = ap (λ seen. length seen.lab.boards) same

@@ -3,6 +3,7 @@ pub mod Lab
 pub mod Boundary
 pub mod Round
 pub mod Run
+pub mod Turns
 pub mod Standing
 pub mod Names
 pub mod One

@@ -30,13 +30,17 @@ pub record Rounded : Type 0 where
   pub items : List LogItem
   pub paused : Option Key
 
--- a round of this length
-unfoldable pub round : Lab → ℕ → Rounded
-round lab q = record {
+-- what a round of this length comes to, by what its boards have made of it
+abbrev pub rounded : Lab → ℕ → List State → Rounded
+rounded lab q runs = record {
   lab = record lab {
-    boards = boundary lab.hubs (map (λ run. run.view) (all_granted lab q)) (flat_map (λ run. run.posts) (all_granted lab q));
+    boards = boundary lab.hubs (map (λ run. run.view) runs) (flat_map (λ run. run.posts) runs);
     now = lab.now + q;
   };
-  items = map item_of (listing (λ entry. entry.key) (flat_map (λ run. run.entries) (all_granted lab q)));
+  items = map item_of (listing (λ entry. entry.key) (flat_map (λ run. run.entries) runs));
   paused = None;
 }
+
+-- a round of this length
+unfoldable pub round : Lab → ℕ → Rounded
+round lab q = rounded lab q (all_granted lab q)

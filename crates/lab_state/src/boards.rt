@@ -4,10 +4,9 @@ ghost use Rattle.std.specs.Option.{option_map};
 ghost use Rattle.lab_num.specs.Name as name_spec;
 ghost use Rattle.board.specs.Early.{early};
 ghost use Rattle.board.specs.Slot.{quiet};
-ghost use Rattle.board.specs.Space.{memory_base, in_memory, put_bytes};
+ghost use Rattle.board.specs.Space.{memory_base, holds_each, put_bytes};
 ghost use Rattle.lab_state.specs.Names as names_spec;
 ghost use Rattle.lab_state.specs.One.{board_of, changed};
-ghost use Rattle.lab_state.specs.Standing.{IsDevice};
 
 use crate::faults::AddFault;
 use crate::lab::Lab;
@@ -59,8 +58,11 @@ impl Lab {
         }) }
 
         // A name that is taken is reported as such, even where there are 16 boards.
-        ensures taken { (result ≡ Err AddFault.Taken) ↔ IsTrue (names_spec.is_taken self.old.lab name.now) }
-        ensures boards { (result ≡ Err AddFault.Boards) ↔ ((names_spec.is_taken self.old.lab name.now ≡ false) × (length self.old.lab.boards ≡ 16)) }
+        ensures taken { (result ≡ Err AddFault.Taken)
+            ↔ IsTrue (names_spec.is_taken self.old.lab name.now) }
+        ensures boards { (result ≡ Err AddFault.Boards)
+            ↔ ((names_spec.is_taken self.old.lab name.now ≡ false)
+            × (length self.old.lab.boards ≡ 16)) }
         ensures err { OnErr result (self.new ≡ self.old) }
     {
         if self.is_taken(name) {
@@ -87,7 +89,8 @@ impl Lab {
     /// The board that has a name.
     pub fn find_board(&self, name: &str) -> Option<BoardNo>
         requires { self.now.spent ≡ false }
-        ensures { option_map (λ board. board.0) result ≡ names_spec.number_of self.now.lab.names name.now }
+        ensures { option_map (λ board. board.0) result
+            ≡ names_spec.number_of self.now.lab.names name.now }
     {
         let board = number_of(&self.names, name)?;
         Some(BoardNo(board as u8))
@@ -124,8 +127,13 @@ impl Lab {
     pub fn copy_in(&mut self, b: BoardNo, at: u32, bytes: &[u8]) -> Result<(), NoMemory>
         requires unspent { self.old.spent ≡ false }
         requires exists { b.0 < length self.old.lab.boards }
-        requires holds { IsTrue (in_memory (board_of self.old.lab b.0).memory at (length bytes.now)) }
-        ensures ok { OnOk result (self.new ≡ record self.old { lab = changed self.old.lab b.0 (λ board. record board { memory = put_bytes board.memory (at - memory_base) bytes.now }) }) }
+        requires holds { IsTrue (holds_each (board_of self.old.lab b.0).memory at (length bytes.now)) }
+        ensures ok { OnOk result (self.new ≡ record self.old {
+          lab = changed self.old.lab b.0 (λ board. record board {
+            memory = put_bytes board.memory (at - memory_base) bytes.now;
+          });
+        }) }
+        ensures boards { length self.new.lab.boards ≡ length self.old.lab.boards }
         ensures err { OnErr result (self.new ≡ self.old) }
     {
         let board = &mut self.boards[b.0 as usize];
@@ -137,17 +145,27 @@ impl Lab {
         requires unspent { self.old.spent ≡ false }
         requires exists { b.0 < length self.old.lab.boards }
         requires aligned { pc % 4 ≡ 0 }
-        ensures { self.new ≡ record self.old { lab = changed self.old.lab b.0 (λ board. record board { core = record board.core { pc = pc } }) } }
+        ensures lab { self.new ≡ record self.old {
+          lab = changed self.old.lab b.0 (λ board. record board {
+            core = record board.core { pc = pc };
+          });
+        } }
+        ensures boards { length self.new.lab.boards ≡ length self.old.lab.boards }
     {
         let board = &mut self.boards[b.0 as usize];
         board.set_pc(pc);
     }
 
-    /// Shows a device: from now on each byte that it sends makes an item of the log. Again, it changes nothing.
+    /// Shows a device: from now on each byte that it sends makes an item of the log. Again, it
+    /// changes nothing.
     pub fn show(&mut self, member: Member)
         requires unspent { self.old.spent ≡ false }
-        requires device { IsDevice (length self.old.lab.boards) member }
-        ensures { self.new ≡ record self.old { lab = changed self.old.lab member.board.0 (λ board. record board { shown = true }) } }
+        requires exists { member.board.0 < length self.old.lab.boards }
+        requires device { member.dev ≡ 0 }
+        ensures lab { self.new ≡ record self.old {
+          lab = changed self.old.lab member.board.0 (λ board. record board { shown = true });
+        } }
+        ensures boards { length self.new.lab.boards ≡ length self.old.lab.boards }
     {
         let board = &mut self.boards[member.board.0 as usize];
         board.show(member.dev);

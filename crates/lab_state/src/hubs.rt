@@ -3,7 +3,6 @@ ghost use Rattle.std.specs.Prelude.{◌≡◌, ◌+◌, ◌^◌, ◌<◌, ◌↔
 ghost use Rattle.lab_num.specs.Name as name_spec;
 ghost use Rattle.lab_num.specs.Route.{StandOnce, is_connected};
 ghost use Rattle.lab_state.specs.Names as names_spec;
-ghost use Rattle.lab_state.specs.Standing.{IsDevice};
 
 use crate::faults::{ConnectFault, HubNameFault};
 use crate::lab::Lab;
@@ -53,7 +52,8 @@ impl Lab {
             hubs = self.old.lab.hubs ++ [] ∷ [];
           };
         }) }
-        ensures taken { (result ≡ Err HubNameFault.Taken) ↔ IsTrue (names_spec.is_taken self.old.lab name.now) }
+        ensures taken { (result ≡ Err HubNameFault.Taken)
+            ↔ IsTrue (names_spec.is_taken self.old.lab name.now) }
         ensures err { OnErr result (self.new ≡ self.old) }
     {
         if self.is_taken(name) {
@@ -67,16 +67,21 @@ impl Lab {
     /// Puts a device at the end of the hub of this name.
     pub fn connect(&mut self, member: Member, hub: &str) -> Result<(), ConnectFault>
         requires unspent { self.old.spent ≡ false }
-        requires device { IsDevice (length self.old.lab.boards) member }
+        requires exists { member.board.0 < length self.old.lab.boards }
+        requires device { member.dev ≡ 0 }
         ensures ok { OnOk result (self.new ≡ record self.old {
           lab = record self.old.lab {
-            hubs = names_spec.connected_to self.old.lab.hubs (names_spec.number_of self.old.lab.hub_names hub.now) member;
+            hubs = names_spec.connected_to self.old.lab.hubs
+                (names_spec.number_of self.old.lab.hub_names hub.now) member;
           };
         }) }
 
         // A hub that does not exist is reported as such, even where the device is in another.
-        ensures name { (result ≡ Err ConnectFault.Name) ↔ (names_spec.number_of self.old.lab.hub_names hub.now ≡ None) }
-        ensures already { (result ≡ Err ConnectFault.Already) ↔ (IsSome (names_spec.number_of self.old.lab.hub_names hub.now) × IsTrue (is_connected self.old.lab.hubs member)) }
+        ensures name { (result ≡ Err ConnectFault.Name)
+            ↔ (names_spec.number_of self.old.lab.hub_names hub.now ≡ None) }
+        ensures already { (result ≡ Err ConnectFault.Already)
+            ↔ (IsSome (names_spec.number_of self.old.lab.hub_names hub.now)
+            × IsTrue (is_connected self.old.lab.hubs member)) }
         ensures err { OnErr result (self.new ≡ self.old) }
     {
         let Some(number) = number_of(&self.hub_names, hub) else {

@@ -10,7 +10,8 @@ use uart_hub::UartHubs;
 /// The quantum of a new laboratory, in microseconds.
 const QUANTUM: u64 = 100;
 
-/// Boards and the hubs between them, paused between two rounds. It is spent once memory ran out inside a round.
+/// Boards and the hubs between them, paused between two rounds. It is spent once memory ran out
+/// inside a round.
 #[derive(Drop)]
 pub struct Lab {
     pub(crate) alloc: Global,
@@ -42,7 +43,8 @@ impl Model for Lab {
       spent = l.spent;
     } };
 
-    ghost invariant = { λ l. l.spent ≡ false → IsSound l.names.items l.boards.items l.hub_names.items l.hubs l.time.0 l.quantum };
+    ghost invariant = { λ l. l.spent ≡ false →
+        IsSound l.names.items l.boards.items l.hub_names.items l.hubs l.time.0 l.quantum };
 }
 
 impl Lab {
@@ -50,7 +52,10 @@ impl Lab {
 
     /// A laboratory at time 0, without boards and hubs, at a quantum of 100 microseconds.
     pub fn new(alloc: Global) -> Result<Lab, NoMemory>
-        ensures { IfOk result (λ made. made ≡ record { lab = record { names = []; boards = []; hub_names = []; hubs = []; now = 0; quantum = 100 }; spent = false }) }
+        ensures { IfOk result (λ made. made ≡ record {
+          lab = record { names = []; boards = []; hub_names = []; hubs = []; now = 0; quantum = 100 };
+          spent = false;
+        }) }
     {
         Ok(Lab {
             alloc,
@@ -93,7 +98,8 @@ impl Lab {
         self.quantum = quantum;
     }
 
-    /// Whether memory ran out inside a round. Nothing but a round and a run may be asked of a spent laboratory then.
+    /// Whether memory ran out inside a round. Nothing but a round and a run may be asked of a spent
+    /// laboratory then.
     pub fn is_spent(&self) -> bool
         ensures { result ≡ self.now.spent }
     {

@@ -9,18 +9,31 @@ ghost use Rattle.board.specs.View.{View};
 ghost use Rattle.lab_state.specs.Boundary.{boundary};
 ghost use Rattle.lab_state.specs.Lab.{Lab};
 ghost use Rattle.lab_state.specs.Run.{run, behind};
+ghost use Rattle.lab_state.specs.Turns.{Cut, IsWhole, run_in_turns};
 
+use board::turns_join;
 use lab_num::{Post as BoardPost, listing_laws};
 
 /// A run of a whole number of quanta and the run behind it are one run.
 pub fn runs_join()
-    ensures { (lab : Lab) (d e : ℕ) → 0 < lab.quantum → d % lab.quantum ≡ 0 → run lab (d + e) ≡ behind (run lab d) (run (run lab d).lab e) }
+    ensures { (lab : Lab) (d e : ℕ) → 0 < lab.quantum → d % lab.quantum ≡ 0 →
+        run lab (d + e) ≡ behind (run lab d) (run (run lab d).lab e) }
 {}
 
-/// What the boards are handed at a boundary does not depend on the order in which the posts were gathered.
+/// However the boards take the slots of their grants in turns, a run is the same: the laboratory
+/// after it, and the items of the log.
+pub fn turns_agree()
+    ensures { (cut : Cut) → IsWhole cut → (lab : Lab) (d : ℕ) → run_in_turns cut lab d ≡ run lab d }
+{
+    turns_join();
+}
+
+/// What the boards are handed at a boundary does not depend on the order in which the posts were
+/// gathered.
 pub fn boundaries_agree()
     ensures { (hubs : List (List Member)) (boards : List View) (posts others : List Post) →
-        KeysDiffer post_key posts → IsPermutation posts others → boundary hubs boards posts ≡ boundary hubs boards others }
+        KeysDiffer post_key posts → IsPermutation posts others →
+        boundary hubs boards posts ≡ boundary hubs boards others }
 {
     listing_laws::<BoardPost>();
 }

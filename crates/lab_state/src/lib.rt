@@ -12,7 +12,7 @@ mod run;
 
 pub use faults::{AddFault, ConnectFault, HubNameFault, LabFault, RunFault};
 pub use lab::Lab;
-pub use laws::{boundaries_agree, runs_join};
+pub use laws::{boundaries_agree, runs_join, turns_agree};
 pub use round::RoundLog;
 
 #[cfg(test)]

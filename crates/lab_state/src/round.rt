@@ -1,4 +1,5 @@
-//! One round: every board takes the slots that its grant pays, and then what they have sent is handed over.
+//! One round: every board takes the slots that its grant pays, and then what they have sent is
+//! handed over.
 ghost use Rattle.std.specs.Prelude.{◌≡◌, ◌+◌, ◌*◌, ◌<◌, ◌≤◌, ◌++◌, [], length, map, fold, true, false, IfOk, OnOk, OnErr};
 ghost use Rattle.std.specs.List.{flat_map, AllByRecursion};
 ghost use Rattle.lab_num.specs.Listing.{listing};
@@ -51,8 +52,10 @@ fn take_posts(board: &mut Board, posts: &mut Vec<Post>) -> Result<(), NoMemory>
 fn step_board(board: &mut Board, from: Micros, q: u64, made: &mut Made) -> Result<(), NoMemory>
     requires { from.0 + q ≤ 10000000000 }
     ensures board { OnOk result (board.new ≡ quiet (run_of from.0 q board.old).view) }
-    ensures posts { OnOk result (made.new.posts.items ≡ made.old.posts.items ++ (run_of from.0 q board.old).posts) }
-    ensures entries { OnOk result (all_entries made.new.entries.items ≡ all_entries made.old.entries.items ++ (run_of from.0 q board.old).entries) }
+    ensures posts { OnOk result (made.new.posts.items
+        ≡ made.old.posts.items ++ (run_of from.0 q board.old).posts) }
+    ensures entries { OnOk result (all_entries made.new.entries.items
+        ≡ all_entries made.old.entries.items ++ (run_of from.0 q board.old).entries) }
 {
     let slots = q * u64::from(board.speed());
     let Turn::Used(_) = board.turn(SlotAt { from, first: 0 }, slots) else {
@@ -66,9 +69,13 @@ fn step_board(board: &mut Board, from: Micros, q: u64, made: &mut Made) -> Resul
 /// Gives every board the slots of a round, and takes what they have made.
 fn step_all(boards: &mut [Board], from: Micros, q: u64, made: &mut Made) -> Result<(), NoMemory>
     requires { from.0 + q ≤ 10000000000 }
-    ensures boards { OnOk result (boards.new ≡ map (λ board. quiet (run_of from.0 q board).view) boards.old) }
-    ensures posts { OnOk result (made.new.posts.items ≡ made.old.posts.items ++ flat_map (λ board. (run_of from.0 q board).posts) boards.old) }
-    ensures entries { OnOk result (all_entries made.new.entries.items ≡ all_entries made.old.entries.items ++ flat_map (λ board. (run_of from.0 q board).entries) boards.old) }
+    ensures boards { OnOk result (boards.new
+        ≡ map (λ board. quiet (run_of from.0 q board).view) boards.old) }
+    ensures posts { OnOk result (made.new.posts.items
+        ≡ made.old.posts.items ++ flat_map (λ board. (run_of from.0 q board).posts) boards.old) }
+    ensures entries { OnOk result (all_entries made.new.entries.items
+        ≡ all_entries made.old.entries.items
+        ++ flat_map (λ board. (run_of from.0 q board).entries) boards.old) }
 {
     for board in boards.iter_mut() {
         step_board(board, from, q, made)?;
@@ -97,7 +104,8 @@ fn hand_over_all(
 ) -> Result<(), NoMemory>
     requires taken { boards.old ≡ map quiet (views boards.old) }
     requires devices { AreDevices (length boards.old) hubs.now }
-    ensures { OnOk result (boards.new ≡ map quiet (fold (to_route hubs.now) (views boards.old) posts.now)) }
+    ensures { OnOk result (boards.new
+        ≡ map quiet (fold (to_route hubs.now) (views boards.old) posts.now)) }
 {
     for post in posts {
         let to = hubs.route(alloc, post.from)?;
@@ -125,7 +133,8 @@ fn items_of(alloc: Global, entries: &[Entry]) -> Result<Vec<LogItem>, NoMemory>
     Ok(items)
 }
 
-/// Runs the boards for a round of `q` microseconds, and hands over what they have sent. Gives the items of the log.
+/// Runs the boards for a round of `q` microseconds, and hands over what they have sent. Gives the
+/// items of the log.
 pub(crate) fn play(
     alloc: Global,
     boards: &mut [Board],
@@ -137,9 +146,12 @@ pub(crate) fn play(
     requires taken { boards.old ≡ map quiet (views boards.old) }
     requires standing { AreStanding (1000 * from.0) 0 (views boards.old) }
     requires devices { AreDevices (length boards.old) hubs.now }
-    ensures boards { OnOk result (boards.new ≡ map quiet (boundary hubs.now (views (runs_of from.0 q boards.old)) (flat_map (λ run. run.posts) (runs_of from.0 q boards.old)))) }
+    ensures boards { OnOk result (boards.new ≡ map quiet (boundary hubs.now
+        (views (runs_of from.0 q boards.old))
+        (flat_map (λ run. run.posts) (runs_of from.0 q boards.old)))) }
     ensures standing { OnOk result (AreStanding (1000 * (from.0 + q)) 0 (views boards.new)) }
-    ensures items { IfOk result (λ items. items.items ≡ map round_spec.item_of (listing entry_key (flat_map (λ run. run.entries) (runs_of from.0 q boards.old)))) }
+    ensures items { IfOk result (λ items. items.items ≡ map round_spec.item_of
+        (listing entry_key (flat_map (λ run. run.entries) (runs_of from.0 q boards.old)))) }
 {
     stretches_number();
     let mut made = Made {
@@ -159,9 +171,11 @@ impl Lab {
     pub fn round(&mut self, q: u64) -> Result<RoundLog, LabFault>
         requires some { 0 < q }
         requires within { self.old.lab.now + q ≤ 10000000000 }
-        ensures lab { OnOk result (self.new ≡ record { lab = (round_spec.round self.old.lab q).lab; spent = false }) }
+        ensures lab { OnOk result (self.new
+            ≡ record { lab = (round_spec.round self.old.lab q).lab; spent = false }) }
         ensures lines { IfOk result (λ log. log.lines ≡ (round_spec.round self.old.lab q).items) }
-        ensures paused { IfOk result (λ log. log.paused ≡ (round_spec.round self.old.lab q).paused) }
+        ensures paused { IfOk result (λ log.
+            log.paused ≡ (round_spec.round self.old.lab q).paused) }
         ensures err { OnErr result (self.new.spent ≡ true) }
         ensures spent { self.old.spent ≡ true → result ≡ Err LabFault.Memory }
     {

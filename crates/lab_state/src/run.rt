@@ -1,6 +1,7 @@
 //! Runs: rounds of one quantum each, and a shorter one for what is left.
 ghost use Rattle.std.specs.Prelude.{◌≡◌, ◌+◌, ◌<◌, ◌≤◌, ◌↔◌, true, false, IfOk, OnOk, OnErr};
 ghost use Rattle.lab_state.specs.Came.{came_to};
+ghost use Rattle.lab_state.specs.Round.{round};
 ghost use Rattle.lab_state.specs.Run as run_spec;
 
 use crate::faults::{LabFault, RunFault};
@@ -17,7 +18,8 @@ impl Lab {
         requires unspent { self.old.spent ≡ false }
         requires some { 0 < q }
         requires within { self.old.lab.now + q ≤ 10000000000 }
-        ensures ok { IfOk result (λ log. came_to self.new.lab log ≡ run_spec.go_on (came_to self.old.lab run) q) }
+        ensures ok { IfOk result (λ log.
+            came_to self.new.lab log ≡ run_spec.go_on round (came_to self.old.lab run) q) }
         ensures unspent { OnOk result (self.new.spent ≡ false) }
         ensures err { OnErr result (self.new.spent ≡ true) }
     {
@@ -36,14 +38,16 @@ impl Lab {
         })
     }
 
-    /// Runs for `d` microseconds: rounds of one quantum each, and then a shorter one if the quanta do not fill `d`.
-    /// A run of 0 changes nothing. `RunFault::Memory` spends the laboratory.
+    /// Runs for `d` microseconds: rounds of one quantum each, and then a shorter one if the quanta
+    /// do not fill `d`. A run of 0 changes nothing. `RunFault::Memory` spends the laboratory.
     pub fn run_for(&mut self, d: Micros) -> Result<RoundLog, RunFault>
-        ensures lab { OnOk result (self.new ≡ record { lab = (run_spec.run self.old.lab d.0).lab; spent = false }) }
+        ensures lab { OnOk result (self.new
+            ≡ record { lab = (run_spec.run self.old.lab d.0).lab; spent = false }) }
         ensures lines { IfOk result (λ log. log.lines ≡ (run_spec.run self.old.lab d.0).items) }
         ensures paused { IfOk result (λ log. log.paused ≡ (run_spec.run self.old.lab d.0).paused) }
 
-        ensures too_long { (result ≡ Err RunFault.TooLong) ↔ ((self.old.spent ≡ false) × (10000000000 < self.old.lab.now + d.0)) }
+        ensures too_long { (result ≡ Err RunFault.TooLong)
+            ↔ ((self.old.spent ≡ false) × (10000000000 < self.old.lab.now + d.0)) }
         ensures unchanged { result ≡ Err RunFault.TooLong → self.new ≡ self.old }
         ensures memory { result ≡ Err RunFault.Memory → self.new.spent ≡ true }
         ensures spent { self.old.spent ≡ true → result ≡ Err RunFault.Memory }

@@ -1,7 +1,6 @@
 //! What runs of programs show.
 use crate::{AddFault, ConnectFault, HubNameFault, Lab, RunFault};
-use board::Taken;
-use lab_num::{BoardNo, Member, Micros, Payload, Rows, What, is_name};
+use lab_num::{BoardNo, Member, Micros, Rows, What, is_name};
 use log_merge::{LogItem, Member0};
 use std::alloc::Global;
 use std::process::Abort;
@@ -10,23 +9,46 @@ use std::test::Fail;
 /// Where a board's memory and its first instruction are.
 const START: u32 = 0x8000_0000;
 
-/// lui x1, 0x10000: the address of the UART
-const LUI: u32 = 0x1000_00b7;
+/// lui x5, 0x10000: the address of the UART
+const LUI: u32 = 0x1000_02B7;
 
-/// addi x2, x0, 65: an `A`
-const ADDI: u32 = 0x0410_0113;
+/// addi x6, x0, 65: an `A`
+const ADDI: u32 = 0x0410_0313;
 
-/// sb x2, 0(x1): sends it
-const SB: u32 = 0x0020_8023;
+/// sb x6, 0(x5): sends it
+const SB: u32 = 0x0062_8023;
 
 /// addi x0, x0, 0: does nothing
 const NOP: u32 = 0x0000_0013;
 
 /// jal x0, 0: goes round in one place
-const STAY: u32 = 0x0000_006f;
+const STAY: u32 = 0x0000_006F;
 
 /// jal x0, -4: goes back to the instruction before
-const BACK: u32 = 0xffdf_f06f;
+const BACK: u32 = 0xFFDF_F06F;
+
+/// lui x5, 0x10000; lbu x6, 5(x5); andi x6, x6, 1; beq x6, x0, -8; lbu x7, 0(x5); sb x7, 0(x5);
+/// jal x0, 0: sends the first byte that it gets on
+const ECHO: [u32; 7] = [
+    LUI,
+    0x0052_C303,
+    0x0013_7313,
+    0xFE03_0CE3,
+    0x0002_C383,
+    0x0072_8023,
+    STAY,
+];
+
+/// The same with jal x0, -20 at the end: sends each byte that it gets on
+const ECHO_AGAIN: [u32; 7] = [
+    LUI,
+    0x0052_C303,
+    0x0013_7313,
+    0xFE03_0CE3,
+    0x0002_C383,
+    0x0072_8023,
+    0xFEDF_F06F,
+];
 
 /// The item of the log for the `A` that a board sent.
 fn sent(at: u64, board: u8) -> LogItem {
@@ -141,15 +163,6 @@ fn now(rt: &impl Abort, lab: &Lab) -> u64 {
     lab.now().0
 }
 
-/// Whether a byte waits in a board's UART: a further one then takes its place.
-fn has_received(lab: Lab, b: usize) -> bool {
-    let mut boards = lab.boards;
-    match boards.get_mut(b) {
-        Some(board) => board.deliver(0, &Payload::Byte(0)) == Taken::Overrun,
-        None => false,
-    }
-}
-
 /// Two boards on one hub, of which the first sends an `A` in slot `at`.
 fn two_boards(rt: &impl Abort, alloc: Global, at: usize) -> Result<Lab, Fail> {
     let mut lab = Lab::new(alloc)?;
@@ -163,34 +176,51 @@ fn two_boards(rt: &impl Abort, alloc: Global, at: usize) -> Result<Lab, Fail> {
     Ok(lab)
 }
 
-/// Whether board `b` of these two has received the byte after so many rounds of 100 microseconds.
-fn received_after(
-    rt: &impl Abort,
-    alloc: Global,
-    at: usize,
-    rounds: u8,
-    b: usize,
-) -> Result<bool, Fail> {
+/// A board that sends an `A` in slot `at` and one that runs `program`, both shown and on one hub.
+fn sender_and(rt: &impl Abort, alloc: Global, at: usize, program: &[u32]) -> Result<Lab, Fail> {
     let mut lab = two_boards(rt, alloc, at)?;
-    for _ in 0..rounds {
-        let _ = round(rt, &mut lab, 100)?;
-    }
-    Ok(has_received(lab, b))
+    load(rt, alloc, &mut lab, 1, program)?;
+    Ok(lab)
 }
 
 #[test]
-fn a_byte_is_handed_over_at_the_end_of_the_round_of_its_slot(rt: HostRuntime) -> Result<(), Fail> {
-    for (at, rounds, b, want) in [
-        (99, 0, 1, false),
-        (99, 1, 1, true),
-        (99, 1, 0, false),
-        (100, 1, 1, false),
-        (100, 2, 1, true),
-        (100, 2, 0, false),
-    ] {
-        let received = received_after(&rt, rt.alloc(), at, rounds, b)?;
-        assert_eq!(rt; received, want, "slot {at}, {rounds} rounds, m{b}");
+fn a_byte_crosses_at_the_end_of_the_round_in_which_it_was_sent(
+    rt: HostRuntime,
+) -> Result<(), Fail> {
+    // The last slot of a round, and the first of the next.
+    for (at, echoed) in [(99, 104), (100, 206)] {
+        let mut lab = sender_and(&rt, rt.alloc(), at, &ECHO)?;
+        let lines = run(&rt, &mut lab, 300)?;
+        assert_eq!(rt;
+            lines.items(),
+            [sent(at as u64, 0), sent(echoed, 1)].as_slice(),
+            "slot {at}"
+        );
     }
+    Ok(())
+}
+
+#[test]
+fn a_run_of_250_has_boundaries_at_100_200_and_250(rt: HostRuntime) -> Result<(), Fail> {
+    let rows: [(usize, &[LogItem], &[LogItem]); 3] = [
+        (99, &[sent(99, 0), sent(104, 1)], &[]),
+        (199, &[sent(199, 0), sent(206, 1)], &[]),
+        (249, &[sent(249, 0)], &[sent(254, 1)]),
+    ];
+    for (at, first, behind) in rows {
+        let mut lab = sender_and(&rt, rt.alloc(), at, &ECHO)?;
+        assert_eq!(rt; run(&rt, &mut lab, 250)?.items(), first, "slot {at}");
+        assert_eq!(rt; now(&rt, &lab), 250);
+        assert_eq!(rt; run(&rt, &mut lab, 50)?.items(), behind, "slot {at}");
+    }
+    Ok(())
+}
+
+#[test]
+fn a_sender_does_not_hear_itself(rt: HostRuntime) -> Result<(), Fail> {
+    let mut lab = sender_and(&rt, rt.alloc(), 99, &ECHO_AGAIN)?;
+    let lines = run(&rt, &mut lab, 500)?;
+    assert_eq!(rt; lines.items(), [sent(99, 0), sent(104, 1)].as_slice());
     Ok(())
 }
 

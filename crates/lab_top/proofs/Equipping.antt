@@ -1,4 +1,4 @@
--- What equipping a board keeps, and what it makes of the built-in boards.
+-- What equipping the boards makes of them.
 use Rattle.std.proofs.Common.{◌≡◌, ℕ, zero, suc, ◌<◌, List, [], ◌∷◌, codes, length, refl, ap}
 use Rattle.board.specs.View.{View}
 use Rattle.board.specs.Early.{early}
@@ -6,15 +6,6 @@ use Rattle.lab_state.specs.Lab.{Lab}
 use Rattle.lab_state.specs.Boundary.{change_at}
 use Rattle.lab_state.specs.Standing.{IsDevice}
 use Rattle.lab_top.specs.Builtin.{built_in, equipped, uart_of, send_a, echo}
-
-pub length-changed : (vs : List View) (i : ℕ) (f : View → View) → length (change_at vs i f) ≡ length vs
-length-changed [] i f = refl
-length-changed (v ∷ vs) zero f = refl
-length-changed (v ∷ vs) (suc i) f = ap suc (length-changed vs i f)
-
--- the UART of a board that exists is a device, and still is when a board has changed
-pub device_of : (count b : ℕ) → b < count → IsDevice count (uart_of b)
-device_of count b exists = record { board = exists; dev = refl }
 
 -- both boards and the hub before the boards have their programs
 abbrev pub bare : Lab

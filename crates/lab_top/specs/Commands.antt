@@ -4,7 +4,7 @@ use Rattle.lab_num.specs.declared.number.Micros.{Micros}
 use Rattle.lab_num.specs.declared.time.TimeFault.{TimeFault}
 use Rattle.lab_state.specs.Lab.{Lab}
 use Rattle.lab_state.specs.Round.{Rounded}
-use Rattle.lab_state.specs.Run.{run}
+use Rattle.lab_state.specs.Run.{Play}
 use Rattle.lab_top.specs.declared.fault.ScriptCause.{ScriptCause}
 use Rattle.lab_top.specs.declared.fault.ScriptCause.TheVariants as cause
 use Rattle.lab_top.specs.declared.script.Command.{Command}
@@ -26,9 +26,9 @@ abbrev pub has_run : State → Rounded → Did
 has_run s rounded = Goes (text s.lines rounded.items) (record { lab = rounded.lab; lines = open_lines s.lines rounded.items })
 
 -- a run ends at 10,000 seconds of lab time at the latest
-abbrev pub runs : State → Result Micros TimeFault → Did
-runs s (Err fault) = Faults cause.Time
-runs s (Ok d) = if nat_lt (10 ^ 10) (s.lab.now + d.0) then Faults cause.LabTime else has_run s (run s.lab d.0)
+abbrev pub runs : Play → State → Result Micros TimeFault → Did
+runs play s (Err fault) = Faults cause.Time
+runs play s (Ok d) = if nat_lt (10 ^ 10) (s.lab.now + d.0) then Faults cause.LabTime else has_run s (play s.lab d.0)
 
 -- a quantum is 1 to 1,000,000 microseconds
 abbrev pub sets_quantum : State → Result Micros TimeFault → Did
@@ -36,8 +36,8 @@ sets_quantum s (Err fault) = Faults cause.Time
 sets_quantum s (Ok q) =
     if nat_le 1 q.0 && nat_le q.0 1000000 then Goes [] (record s { lab = record s.lab { quantum = q.0 } }) else Faults cause.Time
 
--- what the command of a line does, if it is one
-unfoldable pub did : State → Option Command → Did
-did s None = Faults cause.Unknown
-did s (Some (RunFor time)) = runs s time
-did s (Some (SetQuantum time)) = sets_quantum s time
+-- what the command of a line does, if it is one, where a laboratory plays a run so
+unfoldable pub did : Play → State → Option Command → Did
+did play s None = Faults cause.Unknown
+did play s (Some (RunFor time)) = runs play s time
+did play s (Some (SetQuantum time)) = sets_quantum s time

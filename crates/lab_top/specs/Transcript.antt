@@ -4,6 +4,7 @@ use Rattle.std.specs.List.{starts_with}
 use Rattle.std.specs.Str.{bytes_eq}
 use Rattle.std.specs.FinMap.{get}
 use Rattle.lab_io.specs.Held.{Held}
+use Rattle.lab_state.specs.Run.{Play, run}
 use Rattle.lab_top.specs.declared.status.UsageCause.{UsageCause}
 use Rattle.lab_top.specs.declared.status.UsageCause.TheVariants.{Command, Words}
 use Rattle.lab_top.specs.declared.fault.Cause.TheVariants as fault_cause
@@ -84,30 +85,34 @@ fault_at script line cause = record { file = script; line = line; cause = fault_
 abbrev pub stopped : State → Outcome → Transcript
 stopped s outcome = after [] (rest s.lines) (ended outcome)
 
--- what is left of a run of a script at these lines, the first of this number
-unfoldable pub from : List ℕ → ℕ → State → List (List ℕ) → Transcript
-from script number s [] = stopped s Done
-from script number s (line ∷ lines) =
-    elim (did s (command_of line)) [
-      | Goes text next ↦ after [] text (from script (number + 1) next lines)
+-- what is left of a run of a script at these lines, the first of this number, where a laboratory plays a run so
+unfoldable pub from : Play → List ℕ → ℕ → State → List (List ℕ) → Transcript
+from play script number s [] = stopped s Done
+from play script number s (line ∷ lines) =
+    elim (did play s (command_of line)) [
+      | Goes text next ↦ after [] text (from play script (number + 1) next lines)
       | Faults cause ↦ stopped s (Script (fault_at script number cause))
     ]
 
 -- how a run goes on with what its script holds
-abbrev pub begun : List ℕ → Option (List ℕ) → Transcript
-begun script None = ended Absent
-begun script (Some bytes) =
-    if nat_lt 16777216 (length bytes) then ended (Script (fault_at script 0 Size)) else from script 1 started (lines_of bytes)
+abbrev pub begun : Play → List ℕ → Option (List ℕ) → Transcript
+begun play script None = ended Absent
+begun play script (Some bytes) =
+    if nat_lt 16777216 (length bytes) then ended (Script (fault_at script 0 Size)) else from play script 1 started (lines_of bytes)
 
 -- all that the run of a script writes and reads
-abbrev pub run_of : Held → List ℕ → Transcript
-run_of held script = after (script ∷ []) [] (begun script (get held script))
+abbrev pub run_of : Play → Held → List ℕ → Transcript
+run_of play held script = after (script ∷ []) [] (begun play script (get held script))
 
 -- all that a request writes and reads
-abbrev pub answered : Held → Request → Transcript
-answered held (Refused cause) = ended (Usage cause)
-answered held (Run script) = run_of held script
+abbrev pub answered : Play → Held → Request → Transcript
+answered play held (Refused cause) = ended (Usage cause)
+answered play held (Run script) = run_of play held script
+
+-- all that the program writes and reads, for these words and files, where a laboratory plays a run so
+abbrev pub transcript_by : Play → List (List ℕ) → Held → Transcript
+transcript_by play words held = answered play held (request_of words)
 
 -- all that the program writes and reads, for these words and files
 abbrev pub transcript : List (List ℕ) → Held → Transcript
-transcript words held = answered held (request_of words)
+transcript words held = transcript_by run words held

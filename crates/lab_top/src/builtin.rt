@@ -11,13 +11,14 @@ use std::alloc::Global;
 /// The address of the first word of a program.
 const START: u32 = 0x8000_0000;
 
-/// `lui x5, 0x10000`, `addi x6, x0, 65`, `sb x6, 0(x5)`, `jal x0, 0`: sends `A` in slot 2, then runs in place.
+/// `lui x5, 0x10000`, `addi x6, x0, 65`, `sb x6, 0(x5)`, `jal x0, 0`: sends `A` in slot 2, then
+/// runs in place.
 const SEND_A: [u8; 16] = [
     0xB7, 0x02, 0x00, 0x10, 0x13, 0x03, 0x10, 0x04, 0x23, 0x80, 0x62, 0x00, 0x6F, 0x00, 0x00, 0x00,
 ];
 
-/// `lui x5, 0x10000`, `lbu x6, 5(x5)`, `andi x6, x6, 1`, `beq x6, x0, -8`, `lbu x7, 0(x5)`, `sb x7, 0(x5)`,
-/// `jal x0, 0`: waits for one byte, sends it, then runs in place.
+/// `lui x5, 0x10000`, `lbu x6, 5(x5)`, `andi x6, x6, 1`, `beq x6, x0, -8`, `lbu x7, 0(x5)`,
+/// `sb x7, 0(x5)`, `jal x0, 0`: waits for one byte, sends it, then runs in place.
 const ECHO: [u8; 28] = [
     0xB7, 0x02, 0x00, 0x10, 0x03, 0xC3, 0x52, 0x00, 0x13, 0x73, 0x13, 0x00, 0xE3, 0x0C, 0x03, 0xFE,
     0x83, 0xC3, 0x02, 0x00, 0x23, 0x80, 0x72, 0x00, 0x6F, 0x00, 0x00, 0x00,
@@ -49,7 +50,8 @@ fn equip(lab: &mut Lab, board: BoardNo, program: &[u8]) -> Result<(), NoMemory>
     requires exists { board.0 < length lab.old.lab.boards }
     requires memory { length (board_of lab.old.lab board.0).memory ≡ 0x10000 }
     requires program { length program.now ≤ 0x10000 }
-    ensures { OnOk result (lab.new ≡ record lab.old { lab = equipped lab.old.lab board.0 program.now }) }
+    ensures { OnOk result (lab.new
+        ≡ record lab.old { lab = equipped lab.old.lab board.0 program.now }) }
 {
     let uart = Member { board, dev: 0 };
     lab.copy_in(board, START, program)?;

@@ -7,7 +7,8 @@ use std::fmt;
 pub enum ScriptCause {
     /// S1: the line is no command.
     Unknown,
-    /// S10: a time is of no form or above 10,000 seconds, or a quantum is not 1 to 1,000,000 microseconds.
+    /// S10: a time is of no form or above 10,000 seconds, or a quantum is not 1 to 1,000,000
+    /// microseconds.
     Time,
     /// S14: the run would end above 10,000 seconds of lab time.
     LabTime,

@@ -12,7 +12,7 @@ mod status;
 mod step;
 
 pub use fault::{Cause, ScriptCause, ScriptFault};
-pub use laws::prints_join;
+pub use laws::{prints_join, transcripts_agree};
 pub use run::run_lab;
 pub use status::{Status, UsageCause};
 

@@ -28,8 +28,8 @@ impl fmt::Display for Seconds {
     }
 }
 
-/// The line of a board's UART that has not ended: the board's name, the line's bytes, at most 127 and no line feed, and
-/// the microsecond of the last.
+/// The line of a board's UART that has not ended: the board's name, the line's bytes, at most 127
+/// and no line feed, and the microsecond of the last.
 #[derive(Drop)]
 pub struct OpenLine {
     board: Text,
@@ -59,7 +59,8 @@ impl OpenLine {
 
     /// Takes a byte that was sent at this microsecond, and prints the line where the byte ends it.
     fn take(&mut self, at: Micros, byte: u8, text: &mut String) -> Result<(), NoMemory>
-        ensures text { OnOk result (string_bytes text.new ≡ string_bytes text.old ++ (if is_ending self.old byte then line_text (gathered self.old at.0 byte) else [])) }
+        ensures text { OnOk result (string_bytes text.new ≡ string_bytes text.old
+            ++ (if is_ending self.old byte then line_text (gathered self.old at.0 byte) else [])) }
         ensures line { OnOk result (self.new ≡ left_open self.old at.0 byte) }
     {
         let is_ending = self.is_ending(byte);
@@ -110,7 +111,8 @@ impl OpenLine {
     /// Writes the line to the end of the text.
     #[tactic(auto, unfolding(crate::specs::Log::line_text))]
     fn print(&self, text: &mut String) -> Result<(), NoMemory>
-        ensures { OnOk result (string_bytes text.new ≡ string_bytes text.old ++ line_text self.now) }
+        ensures { OnOk result (string_bytes text.new
+            ≡ string_bytes text.old ++ line_text self.now) }
     {
         let at = Seconds(self.at);
         let board = self.board.as_str();
@@ -123,8 +125,8 @@ impl OpenLine {
     }
 }
 
-/// What the items print, in order. The lines, one for each board in order of their numbers, gather the bytes that end no
-/// line. After an `Err` nothing is known of them.
+/// What the items print, in order. The lines, one for each board in order of their numbers, gather
+/// the bytes that end no line. After an `Err` nothing is known of them.
 pub fn text_of(alloc: Global, lines: &mut [OpenLine], items: &[LogItem]) -> Result<String, NoMemory>
     ensures text { IfOk result (λ printed. string_bytes printed ≡ text lines.old items.now) }
     ensures lines { OnOk result (lines.new ≡ open_lines lines.old items.now) }
@@ -138,7 +140,8 @@ pub fn text_of(alloc: Global, lines: &mut [OpenLine], items: &[LogItem]) -> Resu
 
 /// Prints the line that an item ends, if it ends one.
 fn print_item(lines: &mut [OpenLine], item: &LogItem, text: &mut String) -> Result<(), NoMemory>
-    ensures text { OnOk result (string_bytes text.new ≡ string_bytes text.old ++ printed lines.old item.now) }
+    ensures text { OnOk result (string_bytes text.new
+        ≡ string_bytes text.old ++ printed lines.old item.now) }
     ensures lines { OnOk result (lines.new ≡ opened lines.old item.now) }
 {
     let LogItem::Slot(from, What::Byte { value, .. }) = item;

@@ -1,6 +1,7 @@
 //! The whole program, from the command words to the status.
 ghost use Rattle.std.specs.Prelude.{◌≡◌, ◌≢◌, ◌≤◌, [], false, length, IfSome, MatchResult, map, string_bytes, Option, List, ℕ};
 ghost use Rattle.lab_io.specs.Known.{Rose};
+ghost use Rattle.lab_state.specs.Run.{run};
 ghost use Rattle.lab_top.specs.Script.{lines_of};
 ghost use Rattle.lab_top.specs.Log.{rest};
 ghost use Rattle.lab_top.specs.Builtin.{started};
@@ -33,22 +34,28 @@ pub fn run_lab<F: Files, K: Sink>(
 ) -> Status
     // Where nothing cut the run short, it ended and wrote as its transcript says.
     ensures outcome { IfSome (F.held files.old) (λ held.
-        IsWhole (transcript (map string_bytes words.now) held) result (K.written out.old) (K.written out.new)) }
+        IsWhole (transcript (map string_bytes words.now) held) result
+        (K.written out.old) (K.written out.new)) }
 
-    // Else it wrote what the transcript begins with, and after a failed read all that comes before that read.
+    // Else it wrote what the transcript begins with, and after a failed read all that comes before
+    // that read.
     ensures prefix { IfSome (F.held files.old) (λ held.
         WritesPart (transcript (map string_bytes words.now) held) result
         (K.written out.old) (K.written out.new) (F.asked files.old) (F.asked files.new)) }
 
-    // Only a fault that was counted cuts it short, or want of memory, and it asks for no name that the transcript does not.
-    ensures counted { IsCounted result (F.faults files.old) (F.faults files.new) (K.faults out.old) (K.faults out.new) }
+    // Only a fault that was counted cuts it short, or want of memory, and it asks for no name that
+    // the transcript does not.
+    ensures counted { IsCounted result
+        (F.faults files.old) (F.faults files.new) (K.faults out.old) (K.faults out.new) }
     ensures asked { IfSome (F.held files.old) (λ held.
-        AsksPart (transcript (map string_bytes words.now) held) (F.asked files.old) (F.asked files.new)) }
+        AsksPart (transcript (map string_bytes words.now) held)
+        (F.asked files.old) (F.asked files.new)) }
 
     // Where each name holds something and nothing failed, nothing but want of memory cuts it short.
     ensures complete { IfSome (F.held files.old) (λ held.
         HasAll held (transcript (map string_bytes words.now) held).reads →
-        ¬ (Rose (F.faults files.old) (F.faults files.new)) → ¬ (Rose (K.faults out.old) (K.faults out.new)) →
+        ¬ (Rose (F.faults files.old) (F.faults files.new)) →
+        ¬ (Rose (K.faults out.old) (K.faults out.new)) →
         IsUncut result) }
 
     // The words alone say whether they are refused.
@@ -64,7 +71,9 @@ fn run_words<F: Files, K: Sink>(
     files: &mut F,
     out: &mut K,
 ) -> Status
-    ensures course { Told (F.held files.old) (λ held. Course (transcript (map string_bytes words.now) held) result (K.written out.old) (K.written out.new) (F.asked files.old) (F.asked files.new)) }
+    ensures course { Told (F.held files.old) (λ held.
+        Course (transcript (map string_bytes words.now) held) result
+        (K.written out.old) (K.written out.new) (F.asked files.old) (F.asked files.new)) }
     ensures usage { IsUsageBy (request_of (map string_bytes words.now)) result }
     ensures unread { result ≡ Status.Unread → Rose (F.faults files.old) (F.faults files.new) }
     ensures unwritten { result ≡ Status.Unwritten → Rose (K.faults out.old) (K.faults out.new) }
@@ -110,7 +119,9 @@ fn refuse_words<K: Sink>(cause: UsageCause, out: &mut K) -> Status
 
 /// Reads a script and runs it.
 fn run_file<F: Files, K: Sink>(alloc: Global, script: &str, files: &mut F, out: &mut K) -> Status
-    ensures course { Told (F.held files.old) (λ held. Course (run_of held script.now) result (K.written out.old) (K.written out.new) (F.asked files.old) (F.asked files.new)) }
+    ensures course { Told (F.held files.old) (λ held.
+        Course (run_of run held script.now) result
+        (K.written out.old) (K.written out.new) (F.asked files.old) (F.asked files.new)) }
     ensures usage { IsNoUsage result }
     ensures unread { result ≡ Status.Unread → Rose (F.faults files.old) (F.faults files.new) }
     ensures unwritten { result ≡ Status.Unwritten → Rose (K.faults out.old) (K.faults out.new) }
@@ -127,7 +138,9 @@ fn run_file<F: Files, K: Sink>(alloc: Global, script: &str, files: &mut F, out: 
 /// Runs the built-in laboratory by a script.
 fn run_script<K: Sink>(alloc: Global, script: &str, bytes: &[u8], out: &mut K) -> Status
     requires { length bytes.now ≤ 16777216 }
-    ensures course { (log : Option (List (List ℕ))) → Course (from script.now 1 started (lines_of bytes.now)) result (K.written out.old) (K.written out.new) log log }
+    ensures course { (log : Option (List (List ℕ))) →
+        Course (from run script.now 1 started (lines_of bytes.now)) result
+        (K.written out.old) (K.written out.new) log log }
     ensures usage { IsNoUsage result }
     ensures never { result ≢ Status.Unread }
     ensures unwritten { result ≡ Status.Unwritten → Rose (K.faults out.old) (K.faults out.new) }
@@ -138,7 +151,8 @@ fn run_script<K: Sink>(alloc: Global, script: &str, bytes: &[u8], out: &mut K) -
     take_lines(alloc, script, bytes, &mut session, out)
 }
 
-/// Takes the lines of a script to the end or the first fault, and writes what each prints before the next is taken.
+/// Takes the lines of a script to the end or the first fault, and writes what each prints before
+/// the next is taken.
 fn take_lines<K: Sink>(
     alloc: Global,
     script: &str,
@@ -148,7 +162,9 @@ fn take_lines<K: Sink>(
 ) -> Status
     requires short { length bytes.now ≤ 16777216 }
     requires unspent { session.old.spent ≡ false }
-    ensures course { (log : Option (List (List ℕ))) → Course (from script.now 1 session.old.state (lines_of bytes.now)) result (K.written out.old) (K.written out.new) log log }
+    ensures course { (log : Option (List (List ℕ))) →
+        Course (from run script.now 1 session.old.state (lines_of bytes.now)) result
+        (K.written out.old) (K.written out.new) log log }
     ensures usage { IsNoUsage result }
     ensures never { result ≢ Status.Unread }
     ensures unwritten { result ≡ Status.Unwritten → Rose (K.faults out.old) (K.faults out.new) }
@@ -173,7 +189,8 @@ fn take_lines<K: Sink>(
 
 /// Writes what is left of the lines where a script has ended.
 fn stop<K: Sink>(session: &Session, out: &mut K) -> Status
-    ensures course { IsEnd (rest session.now.state.lines) Done result (K.written out.old) (K.written out.new) }
+    ensures course { IsEnd (rest session.now.state.lines) Done result
+        (K.written out.old) (K.written out.new) }
     ensures usage { IsNoUsage result }
     ensures never { result ≢ Status.Unread }
     ensures unwritten { result ≡ Status.Unwritten → Rose (K.faults out.old) (K.faults out.new) }
@@ -196,7 +213,9 @@ fn stop_at<K: Sink>(
     cause: ScriptCause,
     out: &mut K,
 ) -> Status
-    ensures course { IsEnd (rest session.now.state.lines) (Script (fault_at script.now number cause)) result (K.written out.old) (K.written out.new) }
+    ensures course { IsEnd (rest session.now.state.lines)
+        (Script (fault_at script.now number cause)) result
+        (K.written out.old) (K.written out.new) }
     ensures usage { IsNoUsage result }
     ensures never { result ≢ Status.Unread }
     ensures unwritten { result ≡ Status.Unwritten → Rose (K.faults out.old) (K.faults out.new) }
@@ -218,7 +237,8 @@ fn refuse_line<K: Sink>(
     cause: ScriptCause,
     out: &mut K,
 ) -> Status
-    ensures course { IsEnd [] (Script (fault_at script.now number cause)) result (K.written out.old) (K.written out.new) }
+    ensures course { IsEnd [] (Script (fault_at script.now number cause)) result
+        (K.written out.old) (K.written out.new) }
     ensures usage { IsNoUsage result }
     ensures never { result ≢ Status.Unread }
     ensures unwritten { result ≡ Status.Unwritten → Rose (K.faults out.old) (K.faults out.new) }

@@ -16,9 +16,12 @@ pub enum Command {
     SetQuantum(Result<Micros, TimeFault>),
 }
 
-/// The first line, without its line feed, and what is behind it. None exactly where nothing is left.
+/// The first line, without its line feed, and what is behind it. None exactly where nothing is
+/// left.
 pub fn next_line(script: &[u8]) -> Option<(&[u8], &[u8])>
-    ensures lines { MatchOption result (lines_of script.now ≡ []) (λ next. lines_of script.now ≡ next.0.now ∷ lines_of next.1.now) }
+    ensures lines { MatchOption result
+        (lines_of script.now ≡ [])
+        (λ next. lines_of script.now ≡ next.0.now ∷ lines_of next.1.now) }
     ensures shorter { IfSome result (λ next. length next.1.now < length script.now) }
 {
     if script.is_empty() {
@@ -57,8 +60,8 @@ pub fn command_of(line: &[u8]) -> Option<Command>
     Some(Command::SetQuantum(time_in(time)))
 }
 
-/// What stands between the opening and a quote at the line's end. None exactly where the line does not begin with the
-/// opening or has no quote or more than one behind it.
+/// What stands between the opening and a quote at the line's end. None exactly where the line does
+/// not begin with the opening or has no quote or more than one behind it.
 fn quoted<'a>(opening: &[u8], line: &'a [u8]) -> Option<&'a [u8]>
     ensures { option_map (λ time. time.now) result ≡ quoted opening.now line.now }
 {

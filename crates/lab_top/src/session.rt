@@ -1,5 +1,6 @@
 //! A run of a script: the laboratory, and the lines of its log that are open.
 ghost use Rattle.std.specs.Prelude.{◌≡◌, false, IfOk, string_bytes};
+ghost use Rattle.lab_state.specs.Run.{run};
 ghost use Rattle.lab_top.specs.Script.{command_of};
 ghost use Rattle.lab_top.specs.Log.{rest};
 ghost use Rattle.lab_top.specs.Commands.{did, runs, sets_quantum};
@@ -32,7 +33,10 @@ impl Model for Session {
 
     ghost Value = { Running };
 
-    ghost view = { λ s. record { state = record { lab = s.lab.lab; lines = s.lines.items }; spent = s.lab.spent } };
+    ghost view = { λ s. record {
+      state = record { lab = s.lab.lab; lines = s.lines.items };
+      spent = s.lab.spent;
+    } };
 }
 
 impl Session {
@@ -49,7 +53,7 @@ impl Session {
     #[tactic(auto, unfolding(crate::specs::Commands::did))]
     pub fn take(&mut self, line: &[u8]) -> Step
         requires { self.old.spent ≡ false }
-        ensures { IsStep (did self.old.state (command_of line.now)) result self.old self.new }
+        ensures { IsStep (did run self.old.state (command_of line.now)) result self.old self.new }
     {
         match script::command_of(line) {
             None => Step::Fault(ScriptCause::Unknown),
@@ -61,7 +65,7 @@ impl Session {
     /// Runs the laboratory, and prints its log.
     fn run_for(&mut self, time: Result<Micros, TimeFault>) -> Step
         requires { self.old.spent ≡ false }
-        ensures { IsStep (runs self.old.state time) result self.old self.new }
+        ensures { IsStep (runs run self.old.state time) result self.old self.new }
     {
         let Ok(length) = time else {
             return Step::Fault(ScriptCause::Time);

@@ -1,4 +1,5 @@
-//! What the boards of a round sent and noted, in one list that rises by key, and the items of the log.
+//! What the boards of a round sent and noted, in one list that rises by key, and the items of the
+//! log.
 #![tactic(auto)]
 
 mod item;

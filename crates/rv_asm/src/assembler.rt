@@ -1,4 +1,4 @@
-// From a text to its words: once over the lines for the labels, and once for the words.
+//! From a text to its words: once over the lines for the labels, and once for the words.
 ghost use Rattle.std.specs.Prelude.{◌≡◌, ℕ, ◌+◌, ◌*◌, ◌^◌, ◌≤◌, [], ◌∷◌, ◌++◌, List, if◌then◌else◌, Some, None, map, length, IfOk, IfErr, OnOk};
 ghost use Rattle.rv_asm.specs.Places.{place_in, HasPlaces, with_label};
 ghost use Rattle.rv_asm.specs.Lines.{label_of, line_word};
@@ -106,12 +106,13 @@ fn words_of(
 
 /// The words of a text's lines, in order.
 ///
-/// A line ends at an LF or at the text's end. `#` begins a comment, and blanks are space and tab; a line
-/// with nothing else gives no word. Any other line has a label or not, `label:`, and then one instruction
-/// that `decode` knows, or `.word n`, with its operands parted by commas: registers `x0` to `x31`; numbers,
-/// decimal or hexadecimal behind `0x`, with or without `-`; `n(xR)` at loads, stores and `jalr`; a label or
-/// an offset in bytes at branches and `jal`; the upper 20 bits at `lui` and `auipc`; the number of a
-/// control and status register between two operands. Fences stand without operands and have all fields 0.
+/// A line ends at an LF or at the text's end. `#` begins a comment, and blanks are space and tab; a
+/// line with nothing else gives no word. Any other line has a label or not, `label:`, and then one
+/// instruction that `decode` knows, or `.word n`, with its operands parted by commas: registers
+/// `x0` to `x31`; numbers, decimal or hexadecimal behind `0x`, with or without `-`; `n(xR)` at
+/// loads, stores and `jalr`; a label or an offset in bytes at branches and `jal`; the upper 20 bits
+/// at `lui` and `auipc`; the number of a control and status register between two operands. Fences
+/// stand without operands and have all fields 0.
 ///
 /// `Line` is answered for the first line with a fault, and `Memory` where memory is wanting alone.
 pub fn assemble(alloc: Global, text: &str) -> Result<Vec<u32>, AsmFault>

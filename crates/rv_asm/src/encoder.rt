@@ -1,4 +1,4 @@
-// From an instruction to its word.
+//! From an instruction to its word.
 ghost use Rattle.std.specs.Prelude.{◌≡◌, ℕ, ◌^◌, ◌<◌, ◌↔◌, Some, IsTrue};
 ghost use Rattle.rv_decode.specs.Instruction.{format_of};
 ghost use Rattle.rv_decode.specs.Immediate.{field};
@@ -189,8 +189,8 @@ fn is_meant(word: u32, i: &Instr) -> bool
     }
 }
 
-/// The word of a valid instruction, with its fields in the places of its format (RISC-V Unprivileged
-/// ISA 20191213, section 2.3). It is the inverse of `decode`.
+/// The word of a valid instruction, with its fields in the places of its format (RISC-V
+/// Unprivileged ISA 20191213, section 2.3). It is the inverse of `decode`.
 pub fn encode(i: &Instr) -> u32
     requires { IsValid i.now }
     ensures meaning { means result ≡ Some i.now }

@@ -1,4 +1,4 @@
-// Why a text is not assembled.
+//! Why a text is not assembled.
 
 /// What is wrong with a line.
 #[derive(Clone, Copy, PartialEq, Eq, Debug)]

@@ -1,4 +1,4 @@
-// An assembler of RV32 instructions, the inverse of the decoder.
+//! An assembler of RV32 instructions, the inverse of the decoder.
 #![tactic(auto)]
 
 mod assembler;

@@ -1,5 +1,5 @@
-// The word of a line, or the first of its faults in the order of `AsmCause`. `here` is the address of the
-// line's word.
+//! The word of a line, or the first of its faults in the order of `AsmCause`. `here` is the address
+//! of the line's word.
 ghost use Rattle.std.specs.Prelude.{◌≡◌};
 ghost use Rattle.std.specs.Option.{option_map};
 ghost use Rattle.rv_asm.specs.Places.{place_in};

@@ -1,4 +1,4 @@
-// The names of instructions.
+//! The names of instructions.
 ghost use Rattle.std.specs.Prelude.{◌≡◌};
 ghost use Rattle.rv_asm.specs.Mnemonics.{control_named, memory_named, immediate_named, register_named, multiply_named, system_named, op_named, mnemonic_of};
 

@@ -1,4 +1,4 @@
-// Numbers in a text, and the fields that they fit.
+//! Numbers in a text, and the fields that they fit.
 ghost use Rattle.std.specs.Prelude.{◌≡◌, ◌^◌, ◌≤◌, ◌<◌, length, IfSome};
 ghost use Rattle.std.specs.List.{list_all};
 ghost use Rattle.std.specs.Char.{is_ascii_digit, is_ascii_hexdigit};

@@ -1,4 +1,4 @@
-// The operands that each instruction takes.
+//! The operands that each instruction takes.
 ghost use Rattle.std.specs.Prelude.{◌≡◌};
 ghost use Rattle.rv_asm.specs.Shapes.{shape_of};
 

@@ -1,4 +1,4 @@
-// Parts of a line: comments, blanks, words, names and registers.
+//! Parts of a line: comments, blanks, words, names and registers.
 ghost use Rattle.std.specs.Prelude.{◌≡◌, ◌-◌, ◌<◌, ◌≤◌, true, length, drop, slice_index, IfSome};
 ghost use Rattle.std.specs.Option.{option_map};
 ghost use Rattle.std.specs.List.{list_all, prefix_len, suffix_len, position_or_len, before_first};

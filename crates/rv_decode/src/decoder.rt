@@ -1,4 +1,4 @@
-// From a word to the instruction that it means.
+//! From a word to the instruction that it means.
 ghost use Rattle.std.specs.Prelude.{◌≡◌, ℕ, ◌/◌, ◌%◌, ◌^◌, ◌<◌, ◌≤◌, IfSome};
 ghost use Rattle.rv_decode.specs.Table.{op_of, match_count, table};
 ghost use Rattle.rv_decode.specs.Fields.{op_by, jalr_by, branch_by, load_by, store_by, immediate_by, base_by, alternate_by, multiply_by, register_by, fence_by, csr_by, system_by};
@@ -163,8 +163,8 @@ fn csr_op(funct3: u32) -> Option<Op>
     }
 }
 
-/// An instruction of the opcode SYSTEM: one without operands, whose word is fixed, or an access to a
-/// control and status register.
+/// An instruction of the opcode SYSTEM: one without operands, whose word is fixed, or an access to
+/// a control and status register.
 fn system_op(funct3: u32, word: u32) -> Option<Op>
     ensures { result ≡ system_by funct3 word }
 {
@@ -227,8 +227,8 @@ fn instr_from(op: Op, word: u32) -> Instr
     }
 }
 
-/// The instruction that the word means: the one row of the table whose bits it has, with the fields of
-/// that row's format. `None` exactly where no row matches.
+/// The instruction that the word means: the one row of the table whose bits it has, with the fields
+/// of that row's format. `None` exactly where no row matches.
 #[tactic(auto, unfolding(crate::specs::Means::means))]
 pub fn decode(word: u32) -> Option<Instr>
     ensures value { result ≡ means word }

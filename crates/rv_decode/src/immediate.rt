@@ -1,4 +1,5 @@
-// The fields of a word, and its immediates by format (RISC-V Unprivileged ISA 20191213, section 2.3).
+//! The fields of a word, and its immediates by format (RISC-V Unprivileged ISA 20191213, section
+//! 2.3).
 ghost use Rattle.std.specs.Prelude.{◌≡◌, ◌+◌, ◌^◌, ◌<◌, ◌≤◌};
 ghost use Rattle.rv_decode.specs.Immediate.{field, sign_extended, imm_i, imm_s, imm_b, imm_u, imm_j};
 

@@ -1,4 +1,4 @@
-// Instructions: their names, their formats and their fields.
+//! Instructions: their names, their formats and their fields.
 ghost use Rattle.std.specs.Prelude.{◌≡◌};
 ghost use Rattle.rv_decode.specs.Instruction.{format_of};
 
@@ -82,8 +82,8 @@ pub enum Format {
     I,
     /// I, where `imm` is the amount of a shift, bits 24 to 20.
     IShift,
-    /// I, where `imm` is bits 31 to 20 without a sign: the number of a control and status register, or
-    /// the sets of a fence. A 5-bit number in place of a register stands in `rs1`.
+    /// I, where `imm` is bits 31 to 20 without a sign: the number of a control and status register,
+    /// or the sets of a fence. A 5-bit number in place of a register stands in `rs1`.
     IUnsigned,
     S,
     B,
@@ -95,9 +95,9 @@ pub enum Format {
 
 /// An instruction and its fields. A field that the format lacks is 0.
 ///
-/// `rd`, `rs1` and `rs2` are numbers of registers, 0 to 31. `imm` is the immediate, sign-extended to
-/// 32 bits; in format U it is the word with its lower 12 bits cleared. In the variants of format I it
-/// is as `Format` says.
+/// `rd`, `rs1` and `rs2` are numbers of registers, 0 to 31. `imm` is the immediate, sign-extended
+/// to 32 bits; in format U it is the word with its lower 12 bits cleared. In the variants of format
+/// I it is as `Format` says.
 #[derive(Clone, Copy, PartialEq, Eq, Debug)]
 pub struct Instr {
     pub op: Op,

@@ -1,4 +1,4 @@
-// A decoder of RV32 instructions, proved against the table of the RISC-V manual.
+//! A decoder of RV32 instructions, proved against the table of the RISC-V manual.
 #![tactic(auto)]
 
 mod decoder;

@@ -1,4 +1,4 @@
-// Loads and stores (RISC-V Unprivileged ISA 20191213, section 2.6).
+//! Loads and stores (RISC-V Unprivileged ISA 20191213, section 2.6).
 ghost use Rattle.std.specs.Prelude.{◌≡◌, ◌%◌, ◌^◌, ◌<◌, OnOk, OnErr};
 ghost use Rattle.std.specs.Int.{w8, w16};
 ghost use Rattle.rv_decode.specs.Means.{IsInstr};

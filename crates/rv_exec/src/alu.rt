@@ -1,4 +1,4 @@
-// The operations on words (RISC-V Unprivileged ISA 20191213, sections 2.4 and 7).
+//! The operations on words (RISC-V Unprivileged ISA 20191213, sections 2.4 and 7).
 ghost use Rattle.std.specs.Prelude.{◌≡◌, ◌*ℤ◌};
 ghost use Rattle.std.specs.Int.{int_shr};
 ghost use Rattle.rv_exec.specs.Word.{

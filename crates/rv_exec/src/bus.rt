@@ -1,4 +1,4 @@
-// What a hart is wired to.
+//! What a hart is wired to.
 ghost use Rattle.std.specs.Prelude.{◌≡◌, ℕ, ◌^◌, ◌<◌, Option, IfOk, OnOk, OnErr};
 ghost use Rattle.rv_exec.specs.Access.{IsAccess};
 
@@ -20,7 +20,8 @@ pub trait Bus {
     /// The bus after a store that is not refused.
     ghost stored: { Self → ℕ → ℕ → ℕ → Self };
 
-    /// The word of an instruction at an address. `None` exactly where no memory holds its four bytes.
+    /// The word of an instruction at an address. `None` exactly where no memory holds its four
+    /// bytes.
     fn fetch(&mut self, at: u32) -> Option<u32>
         ensures value { result ≡ fetched self.old at }
         ensures same { self.new ≡ self.old };

@@ -1,5 +1,5 @@
-// The computational instructions, which write a register and go on (RISC-V Unprivileged ISA
-// 20191213, section 2.4 and chapter 7).
+//! The computational instructions, which write a register and go on (RISC-V Unprivileged ISA
+//! 20191213, section 2.4 and chapter 7).
 ghost use Rattle.std.specs.Prelude.{◌≡◌};
 ghost use Rattle.rv_decode.specs.Means.{IsInstr};
 ghost use Rattle.rv_exec.specs.Effect.{core_by};

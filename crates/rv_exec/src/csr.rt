@@ -1,4 +1,4 @@
-// The instructions that read and change a CSR (RISC-V Unprivileged ISA 20191213, section 9.1).
+//! The instructions that read and change a CSR (RISC-V Unprivileged ISA 20191213, section 9.1).
 ghost use Rattle.std.specs.Prelude.{◌≡◌, ◌&&◌, is_ok, is_some, ok_or, unwrap_or};
 ghost use Rattle.rv_decode.specs.Means.{IsInstr};
 ghost use Rattle.rv_exec.specs.Csr.{accessed, after_write, changed, counted, old_value, reads, writes};

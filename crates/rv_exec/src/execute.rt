@@ -1,4 +1,4 @@
-// One instruction: its word is fetched, decoded and done.
+//! One instruction: its word is fetched, decoded and done.
 ghost use Rattle.std.specs.Prelude.{◌≡◌, OnOk, OnErr};
 ghost use Rattle.rv_decode.specs.Means.{IsInstr};
 ghost use Rattle.rv_exec.specs.Group.{IsLocal};
@@ -86,10 +86,10 @@ fn execute<B: Bus>(
     Ok(())
 }
 
-/// Does the instruction at the hart's pc, or enters the trap of its exception, and raises the counters (RISC-V
-/// Unprivileged ISA 20191213, Privileged Architecture 20211203, 3.1.10 and 3.3). `lines` is what the instruction
-/// reads of the pending interrupts and of the time. No interrupt is taken, and a hart that waits or is halted does
-/// the instruction too.
+/// Does the instruction at the hart's pc, or enters the trap of its exception, and raises the
+/// counters (RISC-V Unprivileged ISA 20191213, Privileged Architecture 20211203, 3.1.10 and 3.3).
+/// `lines` is what the instruction reads of the pending interrupts and of the time. No interrupt is
+/// taken, and a hart that waits or is halted does the instruction too.
 ///
 /// `NoMemory` comes only where the bus refuses the load or the store of the instruction.
 #[tactic(auto, unfolding(crate::specs::Effect::effect, crate::specs::Effect::effect_of_fetch))]

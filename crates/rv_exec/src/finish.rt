@@ -1,4 +1,4 @@
-// How an instruction ends: by retiring or by an exception, and what the counters then are.
+//! How an instruction ends: by retiring or by an exception, and what the counters then are.
 ghost use Rattle.std.specs.Prelude.{◌≡◌, ◌<◌, true};
 ghost use Rattle.rv_hart.specs.Core.{finish, next};
 ghost use Rattle.rv_hart.specs.Trap.{leave};
@@ -40,7 +40,8 @@ pub fn finish(hart: &mut Hart, rd: u8, value: u32)
     retire(hart);
 }
 
-/// Jumps, with the pc of the next instruction in a register, or enters the trap of a misaligned target.
+/// Jumps, with the pc of the next instruction in a register, or enters the trap of a misaligned
+/// target.
 pub fn jump(hart: &mut Hart, rd: u8, target: u32)
     requires { rd < 32 }
     ensures { hart.new ≡ jumps hart.old rd target }

@@ -1,4 +1,4 @@
-// Laws of the effect of a slot, each the contract of a function that does nothing.
+//! Laws of the effect of a slot, each the contract of a function that does nothing.
 ghost use Rattle.rv_exec.specs.Laws.{KeepsZero, RaisesMcycle, RaisesMinstret};
 
 /// No step changes what x0 reads, which is 0.

@@ -1,4 +1,4 @@
-// Tables from the manuals, run through `step` on a small memory.
+//! Tables from the manuals, run through `step` on a small memory.
 use super::*;
 use memory::Memory;
 use rv_hart::{Hart, HartState, Lines};
@@ -59,8 +59,8 @@ fn result(rt: &impl Abort, a: u32, b: u32, word: u32) -> u32 {
 /// The words at which products and quotients of signed and unsigned numbers differ.
 const EDGES: [u32; 5] = [0, 1, MINUS_ONE, LEAST, GREATEST];
 
-/// A word with rs1 x1, rs2 x2 and rd x3, and what is then in x3: by rows where x1 is each of the edges, and in a row
-/// where x2 is each of them.
+/// A word with rs1 x1, rs2 x2 and rd x3, and what is then in x3: by rows where x1 is each of the
+/// edges, and in a row where x2 is each of them.
 const MULTIPLY: [(u32, [[u32; 5]; 5]); 8] = [
     // mul x3, x1, x2
     (
@@ -273,7 +273,8 @@ const JUMPS: [(u32, u32, u32); 6] = [
     (0x0040_81E7, 0xFFFF_FFFC, 0),
 ];
 
-/// A load with rs1 x1, where x1 is 4 and the bytes from there are 82 7F 81 80, and what is then in x3.
+/// A load with rs1 x1, where x1 is 4 and the bytes from there are 82 7F 81 80, and what is then in
+/// x3.
 const LOADS: [(u32, u32); 10] = [
     // lb x3, 0(x1)
     (0x0000_8183, 0xFFFF_FF82),
@@ -297,8 +298,8 @@ const LOADS: [(u32, u32); 10] = [
     (0xFFC0_A183, 0x1122_3344),
 ];
 
-/// A store of 0x1234ABCD with rs1 x1, where x1 is 4 and the bytes from there are 82 7F 81 80, and the word
-/// that is then there.
+/// A store of 0x1234ABCD with rs1 x1, where x1 is 4 and the bytes from there are 82 7F 81 80, and
+/// the word that is then there.
 const STORES: [(u32, u32); 5] = [
     // sb x2, 0(x1)
     (0x0020_8023, 0x8081_7FCD),
@@ -355,7 +356,8 @@ const EXCEPTIONS: [(u32, u32, u32, u32); 20] = [
     (0x0000_0073, 0, 11, 0),
 ];
 
-/// A word where x1 is 0x00FF00FF, x3 is 0x55 and mscratch is 0xF0F00012, and what is then in x3 and mscratch.
+/// A word where x1 is 0x00FF00FF, x3 is 0x55 and mscratch is 0xF0F00012, and what is then in x3 and
+/// mscratch.
 const ACCESSES: [(u32, u32, u32); 11] = [
     // csrrw x3, mscratch, x1
     (0x3400_91F3, 0xF0F0_0012, 0x00FF_00FF),
@@ -381,8 +383,8 @@ const ACCESSES: [(u32, u32, u32); 11] = [
     (0x3400_9073, 85, 0x00FF_00FF),
 ];
 
-/// A word where x1 is 100, x2 is 0, x3 is 0x55, mcycle is 0x500000007 and minstret is 0x900000003, and what is then
-/// in x3, mcycle and minstret.
+/// A word where x1 is 100, x2 is 0, x3 is 0x55, mcycle is 0x500000007 and minstret is 0x900000003,
+/// and what is then in x3, mcycle and minstret.
 const COUNTED: [(u32, u32, u64, u64); 16] = [
     // addi x3, x1, 0
     (0x0000_8193, 0x64, 0x5_0000_0008, 0x9_0000_0004),

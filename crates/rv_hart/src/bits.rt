@@ -1,4 +1,4 @@
-// Bits of a word.
+//! Bits of a word.
 ghost use Rattle.std.specs.Prelude.{◌≡◌, ◌<◌, ◌*◌, ◌/◌};
 ghost use Rattle.rv_hart.specs.Trap.{is_set};
 

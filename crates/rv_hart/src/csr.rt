@@ -1,6 +1,7 @@
-// What the reads and writes of CSRs are given, and how they are refused.
+//! What the reads and writes of CSRs are given, and how they are refused.
 
-/// What a slot sees from outside the hart: the pending interrupts and the time of the board's timer.
+/// What a slot sees from outside the hart: the pending interrupts and the time of the board's
+/// timer.
 #[derive(Clone, Copy, PartialEq, Eq, Debug)]
 pub struct Lines {
     /// The lines of the interrupts, at bits 3, 7 and 11; other bits are not read.

@@ -1,4 +1,4 @@
-// The hart: its registers and switches, and its state as a whole.
+//! The hart: its registers and switches, and its state as a whole.
 ghost use Rattle.std.specs.Prelude.{◌≡◌, ◌%◌, ◌<◌, SomeIff};
 ghost use Rattle.rv_hart.specs.Core.{initial, reg, put, next, finish, ticked, retired};
 ghost use Rattle.rv_hart.specs.HartState.{IsHartState, core_of, state_of};
@@ -141,7 +141,8 @@ impl Hart {
         self.state.pc = self.state.pc.wrapping_add(4);
     }
 
-    /// Writes a register, but for register 0, and goes on to the next instruction. The counters stay.
+    /// Writes a register, but for register 0, and goes on to the next instruction. The counters
+    /// stay.
     #[tactic(auto, unfolding(crate::specs::Core::finish, crate::specs::Core::next))]
     pub fn finish(&mut self, rd: u8, value: u32)
         requires { rd < 32 }
@@ -159,8 +160,8 @@ impl Hart {
         self.state
     }
 
-    /// The hart of a state. There is none where register 0 is not 0, mie has a bit other than 3, 7 and 11, bit 1 of
-    /// mtvec is set, or mepc or pc is not divisible by 4.
+    /// The hart of a state. There is none where register 0 is not 0, mie has a bit other than 3, 7
+    /// and 11, bit 1 of mtvec is set, or mepc or pc is not divisible by 4.
     pub fn of(s: &HartState) -> Option<Hart>
         ensures { SomeIff result (IsHartState s.now) (core_of s.now) }
     {

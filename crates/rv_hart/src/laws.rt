@@ -1,4 +1,4 @@
-// Laws of the definitions, each the contract of a function that does nothing.
+//! Laws of the definitions, each the contract of a function that does nothing.
 ghost use Rattle.rv_hart.specs.Laws.{
   KeepsMcycle,
   KeepsMinstret,

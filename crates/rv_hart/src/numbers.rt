@@ -1,4 +1,4 @@
-// The numbers of the CSRs.
+//! The numbers of the CSRs.
 ghost use Rattle.std.specs.Prelude.{◌≡◌};
 ghost use Rattle.rv_hart.specs.Csr.{is_mcycle, is_minstret};
 
@@ -50,14 +50,16 @@ pub const MIMPID: u32 = 0xF13;
 
 pub const MHARTID: u32 = 0xF14;
 
-/// Whether a number is that of a half of mcycle. In the slot of an instruction that writes it mcycle does not rise.
+/// Whether a number is that of a half of mcycle. In the slot of an instruction that writes it
+/// mcycle does not rise.
 pub fn is_mcycle(number: u32) -> bool
     ensures { result ≡ is_mcycle number }
 {
     matches!(number, MCYCLE | MCYCLEH)
 }
 
-/// Whether a number is that of a half of minstret. An instruction that writes it does not raise minstret.
+/// Whether a number is that of a half of minstret. An instruction that writes it does not raise
+/// minstret.
 pub fn is_minstret(number: u32) -> bool
     ensures { result ≡ is_minstret number }
 {

@@ -1,10 +1,11 @@
-// A hart's state as plain data.
+//! A hart's state as plain data.
 ghost use Rattle.std.specs.Prelude.{◌↔◌, IsTrue};
 ghost use Rattle.rv_hart.specs.HartState.{IsHartState};
 
 use crate::bits::{INTERRUPT_BITS, is_set};
 
-/// All that a hart holds: its registers, the fields of the CSRs that hold a value, and two switches.
+/// All that a hart holds: its registers, the fields of the CSRs that hold a value, and two
+/// switches.
 #[derive(Clone, Copy, PartialEq, Eq, Debug)]
 pub struct HartState {
     /// x0 to x31, of which x0 is 0.

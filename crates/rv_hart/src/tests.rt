@@ -1,4 +1,4 @@
-// Tables from the manuals, and each public call once.
+//! Tables from the manuals, and each public call once.
 use super::*;
 use std::test::Fail;
 
@@ -32,8 +32,8 @@ const WRITTEN: [(u32, u32, u32); 21] = [
     (0xB82, 0x89AB_CDEF, 0x89AB_CDEF),
 ];
 
-/// A number that cannot be written, and what it reads where mcycle is 0x0000000200000001 and minstret
-/// 0x0000000400000003.
+/// A number that cannot be written, and what it reads where mcycle is 0x0000000200000001 and
+/// minstret 0x0000000400000003.
 const READ_ONLY: [(u32, u32); 10] = [
     (0xC00, 1),
     (0xC80, 2),

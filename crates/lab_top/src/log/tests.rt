@@ -6,8 +6,8 @@ use lab_num::BoardNo;
 use log_merge::Member0;
 use std::test::Fail;
 
-/// What these bytes of board `m0` print, the first sent at 1.000000 and each one microsecond after the one before: while
-/// they come, and at the end.
+/// What these bytes of board `m0` print, the first sent at 1.000000 and each one microsecond after
+/// the one before: while they come, and at the end.
 fn printed(alloc: Global, bytes: &[u8]) -> Result<(String, String), Fail>
     requires { length bytes.now ≤ 1000 }
 {

@@ -1,4 +1,4 @@
-// Texts with the words that another assembler gives, and faulty lines with their causes.
+//! Texts with the words that another assembler gives, and faulty lines with their causes.
 ghost use Rattle.std.specs.Prelude.{◌≤◌, length};
 
 use super::*;

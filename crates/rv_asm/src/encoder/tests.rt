@@ -1,4 +1,4 @@
-// Words from an assembler, and instructions that no word means.
+//! Words from an assembler, and instructions that no word means.
 use super::*;
 use std::test::Fail;
 

@@ -1,4 +1,4 @@
-// Words from an assembler, and words that mean nothing.
+//! Words from an assembler, and words that mean nothing.
 use super::*;
 
 #[test]

@@ -1,4 +1,4 @@
-// A bus for the tests: a few words of memory.
+//! A bus for the tests: a few words of memory.
 ghost use Rattle.std.specs.Prelude.{
   bit_and,
   bit_or,
@@ -44,7 +44,8 @@ fn lowest(word: u32, width: u8) -> u32
     }
 }
 
-/// Sixteen words of memory from address 0 on, which answer at other addresses too, but hold no instructions there.
+/// Sixteen words of memory from address 0 on, which answer at other addresses too, but hold no
+/// instructions there.
 #[derive(Clone, Copy, PartialEq, Eq, Debug)]
 pub struct Memory {
     pub words: [u32; 16],

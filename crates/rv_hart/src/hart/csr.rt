@@ -1,4 +1,4 @@
-// The reads and writes of the CSRs.
+//! The reads and writes of the CSRs.
 ghost use Rattle.std.specs.Prelude.{◌≡◌, ◌&&◌, not, OnErr, is_ok, is_some, ok_or, unwrap_or};
 ghost use Rattle.rv_hart.specs.Csr.{
   csr_read,
@@ -84,7 +84,8 @@ impl Hart {
         }
     }
 
-    /// Writes a CSR (Privileged ISA 2.2 and 3.1), of which the bits that it does not hold are ignored.
+    /// Writes a CSR (Privileged ISA 2.2 and 3.1), of which the bits that it does not hold are
+    /// ignored.
     #[tactic(auto, unfolding(crate::specs::Csr::csr_written, crate::specs::Csr::is_listed))]
     pub fn csr_write(&mut self, number: u32, value: u32) -> Result<(), CsrFault>
         ensures written { self.new ≡ unwrap_or (csr_written self.old number value) self.old }

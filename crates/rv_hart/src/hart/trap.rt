@@ -1,4 +1,4 @@
-// Trap entry and return, the choice of an interrupt, and the jump, which may trap.
+//! Trap entry and return, the choice of an interrupt, and the jump, which may trap.
 ghost use Rattle.std.specs.Prelude.{◌≡◌, ◌%◌, ◌<◌, ◌==◌, ◌||◌, not, is_none, bit_and};
 ghost use Rattle.rv_hart.specs.Trap.{chosen, enter, interrupt, is_ready, jump, leave, most_urgent, target};
 
@@ -88,8 +88,9 @@ impl Hart {
         self.state.before = true;
     }
 
-    /// Jumps to the target, with the pc of the next instruction in a register, and answers true. A target that is not
-    /// divisible by 4 is the exception of cause 0 in its place, and the answer is false. The counters stay.
+    /// Jumps to the target, with the pc of the next instruction in a register, and answers true. A
+    /// target that is not divisible by 4 is the exception of cause 0 in its place, and the answer
+    /// is false. The counters stay.
     #[tactic(auto, unfolding(crate::specs::Trap::jump, crate::specs::Core::finish))]
     pub fn jump(&mut self, rd: u8, target: u32) -> bool
         requires { rd < 32 }

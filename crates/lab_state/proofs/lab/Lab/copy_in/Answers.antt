@@ -2,7 +2,7 @@
 use Rattle.std.proofs.Common.{◌≡◌, ◌∙◌, ◌-◌, ap, false}
 use Rattle.std.proofs.lemmas.Result.{on_ok_weaker}
 use Rattle.board.specs.Space.{memory_base, put_bytes}
-use Rattle.lab_state.proofs.SoundLemmas.{sound-try, inside_below, seen-change}
+use Rattle.lab_state.proofs.SoundLemmas.{sound-try, inside_below, seen-change, boards-tried}
 use Rattle.lab_state.proofs.lab.Lab.copy_in.Goals as goal
 
 pub invariant_of-self : goal.invariant_of-self
@@ -21,3 +21,6 @@ returns-clause-ok c =
     c.self.inside.quantum c.args.b.0 (λ v. record v { memory = put_bytes v.memory (c.args.at - memory_base) c.args.bytes.now }) c.index_mut-board.result.now c.copy_in.new.self
     (c.self.invariant unspent) (inside_below c.self.inside.boards.items _ c.args.b.0 (ap (λ s. s.lab.boards) c.self.view_is) c.requires.exists) c.index_mut-board.ensures.value c.copy_in.ensures.ok c.copy_in.ensures.err
     (λ no v is. record { number = is.number; least_speed = is.least_speed; most_speed = is.most_speed; few_posts = is.few_posts; few_entries = is.few_entries })).1
+
+pub returns-clause-boards : goal.returns-clause-boards
+returns-clause-boards c = boards-tried c.copy_in.result _ _ _ _ (returns-clause-ok c) ?

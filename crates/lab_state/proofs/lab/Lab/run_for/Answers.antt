@@ -2,6 +2,7 @@
 use Rattle.std.proofs.Common.{◌≡◌, ◌∙◌, sym, ap, ◌+◌, ◌/◌, ◌≤◌, List, None, false, arith}
 use Rattle.log_merge.specs.declared.item.LogItem.{LogItem}
 use Rattle.lab_state.specs.Came.{came_to}
+use Rattle.lab_state.specs.Round.{round}
 use Rattle.lab_state.specs.Run.{go_on, rounds, run}
 use Rattle.lab_state.proofs.RunLemmas.{rounds_none, rounds_more, rounds_now, room_for, room_left, ends_whole, ends_rest}
 use Rattle.lab_state.proofs.lab.Lab.run_for.Goals as goal
@@ -20,7 +21,7 @@ go_on-requires-clause-within c =
     let now : c.self.inside.time.0 ≡ c.args.self.now.lab.now = ap (λ s. s.lab.now) c.self.view_is in
     let time = (c.self.invariant c.if-self.false).time in
     let within : c.args.self.now.lab.now + c.args.d.0 ≤ 10000000000 = omega arith in
-    let seen : c.rounds.self.lab.now ≡ (rounds c.args.self.now.lab c.self.inside.quantum c.rounds.counter).lab.now = ap (λ r. r.lab.now) c.rounds.invariant.come in
+    let seen : c.rounds.self.lab.now ≡ (rounds round c.args.self.now.lab c.self.inside.quantum c.rounds.counter).lab.now = ap (λ r. r.lab.now) c.rounds.invariant.come in
     room_for c.args.self.now.lab.now c.self.inside.quantum c.args.d.0 c.rounds.counter c.rounds.self.lab.now c.rounds-test.true within
     (rw seen (rounds_now c.args.self.now.lab c.self.inside.quantum c.rounds.counter))
 
@@ -28,7 +29,7 @@ pub rounds-preserved : goal.rounds-preserved
 rounds-preserved c = record {
   unspent = c.in_ok-run.ensures.unspent;
   come =
-      c.in_ok-run.ensures.ok ∙ ap (λ r. go_on r c.self.inside.quantum) c.rounds.invariant.come
+      c.in_ok-run.ensures.ok ∙ ap (λ r. go_on round r c.self.inside.quantum) c.rounds.invariant.come
       ∙ rounds_more c.args.self.now.lab c.self.inside.quantum c.rounds.counter;
 }
 
@@ -38,7 +39,7 @@ go_on-requires-then-rest-ne0-clause-within c =
     let time = (c.self.invariant c.if-self.false).time in
     let within : c.args.self.now.lab.now + c.args.d.0 ≤ 10000000000 = omega arith in
     let count : c.rounds.counter ≡ c.args.d.0 / c.self.inside.quantum = omega arith in
-    let seen : c.rounds.self.lab.now ≡ (rounds c.args.self.now.lab c.self.inside.quantum c.rounds.counter).lab.now = ap (λ r. r.lab.now) c.rounds.invariant.come in
+    let seen : c.rounds.self.lab.now ≡ (rounds round c.args.self.now.lab c.self.inside.quantum c.rounds.counter).lab.now = ap (λ r. r.lab.now) c.rounds.invariant.come in
     room_left c.args.self.now.lab.now c.self.inside.quantum c.args.d.0 c.rounds.self.lab.now within
     (rw (seen, count) (rounds_now c.args.self.now.lab c.self.inside.quantum (c.args.d.0 / c.self.inside.quantum)))
 
