@@ -196,13 +196,6 @@ pub seen-change :
     ≡ record s { lab = changed s.lab b f }
 seen-change s names hub_names hubs now quantum spent before after b f is made = rw (← is, made) refl
 
--- a change of one board leaves as many boards
-pub boards-changed : (s new : Seen) (b : ℕ) (f : View → View) → new ≡ record s { lab = changed s.lab b f } → length new.lab.boards ≡ length s.lab.boards
-boards-changed s new b f is = ap (λ seen. length seen.lab.boards) is ∙ length-change s.lab.boards b f
-
--- and so does one that may be refused
-pub boards-tried :
-    {T E : Type 0} (r : Result T E) (s new : Seen) (b : ℕ) (f : View → View) →
-    OnOk r (new ≡ record s { lab = changed s.lab b f }) → OnErr r (new ≡ s) → length new.lab.boards ≡ length s.lab.boards
-boards-tried (Ok x) s new b f is same = boards-changed s new b f is
-boards-tried (Err e) s new b f is same = ap (λ seen. length seen.lab.boards) same
+-- a board put in the place of another leaves as many boards
+pub boards-set : (boards : List State) (i : ℕ) (new : State) (vs : List View) → views boards ≡ vs → length (views (set boards i new)) ≡ length vs
+boards-set boards i new vs is = length-map (set boards i new) _ ∙ length-set boards i new ∙ sym (length-map boards _) ∙ ap length is

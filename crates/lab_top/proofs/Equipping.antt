@@ -1,11 +1,9 @@
 -- What equipping the boards makes of them.
-use Rattle.std.proofs.Common.{◌≡◌, ℕ, zero, suc, ◌<◌, List, [], ◌∷◌, codes, length, refl, ap}
-use Rattle.board.specs.View.{View}
+use Rattle.std.proofs.Common.{◌≡◌, [], ◌∷◌, codes, refl}
 use Rattle.board.specs.Early.{early}
 use Rattle.lab_state.specs.Lab.{Lab}
-use Rattle.lab_state.specs.Boundary.{change_at}
-use Rattle.lab_state.specs.Standing.{IsDevice}
-use Rattle.lab_top.specs.Builtin.{built_in, equipped, uart_of, send_a, echo}
+use Rattle.lab_top.specs.Builtin.{built_in, send_a, echo}
+use Rattle.lab_top.specs.Equipped.{equipped}
 
 -- both boards and the hub before the boards have their programs
 abbrev pub bare : Lab

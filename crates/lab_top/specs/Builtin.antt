@@ -5,8 +5,6 @@ use Rattle.board.specs.Space.{put_bytes}
 use Rattle.board.specs.View.{View}
 use Rattle.board.specs.Early.{early}
 use Rattle.lab_state.specs.Lab.{Lab}
-use Rattle.lab_state.specs.One.{changed}
-use Rattle.lab_state.specs.Names.{number_of, connected_to}
 use Rattle.lab_top.specs.Commands.{State}
 use Rattle.lab_top.specs.Log.{blank}
 
@@ -30,20 +28,6 @@ prepared number program = record (early number) { memory = put_bytes (early numb
 -- the UART of a board, which is its first device
 abbrev pub uart_of : ℕ → Member
 uart_of number = record { board = record { 0 = number }; dev = 0 }
-
--- a laboratory in which a board was given its program
-abbrev pub programmed : Lab → ℕ → List ℕ → Lab
-programmed lab b program = changed lab b (λ v. record v { memory = put_bytes v.memory 0 program })
-
--- a laboratory in which the UART of a board is shown
-abbrev pub showing : Lab → ℕ → Lab
-showing lab b = changed lab b (λ v. record v { shown = true })
-
--- a laboratory in which a board was given its program, and its UART shown and put on the hub
-abbrev pub equipped : Lab → ℕ → List ℕ → Lab
-equipped lab b program = record (showing (programmed lab b program) b) {
-  hubs = connected_to lab.hubs (number_of lab.hub_names (codes "hub")) (uart_of b);
-}
 
 -- two boards at lab time 0, the one that sends and the one that echoes, their UARTs on one hub
 unfoldable pub built_in : Lab

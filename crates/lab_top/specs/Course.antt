@@ -7,7 +7,7 @@ use Rattle.lab_top.specs.declared.status.Status.{Status}
 use Rattle.lab_top.specs.declared.status.Status.TheVariants as end_by
 use Rattle.lab_top.specs.Transcript.{Outcome, Done, Usage, Script, Read, Transcript, last_line}
 
--- each value that is told
+-- this holds of the value, where one is told
 abbrev pub Told : {A : Type 0} → Option A → (A → Type 0) → Type 0
 Told {A} told P = (x : A) → told ≡ Some x → P x
 

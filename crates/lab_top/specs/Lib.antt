@@ -3,6 +3,7 @@ pub mod Log
 pub mod Fault
 pub mod Commands
 pub mod Builtin
+pub mod Equipped
 pub mod Session
 pub mod Transcript
 pub mod Course

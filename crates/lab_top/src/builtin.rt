@@ -1,6 +1,7 @@
 //! The built-in laboratory: `m0` sends a byte, `m1` echoes it, and one hub joins their UARTs.
 ghost use Rattle.std.specs.Prelude.{◌≡◌, ◌<◌, ◌≤◌, false, length, IfOk, OnOk};
-ghost use Rattle.lab_top.specs.Builtin.{built_in, started, equipped};
+ghost use Rattle.lab_top.specs.Builtin.{built_in, started};
+ghost use Rattle.lab_top.specs.Equipped.{equipped};
 ghost use Rattle.lab_state.specs.One.{board_of};
 
 use crate::log::OpenLine;

@@ -2,7 +2,7 @@
 use Rattle.std.proofs.Common.{◌≡◌, ◌∙◌, ◌-◌, ap, false}
 use Rattle.std.proofs.lemmas.Result.{on_ok_weaker}
 use Rattle.board.specs.Space.{memory_base, put_bytes}
-use Rattle.lab_state.proofs.SoundLemmas.{sound-try, inside_below, seen-change, boards-tried}
+use Rattle.lab_state.proofs.SoundLemmas.{sound-try, inside_below, seen-change, boards-set}
 use Rattle.lab_state.proofs.lab.Lab.copy_in.Goals as goal
 
 pub invariant_of-self : goal.invariant_of-self
@@ -23,4 +23,4 @@ returns-clause-ok c =
     (λ no v is. record { number = is.number; least_speed = is.least_speed; most_speed = is.most_speed; few_posts = is.few_posts; few_entries = is.few_entries })).1
 
 pub returns-clause-boards : goal.returns-clause-boards
-returns-clause-boards c = boards-tried c.copy_in.result _ _ _ _ (returns-clause-ok c) ?
+returns-clause-boards c = boards-set c.self.inside.boards.items c.args.b.0 c.copy_in.new.self _ (ap (λ s. s.lab.boards) c.self.view_is)

@@ -1,6 +1,6 @@
 -- What changes of the board is no part of what holds of the laboratory.
 use Rattle.std.proofs.Common.{◌≡◌, ◌∙◌, ap, false}
-use Rattle.lab_state.proofs.SoundLemmas.{sound-change, inside_below, seen-change, boards-changed}
+use Rattle.lab_state.proofs.SoundLemmas.{sound-change, inside_below, seen-change, boards-set}
 use Rattle.lab_state.proofs.lab.Lab.set_pc.Goals as goal
 
 pub invariant_of-self : goal.invariant_of-self
@@ -21,4 +21,4 @@ returns-clause-lab c =
     (λ no v is. record { number = is.number; least_speed = is.least_speed; most_speed = is.most_speed; few_posts = is.few_posts; few_entries = is.few_entries })).1
 
 pub returns-clause-boards : goal.returns-clause-boards
-returns-clause-boards c = boards-changed _ _ _ _ (returns-clause-lab c)
+returns-clause-boards c = boards-set c.self.inside.boards.items c.args.b.0 c.set_pc.new.self _ (ap (λ s. s.lab.boards) c.self.view_is)
