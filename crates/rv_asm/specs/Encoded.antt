@@ -1,5 +1,7 @@
--- The word of an instruction, with its fields in the places of its format (RISC-V Unprivileged ISA 20191213, section 2.3).
+-- The word of an instruction, with its fields in the places of its format (RISC-V Unprivileged ISA 20191213,
+-- section 2.3).
 use Rattle.std.specs.Prelude.{ℕ, ◌+◌, ◌*◌, ◌^◌}
+use Rattle.rv_decode.specs.declared.instruction.Op.{Op}
 use Rattle.rv_decode.specs.declared.instruction.Instr.{Instr}
 use Rattle.rv_decode.specs.declared.instruction.Format.{Format}
 use Rattle.rv_decode.specs.declared.instruction.Format.TheVariants.{R, I, IShift, IUnsigned, S, B, U, J, Fixed}
@@ -34,3 +36,7 @@ encoded_by Fixed fixed i = fixed
 -- the word of an instruction whose fields fit
 unfoldable pub encoded : Instr → ℕ
 encoded i = encoded_by (format_of i.op) (fixed_of (format_of i.op) (bits_of i.op)) i
+
+-- the word of the instruction with these fields
+abbrev pub word_of_fields : Op → ℕ → ℕ → ℕ → ℕ → ℕ
+word_of_fields op rd rs1 rs2 imm = encoded (record { op = op; rd = rd; rs1 = rs1; rs2 = rs2; imm = imm })

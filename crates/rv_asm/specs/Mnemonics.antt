@@ -102,4 +102,5 @@ op_named name =
 
 -- an instruction, or `.word`
 abbrev pub mnemonic_of : List ℕ → Option Mnemonic
-mnemonic_of name = if bytes_eq name (codes ".word") then Some Word else option_map (λ op. Instruction op) (op_named name)
+mnemonic_of name =
+    if bytes_eq name (codes ".word") then Some Word else option_map (λ op. Instruction op) (op_named name)

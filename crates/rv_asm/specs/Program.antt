@@ -34,7 +34,9 @@ abbrev pub words_from : (List ℕ → Option ℕ) → ℕ → ℕ → List (List
 words_from places n address [] = Ok []
 words_from places n address (line ∷ lines) =
     if gives_word line
-    then (at_line n (line_word places address line) >>= λ word. words_from places (n + 1) (address + 4) lines >>= λ words. Ok (word ∷ words))
+    then (at_line n (line_word places address line)
+    >>= λ word. words_from places (n + 1) (address + 4) lines
+    >>= λ words. Ok (word ∷ words))
     else words_from places (n + 1) address lines
 
 -- the words of a text

@@ -23,7 +23,8 @@ fn add_label<'a>(
     label: &'a str,
     address: u32,
 ) -> Result<(), AllocError>
-    ensures { OnOk result (HasPlaces labels.new (with_label (place_in labels.old) (Some label.now) address)) }
+    ensures { OnOk result
+        (HasPlaces labels.new (with_label (place_in labels.old) (Some label.now) address)) }
 {
     if labels.contains_key(&label) {
         return Ok(());
@@ -38,7 +39,8 @@ fn add_label_of<'a>(
     line: &'a str,
     address: u32,
 ) -> Result<(), AllocError>
-    ensures { OnOk result (HasPlaces labels.new (with_label (place_in labels.old) (label_of line.now) address)) }
+    ensures { OnOk result
+        (HasPlaces labels.new (with_label (place_in labels.old) (label_of line.now) address)) }
 {
     match label_of(line) {
         Some(label) => add_label(labels, label, address),
@@ -49,7 +51,8 @@ fn add_label_of<'a>(
 /// The address of each label, where the first line that gives it stands.
 fn labels_of<'a>(alloc: Global, lines: &[&'a str]) -> Result<HashMap<&'a str, u32>, AllocError>
     requires { length lines.now ≤ 2 ^ 24 + 1 }
-    ensures { IfOk result (λ labels. HasPlaces labels (place_from 0 (map (λ line. line.now) lines.now))) }
+    ensures { IfOk result
+        (λ labels. HasPlaces labels (place_from 0 (map (λ line. line.now) lines.now))) }
 {
     let mut labels = HashMap::new(alloc);
     let mut address = 0;
@@ -90,7 +93,8 @@ fn words_of(
     lines: &[&str],
 ) -> Result<Vec<u32>, AsmFault>
     requires { length lines.now ≤ 2 ^ 24 + 1 }
-    ensures { Gives result (words_from (place_in labels.now) 1 0 (map (λ line. line.now) lines.now)) }
+    ensures { Gives result
+        (words_from (place_in labels.now) 1 0 (map (λ line. line.now) lines.now)) }
 {
     let mut words = Vec::new(alloc);
     let mut address = 0;

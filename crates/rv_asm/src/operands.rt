@@ -1,5 +1,5 @@
-//! The word that an instruction's operands give. Operands of another shape give `None`, and a number
-//! outside its field `Some(None)`.
+//! The word that an instruction's operands give. Operands of another shape give `None`, and a
+//! number outside its field `Some(None)`.
 ghost use Rattle.std.specs.Prelude.{◌≡◌, ◌<◌, ◌≤◌, ◌^◌, IfSome};
 ghost use Rattle.std.specs.Option.{option_map};
 ghost use Rattle.rv_asm.specs.Operands.{operand_and, register_and, number_and, place_of, registers_word, immediate_word, load_word, store_word, upper_word, csr_word, csr_immediate_fields, csr_immediate_word, bare_word, directive_word, two_registers_and};

@@ -16,8 +16,8 @@ use Rattle.rv_exec.specs.Word.{signed, add, sub, shift_left, shift_right, shift_
 use Rattle.rv_exec.specs.Access.{shaped}
 use Rattle.rv_exec.specs.Csr.{accessed, counted}
 
--- the slot is done with this core, or it asks the bus for one load, at an address and of a width, whose answer gives the core,
--- or for one store, at an address, of a width and of a value, and is done with this core
+-- the slot is done with this core, or it asks the bus for one load, at an address and of a width, whose answer gives
+-- the core, or for one store, at an address, of a width and of a value, and is done with this core
 pub data Effect : Type 0 where
   Done : Core → Effect
   Load : ℕ → ℕ → (ℕ → Core) → Effect
@@ -59,16 +59,16 @@ loads core i width shape =
     Load (address core i) width (λ answer. retires (finish core i.rd (shaped shape answer)))
     else Done (traps core 4 (address core i))
 
--- a store of the lower bytes of a register, or the exception 6 where its address is not divisible by its width (Unprivileged
--- ISA 2.6)
+-- a store of the lower bytes of a register, or the exception 6 where its address is not divisible by its width
+-- (Unprivileged ISA 2.6)
 abbrev pub stores : Core → Instr → ℕ → Effect
 stores core i width =
     if address core i % width == 0 then
     Store (address core i) width (reg core i.rs2 % 256 ^ width) (retires (next core))
     else Done (traps core 6 (address core i))
 
--- an access of a CSR, or the exception 2 where it is illegal, which changes nothing else (Unprivileged ISA 9.1, Privileged
--- ISA 2.1)
+-- an access of a CSR, or the exception 2 where it is illegal, which changes nothing else (Unprivileged ISA 9.1,
+-- Privileged ISA 2.1)
 abbrev pub changes : Change → ℕ → Core → Instr → ℕ → Lines → Core
 changes change operand core i word lines =
     option_map_or (counted change i) (accessed change operand core i lines) (traps core 2 word)
@@ -153,9 +153,11 @@ effect_by op core i word lines = Done (core_by op core i)
 unfoldable pub effect : Core → ℕ → Lines → Effect
 effect core word lines = option_map_or (λ i. effect_by i.op core i word lines) (means word) (Done (traps core 2 word))
 
--- what a slot does by what its fetch answers; where no memory holds the word it is the exception 1 (Privileged ISA 3.1.15)
+-- what a slot does by what its fetch answers; where no memory holds the word it is the exception 1
+-- (Privileged ISA 3.1.15)
 unfoldable pub effect_of_fetch : Core → Option ℕ → Lines → Effect
-effect_of_fetch core fetched lines = option_map_or (λ word. effect core word lines) fetched (Done (traps core 1 core.pc))
+effect_of_fetch core fetched lines =
+    option_map_or (λ word. effect core word lines) fetched (Done (traps core 1 core.pc))
 
 -- whether an effect asks the bus for a load or a store, which may be refused
 abbrev pub AsksBus : Effect → Type 0

@@ -53,4 +53,5 @@ abbrev pub RaisesMinstret : Type 0
 RaisesMinstret =
     (core : Core) (fetched : Option ℕ) (lines : Lines) (answer : ℕ → ℕ → ℕ) →
     slot_writes is_minstret fetched ≡ false →
-    ((after_slot core fetched lines answer).minstret ≡ core.minstret) ⊎ ((after_slot core fetched lines answer).minstret ≡ (core.minstret + 1) % 2 ^ 64)
+    ((after_slot core fetched lines answer).minstret ≡ core.minstret)
+    ⊎ ((after_slot core fetched lines answer).minstret ≡ (core.minstret + 1) % 2 ^ 64)

@@ -39,8 +39,8 @@ less_unsigned a b = flag (nat_lt a b)
 abbrev pub product : ℕ → ℕ → ℕ
 product a b = a * b % 2 ^ 32
 
--- MULH, MULHSU and MULHU: the upper word of the product of two signed numbers, of a signed and an unsigned one, and of two
--- unsigned ones (section 7.1)
+-- MULH, MULHSU and MULHU: the upper word of the product of two signed numbers, of a signed and an unsigned one, and of
+-- two unsigned ones (section 7.1)
 abbrev pub upper_signed : ℕ → ℕ → ℕ
 upper_signed a b = word_of (int_shr (signed a *ℤ signed b) 32)
 

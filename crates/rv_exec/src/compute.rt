@@ -2,6 +2,7 @@
 //! 20191213, section 2.4 and chapter 7).
 ghost use Rattle.std.specs.Prelude.{◌≡◌};
 ghost use Rattle.rv_decode.specs.Means.{IsInstr};
+ghost use Rattle.rv_hart.specs.Core.{reg};
 ghost use Rattle.rv_exec.specs.Effect.{core_by};
 ghost use Rattle.rv_exec.specs.Group.{IsComputation, IsOnRegisters, IsProduct};
 
@@ -14,13 +15,13 @@ use rv_hart::Hart;
 
 /// Does a product or a quotient.
 #[tactic(auto, unfolding(crate::specs::Effect::core_by))]
-fn multiply(hart: &mut Hart, i: &Instr)
+fn multiply(hart: &mut Hart, i: &Instr, a: u32, b: u32)
     requires fields { IsInstr i.now }
     requires group { IsProduct i.now.op }
+    requires first { a ≡ reg hart.old i.now.rs1 }
+    requires second { b ≡ reg hart.old i.now.rs2 }
     ensures { hart.new ≡ core_by i.now.op hart.old i.now }
 {
-    let a = hart.register(i.rs1);
-    let b = hart.register(i.rs2);
     match i.op {
         Op::Mul => finish(hart, i.rd, mul(a, b)),
         Op::Mulh => finish(hart, i.rd, mulh(a, b)),
@@ -36,13 +37,13 @@ fn multiply(hart: &mut Hart, i: &Instr)
 
 /// Does an operation on two registers.
 #[tactic(auto, unfolding(crate::specs::Effect::core_by))]
-fn compute_registers(hart: &mut Hart, i: &Instr)
+fn compute_registers(hart: &mut Hart, i: &Instr, a: u32, b: u32)
     requires fields { IsInstr i.now }
     requires group { IsOnRegisters i.now.op }
+    requires first { a ≡ reg hart.old i.now.rs1 }
+    requires second { b ≡ reg hart.old i.now.rs2 }
     ensures { hart.new ≡ core_by i.now.op hart.old i.now }
 {
-    let a = hart.register(i.rs1);
-    let b = hart.register(i.rs2);
     match i.op {
         Op::Add => finish(hart, i.rd, add(a, b)),
         Op::Sub => finish(hart, i.rd, sub(a, b)),
@@ -54,18 +55,19 @@ fn compute_registers(hart: &mut Hart, i: &Instr)
         Op::Sra => finish(hart, i.rd, sra(a, b)),
         Op::Or => finish(hart, i.rd, a | b),
         Op::And => finish(hart, i.rd, a & b),
-        _ => multiply(hart, i),
+        _ => multiply(hart, i, a, b),
     }
 }
 
 /// Does a computational instruction: those with an immediate here.
 #[tactic(auto, unfolding(crate::specs::Effect::core_by))]
-pub fn compute(hart: &mut Hart, i: &Instr)
+pub fn compute(hart: &mut Hart, i: &Instr, a: u32, b: u32)
     requires fields { IsInstr i.now }
     requires group { IsComputation i.now.op }
+    requires first { a ≡ reg hart.old i.now.rs1 }
+    requires second { b ≡ reg hart.old i.now.rs2 }
     ensures { hart.new ≡ core_by i.now.op hart.old i.now }
 {
-    let a = hart.register(i.rs1);
     match i.op {
         Op::Lui => finish(hart, i.rd, i.imm),
         Op::Auipc => finish(hart, i.rd, add(hart.pc(), i.imm)),
@@ -78,6 +80,6 @@ pub fn compute(hart: &mut Hart, i: &Instr)
         Op::Slli => finish(hart, i.rd, sll(a, i.imm)),
         Op::Srli => finish(hart, i.rd, srl(a, i.imm)),
         Op::Srai => finish(hart, i.rd, sra(a, i.imm)),
-        _ => compute_registers(hart, i),
+        _ => compute_registers(hart, i, a, b),
     }
 }

@@ -44,7 +44,7 @@ fn execute_local(hart: &mut Hart, i: &Instr)
         Op::Ebreak => trap(hart, 3, hart.pc()),
         Op::Mret => leave(hart),
         Op::Wfi => wait(hart),
-        _ => compute(hart, i),
+        _ => compute(hart, i, a, b),
     }
 }
 

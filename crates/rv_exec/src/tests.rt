@@ -152,6 +152,18 @@ const MULTIPLY: [(u32, [[u32; 5]; 5]); 8] = [
     ),
 ];
 
+/// A division by zero, or of -2^31 by -1, with rs1 x1, rs2 x2 and rd x3, what is in x1 and x2, and
+/// what is then in x3.
+const DIVISIONS: [(u32, u32, u32, u32); 4] = [
+    // div x3, x1, x2
+    (0x0220_C1B3, LEAST, MINUS_ONE, LEAST),
+    (0x0220_C1B3, 7, 0, MINUS_ONE),
+    // rem x3, x1, x2
+    (0x0220_E1B3, LEAST, MINUS_ONE, 0),
+    // remu x3, x1, x2
+    (0x0220_F1B3, 7, 0, 7),
+];
+
 /// A word with rs1 x1, rs2 x2 and rd x3, what is in x1 and x2, and what is then in x3.
 const ON_REGISTERS: [(u32, u32, u32, u32); 24] = [
     // add x3, x1, x2
@@ -275,7 +287,7 @@ const JUMPS: [(u32, u32, u32); 6] = [
 
 /// A load with rs1 x1, where x1 is 4 and the bytes from there are 82 7F 81 80, and what is then in
 /// x3.
-const LOADS: [(u32, u32); 10] = [
+const LOADS: [(u32, u32); 11] = [
     // lb x3, 0(x1)
     (0x0000_8183, 0xFFFF_FF82),
     // lb x3, 1(x1)
@@ -290,6 +302,8 @@ const LOADS: [(u32, u32); 10] = [
     (0x0000_9183, 0x7F82),
     // lh x3, 2(x1)
     (0x0020_9183, 0xFFFF_8081),
+    // lhu x3, 0(x1)
+    (0x0000_D183, 0x7F82),
     // lhu x3, 2(x1)
     (0x0020_D183, 0x8081),
     // lw x3, 0(x1)
@@ -428,6 +442,13 @@ fn products_and_quotients_at_their_edges(rt: HostRuntime) {
                 assert_eq!(rt; result(&rt, a, b, word), value, "{word:x} {a:x} {b:x}");
             }
         }
+    }
+}
+
+#[test]
+fn division_by_zero_and_its_overflow_answer_as_the_manual_says(rt: HostRuntime) {
+    for (word, a, b, value) in DIVISIONS {
+        assert_eq!(rt; result(&rt, a, b, word), value, "{word:x} {a:x} {b:x}");
     }
 }
 

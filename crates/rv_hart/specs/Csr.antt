@@ -49,7 +49,10 @@ ignored core value = core
 abbrev pub rows : List Row
 rows =
     -- mstatus, mstatush, misa, mie, mtvec
-    read_write 0x300 (λ core lines. status core) (λ core value. record core { on = is_set value 3; before = is_set value 7 }) ∷
+    read_write 0x300 (λ core lines. status core) (λ core value. record core {
+      on = is_set value 3;
+      before = is_set value 7;
+    }) ∷
     read_write 0x310 zero_word ignored ∷
     read_write 0x301 (λ core lines. 0x40001100) ignored ∷
     read_write 0x304 (λ core lines. core.mie) (λ core value. record core { mie = bit_and value interrupt_bits }) ∷
@@ -61,10 +64,18 @@ rows =
     read_write 0x343 (λ core lines. core.mtval) (λ core value. record core { mtval = value }) ∷
     read_write 0x344 (λ core lines. bit_and lines.mip interrupt_bits) ignored ∷
     -- mcycle, mcycleh, minstret, minstreth
-    read_write 0xB00 (λ core lines. low core.mcycle) (λ core value. record core { mcycle = with_low core.mcycle value }) ∷
-    read_write 0xB80 (λ core lines. high core.mcycle) (λ core value. record core { mcycle = with_high core.mcycle value }) ∷
-    read_write 0xB02 (λ core lines. low core.minstret) (λ core value. record core { minstret = with_low core.minstret value }) ∷
-    read_write 0xB82 (λ core lines. high core.minstret) (λ core value. record core { minstret = with_high core.minstret value }) ∷
+    read_write 0xB00 (λ core lines. low core.mcycle) (λ core value. record core {
+      mcycle = with_low core.mcycle value;
+    }) ∷
+    read_write 0xB80 (λ core lines. high core.mcycle) (λ core value. record core {
+      mcycle = with_high core.mcycle value;
+    }) ∷
+    read_write 0xB02 (λ core lines. low core.minstret) (λ core value. record core {
+      minstret = with_low core.minstret value;
+    }) ∷
+    read_write 0xB82 (λ core lines. high core.minstret) (λ core value. record core {
+      minstret = with_high core.minstret value;
+    }) ∷
     -- cycle, cycleh, instret, instreth, time, timeh
     read_only 0xC00 (λ core lines. low core.mcycle) ∷
     read_only 0xC80 (λ core lines. high core.mcycle) ∷
@@ -89,7 +100,8 @@ csr_read core lines number = option_map (λ row. row.read core lines) (row_of nu
 
 -- the core after a write of a CSR, if there is one of this number that can be written
 unfoldable pub csr_written : Core → ℕ → ℕ → Option Core
-csr_written core number value = option_and_then (λ row. option_map (λ write. write core value) row.write) (row_of number)
+csr_written core number value =
+    option_and_then (λ row. option_map (λ write. write core value) row.write) (row_of number)
 
 -- whether a number is in the table
 unfoldable pub is_listed : ℕ → Bool

@@ -28,14 +28,19 @@ ReadsBack number mask =
 abbrev pub StatusReadsBack : ℕ → Type 0
 StatusReadsBack n =
     (core : Core) (lines : Lines) (value : ℕ) →
-    IsSomeAnd (option_and_then (λ after. csr_read after lines 0x300) (csr_written core 0x300 value)) (λ word. is_set word n ≡ is_set value n)
+    IsSomeAnd (option_and_then (λ after. csr_read after lines 0x300) (csr_written core 0x300 value))
+    (λ word. is_set word n ≡ is_set value n)
 
 -- mcycle stays in a write of any number but those of its halves
 abbrev pub KeepsMcycle : Type 0
 KeepsMcycle =
-    (core : Core) (number value : ℕ) → is_mcycle number ≡ false → (unwrap_or (csr_written core number value) core).mcycle ≡ core.mcycle
+    (core : Core) (number value : ℕ) →
+    is_mcycle number ≡ false →
+    (unwrap_or (csr_written core number value) core).mcycle ≡ core.mcycle
 
 -- and so does minstret
 abbrev pub KeepsMinstret : Type 0
 KeepsMinstret =
-    (core : Core) (number value : ℕ) → is_minstret number ≡ false → (unwrap_or (csr_written core number value) core).minstret ≡ core.minstret
+    (core : Core) (number value : ℕ) →
+    is_minstret number ≡ false →
+    (unwrap_or (csr_written core number value) core).minstret ≡ core.minstret

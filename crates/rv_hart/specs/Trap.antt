@@ -18,7 +18,8 @@ target core cause =
     let base = core.mtvec / 4 * 4 in
     if is_interrupt cause && is_set core.mtvec 0 then (base + 4 * (cause % 2 ^ 31)) % 2 ^ 32 else base
 
--- the entry of a trap: an exception, or an interrupt n as the cause 2 ^ 31 + n (Privileged ISA 3.1.6.1, 3.1.14 to 3.1.16)
+-- the entry of a trap: an exception, or an interrupt n as the cause 2 ^ 31 + n
+-- (Privileged ISA 3.1.6.1, 3.1.14 to 3.1.16)
 unfoldable pub enter : Core → ℕ → ℕ → Core
 enter core cause value =
     record core {
@@ -51,7 +52,8 @@ abbrev pub is_ready : Core → ℕ → Bool
 is_ready core mip = not (bit_and mip core.mie == 0)
 
 -- a jump to a target divisible by 4, with the pc of the next instruction in the register; any other target is an
--- instruction address misaligned, cause 0, with the target as mtval, and leaves the register (Unprivileged ISA 2.2, 2.5)
+-- instruction address misaligned, cause 0, with the target as mtval, and leaves the register
+-- (Unprivileged ISA 2.2, 2.5)
 unfoldable pub jump : Core → ℕ → ℕ → Core
 jump core rd target =
     if target % 4 == 0 then record core { x = put core.x rd (next_pc core); pc = target } else enter core 0 target

@@ -56,7 +56,8 @@ pub struct Memory {
 impl Bus for Memory {
     ghost fetched = { λ m at. if nat_lt at 64 then Some (slice_index m.words (at / 4)) else None };
 
-    ghost answer = { λ m at width. slice_index m.words (at / 4 % 16) / 2 ^ (8 * (at % 4)) % 256 ^ width };
+    ghost answer = { λ m at width.
+        slice_index m.words (at / 4 % 16) / 2 ^ (8 * (at % 4)) % 256 ^ width };
 
     ghost loaded = { λ m at width. m };
 
