@@ -25,7 +25,9 @@ behind-emptied w = sym (simp append-nil)
 either_sent : Bool → Wires → ℕ → Wires
 either_sent shown w byte = if shown then entered (posted w byte) byte else posted w byte
 
-either_sent-emptied : (shown : Bool) (w : Wires) (byte : ℕ) → either_sent shown w byte ≡ behind w (either_sent shown (emptied w) byte)
+either_sent-emptied :
+    (shown : Bool) (w : Wires) (byte : ℕ) →
+    either_sent shown w byte ≡ behind w (either_sent shown (emptied w) byte)
 unfolding either_sent
 either_sent-emptied true w byte = refl
 either_sent-emptied false w byte = sym (simp append-nil)
@@ -50,7 +52,8 @@ one_of-emptied false false w x y z x' y' z' p q r = r
 abbrev wires_after : Wires → Effect → Wires
 wires_after w effect = bus_after loaded stored w effect
 
-wires_after-emptied : (w : Wires) (effect : Effect) → wires_after w effect ≡ behind w (wires_after (emptied w) effect)
+wires_after-emptied :
+    (w : Wires) (effect : Effect) → wires_after w effect ≡ behind w (wires_after (emptied w) effect)
 unfolding one_of
 wires_after-emptied w (Done core) = behind-emptied w
 wires_after-emptied w (Load at width complete) =
@@ -64,7 +67,8 @@ wires_after-emptied w (Store at width value core) =
     (record (emptied w) { memory = memory }) (sent (emptied w) (value % 0x100)) (emptied w)
     (behind-emptied (record w { memory = memory })) (sent-emptied w (value % 0x100)) (behind-emptied w)
 
-core_after-emptied : (w : Wires) (effect : Effect) → core_after answer w effect ≡ core_after answer (emptied w) effect
+core_after-emptied :
+    (w : Wires) (effect : Effect) → core_after answer w effect ≡ core_after answer (emptied w) effect
 core_after-emptied w (Done core) = refl
 core_after-emptied w (Load at width complete) = refl
 core_after-emptied w (Store at width value core) = refl
@@ -72,7 +76,8 @@ core_after-emptied w (Store at width value core) = refl
 -- what an effect makes comes behind what was made before
 pub state_of-behind :
     (speed : ℕ) (core : Core) (w : Wires) (effect : Effect) →
-    state_of speed (core_after answer w effect) (wires_after w effect) ≡ after (state_of speed core w) (carried_out speed (emptied w) effect)
+    state_of speed (core_after answer w effect) (wires_after w effect)
+    ≡ after (state_of speed core w) (carried_out speed (emptied w) effect)
 state_of-behind speed core w effect =
     ap (λ now. state_of speed (core_after answer w effect) now) (wires_after-emptied w effect)
     ∙ ap (λ now. state_of speed now (behind w (wires_after (emptied w) effect))) (core_after-emptied w effect)
@@ -86,12 +91,16 @@ pub speed-slot : (v : View) (t : ℕ) → (slot v t).view.speed ≡ v.speed
 unfolding slot
 speed-slot v t = chosen v.core.halted v.core.waiting
   where
-    chosen : (halted waiting : Bool) → (if halted then quiet v else if waiting then idle v else instruction v (wires_of v t)).view.speed ≡ v.speed
+    chosen :
+        (halted waiting : Bool) →
+        (if halted then quiet v else if waiting then idle v else instruction v (wires_of v t)).view.speed ≡ v.speed
     chosen true waiting = refl
     chosen false true = refl
     chosen false false = refl
 
-slot-running : (v : View) (t : ℕ) → v.core.halted ≡ false → v.core.waiting ≡ false → slot v t ≡ instruction v (wires_of v t)
+slot-running :
+    (v : View) (t : ℕ) → v.core.halted ≡ false → v.core.waiting ≡ false →
+    slot v t ≡ instruction v (wires_of v t)
 unfolding slot
 slot-running v t running busy =
     ap (λ halted. if halted then quiet v else if v.core.waiting then idle v else instruction v (wires_of v t)) running

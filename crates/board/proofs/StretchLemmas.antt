@@ -10,7 +10,8 @@ use Rattle.board.proofs.SlotLemmas.{quiet-behind, speed-slot}
 
 -- what is made one after another comes in order
 after-after : (s run more : State) → after (after s run) more ≡ after s (after run more)
-after-after s run more = rw (append_assoc s.posts run.posts more.posts, append_assoc s.entries run.entries more.entries) refl
+after-after s run more =
+    rw (append_assoc s.posts run.posts more.posts, append_assoc s.entries run.entries more.entries) refl
 
 -- no slots leave the board as it is
 pub after_none : (s : State) (from a : ℕ) → s ≡ after s (stretch s.view from a 0)
@@ -41,18 +42,21 @@ speed-stretch v from a (suc n) = speed-slot (stretch v from a n).view _ ∙ spee
 
 -- a stretch and the one behind it are one stretch
 pub stretch-add :
-    (v : View) (from a m n : ℕ) → stretch v from a (m + n) ≡ after (stretch v from a m) (stretch (stretch v from a m).view from (a + m) n)
+    (v : View) (from a m n : ℕ) →
+    stretch v from a (m + n) ≡ after (stretch v from a m) (stretch (stretch v from a m).view from (a + m) n)
 unfolding stretch
 stretch-add v from a m zero = rw (add-zero) (quiet-behind (stretch v from a m))
 stretch-add v from a m (suc n) =
-    rw (add-suc, stretch-add v from a m n, speed-stretch v from a m, add_assoc) (after-after (stretch v from a m) (stretch (stretch v from a m).view from (a + m) n) _)
+    rw (add-suc, stretch-add v from a m n, speed-stretch v from a m, add_assoc)
+    (after-after (stretch v from a m) (stretch (stretch v from a m).view from (a + m) n) _)
 
 stretch-none : (v : View) (from a : ℕ) → quiet v ≡ stretch v from a 0
 unfolding stretch
 stretch-none v from a = refl
 
 -- turns one after another are the whole stretch
-pub turns-add : (v : View) (from a : ℕ) (turns : List ℕ) → in_turns v from a turns ≡ stretch v from a (sum turns)
+pub turns-add :
+    (v : View) (from a : ℕ) (turns : List ℕ) → in_turns v from a turns ≡ stretch v from a (sum turns)
 turns-add v from a [] = stretch-none v from a
 turns-add v from a (n ∷ turns) =
     rw (sum_by-cons (λ x. x) n turns, stretch-add v from a n (sum turns), turns-add (stretch v from a n).view from (a + n) turns) refl

@@ -6,6 +6,8 @@ use Rattle.std.specs.FinMap.{find}
 
 -- the first entry has the name, or the others are searched
 pub find_first :
-    (name key : List ℕ) (bytes : List ℕ) (rest : List (List ℕ × List ℕ)) (is : Bool) → is ≡ pointwise eqb name key →
-    find (slice_cmp nat_cmp) name ((key, bytes) ∷ rest) ≡ cond is (Some bytes) (find (slice_cmp nat_cmp) name rest)
+    (name key : List ℕ) (bytes : List ℕ) (rest : List (List ℕ × List ℕ)) (is : Bool) →
+    is ≡ pointwise eqb name key →
+    find (slice_cmp nat_cmp) name ((key, bytes) ∷ rest)
+    ≡ cond is (Some bytes) (find (slice_cmp nat_cmp) name rest)
 find_first name key bytes rest is tested = rw (tested, texts_ties name key) refl

@@ -46,7 +46,8 @@ signed : time_of (codes "+1") ≡ Err Form
 signed = refl
 
 key : ℕ → ℕ → ℕ → Key
-key at board number = record { at = record { 0 = at }; board = record { 0 = board }; number = record { 0 = number } }
+key at board number =
+    record { at = record { 0 = at }; board = record { 0 = board }; number = record { 0 = number } }
 
 -- three keys of one microsecond and one of an earlier one
 by_time_then_board :
@@ -59,7 +60,8 @@ member board dev = record { board = record { 0 = board }; dev = dev }
 
 -- two hubs: the others of the sender's hub, in order of connection, and none for a member of no hub
 to_the_others :
-    route ((member 2 0 ∷ []) ∷ (member 1 0 ∷ member 0 1 ∷ member 0 0 ∷ []) ∷ []) (member 0 1) ≡ member 1 0 ∷ member 0 0 ∷ []
+    route ((member 2 0 ∷ []) ∷ (member 1 0 ∷ member 0 1 ∷ member 0 0 ∷ []) ∷ []) (member 0 1)
+    ≡ member 1 0 ∷ member 0 0 ∷ []
 unfolding member
 to_the_others = refl
 

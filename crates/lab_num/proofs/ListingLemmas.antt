@@ -22,7 +22,8 @@ key_total =
 -- what is above a key is above all keys below it
 above_all :
     (j k : Key) (ks : List Key) →
-    key_cmp j k ≡ Less → AllByRecursion (λ y. key_cmp k y ≡ Less) ks → AllByRecursion (λ y. key_cmp j y ≡ Less) ks
+    key_cmp j k ≡ Less → AllByRecursion (λ y. key_cmp k y ≡ Less) ks →
+    AllByRecursion (λ y. key_cmp j y ≡ Less) ks
 above_all j k [] below all = tt
 above_all j k (y ∷ ys) below all = (key_total.trans j k y below all.0, above_all j k ys below all.1)
 
@@ -43,14 +44,16 @@ module _ {T : Type 0} (key : T → Key) where
       (all.0, all_insert P item xs here all.1)
 
   members_if :
-      (b : Bool) (xs ys zs : List T) → IsPermutation xs ys → IsPermutation xs zs → IsPermutation xs (cond b ys zs)
+      (b : Bool) (xs ys zs : List T) → IsPermutation xs ys → IsPermutation xs zs →
+      IsPermutation xs (cond b ys zs)
   members_if true xs ys zs first second = first
   members_if false xs ys zs first second = second
 
   insert_members : (item : T) (xs : List T) → IsPermutation (item ∷ xs) (insert_by_key key item xs)
   insert_members item [] = IsPermutation-refl (item ∷ [])
   insert_members item (x ∷ xs) =
-      members_if (is_lt (key_cmp (key item) (key x))) (item ∷ x ∷ xs) (item ∷ x ∷ xs) (x ∷ insert_by_key key item xs)
+      members_if (is_lt (key_cmp (key item) (key x))) (item ∷ x ∷ xs) (item ∷ x ∷ xs)
+      (x ∷ insert_by_key key item xs)
       (IsPermutation-refl (item ∷ x ∷ xs))
       (IsPermutation-trans (item ∷ x ∷ xs) (x ∷ item ∷ xs) (x ∷ insert_by_key key item xs)
       (IsPermutation-middle (item ∷ []) x xs)
@@ -59,7 +62,8 @@ module _ {T : Type 0} (key : T → Key) where
   -- one step of `insert_rising`, by how the item's key compares with the first key
   insert_step :
       (item x : T) (xs : List T) (r : Ordering) → key_cmp (key item) (key x) ≡ r → is_eq r ≡ false →
-      IsStrictlySortedBy key_cmp (map key (x ∷ xs)) → IsStrictlySortedBy key_cmp (map key (insert_by_key key item xs)) →
+      IsStrictlySortedBy key_cmp (map key (x ∷ xs)) →
+      IsStrictlySortedBy key_cmp (map key (insert_by_key key item xs)) →
       IsStrictlySortedBy key_cmp (map key (cond (is_lt r) (item ∷ x ∷ xs) (x ∷ insert_by_key key item xs)))
   unfolding IsStrictlySortedBy
   insert_step item x xs Less is apart up more = ((is, above_all (key item) (key x) (map key xs) is up.0), up)
@@ -117,20 +121,24 @@ module _ {T : Type 0} (key : T → Key) where
   both_all P Q R both [] first second = tt
   both_all P Q R both (y ∷ ys) first second = (both y first.0 second.0, both_all P Q R both ys first.1 second.1)
 
-  any_all : (P Q : T → Type 0) → ((z : T) → P z → Q z) → (ys : List T) → AllByRecursion P ys → AllByRecursion Q ys
+  any_all :
+      (P Q : T → Type 0) → ((z : T) → P z → Q z) → (ys : List T) → AllByRecursion P ys → AllByRecursion Q ys
   any_all P Q step [] all = tt
   any_all P Q step (y ∷ ys) all = (step y all.0, any_all P Q step ys all.1)
 
-  key_all : (R : Key → Type 0) (ys : List T) → AllByRecursion R (map key ys) → AllByRecursion (λ z. R (key z)) ys
+  key_all :
+      (R : Key → Type 0) (ys : List T) → AllByRecursion R (map key ys) → AllByRecursion (λ z. R (key z)) ys
   key_all R [] all = tt
   key_all R (y ∷ ys) all = (all.0, key_all R ys all.1)
 
   first_of_both :
-      (x y : T) → (x ≡ y) ⊎ (key_cmp (key y) (key x) ≡ Less) → (y ≡ x) ⊎ (key_cmp (key x) (key y) ≡ Less) → x ≡ y
+      (x y : T) → (x ≡ y) ⊎ (key_cmp (key y) (key x) ≡ Less) → (y ≡ x) ⊎ (key_cmp (key x) (key y) ≡ Less) →
+      x ≡ y
   first_of_both x y (inl is) back = is
   first_of_both x y (inr below) (inl is) = sym is
   first_of_both x y (inr below) (inr above) =
-      let turned : Less ≡ Greater = sym below ∙ key_total.antisymm (key y) (key x) ∙ ap ordering_reverse above in
+      let turned : Less ≡ Greater =
+      sym below ∙ key_total.antisymm (key y) (key x) ∙ ap ordering_reverse above in
       absurd (cc)
 
   -- lists with the same members that rise begin with the same item
@@ -153,7 +161,8 @@ module _ {T : Type 0} (key : T → Key) where
       (x y z : T) (P : T → Type 0) → x ≡ y → (P z) ⊎ (z ≡ x) → key_cmp (key y) (key z) ≡ Less → P z
   not_first x y z P is (inl holds) below = holds
   not_first x y z P is (inr first) below =
-      let one : key_cmp (key y) (key y) ≡ Less = subst (λ w. key_cmp (key y) (key w) ≡ Less) (first ∙ is) below in
+      let one : key_cmp (key y) (key y) ≡ Less =
+      subst (λ w. key_cmp (key y) (key w) ≡ Less) (first ∙ is) below in
       let turned : Less ≡ Equal = sym one ∙ tied_itself key_total (key y) in
       absurd (cc)
 
@@ -182,14 +191,16 @@ module _ {T : Type 0} (key : T → Key) where
       cc
 
   holds_on : (xs ys : List T) → IsPermutation xs ys → HoldsOn xs ys
-  holds_on xs ys moved P all = recursion_from_All P ys (All-permutation P xs ys moved (All-from_recursion P xs all))
+  holds_on xs ys moved P all =
+      recursion_from_All P ys (All-permutation P xs ys moved (All-from_recursion P xs all))
 
   -- a listing is the items in rising order of key
   pub only_listing : (items listed : List T) → IsListing key items listed → listed ≡ listing key items
   only_listing items listed is =
       let back = IsPermutation-sym items listed is.members in
       let differ : KeysDiffer key items =
-      IsDistinct-IsPermutation (eq_by_cmp key_cmp) (eq_by_cmp_equiv key_total).symm (map key listed) (map key items)
+      IsDistinct-IsPermutation (eq_by_cmp key_cmp) (eq_by_cmp_equiv key_total).symm (map key listed)
+      (map key items)
       (IsPermutation-map key listed items back)
       (IsDistinct-from_sorted key_cmp (map key listed) is.rising) in
       let other = is_listing items differ in

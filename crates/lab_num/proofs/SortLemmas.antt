@@ -21,13 +21,17 @@ below Greater s turned apart up = let less : is_lt s ≡ true = ap is_lt turned 
 
 module _ {T : Type 0} (key : T → Key) where
   adjacent :
-      (items : List T) (d : T) → KeysDiffer key items → IsSortedByKey key key_cmp items → (k : ℕ) → k + 1 < length (map key items) →
+      (items : List T) (d : T) → KeysDiffer key items → IsSortedByKey key key_cmp items → (k : ℕ) →
+      k + 1 < length (map key items) →
       key_cmp (get_or (map key items) k (key d)) (get_or (map key items) (k + 1) (key d)) ≡ Less
   adjacent items d differ up k within =
       let inside : k + 1 < length items = omega (arith, length-map items key) in
-      let first : get_or (map key items) k (key d) ≡ key (get_or items k d) = get_or-map key items k d (key d) (omega arith) in
-      let second : get_or (map key items) (k + 1) (key d) ≡ key (get_or items (k + 1) d) = get_or-map key items (k + 1) d (key d) inside in
-      let apart = apart_from_distinct (eq_by_cmp key_cmp) (map key items) k (k + 1) (key d) differ (omega arith) within in
+      let first : get_or (map key items) k (key d) ≡ key (get_or items k d) =
+      get_or-map key items k d (key d) (omega arith) in
+      let second : get_or (map key items) (k + 1) (key d) ≡ key (get_or items (k + 1) d) =
+      get_or-map key items (k + 1) d (key d) inside in
+      let apart =
+      apart_from_distinct (eq_by_cmp key_cmp) (map key items) k (k + 1) (key d) differ (omega arith) within in
       below (key_cmp (get_or (map key items) k (key d)) (get_or (map key items) (k + 1) (key d)))
       (key_cmp (get_or (map key items) (k + 1) (key d)) (get_or (map key items) k (key d)))
       (key_total.antisymm (get_or (map key items) (k + 1) (key d)) (get_or (map key items) k (key d)))
@@ -35,7 +39,8 @@ module _ {T : Type 0} (key : T → Key) where
       (rw (first, second) (up k d (omega arith) inside))
 
   rising :
-      (items : List T) → KeysDiffer key items → IsSortedByKey key key_cmp items → IsStrictlySortedBy key_cmp (map key items)
+      (items : List T) → KeysDiffer key items → IsSortedByKey key key_cmp items →
+      IsStrictlySortedBy key_cmp (map key items)
   unfolding IsStrictlySortedBy
   rising [] differ up = tt
   rising (x ∷ xs) differ up =
@@ -43,10 +48,12 @@ module _ {T : Type 0} (key : T → Key) where
 
   -- the same items, sorted by key, are a listing
   pub sorted_is_listing :
-      (items sorted : List T) → KeysDiffer key items → IsPermutation items sorted → IsSortedByKey key key_cmp sorted →
+      (items sorted : List T) → KeysDiffer key items → IsPermutation items sorted →
+      IsSortedByKey key key_cmp sorted →
       IsListing key items sorted
   sorted_is_listing items sorted differ moved up =
       let apart : KeysDiffer key sorted =
-      IsDistinct-IsPermutation (eq_by_cmp key_cmp) (eq_by_cmp_equiv key_total).symm (map key items) (map key sorted)
+      IsDistinct-IsPermutation (eq_by_cmp key_cmp) (eq_by_cmp_equiv key_total).symm (map key items)
+      (map key sorted)
       (IsPermutation-map key items sorted moved) differ in
       record { members = moved; rising = rising sorted apart up }

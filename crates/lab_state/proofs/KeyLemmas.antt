@@ -46,11 +46,15 @@ apart_numbers a b below =
     third_decides (nat_cmp a.at.0 b.at.0) (nat_cmp a.board.0 b.board.0) (nat_cmp a.number.0 b.number.0)
     (unequal a.number.0 b.number.0 (nat_cmp a.number.0 b.number.0) (ranked a.number.0 b.number.0 _ refl) below)
 
-any_all : {T : Type 0} (P Q : T → Type 0) → ((x : T) → P x → Q x) → (xs : List T) → AllByRecursion P xs → AllByRecursion Q xs
+any_all :
+    {T : Type 0} (P Q : T → Type 0) → ((x : T) → P x → Q x) → (xs : List T) → AllByRecursion P xs →
+    AllByRecursion Q xs
 any_all P Q step [] all = tt
 any_all P Q step (x ∷ xs) all = (step x all.0, any_all P Q step xs all.1)
 
-all_append : {T : Type 0} (P : T → Type 0) (xs ys : List T) → AllByRecursion P xs → AllByRecursion P ys → AllByRecursion P (xs ++ ys)
+all_append :
+    {T : Type 0} (P : T → Type 0) (xs ys : List T) → AllByRecursion P xs → AllByRecursion P ys →
+    AllByRecursion P (xs ++ ys)
 all_append P [] ys first second = second
 all_append P (x ∷ xs) ys first second = (first.0, all_append P xs ys first.1 second)
 
@@ -73,7 +77,8 @@ numbered_from b first (key ∷ keys) is = (
   any_all (From b (first + 1)) (From b first) (λ k from. (from.0, omega (arith, from.1))) keys (numbered_from b (first + 1) keys is.2),
 )
 
-numbered_distinct : (b first : ℕ) (keys : List Key) → AreNumbered b first keys → IsDistinct (eq_by_cmp key_cmp) keys
+numbered_distinct :
+    (b first : ℕ) (keys : List Key) → AreNumbered b first keys → IsDistinct (eq_by_cmp key_cmp) keys
 unfolding IsDistinct
 numbered_distinct b first [] is = tt
 numbered_distinct b first (key ∷ keys) is = (
@@ -87,7 +92,9 @@ module _ {T : Type 0} (key : T → Key) (made : State → List T) where
   AreKeyed b [] = Unit {0}
   AreKeyed b (run ∷ runs) = ((first : ℕ) × AreNumbered b first (map key (made run))) × AreKeyed (b + 1) runs
 
-  keyed_above : (b : ℕ) (runs : List State) → AreKeyed b runs → AllByRecursion (λ k. b ≤ k.board.0) (map key (flat_map made runs))
+  keyed_above :
+      (b : ℕ) (runs : List State) → AreKeyed b runs →
+      AllByRecursion (λ k. b ≤ k.board.0) (map key (flat_map made runs))
   keyed_above b [] are = tt
   keyed_above b (run ∷ runs) are =
       rw map-append

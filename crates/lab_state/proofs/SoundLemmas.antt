@@ -25,7 +25,8 @@ length-change (v ∷ vs) (suc i) f = omega (arith, length-change vs i f)
 
 -- a write to a board of which all was taken
 pub set-quiet :
-    (vs : List View) (i : ℕ) (f : View → View) (old new : State) → i < length vs → old ≡ get_or (map quiet vs) i old →
+    (vs : List View) (i : ℕ) (f : View → View) (old new : State) → i < length vs →
+    old ≡ get_or (map quiet vs) i old →
     new ≡ record old { view = f old.view } → set (map quiet vs) i new ≡ map quiet (change_at vs i f)
 set-quiet [] i f old new below is made = absurd (omega arith)
 set-quiet (v ∷ vs) zero f old new below is made =
@@ -35,13 +36,17 @@ set-quiet (v ∷ vs) (suc i) f old new below is made =
 
 -- what keeps a board standing keeps the boards standing
 pub standing-change :
-    (most first : ℕ) (vs : List View) (i : ℕ) (f : View → View) → ((b : ℕ) (v : View) → IsStanding most b v → IsStanding most b (f v)) →
+    (most first : ℕ) (vs : List View) (i : ℕ) (f : View → View) →
+    ((b : ℕ) (v : View) → IsStanding most b v → IsStanding most b (f v)) →
     AreStanding most first vs → AreStanding most first (change_at vs i f)
 standing-change most first [] i f keeps all = tt
 standing-change most first (v ∷ vs) zero f keeps all = (keeps first v all.0, all.1)
-standing-change most first (v ∷ vs) (suc i) f keeps all = (all.0, standing-change most (first + 1) vs i f keeps all.1)
+standing-change most first (v ∷ vs) (suc i) f keeps all =
+    (all.0, standing-change most (first + 1) vs i f keeps all.1)
 
-standing-push : (most first : ℕ) (vs : List View) (v : View) → AreStanding most first vs → IsStanding most (first + length vs) v → AreStanding most first (vs ++ v ∷ [])
+standing-push :
+    (most first : ℕ) (vs : List View) (v : View) → AreStanding most first vs →
+    IsStanding most (first + length vs) v → AreStanding most first (vs ++ v ∷ [])
 standing-push most first [] v all is = (rw add-zero at is, tt)
 standing-push most first (w ∷ vs) v all is =
     let later : first + length (w ∷ vs) ≡ first + 1 + length vs = omega arith in
@@ -59,11 +64,13 @@ standing_early most number = record {
 
 -- a laboratory after a change of one board
 pub sound-change :
-    (names : List (List ℕ)) (boards : List State) (hub_names : List (List ℕ)) (hubs : List (List Member)) (now quantum : ℕ)
+    (names : List (List ℕ)) (boards : List State) (hub_names : List (List ℕ)) (hubs : List (List Member))
+    (now quantum : ℕ)
     (i : ℕ) (f : View → View) (old new : State) →
     IsSound names boards hub_names hubs now quantum → i < length boards → old ≡ get_or boards i old → new ≡ record old { view = f old.view } →
     ((b : ℕ) (v : View) → IsStanding (1000 * now) b v → IsStanding (1000 * now) b (f v)) →
-    IsSound names (set boards i new) hub_names hubs now quantum × (views (set boards i new) ≡ change_at (views boards) i f)
+    IsSound names (set boards i new) hub_names hubs now quantum ×
+    (views (set boards i new) ≡ change_at (views boards) i f)
 sound-change names boards hub_names hubs now quantum i f old new sound below is made keeps =
     let within : i < length (views boards) = rw length-map below in
     let at : old ≡ get_or (map quiet (views boards)) i old = rw (← sound.taken) is in
@@ -87,21 +94,26 @@ sound-change names boards hub_names hubs now quantum i f old new sound below is 
     )
 
 -- devices of some boards are devices of more
-more_members : (m n : ℕ) → m ≤ n → (hub : List Member) → AllByRecursion (IsDevice m) hub → AllByRecursion (IsDevice n) hub
+more_members :
+    (m n : ℕ) → m ≤ n → (hub : List Member) → AllByRecursion (IsDevice m) hub → AllByRecursion (IsDevice n) hub
 more_members m n le [] all = tt
-more_members m n le (x ∷ xs) all = (record { board = omega (arith, all.0.board); dev = all.0.dev }, more_members m n le xs all.1)
+more_members m n le (x ∷ xs) all =
+    (record { board = omega (arith, all.0.board); dev = all.0.dev }, more_members m n le xs all.1)
 
 more_devices : (m n : ℕ) → m ≤ n → (hubs : List (List Member)) → AreDevices m hubs → AreDevices n hubs
 more_devices m n le [] all = tt
 more_devices m n le (hub ∷ hubs) all = (more_members m n le hub all.0, more_devices m n le hubs all.1)
 
-members-push : (n : ℕ) (hub : List Member) (m : Member) → AllByRecursion (IsDevice n) hub → IsDevice n m → AllByRecursion (IsDevice n) (hub ++ m ∷ [])
+members-push :
+    (n : ℕ) (hub : List Member) (m : Member) → AllByRecursion (IsDevice n) hub → IsDevice n m →
+    AllByRecursion (IsDevice n) (hub ++ m ∷ [])
 members-push n [] m all is = (is, tt)
 members-push n (x ∷ xs) m all is = (all.0, members-push n xs m all.1 is)
 
 -- a laboratory with a board more
 pub sound-board :
-    (names : List (List ℕ)) (boards : List State) (hub_names : List (List ℕ)) (hubs : List (List Member)) (now quantum : ℕ) (name : List ℕ) →
+    (names : List (List ℕ)) (boards : List State) (hub_names : List (List ℕ)) (hubs : List (List Member))
+    (now quantum : ℕ) (name : List ℕ) →
     IsSound names boards hub_names hubs now quantum → length boards < 16 →
     IsSound (names ++ name ∷ []) (boards ++ quiet (early (length boards)) ∷ []) hub_names hubs now quantum
 sound-board names boards hub_names hubs now quantum name sound room =
@@ -127,7 +139,8 @@ devices-push n (hub ∷ hubs) all = (all.0, devices-push n hubs all.1)
 
 -- a laboratory with a hub more
 pub sound-hub :
-    (names : List (List ℕ)) (boards : List State) (hub_names : List (List ℕ)) (hubs : List (List Member)) (now quantum : ℕ) (name : List ℕ) →
+    (names : List (List ℕ)) (boards : List State) (hub_names : List (List ℕ)) (hubs : List (List Member))
+    (now quantum : ℕ) (name : List ℕ) →
     IsSound names boards hub_names hubs now quantum → length hubs + 1 < 2 ^ 32 →
     IsSound names boards (hub_names ++ name ∷ []) (hubs ++ [] ∷ []) now quantum
 sound-hub names boards hub_names hubs now quantum name sound room = record {
@@ -143,17 +156,21 @@ sound-hub names boards hub_names hubs now quantum name sound room = record {
   most_quantum = sound.most_quantum;
 }
 
-length-connected : (hubs : List (List Member)) (hub : ℕ) (m : Member) → length (connected hubs hub m) ≡ length hubs
+length-connected :
+    (hubs : List (List Member)) (hub : ℕ) (m : Member) → length (connected hubs hub m) ≡ length hubs
 length-connected hubs hub m = length-set hubs hub _
 
-devices-connected : (n : ℕ) (hubs : List (List Member)) (hub : ℕ) (m : Member) → AreDevices n hubs → IsDevice n m → AreDevices n (connected hubs hub m)
+devices-connected :
+    (n : ℕ) (hubs : List (List Member)) (hub : ℕ) (m : Member) → AreDevices n hubs → IsDevice n m →
+    AreDevices n (connected hubs hub m)
 devices-connected n [] hub m all is = tt
 devices-connected n (h ∷ hs) zero m all is = (members-push n h m all.0 is, all.1)
 devices-connected n (h ∷ hs) (suc k) m all is = (all.0, devices-connected n hs k m all.1 is)
 
 -- a laboratory with a member more in one of its hubs
 pub sound-connected :
-    (names : List (List ℕ)) (boards : List State) (hub_names : List (List ℕ)) (hubs : List (List Member)) (now quantum : ℕ) (hub : ℕ) (m : Member) →
+    (names : List (List ℕ)) (boards : List State) (hub_names : List (List ℕ)) (hubs : List (List Member))
+    (now quantum : ℕ) (hub : ℕ) (m : Member) →
     IsSound names boards hub_names hubs now quantum → m.board.0 < length boards → m.dev ≡ 0 →
     IsSound names boards hub_names (connected hubs hub m) now quantum
 sound-connected names boards hub_names hubs now quantum hub m sound exists device = record {
@@ -163,7 +180,8 @@ sound-connected names boards hub_names hubs now quantum hub m sound exists devic
   few_hubs = omega (arith, length-connected hubs hub m, sound.few_hubs);
   taken = sound.taken;
   standing = sound.standing;
-  devices = devices-connected (length boards) hubs hub m sound.devices (record { board = exists; dev = device });
+  devices =
+      devices-connected (length boards) hubs hub m sound.devices (record { board = exists; dev = device });
   time = sound.time;
   least_quantum = sound.least_quantum;
   most_quantum = sound.most_quantum;
@@ -172,24 +190,29 @@ sound-connected names boards hub_names hubs now quantum hub m sound exists devic
 -- a laboratory after a change of one board that may be refused
 pub sound-try :
     {T E : Type 0} (r : Result T E)
-    (names : List (List ℕ)) (boards : List State) (hub_names : List (List ℕ)) (hubs : List (List Member)) (now quantum : ℕ)
+    (names : List (List ℕ)) (boards : List State) (hub_names : List (List ℕ)) (hubs : List (List Member))
+    (now quantum : ℕ)
     (i : ℕ) (f : View → View) (old new : State) →
     IsSound names boards hub_names hubs now quantum → i < length boards → old ≡ get_or boards i old →
     OnOk r (new ≡ record old { view = f old.view }) → OnErr r (new ≡ old) →
     ((b : ℕ) (v : View) → IsStanding (1000 * now) b v → IsStanding (1000 * now) b (f v)) →
-    IsSound names (set boards i new) hub_names hubs now quantum × OnOk r (views (set boards i new) ≡ change_at (views boards) i f)
+    IsSound names (set boards i new) hub_names hubs now quantum × OnOk r
+    (views (set boards i new) ≡ change_at (views boards) i f)
 sound-try (Ok x) names boards hub_names hubs now quantum i f old new sound below is made same keeps =
     sound-change names boards hub_names hubs now quantum i f old new sound below is made keeps
 sound-try (Err e) names boards hub_names hubs now quantum i f old new sound below is made same keeps =
     ((sound-change names boards hub_names hubs now quantum i (λ v. v) old new sound below is same (λ b v is. is)).0, tt)
 
 -- a board of the laboratory is one of the boards
-pub inside_below : (boards : List State) (vs : List View) (i : ℕ) → views boards ≡ vs → i < length vs → i < length boards
-inside_below boards vs i same below = let long : length (views boards) ≡ length boards = length-map boards _ in omega (arith, long, ap length same)
+pub inside_below :
+    (boards : List State) (vs : List View) (i : ℕ) → views boards ≡ vs → i < length vs → i < length boards
+inside_below boards vs i same below =
+    let long : length (views boards) ≡ length boards = length-map boards _ in omega (arith, long, ap length same)
 
 -- a change of one board, as contracts see it
 pub seen-change :
-    (s : Seen) (names hub_names : List (List ℕ)) (hubs : List (List Member)) (now quantum : ℕ) (spent : Bool) (before after : List View) (b : ℕ) (f : View → View) →
+    (s : Seen) (names hub_names : List (List ℕ)) (hubs : List (List Member)) (now quantum : ℕ) (spent : Bool)
+    (before after : List View) (b : ℕ) (f : View → View) →
     record { lab = record { names = names; boards = before; hub_names = hub_names; hubs = hubs; now = now; quantum = quantum }; spent = spent } ≡ s →
     after ≡ change_at before b f →
     record { lab = record { names = names; boards = after; hub_names = hub_names; hubs = hubs; now = now; quantum = quantum }; spent = spent }
@@ -197,5 +220,8 @@ pub seen-change :
 seen-change s names hub_names hubs now quantum spent before after b f is made = rw (← is, made) refl
 
 -- a board put in the place of another leaves as many boards
-pub boards-set : (boards : List State) (i : ℕ) (new : State) (vs : List View) → views boards ≡ vs → length (views (set boards i new)) ≡ length vs
-boards-set boards i new vs is = length-map (set boards i new) _ ∙ length-set boards i new ∙ sym (length-map boards _) ∙ ap length is
+pub boards-set :
+    (boards : List State) (i : ℕ) (new : State) (vs : List View) → views boards ≡ vs →
+    length (views (set boards i new)) ≡ length vs
+boards-set boards i new vs is =
+    length-map (set boards i new) _ ∙ length-set boards i new ∙ sym (length-map boards _) ∙ ap length is

@@ -15,7 +15,8 @@ Joins = (v : View) (from a : ℕ) (turns : List ℕ) → in_turns v from a turns
 module _ (joins : Joins) (cut : Cut) (whole : IsWhole cut) where
   granted-in-turns : (from to : ℕ) (v : View) → granted_in_turns cut from to v ≡ granted from to v
   granted-in-turns from to v =
-      joins v from 0 (cut from v (paid from to v.speed)) ∙ ap (stretch v from 0) (whole from v (paid from to v.speed))
+      joins v from 0 (cut from v (paid from to v.speed))
+      ∙ ap (stretch v from 0) (whole from v (paid from to v.speed))
 
   round-in-turns : (lab : Lab) (q : ℕ) → round_in_turns cut lab q ≡ round lab q
   unfolding round

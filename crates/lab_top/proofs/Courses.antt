@@ -20,11 +20,15 @@ names_of-later : (n : ℕ) (reads : List Read) → names_of (map (read_later n) 
 names_of-later n [] = refl
 names_of-later n (read ∷ reads) = ap (λ rest. read.name ∷ rest) (names_of-later n reads)
 
-names_of-after : (names : List (List ℕ)) (n : ℕ) (reads : List Read) → names_of (map read_now names ++ map (read_later n) reads) ≡ names ++ names_of reads
+names_of-after :
+    (names : List (List ℕ)) (n : ℕ) (reads : List Read) →
+    names_of (map read_now names ++ map (read_later n) reads) ≡ names ++ names_of reads
 names_of-after names n reads = rw (map-append, names_of-now, names_of-later) refl
 
 -- the last read is still the last behind others, and comes later
-last_after : (front : List Read) (n k : ℕ) (reads : List Read) → IsLastAt reads k → IsLastAt (front ++ map (read_later n) reads) (n + k)
+last_after :
+    (front : List Read) (n k : ℕ) (reads : List Read) → IsLastAt reads k →
+    IsLastAt (front ++ map (read_later n) reads) (n + k)
 last_after front n k reads is = record {
   earlier = front ++ map (read_later n) is.earlier;
   last = read_later n is.last;
@@ -69,7 +73,9 @@ course_unread name rest out log log' asked = record {
 }
 
 -- a first read found no memory
-pub course_memory : (all : Transcript) (out : Option (List ℕ)) (log : Option (List (List ℕ))) → Course all end_by.Memory out out log log
+pub course_memory :
+    (all : Transcript) (out : Option (List ℕ)) (log : Option (List (List ℕ))) →
+    Course all end_by.Memory out out log log
 course_memory all out log = record {
   bytes = [];
   unwritten = all.bytes;
@@ -85,7 +91,8 @@ course_memory all out log = record {
 
 -- the last text and the last line were written, or a part of them
 pub course_ended :
-    (text : List ℕ) (outcome : Outcome) (status : Status) (out out' : Option (List ℕ)) (log : Option (List (List ℕ))) →
+    (text : List ℕ) (outcome : Outcome) (status : Status) (out out' : Option (List ℕ))
+    (log : Option (List (List ℕ))) →
     IsEnd text outcome status out out' → Course (after [] text (ended outcome)) status out out' log log
 course_ended text outcome status out out' log end = record {
   bytes = end.bytes;
@@ -122,7 +129,8 @@ end_cut text outcome fault out out' part = record {
 }
 
 -- memory ran out before anything of them was written
-pub end_memory : (text : List ℕ) (outcome : Outcome) (out : Option (List ℕ)) → IsEnd text outcome end_by.Memory out out
+pub end_memory :
+    (text : List ℕ) (outcome : Outcome) (out : Option (List ℕ)) → IsEnd text outcome end_by.Memory out out
 end_memory text outcome out = record {
   bytes = [];
   unwritten = text ++ last_line outcome;
@@ -147,7 +155,8 @@ end_after text outcome status out mid out' wrote end = record {
 
 -- a part of a text was written, and no more
 pub course_cut :
-    (text : List ℕ) (rest : Transcript) (fault : WriteFault) (out out' : Option (List ℕ)) (log : Option (List (List ℕ))) →
+    (text : List ℕ) (rest : Transcript) (fault : WriteFault) (out out' : Option (List ℕ))
+    (log : Option (List (List ℕ))) →
     IsPartWritten out text out' → Course (after [] text rest) (refusal fault) out out' log log
 course_cut text rest fault out out' log part = record {
   bytes = take part.count text;

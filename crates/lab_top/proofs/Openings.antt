@@ -20,17 +20,23 @@ use Rattle.lab_top.proofs.Courses.{course_after, course_unread, course_ended}
 pub told : {A : Type 0} {o : Option A} (P : A → Type 0) → IfSome o P → Told o P
 told P fact x is = rw is at fact
 
-begun_short : (script bytes : List ℕ) → length bytes ≤ 16777216 → begun run script (Some bytes) ≡ from run script 1 started (lines_of bytes)
+begun_short :
+    (script bytes : List ℕ) → length bytes ≤ 16777216 →
+    begun run script (Some bytes) ≡ from run script 1 started (lines_of bytes)
 begun_short script bytes short = grind (arith, nat_tests)
 
-begun_long : (script bytes : List ℕ) → 16777216 < length bytes → begun run script (Some bytes) ≡ ended (Script (fault_at script 0 Size))
+begun_long :
+    (script bytes : List ℕ) → 16777216 < length bytes →
+    begun run script (Some bytes) ≡ ended (Script (fault_at script 0 Size))
 begun_long script bytes long = grind (arith, nat_tests)
 
 -- a script was read, and its lines went by their course
 pub opening_runs :
-    (held : Held) (script bytes : List ℕ) (status : Status) (out out' : Option (List ℕ)) (log log' : Option (List (List ℕ))) →
+    (held : Held) (script bytes : List ℕ) (status : Status) (out out' : Option (List ℕ))
+    (log log' : Option (List (List ℕ))) →
     get held script ≡ Some bytes → length bytes ≤ 16777216 → log' ≡ grown log (script ∷ []) →
-    Course (from run script 1 started (lines_of bytes)) status out out' log' log' → Course (run_of run held script) status out out' log log'
+    Course (from run script 1 started (lines_of bytes)) status out out' log' log' →
+    Course (run_of run held script) status out out' log log'
 opening_runs held script bytes status out out' log log' there short asked course =
     rw there
     (course_after (script ∷ []) [] (begun run script (Some bytes)) status out out out' log log' log' (sym (grown-nil out)) asked
@@ -38,9 +44,12 @@ opening_runs held script bytes status out out' log log' there short asked course
 
 -- a script has too many bytes
 pub opening_large :
-    (held : Held) (script : List ℕ) (there : Option (List ℕ)) (status : Status) (out out' : Option (List ℕ)) (log log' : Option (List (List ℕ))) →
-    get held script ≡ there → IsSomeAnd there (λ bytes. 16777216 < length bytes) → log' ≡ grown log (script ∷ []) →
-    IsEnd [] (Script (fault_at script 0 Size)) status out out' → Course (run_of run held script) status out out' log log'
+    (held : Held) (script : List ℕ) (there : Option (List ℕ)) (status : Status) (out out' : Option (List ℕ))
+    (log log' : Option (List (List ℕ))) →
+    get held script ≡ there → IsSomeAnd there (λ bytes. 16777216 < length bytes) →
+    log' ≡ grown log (script ∷ []) →
+    IsEnd [] (Script (fault_at script 0 Size)) status out out' →
+    Course (run_of run held script) status out out' log log'
 opening_large held script None status out out' log log' there large asked end = absurd large
 opening_large held script (Some bytes) status out out' log log' there large asked end =
     rw there
@@ -51,10 +60,14 @@ opening_large held script (Some bytes) status out out' log log' there large aske
 pub opening_unread :
     (held : Held) (script : List ℕ) (out : Option (List ℕ)) (log log' : Option (List (List ℕ))) →
     log' ≡ grown log (script ∷ []) → Course (run_of run held script) end_by.Unread out out log log'
-opening_unread held script out log log' asked = course_unread script (begun run script (get held script)) out log log' asked
+opening_unread held script out log log' asked =
+    course_unread script (begun run script (get held script)) out log log' asked
 
 -- the words were refused
 pub words_refused :
-    (held : Held) (words : List (List ℕ)) (cause : UsageCause) (status : Status) (out out' : Option (List ℕ)) (log : Option (List (List ℕ))) →
-    request_of words ≡ Refused cause → IsEnd [] (Usage cause) status out out' → Course (transcript words held) status out out' log log
-words_refused held words cause status out out' log is end = rw (is, transcript) (course_ended [] (Usage cause) status out out' log end)
+    (held : Held) (words : List (List ℕ)) (cause : UsageCause) (status : Status) (out out' : Option (List ℕ))
+    (log : Option (List (List ℕ))) →
+    request_of words ≡ Refused cause → IsEnd [] (Usage cause) status out out' →
+    Course (transcript words held) status out out' log log
+words_refused held words cause status out out' log is end =
+    rw (is, transcript) (course_ended [] (Usage cause) status out out' log end)

@@ -19,7 +19,8 @@ passes false is = refl
 
 -- a line that a line feed ends
 pub lines_of-ended :
-    (xs : List ℕ) (n : ℕ) → n < length xs → list_all (λ b. not (b == 10)) (take n xs) ≡ true → slice_index xs n ≡ 10 →
+    (xs : List ℕ) (n : ℕ) → n < length xs → list_all (λ b. not (b == 10)) (take n xs) ≡ true →
+    slice_index xs n ≡ 10 →
     lines_of xs ≡ take n xs ∷ lines_of (drop (suc n) xs)
 unfolding lines_of
 lines_of-ended [] n within before found = absurd (omega arith)
@@ -30,7 +31,8 @@ lines_of-ended (x ∷ xs) (suc n) within before found =
     rw (passes (x == 10) parts.0, later) refl
 
 -- a last line that no line feed ends
-pub lines_of-last : (x : ℕ) (xs : List ℕ) → list_all (λ b. not (b == 10)) (x ∷ xs) ≡ true → lines_of (x ∷ xs) ≡ (x ∷ xs) ∷ []
+pub lines_of-last :
+    (x : ℕ) (xs : List ℕ) → list_all (λ b. not (b == 10)) (x ∷ xs) ≡ true → lines_of (x ∷ xs) ≡ (x ∷ xs) ∷ []
 unfolding lines_of
 lines_of-last x [] all = rw (passes (x == 10) (and_parts (not (x == 10)) true all).0) refl
 lines_of-last x (y ∷ xs) all =
@@ -39,7 +41,8 @@ lines_of-last x (y ∷ xs) all =
 
 -- the signs before the first that does not pass
 pub take_while-first :
-    (p : ℕ → Bool) (xs : List ℕ) (n : ℕ) → n ≤ length xs → list_all p (take n xs) ≡ true → (n < length xs → p (slice_index xs n) ≡ false) →
+    (p : ℕ → Bool) (xs : List ℕ) (n : ℕ) → n ≤ length xs → list_all p (take n xs) ≡ true →
+    (n < length xs → p (slice_index xs n) ≡ false) →
     take_while p xs ≡ take n xs
 take_while-first p [] zero within before found = refl
 take_while-first p [] (suc n) within before found = absurd (omega arith)
@@ -50,23 +53,28 @@ take_while-first p (x ∷ xs) (suc n) within before found =
 
 -- signs whose first quote is the last of them
 pub closed-at :
-    (signs : List ℕ) (n : ℕ) → n + 1 ≡ length signs → list_all is_unquoted (take n signs) ≡ true → slice_index signs n ≡ 34 →
+    (signs : List ℕ) (n : ℕ) → n + 1 ≡ length signs → list_all is_unquoted (take n signs) ≡ true →
+    slice_index signs n ≡ 34 →
     closed signs ≡ Some (take n signs)
 closed-at signs n all before found =
     let within : n < length signs = omega arith in
     let front = take_while-first is_unquoted signs n (omega arith) before (λ less. rw found refl) in
-    let whole : signs ≡ take n signs ++ 34 ∷ [] = sym (take_all (n + 1) signs (omega arith)) ∙ take_more signs n 0 within ∙ ap (λ byte. take n signs ++ byte ∷ []) found in
+    let whole : signs ≡ take n signs ++ 34 ∷ [] =
+    sym (take_all (n + 1) signs (omega arith)) ∙ take_more signs n 0 within ∙ ap (λ byte. take n signs ++ byte ∷ []) found in
     rw (front, (bytes_eq-Decides signs (take n signs ++ 34 ∷ [])).1 whole) refl
 
 -- signs whose first quote is not the last of them, or that have none
 pub closed-none :
-    (signs : List ℕ) (n : ℕ) → (n + 1 ≡ length signs → ⊥) → n ≤ length signs → list_all is_unquoted (take n signs) ≡ true → (n < length signs → slice_index signs n ≡ 34) →
+    (signs : List ℕ) (n : ℕ) → (n + 1 ≡ length signs → ⊥) → n ≤ length signs →
+    list_all is_unquoted (take n signs) ≡ true → (n < length signs → slice_index signs n ≡ 34) →
     closed signs ≡ None
 closed-none signs n not_last within before found =
     let front = take_while-first is_unquoted signs n within before (λ less. rw (found less) refl) in
     rw (front, differs (bytes_eq signs (take n signs ++ 34 ∷ [])) refl) refl
   where
-    differs : (b : Bool) → bytes_eq signs (take n signs ++ 34 ∷ []) ≡ b → bytes_eq signs (take n signs ++ 34 ∷ []) ≡ false
+    differs :
+        (b : Bool) → bytes_eq signs (take n signs ++ 34 ∷ []) ≡ b →
+        bytes_eq signs (take n signs ++ 34 ∷ []) ≡ false
     differs true is =
         let same = ap length ((bytes_eq-Decides signs (take n signs ++ 34 ∷ [])).0 is) in
         absurd (not_last (omega (arith, simp (length-append, length-take) at same)))
@@ -91,6 +99,8 @@ lines_of-none [] none = refl
 lines_of-none (x ∷ xs) none = absurd (omega arith)
 
 -- some signs without a line feed are one line
-pub lines_of-one : (xs : List ℕ) (n : ℕ) → (length xs ≡ 0 → ⊥) → n ≡ length xs → list_all (λ b. not (b == 10)) (take n xs) ≡ true → lines_of xs ≡ xs ∷ []
+pub lines_of-one :
+    (xs : List ℕ) (n : ℕ) → (length xs ≡ 0 → ⊥) → n ≡ length xs →
+    list_all (λ b. not (b == 10)) (take n xs) ≡ true → lines_of xs ≡ xs ∷ []
 lines_of-one [] n some all before = absurd (some refl)
 lines_of-one (x ∷ xs) n some all before = lines_of-last x xs (rw (take_all n (x ∷ xs) (omega arith)) at before)

@@ -12,7 +12,8 @@ blank_ascii : (b : ℕ) → is_blank b ≡ true → b < 128
 blank_ascii b blank = grind (arith, nat_tests)
 
 -- behind the blanks at the front
-pub front_boundary : (bs : List ℕ) → IsUtf8 bs → 0 < prefix_len is_blank bs → IsCharBoundary bs (prefix_len is_blank bs)
+pub front_boundary :
+    (bs : List ℕ) → IsUtf8 bs → 0 < prefix_len is_blank bs → IsCharBoundary bs (prefix_len is_blank bs)
 front_boundary bs text some =
     let n = prefix_len is_blank bs in
     let inside : n ≤ length bs = prefix_len-le-length is_blank bs in
@@ -23,7 +24,9 @@ front_boundary bs text some =
     (IsCharBoundary-after_ascii bs (n - 1) text last (blank_ascii _ (prefix_len_passes is_blank bs (n - 1) 0 before)))
 
 -- before a blank, or at the end
-pub blank_boundary : (bs : List ℕ) (n : ℕ) → n ≤ length bs → (n < length bs → is_blank (get_or bs n 0) ≡ true) → IsCharBoundary bs n
+pub blank_boundary :
+    (bs : List ℕ) (n : ℕ) → n ≤ length bs → (n < length bs → is_blank (get_or bs n 0) ≡ true) →
+    IsCharBoundary bs n
 blank_boundary bs n within blank =
     elim (cases_lt n (length bs)) [
       | inl below ↦ IsCharBoundary-before_ascii bs n below (blank_ascii _ (blank below))

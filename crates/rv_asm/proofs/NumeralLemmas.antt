@@ -17,7 +17,9 @@ all_digits test radix digit [] all = tt
 all_digits test radix digit (b ∷ bs) all =
     let both = and_parts (test b) (list_all test bs) all in (digit b both.0, all_digits test radix digit bs both.1)
 
-first_passes : (test : ℕ → Bool) (text : List ℕ) → list_all test text ≡ true → 0 < length text → test (get_or text 0 0) ≡ true
+first_passes :
+    (test : ℕ → Bool) (text : List ℕ) → list_all test text ≡ true → 0 < length text →
+    test (get_or text 0 0) ≡ true
 first_passes test [] all some = absurd (omega arith)
 first_passes test (b ∷ bs) all some = (and_parts (test b) (list_all test bs) all).0
 
@@ -26,7 +28,8 @@ not_below v above = omega arith
 
 -- the value where it fits, and the greatest where it does not
 fits_or_most :
-    {E : Type 0} (r : Result ℕ E) (P : Type 0) (v : ℕ) → P → OkIff r (P × (v < 2 ^ 64)) v → result_unwrap_or r most ≡ min v most
+    {E : Type 0} (r : Result ℕ E) (P : Type 0) (v : ℕ) → P → OkIff r (P × (v < 2 ^ 64)) v →
+    result_unwrap_or r most ≡ min v most
 fits_or_most (Ok x) P v holds reads =
     let below : v < 2 ^ 64 = reads.0.1 in
     let same : x ≡ v = reads.1 in
@@ -45,7 +48,8 @@ numeral_parses test radix text r digit few parsed some all =
     let first = digit _ (first_passes test text all positive) in
     let plain = without_leading_plus_none text (λ plus. absurd (omega (arith, first, ap digit_value plus))) in
     let holds : IsNumeral radix text = (positive, all_digits test radix digit text all) in
-    rw (some, all) (ap Some (fits_or_most r (IsNumeral radix text) (digits_value radix text) holds (rw plain at parsed)))
+    rw (some, all)
+    (ap Some (fits_or_most r (IsNumeral radix text) (digits_value radix text) holds (rw plain at parsed)))
 
 pub decimal_digit : (b : ℕ) → is_ascii_digit b ≡ true → digit_value b < 10
 decimal_digit b digit = grind (arith, nat_tests)

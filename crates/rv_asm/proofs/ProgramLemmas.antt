@@ -69,23 +69,27 @@ update-absent old label name address absent =
 
 -- the places of all lines are those that were found, and else those of the lines from i on
 abbrev pub FindsPlaces : List (List ℕ) → ℕ → ℕ → (List ℕ → Option ℕ) → Type 0
-FindsPlaces lines i address found = (name : List ℕ) → option_or (found name) (place_from address (drop i lines) name) ≡ place_from 0 lines name
+FindsPlaces lines i address found =
+    (name : List ℕ) → option_or (found name) (place_from address (drop i lines) name) ≡ place_from 0 lines name
 
 pub places_blank :
     (lines : List (List ℕ)) (i address : ℕ) (line : List ℕ) (found : List ℕ → Option ℕ) →
     drop i lines ≡ line ∷ drop (i + 1) lines → gives_word line ≡ false →
     FindsPlaces lines i address found → FindsPlaces lines (i + 1) address found
 places_blank lines i address line found next blank all name =
-    let before : option_or (found name) (place_from address (line ∷ drop (i + 1) lines) name) ≡ place_from 0 lines name = rw next at (all name) in
+    let before : option_or (found name) (place_from address (line ∷ drop (i + 1) lines) name) ≡ place_from 0 lines name =
+    rw next at (all name) in
     rw blank at before
 
 pub places_more :
     (lines : List (List ℕ)) (i address : ℕ) (line : List ℕ) (found more : List ℕ → Option ℕ) →
     drop i lines ≡ line ∷ drop (i + 1) lines → gives_word line ≡ true →
-    ((name : List ℕ) → more name ≡ option_or (found name) (if is_label name (label_of line) then Some address else None)) →
+    ((name : List ℕ) → more name ≡ option_or (found name) (if is_label name (label_of line) then Some address else None))
+    →
     FindsPlaces lines i address found → FindsPlaces lines (i + 1) (address + 4) more
 places_more lines i address line found more next gives added all name =
-    let before : option_or (found name) (place_from address (line ∷ drop (i + 1) lines) name) ≡ place_from 0 lines name = rw next at (all name) in
+    let before : option_or (found name) (place_from address (line ∷ drop (i + 1) lines) name) ≡ place_from 0 lines name =
+    rw next at (all name) in
     rw (added name)
     (option_or-if (found name) (is_label name (label_of line)) address (place_from (address + 4) (drop (i + 1) lines) name) ∙
     rw gives at before)
@@ -99,7 +103,8 @@ behind done (Err fault) = Err fault
 
 -- the words of all lines are those that were made, and then those of the lines from i on
 abbrev pub MakesWords : (List ℕ → Option ℕ) → List (List ℕ) → ℕ → ℕ → List ℕ → Type 0
-MakesWords places lines i address done = behind done (words_from places (i + 1) address (drop i lines)) ≡ words_from places 1 0 lines
+MakesWords places lines i address done =
+    behind done (words_from places (i + 1) address (drop i lines)) ≡ words_from places 1 0 lines
 
 behind-onto :
     (done : List ℕ) (word : ℕ) (rest : Result (List ℕ) AsmFault) →
@@ -112,28 +117,35 @@ pub words_blank :
     drop i lines ≡ line ∷ drop (i + 1) lines → gives_word line ≡ false →
     MakesWords places lines i address done → MakesWords places lines (i + 1) address done
 words_blank places lines i address line done next blank all =
-    let before : behind done (words_from places (i + 1) address (line ∷ drop (i + 1) lines)) ≡ words_from places 1 0 lines = rw next at all in
+    let before : behind done (words_from places (i + 1) address (line ∷ drop (i + 1) lines)) ≡ words_from places 1 0 lines =
+    rw next at all in
     rw blank at before
 
 pub words_more :
-    (places : List ℕ → Option ℕ) (lines : List (List ℕ)) (i address : ℕ) (line : List ℕ) (done : List ℕ) (word : ℕ) →
+    (places : List ℕ → Option ℕ) (lines : List (List ℕ)) (i address : ℕ) (line : List ℕ) (done : List ℕ)
+    (word : ℕ) →
     drop i lines ≡ line ∷ drop (i + 1) lines → gives_word line ≡ true →
     at_line (i + 1) (line_word places address line) ≡ Ok word →
     MakesWords places lines i address done → MakesWords places lines (i + 1) (address + 4) (done ++ word ∷ [])
 words_more places lines i address line done word next gives made all =
-    let before : behind done (words_from places (i + 1) address (line ∷ drop (i + 1) lines)) ≡ words_from places 1 0 lines = rw next at all in
-    behind-onto done word (words_from places (i + 1 + 1) (address + 4) (drop (i + 1) lines)) ∙ rw (gives, made) at before
+    let before : behind done (words_from places (i + 1) address (line ∷ drop (i + 1) lines)) ≡ words_from places 1 0 lines =
+    rw next at all in
+    behind-onto done word (words_from places (i + 1 + 1) (address + 4) (drop (i + 1) lines))
+    ∙ rw (gives, made) at before
 
 pub words_fault :
-    (places : List ℕ → Option ℕ) (lines : List (List ℕ)) (i address : ℕ) (line : List ℕ) (done : List ℕ) (fault : AsmFault) →
+    (places : List ℕ → Option ℕ) (lines : List (List ℕ)) (i address : ℕ) (line : List ℕ) (done : List ℕ)
+    (fault : AsmFault) →
     drop i lines ≡ line ∷ drop (i + 1) lines → gives_word line ≡ true →
     at_line (i + 1) (line_word places address line) ≡ Err fault →
     MakesWords places lines i address done → words_from places 1 0 lines ≡ Err fault
 words_fault places lines i address line done fault next gives made all =
-    let before : behind done (words_from places (i + 1) address (line ∷ drop (i + 1) lines)) ≡ words_from places 1 0 lines = rw next at all in
+    let before : behind done (words_from places (i + 1) address (line ∷ drop (i + 1) lines)) ≡ words_from places 1 0 lines =
+    rw next at all in
     sym (rw (gives, made) at before)
 
-pub gives_fault : (fault : AsmFault) (meant : Result (List ℕ) AsmFault) → meant ≡ Err fault → Gives (Err fault) meant
+pub gives_fault :
+    (fault : AsmFault) (meant : Result (List ℕ) AsmFault) → meant ≡ Err fault → Gives (Err fault) meant
 gives_fault (Line n cause) meant is = is
 gives_fault Memory meant is = tt
 
@@ -141,7 +153,8 @@ gives_fault Memory meant is = tt
 
 -- each line but the last ends at a byte of its own
 pub lines_few :
-    (text : List ℕ) (lines : List (Bor (List ℕ))) → texts lines ≡ lines_of text → length text ≤ 2 ^ 24 → length lines ≤ 2 ^ 24 + 1
+    (text : List ℕ) (lines : List (Bor (List ℕ))) → texts lines ≡ lines_of text → length text ≤ 2 ^ 24 →
+    length lines ≤ 2 ^ 24 + 1
 lines_few text lines are short =
     omega (
       arith,

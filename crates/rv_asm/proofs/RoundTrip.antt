@@ -32,7 +32,8 @@ either P false x y p q = q
 
 -- a sign-extended number has the fields of the number
 low_12 : (n : ℕ) → n < 2 ^ 12 → field (sign_extended 12 n) 0 12 ≡ n
-low_12 n fits = either (λ v. field v 0 12 ≡ n) (nat_lt n (2 ^ 11)) n (n + (2 ^ 32 - 2 ^ 12)) (omega arith) (omega arith)
+low_12 n fits =
+    either (λ v. field v 0 12 ≡ n) (nat_lt n (2 ^ 11)) n (n + (2 ^ 32 - 2 ^ 12)) (omega arith) (omega arith)
 
 placed_s-extended : (high low : ℕ) → high < 2 ^ 7 → low < 2 ^ 5 →
     placed_s (sign_extended 12 (high * 2 ^ 5 + low)) ≡ low * 2 ^ 7 + high * 2 ^ 25
@@ -41,14 +42,16 @@ placed_s-extended high low h l =
     either (λ v. placed_s v ≡ low * 2 ^ 7 + high * 2 ^ 25) (nat_lt n (2 ^ 11)) n (n + (2 ^ 32 - 2 ^ 12)) (omega arith) (omega arith)
 
 placed_b-extended : (a b c d : ℕ) → a < 2 → b < 2 → c < 2 ^ 6 → d < 2 ^ 4 →
-    placed_b (sign_extended 13 (a * 2 ^ 12 + b * 2 ^ 11 + c * 2 ^ 5 + d * 2)) ≡ b * 2 ^ 7 + d * 2 ^ 8 + c * 2 ^ 25 + a * 2 ^ 31
+    placed_b (sign_extended 13 (a * 2 ^ 12 + b * 2 ^ 11 + c * 2 ^ 5 + d * 2))
+    ≡ b * 2 ^ 7 + d * 2 ^ 8 + c * 2 ^ 25 + a * 2 ^ 31
 placed_b-extended a b c d ha hb hc hd =
     let n = a * 2 ^ 12 + b * 2 ^ 11 + c * 2 ^ 5 + d * 2 in
     either (λ v. placed_b v ≡ b * 2 ^ 7 + d * 2 ^ 8 + c * 2 ^ 25 + a * 2 ^ 31)
     (nat_lt n (2 ^ 12)) n (n + (2 ^ 32 - 2 ^ 13)) (omega arith) (omega arith)
 
 placed_j-extended : (a b c d : ℕ) → a < 2 → b < 2 ^ 8 → c < 2 → d < 2 ^ 10 →
-    placed_j (sign_extended 21 (a * 2 ^ 20 + b * 2 ^ 12 + c * 2 ^ 11 + d * 2)) ≡ b * 2 ^ 12 + c * 2 ^ 20 + d * 2 ^ 21 + a * 2 ^ 31
+    placed_j (sign_extended 21 (a * 2 ^ 20 + b * 2 ^ 12 + c * 2 ^ 11 + d * 2))
+    ≡ b * 2 ^ 12 + c * 2 ^ 20 + d * 2 ^ 21 + a * 2 ^ 31
 placed_j-extended a b c d ha hb hc hd =
     let n = a * 2 ^ 20 + b * 2 ^ 12 + c * 2 ^ 11 + d * 2 in
     either (λ v. placed_j v ≡ b * 2 ^ 12 + c * 2 ^ 20 + d * 2 ^ 21 + a * 2 ^ 31)
@@ -60,7 +63,8 @@ put_together R op w fits = omega arith
 put_together I op w fits = rw (low_12 (field w 20 12) (omega arith)) (omega arith)
 put_together IShift op w fits = omega arith
 put_together IUnsigned op w fits = omega arith
-put_together S op w fits = rw (placed_s-extended (field w 25 7) (field w 7 5) (omega arith) (omega arith)) (omega arith)
+put_together S op w fits =
+    rw (placed_s-extended (field w 25 7) (field w 7 5) (omega arith) (omega arith)) (omega arith)
 put_together B op w fits =
     rw
     (placed_b-extended (field w 31 1) (field w 7 1) (field w 25 6) (field w 8 4) (omega arith) (omega arith) (omega arith) (omega arith))
@@ -85,10 +89,12 @@ op-fields_by J op w = refl
 op-fields_by Fixed op w = refl
 
 -- the instruction of a word has the word, where the fixed bits are its own
-encoded-instr_of : (op : Op) (w : ℕ) → w < 2 ^ 32 → fixed_of (format_of op) w ≡ bits_of op → encoded (instr_of op w) ≡ w
+encoded-instr_of :
+    (op : Op) (w : ℕ) → w < 2 ^ 32 → fixed_of (format_of op) w ≡ bits_of op → encoded (instr_of op w) ≡ w
 unfolding encoded
 encoded-instr_of op w fits fixed =
-    rw (op-fields_by (format_of op) op w, ← fixed, fixed_twice (format_of op) w) (put_together (format_of op) op w fits)
+    rw (op-fields_by (format_of op) op w, ← fixed, fixed_twice (format_of op) w)
+    (put_together (format_of op) op w fits)
 
 by_row : (o : Option Op) (w : ℕ) (i : Instr) → w < 2 ^ 32 →
     ((op : Op) → o ≡ Some op → fixed_of (format_of op) w ≡ bits_of op) →
@@ -100,7 +106,8 @@ by_row (Some op) w i fits fixed is =
 
 -- the word that means an instruction is the instruction's
 pub encoded-means : (w : ℕ) (i : Instr) → w < 2 ^ 32 →
-    ((word : ℕ) → (op : Op) → word < 2 ^ 32 → op_of word ≡ Some op → fixed_of (format_of op) word ≡ bits_of op) →
+    ((word : ℕ) → (op : Op) → word < 2 ^ 32 → op_of word ≡ Some op → fixed_of (format_of op) word ≡ bits_of op)
+    →
     means w ≡ Some i → encoded i ≡ w
 unfolding means
 encoded-means w i fits fixed is = by_row (op_of w) w i fits (λ op here. fixed w op fits here) is

@@ -12,7 +12,9 @@ use Rattle.rv_decode.specs.Immediate.{field, imm_i, imm_s, imm_b, imm_u, imm_j}
 use Rattle.rv_decode.specs.Table.{op_of}
 use Rattle.rv_decode.specs.Means.{means, instr_of, fields_by, IsInstr, IsValid}
 
-extended_fits : (n half rest : ℕ) → n < 2 * half → half + half + rest ≡ 2 ^ 32 → (if nat_lt n half then n else n + rest) < 2 ^ 32
+extended_fits :
+    (n half rest : ℕ) → n < 2 * half → half + half + rest ≡ 2 ^ 32 →
+    (if nat_lt n half then n else n + rest) < 2 ^ 32
 extended_fits n half rest fits all = grind (arith, nat_tests)
 
 imm_i_fits : (w : ℕ) → imm_i w < 2 ^ 32
@@ -38,12 +40,18 @@ register_fits : (w low : ℕ) → field w low 5 < 32
 register_fits w low = omega arith
 
 by_format : (f : Format) (op : Op) (w : ℕ) → IsInstr (fields_by f op w)
-by_format R op w = record { rd = register_fits w 7; rs1 = register_fits w 15; rs2 = register_fits w 20; imm = lit< tt }
-by_format I op w = record { rd = register_fits w 7; rs1 = register_fits w 15; rs2 = lit< tt; imm = imm_i_fits w }
-by_format IShift op w = record { rd = register_fits w 7; rs1 = register_fits w 15; rs2 = lit< tt; imm = omega arith }
-by_format IUnsigned op w = record { rd = register_fits w 7; rs1 = register_fits w 15; rs2 = lit< tt; imm = omega arith }
-by_format S op w = record { rd = lit< tt; rs1 = register_fits w 15; rs2 = register_fits w 20; imm = imm_s_fits w }
-by_format B op w = record { rd = lit< tt; rs1 = register_fits w 15; rs2 = register_fits w 20; imm = imm_b_fits w }
+by_format R op w =
+    record { rd = register_fits w 7; rs1 = register_fits w 15; rs2 = register_fits w 20; imm = lit< tt }
+by_format I op w =
+    record { rd = register_fits w 7; rs1 = register_fits w 15; rs2 = lit< tt; imm = imm_i_fits w }
+by_format IShift op w =
+    record { rd = register_fits w 7; rs1 = register_fits w 15; rs2 = lit< tt; imm = omega arith }
+by_format IUnsigned op w =
+    record { rd = register_fits w 7; rs1 = register_fits w 15; rs2 = lit< tt; imm = omega arith }
+by_format S op w =
+    record { rd = lit< tt; rs1 = register_fits w 15; rs2 = register_fits w 20; imm = imm_s_fits w }
+by_format B op w =
+    record { rd = lit< tt; rs1 = register_fits w 15; rs2 = register_fits w 20; imm = imm_b_fits w }
 by_format U op w = record { rd = register_fits w 7; rs1 = lit< tt; rs2 = lit< tt; imm = imm_u_fits w }
 by_format J op w = record { rd = register_fits w 7; rs1 = lit< tt; rs2 = lit< tt; imm = imm_j_fits w }
 by_format Fixed op w = record { rd = lit< tt; rs1 = lit< tt; rs2 = lit< tt; imm = lit< tt }

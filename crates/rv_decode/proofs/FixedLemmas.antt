@@ -29,7 +29,8 @@ mask_by Fixed = 0xFFFFFFFF
 with_funct3 : (w : ℕ) → bit_and w 0x707F ≡ field w 0 7 + field w 12 3 * 2 ^ 12
 with_funct3 w = mask_funct3_value w ∙ omega arith
 
-with_funct7 : (w : ℕ) → w < 2 ^ 32 → bit_and w 0xFE00707F ≡ field w 0 7 + field w 12 3 * 2 ^ 12 + field w 25 7 * 2 ^ 25
+with_funct7 :
+    (w : ℕ) → w < 2 ^ 32 → bit_and w 0xFE00707F ≡ field w 0 7 + field w 12 3 * 2 ^ 12 + field w 25 7 * 2 ^ 25
 with_funct7 w fits = mask_funct7_value w fits ∙ omega arith
 
 with_opcode : (w : ℕ) → bit_and w 0x7F ≡ field w 0 7
@@ -54,7 +55,9 @@ is_of_op r = (r.mask == mask_by (format_of r.op)) && (r.bits == bits_of r.op)
 is_of_op-table : list_all is_of_op table ≡ true
 is_of_op-table = refl
 
-row_fixes : (w : ℕ) (r : Row) → w < 2 ^ 32 → is_of_op r ≡ true → matches w r ≡ true → fixed_of (format_of r.op) w ≡ bits_of r.op
+row_fixes :
+    (w : ℕ) (r : Row) → w < 2 ^ 32 → is_of_op r ≡ true → matches w r ≡ true →
+    fixed_of (format_of r.op) w ≡ bits_of r.op
 row_fixes w r fits is_of matched =
     let parts = and_parts (r.mask == mask_by (format_of r.op)) (r.bits == bits_of r.op) is_of in
     let mask = eqb-true r.mask (mask_by (format_of r.op)) parts.0 in
@@ -62,7 +65,9 @@ row_fixes w r fits is_of matched =
     let same = eqb-true (bit_and w r.mask) r.bits matched in
     sym (masked (format_of r.op) w fits) ∙ (ap (bit_and w) (sym mask) ∙ (same ∙ bits))
 
-found : (w : ℕ) (rs : List Row) (op : Op) → w < 2 ^ 32 → list_all is_of_op rs ≡ true → op_in rs w ≡ Some op → fixed_of (format_of op) w ≡ bits_of op
+found :
+    (w : ℕ) (rs : List Row) (op : Op) → w < 2 ^ 32 → list_all is_of_op rs ≡ true → op_in rs w ≡ Some op →
+    fixed_of (format_of op) w ≡ bits_of op
 found w [] op fits all is = cc
 found w (r ∷ rs) op fits all is =
     let parts = and_parts (is_of_op r) (list_all is_of_op rs) all in

@@ -58,7 +58,8 @@ mask_funct7_value w fits =
 
 pub mask_funct7 :
     (w c k j : ℕ) → w < 2 ^ 32 → c < 128 → k < 8 →
-    (bit_and w 0xFE00707F == c + 4096 * k + 2 ^ 25 * j) ≡ ((opcode w == c) && ((funct7 w == j) && (funct3 w == k)))
+    (bit_and w 0xFE00707F == c + 4096 * k + 2 ^ 25 * j)
+    ≡ ((opcode w == c) && ((funct7 w == j) && (funct3 w == k)))
 mask_funct7 w c k j fits hc hk =
     rw (mask_funct7_value w fits)
     (three_fields (opcode w) (funct3 w) (funct7 w) c k j (omega arith) hc (omega arith) hk)

@@ -26,7 +26,8 @@ is_apart-matched : (w : ℕ) (r s : Row) → matches w r ≡ true → matches w 
 is_apart-matched w r s p q =
     let first = eqb-true (bit_and w r.mask) r.bits p in
     let second = eqb-true (bit_and w s.mask) s.bits q in
-    let same : bit_and r.bits s.mask ≡ bit_and s.bits r.mask = rw (← first, ← second) (and_swap w r.mask s.mask) in
+    let same : bit_and r.bits s.mask ≡ bit_and s.bits r.mask =
+    rw (← first, ← second) (and_swap w r.mask s.mask) in
     ap not (eq-eqb _ _ same)
 
 -- a word that matches a row matches none that is apart from it
@@ -36,7 +37,8 @@ match_count-apart :
 match_count-apart w r [] p h = refl
 match_count-apart w r (s ∷ rs) p h =
     let parts = and_parts (is_apart r s) (list_all (is_apart r) rs) h in
-    let off = false_from_ne_true (matches w s) (λ q. both_ways (is_apart r s) (is_apart-matched w r s p q) parts.0) in
+    let off =
+    false_from_ne_true (matches w s) (λ q. both_ways (is_apart r s) (is_apart-matched w r s p q) parts.0) in
     rw off (omega (arith, match_count-apart w r rs p parts.1))
 
 -- computed over all pairs of rows

@@ -55,9 +55,11 @@ op_at [] key n = n
 op_at (e ∷ es) key n = if key == e.0 then Some e.1 else op_at es key n
 
 -- the other answer may come after
-option_or-op_at : (es : List (ℕ × Op)) (key : ℕ) (n : Option Op) → option_or (op_at es key None) n ≡ op_at es key n
+option_or-op_at :
+    (es : List (ℕ × Op)) (key : ℕ) (n : Option Op) → option_or (op_at es key None) n ≡ op_at es key n
 option_or-op_at [] key n = refl
-option_or-op_at (e ∷ es) key n = step (key == e.0) (op_at es key None) (op_at es key n) (option_or-op_at es key n)
+option_or-op_at (e ∷ es) key n =
+    step (key == e.0) (op_at es key None) (op_at es key n) (option_or-op_at es key n)
   where
     step :
         (t : Bool) (m k : Option Op) → option_or m n ≡ k →
@@ -125,7 +127,8 @@ op_in-jalr : (w : ℕ) → op_in jalr_rows w ≡ (if opcode w == 0x67 then jalr_
 op_in-jalr w = op_in-funct3 w 0x67 ((0, Jalr) ∷ []) (lit< tt)
 
 op_in-branch : (w : ℕ) → op_in branch_rows w ≡ (if opcode w == 0x63 then branch_by (funct3 w) else None)
-op_in-branch w = op_in-funct3 w 0x63 ((0, Beq) ∷ (1, Bne) ∷ (4, Blt) ∷ (5, Bge) ∷ (6, Bltu) ∷ (7, Bgeu) ∷ []) (lit< tt)
+op_in-branch w =
+    op_in-funct3 w 0x63 ((0, Beq) ∷ (1, Bne) ∷ (4, Blt) ∷ (5, Bge) ∷ (6, Bltu) ∷ (7, Bgeu) ∷ []) (lit< tt)
 
 op_in-load : (w : ℕ) → op_in load_rows w ≡ (if opcode w == 0x03 then load_by (funct3 w) else None)
 op_in-load w = op_in-funct3 w 0x03 ((0, Lb) ∷ (1, Lh) ∷ (2, Lw) ∷ (4, Lbu) ∷ (5, Lhu) ∷ []) (lit< tt)
@@ -154,7 +157,10 @@ op_in-immediate w fits =
 
 -- OP: by funct3 and funct7
 abbrev register_entries : List (ℕ × ℕ × Op)
-register_entries = (0, 0x0, Add) ∷ (0, 0x20, Sub) ∷ (1, 0x0, Sll) ∷ (2, 0x0, Slt) ∷ (3, 0x0, Sltu) ∷ (4, 0x0, Xor) ∷ (5, 0x0, Srl) ∷ (5, 0x20, Sra) ∷ (6, 0x0, Or) ∷ (7, 0x0, And) ∷ (0, 0x1, Mul) ∷ (1, 0x1, Mulh) ∷ (2, 0x1, Mulhsu) ∷ (3, 0x1, Mulhu) ∷ (4, 0x1, Div) ∷ (5, 0x1, Divu) ∷ (6, 0x1, Rem) ∷ (7, 0x1, Remu) ∷ []
+register_entries =
+    (0, 0x0, Add) ∷ (0, 0x20, Sub) ∷ (1, 0x0, Sll) ∷ (2, 0x0, Slt) ∷ (3, 0x0, Sltu) ∷ (4, 0x0, Xor) ∷
+    (5, 0x0, Srl) ∷ (5, 0x20, Sra) ∷ (6, 0x0, Or) ∷ (7, 0x0, And) ∷ (0, 0x1, Mul) ∷ (1, 0x1, Mulh) ∷
+    (2, 0x1, Mulhsu) ∷ (3, 0x1, Mulhu) ∷ (4, 0x1, Div) ∷ (5, 0x1, Divu) ∷ (6, 0x1, Rem) ∷ (7, 0x1, Remu) ∷ []
 
 -- by cases on funct7
 op_at_both-register : (f3 f7 : ℕ) → op_at_both register_entries f3 f7 ≡ register_by f3 f7
@@ -203,7 +209,8 @@ op_in-system w fits =
     (rw
     (mask_word w 0x73 fits, mask_word w 0x100073 fits, mask_word w 0x30200073 fits, mask_word w 0x10500073 fits)
     (fixed_if (opcode w == 0x73) w))
-    (op_in-funct3 w 0x73 ((1, Csrrw) ∷ (2, Csrrs) ∷ (3, Csrrc) ∷ (5, Csrrwi) ∷ (6, Csrrsi) ∷ (7, Csrrci) ∷ []) (lit< tt)) ∙
+    (op_in-funct3 w 0x73 ((1, Csrrw) ∷ (2, Csrrs) ∷ (3, Csrrc) ∷ (5, Csrrwi) ∷ (6, Csrrsi) ∷ (7, Csrrci) ∷ []) (lit< tt))
+    ∙
     rw (option_or-op_at fixed_entries w (csr_by (funct3 w))) refl
 
 -- ---- the opcodes, one after the other

@@ -18,7 +18,10 @@ use Rattle.rv_exec.proofs.Slots.{IsSlot, branches-slot, finish-same, jumps-slot,
 use Rattle.rv_exec.proofs.Accesses.{changes-slot}
 
 -- each instruction
-effect_by-slot : (op : Op) (core : Core) (i : Instr) (word : ℕ) (lines : Lines) (answer : ℕ → ℕ → ℕ) → IsSlot (writes_by is_mcycle op i) (writes_by is_minstret op i) core (core_with answer (effect_by op core i word lines))
+effect_by-slot :
+    (op : Op) (core : Core) (i : Instr) (word : ℕ) (lines : Lines) (answer : ℕ → ℕ → ℕ) →
+    IsSlot (writes_by is_mcycle op i) (writes_by is_minstret op i) core
+    (core_with answer (effect_by op core i word lines))
 unfolding effect_by core_by
 effect_by-slot Lb core i word lines answer = loads-slot core i 1 SignedByte answer
 effect_by-slot Lh core i word lines answer = loads-slot core i 2 SignedHalf answer
@@ -38,10 +41,14 @@ effect_by-slot Jal core i word lines answer = jumps-slot core i.rd (add core.pc 
 effect_by-slot Jalr core i word lines answer = jumps-slot core i.rd (add (reg core i.rs1) i.imm / 2 * 2)
 effect_by-slot Beq core i word lines answer = branches-slot core (reg core i.rs1 == reg core i.rs2) i.imm
 effect_by-slot Bne core i word lines answer = branches-slot core (not (reg core i.rs1 == reg core i.rs2)) i.imm
-effect_by-slot Blt core i word lines answer = branches-slot core (int_lt (signed (reg core i.rs1)) (signed (reg core i.rs2))) i.imm
-effect_by-slot Bge core i word lines answer = branches-slot core (not (int_lt (signed (reg core i.rs1)) (signed (reg core i.rs2)))) i.imm
-effect_by-slot Bltu core i word lines answer = branches-slot core (nat_lt (reg core i.rs1) (reg core i.rs2)) i.imm
-effect_by-slot Bgeu core i word lines answer = branches-slot core (not (nat_lt (reg core i.rs1) (reg core i.rs2))) i.imm
+effect_by-slot Blt core i word lines answer =
+    branches-slot core (int_lt (signed (reg core i.rs1)) (signed (reg core i.rs2))) i.imm
+effect_by-slot Bge core i word lines answer =
+    branches-slot core (not (int_lt (signed (reg core i.rs1)) (signed (reg core i.rs2)))) i.imm
+effect_by-slot Bltu core i word lines answer =
+    branches-slot core (nat_lt (reg core i.rs1) (reg core i.rs2)) i.imm
+effect_by-slot Bgeu core i word lines answer =
+    branches-slot core (not (nat_lt (reg core i.rs1) (reg core i.rs2))) i.imm
 effect_by-slot Fence core i word lines answer = retires-slot core _ (next-same core)
 effect_by-slot FenceI core i word lines answer = retires-slot core _ (next-same core)
 effect_by-slot Ecall core i word lines answer = traps-slot core 11 0
@@ -51,12 +58,18 @@ effect_by-slot Wfi core i word lines answer = retires-slot core _ (waits-same co
 effect_by-slot _ core i word lines answer = retires-slot core _ (finish-same core i.rd _)
 
 -- each word
-effect-slot : (core : Core) (word : ℕ) (lines : Lines) (answer : ℕ → ℕ → ℕ) (meaning : Option Instr) → IsSlot (option_map_or (λ i. writes_by is_mcycle i.op i) meaning false) (option_map_or (λ i. writes_by is_minstret i.op i) meaning false) core (core_with answer (option_map_or (λ i. effect_by i.op core i word lines) meaning (Done (traps core 2 word))))
+effect-slot :
+    (core : Core) (word : ℕ) (lines : Lines) (answer : ℕ → ℕ → ℕ) (meaning : Option Instr) →
+    IsSlot (option_map_or (λ i. writes_by is_mcycle i.op i) meaning false)
+    (option_map_or (λ i. writes_by is_minstret i.op i) meaning false) core
+    (core_with answer (option_map_or (λ i. effect_by i.op core i word lines) meaning (Done (traps core 2 word))))
 effect-slot core word lines answer None = traps-slot core 2 word
 effect-slot core word lines answer (Some i) = effect_by-slot i.op core i word lines answer
 
 -- each slot
-pub after_slot-slot : (core : Core) (fetched : Option ℕ) (lines : Lines) (answer : ℕ → ℕ → ℕ) → IsSlot (slot_writes is_mcycle fetched) (slot_writes is_minstret fetched) core (after_slot core fetched lines answer)
+pub after_slot-slot :
+    (core : Core) (fetched : Option ℕ) (lines : Lines) (answer : ℕ → ℕ → ℕ) →
+    IsSlot (slot_writes is_mcycle fetched) (slot_writes is_minstret fetched) core (after_slot core fetched lines answer)
 unfolding effect effect_of_fetch slot_writes
 after_slot-slot core None lines answer = traps-slot core 1 core.pc
 after_slot-slot core (Some word) lines answer = effect-slot core word lines answer (means word)

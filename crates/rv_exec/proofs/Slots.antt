@@ -19,7 +19,9 @@ pub record IsSame (core after : Core) : Type 0 where
 pub record IsSlot (mcycle_written minstret_written : Bool) (core after : Core) : Type 0 where
   pub zero : reg after 0 ≡ reg core 0
   pub mcycle : mcycle_written ≡ false → after.mcycle ≡ (core.mcycle + 1) % 2 ^ 64
-  pub minstret : minstret_written ≡ false → (after.minstret ≡ core.minstret) ⊎ (after.minstret ≡ (core.minstret + 1) % 2 ^ 64)
+  pub minstret :
+      minstret_written ≡ false →
+      (after.minstret ≡ core.minstret) ⊎ (after.minstret ≡ (core.minstret + 1) % 2 ^ 64)
 
 put-zero : (xs : List ℕ) (n value : ℕ) → slice_index (put xs n value) 0 ≡ slice_index xs 0
 put-zero xs n value = grind (arith, common_steps)
@@ -88,14 +90,18 @@ pub branches-slot : (core : Core) (taken : Bool) (imm : ℕ) → IsSlot false fa
 branches-slot core true imm = jumps-slot core 0 _
 branches-slot core false imm = retires-slot core (next core) (next-same core)
 
-pub loads-slot : (core : Core) (i : Instr) (width : ℕ) (shape : Shape) (answer : ℕ → ℕ → ℕ) → IsSlot false false core (core_with answer (loads core i width shape))
+pub loads-slot :
+    (core : Core) (i : Instr) (width : ℕ) (shape : Shape) (answer : ℕ → ℕ → ℕ) →
+    IsSlot false false core (core_with answer (loads core i width shape))
 loads-slot core i width shape answer =
     elim (cases_Bool (address core i % width == 0)) [
       | inl on ↦ rw on (retires-slot core _ (finish-same core i.rd _))
       | inr off ↦ rw off (traps-slot core 4 _)
     ]
 
-pub stores-slot : (core : Core) (i : Instr) (width : ℕ) (answer : ℕ → ℕ → ℕ) → IsSlot false false core (core_with answer (stores core i width))
+pub stores-slot :
+    (core : Core) (i : Instr) (width : ℕ) (answer : ℕ → ℕ → ℕ) →
+    IsSlot false false core (core_with answer (stores core i width))
 stores-slot core i width answer =
     elim (cases_Bool (address core i % width == 0)) [
       | inl on ↦ rw on (retires-slot core _ (next-same core))

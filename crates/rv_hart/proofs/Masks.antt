@@ -22,7 +22,9 @@ bit_at-interrupt_bits i not_3 not_7 not_11 =
     or_pows
 
 -- with none of the three set, no interrupt is ready
-pub ready-none : (mip mie : ℕ) → bit_and mie interrupt_bits ≡ mie → is_set (bit_and mip mie) 11 ≡ false → is_set (bit_and mip mie) 3 ≡ false → is_set (bit_and mip mie) 7 ≡ false → bit_and mip mie ≡ 0
+pub ready-none :
+    (mip mie : ℕ) → bit_and mie interrupt_bits ≡ mie → is_set (bit_and mip mie) 11 ≡ false →
+    is_set (bit_and mip mie) 3 ≡ false → is_set (bit_and mip mie) 7 ≡ false → bit_and mip mie ≡ 0
 ready-none mip mie enables no_11 no_3 no_7 =
     same_from_bits (bit_and mip mie) 0 (λ i.
     let zero : bit_at 0 i ≡ 0 = bit_at-zero i in
@@ -49,7 +51,9 @@ eqb-set word n set =
     omega arith)
 
 -- there is no interrupt to take exactly where MIE is 0 or none is both pending and enabled
-pub is_none-chosen : (core : Core) (mip : ℕ) → bit_and core.mie interrupt_bits ≡ core.mie → is_none (chosen core mip) ≡ (not core.on || bit_and mip core.mie == 0)
+pub is_none-chosen :
+    (core : Core) (mip : ℕ) → bit_and core.mie interrupt_bits ≡ core.mie →
+    is_none (chosen core mip) ≡ (not core.on || bit_and mip core.mie == 0)
 unfolding chosen most_urgent
 is_none-chosen core mip enables =
     let word = bit_and mip core.mie in
@@ -68,7 +72,8 @@ is_none-chosen core mip enables =
     ]
 
 -- a word that has only the bits of the interrupts keeps them under their mask
-pub interrupt_bits-twice : (word : ℕ) → bit_and (bit_and word interrupt_bits) interrupt_bits ≡ bit_and word interrupt_bits
+pub interrupt_bits-twice :
+    (word : ℕ) → bit_and (bit_and word interrupt_bits) interrupt_bits ≡ bit_and word interrupt_bits
 interrupt_bits-twice word = and_assoc interrupt_bits word interrupt_bits
 
 -- a word with bit 1 masked out has it 0

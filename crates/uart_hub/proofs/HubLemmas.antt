@@ -13,13 +13,16 @@ use Rattle.lab_num.specs.Route.{has_member, is_connected, connected, StandOnce}
 
 -- `same_member` is an equivalence
 member_equiv : IsEquivalence same_member
-member_equiv = and_equiv (on_equiv (λ (m : Member). m.board.0) nat_eq_equiv) (on_equiv (λ (m : Member). m.dev) nat_eq_equiv)
+member_equiv =
+    and_equiv (on_equiv (λ (m : Member). m.board.0) nat_eq_equiv) (on_equiv (λ (m : Member). m.dev) nat_eq_equiv)
 
 abbrev all_of : List (List Member) → List Member
 all_of hubs = flat_map (λ hub. hub) hubs
 
 -- a member more at the end of a hub is a member more of all
-joined : (hubs : List (List Member)) (hub : ℕ) (m : Member) → hub < length hubs → IsPermutation (all_of hubs ++ m ∷ []) (all_of (connected hubs hub m))
+joined :
+    (hubs : List (List Member)) (hub : ℕ) (m : Member) → hub < length hubs →
+    IsPermutation (all_of hubs ++ m ∷ []) (all_of (connected hubs hub m))
 joined [] hub m below = absurd (omega arith)
 joined (h ∷ hs) zero m below =
     rw (append_assoc h (all_of hs) (m ∷ []), append_assoc h (m ∷ []) (all_of hs))
@@ -43,6 +46,7 @@ pub connected_once :
     (hubs : List (List Member)) (hub : ℕ) (m : Member) →
     hub < length hubs → is_connected hubs m ≡ false → StandOnce hubs → StandOnce (connected hubs hub m)
 connected_once hubs hub m below absent once =
-    IsDistinct-IsPermutation same_member member_equiv.symm (all_of hubs ++ m ∷ []) (all_of (connected hubs hub m))
+    IsDistinct-IsPermutation same_member member_equiv.symm (all_of hubs ++ m ∷ [])
+    (all_of (connected hubs hub m))
     (joined hubs hub m below)
     (IsDistinct-push member_equiv (all_of hubs) m once (among hubs m ∙ absent))

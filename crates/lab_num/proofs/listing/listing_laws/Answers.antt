@@ -7,7 +7,8 @@ pub returns-clause-is_listing : goal.returns-clause-is_listing
 returns-clause-is_listing g c = λ key items differ. is_listing key items differ
 
 pub returns-clause-sorted : goal.returns-clause-sorted
-returns-clause-sorted g c = λ key items sorted differ moved up. sorted_is_listing key items sorted differ moved up
+returns-clause-sorted g c =
+    λ key items sorted differ moved up. sorted_is_listing key items sorted differ moved up
 
 pub returns-clause-only : goal.returns-clause-only
 returns-clause-only g c = λ key items listed is. only_listing key items listed is

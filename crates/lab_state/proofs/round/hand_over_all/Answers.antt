@@ -12,10 +12,19 @@ hand_over-requires-clause-taken c = quiet_again c.loop-post.boards _ c.loop-post
 pub hand_over-requires-clause-devices : goal.hand_over-requires-clause-devices
 hand_over-requires-clause-devices c =
     let long : length c.loop-post.boards ≡ length c.args.boards.now = omega arith in
-    rw (c.deref.ensures.value, c.in_ok-to.ensures, long) (route_devices (length c.args.boards.now) c.args.hubs.now _ c.requires.devices)
+    rw (c.deref.ensures.value, c.in_ok-to.ensures, long)
+    (route_devices (length c.args.boards.now) c.args.hubs.now _ c.requires.devices)
+
+-- a post, for places past the end
+abbrev no_post : Post
+no_post = record {
+  key = record { at = record { 0 = 0 }; board = record { 0 = 0 }; number = record { 0 = 0 } };
+  from = record { board = record { 0 = 0 }; dev = 0 };
+  payload = Byte 0;
+}
 
 pub loop-post-preserved : goal.loop-post-preserved
 loop-post-preserved c =
-    let d : Post = record { key = record { at = record { 0 = 0 }; board = record { 0 = 0 }; number = record { 0 = 0 } }; from = record { board = record { 0 = 0 }; dev = 0 }; payload = Byte 0 } in
-    route_more c.args.hubs.now (views c.args.boards.now) c.loop-post.boards c.hand_over.new.boards c.args.posts.now c.loop-post.post-index d c.deref.result.now
-    (omega arith) c.loop-post.invariant c.hand_over.ensures (c.deref.ensures.value ∙ c.in_ok-to.ensures)
+    route_more c.args.hubs.now (views c.args.boards.now) c.loop-post.boards c.hand_over.new.boards c.args.posts.now
+    c.loop-post.post-index no_post c.deref.result.now (omega arith) c.loop-post.invariant c.hand_over.ensures
+    (c.deref.ensures.value ∙ c.in_ok-to.ensures)

@@ -17,20 +17,24 @@ use Rattle.lab_state.proofs.round.play.Goals as goal
 
 pub merge_posts-requires : goal.merge_posts-requires
 merge_posts-requires c =
-    rw (c.in_ok-step_all.ensures.posts, c.new.ensures.items, posts-runs c.args.from.0 c.args.q c.args.boards.now c.requires.taken)
+    rw
+    (c.in_ok-step_all.ensures.posts, c.new.ensures.items, posts-runs c.args.from.0 c.args.q c.args.boards.now c.requires.taken)
     (posts_differ c.stretches_number.ensures c.args.from.0 c.args.q c.requires.within (views c.args.boards.now) c.requires.standing)
 
 pub merge_entries-requires : goal.merge_entries-requires
 merge_entries-requires c =
-    rw (c.in_ok-step_all.ensures.entries, c.new-2.ensures.items, entries-runs c.args.from.0 c.args.q c.args.boards.now c.requires.taken)
+    rw
+    (c.in_ok-step_all.ensures.entries, c.new-2.ensures.items, entries-runs c.args.from.0 c.args.q c.args.boards.now c.requires.taken)
     (entries_differ c.stretches_number.ensures c.args.from.0 c.args.q c.requires.within (views c.args.boards.now) c.requires.standing)
 
 pub hand_over_all-requires-clause-taken : goal.hand_over_all-requires-clause-taken
-hand_over_all-requires-clause-taken c = quiet_again c.step_all.new.boards _ (runs_views _ _ _ _ c.in_ok-step_all.ensures.boards)
+hand_over_all-requires-clause-taken c =
+    quiet_again c.step_all.new.boards _ (runs_views _ _ _ _ c.in_ok-step_all.ensures.boards)
 
 pub hand_over_all-requires-clause-devices : goal.hand_over_all-requires-clause-devices
 hand_over_all-requires-clause-devices c =
-    let long : length c.step_all.new.boards ≡ length c.args.boards.now = ap length c.in_ok-step_all.ensures.boards ∙ length-map c.args.boards.now _ in
+    let long : length c.step_all.new.boards ≡ length c.args.boards.now =
+    ap length c.in_ok-step_all.ensures.boards ∙ length-map c.args.boards.now _ in
     rw long c.requires.devices
 
 over :
@@ -38,9 +42,11 @@ over :
     c.hand_over_all.new.boards ≡ map quiet (boundary c.args.hubs.now (views (runs_of c.args.from.0 c.args.q c.args.boards.now)) (flat_map (λ run. run.posts) (runs_of c.args.from.0 c.args.q c.args.boards.now)))
 over c =
     c.in_ok-hand_over_all.ensures
-    ∙ boundary_is c.args.hubs.now (views c.step_all.new.boards) (views (runs_of c.args.from.0 c.args.q c.args.boards.now)) c.deref.result.now c.in_ok-posts.posts.items
+    ∙ boundary_is c.args.hubs.now (views c.step_all.new.boards)
+    (views (runs_of c.args.from.0 c.args.q c.args.boards.now)) c.deref.result.now c.in_ok-posts.posts.items
     c.step_all.new.made.posts.items (flat_map (λ run. run.posts) (runs_of c.args.from.0 c.args.q c.args.boards.now))
-    (views-is c.step_all.new.boards _ (runs_views _ _ _ _ c.in_ok-step_all.ensures.boards)) c.deref.ensures.value c.in_ok-posts.ensures.value
+    (views-is c.step_all.new.boards _ (runs_views _ _ _ _ c.in_ok-step_all.ensures.boards))
+    c.deref.ensures.value c.in_ok-posts.ensures.value
     (c.in_ok-step_all.ensures.posts ∙ ap (λ before. before ++ flat_map (λ board. (run_of c.args.from.0 c.args.q board).posts) c.args.boards.now) c.new.ensures.items
     ∙ posts-runs c.args.from.0 c.args.q c.args.boards.now c.requires.taken)
 
@@ -52,7 +58,8 @@ returns-clause-boards c =
 pub returns-clause-standing : goal.returns-clause-standing
 returns-clause-standing c =
     let runs = map (granted c.args.from.0 (c.args.from.0 + c.args.q)) (views c.args.boards.now) in
-    let is : views c.hand_over_all.new.boards ≡ boundary c.args.hubs.now (views runs) (flat_map (λ run. run.posts) runs) = views-is _ _ (over c) in
+    let is : views c.hand_over_all.new.boards ≡ boundary c.args.hubs.now (views runs) (flat_map (λ run. run.posts) runs) =
+    views-is _ _ (over c) in
     always_ok c.items_of.result
     (rw is
     (standing_boundary (1000 * (c.args.from.0 + c.args.q)) c.args.hubs.now (views runs) _

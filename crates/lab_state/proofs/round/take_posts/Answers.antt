@@ -10,7 +10,8 @@ none_left (post ∷ posts) is = absurd (cc)
 
 pub returns-clause-board : goal.returns-clause-board
 returns-clause-board c =
-    c.loop-post.invariant.board ∙ ap (λ posts. record c.args.board.now { posts = posts }) (none_left c.loop-post.board.posts c.in_default.ensures)
+    c.loop-post.invariant.board
+    ∙ ap (λ posts. record c.args.board.now { posts = posts }) (none_left c.loop-post.board.posts c.in_default.ensures)
 
 pub returns-clause-posts : goal.returns-clause-posts
 returns-clause-posts c =

@@ -3,11 +3,15 @@ use Rattle.log_merge.specs.declared.item.LogItem.{LogItem}
 use Rattle.lab_top.specs.Log.{Line, text, open_lines, opened}
 use Rattle.lab_top.proofs.laws.prints_join.Goals as goal
 
-text_joins : (lines : List Line) (items more : List LogItem) → text lines (items ++ more) ≡ text lines items ++ text (open_lines lines items) more
+text_joins :
+    (lines : List Line) (items more : List LogItem) →
+    text lines (items ++ more) ≡ text lines items ++ text (open_lines lines items) more
 text_joins lines [] more = refl
 text_joins lines (item ∷ items) more = rw (text_joins (opened lines item) items more, append_assoc) refl
 
-open_joins : (lines : List Line) (items more : List LogItem) → open_lines lines (items ++ more) ≡ open_lines (open_lines lines items) more
+open_joins :
+    (lines : List Line) (items more : List LogItem) →
+    open_lines lines (items ++ more) ≡ open_lines (open_lines lines items) more
 open_joins lines [] more = refl
 open_joins lines (item ∷ items) more = open_joins (opened lines item) items more
 

@@ -4,4 +4,6 @@ use Rattle.lab_top.specs.Transcript.{transcript_by}
 use Rattle.lab_top.proofs.laws.transcripts_agree.Goals as goal
 
 pub returns : goal.returns
-returns c = λ cut whole words held. ap (λ play. transcript_by play words held) (λ i lab d. c.turns_agree.ensures cut whole lab d i)
+returns c =
+    λ cut whole words held. ap (λ play. transcript_by play words held)
+    (λ i lab d. c.turns_agree.ensures cut whole lab d i)

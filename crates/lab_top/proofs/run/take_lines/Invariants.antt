@@ -10,7 +10,8 @@ use Rattle.lab_top.proofs.run.take_lines.Given as goal
 abbrev pub invariant-lines : goal.invariant-lines
 invariant-lines g l = record {
   course : (status : Status) (out : Option (List ℕ)) (log : Option (List (List ℕ))) →
-      Course (from run l.script l.number l.session.state (lines_of l.rest)) status (g.K.Sink.written l.out) out log log →
+      Course (from run l.script l.number l.session.state (lines_of l.rest)) status (g.K.Sink.written l.out) out
+      log log →
       Course (from run l.script 1 l.fn.session.state (lines_of l.bytes)) status (g.K.Sink.written l.fn.out) out log log;
   short : l.number + length l.rest ≤ 16777217;
   unspent : l.session.spent ≡ false;

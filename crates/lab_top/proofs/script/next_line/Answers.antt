@@ -21,5 +21,6 @@ returns-then-end-script-clause-lines c =
 pub returns-clause-lines : goal.returns-clause-lines
 returns-clause-lines c =
     let within : c.first-end.result < length c.args.script.now = omega arith in
-    lines_of-ended c.args.script.now c.first-end.result within c.first-end.ensures.before (c.first-end.ensures.found within)
+    lines_of-ended c.args.script.now c.first-end.result within c.first-end.ensures.before
+    (c.first-end.ensures.found within)
     ∙ ap (λ rest. take c.first-end.result c.args.script.now ∷ lines_of rest) (rw (take_rest, add-one) refl)

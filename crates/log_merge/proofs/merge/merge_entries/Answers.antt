@@ -9,13 +9,15 @@ use Rattle.log_merge.proofs.merge.merge_entries.Goals as goal
 
 pub returns : goal.returns
 returns c =
-    let sorted = c.in_ok-sort_by_key.ensures.sorted entry_key (answers_always _ _ _ (λ f a r g h. search rules)) in
+    let sorted =
+    c.in_ok-sort_by_key.ensures.sorted entry_key (answers_always _ _ _ (λ f a r g h. search rules)) in
     let joined : c.in_ok-list.list.items ≡ all_entries c.args.lists.items =
     c.in_ok-list.ensures ∙ ap all_entries c.deref.ensures.value in
     let moved : IsPermutation (all_entries c.args.lists.items) c.sort_by_key.new.self.items =
     rw joined at c.in_ok-sort_by_key.ensures.permutation in
     let is : IsListing entry_key (all_entries c.args.lists.items) c.sort_by_key.new.self.items =
-    c.listing_laws.ensures.sorted entry_key (all_entries c.args.lists.items) c.sort_by_key.new.self.items c.requires moved
+    c.listing_laws.ensures.sorted entry_key (all_entries c.args.lists.items) c.sort_by_key.new.self.items
+    c.requires moved
     sorted in
     record {
       is_listing = is;

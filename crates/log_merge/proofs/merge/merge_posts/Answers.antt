@@ -7,7 +7,8 @@ use Rattle.log_merge.proofs.merge.merge_posts.Goals as goal
 
 pub returns : goal.returns
 returns c =
-    let sorted = c.in_ok-sort_by_key.ensures.sorted post_key (answers_always _ _ _ (λ f a r g h. search rules)) in
+    let sorted =
+    c.in_ok-sort_by_key.ensures.sorted post_key (answers_always _ _ _ (λ f a r g h. search rules)) in
     let is : IsListing post_key c.args.list.items c.sort_by_key.new.self.items =
     c.listing_laws.ensures.sorted post_key c.args.list.items c.sort_by_key.new.self.items c.requires
     c.in_ok-sort_by_key.ensures.permutation sorted in

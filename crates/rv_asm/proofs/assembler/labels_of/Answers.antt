@@ -15,7 +15,8 @@ loop-line-preserved c =
           (record {
             fits = omega arith;
             places =
-                places_more (texts c.args.lines.now) c.loop-line.line-index c.loop-line.address (line_at c.args.lines.now c.loop-line.line-index)
+                places_more (texts c.args.lines.now) c.loop-line.line-index c.loop-line.address
+                (line_at c.args.lines.now c.loop-line.line-index)
                 (place_in c.loop-line.labels) (place_in w.add_label_of.new.labels) next (sym c.gives_word.ensures ∙ w.if-gives_word.true)
                 (w.in_ok-add_label_of.ensures {u = tt}) c.loop-line.invariant.places;
           })
@@ -24,7 +25,8 @@ loop-line-preserved c =
           (record {
             fits = omega arith;
             places =
-                places_blank (texts c.args.lines.now) c.loop-line.line-index c.loop-line.address (line_at c.args.lines.now c.loop-line.line-index)
+                places_blank (texts c.args.lines.now) c.loop-line.line-index c.loop-line.address
+                (line_at c.args.lines.now c.loop-line.line-index)
                 (place_in c.loop-line.labels) next (sym c.gives_word.ensures ∙ w.if-gives_word.false) c.loop-line.invariant.places;
           })
     ]

@@ -27,7 +27,8 @@ loop-i-preserved c =
           (record {
             fits = omega arith;
             words =
-                words_more (place_in c.args.labels.now) (texts c.args.lines.now) c.loop-i.i c.loop-i.address (line_at c.args.lines.now c.loop-i.i)
+                words_more (place_in c.args.labels.now) (texts c.args.lines.now) c.loop-i.i c.loop-i.address
+                (line_at c.args.lines.now c.loop-i.i)
                 c.loop-i.words.items w.in_ok-word.word next (sym c.gives_word.ensures ∙ w.if-gives_word.true)
                 (sym (w.in_ok-word.ensures {u = tt})) c.loop-i.invariant.words;
           })
@@ -36,7 +37,8 @@ loop-i-preserved c =
           (record {
             fits = omega arith;
             words =
-                words_blank (place_in c.args.labels.now) (texts c.args.lines.now) c.loop-i.i c.loop-i.address (line_at c.args.lines.now c.loop-i.i)
+                words_blank (place_in c.args.labels.now) (texts c.args.lines.now) c.loop-i.i c.loop-i.address
+                (line_at c.args.lines.now c.loop-i.i)
                 c.loop-i.words.items next (sym c.gives_word.ensures ∙ w.if-gives_word.false) c.loop-i.invariant.words;
           })
     ]

@@ -10,7 +10,9 @@ word_of-requires c = c.valid_fits.ensures c.args.i.now c.requires
 
 pub returns-clause-meaning : goal.returns-clause-meaning
 returns-clause-meaning c =
-    let is = c.word_of.ensures ∙ encoded-means c.requires.0 c.args.i.now c.requires.1 c.rows_fix_bits.ensures c.requires.2 in
+    let is =
+    c.word_of.ensures
+    ∙ encoded-means c.requires.0 c.args.i.now c.requires.1 c.rows_fix_bits.ensures c.requires.2 in
     let P : ℕ → Type 0 = λ word. means word ≡ Some c.args.i.now in
     subst P (sym is) c.requires.2
 

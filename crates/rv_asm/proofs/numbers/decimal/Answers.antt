@@ -7,4 +7,5 @@ use Rattle.rv_asm.proofs.numbers.decimal.Goals as goal
 pub returns : goal.returns
 returns c =
     ap Some c.unwrap_or.ensures ∙
-    numeral_parses is_ascii_digit 10 c.args.text.now _ decimal_digit (lit≤ tt) c.from_str_radix.ensures.value (search rules) (search rules)
+    numeral_parses is_ascii_digit 10 c.args.text.now _ decimal_digit (lit≤ tt) c.from_str_radix.ensures.value
+    (search rules) (search rules)

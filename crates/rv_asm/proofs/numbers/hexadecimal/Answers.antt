@@ -7,4 +7,5 @@ use Rattle.rv_asm.proofs.numbers.hexadecimal.Goals as goal
 pub returns : goal.returns
 returns c =
     ap Some c.unwrap_or.ensures ∙
-    numeral_parses is_ascii_hexdigit 16 c.args.text.now _ hexadecimal_digit (lit≤ tt) c.from_str_radix.ensures.value (search rules) (search rules)
+    numeral_parses is_ascii_hexdigit 16 c.args.text.now _ hexadecimal_digit (lit≤ tt)
+    c.from_str_radix.ensures.value (search rules) (search rules)

@@ -16,10 +16,14 @@ loop-stored-init c =
 
 pub returns-then-eq : goal.returns-then-eq
 returns-then-eq c =
-    let first = find_first c.args.name.now c.as_str.result.now c.in-Some.stored.now.bytes.items (map entry_of (deque_iter_rest c.next.new.self)) c.eq.result c.eq.ensures in
+    let first =
+    find_first c.args.name.now c.as_str.result.now c.in-Some.stored.now.bytes.items
+    (map entry_of (deque_iter_rest c.next.new.self)) c.eq.result c.eq.ensures in
     rw (c.loop-stored.invariant, c.in-Some.ensures.steps, ← c.as_str.ensures.value, first, c.if-eq.true, c.as_slice.ensures.value) refl
 
 pub loop-stored-preserved : goal.loop-stored-preserved
 loop-stored-preserved c =
-    let first = find_first c.args.name.now c.as_str.result.now c.in-Some.stored.now.bytes.items (map entry_of (deque_iter_rest c.next.new.self)) c.eq.result c.eq.ensures in
+    let first =
+    find_first c.args.name.now c.as_str.result.now c.in-Some.stored.now.bytes.items
+    (map entry_of (deque_iter_rest c.next.new.self)) c.eq.result c.eq.ensures in
     rw (c.loop-stored.invariant, c.in-Some.ensures.steps, ← c.as_str.ensures.value, first, c.if-eq.false) refl

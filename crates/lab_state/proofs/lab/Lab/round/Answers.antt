@@ -7,24 +7,28 @@ pub invariant_of-self-2 : goal.invariant_of-self-2
 invariant_of-self-2 c h =
     let now : c.self.inside.time.0 ≡ c.args.self.now.lab.now = ap (λ s. s.lab.now) c.self.view_is in
     let within : c.self.inside.time.0 + c.args.q ≤ 10000000000 = omega (arith, now, c.requires.within) in
-    let same : length c.play.new.boards ≡ length c.self.inside.boards.items = omega (arith, c.deref_mut.ensures.len) in
+    let same : length c.play.new.boards ≡ length c.self.inside.boards.items =
+    omega (arith, c.deref_mut.ensures.len) in
     rw (given_back c.play.new.boards c.self.inside.boards.items c.self.inside.boards.len (omega arith) same)
     (sound-round c.self.inside.names.items c.self.inside.boards.items c.self.inside.hub_names.items c.self.inside.hubs c.self.inside.time.0
     c.self.inside.quantum c.args.q c.play.new.boards _ (c.self.invariant h) same c.in-Ok.ensures.boards c.in-Ok.ensures.standing within)
 
 pub returns-clause-lab : goal.returns-clause-lab
 returns-clause-lab c =
-    let same : length c.play.new.boards ≡ length c.self.inside.boards.items = omega (arith, c.deref_mut.ensures.len) in
+    let same : length c.play.new.boards ≡ length c.self.inside.boards.items =
+    omega (arith, c.deref_mut.ensures.len) in
     let unspent : c.self.inside.spent ≡ false = c.if-self.false in
     let made = rw c.deref_mut.ensures.value at c.in-Ok.ensures.boards in
-    seen_round c.args.self.now c.self.inside.names.items c.self.inside.boards.items c.self.inside.hub_names.items c.self.inside.hubs c.self.inside.time.0
+    seen_round c.args.self.now c.self.inside.names.items c.self.inside.boards.items
+    c.self.inside.hub_names.items c.self.inside.hubs c.self.inside.time.0
     c.self.inside.quantum c.self.inside.spent c.args.q _ c.self.view_is unspent
     (given_back c.play.new.boards c.self.inside.boards.items c.self.inside.boards.len (omega arith) same ∙ made)
 
 pub returns-clause-lines : goal.returns-clause-lines
 returns-clause-lines c =
     c.of.ensures ∙ (rw c.deref_mut.ensures.value at c.in-Ok.ensures.items)
-    ∙ seen_items c.args.self.now c.self.inside.names.items c.self.inside.boards.items c.self.inside.hub_names.items c.self.inside.hubs c.self.inside.time.0
+    ∙ seen_items c.args.self.now c.self.inside.names.items c.self.inside.boards.items
+    c.self.inside.hub_names.items c.self.inside.hubs c.self.inside.time.0
     c.self.inside.quantum c.self.inside.spent c.args.q c.self.view_is
 
 pub returns-clause-paused : goal.returns-clause-paused

@@ -21,8 +21,10 @@ go_on-requires-clause-within c =
     let now : c.self.inside.time.0 ≡ c.args.self.now.lab.now = ap (λ s. s.lab.now) c.self.view_is in
     let time = (c.self.invariant c.if-self.false).time in
     let within : c.args.self.now.lab.now + c.args.d.0 ≤ 10000000000 = omega arith in
-    let seen : c.rounds.self.lab.now ≡ (rounds round c.args.self.now.lab c.self.inside.quantum c.rounds.counter).lab.now = ap (λ r. r.lab.now) c.rounds.invariant.come in
-    room_for c.args.self.now.lab.now c.self.inside.quantum c.args.d.0 c.rounds.counter c.rounds.self.lab.now c.rounds-test.true within
+    let seen : c.rounds.self.lab.now ≡ (rounds round c.args.self.now.lab c.self.inside.quantum c.rounds.counter).lab.now =
+    ap (λ r. r.lab.now) c.rounds.invariant.come in
+    room_for c.args.self.now.lab.now c.self.inside.quantum c.args.d.0 c.rounds.counter c.rounds.self.lab.now
+    c.rounds-test.true within
     (rw seen (rounds_now c.args.self.now.lab c.self.inside.quantum c.rounds.counter))
 
 pub rounds-preserved : goal.rounds-preserved
@@ -39,12 +41,15 @@ go_on-requires-then-rest-ne0-clause-within c =
     let time = (c.self.invariant c.if-self.false).time in
     let within : c.args.self.now.lab.now + c.args.d.0 ≤ 10000000000 = omega arith in
     let count : c.rounds.counter ≡ c.args.d.0 / c.self.inside.quantum = omega arith in
-    let seen : c.rounds.self.lab.now ≡ (rounds round c.args.self.now.lab c.self.inside.quantum c.rounds.counter).lab.now = ap (λ r. r.lab.now) c.rounds.invariant.come in
+    let seen : c.rounds.self.lab.now ≡ (rounds round c.args.self.now.lab c.self.inside.quantum c.rounds.counter).lab.now =
+    ap (λ r. r.lab.now) c.rounds.invariant.come in
     room_left c.args.self.now.lab.now c.self.inside.quantum c.args.d.0 c.rounds.self.lab.now within
     (rw (seen, count) (rounds_now c.args.self.now.lab c.self.inside.quantum (c.args.d.0 / c.self.inside.quantum)))
 
 -- the run has come to its end
-ended : (c : goal.Joined-rest-ne0) → came_to c.if-rest-ne0.self.lab c.if-rest-ne0.run ≡ run c.args.self.now.lab c.args.d.0
+ended :
+    (c : goal.Joined-rest-ne0) →
+    came_to c.if-rest-ne0.self.lab c.if-rest-ne0.run ≡ run c.args.self.now.lab c.args.d.0
 ended c =
     let same : c.self.inside.quantum ≡ c.args.self.now.lab.quantum = ap (λ s. s.lab.quantum) c.self.view_is in
     let count : c.rounds.counter ≡ c.args.d.0 / c.self.inside.quantum = omega arith in

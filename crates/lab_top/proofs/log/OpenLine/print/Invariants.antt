@@ -6,4 +6,5 @@ use Rattle.lab_top.proofs.log.OpenLine.print.Given as goal
 -- The heading and the bytes so far have been written.
 abbrev pub invariant-loop-byte : goal.invariant-loop-byte
 invariant-loop-byte l =
-    string_bytes l.text ≡ string_bytes l.fn.text ++ (heading l.self ++ flat_map escaped (take l.byte-index l.byte-items))
+    string_bytes l.text
+    ≡ string_bytes l.fn.text ++ (heading l.self ++ flat_map escaped (take l.byte-index l.byte-items))

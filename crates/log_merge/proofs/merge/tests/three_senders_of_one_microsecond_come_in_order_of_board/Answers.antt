@@ -6,5 +6,6 @@ use Rattle.log_merge.proofs.merge.tests.three_senders_of_one_microsecond_come_in
 pub merge_posts-requires : goal.merge_posts-requires
 unfolding IsDistinct
 merge_posts-requires g c =
-    rw (c.in_ok-list.ensures.items, c.post-a.ensures, c.post-b.ensures, c.post-c.ensures, c.key.ensures, c.key-2.ensures, c.key-3.ensures)
+    rw
+    (c.in_ok-list.ensures.items, c.post-a.ensures, c.post-b.ensures, c.post-c.ensures, c.key.ensures, c.key-2.ensures, c.key-3.ensures)
     ((refl, (refl, tt)), ((refl, tt), (tt, tt)))
