@@ -6,7 +6,8 @@ use Rattle.board.specs.View.{View, State}
 -- the keys are of this board, and their numbers go up by one from this one on
 abbrev pub AreNumbered : ℕ → ℕ → List Key → Type 0
 AreNumbered board first [] = Unit {0}
-AreNumbered board first (key ∷ keys) = (key.board.0 ≡ board) × (key.number.0 ≡ first) × AreNumbered board (first + 1) keys
+AreNumbered board first (key ∷ keys) =
+    (key.board.0 ≡ board) × (key.number.0 ≡ first) × AreNumbered board (first + 1) keys
 
 -- what a board has come to in at most so many slots
 pub record IsNumbered (v : View) (n : ℕ) (run : State) : Type 0 where

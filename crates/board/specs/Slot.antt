@@ -26,9 +26,9 @@ carried_out speed w effect = state_of speed (core_after answer w effect) (bus_af
 abbrev pub instruction : View → Wires → State
 instruction v w = carried_out v.speed w (effect_of_fetch v.core (fetched w v.core.pc) no_lines)
 
--- The steps of a slot in their order: a halted processor's slot changes nothing; no interrupt controller samples, and the
--- lines show nothing; a processor that waits for an interrupt goes on waiting, which counts the cycle; no interrupt is taken;
--- one instruction is done.
+-- The steps of a slot in their order: a halted processor's slot changes nothing; no interrupt controller samples, and
+-- the lines show nothing; a processor that waits for an interrupt goes on waiting, which counts the cycle; no interrupt
+-- is taken; one instruction is done.
 unfoldable pub slot : View → ℕ → State
 slot v t =
     if v.core.halted then quiet v

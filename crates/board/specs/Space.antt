@@ -24,11 +24,15 @@ half_at bytes i = slice_index bytes i + slice_index bytes (i + 1) * 0x100
 
 abbrev pub word_at : List ℕ → ℕ → ℕ
 word_at bytes i =
-    slice_index bytes i + slice_index bytes (i + 1) * 0x100 + slice_index bytes (i + 2) * 0x10000 + slice_index bytes (i + 3) * 0x1000000
+    slice_index bytes i + slice_index bytes (i + 1) * 0x100 + slice_index bytes (i + 2) * 0x10000
+    + slice_index bytes (i + 3) * 0x1000000
 
 -- the number of 1, 2 or 4 bytes from a place on
 abbrev pub value_at : List ℕ → ℕ → ℕ → ℕ
-value_at bytes i width = if width == 1 then slice_index bytes i else if width == 2 then half_at bytes i else word_at bytes i
+value_at bytes i width =
+    if width == 1 then slice_index bytes i
+    else if width == 2 then half_at bytes i
+    else word_at bytes i
 
 -- whether each of so many bytes from an address on is in the memory
 abbrev pub holds_each : List ℕ → ℕ → ℕ → Bool

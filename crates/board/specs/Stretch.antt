@@ -20,7 +20,8 @@ abbrev pub IsTurn : State → ℕ → ℕ → ℕ → Turn → State → Type 0
 IsTurn old from a n (Used m) new = (m ≡ n) × (new ≡ after old (stretch old.view from a n))
 IsTurn old from a n (Starved m) new = (m < n) × (new ≡ after old (stretch old.view from a m))
 
--- turns of these lengths, one after another, from slot `a` of the grant on: the board after them, and what they have made
+-- turns of these lengths, one after another, from slot `a` of the grant on: the board after them, and what they have
+-- made
 abbrev pub in_turns : View → ℕ → ℕ → List ℕ → State
 in_turns v from a [] = quiet v
 in_turns v from a (n ∷ turns) = after (stretch v from a n) (in_turns (stretch v from a n).view from (a + n) turns)

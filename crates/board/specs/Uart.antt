@@ -1,5 +1,5 @@
--- The UART (NS16550A data sheet) with its FIFOs off: the receiver buffer, the transmitter, and of the line status register
--- data ready, overrun, and the two bits of an empty transmitter. All other registers load 0 and store nothing.
+-- The UART (NS16550A data sheet) with its FIFOs off: the receiver buffer, the transmitter, and of the line status
+-- register data ready, overrun, and the two bits of an empty transmitter. All other registers load 0 and store nothing.
 use Rattle.std.specs.Prelude.{ℕ, ◌+◌, ◌==◌, Bool, true, false, if◌then◌else◌, List, [], ◌∷◌, drop, slice_index}
 
 -- the received bytes that were not read yet, at most one, and whether one was lost since the line status was last read

@@ -41,7 +41,16 @@ wires_of v t = record {
 -- a board of this processor and these wires
 abbrev pub state_of : ℕ → Core → Wires → State
 state_of speed core w = record {
-  view = record { number = w.number; speed = speed; core = core; memory = w.memory; uart = w.uart; shown = w.shown; posted = w.posted; entered = w.entered };
+  view = record {
+    number = w.number;
+    speed = speed;
+    core = core;
+    memory = w.memory;
+    uart = w.uart;
+    shown = w.shown;
+    posted = w.posted;
+    entered = w.entered;
+  };
   posts = w.posts;
   entries = w.entries;
 }

@@ -8,8 +8,8 @@ use Rattle.lab_num.specs.declared.post.What.TheVariants as what
 use Rattle.board.specs.Space.{uart_base, memory_base, in_memory, in_uart, word_at, value_at, put_value}
 use Rattle.board.specs.Uart.{Uart, uart_answer, uart_loaded}
 
--- The board's number, the microsecond of the slot, the memory, the UART, whether it is shown, how many posts and entries
--- the board has made, and those of them that nobody has taken.
+-- The board's number, the microsecond of the slot, the memory, the UART, whether it is shown, how many posts and
+-- entries the board has made, and those of them that nobody has taken.
 pub record Wires : Type 0 where
   pub number : ℕ
   pub at : ℕ
@@ -31,7 +31,11 @@ key_of w number = record { at = record { 0 = w.at }; board = record { 0 = w.numb
 
 -- a byte as a post of the UART, which is device 0, and as an entry
 abbrev pub post_of : Wires → ℕ → Post
-post_of w byte = record { key = key_of w w.posted; from = record { board = record { 0 = w.number }; dev = 0 }; payload = payload.Byte byte }
+post_of w byte = record {
+  key = key_of w w.posted;
+  from = record { board = record { 0 = w.number }; dev = 0 };
+  payload = payload.Byte byte;
+}
 
 abbrev pub entry_of : Wires → ℕ → Entry
 entry_of w byte = record { key = key_of w w.entered; what = what.Byte 0 byte }

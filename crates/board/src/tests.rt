@@ -53,7 +53,7 @@ const TRAPS: [(u32, u64, u32, u32, u32); 5] = [
     (0x0063_A123, 0, 6, 0x8000_000C, 0x8000_0042), // sw x6, 2(x7)
     (0x0000_0000, 0, 2, 0x8000_000C, 0), // no instruction
     (0x0000_0073, 0, 11, 0x8000_000C, 0), // ecall
-    (0x1000_0067, 1, 1, 0x0000_0100, 0x0000_0100), // jalr x0, 256(x0), to a place that no memory holds
+    (0x1000_0067, 1, 1, 0x0000_0100, 0x0000_0100), // jalr x0, 256(x0), which no memory holds
 ];
 
 /// An address, a count of bytes, and whether the memory holds them.

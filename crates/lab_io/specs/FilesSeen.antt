@@ -20,9 +20,16 @@ pub record FilesSeen : Type 0 where
 abbrev pub files_code : Coded FilesSeen
 files_code =
     code_by (Held × (List (List ℕ) × (List ℕ × (ℕ × ℕ))))
-    (coded× (code (coded_list coded_ℕ) (coded_list coded_ℕ)) (coded× (coded_list (coded_list coded_ℕ)) (coded× (coded_list coded_ℕ) (coded× coded_ℕ coded_ℕ))))
+    (coded× (code (coded_list coded_ℕ) (coded_list coded_ℕ))
+    (coded× (coded_list (coded_list coded_ℕ)) (coded× (coded_list coded_ℕ) (coded× coded_ℕ coded_ℕ))))
     (λ files. (files.held, (files.asked, (files.failing, (files.calls, files.faults)))))
-    (λ pairs. record { held = pairs.0; asked = pairs.1.0; failing = pairs.1.1.0; calls = pairs.1.1.1.0; faults = pairs.1.1.1.1 })
+    (λ pairs. record {
+      held = pairs.0;
+      asked = pairs.1.0;
+      failing = pairs.1.1.0;
+      calls = pairs.1.1.1.0;
+      faults = pairs.1.1.1.1;
+    })
     (λ _. refl)
 
 -- a stored file as an entry of a map

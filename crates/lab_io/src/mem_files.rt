@@ -51,7 +51,8 @@ impl Model for MemFiles {
 impl MemFiles {
     /// No name holds anything, and no read is to fail.
     pub fn new(alloc: Global) -> MemFiles
-        ensures { result ≡ record { held = map.empty; asked = []; failing = []; calls = 0; faults = 0 } }
+        ensures { result
+            ≡ record { held = map.empty; asked = []; failing = []; calls = 0; faults = 0 } }
     {
         MemFiles {
             alloc,
@@ -65,7 +66,8 @@ impl MemFiles {
 
     /// Lets the name hold these bytes from now on, in place of those it held.
     pub fn put(&mut self, name: &str, bytes: &[u8]) -> Result<(), AllocError>
-        ensures ok { OnOk result (self.new ≡ record self.old { held = map.insert self.old.held name.now bytes.now }) }
+        ensures ok { OnOk result (self.new
+            ≡ record self.old { held = map.insert self.old.held name.now bytes.now }) }
         ensures err { OnErr result (self.new ≡ self.old) }
     {
         let name = String::from_str(self.alloc, name)?;
@@ -76,7 +78,8 @@ impl MemFiles {
 
     /// Lets the read with this number fail.
     pub fn fail_at(&mut self, call: u64) -> Result<(), AllocError>
-        ensures ok { OnOk result (self.new ≡ record self.old { failing = self.old.failing ++ call ∷ [] }) }
+        ensures ok { OnOk result (self.new
+            ≡ record self.old { failing = self.old.failing ++ call ∷ [] }) }
         ensures err { OnErr result (self.new ≡ self.old) }
     {
         self.failing.push(call)?;
@@ -99,7 +102,8 @@ impl MemFiles {
     fn give(&self, name: &str, limit: usize, into: &mut Vec<u8>) -> ReadAnswer
         requires { into.old.items ≡ [] }
         ensures given { IsReadAs (Some self.now.held) name.now limit result into.new.items }
-        ensures failed { result ≢ ReadAnswer.Memory → (result ≡ ReadAnswer.Failed ↔ IsNone (map.get self.now.held name.now)) }
+        ensures failed { result ≢ ReadAnswer.Memory →
+            (result ≡ ReadAnswer.Failed ↔ IsNone (map.get self.now.held name.now)) }
     {
         match self.find(name) {
             None => ReadAnswer::Failed,
@@ -140,7 +144,8 @@ impl Files for MemFiles {
         ensures faults { self.old.faults ≤ self.new.faults }
 
         // It fails exactly where it is to, unless it finds no memory.
-        ensures fails { result ≢ ReadAnswer.Memory → (result ≡ ReadAnswer.Failed ↔ IsToFail self.old name.now) }
+        ensures fails { result ≢ ReadAnswer.Memory →
+            (result ≡ ReadAnswer.Failed ↔ IsToFail self.old name.now) }
         ensures after { self.new ≡ after_read self.old name.now result }
     {
         let is_listed = self.is_listed();

@@ -52,7 +52,8 @@ impl MemSink {
 
     /// Lets the write with this number fail.
     pub fn fail_at(&mut self, call: u64) -> Result<(), AllocError>
-        ensures ok { OnOk result (self.new ≡ record self.old { failing = self.old.failing ++ call ∷ [] }) }
+        ensures ok { OnOk result (self.new
+            ≡ record self.old { failing = self.old.failing ++ call ∷ [] }) }
         ensures err { OnErr result (self.new ≡ self.old) }
     {
         self.failing.push(call)?;
@@ -85,7 +86,8 @@ impl Sink for MemSink {
         requires { piece.now ≢ [] }
 
         ensures taken { IsTaken result (length piece.now) }
-        ensures written { Some self.new.bytes ≡ grown (Some self.old.bytes) (take (taken result) piece.now) }
+        ensures written { Some self.new.bytes
+            ≡ grown (Some self.old.bytes) (take (taken result) piece.now) }
         ensures failed { result ≡ Wrote.Failed → Rose self.old.faults self.new.faults }
         ensures faults { self.old.faults ≤ self.new.faults }
 

@@ -36,7 +36,8 @@ pub trait Sink {
         requires { piece.now ≢ [] }
 
         ensures taken { IsTaken result (length piece.now) }
-        ensures written { written self.new ≡ grown (written self.old) (take (taken result) piece.now) }
+        ensures written { written self.new
+            ≡ grown (written self.old) (take (taken result) piece.now) }
         ensures failed { result ≡ Wrote.Failed → Rose (faults self.old) (faults self.new) }
         ensures faults { faults self.old ≤ faults self.new };
 }
@@ -46,7 +47,8 @@ pub trait Sink {
 pub fn write_whole<K: Sink>(out: &mut K, piece: &[u8]) -> Result<(), WriteFault>
     ensures whole { OnOk result (K.written out.new ≡ grown (K.written out.old) piece.now) }
     ensures part { OnErr result (IsPartWritten (K.written out.old) piece.now (K.written out.new)) }
-    ensures unwritten { IsErrOf result WriteFault.Unwritten → Rose (K.faults out.old) (K.faults out.new) }
+    ensures unwritten { IsErrOf result WriteFault.Unwritten →
+        Rose (K.faults out.old) (K.faults out.new) }
 
     ensures empty { piece.now ≡ [] → (IsOk result) × (out.new ≡ out.old) }
     ensures faults { K.faults out.old ≤ K.faults out.new }

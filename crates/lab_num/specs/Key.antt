@@ -8,7 +8,9 @@ use Rattle.lab_num.specs.declared.key.Member.{Member}
 
 -- keys are compared by time, then by board, then by number
 abbrev pub key_cmp : Key → Key → Ordering
-key_cmp a b = ordering_then (nat_cmp a.at.0 b.at.0) (ordering_then (nat_cmp a.board.0 b.board.0) (nat_cmp a.number.0 b.number.0))
+key_cmp a b =
+    ordering_then (nat_cmp a.at.0 b.at.0)
+    (ordering_then (nat_cmp a.board.0 b.board.0) (nat_cmp a.number.0 b.number.0))
 
 -- whether two members are one
 abbrev pub same_member : Member → Member → Bool

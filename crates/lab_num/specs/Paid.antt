@@ -1,7 +1,7 @@
 -- What a grant of time pays a board, and when its slots lie.
 use Rattle.std.specs.Prelude.{ℕ, ◌+◌, ◌-◌, ◌*◌, ◌/◌}
 
--- the number of slots that a grant from one microsecond to another pays at a speed in MIPS, which is slots a microsecond
+-- the number of slots that a grant from one microsecond to another pays at a speed in MIPS, slots a microsecond
 abbrev pub paid : ℕ → ℕ → ℕ → ℕ
 paid from to speed = (to - from) * speed
 

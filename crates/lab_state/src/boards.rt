@@ -127,7 +127,8 @@ impl Lab {
     pub fn copy_in(&mut self, b: BoardNo, at: u32, bytes: &[u8]) -> Result<(), NoMemory>
         requires unspent { self.old.spent ≡ false }
         requires exists { b.0 < length self.old.lab.boards }
-        requires holds { IsTrue (holds_each (board_of self.old.lab b.0).memory at (length bytes.now)) }
+        requires holds { IsTrue
+            (holds_each (board_of self.old.lab b.0).memory at (length bytes.now)) }
         ensures ok { OnOk result (self.new ≡ record self.old {
           lab = changed self.old.lab b.0 (λ board. record board {
             memory = put_bytes board.memory (at - memory_base) bytes.now;

@@ -53,7 +53,14 @@ impl Lab {
     /// A laboratory at time 0, without boards and hubs, at a quantum of 100 microseconds.
     pub fn new(alloc: Global) -> Result<Lab, NoMemory>
         ensures { IfOk result (λ made. made ≡ record {
-          lab = record { names = []; boards = []; hub_names = []; hubs = []; now = 0; quantum = 100 };
+          lab = record {
+            names = [];
+            boards = [];
+            hub_names = [];
+            hubs = [];
+            now = 0;
+            quantum = 100;
+          };
           spent = false;
         }) }
     {

@@ -23,7 +23,8 @@ pub data Did : Type 0 where
 
 -- what rounds have come to is printed
 abbrev pub has_run : State → Rounded → Did
-has_run s rounded = Goes (text s.lines rounded.items) (record { lab = rounded.lab; lines = open_lines s.lines rounded.items })
+has_run s rounded =
+    Goes (text s.lines rounded.items) (record { lab = rounded.lab; lines = open_lines s.lines rounded.items })
 
 -- a run ends at 10,000 seconds of lab time at the latest
 abbrev pub runs : Play → State → Result Micros TimeFault → Did
@@ -34,7 +35,8 @@ runs play s (Ok d) = if nat_lt (10 ^ 10) (s.lab.now + d.0) then Faults cause.Lab
 abbrev pub sets_quantum : State → Result Micros TimeFault → Did
 sets_quantum s (Err fault) = Faults cause.Time
 sets_quantum s (Ok q) =
-    if nat_le 1 q.0 && nat_le q.0 1000000 then Goes [] (record s { lab = record s.lab { quantum = q.0 } }) else Faults cause.Time
+    if nat_le 1 q.0 && nat_le q.0 1000000 then Goes [] (record s { lab = record s.lab { quantum = q.0 } })
+    else Faults cause.Time
 
 -- what the command of a line does, if it is one, where a laboratory plays a run so
 unfoldable pub did : Play → State → Option Command → Did

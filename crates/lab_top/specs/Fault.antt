@@ -19,4 +19,5 @@ cause_text (Script cause) = script_cause_text cause
 
 -- a fault as its last line says it, without the line feed
 abbrev pub fault_text : ScriptFault → List ℕ
-fault_text fault = codes "error: " ++ fault.file ++ codes ":" ++ decimal fault.line ++ codes ": " ++ cause_text fault.cause
+fault_text fault =
+    codes "error: " ++ fault.file ++ codes ":" ++ decimal fault.line ++ codes ": " ++ cause_text fault.cause

@@ -65,7 +65,8 @@ printed lines (Slot from (Byte dev byte)) =
 
 -- the open lines after an item
 abbrev pub opened : List Line → LogItem → List Line
-opened lines (Slot from (Byte dev byte)) = slice_set lines from.board.0 (left_open (line_at lines from.board.0) from.at.0 byte)
+opened lines (Slot from (Byte dev byte)) =
+    slice_set lines from.board.0 (left_open (line_at lines from.board.0) from.at.0 byte)
 
 -- what items print one after another, and the lines that are open then
 abbrev pub text : List Line → List LogItem → List ℕ

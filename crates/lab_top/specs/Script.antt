@@ -33,7 +33,8 @@ closed signs =
 
 -- what stands between the opening, which ends with a quote, and the only further quote, at the line's end
 abbrev pub quoted : List ℕ → List ℕ → Option (List ℕ)
-quoted opening line = if bytes_eq (take (length opening) line) opening then closed (drop (length opening) line) else None
+quoted opening line =
+    if bytes_eq (take (length opening) line) opening then closed (drop (length opening) line) else None
 
 -- the first where there is one, and else the second
 abbrev pub either : Option Command → Option Command → Option Command
@@ -50,4 +51,6 @@ set_quantum (Some time) = Some (SetQuantum (time_in time))
 
 -- the command of a line, if it is one
 unfoldable pub command_of : List ℕ → Option Command
-command_of line = either (run_for (quoted (codes "emulation RunFor \"") line)) (set_quantum (quoted (codes "emulation SetGlobalQuantum \"") line))
+command_of line =
+    either (run_for (quoted (codes "emulation RunFor \"") line))
+    (set_quantum (quoted (codes "emulation SetGlobalQuantum \"") line))

@@ -98,7 +98,8 @@ from play script number s (line ∷ lines) =
 abbrev pub begun : Play → List ℕ → Option (List ℕ) → Transcript
 begun play script None = ended Absent
 begun play script (Some bytes) =
-    if nat_lt 16777216 (length bytes) then ended (Script (fault_at script 0 Size)) else from play script 1 started (lines_of bytes)
+    if nat_lt 16777216 (length bytes) then ended (Script (fault_at script 0 Size))
+    else from play script 1 started (lines_of bytes)
 
 -- all that the run of a script writes and reads
 abbrev pub run_of : Play → Held → List ℕ → Transcript

@@ -22,7 +22,8 @@ fn join(alloc: Global, lists: &[Vec<Entry>]) -> Result<Vec<Entry>, NoMemory>
 /// The entries of all the lists together, in rising order of key.
 pub fn merge_entries(alloc: Global, lists: Vec<Vec<Entry>>) -> Result<Vec<Entry>, NoMemory>
     requires { KeysDiffer entry_key (all_entries lists.items) }
-    ensures is_listing { IfOk result (λ list. IsListing entry_key (all_entries lists.items) list.items) }
+    ensures is_listing { IfOk result (λ list.
+        IsListing entry_key (all_entries lists.items) list.items) }
     ensures value { IfOk result (λ list. list.items ≡ listing entry_key (all_entries lists.items)) }
 {
     listing_laws::<Entry>();
@@ -49,8 +50,11 @@ mod tests {
     use std::test::Fail;
 
     fn key(at: u64, board: u8, number: u64) -> Key
-        ensures { result
-            ≡ record { at = record { 0 = at }; board = record { 0 = board }; number = record { 0 = number } } }
+        ensures { result ≡ record {
+          at = record { 0 = at };
+          board = record { 0 = board };
+          number = record { 0 = number };
+        } }
     {
         Key {
             at: Micros(at),

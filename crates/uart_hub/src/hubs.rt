@@ -93,7 +93,8 @@ impl UartHubs {
 
     /// The hub that has a member.
     fn hub_of(&self, member: Member) -> Option<&Hub>
-        ensures { option_map (λ hub. hub.now) result ≡ find (λ hub. has_member hub member) self.now }
+        ensures { option_map (λ hub. hub.now) result
+            ≡ find (λ hub. has_member hub member) self.now }
     {
         self.hubs.iter().find(|hub| hub.contains(member))
     }
