@@ -103,9 +103,9 @@ impl Board {
         self.speed
     }
 
-    /// Takes the next `n` slots. Slot `i` of the call lies in microsecond `at.from + (at.first + i)
-    /// / speed`. A halted board's slots pass and change nothing. `Starved` is for want of memory
-    /// alone.
+    /// Takes the next `n` slots. Slot `i` of the call lies in microsecond
+    /// `at.from + (at.first + i) / speed`. A halted board's slots pass and change nothing. `Starved`
+    /// is for want of memory alone.
     pub fn turn(&mut self, at: SlotAt, n: u64) -> Turn
         requires { at.from.0 + (at.first + n) / self.old.view.speed ≤ 10000000000 }
         ensures { IsTurn self.old at.from.0 at.first n result self.new }
@@ -188,8 +188,8 @@ impl Board {
         self.wires.shown = true;
     }
 
-    /// Whether each of so many bytes from an address on is in the memory. No bytes are held at any
-    /// address.
+    /// Whether each of `count` bytes from an address on is in the memory. Where `count` is 0, that
+    /// is so at every address.
     pub fn holds(&self, at: u32, count: u32) -> bool
         ensures { result ≡ holds_each self.now.view.memory at count }
     {
