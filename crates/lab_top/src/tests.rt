@@ -1,5 +1,5 @@
 //! Whole runs over files and an output in memory.
-use crate::{Status, run_lab};
+use crate::{Status, UsageCause, run_lab};
 use lab_io::{MemFiles, MemSink};
 use std::alloc::Global;
 use std::test::Fail;
@@ -125,18 +125,26 @@ fn a_script_above_16_mib_is_refused_whole(rt: HostRuntime) -> Result<(), Fail> {
 
 #[test]
 fn other_words_are_answered_by_the_usage_line(rt: HostRuntime) -> Result<(), Fail> {
-    let rows: [&[&str]; 6] = [
-        &[],
-        &["run"],
-        &["s.resc"],
-        &["go", "s.resc"],
-        &["run", "-s.resc"],
-        &["run", "s.resc", "s.resc"],
+    let rows: [(&[&str], UsageCause); 6] = [
+        (&[], UsageCause::Command),
+        (&["s.resc"], UsageCause::Command),
+        (&["go", "s.resc"], UsageCause::Command),
+        (&["run"], UsageCause::Words),
+        (&["run", "-s.resc"], UsageCause::Words),
+        (&["run", "s.resc", "s.resc"], UsageCause::Words),
     ];
-    for words in rows {
-        let (number, written) = run(rt.alloc(), words, b"emulation RunFor \"0.0003\"")?;
-        assert_eq!(rt; number, 2, "{words:?}");
-        assert_eq!(rt; written.as_slice(), USAGE.as_bytes(), "{words:?}");
+    let alloc = rt.alloc();
+    for (words, cause) in rows {
+        let owned = words_of(alloc, words)?;
+        let mut files = MemFiles::new(alloc);
+        let mut out = MemSink::new(alloc, 4096);
+        let status = run_lab(alloc, &owned, &mut files, &mut out);
+        assert_eq!(rt; status.number(), 2, "{words:?}");
+        assert!(rt;
+            matches!(status, Status::Usage(given) if given == cause),
+            "{words:?}"
+        );
+        assert_eq!(rt; out.bytes(), USAGE.as_bytes(), "{words:?}");
     }
     Ok(())
 }
