@@ -1,7 +1,7 @@
 -- The lemmas of this crate.
 pub mod Masks
+pub mod Rows
 pub mod Sole
-pub mod TableLemmas
-pub mod FixedLemmas
 pub mod FitLemmas
+pub mod Formats
 mod KnownWords
