@@ -1,4 +1,5 @@
 -- The lemmas of this crate.
+pub mod Tests
 pub mod Masks
 pub mod Rows
 pub mod Sole

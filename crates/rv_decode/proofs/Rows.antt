@@ -1,16 +1,16 @@
 -- The test of a row's mask is a test of the fields that the mask covers, for each row of the table.
-use Rattle.std.proofs.Common.{◌≡◌, ℕ, ◌+◌, ◌*◌, ◌^◌, ◌<◌, ◌↔◌, Bool, true, ◌&&◌, ◌==◌, refl, ap, ◌∙◌, sym, subst, inl, inr, false, List, [], ◌∷◌, arith}
+use Rattle.std.proofs.Common.{◌≡◌, ℕ, ◌+◌, ◌*◌, ◌^◌, ◌<◌, ◌↔◌, Bool, true, ◌&&◌, ◌==◌, refl, ap, ◌∙◌, sym, List, [], ◌∷◌, arith}
 use Rattle.std.specs.Prelude.{bit_and, find, Contains, IsTrue}
 use Rattle.std.specs.Option.{option_map}
 use Rattle.std.specs.List.{list_all}
-use Rattle.std.proofs.lemmas.Bool.{eqb-true, eq-eqb, and_parts, both_ways, cases_Bool}
-use Rattle.std.proofs.lemmas.List.Folds.{list_all_at}
+use Rattle.std.proofs.lemmas.Bool.{eqb-true, eq-eqb, and_parts}
 use Rattle.rv_decode.specs.declared.instruction.Format.{Format}
 use Rattle.rv_decode.specs.declared.instruction.Format.TheVariants.{R, I, IShift, IUnsigned, S, B, U, J, Fixed}
 use Rattle.rv_decode.specs.Immediate.{field}
 use Rattle.rv_decode.specs.FixedBits.{fixed_of}
 use Rattle.rv_decode.specs.Table.{Row, matches, matched_row, table}
 use Rattle.rv_decode.specs.Inner.ByFields.{has_fields, op_by}
+use Rattle.rv_decode.proofs.Tests.{holds-row}
 use Rattle.rv_decode.proofs.Masks.{mask_opcode, mask_funct3, mask_funct7, mask_word, two_fields, three_fields, same_word}
 
 -- the mask of a format's rows
@@ -109,19 +109,8 @@ matched_row-by w fits =
     ap (option_map (λ row. row.op))
     (find-same _ _ table (λ r regular. matches-fields w r fits regular) is_regular-table)
 
--- each row of the table is regular
-is_regular-row : (r : Row) → Contains table r → is_regular r ≡ true
-is_regular-row r there =
-    let regular-at = list_all_at is_regular table there.0 r there.1 in
-    elim (cases_Bool (is_regular r)) [
-      | inl regular ↦ regular
-      | inr other ↦
-          let P : Row → Type 0 = λ x. is_regular x ≡ false in
-          absurd (both_ways _ (regular-at (subst P (sym there.2) other)) is_regular-table)
-    ]
-
 pub row_matches :
     (w : ℕ) (r : Row) → w < 2 ^ 32 → Contains table r → IsTrue (matches w r) ↔ (fixed_of r.format w ≡ r.bits)
 row_matches w r fits there =
-    let same = matches-fixed w r fits (is_regular-row r there) in
+    let same = matches-fixed w r fits (holds-row is_regular table r is_regular-table there) in
     (λ matched. eqb-true _ _ (sym same ∙ matched), λ is. same ∙ eq-eqb _ _ is)

@@ -1,5 +1,5 @@
 //! From a word to the instruction that it means.
-ghost use Rattle.std.specs.Prelude.{◌≡◌, ℕ, ◌/◌, ◌%◌, ◌^◌, ◌<◌, ◌≤◌, ◌↔◌, ◌≢◌, IfSome, IsTrue, Contains, count_by};
+ghost use Rattle.std.specs.Prelude.{◌≡◌, ℕ, ◌/◌, ◌%◌, ◌^◌, ◌<◌, ◌≤◌, ◌↔◌, ◌≢◌, Some, IfSome, IsTrue, Contains, count_by};
 ghost use Rattle.std.specs.Option.{option_map};
 ghost use Rattle.rv_decode.specs.Table.{Row, table, matches, matched_row, row_of};
 ghost use Rattle.rv_decode.specs.FixedBits.{fixed_of};
@@ -50,9 +50,10 @@ pub fn decode(word: u32) -> Option<Instr>
     Some(instr_from(op.format(), op, word))
 }
 
-/// No word matches two rows of the table.
+/// No word matches two rows of the table, and no instruction has two.
 pub fn rows_differ()
-    ensures { (word : ℕ) → count_by (matches word) table ≤ 1 }
+    ensures words { (word : ℕ) → count_by (matches word) table ≤ 1 }
+    ensures instructions { (row : Row) → Contains table row → row_of row.op ≡ Some row }
 {}
 
 /// A word matches a row exactly where its opcode, and its funct3 and funct7 as far as the row's
