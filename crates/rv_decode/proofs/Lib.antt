@@ -1,8 +1,8 @@
 -- The lemmas of this crate.
 pub mod Tests
 pub mod Masks
-pub mod Rows
 pub mod Sole
+pub mod Rows
 pub mod FitLemmas
 pub mod Formats
 mod KnownWords

@@ -10,7 +10,8 @@ use Rattle.rv_decode.specs.Immediate.{field}
 use Rattle.rv_decode.specs.FixedBits.{fixed_of}
 use Rattle.rv_decode.specs.Table.{Row, matches, matched_row, table}
 use Rattle.rv_decode.specs.Inner.ByFields.{has_fields, op_by}
-use Rattle.rv_decode.proofs.Tests.{holds-row}
+use Rattle.rv_decode.proofs.Tests.{holds-row, found-passes}
+use Rattle.rv_decode.proofs.Sole.{matched_row-is}
 use Rattle.rv_decode.proofs.Masks.{mask_opcode, mask_funct3, mask_funct7, mask_word, two_fields, three_fields, same_word}
 
 -- the mask of a format's rows
@@ -110,7 +111,11 @@ matched_row-by w fits =
     (find-same _ _ table (λ r regular. matches-fields w r fits regular) is_regular-table)
 
 pub row_matches :
-    (w : ℕ) (r : Row) → w < 2 ^ 32 → Contains table r → IsTrue (matches w r) ↔ (fixed_of r.format w ≡ r.bits)
+    (w : ℕ) (r : Row) → w < 2 ^ 32 → Contains table r →
+    (matched_row w ≡ Some r) ↔ (fixed_of r.format w ≡ r.bits)
+unfolding matched_row
 row_matches w r fits there =
-    let same = matches-fixed w r fits (holds-row is_regular table r is_regular-table there) in
-    (λ matched. eqb-true _ _ (sym same ∙ matched), λ is. same ∙ eq-eqb _ _ is)
+    let same = matches-fixed w r fits (holds-row is_regular table r is_regular-table there) in (
+      λ found. eqb-true _ _ (sym same ∙ found-passes (matches w) table r found),
+      λ is. matched_row-is w r there (same ∙ eq-eqb _ _ is),
+    )

@@ -32,3 +32,17 @@ holds-found {X} p test (y ∷ ys) x all found =
           subst P same parts.0
       | inr other ↦ holds-found p test ys x parts.1 (rw other at found)
     ]
+
+-- the element that is found passes
+pub found-passes :
+    {X : Type 0} (p : X → Bool) (xs : List X) (x : X) → find p xs ≡ Some x → p x ≡ true
+found-passes p [] x found = cc
+found-passes {X} p (y ∷ ys) x found =
+    elim (cases_Bool (p y)) [
+      | inl here ↦
+          let one : Some y ≡ Some x = rw here at found in
+          let same : y ≡ x = cc in
+          let P : X → Type 0 = λ z. p z ≡ true in
+          subst P same here
+      | inr other ↦ found-passes p ys x (rw other at found)
+    ]

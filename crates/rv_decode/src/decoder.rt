@@ -60,7 +60,7 @@ pub fn rows_differ()
 /// format has them, are the row's.
 pub fn rows_match_fields()
     ensures { (word : ℕ) → (row : Row) → word < 2 ^ 32 → Contains table row →
-        IsTrue (matches word row) ↔ (fixed_of row.format word ≡ row.bits) }
+        (matched_row word ≡ Some row) ↔ (fixed_of row.format word ≡ row.bits) }
 {}
 
 /// The fields of a valid instruction fit.
