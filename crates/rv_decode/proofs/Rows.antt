@@ -1,6 +1,6 @@
 -- The test of a row's mask is a test of the fields that the mask covers, for each row of the table.
 use Rattle.std.proofs.Common.{◌≡◌, ℕ, ◌+◌, ◌*◌, ◌^◌, ◌<◌, ◌↔◌, Bool, true, ◌&&◌, ◌==◌, refl, ap, ◌∙◌, sym, List, [], ◌∷◌, arith}
-use Rattle.std.specs.Prelude.{bit_and, find, Contains, IsTrue}
+use Rattle.std.specs.Prelude.{bit_and, find, Contains, Some}
 use Rattle.std.specs.Option.{option_map}
 use Rattle.std.specs.List.{list_all}
 use Rattle.std.proofs.lemmas.Bool.{eqb-true, eq-eqb, and_parts}
