@@ -10,7 +10,7 @@ use Rattle.rv_asm.specs.declared.shapes.Shape.{Shape}
 use Rattle.rv_asm.specs.declared.shapes.Shape.TheVariants.{Registers, Immediate, Shift, Load, Store, Branch, Upper, Jump, Csr, CsrImmediate, Bare}
 use Rattle.rv_asm.specs.declared.fault.AsmCause.{AsmCause}
 use Rattle.rv_asm.specs.declared.fault.AsmCause.TheVariants.{Name, Form, Label, Range}
-use Rattle.rv_asm.specs.Encoded.{word_of_fields}
+use Rattle.rv_asm.specs.Encoded.{word_with}
 use Rattle.rv_asm.specs.Texts.{is_blank, trimmed, cut, with_cut, code_of, is_name}
 use Rattle.rv_asm.specs.Numbers.{number_of, even_in_field}
 use Rattle.rv_asm.specs.Mnemonics.{mnemonic_of}
@@ -48,14 +48,14 @@ unfoldable pub branch_word : (List ℕ → Option ℕ) → ℕ → Op → List �
 branch_word places here op text = do
   operands ← ok_or (two_registers_and text) Form
   offset ← target_of places here operands.2
-  Ok (option_map (λ imm. word_of_fields op 0 operands.0 operands.1 imm) (even_in_field 4096 4095 offset))
+  Ok (word_with op 0 operands.0 operands.1 (even_in_field 4096 4095 offset))
 
 -- `rd, target`, an even offset of 21 bits
 unfoldable pub jump_word : (List ℕ → Option ℕ) → ℕ → Op → List ℕ → Result (Option ℕ) AsmCause
 jump_word places here op text = do
   rd ← ok_or (register_and text) Form
   offset ← target_of places here rd.1
-  Ok (option_map (λ imm. word_of_fields op rd.0 0 0 imm) (even_in_field (2 ^ 20) (2 ^ 20 - 1) offset))
+  Ok (word_with op rd.0 0 0 (even_in_field (2 ^ 20) (2 ^ 20 - 1) offset))
 
 -- the word of an instruction's operands, if its number is in its field
 abbrev pub operands_word : (List ℕ → Option ℕ) → ℕ → Op → List ℕ → Shape → Result (Option ℕ) AsmCause

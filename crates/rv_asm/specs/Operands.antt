@@ -3,7 +3,7 @@ use Rattle.std.specs.Prelude.{ℕ, ◌-◌, ◌*◌, ◌^◌, ◌==◌, length, 
 use Rattle.std.specs.Option.{option_map, option_and_then}
 use Rattle.rv_decode.specs.declared.instruction.Op.{Op}
 use Rattle.rv_asm.specs.declared.numbers.Number.{Number}
-use Rattle.rv_asm.specs.Encoded.{word_of_fields}
+use Rattle.rv_asm.specs.Encoded.{word_with}
 use Rattle.rv_asm.specs.Texts.{trimmed, cut, register_of}
 use Rattle.rv_asm.specs.Numbers.{number_of, in_field}
 
@@ -44,7 +44,7 @@ registers_word op text = do
   rd ← register_and text
   rs1 ← register_and rd.1
   rs2 ← register_of rs1.1
-  Some (Some (word_of_fields op rd.0 rs1.0 rs2 0))
+  Some (word_with op rd.0 rs1.0 rs2 (Some 0))
 
 -- `rd, rs1, number`, the number from -least to greatest
 unfoldable pub immediate_word : Op → ℕ → ℕ → List ℕ → Option (Option ℕ)
@@ -52,28 +52,28 @@ immediate_word op least greatest text = do
   rd ← register_and text
   rs1 ← register_and rd.1
   number ← number_of rs1.1
-  Some (option_map (λ imm. word_of_fields op rd.0 rs1.0 0 imm) (in_field least greatest number))
+  Some (word_with op rd.0 rs1.0 0 (in_field least greatest number))
 
 -- `rd, number(rs1)`
 unfoldable pub load_word : Op → List ℕ → Option (Option ℕ)
 load_word op text = do
   rd ← register_and text
   place ← place_of rd.1
-  Some (option_map (λ imm. word_of_fields op rd.0 place.1 0 imm) (in_field 2048 2047 place.0))
+  Some (word_with op rd.0 place.1 0 (in_field 2048 2047 place.0))
 
 -- `rs2, number(rs1)`
 unfoldable pub store_word : Op → List ℕ → Option (Option ℕ)
 store_word op text = do
   rs2 ← register_and text
   place ← place_of rs2.1
-  Some (option_map (λ imm. word_of_fields op 0 place.1 rs2.0 imm) (in_field 2048 2047 place.0))
+  Some (word_with op 0 place.1 rs2.0 (in_field 2048 2047 place.0))
 
 -- `rd, number`, the upper 20 bits
 unfoldable pub upper_word : Op → List ℕ → Option (Option ℕ)
 upper_word op text = do
   rd ← register_and text
   number ← number_of rd.1
-  Some (option_map (λ upper. word_of_fields op rd.0 0 0 (upper * 2 ^ 12)) (in_field 0 0xFFFFF number))
+  Some (word_with op rd.0 0 0 (option_map (λ upper. upper * 2 ^ 12) (in_field 0 0xFFFFF number)))
 
 -- `rd, number, rs1`, the number of a control and status register
 unfoldable pub csr_word : Op → List ℕ → Option (Option ℕ)
@@ -81,14 +81,14 @@ csr_word op text = do
   rd ← register_and text
   csr ← number_and rd.1
   rs1 ← register_of csr.1
-  Some (option_map (λ imm. word_of_fields op rd.0 rs1 0 imm) (in_field 0 4095 csr.0))
+  Some (word_with op rd.0 rs1 0 (in_field 0 4095 csr.0))
 
 -- both numbers of an access with an immediate, which stands in the place of rs1
 abbrev pub csr_immediate_fields : Op → ℕ → Number → Number → Option ℕ
 csr_immediate_fields op rd csr value = do
   imm ← in_field 0 4095 csr
   rs1 ← in_field 0 31 value
-  Some (word_of_fields op rd rs1 0 imm)
+  word_with op rd rs1 0 (Some imm)
 
 -- `rd, number, number`
 unfoldable pub csr_immediate_word : Op → List ℕ → Option (Option ℕ)
@@ -101,7 +101,7 @@ csr_immediate_word op text = do
 -- no operands
 unfoldable pub bare_word : Op → List ℕ → Option (Option ℕ)
 bare_word op text =
-    if length text == 0 then Some (Some (word_of_fields op 0 0 0 0)) else None
+    if length text == 0 then Some (word_with op 0 0 0 (Some 0)) else None
 
 -- `.word number`, of 32 bits with or without a sign
 unfoldable pub directive_word : List ℕ → Option (Option ℕ)

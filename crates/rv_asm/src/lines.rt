@@ -5,7 +5,7 @@ ghost use Rattle.std.specs.Option.{option_map};
 ghost use Rattle.rv_asm.specs.Places.{place_in};
 ghost use Rattle.rv_asm.specs.Lines.{distance, target_of, branch_word, jump_word, operands_word, word_by, mnemonic_in, operands_in, plain_word, labelled_word, label_of, line_word, gives_word, is_here};
 
-use crate::encoder::word_of_fields;
+use crate::encoder::word_with;
 use crate::fault::AsmCause;
 use crate::mnemonics::{Mnemonic, mnemonic_of};
 use crate::numbers::{Number, number_of};
@@ -71,11 +71,8 @@ fn branch_word(
 {
     let (rs1, rs2, target) = two_registers_and(text).ok_or(AsmCause::Form)?;
     let offset = target_of(labels, here, target)?;
-    Ok(
-        offset
-            .even_in_field(4096, 4095)
-            .map(|imm| word_of_fields(op, 0, rs1, rs2, imm)),
-    )
+    let imm = offset.even_in_field(4096, 4095);
+    Ok(word_with(op, 0, rs1, rs2, imm))
 }
 
 /// `rd, target`.
@@ -90,11 +87,8 @@ fn jump_word(
 {
     let (rd, target) = register_and(text).ok_or(AsmCause::Form)?;
     let offset = target_of(labels, here, target)?;
-    Ok(
-        offset
-            .even_in_field(1 << 20, (1 << 20) - 1)
-            .map(|imm| word_of_fields(op, rd, 0, 0, imm)),
-    )
+    let imm = offset.even_in_field(1 << 20, (1 << 20) - 1);
+    Ok(word_with(op, rd, 0, 0, imm))
 }
 
 /// The word of an instruction's operands, if its number is in its field.

@@ -4,7 +4,7 @@ ghost use Rattle.std.specs.Prelude.{◌≡◌, ◌<◌, ◌≤◌, ◌^◌, IfSo
 ghost use Rattle.std.specs.Option.{option_map};
 ghost use Rattle.rv_asm.specs.Operands.{operand_and, register_and, number_and, place_of, registers_word, immediate_word, load_word, store_word, upper_word, csr_word, csr_immediate_fields, csr_immediate_word, bare_word, directive_word, two_registers_and};
 
-use crate::encoder::word_of_fields;
+use crate::encoder::word_with;
 use crate::numbers::{Number, number_of};
 use crate::texts::{cut, register_of, trimmed};
 use rv_decode::Op;
@@ -64,7 +64,7 @@ pub(crate) fn registers_word(op: Op, text: &str) -> Option<Option<u32>>
     let (rd, rest) = register_and(text)?;
     let (rs1, rest) = register_and(rest)?;
     let rs2 = register_of(rest)?;
-    Some(Some(word_of_fields(op, rd, rs1, rs2, 0)))
+    Some(word_with(op, rd, rs1, rs2, Some(0)))
 }
 
 /// `rd, rs1, number`, the number from -least to greatest.
@@ -75,11 +75,8 @@ pub(crate) fn immediate_word(op: Op, least: u32, greatest: u32, text: &str) -> O
     let (rd, rest) = register_and(text)?;
     let (rs1, rest) = register_and(rest)?;
     let number = number_of(rest)?;
-    Some(
-        number
-            .in_field(least, greatest)
-            .map(|imm| word_of_fields(op, rd, rs1, 0, imm)),
-    )
+    let imm = number.in_field(least, greatest);
+    Some(word_with(op, rd, rs1, 0, imm))
 }
 
 /// `rd, number(rs1)`.
@@ -89,11 +86,8 @@ pub(crate) fn load_word(op: Op, text: &str) -> Option<Option<u32>>
 {
     let (rd, rest) = register_and(text)?;
     let (number, rs1) = place_of(rest)?;
-    Some(
-        number
-            .in_field(2048, 2047)
-            .map(|imm| word_of_fields(op, rd, rs1, 0, imm)),
-    )
+    let imm = number.in_field(2048, 2047);
+    Some(word_with(op, rd, rs1, 0, imm))
 }
 
 /// `rs2, number(rs1)`.
@@ -103,11 +97,8 @@ pub(crate) fn store_word(op: Op, text: &str) -> Option<Option<u32>>
 {
     let (rs2, rest) = register_and(text)?;
     let (number, rs1) = place_of(rest)?;
-    Some(
-        number
-            .in_field(2048, 2047)
-            .map(|imm| word_of_fields(op, 0, rs1, rs2, imm)),
-    )
+    let imm = number.in_field(2048, 2047);
+    Some(word_with(op, 0, rs1, rs2, imm))
 }
 
 /// `rd, number`, the upper 20 bits.
@@ -120,7 +111,7 @@ pub(crate) fn upper_word(op: Op, text: &str) -> Option<Option<u32>>
     let Some(upper) = number.in_field(0, 0xFFFFF) else {
         return Some(None);
     };
-    Some(Some(word_of_fields(op, rd, 0, 0, upper * (1 << 12))))
+    Some(word_with(op, rd, 0, 0, Some(upper * (1 << 12))))
 }
 
 /// `rd, number, rs1`, the number of a control and status register.
@@ -131,10 +122,7 @@ pub(crate) fn csr_word(op: Op, text: &str) -> Option<Option<u32>>
     let (rd, rest) = register_and(text)?;
     let (csr, rest) = number_and(rest)?;
     let rs1 = register_of(rest)?;
-    Some(
-        csr.in_field(0, 4095)
-            .map(|imm| word_of_fields(op, rd, rs1, 0, imm)),
-    )
+    Some(word_with(op, rd, rs1, 0, csr.in_field(0, 4095)))
 }
 
 /// The word of an access to a control and status register with an immediate, if both numbers fit.
@@ -144,7 +132,7 @@ fn csr_immediate_fields(op: Op, rd: u8, csr: Number, value: Number) -> Option<u3
 {
     let imm = csr.in_field(0, 4095)?;
     let rs1 = value.in_field(0, 31)?;
-    Some(word_of_fields(op, rd, rs1 as u8, 0, imm))
+    word_with(op, rd, rs1 as u8, 0, Some(imm))
 }
 
 /// `rd, number, number`.
@@ -164,7 +152,7 @@ pub(crate) fn bare_word(op: Op, text: &str) -> Option<Option<u32>>
     ensures { result ≡ bare_word op text.now }
 {
     if text.is_empty() {
-        Some(Some(word_of_fields(op, 0, 0, 0, 0)))
+        Some(word_with(op, 0, 0, 0, Some(0)))
     } else {
         None
     }
