@@ -87,7 +87,7 @@ fn words_of_an_assembler_mean_their_instructions(rt: HostRuntime) {
 }
 
 #[test]
-fn words_of_an_assembler_mean_their_instructions(rt: HostRuntime) {
+fn other_words_mean_nothing(rt: HostRuntime) {
     let words = [
         0x00000000, // all zeros
         0xFFFFFFFF, // all ones
