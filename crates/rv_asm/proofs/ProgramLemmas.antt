@@ -14,10 +14,10 @@ use Rattle.std.proofs.lemmas.List.Sums.{count_by-le-length}
 use denote.Ref.{Bor}
 use Rattle.rv_asm.specs.declared.fault.AsmFault.{AsmFault}
 use Rattle.rv_asm.specs.declared.fault.AsmFault.TheVariants.{Line, Memory}
-use Rattle.rv_asm.specs.Lines.{gives_word, label_of, line_word}
-use Rattle.rv_asm.specs.Gives.{Gives}
+use Rattle.rv_asm.specs.Lines.{gives_word, label_of}
 use Rattle.rv_asm.specs.Places.{is_label}
-use Rattle.rv_asm.specs.Program.{lines_of, place_from, at_line, words_from, ◌>>=◌}
+use Rattle.rv_asm.specs.Program.{lines_of}
+use Rattle.rv_asm.specs.Inner.Scan.{place_from, word_from, at_line, words_from, Gives, ◌>>=◌}
 
 -- the texts of lines
 abbrev pub texts : List (Bor (List ℕ)) → List (List ℕ)
@@ -125,7 +125,7 @@ pub words_more :
     (places : List ℕ → Option ℕ) (lines : List (List ℕ)) (i address : ℕ) (line : List ℕ) (done : List ℕ)
     (word : ℕ) →
     drop i lines ≡ line ∷ drop (i + 1) lines → gives_word line ≡ true →
-    at_line (i + 1) (line_word places address line) ≡ Ok word →
+    at_line (i + 1) (word_from places address line) ≡ Ok word →
     MakesWords places lines i address done → MakesWords places lines (i + 1) (address + 4) (done ++ word ∷ [])
 words_more places lines i address line done word next gives made all =
     let before : behind done (words_from places (i + 1) address (line ∷ drop (i + 1) lines)) ≡ words_from places 1 0 lines =
@@ -137,7 +137,7 @@ pub words_fault :
     (places : List ℕ → Option ℕ) (lines : List (List ℕ)) (i address : ℕ) (line : List ℕ) (done : List ℕ)
     (fault : AsmFault) →
     drop i lines ≡ line ∷ drop (i + 1) lines → gives_word line ≡ true →
-    at_line (i + 1) (line_word places address line) ≡ Err fault →
+    at_line (i + 1) (word_from places address line) ≡ Err fault →
     MakesWords places lines i address done → words_from places 1 0 lines ≡ Err fault
 words_fault places lines i address line done fault next gives made all =
     let before : behind done (words_from places (i + 1) address (line ∷ drop (i + 1) lines)) ≡ words_from places 1 0 lines =

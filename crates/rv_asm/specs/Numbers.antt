@@ -7,14 +7,10 @@ use Rattle.std.specs.Str.Parse.{digits_value}
 use Rattle.std.specs.Prelude.{codes}
 use Rattle.rv_asm.specs.declared.numbers.Number.{Number}
 
--- the greatest magnitude that is told apart: those above are outside each field all the same
-abbrev pub most : ℕ
-most = 2 ^ 64 - 1
-
 -- the number that digits of a radix write, any count of zeros in front
 abbrev pub numeral : (ℕ → Bool) → ℕ → List ℕ → Option ℕ
 numeral is_digit radix text =
-    if not (length text == 0) && list_all is_digit text then Some (min (digits_value radix text) most) else None
+    if not (length text == 0) && list_all is_digit text then Some (digits_value radix text) else None
 
 -- decimal digits, or hexadecimal ones behind `0x`
 abbrev pub magnitude_of : List ℕ → Option ℕ
