@@ -133,7 +133,6 @@ even_in_field-saturated least greatest n small_least small_greatest =
           rw same refl
     ]
   where
-
     most_outside :
         (negative : Bool) → in_field least greatest (record { negative = negative; magnitude = most }) ≡ None
     most_outside true =

@@ -18,6 +18,6 @@ pub returns : goal.returns
 returns c =
     let lines = c.in-Ok.ensures {u = tt} in
     let places : HasPlaces c.in-Ok-labels_of.labels (place_from 0 (lines_of c.args.text.now)) =
-        rw (c.deref.ensures.value, lines) at (c.in-Ok-labels_of.ensures {u = tt}) in
+    rw (c.deref.ensures.value, lines) at (c.in-Ok-labels_of.ensures {u = tt}) in
     Assembles-from c.args.text.now (place_in c.in-Ok-labels_of.labels) c.words_of.result places
     (rw (c.deref-2.ensures.value, lines) at c.words_of.ensures)
