@@ -90,10 +90,12 @@ first_or_not [] address line rest name gives labelled =
 first_or_not (b ∷ bs) address line rest name gives labelled =
     elim (cases_Bool (gives_word b)) [
       | inl word ↦
-          let more : address + 4 + 4 * count_by gives_word bs ≡ address + 4 * (1 + count_by gives_word bs) = omega arith in
+          let more : address + 4 + 4 * count_by gives_word bs ≡ address + 4 * (1 + count_by gives_word bs) =
+          omega arith in
           elim (cases_Bool (is_label name (label_of b))) [
             | inl earlier ↦
-                let apart : (address == address + 4 * (1 + count_by gives_word bs)) ≡ false = grind (arith, nat_tests) in
+                let apart : (address == address + 4 * (1 + count_by gives_word bs)) ≡ false =
+                grind (arith, nat_tests) in
                 rw (sum_by-cons, word, earlier) apart
             | inr other ↦
                 rw (sum_by-cons, word, other, ← more)
@@ -109,7 +111,8 @@ is_first-new :
     drop i lines ≡ line ∷ rest → gives_word line ≡ true → label_of line ≡ Some name →
     is_first (place_of lines) (address_of lines i) name ≡ is_new lines i name
 is_first-new lines i line rest name is gives labelled =
-    let whole : take i lines ++ (line ∷ rest) ≡ lines = ap (λ v. take i lines ++ v) (sym is) ∙ take-append-drop i lines in
+    let whole : take i lines ++ (line ∷ rest) ≡ lines =
+    ap (λ v. take i lines ++ v) (sym is) ∙ take-append-drop i lines in
     let P : List (List ℕ) → Type 0 =
     λ v. is_here (0 + 4 * count_by gives_word (take i lines)) (place_from 0 v name) ≡ is_new lines i name in
     let found = subst P whole (first_or_not (take i lines) 0 line rest name gives labelled) in
@@ -145,7 +148,8 @@ word_from-at :
 word_from-at lines places i address line rest has at is gives =
     let same : places ≡ place_of lines = fun_ext (λ name. has name ∙ place_from-all lines name) in
     rw (same, at)
-    (line_word-new (place_of lines) (address_of lines i) (is_first (place_of lines) (address_of lines i)) (is_new lines i) line
+    (line_word-new (place_of lines) (address_of lines i) (is_first (place_of lines) (address_of lines i))
+    (is_new lines i) line
     (λ name labelled. is_first-new lines i line rest name is gives labelled))
 
 -- the words of what is given, or its first fault

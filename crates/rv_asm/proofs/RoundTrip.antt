@@ -39,7 +39,8 @@ placed_s-extended : (high low : ℕ) → high < 2 ^ 7 → low < 2 ^ 5 →
     placed_s (sign_extended 12 (high * 2 ^ 5 + low)) ≡ low * 2 ^ 7 + high * 2 ^ 25
 placed_s-extended high low h l =
     let n = high * 2 ^ 5 + low in
-    either (λ v. placed_s v ≡ low * 2 ^ 7 + high * 2 ^ 25) (nat_lt n (2 ^ 11)) n (n + (2 ^ 32 - 2 ^ 12)) (omega arith) (omega arith)
+    either (λ v. placed_s v ≡ low * 2 ^ 7 + high * 2 ^ 25) (nat_lt n (2 ^ 11)) n (n + (2 ^ 32 - 2 ^ 12))
+    (omega arith) (omega arith)
 
 placed_b-extended : (a b c d : ℕ) → a < 2 → b < 2 → c < 2 ^ 6 → d < 2 ^ 4 →
     placed_b (sign_extended 13 (a * 2 ^ 12 + b * 2 ^ 11 + c * 2 ^ 5 + d * 2))
@@ -67,12 +68,14 @@ put_together S op w fits =
     rw (placed_s-extended (field w 25 7) (field w 7 5) (omega arith) (omega arith)) (omega arith)
 put_together B op w fits =
     rw
-    (placed_b-extended (field w 31 1) (field w 7 1) (field w 25 6) (field w 8 4) (omega arith) (omega arith) (omega arith) (omega arith))
+    (placed_b-extended (field w 31 1) (field w 7 1) (field w 25 6) (field w 8 4) (omega arith) (omega arith)
+    (omega arith) (omega arith))
     (omega arith)
 put_together U op w fits = omega arith
 put_together J op w fits =
     rw
-    (placed_j-extended (field w 31 1) (field w 12 8) (field w 20 1) (field w 21 10) (omega arith) (omega arith) (omega arith) (omega arith))
+    (placed_j-extended (field w 31 1) (field w 12 8) (field w 20 1) (field w 21 10) (omega arith) (omega arith)
+    (omega arith) (omega arith))
     (omega arith)
 put_together Fixed op w fits = refl
 
@@ -181,9 +184,11 @@ found_fields (Some row) i f a b c some p q r s =
 -- the word of an instruction of a format with fields
 pub encoded-fields :
     (i : Instr) (f : Format) (a b c : ℕ) → HasFields f →
-    option_map (λ row. row.format) (row_of i.op) ≡ Some f → option_map (λ row. field row.bits 0 7) (row_of i.op) ≡ Some a →
+    option_map (λ row. row.format) (row_of i.op) ≡ Some f →
+    option_map (λ row. field row.bits 0 7) (row_of i.op) ≡ Some a →
     option_map (λ row. field row.bits 12 3) (row_of i.op) ≡ Some b →
-    option_map (λ row. field row.bits 25 7) (row_of i.op) ≡ Some c → encoded i ≡ Some (encoded_by f (fixed_by f a b c) i)
+    option_map (λ row. field row.bits 25 7) (row_of i.op) ≡ Some c →
+    encoded i ≡ Some (encoded_by f (fixed_by f a b c) i)
 unfolding encoded
 encoded-fields i = found_fields (row_of i.op) i
 

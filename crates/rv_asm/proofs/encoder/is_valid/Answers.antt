@@ -21,5 +21,7 @@ returns-then-fits c = (
 pub returns-else-fits : goal.returns-else-fits
 returns-else-fits c =
     let f = c.if-fits.ensures {u = tt} in
-    let unfit : IsTrue c.fits.result → IsTrue false = λ yes. sym c.if-fits.false ∙ yes in
-    (λ yes. absurd (false≢true (unfit yes)), λ valid. absurd (false≢true (f.1 (c.valid_fits.ensures c.args.i.now valid))))
+    let unfit : IsTrue c.fits.result → IsTrue false = λ yes. sym c.if-fits.false ∙ yes in (
+      λ yes. absurd (false≢true (unfit yes)),
+      λ valid. absurd (false≢true (f.1 (c.valid_fits.ensures c.args.i.now valid))),
+    )
