@@ -33,13 +33,13 @@ pub fn merge_entries(alloc: Global, lists: Vec<Vec<Entry>>) -> Result<Vec<Entry>
 }
 
 /// The posts in rising order of key.
-pub fn merge_posts(mut list: Vec<Post>) -> Result<Vec<Post>, NoMemory>
+pub fn merge_posts(alloc: Global, mut list: Vec<Post>) -> Result<Vec<Post>, NoMemory>
     requires { KeysDiffer post_key list.items }
     ensures is_listing { IfOk result (λ merged. IsListing post_key list.items merged.items) }
     ensures value { IfOk result (λ merged. merged.items ≡ listing post_key list.items) }
 {
     listing_laws::<Post>();
-    list.sort_by_key(|post| post.key)?;
+    list.as_mut_slice().sort_by_key(alloc, |post| post.key)?;
     Ok(list)
 }
 
@@ -110,8 +110,9 @@ mod tests {
         let a = post(key(2, 0, 0), b'A');
         let b = post(key(2, 1, 0), b'B');
         let c = post(key(2, 2, 0), b'C');
-        let list = vec![in rt.alloc(); b, c, a]?;
-        let merged = merge_posts(list)?;
+        let alloc = rt.alloc();
+        let list = vec![in alloc; b, c, a]?;
+        let merged = merge_posts(alloc, list)?;
         assert_eq!(rt; merged.as_slice(), [a, b, c].as_slice());
         Ok(())
     }

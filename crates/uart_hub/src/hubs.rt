@@ -115,12 +115,12 @@ impl UartHubs {
 
     /// The other members of the hub of `from`, in order of connection. Where `from` stands in no
     /// hub there are none.
-    pub fn route(&self, alloc: Global, from: Member) -> Result<Vec<Member>, NoMemory>
+    pub fn route(&self, from: Member) -> Result<Vec<Member>, NoMemory>
         ensures { IfOk result (λ list. list.items ≡ routes.route self.now from) }
     {
         match self.hub_of(from) {
-            Some(hub) => hub.others(alloc, from),
-            None => Ok(Vec::new(alloc)),
+            Some(hub) => hub.others(self.alloc, from),
+            None => Ok(Vec::new(self.alloc)),
         }
     }
 
@@ -151,8 +151,7 @@ mod tests {
     fn a_hub_hands_on_to_its_other_members_in_order_of_connection(
         rt: HostRuntime,
     ) -> Result<(), Fail> {
-        let alloc = rt.alloc();
-        let mut hubs = UartHubs::new(alloc);
+        let mut hubs = UartHubs::new(rt.alloc());
         assert!(rt; hubs.is_empty());
         let first = hubs.create()?;
         let second = hubs.create()?;
@@ -168,10 +167,10 @@ mod tests {
             hubs.members(second),
             [uart(2, 0), uart(0, 1), uart(0, 0)].as_slice()
         );
-        let others = hubs.route(alloc, uart(0, 1))?;
+        let others = hubs.route(uart(0, 1))?;
         assert_eq!(rt; others.as_slice(), [uart(2, 0), uart(0, 0)].as_slice());
-        assert!(rt; hubs.route(alloc, uart(1, 0))?.is_empty());
-        assert!(rt; hubs.route(alloc, uart(1, 1))?.is_empty());
+        assert!(rt; hubs.route(uart(1, 0))?.is_empty());
+        assert!(rt; hubs.route(uart(1, 1))?.is_empty());
         Ok(())
     }
 
