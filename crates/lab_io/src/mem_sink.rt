@@ -108,29 +108,3 @@ impl Sink for MemSink {
         }
     }
 }
-
-#[cfg(test)]
-mod tests {
-    use super::*;
-    use std::test::Fail;
-
-    #[test]
-    fn a_write_takes_the_most_it_may_and_fails_where_listed(rt: HostRuntime) -> Result<(), Fail> {
-        let mut out = MemSink::new(rt.alloc(), 3);
-        out.fail_at(1)?;
-        out.fail_at(1)?;
-        out.fail_at(4)?;
-        for (piece, wrote) in [
-            (b"abcd".as_slice(), Wrote::Took(3)),
-            (b"ef".as_slice(), Wrote::Failed),
-            (b"ef".as_slice(), Wrote::Took(2)),
-            (b"ghi".as_slice(), Wrote::Took(3)),
-            (b"j".as_slice(), Wrote::Failed),
-        ] {
-            assert!(rt; !piece.is_empty());
-            assert_eq!(rt; out.write(piece), wrote, "at {piece:?}");
-        }
-        assert_eq!(rt; out.bytes(), b"abcefghi".as_slice());
-        Ok(())
-    }
-}

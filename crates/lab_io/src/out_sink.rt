@@ -59,25 +59,18 @@ impl<R: Print> Sink for OutSink<'_, R> {
 mod tests {
     use super::*;
     use crate::sink::{WriteFault, write_whole};
+    use std::cell::RefCell;
     use std::fmt::Display;
     use std::io;
     use std::test::Fail;
 
-    #[test]
-    fn a_piece_reaches_the_standard_output(rt: HostRuntime) {
-        let mut out = OutSink::new(&rt);
-        assert_eq!(rt;
-            write_whole(&mut out, b"written by a test of OutSink\n"),
-            Ok(())
-        );
-        assert_eq!(rt; out.faults, 0);
-    }
-
-    /// An output that takes at most so many bytes, or that is broken.
+    /// A terminal that takes at most `most` bytes a write and `room` bytes in all. Once it has
+    /// taken them it takes nothing, and where `most` is 0 it is broken.
     #[derive(Drop)]
-    enum Terminal {
-        Takes(usize),
-        Broken,
+    struct Terminal {
+        most: usize,
+        room: usize,
+        taken: RefCell<Vec<u8>>,
     }
 
     impl Print for Terminal {
@@ -94,23 +87,44 @@ mod tests {
         }
 
         fn write_some(&self, bytes: &[u8]) -> io::Result<usize> {
-            match self {
-                Terminal::Takes(most) => Ok(bytes.len().min(*most)),
-                Terminal::Broken => Err(io::ErrorKind::BrokenPipe.into()),
+            let Ok(mut taken) = self.taken.try_borrow_mut() else {
+                return Err(io::ErrorKind::BrokenPipe.into());
+            };
+            if self.most == 0 {
+                return Err(io::ErrorKind::BrokenPipe.into());
             }
+            let left = self.room.saturating_sub(taken.len());
+            let count = bytes.len().min(self.most).min(left);
+            taken.extend_from_slice(&bytes[..count])?;
+            Ok(count)
         }
     }
 
     #[test]
-    fn an_output_that_takes_nothing_is_a_counted_fault(rt: HostRuntime) {
-        for (terminal, answer, faults) in [
-            (Terminal::Takes(2), Ok(()), 0),
-            (Terminal::Takes(0), Err(WriteFault::Unwritten), 1),
-            (Terminal::Broken, Err(WriteFault::Unwritten), 1),
+    fn the_output_is_told_what_was_taken(rt: HostRuntime) -> Result<(), Fail> {
+        for (most, room, answer, text, faults) in [
+            (9, 9, Ok(()), b"abcde".as_slice(), 0),
+            (2, 9, Ok(()), b"abcde".as_slice(), 0),
+            (2, 3, Err(WriteFault::Unwritten), b"abc".as_slice(), 1),
+            (2, 0, Err(WriteFault::Unwritten), b"".as_slice(), 1),
+            (0, 9, Err(WriteFault::Unwritten), b"".as_slice(), 1),
         ] {
+            let taken = RefCell::new(Vec::new(rt.alloc()));
+            let terminal = Terminal { most, room, taken };
             let mut out = OutSink::new(&terminal);
-            assert_eq!(rt; write_whole(&mut out, b"abcde"), answer);
-            assert_eq!(rt; out.faults, faults);
+            assert_eq!(rt; write_whole(&mut out, b"abcde"), answer, "{most} of {room}");
+            assert_eq!(rt; out.faults, faults, "{most} of {room}");
+            assert_eq!(rt;
+                terminal.taken.try_borrow()?.as_slice(),
+                text,
+                "{most} of {room}"
+            );
         }
+        // The standard output itself.
+        assert_eq!(rt;
+            write_whole(&mut OutSink::new(&rt), b"a line of a test\n"),
+            Ok(())
+        );
+        Ok(())
     }
 }
