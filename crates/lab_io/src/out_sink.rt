@@ -1,10 +1,27 @@
 //! The standard output as an output that counts its faults.
 ghost use Rattle.std.specs.Prelude.{◌≡◌, ◌≢◌, ◌≤◌, [], length, take, None};
+ghost use Rattle.std.specs.Io.KnownBytes.{Appends};
 ghost use Rattle.lab_io.specs.Known.{grown, Rose};
 ghost use Rattle.lab_io.specs.Sink.{IsTaken, taken};
 
 use crate::sink::{Sink, Wrote};
+use std::io;
+use std::io::Write;
 use std::marker::Model;
+
+/// Writes some of the piece, and says how much was taken. An output that takes nothing has failed.
+fn write_some<W: Write>(out: &mut W, piece: &[u8]) -> Wrote
+    requires { piece.now ≢ [] }
+    ensures taken { IsTaken result (length piece.now) }
+    ensures written { Appends (W.contents out.old) (W.contents out.new)
+        (take (taken result) piece.now) }
+    ensures never_memory { result ≢ Wrote.Memory }
+{
+    match out.write(piece) {
+        Ok(count) if count > 0 => Wrote::Took(count),
+        _ => Wrote::Failed,
+    }
+}
 
 /// The standard output. What has been written is not told: of it contracts see how many faults
 /// there have been.
@@ -36,7 +53,6 @@ impl<R: Print> Sink for OutSink<'_, R> {
 
     ghost faults = { λ faults. faults };
 
-    /// An output that takes nothing has failed.
     fn write(&mut self, piece: &[u8]) -> Wrote
         requires { piece.now ≢ [] }
         ensures taken { IsTaken result (length piece.now) }
@@ -45,13 +61,11 @@ impl<R: Print> Sink for OutSink<'_, R> {
         ensures faults { self.old ≤ self.new }
         ensures never_memory { result ≢ Wrote.Memory }
     {
-        match self.rt.write_some(piece) {
-            Ok(count) if count > 0 => Wrote::Took(count),
-            _ => {
-                self.faults = self.faults.saturating_add(1);
-                Wrote::Failed
-            }
+        let answer = write_some(&mut io::writer(self.rt), piece);
+        if answer == Wrote::Failed {
+            self.faults = self.faults.saturating_add(1);
         }
+        answer
     }
 }
 
@@ -61,7 +75,6 @@ mod tests {
     use crate::sink::{WriteFault, write_whole};
     use std::cell::RefCell;
     use std::fmt::Display;
-    use std::io;
     use std::test::Fail;
 
     /// A terminal that takes at most `most` bytes a write and `room` bytes in all. Once it has
