@@ -148,42 +148,29 @@ mod tests {
     }
 
     #[test]
-    fn a_hub_hands_on_to_its_other_members_in_order_of_connection(
-        rt: HostRuntime,
-    ) -> Result<(), Fail> {
+    fn a_member_is_connected_once_and_reaches_the_others(rt: HostRuntime) -> Result<(), Fail> {
         let mut hubs = UartHubs::new(rt.alloc());
-        assert!(rt; hubs.is_empty());
         let first = hubs.create()?;
         let second = hubs.create()?;
-        assert_eq!(rt; (first, second, hubs.len()), (0, 1, 2));
-        for member in [uart(2, 0), uart(0, 1), uart(0, 0)] {
-            assert_eq!(rt; hubs.len(), 2);
-            assert_eq!(rt; hubs.connect(1, member), Ok(()));
+        assert_eq!(rt; (first, second), (0, 1));
+        for (hub, member, answer) in [
+            (1, uart(2, 0), Ok(())),
+            (1, uart(0, 1), Ok(())),
+            (1, uart(0, 0), Ok(())),
+            (0, uart(1, 0), Ok(())),
+            (0, uart(0, 1), Err(HubFault::Already)),
+            (1, uart(0, 1), Err(HubFault::Already)),
+        ] {
+            assert!(rt; (hub as usize) < hubs.len());
+            assert_eq!(rt; hubs.connect(hub, member), answer, "{member:?} at {hub}");
         }
-        assert_eq!(rt; hubs.len(), 2);
-        assert_eq!(rt; hubs.connect(0, uart(1, 0)), Ok(()));
-        assert_eq!(rt; hubs.members(0), [uart(1, 0)].as_slice());
-        assert_eq!(rt;
-            hubs.members(second),
-            [uart(2, 0), uart(0, 1), uart(0, 0)].as_slice()
-        );
-        let others = hubs.route(uart(0, 1))?;
-        assert_eq!(rt; others.as_slice(), [uart(2, 0), uart(0, 0)].as_slice());
-        assert!(rt; hubs.route(uart(1, 0))?.is_empty());
-        assert!(rt; hubs.route(uart(1, 1))?.is_empty());
-        Ok(())
-    }
-
-    #[test]
-    fn a_member_is_connected_once(rt: HostRuntime) -> Result<(), Fail> {
-        let mut hubs = UartHubs::new(rt.alloc());
-        let first = hubs.create()?;
-        let second = hubs.create()?;
-        assert_eq!(rt; hubs.connect(first, uart(3, 1)), Ok(()));
-        assert_eq!(rt; hubs.connect(first, uart(3, 1)), Err(HubFault::Already));
-        assert_eq!(rt; hubs.connect(second, uart(3, 1)), Err(HubFault::Already));
-        assert_eq!(rt; hubs.members(first), [uart(3, 1)].as_slice());
-        assert!(rt; hubs.members(second).is_empty());
+        for (from, others) in [
+            (uart(0, 1), [uart(2, 0), uart(0, 0)].as_slice()),
+            (uart(1, 0), [].as_slice()),
+            (uart(1, 1), [].as_slice()),
+        ] {
+            assert_eq!(rt; hubs.route(from)?.as_slice(), others, "from {from:?}");
+        }
         Ok(())
     }
 }
