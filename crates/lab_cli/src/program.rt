@@ -10,8 +10,8 @@ use std::process::{ExitCode, Termination};
 use std::rt::{Env, Files};
 use std::{env, io};
 
-/// The words after the program's name. Where a word is not UTF-8 there are none. The one error is
-/// want of memory.
+/// The words after the program's name. Where a word is not UTF-8 there are none. It fails only
+/// where memory runs out.
 fn words_of<R: Env + AllocGlobal>(rt: &R) -> io::Result<Vec<String>> {
     match env::args(rt) {
         Ok(words) => Ok(words.skip(1).collect(rt.alloc())?),
@@ -35,7 +35,7 @@ impl Termination for Ended {
     }
 }
 
-/// Runs the program. Where memory for the words is refused it ends as for want of memory.
+/// Runs the program. Where there is no memory for the words, it ends as any run that finds none.
 pub fn run<R: Env + Files + Print + AllocGlobal>(rt: &R) -> Ended {
     let Ok(words) = words_of(rt) else {
         return Ended {

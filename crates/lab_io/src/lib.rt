@@ -1,4 +1,4 @@
-//! Files and outputs behind traits that count their faults: in memory for tests, and the real ones.
+//! Files and outputs that count their faults: the real ones, and ones in memory for tests.
 #![tactic(auto)]
 
 mod disk_files;

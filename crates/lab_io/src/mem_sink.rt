@@ -8,7 +8,7 @@ use std::alloc::{AllocError, Global};
 use std::marker::Model;
 
 /// An output in memory. Each write has a number, counted from 0, and those that are listed fail.
-/// The number stands still at 2^64 - 1 once it is there.
+/// The number stays at 2^64 - 1 once it is there.
 #[derive(Drop)]
 pub struct MemSink {
     bytes: Vec<u8>,

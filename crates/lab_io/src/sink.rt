@@ -28,7 +28,7 @@ pub trait Sink {
     /// All the bytes so far, where they are told.
     ghost written: { Self → Option (List ℕ) };
 
-    /// How many faults there have been. The count stands still at 2^64 - 1 once it is there.
+    /// How many faults there have been. The count stays at 2^64 - 1 once it is there.
     ghost faults: { Self → ℕ };
 
     /// Writes some of the piece, from its front. The caller goes on with the rest.

@@ -1,4 +1,4 @@
-//! Times, the numbers of boards and posts, and the answer for want of memory.
+//! Times, the numbers of boards and posts, and the error for memory that ran out.
 use std::alloc::{AllocError, AllocFailed};
 use std::error::Error;
 use std::fmt;

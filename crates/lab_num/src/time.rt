@@ -19,7 +19,7 @@ pub enum TimeFault {
 /// The greatest time that a text may say, in microseconds.
 const LIMIT: u64 = 10_000_000_000;
 
-/// What stands before and after the first `sign`.
+/// The text before the first `sign` and the text after it.
 fn cut(text: &str, sign: char) -> Option<(&str, &str)>
     requires { sign < 128 }
     ensures { option_map (λ x. (x.0.now, x.1.now)) result ≡ times.cut sign text.now }
@@ -77,7 +77,7 @@ fn clock(text: &str) -> Option<u64>
     sum(hours, minutes, seconds)
 }
 
-/// The microseconds that the digits behind the point say.
+/// The microseconds that the digits after the point say.
 fn fraction(text: &str) -> Option<u64>
     ensures value { result ≡ times.fraction_of text.now }
     ensures fits { IfSome result (λ n. n < 10 ^ 12) }

@@ -12,7 +12,7 @@ use std::marker::Model;
 /// Why a member was not connected.
 #[derive(Clone, Copy, PartialEq, Eq, Debug)]
 pub enum HubFault {
-    /// The member stands in some hub.
+    /// The member is in some hub already.
     Already,
     /// Memory ran out.
     Memory,
@@ -30,7 +30,7 @@ impl From<NoMemory> for HubFault {
 }
 
 /// The hubs that connect UARTs, numbered from 0 in order of creation. Contracts see them as the
-/// lists of their members, in order of connection. No member stands twice in all of them together.
+/// lists of their members, in order of connection. No member is in two hubs, nor twice in one.
 #[derive(Drop, Debug)]
 pub struct UartHubs {
     alloc: Global,
@@ -113,8 +113,8 @@ impl UartHubs {
         Ok(())
     }
 
-    /// The other members of the hub of `from`, in order of connection. Where `from` stands in no
-    /// hub there are none.
+    /// The other members of the hub of `from`, in order of connection. There are none where `from`
+    /// is in no hub.
     pub fn route(&self, from: Member) -> Result<Vec<Member>, NoMemory>
         ensures { IfOk result (λ list. list.items ≡ routes.route self.now from) }
     {
