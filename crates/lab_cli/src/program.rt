@@ -84,7 +84,10 @@ mod tests {
     fn the_words_follow_the_program_name(rt: HostRuntime) -> Result<(), Fail> {
         let alloc: Global = rt.alloc();
         for (words, expected) in [
-            ([b"lab".as_slice(), b"run", b"s.resc"].as_slice(), "run s.resc"),
+            (
+                [b"lab".as_slice(), b"run", b"s.resc"].as_slice(),
+                "run s.resc",
+            ),
             ([b"lab".as_slice(), b"", b"a b"].as_slice(), " a b"),
             ([b"lab".as_slice()].as_slice(), ""),
             // The last word is not UTF-8.
