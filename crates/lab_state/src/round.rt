@@ -97,7 +97,6 @@ fn hand_over(boards: &mut [Board], to: &[Member], payload: &Payload)
 
 /// Hands each post to the other members of its device's hub.
 fn hand_over_all(
-    alloc: Global,
     boards: &mut [Board],
     hubs: &UartHubs,
     posts: &[Post],
@@ -108,7 +107,7 @@ fn hand_over_all(
         ≡ map quiet (fold (to_route hubs.now) (views boards.old) posts.now)) }
 {
     for post in posts {
-        let to = hubs.route(alloc, post.from)?;
+        let to = hubs.route(post.from)?;
         hand_over(boards, &to, &post.payload);
     }
     Ok(())
@@ -160,9 +159,9 @@ pub(crate) fn play(
     };
     step_all(boards, from, q, &mut made)?;
     let Made { posts, entries } = made;
-    let posts = merge_posts(posts)?;
+    let posts = merge_posts(alloc, posts)?;
     let entries = merge_entries(alloc, entries)?;
-    hand_over_all(alloc, boards, hubs, &posts)?;
+    hand_over_all(boards, hubs, &posts)?;
     items_of(alloc, &entries)
 }
 
