@@ -1,6 +1,6 @@
 -- Bytes of a memory.
-use Rattle.std.proofs.Common.{◌≡◌, ℕ, suc, ◌+◌, ◌<◌, ◌≤◌, List, [], ◌∷◌, ◌++◌, length, refl, sym, ◌∙◌, arith, add-one, add-zero, append_assoc, length-set}
-use Rattle.std.specs.Prelude.{slice_set, take, drop}
+use Rattle.std.proofs.Common.{◌≡◌, ℕ, suc, ◌+◌, ◌<◌, ◌≤◌, List, [], ◌∷◌, length, refl, sym, ◌∙◌, arith, add-one, add-zero, append_assoc, length-set}
+use Rattle.std.specs.Prelude.{slice_set}
 use Rattle.std.proofs.Math.Seq.{take-suc-set}
 use Rattle.std.proofs.lemmas.List.{drop-set-lt, take-append-drop}
 use Rattle.board.specs.Memory.{put_bytes}

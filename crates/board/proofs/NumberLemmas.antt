@@ -6,10 +6,10 @@ use Rattle.std.proofs.lemmas.List.{map-append, length-map}
 use Rattle.lab_num.specs.declared.key.Key.{Key}
 use Rattle.lab_num.specs.Paid.{slot_at}
 use Rattle.rv_hart.specs.declared.csr.Lines.{Lines}
-use Rattle.rv_hart.specs.Core.{Core, ticked}
+use Rattle.rv_hart.specs.Core.{ticked}
 use Rattle.rv_hart.specs.Trap.{chosen, interrupt, is_ready}
 use Rattle.rv_exec.specs.Effect.{Effect, Done, Load, Store, effect_of_fetch}
-use Rattle.board.specs.Space.{Space, place_of, after_load, after_store, byte_sent, lines_of}
+use Rattle.board.specs.Space.{place_of, after_load, after_store, byte_sent, lines_of}
 use Rattle.board.specs.Numbers.{Numbers}
 use Rattle.board.specs.Wires.{Wires, sent, sent_if, posted, entered, fetched, answer}
 use Rattle.board.specs.View.{View, State, wires_of, state_of, after}

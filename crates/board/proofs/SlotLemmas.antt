@@ -1,12 +1,12 @@
 -- What a slot makes comes after what was made before.
-use Rattle.std.proofs.Common.{◌≡◌, ℕ, Bool, true, false, [], ◌++◌, refl, sym, ap, ◌∙◌}
+use Rattle.std.proofs.Common.{◌≡◌, ℕ, Bool, true, false, [], ◌++◌, refl, sym, ap}
 use Rattle.std.specs.Prelude.{if◌then◌else◌, Option, None, Some}
 use Rattle.std.specs.Option.{option_map_or}
 use Rattle.std.proofs.lemmas.List.{append-nil}
 use Rattle.rv_hart.specs.declared.csr.Lines.{Lines}
 use Rattle.rv_hart.specs.Core.{Core}
 use Rattle.rv_hart.specs.Trap.{chosen, interrupt, is_ready}
-use Rattle.board.specs.Space.{Space, place_of, after_load, after_store, byte_sent, lines_of}
+use Rattle.board.specs.Space.{place_of, after_store, byte_sent, lines_of}
 use Rattle.board.specs.Wires.{Wires, posted, entered, sent, sent_if, fetched, answer, loaded, stored}
 use Rattle.rv_exec.specs.Effect.{Effect, Done, Load, Store, effect_of_fetch, core_after, bus_after}
 use Rattle.board.specs.View.{View, State, wires_of, state_of, after}

@@ -1,4 +1,4 @@
-use Rattle.std.proofs.Common.{◌∙◌, ap, sym, arith}
+use Rattle.std.proofs.Common.{◌∙◌, sym}
 use Rattle.board.proofs.SlotLemmas.{act-instruction, speed-effect}
 use Rattle.board.proofs.board.Board.act.Goals as goal
 

@@ -1,4 +1,4 @@
-use Rattle.std.proofs.Common.{◌≡◌, ◌∙◌, ap, sym, refl, arith, add-zero, add-suc, add-one, add_assoc, ◌+◌, ◌*◌, ◌<◌, ◌≤◌, ◌/◌}
+use Rattle.std.proofs.Common.{◌≡◌, ◌∙◌, ap, sym, arith, add-zero, ◌+◌, ◌/◌}
 use Rattle.std.proofs.lemmas.Nat.{div-add-mod', div-mul-add, mod_below}
 use Rattle.board.proofs.StretchLemmas.{after_none, after_more, slot_within, slot_begins}
 use Rattle.board.proofs.board.Board.turn.Goals as goal
