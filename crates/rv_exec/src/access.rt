@@ -1,16 +1,17 @@
 //! Loads and stores (RISC-V Unprivileged ISA 20191213, section 2.6).
-ghost use Rattle.std.specs.Prelude.{◌≡◌, ◌%◌, ◌^◌, ◌<◌, OnOk, OnErr};
+ghost use Rattle.std.specs.Prelude.{◌≡◌, ◌==◌, ◌%◌, ◌^◌, ◌<◌, IfOk, OnOk, OnErr};
 ghost use Rattle.std.specs.Int.{w8, w16};
 ghost use Rattle.rv_decode.specs.Means.{IsInstr};
 ghost use Rattle.rv_exec.specs.Word.{extended};
 ghost use Rattle.rv_exec.specs.Access.{IsWidth, IsWidthOf, shaped};
-ghost use Rattle.rv_exec.specs.Effect.{AsksBus, bus_after, core_after, loads, stores};
+ghost use Rattle.rv_exec.specs.Effect.{AsksBus, bus_after, loads, outcome_on, stores};
+ghost use Rattle.rv_exec.specs.Outcome.{outcome};
 
 use crate::alu::add;
 use crate::bus::{Bus, NoMemory};
-use crate::finish::{advance, finish, trap};
+use crate::ending::{Ending, advance, finish, trap};
 use rv_decode::Instr;
-use rv_hart::Hart;
+use rv_hart::{Exception, Hart};
 
 /// How a loaded number fills a register.
 #[derive(Clone, Copy, PartialEq, Eq, Debug)]
@@ -52,6 +53,18 @@ fn shape_word(shape: Shape, width: u8, answer: u32) -> u32
     }
 }
 
+/// Whether an address is divisible by a width.
+fn is_aligned(at: u32, width: u8) -> bool
+    requires { IsWidth width }
+    ensures { result ≡ (at % width == 0) }
+{
+    match width {
+        1 => true,
+        2 => at % 2 == 0,
+        _ => at % 4 == 0,
+    }
+}
+
 /// The lower bytes of a word.
 fn low_bytes(value: u32, width: u8) -> u32
     requires { IsWidth width }
@@ -65,17 +78,18 @@ fn low_bytes(value: u32, width: u8) -> u32
 }
 
 /// Loads into a register.
+#[inline(always)]
 pub fn load<B: Bus>(
     hart: &mut Hart,
     bus: &mut B,
     i: &Instr,
     width: u8,
     shape: Shape,
-) -> Result<(), NoMemory>
+) -> Result<Ending, NoMemory>
     requires fields { IsInstr i.now }
     requires width { IsWidthOf shape width }
     ensures core { let effect = loads hart.old i.now width shape in
-        OnOk result (hart.new ≡ core_after B.answer bus.old effect) }
+        IfOk result (λ ending. outcome hart.new ending ≡ outcome_on B.answer bus.old effect) }
     ensures bus { let effect = loads hart.old i.now width shape in
         OnOk result (bus.new ≡ bus_after B.loaded B.stored bus.old effect) }
     ensures asked { OnErr result (AsksBus (loads hart.old i.now width shape)) }
@@ -83,21 +97,25 @@ pub fn load<B: Bus>(
     ensures bus_err { OnErr result (bus.new ≡ bus.old) }
 {
     let at = add(hart.register(i.rs1), i.imm);
-    if at % u32::from(width) != 0 {
-        trap(hart, 4, at);
-        return Ok(());
+    if !is_aligned(at, width) {
+        return Ok(trap(hart, Exception::LoadAddressMisaligned, at));
     }
     let answer = bus.load(at, width)?;
-    finish(hart, i.rd, shape_word(shape, width, answer));
-    Ok(())
+    Ok(finish(hart, i.rd, shape_word(shape, width, answer)))
 }
 
 /// Stores the lower bytes of a register.
-pub fn store<B: Bus>(hart: &mut Hart, bus: &mut B, i: &Instr, width: u8) -> Result<(), NoMemory>
+#[inline(always)]
+pub fn store<B: Bus>(
+    hart: &mut Hart,
+    bus: &mut B,
+    i: &Instr,
+    width: u8,
+) -> Result<Ending, NoMemory>
     requires fields { IsInstr i.now }
     requires width { IsWidth width }
     ensures core { let effect = stores hart.old i.now width in
-        OnOk result (hart.new ≡ core_after B.answer bus.old effect) }
+        IfOk result (λ ending. outcome hart.new ending ≡ outcome_on B.answer bus.old effect) }
     ensures bus { let effect = stores hart.old i.now width in
         OnOk result (bus.new ≡ bus_after B.loaded B.stored bus.old effect) }
     ensures asked { OnErr result (AsksBus (stores hart.old i.now width)) }
@@ -105,11 +123,9 @@ pub fn store<B: Bus>(hart: &mut Hart, bus: &mut B, i: &Instr, width: u8) -> Resu
     ensures bus_err { OnErr result (bus.new ≡ bus.old) }
 {
     let at = add(hart.register(i.rs1), i.imm);
-    if at % u32::from(width) != 0 {
-        trap(hart, 6, at);
-        return Ok(());
+    if !is_aligned(at, width) {
+        return Ok(trap(hart, Exception::StoreAddressMisaligned, at));
     }
     bus.store(at, width, low_bytes(hart.register(i.rs2), width))?;
-    advance(hart);
-    Ok(())
+    Ok(advance(hart))
 }
