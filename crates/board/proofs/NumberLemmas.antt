@@ -8,6 +8,7 @@ use Rattle.lab_num.specs.Paid.{slot_at}
 use Rattle.rv_hart.specs.declared.csr.Lines.{Lines}
 use Rattle.rv_hart.specs.Core.{ticked}
 use Rattle.rv_hart.specs.Trap.{chosen, interrupt, is_ready}
+use Rattle.rv_exec.specs.Outcome.{counted}
 use Rattle.rv_exec.specs.Effect.{Effect, Done, Load, Store, effect_of_fetch}
 use Rattle.board.specs.Space.{place_of, after_load, after_store, byte_sent, lines_of}
 use Rattle.board.specs.Numbers.{Numbers}
@@ -74,13 +75,13 @@ numbered_sent_if v t (Some byte) posts entries = numbered_sent v t byte posts en
 numbered_effect :
     (v : View) (t : ℕ) (effect : Effect) → v.numbers.posted + 1 < 2 ^ 64 → v.numbers.entered + 1 < 2 ^ 64 →
     IsNumbered v.numbers 1 (carried_out (wires_of v t) effect)
-numbered_effect v t (Done core) posts entries = numbered_none (record v { core = core }) 1
+numbered_effect v t (Done done) posts entries = numbered_none (record v { core = counted done }) 1
 numbered_effect v t (Load at width complete) posts entries =
-    let core = complete (answer (wires_of v t) at width) in
+    let core = counted (complete (answer (wires_of v t) at width)) in
     numbered_none (record v { core = core; space = after_load v.space (place_of v.space at width) }) 1
-numbered_effect v t (Store at width value core) posts entries =
+numbered_effect v t (Store at width value done) posts entries =
     let place = place_of v.space at width in
-    numbered_sent_if (record v { core = core; space = after_store v.space width value place }) t (byte_sent value place) posts entries
+    numbered_sent_if (record v { core = counted done; space = after_store v.space width value place }) t (byte_sent value place) posts entries
 
 numbered_act :
     (v : View) (t : ℕ) (lines : Lines) → v.numbers.posted + 1 < 2 ^ 64 → v.numbers.entered + 1 < 2 ^ 64 →

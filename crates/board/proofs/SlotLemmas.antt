@@ -43,9 +43,9 @@ sent_if-emptied w (Some byte) = sent-emptied w byte
 bus_after-emptied :
     (w : Wires) (effect : Effect) →
     bus_after loaded stored w effect ≡ behind w (bus_after loaded stored (emptied w) effect)
-bus_after-emptied w (Done core) = behind-emptied w
+bus_after-emptied w (Done done) = behind-emptied w
 bus_after-emptied w (Load at width complete) = behind-emptied (loaded w at width)
-bus_after-emptied w (Store at width value core) =
+bus_after-emptied w (Store at width value done) =
     let place = place_of w.space at width in
     sent_if-emptied (record w { space = after_store w.space width value place }) (byte_sent value place)
 
@@ -72,6 +72,11 @@ act-instruction core core' w begun w' t lines none begins core_is wires_is =
     rw (core_is, wires_is, begins, none)
     (state_of-effect core (record w { at = t }) (effect_of_fetch core (fetched (record w { at = t }) core.pc) lines))
 
+-- slots of a halted board change nothing
+pub slot-halted : (v : View) (t : ℕ) → v.core.halted ≡ true → slot v t ≡ quiet v
+unfolding slot
+slot-halted v t halted = rw halted refl
+
 -- a slot keeps the speed
 pub speed-sent_if : (w : Wires) (byte : Option ℕ) → (sent_if w byte).numbers.speed ≡ w.numbers.speed
 unfolding sent
@@ -84,9 +89,9 @@ speed-sent_if w (Some byte) = by_shown w.space.shown
     by_shown false = refl
 
 pub speed-effect : (w : Wires) (effect : Effect) → (bus_after loaded stored w effect).numbers.speed ≡ w.numbers.speed
-speed-effect w (Done core) = refl
+speed-effect w (Done done) = refl
 speed-effect w (Load at width complete) = refl
-speed-effect w (Store at width value core) =
+speed-effect w (Store at width value done) =
     let place = place_of w.space at width in
     speed-sent_if (record w { space = after_store w.space width value place }) (byte_sent value place)
 

@@ -106,6 +106,9 @@ impl Board {
         requires { at.from.0 + (at.first + n) / self.old.view.numbers.speed ≤ 10000000000 }
         ensures { IsTurn self.old at.from.0 at.first n result self.new }
     {
+        if self.halted() {
+            return Turn::Used(n);
+        }
         let speed = u64::from(self.speed());
         let mut micros = at.first / speed;
         let mut within = at.first % speed;

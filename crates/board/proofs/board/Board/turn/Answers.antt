@@ -1,6 +1,6 @@
-use Rattle.std.proofs.Common.{◌≡◌, ◌∙◌, ap, sym, arith, add-zero, ◌+◌, ◌/◌}
+use Rattle.std.proofs.Common.{◌≡◌, ◌∙◌, ap, refl, sym, arith, add-zero, ◌+◌, ◌/◌}
 use Rattle.std.proofs.lemmas.Nat.{div-add-mod', div-mul-add, mod_below}
-use Rattle.board.proofs.StretchLemmas.{after_none, after_more, slot_within, slot_begins}
+use Rattle.board.proofs.StretchLemmas.{after_none, after_halted, after_more, slot_within, slot_begins}
 use Rattle.board.proofs.board.Board.turn.Goals as goal
 use Rattle.board.proofs.board.Board.turn.Goals.{then-within-speed, else-within-speed}
 
@@ -33,3 +33,6 @@ loop-i-preserved c =
         | else-within-speed w ↦ rw (w.within-is) (omega (arith, w.if-within-speed, c.loop-i.invariant.within))
       ];
     }
+
+pub returns-then-halted : goal.returns-then-halted
+returns-then-halted c = (refl, after_halted _ _ _ _ (sym c.halted.ensures ∙ c.if-halted.true))
