@@ -14,7 +14,7 @@ use Rattle.board.specs.Space.{place_of, after_load, after_store, byte_sent, line
 use Rattle.board.specs.Numbers.{Numbers}
 use Rattle.board.specs.Wires.{Wires, sent, sent_if, posted, entered, fetched, answer}
 use Rattle.board.specs.View.{View, State, wires_of, state_of, after}
-use Rattle.board.specs.Slot.{slot, act, waited, quiet, cycle, carried_out, instruction}
+use Rattle.board.specs.Slot.{slot, awake, asleep, quiet, cycle, carried_out, instruction}
 use Rattle.board.specs.Stretch.{stretch}
 use Rattle.board.specs.Numbered.{AreNumbered, IsNumbered}
 
@@ -83,11 +83,11 @@ numbered_effect v t (Store at width value done) posts entries =
     let place = place_of v.space at width in
     numbered_sent_if (record v { core = counted done; space = after_store v.space width value place }) t (byte_sent value place) posts entries
 
-numbered_act :
+numbered_awake :
     (v : View) (t : ℕ) (lines : Lines) → v.numbers.posted + 1 < 2 ^ 64 → v.numbers.entered + 1 < 2 ^ 64 →
-    IsNumbered v.numbers 1 (act v t lines)
-unfolding act
-numbered_act v t lines posts entries = by_chosen (chosen v.core lines.mip)
+    IsNumbered v.numbers 1 (awake v t lines)
+unfolding awake
+numbered_awake v t lines posts entries = by_chosen (chosen v.core lines.mip)
   where
     by_chosen :
         (taken : Option ℕ) →
@@ -95,15 +95,15 @@ numbered_act v t lines posts entries = by_chosen (chosen v.core lines.mip)
     by_chosen None = numbered_effect v t (effect_of_fetch v.core (fetched (wires_of v t) v.core.pc) lines) posts entries
     by_chosen (Some n) = numbered_none (record v { core = ticked (interrupt v.core n) }) 1
 
-numbered_waited :
+numbered_asleep :
     (v : View) (t : ℕ) (lines : Lines) → v.numbers.posted + 1 < 2 ^ 64 → v.numbers.entered + 1 < 2 ^ 64 →
-    IsNumbered v.numbers 1 (waited v t lines)
-numbered_waited v t lines posts entries = by_ready (is_ready v.core lines.mip)
+    IsNumbered v.numbers 1 (asleep v t lines)
+numbered_asleep v t lines posts entries = by_ready (is_ready v.core lines.mip)
   where
     by_ready :
         (ready : Bool) →
-        IsNumbered v.numbers 1 (if ready then act (record v { core = record v.core { waiting = false } }) t lines else cycle v v.core)
-    by_ready true = numbered_act (record v { core = record v.core { waiting = false } }) t lines posts entries
+        IsNumbered v.numbers 1 (if ready then awake (record v { core = record v.core { waiting = false } }) t lines else cycle v v.core)
+    by_ready true = numbered_awake (record v { core = record v.core { waiting = false } }) t lines posts entries
     by_ready false = numbered_none (record v { core = ticked v.core }) 1
 
 numbered_slot :
@@ -115,11 +115,11 @@ numbered_slot v t posts entries = by_tests v.core.halted v.core.waiting
     by_tests :
         (halted waiting : Bool) →
         IsNumbered v.numbers 1 (if halted then quiet v
-        else if waiting then waited v t (lines_of v.space t)
-        else act v t (lines_of v.space t))
+        else if waiting then asleep v t (lines_of v.space t)
+        else awake v t (lines_of v.space t))
     by_tests true waiting = numbered_none v 1
-    by_tests false true = numbered_waited v t (lines_of v.space t) posts entries
-    by_tests false false = numbered_act v t (lines_of v.space t) posts entries
+    by_tests false true = numbered_asleep v t (lines_of v.space t) posts entries
+    by_tests false false = numbered_awake v t (lines_of v.space t) posts entries
 
 -- keys that come after others go on with the numbers
 AreNumbered-append : (board first : ℕ) (xs ys : List Key) → AreNumbered board first xs → AreNumbered board (first + length xs) ys → AreNumbered board first (xs ++ ys)

@@ -10,7 +10,7 @@ use Rattle.board.specs.Space.{place_of, after_store, byte_sent, lines_of}
 use Rattle.board.specs.Wires.{Wires, posted, entered, sent, sent_if, fetched, answer, loaded, stored}
 use Rattle.rv_exec.specs.Effect.{Effect, Done, Load, Store, effect_of_fetch, core_after, bus_after}
 use Rattle.board.specs.View.{View, State, wires_of, state_of, after}
-use Rattle.board.specs.Slot.{slot, act, waited, quiet, cycle, carried_out, instruction}
+use Rattle.board.specs.Slot.{slot, awake, asleep, quiet, cycle, carried_out, instruction}
 
 -- wires by which nothing was made yet
 abbrev pub emptied : Wires → Wires
@@ -61,14 +61,14 @@ pub quiet-behind : (s : State) → s ≡ after s (quiet s.view)
 quiet-behind s = sym (simp append-nil)
 
 -- a slot in which an instruction is done, of a board at the beginning and at the end of it
-pub act-instruction :
+pub awake-instruction :
     (core core' : Core) (w begun w' : Wires) (t : ℕ) (lines : Lines) →
     chosen core lines.mip ≡ None → begun ≡ record w { at = t } →
     core' ≡ core_after answer begun (effect_of_fetch core (fetched begun core.pc) lines) →
     w' ≡ bus_after loaded stored begun (effect_of_fetch core (fetched begun core.pc) lines) →
-    state_of core' w' ≡ after (state_of core w) (act (state_of core w).view t lines)
-unfolding act
-act-instruction core core' w begun w' t lines none begins core_is wires_is =
+    state_of core' w' ≡ after (state_of core w) (awake (state_of core w).view t lines)
+unfolding awake
+awake-instruction core core' w begun w' t lines none begins core_is wires_is =
     rw (core_is, wires_is, begins, none)
     (state_of-effect core (record w { at = t }) (effect_of_fetch core (fetched (record w { at = t }) core.pc) lines))
 
@@ -95,9 +95,9 @@ speed-effect w (Store at width value done) =
     let place = place_of w.space at width in
     speed-sent_if (record w { space = after_store w.space width value place }) (byte_sent value place)
 
-speed-act : (v : View) (t : ℕ) (lines : Lines) → (act v t lines).view.numbers.speed ≡ v.numbers.speed
-unfolding act
-speed-act v t lines = by_chosen (chosen v.core lines.mip)
+speed-awake : (v : View) (t : ℕ) (lines : Lines) → (awake v t lines).view.numbers.speed ≡ v.numbers.speed
+unfolding awake
+speed-awake v t lines = by_chosen (chosen v.core lines.mip)
   where
     by_chosen :
         (taken : Option ℕ) →
@@ -106,14 +106,14 @@ speed-act v t lines = by_chosen (chosen v.core lines.mip)
     by_chosen None = speed-effect (wires_of v t) (effect_of_fetch v.core (fetched (wires_of v t) v.core.pc) lines)
     by_chosen (Some n) = refl
 
-speed-waited : (v : View) (t : ℕ) (lines : Lines) → (waited v t lines).view.numbers.speed ≡ v.numbers.speed
-speed-waited v t lines = by_ready (is_ready v.core lines.mip)
+speed-asleep : (v : View) (t : ℕ) (lines : Lines) → (asleep v t lines).view.numbers.speed ≡ v.numbers.speed
+speed-asleep v t lines = by_ready (is_ready v.core lines.mip)
   where
     by_ready :
         (ready : Bool) →
-        (if ready then act (record v { core = record v.core { waiting = false } }) t lines else cycle v v.core).view.numbers.speed
+        (if ready then awake (record v { core = record v.core { waiting = false } }) t lines else cycle v v.core).view.numbers.speed
         ≡ v.numbers.speed
-    by_ready true = speed-act (record v { core = record v.core { waiting = false } }) t lines
+    by_ready true = speed-awake (record v { core = record v.core { waiting = false } }) t lines
     by_ready false = refl
 
 pub speed-slot : (v : View) (t : ℕ) → (slot v t).view.numbers.speed ≡ v.numbers.speed
@@ -123,8 +123,8 @@ speed-slot v t = by_tests v.core.halted v.core.waiting
     by_tests :
         (halted waiting : Bool) →
         (if halted then quiet v
-        else if waiting then waited v t (lines_of v.space t)
-        else act v t (lines_of v.space t)).view.numbers.speed ≡ v.numbers.speed
+        else if waiting then asleep v t (lines_of v.space t)
+        else awake v t (lines_of v.space t)).view.numbers.speed ≡ v.numbers.speed
     by_tests true waiting = refl
-    by_tests false true = speed-waited v t (lines_of v.space t)
-    by_tests false false = speed-act v t (lines_of v.space t)
+    by_tests false true = speed-asleep v t (lines_of v.space t)
+    by_tests false false = speed-awake v t (lines_of v.space t)

@@ -69,8 +69,8 @@ impl Space {
 
     /// What the interrupt lines and the timer show in a microsecond: nothing is wired to the
     /// processor's pins yet.
-    pub fn lines(&self, _at: Micros) -> Lines
-        ensures { result ≡ lines_of self.now _at.0 }
+    pub fn lines(&self, at: Micros) -> Lines
+        ensures { result ≡ lines_of self.now at.0 }
     {
         Lines { mip: 0, mtime: 0 }
     }
