@@ -10,7 +10,7 @@ use Rattle.board.specs.Space.{place_of, after_store, byte_sent, lines_of}
 use Rattle.board.specs.Wires.{Wires, posted, entered, sent, sent_if, fetched, answer, loaded, stored}
 use Rattle.rv_exec.specs.Effect.{Effect, Done, Load, Store, effect_of_fetch, core_after, bus_after}
 use Rattle.board.specs.View.{View, State, wires_of, state_of, after}
-use Rattle.board.specs.Slot.{slot, awake, asleep, quiet, cycle, carried_out, instruction}
+use Rattle.board.specs.Slot.{slot, awake, asleep, woken, quiet, cycle, carried_out, instruction}
 
 -- wires by which nothing was made yet
 abbrev pub emptied : Wires → Wires
@@ -110,10 +110,8 @@ speed-asleep : (v : View) (t : ℕ) (lines : Lines) → (asleep v t lines).view.
 speed-asleep v t lines = by_ready (is_ready v.core lines.mip)
   where
     by_ready :
-        (ready : Bool) →
-        (if ready then awake (record v { core = record v.core { waiting = false } }) t lines else cycle v v.core).view.numbers.speed
-        ≡ v.numbers.speed
-    by_ready true = speed-awake (record v { core = record v.core { waiting = false } }) t lines
+        (ready : Bool) → (if ready then awake (woken v) t lines else cycle v v.core).view.numbers.speed ≡ v.numbers.speed
+    by_ready true = speed-awake (woken v) t lines
     by_ready false = refl
 
 pub speed-slot : (v : View) (t : ℕ) → (slot v t).view.numbers.speed ≡ v.numbers.speed
@@ -121,10 +119,9 @@ unfolding slot
 speed-slot v t = by_tests v.core.halted v.core.waiting
   where
     by_tests :
-        (halted waiting : Bool) →
-        (if halted then quiet v
-        else if waiting then asleep v t (lines_of v.space t)
-        else awake v t (lines_of v.space t)).view.numbers.speed ≡ v.numbers.speed
+        (halted waiting : Bool) → let lines = lines_of v.space t in
+        (if halted then quiet v else if waiting then asleep v t lines else awake v t lines).view.numbers.speed
+        ≡ v.numbers.speed
     by_tests true waiting = refl
     by_tests false true = speed-asleep v t (lines_of v.space t)
     by_tests false false = speed-awake v t (lines_of v.space t)

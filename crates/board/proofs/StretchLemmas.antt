@@ -78,4 +78,5 @@ pub turns-add :
     (v : View) (from a : ℕ) (turns : List ℕ) → in_turns v from a turns ≡ stretch v from a (sum turns)
 turns-add v from a [] = stretch-none v from a
 turns-add v from a (n ∷ turns) =
-    rw (sum_by-cons (λ x. x) n turns, stretch-add v from a n (sum turns), turns-add (stretch v from a n).view from (a + n) turns) refl
+    let rest = turns-add (stretch v from a n).view from (a + n) turns in
+    rw (sum_by-cons (λ x. x) n turns, stretch-add v from a n (sum turns), rest) refl

@@ -30,11 +30,14 @@ instruction v t lines =
 unfoldable pub awake : View → ℕ → Lines → State
 awake v t lines = option_map_or (λ n. cycle v (interrupt v.core n)) (chosen v.core lines.mip) (instruction v t lines)
 
--- a slot of a processor that waits: where an interrupt is pending and enabled it waits no more, and else its cycle passes
+-- a board whose processor waits no more
+abbrev pub woken : View → View
+woken v = record v { core = record v.core { waiting = false } }
+
+-- a slot of a processor that waits: it is woken where an interrupt is pending and enabled, and else its cycle passes
 abbrev pub asleep : View → ℕ → Lines → State
 asleep v t lines =
-    if is_ready v.core lines.mip then awake (record v { core = record v.core { waiting = false } }) t lines
-    else cycle v v.core
+    if is_ready v.core lines.mip then awake (woken v) t lines else cycle v v.core
 
 -- The steps of a slot at a microsecond, in their order. A halted processor's slot changes nothing. No interrupt
 -- controller samples its sources yet. The lines are read. A processor that waits goes on waiting, or waits no more. An

@@ -5,8 +5,9 @@ use Rattle.lab_num.specs.declared.post.Post.{Post}
 use Rattle.lab_num.specs.declared.post.Payload.TheVariants as payload
 use Rattle.lab_num.specs.declared.post.Entry.{Entry}
 use Rattle.lab_num.specs.declared.post.What.TheVariants as what
+use Rattle.board.specs.Memory.{word_in}
 use Rattle.board.specs.Numbers.{Numbers, after_post, after_entry}
-use Rattle.board.specs.Space.{Space, place_of, word_of, load_answer, after_load, after_store, byte_sent}
+use Rattle.board.specs.Space.{Space, place_of, load_answer, after_load, after_store, byte_sent}
 
 -- the board's numbers, its space, the microsecond of the slot, and the posts and entries that nobody has taken
 pub record Wires : Type 0 where
@@ -48,9 +49,9 @@ abbrev pub sent_if : Wires → Option ℕ → Wires
 sent_if w None = w
 sent_if w (Some byte) = sent w byte
 
--- the word at an address, if the memory holds it
+-- the word of an instruction at an address, if the memory holds it
 abbrev pub fetched : Wires → ℕ → Option ℕ
-fetched w at = word_of w.space at
+fetched w at = word_in w.space.memory at
 
 -- what a load answers, and what it changes
 abbrev pub answer : Wires → ℕ → ℕ → ℕ

@@ -141,8 +141,8 @@ impl Board {
         self.act(at, lines)
     }
 
-    /// A slot of a processor that waits: it goes on waiting, or is woken. After an `Err` the board is
-    /// as before.
+    /// A slot of a processor that waits: it goes on waiting, or is woken. After an `Err` the board
+    /// is as before.
     #[cold]
     fn wait(&mut self, at: Micros, lines: Lines) -> Result<(), NoMemory>
         requires { self.old.view.core.waiting ≡ true }

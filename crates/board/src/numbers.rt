@@ -5,8 +5,8 @@ ghost use Rattle.board.specs.Numbers.{after_post, after_entry};
 use lab_num::BoardNo;
 use std::marker::Model;
 
-/// A board's own number, its speed in instructions a microsecond, and how many posts and log entries
-/// it has made.
+/// A board's own number, its speed in instructions a microsecond, and how many posts and log
+/// entries it has made.
 #[derive(Drop)]
 pub struct Numbers {
     pub number: BoardNo,

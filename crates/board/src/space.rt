@@ -2,8 +2,9 @@
 ghost use Rattle.std.specs.Prelude.{◌≡◌, ◌^◌, ◌<◌, ◌≤◌, false, IfOk};
 ghost use Rattle.board.specs.Early.{zeros};
 ghost use Rattle.rv_exec.specs.Access.{IsWidth};
+ghost use Rattle.board.specs.Memory.{word_in};
 ghost use Rattle.board.specs.Uart.{silent};
-ghost use Rattle.board.specs.Space.{place_of, word_of, load_answer, after_load, after_store, byte_sent, lines_of};
+ghost use Rattle.board.specs.Space.{place_of, load_answer, after_load, after_store, byte_sent, lines_of};
 ghost use Rattle.board.specs.Inner.Lies.{LiesIn};
 
 use crate::memory::Memory;
@@ -93,12 +94,9 @@ impl Space {
 
     /// The word of an instruction at an address. Instructions stand in the memory alone.
     pub fn word(&self, at: u32) -> Option<u32>
-        ensures { result ≡ word_of self.now at }
+        ensures { result ≡ word_in self.now.memory at }
     {
-        match self.memory.find(at, 4) {
-            Some(i) => Some(self.memory.load(i, 4)),
-            None => None,
-        }
+        self.memory.word(at)
     }
 
     /// Loads from the memory, or the UART's register at the address, or 0.
