@@ -12,7 +12,7 @@ use Rattle.rv_exec.specs.Outcome.{counted}
 use Rattle.rv_exec.specs.Effect.{Effect, Done, Load, Store, effect_of_fetch}
 use Rattle.board.specs.Space.{place_of, after_load, after_store, byte_sent, lines_of}
 use Rattle.board.specs.Numbers.{Numbers}
-use Rattle.board.specs.Wires.{Wires, sent, sent_if, posted, entered, fetched, answer}
+use Rattle.board.specs.Wires.{sent, sent_if, posted, entered, fetched, answer}
 use Rattle.board.specs.View.{View, State, wires_of, state_of, after}
 use Rattle.board.specs.Slot.{slot, awake, asleep, woken, quiet, cycle, carried_out, instruction}
 use Rattle.board.specs.Stretch.{stretch}

@@ -110,7 +110,8 @@ speed-asleep : (v : View) (t : ℕ) (lines : Lines) → (asleep v t lines).view.
 speed-asleep v t lines = by_ready (is_ready v.core lines.mip)
   where
     by_ready :
-        (ready : Bool) → (if ready then awake (woken v) t lines else cycle v v.core).view.numbers.speed ≡ v.numbers.speed
+        (ready : Bool) →
+        (if ready then awake (woken v) t lines else cycle v v.core).view.numbers.speed ≡ v.numbers.speed
     by_ready true = speed-awake (woken v) t lines
     by_ready false = refl
 

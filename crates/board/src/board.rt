@@ -100,8 +100,8 @@ impl Board {
     }
 
     /// Takes the next `n` slots. Slot `i` of the call lies in microsecond
-    /// `at.from + (at.first + i) / speed`. A halted board's slots pass and change nothing. `Starved`
-    /// is for want of memory alone.
+    /// `at.from + (at.first + i) / speed`. A halted board's slots pass and change nothing.
+    /// `Starved` is for want of memory alone.
     pub fn turn(&mut self, at: SlotAt, n: u64) -> Turn
         requires { at.from.0 + (at.first + n) / self.old.view.numbers.speed ≤ 10000000000 }
         ensures { IsTurn self.old at.from.0 at.first n result self.new }
