@@ -1,15 +1,14 @@
 //! Loads and stores (RISC-V Unprivileged ISA 20191213, section 2.6).
-ghost use Rattle.std.specs.Prelude.{◌≡◌, ◌==◌, ◌%◌, ◌^◌, ◌<◌, IfOk, OnOk, OnErr};
+ghost use Rattle.std.specs.Prelude.{◌≡◌, ◌==◌, ◌%◌, ◌^◌, ◌<◌, OnOk, OnErr};
 ghost use Rattle.std.specs.Int.{w8, w16};
 ghost use Rattle.rv_decode.specs.Means.{IsInstr};
 ghost use Rattle.rv_exec.specs.Word.{extended};
 ghost use Rattle.rv_exec.specs.Access.{IsWidth, IsWidthOf, shaped};
-ghost use Rattle.rv_exec.specs.Effect.{AsksBus, bus_after, loads, outcome_on, stores};
-ghost use Rattle.rv_exec.specs.Outcome.{outcome};
+ghost use Rattle.rv_exec.specs.Effect.{AsksBus, bus_after, core_after, loads, stores};
 
 use crate::alu::add;
 use crate::bus::{Bus, NoMemory};
-use crate::ending::{Ending, advance, finish, trap};
+use crate::ending::{advance, finish, trap};
 use rv_decode::Instr;
 use rv_hart::{Exception, Hart};
 
@@ -85,11 +84,11 @@ pub fn load<B: Bus>(
     i: &Instr,
     width: u8,
     shape: Shape,
-) -> Result<Ending, NoMemory>
+) -> Result<(), NoMemory>
     requires fields { IsInstr i.now }
     requires width { IsWidthOf shape width }
     ensures core { let effect = loads hart.old i.now width shape in
-        IfOk result (λ ending. outcome hart.new ending ≡ outcome_on B.answer bus.old effect) }
+        OnOk result (hart.new ≡ core_after B.answer bus.old effect) }
     ensures bus { let effect = loads hart.old i.now width shape in
         OnOk result (bus.new ≡ bus_after B.loaded B.stored bus.old effect) }
     ensures asked { OnErr result (AsksBus (loads hart.old i.now width shape)) }
@@ -98,10 +97,12 @@ pub fn load<B: Bus>(
 {
     let at = add(hart.register(i.rs1), i.imm);
     if !is_aligned(at, width) {
-        return Ok(trap(hart, Exception::LoadAddressMisaligned, at));
+        trap(hart, Exception::LoadAddressMisaligned, at);
+        return Ok(());
     }
     let answer = bus.load(at, width)?;
-    Ok(finish(hart, i.rd, shape_word(shape, width, answer)))
+    finish(hart, i.rd, shape_word(shape, width, answer));
+    Ok(())
 }
 
 /// Stores the lower bytes of a register.
@@ -111,11 +112,11 @@ pub fn store<B: Bus>(
     bus: &mut B,
     i: &Instr,
     width: u8,
-) -> Result<Ending, NoMemory>
+) -> Result<(), NoMemory>
     requires fields { IsInstr i.now }
     requires width { IsWidth width }
     ensures core { let effect = stores hart.old i.now width in
-        IfOk result (λ ending. outcome hart.new ending ≡ outcome_on B.answer bus.old effect) }
+        OnOk result (hart.new ≡ core_after B.answer bus.old effect) }
     ensures bus { let effect = stores hart.old i.now width in
         OnOk result (bus.new ≡ bus_after B.loaded B.stored bus.old effect) }
     ensures asked { OnErr result (AsksBus (stores hart.old i.now width)) }
@@ -124,8 +125,10 @@ pub fn store<B: Bus>(
 {
     let at = add(hart.register(i.rs1), i.imm);
     if !is_aligned(at, width) {
-        return Ok(trap(hart, Exception::StoreAddressMisaligned, at));
+        trap(hart, Exception::StoreAddressMisaligned, at);
+        return Ok(());
     }
     bus.store(at, width, low_bytes(hart.register(i.rs2), width))?;
-    Ok(advance(hart))
+    advance(hart);
+    Ok(())
 }

@@ -11,9 +11,9 @@ ghost use Rattle.rv_exec.specs.Csr.{
   writes,
 };
 ghost use Rattle.rv_exec.specs.Effect.{changes};
-ghost use Rattle.rv_exec.specs.Outcome.{outcome};
+ghost use Rattle.rv_exec.specs.Outcome.{counted, outcome};
 
-use crate::ending::{Ending, trap};
+use crate::ending::{Ending, count, trap};
 use rv_decode::Instr;
 use rv_hart::{Counter, CsrFault, Exception, Hart, Lines, counter_of};
 
@@ -62,6 +62,7 @@ impl Change {
 }
 
 /// Reads the CSR if the instruction does.
+#[inline(always)]
 fn read(hart: &Hart, change: Change, i: &Instr, lines: Lines) -> Result<u32, CsrFault>
     ensures { result ≡ ok_or (old_value change hart.now i.now lines) CsrFault.Illegal }
 {
@@ -73,6 +74,7 @@ fn read(hart: &Hart, change: Change, i: &Instr, lines: Lines) -> Result<u32, Csr
 }
 
 /// Writes the CSR if the instruction does, and says which counter that has written a half of.
+#[inline(always)]
 fn write(
     hart: &mut Hart,
     change: Change,
@@ -92,6 +94,7 @@ fn write(
 }
 
 /// Reads the CSR into a register and changes it.
+#[inline(always)]
 fn access(
     hart: &mut Hart,
     change: Change,
@@ -112,19 +115,13 @@ fn access(
 }
 
 /// Reads a CSR into a register and changes it, or enters the trap of an illegal access.
-pub fn change_csr(
-    hart: &mut Hart,
-    change: Change,
-    operand: u32,
-    i: &Instr,
-    word: u32,
-    lines: Lines,
-) -> Ending
+#[inline(always)]
+pub fn change_csr(hart: &mut Hart, change: Change, operand: u32, i: &Instr, word: u32, lines: Lines)
     requires { IsInstr i.now }
-    ensures { outcome hart.new result ≡ changes change operand hart.old i.now word lines }
+    ensures { hart.new ≡ counted (changes change operand hart.old i.now word lines) }
 {
     match access(hart, change, operand, i, lines) {
-        Ok(ending) => ending,
+        Ok(ending) => count(hart, ending),
         Err(_) => trap(hart, Exception::IllegalInstruction, word),
     }
 }

@@ -4,7 +4,7 @@ ghost use Rattle.rv_hart.specs.Cause.{cause_of};
 ghost use Rattle.rv_hart.specs.Core.{finish, next};
 ghost use Rattle.rv_hart.specs.Trap.{leave};
 ghost use Rattle.rv_exec.specs.Effect.{branches, jumps};
-ghost use Rattle.rv_exec.specs.Outcome.{counted_by, outcome, retires, traps};
+ghost use Rattle.rv_exec.specs.Outcome.{counted, counted_by, retires, traps};
 
 use crate::alu::add;
 use rv_hart::{Counter, Exception, Hart};
@@ -35,66 +35,67 @@ pub fn count(hart: &mut Hart, ending: Ending)
 /// Enters the trap of an exception.
 #[cold]
 #[inline(never)]
-pub fn trap(hart: &mut Hart, exception: Exception, value: u32) -> Ending
-    ensures { outcome hart.new result ≡ traps hart.old (cause_of exception) value }
+pub fn trap(hart: &mut Hart, exception: Exception, value: u32)
+    ensures { hart.new ≡ counted (traps hart.old (cause_of exception) value) }
 {
     hart.enter_exception(exception, value);
-    Ending::Trapped
+    count(hart, Ending::Trapped);
 }
 
 /// Goes on to the next instruction.
-pub fn advance(hart: &mut Hart) -> Ending
-    ensures { outcome hart.new result ≡ retires (next hart.old) }
+pub fn advance(hart: &mut Hart)
+    ensures { hart.new ≡ counted (retires (next hart.old)) }
 {
     hart.advance();
-    Ending::Retired(None)
+    count(hart, Ending::Retired(None));
 }
 
 /// Writes a register, and goes on to the next instruction.
-pub fn finish(hart: &mut Hart, rd: u8, value: u32) -> Ending
+pub fn finish(hart: &mut Hart, rd: u8, value: u32)
     requires { rd < 32 }
-    ensures { outcome hart.new result ≡ retires (finish hart.old rd value) }
+    ensures { hart.new ≡ counted (retires (finish hart.old rd value)) }
 {
     hart.finish(rd, value);
-    Ending::Retired(None)
+    count(hart, Ending::Retired(None));
 }
 
 /// Jumps, with the pc of the next instruction in a register, or enters the trap of a misaligned
 /// target.
-pub fn jump(hart: &mut Hart, rd: u8, target: u32) -> Ending
+pub fn jump(hart: &mut Hart, rd: u8, target: u32)
     requires { rd < 32 }
-    ensures { outcome hart.new result ≡ jumps hart.old rd target }
+    ensures { hart.new ≡ counted (jumps hart.old rd target) }
 {
     if target % 4 != 0 {
-        return trap(hart, Exception::InstructionAddressMisaligned, target);
+        trap(hart, Exception::InstructionAddressMisaligned, target);
+    } else {
+        hart.jump(rd, target);
+        count(hart, Ending::Retired(None));
     }
-    hart.jump(rd, target);
-    Ending::Retired(None)
 }
 
 /// Jumps by an offset where the branch is taken, or else goes on to the next instruction.
-pub fn branch(hart: &mut Hart, taken: bool, offset: u32) -> Ending
-    ensures { outcome hart.new result ≡ branches hart.old taken offset }
+pub fn branch(hart: &mut Hart, taken: bool, offset: u32)
+    ensures { hart.new ≡ counted (branches hart.old taken offset) }
 {
     if taken {
-        jump(hart, 0, add(hart.pc(), offset))
+        jump(hart, 0, add(hart.pc(), offset));
     } else {
-        advance(hart)
+        advance(hart);
     }
 }
 
 /// Returns from a trap.
-pub fn leave(hart: &mut Hart) -> Ending
-    ensures { outcome hart.new result ≡ retires (leave hart.old) }
+pub fn leave(hart: &mut Hart)
+    ensures { hart.new ≡ counted (retires (leave hart.old)) }
 {
     hart.leave_trap();
-    Ending::Retired(None)
+    count(hart, Ending::Retired(None));
 }
 
 /// Goes on to the next instruction, where the hart waits for an interrupt.
-pub fn wait(hart: &mut Hart) -> Ending
-    ensures { outcome hart.new result ≡ retires (next (record hart.old { waiting = true })) }
+pub fn wait(hart: &mut Hart)
+    ensures { hart.new ≡ counted (retires (next (record hart.old { waiting = true }))) }
 {
     hart.set_waiting(true);
-    advance(hart)
+    advance(hart);
 }

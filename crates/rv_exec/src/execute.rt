@@ -1,9 +1,8 @@
 //! One instruction: its word is fetched, decoded and done.
-ghost use Rattle.std.specs.Prelude.{◌≡◌, IfOk, OnOk, OnErr};
+ghost use Rattle.std.specs.Prelude.{◌≡◌, OnOk, OnErr};
 ghost use Rattle.rv_decode.specs.Means.{IsInstr};
 ghost use Rattle.rv_hart.specs.Core.{reg};
 ghost use Rattle.rv_exec.specs.Laws.{KeepsMinstret, RaisesMcycle, RaisesMinstret};
-ghost use Rattle.rv_exec.specs.Outcome.{outcome};
 ghost use Rattle.rv_exec.specs.Effect.{
   AsksBus,
   below,
@@ -23,7 +22,7 @@ use crate::alu::{
 };
 use crate::bus::{Bus, NoMemory};
 use crate::csr::{Change, change_csr};
-use crate::ending::{Ending, advance, branch, count, finish, jump, leave, trap, wait};
+use crate::ending::{advance, branch, finish, jump, leave, trap, wait};
 use rv_decode::{Instr, Op, decode};
 use rv_hart::{Exception, Hart, Lines, zero_register};
 
@@ -49,19 +48,19 @@ fn is_below_unsigned(hart: &Hart, i: &Instr) -> bool
     hart.register(i.rs1) < hart.register(i.rs2)
 }
 
-/// Does an instruction, and leaves the counters. `NoMemory` comes only where the bus refuses its
-/// load or its store.
+/// Does an instruction. `NoMemory` comes only where the bus refuses its load or its store.
 #[tactic(auto, unfolding(crate::specs::Effect::effect_by))]
+#[inline(always)]
 fn execute<B: Bus>(
     hart: &mut Hart,
     bus: &mut B,
     i: &Instr,
     word: u32,
     lines: Lines,
-) -> Result<Ending, NoMemory>
+) -> Result<(), NoMemory>
     requires { IsInstr i.now }
     ensures core { let effect = effect_by i.now.op hart.old i.now word lines in
-        IfOk result (λ ending. outcome hart.new ending ≡ outcome_on B.answer bus.old effect) }
+        OnOk result (hart.new ≡ core_after B.answer bus.old effect) }
     ensures bus { let effect = effect_by i.now.op hart.old i.now word lines in
         OnOk result (bus.new ≡ bus_after B.loaded B.stored bus.old effect) }
     ensures asked { OnErr result (AsksBus (effect_by i.now.op hart.old i.now word lines)) }
@@ -69,71 +68,71 @@ fn execute<B: Bus>(
     ensures bus_err { OnErr result (bus.new ≡ bus.old) }
 {
     match i.op {
-        Op::Lui => Ok(finish(hart, i.rd, i.imm)),
-        Op::Auipc => Ok(finish(hart, i.rd, add(hart.pc(), i.imm))),
-        Op::Jal => Ok(jump(hart, i.rd, add(hart.pc(), i.imm))),
-        Op::Jalr => Ok(jump(hart, i.rd, add(hart.register(i.rs1), i.imm) / 2 * 2)),
-        Op::Beq => Ok(branch(hart, is_equal(hart, i), i.imm)),
-        Op::Bne => Ok(branch(hart, !is_equal(hart, i), i.imm)),
-        Op::Blt => Ok(branch(hart, is_below(hart, i), i.imm)),
-        Op::Bge => Ok(branch(hart, !is_below(hart, i), i.imm)),
-        Op::Bltu => Ok(branch(hart, is_below_unsigned(hart, i), i.imm)),
-        Op::Bgeu => Ok(branch(hart, !is_below_unsigned(hart, i), i.imm)),
-        Op::Lb => load(hart, bus, i, 1, Shape::SignedByte),
-        Op::Lh => load(hart, bus, i, 2, Shape::SignedHalf),
-        Op::Lw => load(hart, bus, i, 4, Shape::Unsigned),
-        Op::Lbu => load(hart, bus, i, 1, Shape::Unsigned),
-        Op::Lhu => load(hart, bus, i, 2, Shape::Unsigned),
-        Op::Sb => store(hart, bus, i, 1),
-        Op::Sh => store(hart, bus, i, 2),
-        Op::Sw => store(hart, bus, i, 4),
-        Op::Addi => Ok(finish(hart, i.rd, add(hart.register(i.rs1), i.imm))),
-        Op::Slti => Ok(finish(hart, i.rd, slt(hart.register(i.rs1), i.imm))),
-        Op::Sltiu => Ok(finish(hart, i.rd, sltu(hart.register(i.rs1), i.imm))),
-        Op::Slli => Ok(finish(hart, i.rd, sll(hart.register(i.rs1), i.imm))),
-        Op::Srli => Ok(finish(hart, i.rd, srl(hart.register(i.rs1), i.imm))),
-        Op::Srai => Ok(finish(hart, i.rd, sra(hart.register(i.rs1), i.imm))),
-        Op::Xori => Ok(finish(hart, i.rd, hart.register(i.rs1) ^ i.imm)),
-        Op::Ori => Ok(finish(hart, i.rd, hart.register(i.rs1) | i.imm)),
-        Op::Andi => Ok(finish(hart, i.rd, hart.register(i.rs1) & i.imm)),
-        Op::Add => Ok(finish(hart, i.rd, add(hart.register(i.rs1), hart.register(i.rs2)))),
-        Op::Sub => Ok(finish(hart, i.rd, sub(hart.register(i.rs1), hart.register(i.rs2)))),
-        Op::Sll => Ok(finish(hart, i.rd, sll(hart.register(i.rs1), hart.register(i.rs2)))),
-        Op::Slt => Ok(finish(hart, i.rd, slt(hart.register(i.rs1), hart.register(i.rs2)))),
-        Op::Sltu => Ok(finish(hart, i.rd, sltu(hart.register(i.rs1), hart.register(i.rs2)))),
-        Op::Srl => Ok(finish(hart, i.rd, srl(hart.register(i.rs1), hart.register(i.rs2)))),
-        Op::Sra => Ok(finish(hart, i.rd, sra(hart.register(i.rs1), hart.register(i.rs2)))),
-        Op::Xor => Ok(finish(hart, i.rd, hart.register(i.rs1) ^ hart.register(i.rs2))),
-        Op::Or => Ok(finish(hart, i.rd, hart.register(i.rs1) | hart.register(i.rs2))),
-        Op::And => Ok(finish(hart, i.rd, hart.register(i.rs1) & hart.register(i.rs2))),
-        Op::Fence | Op::FenceI => Ok(advance(hart)),
-        Op::Ecall => Ok(trap(hart, Exception::EnvironmentCall, 0)),
-        Op::Ebreak => Ok(trap(hart, Exception::Breakpoint, hart.pc())),
-        Op::Csrrw => Ok(change_csr(hart, Change::Write, hart.register(i.rs1), i, word, lines)),
-        Op::Csrrs => Ok(change_csr(hart, Change::Set, hart.register(i.rs1), i, word, lines)),
-        Op::Csrrc => Ok(change_csr(hart, Change::Clear, hart.register(i.rs1), i, word, lines)),
-        Op::Csrrwi => Ok(change_csr(hart, Change::Write, u32::from(i.rs1), i, word, lines)),
-        Op::Csrrsi => Ok(change_csr(hart, Change::Set, u32::from(i.rs1), i, word, lines)),
-        Op::Csrrci => Ok(change_csr(hart, Change::Clear, u32::from(i.rs1), i, word, lines)),
-        Op::Mul => Ok(finish(hart, i.rd, mul(hart.register(i.rs1), hart.register(i.rs2)))),
-        Op::Mulh => Ok(finish(hart, i.rd, mulh(hart.register(i.rs1), hart.register(i.rs2)))),
-        Op::Mulhsu => Ok(finish(hart, i.rd, mulhsu(hart.register(i.rs1), hart.register(i.rs2)))),
-        Op::Mulhu => Ok(finish(hart, i.rd, mulhu(hart.register(i.rs1), hart.register(i.rs2)))),
-        Op::Div => Ok(finish(hart, i.rd, div(hart.register(i.rs1), hart.register(i.rs2)))),
-        Op::Divu => Ok(finish(hart, i.rd, divu(hart.register(i.rs1), hart.register(i.rs2)))),
-        Op::Rem => Ok(finish(hart, i.rd, rem(hart.register(i.rs1), hart.register(i.rs2)))),
-        Op::Remu => Ok(finish(hart, i.rd, remu(hart.register(i.rs1), hart.register(i.rs2)))),
-        Op::Mret => Ok(leave(hart)),
-        Op::Wfi => Ok(wait(hart)),
+        Op::Lui => finish(hart, i.rd, i.imm),
+        Op::Auipc => finish(hart, i.rd, add(hart.pc(), i.imm)),
+        Op::Jal => jump(hart, i.rd, add(hart.pc(), i.imm)),
+        Op::Jalr => jump(hart, i.rd, add(hart.register(i.rs1), i.imm) / 2 * 2),
+        Op::Beq => branch(hart, is_equal(hart, i), i.imm),
+        Op::Bne => branch(hart, !is_equal(hart, i), i.imm),
+        Op::Blt => branch(hart, is_below(hart, i), i.imm),
+        Op::Bge => branch(hart, !is_below(hart, i), i.imm),
+        Op::Bltu => branch(hart, is_below_unsigned(hart, i), i.imm),
+        Op::Bgeu => branch(hart, !is_below_unsigned(hart, i), i.imm),
+        Op::Lb => load(hart, bus, i, 1, Shape::SignedByte)?,
+        Op::Lh => load(hart, bus, i, 2, Shape::SignedHalf)?,
+        Op::Lw => load(hart, bus, i, 4, Shape::Unsigned)?,
+        Op::Lbu => load(hart, bus, i, 1, Shape::Unsigned)?,
+        Op::Lhu => load(hart, bus, i, 2, Shape::Unsigned)?,
+        Op::Sb => store(hart, bus, i, 1)?,
+        Op::Sh => store(hart, bus, i, 2)?,
+        Op::Sw => store(hart, bus, i, 4)?,
+        Op::Addi => finish(hart, i.rd, add(hart.register(i.rs1), i.imm)),
+        Op::Slti => finish(hart, i.rd, slt(hart.register(i.rs1), i.imm)),
+        Op::Sltiu => finish(hart, i.rd, sltu(hart.register(i.rs1), i.imm)),
+        Op::Slli => finish(hart, i.rd, sll(hart.register(i.rs1), i.imm)),
+        Op::Srli => finish(hart, i.rd, srl(hart.register(i.rs1), i.imm)),
+        Op::Srai => finish(hart, i.rd, sra(hart.register(i.rs1), i.imm)),
+        Op::Xori => finish(hart, i.rd, hart.register(i.rs1) ^ i.imm),
+        Op::Ori => finish(hart, i.rd, hart.register(i.rs1) | i.imm),
+        Op::Andi => finish(hart, i.rd, hart.register(i.rs1) & i.imm),
+        Op::Add => finish(hart, i.rd, add(hart.register(i.rs1), hart.register(i.rs2))),
+        Op::Sub => finish(hart, i.rd, sub(hart.register(i.rs1), hart.register(i.rs2))),
+        Op::Sll => finish(hart, i.rd, sll(hart.register(i.rs1), hart.register(i.rs2))),
+        Op::Slt => finish(hart, i.rd, slt(hart.register(i.rs1), hart.register(i.rs2))),
+        Op::Sltu => finish(hart, i.rd, sltu(hart.register(i.rs1), hart.register(i.rs2))),
+        Op::Srl => finish(hart, i.rd, srl(hart.register(i.rs1), hart.register(i.rs2))),
+        Op::Sra => finish(hart, i.rd, sra(hart.register(i.rs1), hart.register(i.rs2))),
+        Op::Xor => finish(hart, i.rd, hart.register(i.rs1) ^ hart.register(i.rs2)),
+        Op::Or => finish(hart, i.rd, hart.register(i.rs1) | hart.register(i.rs2)),
+        Op::And => finish(hart, i.rd, hart.register(i.rs1) & hart.register(i.rs2)),
+        Op::Fence | Op::FenceI => advance(hart),
+        Op::Ecall => trap(hart, Exception::EnvironmentCall, 0),
+        Op::Ebreak => trap(hart, Exception::Breakpoint, hart.pc()),
+        Op::Csrrw => change_csr(hart, Change::Write, hart.register(i.rs1), i, word, lines),
+        Op::Csrrs => change_csr(hart, Change::Set, hart.register(i.rs1), i, word, lines),
+        Op::Csrrc => change_csr(hart, Change::Clear, hart.register(i.rs1), i, word, lines),
+        Op::Csrrwi => change_csr(hart, Change::Write, u32::from(i.rs1), i, word, lines),
+        Op::Csrrsi => change_csr(hart, Change::Set, u32::from(i.rs1), i, word, lines),
+        Op::Csrrci => change_csr(hart, Change::Clear, u32::from(i.rs1), i, word, lines),
+        Op::Mul => finish(hart, i.rd, mul(hart.register(i.rs1), hart.register(i.rs2))),
+        Op::Mulh => finish(hart, i.rd, mulh(hart.register(i.rs1), hart.register(i.rs2))),
+        Op::Mulhsu => finish(hart, i.rd, mulhsu(hart.register(i.rs1), hart.register(i.rs2))),
+        Op::Mulhu => finish(hart, i.rd, mulhu(hart.register(i.rs1), hart.register(i.rs2))),
+        Op::Div => finish(hart, i.rd, div(hart.register(i.rs1), hart.register(i.rs2))),
+        Op::Divu => finish(hart, i.rd, divu(hart.register(i.rs1), hart.register(i.rs2))),
+        Op::Rem => finish(hart, i.rd, rem(hart.register(i.rs1), hart.register(i.rs2))),
+        Op::Remu => finish(hart, i.rd, remu(hart.register(i.rs1), hart.register(i.rs2))),
+        Op::Mret => leave(hart),
+        Op::Wfi => wait(hart),
     }
+    Ok(())
 }
 
-/// Fetches, decodes and does the instruction at the hart's pc, or enters the trap of its exception,
-/// and leaves the counters.
+/// Fetches, decodes and does the instruction at the hart's pc, or enters the trap of its exception.
 #[tactic(auto, unfolding(crate::specs::Effect::effect, crate::specs::Effect::effect_of_fetch))]
-fn do_next<B: Bus>(hart: &mut Hart, bus: &mut B, lines: Lines) -> Result<Ending, NoMemory>
+fn fetch_and_execute<B: Bus>(hart: &mut Hart, bus: &mut B, lines: Lines) -> Result<(), NoMemory>
     ensures core { let effect = effect_of_fetch hart.old (B.fetched bus.old hart.old.pc) lines in
-        IfOk result (λ ending. outcome hart.new ending ≡ outcome_on B.answer bus.old effect) }
+        OnOk result (hart.new ≡ core_after B.answer bus.old effect) }
     ensures bus { let effect = effect_of_fetch hart.old (B.fetched bus.old hart.old.pc) lines in
         OnOk result (bus.new ≡ bus_after B.loaded B.stored bus.old effect) }
     ensures asked { let effect = effect_of_fetch hart.old (B.fetched bus.old hart.old.pc) lines in
@@ -143,10 +142,12 @@ fn do_next<B: Bus>(hart: &mut Hart, bus: &mut B, lines: Lines) -> Result<Ending,
 {
     let pc = hart.pc();
     let Some(word) = bus.fetch(pc) else {
-        return Ok(trap(hart, Exception::InstructionAccessFault, pc));
+        trap(hart, Exception::InstructionAccessFault, pc);
+        return Ok(());
     };
     let Some(i) = decode(word) else {
-        return Ok(trap(hart, Exception::IllegalInstruction, word));
+        trap(hart, Exception::IllegalInstruction, word);
+        return Ok(());
     };
     execute(hart, bus, &i, word, lines)
 }
@@ -176,8 +177,7 @@ pub fn step<B: Bus>(hart: &mut Hart, bus: &mut B, lines: Lines) -> Result<(), No
     ensures trapped { let effect = effect_of_fetch hart.old (B.fetched bus.old hart.old.pc) lines in
         OnOk result (KeepsMinstret hart.old (outcome_on B.answer bus.old effect) hart.new) }
 {
-    let ending = do_next(hart, bus, lines)?;
-    count(hart, ending);
+    fetch_and_execute(hart, bus, lines)?;
     zero_register(hart);
     Ok(())
 }
