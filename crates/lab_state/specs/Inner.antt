@@ -1,0 +1,6 @@
+-- What serves proofs alone.
+pub mod Came
+pub mod Fault
+pub mod Hubs
+pub mod Numbers
+pub mod Standing
