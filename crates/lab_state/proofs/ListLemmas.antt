@@ -1,9 +1,8 @@
 -- Lists: a change of one place, maps, and keys that differ.
-use Rattle.std.proofs.Common.{◌≡◌, ◌∙◌, sym, ap, refl, Bool, true, false, cond, ℕ, zero, suc, ◌+◌, ◌<◌, List, [], ◌∷◌, ◌++◌, length, map, set, get_or, take, Option, Some, None, slice_get, append_assoc, arith}
+use Rattle.std.proofs.Common.{◌≡◌, ◌∙◌, sym, ap, refl, Bool, cond, ℕ, zero, suc, ◌+◌, ◌<◌, List, [], ◌∷◌, ◌++◌, length, map, set, get_or, take, append_assoc, arith}
 use Rattle.std.proofs.lemmas.List.{append-nil, take_more, length-map}
 use Rattle.std.proofs.lemmas.List.Concat.{flat_map-append}
-use Rattle.std.specs.List.{flat_map, AllByRecursion, IsDistinct, position, position_or_len, list_any}
-use Rattle.std.specs.Option.{option_map}
+use Rattle.std.specs.List.{flat_map, AllByRecursion, IsDistinct, position, position_or_len}
 use Rattle.lab_state.specs.Change.{change_at}
 
 -- a write of what a change makes of the item that was read
@@ -37,17 +36,6 @@ flat_map_more {start = start} f xs i d below so more =
     more
     ∙ rw (so, take_more xs i d below, flat_map-append f (take i xs) (get_or xs i d ∷ []), append_assoc)
     (ap (λ l. start ++ (flat_map f (take i xs) ++ l)) (sym (append-nil (f (get_or xs i d)))))
-
-pub slice_get-map :
-    {A B : Type 0} (f : A → B) (xs : List A) (n : ℕ) → slice_get (map f xs) n ≡ option_map f (slice_get xs n)
-slice_get-map f [] n = refl
-slice_get-map f (x ∷ xs) zero = refl
-slice_get-map f (x ∷ xs) (suc n) = slice_get-map f xs n
-
-pub list_any-map :
-    {A B : Type 0} (f : A → B) (p : B → Bool) (xs : List A) → list_any p (map f xs) ≡ list_any (λ x. p (f x)) xs
-list_any-map f p [] = refl
-list_any-map f p (x ∷ xs) = ap (λ rest. cond (p (f x)) true rest) (list_any-map f p xs)
 
 position_or_len-map :
     {A B : Type 0} (f : A → B) (p : B → Bool) (xs : List A) →

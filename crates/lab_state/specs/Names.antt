@@ -1,6 +1,6 @@
 -- How boards and hubs are found by name.
-use Rattle.std.specs.Prelude.{ℕ, Bool, ◌||◌, List, Option, None, Some}
-use Rattle.std.specs.List.{list_any, position}
+use Rattle.std.specs.Prelude.{ℕ, Bool, ◌||◌, List, Option, None, Some, is_some}
+use Rattle.std.specs.List.{position}
 use Rattle.std.specs.Str.{bytes_eq}
 use Rattle.lab_num.specs.declared.key.Member.{Member}
 use Rattle.lab_state.specs.Board.{Board}
@@ -18,8 +18,7 @@ hub_named lab name = position (λ hub. bytes_eq hub.name name) lab.hubs
 
 -- whether a board or a hub has the name
 abbrev pub is_taken : Lab → List ℕ → Bool
-is_taken lab name =
-    list_any (λ board. bytes_eq board.name name) lab.boards || list_any (λ hub. bytes_eq hub.name name) lab.hubs
+is_taken lab name = is_some (board_named lab name) || is_some (hub_named lab name)
 
 -- the laboratory with a member more in the hub of this number, if there is one
 abbrev pub connected_to : Lab → Option ℕ → Member → Lab

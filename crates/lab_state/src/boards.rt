@@ -1,6 +1,7 @@
 //! The boards of a laboratory.
-ghost use Rattle.std.specs.Prelude.{◌≡◌, ◌+◌, ◌-◌, ◌<◌, ◌%◌, ◌↔◌, ◌++◌, ◌∷◌, [], length, true, false, Some, slice_get, is_some, IsSome, IsTrue, IfOk, OnOk, OnErr};
+ghost use Rattle.std.specs.Prelude.{◌≡◌, ◌+◌, ◌-◌, ◌<◌, ◌%◌, ◌↔◌, ◌++◌, ◌∷◌, [], length, true, false, Some, None, slice_get, position, is_some, IsSome, IsTrue, IfOk, OnOk, OnErr};
 ghost use Rattle.std.specs.Option.{option_map, ForSome};
+ghost use Rattle.std.specs.Str.{bytes_eq};
 ghost use Rattle.lab_num.specs.Name as name_spec;
 ghost use Rattle.board.specs.Early.{early};
 ghost use Rattle.board.specs.Slot.{quiet};
@@ -17,12 +18,19 @@ use lab_num::{BoardNo, Member, NoMemory, Text};
 /// The most boards that a laboratory has.
 const MOST_BOARDS: usize = 16;
 
+/// The number of the first board of this name.
+fn number_of(boards: &[NamedBoard], name: &str) -> Option<usize>
+    ensures { result ≡ position (λ board. bytes_eq board.name name.now) boards.now }
+{
+    boards.iter().position(|board| board.name().as_str() == name)
+}
+
 impl Lab {
     /// Whether a board or a hub has the name.
     pub(crate) fn is_taken(&self, name: &str) -> bool
         ensures { result ≡ names_spec.is_taken self.now.lab name.now }
     {
-        self.boards.iter().any(|board| board.name().as_str() == name) || self.hubs.has(name)
+        number_of(&self.boards, name).is_some() || self.hubs.find(name).is_some()
     }
 
     /// Adds a board in its early form, which runs from the time of the laboratory on.
@@ -77,11 +85,10 @@ impl Lab {
         ensures { option_map (λ board. board.0) result
             ≡ names_spec.board_named self.now.lab name.now }
     {
-        let b = self
-            .boards
-            .iter()
-            .position(|board| board.name().as_str() == name)?;
-        Some(BoardNo(b as u8))
+        match number_of(&self.boards, name) {
+            Some(b) => Some(BoardNo(b as u8)),
+            None => None,
+        }
     }
 
     /// The name of a board. No other board and no hub has it.

@@ -1,6 +1,5 @@
 //! The hubs of a laboratory.
 ghost use Rattle.std.specs.Prelude.{◌≡◌, ◌+◌, ◌^◌, ◌<◌, ◌↔◌, ◌++◌, ◌∷◌, [], length, position, slice_get, Some, IsTrue, OnOk, OnErr, IfOk};
-ghost use Rattle.std.specs.List.{list_any};
 ghost use Rattle.std.specs.Option.{option_map};
 ghost use Rattle.std.specs.Str.{bytes_eq};
 ghost use Rattle.lab_num.specs.Route.{StandOnce, is_connected};
@@ -41,6 +40,13 @@ impl Model for HubList {
         × (length h.uarts < 2 ^ 32) };
 }
 
+/// The number of the first of these that has the name.
+fn number_of(hubs: &[HubName], name: &str) -> Option<usize>
+    ensures { result ≡ position (λ hub. bytes_eq hub.name name.now) hubs.now }
+{
+    hubs.iter().position(|hub| hub.name.as_str() == name)
+}
+
 impl HubList {
     ghost use Rattle.lab_num.specs.declared.kind.Kind.TheVariants.{Uart};
 
@@ -61,16 +67,12 @@ impl HubList {
 
     /// The number of the first hub of this name.
     pub fn find(&self, name: &str) -> Option<u32>
-        ensures value { result ≡ position (λ hub. bytes_eq hub.name name.now) self.now }
+        ensures { result ≡ position (λ hub. bytes_eq hub.name name.now) self.now }
     {
-        let n = self.names.iter().position(|hub| hub.name.as_str() == name)?;
-        Some(n as u32)
-    }
-
-    pub fn has(&self, name: &str) -> bool
-        ensures { result ≡ list_any (λ hub. bytes_eq hub.name name.now) self.now }
-    {
-        self.names.iter().any(|hub| hub.name.as_str() == name)
+        match number_of(&self.names, name) {
+            Some(n) => Some(n as u32),
+            None => None,
+        }
     }
 
     pub fn name(&self, n: u32) -> &Text
