@@ -2,5 +2,4 @@
 pub mod Came
 pub mod Fault
 pub mod Hubs
-pub mod Numbers
 pub mod Standing

@@ -23,7 +23,7 @@ Grant = ℕ → ℕ → View → State
 
 -- a board takes the slots that the grant pays, from the first one on
 abbrev pub granted : Grant
-granted from to v = stretch v from 0 (paid from to v.speed)
+granted from to v = stretch v from 0 (paid from to v.numbers.speed)
 
 -- a board after its slots, and the posts and the entries that it has made in them; a board without memory and devices
 -- makes nothing

@@ -17,7 +17,7 @@ IsWhole cut = (from : ℕ) (v : View) (slots : ℕ) → sum (cut from v slots) �
 
 -- a board takes the slots that the grant pays in turns
 abbrev pub granted_in_turns : Cut → Grant
-granted_in_turns cut from to v = in_turns v from 0 (cut from v (paid from to v.speed))
+granted_in_turns cut from to v = in_turns v from 0 (cut from v (paid from to v.numbers.speed))
 
 -- a run in turns
 abbrev pub run_in_turns : Cut → Lab → ℕ → Rounded

@@ -1,11 +1,12 @@
 //! The boards of a laboratory.
-ghost use Rattle.std.specs.Prelude.{◌≡◌, ◌+◌, ◌-◌, ◌<◌, ◌%◌, ◌↔◌, ◌++◌, ◌∷◌, [], length, true, false, Some, None, slice_get, position, is_some, IsSome, IsTrue, IfOk, OnOk, OnErr};
+ghost use Rattle.std.specs.Prelude.{◌≡◌, ◌<◌, ◌%◌, ◌↔◌, ◌++◌, ◌∷◌, [], length, false, Some, slice_get, position, is_some, IsSome, IsTrue, IfOk, OnOk, OnErr};
 ghost use Rattle.std.specs.Option.{option_map, ForSome};
 ghost use Rattle.std.specs.Str.{bytes_eq};
 ghost use Rattle.lab_num.specs.Name as name_spec;
+ghost use Rattle.board.specs.Changes.{with_bytes, with_pc, with_shown};
 ghost use Rattle.board.specs.Early.{early};
+ghost use Rattle.board.specs.Memory.{holds_each};
 ghost use Rattle.board.specs.Slot.{quiet};
-ghost use Rattle.board.specs.Space.{memory_base, holds_each, put_bytes};
 ghost use Rattle.lab_state.specs.Names as names_spec;
 ghost use Rattle.lab_state.specs.One.{view_of, changed};
 
@@ -23,6 +24,14 @@ fn number_of(boards: &[NamedBoard], name: &str) -> Option<usize>
     ensures { result ≡ position (λ board. bytes_eq board.name name.now) boards.now }
 {
     boards.iter().position(|board| board.name().as_str() == name)
+}
+
+fn push(boards: &mut Vec<NamedBoard>, board: NamedBoard) -> Result<(), NoMemory>
+    ensures ok { OnOk result (boards.new.items ≡ boards.old.items ++ board ∷ []) }
+    ensures err { OnErr result (boards.new.items ≡ boards.old.items) }
+{
+    boards.push(board)?;
+    Ok(())
 }
 
 impl Lab {
@@ -64,10 +73,7 @@ impl Lab {
         let number = BoardNo(self.boards.len() as u8);
         let board = Board::early(self.alloc, number)?;
         let text = Text::of(self.alloc, name)?;
-        let board = NamedBoard::new(text, board);
-        if self.boards.push(board).is_err() {
-            return Err(AddFault::Memory);
-        }
+        push(&mut self.boards, NamedBoard::new(text, board))?;
         Ok(number)
     }
 
@@ -91,14 +97,13 @@ impl Lab {
         }
     }
 
-    /// The name of a board. No other board and no hub has it.
+    /// The name of a board, which no other board has.
     pub fn board_name(&self, b: BoardNo) -> &Text
         requires unspent { self.now.spent ≡ false }
         requires exists { b.0 < length self.now.lab.boards }
         ensures value { Some result.now
             ≡ option_map (λ board. board.name) (slice_get self.now.lab.boards b.0) }
         ensures found { names_spec.board_named self.now.lab result.now ≡ Some b.0 }
-        ensures no_hub { names_spec.hub_named self.now.lab result.now ≡ None }
     {
         self.boards[b.0 as usize].name()
     }
@@ -128,11 +133,9 @@ impl Lab {
         requires unspent { self.old.spent ≡ false }
         requires has_plan { IsSome (view_of self.old.lab b.0) }
         requires holds { ForSome (view_of self.old.lab b.0) (λ v.
-            IsTrue (holds_each v.memory at (length bytes.now))) }
+            IsTrue (holds_each v.space.memory at (length bytes.now))) }
         ensures ok { OnOk result (self.new ≡ record self.old {
-          lab = changed self.old.lab b.0 (λ v. record v {
-            memory = put_bytes v.memory (at - memory_base) bytes.now;
-          });
+          lab = changed self.old.lab b.0 (λ v. with_bytes v at bytes.now);
         }) }
         ensures err { OnErr result (self.new ≡ self.old) }
     {
@@ -145,8 +148,8 @@ impl Lab {
         requires unspent { self.old.spent ≡ false }
         requires has_plan { IsSome (view_of self.old.lab b.0) }
         requires aligned { pc % 4 ≡ 0 }
-        ensures lab { self.new ≡ record self.old {
-          lab = changed self.old.lab b.0 (λ v. record v { core = record v.core { pc = pc } });
+        ensures { self.new ≡ record self.old {
+          lab = changed self.old.lab b.0 (λ v. with_pc v pc);
         } }
     {
         let board = &mut self.boards[b.0 as usize];
@@ -159,8 +162,8 @@ impl Lab {
         requires unspent { self.old.spent ≡ false }
         requires has_plan { IsSome (view_of self.old.lab member.board.0) }
         requires device { member.dev ≡ 0 }
-        ensures lab { self.new ≡ record self.old {
-          lab = changed self.old.lab member.board.0 (λ v. record v { shown = true });
+        ensures { self.new ≡ record self.old {
+          lab = changed self.old.lab member.board.0 with_shown;
         } }
     {
         let board = &mut self.boards[member.board.0 as usize];

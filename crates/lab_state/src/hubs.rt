@@ -69,12 +69,13 @@ impl Lab {
         self.hubs.len()
     }
 
-    /// The name of a hub.
+    /// The name of a hub, which no other hub has.
     pub fn hub_name(&self, n: u32) -> &Text
         requires unspent { self.now.spent ≡ false }
         requires exists { n < length self.now.lab.hubs }
-        ensures { Some result.now
+        ensures value { Some result.now
             ≡ option_map (λ hub. hub.name) (slice_get self.now.lab.hubs n) }
+        ensures found { names_spec.hub_named self.now.lab result.now ≡ Some n }
     {
         self.hubs.name(n)
     }

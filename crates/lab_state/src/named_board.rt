@@ -1,10 +1,12 @@
 //! A board under its name.
-ghost use Rattle.std.specs.Prelude.{◌≡◌, ◌+◌, ◌-◌, ◌%◌, ◌≤◌, ◌++◌, [], length, true, IsTrue, Some, OnOk, OnErr};
+ghost use Rattle.std.specs.Prelude.{◌≡◌, ◌+◌, ◌%◌, ◌≤◌, ◌++◌, [], length, IsTrue, Some, OnOk, OnErr};
 ghost use Rattle.std.specs.Option.{option_map, ForSome};
 ghost use Rattle.log_merge.specs.Merge.{all_entries};
+ghost use Rattle.board.specs.Changes.{with_bytes, with_pc, with_shown};
+ghost use Rattle.board.specs.Memory.{holds_each};
 ghost use Rattle.board.specs.Slot.{quiet};
-ghost use Rattle.board.specs.Space.{memory_base, holds_each, put_bytes};
 ghost use Rattle.board.specs.Taken.{handed};
+ghost use Rattle.lab_state.specs.Inner.Standing.{outline};
 ghost use Rattle.lab_state.specs.One.{with_view};
 ghost use Rattle.lab_state.specs.Round.{granted, stepped, posts_made, entries_made};
 
@@ -130,7 +132,8 @@ impl NamedBoard {
 
     pub fn show(&mut self, dev: u8)
         requires { dev ≡ 0 }
-        ensures { self.new ≡ with_view (λ v. record v { shown = true }) self.old }
+        ensures shown { self.new ≡ with_view with_shown self.old }
+        ensures outline { outline self.new ≡ outline self.old }
     {
         if let Some(board) = &mut self.board {
             board.show(dev);
@@ -139,8 +142,8 @@ impl NamedBoard {
 
     pub fn set_pc(&mut self, pc: u32)
         requires { pc % 4 ≡ 0 }
-        ensures { self.new
-            ≡ with_view (λ v. record v { core = record v.core { pc = pc } }) self.old }
+        ensures pc { self.new ≡ with_view (λ v. with_pc v pc) self.old }
+        ensures outline { outline self.new ≡ outline self.old }
     {
         if let Some(board) = &mut self.board {
             board.set_pc(pc);
@@ -149,11 +152,11 @@ impl NamedBoard {
 
     pub fn copy_in(&mut self, at: u32, bytes: &[u8]) -> Result<(), NoMemory>
         requires { ForSome self.old.view (λ v.
-            IsTrue (holds_each v.memory at (length bytes.now))) }
-        ensures ok { OnOk result (self.new ≡ with_view (λ v. record v {
-          memory = put_bytes v.memory (at - memory_base) bytes.now;
-        }) self.old) }
+            IsTrue (holds_each v.space.memory at (length bytes.now))) }
+        ensures ok { OnOk result (self.new
+            ≡ with_view (λ v. with_bytes v at bytes.now) self.old) }
         ensures err { OnErr result (self.new ≡ self.old) }
+        ensures outline { outline self.new ≡ outline self.old }
     {
         match &mut self.board {
             Some(board) => board.copy_in(at, bytes),

@@ -53,7 +53,7 @@ fn step_all(
 
 /// Hands a payload to each of these devices.
 fn hand_over(boards: &mut [NamedBoard], to: &[Member], payload: &Payload)
-    requires devices { All (IsDevice (length boards.old)) to.now }
+    requires { All (IsDevice (length boards.old)) to.now }
     ensures { boards.new ≡ fold (to_member payload.now) boards.old to.now }
 {
     for member in to {
@@ -68,7 +68,7 @@ fn hand_over_all(
     hubs: &HubList,
     posts: &[Post],
 ) -> Result<(), NoMemory>
-    requires devices { AreDevices (length boards.old) (members_of hubs.now) }
+    requires { AreDevices (length boards.old) hubs.now }
     ensures { OnOk result (boards.new
         ≡ fold (to_route (members_of hubs.now)) boards.old posts.now) }
 {
@@ -109,7 +109,7 @@ fn play(
 ) -> Result<Vec<LogItem>, NoMemory>
     requires within { from.0 + q ≤ 10000000000 }
     requires standing { AreStanding (1000 * from.0) 0 (outlines boards.old) }
-    requires devices { AreDevices (length boards.old) (members_of hubs.now) }
+    requires devices { AreDevices (length boards.old) hubs.now }
     ensures boards { OnOk result (boards.new ≡ (boundary hubs.now
         (map (stepped (granted from.0 (from.0 + q))) boards.old)
         (flat_map (posts_made (granted from.0 (from.0 + q))) boards.old)).boards) }

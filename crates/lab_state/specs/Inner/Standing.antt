@@ -1,14 +1,13 @@
 -- What holds of every laboratory that is not spent.
 use Rattle.std.specs.Prelude.{◌≡◌, ℕ, ◌+◌, ◌*◌, ◌<◌, ◌≤◌, List, [], ◌∷◌, ◌++◌, length, map, Option}
-use Rattle.std.specs.List.{All, IsDistinct}
+use Rattle.std.specs.List.{AllByRecursion, IsDistinct}
 use Rattle.std.specs.Option.{option_map, ForSome}
 use Rattle.std.specs.Str.{bytes_eq}
 use Rattle.lab_num.specs.declared.key.Member.{Member}
-use Rattle.board.specs.View.{View}
+use Rattle.board.specs.Numbers.{Numbers}
 use Rattle.lab_state.specs.Board.{Board}
-use Rattle.lab_state.specs.Hub.{Hub, members_of}
+use Rattle.lab_state.specs.Hub.{Hub}
 use Rattle.lab_state.specs.Lab.{Lab}
-use Rattle.lab_state.specs.Inner.Numbers.{Numbers, numbers_of}
 
 -- what no change of one board touches: its name, and its numbers if something stands under it
 pub record Outline : Type 0 where
@@ -16,7 +15,7 @@ pub record Outline : Type 0 where
   pub numbers : Option Numbers
 
 abbrev pub outline : Board → Outline
-outline board = record { name = board.name; numbers = option_map numbers_of board.view }
+outline board = record { name = board.name; numbers = option_map (λ v. v.numbers) board.view }
 
 abbrev pub outlines : List Board → List Outline
 outlines boards = map outline boards
@@ -41,8 +40,8 @@ pub record IsDevice (count : ℕ) (m : Member) : Type 0 where
   pub dev : m.dev ≡ 0
 
 -- all members of the hubs are devices of so many boards
-abbrev pub AreDevices : ℕ → List (List Member) → Type 0
-AreDevices count hubs = All (All (IsDevice count)) hubs
+abbrev pub AreDevices : ℕ → List Hub → Type 0
+AreDevices count hubs = AllByRecursion (λ hub. AllByRecursion (IsDevice count) hub.members) hubs
 
 -- the names of the boards and of the hubs
 abbrev pub names_of : List Outline → List Hub → List (List ℕ)
@@ -53,7 +52,7 @@ names_of boards hubs = map (λ board. board.name) boards ++ map (λ hub. hub.nam
 pub record IsSound (boards : List Outline) (hubs : List Hub) (now quantum : ℕ) : Type 0 where
   pub few_boards : length boards ≤ 16
   pub standing : AreStanding (1000 * now) 0 boards
-  pub devices : AreDevices (length boards) (members_of hubs)
+  pub devices : AreDevices (length boards) hubs
   pub names : IsDistinct bytes_eq (names_of boards hubs)
   pub time : now ≤ 10000000000
   pub least_quantum : 1 ≤ quantum

@@ -1,0 +1,22 @@
+-- The boards so far have taken their slots, and the others are as they were.
+use Rattle.std.proofs.Common.{◌≡◌, ◌+◌, ◌++◌, map, take, drop}
+use Rattle.std.specs.List.{flat_map}
+use Rattle.log_merge.specs.Merge.{all_entries}
+use Rattle.lab_state.specs.Round.{granted, stepped, posts_made, entries_made}
+use Rattle.lab_state.proofs.round.step_all.Given as goal
+
+abbrev pub invariant-loop-board : goal.invariant-loop-board
+invariant-loop-board l = record {
+  boards :
+      l.boards
+      ≡ map (stepped (granted l.from.0 (l.from.0 + l.q))) (take l.board-index l.fn.boards)
+      ++ drop l.board-index l.fn.boards;
+  posts :
+      l.made.posts.items
+      ≡ l.fn.made.posts.items
+      ++ flat_map (posts_made (granted l.from.0 (l.from.0 + l.q))) (take l.board-index l.fn.boards);
+  entries :
+      all_entries l.made.entries.items
+      ≡ all_entries l.fn.made.entries.items
+      ++ flat_map (entries_made (granted l.from.0 (l.from.0 + l.q))) (take l.board-index l.fn.boards);
+}
