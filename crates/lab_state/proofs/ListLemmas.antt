@@ -1,6 +1,6 @@
 -- Lists: a change of one place, maps, and items that differ.
 use Rattle.std.proofs.Common.{◌≡◌, ◌∙◌, sym, ap, refl, Bool, true, false, not, cond, ◌&&◌, ◌||◌, ℕ, zero, suc, ◌+◌, ◌<◌, ◌≤◌, List, [], ◌∷◌, ◌++◌, length, map, set, get_or, take, drop, fold, slice_get, unwrap_or, Option, Some, None, subst, append_assoc, arith}
-use Rattle.std.specs.Prelude.{is_some, nat_lt}
+use Rattle.std.specs.Prelude.{is_some, nat_lt, IsSome, option_and_then}
 use Rattle.std.proofs.lemmas.Grind.{common_steps}
 use Rattle.std.proofs.lemmas.Bool.Decides.{nat_tests}
 use Rattle.std.proofs.lemmas.Cmp.{nat_list_eq_equiv}
@@ -83,7 +83,8 @@ fold-kept g step same a (b ∷ bs) = fold-kept g step same (step a b) bs ∙ sam
 pub not_yet :
     {A : Type 0} (F : A → A) (xs : List A) (i : ℕ) (d : A) →
     get_or (map F (take i xs) ++ drop i xs) i d ≡ get_or xs i d
-not_yet F [] i d = refl
+not_yet F [] zero d = refl
+not_yet F [] (suc i) d = refl
 not_yet F (x ∷ xs) zero d = refl
 not_yet F (x ∷ xs) (suc i) d = not_yet F xs i d
 
@@ -107,6 +108,12 @@ distinct-append e [] ys first second apart = second
 distinct-append e (x ∷ xs) ys first second apart =
     (each-append (λ y. e x y ≡ false) xs ys first.0 apart.0, distinct-append e xs ys first.1 second apart.1)
 
+pub distinct-right :
+    {A : Type 0} (e : A → A → Bool) (xs ys : List A) → IsDistinct e (xs ++ ys) → IsDistinct e ys
+unfolding IsDistinct
+distinct-right e [] ys is = is
+distinct-right e (x ∷ xs) ys is = distinct-right e xs ys is.1
+
 -- an item more, which differs from all others
 pub distinct-insert :
     {A : Type 0} (e : A → A → Bool) → ((x y : A) → e x y ≡ e y x) → (x : A) (xs ys : List A) →
@@ -118,7 +125,13 @@ distinct-insert e flips x (z ∷ zs) ys is apart = (
   distinct-insert e flips x zs ys is.1 apart.1,
 )
 
--- ---- places of names
+-- ---- places
+
+pub stands :
+    {A B : Type 0} (f : A → Option B) (xs : List A) (i : ℕ) → IsSome (option_and_then f (slice_get xs i)) → i < length xs
+stands f [] i is = let no : false ≡ true = is in absurd (cc)
+stands f (x ∷ xs) zero is = omega arith
+stands f (x ∷ xs) (suc i) is = omega (arith, stands f xs i is)
 
 position_or_len-map :
     {A B : Type 0} (f : A → B) (p : B → Bool) (xs : List A) →

@@ -12,6 +12,7 @@ use Rattle.lab_num.specs.declared.post.Payload.{Payload}
 use Rattle.lab_num.specs.declared.post.Payload.TheVariants.{Byte}
 use Rattle.lab_num.specs.declared.post.Post.{Post}
 use Rattle.lab_num.specs.Key.{same_member, KeysDiffer}
+use Rattle.lab_num.specs.Listing.{listing}
 use Rattle.lab_num.specs.Paid.{paid}
 use Rattle.lab_num.specs.Post.{post_key, entry_key}
 use Rattle.lab_num.specs.Route.{route, hub_of, has_member}
@@ -22,8 +23,8 @@ use Rattle.board.specs.Taken.{handed}
 use Rattle.lab_state.specs.Board.{Board}
 use Rattle.lab_state.specs.Boundary.{to_member, to_route, boundary}
 use Rattle.lab_state.specs.Hub.{Hub, members_of}
-use Rattle.lab_state.specs.Lab.{Lab}
-use Rattle.lab_state.specs.Round.{granted, stepped, posts_made, entries_made, slot_items, round_by, round}
+use Rattle.lab_state.specs.Lab.{Lab, Seen}
+use Rattle.lab_state.specs.Round.{granted, stepped, posts_made, entries_made, slot_items, met, round_by, round}
 use Rattle.lab_state.specs.Inner.Standing.{outlines, IsStanding, AreStanding, IsDevice, AreDevices, IsSound, IsSoundLab}
 use Rattle.lab_state.proofs.ListLemmas.{fold-kept}
 use Rattle.lab_state.proofs.KeyLemmas.{AreKeyed, keyed_differ}
@@ -173,11 +174,31 @@ sound-stepped law boards hubs now quantum q within sound =
 
 -- a laboratory after a round
 pub sound-round :
-    Numbering → (lab : Lab) (q : ℕ) → lab.now + q ≤ 10000000000 → IsSoundLab lab → IsSoundLab (round lab q).lab
-unfolding round_by boundary
+    Numbering → (lab : Lab) (q : ℕ) → lab.now + q ≤ 10000000000 → IsSoundLab lab →
+    IsSound (outlines (met (granted lab.now (lab.now + q)) lab).boards) lab.hubs (lab.now + q) lab.quantum
+unfolding boundary
 sound-round law lab q within sound =
     rw (outlines-routes (members_of lab.hubs) _ _)
     (sound-stepped law lab.boards lab.hubs lab.now lab.quantum q within sound)
+
+-- the posts that were handed over one after another
+pub boundary_is :
+    (hubs : List Hub) {seen boards : List Board} {posts listed made sent : List Post} → seen ≡ boards → posts ≡ listed →
+    listed ≡ listing post_key made → made ≡ sent →
+    fold (to_route (members_of hubs)) seen posts ≡ (boundary hubs boards sent).boards
+unfolding boundary
+boundary_is hubs a b c d = rw (a, b, c, d) refl
+
+-- a round, as contracts see it
+pub seen_round :
+    (s : Seen) (boards : List Board) (hubs : List Hub) (now quantum : ℕ) (spent : Bool) (q : ℕ) {after : List Board} →
+    record { lab = record { boards = boards; hubs = hubs; now = now; quantum = quantum }; spent = spent } ≡ s →
+    spent ≡ false →
+    after ≡ (met (granted now (now + q)) (record { boards = boards; hubs = hubs; now = now; quantum = quantum })).boards →
+    ◌≡◌ {A = Seen} (record { lab = record { boards = after; hubs = hubs; now = now + q; quantum = quantum }; spent = spent })
+    (record { lab = (round s.lab q).lab; spent = false })
+unfolding round_by
+seen_round s boards hubs now quantum spent q is unspent made = rw (← is, unspent, made) refl
 
 pub round_items :
     (lab : Lab) (q : ℕ) → (round lab q).items ≡ slot_items (granted lab.now (lab.now + q)) lab.boards

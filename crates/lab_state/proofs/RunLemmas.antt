@@ -53,8 +53,9 @@ pub rounds_now : (lab : Lab) (q n : ℕ) → (rounds lab q n).lab.now ≤ lab.no
 rounds_now lab q zero = omega arith
 rounds_now lab q (suc n) =
     let before = rounds lab q n in
-    rw (← add-one n, ← rounds_more lab q n)
-    (omega (arith, on_now (is_some before.paused) before (round before.lab q) q (round_now before.lab q), rounds_now lab q n))
+    let more : rounds lab q (suc n) ≡ go_on round before q = ap (rounds lab q) (sym (add-one n)) ∙ sym (rounds_more lab q n) in
+    omega
+    (arith, ap (λ run. run.lab.now) more, on_now (is_some before.paused) before (round before.lab q) q (round_now before.lab q), rounds_now lab q n)
 
 -- the rounds so far leave room for one more, and the whole quanta leave room for the rest
 pub room_for :

@@ -1,10 +1,11 @@
 -- What holds of a laboratory goes on to hold where it is changed.
-use Rattle.std.proofs.Common.{◌≡◌, ◌∙◌, sym, ap, refl, false, ◌||◌, ℕ, ◌+◌, ◌*◌, ◌<◌, ◌≤◌, List, [], ◌∷◌, ◌++◌, length, map, Option, Some, None, unwrap_or, subst, add-zero, zero-add, append_assoc, arith}
+use Rattle.std.proofs.Common.{◌≡◌, ◌∙◌, sym, ap, refl, false, ◌||◌, ℕ, ◌+◌, ◌*◌, ◌<◌, ◌≤◌, List, [], ◌∷◌, ◌++◌, length, map, slice_get, Option, Some, None, unwrap_or, subst, add-zero, zero-add, append_assoc, arith}
 use Rattle.std.specs.Prelude.{Bool, true, is_some}
 use Rattle.std.proofs.lemmas.Cmp.{nat_list_eq_equiv}
 use Rattle.std.proofs.lemmas.List.{append-nil, map-append, length-map, length_push}
 use Rattle.std.proofs.lemmas.List.Elements.{All-append, recursion_from_All}
-use Rattle.std.specs.List.{AllByRecursion, position}
+use Rattle.std.proofs.lemmas.Option.{slice_get-map}
+use Rattle.std.specs.List.{AllByRecursion, IsDistinct}
 use Rattle.std.specs.Option.{option_map, ForSome}
 use Rattle.std.specs.Str.{bytes_eq}
 use Rattle.lab_num.specs.declared.key.Member.{Member}
@@ -15,10 +16,10 @@ use Rattle.lab_state.specs.Board.{Board}
 use Rattle.lab_state.specs.Change.{change_at}
 use Rattle.lab_state.specs.Hub.{Hub}
 use Rattle.lab_state.specs.Lab.{Lab}
-use Rattle.lab_state.specs.Names.{is_taken}
+use Rattle.lab_state.specs.Names.{is_taken, board_named, hub_named}
 use Rattle.lab_state.specs.One.{with_view, with_member}
-use Rattle.lab_state.specs.Inner.Standing.{Outline, outline, outlines, IsStanding, AreStanding, IsDevice, AreDevices, names_of, IsSound}
-use Rattle.lab_state.proofs.ListLemmas.{map-change, each-change, each-weaker, each-append, distinct-insert, position-map, none_named}
+use Rattle.lab_state.specs.Inner.Standing.{Outline, outline, outlines, IsStanding, AreStanding, IsDevice, AreDevices, names_of, IsSound, IsSoundLab}
+use Rattle.lab_state.proofs.ListLemmas.{map-change, each-change, each-weaker, each-append, distinct-insert, distinct-right, position-map, none_named, named_at}
 
 -- ---- outlines
 
@@ -49,9 +50,45 @@ pub new_name :
 new_name lab name free =
     let none = neither _ _ free in
     let no_board = ap is_some (position-map outline (λ o. bytes_eq o.name name) lab.boards) ∙ none.0 in
-    recursion_from_All _ _
-    (All-append _ _ _ (none_named (λ (o : Outline). o.name) (outlines lab.boards) name no_board)
+    recursion_from_All (λ y. bytes_eq name y ≡ false) _
+    (All-append (λ y. bytes_eq name y ≡ false) _ _ (none_named (λ (o : Outline). o.name) (outlines lab.boards) name no_board)
     (none_named (λ (hub : Hub). hub.name) lab.hubs name none.1))
+
+-- and a board and a hub are found by their names
+board_outline : (o : Option Board) → option_map (λ board. board.name) o ≡ option_map (λ o. o.name) (option_map outline o)
+board_outline None = refl
+board_outline (Some board) = refl
+
+pub board-found :
+    (lab : Lab) (b : ℕ) (name : List ℕ) → IsSoundLab lab →
+    Some name ≡ option_map (λ board. board.name) (slice_get lab.boards b) → board_named lab name ≡ Some b
+board-found lab b name sound is =
+    let at = is ∙ board_outline (slice_get lab.boards b) ∙ ap (option_map (λ (o : Outline). o.name)) (sym (slice_get-map outline lab.boards b)) in
+    sym (position-map outline (λ o. bytes_eq o.name name) lab.boards)
+    ∙ named_at (λ (o : Outline). o.name) (outlines lab.boards) (map (λ hub. hub.name) lab.hubs) b name sound.names at
+
+pub hub-found :
+    (lab : Lab) (n : ℕ) (name : List ℕ) → IsSoundLab lab →
+    Some name ≡ option_map (λ hub. hub.name) (slice_get lab.hubs n) → hub_named lab name ≡ Some n
+hub-found lab n name sound is =
+    let names = map (λ (hub : Hub). hub.name) lab.hubs in
+    let apart : IsDistinct bytes_eq (names ++ []) =
+    rw append-nil (distinct-right bytes_eq (map (λ (o : Outline). o.name) (outlines lab.boards)) names sound.names) in
+    named_at (λ (hub : Hub). hub.name) lab.hubs [] n name apart is
+
+-- ---- a laboratory without boards and hubs
+
+pub sound-new : IsSound [] [] 0 100
+unfolding IsDistinct
+sound-new = record {
+  few_boards = omega arith;
+  standing = tt;
+  devices = tt;
+  names = tt;
+  time = omega arith;
+  least_quantum = omega arith;
+  most_quantum = omega arith;
+}
 
 -- ---- a board more
 
@@ -98,9 +135,10 @@ pub sound-board :
     length lab.boards < 16 → is_taken lab name ≡ false → board ≡ record { name = name; view = Some v } →
     v.numbers ≡ early_numbers (length lab.boards) →
     IsSound (outlines (lab.boards ++ board ∷ [])) lab.hubs lab.now lab.quantum
-sound-board lab {name = name} {v = v} sound room free is numbers =
-    let o : Outline = record { name = name; numbers = Some (early_numbers (length lab.boards)) } in
-    let made : outline _ ≡ o = ap outline is ∙ ap (λ n. record { name = name; numbers = Some n }) numbers in
+sound-board lab {name = name} {board = board} sound room free is numbers =
+    let named : Numbers → Outline = λ n. record { name = name; numbers = Some n } in
+    let o : Outline = named (early_numbers (length lab.boards)) in
+    let made : outline board ≡ o = ap outline is ∙ ap named numbers in
     rw (map-append, made)
     (sound-push (outlines lab.boards) lab.hubs lab.now lab.quantum o sound (rw length-map room)
     (rw length-map (early_standing (1000 * lab.now) (length lab.boards))) (new_name lab name free))

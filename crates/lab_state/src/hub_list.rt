@@ -47,6 +47,26 @@ fn number_of(hubs: &[HubName], name: &str) -> Option<usize>
     hubs.iter().position(|hub| hub.name.as_str() == name)
 }
 
+/// Puts a name at the end of the names and makes a hub, or neither.
+fn create_both(
+    names: &mut Vec<HubName>,
+    uarts: &mut UartHubs,
+    name: HubName,
+) -> Result<(), NoMemory>
+    requires { length uarts.old + 1 < 2 ^ 32 }
+    ensures name { OnOk result (names.new.items ≡ names.old.items ++ name ∷ []) }
+    ensures hub { OnOk result (uarts.new ≡ uarts.old ++ [] ∷ []) }
+    ensures no_name { OnErr result (names.new.items ≡ names.old.items) }
+    ensures no_hub { OnErr result (uarts.new ≡ uarts.old) }
+{
+    names.push(name)?;
+    if uarts.create().is_err() {
+        let _ = names.pop();
+        return Err(NoMemory);
+    }
+    Ok(())
+}
+
 impl HubList {
     ghost use Rattle.lab_num.specs.declared.kind.Kind.TheVariants.{Uart};
 
@@ -109,11 +129,7 @@ impl HubList {
             name,
             kind: Kind::Uart,
         };
-        self.names.push(hub)?;
-        if self.uarts.create().is_err() {
-            let _ = self.names.pop();
-            return Err(NoMemory);
-        }
+        create_both(&mut self.names, &mut self.uarts, hub)?;
         Ok(())
     }
 

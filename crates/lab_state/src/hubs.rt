@@ -13,6 +13,13 @@ use crate::lab::Lab;
 use lab_num::{Kind, Member, Text};
 
 impl Lab {
+    /// The number of the hub of this name.
+    pub(crate) fn hub_named(&self, name: &str) -> Option<u32>
+        ensures { result ≡ names_spec.hub_named self.now.lab name.now }
+    {
+        self.hubs.find(name)
+    }
+
     /// Creates a hub that connects UARTs, without members.
     pub fn create_uart_hub(&mut self, name: &str) -> Result<(), HubNameFault>
         requires unspent { self.old.spent ≡ false }
@@ -54,7 +61,7 @@ impl Lab {
             × IsTrue (is_connected (members_of self.old.lab.hubs) member)) }
         ensures err { OnErr result (self.new ≡ self.old) }
     {
-        let Some(n) = self.hubs.find(hub) else {
+        let Some(n) = self.hub_named(hub) else {
             return Err(ConnectFault::Name);
         };
         self.hubs.connect(n, member)?;
