@@ -1,6 +1,6 @@
 -- Bytes of a memory.
-use Rattle.std.proofs.Common.{◌≡◌, ℕ, suc, ◌+◌, ◌<◌, ◌≤◌, List, [], ◌∷◌, ◌++◌, length, refl, sym, ◌∙◌, arith, add-one, add-zero, append_assoc, length-set}
-use Rattle.std.specs.Prelude.{slice_set, take, drop}
+use Rattle.std.proofs.Common.{◌≡◌, ℕ, suc, ◌+◌, ◌<◌, ◌≤◌, List, [], ◌∷◌, length, refl, sym, ◌∙◌, arith, add-one, add-zero, append_assoc, length-set}
+use Rattle.std.specs.Prelude.{slice_set}
 use Rattle.std.proofs.Math.Seq.{take-suc-set}
 use Rattle.std.proofs.lemmas.List.{drop-set-lt, take-append-drop}
 use Rattle.board.specs.Memory.{put_bytes}
@@ -10,9 +10,9 @@ put_bytes-cons :
     (bytes : List ℕ) (i next byte : ℕ) (part : List ℕ) → next ≡ i + 1 → i < length bytes →
     put_bytes bytes i (byte ∷ part) ≡ put_bytes (slice_set bytes i byte) next part
 put_bytes-cons bytes i next byte part follows h =
-    let here : i < i + 1 + length part = omega arith in
     let end : i + suc (length part) ≡ i + 1 + length part = omega arith in
-    rw (follows, end, drop-set-lt (i + 1 + length part) bytes i byte here, add-one i, take-suc-set bytes i byte h, append_assoc) refl
+    let same = drop-set-lt (i + 1 + length part) bytes i byte (omega arith) in
+    rw (follows, end, same, add-one i, take-suc-set bytes i byte h, append_assoc) refl
 
 put_bytes-nil : (bytes : List ℕ) (i : ℕ) → put_bytes bytes i [] ≡ bytes
 put_bytes-nil bytes i = rw add-zero (take-append-drop i bytes)

@@ -1,12 +1,12 @@
 -- Laws of slots one after another.
-use Rattle.std.proofs.Common.{◌≡◌, ℕ, zero, suc, ◌+◌, ◌*◌, ◌/◌, ◌<◌, ◌≤◌, List, [], ◌∷◌, sum, refl, ◌∙◌, append_assoc, add-one, add-zero, add-suc, add_assoc, arith}
+use Rattle.std.proofs.Common.{◌≡◌, ℕ, true, zero, suc, ◌+◌, ◌*◌, ◌/◌, ◌<◌, ◌≤◌, List, [], ◌∷◌, sum, refl, ◌∙◌, append_assoc, add-one, add-zero, add-suc, add_assoc, arith}
 use Rattle.std.proofs.lemmas.List.Sums.{sum_by-cons}
 use Rattle.std.proofs.Math.Nat.{mul-le-mul, suc-mul}
 use Rattle.lab_num.specs.Paid.{slot_at}
 use Rattle.board.specs.View.{View, State, after}
 use Rattle.board.specs.Slot.{slot, quiet}
 use Rattle.board.specs.Stretch.{stretch, in_turns}
-use Rattle.board.proofs.SlotLemmas.{quiet-behind, speed-slot}
+use Rattle.board.proofs.SlotLemmas.{quiet-behind, slot-halted, speed-slot}
 
 -- what is made one after another comes in order
 after-after : (s run more : State) → after (after s run) more ≡ after s (after run more)
@@ -17,6 +17,16 @@ after-after s run more =
 pub after_none : (s : State) (from a : ℕ) → s ≡ after s (stretch s.view from a 0)
 unfolding stretch
 after_none s from a = quiet-behind s
+
+-- slots of a halted board leave it as it is
+stretch-halted : (v : View) (from a n : ℕ) → v.core.halted ≡ true → stretch v from a n ≡ quiet v
+unfolding stretch
+stretch-halted v from a zero halted = refl
+stretch-halted v from a (suc n) halted = rw (stretch-halted v from a n halted, slot-halted v _ halted) refl
+
+pub after_halted :
+    (s : State) (from a n : ℕ) → s.view.core.halted ≡ true → s ≡ after s (stretch s.view from a n)
+after_halted s from a n halted = rw (stretch-halted s.view from a n halted) (quiet-behind s)
 
 -- one slot more
 pub after_more :
@@ -68,4 +78,5 @@ pub turns-add :
     (v : View) (from a : ℕ) (turns : List ℕ) → in_turns v from a turns ≡ stretch v from a (sum turns)
 turns-add v from a [] = stretch-none v from a
 turns-add v from a (n ∷ turns) =
-    rw (sum_by-cons (λ x. x) n turns, stretch-add v from a n (sum turns), turns-add (stretch v from a n).view from (a + n) turns) refl
+    let rest = turns-add (stretch v from a n).view from (a + n) turns in
+    rw (sum_by-cons (λ x. x) n turns, stretch-add v from a n (sum turns), rest) refl

@@ -21,9 +21,13 @@ holds_each memory at count = (count == 0) || in_memory memory at count
 abbrev pub value_at : List ℕ → ℕ → ℕ → ℕ
 value_at bytes i width = number_of (take width (drop i bytes))
 
--- the word at an address, if that is a multiple of 4 and the memory holds all four bytes
+-- the word at an address, if the memory holds all four bytes
+abbrev pub word_in : List ℕ → ℕ → Option ℕ
+word_in memory at = if in_memory memory at 4 then Some (value_at memory (at - memory_base) 4) else None
+
+-- the same where the address is a multiple of 4
 abbrev pub word_held : List ℕ → ℕ → Option ℕ
-word_held memory at = if (at % 4 == 0) && in_memory memory at 4 then Some (value_at memory (at - memory_base) 4) else None
+word_held memory at = if at % 4 == 0 then word_in memory at else None
 
 -- bytes with these in their place from one on
 abbrev pub put_bytes : List ℕ → ℕ → List ℕ → List ℕ

@@ -13,7 +13,7 @@ use Rattle.board.specs.View.{View, State, wires_of, state_of}
 abbrev pub quiet : View → State
 quiet v = record { view = v; posts = []; entries = [] }
 
--- a slot that leaves the processor so, apart from its count of cycles
+-- a slot that leaves the processor like this, but for its cycle, which is counted
 abbrev pub cycle : View → Core → State
 cycle v core = quiet (record v { core = ticked core })
 
@@ -26,22 +26,25 @@ abbrev pub instruction : View → ℕ → Lines → State
 instruction v t lines =
     carried_out (wires_of v t) (effect_of_fetch v.core (fetched (wires_of v t) v.core.pc) lines)
 
--- the entry of the interrupt that is taken now, if there is one, or else an instruction
-unfoldable pub act : View → ℕ → Lines → State
-act v t lines = option_map_or (λ n. cycle v (interrupt v.core n)) (chosen v.core lines.mip) (instruction v t lines)
+-- a slot of a processor that does not wait: the entry of the interrupt that is taken now, or with none an instruction
+unfoldable pub awake : View → ℕ → Lines → State
+awake v t lines = option_map_or (λ n. cycle v (interrupt v.core n)) (chosen v.core lines.mip) (instruction v t lines)
 
--- a slot of a processor that waits: it goes on waiting where no interrupt is pending and enabled, and else waits no more
-abbrev pub waited : View → ℕ → Lines → State
-waited v t lines =
-    if is_ready v.core lines.mip then act (record v { core = record v.core { waiting = false } }) t lines
-    else cycle v v.core
+-- a board whose processor waits no more
+abbrev pub woken : View → View
+woken v = record v { core = record v.core { waiting = false } }
+
+-- a slot of a processor that waits: it is woken where an interrupt is pending and enabled, and else its cycle passes
+abbrev pub asleep : View → ℕ → Lines → State
+asleep v t lines =
+    if is_ready v.core lines.mip then awake (woken v) t lines else cycle v v.core
 
 -- The steps of a slot at a microsecond, in their order. A halted processor's slot changes nothing. No interrupt
--- controller samples its lines yet. The lines show what they show. A processor that waits goes on waiting, or waits no
--- more. An interrupt is entered, or one instruction is done.
+-- controller samples its sources yet. The lines are read. A processor that waits goes on waiting, or waits no more. An
+-- interrupt is entered, or one instruction is done.
 unfoldable pub slot : View → ℕ → State
 slot v t =
     let lines = lines_of v.space t in
     if v.core.halted then quiet v
-    else if v.core.waiting then waited v t lines
-    else act v t lines
+    else if v.core.waiting then asleep v t lines
+    else awake v t lines

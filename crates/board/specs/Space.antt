@@ -1,5 +1,5 @@
 -- All that the loads and stores of a board's processor reach: one memory and one UART.
-use Rattle.std.specs.Prelude.{ℕ, ◌-◌, ◌%◌, ◌==◌, Bool, if◌then◌else◌, List, Option, Some, None}
+use Rattle.std.specs.Prelude.{ℕ, ◌-◌, ◌%◌, ◌==◌, Bool, if◌then◌else◌, List, Option, None, Some}
 use Rattle.rv_hart.specs.declared.csr.Lines.{Lines}
 use Rattle.board.specs.declared.space.Place.{Place}
 use Rattle.board.specs.declared.space.Place.TheVariants.{InMemory, InUart, Nowhere}
@@ -24,10 +24,6 @@ unfoldable pub place_of : Space → ℕ → ℕ → Place
 place_of space at count =
     if in_memory space.memory at count then InMemory (at - memory_base)
     else if in_uart at count then InUart (at - uart_base) else Nowhere
-
--- the word that a fetch finds: only the memory has instructions
-abbrev pub word_of : Space → ℕ → Option ℕ
-word_of space at = if in_memory space.memory at 4 then Some (value_at space.memory (at - memory_base) 4) else None
 
 -- what a load of so many bytes answers at a place, and the space after it
 abbrev pub load_answer : Space → ℕ → Place → ℕ

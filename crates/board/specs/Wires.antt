@@ -1,12 +1,13 @@
 -- What the processor is wired to in a slot, and what each of its accesses does.
-use Rattle.std.specs.Prelude.{ℕ, ◌+◌, ◌-◌, ◌^◌, min, if◌then◌else◌, List, [], ◌∷◌, ◌++◌, Option, None, Some}
+use Rattle.std.specs.Prelude.{ℕ, if◌then◌else◌, List, [], ◌∷◌, ◌++◌, Option, None, Some}
 use Rattle.lab_num.specs.declared.key.Key.{Key}
 use Rattle.lab_num.specs.declared.post.Post.{Post}
 use Rattle.lab_num.specs.declared.post.Payload.TheVariants as payload
 use Rattle.lab_num.specs.declared.post.Entry.{Entry}
 use Rattle.lab_num.specs.declared.post.What.TheVariants as what
-use Rattle.board.specs.Numbers.{Numbers}
-use Rattle.board.specs.Space.{Space, place_of, word_of, load_answer, after_load, after_store, byte_sent}
+use Rattle.board.specs.Memory.{word_in}
+use Rattle.board.specs.Numbers.{Numbers, after_post, after_entry}
+use Rattle.board.specs.Space.{Space, place_of, load_answer, after_load, after_store, byte_sent}
 
 -- the board's numbers, its space, the microsecond of the slot, and the posts and entries that nobody has taken
 pub record Wires : Type 0 where
@@ -15,10 +16,6 @@ pub record Wires : Type 0 where
   pub at : ℕ
   pub posts : List Post
   pub entries : List Entry
-
--- a counter of 64 bits after one more, which stands still at its last value
-abbrev pub counted : ℕ → ℕ
-counted count = min (count + 1) (2 ^ 64 - 1)
 
 -- the key of what the board makes in this slot
 abbrev pub key_of : Wires → ℕ → Key
@@ -38,28 +35,23 @@ entry_of w byte = record { key = key_of w w.numbers.entered; what = what.Byte 0 
 
 -- a byte was posted, and it was entered
 abbrev pub posted : Wires → ℕ → Wires
-posted w byte = record w {
-  numbers = record w.numbers { posted = counted w.numbers.posted };
-  posts = w.posts ++ post_of w byte ∷ [];
-}
+posted w byte = record w { numbers = after_post w.numbers; posts = w.posts ++ post_of w byte ∷ [] }
 
 abbrev pub entered : Wires → ℕ → Wires
-entered w byte = record w {
-  numbers = record w.numbers { entered = counted w.numbers.entered };
-  entries = w.entries ++ entry_of w byte ∷ [];
-}
+entered w byte = record w { numbers = after_entry w.numbers; entries = w.entries ++ entry_of w byte ∷ [] }
 
--- the UART sends a byte, if there is one: that makes a post, and an entry too where the UART is shown
+-- the UART sends a byte: that makes a post, and an entry too where the UART is shown
 unfoldable pub sent : Wires → ℕ → Wires
 sent w byte = if w.space.shown then entered (posted w byte) byte else posted w byte
 
+-- the UART sends a byte, if there is one
 abbrev pub sent_if : Wires → Option ℕ → Wires
 sent_if w None = w
 sent_if w (Some byte) = sent w byte
 
--- the word at an address, if the memory holds it
+-- the word of an instruction at an address, if the memory holds it
 abbrev pub fetched : Wires → ℕ → Option ℕ
-fetched w at = word_of w.space at
+fetched w at = word_in w.space.memory at
 
 -- what a load answers, and what it changes
 abbrev pub answer : Wires → ℕ → ℕ → ℕ

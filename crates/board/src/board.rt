@@ -58,7 +58,7 @@ impl Board {
     ghost use Rattle.board.specs.Changes.{with_pc, with_halted, with_shown, with_bytes};
     ghost use Rattle.board.specs.Taken.{taken_by, handed};
     ghost use Rattle.board.specs.View.{View, State, after, wires_of, state_of};
-    ghost use Rattle.board.specs.Slot.{quiet, slot, act, waited};
+    ghost use Rattle.board.specs.Slot.{quiet, slot, awake, asleep};
     ghost use Rattle.rv_hart.specs.Core.{reg};
     ghost use Rattle.board.specs.Stretch.{IsTurn};
 
@@ -100,12 +100,15 @@ impl Board {
     }
 
     /// Takes the next `n` slots. Slot `i` of the call lies in microsecond
-    /// `at.from + (at.first + i) / speed`. A halted board's slots pass and change nothing. `Starved`
-    /// is for want of memory alone.
+    /// `at.from + (at.first + i) / speed`. A halted board's slots pass and change nothing.
+    /// `Starved` is for want of memory alone.
     pub fn turn(&mut self, at: SlotAt, n: u64) -> Turn
         requires { at.from.0 + (at.first + n) / self.old.view.numbers.speed ≤ 10000000000 }
         ensures { IsTurn self.old at.from.0 at.first n result self.new }
     {
+        if self.halted() {
+            return Turn::Used(n);
+        }
         let speed = u64::from(self.speed());
         let mut micros = at.first / speed;
         let mut within = at.first % speed;
@@ -138,12 +141,12 @@ impl Board {
         self.act(at, lines)
     }
 
-    /// A slot of a processor that waits: it goes on waiting, or is woken. After an `Err` the board is
-    /// as before.
+    /// A slot of a processor that waits: it goes on waiting, or is woken. After an `Err` the board
+    /// is as before.
     #[cold]
     fn wait(&mut self, at: Micros, lines: Lines) -> Result<(), NoMemory>
         requires { self.old.view.core.waiting ≡ true }
-        ensures ok { OnOk result (self.new ≡ after self.old (waited self.old.view at.0 lines)) }
+        ensures ok { OnOk result (self.new ≡ after self.old (asleep self.old.view at.0 lines)) }
         ensures err { OnErr result (self.new ≡ self.old) }
     {
         if !self.hart.is_ready(lines.mip) {
@@ -160,9 +163,9 @@ impl Board {
 
     /// Enters the interrupt that is taken now, or else does one instruction. After an `Err` the
     /// board is as before.
-    #[tactic(auto, unfolding(crate::specs::Slot::act))]
+    #[tactic(auto, unfolding(crate::specs::Slot::awake))]
     fn act(&mut self, at: Micros, lines: Lines) -> Result<(), NoMemory>
-        ensures ok { OnOk result (self.new ≡ after self.old (act self.old.view at.0 lines)) }
+        ensures ok { OnOk result (self.new ≡ after self.old (awake self.old.view at.0 lines)) }
         ensures err { OnErr result (self.new ≡ self.old) }
     {
         if let Some(n) = self.hart.pending(lines.mip) {

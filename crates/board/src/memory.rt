@@ -1,6 +1,6 @@
 //! The board's memory.
 ghost use Rattle.std.specs.Prelude.{◌≡◌, ℕ, ◌+◌, ◌-◌, ◌^◌, ◌<◌, ◌≤◌, ◌++◌, [], ◌∷◌, length, if◌then◌else◌, Some, None, IfOk, IfSome, IsTrue};
-ghost use Rattle.board.specs.Memory.{memory_base, in_memory, value_at, put_value, put_bytes};
+ghost use Rattle.board.specs.Memory.{memory_base, in_memory, value_at, word_in, put_value, put_bytes};
 ghost use Rattle.board.specs.Early.{zeros};
 ghost use Rattle.rv_exec.specs.Access.{IsWidth};
 
@@ -52,6 +52,16 @@ impl Memory {
             Some(i)
         } else {
             None
+        }
+    }
+
+    /// The word at an address, if the memory holds all four bytes.
+    pub fn word(&self, at: u32) -> Option<u32>
+        ensures { result ≡ word_in self.now at }
+    {
+        match self.find(at, 4) {
+            Some(i) => Some(word_at(&self.bytes, i)),
+            None => None,
         }
     }
 

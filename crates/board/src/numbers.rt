@@ -1,12 +1,12 @@
 //! The numbers of a board.
 ghost use Rattle.std.specs.Prelude.{◌≡◌};
-ghost use Rattle.board.specs.Wires.{counted};
+ghost use Rattle.board.specs.Numbers.{after_post, after_entry};
 
 use lab_num::BoardNo;
 use std::marker::Model;
 
-/// A board's own number, its speed in instructions a microsecond, and how many posts and log entries
-/// it has made.
+/// A board's own number, its speed in instructions a microsecond, and how many posts and log
+/// entries it has made.
 #[derive(Drop)]
 pub struct Numbers {
     pub number: BoardNo,
@@ -31,14 +31,14 @@ impl Model for Numbers {
 impl Numbers {
     /// Counts a post more. The counter stands still at its last value.
     pub fn count_post(&mut self)
-        ensures { self.new ≡ record self.old { posted = counted self.old.posted } }
+        ensures { self.new ≡ after_post self.old }
     {
         self.posted = self.posted.saturating_add(1);
     }
 
     /// Counts a log entry more. The counter stands still at its last value.
     pub fn count_entry(&mut self)
-        ensures { self.new ≡ record self.old { entered = counted self.old.entered } }
+        ensures { self.new ≡ after_entry self.old }
     {
         self.entered = self.entered.saturating_add(1);
     }

@@ -2,8 +2,9 @@
 ghost use Rattle.std.specs.Prelude.{◌≡◌, ◌^◌, ◌<◌, ◌≤◌, false, IfOk};
 ghost use Rattle.board.specs.Early.{zeros};
 ghost use Rattle.rv_exec.specs.Access.{IsWidth};
+ghost use Rattle.board.specs.Memory.{word_in};
 ghost use Rattle.board.specs.Uart.{silent};
-ghost use Rattle.board.specs.Space.{place_of, word_of, load_answer, after_load, after_store, byte_sent, lines_of};
+ghost use Rattle.board.specs.Space.{place_of, load_answer, after_load, after_store, byte_sent, lines_of};
 ghost use Rattle.board.specs.Inner.Lies.{LiesIn};
 
 use crate::memory::Memory;
@@ -69,8 +70,8 @@ impl Space {
 
     /// What the interrupt lines and the timer show in a microsecond: nothing is wired to the
     /// processor's pins yet.
-    pub fn lines(&self, _at: Micros) -> Lines
-        ensures { result ≡ lines_of self.now _at.0 }
+    pub fn lines(&self, at: Micros) -> Lines
+        ensures { result ≡ lines_of self.now at.0 }
     {
         Lines { mip: 0, mtime: 0 }
     }
@@ -93,12 +94,9 @@ impl Space {
 
     /// The word of an instruction at an address. Instructions stand in the memory alone.
     pub fn word(&self, at: u32) -> Option<u32>
-        ensures { result ≡ word_of self.now at }
+        ensures { result ≡ word_in self.now.memory at }
     {
-        match self.memory.find(at, 4) {
-            Some(i) => Some(self.memory.load(i, 4)),
-            None => None,
-        }
+        self.memory.word(at)
     }
 
     /// Loads from the memory, or the UART's register at the address, or 0.
