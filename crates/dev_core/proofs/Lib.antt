@@ -1,0 +1,2 @@
+-- Lemmas of dev_core.
+mod RowLemmas

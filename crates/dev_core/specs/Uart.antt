@@ -1,0 +1,218 @@
+-- The UART, by the PC16550D data sheet, section 8: its registers, interrupts and receiver. Bytes are sent at once, so
+-- the transmitter is always empty; there are no modem lines, parity, framing or break.
+use Rattle.std.specs.Prelude.{◌≡◌, ℕ, ◌+◌, ◌*◌, ◌/◌, ◌%◌, ◌^◌, ◌≤◌, ◌==◌, ◌&&◌, ◌||◌, not, nat_lt, nat_le, Bool, true, false, IsTrue, if◌then◌else◌, List, [], ◌∷◌, ◌++◌, length, drop, find, slice_index, unwrap_or}
+use Rattle.dev_core.specs.declared.payload.Effect.{Effect}
+use Rattle.dev_core.specs.declared.payload.Effect.TheVariants.{Quiet, Send}
+use Rattle.dev_core.specs.declared.payload.Payload.{Payload}
+use Rattle.dev_core.specs.declared.payload.Payload.TheVariants.{Byte, Frame, Finish}
+use Rattle.dev_core.specs.declared.payload.Taken.{Taken}
+use Rattle.dev_core.specs.declared.payload.Taken.TheVariants.{Kept, Refused, Overrun}
+use Rattle.dev_core.specs.declared.uart_state.UartState.{UartState}
+use Rattle.dev_core.specs.Answered.{Answered, unchanged}
+use Rattle.dev_core.specs.Bit.{is_set, flag}
+
+-- the state after a reset (table I)
+abbrev pub uart_reset : UartState
+uart_reset = record {
+  ier = 0;
+  lcr = 0;
+  mcr = 0;
+  scr = 0;
+  dll = 0;
+  dlm = 0;
+  fifos = false;
+  trigger = 1;
+  received = [];
+  oe = false;
+  thr = false;
+}
+
+-- how many received bytes there is room for: the receiver FIFO's sixteen, or one with the FIFOs off
+abbrev pub capacity : Bool → ℕ
+capacity fifos = if fifos then 16 else 1
+
+-- the trigger levels of the receiver FIFO (section 8.5); with the FIFOs off each byte reaches it
+abbrev pub is_trigger : Bool → ℕ → Bool
+is_trigger fifos level = if fifos then level == 1 || level == 4 || level == 8 || level == 14 else level == 1
+
+-- a state that a UART can have
+pub record IsUartState (u : UartState) : Type 0 where
+  pub ier : u.ier ≤ 0x0F
+  pub mcr : u.mcr ≤ 0x1F
+  pub trigger : IsTrue (is_trigger u.fifos u.trigger)
+  pub received : length u.received ≤ capacity u.fifos
+
+-- RBR (summary of registers, table II): a load takes the oldest received byte out, and gives 0 where there is none
+abbrev pub rbr : UartState → ℕ
+rbr u = slice_index u.received 0
+
+abbrev pub rbr_loaded : UartState → UartState
+rbr_loaded u = record u { received = drop 1 u.received }
+
+-- THR: a byte that is stored is sent at once, and THR is empty again
+abbrev pub thr_stored : UartState → ℕ → UartState
+thr_stored u byte = record u { thr = true }
+
+-- IER (section 8.7): bit 0 enables the received data interrupts, bit 1 that of THR empty, bit 2 that of the line
+-- status, bit 3 that of the modem status. THR is empty when its interrupt is turned on.
+abbrev pub ier_stored : UartState → ℕ → UartState
+ier_stored u byte = record u { ier = byte % 2 ^ 4; thr = u.thr || is_set byte 1 && not (is_set u.ier 1) }
+
+-- the causes of an interrupt in IIR (section 8.6, table IV)
+abbrev pub no_interrupt : ℕ
+no_interrupt = 0x01
+
+abbrev pub line_status : ℕ
+line_status = 0x06
+
+abbrev pub received_data : ℕ
+received_data = 0x04
+
+abbrev pub character_timeout : ℕ
+character_timeout = 0x0C
+
+abbrev pub thr_empty : ℕ
+thr_empty = 0x02
+
+-- the cause that is told, by priority (table IV): a lost byte; as many bytes as the trigger level; fewer bytes, in
+-- the FIFO; THR empty
+abbrev pub cause : UartState → ℕ
+cause u =
+    if is_set u.ier 2 && u.oe then line_status
+    else if is_set u.ier 0 && nat_le u.trigger (length u.received) then received_data
+    else if is_set u.ier 0 && u.fifos && nat_lt 0 (length u.received) then character_timeout
+    else if is_set u.ier 1 && u.thr then thr_empty
+    else no_interrupt
+
+-- IIR (section 8.6): the cause, and bits 6 and 7 with the FIFOs on; a load that tells THR empty clears that interrupt
+abbrev pub iir : UartState → ℕ
+iir u = cause u + (if u.fifos then 0xC0 else 0)
+
+abbrev pub iir_loaded : UartState → UartState
+iir_loaded u = if cause u == thr_empty then record u { thr = false } else u
+
+-- FCR (section 8.5): bit 0 turns the FIFOs on, and a change of it empties the receiver; bit 1 empties it too, and bits
+-- 7 and 6 choose the trigger level
+abbrev pub trigger_level : ℕ → ℕ
+trigger_level choice = if choice == 0 then 1 else if choice == 1 then 4 else if choice == 2 then 8 else 14
+
+abbrev pub fifos_on : UartState → ℕ → UartState
+fifos_on u byte = record u {
+  fifos = true;
+  trigger = trigger_level (byte / 2 ^ 6);
+  received = if u.fifos && not (is_set byte 1) then u.received else [];
+}
+
+abbrev pub fifos_off : UartState → UartState
+fifos_off u = record u { fifos = false; trigger = 1; received = if u.fifos then [] else u.received }
+
+abbrev pub fcr_stored : UartState → ℕ → UartState
+fcr_stored u byte = if is_set byte 0 then fifos_on u byte else fifos_off u
+
+-- LSR (section 8.4): DR, bit 0, where a byte is there to be read; OE, bit 1, where one was lost, which a load clears;
+-- THRE and TEMT, bits 5 and 6, always
+abbrev pub lsr : UartState → ℕ
+lsr u = flag (nat_lt 0 (length u.received)) + flag u.oe * 2 ^ 1 + 2 ^ 5 + 2 ^ 6
+
+abbrev pub lsr_loaded : UartState → UartState
+lsr_loaded u = record u { oe = false }
+
+-- MSR (section 8.9): CTS, DSR and DCD, bits 4, 5 and 7, always
+abbrev pub msr : UartState → ℕ
+msr u = 2 ^ 4 + 2 ^ 5 + 2 ^ 7
+
+-- one register: its address, what a load gives, what a load leaves, and what a store of a byte leaves
+pub record Register : Type 0 where
+  pub address : ℕ
+  pub value : UartState → ℕ
+  pub loaded : UartState → UartState
+  pub stored : UartState → ℕ → UartState
+
+abbrev pub register :
+    ℕ → (UartState → ℕ) → (UartState → UartState) → (UartState → ℕ → UartState) → Register
+register address value loaded stored =
+    record { address = address; value = value; loaded = loaded; stored = stored }
+
+-- a load, or a store, that leaves the UART as it is
+abbrev pub same : UartState → UartState
+same u = u
+
+abbrev pub ignored : UartState → ℕ → UartState
+ignored u byte = u
+
+-- DLAB, bit 7 of LCR, puts the divisor latch in the place of registers 0 and 1 (section 8.1)
+abbrev pub dlab : UartState → Bool
+dlab u = is_set u.lcr 7
+
+-- registers 0 and 1 with DLAB 0: RBR and THR; IER
+abbrev pub data_registers : List Register
+data_registers =
+    register 0 rbr rbr_loaded thr_stored ∷
+    register 1 (λ u. u.ier) same ier_stored ∷
+    []
+
+-- and with DLAB 1: DLL, DLM (section 8.3)
+abbrev pub divisor_registers : List Register
+divisor_registers =
+    register 0 (λ u. u.dll) same (λ u byte. record u { dll = byte }) ∷
+    register 1 (λ u. u.dlm) same (λ u byte. record u { dlm = byte }) ∷
+    []
+
+-- the other registers: IIR and FCR; LCR; MCR, of five bits (section 8.8); LSR; MSR; SCR (section 8.10)
+abbrev pub other_registers : List Register
+other_registers =
+    register 2 iir iir_loaded fcr_stored ∷
+    register 3 (λ u. u.lcr) same (λ u byte. record u { lcr = byte }) ∷
+    register 4 (λ u. u.mcr) same (λ u byte. record u { mcr = byte % 2 ^ 5 }) ∷
+    register 5 lsr lsr_loaded ignored ∷
+    register 6 msr same ignored ∷
+    register 7 (λ u. u.scr) same (λ u byte. record u { scr = byte }) ∷
+    []
+
+-- the registers of a UART (table II)
+abbrev pub registers : UartState → List Register
+registers u = (if dlab u then divisor_registers else data_registers) ++ other_registers
+
+-- what stands at an address without a register
+abbrev pub no_register : Register
+no_register = register 0 (λ u. 0) same ignored
+
+-- the register at an address
+abbrev pub register_at : UartState → ℕ → Register
+register_at u address = unwrap_or (find (λ r. r.address == address) (registers u)) no_register
+
+-- a load of a register
+unfoldable pub uart_load : UartState → ℕ → Answered ℕ UartState
+uart_load u address =
+    record { answer = (register_at u address).value u; after = (register_at u address).loaded u }
+
+-- what a store makes the UART send: the byte that is stored in THR
+abbrev pub uart_sends : UartState → ℕ → ℕ → Effect
+uart_sends u address byte = if not (dlab u) && address == 0 then Send (Byte byte) else Quiet
+
+-- a store in a register, of the lowest byte of a value
+unfoldable pub uart_store : UartState → ℕ → ℕ → Answered Effect UartState
+uart_store u address value =
+    let byte = value % 2 ^ 8 in
+    record { answer = uart_sends u address byte; after = (register_at u address).stored u byte }
+
+-- a byte that arrives: with no room left it is lost in the FIFO, and without FIFOs it replaces the one before it
+-- (section 8.4, bit 1)
+unfoldable pub uart_receive : UartState → ℕ → Answered Taken UartState
+uart_receive u byte =
+    if nat_lt (length u.received) (capacity u.fifos)
+    then record { answer = Kept; after = record u { received = u.received ++ byte ∷ [] } }
+    else record {
+      answer = Overrun;
+      after = record u { received = if u.fifos then u.received else byte ∷ []; oe = true };
+    }
+
+-- a payload that is handed to a UART
+abbrev pub uart_take : UartState → Payload → Answered Taken UartState
+uart_take u (Byte byte) = uart_receive u byte
+uart_take u (Frame frame) = unchanged Refused u
+uart_take u (Finish finish) = unchanged Refused u
+
+-- the interrupt line
+abbrev pub uart_line : UartState → Bool
+uart_line u = not (cause u == no_interrupt)
