@@ -1,6 +1,7 @@
 //! The devices that boards are made of.
 ghost use Rattle.std.specs.Prelude.{◌≡◌, ◌↔◌, IsTrue, map, replicate, All};
 ghost use Rattle.dev_core.specs.Stock.{IsFull};
+ghost use Rattle.dev_core.specs.Uart.{uart_reset};
 
 use crate::device::Device;
 use crate::state::DevState;
@@ -14,26 +15,50 @@ pub struct Stock<D> {
     pub finishers: Vec<D>,
 }
 
-/// Whether there are so many devices, and each has this state.
-fn are_all<D: Device>(devices: &[D], count: usize, state: &DevState) -> bool
-    ensures { IsTrue result ↔ (map D.meaning devices.now ≡ replicate count state.now) }
+/// Whether this is the reset state of a UART.
+fn is_reset_uart(state: &DevState) -> bool
+    ensures { IsTrue result ↔ (state.now ≡ DevState.Uart uart_reset) }
 {
-    devices.len() == count && have_state(devices, state)
+    match state {
+        DevState::Uart(uart) => *uart == UartState::reset(),
+        _ => false,
+    }
 }
 
-/// Whether each device has this state.
-fn have_state<D: Device>(devices: &[D], state: &DevState) -> bool
-    ensures { IsTrue result ↔ All (λ d. D.meaning d ≡ state.now) devices.now }
+/// Whether this is the state of a finisher.
+fn is_finisher(state: &DevState) -> bool
+    ensures { IsTrue result ↔ (state.now ≡ DevState.Finisher) }
 {
-    devices
-        .iter()
-        .all(|device| is_same_state(&device.state(), state))
+    matches!(state, DevState::Finisher)
 }
 
-fn is_same_state(a: &DevState, b: &DevState) -> bool
-    ensures { IsTrue result ↔ (a.now ≡ b.now) }
+/// Whether each device is a UART in its reset state.
+fn are_reset_uarts<D: Device>(devices: &[D]) -> bool
+    ensures { IsTrue result ↔ All (λ d. D.meaning d ≡ DevState.Uart uart_reset) devices.now }
 {
-    a == b
+    devices.iter().all(|device| is_reset_uart(&device.state()))
+}
+
+/// Whether each device is a finisher.
+fn are_finishers<D: Device>(devices: &[D]) -> bool
+    ensures { IsTrue result ↔ All (λ d. D.meaning d ≡ DevState.Finisher) devices.now }
+{
+    devices.iter().all(|device| is_finisher(&device.state()))
+}
+
+/// Whether there are so many UARTs, each in its reset state.
+fn are_so_many_uarts<D: Device>(devices: &[D], count: usize) -> bool
+    ensures { IsTrue result ↔
+        (map D.meaning devices.now ≡ replicate count (DevState.Uart uart_reset)) }
+{
+    devices.len() == count && are_reset_uarts(devices)
+}
+
+/// Whether there are so many finishers.
+fn are_so_many_finishers<D: Device>(devices: &[D], count: usize) -> bool
+    ensures { IsTrue result ↔ (map D.meaning devices.now ≡ replicate count DevState.Finisher) }
+{
+    devices.len() == count && are_finishers(devices)
 }
 
 impl<D: Device> Stock<D> {
@@ -42,9 +67,8 @@ impl<D: Device> Stock<D> {
         ensures { IsTrue result ↔ IsFull (map D.meaning self.now.uarts.items)
             (map D.meaning self.now.cans.items) (map D.meaning self.now.finishers.items) }
     {
-        let uart = DevState::Uart(UartState::reset());
-        are_all(self.uarts.as_slice(), 64, &uart)
+        are_so_many_uarts(self.uarts.as_slice(), 64)
             && self.cans.is_empty()
-            && are_all(self.finishers.as_slice(), 16, &DevState::Finisher)
+            && are_so_many_finishers(self.finishers.as_slice(), 16)
     }
 }
