@@ -190,11 +190,14 @@ uart_load u address =
 abbrev pub uart_sends : UartState → ℕ → ℕ → Effect
 uart_sends u address byte = if not (dlab u) && address == 0 then Send (Byte byte) else Quiet
 
--- a store in a register, of the lowest byte of a value
-unfoldable pub uart_store : UartState → ℕ → ℕ → Answered Effect UartState
-uart_store u address value =
-    let byte = value % 2 ^ 8 in
+-- a store of a byte in a register
+unfoldable pub uart_store_byte : UartState → ℕ → ℕ → Answered Effect UartState
+uart_store_byte u address byte =
     record { answer = uart_sends u address byte; after = (register_at u address).stored u byte }
+
+-- a store of a value, of which the lowest byte counts
+abbrev pub uart_store : UartState → ℕ → ℕ → Answered Effect UartState
+uart_store u address value = uart_store_byte u address (value % 2 ^ 8)
 
 -- a byte that arrives: with no room left it is lost in the FIFO, and without FIFOs it replaces the one before it
 -- (section 8.4, bit 1)

@@ -1,13 +1,6 @@
-// A library with one function.
+//! The finisher of a board: a register by which a program says that its test has passed or failed.
 #![tactic(auto)]
 
-ghost use Rattle.std.specs.Prelude.{◌≡◌};
-ghost use Rattle.test_finisher.specs.Echo.{echo_of};
+mod finisher;
 
-// The `ensures` clause is the contract: what `echo` returns is `echo_of` of its argument, a definition
-// in `specs/Echo.antt`, which a caller's clause can cite too.
-pub fn echo(x: usize) -> usize
-    ensures { result ≡ echo_of x }
-{
-    x
-}
+pub use finisher::Finisher;

@@ -1,13 +1,12 @@
-// A library with one function.
+//! The UART of a board: the PC16550D with its receiver FIFO. It sends at once; it has no baud rate,
+//! parity, framing, break, modem lines or loopback.
 #![tactic(auto)]
 
-ghost use Rattle.std.specs.Prelude.{◌≡◌};
-ghost use Rattle.uart_16550.specs.Echo.{echo_of};
+mod bits;
+mod interrupts;
+mod receiver;
+mod registers;
+mod uart;
 
-// The `ensures` clause is the contract: what `echo` returns is `echo_of` of its argument, a definition
-// in `specs/Echo.antt`, which a caller's clause can cite too.
-pub fn echo(x: usize) -> usize
-    ensures { result ≡ echo_of x }
-{
-    x
-}
+pub use uart::Uart;
+
