@@ -26,18 +26,22 @@ pub trait Device: Drop {
     fn load(&mut self, reg: u32, width: u8) -> u32
         ensures answer { result ≡ (dev_load (meaning self.old) reg width).answer }
         ensures after { meaning self.new ≡ (dev_load (meaning self.old) reg width).after }
+        ensures kind { kind_of (meaning self.new) ≡ kind_of (meaning self.old) }
         ensures valid { IsValid (meaning self.new) };
 
     /// Stores a value in the register `reg`, by an access of `width` bytes.
     fn store(&mut self, reg: u32, width: u8, value: u32) -> Effect
         ensures answer { result ≡ (dev_store (meaning self.old) reg width value).answer }
         ensures after { meaning self.new ≡ (dev_store (meaning self.old) reg width value).after }
+        ensures kind { kind_of (meaning self.new) ≡ kind_of (meaning self.old) }
         ensures valid { IsValid (meaning self.new) };
 
     /// Hands the device what another one sent.
     fn take(&mut self, payload: &Payload) -> Taken
         ensures answer { result ≡ (dev_take (meaning self.old) payload.now).answer }
         ensures after { meaning self.new ≡ (dev_take (meaning self.old) payload.now).after }
+        ensures refused { result ≡ Taken.Refused → meaning self.new ≡ meaning self.old }
+        ensures kind { kind_of (meaning self.new) ≡ kind_of (meaning self.old) }
         ensures valid { IsValid (meaning self.new) };
 
     /// Whether the interrupt line is up.
@@ -47,6 +51,7 @@ pub trait Device: Drop {
     /// Brings the device into its reset state.
     fn reset(&mut self)
         ensures after { meaning self.new ≡ dev_reset (meaning self.old) }
+        ensures kind { kind_of (meaning self.new) ≡ kind_of (meaning self.old) }
         ensures valid { IsValid (meaning self.new) };
 
     fn state(&self) -> DevState
@@ -60,6 +65,7 @@ pub trait Device: Drop {
             ((kind_of state.now ≡ kind_of (meaning self.old)) × IsValid state.now) }
         ensures put { result ≡ true → meaning self.new ≡ state.now }
         ensures refused { result ≡ false → meaning self.new ≡ meaning self.old }
+        ensures kind { kind_of (meaning self.new) ≡ kind_of (meaning self.old) }
         ensures valid { IsValid (meaning self.new) };
 }
 

@@ -4,3 +4,6 @@
 mod finisher;
 
 pub use finisher::Finisher;
+
+#[cfg(test)]
+mod tests;

@@ -10,3 +10,6 @@ mod uart;
 
 pub use uart::Uart;
 
+
+#[cfg(test)]
+mod tests;
