@@ -1,6 +1,6 @@
 //! The receiver: its FIFO, the FIFO control register and the line status register (PC16550D data
 //! sheet, sections 8.4 and 8.5).
-ghost use Rattle.std.specs.Prelude.{◌≡◌, IsTrue, true};
+ghost use Rattle.std.specs.Prelude.{◌≡◌, ◌≢◌, IsTrue, true};
 ghost use Rattle.dev_core.specs.Uart.{
   fcr_stored,
   is_trigger,
@@ -66,6 +66,7 @@ pub fn receive(uart: &mut UartState, byte: u8) -> Taken
     requires { IsUartState uart.old }
     ensures answer { result ≡ (uart_receive uart.old byte).answer }
     ensures after { uart.new ≡ (uart_receive uart.old byte).after }
+    ensures taken { result ≢ Taken.Refused }
     ensures valid { IsUartState uart.new }
 {
     if uart.received.len() < uart.capacity() {

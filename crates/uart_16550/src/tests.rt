@@ -18,9 +18,11 @@ fn take<D: Device>(uart: &mut D, byte: u8) -> Taken {
     uart.take(&Payload::Byte(byte))
 }
 
-/// A UART with so many received bytes.
-fn holding(held: usize, state: UartState) -> UartState {
-    let mut state = state;
+/// A reset UART, but for FIFOs, trigger level and so many received bytes.
+fn receiver(fifos: bool, trigger: u8, held: usize) -> UartState {
+    let mut state = UartState::reset();
+    state.fifos = fifos;
+    state.trigger = trigger;
     state.received = ByteRow::of(&BYTES[..held.min(16)]);
     state
 }
@@ -85,10 +87,8 @@ const CAUSES: [(u8, bool, u8, usize, bool, bool, u32, u32); 15] = [
 #[test]
 fn iir_names_the_first_cause_by_priority(rt: HostRuntime) {
     for (ier, fifos, trigger, held, oe, thr, first, then) in CAUSES {
-        let mut state = holding(held, UartState::reset());
+        let mut state = receiver(fifos, trigger, held);
         state.ier = ier;
-        state.fifos = fifos;
-        state.trigger = trigger;
         state.oe = oe;
         state.thr = thr;
         let mut uart = Uart::new();
@@ -119,14 +119,10 @@ const CONTROLS: [(bool, usize, u32, bool, u8, usize); 11] = [
 #[test]
 fn fcr_sets_fifos_and_trigger_and_empties_the_receiver(rt: HostRuntime) {
     for (fifos, held, written, fifos_after, trigger, held_after) in CONTROLS {
-        let mut state = holding(held, UartState::reset());
-        state.fifos = fifos;
         let mut uart = Uart::new();
-        assert!(rt; uart.put(&DevState::Uart(state)));
+        assert!(rt; uart.put(&DevState::Uart(receiver(fifos, 1, held))));
         assert_eq!(rt; store(&mut uart, 2, written), Effect::Quiet);
-        let mut after = holding(held_after, state);
-        after.fifos = fifos_after;
-        after.trigger = trigger;
+        let after = receiver(fifos_after, trigger, held_after);
         assert_eq!(rt; uart.state(), DevState::Uart(after), "{written:x}");
     }
 }
@@ -170,7 +166,7 @@ fn what_a_uart_does_not_take_leaves_it(rt: HostRuntime) {
     let mut uart = Uart::new();
     let _ = store(&mut uart, 1, 0x02);
     let before = uart.state();
-    for state in [DevState::Finisher, DevState::Uart(holding(2, UartState::reset()))] {
+    for state in [DevState::Finisher, DevState::Uart(receiver(false, 1, 2))] {
         assert!(rt; !uart.put(&state), "{state:?}");
         assert_eq!(rt; uart.state(), before);
     }
