@@ -9,3 +9,4 @@ pub mod Inner
 pub mod Post
 pub mod Stock
 pub mod Uart
+pub mod UartBits

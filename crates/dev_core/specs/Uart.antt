@@ -1,4 +1,4 @@
--- The UART, by the PC16550D data sheet, section 8: its registers, interrupts and receiver. Bytes are sent at once, so
+-- The UART, by the PC16550D data sheet, section 8: its registers, interrupts and receiver. A byte is sent at once, so
 -- the transmitter is always empty; there are no modem lines, parity, framing or break.
 use Rattle.std.specs.Prelude.{◌≡◌, ℕ, ◌+◌, ◌*◌, ◌/◌, ◌%◌, ◌^◌, ◌≤◌, ◌==◌, ◌&&◌, ◌||◌, not, nat_lt, nat_le, Bool, true, false, IsTrue, if◌then◌else◌, List, [], ◌∷◌, ◌++◌, length, drop, find, slice_index, unwrap_or}
 use Rattle.dev_core.specs.declared.payload.Effect.{Effect}
@@ -10,6 +10,7 @@ use Rattle.dev_core.specs.declared.payload.Taken.TheVariants.{Kept, Refused, Ove
 use Rattle.dev_core.specs.declared.uart_state.UartState.{UartState}
 use Rattle.dev_core.specs.Answered.{Answered, unchanged}
 use Rattle.dev_core.specs.Bit.{is_set, flag}
+use Rattle.dev_core.specs.UartBits.{erbfi, etbei, elsi, fifo_enable, receiver_reset, dlab, dr, overrun, thre, temt, cts, dsr, dcd}
 
 -- the state after a reset (table I)
 abbrev pub uart_reset : UartState
@@ -53,10 +54,10 @@ rbr_loaded u = record u { received = drop 1 u.received }
 abbrev pub thr_stored : UartState → ℕ → UartState
 thr_stored u byte = record u { thr = true }
 
--- IER (section 8.7): bit 0 enables the received data interrupts, bit 1 that of THR empty, bit 2 that of the line
--- status, bit 3 that of the modem status. THR is empty when its interrupt is turned on.
+-- IER (section 8.7) has four bits. To turn the interrupt of THR empty on makes one, since THR is empty.
 abbrev pub ier_stored : UartState → ℕ → UartState
-ier_stored u byte = record u { ier = byte % 2 ^ 4; thr = u.thr || is_set byte 1 && not (is_set u.ier 1) }
+ier_stored u byte =
+    record u { ier = byte % 2 ^ 4; thr = u.thr || is_set byte etbei && not (is_set u.ier etbei) }
 
 -- the causes of an interrupt in IIR (section 8.6, table IV)
 abbrev pub no_interrupt : ℕ
@@ -78,10 +79,10 @@ thr_empty = 0x02
 -- the FIFO; THR empty
 abbrev pub cause : UartState → ℕ
 cause u =
-    if is_set u.ier 2 && u.oe then line_status
-    else if is_set u.ier 0 && nat_le u.trigger (length u.received) then received_data
-    else if is_set u.ier 0 && u.fifos && nat_lt 0 (length u.received) then character_timeout
-    else if is_set u.ier 1 && u.thr then thr_empty
+    if is_set u.ier elsi && u.oe then line_status
+    else if is_set u.ier erbfi && nat_le u.trigger (length u.received) then received_data
+    else if is_set u.ier erbfi && u.fifos && nat_lt 0 (length u.received) then character_timeout
+    else if is_set u.ier etbei && u.thr then thr_empty
     else no_interrupt
 
 -- IIR (section 8.6): the cause, and bits 6 and 7 with the FIFOs on; a load that tells THR empty clears that interrupt
@@ -91,8 +92,7 @@ iir u = cause u + (if u.fifos then 0xC0 else 0)
 abbrev pub iir_loaded : UartState → UartState
 iir_loaded u = if cause u == thr_empty then record u { thr = false } else u
 
--- FCR (section 8.5): bit 0 turns the FIFOs on, and a change of it empties the receiver; bit 1 empties it too, and bits
--- 7 and 6 choose the trigger level
+-- FCR (section 8.5): to turn the FIFOs on or off empties the receiver; bits 7 and 6 choose the trigger level
 abbrev pub trigger_level : ℕ → ℕ
 trigger_level choice = if choice == 0 then 1 else if choice == 1 then 4 else if choice == 2 then 8 else 14
 
@@ -100,26 +100,26 @@ abbrev pub fifos_on : UartState → ℕ → UartState
 fifos_on u byte = record u {
   fifos = true;
   trigger = trigger_level (byte / 2 ^ 6);
-  received = if u.fifos && not (is_set byte 1) then u.received else [];
+  received = if u.fifos && not (is_set byte receiver_reset) then u.received else [];
 }
 
 abbrev pub fifos_off : UartState → UartState
 fifos_off u = record u { fifos = false; trigger = 1; received = if u.fifos then [] else u.received }
 
 abbrev pub fcr_stored : UartState → ℕ → UartState
-fcr_stored u byte = if is_set byte 0 then fifos_on u byte else fifos_off u
+fcr_stored u byte = if is_set byte fifo_enable then fifos_on u byte else fifos_off u
 
--- LSR (section 8.4): DR, bit 0, where a byte is there to be read; OE, bit 1, where one was lost, which a load clears;
--- THRE and TEMT, bits 5 and 6, always
+-- LSR (section 8.4): whether a byte is there to be read and whether one was lost, which a load clears; THR and the
+-- transmitter are empty
 abbrev pub lsr : UartState → ℕ
-lsr u = flag (nat_lt 0 (length u.received)) + flag u.oe * 2 ^ 1 + 2 ^ 5 + 2 ^ 6
+lsr u = flag (nat_lt 0 (length u.received)) * 2 ^ dr + flag u.oe * 2 ^ overrun + 2 ^ thre + 2 ^ temt
 
 abbrev pub lsr_loaded : UartState → UartState
 lsr_loaded u = record u { oe = false }
 
--- MSR (section 8.9): CTS, DSR and DCD, bits 4, 5 and 7, always
+-- MSR (section 8.9): the modem is always there and ready
 abbrev pub msr : UartState → ℕ
-msr u = 2 ^ 4 + 2 ^ 5 + 2 ^ 7
+msr u = 2 ^ cts + 2 ^ dsr + 2 ^ dcd
 
 -- one register: its address, what a load gives, what a load leaves, and what a store of a byte leaves
 pub record Register : Type 0 where
@@ -140,38 +140,48 @@ same u = u
 abbrev pub ignored : UartState → ℕ → UartState
 ignored u byte = u
 
--- DLAB, bit 7 of LCR, puts the divisor latch in the place of registers 0 and 1 (section 8.1)
-abbrev pub dlab : UartState → Bool
-dlab u = is_set u.lcr 7
-
--- registers 0 and 1 with DLAB 0: RBR and THR; IER
+-- registers 0 and 1
 abbrev pub data_registers : List Register
 data_registers =
+    -- RBR, THR
     register 0 rbr rbr_loaded thr_stored ∷
+    -- IER
     register 1 (λ u. u.ier) same ier_stored ∷
     []
 
--- and with DLAB 1: DLL, DLM (section 8.3)
+-- and with DLAB set, the divisor latch (section 8.3)
 abbrev pub divisor_registers : List Register
 divisor_registers =
+    -- DLL
     register 0 (λ u. u.dll) same (λ u byte. record u { dll = byte }) ∷
+    -- DLM
     register 1 (λ u. u.dlm) same (λ u byte. record u { dlm = byte }) ∷
     []
 
--- the other registers: IIR and FCR; LCR; MCR, of five bits (section 8.8); LSR; MSR; SCR (section 8.10)
+-- the other registers; MCR has five bits (section 8.8)
 abbrev pub other_registers : List Register
 other_registers =
+    -- IIR, FCR
     register 2 iir iir_loaded fcr_stored ∷
+    -- LCR
     register 3 (λ u. u.lcr) same (λ u byte. record u { lcr = byte }) ∷
+    -- MCR
     register 4 (λ u. u.mcr) same (λ u byte. record u { mcr = byte % 2 ^ 5 }) ∷
+    -- LSR
     register 5 lsr lsr_loaded ignored ∷
+    -- MSR
     register 6 msr same ignored ∷
+    -- SCR
     register 7 (λ u. u.scr) same (λ u byte. record u { scr = byte }) ∷
     []
 
+-- whether the divisor latch stands in the place of registers 0 and 1 (section 8.1)
+abbrev pub is_divisor_shown : UartState → Bool
+is_divisor_shown u = is_set u.lcr dlab
+
 -- the registers of a UART (table II)
 abbrev pub registers : UartState → List Register
-registers u = (if dlab u then divisor_registers else data_registers) ++ other_registers
+registers u = (if is_divisor_shown u then divisor_registers else data_registers) ++ other_registers
 
 -- what stands at an address without a register
 abbrev pub no_register : Register
@@ -188,7 +198,7 @@ uart_load u address =
 
 -- what a store makes the UART send: the byte that is stored in THR
 abbrev pub uart_sends : UartState → ℕ → ℕ → Effect
-uart_sends u address byte = if not (dlab u) && address == 0 then Send (Byte byte) else Quiet
+uart_sends u address byte = if not (is_divisor_shown u) && address == 0 then Send (Byte byte) else Quiet
 
 -- a store of a byte in a register
 unfoldable pub uart_store_byte : UartState → ℕ → ℕ → Answered Effect UartState

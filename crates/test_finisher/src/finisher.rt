@@ -18,7 +18,9 @@ const PASS: u16 = 0x5555;
 const FAIL: u16 = 0x3333;
 
 impl Finisher {
-    pub fn new() -> Finisher {
+    pub fn new() -> Finisher
+        ensures { ⟦<Finisher as Device>⟧.meaning result ≡ DevState.Finisher }
+    {
         Finisher
     }
 }

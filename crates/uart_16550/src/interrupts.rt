@@ -2,7 +2,7 @@
 ghost use Rattle.std.specs.Prelude.{◌≡◌, ◌≤◌};
 ghost use Rattle.dev_core.specs.Uart.{cause, iir, uart_line};
 
-use crate::bits::is_set;
+use crate::bits::{ELSI, ERBFI, ETBEI, is_set};
 use dev_core::UartState;
 
 pub const NO_INTERRUPT: u8 = 0x01;
@@ -24,14 +24,14 @@ pub fn cause(uart: &UartState) -> u8
     ensures fits { result ≤ 0x0C }
 {
     let held = uart.received.len();
-    let is_data_enabled = is_set(uart.ier, 0);
-    if is_set(uart.ier, 2) && uart.oe {
+    let is_data_enabled = is_set(uart.ier, ERBFI);
+    if is_set(uart.ier, ELSI) && uart.oe {
         LINE_STATUS
     } else if is_data_enabled && held >= usize::from(uart.trigger) {
         RECEIVED_DATA
     } else if is_data_enabled && uart.fifos && held > 0 {
         CHARACTER_TIMEOUT
-    } else if is_set(uart.ier, 1) && uart.thr {
+    } else if is_set(uart.ier, ETBEI) && uart.thr {
         THR_EMPTY
     } else {
         NO_INTERRUPT

@@ -12,7 +12,7 @@ ghost use Rattle.dev_core.specs.Uart.{
   uart_receive,
 };
 
-use crate::bits::is_set;
+use crate::bits::{FIFO_ENABLE, RECEIVER_RESET, TRANSMITTER_EMPTY, is_set};
 use dev_core::{ByteRow, Taken, UartState};
 
 /// The trigger level that bits 7 and 6 of the FIFO control register choose.
@@ -34,8 +34,8 @@ pub fn store_control(uart: &mut UartState, byte: u8)
     ensures after { uart.new ≡ fcr_stored uart.old byte }
     ensures valid { IsUartState uart.new }
 {
-    let on = is_set(byte, 0);
-    if on != uart.fifos || (on && is_set(byte, 1)) {
+    let on = is_set(byte, FIFO_ENABLE);
+    if on != uart.fifos || (on && is_set(byte, RECEIVER_RESET)) {
         uart.received = ByteRow::new();
     }
     uart.fifos = on;
@@ -57,7 +57,7 @@ pub fn line_status(uart: &UartState) -> u8
     ensures { result ≡ lsr uart.now }
 {
     let is_ready = !uart.received.is_empty();
-    0x60 + u8::from(is_ready) + (u8::from(uart.oe) << 1)
+    TRANSMITTER_EMPTY + u8::from(is_ready) + (u8::from(uart.oe) << 1)
 }
 
 /// Takes a byte that has arrived.

@@ -2,10 +2,10 @@
 ghost use Rattle.std.specs.Prelude.{◌≡◌, ◌%◌, ◌^◌};
 ghost use Rattle.dev_core.specs.Answered.{Answered};
 ghost use Rattle.dev_core.specs.Uart.{
-  dlab,
   ier_stored,
   iir,
   iir_loaded,
+  is_divisor_shown,
   IsUartState,
   lsr,
   lsr_loaded,
@@ -14,7 +14,7 @@ ghost use Rattle.dev_core.specs.Uart.{
   uart_store_byte,
 };
 
-use crate::bits::is_set;
+use crate::bits::{DLAB, ETBEI, MODEM_READY, is_set};
 use crate::interrupts::{THR_EMPTY, cause, identification, is_pending};
 use crate::receiver::{line_status, load_data, receive, store_control};
 use crate::registers::*;
@@ -38,9 +38,6 @@ impl Model for Uart {
     ghost invariant = { λ u. IsUartState u.state };
 }
 
-/// Clear To Send, Data Set Ready and Data Carrier Detect: the modem is there and ready.
-const MODEM_READY: u8 = 1 << 4 | 1 << 5 | 1 << 7;
-
 impl Uart {
     /// A UART in its reset state.
     pub fn new() -> Uart
@@ -53,9 +50,9 @@ impl Uart {
 
     /// Whether the divisor latch is in the place of registers 0 and 1.
     fn is_divisor_shown(&self) -> bool
-        ensures { result ≡ dlab self.now }
+        ensures { result ≡ is_divisor_shown self.now }
     {
-        is_set(self.state.lcr, 7)
+        is_set(self.state.lcr, DLAB)
     }
 
     /// The interrupt identification register. What it tells of an empty THR is told once.
@@ -87,7 +84,7 @@ impl Uart {
         ensures after { self.new ≡ ier_stored self.old byte }
         ensures valid { IsUartState self.new }
     {
-        if is_set(byte, 1) && !is_set(self.state.ier, 1) {
+        if is_set(byte, ETBEI) && !is_set(self.state.ier, ETBEI) {
             self.state.thr = true;
         }
         self.state.ier = byte & 0x0F;
