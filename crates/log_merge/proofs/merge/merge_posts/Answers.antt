@@ -20,5 +20,5 @@ returns c =
     rw (← c.as_mut_slice.ensures.value) c.in_ok-sort_by_key.ensures.permutation in
     let is : IsListing post_key c.args.list.items c.sort_by_key.new.self =
     c.listing_laws.ensures.sorted post_key c.args.list.items c.sort_by_key.new.self c.requires moved sorted in
-    rw (written _ _ c.args.list.items long)
-    (record { is_listing = is; value = c.listing_laws.ensures.only post_key c.args.list.items c.sort_by_key.new.self is })
+    let only = c.listing_laws.ensures.only post_key c.args.list.items c.sort_by_key.new.self is in
+    rw (written _ _ c.args.list.items long) (record { is_listing = is; value = only })
