@@ -3,7 +3,8 @@ ghost use Rattle.std.specs.Prelude.{◌≡◌, ◌==◌, ◌%◌, ◌^◌, ◌<�
 ghost use Rattle.std.specs.Int.{w8, w16};
 ghost use Rattle.rv_decode.specs.Means.{IsInstr};
 ghost use Rattle.rv_exec.specs.Word.{extended};
-ghost use Rattle.rv_exec.specs.Access.{IsWidth, IsWidthOf, shaped};
+ghost use Rattle.rv_exec.specs.Access.{IsWidth, shaped};
+ghost use Rattle.rv_exec.specs.Inner.Widths.{IsWidthOf};
 ghost use Rattle.rv_exec.specs.Effect.{AsksBus, bus_after, core_after, loads, stores};
 
 use crate::alu::add;
@@ -107,12 +108,7 @@ pub fn load<B: Bus>(
 
 /// Stores the lower bytes of a register.
 #[inline(always)]
-pub fn store<B: Bus>(
-    hart: &mut Hart,
-    bus: &mut B,
-    i: &Instr,
-    width: u8,
-) -> Result<(), NoMemory>
+pub fn store<B: Bus>(hart: &mut Hart, bus: &mut B, i: &Instr, width: u8) -> Result<(), NoMemory>
     requires fields { IsInstr i.now }
     requires width { IsWidth width }
     ensures core { let effect = stores hart.old i.now width in

@@ -68,8 +68,10 @@ fn execute<B: Bus>(
     ensures bus_err { OnErr result (bus.new ≡ bus.old) }
 {
     match i.op {
+        // upper immediates
         Op::Lui => finish(hart, i.rd, i.imm),
         Op::Auipc => finish(hart, i.rd, add(hart.pc(), i.imm)),
+        // jumps and branches
         Op::Jal => jump(hart, i.rd, add(hart.pc(), i.imm)),
         Op::Jalr => jump(hart, i.rd, add(hart.register(i.rs1), i.imm) / 2 * 2),
         Op::Beq => branch(hart, is_equal(hart, i), i.imm),
@@ -78,6 +80,7 @@ fn execute<B: Bus>(
         Op::Bge => branch(hart, !is_below(hart, i), i.imm),
         Op::Bltu => branch(hart, is_below_unsigned(hart, i), i.imm),
         Op::Bgeu => branch(hart, !is_below_unsigned(hart, i), i.imm),
+        // loads and stores
         Op::Lb => load(hart, bus, i, 1, Shape::SignedByte)?,
         Op::Lh => load(hart, bus, i, 2, Shape::SignedHalf)?,
         Op::Lw => load(hart, bus, i, 4, Shape::Unsigned)?,
@@ -86,42 +89,56 @@ fn execute<B: Bus>(
         Op::Sb => store(hart, bus, i, 1)?,
         Op::Sh => store(hart, bus, i, 2)?,
         Op::Sw => store(hart, bus, i, 4)?,
+        // a register and an immediate
         Op::Addi => finish(hart, i.rd, add(hart.register(i.rs1), i.imm)),
         Op::Slti => finish(hart, i.rd, slt(hart.register(i.rs1), i.imm)),
         Op::Sltiu => finish(hart, i.rd, sltu(hart.register(i.rs1), i.imm)),
-        Op::Slli => finish(hart, i.rd, sll(hart.register(i.rs1), i.imm)),
-        Op::Srli => finish(hart, i.rd, srl(hart.register(i.rs1), i.imm)),
-        Op::Srai => finish(hart, i.rd, sra(hart.register(i.rs1), i.imm)),
         Op::Xori => finish(hart, i.rd, hart.register(i.rs1) ^ i.imm),
         Op::Ori => finish(hart, i.rd, hart.register(i.rs1) | i.imm),
         Op::Andi => finish(hart, i.rd, hart.register(i.rs1) & i.imm),
+        Op::Slli => finish(hart, i.rd, sll(hart.register(i.rs1), i.imm)),
+        Op::Srli => finish(hart, i.rd, srl(hart.register(i.rs1), i.imm)),
+        Op::Srai => finish(hart, i.rd, sra(hart.register(i.rs1), i.imm)),
+        // two registers
         Op::Add => finish(hart, i.rd, add(hart.register(i.rs1), hart.register(i.rs2))),
         Op::Sub => finish(hart, i.rd, sub(hart.register(i.rs1), hart.register(i.rs2))),
         Op::Sll => finish(hart, i.rd, sll(hart.register(i.rs1), hart.register(i.rs2))),
         Op::Slt => finish(hart, i.rd, slt(hart.register(i.rs1), hart.register(i.rs2))),
         Op::Sltu => finish(hart, i.rd, sltu(hart.register(i.rs1), hart.register(i.rs2))),
+        Op::Xor => finish(hart, i.rd, hart.register(i.rs1) ^ hart.register(i.rs2)),
         Op::Srl => finish(hart, i.rd, srl(hart.register(i.rs1), hart.register(i.rs2))),
         Op::Sra => finish(hart, i.rd, sra(hart.register(i.rs1), hart.register(i.rs2))),
-        Op::Xor => finish(hart, i.rd, hart.register(i.rs1) ^ hart.register(i.rs2)),
         Op::Or => finish(hart, i.rd, hart.register(i.rs1) | hart.register(i.rs2)),
         Op::And => finish(hart, i.rd, hart.register(i.rs1) & hart.register(i.rs2)),
+        // fences and calls
         Op::Fence | Op::FenceI => advance(hart),
         Op::Ecall => trap(hart, Exception::EnvironmentCall, 0),
         Op::Ebreak => trap(hart, Exception::Breakpoint, hart.pc()),
+        // control and status registers
         Op::Csrrw => change_csr(hart, Change::Write, hart.register(i.rs1), i, word, lines),
         Op::Csrrs => change_csr(hart, Change::Set, hart.register(i.rs1), i, word, lines),
         Op::Csrrc => change_csr(hart, Change::Clear, hart.register(i.rs1), i, word, lines),
         Op::Csrrwi => change_csr(hart, Change::Write, u32::from(i.rs1), i, word, lines),
         Op::Csrrsi => change_csr(hart, Change::Set, u32::from(i.rs1), i, word, lines),
         Op::Csrrci => change_csr(hart, Change::Clear, u32::from(i.rs1), i, word, lines),
+        // products and quotients
         Op::Mul => finish(hart, i.rd, mul(hart.register(i.rs1), hart.register(i.rs2))),
         Op::Mulh => finish(hart, i.rd, mulh(hart.register(i.rs1), hart.register(i.rs2))),
-        Op::Mulhsu => finish(hart, i.rd, mulhsu(hart.register(i.rs1), hart.register(i.rs2))),
-        Op::Mulhu => finish(hart, i.rd, mulhu(hart.register(i.rs1), hart.register(i.rs2))),
+        Op::Mulhsu => finish(
+            hart,
+            i.rd,
+            mulhsu(hart.register(i.rs1), hart.register(i.rs2)),
+        ),
+        Op::Mulhu => finish(
+            hart,
+            i.rd,
+            mulhu(hart.register(i.rs1), hart.register(i.rs2)),
+        ),
         Op::Div => finish(hart, i.rd, div(hart.register(i.rs1), hart.register(i.rs2))),
         Op::Divu => finish(hart, i.rd, divu(hart.register(i.rs1), hart.register(i.rs2))),
         Op::Rem => finish(hart, i.rd, rem(hart.register(i.rs1), hart.register(i.rs2))),
         Op::Remu => finish(hart, i.rd, remu(hart.register(i.rs1), hart.register(i.rs2))),
+        // privileged
         Op::Mret => leave(hart),
         Op::Wfi => wait(hart),
     }

@@ -31,8 +31,9 @@ pub const TIMER_INTERRUPT: u8 = 7;
 pub const EXTERNAL_INTERRUPT: u8 = 11;
 
 /// The bits of the interrupts in mip and mie.
-pub const INTERRUPT_BITS: u32 =
-    1 << SOFTWARE_INTERRUPT | 1 << TIMER_INTERRUPT | 1 << EXTERNAL_INTERRUPT;
+pub const INTERRUPT_BITS: u32 = 1 << SOFTWARE_INTERRUPT
+    | 1 << TIMER_INTERRUPT
+    | 1 << EXTERNAL_INTERRUPT;
 
 /// The bit of a cause that says that the trap is an interrupt.
 pub const INTERRUPT: u32 = 1 << 31;
