@@ -1,5 +1,5 @@
 //! The board: its slots, and what they make.
-ghost use Rattle.std.specs.Prelude.{◌≡◌, ◌≢◌, ◌+◌, ◌-◌, ◌/◌, ◌%◌, ◌^◌, ◌<◌, ◌≤◌, ◌++◌, [], true, length, drop, slice_get, take, OnOk, OnErr, IfOk, IsTrue};
+ghost use Rattle.std.specs.Prelude.{◌≡◌, ◌≢◌, ◌+◌, ◌/◌, ◌%◌, ◌<◌, ◌≤◌, [], true, length, drop, slice_get, OnOk, OnErr, IfOk, IsTrue};
 
 use crate::memory::MEMORY_BASE;
 use crate::numbers::Numbers;
@@ -57,7 +57,7 @@ impl Board {
     ghost use Rattle.board.specs.Memory.{holds_each, word_held};
     ghost use Rattle.board.specs.Changes.{with_pc, with_halted, with_shown, with_bytes};
     ghost use Rattle.board.specs.Taken.{taken_by, handed};
-    ghost use Rattle.board.specs.View.{View, State, after, wires_of, state_of};
+    ghost use Rattle.board.specs.View.{after};
     ghost use Rattle.board.specs.Slot.{quiet, slot, awake, asleep};
     ghost use Rattle.rv_hart.specs.Core.{reg};
     ghost use Rattle.board.specs.Stretch.{IsTurn};
@@ -300,6 +300,6 @@ impl Board {
         if at % 4 != 0 {
             return None;
         }
-        self.wires.space.word(at)
+        self.wires.space.memory.word(at)
     }
 }

@@ -2,7 +2,6 @@
 ghost use Rattle.std.specs.Prelude.{◌≡◌, ◌^◌, ◌<◌, ◌≤◌, false, IfOk};
 ghost use Rattle.board.specs.Early.{zeros};
 ghost use Rattle.rv_exec.specs.Access.{IsWidth};
-ghost use Rattle.board.specs.Memory.{word_in};
 ghost use Rattle.board.specs.Uart.{silent};
 ghost use Rattle.board.specs.Space.{place_of, load_answer, after_load, after_store, byte_sent, lines_of};
 ghost use Rattle.board.specs.Inner.Lies.{LiesIn};
@@ -90,13 +89,6 @@ impl Space {
             return Place::Nowhere;
         }
         Place::InUart(at - UART_BASE)
-    }
-
-    /// The word of an instruction at an address. Instructions stand in the memory alone.
-    pub fn word(&self, at: u32) -> Option<u32>
-        ensures { result ≡ word_in self.now.memory at }
-    {
-        self.memory.word(at)
     }
 
     /// Loads from the memory, or the UART's register at the address, or 0.

@@ -116,7 +116,7 @@ impl Bus for Wires {
     ghost stored = { stored };
 
     fn fetch(&mut self, at: u32) -> Option<u32> {
-        self.space.word(at)
+        self.space.memory.word(at)
     }
 
     /// It is never refused.
