@@ -1,6 +1,6 @@
 -- The UART, by the PC16550D data sheet, section 8: its registers, interrupts and receiver. A byte is sent at once, so
 -- the transmitter is always empty; there are no modem lines, parity, framing or break.
-use Rattle.std.specs.Prelude.{◌≡◌, ℕ, ◌+◌, ◌*◌, ◌/◌, ◌%◌, ◌^◌, ◌≤◌, ◌==◌, ◌&&◌, ◌||◌, not, nat_lt, nat_le, Bool, true, false, IsTrue, if◌then◌else◌, List, [], ◌∷◌, ◌++◌, length, drop, find, slice_index, unwrap_or}
+use Rattle.std.specs.Prelude.{ℕ, ◌+◌, ◌*◌, ◌/◌, ◌%◌, ◌^◌, ◌≤◌, ◌==◌, ◌&&◌, ◌||◌, not, nat_lt, nat_le, Bool, true, false, IsTrue, if◌then◌else◌, List, [], ◌∷◌, ◌++◌, length, drop, find, slice_index, unwrap_or}
 use Rattle.dev_core.specs.declared.payload.Effect.{Effect}
 use Rattle.dev_core.specs.declared.payload.Effect.TheVariants.{Quiet, Send}
 use Rattle.dev_core.specs.declared.payload.Payload.{Payload}
