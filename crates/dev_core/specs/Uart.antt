@@ -57,7 +57,7 @@ thr_stored u byte = record u { thr = true }
 -- IER (section 8.7) has four bits. To turn the interrupt of THR empty on makes one, since THR is empty.
 abbrev pub ier_stored : UartState → ℕ → UartState
 ier_stored u byte =
-    record u { ier = byte % 2 ^ 4; thr = u.thr || is_set byte etbei && not (is_set u.ier etbei) }
+    record u { ier = byte % 2 ^ 4; thr = u.thr || (is_set byte etbei && not (is_set u.ier etbei)) }
 
 -- the causes of an interrupt in IIR (section 8.6, table IV)
 abbrev pub no_interrupt : ℕ
