@@ -8,5 +8,5 @@ pub drop-set_next :
     i < n → drop i xs ≡ replicate (n - i) unused → drop (i + 1) (set xs i y) ≡ replicate (n - (i + 1)) unused
 drop-set_next {T} xs i n y unused below rest =
     let one : (n - i) - 1 ≡ n - (i + 1) = omega arith in
-    rw (drop-set-lt (i + 1) xs i y (omega arith), ← drop-drop 1 i xs, rest, drop-replicate {X = T} 1 (n - i) unused, one)
-    refl
+    let shorter = drop-replicate {X = T} 1 (n - i) unused in
+    rw (drop-set-lt (i + 1) xs i y (omega arith), ← drop-drop 1 i xs, rest, shorter, one) refl

@@ -1,5 +1,5 @@
 -- Lists whose items are all seen as one value.
-use Rattle.std.proofs.Common.{◌≡◌, ◌↔◌, ℕ, zero, suc, List, [], ◌∷◌, length, map, replicate, All, refl}
+use Rattle.std.proofs.Common.{◌≡◌, ℕ, List, [], ◌∷◌, length, map, replicate, All, refl}
 use Rattle.std.proofs.lemmas.List.Elements.{All-nil, All-cons, All-head, All-tail}
 
 pub map-all_seen :
@@ -18,5 +18,6 @@ all_seen-map see v (x ∷ xs) same = All-cons (λ x. see x ≡ v) x xs (cc) (all
 -- so many items are all seen as one value exactly where they are seen as that many of it
 pub all_seen :
     {A B : Type 0} (see : A → B) (v : B) (xs : List A) (n : ℕ) →
-    length xs ≡ n → (All (λ x. see x ≡ v) xs → map see xs ≡ replicate n v) × (map see xs ≡ replicate n v → All (λ x. see x ≡ v) xs)
+    length xs ≡ n →
+    (All (λ x. see x ≡ v) xs → map see xs ≡ replicate n v) × (map see xs ≡ replicate n v → All (λ x. see x ≡ v) xs)
 all_seen see v xs n long = rw (← long) (map-all_seen see v xs, all_seen-map see v xs)

@@ -1,5 +1,5 @@
 -- The states of a CAN controller, by the SJA1000 data sheet, BasicCAN mode.
-use Rattle.std.specs.Prelude.{◌≡◌, ℕ, ◌≤◌, false, [], replicate, bit_and, sum_by}
+use Rattle.std.specs.Prelude.{◌≡◌, ◌≤◌, false, [], replicate, bit_and, sum_by}
 use Rattle.dev_core.specs.declared.can_state.CanState.{CanState}
 use Rattle.dev_core.specs.Frame.{held_size}
 

@@ -1,6 +1,6 @@
 -- The UART, by the PC16550D data sheet, section 8: its registers, interrupts and receiver. A byte is sent at once, so
 -- the transmitter is always empty; there are no modem lines, parity, framing or break.
-use Rattle.std.specs.Prelude.{◌≡◌, ℕ, ◌+◌, ◌*◌, ◌/◌, ◌%◌, ◌^◌, ◌≤◌, ◌==◌, ◌&&◌, ◌||◌, not, nat_lt, nat_le, Bool, true, false, IsTrue, if◌then◌else◌, List, [], ◌∷◌, ◌++◌, length, drop, find, slice_index, unwrap_or}
+use Rattle.std.specs.Prelude.{ℕ, ◌+◌, ◌*◌, ◌/◌, ◌%◌, ◌^◌, ◌≤◌, ◌==◌, ◌&&◌, ◌||◌, not, nat_lt, nat_le, Bool, true, false, IsTrue, if◌then◌else◌, List, [], ◌∷◌, ◌++◌, length, drop, find, slice_index, unwrap_or}
 use Rattle.dev_core.specs.declared.payload.Effect.{Effect}
 use Rattle.dev_core.specs.declared.payload.Effect.TheVariants.{Quiet, Send}
 use Rattle.dev_core.specs.declared.payload.Payload.{Payload}
@@ -57,7 +57,7 @@ thr_stored u byte = record u { thr = true }
 -- IER (section 8.7) has four bits. To turn the interrupt of THR empty on makes one, since THR is empty.
 abbrev pub ier_stored : UartState → ℕ → UartState
 ier_stored u byte =
-    record u { ier = byte % 2 ^ 4; thr = u.thr || is_set byte etbei && not (is_set u.ier etbei) }
+    record u { ier = byte % 2 ^ 4; thr = u.thr || (is_set byte etbei && not (is_set u.ier etbei)) }
 
 -- the causes of an interrupt in IIR (section 8.6, table IV)
 abbrev pub no_interrupt : ℕ

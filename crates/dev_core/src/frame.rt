@@ -21,7 +21,8 @@ impl Model for Frame {
 
     ghost view = { λ f. record { id = f.id; remote = f.remote; len = f.len; bytes = f.bytes } };
 
-    ghost invariant = { λ f. IsFrame (record { id = f.id; remote = f.remote; len = f.len; bytes = f.bytes }) };
+    ghost invariant = { λ f. IsFrame
+        (record { id = f.id; remote = f.remote; len = f.len; bytes = f.bytes }) };
 
     ghost inverse = { λ f. record { id = f.id; remote = f.remote; len = f.len; bytes = f.bytes } };
 }

@@ -10,6 +10,5 @@ mod uart;
 
 pub use uart::Uart;
 
-
 #[cfg(test)]
 mod tests;

@@ -170,7 +170,10 @@ fn what_a_uart_does_not_take_leaves_it(rt: HostRuntime) {
         assert!(rt; !uart.put(&state), "{state:?}");
         assert_eq!(rt; uart.state(), before);
     }
-    assert_eq!(rt; uart.take(&Payload::Frame(Frame::new(0, &[]))), Taken::Refused);
+    assert_eq!(rt;
+        uart.take(&Payload::Frame(Frame::new(0, &[]))),
+        Taken::Refused
+    );
     assert_eq!(rt; uart.state(), before);
     uart.reset();
     assert_eq!(rt; uart.state(), DevState::Uart(UartState::reset()));

@@ -1,4 +1,3 @@
-use Rattle.std.proofs.Common.{rules}
 use Rattle.dev_core.proofs.StockLemmas.{all_seen}
 use Rattle.dev_core.proofs.stock.are_so_many_uarts.Goals as goal
 
