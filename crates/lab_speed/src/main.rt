@@ -2,8 +2,6 @@
 //! so many slots, and prints the loop's name, the slots and minstret.
 #![tactic(auto)]
 
-ghost use Rattle.std.specs.Prelude.{◌≡◌, ◌/◌, ◌≤◌, ◌+◌, IfSome};
-
 mod loops;
 
 use board::{Board, SlotAt};
@@ -15,11 +13,15 @@ use std::process::ExitCode;
 use std::rt::Env;
 use std::{env, io};
 
+/// How the program is called.
+const USAGE: &str =
+    "lab_speed LOOP SLOTS, where LOOP is jumps, additions, products, memory, branches or csr";
+
 /// Where an early board begins.
 const START: u32 = 0x8000_0000;
 
-/// An early board's slots in the longest lab time, 10,000 seconds.
-const MOST_SLOTS: u64 = 10_000_000_000;
+/// The longest lab time, 10,000 seconds.
+const MOST_MICROS: u64 = 10_000_000_000;
 
 /// What is to be run.
 #[derive(Clone, Copy)]
@@ -30,31 +32,19 @@ struct Task {
 }
 
 /// What the words ask for.
-fn asked<R: Env + AllocGlobal>(rt: &R) -> Option<Task>
-    ensures { IfSome result (λ task. task.slots ≤ 10000000000) }
-{
+fn asked<R: Env + AllocGlobal>(rt: &R) -> Option<Task> {
     let mut words = env::args(rt).ok()?.skip(1);
     let name = words.next()?;
     let slots = words.next()?.parse::<u64>().ok()?;
-    if words.next().is_some() || slots > MOST_SLOTS {
+    if words.next().is_some() {
         return None;
     }
-    for (known, text) in LOOPS {
-        if known == name.as_str() {
-            return Some(Task {
-                name: known,
-                text,
-                slots,
-            });
-        }
-    }
-    None
+    let (name, text) = LOOPS.into_iter().find(|l| l.0 == name.as_str())?;
+    Some(Task { name, text, slots })
 }
 
 /// An early board with the words of a text in its memory.
-fn board_with(alloc: Global, text: &str) -> Option<Board>
-    ensures { IfSome result (λ board. board.view.speed ≡ 1) }
-{
+fn board_with(alloc: Global, text: &str) -> Option<Board> {
     if text.len() > 1 << 24 {
         return None;
     }
@@ -71,26 +61,29 @@ fn board_with(alloc: Global, text: &str) -> Option<Board>
     Some(board)
 }
 
-/// Runs what the words ask for, and prints how much was retired.
-fn run(rt: HostRuntime) -> io::Result<ExitCode> {
-    let Some(task) = asked(&rt) else {
-        println!(rt;
-            "lab_speed LOOP SLOTS: jumps, additions, products, memory, branches or csr, for at most {MOST_SLOTS} slots"
-        )?;
-        return Ok(ExitCode::from(2));
-    };
-    let Some(mut board) = board_with(rt.alloc(), task.text) else {
-        return Ok(ExitCode::from(1));
-    };
+/// How many instructions a board retires in the task's slots, if they end within the longest lab
+/// time.
+fn retired(alloc: Global, task: Task) -> Option<u64> {
+    let mut board = board_with(alloc, task.text)?;
+    if task.slots / u64::from(board.speed()) > MOST_MICROS {
+        return None;
+    }
     let start = SlotAt {
         from: Micros(0),
         first: 0,
     };
     let _ = board.turn(start, task.slots);
-    println!(rt; "{} {} {}", task.name, task.slots, board.retired())?;
-    Ok(ExitCode::from(0))
+    Some(board.retired())
 }
 
-fn main(rt: HostRuntime) -> ExitCode {
-    run(rt).unwrap_or(ExitCode::from(1))
+fn main(rt: HostRuntime) -> io::Result<ExitCode> {
+    let Some(task) = asked(&rt) else {
+        println!(rt; "{USAGE}")?;
+        return Ok(ExitCode::from(2));
+    };
+    let Some(retired) = retired(rt.alloc(), task) else {
+        return Ok(ExitCode::from(1));
+    };
+    println!(rt; "{} {} {}", task.name, task.slots, retired)?;
+    Ok(ExitCode::from(0))
 }
