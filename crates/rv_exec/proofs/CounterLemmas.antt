@@ -1,5 +1,5 @@
 -- No instruction changes a counter but by writing a half of it.
-use Rattle.std.proofs.Common.{◌≡◌, ◌≢◌, ℕ, ◌+◌, ◌*◌, ◌/◌, ◌%◌, ◌^◌, ◌==◌, Bool, true, false, arith, inl, inr, refl, ap, ◌∙◌}
+use Rattle.std.proofs.Common.{◌≡◌, ◌≢◌, ℕ, ◌+◌, ◌%◌, ◌^◌, ◌==◌, Bool, true, false, arith, inl, inr, refl, ap}
 use Rattle.std.specs.Prelude.{Option, Some, None, if◌then◌else◌, option_map, option_and_then, unwrap_or}
 use Rattle.std.specs.Option.{option_map_or}
 use Rattle.std.proofs.lemmas.Bool.{cases_Bool}
@@ -20,10 +20,9 @@ use Rattle.rv_exec.specs.declared.csr.Change.{Change}
 use Rattle.rv_exec.specs.declared.csr.Change.TheVariants.{Write, Set, Clear}
 use Rattle.rv_exec.specs.declared.ending.Ending.{Ending}
 use Rattle.rv_exec.specs.declared.ending.Ending.TheVariants.{Retired, Trapped}
-use Rattle.rv_exec.specs.Word.{add}
-use Rattle.rv_exec.specs.Outcome.{Outcome, outcome, retires, traps, counted, counted_by}
-use Rattle.rv_exec.specs.Csr.{accessed, after_write, changed, counter_written, old_value, writes}
-use Rattle.rv_exec.specs.Effect.{Done, Effect, address, branches, changes, effect, effect_by, effect_of_fetch, jumps, loads, outcome_with, stores}
+use Rattle.rv_exec.specs.Outcome.{Outcome, outcome, traps, counted, counted_by}
+use Rattle.rv_exec.specs.Csr.{changed, old_value, writes}
+use Rattle.rv_exec.specs.Effect.{Done, address, branches, changes, effect, effect_by, effect_of_fetch, jumps, loads, outcome_with, stores}
 use Rattle.rv_exec.specs.Laws.{RaisesMcycle, RaisesMinstret, KeepsMinstret}
 
 -- the counters that the instruction has not written are as before
@@ -87,7 +86,7 @@ finished-keeps :
     (counter ≢ Some Mcycle → (unwrap_or written core).mcycle ≡ core.mcycle) →
     (counter ≢ Some Minstret → (unwrap_or written core).minstret ≡ core.minstret) →
     KeepsCounters core
-    (option_map_or (λ result. result)
+    (unwrap_or
     (option_map (λ after. outcome (finish after rd old) (Retired counter)) written) (traps core cause word))
 unfolding finish
 finished-keeps core cause word rd old counter None mcycle minstret = traps-keeps core cause word
@@ -99,7 +98,7 @@ finished-keeps core cause word rd old counter (Some after) mcycle minstret = rec
 write-keeps :
     (is_write : Bool) (core : Core) (number value cause word rd old : ℕ) →
     KeepsCounters core
-    (option_map_or (λ result. result)
+    (unwrap_or
     (option_map (λ after. outcome (finish after rd old) (Retired (if is_write then counter_of number else None)))
     (if is_write then csr_written core number value else Some core)) (traps core cause word))
 write-keeps true core number value cause word rd old =
@@ -110,8 +109,8 @@ write-keeps false core number value cause word rd old =
 
 read-keeps :
     (core : Core) (cause word : ℕ) (then_write : ℕ → Option Outcome) (old : Option ℕ) →
-    ((value : ℕ) → KeepsCounters core (option_map_or (λ result. result) (then_write value) (traps core cause word))) →
-    KeepsCounters core (option_map_or (λ result. result) (option_and_then then_write old) (traps core cause word))
+    ((value : ℕ) → KeepsCounters core (unwrap_or (then_write value) (traps core cause word))) →
+    KeepsCounters core (unwrap_or (option_and_then then_write old) (traps core cause word))
 read-keeps core cause word then_write None kept = traps-keeps core cause word
 read-keeps core cause word then_write (Some value) kept = kept value
 

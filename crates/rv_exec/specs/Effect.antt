@@ -1,5 +1,5 @@
 -- What a slot does by its word: the core after it, how its instruction ends, and what it asks of the bus.
-use Rattle.std.specs.Prelude.{ℕ, ◌*◌, ◌/◌, ◌%◌, ◌^◌, ◌==◌, not, Bool, true, false, if◌then◌else◌, Option, None, nat_lt, int_lt, bit_and, bit_or, bit_xor}
+use Rattle.std.specs.Prelude.{ℕ, ◌*◌, ◌/◌, ◌%◌, ◌^◌, ◌==◌, not, Bool, true, if◌then◌else◌, Option, nat_lt, int_lt, unwrap_or, bit_and, bit_or, bit_xor}
 use Rattle.std.specs.Option.{option_map_or}
 use Rattle.rv_decode.specs.declared.instruction.Op.{Op}
 use Rattle.rv_decode.specs.declared.instruction.Op.TheVariants.{Lui, Auipc, Jal, Jalr, Beq, Bne, Blt, Bge, Bltu, Bgeu, Lb, Lh, Lw, Lbu, Lhu, Sb, Sh, Sw, Addi, Slti, Sltiu, Xori, Ori, Andi, Slli, Srli, Srai, Add, Sub, Sll, Slt, Sltu, Xor, Srl, Sra, Or, And, Fence, Ecall, Ebreak, FenceI, Csrrw, Csrrs, Csrrc, Csrrwi, Csrrsi, Csrrci, Mul, Mulh, Mulhsu, Mulhu, Div, Divu, Rem, Remu, Mret, Wfi}
@@ -8,7 +8,7 @@ use Rattle.rv_decode.specs.Means.{means}
 use Rattle.rv_hart.specs.declared.csr.Lines.{Lines}
 use Rattle.rv_hart.specs.Cause.{instruction_address_misaligned, instruction_access_fault, illegal_instruction, breakpoint, load_address_misaligned, store_address_misaligned, environment_call}
 use Rattle.rv_hart.specs.Core.{Core, reg, next, finish, jump}
-use Rattle.rv_hart.specs.Trap.{enter, leave}
+use Rattle.rv_hart.specs.Trap.{leave}
 use Rattle.rv_exec.specs.declared.access.Shape.{Shape}
 use Rattle.rv_exec.specs.declared.access.Shape.TheVariants.{Unsigned, SignedByte, SignedHalf}
 use Rattle.rv_exec.specs.declared.csr.Change.{Change}
@@ -65,9 +65,9 @@ stores core i width =
 -- ISA 2.1)
 abbrev pub changes : Change → ℕ → Core → Instr → ℕ → Lines → Outcome
 changes change operand core i word lines =
-    option_map_or (λ outcome. outcome) (accessed change operand core i lines) (traps core illegal_instruction word)
+    unwrap_or (accessed change operand core i lines) (traps core illegal_instruction word)
 
--- the comparisons of two registers, as equal, by their signed numbers, and by their unsigned ones (Unprivileged ISA 2.5)
+-- the comparisons of two registers: as equal, by their signed and by their unsigned numbers (Unprivileged ISA 2.5)
 abbrev pub equal : Core → Instr → Bool
 equal core i = reg core i.rs1 == reg core i.rs2
 

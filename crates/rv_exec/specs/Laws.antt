@@ -1,9 +1,9 @@
 -- What each slot leaves of the counters.
-use Rattle.std.specs.Prelude.{◌≡◌, ◌≢◌, ◌+◌, ◌%◌, ◌^◌, Option, Some}
+use Rattle.std.specs.Prelude.{◌≡◌, ◌≢◌, ◌+◌, ◌%◌, ◌^◌, Some}
 use Rattle.rv_hart.specs.declared.numbers.Counter.TheVariants.{Mcycle, Minstret}
 use Rattle.rv_hart.specs.Core.{Core}
 use Rattle.rv_exec.specs.declared.ending.Ending.TheVariants.{Retired, Trapped}
-use Rattle.rv_exec.specs.Outcome.{Outcome, counted}
+use Rattle.rv_exec.specs.Outcome.{Outcome}
 
 -- mcycle rises by one, unless the instruction has written a half of it
 abbrev pub RaisesMcycle : Core → Outcome → Core → Type 0

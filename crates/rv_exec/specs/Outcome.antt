@@ -1,13 +1,13 @@
 -- How an instruction ends, and the counters after its slot.
-use Rattle.std.specs.Prelude.{ℕ, Option, Some, None}
+use Rattle.std.specs.Prelude.{ℕ, Some, None}
 use Rattle.rv_hart.specs.declared.numbers.Counter.TheVariants.{Mcycle, Minstret}
 use Rattle.rv_hart.specs.Core.{Core, ticked, retired}
 use Rattle.rv_hart.specs.Trap.{enter}
 use Rattle.rv_exec.specs.declared.ending.Ending.{Ending}
 use Rattle.rv_exec.specs.declared.ending.Ending.TheVariants.{Retired, Trapped}
 
--- the core that an instruction leaves, with counters that have not risen, and whether it has retired, and written a
--- half of a counter, or was an exception
+-- the core that an instruction leaves, whose counters have not risen yet, and how it has ended: it has retired, and
+-- written a half of this counter or of none, or it was an exception
 pub record Outcome : Type 0 where
   pub core : Core
   pub ending : Ending

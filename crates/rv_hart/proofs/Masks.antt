@@ -66,7 +66,8 @@ is_none-chosen core mip enables =
           | inl set ↦ rw (on, no_11, set) (sym (eqb-set word 3 set))
           | inr no_3 ↦ elim (cases_Bool (is_set word 7)) [
             | inl set ↦ rw (on, no_11, no_3, set) (sym (eqb-set word 7 set))
-            | inr no_7 ↦ rw (on, no_11, no_3, no_7) (sym (eq-eqb word 0 (ready-none mip core.mie enables no_11 no_3 no_7)))
+            | inr no_7 ↦
+                rw (on, no_11, no_3, no_7) (sym (eq-eqb word 0 (ready-none mip core.mie enables no_11 no_3 no_7)))
           ]
         ]
       ]

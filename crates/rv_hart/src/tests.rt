@@ -133,31 +133,27 @@ const TARGETS: [(u32, u32, u32); 8] = [
 #[test]
 fn a_trap_goes_to_the_base_or_by_its_vector_and_back(rt: HostRuntime) -> Result<(), Fail> {
     for (mtvec, cause, target) in TARGETS {
-        let running = HartState {
+        let mut hart = hart_of(HartState {
             pc: 0x40,
             on: true,
             mtvec,
             ..Hart::new().state()
-        };
-        let trapped = HartState {
-            pc: target,
-            on: false,
-            before: true,
-            mepc: 0x40,
-            mcause: cause,
-            mtval: 9,
-            ..running
-        };
-        let returned = HartState {
-            pc: 0x40,
-            on: true,
-            ..trapped
-        };
-        let mut hart = hart_of(running)?;
+        })?;
         hart.enter_trap(cause, 9);
-        assert!(rt; hart.state() == trapped, "{mtvec:x} {cause:x}");
+        let trapped = hart.state();
+        assert_eq!(rt;
+            (trapped.pc, trapped.mepc),
+            (target, 0x40),
+            "{mtvec:x} {cause:x}"
+        );
+        assert_eq!(rt; (trapped.mcause, trapped.mtval), (cause, 9));
+        assert_eq!(rt; (trapped.on, trapped.before), (false, true));
         hart.leave_trap();
-        assert!(rt; hart.state() == returned, "{mtvec:x} {cause:x}");
+        let returned = hart.state();
+        assert_eq!(rt;
+            (returned.pc, returned.on, returned.before),
+            (0x40, true, true)
+        );
     }
     Ok(())
 }
@@ -191,71 +187,32 @@ fn exceptions_and_interrupts_have_their_causes(rt: HostRuntime) {
     }
 }
 
-/// A state, and whether a hart can have it.
-fn states() -> [(HartState, bool); 9] {
-    let state = Hart::new().state();
-    [
-        (
-            HartState {
-                mie: 0x888,
-                mtvec: 0x101,
-                mepc: 0x104,
-                ..state
-            },
-            true,
-        ),
-        (
-            HartState {
-                registers: [1; 32],
-                ..state
-            },
-            false,
-        ),
-        (
-            HartState {
-                mie: 0x889,
-                ..state
-            },
-            false,
-        ),
-        (
-            HartState {
-                mie: 0x1000,
-                ..state
-            },
-            false,
-        ),
-        (
-            HartState {
-                mtvec: 0x102,
-                ..state
-            },
-            false,
-        ),
-        (
-            HartState {
-                mepc: 0x101,
-                ..state
-            },
-            false,
-        ),
-        (
-            HartState {
-                mepc: 0x102,
-                ..state
-            },
-            false,
-        ),
-        (HartState { pc: 0x101, ..state }, false),
-        (HartState { pc: 0x102, ..state }, false),
-    ]
-}
+/// What is in x0, mie, mtvec, mepc and the pc of a state, and whether a hart can have it.
+const STATES: [(u32, u32, u32, u32, u32, bool); 9] = [
+    (0, 0x888, 0x101, 0x104, 0x108, true),
+    (1, 0, 0, 0, 0, false),
+    (0, 0x889, 0, 0, 0, false),
+    (0, 0x1000, 0, 0, 0, false),
+    (0, 0, 0x102, 0, 0, false),
+    (0, 0, 0, 0x101, 0, false),
+    (0, 0, 0, 0x102, 0, false),
+    (0, 0, 0, 0, 0x101, false),
+    (0, 0, 0, 0, 0x102, false),
+];
 
 #[test]
 fn a_state_of_no_hart_is_refused(rt: HostRuntime) {
-    for (state, is_valid) in states() {
-        let hart = Hart::of(&state);
-        assert_eq!(rt; hart.map(|hart| hart.state()), is_valid.then_some(state));
+    for (x0, mie, mtvec, mepc, pc, is_valid) in STATES {
+        let state = HartState {
+            registers: [x0; 32],
+            mie,
+            mtvec,
+            mepc,
+            pc,
+            ..Hart::new().state()
+        };
+        let found = Hart::of(&state).map(|hart| hart.state());
+        assert_eq!(rt; found, if is_valid { Some(state) } else { None });
     }
 }
 
