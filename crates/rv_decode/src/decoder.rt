@@ -13,6 +13,7 @@ use crate::instruction::{Format, Instr, Op};
 use crate::opcodes::op_by_fields;
 
 /// The name of the instruction that the table gives the word.
+#[inline(always)]
 fn decode_op(word: u32) -> Option<Op>
     ensures { result ≡ option_map (λ row. row.op) (matched_row word) }
 {
@@ -20,6 +21,7 @@ fn decode_op(word: u32) -> Option<Op>
 }
 
 /// The fields of a word of this format.
+#[inline(always)]
 fn instr_from(format: Format, op: Op, word: u32) -> Instr
     ensures value { result ≡ fields_by format op word }
     ensures fields { IsInstr result }
@@ -42,6 +44,7 @@ fn instr_from(format: Format, op: Op, word: u32) -> Instr
 
 /// The instruction that the word means: the one row of the table whose bits it has, with the fields
 /// of that row's format. `None` exactly where no row matches.
+#[inline(always)]
 pub fn decode(word: u32) -> Option<Instr>
     ensures value { result ≡ means word }
     ensures fields { IfSome result IsInstr }

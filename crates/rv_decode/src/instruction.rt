@@ -111,6 +111,7 @@ pub struct Instr {
 impl Op {
     /// The format of the instruction's words.
     #[tactic(auto, unfolding(crate::specs::Table::row_of))]
+    #[inline(always)]
     pub fn format(self) -> Format
         ensures { option_map (λ row. row.format) (row_of self) ≡ Some result }
     {

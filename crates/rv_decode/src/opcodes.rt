@@ -180,6 +180,7 @@ fn system_op(funct3: u32, word: u32) -> Option<Op>
 
 /// The name of the instruction, by the word's opcode and then its other fields.
 #[tactic(auto)]
+#[inline(always)]
 pub(crate) fn op_by_fields(word: u32) -> Option<Op>
     ensures { result ≡ op_by (field word 0 7) (field word 12 3) (field word 25 7) word }
 {

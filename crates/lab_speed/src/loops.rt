@@ -1,0 +1,58 @@
+//! The loops that are measured, as texts for the assembler.
+
+/// Each loop by its name, in the order of docs/SPEED.md: instructions of one kind that run for ever,
+/// from address 0x80000000 on.
+pub const LOOPS: [(&str, &str); 6] = [
+    (
+        "jumps",
+        "auipc x1, 0\n\
+            loop: jal x0, 4\njal x2, 4\njalr x0, 4(x2)\njal x0, a\n\
+            a: jal x3, 4\njalr x4, 4(x3)\njal x0, 4\njal x5, b\n\
+            b: jalr x0, 4(x5)\njal x0, 4\njal x6, 4\njalr x7, 4(x6)\n\
+            jal x0, 4\njal x8, 4\njalr x0, 4(x8)\njal x0, loop\n",
+    ),
+    (
+        "additions",
+        "addi x1, x0, 17\naddi x2, x0, -3\n\
+            loop: addi x3, x1, 5\nadd x4, x3, x2\nsub x5, x4, x1\nxor x6, x5, x4\n\
+            or x7, x6, x3\nand x8, x7, x5\nslli x9, x8, 3\nsrli x10, x9, 2\nsrai x11, x2, 1\n\
+            slt x12, x2, x1\nsltu x13, x2, x1\nxori x14, x9, 255\nori x15, x14, 16\n\
+            andi x16, x15, 127\nslti x17, x16, 64\nsltiu x18, x16, 64\nsll x19, x16, x17\n\
+            srl x20, x19, x17\nsra x21, x2, x17\nlui x22, 0x12345\nauipc x23, 1\n\
+            add x1, x1, x17\njal x0, loop\n",
+    ),
+    (
+        "products",
+        "lui x1, 0x12345\naddi x2, x0, -77\naddi x3, x0, 1001\n\
+            loop: mul x4, x1, x2\nmulh x5, x1, x2\nmulhu x6, x1, x2\nmulhsu x7, x2, x1\n\
+            div x8, x1, x3\nrem x9, x1, x3\ndivu x10, x2, x3\nremu x11, x2, x3\n\
+            mul x12, x4, x3\nmulh x13, x4, x3\nmulhu x14, x4, x3\nmulhsu x15, x4, x3\n\
+            div x16, x4, x2\nrem x17, x4, x2\ndivu x18, x4, x3\nremu x19, x4, x3\n\
+            jal x0, loop\n",
+    ),
+    (
+        "memory",
+        "auipc x1, 1\naddi x2, x0, -70\n\
+            loop: sw x2, 0(x1)\nlw x3, 0(x1)\nsh x3, 4(x1)\nlh x4, 4(x1)\nsb x4, 6(x1)\n\
+            lb x5, 6(x1)\nlhu x6, 4(x1)\nlbu x7, 6(x1)\nsw x5, 8(x1)\nlw x8, 8(x1)\n\
+            sw x6, 12(x1)\nlw x9, 12(x1)\nsb x7, 17(x1)\nlbu x10, 17(x1)\nsh x8, 18(x1)\n\
+            lh x11, 18(x1)\nlw x12, 16(x1)\nsw x12, 20(x1)\njal x0, loop\n",
+    ),
+    (
+        "branches",
+        "addi x1, x0, 5\naddi x2, x0, -5\n\
+            loop: beq x1, x2, loop\nbne x1, x2, 4\nblt x1, x2, loop\nbge x1, x2, 4\n\
+            bltu x1, x2, 4\nbgeu x1, x2, loop\nbeq x1, x1, 4\nbne x1, x1, loop\nblt x2, x1, 4\n\
+            bge x2, x1, loop\nbltu x2, x1, loop\nbgeu x2, x1, 4\nbeq x0, x1, loop\n\
+            bne x0, x1, 4\nblt x0, x2, loop\nbge x0, x2, 4\njal x0, loop\n",
+    ),
+    (
+        "csr",
+        "addi x1, x0, 85\n\
+            loop: csrrw x2, 0x340, x1\ncsrrs x3, 0x340, x0\ncsrrc x4, 0x340, x1\n\
+            csrrwi x5, 0x340, 31\ncsrrsi x6, 0x340, 4\ncsrrci x7, 0x340, 2\n\
+            csrrs x8, 0xB00, x0\ncsrrs x9, 0xC02, x0\ncsrrw x10, 0x341, x3\ncsrrs x11, 0x341, x0\n\
+            csrrsi x12, 0x300, 8\ncsrrci x13, 0x300, 8\ncsrrw x14, 0x305, x1\n\
+            csrrs x15, 0x304, x1\ncsrrs x16, 0x344, x0\ncsrrs x17, 0xF14, x0\njal x0, loop\n",
+    ),
+];
