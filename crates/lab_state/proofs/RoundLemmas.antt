@@ -3,7 +3,7 @@ use Rattle.std.proofs.Common.{◌≡◌, ◌∙◌, sym, ap, refl, Bool, true, f
 use Rattle.std.proofs.lemmas.List.{append-nil, length-map}
 use Rattle.std.proofs.lemmas.List.Elements.{All-filter, All-from_recursion}
 use Rattle.std.proofs.Math.Nat.{mul-le-mul_left}
-use Rattle.std.proofs.Math.Seq.{take-length, drop-length}
+use Rattle.std.proofs.Math.Seq.{take-append_seam}
 use Rattle.std.specs.List.{flat_map, All, AllByRecursion}
 use Rattle.std.specs.Option.{option_map, option_map_or, ForSome}
 use Rattle.lab_num.specs.declared.key.Key.{Key}
@@ -167,9 +167,7 @@ sound-stepped law boards hubs now quantum q within sound =
       standing = standing_stepped law now q within 0 boards sound.standing;
       devices = rw long sound.devices;
       names = rw (names-stepped grant boards) sound.names;
-      time = within;
-      least_quantum = sound.least_quantum;
-      most_quantum = sound.most_quantum;
+      times = record { time = within; least_quantum = sound.times.least_quantum; most_quantum = sound.times.most_quantum };
     }
 
 -- a laboratory after a round
@@ -214,9 +212,7 @@ pub always_ok : {T E P : Type 0} (r : Result T E) → P → OnOk r P
 always_ok (Ok x) p = p
 always_ok (Err e) p = tt
 
--- what a change of a part of a list gives back
+-- a list that is written whole over another
 pub given_back :
-    {A : Type 0} (new old : List A) (n : ℕ) → n ≡ length old → length new ≡ length old →
-    take n (new ++ drop (length new) old) ≡ new
-given_back new old n long same =
-    rw (same, drop-length old, append-nil new, long, ← same) (take-length new)
+    {A : Type 0} (new old : List A) (n : ℕ) → n ≡ length new → take n (new ++ drop (length new) old) ≡ new
+given_back new old n long = rw long (take-append_seam new (drop (length new) old))

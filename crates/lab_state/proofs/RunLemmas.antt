@@ -17,30 +17,12 @@ use Rattle.lab_state.specs.Boundary.{boundary}
 use Rattle.lab_state.specs.Hub.{Hub}
 use Rattle.lab_state.specs.Lab.{Lab}
 use Rattle.lab_state.specs.Round.{Rounded, round_by, round}
-use Rattle.lab_state.specs.Run.{lengths, followed_by, go_on, still, run_by, run}
+use Rattle.lab_state.specs.Run.{rest_of, lengths, followed_by, go_on, still, run_by, run}
 use Rattle.lab_state.proofs.ListLemmas.{fold-kept}
-
--- ---- so many rounds of one length
-
-abbrev pub rounds : Lab → ℕ → ℕ → Rounded
-rounds lab q n = fold (go_on round) (still lab) (replicate n q)
-
-pub rounds_more : (lab : Lab) (q n : ℕ) → go_on round (rounds lab q n) q ≡ rounds lab q (n + 1)
-rounds_more lab q n = rw (← replicate_more n q) (sym (fold-append (go_on round) (still lab) (replicate n q) (q ∷ [])))
-
-round_now : (lab : Lab) (q : ℕ) → (round lab q).lab.now ≡ lab.now + q
-unfolding round_by
-round_now lab q = refl
 
 round_quantum : (lab : Lab) (q : ℕ) → (round lab q).lab.quantum ≡ lab.quantum
 unfolding round_by
 round_quantum lab q = refl
-
-on_now :
-    (paused : Bool) (run more : Rounded) (q : ℕ) → more.lab.now ≡ run.lab.now + q →
-    (if paused then run else followed_by run more).lab.now ≤ run.lab.now + q
-on_now true run more q is = omega arith
-on_now false run more q is = omega (arith, is)
 
 on_quantum :
     (paused : Bool) (run more : Rounded) → more.lab.quantum ≡ run.lab.quantum →
@@ -48,44 +30,16 @@ on_quantum :
 on_quantum true run more is = refl
 on_quantum false run more is = is
 
--- rounds take no longer than their lengths together
-pub rounds_now : (lab : Lab) (q n : ℕ) → (rounds lab q n).lab.now ≤ lab.now + q * n
-rounds_now lab q zero = omega arith
-rounds_now lab q (suc n) =
-    let before = rounds lab q n in
-    let more : rounds lab q (suc n) ≡ go_on round before q = ap (rounds lab q) (sym (add-one n)) ∙ sym (rounds_more lab q n) in
-    omega
-    (arith, ap (λ run. run.lab.now) more, on_now (is_some before.paused) before (round before.lab q) q (round_now before.lab q), rounds_now lab q n)
-
--- the rounds so far leave room for one more, and the whole quanta leave room for the rest
-pub room_for :
-    (now q d n seen : ℕ) → n < d / q → now + d ≤ 10000000000 → seen ≤ now + q * n → seen + q ≤ 10000000000
-room_for now q d n seen more within so =
-    omega (arith, mul-le-mul_left q more, div-add-mod d q)
-
-pub room_left :
-    (now q d seen : ℕ) → now + d ≤ 10000000000 → seen ≤ now + q * (d / q) → seen + d % q ≤ 10000000000
-room_left now q d seen within so = omega (arith, div-add-mod d q)
-
--- ---- the end of a run
-
-run_is :
-    (lab : Lab) (d : ℕ) →
-    run lab d ≡ fold (go_on round) (rounds lab lab.quantum (d / lab.quantum)) (if d % lab.quantum == 0 then [] else d % lab.quantum ∷ [])
+-- a run is the round of what is left, after those of the whole quanta
+pub run_is :
+    (lab : Lab) (d : ℕ) {q : ℕ} {whole end : Rounded} → q ≡ lab.quantum →
+    whole ≡ fold (go_on round) (still lab) (replicate (d / q) q) →
+    end ≡ fold (go_on round) whole (rest_of (d % q)) → end ≡ run lab d
 unfolding run_by
-run_is lab d = fold-append (go_on round) (still lab) (replicate (d / lab.quantum) lab.quantum) _
-
-pub ends_whole :
-    (lab : Lab) (q d n : ℕ) {r : Rounded} → q ≡ lab.quantum → n ≡ d / q → d % q ≡ 0 → r ≡ rounds lab q n →
-    r ≡ run lab d
-ends_whole lab q d n same count whole so =
-    so ∙ rw (count, same) (sym (run_is lab d ∙ rw (eq-eqb (d % lab.quantum) 0 (rw (← same) whole)) refl))
-
-pub ends_rest :
-    (lab : Lab) (q d n : ℕ) {r end : Rounded} → q ≡ lab.quantum → n ≡ d / q → d % q ≢ 0 →
-    r ≡ rounds lab q n → end ≡ go_on round r (d % q) → end ≡ run lab d
-ends_rest lab q d n same count rest so more =
-    more ∙ rw (so, count, same) (sym (run_is lab d ∙ rw (ne_eqb (d % lab.quantum) 0 (rw (← same) rest)) refl))
+run_is lab d {q = q} same first last =
+    last ∙ ap (λ run. fold (go_on round) run (rest_of (d % q))) first
+    ∙ sym (fold-append (go_on round) (still lab) (replicate (d / q) q) (rest_of (d % q)))
+    ∙ ap (λ q. fold (go_on round) (still lab) (lengths q d)) same
 
 -- ---- runs one after the other
 

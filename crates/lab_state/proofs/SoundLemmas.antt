@@ -85,9 +85,7 @@ sound-new = record {
   standing = tt;
   devices = tt;
   names = tt;
-  time = omega arith;
-  least_quantum = omega arith;
-  most_quantum = omega arith;
+  times = record { time = omega arith; least_quantum = omega arith; most_quantum = omega arith };
 }
 
 -- ---- a board more
@@ -118,9 +116,7 @@ sound-push os hubs now quantum o sound room is apart =
       standing = standing-push (1000 * now) 0 os o sound.standing (rw (← zero-add (length os)) at is);
       devices = rw long (more_devices (length os) (length os + 1) (omega arith) hubs sound.devices);
       names = rw (map-append, append_assoc) (distinct-insert bytes_eq nat_list_eq_equiv.symm o.name (map (λ o. o.name) os) (map (λ hub. hub.name) hubs) sound.names apart);
-      time = sound.time;
-      least_quantum = sound.least_quantum;
-      most_quantum = sound.most_quantum;
+      times = sound.times;
     }
 
 early_standing :
@@ -156,9 +152,7 @@ sound-hub lab hub sound none free = record {
   names =
       rw (map-append, ← append_assoc)
       (distinct-insert bytes_eq nat_list_eq_equiv.symm hub.name (names_of (outlines lab.boards) lab.hubs) [] (rw append-nil sound.names) (rw append-nil (new_name lab hub.name free)));
-  time = sound.time;
-  least_quantum = sound.least_quantum;
-  most_quantum = sound.most_quantum;
+  times = sound.times;
 }
 
 -- a laboratory with a member more in one of its hubs
@@ -172,7 +166,5 @@ sound-member os hubs now quantum n m sound exists device = record {
       each-change (λ hub. AllByRecursion (IsDevice (length os)) hub.members) (with_member m)
       (λ hub are. each-append (IsDevice (length os)) hub.members (m ∷ []) are (record { board = exists; dev = device }, tt)) hubs n sound.devices;
   names = rw (map-change (λ (hub : Hub). hub.name) (with_member m) (λ hub. refl) hubs n) sound.names;
-  time = sound.time;
-  least_quantum = sound.least_quantum;
-  most_quantum = sound.most_quantum;
+  times = sound.times;
 }

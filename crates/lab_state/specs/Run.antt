@@ -7,9 +7,13 @@ use Rattle.lab_state.specs.Round.{Rounded, round}
 abbrev pub Play : Type 0
 Play = Lab → ℕ → Rounded
 
--- the lengths of the rounds of a run: the whole quanta, and then what is left if that is not 0
+-- the length of the round of what is left, if something is
+abbrev pub rest_of : ℕ → List ℕ
+rest_of d = if d == 0 then [] else d ∷ []
+
+-- the lengths of the rounds of a run: the whole quanta, and then what is left
 abbrev pub lengths : ℕ → ℕ → List ℕ
-lengths quantum d = replicate (d / quantum) quantum ++ (if d % quantum == 0 then [] else d % quantum ∷ [])
+lengths quantum d = replicate (d / quantum) quantum ++ rest_of (d % quantum)
 
 -- what has come and what comes after it, as one
 abbrev pub followed_by : Rounded → Rounded → Rounded

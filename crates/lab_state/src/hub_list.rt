@@ -86,27 +86,21 @@ impl HubList {
     }
 
     /// The number of the first hub of this name.
-    pub fn find(&self, name: &str) -> Option<u32>
+    pub fn find(&self, name: &str) -> Option<usize>
         ensures { result ≡ position (λ hub. bytes_eq hub.name name.now) self.now }
     {
-        match number_of(&self.names, name) {
-            Some(n) => Some(n as u32),
-            None => None,
-        }
+        number_of(&self.names, name)
     }
 
-    pub fn name(&self, n: u32) -> &Text
+    /// The name and the kind of a hub.
+    pub fn head(&self, n: u32) -> &HubName
         requires { n < length self.now }
-        ensures { Some result.now ≡ option_map (λ hub. hub.name) (slice_get self.now n) }
+        ensures name { Some result.now.name
+            ≡ option_map (λ hub. hub.name) (slice_get self.now n) }
+        ensures kind { Some result.now.kind
+            ≡ option_map (λ hub. hub.kind) (slice_get self.now n) }
     {
-        &self.names[n as usize].name
-    }
-
-    pub fn kind(&self, n: u32) -> Kind
-        requires { n < length self.now }
-        ensures { Some result ≡ option_map (λ hub. hub.kind) (slice_get self.now n) }
-    {
-        self.names[n as usize].kind
+        &self.names[n as usize]
     }
 
     /// The members of a hub, in order of connection.
@@ -134,14 +128,14 @@ impl HubList {
     }
 
     /// Puts a member at the end of a hub.
-    pub fn connect(&mut self, n: u32, member: Member) -> Result<(), HubFault>
+    pub fn connect(&mut self, n: usize, member: Member) -> Result<(), HubFault>
         requires { n < length self.old }
         ensures ok { OnOk result (self.new ≡ change_at self.old n (with_member member)) }
         ensures already { (result ≡ Err HubFault.Already)
             ↔ IsTrue (is_connected (members_of self.old) member) }
         ensures err { OnErr result (self.new ≡ self.old) }
     {
-        self.uarts.connect(n, member)
+        self.uarts.connect(n as u32, member)
     }
 
     /// The other members of the hub of `from`, in order of connection.

@@ -14,7 +14,7 @@ use lab_num::{Kind, Member, Text};
 
 impl Lab {
     /// The number of the hub of this name.
-    pub(crate) fn hub_named(&self, name: &str) -> Option<u32>
+    pub(crate) fn hub_named(&self, name: &str) -> Option<usize>
         ensures { result ≡ names_spec.hub_named self.now.lab name.now }
     {
         self.hubs.find(name)
@@ -84,7 +84,7 @@ impl Lab {
             ≡ option_map (λ hub. hub.name) (slice_get self.now.lab.hubs n) }
         ensures found { names_spec.hub_named self.now.lab result.now ≡ Some n }
     {
-        self.hubs.name(n)
+        &self.hubs.head(n).name
     }
 
     /// The kind of devices that a hub connects.
@@ -93,7 +93,7 @@ impl Lab {
         requires exists { n < length self.now.lab.hubs }
         ensures { Some result ≡ option_map (λ hub. hub.kind) (slice_get self.now.lab.hubs n) }
     {
-        self.hubs.kind(n)
+        self.hubs.head(n).kind
     }
 
     /// The members of a hub, in order of connection.

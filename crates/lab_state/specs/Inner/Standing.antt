@@ -47,6 +47,12 @@ AreDevices count hubs = AllByRecursion (λ hub. AllByRecursion (IsDevice count) 
 abbrev pub names_of : List Outline → List Hub → List (List ℕ)
 names_of boards hubs = map (λ board. board.name) boards ++ map (λ hub. hub.name) hubs
 
+-- a time and a quantum that a laboratory may have
+pub record AreTimes (now quantum : ℕ) : Type 0 where
+  pub time : now ≤ 10000000000
+  pub least_quantum : 1 ≤ quantum
+  pub most_quantum : quantum ≤ 1000000
+
 -- at most 16 boards under numbers of their own, of which no two have made two things under one number; hubs that connect
 -- devices of these boards; names that differ
 pub record IsSound (boards : List Outline) (hubs : List Hub) (now quantum : ℕ) : Type 0 where
@@ -54,9 +60,7 @@ pub record IsSound (boards : List Outline) (hubs : List Hub) (now quantum : ℕ)
   pub standing : AreStanding (1000 * now) 0 boards
   pub devices : AreDevices (length boards) hubs
   pub names : IsDistinct bytes_eq (names_of boards hubs)
-  pub time : now ≤ 10000000000
-  pub least_quantum : 1 ≤ quantum
-  pub most_quantum : quantum ≤ 1000000
+  pub times : AreTimes now quantum
 
 abbrev pub IsSoundLab : Lab → Type 0
 IsSoundLab lab = IsSound (outlines lab.boards) lab.hubs lab.now lab.quantum

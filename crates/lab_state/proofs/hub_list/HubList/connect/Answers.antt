@@ -1,16 +1,17 @@
 -- The hubs have the members in their order.
-use Rattle.std.proofs.Common.{◌≡◌, ◌∙◌, ap, length, arith}
+use Rattle.std.proofs.Common.{◌≡◌, ◌∙◌, ap, arith}
 use Rattle.std.proofs.lemmas.Result.{on_ok_weaker}
 use Rattle.lab_state.specs.Change.{change_at}
 use Rattle.lab_state.specs.One.{with_member}
 use Rattle.lab_state.specs.Inner.Hubs.{hubs_of}
-use Rattle.lab_state.proofs.HubLemmas.{length-hubs, members-hubs, hubs-connected}
+use Rattle.lab_state.proofs.HubLemmas.{parts, hubs-connected}
 use Rattle.lab_state.proofs.hub_list.HubList.connect.Goals as goal
 
+pub overflow_cast-n : goal.overflow_cast-n
+overflow_cast-n c = omega (arith, (parts c.self.view_is c.self.invariant.0).long, c.self.invariant.0, c.self.invariant.1)
+
 pub connect-requires : goal.connect-requires
-connect-requires c =
-    let long = length-hubs c.self.inside.names.items c.self.inside.uarts c.self.invariant.0 in
-    omega (arith, long, ap length c.self.view_is)
+connect-requires c = omega (arith, (parts c.self.view_is c.self.invariant.0).long, c.self.invariant.0)
 
 pub returns-clause-ok : goal.returns-clause-ok
 returns-clause-ok c =
@@ -21,5 +22,4 @@ returns-clause-ok c =
     c.connect.ensures.ok
 
 pub returns-clause-already : goal.returns-clause-already
-returns-clause-already c =
-    rw (← c.self.view_is, members-hubs c.self.inside.names.items c.self.inside.uarts c.self.invariant.0) c.connect.ensures.already
+returns-clause-already c = rw (parts c.self.view_is c.self.invariant.0).members_are c.connect.ensures.already

@@ -11,19 +11,17 @@ invariant_of-self-2 c h =
     let now : c.self.inside.time.0 ≡ c.args.self.now.lab.now = ap (λ s. s.lab.now) c.self.view_is in
     let within : c.self.inside.time.0 + c.args.q ≤ 10000000000 =
     omega (arith, now, c.requires.within (sym (ap (λ s. s.spent) c.self.view_is) ∙ unspent)) in
-    let same : length c.play.new.boards ≡ length c.self.inside.boards.items = omega (arith, c.deref_mut.ensures.len) in
     let made = rw c.deref_mut.ensures.value at c.in-Ok.ensures.boards in
-    rw (given_back c.play.new.boards c.self.inside.boards.items c.self.inside.boards.len (omega arith) same, made)
+    rw (given_back c.play.new.boards c.self.inside.boards.items c.self.inside.boards.len (omega (arith, c.deref_mut.ensures.len)), made)
     (sound-round c.stretches_number.ensures (record { boards = c.self.inside.boards.items; hubs = c.self.inside.hubs; now = c.self.inside.time.0; quantum = c.self.inside.quantum })
     c.args.q within (c.self.invariant unspent))
 
 pub returns-clause-lab : goal.returns-clause-lab
 returns-clause-lab c =
-    let same : length c.play.new.boards ≡ length c.self.inside.boards.items = omega (arith, c.deref_mut.ensures.len) in
     let made = rw c.deref_mut.ensures.value at c.in-Ok.ensures.boards in
     seen_round c.args.self.now c.self.inside.boards.items c.self.inside.hubs c.self.inside.time.0 c.self.inside.quantum c.self.inside.spent c.args.q
     c.self.view_is c.if-self.false
-    (given_back c.play.new.boards c.self.inside.boards.items c.self.inside.boards.len (omega arith) same ∙ made)
+    (given_back c.play.new.boards c.self.inside.boards.items c.self.inside.boards.len (omega (arith, c.deref_mut.ensures.len)) ∙ made)
 
 pub returns-clause-lines : goal.returns-clause-lines
 returns-clause-lines c =
