@@ -3,7 +3,7 @@ use Rattle.std.proofs.Common.{◌≡◌, [], ◌∷◌, codes, refl}
 use Rattle.board.specs.Early.{early}
 use Rattle.lab_state.specs.Lab.{Lab}
 use Rattle.lab_top.specs.Builtin.{built_in, send_a, echo}
-use Rattle.lab_top.specs.Equipped.{equipped}
+use Rattle.lab_top.specs.Inner.Equipped.{equipped}
 
 -- both boards and the hub before the boards have their programs
 abbrev pub bare : Lab

@@ -4,4 +4,5 @@ pub mod Pieces
 pub mod Courses
 pub mod Onward
 pub mod Openings
+pub mod Lines
 mod Equipping

@@ -5,8 +5,6 @@ use Rattle.board.specs.Space.{put_bytes}
 use Rattle.board.specs.View.{View}
 use Rattle.board.specs.Early.{early}
 use Rattle.lab_state.specs.Lab.{Lab}
-use Rattle.lab_top.specs.Commands.{State}
-use Rattle.lab_top.specs.Log.{blank}
 
 -- a program that sends one byte, `A`, in slot 2, and then runs in place: lui x5, 0x10000; addi x6, x0, 65;
 -- sb x6, 0(x5); jal x0, 0
@@ -39,7 +37,3 @@ built_in = record {
   now = 0;
   quantum = 100;
 }
-
--- a run before its first command
-abbrev pub started : State
-started = record { lab = built_in; lines = blank (codes "m0") ∷ blank (codes "m1") ∷ [] }

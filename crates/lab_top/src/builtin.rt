@@ -1,11 +1,10 @@
 //! The built-in laboratory: `m0` sends a byte, `m1` echoes it, and one hub joins their UARTs.
 ghost use Rattle.std.specs.Prelude.{◌≡◌, ◌<◌, ◌≤◌, false, length, IfOk, OnOk};
-ghost use Rattle.lab_top.specs.Builtin.{built_in, started};
-ghost use Rattle.lab_top.specs.Equipped.{equipped};
+ghost use Rattle.lab_top.specs.Builtin.{built_in};
+ghost use Rattle.lab_top.specs.Inner.Equipped.{equipped};
 ghost use Rattle.lab_state.specs.One.{board_of};
 
-use crate::log::OpenLine;
-use lab_num::{BoardNo, Member, NoMemory, Text};
+use lab_num::{BoardNo, Member, NoMemory};
 use lab_state::Lab;
 use std::alloc::Global;
 
@@ -63,12 +62,3 @@ fn equip(lab: &mut Lab, board: BoardNo, program: &[u8]) -> Result<(), NoMemory>
     Ok(())
 }
 
-/// A line for each board, none of them begun.
-pub fn lines(alloc: Global) -> Result<Vec<OpenLine>, NoMemory>
-    ensures { IfOk result (λ lines. lines.items ≡ started.lines) }
-{
-    let mut lines = Vec::new(alloc);
-    lines.push(OpenLine::new(alloc, Text::of(alloc, "m0")?))?;
-    lines.push(OpenLine::new(alloc, Text::of(alloc, "m1")?))?;
-    Ok(lines)
-}

@@ -1,32 +1,14 @@
 -- How far a run has gone along a transcript.
-use Rattle.std.specs.Prelude.{◌≡◌, ◌≢◌, ℕ, List, [], ◌∷◌, ◌++◌, length, map, Option, Some, None, IfSome}
+use Rattle.std.specs.Prelude.{◌≡◌, ◌≢◌, ℕ, List, [], ◌∷◌, ◌++◌, length, Option, Some, IfSome}
 use Rattle.lab_io.specs.Known.{grown}
-use Rattle.lab_io.specs.declared.sink.WriteFault.{WriteFault}
-use Rattle.lab_io.specs.declared.sink.WriteFault.TheVariants as write_fault
 use Rattle.lab_top.specs.declared.status.Status.{Status}
 use Rattle.lab_top.specs.declared.status.Status.TheVariants as end_by
-use Rattle.lab_top.specs.Transcript.{Outcome, Done, Usage, Script, Read, Transcript, last_line}
+use Rattle.lab_top.specs.Transcript.{Outcome, Read, Transcript, last_line}
+use Rattle.lab_top.specs.Headline.{final, names_read}
 
 -- this holds of the value, where one is told
 abbrev pub Told : {A : Type 0} → Option A → (A → Type 0) → Type 0
 Told {A} told P = (x : A) → told ≡ Some x → P x
-
--- the outcome of a run that nothing has cut short
-abbrev pub final : Status → Option Outcome
-final end_by.Done = Some Done
-final end_by.Memory = None
-final (end_by.Usage cause) = Some (Usage cause)
-final (end_by.Script fault) = Some (Script fault)
-final end_by.Unread = None
-final end_by.Unwritten = None
-
--- the status of a run whose output has refused a piece
-abbrev pub refusal : WriteFault → Status
-refusal write_fault.Unwritten = end_by.Unwritten
-refusal write_fault.Memory = end_by.Memory
-
-abbrev pub names_of : List Read → List (List ℕ)
-names_of reads = map (λ read. read.name) reads
 
 -- the last of these reads comes after so many bytes
 pub record IsLastAt (reads : List Read) (bytes : ℕ) : Type 0 where
@@ -45,7 +27,7 @@ pub record Course (all : Transcript) (status : Status) (out out' : Option (List 
   pub all_bytes : all.bytes ≡ bytes ++ unwritten
   pub all_reads : all.reads ≡ passed ++ coming
   pub written : out' ≡ grown out bytes
-  pub asked : log' ≡ grown log (names_of passed)
+  pub asked : log' ≡ grown log (names_read passed)
   pub ended : IfSome (final status) (λ outcome. (all.outcome ≡ outcome) × (unwritten ≡ []))
   pub unread : status ≡ end_by.Unread → IsLastAt passed (length bytes)
 
