@@ -9,6 +9,7 @@ use Rattle.lab_top.specs.declared.fault.ScriptCause.TheVariants.{Size}
 use Rattle.lab_top.specs.declared.status.UsageCause.{UsageCause}
 use Rattle.lab_top.specs.declared.status.Status.{Status}
 use Rattle.lab_top.specs.declared.status.Status.TheVariants as end_by
+use Rattle.lab_top.specs.Builtin.{built_in}
 use Rattle.lab_top.specs.Transcript.{Usage, Script, Transcript, ended, whole, rest_of, started, begun, run_of, transcript, request_of, Refused, usage_line}
 use Rattle.lab_top.specs.Inner.Course.{Told, Course, IsEnd}
 use Rattle.lab_top.specs.Command.{fault_at}
@@ -22,7 +23,7 @@ told P fact x is = rw is at fact
 
 begun_short :
     (held : Held) (script bytes : List ℕ) → length bytes ≤ 16777216 →
-    begun run held script (Some bytes) ≡ rest_of run held (started script bytes)
+    begun run held script (Some bytes) ≡ rest_of run held (started built_in script bytes)
 begun_short held script bytes short = grind (arith, nat_tests)
 
 begun_long :
@@ -35,7 +36,7 @@ pub opening_runs :
     (held : Held) (script bytes : List ℕ) (status : Status) (out out' : Option (List ℕ))
     (log log' : Option (List (List ℕ))) →
     get held script ≡ Some bytes → length bytes ≤ 16777216 → log' ≡ grown log (script ∷ []) →
-    Course (rest_of run held (started script bytes)) status out out' log' log' →
+    Course (rest_of run held (started built_in script bytes)) status out out' log' log' →
     Course (run_of run held script) status out out' log log'
 opening_runs held script bytes status out out' log log' there short asked course =
     rw there

@@ -4,6 +4,7 @@ use Rattle.std.specs.List.{starts_with}
 use Rattle.std.specs.Str.{bytes_eq}
 use Rattle.std.specs.FinMap.{get}
 use Rattle.lab_io.specs.Held.{Held}
+use Rattle.lab_state.specs.Lab.{Lab}
 use Rattle.lab_state.specs.Run.{Play, run}
 use Rattle.lab_top.specs.declared.status.UsageCause.{UsageCause}
 use Rattle.lab_top.specs.declared.status.UsageCause.TheVariants.{Command, Words}
@@ -105,12 +106,12 @@ from (suc more) play held s =
 abbrev pub rest_of : Play → Held → State → Transcript
 rest_of play held s = from (100000 - s.taken) play held s
 
--- a run at the first line of its script
-abbrev pub started : List ℕ → List ℕ → State
-started script bytes = record {
+-- a run of a laboratory at the first line of its script
+abbrev pub started : Lab → List ℕ → List ℕ → State
+started lab script bytes = record {
   bodies = record { file = script; number = 1; lines = lines_of bytes } ∷ [];
   taken = 0;
-  lab = built_in;
+  lab = lab;
   lines = [];
 }
 
@@ -123,7 +124,7 @@ abbrev pub begun : Play → Held → List ℕ → Option (List ℕ) → Transcri
 begun play held script None = ended Absent
 begun play held script (Some bytes) =
     if nat_lt 16777216 (length bytes) then ended (Script (fault_at (whole script) Size))
-    else rest_of play held (started script bytes)
+    else rest_of play held (started built_in script bytes)
 
 -- all that the run of a script writes and reads
 abbrev pub run_of : Play → Held → List ℕ → Transcript

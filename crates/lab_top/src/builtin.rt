@@ -45,7 +45,7 @@ pub fn lab(alloc: Global) -> Result<Lab, NoMemory>
 }
 
 /// Gives a board its program, shows its UART and joins that to the hub.
-fn equip(lab: &mut Lab, board: BoardNo, program: &[u8]) -> Result<(), NoMemory>
+pub fn equip(lab: &mut Lab, board: BoardNo, program: &[u8]) -> Result<(), NoMemory>
     requires unspent { lab.old.spent ≡ false }
     requires exists { board.0 < length lab.old.lab.boards }
     requires memory { length (board_of lab.old.lab board.0).memory ≡ 0x10000 }
@@ -61,4 +61,3 @@ fn equip(lab: &mut Lab, board: BoardNo, program: &[u8]) -> Result<(), NoMemory>
     };
     Ok(())
 }
-

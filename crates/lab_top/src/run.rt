@@ -5,11 +5,13 @@ ghost use Rattle.lab_io.specs.Known.{Rose};
 ghost use Rattle.lab_state.specs.Run.{run};
 ghost use Rattle.lab_top.specs.Names.{names_of};
 ghost use Rattle.lab_top.specs.Log.{rest};
+ghost use Rattle.lab_top.specs.Builtin.{built_in};
 ghost use Rattle.lab_top.specs.Command.{fault_at};
 ghost use Rattle.lab_top.specs.Transcript.{transcript, run_of, request_of, rest_of, started, whole, Run, Refused, Script, Usage, Done};
 ghost use Rattle.lab_top.specs.Headline.{IsWhole, WritesPart, WritesUsage, AsksPart, IsCounted, HasAll, IsUncut, IsUsageBy, IsNoUsage, OnRefused, final};
 ghost use Rattle.lab_top.specs.Inner.Course.{Told, Course, IsEnd};
 
+use crate::builtin;
 use crate::fault::{Cause, ScriptCause, ScriptFault};
 use crate::session::Session;
 use crate::status::{Status, UsageCause};
@@ -158,16 +160,20 @@ fn run_file<F: Files, K: Sink>(alloc: Global, script: &str, files: &mut F, out: 
 fn run_script<K: Sink>(alloc: Global, script: &str, bytes: Vec<u8>, out: &mut K) -> Status
     requires { length bytes.items ≤ 16777216 }
     ensures course { (held : Held) (log : Option (List (List ℕ))) →
-        Course (rest_of run held (started script.now bytes.items)) result
+        Course (rest_of run held (started built_in script.now bytes.items)) result
         (K.written out.old) (K.written out.new) log log }
     ensures usage { IsNoUsage result }
     ensures never { result ≢ Status.Unread }
     ensures unwritten { result ≡ Status.Unwritten → Rose (K.faults out.old) (K.faults out.new) }
     ensures faults { K.faults out.old ≤ K.faults out.new }
 {
-    let Ok(mut session) = Session::new(alloc, script, bytes) else {
+    let Ok(lab) = builtin::lab(alloc) else {
         return Status::Memory;
     };
+    let Ok(script) = Text::of(alloc, script) else {
+        return Status::Memory;
+    };
+    let mut session = Session::new(alloc, lab, script, bytes);
     take_commands(alloc, &mut session, out)
 }
 
@@ -271,3 +277,6 @@ fn tell<K: Sink>(alloc: Global, fault: ScriptFault, out: &mut K) -> Status
         Err(fault) => Status::from(fault),
     }
 }
+
+#[cfg(test)]
+mod tests;

@@ -27,7 +27,7 @@ pub fn first_line(text: &[u8]) -> Option<(&[u8], usize)>
     ensures lines { MatchOption result
         (script_spec.lines_of text.now ≡ [])
         (λ first. script_spec.lines_of text.now
-            ≡ first.0.now ∷ script_spec.lines_of (drop first.1 text.now)) }
+        ≡ first.0.now ∷ script_spec.lines_of (drop first.1 text.now)) }
     ensures some { IfSome result (λ first. 0 < first.1) }
     ensures within { IfSome result (λ first. first.1 ≤ length text.now) }
 {

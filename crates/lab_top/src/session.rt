@@ -9,7 +9,6 @@ ghost use Rattle.lab_top.specs.Transcript.{started};
 ghost use Rattle.lab_top.specs.Inner.Session.{IsAnswer, IsStep, IsWithin, IsTaken, going, place_in};
 
 use crate::body::{Body, TakenLine};
-use crate::builtin;
 use crate::fault::{Cause, ScriptCause, ScriptFault};
 use crate::log::Lines;
 use crate::names;
@@ -51,19 +50,19 @@ impl Model for Session {
 }
 
 impl Session {
-    /// The built-in laboratory at lab time 0, before the first line of a script.
-    pub fn new(alloc: Global, script: &str, bytes: Vec<u8>) -> Result<Session, NoMemory>
-        requires { length bytes.items ≤ 16777216 }
-        ensures { IfOk result (λ session. session ≡ going (started script.now bytes.items)) }
+    /// A laboratory before the first line of a script.
+    pub fn new(alloc: Global, lab: Lab, script: Text, bytes: Vec<u8>) -> Session
+        requires unspent { lab.spent ≡ false }
+        requires short { length bytes.items ≤ 16777216 }
+        ensures { result ≡ going (started lab.lab script bytes.items) }
     {
-        let file = Text::of(alloc, script)?;
-        Ok(Session {
+        Session {
             alloc,
-            body: Body::new(file, bytes),
+            body: Body::new(script, bytes),
             taken: 0,
-            lab: builtin::lab(alloc)?,
+            lab,
             lines: Lines::new(alloc),
-        })
+        }
     }
 
     /// Does what the next line asks for. After `Memory` nothing is known of the run.
