@@ -3,10 +3,11 @@
 
 mod boards;
 mod faults;
+mod hub_list;
 mod hubs;
 mod lab;
 mod laws;
-mod names;
+mod named_board;
 mod round;
 mod run;
 
@@ -15,5 +16,3 @@ pub use lab::Lab;
 pub use laws::{boundaries_agree, runs_join, turns_agree};
 pub use round::RoundLog;
 
-#[cfg(test)]
-mod tests;

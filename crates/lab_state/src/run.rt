@@ -1,6 +1,6 @@
 //! Runs: rounds of one quantum each, and a shorter one for what is left.
 ghost use Rattle.std.specs.Prelude.{◌≡◌, ◌+◌, ◌<◌, ◌≤◌, ◌↔◌, true, false, IfOk, OnOk, OnErr};
-ghost use Rattle.lab_state.specs.Came.{came_to};
+ghost use Rattle.lab_state.specs.Inner.Came.{came_to};
 ghost use Rattle.lab_state.specs.Round.{round};
 ghost use Rattle.lab_state.specs.Run as run_spec;
 

@@ -3,5 +3,5 @@ pub mod Word
 pub mod Access
 pub mod Csr
 pub mod Effect
-pub mod Group
 pub mod Laws
+pub mod Outcome
