@@ -6,13 +6,13 @@ use Rattle.log_merge.specs.declared.names.Names.{Names}
 use Rattle.log_merge.specs.declared.names.BoardNames.{BoardNames}
 use Rattle.lab_state.specs.Lab.{Lab}
 
--- a board's name, and that of its one device
+-- the name of a board, and that of its one device
 abbrev pub names_of_board : List ℕ → BoardNames
 names_of_board name = record { name = name; devices = codes "uart" ∷ [] }
 
 -- the names of the boards of a laboratory and of their devices
 abbrev pub names_of : Lab → Names
-names_of lab = record { boards = map names_of_board lab.names }
+names_of lab = record { boards = map (λ board. names_of_board board.name) lab.boards }
 
 -- the names of the board of a member
 abbrev pub board_of_member : Names → Member → BoardNames

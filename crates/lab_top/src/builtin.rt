@@ -1,8 +1,10 @@
 //! The built-in laboratory: `m0` sends a byte, `m1` echoes it, and one hub joins their UARTs.
-ghost use Rattle.std.specs.Prelude.{◌≡◌, ◌<◌, ◌≤◌, false, length, IfOk, OnOk};
+ghost use Rattle.std.specs.Prelude.{◌≡◌, false, length, IfOk, IsSome, IsTrue, OnOk};
+ghost use Rattle.std.specs.Option.{ForSome};
 ghost use Rattle.lab_top.specs.Builtin.{built_in};
 ghost use Rattle.lab_top.specs.Inner.Equipped.{equipped};
-ghost use Rattle.lab_state.specs.One.{board_of};
+ghost use Rattle.board.specs.Memory.{memory_base, holds_each};
+ghost use Rattle.lab_state.specs.One.{view_of};
 
 use lab_num::{BoardNo, Member, NoMemory};
 use lab_state::Lab;
@@ -47,9 +49,9 @@ pub fn lab(alloc: Global) -> Result<Lab, NoMemory>
 /// Gives a board its program, shows its UART and joins that to the hub.
 pub fn equip(lab: &mut Lab, board: BoardNo, program: &[u8]) -> Result<(), NoMemory>
     requires unspent { lab.old.spent ≡ false }
-    requires exists { board.0 < length lab.old.lab.boards }
-    requires memory { length (board_of lab.old.lab board.0).memory ≡ 0x10000 }
-    requires program { length program.now ≤ 0x10000 }
+    requires has_plan { IsSome (view_of lab.old.lab board.0) }
+    requires holds { ForSome (view_of lab.old.lab board.0) (λ v.
+        IsTrue (holds_each v.space.memory memory_base (length program.now))) }
     ensures { OnOk result (lab.new
         ≡ record lab.old { lab = equipped lab.old.lab board.0 program.now }) }
 {
