@@ -16,3 +16,5 @@ pub use lab::Lab;
 pub use laws::{boundaries_agree, runs_join, turns_agree};
 pub use round::RoundLog;
 
+#[cfg(test)]
+mod tests;
