@@ -129,18 +129,6 @@ end_cut text outcome fault out out' part = record {
   never = not_unread fault;
 }
 
--- memory ran out before anything of them was written
-pub end_memory :
-    (text : List ℕ) (outcome : Outcome) (out : Option (List ℕ)) → IsEnd text outcome end_by.Memory out out
-end_memory text outcome out = record {
-  bytes = [];
-  unwritten = text ++ last_line outcome;
-  all = refl;
-  grows = sym (grown-nil out);
-  ended = tt;
-  never = λ is. cc;
-}
-
 -- the last text was written whole, and the last line after it, or a part of that
 pub end_after :
     (text : List ℕ) (outcome : Outcome) (status : Status) (out mid out' : Option (List ℕ)) →

@@ -1,5 +1,5 @@
 -- What equipping the boards makes of them.
-use Rattle.std.proofs.Common.{◌≡◌, ℕ, zero, suc, List, [], ◌∷◌, Some, codes, refl}
+use Rattle.std.proofs.Common.{◌≡◌, ℕ, zero, suc, List, [], ◌∷◌, Option, None, Some, IsSome, codes, refl}
 use Rattle.std.specs.Prelude.{slice_get, option_and_then}
 use Rattle.std.specs.Option.{option_map}
 use Rattle.lab_num.specs.declared.kind.Kind.TheVariants.{Uart}
@@ -34,5 +34,14 @@ view-change_at [] b f = refl
 view-change_at (board ∷ boards) zero f = refl
 view-change_at (board ∷ boards) (suc b) f = view-change_at boards b f
 
-pub view-changed : (lab : Lab) (b : ℕ) (f : View → View) → view_of (changed lab b f) b ≡ option_map f (view_of lab b)
+view-changed : (lab : Lab) (b : ℕ) (f : View → View) → view_of (changed lab b f) b ≡ option_map f (view_of lab b)
 view-changed lab b f = view-change_at lab.boards b f
+
+some_still : {A B : Type 0} (o : Option A) (f : A → B) → IsSome o → IsSome (option_map f o)
+some_still (Some x) f is = is
+some_still None f is = is
+
+-- a board that was changed has still something under its name
+pub still_there :
+    (lab : Lab) (b : ℕ) (f : View → View) → IsSome (view_of lab b) → IsSome (view_of (changed lab b f) b)
+still_there lab b f is = rw (view-changed lab b f) (some_still (view_of lab b) f is)

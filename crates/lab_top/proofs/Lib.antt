@@ -5,4 +5,5 @@ pub mod Courses
 pub mod Onward
 pub mod Openings
 pub mod Lines
-mod Equipping
+pub mod Naming
+pub mod Equipping
