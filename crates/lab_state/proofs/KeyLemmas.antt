@@ -37,7 +37,8 @@ apart :
     (a b : Key) → (is_eq (nat_cmp a.board.0 b.board.0) && is_eq (nat_cmp a.number.0 b.number.0)) ≡ false → Apart a b
 apart a b is =
     is_eq-then (nat_cmp a.at.0 b.at.0) (ordering_then (nat_cmp a.board.0 b.board.0) (nat_cmp a.number.0 b.number.0))
-    ∙ and_not (is_eq (nat_cmp a.at.0 b.at.0)) _ (is_eq-then (nat_cmp a.board.0 b.board.0) (nat_cmp a.number.0 b.number.0) ∙ is)
+    ∙ and_not (is_eq (nat_cmp a.at.0 b.at.0)) _
+    (is_eq-then (nat_cmp a.board.0 b.board.0) (nat_cmp a.number.0 b.number.0) ∙ is)
 
 apart_boards : (a b : Key) → a.board.0 < b.board.0 → Apart a b
 apart_boards a b below = apart a b (not_and _ _ (unequal a.board.0 b.board.0 below))
@@ -53,7 +54,8 @@ numbered_from : (b first : ℕ) (keys : List Key) → AreNumbered b first keys �
 numbered_from b first [] is = tt
 numbered_from b first (key ∷ keys) is = (
   (is.0, omega (arith, is.1)),
-  each-weaker (From b (first + 1)) (From b first) (λ k from. (from.0, omega (arith, from.1))) keys (numbered_from b (first + 1) keys is.2),
+  each-weaker (From b (first + 1)) (From b first) (λ k from. (from.0, omega (arith, from.1))) keys
+      (numbered_from b (first + 1) keys is.2),
 )
 
 numbered_distinct :
@@ -61,7 +63,8 @@ numbered_distinct :
 unfolding IsDistinct
 numbered_distinct b first [] is = tt
 numbered_distinct b first (key ∷ keys) is = (
-  each-weaker (From b (first + 1)) (Apart key) (λ k from. apart_numbers key k (omega (arith, is.1, from.1))) keys (numbered_from b (first + 1) keys is.2),
+  each-weaker (From b (first + 1)) (Apart key) (λ k from. apart_numbers key k (omega (arith, is.1, from.1))) keys
+      (numbered_from b (first + 1) keys is.2),
   numbered_distinct b (first + 1) keys is.2,
 )
 
@@ -80,8 +83,10 @@ module _ {A T : Type 0} (key : T → Key) (made : A → List T) where
   keyed_above b (x ∷ xs) are =
       rw map-append
       (each-append (Above b) (map key (made x)) (map key (flat_map made xs))
-      (each-weaker (From b are.0.0) (Above b) (λ k from. omega (arith, from.0)) (map key (made x)) (numbered_from b are.0.0 (map key (made x)) are.0.1))
-      (each-weaker (Above (b + 1)) (Above b) (λ k above. omega (arith, above)) (map key (flat_map made xs)) (keyed_above (b + 1) xs are.1)))
+      (each-weaker (From b are.0.0) (Above b) (λ k from. omega (arith, from.0)) (map key (made x))
+      (numbered_from b are.0.0 (map key (made x)) are.0.1))
+      (each-weaker (Above (b + 1)) (Above b) (λ k above. omega (arith, above)) (map key (flat_map made xs))
+      (keyed_above (b + 1) xs are.1)))
 
   -- so no two of the items have one key
   pub keyed_differ : (b : ℕ) (xs : List A) → AreKeyed b xs → KeysDiffer key (flat_map made xs)
@@ -90,8 +95,10 @@ module _ {A T : Type 0} (key : T → Key) (made : A → List T) where
   keyed_differ b (x ∷ xs) are =
       let later = keyed_above (b + 1) xs are.1 in
       rw map-append
-      (distinct-append (eq_by_cmp key_cmp) (map key (made x)) (map key (flat_map made xs)) (numbered_distinct b are.0.0 (map key (made x)) are.0.1)
+      (distinct-append (eq_by_cmp key_cmp) (map key (made x)) (map key (flat_map made xs))
+      (numbered_distinct b are.0.0 (map key (made x)) are.0.1)
       (keyed_differ (b + 1) xs are.1)
       (each-weaker (From b are.0.0) (λ k. AllByRecursion (Apart k) (map key (flat_map made xs)))
-      (λ k from. each-weaker (Above (b + 1)) (Apart k) (λ l above. apart_boards k l (omega (arith, from.0, above))) (map key (flat_map made xs)) later)
+      (λ k from. each-weaker (Above (b + 1)) (Apart k) (λ l above. apart_boards k l (omega (arith, from.0, above)))
+      (map key (flat_map made xs)) later)
       (map key (made x)) (numbered_from b are.0.0 (map key (made x)) are.0.1)))

@@ -128,7 +128,8 @@ distinct-insert e flips x (z ∷ zs) ys is apart = (
 -- ---- places
 
 pub stands :
-    {A B : Type 0} (f : A → Option B) (xs : List A) (i : ℕ) → IsSome (option_and_then f (slice_get xs i)) → i < length xs
+    {A B : Type 0} (f : A → Option B) (xs : List A) (i : ℕ) → IsSome (option_and_then f (slice_get xs i)) →
+    i < length xs
 stands f [] i is = let no : false ≡ true = is in absurd (cc)
 stands f (x ∷ xs) zero is = omega arith
 stands f (x ∷ xs) (suc i) is = omega (arith, stands f xs i is)
@@ -153,7 +154,9 @@ pub none_named :
     All (λ y. bytes_eq name y ≡ false) (map f xs)
 none_named f xs name none =
     All-map (λ y. bytes_eq name y ≡ false) f xs
-    (λ k d below. nat_list_eq_equiv.symm name (f (get_or xs k d)) ∙ fails_before_first (λ x. bytes_eq (f x) name) xs k d (omega (arith, past (position_or_len (λ x. bytes_eq (f x) name) xs) (length xs) none)))
+    (λ k d below. nat_list_eq_equiv.symm name (f (get_or xs k d)) ∙ fails_before_first
+    (λ x. bytes_eq (f x) name) xs k d
+    (omega (arith, past (position_or_len (λ x. bytes_eq (f x) name) xs) (length xs) none)))
 
 -- names that differ are found where they stand
 first_at :

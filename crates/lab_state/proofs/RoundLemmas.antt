@@ -47,7 +47,8 @@ outlines-routes :
     (hubs : List (List Member)) (boards : List Board) (posts : List Post) →
     outlines (fold (to_route hubs) boards posts) ≡ outlines boards
 outlines-routes hubs boards posts =
-    fold-kept outlines (to_route hubs) (λ boards post. outlines-members post.payload boards (route hubs post.from)) boards posts
+    fold-kept outlines (to_route hubs)
+    (λ boards post. outlines-members post.payload boards (route hubs post.from)) boards posts
 
 -- the members that a device's posts go to are devices of boards
 found :
@@ -58,10 +59,12 @@ found n true hub rest all others = all
 found n false hub rest all others = others
 
 hub_devices :
-    (n : ℕ) (hubs : List Hub) (m : Member) → AreDevices n hubs → AllByRecursion (IsDevice n) (hub_of (members_of hubs) m)
+    (n : ℕ) (hubs : List Hub) (m : Member) → AreDevices n hubs → AllByRecursion (IsDevice n)
+    (hub_of (members_of hubs) m)
 hub_devices n [] m all = tt
 hub_devices n (hub ∷ hubs) m all =
-    found n (has_member hub.members m) hub.members (find (λ h. has_member h m) (members_of hubs)) all.0 (hub_devices n hubs m all.1)
+    found n (has_member hub.members m) hub.members (find (λ h. has_member h m) (members_of hubs)) all.0
+    (hub_devices n hubs m all.1)
 
 pub route_devices :
     (n : ℕ) (hubs : List Hub) (m : Member) → AreDevices n hubs → All (IsDevice n) (route (members_of hubs) m)
@@ -88,7 +91,8 @@ module _ (law : Numbering) (from q : ℕ) (within : from + q ≤ 10000000000) wh
       IsNumbered v.numbers (paid from (from + q) v.numbers.speed) (granted from (from + q) v)
   numbered b v is =
       let count = few v.numbers.speed is.most_speed in
-      law v from 0 (paid from (from + q) v.numbers.speed) (omega (arith, count, is.few_posts)) (omega (arith, count, is.few_entries))
+      law v from 0 (paid from (from + q) v.numbers.speed) (omega (arith, count, is.few_posts))
+      (omega (arith, count, is.few_entries))
 
   standing_run :
       (b : ℕ) (v : View) → IsStanding (1000 * from) b v.numbers →
@@ -106,10 +110,12 @@ module _ (law : Numbering) (from q : ℕ) (within : from + q ≤ 10000000000) wh
 
   standing_one :
       (b : ℕ) (o : Option View) → ForSome (option_map (λ v. v.numbers) o) (IsStanding (1000 * from) b) →
-      ForSome (option_map (λ v. v.numbers) (option_map (λ v. (granted from (from + q) v).view) o)) (IsStanding (1000 * (from + q)) b)
+      ForSome (option_map (λ v. v.numbers) (option_map (λ v. (granted from (from + q) v).view) o))
+      (IsStanding (1000 * (from + q)) b)
   standing_one b None is = λ n at. absurd (cc)
   standing_one b (Some v) is =
-      λ n at. subst (IsStanding (1000 * (from + q)) b) (ap (λ o. unwrap_or o n) at) (standing_run b v (is v.numbers refl))
+      λ n at. subst (IsStanding (1000 * (from + q)) b) (ap (λ o. unwrap_or o n) at)
+      (standing_run b v (is v.numbers refl))
 
   standing_stepped :
       (b : ℕ) (boards : List Board) → AreStanding (1000 * from) b (outlines boards) →
@@ -119,7 +125,8 @@ module _ (law : Numbering) (from q : ℕ) (within : from + q ≤ 10000000000) wh
       (standing_one b board.view are.0, standing_stepped (b + 1) boards are.1)
 
   module _ {T : Type 0} (key : T → Key) (made : State → List T)
-      (keys : (b : ℕ) (v : View) → IsStanding (1000 * from) b v.numbers → (first : ℕ) × AreNumbered b first (map key (made (granted from (from + q) v)))) where
+      (keys : (b : ℕ) (v : View) → IsStanding (1000 * from) b v.numbers → (first : ℕ) × AreNumbered b first
+      (map key (made (granted from (from + q) v)))) where
     keyed_one :
         (b : ℕ) (o : Option View) → ForSome (option_map (λ v. v.numbers) o) (IsStanding (1000 * from) b) →
         (first : ℕ) × AreNumbered b first (map key (option_map_or (λ v. made (granted from (from + q) v)) o []))
@@ -137,14 +144,16 @@ module _ (law : Numbering) (from q : ℕ) (within : from + q ≤ 10000000000) wh
       KeysDiffer post_key (flat_map (posts_made (granted from (from + q))) boards)
   posts_differ boards are =
       keyed_differ post_key (posts_made (granted from (from + q))) 0 boards
-      (keyed post_key (λ run. run.posts) (λ b v is. (v.numbers.posted, rw (← is.number) (numbered b v is).post_keys)) 0 boards are)
+      (keyed post_key (λ run. run.posts)
+      (λ b v is. (v.numbers.posted, rw (← is.number) (numbered b v is).post_keys)) 0 boards are)
 
   pub entries_differ :
       (boards : List Board) → AreStanding (1000 * from) 0 (outlines boards) →
       KeysDiffer entry_key (flat_map (entries_made (granted from (from + q))) boards)
   entries_differ boards are =
       keyed_differ entry_key (entries_made (granted from (from + q))) 0 boards
-      (keyed entry_key (λ run. run.entries) (λ b v is. (v.numbers.entered, rw (← is.number) (numbered b v is).entry_keys)) 0 boards are)
+      (keyed entry_key (λ run. run.entries)
+      (λ b v is. (v.numbers.entered, rw (← is.number) (numbered b v is).entry_keys)) 0 boards are)
 
 -- ---- the round
 
@@ -167,7 +176,12 @@ sound-stepped law boards hubs now quantum q within sound =
       standing = standing_stepped law now q within 0 boards sound.standing;
       devices = rw long sound.devices;
       names = rw (names-stepped grant boards) sound.names;
-      times = record { time = within; least_quantum = sound.times.least_quantum; most_quantum = sound.times.most_quantum };
+      times = record {
+        time = within;
+        least_quantum = sound.times.least_quantum;
+        most_quantum =
+            sound.times.most_quantum;
+      };
     }
 
 -- a laboratory after a round
@@ -192,8 +206,13 @@ pub seen_round :
     (s : Seen) (boards : List Board) (hubs : List Hub) (now quantum : ℕ) (spent : Bool) (q : ℕ) {after : List Board} →
     record { lab = record { boards = boards; hubs = hubs; now = now; quantum = quantum }; spent = spent } ≡ s →
     spent ≡ false →
-    after ≡ (met (granted now (now + q)) (record { boards = boards; hubs = hubs; now = now; quantum = quantum })).boards →
-    ◌≡◌ {A = Seen} (record { lab = record { boards = after; hubs = hubs; now = now + q; quantum = quantum }; spent = spent })
+    after ≡ (met (granted now (now + q))
+    (record { boards = boards; hubs = hubs; now = now; quantum = quantum })).boards →
+    ◌≡◌ {A = Seen} (record {
+      lab = record { boards = after; hubs = hubs; now = now + q; quantum = quantum };
+      spent =
+          spent;
+    })
     (record { lab = (round s.lab q).lab; spent = false })
 unfolding round_by
 seen_round s boards hubs now quantum spent q is unspent made = rw (← is, unspent, made) refl

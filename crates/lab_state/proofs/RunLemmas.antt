@@ -49,7 +49,8 @@ on_followed :
     ≡ followed_by a (if paused then b else followed_by b more)
 on_followed true a b more = refl
 on_followed false a b more =
-    ap (λ items. record { lab = more.lab; items = items; paused = more.paused }) (append_assoc a.items b.items more.items)
+    ap (λ items. record { lab = more.lab; items = items; paused = more.paused })
+    (append_assoc a.items b.items more.items)
 
 fold-followed :
     (a b : Rounded) (qs : List ℕ) →
@@ -66,7 +67,8 @@ run_quantum : (lab : Lab) (d : ℕ) → (run lab d).lab.quantum ≡ lab.quantum
 unfolding run_by
 run_quantum lab d =
     fold-kept (λ (run : Rounded). run.lab.quantum) (go_on round)
-    (λ run q. on_quantum (is_some run.paused) run (round run.lab q) (round_quantum run.lab q)) (still lab) (lengths lab.quantum d)
+    (λ run q. on_quantum (is_some run.paused) run (round run.lab q) (round_quantum run.lab q)) (still lab)
+    (lengths lab.quantum d)
 
 lengths-join :
     (q d e : ℕ) → 0 < q → d % q ≡ 0 → lengths q (d + e) ≡ lengths q d ++ lengths q e
@@ -86,7 +88,8 @@ runs-join lab d e some whole unpaused =
     ∙ fold-append (go_on round) (still lab) (lengths lab.quantum d) (lengths lab.quantum e)
     ∙ ap (λ run. fold (go_on round) run (lengths lab.quantum e)) (followed-still (run lab d) unpaused)
     ∙ fold-followed (run lab d) (still (run lab d).lab) (lengths lab.quantum e)
-    ∙ ap (λ q. followed_by (run lab d) (fold (go_on round) (still (run lab d).lab) (lengths q e))) (sym (run_quantum lab d))
+    ∙ ap (λ q. followed_by (run lab d) (fold (go_on round) (still (run lab d).lab) (lengths q e)))
+    (sym (run_quantum lab d))
 
 -- ---- the order of the posts
 
@@ -100,7 +103,8 @@ unfolding boundary
 boundaries-agree is only hubs boards posts others differ same =
     let listed = is post_key posts differ in
     let also : IsListing post_key others (listing post_key posts) = record {
-      members = IsPermutation-trans others posts (listing post_key posts) (IsPermutation-sym posts others same) listed.members;
+      members = IsPermutation-trans others posts (listing post_key posts)
+          (IsPermutation-sym posts others same) listed.members;
       rising = listed.rising;
     } in
     rw (only post_key others (listing post_key posts) also) refl

@@ -51,11 +51,13 @@ new_name lab name free =
     let none = neither _ _ free in
     let no_board = ap is_some (position-map outline (λ o. bytes_eq o.name name) lab.boards) ∙ none.0 in
     recursion_from_All (λ y. bytes_eq name y ≡ false) _
-    (All-append (λ y. bytes_eq name y ≡ false) _ _ (none_named (λ (o : Outline). o.name) (outlines lab.boards) name no_board)
+    (All-append (λ y. bytes_eq name y ≡ false) _ _
+    (none_named (λ (o : Outline). o.name) (outlines lab.boards) name no_board)
     (none_named (λ (hub : Hub). hub.name) lab.hubs name none.1))
 
 -- and a board and a hub are found by their names
-board_outline : (o : Option Board) → option_map (λ board. board.name) o ≡ option_map (λ o. o.name) (option_map outline o)
+board_outline : (o : Option Board) → option_map (λ board. board.name) o ≡ option_map (λ o. o.name)
+(option_map outline o)
 board_outline None = refl
 board_outline (Some board) = refl
 
@@ -63,7 +65,8 @@ pub board-found :
     (lab : Lab) (b : ℕ) (name : List ℕ) → IsSoundLab lab →
     Some name ≡ option_map (λ board. board.name) (slice_get lab.boards b) → board_named lab name ≡ Some b
 board-found lab b name sound is =
-    let at = is ∙ board_outline (slice_get lab.boards b) ∙ ap (option_map (λ (o : Outline). o.name)) (sym (slice_get-map outline lab.boards b)) in
+    let at = is ∙ board_outline (slice_get lab.boards b) ∙ ap (option_map (λ (o : Outline). o.name))
+    (sym (slice_get-map outline lab.boards b)) in
     sym (position-map outline (λ o. bytes_eq o.name name) lab.boards)
     ∙ named_at (λ (o : Outline). o.name) (outlines lab.boards) (map (λ hub. hub.name) lab.hubs) b name sound.names at
 
@@ -101,8 +104,10 @@ standing-push most first (x ∷ os) o all is =
 -- devices of some boards are devices of more
 more_devices : (m n : ℕ) → m ≤ n → (hubs : List Hub) → AreDevices m hubs → AreDevices n hubs
 more_devices m n le hubs all =
-    each-weaker (λ (hub : Hub). AllByRecursion (IsDevice m) hub.members) (λ hub. AllByRecursion (IsDevice n) hub.members)
-    (λ hub are. each-weaker (IsDevice m) (IsDevice n) (λ d is. record { board = omega (arith, is.board); dev = is.dev }) hub.members are)
+    each-weaker (λ (hub : Hub). AllByRecursion (IsDevice m) hub.members)
+    (λ hub. AllByRecursion (IsDevice n) hub.members)
+    (λ hub are. each-weaker (IsDevice m) (IsDevice n)
+    (λ d is. record { board = omega (arith, is.board); dev = is.dev }) hub.members are)
     hubs all
 
 sound-push :
@@ -115,7 +120,9 @@ sound-push os hubs now quantum o sound room is apart =
       few_boards = omega (arith, long);
       standing = standing-push (1000 * now) 0 os o sound.standing (rw (← zero-add (length os)) at is);
       devices = rw long (more_devices (length os) (length os + 1) (omega arith) hubs sound.devices);
-      names = rw (map-append, append_assoc) (distinct-insert bytes_eq nat_list_eq_equiv.symm o.name (map (λ o. o.name) os) (map (λ hub. hub.name) hubs) sound.names apart);
+      names = rw (map-append, append_assoc)
+      (distinct-insert bytes_eq nat_list_eq_equiv.symm o.name (map (λ o. o.name) os)
+      (map (λ hub. hub.name) hubs) sound.names apart);
       times = sound.times;
     }
 
@@ -123,11 +130,13 @@ early_standing :
     (most b : ℕ) → ForSome (Some (early_numbers b)) (IsStanding most b)
 early_standing most b =
     λ n at. subst (IsStanding most b) (ap (λ o. unwrap_or o n) at)
-    (record { number = refl; least_speed = omega arith; most_speed = omega arith; few_posts = omega arith; few_entries = omega arith })
+    (record { number = refl; least_speed = omega arith; most_speed = omega arith; few_posts = omega arith;
+    few_entries = omega arith })
 
 -- a laboratory with an early board more
 pub sound-board :
-    (lab : Lab) {name : List ℕ} {board : Board} {v : View} → IsSound (outlines lab.boards) lab.hubs lab.now lab.quantum →
+    (lab : Lab) {name : List ℕ} {board : Board} {v : View} → IsSound
+    (outlines lab.boards) lab.hubs lab.now lab.quantum →
     length lab.boards < 16 → is_taken lab name ≡ false → board ≡ record { name = name; view = Some v } →
     v.numbers ≡ early_numbers (length lab.boards) →
     IsSound (outlines (lab.boards ++ board ∷ [])) lab.hubs lab.now lab.quantum
@@ -148,10 +157,12 @@ pub sound-hub :
 sound-hub lab hub sound none free = record {
   few_boards = sound.few_boards;
   standing = sound.standing;
-  devices = each-append (λ hub. AllByRecursion (IsDevice (length (outlines lab.boards))) hub.members) lab.hubs (hub ∷ []) sound.devices (rw none tt, tt);
+  devices = each-append (λ hub. AllByRecursion (IsDevice (length (outlines lab.boards))) hub.members) lab.hubs
+  (hub ∷ []) sound.devices (rw none tt, tt);
   names =
       rw (map-append, ← append_assoc)
-      (distinct-insert bytes_eq nat_list_eq_equiv.symm hub.name (names_of (outlines lab.boards) lab.hubs) [] (rw append-nil sound.names) (rw append-nil (new_name lab hub.name free)));
+      (distinct-insert bytes_eq nat_list_eq_equiv.symm hub.name (names_of (outlines lab.boards) lab.hubs) []
+      (rw append-nil sound.names) (rw append-nil (new_name lab hub.name free)));
   times = sound.times;
 }
 
@@ -164,7 +175,8 @@ sound-member os hubs now quantum n m sound exists device = record {
   standing = sound.standing;
   devices =
       each-change (λ hub. AllByRecursion (IsDevice (length os)) hub.members) (with_member m)
-      (λ hub are. each-append (IsDevice (length os)) hub.members (m ∷ []) are (record { board = exists; dev = device }, tt)) hubs n sound.devices;
+      (λ hub are. each-append (IsDevice (length os)) hub.members (m ∷ []) are
+      (record { board = exists; dev = device }, tt)) hubs n sound.devices;
   names = rw (map-change (λ (hub : Hub). hub.name) (with_member m) (λ hub. refl) hubs n) sound.names;
   times = sound.times;
 }

@@ -23,7 +23,9 @@ const MOST_BOARDS: usize = 16;
 fn number_of(boards: &[NamedBoard], name: &str) -> Option<usize>
     ensures { result ≡ position (λ board. bytes_eq board.name name.now) boards.now }
 {
-    boards.iter().position(|board| board.name().as_str() == name)
+    boards
+        .iter()
+        .position(|board| board.name().as_str() == name)
 }
 
 fn push(boards: &mut Vec<NamedBoard>, board: NamedBoard) -> Result<(), NoMemory>

@@ -63,11 +63,7 @@ fn hand_over(boards: &mut [NamedBoard], to: &[Member], payload: &Payload)
 }
 
 /// Hands each post to the other members of its device's hub.
-fn hand_over_all(
-    boards: &mut [NamedBoard],
-    hubs: &HubList,
-    posts: &[Post],
-) -> Result<(), NoMemory>
+fn hand_over_all(boards: &mut [NamedBoard], hubs: &HubList, posts: &[Post]) -> Result<(), NoMemory>
     requires { AreDevices (length boards.old) hubs.now }
     ensures { OnOk result (boards.new
         ≡ fold (to_route (members_of hubs.now)) boards.old posts.now) }

@@ -78,8 +78,10 @@ fn equip(rt: &impl Abort, lab: &mut Lab, b: BoardNo, program: &[u8]) -> Result<(
     assert!(rt; program.len() < 0x1_0000);
     assert!(rt; lab.board(b).holds(START, program.len() as u32));
     lab.copy_in(b, START, program)?;
+    assert!(rt; b.0 < lab.boards());
     assert!(rt; lab.has_plan(b));
     lab.show(uart(b));
+    assert!(rt; b.0 < lab.boards());
     assert!(rt; lab.has_plan(b));
     lab.connect(uart(b), "hub")?;
     Ok(())
@@ -172,13 +174,17 @@ fn a_laboratory_is_read(rt: HostRuntime) -> Result<(), Fail> {
     assert_eq!(rt; (lab.boards(), lab.hubs()), (2, 1));
     assert_eq!(rt; lab.board_name(BoardNo(1)).as_str(), "m1");
     assert_eq!(rt; lab.find_board("m1"), Some(BoardNo(1)));
-    assert_eq!(rt; (lab.hub_name(0).as_str(), lab.hub_kind(0)), ("hub", Kind::Uart));
+    assert_eq!(rt;
+        (lab.hub_name(0).as_str(), lab.hub_kind(0)),
+        ("hub", Kind::Uart)
+    );
     assert_eq!(rt;
         lab.hub_members(0),
         [uart(BoardNo(0)), uart(BoardNo(1))].as_slice()
     );
     assert!(rt; lab.has_plan(BoardNo(1)));
     lab.set_pc(BoardNo(1), START + 4);
+    assert_eq!(rt; lab.boards(), 2);
     assert!(rt; lab.has_plan(BoardNo(1)));
     assert_eq!(rt; lab.board(BoardNo(1)).pc(), START + 4);
     Ok(())

@@ -53,7 +53,8 @@ pub record AreTimes (now quantum : ℕ) : Type 0 where
   pub least_quantum : 1 ≤ quantum
   pub most_quantum : quantum ≤ 1000000
 
--- at most 16 boards under numbers of their own, of which no two have made two things under one number; hubs that connect
+-- at most 16 boards under numbers of their own, of which no two have made two things under one number; hubs that
+-- connect
 -- devices of these boards; names that differ
 pub record IsSound (boards : List Outline) (hubs : List Hub) (now quantum : ℕ) : Type 0 where
   pub few_boards : length boards ≤ 16

@@ -14,6 +14,8 @@ loop-member-preserved c =
     let d : Member = record { board = record { 0 = 0 }; dev = 0 } in
     let b = (get_or c.args.to.now c.loop-member.member-index d).board.0 in
     let step = with_view (λ v. handed v c.args.payload.now) in
-    set-change step c.loop-member.boards b c.index-boards-member.is (c.deliver.ensures ∙ ap step (sym c.index-boards-member.is))
+    set-change step c.loop-member.boards b c.index-boards-member.is
+    (c.deliver.ensures ∙ ap step (sym c.index-boards-member.is))
     ∙ ap (λ boards. change_at boards b step) c.loop-member.invariant
-    ∙ sym (fold_more (to_member c.args.payload.now) c.args.boards.now c.args.to.now c.loop-member.member-index d c.loop-member-test.true)
+    ∙ sym (fold_more (to_member c.args.payload.now) c.args.boards.now c.args.to.now c.loop-member.member-index d
+    c.loop-member-test.true)

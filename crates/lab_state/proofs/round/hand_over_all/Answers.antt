@@ -6,4 +6,5 @@ use Rattle.lab_state.proofs.round.hand_over_all.Goals as goal
 pub hand_over-requires : goal.hand_over-requires
 hand_over-requires c =
     let long : length c.loop-post.boards ≡ length c.args.boards.now = omega arith in
-    rw (c.deref.ensures.value ∙ c.in_ok-to.ensures, long) (route_devices (length c.args.boards.now) c.args.hubs.now _ c.requires)
+    rw (c.deref.ensures.value ∙ c.in_ok-to.ensures, long)
+    (route_devices (length c.args.boards.now) c.args.hubs.now _ c.requires)

@@ -9,12 +9,14 @@ use Rattle.lab_state.proofs.round.play.Goals as goal
 pub merge_posts-requires : goal.merge_posts-requires
 merge_posts-requires c =
     rw (c.in_ok-step_all.ensures.posts, c.new.ensures.items)
-    (posts_differ c.stretches_number.ensures c.args.from.0 c.args.q c.requires.within c.args.boards.now c.requires.standing)
+    (posts_differ c.stretches_number.ensures c.args.from.0 c.args.q c.requires.within c.args.boards.now
+    c.requires.standing)
 
 pub merge_entries-requires : goal.merge_entries-requires
 merge_entries-requires c =
     rw (c.in_ok-step_all.ensures.entries, c.new-2.ensures.items)
-    (entries_differ c.stretches_number.ensures c.args.from.0 c.args.q c.requires.within c.args.boards.now c.requires.standing)
+    (entries_differ c.stretches_number.ensures c.args.from.0 c.args.q c.requires.within c.args.boards.now
+    c.requires.standing)
 
 pub returns-clause-boards : goal.returns-clause-boards
 returns-clause-boards c =
@@ -22,4 +24,5 @@ returns-clause-boards c =
     always_ok c.items_of.result
     (c.in_ok-hand_over_all.ensures
     ∙ boundary_is c.args.hubs.now c.in_ok-step_all.ensures.boards c.deref.ensures.value c.in_ok-posts.ensures.value
-    (c.in_ok-step_all.ensures.posts ∙ ap (λ before. before ++ flat_map (posts_made grant) c.args.boards.now) c.new.ensures.items))
+    (c.in_ok-step_all.ensures.posts ∙ ap
+    (λ before. before ++ flat_map (posts_made grant) c.args.boards.now) c.new.ensures.items))

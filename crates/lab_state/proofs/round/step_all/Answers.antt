@@ -19,11 +19,15 @@ loop-board-preserved c =
     record {
       boards =
           ap (set c.loop-board.boards i) (c.in_ok-step.ensures.board ∙ ap (stepped grant) (sym c.board-item.is))
-          ∙ map_over_more (stepped grant) old c.loop-board.boards i item below c.loop-board.invariant.boards c.board-item.is;
+          ∙ map_over_more (stepped grant) old c.loop-board.boards i item below c.loop-board.invariant.boards
+          c.board-item.is;
       posts =
           flat_map_more (posts_made grant) c.args.made.now.posts.items old i item below c.loop-board.invariant.posts
-          (c.in_ok-step.ensures.posts ∙ ap (λ (board : Board). c.loop-board.made.posts.items ++ posts_made grant board) same);
+          (c.in_ok-step.ensures.posts ∙ ap
+          (λ (board : Board). c.loop-board.made.posts.items ++ posts_made grant board) same);
       entries =
-          flat_map_more (entries_made grant) (all_entries c.args.made.now.entries.items) old i item below c.loop-board.invariant.entries
-          (c.in_ok-step.ensures.entries ∙ ap (λ (board : Board). all_entries c.loop-board.made.entries.items ++ entries_made grant board) same);
+          flat_map_more (entries_made grant)
+          (all_entries c.args.made.now.entries.items) old i item below c.loop-board.invariant.entries
+          (c.in_ok-step.ensures.entries ∙ ap
+          (λ (board : Board). all_entries c.loop-board.made.entries.items ++ entries_made grant board) same);
     }

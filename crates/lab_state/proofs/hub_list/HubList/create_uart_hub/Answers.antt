@@ -11,8 +11,11 @@ pub invariant_of-self-2 : goal.invariant_of-self-2
 invariant_of-self-2 c =
     let long = (parts c.self.view_is c.self.invariant.0).long in
     let more = length_push c.self.inside.uarts [] in
-    rw (c.in_ok-create_both.ensures.name, c.in_ok-create_both.ensures.hub)
-    (omega (arith, length_push c.self.inside.names.items, more, c.self.invariant.0), omega (arith, more, long, c.self.invariant.0))
+    rw (c.in_ok-create_both.ensures.name, c.in_ok-create_both.ensures.hub) (
+      omega (arith, length_push c.self.inside.names.items, more, c.self.invariant.0),
+      omega
+          (arith, more, long, c.self.invariant.0),
+    )
 
 pub returns-clause-ok : goal.returns-clause-ok
 returns-clause-ok c =

@@ -12,21 +12,40 @@ invariant_of-self-2 c h =
     let within : c.self.inside.time.0 + c.args.q ≤ 10000000000 =
     omega (arith, now, c.requires.within (sym (ap (λ s. s.spent) c.self.view_is) ∙ unspent)) in
     let made = rw c.deref_mut.ensures.value at c.in-Ok.ensures.boards in
-    rw (given_back c.play.new.boards c.self.inside.boards.items c.self.inside.boards.len (omega (arith, c.deref_mut.ensures.len)), made)
-    (sound-round c.stretches_number.ensures (record { boards = c.self.inside.boards.items; hubs = c.self.inside.hubs; now = c.self.inside.time.0; quantum = c.self.inside.quantum })
+    rw (
+      given_back c.play.new.boards c.self.inside.boards.items c.self.inside.boards.len
+          (omega (arith, c.deref_mut.ensures.len)),
+      made,
+    )
+    (sound-round c.stretches_number.ensures
+    (record {
+      boards = c.self.inside.boards.items;
+      hubs = c.self.inside.hubs;
+      now = c.self.inside.time.0;
+      quantum =
+          c.self.inside.quantum;
+    })
     c.args.q within (c.self.invariant unspent))
 
 pub returns-clause-lab : goal.returns-clause-lab
 returns-clause-lab c =
     let made = rw c.deref_mut.ensures.value at c.in-Ok.ensures.boards in
-    seen_round c.args.self.now c.self.inside.boards.items c.self.inside.hubs c.self.inside.time.0 c.self.inside.quantum c.self.inside.spent c.args.q
+    seen_round c.args.self.now c.self.inside.boards.items c.self.inside.hubs c.self.inside.time.0
+    c.self.inside.quantum c.self.inside.spent c.args.q
     c.self.view_is c.if-self.false
-    (given_back c.play.new.boards c.self.inside.boards.items c.self.inside.boards.len (omega (arith, c.deref_mut.ensures.len)) ∙ made)
+    (given_back c.play.new.boards c.self.inside.boards.items c.self.inside.boards.len
+    (omega (arith, c.deref_mut.ensures.len)) ∙ made)
 
 pub returns-clause-lines : goal.returns-clause-lines
 returns-clause-lines c =
     c.of.ensures ∙ (rw c.deref_mut.ensures.value at c.in-Ok.ensures.items)
-    ∙ sym (round_items (record { boards = c.self.inside.boards.items; hubs = c.self.inside.hubs; now = c.self.inside.time.0; quantum = c.self.inside.quantum }) c.args.q)
+    ∙ sym (round_items (record {
+      boards = c.self.inside.boards.items;
+      hubs = c.self.inside.hubs;
+      now =
+          c.self.inside.time.0;
+      quantum = c.self.inside.quantum;
+    }) c.args.q)
     ∙ ap (λ s. (round s.lab c.args.q).items) c.self.view_is
 
 pub returns-clause-paused : goal.returns-clause-paused

@@ -8,10 +8,16 @@ use Rattle.lab_state.proofs.lab.Lab.set_pc.Goals as goal
 
 pub invariant_of-self : goal.invariant_of-self
 invariant_of-self c h =
-    rw (map-set_same outline c.self.inside.boards.items c.args.b.0 c.index_mut-board.ensures.value c.set_pc.ensures.outline)
+    rw (map-set_same outline c.self.inside.boards.items c.args.b.0 c.index_mut-board.ensures.value
+    c.set_pc.ensures.outline)
     (c.self.invariant h)
 
 pub returns : goal.returns
 returns c =
-    rw (← c.self.view_is, set-change (with_view (λ v. with_pc v c.args.pc)) c.self.inside.boards.items c.args.b.0 c.index_mut-board.ensures.value c.set_pc.ensures.pc)
+    rw (
+      ← c.self.view_is,
+      set-change
+          (with_view (λ v. with_pc v c.args.pc)) c.self.inside.boards.items c.args.b.0 c.index_mut-board.ensures.value
+          c.set_pc.ensures.pc,
+    )
     refl

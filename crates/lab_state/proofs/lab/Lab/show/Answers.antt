@@ -8,10 +8,16 @@ use Rattle.lab_state.proofs.lab.Lab.show.Goals as goal
 
 pub invariant_of-self : goal.invariant_of-self
 invariant_of-self c h =
-    rw (map-set_same outline c.self.inside.boards.items c.args.member.board.0 c.index_mut-board.ensures.value c.show.ensures.outline)
+    rw (map-set_same outline c.self.inside.boards.items c.args.member.board.0 c.index_mut-board.ensures.value
+    c.show.ensures.outline)
     (c.self.invariant h)
 
 pub returns : goal.returns
 returns c =
-    rw (← c.self.view_is, set-change (with_view (with_shown)) c.self.inside.boards.items c.args.member.board.0 c.index_mut-board.ensures.value c.show.ensures.shown)
+    rw (
+      ← c.self.view_is,
+      set-change
+          (with_view (with_shown)) c.self.inside.boards.items c.args.member.board.0 c.index_mut-board.ensures.value
+          c.show.ensures.shown,
+    )
     refl
