@@ -1,4 +1,4 @@
--- How a run goes on: the course of what is left, behind what was read and written before, is the course of the whole.
+-- How a run goes on: the course of what is left, after what was read and written before, is the course of the whole.
 use Rattle.std.proofs.Common.{◌≡◌, ℕ, ◌+◌, List, [], ◌∷◌, ◌++◌, length, map, take, drop, Option, None, refl, sym, ap, append_assoc, length-append}
 use Rattle.std.proofs.lemmas.List.{take-append-drop, map-append}
 use Rattle.lab_io.specs.Known.{grown}
@@ -26,7 +26,7 @@ names_read-after :
     names_read (map read_now names ++ map (read_later n) reads) ≡ names ++ names_read reads
 names_read-after names n reads = rw (map-append, names_read-now, names_read-later) refl
 
--- the last read is still the last behind others, and comes later
+-- the last read is still the last after others, and comes later
 last_after :
     (front : List Read) (n k : ℕ) (reads : List Read) → IsLastAt reads k →
     IsLastAt (front ++ map (read_later n) reads) (n + k)
@@ -162,7 +162,8 @@ course_cut text rest fault out out' log part = record {
 
 -- a text was written whole, and then the rest went by its course
 pub course_says :
-    (text : List ℕ) {all : Transcript} (rest : Transcript) {status : Status} {out : Option (List ℕ)} (mid : Option (List ℕ))
+    (text : List ℕ) {all : Transcript} (rest : Transcript) {status : Status} {out : Option (List ℕ)}
+    (mid : Option (List ℕ))
     {out' : Option (List ℕ)} {log : Option (List (List ℕ))} →
     all ≡ after [] text rest → mid ≡ grown out text → Course rest status mid out' log log →
     Course all status out out' log log

@@ -7,7 +7,8 @@ use Rattle.lab_top.specs.Inner.Session.{IsWithin, TakesLine}
 -- the line that begins at a place of a file has been taken
 pub takes_line :
     (file bytes slice line : List ℕ) (number at size : ℕ) (taken : TakenLine) →
-    slice ≡ drop at bytes → drop size slice ≡ drop (at + size) bytes → lines_of slice ≡ line ∷ lines_of (drop size slice) →
+    slice ≡ drop at bytes → drop size slice ≡ drop (at + size) bytes →
+    lines_of slice ≡ line ∷ lines_of (drop size slice) →
     taken.number ≡ number → taken.command ≡ command_of line → IsWithin taken.command →
     TakesLine (record { file = file; number = number; lines = lines_of (drop at bytes) }) taken
     (record { file = file; number = number + 1; lines = lines_of (drop (at + size) bytes) })

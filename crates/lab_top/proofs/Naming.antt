@@ -18,7 +18,8 @@ names_next :
     ≡ map (λ board. names_of_board board.name) (take n boards) ++ names_of_board name ∷ []
 names_next [] n name is = absurd (none_some name is)
 names_next (board ∷ boards) zero name is = rw (same name board.name is) refl
-names_next (board ∷ boards) (suc n) name is = ap (λ rest. names_of_board board.name ∷ rest) (names_next boards n name is)
+names_next (board ∷ boards) (suc n) name is =
+    ap (λ rest. names_of_board board.name ∷ rest) (names_next boards n name is)
 
 -- the names of one board more
 pub names_more :

@@ -16,7 +16,7 @@ use Rattle.lab_top.specs.Command.{Answer, Did, Goes, Faults, Misses, did, answer
 use Rattle.lab_top.specs.Transcript.{Transcript, Done, Script, Absent, after, ended, stopped, from, rest_of}
 use Rattle.lab_top.specs.Inner.Session.{IsAnswer, IsStep, TakesLine, Running}
 
--- how a run goes on behind a command
+-- how a run goes on after a command
 onward : ℕ → Held → State → Did → Transcript
 onward more held s done =
     elim done.answer [
@@ -41,7 +41,8 @@ with_none s line =
       | Some line ↦ stopped [] s (Script (fault_at line.place Commands))
     ]
 
-from_more : (more : ℕ) (held : Held) (s : State) → from (suc more) run held s ≡ with_more more held s (next_line s.bodies)
+from_more : (more : ℕ) (held : Held) (s : State) →
+    from (suc more) run held s ≡ with_more more held s (next_line s.bodies)
 unfolding from with_more onward
 from_more more held s = refl
 
@@ -57,7 +58,8 @@ with_none-end : (s : State) → with_none s None ≡ stopped [] s Done
 unfolding with_none
 with_none-end s = refl
 
-with_none-line : (s : State) (line : NextLine) → with_none s (Some line) ≡ stopped [] s (Script (fault_at line.place Commands))
+with_none-line : (s : State) (line : NextLine) →
+    with_none s (Some line) ≡ stopped [] s (Script (fault_at line.place Commands))
 unfolding with_none
 with_none-line s line = refl
 
@@ -67,7 +69,8 @@ answered answer = record { names = []; answer = answer }
 
 with_more-line :
     (more : ℕ) (held : Held) (s : State) (line : NextLine) →
-    with_more more held s (Some line) ≡ onward more held s (answered (answer_to run (past s line) line.place (command_of line.text)))
+    with_more more held s (Some line) ≡ onward more held s
+    (answered (answer_to run (past s line) line.place (command_of line.text)))
 unfolding with_more answered did
 with_more-line more held s line = refl
 
@@ -95,7 +98,8 @@ line_at body line lines = record {
   bodies = record body { number = body.number + 1; lines = lines } ∷ [];
 }
 
-next_is : (body : Body) (line : List ℕ) (lines : List (List ℕ)) → body.lines ≡ line ∷ lines → next_line (body ∷ []) ≡ Some (line_at body line lines)
+next_is : (body : Body) (line : List ℕ) (lines : List (List ℕ)) → body.lines ≡ line ∷ lines →
+    next_line (body ∷ []) ≡ Some (line_at body line lines)
 next_is body line lines is = rw is refl
 
 next_is_none : (body : Body) → body.lines ≡ [] → next_line (body ∷ []) ≡ None
@@ -125,22 +129,26 @@ not_goes fault text s is = cc
 one_fault : (a b : ScriptFault) → Faults a ≡ Faults b → a ≡ b
 one_fault a b is = cc
 
--- a line behind the last command that may be taken is refused
+-- a line after the last command that may be taken is refused
 pub step_refuses :
-    (held : Held) (body left : Body) (line : TakenLine) (taken : ℕ) (lab : Lab) (lines : List Line) (step : Step) (old new : Running) →
+    (held : Held) (body left : Body) (line : TakenLine) (taken : ℕ) (lab : Lab) (lines : List Line) (step : Step)
+    (old new : Running) →
     TakesLine body line left → 100000 ≤ taken →
     IsAnswer (Faults (fault_at (record { file = left.file; number = line.number }) Commands)) step old new →
     IsStep held step (in_body body taken lab lines) (in_body left taken lab lines)
-step_refuses held body left line taken lab lines (Text text) old new takes many answer = absurd (not_goes _ _ _ answer.0)
+step_refuses held body left line taken lab lines (Text text) old new takes many answer =
+    absurd (not_goes _ _ _ answer.0)
 step_refuses held body left line taken lab lines End old new takes many answer = absurd answer
 step_refuses held body left line taken lab lines (Fault fault) old new takes many answer =
     let same : fault_at (record { file = body.file; number = body.number }) Commands ≡ fault =
     one_fault _ _ (rw (takes.rest, takes.number) at answer.0) in
-    rw (← same) (refused_line held (in_body body taken lab lines) (line_at body takes.line takes.lines) (next_is body takes.line takes.lines takes.all) many)
+    rw (← same) (refused_line held (in_body body taken lab lines) (line_at body takes.line takes.lines)
+    (next_is body takes.line takes.lines takes.all) many)
 step_refuses held body left line taken lab lines Memory old new takes many answer = tt
 
 one_more : (held : Held) (s : State) (line : NextLine) → next_line s.bodies ≡ Some line → s.taken < 100000 →
-    rest_of run held s ≡ onward (99999 - s.taken) held s (answered (answer_to run (past s line) line.place (command_of line.text)))
+    rest_of run held s ≡ onward (99999 - s.taken) held s
+    (answered (answer_to run (past s line) line.place (command_of line.text)))
 one_more held s line is few =
     let count : 100000 - s.taken ≡ suc (99999 - s.taken) = omega arith in
     rw (count, from_more (99999 - s.taken) held s, is) (with_more-line (99999 - s.taken) held s line)
@@ -167,7 +175,8 @@ command_faults held s line fault is few answer =
 answered_line :
     (held : Held) (s : State) (line : NextLine) (spent : Bool) (step : Step) (new : Running) →
     next_line s.bodies ≡ Some line → s.taken < 100000 →
-    IsAnswer (answer_to run (past s line) line.place (command_of line.text)) step (record { state = past s line; spent = spent }) new →
+    IsAnswer (answer_to run (past s line) line.place (command_of line.text)) step
+    (record { state = past s line; spent = spent }) new →
     IsStep held step s new.state
 answered_line held s line spent (Text text) new is few answer =
     command_says held s new.state line _ is few answer.1 answer.0
@@ -178,10 +187,12 @@ answered_line held s line spent Memory new is few answer = tt
 
 -- the command of a line has been answered
 pub step_answers :
-    (held : Held) (body left : Body) (line : TakenLine) (taken : ℕ) (lab : Lab) (lines : List Line) (spent : Bool) (step : Step)
+    (held : Held) (body left : Body) (line : TakenLine) (taken : ℕ) (lab : Lab) (lines : List Line) (spent : Bool)
+    (step : Step)
     (new : Running) →
     TakesLine body line left → taken < 100000 →
-    IsAnswer (answer_to run (in_body left (taken + 1) lab lines) (record { file = left.file; number = line.number }) line.command)
+    IsAnswer (answer_to run (in_body left (taken + 1) lab lines) (record { file = left.file; number = line.number })
+    line.command)
     step (record { state = in_body left (taken + 1) lab lines; spent = spent }) new →
     IsStep held step (in_body body taken lab lines) new.state
 step_answers held body left line taken lab lines spent step new takes few answer =

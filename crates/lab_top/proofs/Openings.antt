@@ -40,7 +40,8 @@ pub opening_runs :
     Course (run_of run held script) status out out' log log'
 opening_runs held script bytes status out out' log log' there short asked course =
     rw there
-    (course_after (script ∷ []) [] (begun run held script (Some bytes)) status out out out' log log' log' (sym (grown-nil out)) asked
+    (course_after (script ∷ []) [] (begun run held script (Some bytes)) status out out out' log log' log'
+    (sym (grown-nil out)) asked
     (rw (begun_short held script bytes short) course))
 
 -- a script has too many bytes
@@ -54,8 +55,10 @@ pub opening_large :
 opening_large held script None status out out' log log' there large asked end = absurd large
 opening_large held script (Some bytes) status out out' log log' there large asked end =
     rw there
-    (course_after (script ∷ []) [] (begun run held script (Some bytes)) status out out out' log log' log' (sym (grown-nil out)) asked
-    (rw (begun_long held script bytes large) (course_ended [] (Script (fault_at (whole script) Size)) status out out' log' end)))
+    (course_after (script ∷ []) [] (begun run held script (Some bytes)) status out out out' log log' log'
+    (sym (grown-nil out)) asked
+    (rw (begun_long held script bytes large) (course_ended [] (Script (fault_at (whole script) Size)) status out out'
+    log' end)))
 
 -- a script could not be read
 pub opening_unread :

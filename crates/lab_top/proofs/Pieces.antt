@@ -4,7 +4,8 @@ use Rattle.std.proofs.lemmas.List.{length-take, take-append-le, take_min}
 use Rattle.lab_io.specs.Known.{grown}
 use Rattle.lab_io.specs.Sink.{IsPartWritten}
 
-pub grown-append : {A : Type 0} (told : Option (List A)) (xs ys : List A) → grown (grown told xs) ys ≡ grown told (xs ++ ys)
+pub grown-append : {A : Type 0} (told : Option (List A)) (xs ys : List A) →
+    grown (grown told xs) ys ≡ grown told (xs ++ ys)
 grown-append None xs ys = refl
 grown-append (Some told) xs ys = rw append_assoc refl
 
@@ -13,11 +14,13 @@ grown-nil None = refl
 grown-nil (Some told) = rw append-nil refl
 
 -- a part of a first piece is a part of it and a second
-pub part_of_first : (out out' : Option (List ℕ)) (first second : List ℕ) → IsPartWritten out first out' → IsPartWritten out (first ++ second) out'
+pub part_of_first : (out out' : Option (List ℕ)) (first second : List ℕ) → IsPartWritten out first out' →
+    IsPartWritten out (first ++ second) out'
 part_of_first out out' first second part = record {
   count = length (take part.count first);
   written = part.written ∙ ap (grown out) (sym (front first second part.count));
 }
   where
     front : (xs ys : List ℕ) (n : ℕ) → take (length (take n xs)) (xs ++ ys) ≡ take n xs
-    front xs ys n = take-append-le (length (take n xs)) xs ys (rw length-take (omega arith)) ∙ rw length-take (take_min n xs)
+    front xs ys n = take-append-le (length (take n xs)) xs ys (rw length-take (omega arith)) ∙ rw length-take
+    (take_min n xs)

@@ -14,7 +14,7 @@ use Rattle.lab_num.specs.declared.number.Micros.{Micros}
 use Rattle.lab_top.specs.declared.fault.ScriptCause.{ScriptCause}
 use Rattle.lab_top.specs.declared.fault.ScriptCause.TheVariants.{Unknown}
 use Rattle.lab_top.specs.declared.script.Command.{Command}
-use Rattle.lab_top.specs.Script.{lines_of, is_unquoted, closed, time_in, behind, quoted, argument, run_for, quantum, by_words, command_of}
+use Rattle.lab_top.specs.Script.{lines_of, is_unquoted, closed, time_in, rest_after, quoted, argument, run_for, quantum, by_words, command_of}
 
 -- a test that fails where its opposite passes
 passes : (b : Bool) → not b ≡ true → b ≡ false
@@ -53,7 +53,8 @@ take_while-first p [] (suc n) within before found = absurd (omega arith)
 take_while-first p (x ∷ xs) zero within before found = rw (take_while-cons p x xs, found (omega arith)) refl
 take_while-first p (x ∷ xs) (suc n) within before found =
     let parts = and_parts (p x) (list_all p (take n xs)) before in
-    rw (take_while-cons p x xs, parts.0, take_while-first p xs n (omega arith) parts.1 (λ less. found (omega arith))) refl
+    rw (take_while-cons p x xs, parts.0, take_while-first p xs n (omega arith) parts.1 (λ less. found (omega arith)))
+    refl
 
 -- signs whose first quote is the last of them
 pub closed-at :
@@ -64,7 +65,8 @@ closed-at signs n all before found =
     let within : n < length signs = omega arith in
     let front = take_while-first is_unquoted signs n (omega arith) before (λ less. rw found refl) in
     let whole : signs ≡ take n signs ++ 34 ∷ [] =
-    sym (take_all (n + 1) signs (omega arith)) ∙ take_more signs n 0 within ∙ ap (λ byte. take n signs ++ byte ∷ []) found in
+    sym (take_all (n + 1) signs (omega arith)) ∙ take_more signs n 0 within ∙
+    ap (λ byte. take n signs ++ byte ∷ []) found in
     rw (front, (bytes_eq-Decides signs (take n signs ++ 34 ∷ [])).1 whole) refl
 
 -- signs whose first quote is not the last of them, or that have none
@@ -119,9 +121,9 @@ second read other none one two not_one is_two = rw (← not_one, ← is_two) ref
 -- a line that begins with the words of a quantum and with no others
 pub command_of-quantum :
     (line rest : List ℕ) →
-    None ≡ behind (codes "emulation RunFor") line → Some rest ≡ behind (codes "emulation SetGlobalQuantum") line →
+    None ≡ rest_after (codes "emulation RunFor") line → Some rest ≡ rest_after (codes "emulation SetGlobalQuantum") line →
     quantum (argument (quoted rest)) ≡ command_of line
 unfolding command_of
 command_of-quantum line rest not_run is_quantum =
     second (λ rest. run_for (argument (quoted rest))) (λ rest. quantum (argument (quoted rest))) (Err Unknown)
-    (behind (codes "emulation RunFor") line) (behind (codes "emulation SetGlobalQuantum") line) not_run is_quantum
+    (rest_after (codes "emulation RunFor") line) (rest_after (codes "emulation SetGlobalQuantum") line) not_run is_quantum

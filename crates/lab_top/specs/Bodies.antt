@@ -12,7 +12,7 @@ pub record Place : Type 0 where
   pub file : List ℕ
   pub number : ℕ
 
--- a line that comes next: its text, where it stands, and the bodies that are open behind it
+-- a line that comes next: its text, where it stands, and the bodies that are open after it
 pub record NextLine : Type 0 where
   pub text : List ℕ
   pub place : Place
@@ -20,8 +20,8 @@ pub record NextLine : Type 0 where
 
 -- the first of these lines of a body that is open inside others, or the next line of those where there is none
 abbrev pub line_in : Body → List Body → List (List ℕ) → Option NextLine → Option NextLine
-line_in body outer [] behind = behind
-line_in body outer (line ∷ lines) behind = Some (record {
+line_in body outer [] otherwise = otherwise
+line_in body outer (line ∷ lines) otherwise = Some (record {
   text = line;
   place = record { file = body.file; number = body.number };
   bodies = record body { number = body.number + 1; lines = lines } ∷ outer;

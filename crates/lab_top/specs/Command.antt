@@ -15,7 +15,8 @@ use Rattle.lab_top.specs.Names.{names_of}
 use Rattle.lab_top.specs.Log.{text, open_lines}
 use Rattle.lab_top.specs.State.{State}
 
--- how a command is answered: it prints this and the run goes on so, or it is refused, or a name that it reads holds nothing
+-- how a command is answered: it prints this and the run goes on so, or it is refused, or a name that it reads
+-- holds nothing
 pub data Answer : Type 0 where
   Goes : List ℕ → State → Answer
   Faults : ScriptFault → Answer
@@ -33,7 +34,8 @@ fault_at place cause = record { file = place.file; line = place.number; cause = 
 -- what rounds have come to is printed
 abbrev pub has_run : State → Rounded → Answer
 has_run s rounded =
-    Goes (text (names_of rounded.lab) s.lines rounded.items) (record s { lab = rounded.lab; lines = open_lines s.lines rounded.items })
+    Goes (text (names_of rounded.lab) s.lines rounded.items)
+    (record s { lab = rounded.lab; lines = open_lines s.lines rounded.items })
 
 -- a run of the laboratory ends at 10,000 seconds of lab time at the latest
 abbrev pub run_answer : Play → State → Place → ℕ → Answer

@@ -50,7 +50,8 @@ pub record ReadsLast (reads : List Read) (bytes : ℕ) (log log' : Option (List 
   pub before : last.before ≡ bytes
 
 -- What was written is what the transcript begins with. Where a read failed, it is all that comes before that read.
-pub record WritesPart (all : Transcript) (status : Status) (out out' : Option (List ℕ)) (log log' : Option (List (List ℕ))) : Type 0 where
+pub record WritesPart (all : Transcript) (status : Status) (out out' : Option (List ℕ))
+    (log log' : Option (List (List ℕ))) : Type 0 where
   pub bytes : List ℕ
   pub unwritten : List ℕ
   pub all_bytes : all.bytes ≡ bytes ++ unwritten

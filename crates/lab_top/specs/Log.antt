@@ -40,7 +40,7 @@ is_lower a b = nat_lt a.board.0 b.board.0 || (a.board.0 == b.board.0 && nat_lt a
 abbrev pub place_of : Member → List Line → ℕ
 place_of m lines = prefix_len (λ line. is_lower line.member m) lines
 
--- a member's line and those behind it, of all lines that come no earlier
+-- a member's line and those after it, of all lines that come no earlier
 abbrev pub first_own : Member → List Line → Line
 first_own m [] = blank m
 first_own m (line ∷ lines) = if same_member line.member m then line else blank m
@@ -79,7 +79,8 @@ seconds at = decimal (at / 1000000) ++ codes "." ++ six_digits (at % 1000000)
 -- what stands before a line's text: the time of its last byte, and the board and the device that it comes from
 abbrev pub heading : Names → Line → List ℕ
 heading names line =
-    codes "[" ++ seconds line.at ++ codes "] " ++ board_name names line.member ++ codes "/" ++ device_name names line.member ++ codes ": "
+    codes "[" ++ seconds line.at ++ codes "] "
+    ++ board_name names line.member ++ codes "/" ++ device_name names line.member ++ codes ": "
 
 -- a line as it is printed
 unfoldable pub line_text : Names → Line → List ℕ

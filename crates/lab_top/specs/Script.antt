@@ -26,8 +26,8 @@ is_word_end [] = true
 is_word_end (byte ∷ bytes) = byte == 32
 
 -- what follows these words in a line, if it begins with them
-abbrev pub behind : List ℕ → List ℕ → Option (List ℕ)
-behind words line =
+abbrev pub rest_after : List ℕ → List ℕ → Option (List ℕ)
+rest_after words line =
     if bytes_eq (take (length words) line) words && is_word_end (drop (length words) line)
     then Some (drop (length words) line) else None
 
@@ -40,7 +40,7 @@ abbrev pub closed : List ℕ → Option (List ℕ)
 closed signs =
     if bytes_eq signs (take_while is_unquoted signs ++ 34 ∷ []) then Some (take_while is_unquoted signs) else None
 
--- the text in the quotes of one quoted word behind a blank, if the signs are so
+-- the text in the quotes of one quoted word after a blank, if the signs are so
 abbrev pub quoted : List ℕ → Option (List ℕ)
 quoted signs = if bytes_eq (take 2 signs) (codes " \"") then closed (drop 2 signs) else None
 
@@ -69,13 +69,14 @@ quantum (Err cause) = Err cause
 quantum (Ok time) = if nat_le 1 time.0 && nat_le time.0 1000000 then Ok (Quantum time) else Err Time
 
 -- the first where the words are there, and else the second
-abbrev pub by_words : Option (List ℕ) → (List ℕ → Result Command ScriptCause) → Result Command ScriptCause → Result Command ScriptCause
+abbrev pub by_words : Option (List ℕ) → (List ℕ → Result Command ScriptCause) → Result Command ScriptCause →
+    Result Command ScriptCause
 by_words None read other = other
 by_words (Some rest) read other = read rest
 
 -- the command of a line, or why it is none
 unfoldable pub command_of : List ℕ → Result Command ScriptCause
 command_of line =
-    by_words (behind (codes "emulation RunFor") line) (λ rest. run_for (argument (quoted rest)))
-    (by_words (behind (codes "emulation SetGlobalQuantum") line) (λ rest. quantum (argument (quoted rest)))
+    by_words (rest_after (codes "emulation RunFor") line) (λ rest. run_for (argument (quoted rest)))
+    (by_words (rest_after (codes "emulation SetGlobalQuantum") line) (λ rest. quantum (argument (quoted rest)))
     (Err Unknown))

@@ -70,7 +70,7 @@ pub data Request : Type 0 where
   Refused : UsageCause → Request
   Run : List ℕ → Request
 
--- the words behind `run` are one script, whose name does not begin with `-`
+-- the words after `run` are one script, whose name does not begin with `-`
 abbrev pub script_of : List (List ℕ) → Request
 script_of (script ∷ []) = if starts_with nat_eq script (codes "-") then Refused Words else Run script
 script_of _ = Refused Words
@@ -84,7 +84,7 @@ abbrev pub stopped : List (List ℕ) → State → Outcome → Transcript
 stopped names s outcome = after names (rest (names_of s.lab) s.lines) (ended outcome)
 
 -- What is left of a run, in which so many commands may still be taken, where files hold this and a laboratory plays a
--- run so. A line behind the last of them is refused.
+-- run so. A line after the last of them is refused.
 unfoldable pub from : ℕ → Play → Held → State → Transcript
 from zero play held s =
     elim (next_line s.bodies) [

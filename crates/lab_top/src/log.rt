@@ -13,7 +13,7 @@ use std::marker::Model;
 /// The most bytes of a line.
 const MOST_BYTES: usize = 128;
 
-/// A microsecond of lab time, shown as seconds with six digits behind the point.
+/// A microsecond of lab time, shown as seconds with six digits after the point.
 #[derive(Drop)]
 struct Seconds(Micros);
 

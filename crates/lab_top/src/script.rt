@@ -61,10 +61,10 @@ pub fn command_of(line: &[u8]) -> Result<Command, ScriptCause>
     ensures value { result ≡ script_spec.command_of line.now }
     ensures within { IsWithin result }
 {
-    if let Some(rest) = behind(b"emulation RunFor", line) {
+    if let Some(rest) = rest_after(b"emulation RunFor", line) {
         return run_for(rest);
     }
-    if let Some(rest) = behind(b"emulation SetGlobalQuantum", line) {
+    if let Some(rest) = rest_after(b"emulation SetGlobalQuantum", line) {
         return quantum(rest);
     }
     Err(ScriptCause::Unknown)
@@ -95,8 +95,8 @@ fn quantum(rest: &[u8]) -> Result<Command, ScriptCause>
 
 /// What follows these words in a line. None exactly where the line does not begin with them, or
 /// the last of them goes on.
-fn behind<'a>(words: &[u8], line: &'a [u8]) -> Option<&'a [u8]>
-    ensures { option_map (λ rest. rest.now) result ≡ script_spec.behind words.now line.now }
+fn rest_after<'a>(words: &[u8], line: &'a [u8]) -> Option<&'a [u8]>
+    ensures { option_map (λ rest. rest.now) result ≡ script_spec.rest_after words.now line.now }
 {
     let rest = line.strip_prefix(words)?;
     if is_word_end(rest) { Some(rest) } else { None }
@@ -125,8 +125,8 @@ fn argument(rest: &[u8]) -> Result<Micros, ScriptCause>
     }
 }
 
-/// The text of one quoted word behind a blank. None exactly where something else stands there, or
-/// anything behind it.
+/// The text of one quoted word after a blank. None exactly where something else stands there, or
+/// anything after it.
 fn quoted(rest: &[u8]) -> Option<&[u8]>
     ensures { option_map (λ text. text.now) result ≡ script_spec.quoted rest.now }
 {

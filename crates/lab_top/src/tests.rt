@@ -30,7 +30,7 @@ fn run(alloc: Global, script: &[u8]) -> Result<(u8, Vec<u8>), Fail> {
 }
 
 #[test]
-fn the_second_board_answers_in_the_round_behind_the_first_byte(
+fn the_second_board_answers_in_the_round_after_the_first_byte(
     rt: HostRuntime,
 ) -> Result<(), Fail> {
     let rows = [
@@ -60,7 +60,7 @@ fn the_second_board_answers_in_the_round_behind_the_first_byte(
 }
 
 #[test]
-fn a_line_is_refused_by_its_number_and_cause_behind_the_log(rt: HostRuntime) -> Result<(), Fail> {
+fn a_line_is_refused_by_its_number_and_cause_after_the_log(rt: HostRuntime) -> Result<(), Fail> {
     let rows = [
         ("", "\n", "1: S1 unknown command"),
         ("", "quit", "1: S1 unknown command"),

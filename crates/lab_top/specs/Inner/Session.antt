@@ -41,7 +41,8 @@ pub record TakesLine (body : Body) (taken : TakenLine) (left : Body) : Type 0 wh
 
 -- a command has been answered so, or memory ran out
 abbrev pub IsAnswer : Answer → Step → Running → Running → Type 0
-IsAnswer answer (Text text) old new = (answer ≡ Goes (string_bytes text) new.state) × (new.state.taken ≡ old.state.taken) × (new.spent ≡ false)
+IsAnswer answer (Text text) old new =
+    (answer ≡ Goes (string_bytes text) new.state) × (new.state.taken ≡ old.state.taken) × (new.spent ≡ false)
 IsAnswer answer End old new = ⊥
 IsAnswer answer (Fault fault) old new = (answer ≡ Faults fault) × (new ≡ old)
 IsAnswer answer Memory old new = Unit {0}

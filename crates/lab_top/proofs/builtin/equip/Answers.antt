@@ -12,9 +12,11 @@ show-requires-clause-has_plan c =
 
 pub connect-requires-clause-has_plan : goal.connect-requires-clause-has_plan
 connect-requires-clause-has_plan c =
-    let programmed : Lab = changed c.args.lab.now.lab c.args.board.0 (λ v. with_bytes v memory_base c.args.program.now) in
+    let programmed : Lab =
+    changed c.args.lab.now.lab c.args.board.0 (λ v. with_bytes v memory_base c.args.program.now) in
     rw (c.show.ensures, c.in_ok-copy_in.ensures.ok)
-    (still_there programmed c.args.board.0 with_shown (still_there c.args.lab.now.lab c.args.board.0 _ c.requires.has_plan))
+    (still_there programmed c.args.board.0 with_shown (still_there c.args.lab.now.lab c.args.board.0 _
+    c.requires.has_plan))
 
 pub returns : goal.returns
 returns c = rw (c.in-Ok.ensures.ok, c.show.ensures, c.in_ok-copy_in.ensures.ok) refl

@@ -8,6 +8,8 @@ returns-in_ok-write-in_default c =
     let wrote =
     rw (c.in_radix.ensures, c.laid_out.ensures) at (c.in_ok-write-in_default.ensures {u = tt}).bytes in
     wrote ∙ ap (λ shown. string_bytes c.args.text.now ++ shown) (elim c.in_default.branch [
-      | in_default-via-then-byte-lt32 w ↦ escaped-hex c.args.byte c.ranges.byte.fits (λ is. omega arith) (λ is. omega arith) (λ is. omega arith) (inl (omega arith))
-      | in_default-via-else-byte-lt32+else-byte-lt127 w ↦ escaped-hex c.args.byte c.ranges.byte.fits (λ is. omega arith) (λ is. omega arith) (λ is. omega arith) (inr (omega arith))
+      | in_default-via-then-byte-lt32 w ↦ escaped-hex c.args.byte c.ranges.byte.fits (λ is. omega arith)
+          (λ is. omega arith) (λ is. omega arith) (inl (omega arith))
+      | in_default-via-else-byte-lt32+else-byte-lt127 w ↦ escaped-hex c.args.byte c.ranges.byte.fits (λ is. omega arith)
+          (λ is. omega arith) (λ is. omega arith) (inr (omega arith))
     ])

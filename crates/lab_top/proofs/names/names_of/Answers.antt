@@ -10,5 +10,6 @@ loop-number-preserved c =
 
 pub returns : goal.returns
 returns c =
-    let all = take_all c.loop-number.number c.args.lab.now.lab.boards (rw c.boards-number-end.ensures at c.loop-number-test.false) in
+    let all = take_all c.loop-number.number c.args.lab.now.lab.boards (rw c.boards-number-end.ensures at
+    c.loop-number-test.false) in
     rw (c.of.ensures, c.loop-number.invariant, all) refl

@@ -27,7 +27,8 @@ pub commands-preserved : goal.commands-preserved
 commands-preserved g c = record {
   course = λ held status out log going.
       c.commands.invariant.course held status out log
-      (course_says _ _ _ (c.in-Text.ensures.step held) (rw (← c.as_bytes.ensures.value) c.in_default.ensures.whole) going);
+      (course_says _ _ _ (c.in-Text.ensures.step held) (rw (← c.as_bytes.ensures.value)
+      c.in_default.ensures.whole) going);
   unspent = c.in-Text.ensures.taken.2;
   faults = omega (arith, c.commands.invariant.faults, c.write_whole.ensures.faults);
 }

@@ -15,7 +15,8 @@ returns-then-end-text-clause-lines c =
     let some : (length c.args.text.now == 0) ≡ false = sym c.is_empty.ensures ∙ c.if-is_empty.false in
     let all : length (drop c.first-end.result c.args.text.now) ≡ 0 =
     rw (drop_of_length-le c.args.text.now {i = c.first-end.result} (omega arith)) refl in
-    lines_of-one c.args.text.now c.first-end.result (λ none. grind (arith, nat_tests)) c.if-end-text.true c.first-end.ensures.before
+    lines_of-one c.args.text.now c.first-end.result (λ none. grind (arith, nat_tests)) c.if-end-text.true
+    c.first-end.ensures.before
     ∙ ap (λ rest. c.args.text.now ∷ rest) (sym (lines_of-none _ all))
 
 pub returns-clause-lines : goal.returns-clause-lines
