@@ -57,7 +57,7 @@ new_name lab name free =
 
 -- and a board and a hub are found by their names
 board_outline : (o : Option Board) → option_map (λ board. board.name) o ≡ option_map (λ o. o.name)
-(option_map outline o)
+    (option_map outline o)
 board_outline None = refl
 board_outline (Some board) = refl
 
@@ -121,8 +121,8 @@ sound-push os hubs now quantum o sound room is apart =
       standing = standing-push (1000 * now) 0 os o sound.standing (rw (← zero-add (length os)) at is);
       devices = rw long (more_devices (length os) (length os + 1) (omega arith) hubs sound.devices);
       names = rw (map-append, append_assoc)
-      (distinct-insert bytes_eq nat_list_eq_equiv.symm o.name (map (λ o. o.name) os)
-      (map (λ hub. hub.name) hubs) sound.names apart);
+          (distinct-insert bytes_eq nat_list_eq_equiv.symm o.name (map (λ o. o.name) os)
+          (map (λ hub. hub.name) hubs) sound.names apart);
       times = sound.times;
     }
 
@@ -130,8 +130,13 @@ early_standing :
     (most b : ℕ) → ForSome (Some (early_numbers b)) (IsStanding most b)
 early_standing most b =
     λ n at. subst (IsStanding most b) (ap (λ o. unwrap_or o n) at)
-    (record { number = refl; least_speed = omega arith; most_speed = omega arith; few_posts = omega arith;
-    few_entries = omega arith })
+    (record {
+      number = refl;
+      least_speed = omega arith;
+      most_speed = omega arith;
+      few_posts = omega arith;
+      few_entries = omega arith;
+    })
 
 -- a laboratory with an early board more
 pub sound-board :
@@ -158,7 +163,7 @@ sound-hub lab hub sound none free = record {
   few_boards = sound.few_boards;
   standing = sound.standing;
   devices = each-append (λ hub. AllByRecursion (IsDevice (length (outlines lab.boards))) hub.members) lab.hubs
-  (hub ∷ []) sound.devices (rw none tt, tt);
+      (hub ∷ []) sound.devices (rw none tt, tt);
   names =
       rw (map-append, ← append_assoc)
       (distinct-insert bytes_eq nat_list_eq_equiv.symm hub.name (names_of (outlines lab.boards) lab.hubs) []

@@ -1,5 +1,5 @@
 -- One device more was handed the payload.
-use Rattle.std.proofs.Common.{◌≡◌, ◌∙◌, sym, ap, get_or, arith}
+use Rattle.std.proofs.Common.{◌∙◌, sym, ap, get_or}
 use Rattle.std.proofs.lemmas.List.Sums.{fold_more}
 use Rattle.lab_num.specs.declared.key.Member.{Member}
 use Rattle.board.specs.Taken.{handed}

@@ -1,7 +1,6 @@
 -- The steps together are the round.
-use Rattle.std.proofs.Common.{◌≡◌, ◌∙◌, ap, ◌+◌, ◌++◌}
+use Rattle.std.proofs.Common.{◌∙◌, ap, ◌+◌, ◌++◌}
 use Rattle.std.specs.List.{flat_map}
-use Rattle.lab_num.specs.declared.post.Post.{Post}
 use Rattle.lab_state.specs.Round.{granted, posts_made}
 use Rattle.lab_state.proofs.RoundLemmas.{posts_differ, entries_differ, boundary_is, always_ok}
 use Rattle.lab_state.proofs.round.play.Goals as goal

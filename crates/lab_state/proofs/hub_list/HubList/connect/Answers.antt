@@ -8,8 +8,8 @@ use Rattle.lab_state.proofs.HubLemmas.{parts, hubs-connected}
 use Rattle.lab_state.proofs.hub_list.HubList.connect.Goals as goal
 
 pub overflow_cast-n : goal.overflow_cast-n
-overflow_cast-n c = omega (arith, (parts c.self.view_is c.self.invariant.0).long, c.self.invariant.0,
-c.self.invariant.1)
+overflow_cast-n c =
+    omega (arith, (parts c.self.view_is c.self.invariant.0).long, c.self.invariant.0, c.self.invariant.1)
 
 pub connect-requires : goal.connect-requires
 connect-requires c = omega (arith, (parts c.self.view_is c.self.invariant.0).long, c.self.invariant.0)

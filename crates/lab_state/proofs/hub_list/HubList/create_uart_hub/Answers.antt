@@ -1,5 +1,5 @@
 -- A hub more has a name and a list of members more.
-use Rattle.std.proofs.Common.{◌≡◌, [], arith}
+use Rattle.std.proofs.Common.{[], arith}
 use Rattle.std.proofs.lemmas.List.{length_push}
 use Rattle.lab_state.proofs.HubLemmas.{parts, hubs-push}
 use Rattle.lab_state.proofs.hub_list.HubList.create_uart_hub.Goals as goal

@@ -1,5 +1,5 @@
 -- The hubs have the names in their order.
-use Rattle.std.proofs.Common.{◌≡◌, ◌∙◌, sym, ap, Bool}
+use Rattle.std.proofs.Common.{◌∙◌, sym, ap, Bool}
 use Rattle.std.specs.List.{position}
 use Rattle.std.specs.Str.{bytes_eq}
 use Rattle.lab_state.specs.declared.hub_list.HubName.{HubName}

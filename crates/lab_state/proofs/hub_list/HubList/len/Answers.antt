@@ -1,5 +1,5 @@
 -- There are as many hubs as names.
-use Rattle.std.proofs.Common.{◌≡◌, arith}
+use Rattle.std.proofs.Common.{arith}
 use Rattle.lab_state.proofs.HubLemmas.{parts}
 use Rattle.lab_state.proofs.hub_list.HubList.len.Goals as goal
 

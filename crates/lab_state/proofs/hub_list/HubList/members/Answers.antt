@@ -1,5 +1,5 @@
 -- The hubs have the members in their order.
-use Rattle.std.proofs.Common.{◌≡◌, ◌∙◌, sym, ap, ◌<◌, List, [], length, slice_get, Some, arith}
+use Rattle.std.proofs.Common.{◌∙◌, sym, ap, ◌<◌, List, [], length, slice_get, Some, arith}
 use Rattle.std.proofs.lemmas.Option.{slice_get-map, slice_get-get_or}
 use Rattle.lab_num.specs.declared.key.Member.{Member}
 use Rattle.lab_state.specs.Hub.{Hub}

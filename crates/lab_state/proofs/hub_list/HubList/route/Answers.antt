@@ -1,5 +1,4 @@
 -- The hubs have the members in their order.
-use Rattle.std.proofs.Common.{◌≡◌}
 use Rattle.lab_state.proofs.HubLemmas.{parts}
 use Rattle.lab_state.proofs.hub_list.HubList.route.Goals as goal
 

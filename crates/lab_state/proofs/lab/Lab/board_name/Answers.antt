@@ -3,7 +3,6 @@ use Rattle.std.proofs.Common.{◌≡◌, ◌∙◌, sym, ap, ◌<◌, length, So
 use Rattle.std.proofs.lemmas.Option.{slice_get_read}
 use Rattle.std.specs.Option.{option_map}
 use Rattle.lab_state.specs.Board.{Board}
-use Rattle.lab_state.specs.Names.{board_named}
 use Rattle.lab_state.proofs.SoundLemmas.{board-found}
 use Rattle.lab_state.proofs.lab.Lab.board_name.Goals as goal
 

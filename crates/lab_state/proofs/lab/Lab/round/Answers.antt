@@ -1,6 +1,5 @@
 -- What the boards and the hubs come to in a round is what the laboratory comes to.
-use Rattle.std.proofs.Common.{◌≡◌, ◌∙◌, sym, ap, ◌+◌, ◌≤◌, length, false, arith}
-use Rattle.lab_state.specs.Lab.{Lab}
+use Rattle.std.proofs.Common.{◌≡◌, ◌∙◌, sym, ap, ◌+◌, ◌≤◌, false, arith}
 use Rattle.lab_state.specs.Round.{round}
 use Rattle.lab_state.proofs.RoundLemmas.{given_back, sound-round, seen_round, round_items, never_paused}
 use Rattle.lab_state.proofs.lab.Lab.round.Goals as goal

@@ -1,5 +1,5 @@
 -- What changes of the board is no part of what holds of the laboratory.
-use Rattle.std.proofs.Common.{◌≡◌, refl}
+use Rattle.std.proofs.Common.{refl}
 use Rattle.board.specs.Changes.{with_pc}
 use Rattle.lab_state.specs.One.{with_view}
 use Rattle.lab_state.specs.Inner.Standing.{outline}

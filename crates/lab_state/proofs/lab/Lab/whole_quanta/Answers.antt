@@ -1,5 +1,5 @@
 -- The rounds so far leave room for one more.
-use Rattle.std.proofs.Common.{◌≡◌, arith}
+use Rattle.std.proofs.Common.{arith}
 use Rattle.std.proofs.Math.Nat.{mul-le-mul_left}
 use Rattle.lab_state.proofs.lab.Lab.whole_quanta.Goals as goal
 
