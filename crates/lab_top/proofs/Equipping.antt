@@ -16,7 +16,7 @@ use Rattle.lab_top.specs.Inner.Equipped.{equipped}
 abbrev pub bare : Lab
 bare = record {
   boards =
-    record { name = codes "m0"; view = Some (early 0) } ∷ record { name = codes "m1"; view = Some (early 1) } ∷ [];
+      record { name = codes "m0"; view = Some (early 0) } ∷ record { name = codes "m1"; view = Some (early 1) } ∷ [];
   hubs = record { name = codes "hub"; kind = Uart; members = [] } ∷ [];
   now = 0;
   quantum = 100;

@@ -10,10 +10,9 @@ use Rattle.lab_top.specs.declared.status.UsageCause.{UsageCause}
 use Rattle.lab_top.specs.declared.status.Status.{Status}
 use Rattle.lab_top.specs.declared.status.Status.TheVariants as end_by
 use Rattle.lab_top.specs.Builtin.{built_in}
-use Rattle.lab_top.specs.Transcript.{Usage, Script, Transcript, ended, whole, rest_of, started, begun, run_of, transcript, request_of, Refused, usage_line}
+use Rattle.lab_top.specs.Transcript.{Usage, Script, ended, whole, rest_of, started, begun, run_of, transcript, request_of, Refused}
 use Rattle.lab_top.specs.Inner.Course.{Told, Course, IsEnd}
 use Rattle.lab_top.specs.Command.{fault_at}
-use Rattle.lab_top.specs.Headline.{WritesUsage}
 use Rattle.lab_top.proofs.Pieces.{grown-nil}
 use Rattle.lab_top.proofs.Courses.{course_after, course_unread, course_ended}
 

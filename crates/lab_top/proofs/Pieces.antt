@@ -22,5 +22,5 @@ part_of_first out out' first second part = record {
 }
   where
     front : (xs ys : List ℕ) (n : ℕ) → take (length (take n xs)) (xs ++ ys) ≡ take n xs
-    front xs ys n = take-append-le (length (take n xs)) xs ys (rw length-take (omega arith)) ∙ rw length-take
-    (take_min n xs)
+    front xs ys n =
+        take-append-le (length (take n xs)) xs ys (rw length-take (omega arith)) ∙ rw length-take (take_min n xs)

@@ -10,7 +10,6 @@ use Rattle.std.proofs.lemmas.Slice.Eq.{bytes_eq-Decides}
 use Rattle.std.proofs.lemmas.Str.{is_utf8-from_IsUtf8, IsUtf8-from_is_utf8}
 use Rattle.lab_num.specs.declared.time.TimeFault.TheVariants.{Form}
 use Rattle.lab_num.specs.Time.{time_of}
-use Rattle.lab_num.specs.declared.number.Micros.{Micros}
 use Rattle.lab_top.specs.declared.fault.ScriptCause.{ScriptCause}
 use Rattle.lab_top.specs.declared.fault.ScriptCause.TheVariants.{Unknown}
 use Rattle.lab_top.specs.declared.script.Command.{Command}

@@ -30,9 +30,7 @@ fn run(alloc: Global, script: &[u8]) -> Result<(u8, Vec<u8>), Fail> {
 }
 
 #[test]
-fn the_second_board_answers_in_the_round_after_the_first_byte(
-    rt: HostRuntime,
-) -> Result<(), Fail> {
+fn the_second_board_answers_in_the_round_after_the_first_byte(rt: HostRuntime) -> Result<(), Fail> {
     let rows = [
         ("", ""),
         ("emulation RunFor \"0\"\n", ""),

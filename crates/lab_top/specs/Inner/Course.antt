@@ -19,7 +19,7 @@ pub record IsLastAt (reads : List Read) (bytes : ℕ) : Type 0 where
 
 -- A run has gone by this transcript up to where it was cut short, if it was: what it has written and asked for is
 -- what the transcript begins with.
-pub record Course (all : Transcript) (status : Status) (out out' : Option (List ℕ)) 
+pub record Course (all : Transcript) (status : Status) (out out' : Option (List ℕ))
     (log log' : Option (List (List ℕ))) : Type 0 where
   pub bytes : List ℕ
   pub unwritten : List ℕ

@@ -7,8 +7,12 @@ pub returns : goal.returns
 returns c =
     let whole : Seen = record { lab = bare; spent = false } in
     let made : c.create_uart_hub.new.self ≡ whole =
-    rw (c.in-Ok-create_uart_hub.ensures.ok, c.in-Ok-add_board.ensures.ok, c.in-Ok.ensures.ok,
-    c.in_ok-lab.ensures) refl in
+    rw (
+      c.in-Ok-create_uart_hub.ensures.ok,
+      c.in-Ok-add_board.ensures.ok,
+      c.in-Ok.ensures.ok,
+      c.in_ok-lab.ensures,
+    ) refl in
     let first : c.in-Ok.first.0 ≡ 0 = rw (c.in-Ok.ensures.number, c.in_ok-lab.ensures) refl in
     let second : c.in-Ok-add_board.second.0 ≡ 1 =
     rw (c.in-Ok-add_board.ensures.number, c.in-Ok.ensures.ok, c.in_ok-lab.ensures) refl in
