@@ -1,4 +1,4 @@
 pub mod SlotLemmas
-pub mod MemoryLemmas
 pub mod NumberLemmas
 pub mod StretchLemmas
+pub mod MemoryLemmas

@@ -1,14 +1,16 @@
--- What a slot makes comes behind what was made before.
-use Rattle.std.proofs.Common.{◌≡◌, ℕ, ◌-◌, ◌%◌, ◌==◌, ◌&&◌, Bool, true, false, [], ◌++◌, refl, sym, ap, ◌∙◌}
-use Rattle.std.specs.Prelude.{if◌then◌else◌}
+-- What a slot makes comes after what was made before.
+use Rattle.std.proofs.Common.{◌≡◌, ℕ, Bool, true, false, [], ◌++◌, refl, sym, ap}
+use Rattle.std.specs.Prelude.{if◌then◌else◌, Option, None, Some}
+use Rattle.std.specs.Option.{option_map_or}
 use Rattle.std.proofs.lemmas.List.{append-nil}
+use Rattle.rv_hart.specs.declared.csr.Lines.{Lines}
 use Rattle.rv_hart.specs.Core.{Core}
-use Rattle.board.specs.Space.{uart_base, memory_base, in_memory, in_uart, put_value}
-use Rattle.board.specs.Uart.{uart_loaded}
-use Rattle.board.specs.Wires.{Wires, posted, entered, sent, fetched, answer, loaded, stored}
+use Rattle.rv_hart.specs.Trap.{chosen, interrupt, is_ready}
+use Rattle.board.specs.Space.{place_of, after_store, byte_sent, lines_of}
+use Rattle.board.specs.Wires.{Wires, posted, entered, sent, sent_if, fetched, answer, loaded, stored}
 use Rattle.rv_exec.specs.Effect.{Effect, Done, Load, Store, effect_of_fetch, core_after, bus_after}
 use Rattle.board.specs.View.{View, State, wires_of, state_of, after}
-use Rattle.board.specs.Slot.{slot, quiet, idle, no_lines, carried_out, instruction}
+use Rattle.board.specs.Slot.{slot, awake, asleep, woken, quiet, cycle, carried_out, instruction}
 
 -- wires by which nothing was made yet
 abbrev pub emptied : Wires → Wires
@@ -21,98 +23,106 @@ behind front w = record w { posts = front.posts ++ w.posts; entries = front.entr
 behind-emptied : (w : Wires) → w ≡ behind w (emptied w)
 behind-emptied w = sym (simp append-nil)
 
--- the two ways to send, for any answer to whether the UART is shown
-either_sent : Bool → Wires → ℕ → Wires
-either_sent shown w byte = if shown then entered (posted w byte) byte else posted w byte
-
-either_sent-emptied :
-    (shown : Bool) (w : Wires) (byte : ℕ) →
-    either_sent shown w byte ≡ behind w (either_sent shown (emptied w) byte)
-unfolding either_sent
-either_sent-emptied true w byte = refl
-either_sent-emptied false w byte = sym (simp append-nil)
-
+-- a byte that is sent
 sent-emptied : (w : Wires) (byte : ℕ) → sent w byte ≡ behind w (sent (emptied w) byte)
-unfolding sent either_sent
-sent-emptied w byte = either_sent-emptied w.shown w byte
+unfolding sent
+sent-emptied w byte = by_shown w.space.shown
+  where
+    by_shown :
+        (shown : Bool) →
+        (if shown then entered (posted w byte) byte else posted w byte)
+        ≡ behind w (if shown then entered (posted (emptied w) byte) byte else posted (emptied w) byte)
+    by_shown true = refl
+    by_shown false = sym (simp append-nil)
 
--- of three wires one is chosen
-one_of : Bool → Bool → Wires → Wires → Wires → Wires
-one_of first second x y z = if first then x else if second then y else z
+sent_if-emptied : (w : Wires) (byte : Option ℕ) → sent_if w byte ≡ behind w (sent_if (emptied w) byte)
+sent_if-emptied w None = behind-emptied w
+sent_if-emptied w (Some byte) = sent-emptied w byte
 
-one_of-emptied :
-    (first second : Bool) (w x y z x' y' z' : Wires) → x ≡ behind w x' → y ≡ behind w y' → z ≡ behind w z' →
-    one_of first second x y z ≡ behind w (one_of first second x' y' z')
-unfolding one_of
-one_of-emptied true second w x y z x' y' z' p q r = p
-one_of-emptied false true w x y z x' y' z' p q r = q
-one_of-emptied false false w x y z x' y' z' p q r = r
+-- an effect
+bus_after-emptied :
+    (w : Wires) (effect : Effect) →
+    bus_after loaded stored w effect ≡ behind w (bus_after loaded stored (emptied w) effect)
+bus_after-emptied w (Done done) = behind-emptied w
+bus_after-emptied w (Load at width complete) = behind-emptied (loaded w at width)
+bus_after-emptied w (Store at width value done) =
+    let place = place_of w.space at width in
+    sent_if-emptied (record w { space = after_store w.space width value place }) (byte_sent value place)
 
--- the wires after an effect
-abbrev wires_after : Wires → Effect → Wires
-wires_after w effect = bus_after loaded stored w effect
-
-wires_after-emptied :
-    (w : Wires) (effect : Effect) → wires_after w effect ≡ behind w (wires_after (emptied w) effect)
-unfolding one_of
-wires_after-emptied w (Done core) = behind-emptied w
-wires_after-emptied w (Load at width complete) =
-    let uart = uart_loaded w.uart (at - uart_base) in
-    one_of-emptied (in_memory w.memory at width) (in_uart at width) w w (record w { uart = uart }) w
-    (emptied w) (record (emptied w) { uart = uart }) (emptied w)
-    (behind-emptied w) (behind-emptied (record w { uart = uart })) (behind-emptied w)
-wires_after-emptied w (Store at width value core) =
-    let memory = put_value w.memory (at - memory_base) width value in
-    one_of-emptied (in_memory w.memory at width) (in_uart at width && (at == uart_base)) w (record w { memory = memory }) (sent w (value % 0x100)) w
-    (record (emptied w) { memory = memory }) (sent (emptied w) (value % 0x100)) (emptied w)
-    (behind-emptied (record w { memory = memory })) (sent-emptied w (value % 0x100)) (behind-emptied w)
-
-core_after-emptied :
-    (w : Wires) (effect : Effect) → core_after answer w effect ≡ core_after answer (emptied w) effect
-core_after-emptied w (Done core) = refl
-core_after-emptied w (Load at width complete) = refl
-core_after-emptied w (Store at width value core) = refl
-
--- what an effect makes comes behind what was made before
-pub state_of-behind :
-    (speed : ℕ) (core : Core) (w : Wires) (effect : Effect) →
-    state_of speed (core_after answer w effect) (wires_after w effect)
-    ≡ after (state_of speed core w) (carried_out speed (emptied w) effect)
-state_of-behind speed core w effect =
-    ap (λ now. state_of speed (core_after answer w effect) now) (wires_after-emptied w effect)
-    ∙ ap (λ now. state_of speed now (behind w (wires_after (emptied w) effect))) (core_after-emptied w effect)
+-- what an effect makes comes after what was made before
+pub state_of-effect :
+    (core : Core) (w : Wires) (effect : Effect) →
+    state_of (core_after answer w effect) (bus_after loaded stored w effect)
+    ≡ after (state_of core w) (carried_out (emptied w) effect)
+state_of-effect core w effect = ap (λ now. state_of (core_after answer w effect) now) (bus_after-emptied w effect)
 
 -- a slot in which nothing is made
 pub quiet-behind : (s : State) → s ≡ after s (quiet s.view)
 quiet-behind s = sym (simp append-nil)
 
+-- a slot in which an instruction is done, of a board at the beginning and at the end of it
+pub awake-instruction :
+    (core core' : Core) (w begun w' : Wires) (t : ℕ) (lines : Lines) →
+    chosen core lines.mip ≡ None → begun ≡ record w { at = t } →
+    core' ≡ core_after answer begun (effect_of_fetch core (fetched begun core.pc) lines) →
+    w' ≡ bus_after loaded stored begun (effect_of_fetch core (fetched begun core.pc) lines) →
+    state_of core' w' ≡ after (state_of core w) (awake (state_of core w).view t lines)
+unfolding awake
+awake-instruction core core' w begun w' t lines none begins core_is wires_is =
+    rw (core_is, wires_is, begins, none)
+    (state_of-effect core (record w { at = t }) (effect_of_fetch core (fetched (record w { at = t }) core.pc) lines))
+
+-- slots of a halted board change nothing
+pub slot-halted : (v : View) (t : ℕ) → v.core.halted ≡ true → slot v t ≡ quiet v
+unfolding slot
+slot-halted v t halted = rw halted refl
+
 -- a slot keeps the speed
-pub speed-slot : (v : View) (t : ℕ) → (slot v t).view.speed ≡ v.speed
-unfolding slot
-speed-slot v t = chosen v.core.halted v.core.waiting
+pub speed-sent_if : (w : Wires) (byte : Option ℕ) → (sent_if w byte).numbers.speed ≡ w.numbers.speed
+unfolding sent
+speed-sent_if w None = refl
+speed-sent_if w (Some byte) = by_shown w.space.shown
   where
-    chosen :
-        (halted waiting : Bool) →
-        (if halted then quiet v else if waiting then idle v else instruction v (wires_of v t)).view.speed ≡ v.speed
-    chosen true waiting = refl
-    chosen false true = refl
-    chosen false false = refl
+    by_shown :
+        (shown : Bool) → (if shown then entered (posted w byte) byte else posted w byte).numbers.speed ≡ w.numbers.speed
+    by_shown true = refl
+    by_shown false = refl
 
-slot-running :
-    (v : View) (t : ℕ) → v.core.halted ≡ false → v.core.waiting ≡ false →
-    slot v t ≡ instruction v (wires_of v t)
+pub speed-effect : (w : Wires) (effect : Effect) → (bus_after loaded stored w effect).numbers.speed ≡ w.numbers.speed
+speed-effect w (Done done) = refl
+speed-effect w (Load at width complete) = refl
+speed-effect w (Store at width value done) =
+    let place = place_of w.space at width in
+    speed-sent_if (record w { space = after_store w.space width value place }) (byte_sent value place)
+
+speed-awake : (v : View) (t : ℕ) (lines : Lines) → (awake v t lines).view.numbers.speed ≡ v.numbers.speed
+unfolding awake
+speed-awake v t lines = by_chosen (chosen v.core lines.mip)
+  where
+    by_chosen :
+        (taken : Option ℕ) →
+        (option_map_or (λ n. cycle v (interrupt v.core n)) taken (instruction v t lines)).view.numbers.speed
+        ≡ v.numbers.speed
+    by_chosen None = speed-effect (wires_of v t) (effect_of_fetch v.core (fetched (wires_of v t) v.core.pc) lines)
+    by_chosen (Some n) = refl
+
+speed-asleep : (v : View) (t : ℕ) (lines : Lines) → (asleep v t lines).view.numbers.speed ≡ v.numbers.speed
+speed-asleep v t lines = by_ready (is_ready v.core lines.mip)
+  where
+    by_ready :
+        (ready : Bool) →
+        (if ready then awake (woken v) t lines else cycle v v.core).view.numbers.speed ≡ v.numbers.speed
+    by_ready true = speed-awake (woken v) t lines
+    by_ready false = refl
+
+pub speed-slot : (v : View) (t : ℕ) → (slot v t).view.numbers.speed ≡ v.numbers.speed
 unfolding slot
-slot-running v t running busy =
-    ap (λ halted. if halted then quiet v else if v.core.waiting then idle v else instruction v (wires_of v t)) running
-    ∙ ap (λ waiting. if waiting then idle v else instruction v (wires_of v t)) busy
-
--- a slot of a board that runs is what its instruction makes of its processor and its wires
-pub slot-step :
-    (speed : ℕ) (core core' : Core) (w begun w' : Wires) (t : ℕ) →
-    core.halted ≡ false → core.waiting ≡ false → begun ≡ record w { at = t } →
-    core' ≡ core_after answer begun (effect_of_fetch core (fetched begun core.pc) no_lines) →
-    w' ≡ bus_after loaded stored begun (effect_of_fetch core (fetched begun core.pc) no_lines) →
-    state_of speed core' w' ≡ after (state_of speed core w) (slot (state_of speed core w).view t)
-slot-step speed core core' w begun w' t running busy begins core_is wires_is =
-    rw (core_is, wires_is, begins, slot-running (state_of speed core w).view t running busy)
-    (state_of-behind speed core (record w { at = t }) (effect_of_fetch core (fetched (record w { at = t }) core.pc) no_lines))
+speed-slot v t = by_tests v.core.halted v.core.waiting
+  where
+    by_tests :
+        (halted waiting : Bool) → let lines = lines_of v.space t in
+        (if halted then quiet v else if waiting then asleep v t lines else awake v t lines).view.numbers.speed
+        ≡ v.numbers.speed
+    by_tests true waiting = refl
+    by_tests false true = speed-asleep v t (lines_of v.space t)
+    by_tests false false = speed-awake v t (lines_of v.space t)

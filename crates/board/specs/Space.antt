@@ -1,52 +1,52 @@
--- What addresses reach: one memory and one UART. An access reaches the region that holds all its bytes.
-use Rattle.std.specs.Prelude.{ℕ, zero, suc, ◌+◌, ◌-◌, ◌*◌, ◌/◌, ◌%◌, ◌==◌, nat_le, ◌&&◌, ◌||◌, Bool, if◌then◌else◌, List, ◌++◌, length, take, drop, slice_index, slice_set, Option, Some, None}
+-- All that the loads and stores of a board's processor reach: one memory and one UART.
+use Rattle.std.specs.Prelude.{ℕ, ◌-◌, ◌%◌, ◌==◌, Bool, if◌then◌else◌, List, Option, None, Some}
+use Rattle.rv_hart.specs.declared.csr.Lines.{Lines}
+use Rattle.board.specs.declared.space.Place.{Place}
+use Rattle.board.specs.declared.space.Place.TheVariants.{InMemory, InUart, Nowhere}
+use Rattle.board.specs.Memory.{memory_base, is_within, in_memory, value_at, put_value}
+use Rattle.board.specs.Uart.{Uart, uart_answer, uart_loaded}
 
--- where the memory begins, and where the UART's registers begin
-abbrev pub memory_base : ℕ
-memory_base = 0x80000000
+-- the bytes of the memory, the UART, and whether that is shown
+pub record Space : Type 0 where
+  pub memory : List ℕ
+  pub uart : Uart
+  pub shown : Bool
 
+-- where the UART's registers begin, a byte each
 abbrev pub uart_base : ℕ
 uart_base = 0x10000000
-
--- a region of so many bytes holds all of so many bytes from an address on
-abbrev pub is_within : ℕ → ℕ → ℕ → ℕ → Bool
-is_within base size at count = nat_le base at && nat_le (at - base + count) size
-
-abbrev pub in_memory : List ℕ → ℕ → ℕ → Bool
-in_memory memory at count = is_within memory_base (length memory) at count
 
 abbrev pub in_uart : ℕ → ℕ → Bool
 in_uart at count = is_within uart_base 0x100 at count
 
--- the little-endian numbers of two and of four bytes, from a place on
-abbrev pub half_at : List ℕ → ℕ → ℕ
-half_at bytes i = slice_index bytes i + slice_index bytes (i + 1) * 0x100
+-- where so many bytes from an address on lie: in the one region that holds all of them, if there is one
+unfoldable pub place_of : Space → ℕ → ℕ → Place
+place_of space at count =
+    if in_memory space.memory at count then InMemory (at - memory_base)
+    else if in_uart at count then InUart (at - uart_base) else Nowhere
 
-abbrev pub word_at : List ℕ → ℕ → ℕ
-word_at bytes i =
-    slice_index bytes i + slice_index bytes (i + 1) * 0x100 + slice_index bytes (i + 2) * 0x10000
-    + slice_index bytes (i + 3) * 0x1000000
+-- what a load of so many bytes answers at a place, and the space after it
+abbrev pub load_answer : Space → ℕ → Place → ℕ
+load_answer space width (InMemory i) = value_at space.memory i width
+load_answer space width (InUart register) = uart_answer space.uart register
+load_answer space width Nowhere = 0
 
--- the number of 1, 2 or 4 bytes from a place on
-abbrev pub value_at : List ℕ → ℕ → ℕ → ℕ
-value_at bytes i width =
-    if width == 1 then slice_index bytes i
-    else if width == 2 then half_at bytes i
-    else word_at bytes i
+abbrev pub after_load : Space → Place → Space
+after_load space (InMemory i) = space
+after_load space (InUart register) = record space { uart = uart_loaded space.uart register }
+after_load space Nowhere = space
 
--- whether each of so many bytes from an address on is in the memory
-abbrev pub holds_each : List ℕ → ℕ → ℕ → Bool
-holds_each memory at count = (count == 0) || in_memory memory at count
+-- the space after a store of so many bytes of a value at a place, and the byte that the UART sends by it
+abbrev pub after_store : Space → ℕ → ℕ → Place → Space
+after_store space width value (InMemory i) = record space { memory = put_value space.memory i width value }
+after_store space width value (InUart register) = space
+after_store space width value Nowhere = space
 
--- the word at an address, if that is a multiple of 4 and the memory holds all four bytes
-abbrev pub word_held : List ℕ → ℕ → Option ℕ
-word_held memory at = if (at % 4 == 0) && in_memory memory at 4 then Some (word_at memory (at - memory_base)) else None
+abbrev pub byte_sent : ℕ → Place → Option ℕ
+byte_sent value (InMemory i) = None
+byte_sent value (InUart register) = if register == 0 then Some (value % 0x100) else None
+byte_sent value Nowhere = None
 
--- bytes with the lowest bytes of a value in so many places from one on, the lowest first
-abbrev pub put_value : List ℕ → ℕ → ℕ → ℕ → List ℕ
-put_value bytes i zero value = bytes
-put_value bytes i (suc width) value = put_value (slice_set bytes i (value % 0x100)) (i + 1) width (value / 0x100)
-
--- bytes with these in their place from one on
-abbrev pub put_bytes : List ℕ → ℕ → List ℕ → List ℕ
-put_bytes bytes i part = take i bytes ++ (part ++ drop (i + length part) bytes)
+-- what the interrupt lines and the timer show in a microsecond: nothing is wired to the processor's pins yet
+abbrev pub lines_of : Space → ℕ → Lines
+lines_of space t = record { mip = 0; mtime = 0 }

@@ -13,7 +13,7 @@ go_on run t = after run (slot run.view t)
 -- the slots `a` to `a + n - 1` of the grant that begins at `from`: the board after them, and what they have made
 unfoldable pub stretch : View → ℕ → ℕ → ℕ → State
 stretch v from a zero = quiet v
-stretch v from a (suc n) = go_on (stretch v from a n) (slot_at from v.speed (a + n))
+stretch v from a (suc n) = go_on (stretch v from a n) (slot_at from v.numbers.speed (a + n))
 
 -- A turn of `n` slots takes all of them, or stops after exactly so many for want of memory.
 abbrev pub IsTurn : State → ℕ → ℕ → ℕ → Turn → State → Type 0

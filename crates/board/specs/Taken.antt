@@ -13,4 +13,4 @@ taken_by uart = if is_ready uart.received then Overrun else Kept
 
 -- a board after its UART was handed this
 unfoldable pub handed : View → Payload → View
-handed v (Byte byte) = record v { uart = uart_taken v.uart byte }
+handed v (Byte byte) = record v { space = record v.space { uart = uart_taken v.space.uart byte } }

@@ -1,8 +1,10 @@
 //! The board: its slots, and what they make.
-ghost use Rattle.std.specs.Prelude.{◌≡◌, ◌≢◌, ◌+◌, ◌-◌, ◌/◌, ◌%◌, ◌^◌, ◌<◌, ◌≤◌, ◌++◌, [], true, length, drop, slice_get, take, OnOk, OnErr, IfOk, IsTrue};
+ghost use Rattle.std.specs.Prelude.{◌≡◌, ◌≢◌, ◌+◌, ◌/◌, ◌%◌, ◌<◌, ◌≤◌, [], true, length, drop, slice_get, OnOk, OnErr, IfOk, IsTrue};
 
-use crate::memory::{MEMORY_BASE, Memory};
-use crate::uart::{EarlyUart, Taken};
+use crate::memory::MEMORY_BASE;
+use crate::numbers::Numbers;
+use crate::space::Space;
+use crate::uart::Taken;
 use crate::wires::Wires;
 use lab_num::{BoardNo, Entry, Micros, NoMemory, Payload, Post};
 use rv_exec::step;
@@ -14,9 +16,6 @@ use std::mem;
 
 /// Bytes of memory.
 const MEMORY_SIZE: usize = 0x1_0000;
-
-/// What the interrupt lines and the timer show: nothing is wired to the processor's pins yet.
-const NO_LINES: Lines = Lines { mip: 0, mtime: 0 };
 
 /// Where a turn begins: slot `first` of the grant that begins at microsecond `from`.
 #[derive(Clone, Copy, PartialEq, Eq, Debug)]
@@ -38,7 +37,6 @@ pub enum Turn {
 /// A board. It runs one instruction a slot.
 #[derive(Drop)]
 pub struct Board {
-    speed: u32,
     hart: Hart,
     wires: Wires,
 }
@@ -49,17 +47,18 @@ impl Model for Board {
 
     ghost Value = { State };
 
-    ghost view = { λ b. state_of b.speed b.hart b.wires };
+    ghost view = { λ b. state_of b.hart b.wires };
 
-    ghost invariant = { λ b. (1 ≤ b.speed) × (b.speed ≤ 1000) };
+    ghost invariant = { λ b. (1 ≤ b.wires.numbers.speed) × (b.wires.numbers.speed ≤ 1000) };
 }
 
 impl Board {
-    ghost use Rattle.board.specs.Early.{early};
-    ghost use Rattle.board.specs.Space.{memory_base, holds_each, word_held, put_bytes};
+    ghost use Rattle.board.specs.Early.{early, early_numbers};
+    ghost use Rattle.board.specs.Memory.{holds_each, word_held};
+    ghost use Rattle.board.specs.Changes.{with_pc, with_halted, with_shown, with_bytes};
     ghost use Rattle.board.specs.Taken.{taken_by, handed};
-    ghost use Rattle.board.specs.View.{View, State, after, wires_of, state_of};
-    ghost use Rattle.board.specs.Slot.{quiet, slot, instruction, carried_out};
+    ghost use Rattle.board.specs.View.{after};
+    ghost use Rattle.board.specs.Slot.{quiet, slot, awake, asleep};
     ghost use Rattle.rv_hart.specs.Core.{reg};
     ghost use Rattle.board.specs.Stretch.{IsTurn};
 
@@ -69,26 +68,23 @@ impl Board {
     #[tactic(auto, unfolding(crate::specs::Early::early))]
     pub fn early(alloc: Global, number: BoardNo) -> Result<Board, NoMemory>
         ensures state { IfOk result (λ board. board ≡ quiet (early number.0)) }
-        ensures number { IfOk result (λ board. board.view.number ≡ number.0) }
-        ensures speed { IfOk result (λ board. board.view.speed ≡ 1) }
-        ensures posted { IfOk result (λ board. board.view.posted ≡ 0) }
-        ensures entered { IfOk result (λ board. board.view.entered ≡ 0) }
+        ensures numbers { IfOk result (λ board. board.view.numbers ≡ early_numbers number.0) }
     {
-        let memory = Memory::new(alloc, MEMORY_SIZE)?;
+        let space = Space::new(alloc, MEMORY_SIZE)?;
         let mut hart = Hart::new();
         hart.set_pc(MEMORY_BASE);
         Ok(Board {
-            speed: 1,
             hart,
             wires: Wires {
-                number,
+                numbers: Numbers {
+                    number,
+                    speed: 1,
+                    posted: 0,
+                    entered: 0,
+                },
+                space,
                 at: Micros(0),
-                memory,
-                uart: EarlyUart::new(),
-                shown: false,
-                posted: 0,
                 posts: VecDeque::new(alloc),
-                entered: 0,
                 entries: Vec::new(alloc),
             },
         })
@@ -96,26 +92,35 @@ impl Board {
 
     /// Instructions a microsecond, 1 to 1,000.
     pub fn speed(&self) -> u32
-        ensures value { result ≡ self.now.view.speed }
+        ensures value { result ≡ self.now.view.numbers.speed }
         ensures least { 1 ≤ result }
         ensures most { result ≤ 1000 }
     {
-        self.speed
+        self.wires.numbers.speed
     }
 
     /// Takes the next `n` slots. Slot `i` of the call lies in microsecond
-    /// `at.from + (at.first + i) / speed`. A halted board's slots pass and change nothing. `Starved`
-    /// is for want of memory alone.
+    /// `at.from + (at.first + i) / speed`. A halted board's slots pass and change nothing.
+    /// `Starved` is for want of memory alone.
     pub fn turn(&mut self, at: SlotAt, n: u64) -> Turn
-        requires { at.from.0 + (at.first + n) / self.old.view.speed ≤ 10000000000 }
+        requires { at.from.0 + (at.first + n) / self.old.view.numbers.speed ≤ 10000000000 }
         ensures { IsTurn self.old at.from.0 at.first n result self.new }
     {
+        if self.halted() {
+            return Turn::Used(n);
+        }
+        let speed = u64::from(self.speed());
+        let mut micros = at.first / speed;
+        let mut within = at.first % speed;
         for i in 0..n {
-            let speed = u64::from(self.speed());
-            let micros = Micros(at.from.0 + (at.first + i) / speed);
-            let Ok(()) = self.slot(micros) else {
+            let Ok(()) = self.slot(Micros(at.from.0 + micros)) else {
                 return Turn::Starved(i);
             };
+            within += 1;
+            if within == speed {
+                within = 0;
+                micros += 1;
+            }
         }
         Turn::Used(n)
     }
@@ -124,18 +129,52 @@ impl Board {
     #[tactic(auto, unfolding(crate::specs::Slot::slot))]
     fn slot(&mut self, at: Micros) -> Result<(), NoMemory>
         ensures ok { OnOk result (self.new ≡ after self.old (slot self.old.view at.0)) }
-        ensures speed { self.new.view.speed ≡ self.old.view.speed }
         ensures err { OnErr result (self.new ≡ self.old) }
     {
         if self.hart.halted() {
             return Ok(());
         }
+        let lines = self.wires.space.lines(at);
         if self.hart.waiting() {
+            return self.wait(at, lines);
+        }
+        self.act(at, lines)
+    }
+
+    /// A slot of a processor that waits: it goes on waiting, or is woken. After an `Err` the board
+    /// is as before.
+    #[cold]
+    fn wait(&mut self, at: Micros, lines: Lines) -> Result<(), NoMemory>
+        requires { self.old.view.core.waiting ≡ true }
+        ensures ok { OnOk result (self.new ≡ after self.old (asleep self.old.view at.0 lines)) }
+        ensures err { OnErr result (self.new ≡ self.old) }
+    {
+        if !self.hart.is_ready(lines.mip) {
+            self.hart.tick();
+            return Ok(());
+        }
+        self.hart.set_waiting(false);
+        let Ok(()) = self.act(at, lines) else {
+            self.hart.set_waiting(true);
+            return Err(NoMemory);
+        };
+        Ok(())
+    }
+
+    /// Enters the interrupt that is taken now, or else does one instruction. After an `Err` the
+    /// board is as before.
+    #[tactic(auto, unfolding(crate::specs::Slot::awake))]
+    fn act(&mut self, at: Micros, lines: Lines) -> Result<(), NoMemory>
+        ensures ok { OnOk result (self.new ≡ after self.old (awake self.old.view at.0 lines)) }
+        ensures err { OnErr result (self.new ≡ self.old) }
+    {
+        if let Some(n) = self.hart.pending(lines.mip) {
+            self.hart.enter_interrupt(n);
             self.hart.tick();
             return Ok(());
         }
         self.wires.begin_slot(at);
-        let Ok(()) = step(&mut self.hart, &mut self.wires, NO_LINES) else {
+        let Ok(()) = step(&mut self.hart, &mut self.wires, lines) else {
             return Err(NoMemory);
         };
         Ok(())
@@ -146,11 +185,11 @@ impl Board {
     #[tactic(auto, unfolding(crate::specs::Taken::handed))]
     pub fn deliver(&mut self, dev: u8, payload: &Payload) -> Taken
         requires { dev ≡ 0 }
-        ensures taken { result ≡ taken_by self.old.view.uart }
+        ensures taken { result ≡ taken_by self.old.view.space.uart }
         ensures after { self.new ≡ record self.old { view = handed self.old.view payload.now } }
     {
         match payload {
-            Payload::Byte(byte) => self.wires.uart.take(*byte),
+            Payload::Byte(byte) => self.wires.space.uart.take(*byte),
         }
     }
 
@@ -183,31 +222,28 @@ impl Board {
     /// nothing.
     pub fn show(&mut self, dev: u8)
         requires { dev ≡ 0 }
-        ensures { self.new ≡ record self.old { view = record self.old.view { shown = true } } }
+        ensures { self.new ≡ record self.old { view = with_shown self.old.view } }
     {
-        self.wires.shown = true;
+        self.wires.space.shown = true;
     }
 
     /// Whether each of `count` bytes from an address on is in the memory. Where `count` is 0, that
     /// is so at every address.
     pub fn holds(&self, at: u32, count: u32) -> bool
-        ensures { result ≡ holds_each self.now.view.memory at count }
+        ensures { result ≡ holds_each self.now.view.space.memory at count }
     {
-        count == 0 || self.wires.memory.holds(at, count as usize)
+        count == 0 || self.wires.space.memory.find(at, count as usize).is_some()
     }
 
     /// Writes bytes into the memory from an address on.
     pub fn copy_in(&mut self, at: u32, bytes: &[u8]) -> Result<(), NoMemory>
-        requires { IsTrue (holds_each self.old.view.memory at (length bytes.now)) }
-        ensures ok { OnOk result (self.new ≡ record self.old {
-          view = record self.old.view {
-            memory = put_bytes self.old.view.memory (at - memory_base) bytes.now;
-          };
-        }) }
+        requires { IsTrue (holds_each self.old.view.space.memory at (length bytes.now)) }
+        ensures ok { OnOk result
+            (self.new ≡ record self.old { view = with_bytes self.old.view at bytes.now }) }
         ensures err { OnErr result (self.new ≡ self.old) }
     {
-        if !bytes.is_empty() {
-            self.wires.memory.copy_in(at, bytes);
+        if let Some(i) = self.wires.space.memory.find(at, bytes.len()) {
+            self.wires.space.memory.copy_in(i, bytes);
         }
         Ok(())
     }
@@ -215,9 +251,7 @@ impl Board {
     /// Sets the address of the next instruction.
     pub fn set_pc(&mut self, pc: u32)
         requires { pc % 4 ≡ 0 }
-        ensures { self.new ≡ record self.old {
-          view = record self.old.view { core = record self.old.view.core { pc = pc } };
-        } }
+        ensures { self.new ≡ record self.old { view = with_pc self.old.view pc } }
     {
         self.hart.set_pc(pc);
     }
@@ -238,9 +272,7 @@ impl Board {
 
     /// Halts the processor, or lets it run.
     pub fn set_halted(&mut self, on: bool)
-        ensures { self.new ≡ record self.old {
-          view = record self.old.view { core = record self.old.view.core { halted = on } };
-        } }
+        ensures { self.new ≡ record self.old { view = with_halted self.old.view on } }
     {
         self.hart.set_halted(on);
     }
@@ -263,11 +295,11 @@ impl Board {
     /// The word of memory at an address. None exactly where the address is not a multiple of 4 or
     /// the memory does not hold all four bytes.
     pub fn load_word(&self, at: u32) -> Option<u32>
-        ensures { result ≡ word_held self.now.view.memory at }
+        ensures { result ≡ word_held self.now.view.space.memory at }
     {
-        if at % 4 != 0 || !self.wires.memory.holds(at, 4) {
+        if at % 4 != 0 {
             return None;
         }
-        Some(self.wires.memory.load(at, 4))
+        self.wires.space.memory.word(at)
     }
 }

@@ -23,11 +23,12 @@ pub fn turns_join()
 /// A stretch keeps the board's number and speed, makes at most one post and one entry a slot, and
 /// numbers them one after another from the counts on.
 pub fn stretches_number()
-    ensures { (v : View) (from a n : ℕ) → v.posted + n < 2 ^ 64 → v.entered + n < 2 ^ 64 →
-        IsNumbered v n (stretch v from a n) }
+    ensures { (v : View) (from a n : ℕ) →
+        v.numbers.posted + n < 2 ^ 64 → v.numbers.entered + n < 2 ^ 64 →
+        IsNumbered v.numbers n (stretch v from a n) }
 {}
 
 /// An early board has 64 KiB of memory.
 pub fn early_memory_is_64_kib()
-    ensures { (number : ℕ) → length (early number).memory ≡ 0x10000 }
+    ensures { (number : ℕ) → length (early number).space.memory ≡ 0x10000 }
 {}

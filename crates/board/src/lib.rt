@@ -4,6 +4,8 @@
 mod board;
 mod laws;
 mod memory;
+mod numbers;
+mod space;
 mod uart;
 mod wires;
 

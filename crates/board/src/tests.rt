@@ -1,5 +1,5 @@
-//! Short programs on a board, and each public call. The words are those of the manual's instruction
-//! formats.
+//! Short programs on a board, step by step, and each public call. The words are those of the
+//! manual's instruction formats.
 use super::*;
 use lab_num::{BoardNo, Entry, Key, Member, Micros, NoMemory, Payload, Post, PostNo, What};
 use std::alloc::Global;
@@ -10,11 +10,68 @@ const BASE: u32 = 0x8000_0000;
 
 const BOARD: BoardNo = BoardNo(3);
 
-/// lui x5, 0x10000; addi x6, x0, 65; sb x6, 0(x5); jal x0, 0
-const SEND_A: [u32; 4] = [0x1000_02B7, 0x0410_0313, 0x0062_8023, 0x0000_006F];
+/// What is done with a board, or seen of it.
+#[derive(Clone, Copy)]
+enum Step {
+    /// Bytes are copied into the memory from an address on.
+    Copy(u32, &'static [u8]),
+    /// The next instruction is at this address.
+    Go(u32),
+    Halt(bool),
+    Show,
+    /// Of the grant that begins at a microsecond, from a slot on, so many.
+    Run(u64, u64, u64),
+    Arrive(u8, Taken),
+    /// The oldest post has this microsecond, number and byte, and is dropped.
+    Sent(u64, u64, u8),
+    NoneSent,
+    /// The entries since the last look are one of this microsecond, number and byte.
+    Entered(u64, u64, u8),
+    NoneEntered,
+    Register(u8, u32),
+    At(u32),
+    Retired(u64),
+    Holds(u32, u32, bool),
+    Word(u32, Option<u32>),
+}
+
+use Step::{
+    Arrive, At, Copy, Entered, Go, Halt, Holds, NoneEntered, NoneSent, Register, Retired, Run,
+    Sent, Show, Word,
+};
 
 /// lui x5, 0x10000; addi x6, x0, 65; sb x6, 0(x5); jal x0, -4
-const SEND_A_AGAIN: [u32; 4] = [0x1000_02B7, 0x0410_0313, 0x0062_8023, 0xFFDF_F06F];
+const SEND: [u32; 4] = [0x1000_02B7, 0x0410_0313, 0x0062_8023, 0xFFDF_F06F];
+
+/// The first byte is sent by slot 2, and one more by each second slot from there on.
+const SENDING: [Step; 26] = [
+    Run(100, 30, 2),
+    At(BASE + 8),
+    Register(6, 65),
+    NoneSent,
+    Run(100, 32, 2),
+    Sent(132, 0, 65),
+    NoneSent,
+    NoneEntered,
+    Retired(4),
+    Show,
+    Run(200, 0, 1),
+    Entered(200, 0, 65),
+    NoneEntered,
+    Sent(200, 1, 65),
+    Halt(true),
+    Run(200, 1, 50),
+    NoneSent,
+    At(BASE + 12),
+    Retired(5),
+    Halt(false),
+    Run(200, 51, 2),
+    Entered(252, 1, 65),
+    Sent(252, 2, 65),
+    Go(BASE + 4),
+    Run(300, 0, 1),
+    At(BASE + 8),
+];
 
 /// lui x5, 0x10000; lbu x6, 5(x5); andi x6, x6, 1; beq x6, x0, -8; lbu x7, 0(x5); sb x7, 0(x5);
 /// jal x0, -20
@@ -28,6 +85,23 @@ const ECHO: [u32; 7] = [
     0xFEDF_F06F,
 ];
 
+/// Without a byte the program asks for one in three slots, from slot 1 on. So slot 200 is the andi,
+/// and slot 202 asks again.
+const ECHOING: [Step; 12] = [
+    Run(0, 0, 100),
+    NoneSent,
+    At(BASE + 4),
+    Arrive(66, Taken::Kept),
+    Run(100, 0, 100),
+    Sent(104, 0, 66),
+    NoneSent,
+    At(BASE + 8),
+    Arrive(67, Taken::Kept),
+    Run(200, 0, 100),
+    Sent(206, 1, 67),
+    NoneSent,
+];
+
 /// lui x5, 0x10000; lbu x6, 5(x5); lbu x7, 5(x5); lbu x8, 0(x5); lbu x9, 5(x5)
 const READ_STATUS: [u32; 5] = [
     0x1000_02B7,
@@ -37,60 +111,104 @@ const READ_STATUS: [u32; 5] = [
     0x0052_C483,
 ];
 
-/// lui x5, 0x90000; addi x6, x0, 65; sb x6, 0(x5); lw x6, 0(x5)
-const MISS: [u32; 4] = [0x9000_02B7, 0x0410_0313, 0x0062_8023, 0x0002_A303];
-
-/// auipc x7, 0; addi x7, x7, 64; csrrw x0, mtvec, x7
-const SET_HANDLER: [u32; 3] = [0x0000_0397, 0x0403_8393, 0x3053_9073];
-
-/// csrrs x8, mcause, x0; csrrs x9, mepc, x0; csrrs x10, mtval, x0
-const HANDLER: [u32; 3] = [0x3420_2473, 0x3410_24F3, 0x3430_2573];
-
-/// A word at 0x8000000C, where x7 is 0x80000040 and all else 0, the slots after it in which its
-/// trap is entered, and the trap's cause, pc and value.
-const TRAPS: [(u32, u64, u32, u32, u32); 5] = [
-    (0x0013_A303, 0, 4, 0x8000_000C, 0x8000_0041), // lw x6, 1(x7)
-    (0x0063_A123, 0, 6, 0x8000_000C, 0x8000_0042), // sw x6, 2(x7)
-    (0x0000_0000, 0, 2, 0x8000_000C, 0), // no instruction
-    (0x0000_0073, 0, 11, 0x8000_000C, 0), // ecall
-    (0x1000_0067, 1, 1, 0x0000_0100, 0x0000_0100), // jalr x0, 256(x0), which no memory holds
+/// Data ready and overrun, then data ready alone, then nothing.
+const OVERRUN: [Step; 8] = [
+    Arrive(66, Taken::Kept),
+    Arrive(67, Taken::Overrun),
+    Run(0, 0, 5),
+    Register(6, 0x63),
+    Register(7, 0x61),
+    Register(8, 67),
+    Register(9, 0x60),
+    Arrive(68, Taken::Kept),
 ];
 
-/// An address, a count of bytes, and whether the memory holds them.
-const HELD: [(u32, u32, bool); 12] = [
-    (0x8000_0000, 0x1_0000, true),
-    (0x8000_0000, 0x1_0001, false),
-    (0x8000_0001, 0x1_0000, false),
-    (0x8000_FFFF, 1, true),
-    (0x8000_FFFF, 2, false),
-    (0x8001_0000, 1, false),
-    (0x7FFF_FFFF, 1, false),
-    (0x7FFF_FFFF, 2, false),
-    (0x1000_0000, 1, false),
-    (0xFFFF_FFFF, 0xFFFF_FFFF, false),
-    (0x8000_0000, 0, true),
-    (0x0000_0000, 0, true),
+/// lui x5, 0x80001; lui x6, 0x11223; addi x6, x6, 0x344; sw x6, 0(x5); sh x6, 6(x5); sb x6, 9(x5);
+/// lhu x7, 2(x5); lbu x8, 1(x5); lw x9, 4(x5)
+const STORE: [u32; 9] = [
+    0x8000_12B7,
+    0x1122_3337,
+    0x3443_0313,
+    0x0062_A023,
+    0x0062_9323,
+    0x0062_84A3,
+    0x0022_D383,
+    0x0012_C403,
+    0x0042_A483,
 ];
 
-/// Writes words into the memory of a board from an address on.
-fn write_words(rt: &impl Abort, board: &mut Board, at: u32, words: &[u32]) -> Result<(), NoMemory> {
-    for (i, word) in words.iter().enumerate() {
-        assert!(rt; i < 100 && at < 0x9000_0000);
-        let to = at + 4 * i as u32;
-        assert!(rt; board.holds(to, 4));
-        board.copy_in(to, &word.to_le_bytes())?;
-    }
-    Ok(())
+const STORED: [Step; 7] = [
+    Run(0, 0, 9),
+    Word(0x8000_1000, Some(0x1122_3344)),
+    Word(0x8000_1004, Some(0x3344_0000)),
+    Word(0x8000_1008, Some(0x0000_4400)),
+    Register(7, 0x1122),
+    Register(8, 0x33),
+    Register(9, 0x3344_0000),
+];
+
+/// lui x5, 0x90000; addi x6, x0, 65; sb x6, 0(x5); lw x6, 0(x5); auipc x7, 0; addi x7, x7, 64;
+/// csrrw x0, mtvec, x7; jalr x0, 256(x0)
+const MISS: [u32; 8] = [
+    0x9000_02B7,
+    0x0410_0313,
+    0x0062_8023,
+    0x0002_A303,
+    0x0000_0397,
+    0x0403_8393,
+    0x3053_9073,
+    0x1000_0067,
+];
+
+/// Where nothing is, a load gives 0, a store does nothing, and a fetch is an exception.
+const MISSED: [Step; 9] = [
+    Show,
+    Run(0, 0, 3),
+    Register(6, 65),
+    Run(0, 3, 5),
+    Register(6, 0),
+    NoneSent,
+    NoneEntered,
+    Run(0, 8, 1),
+    At(BASE + 80),
+];
+
+/// wfi; addi x6, x0, 1
+const WAIT: [u32; 2] = [0x1050_0073, 0x0010_0313];
+
+/// No line is wired, so a processor that waits goes on waiting.
+const WAITING: [Step; 4] = [Run(0, 0, 50), At(BASE + 4), Register(6, 0), Retired(1)];
+
+const MEMORY: [Step; 20] = [
+    Holds(0x8000_0000, 0x1_0000, true),
+    Holds(0x8000_0000, 0x1_0001, false),
+    Holds(0x8000_0001, 0x1_0000, false),
+    Holds(0x8000_FFFF, 1, true),
+    Holds(0x8000_FFFF, 2, false),
+    Holds(0x7FFF_FFFF, 1, false),
+    Holds(0x7FFF_FFFF, 2, false),
+    Holds(0x1000_0000, 1, false),
+    Holds(0xFFFF_FFFF, 0xFFFF_FFFF, false),
+    Holds(0x0000_0000, 0, true),
+    Copy(0x0000_0000, &[]),
+    Copy(0x8000_FFFB, &[0x55, 0x44, 0x33, 0x22, 0x11]),
+    Word(0x8000_FFFC, Some(0x1122_3344)),
+    Word(0x8000_FFF8, Some(0x5500_0000)),
+    Word(0x8000_FFF4, Some(0)),
+    Word(0x8000_FFFE, None),
+    Word(0x8001_0000, None),
+    Word(0x7FFF_FFFC, None),
+    Word(0x1000_0000, None),
+    NoneSent,
+];
+
+/// Copies bytes into a memory that holds them all.
+fn copy(rt: &impl Abort, board: &mut Board, at: u32, bytes: &[u8]) -> Result<(), NoMemory> {
+    assert!(rt; bytes.len() < 0x1000);
+    assert!(rt; board.holds(at, bytes.len() as u32));
+    board.copy_in(at, bytes)
 }
 
-/// A board whose memory begins with these words.
-fn board_with(rt: &impl Abort, alloc: Global, words: &[u32]) -> Result<Board, NoMemory> {
-    let mut board = Board::early(alloc, BOARD)?;
-    write_words(rt, &mut board, BASE, words)?;
-    Ok(board)
-}
-
-/// Takes the slots from slot `first` of the grant at microsecond `from` on.
 fn run(rt: &impl Abort, board: &mut Board, from: u64, first: u64, n: u64) {
     assert!(rt; board.speed() == 1);
     assert!(rt; from <= 1000 && first <= 1000 && n <= 1000);
@@ -101,13 +219,6 @@ fn run(rt: &impl Abort, board: &mut Board, from: u64, first: u64, n: u64) {
     assert_eq!(rt; board.turn(at, n), Turn::Used(n));
 }
 
-/// The oldest post, which is dropped.
-fn take_post(board: &mut Board) -> Option<Post> {
-    let post = board.next_post()?;
-    board.drop_post();
-    Some(post)
-}
-
 fn key(at: u64, number: u64) -> Key {
     Key {
         at: Micros(at),
@@ -116,15 +227,15 @@ fn key(at: u64, number: u64) -> Key {
     }
 }
 
-fn post(at: u64, number: u64, byte: u8) -> Option<Post> {
-    Some(Post {
+fn post(at: u64, number: u64, byte: u8) -> Post {
+    Post {
         key: key(at, number),
         from: Member {
             board: BOARD,
             dev: 0,
         },
         payload: Payload::Byte(byte),
-    })
+    }
 }
 
 fn entry(at: u64, number: u64, value: u8) -> Entry {
@@ -134,175 +245,70 @@ fn entry(at: u64, number: u64, value: u8) -> Entry {
     }
 }
 
-#[test]
-fn a_byte_is_sent_in_the_microsecond_of_its_slot(rt: HostRuntime) -> Result<(), Fail> {
-    for (from, first, at) in [(0, 0, 2), (0, 7, 9), (100, 0, 102), (100, 30, 132)] {
-        let mut board = board_with(&rt, rt.alloc(), &SEND_A)?;
-        board.show(0);
-        run(&rt, &mut board, from, first, 2);
-        assert_eq!(rt; board.next_post(), None);
-        assert_eq!(rt; board.take_entries().len(), 0);
-        run(&rt, &mut board, from, first + 2, 1);
-        run(&rt, &mut board, from, first + 3, 20);
-        assert_eq!(rt; board.next_post(), post(at, 0, 65));
-        assert_eq!(rt; take_post(&mut board), post(at, 0, 65));
-        assert_eq!(rt; board.next_post(), None);
-        assert_eq!(rt;
-            board.take_entries().as_slice(),
-            [entry(at, 0, 65)].as_slice()
-        );
-        assert_eq!(rt; board.take_entries().len(), 0);
+/// The oldest post, which is dropped.
+fn take_post(board: &mut Board) -> Option<Post> {
+    let post = board.next_post()?;
+    board.drop_post();
+    Some(post)
+}
+
+/// Does a step, or sees that what it tells is so.
+fn play(rt: &impl Abort, board: &mut Board, step: Step) -> Result<(), NoMemory> {
+    match step {
+        Copy(at, bytes) => copy(rt, board, at, bytes)?,
+        Go(pc) => {
+            assert!(rt; pc % 4 == 0);
+            board.set_pc(pc);
+        }
+        Halt(on) => {
+            board.set_halted(on);
+            assert_eq!(rt; board.halted(), on);
+        }
+        Show => board.show(0),
+        Run(from, first, n) => run(rt, board, from, first, n),
+        Arrive(byte, taken) => assert_eq!(rt; board.deliver(0, &Payload::Byte(byte)), taken),
+        Sent(at, number, byte) => {
+            assert_eq!(rt; take_post(board), Some(post(at, number, byte)));
+        }
+        NoneSent => assert_eq!(rt; board.next_post(), None),
+        Entered(at, number, byte) => {
+            let made = [entry(at, number, byte)];
+            assert_eq!(rt; board.take_entries().as_slice(), made.as_slice());
+        }
+        NoneEntered => assert_eq!(rt; board.take_entries().len(), 0),
+        Register(n, value) => {
+            assert!(rt; n < 32);
+            assert_eq!(rt; board.register(n), value);
+        }
+        At(pc) => assert_eq!(rt; board.pc(), pc),
+        Retired(n) => assert_eq!(rt; board.retired(), n),
+        Holds(at, count, held) => assert_eq!(rt; board.holds(at, count), held),
+        Word(at, word) => assert_eq!(rt; board.load_word(at), word),
+    }
+    Ok(())
+}
+
+/// Gives a new board a program, and takes the steps.
+fn play_all(rt: &impl Abort, alloc: Global, words: &[u32], steps: &[Step]) -> Result<(), NoMemory> {
+    let mut board = Board::early(alloc, BOARD)?;
+    for (i, word) in words.iter().enumerate() {
+        assert!(rt; i < 100);
+        copy(rt, &mut board, BASE + 4 * i as u32, &word.to_le_bytes())?;
+    }
+    for step in steps {
+        play(rt, &mut board, *step)?;
     }
     Ok(())
 }
 
 #[test]
-fn a_shown_board_alone_makes_entries_and_numbers_them_apart(rt: HostRuntime) -> Result<(), Fail> {
-    let mut board = board_with(&rt, rt.alloc(), &SEND_A_AGAIN)?;
-    run(&rt, &mut board, 0, 0, 4);
-    assert_eq!(rt; board.take_entries().len(), 0);
-    board.show(0);
-    run(&rt, &mut board, 0, 4, 5);
-    let made = [entry(4, 0, 65), entry(6, 1, 65), entry(8, 2, 65)];
-    assert_eq!(rt; board.take_entries().as_slice(), made.as_slice());
-    for (at, number) in [(2, 0), (4, 1), (6, 2), (8, 3)] {
-        assert_eq!(rt; take_post(&mut board), post(at, number, 65));
-    }
-    assert_eq!(rt; board.next_post(), None);
-    Ok(())
-}
-
-// Without a byte the program asks for one in three slots, from slot 1 on.
-#[test]
-fn a_byte_is_sent_back_and_none_without_one(rt: HostRuntime) -> Result<(), Fail> {
-    let mut board = board_with(&rt, rt.alloc(), &ECHO)?;
-    run(&rt, &mut board, 0, 0, 100);
-    assert_eq!(rt; board.next_post(), None);
-    assert_eq!(rt; board.pc(), BASE + 4);
-    assert_eq!(rt; board.deliver(0, &Payload::Byte(66)), Taken::Kept);
-    run(&rt, &mut board, 100, 0, 100);
-    assert_eq!(rt; take_post(&mut board), post(104, 0, 66));
-    assert_eq!(rt; board.next_post(), None);
-    // slot 200 is the andi, and slot 202 asks again
-    assert_eq!(rt; board.pc(), BASE + 8);
-    assert_eq!(rt; board.deliver(0, &Payload::Byte(67)), Taken::Kept);
-    run(&rt, &mut board, 200, 0, 100);
-    assert_eq!(rt; take_post(&mut board), post(206, 1, 67));
-    assert_eq!(rt; board.next_post(), None);
-    Ok(())
-}
-
-#[test]
-fn a_second_byte_overruns_the_first(rt: HostRuntime) -> Result<(), Fail> {
-    let mut board = board_with(&rt, rt.alloc(), &READ_STATUS)?;
-    assert_eq!(rt; board.deliver(0, &Payload::Byte(66)), Taken::Kept);
-    assert_eq!(rt; board.deliver(0, &Payload::Byte(67)), Taken::Overrun);
-    run(&rt, &mut board, 0, 0, 5);
-    // data ready and overrun, then data ready alone
-    assert_eq!(rt; (board.register(6), board.register(7)), (0x63, 0x61));
-    assert_eq!(rt; (board.register(8), board.register(9)), (67, 0x60));
-    assert_eq!(rt; board.deliver(0, &Payload::Byte(68)), Taken::Kept);
-    Ok(())
-}
-
-#[test]
-fn memory_ends_with_its_last_byte(rt: HostRuntime) -> Result<(), Fail> {
-    let mut board = Board::early(rt.alloc(), BOARD)?;
-    for (at, count, held) in HELD {
-        assert_eq!(rt; board.holds(at, count), held, "{at:x} {count:x}");
-    }
-    assert!(rt; board.holds(0, 0));
-    board.copy_in(0, &[])?;
-    assert!(rt; board.holds(0x8000_FFFB, 5));
-    board.copy_in(0x8000_FFFB, &[0x55, 0x44, 0x33, 0x22, 0x11])?;
-    let words = [
-        (0x8000_FFFC, Some(0x1122_3344)),
-        (0x8000_FFF8, Some(0x5500_0000)),
-        (0x8000_FFF4, Some(0)),
-        (0x8000_FFFE, None),
-        (0x8001_0000, None),
-        (0x7FFF_FFFC, None),
-        (0x1000_0000, None),
-    ];
-    for (at, word) in words {
-        assert_eq!(rt; board.load_word(at), word, "{at:x}");
-    }
-    Ok(())
-}
-
-#[test]
-fn slots_of_a_halted_board_pass(rt: HostRuntime) -> Result<(), Fail> {
-    let mut board = board_with(&rt, rt.alloc(), &SEND_A)?;
-    assert!(rt; !board.halted());
-    board.set_halted(true);
-    run(&rt, &mut board, 0, 0, 50);
-    assert!(rt; board.halted());
-    assert_eq!(rt; (board.retired(), board.pc()), (0, BASE));
-    assert_eq!(rt; board.next_post(), None);
-    board.set_halted(false);
-    run(&rt, &mut board, 0, 50, 3);
-    assert_eq!(rt; board.next_post(), post(52, 0, 65));
-    assert_eq!(rt; board.retired(), 3);
-    Ok(())
-}
-
-#[test]
-fn each_slot_retires_an_instruction(rt: HostRuntime) -> Result<(), Fail> {
-    let rows = [
-        (0, BASE, 0, 0),
-        (1, BASE + 4, 0x1000_0000, 0),
-        (2, BASE + 8, 0x1000_0000, 65),
-        (3, BASE + 12, 0x1000_0000, 65),
-        (4, BASE + 12, 0x1000_0000, 65),
-        (100, BASE + 12, 0x1000_0000, 65),
-    ];
-    for (n, pc, x5, x6) in rows {
-        let mut board = board_with(&rt, rt.alloc(), &SEND_A)?;
-        run(&rt, &mut board, 0, 0, n);
-        assert_eq!(rt; (board.retired(), board.pc()), (n, pc));
-        assert_eq!(rt; (board.register(5), board.register(6)), (x5, x6), "{n}");
-    }
-    let mut board = board_with(&rt, rt.alloc(), &SEND_A)?;
-    board.set_pc(BASE + 4);
-    run(&rt, &mut board, 0, 0, 1);
-    assert_eq!(rt; (board.register(5), board.register(6)), (0, 65));
-    Ok(())
-}
-
-#[test]
-fn an_exception_enters_the_handler(rt: HostRuntime) -> Result<(), Fail> {
-    for (word, slots, cause, pc, value) in TRAPS {
-        let mut board = board_with(&rt, rt.alloc(), &SET_HANDLER)?;
-        write_words(&rt, &mut board, BASE + 12, &[word])?;
-        write_words(&rt, &mut board, BASE + 64, &HANDLER)?;
-        run(&rt, &mut board, 0, 0, 3);
-        run(&rt, &mut board, 0, 3, 1);
-        run(&rt, &mut board, 0, 4, slots);
-        assert_eq!(rt; board.pc(), BASE + 64, "{word:x}");
-        assert_eq!(rt; board.retired(), if slots == 0 { 3 } else { 4 }, "{word:x}");
-        run(&rt, &mut board, 0, 10, 3);
-        assert_eq!(rt; board.register(8), cause, "{word:x}");
-        assert_eq!(rt;
-            (board.register(9), board.register(10)),
-            (pc, value),
-            "{word:x}"
-        );
-    }
-    Ok(())
-}
-
-#[test]
-fn where_nothing_is_a_load_gives_0_and_a_store_does_nothing(rt: HostRuntime) -> Result<(), Fail> {
-    let mut board = board_with(&rt, rt.alloc(), &MISS)?;
-    board.show(0);
-    run(&rt, &mut board, 0, 0, 3);
-    assert_eq!(rt; board.register(6), 65);
-    run(&rt, &mut board, 0, 3, 1);
-    assert_eq!(rt;
-        (board.register(6), board.pc(), board.retired()),
-        (0, BASE + 16, 4)
-    );
-    assert_eq!(rt; board.next_post(), None);
-    assert_eq!(rt; board.take_entries().len(), 0);
+fn programs_run_slot_by_slot(rt: HostRuntime) -> Result<(), Fail> {
+    play_all(&rt, rt.alloc(), &SEND, &SENDING)?;
+    play_all(&rt, rt.alloc(), &ECHO, &ECHOING)?;
+    play_all(&rt, rt.alloc(), &READ_STATUS, &OVERRUN)?;
+    play_all(&rt, rt.alloc(), &STORE, &STORED)?;
+    play_all(&rt, rt.alloc(), &MISS, &MISSED)?;
+    play_all(&rt, rt.alloc(), &WAIT, &WAITING)?;
+    play_all(&rt, rt.alloc(), &[], &MEMORY)?;
     Ok(())
 }

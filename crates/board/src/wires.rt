@@ -1,37 +1,26 @@
-//! What the processor is wired to: the memory and the UART, and what the board makes by them.
-ghost use Rattle.std.specs.Prelude.{◌≡◌, ◌+◌, ◌%◌, ◌^◌, ◌<◌, ◌≤◌, ◌⊎◌, [], OnOk, OnErr, Some, None, if◌then◌else◌, ◌-◌};
+//! What the processor is wired to in a slot, and what the board makes by it.
+ghost use Rattle.std.specs.Prelude.{◌≡◌, ◌^◌, ◌<◌, [], OnOk, OnErr};
 ghost use Rattle.board.specs.Wires.{fetched, answer, loaded, stored, sent, post_of, entry_of, key_of};
-ghost use Rattle.board.specs.Space.{in_uart, uart_base};
 
-use crate::memory::Memory;
-use crate::uart::EarlyUart;
-use lab_num::{BoardNo, Entry, Key, Member, Micros, Payload, Post, PostNo, What};
+use crate::numbers::Numbers;
+use crate::space::Space;
+use lab_num::{Entry, Key, Member, Micros, Payload, Post, PostNo, What};
 use rv_exec::{Bus, NoMemory as OutOfMemory};
 use std::collections::VecDeque;
 use std::marker::Model;
 
-/// The address of the UART's first register. Its registers follow one another, a byte each.
-const UART_BASE: u32 = 0x1000_0000;
-
-/// Bytes of addresses that belong to the UART.
-const UART_SIZE: u32 = 0x100;
-
 /// The place of the UART among the board's devices.
-pub const UART: u8 = 0;
+const UART: u8 = 0;
 
-/// The memory and the UART of a board, and what the board has made by them and nobody has taken
-/// yet.
+/// What a board has but its processor: its numbers, its space, and what it has made and nobody has
+/// taken yet.
 #[derive(Drop)]
 pub struct Wires {
-    pub number: BoardNo,
+    pub numbers: Numbers,
+    pub space: Space,
     /// The microsecond of the slot.
     pub at: Micros,
-    pub memory: Memory,
-    pub uart: EarlyUart,
-    pub shown: bool,
-    pub posted: u64,
     pub posts: VecDeque<Post>,
-    pub entered: u64,
     pub entries: Vec<Entry>,
 }
 
@@ -41,14 +30,10 @@ impl Model for Wires {
     ghost Value = { Seen };
 
     ghost view = { λ w. record {
-      number = w.number.0;
+      numbers = w.numbers;
+      space = w.space;
       at = w.at.0;
-      memory = w.memory;
-      uart = w.uart;
-      shown = w.shown;
-      posted = w.posted;
       posts = w.posts.items;
-      entered = w.entered;
       entries = w.entries.items;
     } };
 }
@@ -63,6 +48,8 @@ impl Wires {
 
     /// Sends a byte by the UART: a post, and an entry where the UART is shown.
     #[tactic(auto, unfolding(crate::specs::Wires::sent))]
+    #[cold]
+    #[inline(never)]
     fn send(&mut self, byte: u8) -> Result<(), OutOfMemory>
         ensures ok { OnOk result (self.new ≡ sent self.old byte) }
         ensures err { OnErr result (self.new ≡ self.old) }
@@ -72,12 +59,12 @@ impl Wires {
         if self.entries.reserve(1).is_err() || self.posts.push_back(post).is_err() {
             return Err(OutOfMemory);
         }
-        self.posted = self.posted.saturating_add(1);
-        if self.shown {
+        self.numbers.count_post();
+        if self.space.is_shown() {
             let Ok(()) = self.entries.push(entry) else {
                 unreachable!()
             };
-            self.entered = self.entered.saturating_add(1);
+            self.numbers.count_entry();
         }
         Ok(())
     }
@@ -86,9 +73,9 @@ impl Wires {
         ensures { result ≡ post_of self.now byte }
     {
         Post {
-            key: self.key_of(self.posted),
+            key: self.key_of(self.numbers.posted),
             from: Member {
-                board: self.number,
+                board: self.numbers.number,
                 dev: UART,
             },
             payload: Payload::Byte(byte),
@@ -99,7 +86,7 @@ impl Wires {
         ensures { result ≡ entry_of self.now byte }
     {
         Entry {
-            key: self.key_of(self.entered),
+            key: self.key_of(self.numbers.entered),
             what: What::Byte {
                 dev: UART,
                 value: byte,
@@ -113,7 +100,7 @@ impl Wires {
     {
         Key {
             at: self.at,
-            board: self.number,
+            board: self.numbers.number,
             number: PostNo(number),
         }
     }
@@ -129,43 +116,18 @@ impl Bus for Wires {
     ghost stored = { stored };
 
     fn fetch(&mut self, at: u32) -> Option<u32> {
-        if !self.memory.holds(at, 4) {
-            return None;
-        }
-        Some(self.memory.load(at, 4))
+        self.space.memory.word(at)
     }
 
-    /// Loads from the memory, or the UART's register at the address, or 0. It is never refused.
+    /// It is never refused.
     fn load(&mut self, at: u32, width: u8) -> Result<u32, OutOfMemory> {
-        if self.memory.holds(at, usize::from(width)) {
-            return Ok(self.memory.load(at, width));
-        }
-        match uart_register(at, width) {
-            Some(register) => Ok(u32::from(self.uart.load(register))),
-            None => Ok(0),
-        }
+        Ok(self.space.load(at, width))
     }
 
-    /// Stores into the memory, or sends the lowest byte by the UART's register 0, or does nothing.
     fn store(&mut self, at: u32, width: u8, value: u32) -> Result<(), OutOfMemory> {
-        if self.memory.holds(at, usize::from(width)) {
-            self.memory.store(at, width, value);
-            return Ok(());
-        }
-        match uart_register(at, width) {
-            Some(0) => self.send((value % 0x100) as u8),
-            _ => Ok(()),
+        match self.space.store(at, width, value) {
+            Some(byte) => self.send(byte),
+            None => Ok(()),
         }
     }
-}
-
-/// The UART's register that holds all of so many bytes from an address on.
-fn uart_register(at: u32, width: u8) -> Option<u32>
-    requires { width ≤ 4 }
-    ensures { result ≡ (if in_uart at width then Some (at - uart_base) else None) }
-{
-    if at < UART_BASE || at - UART_BASE + u32::from(width) > UART_SIZE {
-        return None;
-    }
-    Some(at - UART_BASE)
 }

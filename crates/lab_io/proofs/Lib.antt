@@ -1,3 +1,4 @@
 pub mod Grown
 pub mod Find
 pub mod Listed
+pub mod ReadLemmas

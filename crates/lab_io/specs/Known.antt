@@ -6,10 +6,10 @@ use Rattle.std.specs.Option.{option_map}
 abbrev pub grown : {A : Type 0} → Option (List A) → List A → Option (List A)
 grown told more = option_map (λ xs. xs ++ more) told
 
--- a counter of 64 bits after one more, which stands still at its last value
+-- a counter of 64 bits after one more, which stays at its last value
 abbrev pub counted : ℕ → ℕ
 counted count = min (count + 1) (2 ^ 64 - 1)
 
--- a count of faults is greater than before, or stands at its last value
+-- a count of faults is greater than before, or is at its last value
 abbrev pub Rose : ℕ → ℕ → Type 0
 Rose before now = counted before ≤ now

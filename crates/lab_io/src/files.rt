@@ -24,7 +24,7 @@ pub trait Files {
     /// The names of all reads so far, in order, where they are told.
     ghost asked: { Self → Option (List (List ℕ)) };
 
-    /// How many faults there have been. The count stands still at 2^64 - 1 once it is there.
+    /// How many faults there have been. The count stays at 2^64 - 1 once it is there.
     ghost faults: { Self → ℕ };
 
     /// Reads a file of at most `limit` bytes whole. `into` stays empty unless the answer is `Done`.

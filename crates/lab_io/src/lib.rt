@@ -1,12 +1,12 @@
-//! Files and outputs behind traits that count their faults: in memory for tests, and the real ones.
+//! Files and outputs that count their faults: the real ones, and ones in memory for tests.
 #![tactic(auto)]
 
-pub mod disk_files;
-pub mod files;
-pub mod mem_files;
-pub mod mem_sink;
-pub mod out_sink;
-pub mod sink;
+mod disk_files;
+mod files;
+mod mem_files;
+mod mem_sink;
+mod out_sink;
+mod sink;
 
 pub use disk_files::DiskFiles;
 pub use files::{Files, ReadAnswer};

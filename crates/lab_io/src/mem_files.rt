@@ -18,7 +18,7 @@ struct Stored {
 }
 
 /// Files in memory. Each read has a number, counted from 0, and those that are listed fail.
-/// The number stands still at 2^64 - 1 once it is there.
+/// The number stays at 2^64 - 1 once it is there.
 #[derive(Drop)]
 pub struct MemFiles {
     alloc: Global,

@@ -8,7 +8,7 @@ use std::alloc::{AllocError, Global};
 use std::marker::Model;
 
 /// An output in memory. Each write has a number, counted from 0, and those that are listed fail.
-/// The number stands still at 2^64 - 1 once it is there.
+/// The number stays at 2^64 - 1 once it is there.
 #[derive(Drop)]
 pub struct MemSink {
     bytes: Vec<u8>,
@@ -106,31 +106,5 @@ impl Sink for MemSink {
             Ok(()) => Wrote::Took(count),
             Err(_) => Wrote::Memory,
         }
-    }
-}
-
-#[cfg(test)]
-mod tests {
-    use super::*;
-    use std::test::Fail;
-
-    #[test]
-    fn a_write_takes_the_most_it_may_and_fails_where_listed(rt: HostRuntime) -> Result<(), Fail> {
-        let mut out = MemSink::new(rt.alloc(), 3);
-        out.fail_at(1)?;
-        out.fail_at(1)?;
-        out.fail_at(4)?;
-        for (piece, wrote) in [
-            (b"abcd".as_slice(), Wrote::Took(3)),
-            (b"ef".as_slice(), Wrote::Failed),
-            (b"ef".as_slice(), Wrote::Took(2)),
-            (b"ghi".as_slice(), Wrote::Took(3)),
-            (b"j".as_slice(), Wrote::Failed),
-        ] {
-            assert!(rt; !piece.is_empty());
-            assert_eq!(rt; out.write(piece), wrote, "at {piece:?}");
-        }
-        assert_eq!(rt; out.bytes(), b"abcefghi".as_slice());
-        Ok(())
     }
 }

@@ -28,7 +28,7 @@ pub trait Sink {
     /// All the bytes so far, where they are told.
     ghost written: { Self → Option (List ℕ) };
 
-    /// How many faults there have been. The count stands still at 2^64 - 1 once it is there.
+    /// How many faults there have been. The count stays at 2^64 - 1 once it is there.
     ghost faults: { Self → ℕ };
 
     /// Writes some of the piece, from its front. The caller goes on with the rest.
@@ -71,34 +71,22 @@ mod tests {
     use std::test::Fail;
 
     #[test]
-    fn a_piece_is_written_whole_byte_by_byte(rt: HostRuntime) -> Result<(), Fail> {
-        let mut out = MemSink::new(rt.alloc(), 1);
-        // The third write is the last of the first piece.
-        out.fail_at(3)?;
-        assert_eq!(rt; write_whole(&mut out, b"abc"), Ok(()));
-        assert_eq!(rt; write_whole(&mut out, b"d"), Err(WriteFault::Unwritten));
-        assert_eq!(rt; write_whole(&mut out, b"ef"), Ok(()));
-        assert_eq!(rt; out.bytes(), b"abcef".as_slice());
-        Ok(())
-    }
-
-    #[test]
-    fn a_fault_in_mid_stream_leaves_the_front(rt: HostRuntime) -> Result<(), Fail> {
+    fn pieces_are_written_whole_up_to_a_fault(rt: HostRuntime) -> Result<(), Fail> {
         let mut out = MemSink::new(rt.alloc(), 2);
-        out.fail_at(2)?;
-        assert_eq!(rt; write_whole(&mut out, b"abcde"), Err(WriteFault::Unwritten));
-        assert_eq!(rt; out.bytes(), b"abcd".as_slice());
-        assert_eq!(rt; write_whole(&mut out, b"fgh"), Ok(()));
-        assert_eq!(rt; out.bytes(), b"abcdfgh".as_slice());
-        Ok(())
-    }
-
-    #[test]
-    fn an_empty_piece_makes_no_write(rt: HostRuntime) -> Result<(), Fail> {
-        let mut out = MemSink::new(rt.alloc(), 1);
-        out.fail_at(0)?;
-        assert_eq!(rt; write_whole(&mut out, b""), Ok(()));
-        assert_eq!(rt; write_whole(&mut out, b"a"), Err(WriteFault::Unwritten));
+        out.fail_at(3)?;
+        out.fail_at(4)?;
+        for (piece, answer) in [
+            // Writes 0 and 1.
+            (b"abc".as_slice(), Ok(())),
+            (b"".as_slice(), Ok(())),
+            // The second write fails.
+            (b"defgh".as_slice(), Err(WriteFault::Unwritten)),
+            (b"i".as_slice(), Err(WriteFault::Unwritten)),
+            (b"jk".as_slice(), Ok(())),
+        ] {
+            assert_eq!(rt; write_whole(&mut out, piece), answer, "{piece:?}");
+        }
+        assert_eq!(rt; out.bytes(), b"abcdejk".as_slice());
         Ok(())
     }
 }

@@ -166,7 +166,7 @@ module _ {T : Type 0} (key : T → Key) where
       let turned : Less ≡ Equal = sym one ∙ tied_itself key_total (key y) in
       absurd (cc)
 
-  -- behind one first item they have the same members
+  -- after one first item they have the same members
   rest_holds :
       (x y : T) (xs ys : List T) → x ≡ y → HoldsOn (x ∷ xs) (y ∷ ys) →
       AllByRecursion (λ z. key_cmp (key y) z ≡ Less) (map key ys) → HoldsOn xs ys

@@ -28,6 +28,6 @@ route hubs m = others (hub_of hubs m) m
 abbrev pub connected : List (List Member) → ℕ → Member → List (List Member)
 connected hubs hub m = slice_set hubs hub (slice_index_or hubs hub [] ++ m ∷ [])
 
--- no member stands twice in all the hubs together
+-- no member is in two hubs, nor twice in one
 abbrev pub StandOnce : List (List Member) → Type 0
 StandOnce hubs = IsDistinct same_member (flat_map (λ hub. hub) hubs)

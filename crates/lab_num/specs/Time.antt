@@ -14,7 +14,7 @@ infixl 10 ◌>>=◌
 abbrev ◌>>=◌ : {A B : Type 0} → Option A → (A → Option B) → Option B
 o >>= f = option_and_then f o
 
--- what stands before and after the first sign
+-- the text before the first sign and the text after it
 abbrev pub cut : ℕ → List ℕ → Option (List ℕ × List ℕ)
 cut sign text =
     if nat_lt (position_or_len (λ b. b == sign) text) (length text)
@@ -34,7 +34,7 @@ are_digits most text = nat_le 1 (length text) && nat_le (length text) most && li
 abbrev pub digits : ℕ → List ℕ → Option ℕ
 digits most text = if are_digits most text then Some (digits_value 10 text) else None
 
--- minutes, or the seconds behind them: one or two digits, at most 59
+-- minutes, or the seconds after them: one or two digits, at most 59
 abbrev pub sixtieths : List ℕ → Option ℕ
 sixtieths text = do
   n ← digits 2 text
@@ -54,7 +54,7 @@ clock_of text =
     with_cut (cut (byte ":") text) (digits 10 text)
     (λ h rest. with_cut (cut (byte ":") rest) None (λ m s. sum_of h m s))
 
--- the digits behind the point, in microseconds
+-- the digits after the point, in microseconds
 abbrev pub fraction_of : List ℕ → Option ℕ
 fraction_of text = do
   n ← digits 6 text

@@ -2,6 +2,7 @@
 #![tactic(auto)]
 
 mod key;
+mod kind;
 mod listing;
 mod name;
 mod number;
@@ -11,6 +12,7 @@ mod text;
 mod time;
 
 pub use key::{Key, Member};
+pub use kind::Kind;
 pub use listing::{key_laws, listing_laws};
 pub use name::is_name;
 pub use number::{BoardNo, Micros, NoMemory, PostNo};

@@ -30,11 +30,25 @@ mod tests {
 
     #[test]
     fn tells_names_from_other_texts(rt: HostRuntime) {
-        for text in ["m", "m0", "machine-0", "A_b-9", "-", "_", "0"] {
-            assert!(rt; is_name(text), "{text}");
-        }
-        for text in ["", " ", "a b", "a.b", "$a", "a/b", "\"a\"", "é", "a\n"] {
-            assert!(rt; !is_name(text), "{text}");
+        for (text, expected) in [
+            ("m", true),
+            ("m0", true),
+            ("machine-0", true),
+            ("A_b-9", true),
+            ("-", true),
+            ("_", true),
+            ("0", true),
+            ("", false),
+            (" ", false),
+            ("a b", false),
+            ("a.b", false),
+            ("$a", false),
+            ("a/b", false),
+            ("\"a\"", false),
+            ("\u{e9}", false),
+            ("a\n", false),
+        ] {
+            assert_eq!(rt; is_name(text), expected, "{text}");
         }
     }
 }

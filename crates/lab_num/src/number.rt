@@ -1,4 +1,4 @@
-//! Times, the numbers of boards and posts, and the answer for want of memory.
+//! Times, the numbers of boards and posts, and the error for memory that ran out.
 use std::alloc::{AllocError, AllocFailed};
 use std::error::Error;
 use std::fmt;
@@ -40,20 +40,5 @@ impl From<AllocError> for NoMemory {
 impl<T: Drop> From<AllocFailed<T>> for NoMemory {
     fn from(_error: AllocFailed<T>) -> NoMemory {
         NoMemory
-    }
-}
-
-#[cfg(test)]
-mod tests {
-    use super::*;
-    use std::test::Fail;
-
-    #[test]
-    fn want_of_memory_is_printed(rt: HostRuntime) -> Result<(), Fail> {
-        assert_eq!(rt;
-            format!(in rt.alloc(); "{NoMemory}")?.as_str(),
-            "out of memory"
-        );
-        Ok(())
     }
 }

@@ -56,15 +56,20 @@ impl<T: Eq> Eq for Rows<T> {
 #[cfg(test)]
 mod tests {
     use super::*;
+    use crate::text::Text;
     use std::test::Fail;
 
     #[test]
-    fn keeps_its_items_in_order(rt: HostRuntime) -> Result<(), Fail> {
-        let rows = Rows::of(vec![in rt.alloc(); 3, 1, 2]?);
-        assert_eq!(rt; rows.items(), [3, 1, 2].as_slice());
-        assert!(rt; rows == rows.clone()?);
-        assert!(rt; rows != Rows::of(vec![in rt.alloc(); 1, 2, 3]?));
-        assert_eq!(rt; rows.into_items().as_slice(), [3, 1, 2].as_slice());
+    fn rows_and_texts_are_copied_whole(rt: HostRuntime) -> Result<(), Fail> {
+        let alloc = rt.alloc();
+        let first = Text::of(alloc, "m\u{e9}")?;
+        let second = Text::of(alloc, "me")?;
+        let rows = Rows::of(vec![in alloc; first, second]?);
+        let copy = rows.clone()?;
+        assert!(rt; copy == rows);
+        for (text, expected) in copy.into_items().iter().zip(["m\u{e9}", "me"]) {
+            assert_eq!(rt; text.as_str(), expected);
+        }
         Ok(())
     }
 }

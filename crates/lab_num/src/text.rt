@@ -53,18 +53,3 @@ impl Eq for Text {
 
     ghost laws = { nat_list_eq_equiv };
 }
-
-#[cfg(test)]
-mod tests {
-    use super::*;
-    use std::test::Fail;
-
-    #[test]
-    fn keeps_its_text_apart_from_others(rt: HostRuntime) -> Result<(), Fail> {
-        let name = Text::of(rt.alloc(), "m\u{e9}")?;
-        assert_eq!(rt; name.as_str(), "m\u{e9}");
-        assert!(rt; name == name.clone()?);
-        assert!(rt; name != Text::of(rt.alloc(), "me")?);
-        Ok(())
-    }
-}

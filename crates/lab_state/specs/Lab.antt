@@ -1,15 +1,12 @@
 -- The laboratory between rounds.
 use Rattle.std.specs.Prelude.{ℕ, Bool, List}
-use Rattle.lab_num.specs.declared.key.Member.{Member}
-use Rattle.board.specs.View.{View}
+use Rattle.lab_state.specs.Board.{Board}
+use Rattle.lab_state.specs.Hub.{Hub}
 
--- The names of the boards and the boards in order of creation, the names of the hubs and the hubs in order of creation,
--- the time in microseconds, and the quantum.
+-- The boards and the hubs in order of creation, the time in microseconds, and the quantum.
 pub record Lab : Type 0 where
-  pub names : List (List ℕ)
-  pub boards : List View
-  pub hub_names : List (List ℕ)
-  pub hubs : List (List Member)
+  pub boards : List Board
+  pub hubs : List Hub
   pub now : ℕ
   pub quantum : ℕ
 

@@ -1,11 +1,12 @@
 -- What contracts of lab_state cite.
-pub mod Lab
+pub mod Board
 pub mod Boundary
+pub mod Change
+pub mod Hub
+pub mod Inner
+pub mod Lab
+pub mod Names
+pub mod One
 pub mod Round
 pub mod Run
 pub mod Turns
-pub mod Standing
-pub mod Names
-pub mod One
-pub mod Made
-pub mod Came

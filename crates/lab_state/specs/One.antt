@@ -1,14 +1,29 @@
--- One board of a laboratory.
-use Rattle.std.specs.Prelude.{ℕ, slice_index_or}
+-- One board or one hub of a laboratory.
+use Rattle.std.specs.Prelude.{ℕ, List, ◌∷◌, [], ◌++◌, Option, slice_get, option_and_then}
+use Rattle.std.specs.Option.{option_map}
+use Rattle.lab_num.specs.declared.key.Member.{Member}
 use Rattle.board.specs.View.{View}
-use Rattle.board.specs.Early.{early}
+use Rattle.lab_state.specs.Board.{Board}
+use Rattle.lab_state.specs.Hub.{Hub}
 use Rattle.lab_state.specs.Lab.{Lab}
-use Rattle.lab_state.specs.Boundary.{change_at}
+use Rattle.lab_state.specs.Change.{change_at}
 
--- the board of this number, which has to exist
-abbrev pub board_of : Lab → ℕ → View
-board_of lab b = slice_index_or lab.boards b (early b)
+-- what stands under the number of a board
+abbrev pub view_of : Lab → ℕ → Option View
+view_of lab b = option_and_then (λ board. board.view) (slice_get lab.boards b)
 
--- the laboratory with this board changed
+-- a board with what stands under its name changed
+abbrev pub with_view : (View → View) → Board → Board
+with_view f board = record board { view = option_map f board.view }
+
+-- the laboratory with one board changed
 abbrev pub changed : Lab → ℕ → (View → View) → Lab
-changed lab b f = record lab { boards = change_at lab.boards b f }
+changed lab b f = record lab { boards = change_at lab.boards b (with_view f) }
+
+-- a hub with a member more at its end
+abbrev pub with_member : Member → Hub → Hub
+with_member m hub = record hub { members = hub.members ++ m ∷ [] }
+
+-- the laboratory with a member more in one of its hubs
+abbrev pub connected : Lab → ℕ → Member → Lab
+connected lab hub m = record lab { hubs = change_at lab.hubs hub (with_member m) }

@@ -1,28 +1,52 @@
 -- One round: each board takes exactly the slots that its grant pays, and then comes the boundary.
-use Rattle.std.specs.Prelude.{ℕ, ◌+◌, List, map, Option, None}
+use Rattle.std.specs.Prelude.{ℕ, ◌+◌, List, [], ◌++◌, map, Option}
 use Rattle.std.specs.List.{flat_map}
+use Rattle.std.specs.Option.{option_map_or}
 use Rattle.lab_num.specs.declared.key.Key.{Key}
 use Rattle.lab_num.specs.declared.post.Entry.{Entry}
+use Rattle.lab_num.specs.declared.post.Post.{Post}
 use Rattle.lab_num.specs.Listing.{listing}
 use Rattle.lab_num.specs.Paid.{paid}
+use Rattle.lab_num.specs.Post.{entry_key}
 use Rattle.log_merge.specs.declared.item.LogItem.{LogItem}
 use Rattle.log_merge.specs.declared.item.LogItem.TheVariants as item
 use Rattle.board.specs.View.{View, State}
 use Rattle.board.specs.Stretch.{stretch}
+use Rattle.lab_state.specs.Board.{Board}
 use Rattle.lab_state.specs.Lab.{Lab}
-use Rattle.lab_state.specs.Boundary.{boundary}
+use Rattle.lab_state.specs.One.{with_view}
+use Rattle.lab_state.specs.Boundary.{Boundary, boundary}
 
--- what a board makes of a grant from one microsecond to another
-abbrev pub granted : ℕ → ℕ → View → State
-granted from to v = stretch v from 0 (paid from to v.speed)
+-- what boards make of grants of time, from one microsecond to another
+abbrev pub Grant : Type 0
+Grant = ℕ → ℕ → View → State
 
--- what all boards make of it
-abbrev pub all_granted : Lab → ℕ → List State
-all_granted lab q = map (granted lab.now (lab.now + q)) lab.boards
+-- a board takes the slots that the grant pays, from the first one on
+abbrev pub granted : Grant
+granted from to v = stretch v from 0 (paid from to v.numbers.speed)
+
+-- a board after its slots, and the posts and the entries that it has made in them; a board without memory and devices
+-- makes nothing
+abbrev pub stepped : (View → State) → Board → Board
+stepped grant board = with_view (λ v. (grant v).view) board
+
+abbrev pub posts_made : (View → State) → Board → List Post
+posts_made grant board = option_map_or (λ v. (grant v).posts) board.view []
+
+abbrev pub entries_made : (View → State) → Board → List Entry
+entries_made grant board = option_map_or (λ v. (grant v).entries) board.view []
+
+-- the boundary after all boards have taken their slots
+abbrev pub met : (View → State) → Lab → Boundary
+met grant lab = boundary lab.hubs (map (stepped grant) lab.boards) (flat_map (posts_made grant) lab.boards)
 
 -- an entry as an item of the log
 abbrev pub item_of : Entry → LogItem
 item_of entry = item.Slot (record { at = entry.key.at; board = entry.key.board }) entry.what
+
+-- what the log says of the slots of all boards
+abbrev pub slot_items : (View → State) → List Board → List LogItem
+slot_items grant boards = map item_of (listing entry_key (flat_map (entries_made grant) boards))
 
 -- what rounds have come to: the laboratory, the items of the log, and the pause that was asked for, if one was
 pub record Rounded : Type 0 where
@@ -30,17 +54,16 @@ pub record Rounded : Type 0 where
   pub items : List LogItem
   pub paused : Option Key
 
--- what a round of this length comes to, by what its boards have made of it
-abbrev pub rounded : Lab → ℕ → List State → Rounded
-rounded lab q runs = record {
-  lab = record lab {
-    boards = boundary lab.hubs (map (λ run. run.view) runs) (flat_map (λ run. run.posts) runs);
-    now = lab.now + q;
-  };
-  items = map item_of (listing (λ entry. entry.key) (flat_map (λ run. run.entries) runs));
-  paused = None;
-}
+-- a round of this length, of which the boards make this
+unfoldable pub round_by : Grant → Lab → ℕ → Rounded
+round_by grant lab q =
+    let end = met (grant lab.now (lab.now + q)) lab in
+    record {
+      lab = record lab { boards = end.boards; now = lab.now + q };
+      items = slot_items (grant lab.now (lab.now + q)) lab.boards ++ end.notes;
+      paused = end.pause;
+    }
 
 -- a round of this length
-unfoldable pub round : Lab → ℕ → Rounded
-round lab q = rounded lab q (all_granted lab q)
+abbrev pub round : Lab → ℕ → Rounded
+round lab q = round_by granted lab q

@@ -1,5 +1,5 @@
 -- Runs: rounds of one quantum each, and a shorter one for what is left. A run ends at the first round that has a pause.
-use Rattle.std.specs.Prelude.{ℕ, zero, suc, ◌/◌, ◌%◌, ◌==◌, if◌then◌else◌, [], ◌++◌, None, is_some}
+use Rattle.std.specs.Prelude.{ℕ, ◌/◌, ◌%◌, ◌==◌, if◌then◌else◌, List, [], ◌∷◌, ◌++◌, replicate, fold, None, is_some}
 use Rattle.lab_state.specs.Lab.{Lab}
 use Rattle.lab_state.specs.Round.{Rounded, round}
 
@@ -7,28 +7,29 @@ use Rattle.lab_state.specs.Round.{Rounded, round}
 abbrev pub Play : Type 0
 Play = Lab → ℕ → Rounded
 
--- what comes behind what has come
-abbrev pub behind : Rounded → Rounded → Rounded
-behind run more = record { lab = more.lab; items = run.items ++ more.items; paused = more.paused }
+-- the length of the round of what is left, if something is
+abbrev pub rest_of : ℕ → List ℕ
+rest_of d = if d == 0 then [] else d ∷ []
+
+-- the lengths of the rounds of a run: the whole quanta, and then what is left
+abbrev pub lengths : ℕ → ℕ → List ℕ
+lengths quantum d = replicate (d / quantum) quantum ++ rest_of (d % quantum)
+
+-- what has come and what comes after it, as one
+abbrev pub followed_by : Rounded → Rounded → Rounded
+followed_by run more = record { lab = more.lab; items = run.items ++ more.items; paused = more.paused }
 
 -- a round more, unless the run has paused
 abbrev pub go_on : Play → Rounded → ℕ → Rounded
-go_on play run q = if is_some run.paused then run else behind run (play run.lab q)
+go_on play run q = if is_some run.paused then run else followed_by run (play run.lab q)
 
 -- no round
 abbrev pub still : Lab → Rounded
 still lab = record { lab = lab; items = []; paused = None }
 
--- so many rounds of this length
-unfoldable pub rounds : Play → Lab → ℕ → ℕ → Rounded
-rounds play lab q zero = still lab
-rounds play lab q (suc n) = go_on play (rounds play lab q n) q
-
--- a run of this length whose rounds are played so: the whole quanta, and then what is left if that is not 0
+-- a run of this length whose rounds are played so
 unfoldable pub run_by : Play → Lab → ℕ → Rounded
-run_by play lab d =
-    if d % lab.quantum == 0 then rounds play lab lab.quantum (d / lab.quantum)
-    else go_on play (rounds play lab lab.quantum (d / lab.quantum)) (d % lab.quantum)
+run_by play lab d = fold (go_on play) (still lab) (lengths lab.quantum d)
 
 -- a run of this length
 abbrev pub run : Lab → ℕ → Rounded

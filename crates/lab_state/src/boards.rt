@@ -1,39 +1,38 @@
 //! The boards of a laboratory.
-ghost use Rattle.std.specs.Prelude.{◌≡◌, ◌+◌, ◌-◌, ◌<◌, ◌%◌, ◌↔◌, ◌++◌, ◌∷◌, [], length, true, false, slice_index_or, IsTrue, IfOk, OnOk, OnErr};
-ghost use Rattle.std.specs.Option.{option_map};
+ghost use Rattle.std.specs.Prelude.{◌≡◌, ◌<◌, ◌%◌, ◌↔◌, ◌++◌, ◌∷◌, [], length, false, Some, slice_get, position, is_some, IsSome, IsTrue, IfOk, OnOk, OnErr};
+ghost use Rattle.std.specs.Option.{option_map, ForSome};
+ghost use Rattle.std.specs.Str.{bytes_eq};
 ghost use Rattle.lab_num.specs.Name as name_spec;
+ghost use Rattle.board.specs.Changes.{with_bytes, with_pc, with_shown};
 ghost use Rattle.board.specs.Early.{early};
+ghost use Rattle.board.specs.Memory.{holds_each};
 ghost use Rattle.board.specs.Slot.{quiet};
-ghost use Rattle.board.specs.Space.{memory_base, holds_each, put_bytes};
 ghost use Rattle.lab_state.specs.Names as names_spec;
-ghost use Rattle.lab_state.specs.One.{board_of, changed};
+ghost use Rattle.lab_state.specs.One.{view_of, changed};
 
 use crate::faults::AddFault;
 use crate::lab::Lab;
-use crate::names::{has_name, number_of};
+use crate::named_board::NamedBoard;
 use board::Board;
 use lab_num::{BoardNo, Member, NoMemory, Text};
 
 /// The most boards that a laboratory has.
 const MOST_BOARDS: usize = 16;
 
-/// Puts a name and a board at the ends of their lists, or neither.
-fn push_both(
-    names: &mut Vec<Text>,
-    boards: &mut Vec<Board>,
-    name: Text,
-    board: Board,
-) -> Result<(), NoMemory>
-    ensures name { OnOk result (names.new.items ≡ names.old.items ++ name ∷ []) }
-    ensures board { OnOk result (boards.new.items ≡ boards.old.items ++ board ∷ []) }
-    ensures no_name { OnErr result (names.new.items ≡ names.old.items) }
-    ensures no_board { OnErr result (boards.new.items ≡ boards.old.items) }
+/// The number of the first board of this name.
+fn number_of(boards: &[NamedBoard], name: &str) -> Option<usize>
+    ensures { result ≡ position (λ board. bytes_eq board.name name.now) boards.now }
 {
-    names.push(name)?;
-    if boards.push(board).is_err() {
-        let _ = names.pop();
-        return Err(NoMemory);
-    }
+    boards
+        .iter()
+        .position(|board| board.name().as_str() == name)
+}
+
+fn push(boards: &mut Vec<NamedBoard>, board: NamedBoard) -> Result<(), NoMemory>
+    ensures ok { OnOk result (boards.new.items ≡ boards.old.items ++ board ∷ []) }
+    ensures err { OnErr result (boards.new.items ≡ boards.old.items) }
+{
+    boards.push(board)?;
     Ok(())
 }
 
@@ -42,7 +41,7 @@ impl Lab {
     pub(crate) fn is_taken(&self, name: &str) -> bool
         ensures { result ≡ names_spec.is_taken self.now.lab name.now }
     {
-        has_name(&self.names, name) || has_name(&self.hub_names, name)
+        number_of(&self.boards, name).is_some() || self.hub_named(name).is_some()
     }
 
     /// Adds a board in its early form, which runs from the time of the laboratory on.
@@ -52,8 +51,10 @@ impl Lab {
         ensures number { IfOk result (λ board. board.0 ≡ length self.old.lab.boards) }
         ensures ok { OnOk result (self.new ≡ record self.old {
           lab = record self.old.lab {
-            names = self.old.lab.names ++ name.now ∷ [];
-            boards = self.old.lab.boards ++ early (length self.old.lab.boards) ∷ [];
+            boards = self.old.lab.boards ++ record {
+              name = name.now;
+              view = Some (early (length self.old.lab.boards));
+            } ∷ [];
           };
         }) }
 
@@ -74,7 +75,7 @@ impl Lab {
         let number = BoardNo(self.boards.len() as u8);
         let board = Board::early(self.alloc, number)?;
         let text = Text::of(self.alloc, name)?;
-        push_both(&mut self.names, &mut self.boards, text, board)?;
+        push(&mut self.boards, NamedBoard::new(text, board))?;
         Ok(number)
     }
 
@@ -90,51 +91,54 @@ impl Lab {
     pub fn find_board(&self, name: &str) -> Option<BoardNo>
         requires { self.now.spent ≡ false }
         ensures { option_map (λ board. board.0) result
-            ≡ names_spec.number_of self.now.lab.names name.now }
+            ≡ names_spec.board_named self.now.lab name.now }
     {
-        let board = number_of(&self.names, name)?;
-        Some(BoardNo(board as u8))
+        match number_of(&self.boards, name) {
+            Some(b) => Some(BoardNo(b as u8)),
+            None => None,
+        }
     }
 
-    /// The name of a board.
+    /// The name of a board, which no other board has.
     pub fn board_name(&self, b: BoardNo) -> &Text
         requires unspent { self.now.spent ≡ false }
         requires exists { b.0 < length self.now.lab.boards }
-        ensures { result.now ≡ slice_index_or self.now.lab.names b.0 [] }
+        ensures value { Some result.now
+            ≡ option_map (λ board. board.name) (slice_get self.now.lab.boards b.0) }
+        ensures found { names_spec.board_named self.now.lab result.now ≡ Some b.0 }
     {
-        &self.names[b.0 as usize]
+        self.boards[b.0 as usize].name()
     }
 
-    /// Whether a board has got its memory and devices. Every board has them when it is added.
+    /// Whether a board has its memory and devices. Every board has them from the time on at which
+    /// it is added.
     pub fn has_plan(&self, b: BoardNo) -> bool
         requires unspent { self.now.spent ≡ false }
         requires exists { b.0 < length self.now.lab.boards }
-        ensures { IsTrue result }
+        ensures { result ≡ is_some (view_of self.now.lab b.0) }
     {
-        (b.0 as usize) < self.boards.len()
+        self.boards[b.0 as usize].board().is_some()
     }
 
     /// A board. Nobody is yet to take a post or an entry of it.
     pub fn board(&self, b: BoardNo) -> &Board
         requires unspent { self.now.spent ≡ false }
-        requires exists { b.0 < length self.now.lab.boards }
-        ensures { result.now ≡ quiet (board_of self.now.lab b.0) }
+        requires has_plan { IsSome (view_of self.now.lab b.0) }
+        ensures view { Some result.now.view ≡ view_of self.now.lab b.0 }
+        ensures quiet { result.now ≡ quiet result.now.view }
     {
-        &self.boards[b.0 as usize]
+        self.boards[b.0 as usize].board().unwrap()
     }
 
     /// Writes bytes into the memory of a board from an address on.
     pub fn copy_in(&mut self, b: BoardNo, at: u32, bytes: &[u8]) -> Result<(), NoMemory>
         requires unspent { self.old.spent ≡ false }
-        requires exists { b.0 < length self.old.lab.boards }
-        requires holds { IsTrue
-            (holds_each (board_of self.old.lab b.0).memory at (length bytes.now)) }
+        requires has_plan { IsSome (view_of self.old.lab b.0) }
+        requires holds { ForSome (view_of self.old.lab b.0) (λ v.
+            IsTrue (holds_each v.space.memory at (length bytes.now))) }
         ensures ok { OnOk result (self.new ≡ record self.old {
-          lab = changed self.old.lab b.0 (λ board. record board {
-            memory = put_bytes board.memory (at - memory_base) bytes.now;
-          });
+          lab = changed self.old.lab b.0 (λ v. with_bytes v at bytes.now);
         }) }
-        ensures boards { length self.new.lab.boards ≡ length self.old.lab.boards }
         ensures err { OnErr result (self.new ≡ self.old) }
     {
         let board = &mut self.boards[b.0 as usize];
@@ -144,14 +148,11 @@ impl Lab {
     /// Sets the address of a board's next instruction.
     pub fn set_pc(&mut self, b: BoardNo, pc: u32)
         requires unspent { self.old.spent ≡ false }
-        requires exists { b.0 < length self.old.lab.boards }
+        requires has_plan { IsSome (view_of self.old.lab b.0) }
         requires aligned { pc % 4 ≡ 0 }
-        ensures lab { self.new ≡ record self.old {
-          lab = changed self.old.lab b.0 (λ board. record board {
-            core = record board.core { pc = pc };
-          });
+        ensures { self.new ≡ record self.old {
+          lab = changed self.old.lab b.0 (λ v. with_pc v pc);
         } }
-        ensures boards { length self.new.lab.boards ≡ length self.old.lab.boards }
     {
         let board = &mut self.boards[b.0 as usize];
         board.set_pc(pc);
@@ -161,12 +162,11 @@ impl Lab {
     /// changes nothing.
     pub fn show(&mut self, member: Member)
         requires unspent { self.old.spent ≡ false }
-        requires exists { member.board.0 < length self.old.lab.boards }
+        requires has_plan { IsSome (view_of self.old.lab member.board.0) }
         requires device { member.dev ≡ 0 }
-        ensures lab { self.new ≡ record self.old {
-          lab = changed self.old.lab member.board.0 (λ board. record board { shown = true });
+        ensures { self.new ≡ record self.old {
+          lab = changed self.old.lab member.board.0 with_shown;
         } }
-        ensures boards { length self.new.lab.boards ≡ length self.old.lab.boards }
     {
         let board = &mut self.boards[member.board.0 as usize];
         board.show(member.dev);

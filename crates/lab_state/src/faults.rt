@@ -1,5 +1,6 @@
 //! Why a call on a laboratory is refused.
 use lab_num::NoMemory;
+use uart_hub::HubFault;
 
 /// Why a board was not added.
 #[derive(Clone, Copy, PartialEq, Eq, Debug)]
@@ -78,5 +79,19 @@ impl From<LabFault> for RunFault {
 
     fn from(_fault: LabFault) -> RunFault {
         RunFault::Memory
+    }
+}
+
+impl From<HubFault> for ConnectFault {
+    ghost use Rattle.std.specs.Prelude.{◌≡◌};
+    ghost use Rattle.lab_state.specs.Inner.Fault.{fault_of};
+
+    ghost from_gives = { λ hub fault. fault ≡ fault_of hub };
+
+    fn from(fault: HubFault) -> ConnectFault {
+        match fault {
+            HubFault::Already => ConnectFault::Already,
+            HubFault::Memory => ConnectFault::Memory,
+        }
     }
 }

@@ -1,11 +1,11 @@
 //! The laboratory, its time and its quantum.
 ghost use Rattle.std.specs.Prelude.{◌≡◌, ◌≤◌, [], false, IfOk};
 
-use board::Board;
-use lab_num::{Micros, NoMemory, Text};
+use crate::hub_list::HubList;
+use crate::named_board::NamedBoard;
+use lab_num::{Micros, NoMemory};
 use std::alloc::Global;
 use std::marker::Model;
-use uart_hub::UartHubs;
 
 /// The quantum of a new laboratory, in microseconds.
 const QUANTUM: u64 = 100;
@@ -15,10 +15,8 @@ const QUANTUM: u64 = 100;
 #[derive(Drop)]
 pub struct Lab {
     pub(crate) alloc: Global,
-    pub(crate) names: Vec<Text>,
-    pub(crate) boards: Vec<Board>,
-    pub(crate) hub_names: Vec<Text>,
-    pub(crate) hubs: UartHubs,
+    pub(crate) boards: Vec<NamedBoard>,
+    pub(crate) hubs: HubList,
     pub(crate) time: Micros,
     pub(crate) quantum: u64,
     pub(crate) spent: bool,
@@ -27,15 +25,13 @@ pub struct Lab {
 impl Model for Lab {
     ghost use Rattle.std.specs.Prelude.{◌≡◌, false};
     ghost use Rattle.lab_state.specs.Lab.{Seen};
-    ghost use Rattle.lab_state.specs.Standing.{views, IsSound};
+    ghost use Rattle.lab_state.specs.Inner.Standing.{IsSound, outlines};
 
     ghost Value = { Seen };
 
     ghost view = { λ l. record {
       lab = record {
-        names = l.names.items;
-        boards = views l.boards.items;
-        hub_names = l.hub_names.items;
+        boards = l.boards.items;
         hubs = l.hubs;
         now = l.time.0;
         quantum = l.quantum;
@@ -44,7 +40,7 @@ impl Model for Lab {
     } };
 
     ghost invariant = { λ l. l.spent ≡ false →
-        IsSound l.names.items l.boards.items l.hub_names.items l.hubs l.time.0 l.quantum };
+        IsSound (outlines l.boards.items) l.hubs l.time.0 l.quantum };
 }
 
 impl Lab {
@@ -53,23 +49,14 @@ impl Lab {
     /// A laboratory at time 0, without boards and hubs, at a quantum of 100 microseconds.
     pub fn new(alloc: Global) -> Result<Lab, NoMemory>
         ensures { IfOk result (λ made. made ≡ record {
-          lab = record {
-            names = [];
-            boards = [];
-            hub_names = [];
-            hubs = [];
-            now = 0;
-            quantum = 100;
-          };
+          lab = record { boards = []; hubs = []; now = 0; quantum = 100 };
           spent = false;
         }) }
     {
         Ok(Lab {
             alloc,
-            names: Vec::new(alloc),
             boards: Vec::new(alloc),
-            hub_names: Vec::new(alloc),
-            hubs: UartHubs::new(alloc),
+            hubs: HubList::new(alloc),
             time: Micros(0),
             quantum: QUANTUM,
             spent: false,

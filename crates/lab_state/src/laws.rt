@@ -1,23 +1,24 @@
 //! Laws of rounds and runs. Each is the contract of a function that does nothing.
-ghost use Rattle.std.specs.Prelude.{◌≡◌, ℕ, ◌+◌, ◌%◌, ◌<◌, List};
+ghost use Rattle.std.specs.Prelude.{◌≡◌, ℕ, ◌+◌, ◌%◌, ◌<◌, List, None};
 ghost use Rattle.std.specs.List.Sorted.{IsPermutation};
-ghost use Rattle.lab_num.specs.declared.key.Member.{Member};
 ghost use Rattle.lab_num.specs.declared.post.Post.{Post};
 ghost use Rattle.lab_num.specs.Key.{KeysDiffer};
 ghost use Rattle.lab_num.specs.Post.{post_key};
-ghost use Rattle.board.specs.View.{View};
+ghost use Rattle.lab_state.specs.Board.{Board};
 ghost use Rattle.lab_state.specs.Boundary.{boundary};
+ghost use Rattle.lab_state.specs.Hub.{Hub};
 ghost use Rattle.lab_state.specs.Lab.{Lab};
-ghost use Rattle.lab_state.specs.Run.{run, behind};
+ghost use Rattle.lab_state.specs.Run.{run, followed_by};
 ghost use Rattle.lab_state.specs.Turns.{Cut, IsWhole, run_in_turns};
 
 use board::turns_join;
 use lab_num::{Post as BoardPost, listing_laws};
 
-/// A run of a whole number of quanta and the run behind it are one run.
+/// A run of a whole number of quanta that does not pause and the run after it are one run.
 pub fn runs_join()
     ensures { (lab : Lab) (d e : ℕ) → 0 < lab.quantum → d % lab.quantum ≡ 0 →
-        run lab (d + e) ≡ behind (run lab d) (run (run lab d).lab e) }
+        (run lab d).paused ≡ None →
+        run lab (d + e) ≡ followed_by (run lab d) (run (run lab d).lab e) }
 {}
 
 /// However the boards take the slots of their grants in turns, a run is the same: the laboratory
@@ -28,10 +29,9 @@ pub fn turns_agree()
     turns_join();
 }
 
-/// What the boards are handed at a boundary does not depend on the order in which the posts were
-/// gathered.
+/// What a boundary comes to does not depend on the order in which the posts were gathered.
 pub fn boundaries_agree()
-    ensures { (hubs : List (List Member)) (boards : List View) (posts others : List Post) →
+    ensures { (hubs : List Hub) (boards : List Board) (posts others : List Post) →
         KeysDiffer post_key posts → IsPermutation posts others →
         boundary hubs boards posts ≡ boundary hubs boards others }
 {

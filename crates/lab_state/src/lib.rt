@@ -3,10 +3,11 @@
 
 mod boards;
 mod faults;
+mod hub_list;
 mod hubs;
 mod lab;
 mod laws;
-mod names;
+mod named_board;
 mod round;
 mod run;
 

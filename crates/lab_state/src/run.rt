@@ -1,8 +1,9 @@
 //! Runs: rounds of one quantum each, and a shorter one for what is left.
-ghost use Rattle.std.specs.Prelude.{◌≡◌, ◌+◌, ◌<◌, ◌≤◌, ◌↔◌, true, false, IfOk, OnOk, OnErr};
-ghost use Rattle.lab_state.specs.Came.{came_to};
+ghost use Rattle.std.specs.Prelude.{◌≡◌, ◌+◌, ◌*◌, ◌<◌, ◌≤◌, ◌↔◌, fold, replicate, true, false, IfOk, OnOk, OnErr};
+ghost use Rattle.lab_state.specs.Inner.Came.{came_to};
 ghost use Rattle.lab_state.specs.Round.{round};
 ghost use Rattle.lab_state.specs.Run as run_spec;
+ghost use Rattle.lab_state.specs.Run.{still, rest_of};
 
 use crate::faults::{LabFault, RunFault};
 use crate::lab::Lab;
@@ -14,12 +15,14 @@ const LAST: u64 = 10_000_000_000;
 
 impl Lab {
     /// A round more of a run, unless the run has paused.
+    #[tactic(auto, unfolding(crate::specs::Round::round_by))]
     fn go_on(&mut self, run: RoundLog, q: u64) -> Result<RoundLog, LabFault>
         requires unspent { self.old.spent ≡ false }
         requires some { 0 < q }
         requires within { self.old.lab.now + q ≤ 10000000000 }
         ensures ok { IfOk result (λ log.
             came_to self.new.lab log ≡ run_spec.go_on round (came_to self.old.lab run) q) }
+        ensures now { OnOk result (self.new.lab.now ≤ self.old.lab.now + q) }
         ensures unspent { OnOk result (self.new.spent ≡ false) }
         ensures err { OnErr result (self.new.spent ≡ true) }
     {
@@ -36,6 +39,42 @@ impl Lab {
             lines: Rows::of(lines),
             paused: more.paused,
         })
+    }
+
+    /// The rounds of the whole quanta of a run.
+    fn whole_quanta(&mut self, n: u64, q: u64) -> Result<RoundLog, LabFault>
+        requires unspent { self.old.spent ≡ false }
+        requires some { 0 < q }
+        requires within { self.old.lab.now + q * n ≤ 10000000000 }
+        ensures ok { IfOk result (λ log. came_to self.new.lab log
+            ≡ fold (run_spec.go_on round) (still self.old.lab) (replicate n q)) }
+        ensures now { OnOk result (self.new.lab.now ≤ self.old.lab.now + q * n) }
+        ensures unspent { OnOk result (self.new.spent ≡ false) }
+        ensures err { OnErr result (self.new.spent ≡ true) }
+    {
+        let mut run = RoundLog {
+            lines: Rows::of(Vec::new(self.alloc)),
+            paused: None,
+        };
+        'rounds: for _ in 0..n {
+            run = self.go_on(run, q)?;
+        }
+        Ok(run)
+    }
+
+    /// The round of what is left of a run, if something is.
+    fn what_is_left(&mut self, run: RoundLog, rest: u64) -> Result<RoundLog, LabFault>
+        requires unspent { self.old.spent ≡ false }
+        requires within { self.old.lab.now + rest ≤ 10000000000 }
+        ensures ok { IfOk result (λ log. came_to self.new.lab log
+            ≡ fold (run_spec.go_on round) (came_to self.old.lab run) (rest_of rest)) }
+        ensures unspent { OnOk result (self.new.spent ≡ false) }
+        ensures err { OnErr result (self.new.spent ≡ true) }
+    {
+        if rest == 0 {
+            return Ok(run);
+        }
+        self.go_on(run, rest)
     }
 
     /// Runs for `d` microseconds: rounds of one quantum each, and then a shorter one if the quanta
@@ -59,17 +98,8 @@ impl Lab {
             return Err(RunFault::TooLong);
         }
         let q = self.quantum;
-        let mut run = RoundLog {
-            lines: Rows::of(Vec::new(self.alloc)),
-            paused: None,
-        };
-        'rounds: for _ in 0..d.0 / q {
-            run = self.go_on(run, q)?;
-        }
-        let rest = d.0 % q;
-        if rest != 0 {
-            run = self.go_on(run, rest)?;
-        }
+        let run = self.whole_quanta(d.0 / q, q)?;
+        let run = self.what_is_left(run, d.0 % q)?;
         Ok(run)
     }
 }

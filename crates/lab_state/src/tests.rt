@@ -1,6 +1,8 @@
-//! What runs of programs show.
-use crate::{AddFault, ConnectFault, HubNameFault, Lab, RunFault};
-use lab_num::{BoardNo, Member, Micros, Rows, What, is_name};
+//! What rounds and runs of programs show.
+ghost use Rattle.std.specs.Prelude.{◌≡◌, ◌+◌, ◌<◌, ◌≤◌, true, false, OnErr};
+
+use crate::{Lab, LabFault, RoundLog};
+use lab_num::{BoardNo, Kind, Member, Micros, What, is_name};
 use log_merge::{LogItem, Member0};
 use std::alloc::Global;
 use std::process::Abort;
@@ -12,20 +14,11 @@ const START: u32 = 0x8000_0000;
 /// lui x5, 0x10000: the address of the UART
 const LUI: u32 = 0x1000_02B7;
 
-/// addi x6, x0, 65: an `A`
-const ADDI: u32 = 0x0410_0313;
-
-/// sb x6, 0(x5): sends it
-const SB: u32 = 0x0062_8023;
-
 /// addi x0, x0, 0: does nothing
 const NOP: u32 = 0x0000_0013;
 
 /// jal x0, 0: goes round in one place
 const STAY: u32 = 0x0000_006F;
-
-/// jal x0, -4: goes back to the instruction before
-const BACK: u32 = 0xFFDF_F06F;
 
 /// lui x5, 0x10000; lbu x6, 5(x5); andi x6, x6, 1; beq x6, x0, -8; lbu x7, 0(x5); sb x7, 0(x5);
 /// jal x0, 0: sends the first byte that it gets on
@@ -39,16 +32,13 @@ const ECHO: [u32; 7] = [
     STAY,
 ];
 
-/// The same with jal x0, -20 at the end: sends each byte that it gets on
-const ECHO_AGAIN: [u32; 7] = [
-    LUI,
-    0x0052_C303,
-    0x0013_7313,
-    0xFE03_0CE3,
-    0x0002_C383,
-    0x0072_8023,
-    0xFEDF_F06F,
-];
+/// The UART of a board.
+fn uart(board: BoardNo) -> Member
+    ensures board { result.board ≡ board }
+    ensures dev { result.dev ≡ 0 }
+{
+    Member { board, dev: 0 }
+}
 
 /// The item of the log for the `A` that a board sent.
 fn sent(at: u64, board: u8) -> LogItem {
@@ -59,27 +49,16 @@ fn sent(at: u64, board: u8) -> LogItem {
     LogItem::Slot(slot, What::Byte { dev: 0, value: 65 })
 }
 
-fn add(rt: &impl Abort, lab: &mut Lab, name: &str) -> Result<u8, AddFault> {
-    assert!(rt; !lab.is_spent());
-    assert!(rt; is_name(name));
-    Ok(lab.add_board(name)?.0)
-}
-
-fn create(rt: &impl Abort, lab: &mut Lab, name: &str) -> Result<(), HubNameFault> {
-    assert!(rt; !lab.is_spent());
-    assert!(rt; is_name(name));
-    assert!(rt; lab.hubs() < u32::MAX);
-    lab.create_uart_hub(name)
-}
-
-fn connect(rt: &impl Abort, lab: &mut Lab, b: u8, hub: &str) -> Result<(), ConnectFault> {
-    assert!(rt; !lab.is_spent());
-    assert!(rt; b < lab.boards());
-    let member = Member {
-        board: BoardNo(b),
-        dev: 0,
-    };
-    lab.connect(member, hub)
+/// lui x5, 0x10000; addi x6, x0, 65; sb x6, 0(x5); jal x0, 0, with as many instructions that do
+/// nothing before the third as make it slot `at`: sends an `A` in that slot alone.
+fn sender(alloc: Global, at: usize) -> Result<Vec<u32>, Fail> {
+    let mut words = Vec::new(alloc);
+    words.extend_from_slice(&[LUI, 0x0410_0313])?;
+    for _ in 2..at {
+        words.push(NOP)?;
+    }
+    words.extend_from_slice(&[0x0062_8023, STAY])?;
+    Ok(words)
 }
 
 /// The bytes of a program.
@@ -91,318 +70,122 @@ fn bytes_of(alloc: Global, words: &[u32]) -> Result<Vec<u8>, Fail> {
     Ok(bytes)
 }
 
-fn copy_in(rt: &impl Abort, lab: &mut Lab, b: u8, bytes: &[u8]) -> Result<(), Fail> {
+/// Puts a program where a board's memory begins, shows the board's UART and puts it on the hub.
+fn equip(rt: &impl Abort, lab: &mut Lab, b: BoardNo, program: &[u8]) -> Result<(), Fail> {
     assert!(rt; !lab.is_spent());
-    assert!(rt; b < lab.boards());
-    assert!(rt; bytes.len() < 0x1_0000);
-    assert!(rt; lab.board(BoardNo(b)).holds(START, bytes.len() as u32));
-    lab.copy_in(BoardNo(b), START, bytes)?;
+    assert!(rt; b.0 < lab.boards());
+    assert!(rt; lab.has_plan(b));
+    assert!(rt; program.len() < 0x1_0000);
+    assert!(rt; lab.board(b).holds(START, program.len() as u32));
+    lab.copy_in(b, START, program)?;
+    assert!(rt; b.0 < lab.boards());
+    assert!(rt; lab.has_plan(b));
+    lab.show(uart(b));
+    assert!(rt; b.0 < lab.boards());
+    assert!(rt; lab.has_plan(b));
+    lab.connect(uart(b), "hub")?;
     Ok(())
 }
 
-fn show(rt: &impl Abort, lab: &mut Lab, b: u8) {
-    assert!(rt; !lab.is_spent());
-    assert!(rt; b < lab.boards());
-    lab.show(Member {
-        board: BoardNo(b),
-        dev: 0,
-    });
-}
-
-/// Puts a program where a board's memory begins, and shows the UART.
-fn load(rt: &impl Abort, alloc: Global, lab: &mut Lab, b: u8, words: &[u32]) -> Result<(), Fail> {
-    let bytes = bytes_of(alloc, words)?;
-    copy_in(rt, lab, b, &bytes)?;
-    show(rt, lab, b);
-    Ok(())
-}
-
-/// A program that sends an `A` in slot `at` alone.
-fn load_sender(
+/// Adds a board that runs a program.
+fn add(
     rt: &impl Abort,
     alloc: Global,
     lab: &mut Lab,
-    b: u8,
-    at: usize,
+    name: &str,
+    words: &[u32],
 ) -> Result<(), Fail> {
-    let mut words = Vec::new(alloc);
-    words.extend_from_slice(&[LUI, ADDI])?;
-    for _ in 2..at {
-        words.push(NOP)?;
-    }
-    words.extend_from_slice(&[SB, STAY])?;
-    load(rt, alloc, lab, b, &words)
-}
-
-/// Runs one round.
-fn round(rt: &impl Abort, lab: &mut Lab, q: u64) -> Result<Rows<LogItem>, Fail> {
     assert!(rt; !lab.is_spent());
-    assert!(rt; 0 < q);
-    assert!(rt; q < 1_000_000);
-    assert!(rt; lab.now().0 < 1_000_000);
-    let log = lab.round(q).ok().ok_or("round")?;
-    assert!(rt; log.paused.is_none());
-    Ok(log.lines)
+    assert!(rt; is_name(name));
+    let b = lab.add_board(name)?;
+    let program = bytes_of(alloc, words)?;
+    equip(rt, lab, b, &program)
 }
 
-fn run(rt: &impl Abort, lab: &mut Lab, d: u64) -> Result<Rows<LogItem>, Fail> {
-    let log = lab.run_for(Micros(d)).ok().ok_or("run")?;
-    assert!(rt; log.paused.is_none());
-    Ok(log.lines)
-}
-
-fn is_too_long(lab: &mut Lab, d: u64) -> bool {
-    match lab.run_for(Micros(d)) {
-        Err(RunFault::TooLong) => true,
-        _ => false,
-    }
-}
-
-fn now(rt: &impl Abort, lab: &Lab) -> u64 {
-    assert!(rt; !lab.is_spent());
-    lab.now().0
-}
-
-/// Two boards on one hub, of which the first sends an `A` in slot `at`.
-fn two_boards(rt: &impl Abort, alloc: Global, at: usize) -> Result<Lab, Fail> {
+/// A board that sends an `A` in slot `at`, and one that sends on what it gets.
+fn sender_and_echo(rt: &impl Abort, alloc: Global, at: usize) -> Result<Lab, Fail> {
     let mut lab = Lab::new(alloc)?;
-    add(rt, &mut lab, "m0")?;
-    add(rt, &mut lab, "m1")?;
-    create(rt, &mut lab, "hub")?;
-    connect(rt, &mut lab, 0, "hub")?;
-    connect(rt, &mut lab, 1, "hub")?;
-    load_sender(rt, alloc, &mut lab, 0, at)?;
-    load(rt, alloc, &mut lab, 1, &[STAY])?;
+    assert!(rt; is_name("hub"));
+    lab.create_uart_hub("hub")?;
+    add(rt, alloc, &mut lab, "m0", &sender(alloc, at)?)?;
+    add(rt, alloc, &mut lab, "m1", &ECHO)?;
     Ok(lab)
 }
 
-/// A board that sends an `A` in slot `at` and one that runs `program`, both shown and on one hub.
-fn sender_and(rt: &impl Abort, alloc: Global, at: usize, program: &[u32]) -> Result<Lab, Fail> {
-    let mut lab = two_boards(rt, alloc, at)?;
-    load(rt, alloc, &mut lab, 1, program)?;
-    Ok(lab)
+fn run(lab: &mut Lab, d: u64) -> Result<RoundLog, Fail> {
+    Ok(lab.run_for(Micros(d))?)
 }
 
 #[test]
 fn a_byte_crosses_at_the_end_of_the_round_in_which_it_was_sent(
     rt: HostRuntime,
 ) -> Result<(), Fail> {
-    // The last slot of a round, and the first of the next.
-    for (at, echoed) in [(99, 104), (100, 206)] {
-        let mut lab = sender_and(&rt, rt.alloc(), at, &ECHO)?;
-        let lines = run(&rt, &mut lab, 300)?;
-        assert_eq!(rt;
-            lines.items(),
-            [sent(at as u64, 0), sent(echoed, 1)].as_slice(),
-            "slot {at}"
-        );
-    }
-    Ok(())
-}
-
-#[test]
-fn a_run_of_250_has_boundaries_at_100_200_and_250(rt: HostRuntime) -> Result<(), Fail> {
-    let rows: [(usize, &[LogItem], &[LogItem]); 3] = [
+    // The slot in which the first board sends, what a run of 250 logs, whose rounds end at 100, 200
+    // and 250, and what a run of 50 after it logs.
+    let rows: [(usize, &[LogItem], &[LogItem]); 4] = [
         (99, &[sent(99, 0), sent(104, 1)], &[]),
+        (100, &[sent(100, 0), sent(206, 1)], &[]),
         (199, &[sent(199, 0), sent(206, 1)], &[]),
         (249, &[sent(249, 0)], &[sent(254, 1)]),
     ];
-    for (at, first, behind) in rows {
-        let mut lab = sender_and(&rt, rt.alloc(), at, &ECHO)?;
-        assert_eq!(rt; run(&rt, &mut lab, 250)?.items(), first, "slot {at}");
-        assert_eq!(rt; now(&rt, &lab), 250);
-        assert_eq!(rt; run(&rt, &mut lab, 50)?.items(), behind, "slot {at}");
+    for (at, first, second) in rows {
+        let mut lab = sender_and_echo(&rt, rt.alloc(), at)?;
+        assert_eq!(rt; run(&mut lab, 250)?.lines.items(), first, "slot {at}");
+        assert_eq!(rt; run(&mut lab, 50)?.lines.items(), second, "slot {at}");
     }
     Ok(())
 }
 
-#[test]
-fn a_sender_does_not_hear_itself(rt: HostRuntime) -> Result<(), Fail> {
-    let mut lab = sender_and(&rt, rt.alloc(), 99, &ECHO_AGAIN)?;
-    let lines = run(&rt, &mut lab, 500)?;
-    assert_eq!(rt; lines.items(), [sent(99, 0), sent(104, 1)].as_slice());
-    Ok(())
-}
-
-/// A board that sends an `A` in each even slot from 2 on.
-fn chatter(rt: &impl Abort, alloc: Global) -> Result<Lab, Fail> {
-    let mut lab = Lab::new(alloc)?;
-    add(rt, &mut lab, "m0")?;
-    load(rt, alloc, &mut lab, 0, &[LUI, ADDI, SB, BACK])?;
-    Ok(lab)
-}
-
-/// Whether these are bytes that were sent every second microsecond from this one on.
-fn are_every_second(lines: &[LogItem], from: u64) -> bool {
-    let mut at = from;
-    for line in lines {
-        if *line != sent(at, 0) {
-            return false;
-        }
-        at = at.saturating_add(2);
+/// A round, which is asked for once more where the first found no memory.
+fn round_again(lab: &mut Lab, q: u64) -> Result<RoundLog, LabFault>
+    requires some { 0 < q }
+    requires within { lab.old.spent ≡ false → lab.old.lab.now + q ≤ 10000000000 }
+    ensures spent { lab.old.spent ≡ true → result ≡ Err LabFault.Memory }
+    ensures err { OnErr result (lab.new.spent ≡ true) }
+{
+    match lab.round(q) {
+        Ok(log) => Ok(log),
+        Err(_) => lab.round(q),
     }
-    true
 }
 
 #[test]
-fn a_run_of_250_sends_all_its_bytes(rt: HostRuntime) -> Result<(), Fail> {
-    let mut lab = chatter(&rt, rt.alloc())?;
-    let lines = run(&rt, &mut lab, 250)?;
-    assert_eq!(rt; now(&rt, &lab), 250);
-    assert_eq!(rt; lines.items().len(), 124);
-    assert!(rt; are_every_second(lines.items(), 2));
-    Ok(())
-}
-
-#[test]
-fn rounds_of_100_100_and_50_send_the_same_bytes(rt: HostRuntime) -> Result<(), Fail> {
-    let mut lab = chatter(&rt, rt.alloc())?;
-    for (q, from, count, end) in [(100, 2, 49, 100), (100, 100, 50, 200), (50, 200, 25, 250)] {
-        let lines = round(&rt, &mut lab, q)?;
-        assert_eq!(rt; lines.items().len(), count);
-        assert!(rt; are_every_second(lines.items(), from));
-        assert_eq!(rt; now(&rt, &lab), end);
+fn a_round_gives_its_items_and_moves_the_time(rt: HostRuntime) -> Result<(), Fail> {
+    let mut lab = sender_and_echo(&rt, rt.alloc(), 5)?;
+    let rows: [(u64, &[LogItem]); 2] = [(10, &[sent(5, 0)]), (20, &[sent(14, 1)])];
+    for (q, lines) in rows {
+        assert!(rt; !lab.is_spent());
+        assert!(rt; lab.now().0 < 1_000_000);
+        let log = round_again(&mut lab, q)?;
+        assert_eq!(rt; log.lines.items(), lines, "{q}");
+        assert!(rt; log.paused.is_none());
     }
-    Ok(())
-}
-
-#[test]
-fn senders_of_one_microsecond_come_in_order_of_board(rt: HostRuntime) -> Result<(), Fail> {
-    let mut lab = Lab::new(rt.alloc())?;
-    for (name, at) in [("m0", 3), ("m1", 2), ("m2", 2)] {
-        let b = add(&rt, &mut lab, name)?;
-        load_sender(&rt, rt.alloc(), &mut lab, b, at)?;
-    }
-    let lines = run(&rt, &mut lab, 100)?;
-    assert_eq!(rt;
-        lines.items(),
-        [sent(2, 1), sent(2, 2), sent(3, 0)].as_slice()
-    );
-    Ok(())
-}
-
-#[test]
-fn a_run_of_nothing_changes_nothing(rt: HostRuntime) -> Result<(), Fail> {
-    let mut lab = chatter(&rt, rt.alloc())?;
-    let lines = run(&rt, &mut lab, 0)?;
-    assert!(rt; lines.items().is_empty());
-    assert_eq!(rt; now(&rt, &lab), 0);
-    Ok(())
-}
-
-#[test]
-fn a_run_past_the_last_microsecond_is_refused(rt: HostRuntime) -> Result<(), Fail> {
-    let mut lab = Lab::new(rt.alloc())?;
-    assert!(rt; is_too_long(&mut lab, 10_000_000_001));
-    assert_eq!(rt; now(&rt, &lab), 0);
-    Ok(())
-}
-
-#[test]
-fn boards_are_refused_for_their_name_and_from_the_seventeenth_on(
-    rt: HostRuntime,
-) -> Result<(), Fail> {
-    let mut lab = Lab::new(rt.alloc())?;
-    create(&rt, &mut lab, "hub")?;
-    for name in [
-        "m0", "m1", "m2", "m3", "m4", "m5", "m6", "m7", "m8", "m9", "m10", "m11", "m12", "m13",
-        "m14", "m15",
-    ] {
-        add(&rt, &mut lab, name)?;
-    }
-    for (name, fault) in [
-        ("m16", AddFault::Boards),
-        ("m3", AddFault::Taken),
-        ("hub", AddFault::Taken),
-    ] {
-        assert_eq!(rt; add(&rt, &mut lab, name), Err(fault), "{name}");
-    }
-    Ok(())
-}
-
-#[test]
-fn hubs_are_refused_for_their_name(rt: HostRuntime) -> Result<(), Fail> {
-    let mut lab = Lab::new(rt.alloc())?;
-    add(&rt, &mut lab, "m0")?;
-    create(&rt, &mut lab, "hub")?;
-    for name in ["hub", "m0"] {
-        assert_eq!(rt;
-            create(&rt, &mut lab, name),
-            Err(HubNameFault::Taken),
-            "{name}"
-        );
-    }
-    Ok(())
-}
-
-#[test]
-fn a_device_is_connected_once_and_to_a_hub_that_exists(rt: HostRuntime) -> Result<(), Fail> {
-    let mut lab = Lab::new(rt.alloc())?;
-    add(&rt, &mut lab, "m0")?;
-    create(&rt, &mut lab, "hub")?;
-    create(&rt, &mut lab, "other")?;
-    connect(&rt, &mut lab, 0, "hub")?;
-    for (hub, fault) in [
-        ("m0", ConnectFault::Name),
-        ("hub", ConnectFault::Already),
-        ("other", ConnectFault::Already),
-    ] {
-        assert_eq!(rt; connect(&rt, &mut lab, 0, hub), Err(fault), "{hub}");
-    }
-    Ok(())
-}
-
-#[test]
-fn boards_are_read(rt: HostRuntime) -> Result<(), Fail> {
-    let lab = two_boards(&rt, rt.alloc(), 50)?;
     assert!(rt; !lab.is_spent());
-    assert_eq!(rt; lab.boards(), 2);
-    assert_eq!(rt; lab.find_board("m1"), Some(BoardNo(1)));
-    assert_eq!(rt; lab.find_board("hub"), None);
-    assert_eq!(rt; lab.board_name(BoardNo(1)).as_str(), "m1");
-    assert!(rt; lab.has_plan(BoardNo(1)));
+    assert_eq!(rt; lab.now(), Micros(30));
     Ok(())
 }
 
 #[test]
-fn hubs_are_read(rt: HostRuntime) -> Result<(), Fail> {
-    let lab = two_boards(&rt, rt.alloc(), 50)?;
+fn a_laboratory_is_read(rt: HostRuntime) -> Result<(), Fail> {
+    let mut lab = sender_and_echo(&rt, rt.alloc(), 50)?;
     assert!(rt; !lab.is_spent());
-    assert_eq!(rt; lab.hubs(), 1);
-    assert_eq!(rt; lab.hub_name(0).as_str(), "hub");
-    assert_eq!(rt; lab.hub_members(0).len(), 2);
-    Ok(())
-}
-
-#[test]
-fn the_quantum_is_set(rt: HostRuntime) -> Result<(), Fail> {
-    let mut lab = Lab::new(rt.alloc())?;
-    assert_eq!(rt; lab.quantum(), 100);
     lab.set_quantum(7);
     assert_eq!(rt; lab.quantum(), 7);
-    Ok(())
-}
-
-fn set_pc(rt: &impl Abort, lab: &mut Lab, b: u8, pc: u32) {
-    assert!(rt; !lab.is_spent());
-    assert!(rt; b < lab.boards());
-    assert!(rt; pc % 4 == 0);
-    lab.set_pc(BoardNo(b), pc);
-}
-
-#[test]
-fn a_board_begins_where_its_pc_was_set(rt: HostRuntime) -> Result<(), Fail> {
-    let mut lab = Lab::new(rt.alloc())?;
-    add(&rt, &mut lab, "m0")?;
-    load(
-        &rt,
-        rt.alloc(),
-        &mut lab,
-        0,
-        &[STAY, STAY, STAY, LUI, ADDI, SB, STAY],
-    )?;
-    set_pc(&rt, &mut lab, 0, START + 12);
-    let lines = run(&rt, &mut lab, 10)?;
-    assert_eq!(rt; lines.items(), [sent(2, 0)].as_slice());
+    assert_eq!(rt; (lab.boards(), lab.hubs()), (2, 1));
+    assert_eq!(rt; lab.board_name(BoardNo(1)).as_str(), "m1");
+    assert_eq!(rt; lab.find_board("m1"), Some(BoardNo(1)));
+    assert_eq!(rt;
+        (lab.hub_name(0).as_str(), lab.hub_kind(0)),
+        ("hub", Kind::Uart)
+    );
+    assert_eq!(rt;
+        lab.hub_members(0),
+        [uart(BoardNo(0)), uart(BoardNo(1))].as_slice()
+    );
+    assert!(rt; lab.has_plan(BoardNo(1)));
+    lab.set_pc(BoardNo(1), START + 4);
+    assert_eq!(rt; lab.boards(), 2);
+    assert!(rt; lab.has_plan(BoardNo(1)));
+    assert_eq!(rt; lab.board(BoardNo(1)).pc(), START + 4);
     Ok(())
 }

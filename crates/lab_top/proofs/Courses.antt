@@ -8,22 +8,23 @@ use Rattle.lab_io.specs.declared.sink.WriteFault.TheVariants as write_fault
 use Rattle.lab_top.specs.declared.status.Status.{Status}
 use Rattle.lab_top.specs.declared.status.Status.TheVariants as end_by
 use Rattle.lab_top.specs.Transcript.{Outcome, Read, Transcript, after, ended, read_now, read_later, last_line}
-use Rattle.lab_top.specs.Course.{Course, IsLastAt, IsEnd, final, refusal, names_of}
+use Rattle.lab_top.specs.Inner.Course.{Course, IsLastAt, IsEnd}
+use Rattle.lab_top.specs.Headline.{final, refusal, names_read}
 use Rattle.lab_top.proofs.Pieces.{grown-nil, grown-append}
 
 -- the names of reads stay as they are
-names_of-now : (names : List (List ℕ)) → names_of (map read_now names) ≡ names
-names_of-now [] = refl
-names_of-now (name ∷ names) = ap (λ rest. name ∷ rest) (names_of-now names)
+names_read-now : (names : List (List ℕ)) → names_read (map read_now names) ≡ names
+names_read-now [] = refl
+names_read-now (name ∷ names) = ap (λ rest. name ∷ rest) (names_read-now names)
 
-names_of-later : (n : ℕ) (reads : List Read) → names_of (map (read_later n) reads) ≡ names_of reads
-names_of-later n [] = refl
-names_of-later n (read ∷ reads) = ap (λ rest. read.name ∷ rest) (names_of-later n reads)
+names_read-later : (n : ℕ) (reads : List Read) → names_read (map (read_later n) reads) ≡ names_read reads
+names_read-later n [] = refl
+names_read-later n (read ∷ reads) = ap (λ rest. read.name ∷ rest) (names_read-later n reads)
 
-names_of-after :
+names_read-after :
     (names : List (List ℕ)) (n : ℕ) (reads : List Read) →
-    names_of (map read_now names ++ map (read_later n) reads) ≡ names ++ names_of reads
-names_of-after names n reads = rw (map-append, names_of-now, names_of-later) refl
+    names_read (map read_now names ++ map (read_later n) reads) ≡ names ++ names_read reads
+names_read-after names n reads = rw (map-append, names_read-now, names_read-later) refl
 
 -- the last read is still the last behind others, and comes later
 last_after :
@@ -50,7 +51,7 @@ course_after names text rest status out mid out' log between log' wrote asked co
   all_bytes = rw (course.all_bytes, append_assoc) refl;
   all_reads = rw (course.all_reads, map-append, append_assoc) refl;
   written = rw (course.written, wrote, grown-append out text course.bytes) refl;
-  asked = rw (course.asked, asked, grown-append log names (names_of course.passed), names_of-after) refl;
+  asked = rw (course.asked, asked, grown-append log names (names_read course.passed), names_read-after) refl;
   ended = course.ended;
   unread = λ is. rw length-append (last_after _ _ _ _ (course.unread is));
 }
@@ -128,18 +129,6 @@ end_cut text outcome fault out out' part = record {
   never = not_unread fault;
 }
 
--- memory ran out before anything of them was written
-pub end_memory :
-    (text : List ℕ) (outcome : Outcome) (out : Option (List ℕ)) → IsEnd text outcome end_by.Memory out out
-end_memory text outcome out = record {
-  bytes = [];
-  unwritten = text ++ last_line outcome;
-  all = refl;
-  grows = sym (grown-nil out);
-  ended = tt;
-  never = λ is. cc;
-}
-
 -- the last text was written whole, and the last line after it, or a part of that
 pub end_after :
     (text : List ℕ) (outcome : Outcome) (status : Status) (out mid out' : Option (List ℕ)) →
@@ -170,3 +159,28 @@ course_cut text rest fault out out' log part = record {
   ended = rw (cut_by fault) tt;
   unread = λ is. absurd (not_unread fault is);
 }
+
+-- a text was written whole, and then the rest went by its course
+pub course_says :
+    (text : List ℕ) {all : Transcript} (rest : Transcript) {status : Status} {out : Option (List ℕ)} (mid : Option (List ℕ))
+    {out' : Option (List ℕ)} {log : Option (List (List ℕ))} →
+    all ≡ after [] text rest → mid ≡ grown out text → Course rest status mid out' log log →
+    Course all status out out' log log
+course_says text {all} rest {status} {out} mid {out'} {log} is wrote course =
+    rw is (course_after [] text rest status out mid out' log log log wrote (sym (grown-nil log)) course)
+
+-- a run stopped, and its last text and its last line were written, or a part of them
+pub course_stops :
+    (text : List ℕ) {all : Transcript} (outcome : Outcome) {status : Status} {out out' : Option (List ℕ)}
+    {log : Option (List (List ℕ))} →
+    all ≡ after [] text (ended outcome) → IsEnd text outcome status out out' → Course all status out out' log log
+course_stops text {all} outcome {status} {out} {out'} {log} is end =
+    rw is (course_ended text outcome status out out' log end)
+
+-- a text was written in part, and no more
+pub course_breaks :
+    (text : List ℕ) {all : Transcript} (rest : Transcript) (fault : WriteFault) {out out' : Option (List ℕ)}
+    {log : Option (List (List ℕ))} →
+    all ≡ after [] text rest → IsPartWritten out text out' → Course all (refusal fault) out out' log log
+course_breaks text {all} rest fault {out} {out'} {log} is part =
+    rw is (course_cut text rest fault out out' log part)

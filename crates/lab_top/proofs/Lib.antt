@@ -4,4 +4,6 @@ pub mod Pieces
 pub mod Courses
 pub mod Onward
 pub mod Openings
-mod Equipping
+pub mod Lines
+pub mod Naming
+pub mod Equipping

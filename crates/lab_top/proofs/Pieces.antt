@@ -1,8 +1,6 @@
 -- Pieces of what is told, and of what is written.
-use Rattle.std.proofs.Common.{◌≡◌, ℕ, Result, Ok, Err, ◌+◌, List, [], ◌++◌, length, take, Option, None, Some, refl, append_assoc, append-nil, ◌∙◌, sym, ap, arith}
-use Rattle.std.specs.Prelude.{OnErr}
+use Rattle.std.proofs.Common.{◌≡◌, ℕ, List, [], ◌++◌, length, take, Option, None, Some, refl, append_assoc, append-nil, ◌∙◌, sym, ap, arith}
 use Rattle.std.proofs.lemmas.List.{length-take, take-append-le, take_min}
-use Rattle.std.proofs.Math.Seq.{take-append-add}
 use Rattle.lab_io.specs.Known.{grown}
 use Rattle.lab_io.specs.Sink.{IsPartWritten}
 
@@ -23,17 +21,3 @@ part_of_first out out' first second part = record {
   where
     front : (xs ys : List ℕ) (n : ℕ) → take (length (take n xs)) (xs ++ ys) ≡ take n xs
     front xs ys n = take-append-le (length (take n xs)) xs ys (rw length-take (omega arith)) ∙ rw length-take (take_min n xs)
-
--- a first piece and a part of a second are a part of both
-pub part_of_second :
-    (out mid out' : Option (List ℕ)) (first second : List ℕ) →
-    mid ≡ grown out first → IsPartWritten mid second out' → IsPartWritten out (first ++ second) out'
-part_of_second out mid out' first second wrote part = record {
-  count = length first + part.count;
-  written = rw (part.written, wrote, grown-append out first (take part.count second), take-append-add) refl;
-}
-
--- what follows from what holds after an error holds after it
-pub on_err : {T E P Q : Type 0} (result : Result T E) → (P → Q) → OnErr result P → OnErr result Q
-on_err (Ok value) follows holds = holds
-on_err (Err fault) follows holds = follows holds

@@ -1,5 +1,5 @@
 -- Lines and quotes, by the place of the first byte of a value.
-use Rattle.std.proofs.Common.{◌≡◌, ℕ, zero, suc, ◌+◌, ◌<◌, ◌≤◌, ◌==◌, Bool, true, false, not, List, [], ◌∷◌, ◌++◌, length, take, drop, None, Some, Err, refl, sym, ap, ◌∙◌, arith, length-append, length-take}
+use Rattle.std.proofs.Common.{◌≡◌, ℕ, zero, suc, ◌+◌, ◌<◌, ◌≤◌, ◌==◌, Bool, true, false, not, List, [], ◌∷◌, ◌++◌, length, take, drop, None, Some, Option, Result, Err, codes, refl, sym, ap, ◌∙◌, arith, length-append, length-take}
 use Rattle.std.specs.Prelude.{slice_index, take_while}
 use Rattle.std.specs.List.{list_all}
 use Rattle.std.specs.Str.{bytes_eq, IsUtf8, is_utf8}
@@ -10,7 +10,11 @@ use Rattle.std.proofs.lemmas.Slice.Eq.{bytes_eq-Decides}
 use Rattle.std.proofs.lemmas.Str.{is_utf8-from_IsUtf8, IsUtf8-from_is_utf8}
 use Rattle.lab_num.specs.declared.time.TimeFault.TheVariants.{Form}
 use Rattle.lab_num.specs.Time.{time_of}
-use Rattle.lab_top.specs.Script.{lines_of, is_unquoted, closed, time_in}
+use Rattle.lab_num.specs.declared.number.Micros.{Micros}
+use Rattle.lab_top.specs.declared.fault.ScriptCause.{ScriptCause}
+use Rattle.lab_top.specs.declared.fault.ScriptCause.TheVariants.{Unknown}
+use Rattle.lab_top.specs.declared.script.Command.{Command}
+use Rattle.lab_top.specs.Script.{lines_of, is_unquoted, closed, time_in, behind, quoted, argument, run_for, quantum, by_words, command_of}
 
 -- a test that fails where its opposite passes
 passes : (b : Bool) → not b ≡ true → b ≡ false
@@ -104,3 +108,20 @@ pub lines_of-one :
     list_all (λ b. not (b == 10)) (take n xs) ≡ true → lines_of xs ≡ xs ∷ []
 lines_of-one [] n some all before = absurd (some refl)
 lines_of-one (x ∷ xs) n some all before = lines_of-last x xs (rw (take_all n (x ∷ xs) (omega arith)) at before)
+
+-- the second of two sorts of words
+second :
+    {rest : List ℕ} (read other : List ℕ → Result Command ScriptCause) (none : Result Command ScriptCause)
+    (one two : Option (List ℕ)) →
+    None ≡ one → Some rest ≡ two → other rest ≡ by_words one read (by_words two other none)
+second read other none one two not_one is_two = rw (← not_one, ← is_two) refl
+
+-- a line that begins with the words of a quantum and with no others
+pub command_of-quantum :
+    (line rest : List ℕ) →
+    None ≡ behind (codes "emulation RunFor") line → Some rest ≡ behind (codes "emulation SetGlobalQuantum") line →
+    quantum (argument (quoted rest)) ≡ command_of line
+unfolding command_of
+command_of-quantum line rest not_run is_quantum =
+    second (λ rest. run_for (argument (quoted rest))) (λ rest. quantum (argument (quoted rest))) (Err Unknown)
+    (behind (codes "emulation RunFor") line) (behind (codes "emulation SetGlobalQuantum") line) not_run is_quantum

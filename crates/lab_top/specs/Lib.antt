@@ -1,10 +1,11 @@
 pub mod Script
+pub mod Bodies
 pub mod Log
+pub mod Names
 pub mod Fault
-pub mod Commands
+pub mod State
+pub mod Command
 pub mod Builtin
-pub mod Equipped
-pub mod Session
 pub mod Transcript
-pub mod Course
 pub mod Headline
+pub mod Inner

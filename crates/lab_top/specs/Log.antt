@@ -1,20 +1,24 @@
--- The text of the log: the lines of shown UARTs. Each board has one UART, so a line is known by its board.
-use Rattle.std.specs.Prelude.{ℕ, ◌-◌, ◌/◌, ◌%◌, ◌==◌, nat_le, nat_lt, ◌&&◌, ◌||◌, Bool, false, if◌then◌else◌, List, [], ◌∷◌, ◌++◌, length, replicate, slice_index_or, slice_set, codes}
-use Rattle.std.specs.List.{flat_map}
+-- The text of the log: the lines of shown UARTs, each known by its board and device.
+use Rattle.std.specs.Prelude.{ℕ, ◌-◌, ◌/◌, ◌%◌, ◌==◌, nat_le, nat_lt, ◌&&◌, ◌||◌, Bool, false, if◌then◌else◌, List, [], ◌∷◌, ◌++◌, length, take, drop, replicate, codes}
+use Rattle.std.specs.List.{flat_map, prefix_len}
 use Rattle.std.specs.Fmt.{decimal, digit_glyph}
+use Rattle.lab_num.specs.declared.key.Member.{Member}
 use Rattle.lab_num.specs.declared.post.What.TheVariants.{Byte}
+use Rattle.lab_num.specs.Key.{same_member}
 use Rattle.log_merge.specs.declared.item.LogItem.{LogItem}
 use Rattle.log_merge.specs.declared.item.LogItem.TheVariants.{Slot}
+use Rattle.log_merge.specs.declared.names.Names.{Names}
+use Rattle.lab_top.specs.Names.{board_name, device_name}
 
--- the name of a board, the bytes that its UART has sent one after another, and the microsecond of the last
+-- a device, the bytes that it has sent one after another, and the microsecond of the last
 pub record Line : Type 0 where
-  pub board : List ℕ
+  pub member : Member
   pub at : ℕ
   pub bytes : List ℕ
 
 -- a line that has not begun
-abbrev pub blank : List ℕ → Line
-blank board = record { board = board; at = 0; bytes = [] }
+abbrev pub blank : Member → Line
+blank m = record { member = m; at = 0; bytes = [] }
 
 -- a line feed ends a line, and so does its 128th byte
 abbrev pub is_ending : Line → ℕ → Bool
@@ -24,9 +28,36 @@ is_ending line byte = (byte == 10) || nat_le 127 (length line.bytes)
 abbrev pub gathered : Line → ℕ → ℕ → Line
 gathered line at byte = record line { at = at; bytes = if byte == 10 then line.bytes else line.bytes ++ byte ∷ [] }
 
--- the line that is open after one byte more
-abbrev pub left_open : Line → ℕ → ℕ → Line
-left_open line at byte = if is_ending line byte then blank line.board else gathered line at byte
+-- what is left open of a line after one byte more
+abbrev pub left_open : Line → ℕ → ℕ → List Line
+left_open line at byte = if is_ending line byte then [] else gathered line at byte ∷ []
+
+-- members come in order of their boards, and then of their devices
+abbrev pub is_lower : Member → Member → Bool
+is_lower a b = nat_lt a.board.0 b.board.0 || (a.board.0 == b.board.0 && nat_lt a.dev b.dev)
+
+-- how many of the open lines, which rise by member, come before a member's own
+abbrev pub place_of : Member → List Line → ℕ
+place_of m lines = prefix_len (λ line. is_lower line.member m) lines
+
+-- a member's line and those behind it, of all lines that come no earlier
+abbrev pub first_own : Member → List Line → Line
+first_own m [] = blank m
+first_own m (line ∷ lines) = if same_member line.member m then line else blank m
+
+abbrev pub first_others : Member → List Line → List Line
+first_others m [] = []
+first_others m (line ∷ lines) = if same_member line.member m then lines else line ∷ lines
+
+-- the open lines of lower members, a member's own, and the lines of higher members
+abbrev pub lower : Member → List Line → List Line
+lower m lines = take (place_of m lines) lines
+
+abbrev pub own : Member → List Line → Line
+own m lines = first_own m (drop (place_of m lines) lines)
+
+abbrev pub higher : Member → List Line → List Line
+higher m lines = first_others m (drop (place_of m lines) lines)
 
 -- a byte of a line, as it is shown
 abbrev pub escaped : ℕ → List ℕ
@@ -46,41 +77,40 @@ abbrev pub seconds : ℕ → List ℕ
 seconds at = decimal (at / 1000000) ++ codes "." ++ six_digits (at % 1000000)
 
 -- what stands before a line's text: the time of its last byte, and the board and the device that it comes from
-abbrev pub heading : Line → List ℕ
-heading line = codes "[" ++ seconds line.at ++ codes "] " ++ line.board ++ codes "/uart: "
+abbrev pub heading : Names → Line → List ℕ
+heading names line =
+    codes "[" ++ seconds line.at ++ codes "] " ++ board_name names line.member ++ codes "/" ++ device_name names line.member ++ codes ": "
 
 -- a line as it is printed
-unfoldable pub line_text : Line → List ℕ
-line_text line = heading line ++ flat_map escaped line.bytes ++ codes "\n"
+unfoldable pub line_text : Names → Line → List ℕ
+line_text names line = heading names line ++ flat_map escaped line.bytes ++ codes "\n"
 
--- the open line of a board
-abbrev pub line_at : List Line → ℕ → Line
-line_at lines board = slice_index_or lines board (blank [])
+-- what a byte prints: the line that it ends, or nothing
+abbrev pub ended_by : Names → Line → ℕ → ℕ → List ℕ
+ended_by names line at byte = if is_ending line byte then line_text names (gathered line at byte) else []
 
--- what an item prints: the line that its byte ends, or nothing
-abbrev pub printed : List Line → LogItem → List ℕ
-printed lines (Slot from (Byte dev byte)) =
-    if nat_lt from.board.0 (length lines) && is_ending (line_at lines from.board.0) byte
-    then line_text (gathered (line_at lines from.board.0) from.at.0 byte) else []
+-- what an item prints
+abbrev pub printed : Names → List Line → LogItem → List ℕ
+printed names lines (Slot from (Byte dev byte)) =
+    ended_by names (own (record { board = from.board; dev = dev }) lines) from.at.0 byte
+
+-- the open lines after a byte of a member
+abbrev pub with_byte : List Line → Member → ℕ → ℕ → List Line
+with_byte lines m at byte = lower m lines ++ left_open (own m lines) at byte ++ higher m lines
 
 -- the open lines after an item
 abbrev pub opened : List Line → LogItem → List Line
-opened lines (Slot from (Byte dev byte)) =
-    slice_set lines from.board.0 (left_open (line_at lines from.board.0) from.at.0 byte)
+opened lines (Slot from (Byte dev byte)) = with_byte lines (record { board = from.board; dev = dev }) from.at.0 byte
 
 -- what items print one after another, and the lines that are open then
-abbrev pub text : List Line → List LogItem → List ℕ
-text lines [] = []
-text lines (item ∷ items) = printed lines item ++ text (opened lines item) items
+abbrev pub text : Names → List Line → List LogItem → List ℕ
+text names lines [] = []
+text names lines (item ∷ items) = printed names lines item ++ text names (opened lines item) items
 
 abbrev pub open_lines : List Line → List LogItem → List Line
 open_lines lines [] = lines
 open_lines lines (item ∷ items) = open_lines (opened lines item) items
 
--- what is printed at the end of a line that is open
-abbrev pub rest_of : Line → List ℕ
-rest_of line = if length line.bytes == 0 then [] else line_text line
-
--- what is printed at the end of all lines, in order of the boards
-abbrev pub rest : List Line → List ℕ
-rest lines = flat_map rest_of lines
+-- what is printed at the end of all open lines, in order of the members
+abbrev pub rest : Names → List Line → List ℕ
+rest names lines = flat_map (line_text names) lines

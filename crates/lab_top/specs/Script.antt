@@ -1,12 +1,14 @@
 -- Scripts: lines, each of which runs the laboratory or sets its quantum.
-use Rattle.std.specs.Prelude.{ℕ, ◌==◌, not, Bool, if◌then◌else◌, List, [], ◌∷◌, ◌++◌, length, take, drop, take_while, codes, Option, None, Some, Result, Err}
+use Rattle.std.specs.Prelude.{ℕ, ◌==◌, ◌&&◌, nat_le, not, Bool, true, if◌then◌else◌, List, [], ◌∷◌, ◌++◌, length, take, drop, take_while, codes, Option, None, Some, Result, Ok, Err}
 use Rattle.std.specs.Str.{bytes_eq, is_utf8}
 use Rattle.lab_num.specs.declared.number.Micros.{Micros}
 use Rattle.lab_num.specs.declared.time.TimeFault.{TimeFault}
 use Rattle.lab_num.specs.declared.time.TimeFault.TheVariants.{Form}
 use Rattle.lab_num.specs.Time.{time_of}
+use Rattle.lab_top.specs.declared.fault.ScriptCause.{ScriptCause}
+use Rattle.lab_top.specs.declared.fault.ScriptCause.TheVariants.{Unknown, Arguments, Time}
 use Rattle.lab_top.specs.declared.script.Command.{Command}
-use Rattle.lab_top.specs.declared.script.Command.TheVariants.{RunFor, SetQuantum}
+use Rattle.lab_top.specs.declared.script.Command.TheVariants.{RunFor, Quantum}
 
 -- a byte at the head of the first of some lines
 abbrev pub grown_line : ℕ → List (List ℕ) → List (List ℕ)
@@ -18,9 +20,16 @@ unfoldable pub lines_of : List ℕ → List (List ℕ)
 lines_of [] = []
 lines_of (byte ∷ bytes) = if byte == 10 then [] ∷ lines_of bytes else grown_line byte (lines_of bytes)
 
--- the time that bytes say; bytes that are not UTF-8 are of no form
-abbrev pub time_in : List ℕ → Result Micros TimeFault
-time_in bytes = if is_utf8 bytes then time_of bytes else Err Form
+-- a word ends where the line does, and at a blank
+abbrev pub is_word_end : List ℕ → Bool
+is_word_end [] = true
+is_word_end (byte ∷ bytes) = byte == 32
+
+-- what follows these words in a line, if it begins with them
+abbrev pub behind : List ℕ → List ℕ → Option (List ℕ)
+behind words line =
+    if bytes_eq (take (length words) line) words && is_word_end (drop (length words) line)
+    then Some (drop (length words) line) else None
 
 -- any byte but a quote
 abbrev pub is_unquoted : ℕ → Bool
@@ -31,26 +40,42 @@ abbrev pub closed : List ℕ → Option (List ℕ)
 closed signs =
     if bytes_eq signs (take_while is_unquoted signs ++ 34 ∷ []) then Some (take_while is_unquoted signs) else None
 
--- what stands between the opening, which ends with a quote, and the only further quote, at the line's end
-abbrev pub quoted : List ℕ → List ℕ → Option (List ℕ)
-quoted opening line =
-    if bytes_eq (take (length opening) line) opening then closed (drop (length opening) line) else None
+-- the text in the quotes of one quoted word behind a blank, if the signs are so
+abbrev pub quoted : List ℕ → Option (List ℕ)
+quoted signs = if bytes_eq (take 2 signs) (codes " \"") then closed (drop 2 signs) else None
 
--- the first where there is one, and else the second
-abbrev pub either : Option Command → Option Command → Option Command
-either None second = second
-either (Some command) second = Some command
+-- the time that bytes say; bytes that are not UTF-8 are of no form
+abbrev pub time_in : List ℕ → Result Micros TimeFault
+time_in bytes = if is_utf8 bytes then time_of bytes else Err Form
 
-abbrev pub run_for : Option (List ℕ) → Option Command
-run_for None = None
-run_for (Some time) = Some (RunFor (time_in time))
+-- what is no time is refused as such
+abbrev pub or_refused : Result Micros TimeFault → Result Micros ScriptCause
+or_refused (Ok time) = Ok time
+or_refused (Err fault) = Err Time
 
-abbrev pub set_quantum : Option (List ℕ) → Option Command
-set_quantum None = None
-set_quantum (Some time) = Some (SetQuantum (time_in time))
+-- the time that follows a command's words: one quoted word
+abbrev pub argument : Option (List ℕ) → Result Micros ScriptCause
+argument None = Err Arguments
+argument (Some text) = or_refused (time_in text)
 
--- the command of a line, if it is one
-unfoldable pub command_of : List ℕ → Option Command
+-- a run, if its length is a time
+abbrev pub run_for : Result Micros ScriptCause → Result Command ScriptCause
+run_for (Err cause) = Err cause
+run_for (Ok time) = Ok (RunFor time)
+
+-- a quantum, if it is 1 to 1,000,000 microseconds
+abbrev pub quantum : Result Micros ScriptCause → Result Command ScriptCause
+quantum (Err cause) = Err cause
+quantum (Ok time) = if nat_le 1 time.0 && nat_le time.0 1000000 then Ok (Quantum time) else Err Time
+
+-- the first where the words are there, and else the second
+abbrev pub by_words : Option (List ℕ) → (List ℕ → Result Command ScriptCause) → Result Command ScriptCause → Result Command ScriptCause
+by_words None read other = other
+by_words (Some rest) read other = read rest
+
+-- the command of a line, or why it is none
+unfoldable pub command_of : List ℕ → Result Command ScriptCause
 command_of line =
-    either (run_for (quoted (codes "emulation RunFor \"") line))
-    (set_quantum (quoted (codes "emulation SetGlobalQuantum \"") line))
+    by_words (behind (codes "emulation RunFor") line) (λ rest. run_for (argument (quoted rest)))
+    (by_words (behind (codes "emulation SetGlobalQuantum") line) (λ rest. quantum (argument (quoted rest)))
+    (Err Unknown))

@@ -1,21 +1,23 @@
 -- All that the program writes and reads, for any words and files.
-use Rattle.std.specs.Prelude.{ℕ, ◌+◌, nat_eq, nat_lt, if◌then◌else◌, List, [], ◌∷◌, ◌++◌, length, map, codes, Option, None, Some}
+use Rattle.std.specs.Prelude.{ℕ, zero, suc, ◌+◌, ◌-◌, nat_eq, nat_lt, if◌then◌else◌, List, [], ◌∷◌, ◌++◌, length, map, codes, Option, None, Some}
 use Rattle.std.specs.List.{starts_with}
 use Rattle.std.specs.Str.{bytes_eq}
 use Rattle.std.specs.FinMap.{get}
 use Rattle.lab_io.specs.Held.{Held}
+use Rattle.lab_state.specs.Lab.{Lab}
 use Rattle.lab_state.specs.Run.{Play, run}
 use Rattle.lab_top.specs.declared.status.UsageCause.{UsageCause}
 use Rattle.lab_top.specs.declared.status.UsageCause.TheVariants.{Command, Words}
-use Rattle.lab_top.specs.declared.fault.Cause.TheVariants as fault_cause
-use Rattle.lab_top.specs.declared.fault.ScriptCause.{ScriptCause}
-use Rattle.lab_top.specs.declared.fault.ScriptCause.TheVariants.{Size}
+use Rattle.lab_top.specs.declared.fault.ScriptCause.TheVariants.{Commands, Size}
 use Rattle.lab_top.specs.declared.fault.ScriptFault.{ScriptFault}
 use Rattle.lab_top.specs.Fault.{fault_text}
-use Rattle.lab_top.specs.Script.{lines_of, command_of}
+use Rattle.lab_top.specs.Script.{lines_of}
+use Rattle.lab_top.specs.Bodies.{Place, next_line}
+use Rattle.lab_top.specs.Names.{names_of}
 use Rattle.lab_top.specs.Log.{rest}
-use Rattle.lab_top.specs.Commands.{State, Goes, Faults, did}
-use Rattle.lab_top.specs.Builtin.{started}
+use Rattle.lab_top.specs.State.{State}
+use Rattle.lab_top.specs.Command.{Goes, Faults, Misses, did, fault_at}
+use Rattle.lab_top.specs.Builtin.{built_in}
 
 -- How a run ends that nothing from outside cuts short. It ends as absent where a name that it reads holds nothing.
 pub data Outcome : Type 0 where
@@ -77,33 +79,56 @@ abbrev pub request_of : List (List ℕ) → Request
 request_of [] = Refused Command
 request_of (command ∷ words) = if bytes_eq command (codes "run") then script_of words else Refused Command
 
--- a fault of a line of a script
-abbrev pub fault_at : List ℕ → ℕ → ScriptCause → ScriptFault
-fault_at script line cause = record { file = script; line = line; cause = fault_cause.Script cause }
+-- a run that stops here, when these names have been read, first prints its open lines
+abbrev pub stopped : List (List ℕ) → State → Outcome → Transcript
+stopped names s outcome = after names (rest (names_of s.lab) s.lines) (ended outcome)
 
--- a run that stops here first prints what is left of its lines
-abbrev pub stopped : State → Outcome → Transcript
-stopped s outcome = after [] (rest s.lines) (ended outcome)
-
--- what is left of a run of a script at these lines, the first of this number, where a laboratory plays a run so
-unfoldable pub from : Play → List ℕ → ℕ → State → List (List ℕ) → Transcript
-from play script number s [] = stopped s Done
-from play script number s (line ∷ lines) =
-    elim (did play s (command_of line)) [
-      | Goes text next ↦ after [] text (from play script (number + 1) next lines)
-      | Faults cause ↦ stopped s (Script (fault_at script number cause))
+-- What is left of a run, in which so many commands may still be taken, where files hold this and a laboratory plays a
+-- run so. A line behind the last of them is refused.
+unfoldable pub from : ℕ → Play → Held → State → Transcript
+from zero play held s =
+    elim (next_line s.bodies) [
+      | None ↦ stopped [] s Done
+      | Some line ↦ stopped [] s (Script (fault_at line.place Commands))
+    ]
+from (suc more) play held s =
+    elim (next_line s.bodies) [
+      | None ↦ stopped [] s Done
+      | Some line ↦
+          elim (did play held s line).answer [
+            | Goes text next ↦ after (did play held s line).names text (from more play held next)
+            | Faults fault ↦ stopped (did play held s line).names s (Script fault)
+            | Misses ↦ after (did play held s line).names [] (ended Absent)
+          ]
     ]
 
+-- what is left of a run: 100,000 commands are taken at most
+abbrev pub rest_of : Play → Held → State → Transcript
+rest_of play held s = from (100000 - s.taken) play held s
+
+-- a run of a laboratory at the first line of its script
+abbrev pub started : Lab → List ℕ → List ℕ → State
+started lab script bytes = record {
+  bodies = record { file = script; number = 1; lines = lines_of bytes } ∷ [];
+  taken = 0;
+  lab = lab;
+  lines = [];
+}
+
+-- a file as a whole, where a fault of it stands
+abbrev pub whole : List ℕ → Place
+whole file = record { file = file; number = 0 }
+
 -- how a run goes on with what its script holds
-abbrev pub begun : Play → List ℕ → Option (List ℕ) → Transcript
-begun play script None = ended Absent
-begun play script (Some bytes) =
-    if nat_lt 16777216 (length bytes) then ended (Script (fault_at script 0 Size))
-    else from play script 1 started (lines_of bytes)
+abbrev pub begun : Play → Held → List ℕ → Option (List ℕ) → Transcript
+begun play held script None = ended Absent
+begun play held script (Some bytes) =
+    if nat_lt 16777216 (length bytes) then ended (Script (fault_at (whole script) Size))
+    else rest_of play held (started built_in script bytes)
 
 -- all that the run of a script writes and reads
 abbrev pub run_of : Play → Held → List ℕ → Transcript
-run_of play held script = after (script ∷ []) [] (begun play script (get held script))
+run_of play held script = after (script ∷ []) [] (begun play held script (get held script))
 
 -- all that a request writes and reads
 abbrev pub answered : Play → Held → Request → Transcript

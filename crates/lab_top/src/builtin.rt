@@ -1,11 +1,12 @@
 //! The built-in laboratory: `m0` sends a byte, `m1` echoes it, and one hub joins their UARTs.
-ghost use Rattle.std.specs.Prelude.{◌≡◌, ◌<◌, ◌≤◌, false, length, IfOk, OnOk};
-ghost use Rattle.lab_top.specs.Builtin.{built_in, started};
-ghost use Rattle.lab_top.specs.Equipped.{equipped};
-ghost use Rattle.lab_state.specs.One.{board_of};
+ghost use Rattle.std.specs.Prelude.{◌≡◌, false, length, IfOk, IsSome, IsTrue, OnOk};
+ghost use Rattle.std.specs.Option.{ForSome};
+ghost use Rattle.lab_top.specs.Builtin.{built_in};
+ghost use Rattle.lab_top.specs.Inner.Equipped.{equipped};
+ghost use Rattle.board.specs.Memory.{memory_base, holds_each};
+ghost use Rattle.lab_state.specs.One.{view_of};
 
-use crate::log::OpenLine;
-use lab_num::{BoardNo, Member, NoMemory, Text};
+use lab_num::{BoardNo, Member, NoMemory};
 use lab_state::Lab;
 use std::alloc::Global;
 
@@ -46,11 +47,11 @@ pub fn lab(alloc: Global) -> Result<Lab, NoMemory>
 }
 
 /// Gives a board its program, shows its UART and joins that to the hub.
-fn equip(lab: &mut Lab, board: BoardNo, program: &[u8]) -> Result<(), NoMemory>
+pub fn equip(lab: &mut Lab, board: BoardNo, program: &[u8]) -> Result<(), NoMemory>
     requires unspent { lab.old.spent ≡ false }
-    requires exists { board.0 < length lab.old.lab.boards }
-    requires memory { length (board_of lab.old.lab board.0).memory ≡ 0x10000 }
-    requires program { length program.now ≤ 0x10000 }
+    requires has_plan { IsSome (view_of lab.old.lab board.0) }
+    requires holds { ForSome (view_of lab.old.lab board.0) (λ v.
+        IsTrue (holds_each v.space.memory memory_base (length program.now))) }
     ensures { OnOk result (lab.new
         ≡ record lab.old { lab = equipped lab.old.lab board.0 program.now }) }
 {
@@ -61,14 +62,4 @@ fn equip(lab: &mut Lab, board: BoardNo, program: &[u8]) -> Result<(), NoMemory>
         return Err(NoMemory);
     };
     Ok(())
-}
-
-/// A line for each board, none of them begun.
-pub fn lines(alloc: Global) -> Result<Vec<OpenLine>, NoMemory>
-    ensures { IfOk result (λ lines. lines.items ≡ started.lines) }
-{
-    let mut lines = Vec::new(alloc);
-    lines.push(OpenLine::new(alloc, Text::of(alloc, "m0")?))?;
-    lines.push(OpenLine::new(alloc, Text::of(alloc, "m1")?))?;
-    Ok(lines)
 }

@@ -5,11 +5,15 @@ use std::fmt;
 /// Why a script's line is refused.
 #[derive(Clone, Copy, PartialEq, Eq, Debug)]
 pub enum ScriptCause {
-    /// S1: the line is no command.
+    /// S1: the first words of the line are no command's.
     Unknown,
+    /// S2: something else than one quoted word follows a command's words.
+    Arguments,
     /// S10: a time is of no form or above 10,000 seconds, or a quantum is not 1 to 1,000,000
     /// microseconds.
     Time,
+    /// S12: 100,000 commands were taken before.
+    Commands,
     /// S14: the run would end above 10,000 seconds of lab time.
     LabTime,
     /// S19: the script has more than 16 MiB.
@@ -25,7 +29,9 @@ impl fmt::Display for ScriptCause {
     fn fmt<W: fmt::Write>(&self, f: &mut fmt::Formatter<W>) -> fmt::Result {
         match self {
             ScriptCause::Unknown => write!(f, "S1 unknown command"),
+            ScriptCause::Arguments => write!(f, "S2 arguments"),
             ScriptCause::Time => write!(f, "S10 time"),
+            ScriptCause::Commands => write!(f, "S12 commands"),
             ScriptCause::LabTime => write!(f, "S14 lab time"),
             ScriptCause::Size => write!(f, "S19 size"),
         }

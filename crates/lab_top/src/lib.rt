@@ -1,10 +1,12 @@
 //! The whole program: what the command words ask for, from the script's bytes to the log's.
 #![tactic(auto)]
 
+mod body;
 mod builtin;
 mod fault;
 mod laws;
 mod log;
+mod names;
 mod run;
 mod script;
 mod session;

@@ -1,9 +1,11 @@
 //! The text of the log.
-ghost use Rattle.std.specs.Prelude.{◌≡◌, ◌++◌, [], if◌then◌else◌, OnOk, IfOk, string_bytes};
-ghost use Rattle.lab_top.specs.Log.{escaped, line_text, blank, gathered, is_ending, left_open, rest_of, text, rest, open_lines, printed, opened};
+ghost use Rattle.std.specs.Prelude.{◌≡◌, ◌++◌, ◌≤◌, [], ◌∷◌, length, take, drop, OnOk, IfOk, string_bytes};
+ghost use Rattle.std.specs.List.{flat_map};
+ghost use Rattle.lab_top.specs.Log as log_spec;
 
-use lab_num::{Micros, NoMemory, Text, What};
-use log_merge::LogItem;
+use crate::names::{board_name, device_name};
+use lab_num::{Member, Micros, NoMemory, What};
+use log_merge::{LogItem, Names};
 use std::alloc::Global;
 use std::fmt;
 use std::marker::Model;
@@ -28,11 +30,11 @@ impl fmt::Display for Seconds {
     }
 }
 
-/// The line of a board's UART that has not ended: the board's name, the line's bytes, at most 127
-/// and no line feed, and the microsecond of the last.
+/// The line of a device that has not ended: its bytes, at most 127 and no line feed, and the
+/// microsecond of the last.
 #[derive(Drop)]
-pub struct OpenLine {
-    board: Text,
+struct OpenLine {
+    member: Member,
     at: Micros,
     bytes: Vec<u8>,
 }
@@ -42,46 +44,31 @@ impl Model for OpenLine {
 
     ghost Value = { Line };
 
-    ghost view = { λ l. record { board = l.board; at = l.at.0; bytes = l.bytes.items } };
+    ghost view = { λ l. record { member = l.member; at = l.at.0; bytes = l.bytes.items } };
 }
 
 impl OpenLine {
-    /// A line of this board that has not begun.
-    pub fn new(alloc: Global, board: Text) -> OpenLine
-        ensures { result ≡ blank board }
+    /// A line of this device that has not begun.
+    fn new(alloc: Global, member: Member) -> OpenLine
+        ensures { result ≡ log_spec.blank member }
     {
         OpenLine {
-            board,
+            member,
             at: Micros(0),
             bytes: Vec::new(alloc),
         }
     }
 
-    /// Takes a byte that was sent at this microsecond, and prints the line where the byte ends it.
-    fn take(&mut self, at: Micros, byte: u8, text: &mut String) -> Result<(), NoMemory>
-        ensures text { OnOk result (string_bytes text.new ≡ string_bytes text.old
-            ++ (if is_ending self.old byte then line_text (gathered self.old at.0 byte) else [])) }
-        ensures line { OnOk result (self.new ≡ left_open self.old at.0 byte) }
-    {
-        let is_ending = self.is_ending(byte);
-        self.gather(at, byte)?;
-        if is_ending {
-            self.print(text)?;
-            self.clear();
-        }
-        Ok(())
-    }
-
     /// Whether a byte ends the line: a line feed, or the 128th byte.
     fn is_ending(&self, byte: u8) -> bool
-        ensures { result ≡ is_ending self.now byte }
+        ensures { result ≡ log_spec.is_ending self.now byte }
     {
         byte == b'\n' || self.bytes.len() + 1 >= MOST_BYTES
     }
 
     /// Takes a byte into the line, unless it is a line feed.
     fn gather(&mut self, at: Micros, byte: u8) -> Result<(), NoMemory>
-        ensures { OnOk result (self.new ≡ gathered self.old at.0 byte) }
+        ensures { OnOk result (self.new ≡ log_spec.gathered self.old at.0 byte) }
     {
         if byte != b'\n' {
             self.bytes.push(byte)?;
@@ -90,83 +77,182 @@ impl OpenLine {
         Ok(())
     }
 
-    /// Begins the next line.
-    fn clear(&mut self)
-        ensures { self.new ≡ blank self.old.board }
-    {
-        self.at = Micros(0);
-        self.bytes.clear();
-    }
-
-    /// Prints what is left of the line at the end of the log.
-    fn print_rest(&self, text: &mut String) -> Result<(), NoMemory>
-        ensures { OnOk result (string_bytes text.new ≡ string_bytes text.old ++ rest_of self.now) }
-    {
-        if self.bytes.is_empty() {
-            return Ok(());
-        }
-        self.print(text)
-    }
-
     /// Writes the line to the end of the text.
     #[tactic(auto, unfolding(crate::specs::Log::line_text))]
-    fn print(&self, text: &mut String) -> Result<(), NoMemory>
+    fn print(&self, names: &Names, text: &mut String) -> Result<(), NoMemory>
         ensures { OnOk result (string_bytes text.new
-            ≡ string_bytes text.old ++ line_text self.now) }
+            ≡ string_bytes text.old ++ log_spec.line_text names.now self.now) }
+    {
+        self.print_heading(names, text)?;
+        self.print_bytes(text)?;
+        text.push('\n')?;
+        Ok(())
+    }
+
+    /// Writes what stands before the line's bytes.
+    fn print_heading(&self, names: &Names, text: &mut String) -> Result<(), NoMemory>
+        ensures { OnOk result (string_bytes text.new
+            ≡ string_bytes text.old ++ log_spec.heading names.now self.now) }
     {
         let at = Seconds(self.at);
-        let board = self.board.as_str();
-        write!(text, "[{at}] {board}/uart: ")?;
+        let board = board_name(names, self.member);
+        let device = device_name(names, self.member);
+        write!(text, "[{at}] {board}/{device}: ")?;
+        Ok(())
+    }
+
+    /// Writes the line's bytes as they are shown.
+    fn print_bytes(&self, text: &mut String) -> Result<(), NoMemory>
+        ensures { OnOk result (string_bytes text.new
+            ≡ string_bytes text.old ++ flat_map log_spec.escaped self.now.bytes) }
+    {
         for &byte in &self.bytes {
             show(byte, text)?;
         }
-        text.push('\n')?;
         Ok(())
     }
 }
 
-/// What the items print, in order. The lines, one for each board in order of their numbers, gather
-/// the bytes that end no line. After an `Err` nothing is known of them.
-pub fn text_of(alloc: Global, lines: &mut [OpenLine], items: &[LogItem]) -> Result<String, NoMemory>
-    ensures text { IfOk result (λ printed. string_bytes printed ≡ text lines.old items.now) }
-    ensures lines { OnOk result (lines.new ≡ open_lines lines.old items.now) }
-{
-    let mut text = String::new(alloc);
-    for item in items {
-        print_item(lines, item, &mut text)?;
-    }
-    Ok(text)
+/// The lines that have bytes and have not ended, rising by member.
+#[derive(Drop)]
+pub struct Lines {
+    alloc: Global,
+    lines: Vec<OpenLine>,
 }
 
-/// Prints the line that an item ends, if it ends one.
-fn print_item(lines: &mut [OpenLine], item: &LogItem, text: &mut String) -> Result<(), NoMemory>
-    ensures text { OnOk result (string_bytes text.new
-        ≡ string_bytes text.old ++ printed lines.old item.now) }
-    ensures lines { OnOk result (lines.new ≡ opened lines.old item.now) }
-{
-    let LogItem::Slot(from, What::Byte { value, .. }) = item;
-    let board = usize::from(from.board.0);
-    if board < lines.len() {
-        let line = &mut lines[board];
-        line.take(from.at, *value, text)?;
-    }
-    Ok(())
+impl Model for Lines {
+    ghost use Rattle.std.specs.Prelude.{List};
+    ghost use Rattle.lab_top.specs.Log.{Line};
+
+    ghost Value = { List Line };
+
+    ghost view = { λ l. l.lines.items };
 }
 
-/// What is printed of all lines at the end of the log, in order.
-pub fn rest_of(alloc: Global, lines: &[OpenLine]) -> Result<String, NoMemory>
-    ensures { IfOk result (λ printed. string_bytes printed ≡ rest lines.now) }
-{
-    let mut text = String::new(alloc);
-    for line in lines {
-        line.print_rest(&mut text)?;
+impl Lines {
+    /// No line is open.
+    pub fn new(alloc: Global) -> Lines
+        ensures { result ≡ [] }
+    {
+        Lines {
+            alloc,
+            lines: Vec::new(alloc),
+        }
     }
-    Ok(text)
+
+    /// What the items print, in order. The bytes that end no line are gathered. After an `Err`
+    /// nothing is known of the lines.
+    pub fn text_of(&mut self, names: &Names, items: &[LogItem]) -> Result<String, NoMemory>
+        ensures text { IfOk result (λ printed.
+            string_bytes printed ≡ log_spec.text names.now self.old items.now) }
+        ensures lines { OnOk result (self.new ≡ log_spec.open_lines self.old items.now) }
+    {
+        let mut text = String::new(self.alloc);
+        for item in items {
+            self.print_item(names, item, &mut text)?;
+        }
+        Ok(text)
+    }
+
+    /// What is printed of all lines at the end of the log, in order.
+    pub fn rest(&self, names: &Names) -> Result<String, NoMemory>
+        ensures { IfOk result (λ printed.
+            string_bytes printed ≡ log_spec.rest names.now self.now) }
+    {
+        let mut text = String::new(self.alloc);
+        for line in &self.lines {
+            line.print(names, &mut text)?;
+        }
+        Ok(text)
+    }
+
+    /// Prints the line that an item ends, if it ends one.
+    fn print_item(
+        &mut self,
+        names: &Names,
+        item: &LogItem,
+        text: &mut String,
+    ) -> Result<(), NoMemory>
+        ensures text { OnOk result (string_bytes text.new
+            ≡ string_bytes text.old ++ log_spec.printed names.now self.old item.now) }
+        ensures lines { OnOk result (self.new ≡ log_spec.opened self.old item.now) }
+    {
+        let LogItem::Slot(from, What::Byte { dev, value }) = item;
+        let member = Member {
+            board: from.board,
+            dev: *dev,
+        };
+        let place = self.place_of(member);
+        let line = self.take_out(place, member);
+        self.go_on(names, place, line, from.at, *value, text)
+    }
+
+    /// A line goes on with a byte: it is printed where that ends it, and else stands at its place.
+    fn go_on(
+        &mut self,
+        names: &Names,
+        place: usize,
+        mut line: OpenLine,
+        at: Micros,
+        byte: u8,
+        text: &mut String,
+    ) -> Result<(), NoMemory>
+        requires { place ≤ length self.old }
+        ensures text { OnOk result (string_bytes text.new
+            ≡ string_bytes text.old ++ log_spec.ended_by names.now line at.0 byte) }
+        ensures lines { OnOk result (self.new ≡ take place self.old
+            ++ log_spec.left_open line at.0 byte ++ drop place self.old) }
+    {
+        let is_ending = line.is_ending(byte);
+        line.gather(at, byte)?;
+        if is_ending {
+            return line.print(names, text);
+        }
+        self.lines.insert(place, line)?;
+        Ok(())
+    }
+
+    /// How many lines are of lower members.
+    fn place_of(&self, member: Member) -> usize
+        ensures value { result ≡ log_spec.place_of member self.now }
+        ensures within { result ≤ length self.now }
+    {
+        for (i, line) in self.lines.iter().enumerate() {
+            if !is_lower(line.member, member) {
+                return i;
+            }
+        }
+        self.lines.len()
+    }
+
+    /// Takes the member's own line out, which stands at this place if it is open.
+    fn take_out(&mut self, place: usize, member: Member) -> OpenLine
+        requires { place ≤ length self.old }
+        ensures line { result ≡ log_spec.first_own member (drop place self.old) }
+        ensures lines { self.new
+            ≡ take place self.old ++ log_spec.first_others member (drop place self.old) }
+    {
+        if place < self.lines.len() {
+            let line = &self.lines[place];
+            if line.member == member {
+                return self.lines.remove(place);
+            }
+        }
+        OpenLine::new(self.alloc, member)
+    }
+}
+
+/// Whether a member comes before another.
+fn is_lower(a: Member, b: Member) -> bool
+    ensures { result ≡ log_spec.is_lower a b }
+{
+    a < b
 }
 
 /// Writes a byte as it is shown: printable ones as they are, and others escaped.
 fn show(byte: u8, text: &mut String) -> Result<(), NoMemory>
-    ensures { OnOk result (string_bytes text.new ≡ string_bytes text.old ++ escaped byte) }
+    ensures { OnOk result (string_bytes text.new
+        ≡ string_bytes text.old ++ log_spec.escaped byte) }
 {
     match byte {
         b'\\' => text.push_str("\\\\")?,

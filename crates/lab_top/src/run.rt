@@ -1,16 +1,18 @@
 //! The whole program, from the command words to the status.
 ghost use Rattle.std.specs.Prelude.{◌≡◌, ◌≢◌, ◌≤◌, [], false, length, IfSome, MatchResult, map, string_bytes, Option, List, ℕ};
+ghost use Rattle.lab_io.specs.Held.{Held};
 ghost use Rattle.lab_io.specs.Known.{Rose};
 ghost use Rattle.lab_state.specs.Run.{run};
-ghost use Rattle.lab_top.specs.Script.{lines_of};
+ghost use Rattle.lab_top.specs.Names.{names_of};
 ghost use Rattle.lab_top.specs.Log.{rest};
-ghost use Rattle.lab_top.specs.Builtin.{started};
-ghost use Rattle.lab_top.specs.Transcript.{transcript, run_of, request_of, Run, Refused, Script, Usage, Done, from, fault_at};
-ghost use Rattle.lab_top.specs.Course.{Told, Course, IsEnd, final};
-ghost use Rattle.lab_top.specs.Headline.{IsWhole, WritesPart, AsksPart, IsCounted, HasAll, IsUncut, IsUsageBy, IsNoUsage};
+ghost use Rattle.lab_top.specs.Builtin.{built_in};
+ghost use Rattle.lab_top.specs.Command.{fault_at};
+ghost use Rattle.lab_top.specs.Transcript.{transcript, run_of, request_of, rest_of, started, whole, Run, Refused, Script, Usage, Done};
+ghost use Rattle.lab_top.specs.Headline.{IsWhole, WritesPart, WritesUsage, AsksPart, IsCounted, HasAll, IsUncut, IsUsageBy, IsNoUsage, OnRefused, final};
+ghost use Rattle.lab_top.specs.Inner.Course.{Told, Course, IsEnd};
 
+use crate::builtin;
 use crate::fault::{Cause, ScriptCause, ScriptFault};
-use crate::script;
 use crate::session::Session;
 use crate::status::{Status, UsageCause};
 use crate::step::Step;
@@ -58,8 +60,17 @@ pub fn run_lab<F: Files, K: Sink>(
         ¬ (Rose (K.faults out.old) (K.faults out.new)) →
         IsUncut result) }
 
-    // The words alone say whether they are refused.
+    // The words alone say whether they are refused. Refused ones write the usage line or a front
+    // of it, whatever is told of the files, and ask for no name.
     ensures usage { IsUsageBy (request_of (map string_bytes words.now)) result }
+    ensures refused { OnRefused (request_of (map string_bytes words.now))
+        (WritesUsage result (K.written out.old) (K.written out.new)
+        (F.asked files.old) (F.asked files.new)) }
+
+    // What the files hold stays as it is, and no count of faults falls.
+    ensures held { F.held files.new ≡ F.held files.old }
+    ensures read_faults { F.faults files.old ≤ F.faults files.new }
+    ensures write_faults { K.faults out.old ≤ K.faults out.new }
 {
     run_words(alloc, words, files, out)
 }
@@ -75,8 +86,14 @@ fn run_words<F: Files, K: Sink>(
         Course (transcript (map string_bytes words.now) held) result
         (K.written out.old) (K.written out.new) (F.asked files.old) (F.asked files.new)) }
     ensures usage { IsUsageBy (request_of (map string_bytes words.now)) result }
+    ensures refused { OnRefused (request_of (map string_bytes words.now))
+        (WritesUsage result (K.written out.old) (K.written out.new)
+        (F.asked files.old) (F.asked files.new)) }
     ensures unread { result ≡ Status.Unread → Rose (F.faults files.old) (F.faults files.new) }
     ensures unwritten { result ≡ Status.Unwritten → Rose (K.faults out.old) (K.faults out.new) }
+    ensures held { F.held files.new ≡ F.held files.old }
+    ensures read_faults { F.faults files.old ≤ F.faults files.new }
+    ensures write_faults { K.faults out.old ≤ K.faults out.new }
 {
     match script_of(words) {
         Ok(script) => run_file(alloc, script, files, out),
@@ -110,6 +127,7 @@ fn refuse_words<K: Sink>(cause: UsageCause, out: &mut K) -> Status
     ensures course { IsEnd [] (Usage cause) result (K.written out.old) (K.written out.new) }
     ensures usage { IfSome (final result) (λ outcome. outcome ≡ Usage cause) }
     ensures unwritten { result ≡ Status.Unwritten → Rose (K.faults out.old) (K.faults out.new) }
+    ensures faults { K.faults out.old ≤ K.faults out.new }
 {
     match write_whole(out, USAGE.as_bytes()) {
         Ok(()) => Status::Usage(cause),
@@ -125,75 +143,75 @@ fn run_file<F: Files, K: Sink>(alloc: Global, script: &str, files: &mut F, out: 
     ensures usage { IsNoUsage result }
     ensures unread { result ≡ Status.Unread → Rose (F.faults files.old) (F.faults files.new) }
     ensures unwritten { result ≡ Status.Unwritten → Rose (K.faults out.old) (K.faults out.new) }
+    ensures held { F.held files.new ≡ F.held files.old }
+    ensures read_faults { F.faults files.old ≤ F.faults files.new }
+    ensures write_faults { K.faults out.old ≤ K.faults out.new }
 {
     let mut bytes = Vec::new(alloc);
     match files.read(script, MOST_BYTES, &mut bytes) {
-        ReadAnswer::Done => run_script(alloc, script, &bytes, out),
-        ReadAnswer::TooLarge => refuse_line(alloc, script, 0, ScriptCause::Size, out),
+        ReadAnswer::Done => run_script(alloc, script, bytes, out),
+        ReadAnswer::TooLarge => refuse_file(alloc, script, out),
         ReadAnswer::Failed => Status::Unread,
         ReadAnswer::Memory => Status::Memory,
     }
 }
 
 /// Runs the built-in laboratory by a script.
-fn run_script<K: Sink>(alloc: Global, script: &str, bytes: &[u8], out: &mut K) -> Status
-    requires { length bytes.now ≤ 16777216 }
-    ensures course { (log : Option (List (List ℕ))) →
-        Course (from run script.now 1 started (lines_of bytes.now)) result
+fn run_script<K: Sink>(alloc: Global, script: &str, bytes: Vec<u8>, out: &mut K) -> Status
+    requires { length bytes.items ≤ 16777216 }
+    ensures course { (held : Held) (log : Option (List (List ℕ))) →
+        Course (rest_of run held (started built_in script.now bytes.items)) result
         (K.written out.old) (K.written out.new) log log }
     ensures usage { IsNoUsage result }
     ensures never { result ≢ Status.Unread }
     ensures unwritten { result ≡ Status.Unwritten → Rose (K.faults out.old) (K.faults out.new) }
+    ensures faults { K.faults out.old ≤ K.faults out.new }
 {
-    let Ok(mut session) = Session::new(alloc) else {
+    let Ok(lab) = builtin::lab(alloc) else {
         return Status::Memory;
     };
-    take_lines(alloc, script, bytes, &mut session, out)
+    let Ok(script) = Text::of(alloc, script) else {
+        return Status::Memory;
+    };
+    let mut session = Session::new(alloc, lab, script, bytes);
+    take_commands(alloc, &mut session, out)
 }
 
-/// Takes the lines of a script to the end or the first fault, and writes what each prints before
+/// Takes the commands of a script to its end or the first fault, and writes what each prints before
 /// the next is taken.
-fn take_lines<K: Sink>(
-    alloc: Global,
-    script: &str,
-    bytes: &[u8],
-    session: &mut Session,
-    out: &mut K,
-) -> Status
-    requires short { length bytes.now ≤ 16777216 }
-    requires unspent { session.old.spent ≡ false }
-    ensures course { (log : Option (List (List ℕ))) →
-        Course (from run script.now 1 session.old.state (lines_of bytes.now)) result
+fn take_commands<K: Sink>(alloc: Global, session: &mut Session, out: &mut K) -> Status
+    requires { session.old.spent ≡ false }
+    ensures course { (held : Held) (log : Option (List (List ℕ))) →
+        Course (rest_of run held session.old.state) result
         (K.written out.old) (K.written out.new) log log }
     ensures usage { IsNoUsage result }
     ensures never { result ≢ Status.Unread }
     ensures unwritten { result ≡ Status.Unwritten → Rose (K.faults out.old) (K.faults out.new) }
+    ensures faults { K.faults out.old ≤ K.faults out.new }
 {
-    let mut rest = bytes;
-    let mut number = 1;
-    'lines: while let Some((line, behind)) = script::next_line(rest) {
-        match session.take(line) {
+    'commands: loop {
+        match session.step() {
             Step::Text(text) => {
                 if let Err(fault) = write_whole(out, text.as_bytes()) {
                     return Status::from(fault);
                 }
             }
-            Step::Fault(cause) => return stop_at(alloc, session, script, number, cause, out),
+            Step::End => return stop(session, out),
+            Step::Fault(fault) => return stop_at(alloc, session, fault, out),
             Step::Memory => return Status::Memory,
         }
-        rest = behind;
-        number += 1;
     }
-    stop(session, out)
 }
 
 /// Writes what is left of the lines where a script has ended.
 fn stop<K: Sink>(session: &Session, out: &mut K) -> Status
-    ensures course { IsEnd (rest session.now.state.lines) Done result
-        (K.written out.old) (K.written out.new) }
+    requires { session.now.spent ≡ false }
+    ensures course { IsEnd (rest (names_of session.now.state.lab) session.now.state.lines) Done
+        result (K.written out.old) (K.written out.new) }
     ensures usage { IsNoUsage result }
     ensures never { result ≢ Status.Unread }
     ensures unwritten { result ≡ Status.Unwritten → Rose (K.faults out.old) (K.faults out.new) }
+    ensures faults { K.faults out.old ≤ K.faults out.new }
 {
     let Ok(text) = session.rest() else {
         return Status::Memory;
@@ -205,20 +223,14 @@ fn stop<K: Sink>(session: &Session, out: &mut K) -> Status
 }
 
 /// Writes what is left of the lines where a line of a script is refused, and then says so.
-fn stop_at<K: Sink>(
-    alloc: Global,
-    session: &Session,
-    script: &str,
-    number: u32,
-    cause: ScriptCause,
-    out: &mut K,
-) -> Status
-    ensures course { IsEnd (rest session.now.state.lines)
-        (Script (fault_at script.now number cause)) result
-        (K.written out.old) (K.written out.new) }
+fn stop_at<K: Sink>(alloc: Global, session: &Session, fault: ScriptFault, out: &mut K) -> Status
+    requires { session.now.spent ≡ false }
+    ensures course { IsEnd (rest (names_of session.now.state.lab) session.now.state.lines)
+        (Script fault) result (K.written out.old) (K.written out.new) }
     ensures usage { IsNoUsage result }
     ensures never { result ≢ Status.Unread }
     ensures unwritten { result ≡ Status.Unwritten → Rose (K.faults out.old) (K.faults out.new) }
+    ensures faults { K.faults out.old ≤ K.faults out.new }
 {
     let Ok(text) = session.rest() else {
         return Status::Memory;
@@ -226,18 +238,12 @@ fn stop_at<K: Sink>(
     if let Err(fault) = write_whole(out, text.as_bytes()) {
         return Status::from(fault);
     }
-    refuse_line(alloc, script, number, cause, out)
+    tell(alloc, fault, out)
 }
 
-/// Says that a line of a script is refused.
-fn refuse_line<K: Sink>(
-    alloc: Global,
-    script: &str,
-    number: u32,
-    cause: ScriptCause,
-    out: &mut K,
-) -> Status
-    ensures course { IsEnd [] (Script (fault_at script.now number cause)) result
+/// Says that a script has too many bytes.
+fn refuse_file<K: Sink>(alloc: Global, script: &str, out: &mut K) -> Status
+    ensures course { IsEnd [] (Script (fault_at (whole script.now) ScriptCause.Size)) result
         (K.written out.old) (K.written out.new) }
     ensures usage { IsNoUsage result }
     ensures never { result ≢ Status.Unread }
@@ -249,9 +255,20 @@ fn refuse_line<K: Sink>(
     };
     let fault = ScriptFault {
         file,
-        line: number,
-        cause: Cause::Script(cause),
+        line: 0,
+        cause: Cause::Script(ScriptCause::Size),
     };
+    tell(alloc, fault, out)
+}
+
+/// Writes the line of a fault.
+fn tell<K: Sink>(alloc: Global, fault: ScriptFault, out: &mut K) -> Status
+    ensures course { IsEnd [] (Script fault) result (K.written out.old) (K.written out.new) }
+    ensures usage { IsNoUsage result }
+    ensures never { result ≢ Status.Unread }
+    ensures unwritten { result ≡ Status.Unwritten → Rose (K.faults out.old) (K.faults out.new) }
+    ensures faults { K.faults out.old ≤ K.faults out.new }
+{
     let Ok(line) = format!(in alloc; "{fault}\n") else {
         return Status::Memory;
     };
@@ -260,3 +277,6 @@ fn refuse_line<K: Sink>(
         Err(fault) => Status::from(fault),
     }
 }
+
+#[cfg(test)]
+mod tests;

@@ -1,104 +1,158 @@
-//! A run of a script: the laboratory, and the lines of its log that are open.
-ghost use Rattle.std.specs.Prelude.{◌≡◌, false, IfOk, string_bytes};
+//! A run of a script, step by step: its open file, its laboratory, and the open lines of its log.
+ghost use Rattle.std.specs.Prelude.{◌≡◌, ◌≤◌, false, length, IfOk, string_bytes, Result, Ok};
+ghost use Rattle.lab_io.specs.Held.{Held};
 ghost use Rattle.lab_state.specs.Run.{run};
-ghost use Rattle.lab_top.specs.Script.{command_of};
+ghost use Rattle.lab_top.specs.Names.{names_of};
 ghost use Rattle.lab_top.specs.Log.{rest};
-ghost use Rattle.lab_top.specs.Commands.{did, runs, sets_quantum};
-ghost use Rattle.lab_top.specs.Builtin.{started};
-ghost use Rattle.lab_top.specs.Session.{IsStep, going};
+ghost use Rattle.lab_top.specs.Command as command_spec;
+ghost use Rattle.lab_top.specs.Transcript.{started};
+ghost use Rattle.lab_top.specs.Inner.Session.{IsAnswer, IsStep, IsWithin, IsTaken, going, place_in};
 
-use crate::builtin;
-use crate::fault::ScriptCause;
-use crate::log::{self, OpenLine};
-use crate::script::{self, Command};
+use crate::body::{Body, TakenLine};
+use crate::fault::{Cause, ScriptCause, ScriptFault};
+use crate::log::Lines;
+use crate::names;
+use crate::script::Command;
 use crate::step::Step;
-use lab_num::{Micros, NoMemory, TimeFault};
+use lab_num::{Micros, NoMemory, Text};
 use lab_state::{Lab, RunFault};
 use std::alloc::Global;
 use std::marker::Model;
 
-/// The longest quantum, in microseconds.
-const MOST_QUANTUM: u64 = 1_000_000;
+/// The most commands that one run takes.
+const MOST_COMMANDS: u32 = 100_000;
 
 /// A run of a script, between two of its lines.
 #[derive(Drop)]
 pub struct Session {
     alloc: Global,
+    body: Body,
+    taken: u32,
     lab: Lab,
-    lines: Vec<OpenLine>,
+    lines: Lines,
 }
 
 impl Model for Session {
-    ghost use Rattle.lab_top.specs.Session.{Running};
+    ghost use Rattle.std.specs.Prelude.{[], ◌∷◌};
+    ghost use Rattle.lab_top.specs.Inner.Session.{Running};
 
     ghost Value = { Running };
 
     ghost view = { λ s. record {
-      state = record { lab = s.lab.lab; lines = s.lines.items };
+      state = record {
+        bodies = s.body ∷ [];
+        taken = s.taken;
+        lab = s.lab.lab;
+        lines = s.lines;
+      };
       spent = s.lab.spent;
     } };
 }
 
 impl Session {
-    /// The built-in laboratory at lab time 0.
-    pub fn new(alloc: Global) -> Result<Session, NoMemory>
-        ensures { IfOk result (λ session. session ≡ going started) }
+    /// A laboratory before the first line of a script.
+    pub fn new(alloc: Global, lab: Lab, script: Text, bytes: Vec<u8>) -> Session
+        requires unspent { lab.spent ≡ false }
+        requires short { length bytes.items ≤ 16777216 }
+        ensures { result ≡ going (started lab.lab script bytes.items) }
     {
-        let lab = builtin::lab(alloc)?;
-        let lines = builtin::lines(alloc)?;
-        Ok(Session { alloc, lab, lines })
+        Session {
+            alloc,
+            body: Body::new(script, bytes),
+            taken: 0,
+            lab,
+            lines: Lines::new(alloc),
+        }
     }
 
-    /// Does what a line of a script asks for. After `Memory` nothing is known of the run.
-    #[tactic(auto, unfolding(crate::specs::Commands::did))]
-    pub fn take(&mut self, line: &[u8]) -> Step
+    /// Does what the next line asks for. After `Memory` nothing is known of the run.
+    pub fn step(&mut self) -> Step
         requires { self.old.spent ≡ false }
-        ensures { IsStep (did run self.old.state (command_of line.now)) result self.old self.new }
+        ensures step { (held : Held) → IsStep held result self.old.state self.new.state }
+        ensures taken { IsTaken result self.old self.new }
     {
-        match script::command_of(line) {
-            None => Step::Fault(ScriptCause::Unknown),
-            Some(Command::RunFor(time)) => self.run_for(time),
-            Some(Command::SetQuantum(time)) => self.set_quantum(time),
+        let Some(line) = self.body.next_line() else {
+            return Step::End;
+        };
+        if self.taken >= MOST_COMMANDS {
+            return self.fault(line.number, ScriptCause::Commands);
+        }
+        self.taken += 1;
+        self.answer(line)
+    }
+
+    /// Does what the line asks for that was taken last.
+    fn answer(&mut self, line: TakenLine) -> Step
+        requires unspent { self.old.spent ≡ false }
+        requires within { IsWithin line.command }
+        ensures { IsAnswer
+            (command_spec.answer_to run self.old.state (place_in self.old.state line.number) line.command)
+            result self.old self.new }
+    {
+        match line.command {
+            Ok(Command::RunFor { length }) => self.run_for(line.number, length),
+            Ok(Command::Quantum { length }) => self.set_quantum(length),
+            Err(cause) => self.fault(line.number, cause),
         }
     }
 
     /// Runs the laboratory, and prints its log.
-    fn run_for(&mut self, time: Result<Micros, TimeFault>) -> Step
+    fn run_for(&mut self, number: u32, length: Micros) -> Step
         requires { self.old.spent ≡ false }
-        ensures { IsStep (runs run self.old.state time) result self.old self.new }
+        ensures { IsAnswer
+            (command_spec.run_answer run self.old.state (place_in self.old.state number) length.0)
+            result self.old self.new }
     {
-        let Ok(length) = time else {
-            return Step::Fault(ScriptCause::Time);
-        };
         let log = match self.lab.run_for(length) {
             Ok(log) => log,
-            Err(RunFault::TooLong) => return Step::Fault(ScriptCause::LabTime),
+            Err(RunFault::TooLong) => return self.fault(number, ScriptCause::LabTime),
             Err(RunFault::Memory) => return Step::Memory,
         };
-        match log::text_of(self.alloc, &mut self.lines, log.lines.items()) {
+        let Ok(names) = names::names_of(self.alloc, &self.lab) else {
+            return Step::Memory;
+        };
+        match self.lines.text_of(&names, log.lines.items()) {
             Ok(text) => Step::Text(text),
             Err(_) => Step::Memory,
         }
     }
 
     /// Sets the quantum of the runs to come.
-    fn set_quantum(&mut self, time: Result<Micros, TimeFault>) -> Step
-        requires { self.old.spent ≡ false }
-        ensures { IsStep (sets_quantum self.old.state time) result self.old self.new }
+    fn set_quantum(&mut self, length: Micros) -> Step
+        requires unspent { self.old.spent ≡ false }
+        requires least { 1 ≤ length.0 }
+        requires most { length.0 ≤ 1000000 }
+        ensures { IsAnswer (command_spec.quantum_answer self.old.state length.0)
+            result self.old self.new }
     {
-        match time {
-            Ok(Micros(quantum)) if 1 <= quantum && quantum <= MOST_QUANTUM => {
-                self.lab.set_quantum(quantum);
-                Step::Text(String::new(self.alloc))
-            }
-            _ => Step::Fault(ScriptCause::Time),
-        }
+        self.lab.set_quantum(length.0);
+        Step::Text(String::new(self.alloc))
+    }
+
+    /// A fault of a line of the open file.
+    fn fault(&self, number: u32, cause: ScriptCause) -> Step
+        requires { self.now.spent ≡ false }
+        ensures { IsAnswer
+            (command_spec.Faults (command_spec.fault_at (place_in self.now.state number) cause))
+            result self.now self.now }
+    {
+        let Ok(file) = Text::of(self.alloc, self.body.file()) else {
+            return Step::Memory;
+        };
+        Step::Fault(ScriptFault {
+            file,
+            line: number,
+            cause: Cause::Script(cause),
+        })
     }
 
     /// What is printed of the lines that are open where the run ends.
     pub fn rest(&self) -> Result<String, NoMemory>
-        ensures { IfOk result (λ text. string_bytes text ≡ rest self.now.state.lines) }
+        requires { self.now.spent ≡ false }
+        ensures { IfOk result (λ text. string_bytes text
+            ≡ rest (names_of self.now.state.lab) self.now.state.lines) }
     {
-        log::rest_of(self.alloc, &self.lines)
+        let names = names::names_of(self.alloc, &self.lab)?;
+        self.lines.rest(&names)
     }
 }

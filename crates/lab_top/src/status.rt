@@ -49,7 +49,7 @@ impl Status {
 
 impl From<WriteFault> for Status {
     ghost use Rattle.std.specs.Prelude.{◌≡◌};
-    ghost use Rattle.lab_top.specs.Course.{refusal};
+    ghost use Rattle.lab_top.specs.Headline.{refusal};
 
     ghost from_gives = { λ fault status. status ≡ refusal fault };
 

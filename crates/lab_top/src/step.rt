@@ -1,13 +1,15 @@
 //! What one step of a run answers.
-use crate::fault::ScriptCause;
+use crate::fault::ScriptFault;
 
-/// What a command has done.
+/// What the next line of a script has done.
 #[derive(Drop)]
 pub enum Step {
-    /// It was carried out, and prints this.
+    /// Its command was carried out, and prints this.
     Text(String),
+    /// There is no further line.
+    End,
     /// It was refused, and has changed nothing.
-    Fault(ScriptCause),
+    Fault(ScriptFault),
     /// Memory ran out.
     Memory,
 }

@@ -7,6 +7,8 @@ use std::test::Fail;
 const USAGE: &str =
     "usage: lab run SCRIPT [--workers N] [--until TIME] | check SCRIPT | gen SEED BOARDS [--workers N]\n";
 
+const FIRST_LINE: &str = "[0.000002] m0/uart: A\n";
+
 const BOTH_LINES: &str = "[0.000002] m0/uart: A\n[0.000104] m1/uart: A\n";
 
 fn words_of(alloc: Global, words: &[&str]) -> Result<Vec<String>, Fail> {
@@ -17,9 +19,9 @@ fn words_of(alloc: Global, words: &[&str]) -> Result<Vec<String>, Fail> {
     Ok(owned)
 }
 
-/// Runs the words over one file, `s.resc`: the status number, and what was written.
-fn run(alloc: Global, words: &[&str], script: &[u8]) -> Result<(u8, Vec<u8>), Fail> {
-    let words = words_of(alloc, words)?;
+/// Runs `s.resc`: the status number, and what was written.
+fn run(alloc: Global, script: &[u8]) -> Result<(u8, Vec<u8>), Fail> {
+    let words = words_of(alloc, &["run", "s.resc"])?;
     let mut files = MemFiles::new(alloc);
     files.put("s.resc", script)?;
     let mut out = MemSink::new(alloc, 4096);
@@ -35,10 +37,9 @@ fn the_second_board_answers_in_the_round_behind_the_first_byte(
         ("", ""),
         ("emulation RunFor \"0\"\n", ""),
         ("emulation RunFor \"0.000002\"\n", ""),
-        ("emulation RunFor \"0.000003\"\n", "[0.000002] m0/uart: A\n"),
-        ("emulation RunFor \"0.000104\"\n", "[0.000002] m0/uart: A\n"),
+        ("emulation RunFor \"0.000003\"\n", FIRST_LINE),
+        ("emulation RunFor \"0.000104\"\n", FIRST_LINE),
         ("emulation RunFor \"0.000105\"\n", BOTH_LINES),
-        ("emulation RunFor \"0.0003\"\n", BOTH_LINES),
         ("emulation RunFor \"0.0003\"", BOTH_LINES),
         ("emulation RunFor \"0:00:00.0003\"", BOTH_LINES),
         (
@@ -51,7 +52,7 @@ fn the_second_board_answers_in_the_round_behind_the_first_byte(
         ),
     ];
     for (script, log) in rows {
-        let (number, written) = run(rt.alloc(), &["run", "s.resc"], script.as_bytes())?;
+        let (number, written) = run(rt.alloc(), script.as_bytes())?;
         assert_eq!(rt; number, 0, "{script}");
         assert_eq!(rt; written.as_slice(), log.as_bytes(), "{script}");
     }
@@ -59,28 +60,60 @@ fn the_second_board_answers_in_the_round_behind_the_first_byte(
 }
 
 #[test]
-fn a_line_is_refused_by_its_number_and_cause(rt: HostRuntime) -> Result<(), Fail> {
+fn a_line_is_refused_by_its_number_and_cause_behind_the_log(rt: HostRuntime) -> Result<(), Fail> {
     let rows = [
-        ("\n", "1: S1 unknown command"),
-        ("emulation runfor \"1\"\n", "1: S1 unknown command"),
-        ("emulation RunFor \"1\n", "1: S1 unknown command"),
-        ("emulation RunFor \"1\"\"\n", "1: S1 unknown command"),
-        ("emulation RunFor \"0\"\r\n", "1: S1 unknown command"),
-        ("emulation RunFor \"0\"\nquit\n", "2: S1 unknown command"),
-        ("emulation RunFor \"3s\"\n", "1: S10 time"),
-        ("emulation RunFor \"\"\n", "1: S10 time"),
-        ("emulation RunFor \"0.0000001\"\n", "1: S10 time"),
-        ("emulation RunFor \"10000.000001\"\n", "1: S10 time"),
-        ("emulation SetGlobalQuantum \"0\"\n", "1: S10 time"),
-        ("emulation SetGlobalQuantum \"1.000001\"\n", "1: S10 time"),
+        ("", "\n", "1: S1 unknown command"),
+        ("", "quit", "1: S1 unknown command"),
+        ("", "emulation runfor \"1\"\n", "1: S1 unknown command"),
+        ("", "emulation RunForx \"1\"\n", "1: S1 unknown command"),
+        ("", "emulation  RunFor \"1\"\n", "1: S1 unknown command"),
+        ("", " emulation RunFor \"1\"\n", "1: S1 unknown command"),
+        ("", "emulation RunFor", "1: S2 arguments"),
+        ("", "emulation RunFor \n", "1: S2 arguments"),
+        ("", "emulation RunFor 1\n", "1: S2 arguments"),
+        ("", "emulation RunFor \"1\n", "1: S2 arguments"),
+        ("", "emulation RunFor \"1\"\"\n", "1: S2 arguments"),
+        ("", "emulation RunFor \"1\" x\n", "1: S2 arguments"),
+        ("", "emulation RunFor \"0\"\r\n", "1: S2 arguments"),
+        ("", "emulation SetGlobalQuantum \"\" \n", "1: S2 arguments"),
+        ("", "emulation RunFor \"3s\"\n", "1: S10 time"),
+        ("", "emulation RunFor \"\"\n", "1: S10 time"),
+        ("", "emulation RunFor \" 1\"\n", "1: S10 time"),
+        ("", "emulation RunFor \"0.0000001\"\n", "1: S10 time"),
+        ("", "emulation RunFor \"10000.000001\"\n", "1: S10 time"),
+        ("", "emulation SetGlobalQuantum \"0\"\n", "1: S10 time"),
         (
+            "",
+            "emulation SetGlobalQuantum \"1.000001\"\n",
+            "1: S10 time",
+        ),
+        (
+            "",
             "emulation SetGlobalQuantum \"1\"\nemulation RunFor \"0:60:00\"\n",
             "2: S10 time",
         ),
+        (
+            BOTH_LINES,
+            "emulation RunFor \"10000\"\n",
+            "2: S14 lab time",
+        ),
+        (
+            BOTH_LINES,
+            "emulation RunFor \"x\"\nemulation RunFor \"0.0003\"\n",
+            "2: S10 time",
+        ),
+        (BOTH_LINES, "\nquit\n", "2: S1 unknown command"),
     ];
-    for (script, fault) in rows {
-        let (number, written) = run(rt.alloc(), &["run", "s.resc"], script.as_bytes())?;
-        let wanted = format!(in rt.alloc(); "error: s.resc:{fault}\n")?;
+    for (log, rest, fault) in rows {
+        let alloc = rt.alloc();
+        let before = if log.is_empty() {
+            ""
+        } else {
+            "emulation RunFor \"0.0003\"\n"
+        };
+        let script = format!(in alloc; "{before}{rest}")?;
+        let (number, written) = run(alloc, script.as_bytes())?;
+        let wanted = format!(in alloc; "{log}error: s.resc:{fault}\n")?;
         assert_eq!(rt; number, 3, "{script}");
         assert_eq!(rt; written.as_slice(), wanted.as_bytes(), "{script}");
     }
@@ -88,38 +121,29 @@ fn a_line_is_refused_by_its_number_and_cause(rt: HostRuntime) -> Result<(), Fail
 }
 
 #[test]
-fn the_log_stands_before_the_fault_and_nothing_behind_it_is_read(
-    rt: HostRuntime,
-) -> Result<(), Fail> {
+fn scripts_have_16_mib_and_100_000_commands_at_most(rt: HostRuntime) -> Result<(), Fail> {
+    let none = "emulation RunFor \"0\"\n";
     let rows = [
-        ("emulation RunFor \"10000\"\n", "2: S14 lab time"),
+        ("\n", 16_777_217, "", 3, "error: s.resc:0: S19 size\n"),
+        (none, 100_000, "", 0, ""),
         (
-            "emulation RunFor \"x\"\nemulation RunFor \"0.0003\"\n",
-            "2: S10 time",
+            none,
+            100_000,
+            "quit",
+            3,
+            "error: s.resc:100001: S12 commands\n",
         ),
-        ("\nquit\n", "2: S1 unknown command"),
     ];
-    for (rest, fault) in rows {
-        let alloc = rt.alloc();
-        let script = format!(in alloc; "emulation RunFor \"0.0003\"\n{rest}")?;
-        let (number, written) = run(alloc, &["run", "s.resc"], script.as_bytes())?;
-        let wanted = format!(in alloc; "{BOTH_LINES}error: s.resc:{fault}\n")?;
-        assert_eq!(rt; number, 3, "{rest}");
-        assert_eq!(rt; written.as_slice(), wanted.as_bytes(), "{rest}");
+    for (line, count, last, status, text) in rows {
+        let mut script = String::new(rt.alloc());
+        for _ in 0..count {
+            script.push_str(line)?;
+        }
+        script.push_str(last)?;
+        let (number, written) = run(rt.alloc(), script.as_bytes())?;
+        assert_eq!(rt; number, status);
+        assert_eq!(rt; written.as_slice(), text.as_bytes());
     }
-    Ok(())
-}
-
-#[test]
-fn a_script_above_16_mib_is_refused_whole(rt: HostRuntime) -> Result<(), Fail> {
-    let mut script = Vec::new(rt.alloc());
-    script.resize(16_777_217, b'\n')?;
-    let (number, written) = run(rt.alloc(), &["run", "s.resc"], &script)?;
-    assert_eq!(rt; number, 3);
-    assert_eq!(rt;
-        written.as_slice(),
-        b"error: s.resc:0: S19 size\n".as_slice()
-    );
     Ok(())
 }
 
@@ -150,48 +174,32 @@ fn other_words_are_answered_by_the_usage_line(rt: HostRuntime) -> Result<(), Fai
 }
 
 #[test]
-fn a_sink_that_takes_one_byte_a_call_is_written_the_same(rt: HostRuntime) -> Result<(), Fail> {
-    let alloc = rt.alloc();
-    let words = words_of(alloc, &["run", "s.resc"])?;
-    let mut files = MemFiles::new(alloc);
-    files.put("s.resc", b"emulation RunFor \"0.0003\"")?;
-    let mut out = MemSink::new(alloc, 1);
-    let status = run_lab(alloc, &words, &mut files, &mut out);
-    assert_eq!(rt; status.number(), 0);
-    assert_eq!(rt; out.bytes(), BOTH_LINES.as_bytes());
-    Ok(())
-}
-
-#[test]
 fn faults_outside_cut_a_run_short(rt: HostRuntime) -> Result<(), Fail> {
+    // The name that is read, which read and which write fail, how many bytes a write takes.
+    let rows: [(&str, Option<u64>, Option<u64>, usize, u8, &str); 6] = [
+        ("s.resc", None, None, 1, 0, BOTH_LINES),
+        ("s.resc", None, Some(0), 4, 5, ""),
+        ("s.resc", None, Some(2), 4, 5, "[0.00000"),
+        ("s.resc", Some(0), None, 4, 4, ""),
+        ("t.resc", None, None, 4, 4, ""),
+        ("t.resc", None, Some(0), 4, 4, ""),
+    ];
     let alloc = rt.alloc();
-    let words = words_of(alloc, &["run", "s.resc"])?;
-    let script = b"emulation RunFor \"0.0003\"".as_slice();
-
-    // The first write fails, and then one in mid-stream.
-    for (call, written) in [(0, b"".as_slice()), (2, b"[0.00000".as_slice())] {
+    for (name, read, write, most, number, written) in rows {
+        let words = words_of(alloc, &["run", name])?;
         let mut files = MemFiles::new(alloc);
-        files.put("s.resc", script)?;
-        let mut out = MemSink::new(alloc, 4);
-        out.fail_at(call)?;
+        files.put("s.resc", b"emulation RunFor \"0.0003\"")?;
+        if let Some(call) = read {
+            files.fail_at(call)?;
+        }
+        let mut out = MemSink::new(alloc, most);
+        if let Some(call) = write {
+            out.fail_at(call)?;
+        }
         let status = run_lab(alloc, &words, &mut files, &mut out);
-        assert_eq!(rt; status.number(), 5);
-        assert_eq!(rt; out.bytes(), written);
+        assert_eq!(rt; status.number(), number, "{name}");
+        assert_eq!(rt; out.bytes(), written.as_bytes(), "{name}");
     }
-
-    // The only read fails.
-    let mut files = MemFiles::new(alloc);
-    files.put("s.resc", script)?;
-    files.fail_at(0)?;
-    let mut out = MemSink::new(alloc, 4);
-    let status = run_lab(alloc, &words, &mut files, &mut out);
-    assert_eq!(rt; status.number(), 4);
-    assert_eq!(rt; out.bytes(), b"".as_slice());
-
-    // No file has the name.
-    let mut files = MemFiles::new(alloc);
-    let status = run_lab(alloc, &words, &mut files, &mut out);
-    assert!(rt; matches!(status, Status::Unread));
     Ok(())
 }
 

@@ -33,13 +33,13 @@ pub fn merge_entries(alloc: Global, lists: Vec<Vec<Entry>>) -> Result<Vec<Entry>
 }
 
 /// The posts in rising order of key.
-pub fn merge_posts(mut list: Vec<Post>) -> Result<Vec<Post>, NoMemory>
+pub fn merge_posts(alloc: Global, mut list: Vec<Post>) -> Result<Vec<Post>, NoMemory>
     requires { KeysDiffer post_key list.items }
     ensures is_listing { IfOk result (λ merged. IsListing post_key list.items merged.items) }
     ensures value { IfOk result (λ merged. merged.items ≡ listing post_key list.items) }
 {
     listing_laws::<Post>();
-    list.sort_by_key(|post| post.key)?;
+    list.as_mut_slice().sort_by_key(alloc, |post| post.key)?;
     Ok(list)
 }
 
@@ -49,70 +49,66 @@ mod tests {
     use lab_num::{BoardNo, Key, Member, Micros, Payload, PostNo, What};
     use std::test::Fail;
 
-    fn key(at: u64, board: u8, number: u64) -> Key
+    /// The key of the first event of a board in microsecond 2.
+    fn key(board: u8) -> Key
         ensures { result ≡ record {
-          at = record { 0 = at };
+          at = record { 0 = 2 };
           board = record { 0 = board };
-          number = record { 0 = number };
+          number = record { 0 = 0 };
         } }
     {
         Key {
-            at: Micros(at),
+            at: Micros(2),
             board: BoardNo(board),
-            number: PostNo(number),
+            number: PostNo(0),
         }
     }
 
-    fn entry(key: Key, value: u8) -> Entry
+    fn entry(key: Key) -> Entry
         ensures { result.key ≡ key }
     {
-        Entry {
-            key,
-            what: What::Byte { dev: 0, value },
-        }
+        let what = What::Byte {
+            dev: 0,
+            value: b'A',
+        };
+        Entry { key, what }
     }
 
-    fn post(key: Key, value: u8) -> Post
+    fn post(key: Key) -> Post
         ensures { result.key ≡ key }
     {
+        let from = Member {
+            board: key.board,
+            dev: 0,
+        };
         Post {
             key,
-            from: Member {
-                board: key.board,
-                dev: 0,
-            },
-            payload: Payload::Byte(value),
+            from,
+            payload: Payload::Byte(b'A'),
         }
     }
 
     #[test]
-    fn entries_of_three_boards_come_in_order_of_time_and_board(
-        rt: HostRuntime,
-    ) -> Result<(), Fail> {
+    fn posts_of_one_microsecond_come_in_order_of_board(rt: HostRuntime) -> Result<(), Fail> {
         let alloc = rt.alloc();
-        let a = entry(key(2, 0, 0), b'a');
-        let b = entry(key(2, 0, 1), b'b');
-        let c = entry(key(9, 0, 2), b'c');
-        let d = entry(key(1, 2, 0), b'd');
-        let e = entry(key(2, 2, 1), b'e');
-        let first = vec![in alloc; a, b, c]?;
-        let third = vec![in alloc; d, e]?;
-        let lists = vec![in alloc; first, Vec::new(alloc), third]?;
-        let merged = merge_entries(alloc, lists)?;
-        assert_eq!(rt; merged.as_slice(), [d, a, b, e, c].as_slice());
+        let a = post(key(0));
+        let b = post(key(1));
+        let list = vec![in alloc; b, a]?;
+        let merged = merge_posts(alloc, list)?;
+        assert_eq!(rt; merged.as_slice(), [a, b].as_slice());
         Ok(())
     }
 
     #[test]
-    fn three_senders_of_one_microsecond_come_in_order_of_board(
-        rt: HostRuntime,
-    ) -> Result<(), Fail> {
-        let a = post(key(2, 0, 0), b'A');
-        let b = post(key(2, 1, 0), b'B');
-        let c = post(key(2, 2, 0), b'C');
-        let list = vec![in rt.alloc(); b, c, a]?;
-        let merged = merge_posts(list)?;
-        assert_eq!(rt; merged.as_slice(), [a, b, c].as_slice());
+    fn entries_of_one_microsecond_come_in_order_of_board(rt: HostRuntime) -> Result<(), Fail> {
+        let alloc = rt.alloc();
+        let a = entry(key(0));
+        let b = entry(key(1));
+        let first = vec![in alloc; b]?;
+        let second = vec![in alloc; a]?;
+        let lists = vec![in alloc; first, second]?;
+        let merged = merge_entries(alloc, lists)?;
+        assert_eq!(rt; merged.as_slice(), [a, b].as_slice());
         Ok(())
     }
 }

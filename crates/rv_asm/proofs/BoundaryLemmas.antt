@@ -38,4 +38,5 @@ blank_boundary bs n within blank =
 -- behind the first word
 pub word_boundary : (bs : List ℕ) → IsCharBoundary bs (position_or_len is_blank bs)
 word_boundary bs =
-    blank_boundary bs (position_or_len is_blank bs) (prefix_len-le-length _ bs) (λ below. passes_at_first is_blank bs 0 below)
+    blank_boundary bs (position_or_len is_blank bs) (prefix_len-le-length _ bs)
+    (λ below. passes_at_first is_blank bs 0 below)

@@ -3,3 +3,5 @@ pub mod RoundTrip
 pub mod BoundaryLemmas
 pub mod NumeralLemmas
 pub mod ProgramLemmas
+pub mod Targets
+pub mod Positions

@@ -14,10 +14,10 @@ use Rattle.std.proofs.lemmas.List.Sums.{count_by-le-length}
 use denote.Ref.{Bor}
 use Rattle.rv_asm.specs.declared.fault.AsmFault.{AsmFault}
 use Rattle.rv_asm.specs.declared.fault.AsmFault.TheVariants.{Line, Memory}
-use Rattle.rv_asm.specs.Lines.{gives_word, label_of, line_word}
-use Rattle.rv_asm.specs.Gives.{Gives}
+use Rattle.rv_asm.specs.Lines.{gives_word, label_of}
 use Rattle.rv_asm.specs.Places.{is_label}
-use Rattle.rv_asm.specs.Program.{lines_of, place_from, at_line, words_from, ◌>>=◌}
+use Rattle.rv_asm.specs.Program.{lines_of}
+use Rattle.rv_asm.specs.Inner.Scan.{place_from, word_from, at_line, words_from, Gives, ◌>>=◌}
 
 -- the texts of lines
 abbrev pub texts : List (Bor (List ℕ)) → List (List ℕ)
@@ -34,14 +34,16 @@ pub next_text :
 next_text lines i below =
     let next = drop_more lines i (record { ref_ptr = (0, 0); now = [] }) below in
     drop-map (λ (x : Bor (List ℕ)). x.now) i lines ∙
-    (ap (map (λ (x : Bor (List ℕ)). x.now)) next ∙ ap (λ more. line_at lines i ∷ more) (sym (drop-map (λ (x : Bor (List ℕ)). x.now) (i + 1) lines)))
+    (ap (map (λ (x : Bor (List ℕ)). x.now)) next ∙ ap (λ more. line_at lines i ∷ more)
+    (sym (drop-map (λ (x : Bor (List ℕ)). x.now) (i + 1) lines)))
 
 -- ---- places
 
 -- the first of three places
 option_or-if :
     (old : Option ℕ) (here : Bool) (address : ℕ) (later : Option ℕ) →
-    option_or (option_or old (if here then Some address else None)) later ≡ option_or old (if here then Some address else later)
+    option_or (option_or old (if here then Some address else None)) later ≡
+    option_or old (if here then Some address else later)
 option_or-if None true address later = refl
 option_or-if None false address later = refl
 option_or-if (Some x) here address later = refl
@@ -57,7 +59,8 @@ option_or-none (Some x) = refl
 
 pub update-absent :
     (old : List ℕ → Option ℕ) (label name : List ℕ) (address : ℕ) → is_some (old label) ≡ false →
-    update bytes_eq old label (Some address) name ≡ option_or (old name) (if bytes_eq label name then Some address else None)
+    update bytes_eq old label (Some address) name ≡
+    option_or (old name) (if bytes_eq label name then Some address else None)
 update-absent old label name address absent =
     elim (cases_Bool (bytes_eq label name)) [
       | inl same ↦
@@ -77,21 +80,25 @@ pub places_blank :
     drop i lines ≡ line ∷ drop (i + 1) lines → gives_word line ≡ false →
     FindsPlaces lines i address found → FindsPlaces lines (i + 1) address found
 places_blank lines i address line found next blank all name =
-    let before : option_or (found name) (place_from address (line ∷ drop (i + 1) lines) name) ≡ place_from 0 lines name =
+    let before :
+    option_or (found name) (place_from address (line ∷ drop (i + 1) lines) name) ≡ place_from 0 lines name =
     rw next at (all name) in
     rw blank at before
 
 pub places_more :
     (lines : List (List ℕ)) (i address : ℕ) (line : List ℕ) (found more : List ℕ → Option ℕ) →
     drop i lines ≡ line ∷ drop (i + 1) lines → gives_word line ≡ true →
-    ((name : List ℕ) → more name ≡ option_or (found name) (if is_label name (label_of line) then Some address else None))
+    ((name : List ℕ) →
+    more name ≡ option_or (found name) (if is_label name (label_of line) then Some address else None))
     →
     FindsPlaces lines i address found → FindsPlaces lines (i + 1) (address + 4) more
 places_more lines i address line found more next gives added all name =
-    let before : option_or (found name) (place_from address (line ∷ drop (i + 1) lines) name) ≡ place_from 0 lines name =
+    let before :
+    option_or (found name) (place_from address (line ∷ drop (i + 1) lines) name) ≡ place_from 0 lines name =
     rw next at (all name) in
     rw (added name)
-    (option_or-if (found name) (is_label name (label_of line)) address (place_from (address + 4) (drop (i + 1) lines) name) ∙
+    (option_or-if (found name) (is_label name (label_of line)) address
+    (place_from (address + 4) (drop (i + 1) lines) name) ∙
     rw gives at before)
 
 -- ---- words
@@ -117,7 +124,8 @@ pub words_blank :
     drop i lines ≡ line ∷ drop (i + 1) lines → gives_word line ≡ false →
     MakesWords places lines i address done → MakesWords places lines (i + 1) address done
 words_blank places lines i address line done next blank all =
-    let before : behind done (words_from places (i + 1) address (line ∷ drop (i + 1) lines)) ≡ words_from places 1 0 lines =
+    let before :
+    behind done (words_from places (i + 1) address (line ∷ drop (i + 1) lines)) ≡ words_from places 1 0 lines =
     rw next at all in
     rw blank at before
 
@@ -125,10 +133,11 @@ pub words_more :
     (places : List ℕ → Option ℕ) (lines : List (List ℕ)) (i address : ℕ) (line : List ℕ) (done : List ℕ)
     (word : ℕ) →
     drop i lines ≡ line ∷ drop (i + 1) lines → gives_word line ≡ true →
-    at_line (i + 1) (line_word places address line) ≡ Ok word →
+    at_line (i + 1) (word_from places address line) ≡ Ok word →
     MakesWords places lines i address done → MakesWords places lines (i + 1) (address + 4) (done ++ word ∷ [])
 words_more places lines i address line done word next gives made all =
-    let before : behind done (words_from places (i + 1) address (line ∷ drop (i + 1) lines)) ≡ words_from places 1 0 lines =
+    let before :
+    behind done (words_from places (i + 1) address (line ∷ drop (i + 1) lines)) ≡ words_from places 1 0 lines =
     rw next at all in
     behind-onto done word (words_from places (i + 1 + 1) (address + 4) (drop (i + 1) lines))
     ∙ rw (gives, made) at before
@@ -137,10 +146,11 @@ pub words_fault :
     (places : List ℕ → Option ℕ) (lines : List (List ℕ)) (i address : ℕ) (line : List ℕ) (done : List ℕ)
     (fault : AsmFault) →
     drop i lines ≡ line ∷ drop (i + 1) lines → gives_word line ≡ true →
-    at_line (i + 1) (line_word places address line) ≡ Err fault →
+    at_line (i + 1) (word_from places address line) ≡ Err fault →
     MakesWords places lines i address done → words_from places 1 0 lines ≡ Err fault
 words_fault places lines i address line done fault next gives made all =
-    let before : behind done (words_from places (i + 1) address (line ∷ drop (i + 1) lines)) ≡ words_from places 1 0 lines =
+    let before :
+    behind done (words_from places (i + 1) address (line ∷ drop (i + 1) lines)) ≡ words_from places 1 0 lines =
     rw next at all in
     sym (rw (gives, made) at before)
 

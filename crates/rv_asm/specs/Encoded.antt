@@ -1,13 +1,14 @@
 -- The word of an instruction, with its fields in the places of its format (RISC-V Unprivileged ISA 20191213,
 -- section 2.3).
-use Rattle.std.specs.Prelude.{ℕ, ◌+◌, ◌*◌, ◌^◌}
+use Rattle.std.specs.Prelude.{ℕ, ◌+◌, ◌*◌, ◌^◌, Option, Some, None}
+use Rattle.std.specs.Option.{option_map}
 use Rattle.rv_decode.specs.declared.instruction.Op.{Op}
 use Rattle.rv_decode.specs.declared.instruction.Instr.{Instr}
 use Rattle.rv_decode.specs.declared.instruction.Format.{Format}
 use Rattle.rv_decode.specs.declared.instruction.Format.TheVariants.{R, I, IShift, IUnsigned, S, B, U, J, Fixed}
-use Rattle.rv_decode.specs.Instruction.{format_of}
 use Rattle.rv_decode.specs.Immediate.{field}
-use Rattle.rv_decode.specs.FixedBits.{bits_of, fixed_of}
+use Rattle.rv_decode.specs.FixedBits.{fixed_of}
+use Rattle.rv_decode.specs.Table.{row_of}
 
 -- an immediate of format S: imm[4:0] at bit 7, imm[11:5] at bit 25
 abbrev pub placed_s : ℕ → ℕ
@@ -33,10 +34,11 @@ encoded_by U fixed i = fixed + i.rd * 2 ^ 7 + field i.imm 12 20 * 2 ^ 12
 encoded_by J fixed i = fixed + i.rd * 2 ^ 7 + placed_j i.imm
 encoded_by Fixed fixed i = fixed
 
--- the word of an instruction whose fields fit
-unfoldable pub encoded : Instr → ℕ
-encoded i = encoded_by (format_of i.op) (fixed_of (format_of i.op) (bits_of i.op)) i
+-- the word of an instruction whose fields fit: what its row fixes, and its fields
+unfoldable pub encoded : Instr → Option ℕ
+encoded i = option_map (λ row. encoded_by row.format (fixed_of row.format row.bits) i) (row_of i.op)
 
--- the word of the instruction with these fields
-abbrev pub word_of_fields : Op → ℕ → ℕ → ℕ → ℕ → ℕ
-word_of_fields op rd rs1 rs2 imm = encoded (record { op = op; rd = rd; rs1 = rs1; rs2 = rs2; imm = imm })
+-- the word of the instruction with these fields, if its immediate fits
+abbrev pub word_with : Op → ℕ → ℕ → ℕ → Option ℕ → Option ℕ
+word_with op rd rs1 rs2 None = None
+word_with op rd rs1 rs2 (Some imm) = encoded (record { op = op; rd = rd; rs1 = rs1; rs2 = rs2; imm = imm })

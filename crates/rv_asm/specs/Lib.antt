@@ -6,6 +6,6 @@ pub mod Numbers
 pub mod Operands
 pub mod Places
 pub mod Program
-pub mod Gives
 pub mod Shapes
 pub mod Texts
+pub mod Inner

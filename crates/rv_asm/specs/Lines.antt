@@ -2,6 +2,7 @@
 use Rattle.std.specs.Prelude.{ℕ, ◌-◌, ◌^◌, ◌==◌, nat_lt, length, drop, Bool, true, false, not, List, if◌then◌else◌, Option, Some, None, Result, Ok, Err}
 use Rattle.std.specs.Option.{option_map, ok_or}
 use Rattle.std.specs.List.{position_or_len, before_first}
+use Rattle.std.specs.Str.{byte}
 use Rattle.rv_decode.specs.declared.instruction.Op.{Op}
 use Rattle.rv_asm.specs.declared.mnemonics.Mnemonic.{Mnemonic}
 use Rattle.rv_asm.specs.declared.mnemonics.Mnemonic.TheVariants.{Word, Instruction}
@@ -10,7 +11,7 @@ use Rattle.rv_asm.specs.declared.shapes.Shape.{Shape}
 use Rattle.rv_asm.specs.declared.shapes.Shape.TheVariants.{Registers, Immediate, Shift, Load, Store, Branch, Upper, Jump, Csr, CsrImmediate, Bare}
 use Rattle.rv_asm.specs.declared.fault.AsmCause.{AsmCause}
 use Rattle.rv_asm.specs.declared.fault.AsmCause.TheVariants.{Name, Form, Label, Range}
-use Rattle.rv_asm.specs.Encoded.{word_of_fields}
+use Rattle.rv_asm.specs.Encoded.{word_with}
 use Rattle.rv_asm.specs.Texts.{is_blank, trimmed, cut, with_cut, code_of, is_name}
 use Rattle.rv_asm.specs.Numbers.{number_of, even_in_field}
 use Rattle.rv_asm.specs.Mnemonics.{mnemonic_of}
@@ -43,19 +44,25 @@ target_by places here text (Some number) = Ok number
 unfoldable pub target_of : (List ℕ → Option ℕ) → ℕ → List ℕ → Result Number AsmCause
 target_of places here text = target_by places here text (number_of text)
 
+-- the offset of a target, as 32 bits if it is even and from -least to greatest
+abbrev pub offset_in : (List ℕ → Option ℕ) → ℕ → ℕ → ℕ → List ℕ → Result (Option ℕ) AsmCause
+offset_in places here least greatest text = do
+  offset ← target_of places here text
+  Ok (even_in_field least greatest offset)
+
 -- `rs1, rs2, target`, an even offset of 13 bits
 unfoldable pub branch_word : (List ℕ → Option ℕ) → ℕ → Op → List ℕ → Result (Option ℕ) AsmCause
 branch_word places here op text = do
   operands ← ok_or (two_registers_and text) Form
-  offset ← target_of places here operands.2
-  Ok (option_map (λ imm. word_of_fields op 0 operands.0 operands.1 imm) (even_in_field 4096 4095 offset))
+  imm ← offset_in places here 4096 4095 operands.2
+  Ok (word_with op 0 operands.0 operands.1 imm)
 
 -- `rd, target`, an even offset of 21 bits
 unfoldable pub jump_word : (List ℕ → Option ℕ) → ℕ → Op → List ℕ → Result (Option ℕ) AsmCause
 jump_word places here op text = do
   rd ← ok_or (register_and text) Form
-  offset ← target_of places here rd.1
-  Ok (option_map (λ imm. word_of_fields op rd.0 0 0 imm) (even_in_field (2 ^ 20) (2 ^ 20 - 1) offset))
+  imm ← offset_in places here (2 ^ 20) (2 ^ 20 - 1) rd.1
+  Ok (word_with op rd.0 0 0 imm)
 
 -- the word of an instruction's operands, if its number is in its field
 abbrev pub operands_word : (List ℕ → Option ℕ) → ℕ → Op → List ℕ → Shape → Result (Option ℕ) AsmCause
@@ -91,31 +98,25 @@ plain_word places here statement = do
   word ← word_by places here (operands_in statement) mnemonic
   ok_or word Range
 
--- whether the place is here
-abbrev pub is_here : ℕ → Option ℕ → Bool
-is_here here None = false
-is_here here (Some there) = there == here
-
--- a line with a label. Each line with a label gives a word, so a label whose place is elsewhere is given by
--- an earlier line.
-unfoldable pub labelled_word : (List ℕ → Option ℕ) → ℕ → List ℕ → List ℕ → Result ℕ AsmCause
-labelled_word places here label statement = do
+-- a line with a label, which is new or given by an earlier line
+unfoldable pub labelled_word : (List ℕ → Option ℕ) → ℕ → Bool → List ℕ → List ℕ → Result ℕ AsmCause
+labelled_word places here is_new label statement = do
   mnemonic ← mnemonic_in statement
   name ← (if is_name label then Ok label else Err Form)
   word ← word_by places here (operands_in statement) mnemonic
-  fitting ← (if is_here here (places name) then Ok word else Err Label)
+  fitting ← (if is_new then Ok word else Err Label)
   ok_or fitting Range
 
 -- the label of a line, if it has one
 abbrev pub label_of : List ℕ → Option (List ℕ)
-label_of line = option_map (λ x. trimmed x.0) (cut 58 (code_of line))
+label_of line = option_map (λ x. trimmed x.0) (cut (byte ":") (code_of line))
 
--- the word of a line that is not blank, where labels have these places
-unfoldable pub line_word : (List ℕ → Option ℕ) → ℕ → List ℕ → Result ℕ AsmCause
-line_word places here line =
-    with_cut (cut 58 (code_of line))
+-- the word of a line that is not blank, where labels have these places and these are new
+unfoldable pub line_word : (List ℕ → Option ℕ) → ℕ → (List ℕ → Bool) → List ℕ → Result ℕ AsmCause
+line_word places here is_new line =
+    with_cut (cut (byte ":") (code_of line))
     (plain_word places here (trimmed (code_of line)))
-    (λ label statement. labelled_word places here (trimmed label) (trimmed statement))
+    (λ label statement. labelled_word places here (is_new (trimmed label)) (trimmed label) (trimmed statement))
 
 -- whether a line has more than blanks and a comment
 unfoldable pub gives_word : List ℕ → Bool

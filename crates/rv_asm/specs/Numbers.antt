@@ -1,5 +1,5 @@
 -- Numbers: a sign and a magnitude, and the field that they fit.
-use Rattle.std.specs.Prelude.{ℕ, ◌-◌, ◌^◌, ◌%◌, ◌==◌, nat_le, min, drop, length, Bool, true, false, not, ◌&&◌, List, if◌then◌else◌, Option, Some, None, nat_eq}
+use Rattle.std.specs.Prelude.{ℕ, ◌-◌, ◌^◌, ◌%◌, ◌==◌, nat_le, drop, length, Bool, true, false, not, ◌&&◌, List, if◌then◌else◌, Option, Some, None, nat_eq}
 use Rattle.std.specs.Option.{option_map}
 use Rattle.std.specs.List.{list_all, starts_with}
 use Rattle.std.specs.Char.{is_ascii_digit, is_ascii_hexdigit}
@@ -7,14 +7,10 @@ use Rattle.std.specs.Str.Parse.{digits_value}
 use Rattle.std.specs.Prelude.{codes}
 use Rattle.rv_asm.specs.declared.numbers.Number.{Number}
 
--- the greatest magnitude that is told apart: those above are outside each field all the same
-abbrev pub most : ℕ
-most = 2 ^ 64 - 1
-
 -- the number that digits of a radix write, any count of zeros in front
 abbrev pub numeral : (ℕ → Bool) → ℕ → List ℕ → Option ℕ
 numeral is_digit radix text =
-    if not (length text == 0) && list_all is_digit text then Some (min (digits_value radix text) most) else None
+    if not (length text == 0) && list_all is_digit text then Some (digits_value radix text) else None
 
 -- decimal digits, or hexadecimal ones behind `0x`
 abbrev pub magnitude_of : List ℕ → Option ℕ

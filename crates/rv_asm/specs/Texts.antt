@@ -34,7 +34,7 @@ with_cut (Some x) alone both = both x.0 x.1
 
 -- a line without its comment
 abbrev pub code_of : List ℕ → List ℕ
-code_of line = with_cut (cut 35 line) line (λ code comment. code)
+code_of line = with_cut (cut (byte "#") line) line (λ code comment. code)
 
 -- a byte of a name
 abbrev pub is_name_byte : ℕ → Bool
@@ -44,13 +44,17 @@ is_name_byte b = is_ascii_alphanumeric b || b == byte "_"
 abbrev pub is_name : List ℕ → Bool
 is_name text = is_ascii_alphabetic (slice_index text 0) && list_all is_name_byte text
 
+-- the number that two decimal digits write
+abbrev pub ten_and_one : ℕ → ℕ → ℕ
+ten_and_one a b = (a - byte "0") * 10 + (b - byte "0")
+
 -- the number of a register `x0` to `x31`, written without a further 0 in front
 abbrev pub register_of : List ℕ → Option ℕ
 register_of [] = None
 register_of (x ∷ []) = None
-register_of (x ∷ a ∷ []) = if x == byte "x" && is_ascii_digit a then Some (a - 48) else None
+register_of (x ∷ a ∷ []) = if x == byte "x" && is_ascii_digit a then Some (a - byte "0") else None
 register_of (x ∷ a ∷ b ∷ []) =
-    if x == byte "x" && is_ascii_digit a && is_ascii_digit b && nat_lt 48 a && nat_le ((a - 48) * 10 + (b - 48)) 31
-    then Some ((a - 48) * 10 + (b - 48))
+    if x == byte "x" && is_ascii_digit a && is_ascii_digit b && nat_lt (byte "0") a && nat_le (ten_and_one a b) 31
+    then Some (ten_and_one a b)
     else None
 register_of (x ∷ a ∷ b ∷ c ∷ more) = None

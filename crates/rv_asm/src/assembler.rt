@@ -1,9 +1,9 @@
 //! From a text to its words: once over the lines for the labels, and once for the words.
 ghost use Rattle.std.specs.Prelude.{◌≡◌, ℕ, ◌+◌, ◌*◌, ◌^◌, ◌≤◌, [], ◌∷◌, ◌++◌, List, if◌then◌else◌, Some, None, map, length, IfOk, IfErr, OnOk};
 ghost use Rattle.rv_asm.specs.Places.{place_in, HasPlaces, with_label};
-ghost use Rattle.rv_asm.specs.Lines.{label_of, line_word};
-ghost use Rattle.rv_asm.specs.Program.{lines_of, place_from, at_line, words_from, assembled};
-ghost use Rattle.rv_asm.specs.Gives.{Gives};
+ghost use Rattle.rv_asm.specs.Lines.{label_of};
+ghost use Rattle.rv_asm.specs.Program.{lines_of, Assembles};
+ghost use Rattle.rv_asm.specs.Inner.Scan.{place_from, word_from, at_line, words_from, Gives};
 
 use crate::fault::AsmFault;
 use crate::lines::{gives_word, label_of, line_word};
@@ -67,7 +67,7 @@ fn labels_of<'a>(alloc: Global, lines: &[&'a str]) -> Result<HashMap<&'a str, u3
 
 /// The word of the line with this number.
 fn word_at(labels: &HashMap<&str, u32>, n: u32, address: u32, line: &str) -> Result<u32, AsmFault>
-    ensures { result ≡ at_line n (line_word (place_in labels.now) address line.now) }
+    ensures { result ≡ at_line n (word_from (place_in labels.now) address line.now) }
 {
     match line_word(labels, address, line) {
         Ok(word) => Ok(word),
@@ -121,7 +121,7 @@ fn words_of(
 /// `Line` is answered for the first line with a fault, and `Memory` where memory is wanting alone.
 pub fn assemble(alloc: Global, text: &str) -> Result<Vec<u32>, AsmFault>
     requires { length text.now ≤ 2 ^ 24 }
-    ensures { Gives result (assembled text.now) }
+    ensures { Assembles text.now result }
 {
     let Ok(lines) = lines_of(alloc, text) else {
         return Err(AsmFault::Memory);

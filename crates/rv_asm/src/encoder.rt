@@ -1,16 +1,17 @@
 //! From an instruction to its word.
 ghost use Rattle.std.specs.Prelude.{◌≡◌, ℕ, ◌^◌, ◌<◌, ◌↔◌, Some, IsTrue};
-ghost use Rattle.rv_decode.specs.Instruction.{format_of};
+ghost use Rattle.std.specs.Option.{option_map};
+ghost use Rattle.rv_decode.specs.Table.{row_of};
 ghost use Rattle.rv_decode.specs.Immediate.{field};
 ghost use Rattle.rv_decode.specs.Means.{means, IsInstr, IsValid};
-ghost use Rattle.rv_decode.specs.FixedBits.{bits_of};
-ghost use Rattle.rv_asm.specs.Encoded.{encoded, placed_s, placed_b, placed_j};
+ghost use Rattle.rv_asm.specs.Encoded.{encoded, word_with, placed_s, placed_b, placed_j};
 
-use rv_decode::{Format, Instr, Op, bits, decode, rows_fix_bits, valid_fits};
+use rv_decode::{Format, Instr, Op, bits, decode, rows_differ, rows_match_fields, valid_fits};
 
 /// Bits 6 to 0 of the instruction's words.
+#[tactic(auto, unfolding(rv_decode::specs::Table::row_of))]
 fn opcode(op: Op) -> u32
-    ensures value { result ≡ field (bits_of op) 0 7 }
+    ensures value { option_map (λ row. field row.bits 0 7) (row_of op) ≡ Some result }
     ensures fits { result < 2 ^ 7 }
 {
     match op {
@@ -46,8 +47,9 @@ fn opcode(op: Op) -> u32
 }
 
 /// Bits 14 to 12 of the instruction's words, 0 where a field stands there.
+#[tactic(auto, unfolding(rv_decode::specs::Table::row_of))]
 fn funct3(op: Op) -> u32
-    ensures value { result ≡ field (bits_of op) 12 3 }
+    ensures value { option_map (λ row. field row.bits 12 3) (row_of op) ≡ Some result }
     ensures fits { result < 2 ^ 3 }
 {
     match op {
@@ -63,8 +65,9 @@ fn funct3(op: Op) -> u32
 }
 
 /// Bits 31 to 25 of the instruction's words, 0 where a field stands there.
+#[tactic(auto, unfolding(rv_decode::specs::Table::row_of))]
 fn funct7(op: Op) -> u32
-    ensures value { result ≡ field (bits_of op) 25 7 }
+    ensures value { option_map (λ row. field row.bits 25 7) (row_of op) ≡ Some result }
     ensures fits { result < 2 ^ 7 }
 {
     match op {
@@ -78,8 +81,10 @@ fn funct7(op: Op) -> u32
 }
 
 /// The word of an instruction without fields.
+#[tactic(auto, unfolding(rv_decode::specs::Table::row_of))]
 fn fixed_word(op: Op) -> u32
-    ensures { format_of op ≡ Format.Fixed → result ≡ bits_of op }
+    ensures { option_map (λ row. row.format) (row_of op) ≡ Some Format.Fixed →
+        option_map (λ row. row.bits) (row_of op) ≡ Some result }
 {
     match op {
         Op::Ecall => 0x0000_0073,
@@ -118,12 +123,12 @@ fn place_j(imm: u32) -> u32
 }
 
 /// The word that has the instruction's fields in the places of its format.
-#[tactic(auto, unfolding(crate::specs::Encoded::encoded))]
 fn word_of(i: &Instr) -> u32
     requires { IsInstr i.now }
-    ensures { result ≡ encoded i.now }
+    ensures { encoded i.now ≡ Some result }
 {
-    let low = opcode(i.op) + (funct3(i.op) << 12);
+    let code = opcode(i.op);
+    let low = code + (funct3(i.op) << 12);
     let rd = u32::from(i.rd) << 7;
     let rs1 = u32::from(i.rs1) << 15;
     let rs2 = u32::from(i.rs2) << 20;
@@ -134,26 +139,27 @@ fn word_of(i: &Instr) -> u32
         Format::IShift => low + high + rd + rs1 + (bits(i.imm, 0, 5) << 20),
         Format::S => low + rs1 + rs2 + place_s(i.imm),
         Format::B => low + rs1 + rs2 + place_b(i.imm),
-        Format::U => opcode(i.op) + rd + (bits(i.imm, 12, 20) << 12),
-        Format::J => opcode(i.op) + rd + place_j(i.imm),
+        Format::U => code + rd + (bits(i.imm, 12, 20) << 12),
+        Format::J => code + rd + place_j(i.imm),
         Format::Fixed => fixed_word(i.op),
     }
 }
 
-/// The word of these fields.
-pub(crate) fn word_of_fields(op: Op, rd: u8, rs1: u8, rs2: u8, imm: u32) -> u32
+/// The word of these fields, if there is an immediate.
+pub(crate) fn word_with(op: Op, rd: u8, rs1: u8, rs2: u8, imm: Option<u32>) -> Option<u32>
     requires rd { rd < 32 }
     requires rs1 { rs1 < 32 }
     requires rs2 { rs2 < 32 }
-    ensures { result ≡ encoded (record { op = op; rd = rd; rs1 = rs1; rs2 = rs2; imm = imm }) }
+    ensures { result ≡ word_with op rd rs1 rs2 imm }
 {
-    word_of(&Instr {
+    let imm = imm?;
+    Some(word_of(&Instr {
         op,
         rd,
         rs1,
         rs2,
         imm,
-    })
+    }))
 }
 
 /// Whether the numbers of the registers are below 32.
@@ -196,7 +202,8 @@ pub fn encode(i: &Instr) -> u32
     ensures meaning { means result ≡ Some i.now }
     ensures inverse { (word : ℕ) → word < 2 ^ 32 → means word ≡ Some i.now → result ≡ word }
 {
-    rows_fix_bits();
+    rows_differ();
+    rows_match_fields();
     valid_fits();
     word_of(i)
 }
@@ -205,7 +212,8 @@ pub fn encode(i: &Instr) -> u32
 pub fn is_valid(i: &Instr) -> bool
     ensures { IsTrue result ↔ IsValid i.now }
 {
-    rows_fix_bits();
+    rows_differ();
+    rows_match_fields();
     valid_fits();
     fits(i) && is_meant(word_of(i), i)
 }

@@ -1,11 +1,12 @@
 //! The word of a line, or the first of its faults in the order of `AsmCause`. `here` is the address
 //! of the line's word.
-ghost use Rattle.std.specs.Prelude.{◌≡◌};
+ghost use Rattle.std.specs.Prelude.{◌≡◌, None};
 ghost use Rattle.std.specs.Option.{option_map};
 ghost use Rattle.rv_asm.specs.Places.{place_in};
-ghost use Rattle.rv_asm.specs.Lines.{distance, target_of, branch_word, jump_word, operands_word, word_by, mnemonic_in, operands_in, plain_word, labelled_word, label_of, line_word, gives_word, is_here};
+ghost use Rattle.rv_asm.specs.Lines.{distance, target_by, offset_in, branch_word, jump_word, operands_word, word_by, mnemonic_in, operands_in, plain_word, labelled_word, label_of, line_word, gives_word};
+ghost use Rattle.rv_asm.specs.Inner.Scan.{is_first, word_from};
 
-use crate::encoder::word_of_fields;
+use crate::encoder::word_with;
 use crate::fault::AsmCause;
 use crate::mnemonics::{Mnemonic, mnemonic_of};
 use crate::numbers::{Number, number_of};
@@ -42,20 +43,36 @@ fn place_of(labels: &HashMap<&str, u32>, name: &str) -> Option<u32>
     labels.get(&name).copied()
 }
 
-/// The offset of a target: a number, or a label.
-#[tactic(auto, unfolding(crate::specs::Lines::target_of))]
-fn target_of(labels: &HashMap<&str, u32>, here: u32, text: &str) -> Result<Number, AsmCause>
-    ensures { result ≡ target_of (place_in labels.now) here text.now }
+/// How far it is from here to a label.
+fn label_offset(labels: &HashMap<&str, u32>, here: u32, name: &str) -> Result<Number, AsmCause>
+    ensures { result ≡ target_by (place_in labels.now) here name.now None }
 {
-    if let Some(number) = number_of(text) {
-        return Ok(number);
-    }
-    if !is_name(text) {
+    if !is_name(name) {
         return Err(AsmCause::Form);
     }
-    match place_of(labels, text) {
+    match place_of(labels, name) {
         Some(there) => Ok(distance(here, there)),
         None => Err(AsmCause::Label),
+    }
+}
+
+/// The offset of a target, a number or a label: as 32 bits if it is even and from -least to
+/// greatest.
+fn offset_in(
+    labels: &HashMap<&str, u32>,
+    here: u32,
+    least: u32,
+    greatest: u32,
+    target: &str,
+) -> Result<Option<u32>, AsmCause>
+    ensures { result ≡ offset_in (place_in labels.now) here least greatest target.now }
+{
+    match number_of(target) {
+        Some(number) => Ok(number.even_in_field(least, greatest)),
+        None => {
+            let offset = label_offset(labels, here, target)?;
+            Ok(offset.even_in_field(least, greatest))
+        }
     }
 }
 
@@ -70,12 +87,8 @@ fn branch_word(
     ensures { result ≡ branch_word (place_in labels.now) here op text.now }
 {
     let (rs1, rs2, target) = two_registers_and(text).ok_or(AsmCause::Form)?;
-    let offset = target_of(labels, here, target)?;
-    Ok(
-        offset
-            .even_in_field(4096, 4095)
-            .map(|imm| word_of_fields(op, 0, rs1, rs2, imm)),
-    )
+    let imm = offset_in(labels, here, 4096, 4095, target)?;
+    Ok(word_with(op, 0, rs1, rs2, imm))
 }
 
 /// `rd, target`.
@@ -89,12 +102,8 @@ fn jump_word(
     ensures { result ≡ jump_word (place_in labels.now) here op text.now }
 {
     let (rd, target) = register_and(text).ok_or(AsmCause::Form)?;
-    let offset = target_of(labels, here, target)?;
-    Ok(
-        offset
-            .even_in_field(1 << 20, (1 << 20) - 1)
-            .map(|imm| word_of_fields(op, rd, 0, 0, imm)),
-    )
+    let imm = offset_in(labels, here, 1 << 20, (1 << 20) - 1, target)?;
+    Ok(word_with(op, rd, 0, 0, imm))
 }
 
 /// The word of an instruction's operands, if its number is in its field.
@@ -170,7 +179,7 @@ fn plain_word(labels: &HashMap<&str, u32>, here: u32, statement: &str) -> Result
 
 /// Whether the label's place is here.
 fn is_given_here(labels: &HashMap<&str, u32>, here: u32, label: &str) -> bool
-    ensures { result ≡ is_here here (place_in labels.now label.now) }
+    ensures { result ≡ is_first (place_in labels.now) here label.now }
 {
     match place_of(labels, label) {
         Some(there) => there == here,
@@ -186,7 +195,8 @@ fn labelled_word(
     label: &str,
     statement: &str,
 ) -> Result<u32, AsmCause>
-    ensures { result ≡ labelled_word (place_in labels.now) here label.now statement.now }
+    ensures { result ≡ labelled_word (place_in labels.now) here
+        (is_first (place_in labels.now) here label.now) label.now statement.now }
 {
     let mnemonic = mnemonic_in(statement)?;
     if !is_name(label) {
@@ -210,7 +220,7 @@ pub(crate) fn label_of(line: &str) -> Option<&str>
 /// The word of a line that is not blank.
 #[tactic(auto, unfolding(crate::specs::Lines::line_word))]
 pub(crate) fn line_word(labels: &HashMap<&str, u32>, here: u32, line: &str) -> Result<u32, AsmCause>
-    ensures { result ≡ line_word (place_in labels.now) here line.now }
+    ensures { result ≡ word_from (place_in labels.now) here line.now }
 {
     let code = code_of(line);
     match cut(code, ':') {

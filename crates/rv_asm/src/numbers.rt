@@ -1,7 +1,9 @@
 //! Numbers in a text, and the fields that they fit.
-ghost use Rattle.std.specs.Prelude.{◌≡◌, ◌^◌, ◌≤◌, ◌<◌, length, IfSome};
+ghost use Rattle.std.specs.Prelude.{◌≡◌, ◌^◌, ◌≤◌, ◌<◌, length, min, IfSome};
+ghost use Rattle.std.specs.Option.{option_map};
 ghost use Rattle.std.specs.List.{list_all};
 ghost use Rattle.std.specs.Char.{is_ascii_digit, is_ascii_hexdigit};
+ghost use Rattle.rv_asm.specs.Inner.Saturated.{most, saturated};
 ghost use Rattle.rv_asm.specs.Numbers.{numeral, magnitude_of, number_of, in_field, even_in_field};
 
 /// A number: its sign, and its magnitude up to 2^64 - 1, which stands for those above too.
@@ -24,7 +26,7 @@ fn are_hexadecimal_digits(text: &str) -> bool
 }
 
 fn decimal(text: &str) -> Option<u64>
-    ensures { result ≡ numeral is_ascii_digit 10 text.now }
+    ensures { result ≡ option_map (λ n. min n most) (numeral is_ascii_digit 10 text.now) }
 {
     if text.is_empty() || !are_digits(text) {
         return None;
@@ -33,7 +35,7 @@ fn decimal(text: &str) -> Option<u64>
 }
 
 fn hexadecimal(text: &str) -> Option<u64>
-    ensures { result ≡ numeral is_ascii_hexdigit 16 text.now }
+    ensures { result ≡ option_map (λ n. min n most) (numeral is_ascii_hexdigit 16 text.now) }
 {
     if text.is_empty() || !are_hexadecimal_digits(text) {
         return None;
@@ -42,7 +44,7 @@ fn hexadecimal(text: &str) -> Option<u64>
 }
 
 fn magnitude_of(text: &str) -> Option<u64>
-    ensures { result ≡ magnitude_of text.now }
+    ensures { result ≡ option_map (λ n. min n most) (magnitude_of text.now) }
 {
     match text.strip_prefix("0x") {
         Some(digits) => hexadecimal(digits),
@@ -50,25 +52,25 @@ fn magnitude_of(text: &str) -> Option<u64>
     }
 }
 
+/// The number of this sign whose digits the text writes.
+fn signed(negative: bool, digits: &str) -> Option<Number>
+    ensures { result ≡ option_map saturated
+        (option_map (λ n. record { negative = negative; magnitude = n }) (magnitude_of digits.now)) }
+{
+    let magnitude = magnitude_of(digits)?;
+    Some(Number {
+        negative,
+        magnitude,
+    })
+}
+
 /// The number that the text writes.
 pub(crate) fn number_of(text: &str) -> Option<Number>
-    ensures { result ≡ number_of text.now }
+    ensures { result ≡ option_map saturated (number_of text.now) }
 {
     match text.strip_prefix("-") {
-        Some(digits) => {
-            let magnitude = magnitude_of(digits)?;
-            Some(Number {
-                negative: true,
-                magnitude,
-            })
-        }
-        None => {
-            let magnitude = magnitude_of(text)?;
-            Some(Number {
-                negative: false,
-                magnitude,
-            })
-        }
+        Some(digits) => signed(true, digits),
+        None => signed(false, text),
     }
 }
 

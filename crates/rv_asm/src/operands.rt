@@ -2,10 +2,10 @@
 //! number outside its field `Some(None)`.
 ghost use Rattle.std.specs.Prelude.{◌≡◌, ◌<◌, ◌≤◌, ◌^◌, IfSome};
 ghost use Rattle.std.specs.Option.{option_map};
-ghost use Rattle.rv_asm.specs.Operands.{operand_and, register_and, number_and, place_of, registers_word, immediate_word, load_word, store_word, upper_word, csr_word, csr_immediate_fields, csr_immediate_word, bare_word, directive_word, two_registers_and};
+ghost use Rattle.rv_asm.specs.Operands.{operand_and, register_and, number_in, csr_and, place_of, registers_word, immediate_word, load_word, store_word, upper_word, csr_word, csr_immediate_fields, csr_immediate_word, bare_word, directive_word, two_registers_and};
 
-use crate::encoder::word_of_fields;
-use crate::numbers::{Number, number_of};
+use crate::encoder::word_with;
+use crate::numbers::number_of;
 use crate::texts::{cut, register_of, trimmed};
 use rv_decode::Op;
 
@@ -29,28 +29,37 @@ pub(crate) fn register_and(text: &str) -> Option<(u8, &str)>
     Some((register, rest))
 }
 
-/// A number, and what follows its comma.
-#[tactic(auto, unfolding(crate::specs::Operands::number_and))]
-fn number_and(text: &str) -> Option<(Number, &str)>
-    ensures { option_map (λ x. (x.0, x.1.now)) result ≡ number_and text.now }
+/// A number, as 32 bits if it is from -least to greatest.
+fn number_in(least: u32, greatest: u32, text: &str) -> Option<Option<u32>>
+    ensures value { result ≡ number_in least greatest text.now }
+    ensures fits { least ≡ 0 → IfSome result (λ n. IfSome n (λ n. n ≤ greatest)) }
+{
+    let number = number_of(text)?;
+    Some(number.in_field(least, greatest))
+}
+
+/// The number of a control and status register, and what follows its comma.
+#[tactic(auto, unfolding(crate::specs::Operands::csr_and))]
+fn csr_and(text: &str) -> Option<(Option<u32>, &str)>
+    ensures { option_map (λ x. (x.0, x.1.now)) result ≡ csr_and text.now }
 {
     let (first, rest) = operand_and(text)?;
-    let number = number_of(first)?;
-    Some((number, rest))
+    let csr = number_in(0, 4095, first)?;
+    Some((csr, rest))
 }
 
 /// A number and the register in parentheses behind it.
 #[tactic(auto, unfolding(crate::specs::Operands::place_of))]
-fn place_of(text: &str) -> Option<(Number, u8)>
+fn place_of(text: &str) -> Option<(Option<u32>, u8)>
     ensures value { result ≡ place_of text.now }
     ensures fits { IfSome result (λ x. x.1 < 32) }
 {
     let (number, rest) = cut(text, '(')?;
     let (base, end) = cut(rest, ')')?;
-    let number = number_of(number)?;
+    let offset = number_in(2048, 2047, number)?;
     let base = register_of(base)?;
     if end.is_empty() {
-        Some((number, base))
+        Some((offset, base))
     } else {
         None
     }
@@ -64,7 +73,7 @@ pub(crate) fn registers_word(op: Op, text: &str) -> Option<Option<u32>>
     let (rd, rest) = register_and(text)?;
     let (rs1, rest) = register_and(rest)?;
     let rs2 = register_of(rest)?;
-    Some(Some(word_of_fields(op, rd, rs1, rs2, 0)))
+    Some(word_with(op, rd, rs1, rs2, Some(0)))
 }
 
 /// `rd, rs1, number`, the number from -least to greatest.
@@ -74,12 +83,8 @@ pub(crate) fn immediate_word(op: Op, least: u32, greatest: u32, text: &str) -> O
 {
     let (rd, rest) = register_and(text)?;
     let (rs1, rest) = register_and(rest)?;
-    let number = number_of(rest)?;
-    Some(
-        number
-            .in_field(least, greatest)
-            .map(|imm| word_of_fields(op, rd, rs1, 0, imm)),
-    )
+    let imm = number_in(least, greatest, rest)?;
+    Some(word_with(op, rd, rs1, 0, imm))
 }
 
 /// `rd, number(rs1)`.
@@ -88,12 +93,8 @@ pub(crate) fn load_word(op: Op, text: &str) -> Option<Option<u32>>
     ensures { result ≡ load_word op text.now }
 {
     let (rd, rest) = register_and(text)?;
-    let (number, rs1) = place_of(rest)?;
-    Some(
-        number
-            .in_field(2048, 2047)
-            .map(|imm| word_of_fields(op, rd, rs1, 0, imm)),
-    )
+    let (imm, rs1) = place_of(rest)?;
+    Some(word_with(op, rd, rs1, 0, imm))
 }
 
 /// `rs2, number(rs1)`.
@@ -102,12 +103,8 @@ pub(crate) fn store_word(op: Op, text: &str) -> Option<Option<u32>>
     ensures { result ≡ store_word op text.now }
 {
     let (rs2, rest) = register_and(text)?;
-    let (number, rs1) = place_of(rest)?;
-    Some(
-        number
-            .in_field(2048, 2047)
-            .map(|imm| word_of_fields(op, 0, rs1, rs2, imm)),
-    )
+    let (imm, rs1) = place_of(rest)?;
+    Some(word_with(op, 0, rs1, rs2, imm))
 }
 
 /// `rd, number`, the upper 20 bits.
@@ -116,11 +113,10 @@ pub(crate) fn upper_word(op: Op, text: &str) -> Option<Option<u32>>
     ensures { result ≡ upper_word op text.now }
 {
     let (rd, rest) = register_and(text)?;
-    let number = number_of(rest)?;
-    let Some(upper) = number.in_field(0, 0xFFFFF) else {
+    let Some(upper) = number_in(0, 0xFFFFF, rest)? else {
         return Some(None);
     };
-    Some(Some(word_of_fields(op, rd, 0, 0, upper * (1 << 12))))
+    Some(word_with(op, rd, 0, 0, Some(upper * (1 << 12))))
 }
 
 /// `rd, number, rs1`, the number of a control and status register.
@@ -129,22 +125,20 @@ pub(crate) fn csr_word(op: Op, text: &str) -> Option<Option<u32>>
     ensures { result ≡ csr_word op text.now }
 {
     let (rd, rest) = register_and(text)?;
-    let (csr, rest) = number_and(rest)?;
+    let (csr, rest) = csr_and(rest)?;
     let rs1 = register_of(rest)?;
-    Some(
-        csr.in_field(0, 4095)
-            .map(|imm| word_of_fields(op, rd, rs1, 0, imm)),
-    )
+    Some(word_with(op, rd, rs1, 0, csr))
 }
 
 /// The word of an access to a control and status register with an immediate, if both numbers fit.
-fn csr_immediate_fields(op: Op, rd: u8, csr: Number, value: Number) -> Option<u32>
-    requires { rd < 32 }
+fn csr_immediate_fields(op: Op, rd: u8, csr: Option<u32>, value: Option<u32>) -> Option<u32>
+    requires rd { rd < 32 }
+    requires value { IfSome value (λ n. n < 32) }
     ensures { result ≡ csr_immediate_fields op rd csr value }
 {
-    let imm = csr.in_field(0, 4095)?;
-    let rs1 = value.in_field(0, 31)?;
-    Some(word_of_fields(op, rd, rs1 as u8, 0, imm))
+    let imm = csr?;
+    let rs1 = value?;
+    word_with(op, rd, rs1 as u8, 0, Some(imm))
 }
 
 /// `rd, number, number`.
@@ -153,8 +147,8 @@ pub(crate) fn csr_immediate_word(op: Op, text: &str) -> Option<Option<u32>>
     ensures { result ≡ csr_immediate_word op text.now }
 {
     let (rd, rest) = register_and(text)?;
-    let (csr, rest) = number_and(rest)?;
-    let value = number_of(rest)?;
+    let (csr, rest) = csr_and(rest)?;
+    let value = number_in(0, 31, rest)?;
     Some(csr_immediate_fields(op, rd, csr, value))
 }
 
@@ -164,7 +158,7 @@ pub(crate) fn bare_word(op: Op, text: &str) -> Option<Option<u32>>
     ensures { result ≡ bare_word op text.now }
 {
     if text.is_empty() {
-        Some(Some(word_of_fields(op, 0, 0, 0, 0)))
+        Some(word_with(op, 0, 0, 0, Some(0)))
     } else {
         None
     }
@@ -175,8 +169,7 @@ pub(crate) fn bare_word(op: Op, text: &str) -> Option<Option<u32>>
 pub(crate) fn directive_word(text: &str) -> Option<Option<u32>>
     ensures { result ≡ directive_word text.now }
 {
-    let number = number_of(text)?;
-    Some(number.in_field(1 << 31, u32::MAX))
+    number_in(1 << 31, u32::MAX, text)
 }
 
 /// Two registers, and what follows the second's comma.

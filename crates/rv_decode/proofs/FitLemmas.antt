@@ -7,10 +7,9 @@ use Rattle.rv_decode.specs.declared.instruction.Op.{Op}
 use Rattle.rv_decode.specs.declared.instruction.Format.{Format}
 use Rattle.rv_decode.specs.declared.instruction.Format.TheVariants.{R, I, IShift, IUnsigned, S, B, U, J, Fixed}
 use Rattle.rv_decode.specs.declared.instruction.Instr.{Instr}
-use Rattle.rv_decode.specs.Instruction.{format_of}
 use Rattle.rv_decode.specs.Immediate.{field, imm_i, imm_s, imm_b, imm_u, imm_j}
-use Rattle.rv_decode.specs.Table.{op_of}
-use Rattle.rv_decode.specs.Means.{means, instr_of, fields_by, IsInstr, IsValid}
+use Rattle.rv_decode.specs.Table.{Row, matched_row}
+use Rattle.rv_decode.specs.Means.{means, fields_by, IsInstr, IsValid}
 
 extended_fits :
     (n half rest : ℕ) → n < 2 * half → half + half + rest ≡ 2 ^ 32 →
@@ -39,7 +38,7 @@ imm_j_fits w =
 register_fits : (w low : ℕ) → field w low 5 < 32
 register_fits w low = omega arith
 
-by_format : (f : Format) (op : Op) (w : ℕ) → IsInstr (fields_by f op w)
+pub by_format : (f : Format) (op : Op) (w : ℕ) → IsInstr (fields_by f op w)
 by_format R op w =
     record { rd = register_fits w 7; rs1 = register_fits w 15; rs2 = register_fits w 20; imm = lit< tt }
 by_format I op w =
@@ -56,12 +55,14 @@ by_format U op w = record { rd = register_fits w 7; rs1 = lit< tt; rs2 = lit< tt
 by_format J op w = record { rd = register_fits w 7; rs1 = lit< tt; rs2 = lit< tt; imm = imm_j_fits w }
 by_format Fixed op w = record { rd = lit< tt; rs1 = lit< tt; rs2 = lit< tt; imm = lit< tt }
 
-from_means : (o : Option Op) (w : ℕ) (i : Instr) → option_map (λ op. instr_of op w) o ≡ Some i → IsInstr i
-from_means None w i is = cc
-from_means (Some op) w i is =
-    let same : instr_of op w ≡ i = cc in
-    subst IsInstr same (by_format (format_of op) op w)
+from_row :
+    (found : Option Row) (w : ℕ) (i : Instr) →
+    option_map (λ row. fields_by row.format row.op w) found ≡ Some i → IsInstr i
+from_row None w i is = cc
+from_row (Some row) w i is =
+    let same : fields_by row.format row.op w ≡ i = cc in
+    subst IsInstr same (by_format row.format row.op w)
 
 pub IsInstr-valid : (i : Instr) → IsValid i → IsInstr i
 unfolding means
-IsInstr-valid i valid = from_means (op_of valid.0) valid.0 i valid.2
+IsInstr-valid i valid = from_row (matched_row valid.0) valid.0 i valid.2

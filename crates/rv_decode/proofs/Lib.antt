@@ -1,7 +1,8 @@
 -- The lemmas of this crate.
+pub mod Tests
 pub mod Masks
 pub mod Sole
-pub mod TableLemmas
-pub mod FixedLemmas
+pub mod Rows
 pub mod FitLemmas
+pub mod Formats
 mod KnownWords

@@ -1,7 +1,7 @@
 -- What the contracts of this crate cite.
-pub mod Instruction
+pub mod SameOp
 pub mod Immediate
 pub mod Table
-pub mod Fields
 pub mod FixedBits
 pub mod Means
+pub mod Inner

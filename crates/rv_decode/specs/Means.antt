@@ -5,9 +5,8 @@ use Rattle.rv_decode.specs.declared.instruction.Op.{Op}
 use Rattle.rv_decode.specs.declared.instruction.Instr.{Instr}
 use Rattle.rv_decode.specs.declared.instruction.Format.{Format}
 use Rattle.rv_decode.specs.declared.instruction.Format.TheVariants.{R, I, IShift, IUnsigned, S, B, U, J, Fixed}
-use Rattle.rv_decode.specs.Instruction.{format_of}
 use Rattle.rv_decode.specs.Immediate.{field, imm_i, imm_s, imm_b, imm_u, imm_j}
-use Rattle.rv_decode.specs.Table.{op_of}
+use Rattle.rv_decode.specs.Table.{matched_row}
 
 -- the number of the destination register (section 2.2)
 abbrev pub rd_of : ℕ → ℕ
@@ -36,13 +35,9 @@ fields_by U op word = record { op = op; rd = rd_of word; rs1 = 0; rs2 = 0; imm =
 fields_by J op word = record { op = op; rd = rd_of word; rs1 = 0; rs2 = 0; imm = imm_j word }
 fields_by Fixed op word = record { op = op; rd = 0; rs1 = 0; rs2 = 0; imm = 0 }
 
--- the instruction with the fields that a word gives it
-abbrev pub instr_of : Op → ℕ → Instr
-instr_of op word = fields_by (format_of op) op word
-
 -- the instruction that a word means, if it means one
 unfoldable pub means : ℕ → Option Instr
-means word = option_map (λ op. instr_of op word) (op_of word)
+means word = option_map (λ row. fields_by row.format row.op word) (matched_row word)
 
 -- the fields of an instruction fit
 pub record IsInstr (i : Instr) : Type 0 where

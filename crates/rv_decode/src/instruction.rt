@@ -1,6 +1,7 @@
 //! Instructions: their names, their formats and their fields.
-ghost use Rattle.std.specs.Prelude.{◌≡◌};
-ghost use Rattle.rv_decode.specs.Instruction.{format_of};
+ghost use Rattle.std.specs.Prelude.{◌≡◌, Some};
+ghost use Rattle.std.specs.Option.{option_map};
+ghost use Rattle.rv_decode.specs.Table.{row_of};
 
 /// An instruction's name, in the order of the listing in chapter 24 of the RISC-V Unprivileged ISA,
 /// version 20191213: RV32I, Zifencei, Zicsr and M. The last two are of the RISC-V Privileged
@@ -109,8 +110,10 @@ pub struct Instr {
 
 impl Op {
     /// The format of the instruction's words.
+    #[tactic(auto, unfolding(crate::specs::Table::row_of))]
+    #[inline(always)]
     pub fn format(self) -> Format
-        ensures { result ≡ format_of self }
+        ensures { option_map (λ row. row.format) (row_of self) ≡ Some result }
     {
         match self {
             Op::Add

@@ -4,7 +4,8 @@
 mod decoder;
 mod immediate;
 mod instruction;
+mod opcodes;
 
-pub use decoder::{decode, rows_differ, rows_fix_bits, valid_fits};
+pub use decoder::{decode, rows_differ, rows_match_fields, valid_fits};
 pub use immediate::bits;
 pub use instruction::{Format, Instr, Op};

@@ -1,4 +1,2 @@
 -- Lemmas of `rv_exec`.
-pub mod Accesses
-pub mod Instructions
-pub mod Slots
+pub mod CounterLemmas

@@ -18,9 +18,3 @@ abbrev pub shaped : Shape → ℕ → ℕ
 shaped Unsigned answer = answer
 shaped SignedByte answer = extended w8 answer
 shaped SignedHalf answer = extended w16 answer
-
--- the widths that a load of this shape has
-abbrev pub IsWidthOf : Shape → ℕ → Type 0
-IsWidthOf Unsigned width = IsWidth width
-IsWidthOf SignedByte width = width ≡ 1
-IsWidthOf SignedHalf width = width ≡ 2

@@ -1,12 +1,15 @@
 -- The instructions that read and change a CSR (RISC-V Unprivileged ISA 20191213, section 9.1).
-use Rattle.std.specs.Prelude.{ℕ, ◌==◌, ◌&&◌, not, Bool, true, if◌then◌else◌, Option, Some, option_and_then, option_map, bit_and, bit_or}
+use Rattle.std.specs.Prelude.{ℕ, ◌==◌, not, Bool, true, if◌then◌else◌, Option, Some, None, option_and_then, option_map, bit_and, bit_or}
 use Rattle.std.specs.Int.{w32, bit_not}
 use Rattle.rv_decode.specs.declared.instruction.Instr.{Instr}
 use Rattle.rv_hart.specs.declared.csr.Lines.{Lines}
-use Rattle.rv_hart.specs.Core.{Core, finish, ticked, retired}
-use Rattle.rv_hart.specs.Csr.{csr_read, csr_written, is_mcycle, is_minstret}
+use Rattle.rv_hart.specs.declared.numbers.Counter.{Counter}
+use Rattle.rv_hart.specs.Core.{Core, finish}
+use Rattle.rv_hart.specs.Csr.{csr_read, csr_written, counter_of}
 use Rattle.rv_exec.specs.declared.csr.Change.{Change}
 use Rattle.rv_exec.specs.declared.csr.Change.TheVariants.{Write, Set, Clear}
+use Rattle.rv_exec.specs.declared.ending.Ending.TheVariants.{Retired}
+use Rattle.rv_exec.specs.Outcome.{Outcome, outcome}
 
 -- the value that is written, of the old value and the operand
 abbrev pub changed : Change → ℕ → ℕ → ℕ
@@ -34,15 +37,15 @@ old_value change core i lines = if reads change i then csr_read core lines i.imm
 abbrev pub after_write : Change → ℕ → Core → Instr → Option Core
 after_write change value core i = if writes change i then csr_written core i.imm value else Some core
 
--- the core after the access, but for the counters; there is none where the access is illegal
-abbrev pub accessed : Change → ℕ → Core → Instr → Lines → Option Core
+-- the counter of which an access writes a half, if it does
+abbrev pub counter_written : Change → Instr → Option Counter
+counter_written change i = if writes change i then counter_of i.imm else None
+
+-- the access, which puts the value that was read into a register; there is none where it is illegal
+abbrev pub accessed : Change → ℕ → Core → Instr → Lines → Option Outcome
 accessed change operand core i lines =
     option_and_then
-    (λ old. option_map (λ after. finish after i.rd old) (after_write change (changed change old operand) core i))
+    (λ old. option_map
+    (λ after. outcome (finish after i.rd old) (Retired (counter_written change i)))
+    (after_write change (changed change old operand) core i))
     (old_value change core i lines)
-
--- the counters after the access: one of which a half was written stays as written (Privileged ISA 3.1.10)
-abbrev pub counted : Change → Instr → Core → Core
-counted change i core =
-    let after = if writes change i && is_minstret i.imm then core else retired core in
-    if writes change i && is_mcycle i.imm then after else ticked after

@@ -3,5 +3,6 @@ pub mod Word
 pub mod Access
 pub mod Csr
 pub mod Effect
-pub mod Group
+pub mod Inner
 pub mod Laws
+pub mod Outcome

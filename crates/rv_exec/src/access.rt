@@ -1,16 +1,17 @@
 //! Loads and stores (RISC-V Unprivileged ISA 20191213, section 2.6).
-ghost use Rattle.std.specs.Prelude.{◌≡◌, ◌%◌, ◌^◌, ◌<◌, OnOk, OnErr};
+ghost use Rattle.std.specs.Prelude.{◌≡◌, ◌==◌, ◌%◌, ◌^◌, ◌<◌, OnOk, OnErr};
 ghost use Rattle.std.specs.Int.{w8, w16};
 ghost use Rattle.rv_decode.specs.Means.{IsInstr};
 ghost use Rattle.rv_exec.specs.Word.{extended};
-ghost use Rattle.rv_exec.specs.Access.{IsWidth, IsWidthOf, shaped};
+ghost use Rattle.rv_exec.specs.Access.{IsWidth, shaped};
+ghost use Rattle.rv_exec.specs.Inner.Widths.{IsWidthOf};
 ghost use Rattle.rv_exec.specs.Effect.{AsksBus, bus_after, core_after, loads, stores};
 
 use crate::alu::add;
 use crate::bus::{Bus, NoMemory};
-use crate::finish::{advance, finish, trap};
+use crate::ending::{advance, finish, trap};
 use rv_decode::Instr;
-use rv_hart::Hart;
+use rv_hart::{Exception, Hart};
 
 /// How a loaded number fills a register.
 #[derive(Clone, Copy, PartialEq, Eq, Debug)]
@@ -52,6 +53,18 @@ fn shape_word(shape: Shape, width: u8, answer: u32) -> u32
     }
 }
 
+/// Whether an address is divisible by a width.
+fn is_aligned(at: u32, width: u8) -> bool
+    requires { IsWidth width }
+    ensures { result ≡ (at % width == 0) }
+{
+    match width {
+        1 => true,
+        2 => at % 2 == 0,
+        _ => at % 4 == 0,
+    }
+}
+
 /// The lower bytes of a word.
 fn low_bytes(value: u32, width: u8) -> u32
     requires { IsWidth width }
@@ -65,6 +78,7 @@ fn low_bytes(value: u32, width: u8) -> u32
 }
 
 /// Loads into a register.
+#[inline(always)]
 pub fn load<B: Bus>(
     hart: &mut Hart,
     bus: &mut B,
@@ -83,8 +97,8 @@ pub fn load<B: Bus>(
     ensures bus_err { OnErr result (bus.new ≡ bus.old) }
 {
     let at = add(hart.register(i.rs1), i.imm);
-    if at % u32::from(width) != 0 {
-        trap(hart, 4, at);
+    if !is_aligned(at, width) {
+        trap(hart, Exception::LoadAddressMisaligned, at);
         return Ok(());
     }
     let answer = bus.load(at, width)?;
@@ -93,6 +107,7 @@ pub fn load<B: Bus>(
 }
 
 /// Stores the lower bytes of a register.
+#[inline(always)]
 pub fn store<B: Bus>(hart: &mut Hart, bus: &mut B, i: &Instr, width: u8) -> Result<(), NoMemory>
     requires fields { IsInstr i.now }
     requires width { IsWidth width }
@@ -105,8 +120,8 @@ pub fn store<B: Bus>(hart: &mut Hart, bus: &mut B, i: &Instr, width: u8) -> Resu
     ensures bus_err { OnErr result (bus.new ≡ bus.old) }
 {
     let at = add(hart.register(i.rs1), i.imm);
-    if at % u32::from(width) != 0 {
-        trap(hart, 6, at);
+    if !is_aligned(at, width) {
+        trap(hart, Exception::StoreAddressMisaligned, at);
         return Ok(());
     }
     bus.store(at, width, low_bytes(hart.register(i.rs2), width))?;

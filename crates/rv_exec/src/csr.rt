@@ -1,12 +1,21 @@
 //! The instructions that read and change a CSR (RISC-V Unprivileged ISA 20191213, section 9.1).
-ghost use Rattle.std.specs.Prelude.{◌≡◌, ◌&&◌, is_ok, is_some, ok_or, unwrap_or};
+ghost use Rattle.std.specs.Prelude.{◌≡◌, IfOk, OnErr, is_ok, is_some, ok_or, unwrap_or};
 ghost use Rattle.rv_decode.specs.Means.{IsInstr};
-ghost use Rattle.rv_exec.specs.Csr.{accessed, after_write, changed, counted, old_value, reads, writes};
+ghost use Rattle.rv_exec.specs.Csr.{
+  accessed,
+  after_write,
+  changed,
+  counter_written,
+  old_value,
+  reads,
+  writes,
+};
 ghost use Rattle.rv_exec.specs.Effect.{changes};
+ghost use Rattle.rv_exec.specs.Outcome.{counted, outcome};
 
-use crate::finish::trap;
+use crate::ending::{Ending, count, trap};
 use rv_decode::Instr;
-use rv_hart::{CsrFault, Hart, Lines, is_mcycle, is_minstret};
+use rv_hart::{Counter, CsrFault, Exception, Hart, Lines, counter_of};
 
 /// What becomes of a CSR by an operand.
 #[derive(Clone, Copy, PartialEq, Eq, Debug)]
@@ -53,6 +62,7 @@ impl Change {
 }
 
 /// Reads the CSR if the instruction does.
+#[inline(always)]
 fn read(hart: &Hart, change: Change, i: &Instr, lines: Lines) -> Result<u32, CsrFault>
     ensures { result ≡ ok_or (old_value change hart.now i.now lines) CsrFault.Illegal }
 {
@@ -63,57 +73,55 @@ fn read(hart: &Hart, change: Change, i: &Instr, lines: Lines) -> Result<u32, Csr
     }
 }
 
-/// Writes the CSR if the instruction does.
-fn write(hart: &mut Hart, change: Change, value: u32, i: &Instr) -> Result<(), CsrFault>
+/// Writes the CSR if the instruction does, and says which counter that has written a half of.
+#[inline(always)]
+fn write(
+    hart: &mut Hart,
+    change: Change,
+    value: u32,
+    i: &Instr,
+) -> Result<Option<Counter>, CsrFault>
     ensures core { hart.new ≡ unwrap_or (after_write change value hart.old i.now) hart.old }
     ensures answer { is_ok result ≡ is_some (after_write change value hart.old i.now) }
+    ensures counter { IfOk result (λ counter. counter ≡ counter_written change i.now) }
 {
     if change.writes(i) {
-        hart.csr_write(i.imm, value)
+        hart.csr_write(i.imm, value)?;
+        Ok(counter_of(i.imm))
     } else {
-        Ok(())
+        Ok(None)
     }
 }
 
-/// Reads the CSR into a register and changes it, but leaves the counters.
+/// Reads the CSR into a register and changes it.
+#[inline(always)]
 fn access(
     hart: &mut Hart,
     change: Change,
     operand: u32,
     i: &Instr,
     lines: Lines,
-) -> Result<(), CsrFault>
+) -> Result<Ending, CsrFault>
     requires { IsInstr i.now }
-    ensures core { hart.new ≡ unwrap_or (accessed change operand hart.old i.now lines) hart.old }
-    ensures answer { is_ok result ≡ is_some (accessed change operand hart.old i.now lines) }
+    ensures ok { IfOk result (λ ending.
+        accessed change operand hart.old i.now lines ≡ Some (outcome hart.new ending)) }
+    ensures err { OnErr result (accessed change operand hart.old i.now lines ≡ None) }
+    ensures same { OnErr result (hart.new ≡ hart.old) }
 {
     let old = read(hart, change, i, lines)?;
-    write(hart, change, change.of(old, operand), i)?;
+    let counter = write(hart, change, change.of(old, operand), i)?;
     hart.finish(i.rd, old);
-    Ok(())
-}
-
-/// Counts the access, but leaves a counter that it wrote.
-fn count(hart: &mut Hart, change: Change, i: &Instr)
-    ensures { hart.new ≡ counted change i.now hart.old }
-{
-    let is_write = change.writes(i);
-    if !(is_write && is_minstret(i.imm)) {
-        hart.retire();
-    }
-    if !(is_write && is_mcycle(i.imm)) {
-        hart.tick();
-    }
+    Ok(Ending::Retired(counter))
 }
 
 /// Reads a CSR into a register and changes it, or enters the trap of an illegal access.
+#[inline(always)]
 pub fn change_csr(hart: &mut Hart, change: Change, operand: u32, i: &Instr, word: u32, lines: Lines)
     requires { IsInstr i.now }
-    ensures { hart.new ≡ changes change operand hart.old i.now word lines }
+    ensures { hart.new ≡ counted (changes change operand hart.old i.now word lines) }
 {
-    if access(hart, change, operand, i, lines).is_ok() {
-        count(hart, change, i);
-    } else {
-        trap(hart, 2, word);
+    match access(hart, change, operand, i, lines) {
+        Ok(ending) => count(hart, ending),
+        Err(_) => trap(hart, Exception::IllegalInstruction, word),
     }
 }

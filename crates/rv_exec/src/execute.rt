@@ -1,55 +1,56 @@
 //! One instruction: its word is fetched, decoded and done.
 ghost use Rattle.std.specs.Prelude.{◌≡◌, OnOk, OnErr};
 ghost use Rattle.rv_decode.specs.Means.{IsInstr};
-ghost use Rattle.rv_exec.specs.Group.{IsLocal};
+ghost use Rattle.rv_hart.specs.Core.{reg};
+ghost use Rattle.rv_exec.specs.Laws.{KeepsMinstret, RaisesMcycle, RaisesMinstret};
 ghost use Rattle.rv_exec.specs.Effect.{
   AsksBus,
+  below,
+  below_unsigned,
   bus_after,
   core_after,
-  core_by,
   effect,
   effect_by,
   effect_of_fetch,
+  equal,
+  outcome_on,
 };
 
 use crate::access::{Shape, load, store};
-use crate::alu::add;
+use crate::alu::{
+    add, div, divu, mul, mulh, mulhsu, mulhu, rem, remu, sll, slt, sltu, sra, srl, sub,
+};
 use crate::bus::{Bus, NoMemory};
-use crate::compute::compute;
 use crate::csr::{Change, change_csr};
-use crate::finish::{advance, branch, jump, leave, trap, wait};
+use crate::ending::{advance, branch, finish, jump, leave, trap, wait};
 use rv_decode::{Instr, Op, decode};
-use rv_hart::{Hart, Lines};
+use rv_hart::{Exception, Hart, Lines, zero_register};
 
-/// Does an instruction that asks nothing of the bus and accesses no CSR.
-#[tactic(auto, unfolding(crate::specs::Effect::core_by))]
-fn execute_local(hart: &mut Hart, i: &Instr)
-    requires fields { IsInstr i.now }
-    requires is_local { IsLocal i.now.op }
-    ensures { hart.new ≡ core_by i.now.op hart.old i.now }
+fn is_equal(hart: &Hart, i: &Instr) -> bool
+    requires { IsInstr i.now }
+    ensures { result ≡ equal hart.now i.now }
 {
-    let a = hart.register(i.rs1);
-    let b = hart.register(i.rs2);
-    match i.op {
-        Op::Jal => jump(hart, i.rd, add(hart.pc(), i.imm)),
-        Op::Jalr => jump(hart, i.rd, add(a, i.imm) / 2 * 2),
-        Op::Beq => branch(hart, a == b, i.imm),
-        Op::Bne => branch(hart, a != b, i.imm),
-        Op::Blt => branch(hart, a.cast_signed() < b.cast_signed(), i.imm),
-        Op::Bge => branch(hart, a.cast_signed() >= b.cast_signed(), i.imm),
-        Op::Bltu => branch(hart, a < b, i.imm),
-        Op::Bgeu => branch(hart, a >= b, i.imm),
-        Op::Fence | Op::FenceI => advance(hart),
-        Op::Ecall => trap(hart, 11, 0),
-        Op::Ebreak => trap(hart, 3, hart.pc()),
-        Op::Mret => leave(hart),
-        Op::Wfi => wait(hart),
-        _ => compute(hart, i, a, b),
-    }
+    hart.register(i.rs1) == hart.register(i.rs2)
 }
 
-/// Does an instruction.
+/// Whether the first register is less than the second as signed numbers.
+fn is_below(hart: &Hart, i: &Instr) -> bool
+    requires { IsInstr i.now }
+    ensures { result ≡ below hart.now i.now }
+{
+    hart.register(i.rs1).cast_signed() < hart.register(i.rs2).cast_signed()
+}
+
+fn is_below_unsigned(hart: &Hart, i: &Instr) -> bool
+    requires { IsInstr i.now }
+    ensures { result ≡ below_unsigned hart.now i.now }
+{
+    hart.register(i.rs1) < hart.register(i.rs2)
+}
+
+/// Does an instruction. `NoMemory` comes only where the bus refuses its load or its store.
 #[tactic(auto, unfolding(crate::specs::Effect::effect_by))]
+#[inline(always)]
 fn execute<B: Bus>(
     hart: &mut Hart,
     bus: &mut B,
@@ -67,6 +68,19 @@ fn execute<B: Bus>(
     ensures bus_err { OnErr result (bus.new ≡ bus.old) }
 {
     match i.op {
+        // upper immediates
+        Op::Lui => finish(hart, i.rd, i.imm),
+        Op::Auipc => finish(hart, i.rd, add(hart.pc(), i.imm)),
+        // jumps and branches
+        Op::Jal => jump(hart, i.rd, add(hart.pc(), i.imm)),
+        Op::Jalr => jump(hart, i.rd, add(hart.register(i.rs1), i.imm) / 2 * 2),
+        Op::Beq => branch(hart, is_equal(hart, i), i.imm),
+        Op::Bne => branch(hart, !is_equal(hart, i), i.imm),
+        Op::Blt => branch(hart, is_below(hart, i), i.imm),
+        Op::Bge => branch(hart, !is_below(hart, i), i.imm),
+        Op::Bltu => branch(hart, is_below_unsigned(hart, i), i.imm),
+        Op::Bgeu => branch(hart, !is_below_unsigned(hart, i), i.imm),
+        // loads and stores
         Op::Lb => load(hart, bus, i, 1, Shape::SignedByte)?,
         Op::Lh => load(hart, bus, i, 2, Shape::SignedHalf)?,
         Op::Lw => load(hart, bus, i, 4, Shape::Unsigned)?,
@@ -75,25 +89,65 @@ fn execute<B: Bus>(
         Op::Sb => store(hart, bus, i, 1)?,
         Op::Sh => store(hart, bus, i, 2)?,
         Op::Sw => store(hart, bus, i, 4)?,
+        // a register and an immediate
+        Op::Addi => finish(hart, i.rd, add(hart.register(i.rs1), i.imm)),
+        Op::Slti => finish(hart, i.rd, slt(hart.register(i.rs1), i.imm)),
+        Op::Sltiu => finish(hart, i.rd, sltu(hart.register(i.rs1), i.imm)),
+        Op::Xori => finish(hart, i.rd, hart.register(i.rs1) ^ i.imm),
+        Op::Ori => finish(hart, i.rd, hart.register(i.rs1) | i.imm),
+        Op::Andi => finish(hart, i.rd, hart.register(i.rs1) & i.imm),
+        Op::Slli => finish(hart, i.rd, sll(hart.register(i.rs1), i.imm)),
+        Op::Srli => finish(hart, i.rd, srl(hart.register(i.rs1), i.imm)),
+        Op::Srai => finish(hart, i.rd, sra(hart.register(i.rs1), i.imm)),
+        // two registers
+        Op::Add => finish(hart, i.rd, add(hart.register(i.rs1), hart.register(i.rs2))),
+        Op::Sub => finish(hart, i.rd, sub(hart.register(i.rs1), hart.register(i.rs2))),
+        Op::Sll => finish(hart, i.rd, sll(hart.register(i.rs1), hart.register(i.rs2))),
+        Op::Slt => finish(hart, i.rd, slt(hart.register(i.rs1), hart.register(i.rs2))),
+        Op::Sltu => finish(hart, i.rd, sltu(hart.register(i.rs1), hart.register(i.rs2))),
+        Op::Xor => finish(hart, i.rd, hart.register(i.rs1) ^ hart.register(i.rs2)),
+        Op::Srl => finish(hart, i.rd, srl(hart.register(i.rs1), hart.register(i.rs2))),
+        Op::Sra => finish(hart, i.rd, sra(hart.register(i.rs1), hart.register(i.rs2))),
+        Op::Or => finish(hart, i.rd, hart.register(i.rs1) | hart.register(i.rs2)),
+        Op::And => finish(hart, i.rd, hart.register(i.rs1) & hart.register(i.rs2)),
+        // fences and calls
+        Op::Fence | Op::FenceI => advance(hart),
+        Op::Ecall => trap(hart, Exception::EnvironmentCall, 0),
+        Op::Ebreak => trap(hart, Exception::Breakpoint, hart.pc()),
+        // control and status registers
         Op::Csrrw => change_csr(hart, Change::Write, hart.register(i.rs1), i, word, lines),
         Op::Csrrs => change_csr(hart, Change::Set, hart.register(i.rs1), i, word, lines),
         Op::Csrrc => change_csr(hart, Change::Clear, hart.register(i.rs1), i, word, lines),
         Op::Csrrwi => change_csr(hart, Change::Write, u32::from(i.rs1), i, word, lines),
         Op::Csrrsi => change_csr(hart, Change::Set, u32::from(i.rs1), i, word, lines),
         Op::Csrrci => change_csr(hart, Change::Clear, u32::from(i.rs1), i, word, lines),
-        _ => execute_local(hart, i),
+        // products and quotients
+        Op::Mul => finish(hart, i.rd, mul(hart.register(i.rs1), hart.register(i.rs2))),
+        Op::Mulh => finish(hart, i.rd, mulh(hart.register(i.rs1), hart.register(i.rs2))),
+        Op::Mulhsu => finish(
+            hart,
+            i.rd,
+            mulhsu(hart.register(i.rs1), hart.register(i.rs2)),
+        ),
+        Op::Mulhu => finish(
+            hart,
+            i.rd,
+            mulhu(hart.register(i.rs1), hart.register(i.rs2)),
+        ),
+        Op::Div => finish(hart, i.rd, div(hart.register(i.rs1), hart.register(i.rs2))),
+        Op::Divu => finish(hart, i.rd, divu(hart.register(i.rs1), hart.register(i.rs2))),
+        Op::Rem => finish(hart, i.rd, rem(hart.register(i.rs1), hart.register(i.rs2))),
+        Op::Remu => finish(hart, i.rd, remu(hart.register(i.rs1), hart.register(i.rs2))),
+        // privileged
+        Op::Mret => leave(hart),
+        Op::Wfi => wait(hart),
     }
     Ok(())
 }
 
-/// Does the instruction at the hart's pc, or enters the trap of its exception, and raises the
-/// counters (RISC-V Unprivileged ISA 20191213, Privileged Architecture 20211203, 3.1.10 and 3.3).
-/// `lines` is what the instruction reads of the pending interrupts and of the time. No interrupt is
-/// taken, and a hart that waits or is halted does the instruction too.
-///
-/// `NoMemory` comes only where the bus refuses the load or the store of the instruction.
+/// Fetches, decodes and does the instruction at the hart's pc, or enters the trap of its exception.
 #[tactic(auto, unfolding(crate::specs::Effect::effect, crate::specs::Effect::effect_of_fetch))]
-pub fn step<B: Bus>(hart: &mut Hart, bus: &mut B, lines: Lines) -> Result<(), NoMemory>
+fn fetch_and_execute<B: Bus>(hart: &mut Hart, bus: &mut B, lines: Lines) -> Result<(), NoMemory>
     ensures core { let effect = effect_of_fetch hart.old (B.fetched bus.old hart.old.pc) lines in
         OnOk result (hart.new ≡ core_after B.answer bus.old effect) }
     ensures bus { let effect = effect_of_fetch hart.old (B.fetched bus.old hart.old.pc) lines in
@@ -105,12 +159,42 @@ pub fn step<B: Bus>(hart: &mut Hart, bus: &mut B, lines: Lines) -> Result<(), No
 {
     let pc = hart.pc();
     let Some(word) = bus.fetch(pc) else {
-        trap(hart, 1, pc);
+        trap(hart, Exception::InstructionAccessFault, pc);
         return Ok(());
     };
     let Some(i) = decode(word) else {
-        trap(hart, 2, word);
+        trap(hart, Exception::IllegalInstruction, word);
         return Ok(());
     };
     execute(hart, bus, &i, word, lines)
+}
+
+/// Does the instruction at the hart's pc, or enters the trap of its exception, and raises the
+/// counters (RISC-V Unprivileged ISA 20191213, Privileged Architecture 20211203, 3.1.10 and 3.3).
+/// `lines` is what the instruction reads of the pending interrupts and of the time. No interrupt is
+/// taken, and a hart that waits or is halted does the instruction too.
+///
+/// `NoMemory` comes only where the bus refuses the load or the store of the instruction.
+pub fn step<B: Bus>(hart: &mut Hart, bus: &mut B, lines: Lines) -> Result<(), NoMemory>
+    ensures core { let effect = effect_of_fetch hart.old (B.fetched bus.old hart.old.pc) lines in
+        OnOk result (hart.new ≡ core_after B.answer bus.old effect) }
+    ensures bus { let effect = effect_of_fetch hart.old (B.fetched bus.old hart.old.pc) lines in
+        OnOk result (bus.new ≡ bus_after B.loaded B.stored bus.old effect) }
+    ensures asked { let effect = effect_of_fetch hart.old (B.fetched bus.old hart.old.pc) lines in
+        OnErr result (AsksBus effect) }
+    ensures core_err { OnErr result (hart.new ≡ hart.old) }
+    ensures bus_err { OnErr result (bus.new ≡ bus.old) }
+
+    // What each slot leaves, whatever its instruction.
+    ensures zero { OnOk result (reg hart.new 0 ≡ 0) }
+    ensures mcycle { let effect = effect_of_fetch hart.old (B.fetched bus.old hart.old.pc) lines in
+        OnOk result (RaisesMcycle hart.old (outcome_on B.answer bus.old effect) hart.new) }
+    ensures minstret { let effect = effect_of_fetch hart.old (B.fetched bus.old hart.old.pc) lines in
+        OnOk result (RaisesMinstret hart.old (outcome_on B.answer bus.old effect) hart.new) }
+    ensures trapped { let effect = effect_of_fetch hart.old (B.fetched bus.old hart.old.pc) lines in
+        OnOk result (KeepsMinstret hart.old (outcome_on B.answer bus.old effect) hart.new) }
+{
+    fetch_and_execute(hart, bus, lines)?;
+    zero_register(hart);
+    Ok(())
 }

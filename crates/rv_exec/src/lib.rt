@@ -4,15 +4,12 @@
 mod access;
 mod alu;
 mod bus;
-mod compute;
 mod csr;
+mod ending;
 mod execute;
-mod finish;
-mod laws;
 
 pub use bus::{Bus, NoMemory};
 pub use execute::step;
-pub use laws::{mcycle_rises, minstret_rises, zero_register_stays};
 
 #[cfg(test)]
 mod tests;

@@ -5,7 +5,8 @@ use Rattle.std.specs.Int.{bit_at}
 use Rattle.std.proofs.lemmas.Bool.{cases_Bool, cases_eq, eq-eqb, eqb-false, eqb-true, ne_eqb}
 use Rattle.std.proofs.lemmas.Nat.Bits.{bit_at_and, bit_at_or, bit_at-pow_other, bit_at-lt, bit_at-zero, same_from_bits}
 use Rattle.std.proofs.lemmas.Nat.{and_assoc}
-use Rattle.rv_hart.specs.Core.{Core, interrupt_bits}
+use Rattle.rv_hart.specs.Cause.{interrupt_bits}
+use Rattle.rv_hart.specs.Core.{Core}
 use Rattle.rv_hart.specs.Trap.{chosen, is_set, most_urgent}
 
 -- a bit that is not set is 0
@@ -65,7 +66,8 @@ is_none-chosen core mip enables =
           | inl set ↦ rw (on, no_11, set) (sym (eqb-set word 3 set))
           | inr no_3 ↦ elim (cases_Bool (is_set word 7)) [
             | inl set ↦ rw (on, no_11, no_3, set) (sym (eqb-set word 7 set))
-            | inr no_7 ↦ rw (on, no_11, no_3, no_7) (sym (eq-eqb word 0 (ready-none mip core.mie enables no_11 no_3 no_7)))
+            | inr no_7 ↦
+                rw (on, no_11, no_3, no_7) (sym (eq-eqb word 0 (ready-none mip core.mie enables no_11 no_3 no_7)))
           ]
         ]
       ]

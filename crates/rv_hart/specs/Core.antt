@@ -1,6 +1,7 @@
 -- The state of one hart as contracts see it, and the words that an instruction is made of.
 use Rattle.std.specs.Prelude.{◌≡◌, ℕ, ◌+◌, ◌%◌, ◌^◌, ◌==◌, Bool, false, if◌then◌else◌, List, slice_index, slice_set, replicate, bit_and}
 use Rattle.std.specs.Int.{bit_at}
+use Rattle.rv_hart.specs.Cause.{interrupt_bits}
 
 -- the registers x0 to x31 and the pc (Unprivileged ISA 2.1), the CSRs of machine mode (Privileged ISA
 -- 3.1), of mstatus the bits MIE (`on`) and MPIE (`before`), and whether the hart waits or is halted
@@ -59,6 +60,10 @@ next core = record core { pc = next_pc core }
 unfoldable pub finish : Core → ℕ → ℕ → Core
 finish core rd value = record core { x = put core.x rd value; pc = next_pc core }
 
+-- a jump, with the pc of the next instruction in the register (Unprivileged ISA 2.5)
+unfoldable pub jump : Core → ℕ → ℕ → Core
+jump core rd target = record core { x = put core.x rd (next_pc core); pc = target }
+
 -- one cycle more (Privileged ISA 3.1.10)
 unfoldable pub ticked : Core → Core
 ticked core = record core { mcycle = (core.mcycle + 1) % 2 ^ 64 }
@@ -66,10 +71,6 @@ ticked core = record core { mcycle = (core.mcycle + 1) % 2 ^ 64 }
 -- one instruction retired (Privileged ISA 3.1.10)
 unfoldable pub retired : Core → Core
 retired core = record core { minstret = (core.minstret + 1) % 2 ^ 64 }
-
--- the bits of the software, timer and external interrupts of machine mode: 3, 7 and 11 (Privileged ISA 3.1.9)
-abbrev pub interrupt_bits : ℕ
-interrupt_bits = 0x888
 
 -- what holds of the core of every hart: x0 is 0, mie has only the bits of the interrupts that there are, mtvec has
 -- mode 0 or 1, and mepc and the pc are divisible by 4

@@ -1,7 +1,12 @@
 -- The table of the CSRs: what each number reads, and what a write of it leaves.
 use Rattle.std.specs.Prelude.{ℕ, ◌+◌, ◌*◌, ◌/◌, ◌%◌, ◌^◌, ◌==◌, ◌||◌, Bool, if◌then◌else◌, List, [], ◌∷◌, Option, Some, None, find, option_and_then, option_map, is_some, bit_and}
+use Prim.Native.String.{String}
+use Rattle.rv_hart.specs.declared.numbers.TheConstants.{MCYCLE, MCYCLEH, MINSTRET, MINSTRETH}
 use Rattle.rv_hart.specs.declared.csr.Lines.{Lines}
-use Rattle.rv_hart.specs.Core.{Core, interrupt_bits}
+use Rattle.rv_hart.specs.declared.numbers.Counter.{Counter}
+use Rattle.rv_hart.specs.declared.numbers.Counter.TheVariants.{Mcycle, Minstret}
+use Rattle.rv_hart.specs.Cause.{interrupt_bits}
+use Rattle.rv_hart.specs.Core.{Core}
 use Rattle.rv_hart.specs.Trap.{is_set}
 
 -- 1 where the bit holds, or else 0
@@ -11,6 +16,11 @@ flag bit = if bit then 1 else 0
 -- mstatus: MIE at bit 3, MPIE at bit 7, and MPP, which is always machine mode, at bits 11 and 12 (Privileged ISA 3.1.6)
 abbrev pub status : Core → ℕ
 status core = flag core.on * 2 ^ 3 + flag core.before * 2 ^ 7 + 3 * 2 ^ 11
+
+-- misa: 32 bits wide, with the base instructions and the extension M, which are the letters I and M (Privileged ISA
+-- 3.1.1)
+abbrev pub rv32im : ℕ
+rv32im = 2 ^ 30 + 2 ^ 8 + 2 ^ 12
 
 -- the halves of a counter of 64 bits
 abbrev pub low : ℕ → ℕ
@@ -26,17 +36,18 @@ with_low counter value = high counter * 2 ^ 32 + value
 abbrev pub with_high : ℕ → ℕ → ℕ
 with_high counter value = value * 2 ^ 32 + low counter
 
--- one CSR: its number, what it reads, and the core after a write, where it can be written
+-- one CSR: its number, its name, what it reads, and the core after a write, where it can be written
 pub record Row : Type 0 where
   pub number : ℕ
+  pub name : String
   pub read : Core → Lines → ℕ
   pub write : Option (Core → ℕ → Core)
 
-abbrev pub read_write : ℕ → (Core → Lines → ℕ) → (Core → ℕ → Core) → Row
-read_write number read write = record { number = number; read = read; write = Some write }
+abbrev pub read_write : ℕ → String → (Core → Lines → ℕ) → (Core → ℕ → Core) → Row
+read_write number name read write = record { number = number; name = name; read = read; write = Some write }
 
-abbrev pub read_only : ℕ → (Core → Lines → ℕ) → Row
-read_only number read = record { number = number; read = read; write = None }
+abbrev pub read_only : ℕ → String → (Core → Lines → ℕ) → Row
+read_only number name read = record { number = number; name = name; read = read; write = None }
 
 -- a CSR that reads 0, and one whose writes are ignored
 abbrev pub zero_word : Core → Lines → ℕ
@@ -45,49 +56,39 @@ zero_word core lines = 0
 abbrev pub ignored : Core → ℕ → Core
 ignored core value = core
 
--- the CSRs of machine mode (Privileged ISA 2.2, 3.1.1 to 3.1.16) and the counters (Unprivileged ISA 10)
+-- The CSRs of machine mode (Privileged ISA 2.2, 3.1.1 to 3.1.16) and the counters (Unprivileged ISA 10). Here c is the
+-- core, l the lines, and v the value that is written.
 abbrev pub rows : List Row
 rows =
-    -- mstatus, mstatush, misa, mie, mtvec
-    read_write 0x300 (λ core lines. status core) (λ core value. record core {
-      on = is_set value 3;
-      before = is_set value 7;
-    }) ∷
-    read_write 0x310 zero_word ignored ∷
-    read_write 0x301 (λ core lines. 0x40001100) ignored ∷
-    read_write 0x304 (λ core lines. core.mie) (λ core value. record core { mie = bit_and value interrupt_bits }) ∷
-    read_write 0x305 (λ core lines. core.mtvec) (λ core value. record core { mtvec = bit_and value 0xFFFFFFFD }) ∷
-    -- mscratch, mepc, mcause, mtval, mip
-    read_write 0x340 (λ core lines. core.mscratch) (λ core value. record core { mscratch = value }) ∷
-    read_write 0x341 (λ core lines. core.mepc) (λ core value. record core { mepc = bit_and value 0xFFFFFFFC }) ∷
-    read_write 0x342 (λ core lines. core.mcause) (λ core value. record core { mcause = value }) ∷
-    read_write 0x343 (λ core lines. core.mtval) (λ core value. record core { mtval = value }) ∷
-    read_write 0x344 (λ core lines. bit_and lines.mip interrupt_bits) ignored ∷
-    -- mcycle, mcycleh, minstret, minstreth
-    read_write 0xB00 (λ core lines. low core.mcycle) (λ core value. record core {
-      mcycle = with_low core.mcycle value;
-    }) ∷
-    read_write 0xB80 (λ core lines. high core.mcycle) (λ core value. record core {
-      mcycle = with_high core.mcycle value;
-    }) ∷
-    read_write 0xB02 (λ core lines. low core.minstret) (λ core value. record core {
-      minstret = with_low core.minstret value;
-    }) ∷
-    read_write 0xB82 (λ core lines. high core.minstret) (λ core value. record core {
-      minstret = with_high core.minstret value;
-    }) ∷
-    -- cycle, cycleh, instret, instreth, time, timeh
-    read_only 0xC00 (λ core lines. low core.mcycle) ∷
-    read_only 0xC80 (λ core lines. high core.mcycle) ∷
-    read_only 0xC02 (λ core lines. low core.minstret) ∷
-    read_only 0xC82 (λ core lines. high core.minstret) ∷
-    read_only 0xC01 (λ core lines. low lines.mtime) ∷
-    read_only 0xC81 (λ core lines. high lines.mtime) ∷
-    -- mvendorid, marchid, mimpid, mhartid
-    read_only 0xF11 zero_word ∷
-    read_only 0xF12 zero_word ∷
-    read_only 0xF13 zero_word ∷
-    read_only 0xF14 zero_word ∷
+    -- machine trap setup
+    read_write 0x300 "mstatus" (λ c l. status c) (λ c v. record c { on = is_set v 3; before = is_set v 7 }) ∷
+    read_write 0x310 "mstatush" zero_word ignored ∷
+    read_write 0x301 "misa" (λ c l. rv32im) ignored ∷
+    read_write 0x304 "mie" (λ c l. c.mie) (λ c v. record c { mie = bit_and v interrupt_bits }) ∷
+    read_write 0x305 "mtvec" (λ c l. c.mtvec) (λ c v. record c { mtvec = bit_and v 0xFFFFFFFD }) ∷
+    -- machine trap handling
+    read_write 0x340 "mscratch" (λ c l. c.mscratch) (λ c v. record c { mscratch = v }) ∷
+    read_write 0x341 "mepc" (λ c l. c.mepc) (λ c v. record c { mepc = bit_and v 0xFFFFFFFC }) ∷
+    read_write 0x342 "mcause" (λ c l. c.mcause) (λ c v. record c { mcause = v }) ∷
+    read_write 0x343 "mtval" (λ c l. c.mtval) (λ c v. record c { mtval = v }) ∷
+    read_write 0x344 "mip" (λ c l. bit_and l.mip interrupt_bits) ignored ∷
+    -- machine counters
+    read_write 0xB00 "mcycle" (λ c l. low c.mcycle) (λ c v. record c { mcycle = with_low c.mcycle v }) ∷
+    read_write 0xB80 "mcycleh" (λ c l. high c.mcycle) (λ c v. record c { mcycle = with_high c.mcycle v }) ∷
+    read_write 0xB02 "minstret" (λ c l. low c.minstret) (λ c v. record c { minstret = with_low c.minstret v }) ∷
+    read_write 0xB82 "minstreth" (λ c l. high c.minstret) (λ c v. record c { minstret = with_high c.minstret v }) ∷
+    -- unprivileged counters and timer
+    read_only 0xC00 "cycle" (λ c l. low c.mcycle) ∷
+    read_only 0xC80 "cycleh" (λ c l. high c.mcycle) ∷
+    read_only 0xC02 "instret" (λ c l. low c.minstret) ∷
+    read_only 0xC82 "instreth" (λ c l. high c.minstret) ∷
+    read_only 0xC01 "time" (λ c l. low l.mtime) ∷
+    read_only 0xC81 "timeh" (λ c l. high l.mtime) ∷
+    -- machine information registers
+    read_only 0xF11 "mvendorid" zero_word ∷
+    read_only 0xF12 "marchid" zero_word ∷
+    read_only 0xF13 "mimpid" zero_word ∷
+    read_only 0xF14 "mhartid" zero_word ∷
     []
 
 -- the row of a number, if there is one
@@ -111,9 +112,9 @@ is_listed number = is_some (row_of number)
 abbrev pub is_read_only : ℕ → Bool
 is_read_only number = number / 2 ^ 10 % 4 == 3
 
--- whether a number is that of a half of mcycle, or of minstret, which a write of it leaves as written
-abbrev pub is_mcycle : ℕ → Bool
-is_mcycle number = (number == 0xB00) || (number == 0xB80)
-
-abbrev pub is_minstret : ℕ → Bool
-is_minstret number = (number == 0xB02) || (number == 0xB82)
+-- the counter of which a number is a half that can be written (Privileged ISA 3.1.10)
+abbrev pub counter_of : ℕ → Option Counter
+counter_of number =
+    if (number == MCYCLE) || (number == MCYCLEH) then Some Mcycle
+    else if (number == MINSTRET) || (number == MINSTRETH) then Some Minstret
+    else None

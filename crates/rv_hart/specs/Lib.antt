@@ -1,4 +1,5 @@
 -- The definitions that the contracts of `rv_hart` cite.
+pub mod Cause
 pub mod Core
 pub mod Csr
 pub mod HartState

@@ -1,7 +1,8 @@
--- Trap entry and return in machine mode, the choice of an interrupt, and the jump, which may trap.
+-- Trap entry and return in machine mode, and the choice of an interrupt.
 use Rattle.std.specs.Prelude.{ℕ, ◌+◌, ◌*◌, ◌/◌, ◌%◌, ◌^◌, ◌==◌, ◌&&◌, not, Bool, true, false, if◌then◌else◌, [], ◌∷◌, Option, None, find, bit_and}
 use Rattle.std.specs.Int.{bit_at}
-use Rattle.rv_hart.specs.Core.{Core, put, next_pc}
+use Rattle.rv_hart.specs.Cause.{interrupt_cause, external_interrupt, software_interrupt, timer_interrupt}
+use Rattle.rv_hart.specs.Core.{Core}
 
 -- whether a bit of a word is 1
 abbrev pub is_set : ℕ → ℕ → Bool
@@ -33,7 +34,7 @@ enter core cause value =
 
 -- the entry of the interrupt n
 abbrev pub interrupt : Core → ℕ → Core
-interrupt core n = enter core (2 ^ 31 + n) 0
+interrupt core n = enter core (interrupt_cause n) 0
 
 -- the return from a trap, MRET (Privileged ISA 3.1.6.1, 3.3.2)
 unfoldable pub leave : Core → Core
@@ -41,7 +42,7 @@ leave core = record core { pc = core.mepc; on = core.before; before = true }
 
 -- of the interrupts whose bits are set the most urgent: external, then software, then timer (Privileged ISA 3.1.9)
 unfoldable pub most_urgent : ℕ → Option ℕ
-most_urgent ready = find (λ n. is_set ready n) (11 ∷ 3 ∷ 7 ∷ [])
+most_urgent ready = find (λ n. is_set ready n) (external_interrupt ∷ software_interrupt ∷ timer_interrupt ∷ [])
 
 -- the interrupt that is taken now: none where MIE is 0, and else the most urgent that is both pending and enabled
 unfoldable pub chosen : Core → ℕ → Option ℕ
@@ -50,10 +51,3 @@ chosen core mip = if core.on then most_urgent (bit_and mip core.mie) else None
 -- whether an interrupt is both pending and enabled, which ends a wait whatever MIE is (Privileged ISA 3.3.3)
 abbrev pub is_ready : Core → ℕ → Bool
 is_ready core mip = not (bit_and mip core.mie == 0)
-
--- a jump to a target divisible by 4, with the pc of the next instruction in the register; any other target is an
--- instruction address misaligned, cause 0, with the target as mtval, and leaves the register
--- (Unprivileged ISA 2.2, 2.5)
-unfoldable pub jump : Core → ℕ → ℕ → Core
-jump core rd target =
-    if target % 4 == 0 then record core { x = put core.x rd (next_pc core); pc = target } else enter core 0 target

@@ -2,9 +2,6 @@
 ghost use Rattle.std.specs.Prelude.{◌≡◌, ◌<◌, ◌*◌, ◌/◌};
 ghost use Rattle.rv_hart.specs.Trap.{is_set};
 
-/// The software, timer and external interrupts of machine mode, in mie and mip.
-pub const INTERRUPT_BITS: u32 = 1 << 3 | 1 << 7 | 1 << 11;
-
 /// Whether a bit of a word is 1.
 pub fn is_set(word: u32, bit: u32) -> bool
     requires { bit < 32 }

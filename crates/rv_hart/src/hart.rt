@@ -1,6 +1,6 @@
 //! The hart: its registers and switches, and its state as a whole.
 ghost use Rattle.std.specs.Prelude.{◌≡◌, ◌%◌, ◌<◌, SomeIff};
-ghost use Rattle.rv_hart.specs.Core.{initial, reg, put, next, finish, ticked, retired};
+ghost use Rattle.rv_hart.specs.Core.{initial, reg, put, next, finish, jump, ticked, retired};
 ghost use Rattle.rv_hart.specs.HartState.{IsHartState, core_of, state_of};
 
 mod csr;
@@ -150,6 +150,18 @@ impl Hart {
     {
         self.set_register(rd, value);
         self.advance();
+    }
+
+    /// Jumps to the target, with the pc of the next instruction in a register, but for register 0.
+    /// The counters stay.
+    #[tactic(auto, unfolding(crate::specs::Core::jump))]
+    pub fn jump(&mut self, rd: u8, target: u32)
+        requires register { rd < 32 }
+        requires aligned { target % 4 ≡ 0 }
+        ensures { self.new ≡ jump self.old rd target }
+    {
+        self.set_register(rd, self.pc().wrapping_add(4));
+        self.set_pc(target);
     }
 
     /// All that the hart holds.

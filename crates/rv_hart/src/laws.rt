@@ -1,12 +1,19 @@
-//! Laws of the definitions, each the contract of a function that does nothing.
+//! Laws, each the contract of a function that does nothing.
+ghost use Rattle.std.specs.Prelude.{◌≡◌};
+ghost use Rattle.rv_hart.specs.Core.{reg};
 ghost use Rattle.rv_hart.specs.Laws.{
   KeepsMcycle,
   KeepsMinstret,
-  KeepsZero,
   ReadsBack,
   ReturnsMie,
   ReturnsToPc,
   StatusReadsBack,
+};
+
+use crate::cause::INTERRUPT_BITS;
+use crate::hart::Hart;
+use crate::numbers::{
+    MCAUSE, MCYCLE, MCYCLEH, MEPC, MIE, MINSTRET, MINSTRETH, MSCRATCH, MTVAL, MTVEC,
 };
 
 /// A return after the entry of a trap goes on as if there had been none.
@@ -16,26 +23,28 @@ pub fn return_after_entry()
     ensures mie { ReturnsMie }
 {}
 
-/// x0 reads 0 for ever.
-pub fn zero_register()
-    ensures { KeepsZero }
-{}
+/// x0 of every hart reads 0.
+pub fn zero_register(hart: &Hart)
+    ensures { reg hart.now 0 ≡ 0 }
+{
+    let _ = hart.register(0);
+}
 
 /// What is written to a CSR that holds a value is read back under its mask.
 #[tactic(auto, unfolding(crate::specs::Csr::csr_read, crate::specs::Csr::csr_written))]
 pub fn read_back()
     ensures mstatus_mie { StatusReadsBack 3 }
     ensures mstatus_mpie { StatusReadsBack 7 }
-    ensures mie { ReadsBack 0x304 0x888 }
-    ensures mtvec { ReadsBack 0x305 0xFFFFFFFD }
-    ensures mscratch { ReadsBack 0x340 0xFFFFFFFF }
-    ensures mepc { ReadsBack 0x341 0xFFFFFFFC }
-    ensures mcause { ReadsBack 0x342 0xFFFFFFFF }
-    ensures mtval { ReadsBack 0x343 0xFFFFFFFF }
-    ensures mcycle { ReadsBack 0xB00 0xFFFFFFFF }
-    ensures mcycleh { ReadsBack 0xB80 0xFFFFFFFF }
-    ensures minstret { ReadsBack 0xB02 0xFFFFFFFF }
-    ensures minstreth { ReadsBack 0xB82 0xFFFFFFFF }
+    ensures mie { ReadsBack MIE INTERRUPT_BITS }
+    ensures mtvec { ReadsBack MTVEC 0xFFFFFFFD }
+    ensures mscratch { ReadsBack MSCRATCH 0xFFFFFFFF }
+    ensures mepc { ReadsBack MEPC 0xFFFFFFFC }
+    ensures mcause { ReadsBack MCAUSE 0xFFFFFFFF }
+    ensures mtval { ReadsBack MTVAL 0xFFFFFFFF }
+    ensures mcycle { ReadsBack MCYCLE 0xFFFFFFFF }
+    ensures mcycleh { ReadsBack MCYCLEH 0xFFFFFFFF }
+    ensures minstret { ReadsBack MINSTRET 0xFFFFFFFF }
+    ensures minstreth { ReadsBack MINSTRETH 0xFFFFFFFF }
 {}
 
 /// A counter changes in a write of one of its own halves alone.

@@ -2,16 +2,18 @@
 #![tactic(auto)]
 
 mod bits;
+mod cause;
 mod csr;
 mod hart;
 mod laws;
 mod numbers;
 mod state;
 
+pub use cause::Exception;
 pub use csr::{CsrFault, Lines};
 pub use hart::Hart;
 pub use laws::{counters_stay, read_back, return_after_entry, zero_register};
-pub use numbers::{is_mcycle, is_minstret};
+pub use numbers::{Counter, counter_of};
 pub use state::HartState;
 
 #[cfg(test)]

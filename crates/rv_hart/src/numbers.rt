@@ -1,6 +1,6 @@
-//! The numbers of the CSRs.
+//! The numbers of the CSRs (RISC-V Privileged Architecture 20211203, tables 2.2 and 2.5).
 ghost use Rattle.std.specs.Prelude.{◌≡◌};
-ghost use Rattle.rv_hart.specs.Csr.{is_mcycle, is_minstret};
+ghost use Rattle.rv_hart.specs.Csr.{counter_of};
 
 pub const MSTATUS: u32 = 0x300;
 
@@ -50,18 +50,21 @@ pub const MIMPID: u32 = 0xF13;
 
 pub const MHARTID: u32 = 0xF14;
 
-/// Whether a number is that of a half of mcycle. In the slot of an instruction that writes it
-/// mcycle does not rise.
-pub fn is_mcycle(number: u32) -> bool
-    ensures { result ≡ is_mcycle number }
-{
-    matches!(number, MCYCLE | MCYCLEH)
+/// A counter that rises by itself.
+#[derive(Clone, Copy, PartialEq, Eq, Debug)]
+pub enum Counter {
+    Mcycle,
+    Minstret,
 }
 
-/// Whether a number is that of a half of minstret. An instruction that writes it does not raise
-/// minstret.
-pub fn is_minstret(number: u32) -> bool
-    ensures { result ≡ is_minstret number }
+/// The counter of which a CSR is a half that can be written. The slot of an instruction that writes
+/// the half does not raise the counter.
+pub fn counter_of(number: u32) -> Option<Counter>
+    ensures { result ≡ counter_of number }
 {
-    matches!(number, MINSTRET | MINSTRETH)
+    match number {
+        MCYCLE | MCYCLEH => Some(Counter::Mcycle),
+        MINSTRET | MINSTRETH => Some(Counter::Minstret),
+        _ => None,
+    }
 }

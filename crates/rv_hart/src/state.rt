@@ -2,7 +2,8 @@
 ghost use Rattle.std.specs.Prelude.{◌↔◌, IsTrue};
 ghost use Rattle.rv_hart.specs.HartState.{IsHartState};
 
-use crate::bits::{INTERRUPT_BITS, is_set};
+use crate::bits::is_set;
+use crate::cause::INTERRUPT_BITS;
 
 /// All that a hart holds: its registers, the fields of the CSRs that hold a value, and two
 /// switches.

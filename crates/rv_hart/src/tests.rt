@@ -1,4 +1,4 @@
-//! Tables from the manuals, and each public call once.
+//! Rows from the manuals.
 use super::*;
 use std::test::Fail;
 
@@ -7,7 +7,12 @@ const LINES: Lines = Lines {
     mtime: 0x1122_3344_5566_7788,
 };
 
-/// A number, what is written to it, and what it then reads.
+/// The hart of a state.
+fn hart_of(state: HartState) -> Result<Hart, CsrFault> {
+    Hart::of(&state).ok_or(CsrFault::Illegal)
+}
+
+/// A number that can be written, what is written to it, and what it then reads.
 const WRITTEN: [(u32, u32, u32); 21] = [
     (0x300, 0xFFFF_FFFF, 0x1888),
     (0x300, 0x0000_0008, 0x1808),
@@ -33,81 +38,56 @@ const WRITTEN: [(u32, u32, u32); 21] = [
 ];
 
 /// A number that cannot be written, and what it reads where mcycle is 0x0000000200000001 and
-/// minstret 0x0000000400000003.
-const READ_ONLY: [(u32, u32); 10] = [
-    (0xC00, 1),
-    (0xC80, 2),
-    (0xC02, 3),
-    (0xC82, 4),
-    (0xC01, 0x5566_7788),
-    (0xC81, 0x1122_3344),
-    (0xF11, 0),
-    (0xF12, 0),
-    (0xF13, 0),
-    (0xF14, 0),
-];
-
-/// Numbers of CSRs that this hart lacks, their neighbours, and numbers of more than 12 bits.
-const UNLISTED: [u32; 16] = [
-    0x000,
-    0x100,
-    0x302,
-    0x303,
-    0x306,
-    0x320,
-    0x345,
-    0x3A0,
-    0xB01,
-    0xB03,
-    0xB81,
-    0xC03,
-    0xF10,
-    0xF15,
-    0x1300,
-    0xFFFF_FFFF,
+/// minstret 0x0000000400000003. The last ones are those of CSRs that this hart lacks, neighbours of
+/// CSRs, and numbers of more than 12 bits.
+const REFUSED: [(u32, Result<u32, CsrFault>); 26] = [
+    (0xC00, Ok(1)),
+    (0xC80, Ok(2)),
+    (0xC02, Ok(3)),
+    (0xC82, Ok(4)),
+    (0xC01, Ok(0x5566_7788)),
+    (0xC81, Ok(0x1122_3344)),
+    (0xF11, Ok(0)),
+    (0xF12, Ok(0)),
+    (0xF13, Ok(0)),
+    (0xF14, Ok(0)),
+    (0x000, Err(CsrFault::Illegal)),
+    (0x100, Err(CsrFault::Illegal)),
+    (0x302, Err(CsrFault::Illegal)),
+    (0x303, Err(CsrFault::Illegal)),
+    (0x306, Err(CsrFault::Illegal)),
+    (0x320, Err(CsrFault::Illegal)),
+    (0x345, Err(CsrFault::Illegal)),
+    (0x3A0, Err(CsrFault::Illegal)),
+    (0xB01, Err(CsrFault::Illegal)),
+    (0xB03, Err(CsrFault::Illegal)),
+    (0xB81, Err(CsrFault::Illegal)),
+    (0xC03, Err(CsrFault::Illegal)),
+    (0xF10, Err(CsrFault::Illegal)),
+    (0xF15, Err(CsrFault::Illegal)),
+    (0x1300, Err(CsrFault::Illegal)),
+    (0xFFFF_FFFF, Err(CsrFault::Illegal)),
 ];
 
 #[test]
-fn a_csr_reads_back_the_bits_that_it_holds(rt: HostRuntime) -> Result<(), Fail> {
+fn each_csr_reads_and_is_written_as_the_manual_says(rt: HostRuntime) -> Result<(), Fail> {
     for (number, written, read) in WRITTEN {
         let mut hart = Hart::new();
         hart.csr_write(number, written)?;
         assert_eq!(rt; hart.csr_read(number, LINES), Ok(read), "{number:x}");
     }
-    Ok(())
-}
-
-#[test]
-fn a_read_only_csr_reads_and_refuses_writes(rt: HostRuntime) -> Result<(), Fail> {
-    let mut hart = Hart::new();
-    for (number, value) in [(0xB00, 1), (0xB80, 2), (0xB02, 3), (0xB82, 4)] {
-        hart.csr_write(number, value)?;
-    }
-    let before = hart;
-    for (number, read) in READ_ONLY {
-        assert_eq!(rt; hart.csr_read(number, LINES), Ok(read), "{number:x}");
-        assert!(rt; hart.csr_write(number, 0xFFFF_FFFF).is_err(), "{number:x}");
-        assert!(rt; hart == before);
+    let counted = hart_of(HartState {
+        mcycle: 0x2_0000_0001,
+        minstret: 0x4_0000_0003,
+        ..Hart::new().state()
+    })?;
+    for (number, read) in REFUSED {
+        let mut hart = counted;
+        assert_eq!(rt; hart.csr_read(number, LINES), read, "{number:x}");
+        assert!(rt; hart.csr_write(number, 0).is_err(), "{number:x}");
+        assert!(rt; hart == counted, "{number:x}");
     }
     Ok(())
-}
-
-#[test]
-fn an_unlisted_number_is_illegal(rt: HostRuntime) {
-    let mut hart = Hart::new();
-    for number in UNLISTED {
-        assert_eq!(rt;
-            hart.csr_read(number, LINES),
-            Err(CsrFault::Illegal),
-            "{number:x}"
-        );
-        assert_eq!(rt;
-            hart.csr_write(number, 0),
-            Err(CsrFault::Illegal),
-            "{number:x}"
-        );
-    }
-    assert!(rt; hart == Hart::new());
 }
 
 /// What is enabled, what is pending, and what is taken where MIE is 1.
@@ -124,20 +104,18 @@ const TAKEN: [(u32, u32, Option<u8>); 8] = [
 
 #[test]
 fn the_external_interrupt_comes_before_software_and_timer(rt: HostRuntime) -> Result<(), Fail> {
-    for (enabled, lines, taken) in TAKEN {
-        let mut hart = Hart::new();
-        hart.csr_write(0x304, enabled)?;
-        assert_eq!(rt; hart.pending(lines), None, "MIE is 0");
-        assert_eq!(rt; hart.is_ready(lines), taken.is_some());
-        hart.csr_write(0x300, 8)?;
-        assert_eq!(rt; hart.pending(lines), taken, "{enabled:x} {lines:x}");
+    for (mie, lines, taken) in TAKEN {
+        let state = HartState {
+            mie,
+            ..Hart::new().state()
+        };
+        let masked = hart_of(state)?;
+        let open = hart_of(HartState { on: true, ..state })?;
+        assert_eq!(rt; masked.pending(lines), None, "MIE is 0");
+        assert_eq!(rt; masked.is_ready(lines), taken.is_some());
+        assert_eq!(rt; open.pending(lines), taken, "{mie:x} {lines:x}");
     }
     Ok(())
-}
-
-/// What mstatus, mepc, mcause and mtval read.
-fn trap_words(hart: &Hart) -> [Result<u32, CsrFault>; 4] {
-    [0x300, 0x341, 0x342, 0x343].map(|number| hart.csr_read(number, LINES))
 }
 
 /// mtvec, a cause, and where the trap goes.
@@ -153,174 +131,112 @@ const TARGETS: [(u32, u32, u32); 8] = [
 ];
 
 #[test]
-fn a_trap_goes_to_the_base_or_by_its_vector(rt: HostRuntime) -> Result<(), Fail> {
+fn a_trap_goes_to_the_base_or_by_its_vector_and_back(rt: HostRuntime) -> Result<(), Fail> {
     for (mtvec, cause, target) in TARGETS {
-        let mut hart = Hart::new();
-        hart.csr_write(0x305, mtvec)?;
+        let mut hart = hart_of(HartState {
+            pc: 0x40,
+            on: true,
+            mtvec,
+            ..Hart::new().state()
+        })?;
         hart.enter_trap(cause, 9);
-        assert_eq!(rt; hart.pc(), target, "{mtvec:x} {cause:x}");
-        assert_eq!(rt; trap_words(&hart), [Ok(0x1800), Ok(0), Ok(cause), Ok(9)]);
+        let trapped = hart.state();
+        assert_eq!(rt;
+            (trapped.pc, trapped.mepc),
+            (target, 0x40),
+            "{mtvec:x} {cause:x}"
+        );
+        assert_eq!(rt; (trapped.mcause, trapped.mtval), (cause, 9));
+        assert_eq!(rt; (trapped.on, trapped.before), (false, true));
+        hart.leave_trap();
+        let returned = hart.state();
+        assert_eq!(rt;
+            (returned.pc, returned.on, returned.before),
+            (0x40, true, true)
+        );
     }
     Ok(())
 }
 
-#[test]
-fn a_return_goes_back_with_interrupts_as_before(rt: HostRuntime) -> Result<(), Fail> {
-    let mut hart = Hart::new();
-    hart.csr_write(0x300, 8)?;
-    hart.csr_write(0x305, 0x2001)?;
-    hart.set_pc(0x40);
-    hart.enter_interrupt(11);
-    assert_eq!(rt; hart.pc(), 0x202C);
-    assert_eq!(rt;
-        trap_words(&hart),
-        [Ok(0x1880), Ok(0x40), Ok(0x8000_000B), Ok(0)]
-    );
-    hart.leave_trap();
-    assert_eq!(rt; hart.pc(), 0x40);
-    assert_eq!(rt;
-        trap_words(&hart),
-        [Ok(0x1888), Ok(0x40), Ok(0x8000_000B), Ok(0)]
-    );
-    Ok(())
-}
-
-/// What mcycle and minstret read, each from its low half to its high half.
-fn counters(hart: &Hart) -> [Result<u32, CsrFault>; 4] {
-    [0xB00, 0xB80, 0xB02, 0xB82].map(|number| hart.csr_read(number, LINES))
-}
-
-/// The halves of a counter, and those of the counter after one more.
-const COUNTED: [([u32; 2], [u32; 2]); 4] = [
-    ([0, 0], [1, 0]),
-    ([0xFFFF_FFFF, 0], [0, 1]),
-    ([7, 0xFFFF_FFFF], [8, 0xFFFF_FFFF]),
-    ([0xFFFF_FFFF, 0xFFFF_FFFF], [0, 0]),
+/// The exceptions, and their causes in table 3.6 of the Privileged ISA.
+const CAUSES: [(Exception, u32); 7] = [
+    (Exception::InstructionAddressMisaligned, 0),
+    (Exception::InstructionAccessFault, 1),
+    (Exception::IllegalInstruction, 2),
+    (Exception::Breakpoint, 3),
+    (Exception::LoadAddressMisaligned, 4),
+    (Exception::StoreAddressMisaligned, 6),
+    (Exception::EnvironmentCall, 11),
 ];
 
 #[test]
-fn the_counters_carry_and_wrap(rt: HostRuntime) -> Result<(), Fail> {
-    for ([low, high], [next_low, next_high]) in COUNTED {
-        let mut hart = Hart::new();
-        hart.csr_write(0xB00, low)?;
-        hart.csr_write(0xB80, high)?;
-        hart.tick();
-        assert_eq!(rt;
-            counters(&hart),
-            [Ok(next_low), Ok(next_high), Ok(0), Ok(0)]
-        );
-        let mut hart = Hart::new();
-        hart.csr_write(0xB82, high)?;
-        hart.csr_write(0xB02, low)?;
-        hart.retire();
-        assert_eq!(rt;
-            counters(&hart),
-            [Ok(0), Ok(0), Ok(next_low), Ok(next_high)]
-        );
-    }
-    Ok(())
-}
-
-#[test]
-fn the_halves_of_a_counter_are_two_numbers(rt: HostRuntime) {
-    let numbers = [0xB00, 0xB80, 0xB02, 0xB82, 0xC00, 0xC80, 0xC02, 0xC82];
-    assert_eq!(rt;
-        numbers.map(is_mcycle),
-        [true, true, false, false, false, false, false, false]
-    );
-    assert_eq!(rt;
-        numbers.map(is_minstret),
-        [false, false, true, true, false, false, false, false]
-    );
-}
-
-#[test]
-fn an_instruction_moves_the_hart(rt: HostRuntime) {
-    let mut hart = Hart::new();
-    hart.set_register(31, 5);
-    hart.set_register(0, 5);
-    hart.finish(2, 7);
-    hart.finish(0, 7);
-    assert_eq!(rt;
-        (hart.register(0), hart.register(2), hart.register(31)),
-        (0, 7, 5)
-    );
-    assert_eq!(rt; hart.pc(), 8);
-    assert!(rt; hart.jump(1, 0xFFFF_FFFC));
-    assert_eq!(rt; (hart.register(1), hart.pc()), (12, 0xFFFF_FFFC));
-    hart.advance();
-    assert_eq!(rt; hart.pc(), 0);
-}
-
-#[test]
-fn a_jump_to_a_misaligned_target_traps(rt: HostRuntime) {
-    for target in [0x101, 0x102, 0x103] {
-        let mut hart = Hart::new();
-        hart.finish(1, 7);
-        assert!(rt; !hart.jump(1, target));
-        assert_eq!(rt; (hart.register(1), hart.pc()), (7, 0));
-        assert_eq!(rt; trap_words(&hart), [Ok(0x1800), Ok(4), Ok(0), Ok(target)]);
-    }
-}
-
-#[test]
-fn a_hart_waits_and_is_halted_apart(rt: HostRuntime) {
-    let mut hart = Hart::new();
-    hart.set_waiting(true);
-    assert_eq!(rt; (hart.waiting(), hart.halted()), (true, false));
-    hart.set_halted(true);
-    hart.set_waiting(false);
-    assert_eq!(rt; (hart.waiting(), hart.halted()), (false, true));
-}
-
-/// A state of a hart that is in a trap.
-fn trapped() -> HartState {
+fn exceptions_and_interrupts_have_their_causes(rt: HostRuntime) {
     let mut hart = Hart::default();
-    hart.set_register(7, 0xFFFF_FFFF);
-    hart.enter_trap(2, 3);
-    hart.state()
+    for (exception, cause) in CAUSES {
+        hart.enter_exception(exception, 5);
+        let state = hart.state();
+        assert_eq!(rt; (state.mcause, state.mtval), (cause, 5));
+    }
+    for n in [3, 7, 11] {
+        hart.enter_interrupt(n);
+        let state = hart.state();
+        assert_eq!(rt;
+            (state.mcause, state.mtval),
+            (0x8000_0000 + u32::from(n), 0)
+        );
+    }
 }
+
+/// What is in x0, mie, mtvec, mepc and the pc of a state, and whether a hart can have it.
+const STATES: [(u32, u32, u32, u32, u32, bool); 9] = [
+    (0, 0x888, 0x101, 0x104, 0x108, true),
+    (1, 0, 0, 0, 0, false),
+    (0, 0x889, 0, 0, 0, false),
+    (0, 0x1000, 0, 0, 0, false),
+    (0, 0, 0x102, 0, 0, false),
+    (0, 0, 0, 0x101, 0, false),
+    (0, 0, 0, 0x102, 0, false),
+    (0, 0, 0, 0, 0x101, false),
+    (0, 0, 0, 0, 0x102, false),
+];
 
 #[test]
 fn a_state_of_no_hart_is_refused(rt: HostRuntime) {
-    let state = trapped();
-    assert_eq!(rt; Hart::of(&state).map(|hart| hart.state()), Some(state));
-    let mut x0 = state;
-    x0.registers[0] = 1;
-    assert!(rt; Hart::of(&x0).is_none());
-    for mie in [1, 0x889, 0x1000] {
-        assert!(rt; Hart::of(&HartState { mie, ..state }).is_none());
-    }
-    for low in [1, 2, 3] {
-        assert!(rt;
-            Hart::of(&HartState {
-                mepc: 0x100 + low,
-                ..state
-            })
-            .is_none()
-        );
-        assert!(rt;
-            Hart::of(&HartState {
-                pc: 0x100 + low,
-                ..state
-            })
-            .is_none()
-        );
-        assert_eq!(rt;
-            Hart::of(&HartState {
-                mtvec: 0x100 + low,
-                ..state
-            })
-            .is_some(),
-            low == 1
-        );
+    for (x0, mie, mtvec, mepc, pc, is_valid) in STATES {
+        let state = HartState {
+            registers: [x0; 32],
+            mie,
+            mtvec,
+            mepc,
+            pc,
+            ..Hart::new().state()
+        };
+        let found = Hart::of(&state).map(|hart| hart.state());
+        assert_eq!(rt; found, if is_valid { Some(state) } else { None });
     }
 }
 
+/// A register, what is written to it, and what it then reads.
+const REGISTERS: [(u8, u32, u32); 3] = [(0, 7, 0), (1, 7, 7), (31, 0xFFFF_FFFF, 0xFFFF_FFFF)];
+
 #[test]
-fn the_laws_can_be_called() {
-    counters_stay();
-    read_back();
-    return_after_entry();
-    zero_register();
+fn an_instruction_moves_the_hart(rt: HostRuntime) {
+    for (rd, value, read) in REGISTERS {
+        let mut hart = Hart::new();
+        hart.set_register(rd, value);
+        assert_eq!(rt; hart.register(rd), read);
+        hart.finish(rd, value);
+        hart.advance();
+        assert_eq!(rt; (hart.register(rd), hart.pc()), (read, 8));
+        hart.jump(rd, 0xFFFF_FFFC);
+        assert_eq!(rt; hart.register(rd), if rd == 0 { 0 } else { 12 });
+        hart.advance();
+        assert_eq!(rt; hart.pc(), 0);
+        hart.tick();
+        hart.retire();
+        hart.set_waiting(true);
+        hart.set_halted(true);
+        assert_eq!(rt; (hart.waiting(), hart.halted()), (true, true));
+        assert_eq!(rt; (hart.state().mcycle, hart.state().minstret), (1, 1));
+    }
 }

@@ -1,4 +1,4 @@
--- Where a member is connected that stood in no hub, no member stands twice.
+-- Where a member is connected that was in no hub, no member is in the hubs twice.
 use Rattle.std.proofs.Common.{◌≡◌, ◌∙◌, refl, ℕ, zero, suc, ◌<◌, false, ◌||◌, List, [], ◌∷◌, ◌++◌, length, append_assoc, arith}
 use Rattle.std.specs.Cmp.{IsEquivalence}
 use Rattle.std.specs.List.{list_any, flat_map}
@@ -36,12 +36,12 @@ turned : (hub : List Member) (m : Member) → list_any (same_member m) hub ≡ h
 turned [] m = refl
 turned (other ∷ rest) m = λ i. member_equiv.symm m other i || turned rest m i
 
--- a member stands in some hub where it is among the members of all
+-- a member is in some hub where it is among the members of all
 among : (hubs : List (List Member)) (m : Member) → list_any (same_member m) (all_of hubs) ≡ is_connected hubs m
 among [] m = refl
 among (h ∷ hs) m = list_any-append (same_member m) h (all_of hs) ∙ (λ i. turned h m i || among hs m i)
 
--- a member that stood nowhere stands once
+-- a member that was nowhere is in the hubs once
 pub connected_once :
     (hubs : List (List Member)) (hub : ℕ) (m : Member) →
     hub < length hubs → is_connected hubs m ≡ false → StandOnce hubs → StandOnce (connected hubs hub m)

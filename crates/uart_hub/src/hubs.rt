@@ -12,7 +12,7 @@ use std::marker::Model;
 /// Why a member was not connected.
 #[derive(Clone, Copy, PartialEq, Eq, Debug)]
 pub enum HubFault {
-    /// The member stands in some hub.
+    /// The member is in some hub already.
     Already,
     /// Memory ran out.
     Memory,
@@ -30,7 +30,7 @@ impl From<NoMemory> for HubFault {
 }
 
 /// The hubs that connect UARTs, numbered from 0 in order of creation. Contracts see them as the
-/// lists of their members, in order of connection. No member stands twice in all of them together.
+/// lists of their members, in order of connection. No member is in two hubs, nor twice in one.
 #[derive(Drop, Debug)]
 pub struct UartHubs {
     alloc: Global,
@@ -113,14 +113,14 @@ impl UartHubs {
         Ok(())
     }
 
-    /// The other members of the hub of `from`, in order of connection. Where `from` stands in no
-    /// hub there are none.
-    pub fn route(&self, alloc: Global, from: Member) -> Result<Vec<Member>, NoMemory>
+    /// The other members of the hub of `from`, in order of connection. There are none where `from`
+    /// is in no hub.
+    pub fn route(&self, from: Member) -> Result<Vec<Member>, NoMemory>
         ensures { IfOk result (λ list. list.items ≡ routes.route self.now from) }
     {
         match self.hub_of(from) {
-            Some(hub) => hub.others(alloc, from),
-            None => Ok(Vec::new(alloc)),
+            Some(hub) => hub.others(self.alloc, from),
+            None => Ok(Vec::new(self.alloc)),
         }
     }
 
@@ -148,43 +148,29 @@ mod tests {
     }
 
     #[test]
-    fn a_hub_hands_on_to_its_other_members_in_order_of_connection(
-        rt: HostRuntime,
-    ) -> Result<(), Fail> {
-        let alloc = rt.alloc();
-        let mut hubs = UartHubs::new(alloc);
-        assert!(rt; hubs.is_empty());
-        let first = hubs.create()?;
-        let second = hubs.create()?;
-        assert_eq!(rt; (first, second, hubs.len()), (0, 1, 2));
-        for member in [uart(2, 0), uart(0, 1), uart(0, 0)] {
-            assert_eq!(rt; hubs.len(), 2);
-            assert_eq!(rt; hubs.connect(1, member), Ok(()));
-        }
-        assert_eq!(rt; hubs.len(), 2);
-        assert_eq!(rt; hubs.connect(0, uart(1, 0)), Ok(()));
-        assert_eq!(rt; hubs.members(0), [uart(1, 0)].as_slice());
-        assert_eq!(rt;
-            hubs.members(second),
-            [uart(2, 0), uart(0, 1), uart(0, 0)].as_slice()
-        );
-        let others = hubs.route(alloc, uart(0, 1))?;
-        assert_eq!(rt; others.as_slice(), [uart(2, 0), uart(0, 0)].as_slice());
-        assert!(rt; hubs.route(alloc, uart(1, 0))?.is_empty());
-        assert!(rt; hubs.route(alloc, uart(1, 1))?.is_empty());
-        Ok(())
-    }
-
-    #[test]
-    fn a_member_is_connected_once(rt: HostRuntime) -> Result<(), Fail> {
+    fn a_member_is_connected_once_and_reaches_the_others(rt: HostRuntime) -> Result<(), Fail> {
         let mut hubs = UartHubs::new(rt.alloc());
         let first = hubs.create()?;
         let second = hubs.create()?;
-        assert_eq!(rt; hubs.connect(first, uart(3, 1)), Ok(()));
-        assert_eq!(rt; hubs.connect(first, uart(3, 1)), Err(HubFault::Already));
-        assert_eq!(rt; hubs.connect(second, uart(3, 1)), Err(HubFault::Already));
-        assert_eq!(rt; hubs.members(first), [uart(3, 1)].as_slice());
-        assert!(rt; hubs.members(second).is_empty());
+        assert_eq!(rt; (first, second), (0, 1));
+        for (hub, member, answer) in [
+            (1, uart(2, 0), Ok(())),
+            (1, uart(0, 1), Ok(())),
+            (1, uart(0, 0), Ok(())),
+            (0, uart(1, 0), Ok(())),
+            (0, uart(0, 1), Err(HubFault::Already)),
+            (1, uart(0, 1), Err(HubFault::Already)),
+        ] {
+            assert!(rt; (hub as usize) < hubs.len());
+            assert_eq!(rt; hubs.connect(hub, member), answer, "{member:?} at {hub}");
+        }
+        for (from, others) in [
+            (uart(0, 1), [uart(2, 0), uart(0, 0)].as_slice()),
+            (uart(1, 0), [].as_slice()),
+            (uart(1, 1), [].as_slice()),
+        ] {
+            assert_eq!(rt; hubs.route(from)?.as_slice(), others, "from {from:?}");
+        }
         Ok(())
     }
 }

@@ -1,65 +1,82 @@
-//! Lines of the log, from the bytes that boards send.
-ghost use Rattle.std.specs.Prelude.{◌≤◌, length};
-
+//! Lines of the log, from the bytes that devices send.
 use super::*;
-use lab_num::BoardNo;
-use log_merge::Member0;
+use lab_num::{BoardNo, Rows, Text};
+use log_merge::{BoardNames, Member0};
 use std::test::Fail;
 
-/// What these bytes of board `m0` print, the first sent at 1.000000 and each one microsecond after
-/// the one before: while they come, and at the end.
-fn printed(alloc: Global, bytes: &[u8]) -> Result<(String, String), Fail>
-    requires { length bytes.now ≤ 1000 }
-{
+/// A whole line.
+const LINE: &str =
+    "xxxxxxxxxxxxxxxxxxxxxxxxxxxxxxxxxxxxxxxxxxxxxxxxxxxxxxxxxxxxxxxxxxxxxxxxxxxxxxxxxxxxxxxxxxxxxxxxxxxxxxxxxxxxxxxxxxxxxxxxxxxxxxxx";
+
+/// Board `m0` with one device, and `m1` with two.
+fn names(alloc: Global) -> Result<Names, Fail> {
+    let uart = Rows::of(vec![in alloc; Text::of(alloc, "uart")?]?);
+    let both = Rows::of(vec![in alloc; Text::of(alloc, "uart")?, Text::of(alloc, "other")?]?);
+    let first = BoardNames {
+        name: Text::of(alloc, "m0")?,
+        devices: uart,
+    };
+    let second = BoardNames {
+        name: Text::of(alloc, "m1")?,
+        devices: both,
+    };
+    Ok(Names {
+        boards: Rows::of(vec![in alloc; first, second]?),
+    })
+}
+
+/// What these bytes of boards and devices print, the first sent at 1.000000 and each one microsecond
+/// after the one before: while they come, and at the end.
+fn printed(alloc: Global, pieces: &[(u8, u8, &str)]) -> Result<(String, String), Fail> {
     let mut items = Vec::new(alloc);
-    for (i, &value) in bytes.iter().enumerate() {
-        let slot = Member0 {
-            at: Micros(1_000_000 + i as u64),
-            board: BoardNo(0),
-        };
-        items.push(LogItem::Slot(slot, What::Byte { dev: 0, value }))?;
+    for (board, dev, bytes) in pieces {
+        for &value in bytes.as_bytes() {
+            let slot = Member0 {
+                at: Micros((items.len() as u64).wrapping_add(1_000_000)),
+                board: BoardNo(*board),
+            };
+            items.push(LogItem::Slot(slot, What::Byte { dev: *dev, value }))?;
+        }
     }
-    let mut lines = Vec::new(alloc);
-    lines.push(OpenLine::new(alloc, Text::of(alloc, "m0")?))?;
-    let text = text_of(alloc, &mut lines, &items)?;
-    Ok((text, rest_of(alloc, &lines)?))
+    let names = names(alloc)?;
+    let mut lines = Lines::new(alloc);
+    let text = lines.text_of(&names, &items)?;
+    Ok((text, lines.rest(&names)?))
 }
 
 #[test]
-fn lines_end_at_a_line_feed_or_the_128th_byte(rt: HostRuntime) -> Result<(), Fail> {
-    let alloc = rt.alloc();
-    let mut signs = Vec::new(alloc);
-    signs.resize(128, b'x')?;
-    signs.extend_from_slice(b"\nab\n\nc")?;
-    assert_eq!(rt; signs.len(), 134);
-    let (ended, rest) = printed(alloc, &signs)?;
-    let mut wanted = String::from_str(alloc, "[1.000127] m0/uart: ")?;
-    for _ in 0..128 {
-        wanted.push('x')?;
-    }
-    wanted.push_str("\n[1.000128] m0/uart: \n[1.000131] m0/uart: ab\n[1.000132] m0/uart: \n")?;
-    assert_eq!(rt; ended.as_str(), wanted.as_str());
-    assert_eq!(rt; rest.as_str(), "[1.000133] m0/uart: c\n");
-    Ok(())
-}
-
-#[test]
-fn bytes_are_shown_as_they_are_or_escaped(rt: HostRuntime) -> Result<(), Fail> {
-    let rows: [(&[u8], &str); 7] = [
-        (b" ~", " ~"),
-        (b"\\b", "\\\\b"),
-        (b"\t\r", "\\t\\r"),
-        (b"\x00\x1f", "\\x00\\x1f"),
-        (b"\x7f\x80", "\\x7f\\x80"),
-        (b"\xab\xff", "\\xab\\xff"),
-        (b"\"'", "\"'"),
+fn lines_end_at_a_line_feed_or_the_128th_byte_and_stand_in_order_of_members(
+    rt: HostRuntime,
+) -> Result<(), Fail> {
+    let whole = format!(in rt.alloc(); "[1.000127] m0/uart: {LINE}\n[1.000128] m0/uart: \n")?;
+    let rows: [(&[(u8, u8, &str)], &str, &str); 6] = [
+        (&[(0, 0, "")], "", ""),
+        (
+            &[(0, 0, "ab\n\nc")],
+            "[1.000002] m0/uart: ab\n[1.000003] m0/uart: \n",
+            "[1.000004] m0/uart: c\n",
+        ),
+        (&[(0, 0, LINE), (0, 0, "\n")], whole.as_str(), ""),
+        (
+            &[(1, 1, "d"), (1, 0, "c"), (0, 0, "a"), (1, 0, "c")],
+            "",
+            "[1.000002] m0/uart: a\n[1.000003] m1/uart: cc\n[1.000000] m1/other: d\n",
+        ),
+        (
+            &[(1, 0, "b"), (0, 0, "a"), (1, 0, "\n"), (1, 1, "c")],
+            "[1.000002] m1/uart: b\n",
+            "[1.000001] m0/uart: a\n[1.000003] m1/other: c\n",
+        ),
+        (
+            &[(0, 0, " ~\\\t\r\0\x1f\x7f\u{e9}\"'")],
+            "",
+            "[1.000011] m0/uart:  ~\\\\\\t\\r\\x00\\x1f\\x7f\\xc3\\xa9\"'\n",
+        ),
     ];
-    for (bytes, shown) in rows {
-        assert!(rt; bytes.len() <= 1000);
-        let (ended, rest) = printed(rt.alloc(), bytes)?;
-        let wanted = format!(in rt.alloc(); "[1.000001] m0/uart: {shown}\n")?;
-        assert_eq!(rt; ended.as_str(), "", "{shown}");
-        assert_eq!(rt; rest.as_str(), wanted.as_str(), "{shown}");
+    for (pieces, ended, rest) in rows {
+        let (text, last) = printed(rt.alloc(), pieces)?;
+        assert_eq!(rt; text.as_str(), ended);
+        assert_eq!(rt; last.as_str(), rest);
     }
     Ok(())
 }

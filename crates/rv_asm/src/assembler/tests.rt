@@ -6,73 +6,100 @@ use crate::fault::AsmCause;
 use std::test::Fail;
 
 #[test]
-fn a_loop_counts_down(rt: HostRuntime) -> Result<(), Fail> {
-    let words = assemble(rt.alloc(), "loop: addi x5, x5, -1\nbne x5, x0, loop\n")?;
-    assert_eq!(rt; words.as_slice(), [0xFFF28293, 0xFE029EE3].as_slice());
-    Ok(())
-}
-
-#[test]
-fn each_shape_of_operands(rt: HostRuntime) -> Result<(), Fail> {
-    let lines = [
-        ("lui x5, 0x10000", 0x100002B7),
-        ("lui x31, 0xFFFFF", 0xFFFFFFB7),
-        ("auipc x10, 524289", 0x80001517),
-        ("jal x1, 2048", 0x001000EF),
-        ("jal x31, -1048576", 0x80000FEF),
-        ("jal x1, 1048574", 0x7FFFF0EF),
-        ("jalr x1, -4(x6)", 0xFFC300E7),
-        ("beq x3, x4, 8", 0x00418463),
-        ("bge x9, x10, -4096", 0x80A4D063),
-        ("bltu x11, x12, 4094", 0x7EC5EFE3),
-        ("lb x1, -1(x2)", 0xFFF10083),
-        ("lw x5, 2047(x6)", 0x7FF32283),
-        ("lhu x9, 0(x10)", 0x00055483),
-        ("sb x31, -0x1(x30)", 0xFFFF0FA3),
-        ("sw x13, -2048(x14)", 0x80D72023),
-        ("addi x6, x0, 65", 0x04100313),
-        ("andi x9, x10, 0x0fF", 0x0FF57493),
-        ("slti x1, x2, -2048", 0x80012093),
-        ("slli x11, x12, 31", 0x01F61593),
-        ("srai x15, x16, 0017", 0x41185793),
-        ("sub x4, x5, x6", 0x40628233),
-        ("and x28, x29, x30", 0x01EEFE33),
-        ("remu x31, x30, x29", 0x03DF7FB3),
-        ("fence", 0x0000000F),
-        ("fence.i", 0x0000100F),
-        ("ecall", 0x00000073),
-        ("ebreak", 0x00100073),
-        ("csrrw x1, 0x305, x2", 0x305110F3),
-        ("csrrs x3, 3072, x0", 0xC00021F3),
-        ("csrrwi x6, 0x300, 31", 0x300FD373),
-        ("csrrci x0, 0x300, 8", 0x30047073),
-        ("mret", 0x30200073),
-        ("wfi", 0x10500073),
-        (".word 0xFFFFFFFF", 0xFFFFFFFF),
-        (".word -1", 0xFFFFFFFF),
-        (".word 65", 65),
-        (" \tadd\tx1 ,x2,  x3 \t# with blanks", 0x003100B3),
-        ("a_1 : mul x1, x2, x3 # : no label", 0x023100B3),
+fn a_program_with_each_shape_of_operands(rt: HostRuntime) -> Result<(), Fail> {
+    let text = "loop: addi x5, x5, -1\n\
+         bne x5, x0, loop\n\
+         # a program\n\
+         \n\
+           jal x0, end\n\
+         back: beq x0, x0, back\n\
+         \t# between\n\
+         end: jal x0, back\n\
+         lui x5, 0x10000\n\
+         lui x31, 0xFFFFF\n\
+         auipc x10, 524289\n\
+         jal x1, 2048\n\
+         jal x31, -1048576\n\
+         jal x1, 1048574\n\
+         jalr x1, -4(x6)\n\
+         beq x3, x4, 8\n\
+         bge x9, x10, -4096\n\
+         bltu x11, x12, 4094\n\
+         lb x1, -1(x2)\n\
+         lw x5, 2047(x6)\n\
+         lhu x9, 0(x10)\n\
+         sb x31, -0x1(x30)\n\
+         sw x13, -2048(x14)\n\
+         addi x6, x0, 65\n\
+         andi x9, x10, 0x0fF\n\
+         slti x1, x2, -2048\n\
+         slli x11, x12, 31\n\
+         srai x15, x16, 0017\n\
+         sub x4, x5, x6\n\
+         and x28, x29, x30\n\
+         remu x31, x30, x29\n\
+         fence\n\
+         fence.i\n\
+         ecall\n\
+         ebreak\n\
+         csrrw x1, 0x305, x2\n\
+         csrrs x3, 3072, x0\n\
+         csrrwi x6, 0x300, 31\n\
+         csrrci x0, 0x300, 8\n\
+         mret\n\
+         wfi\n\
+         .word 0xFFFFFFFF\n\
+         .word -1\n\
+         .word 65\n\
+          \tadd\tx1 ,x2,  x3 \t# with blanks\n\
+         a_1 : mul x1, x2, x3 # : no label";
+    let meant = [
+        0xFFF28293, // loop: addi x5, x5, -1
+        0xFE029EE3, // bne x5, x0, loop
+        0x0080006F, // jal x0, end
+        0x00000063, // back: beq x0, x0, back
+        0xFFDFF06F, // end: jal x0, back
+        0x100002B7, // lui x5, 0x10000
+        0xFFFFFFB7, // lui x31, 0xFFFFF
+        0x80001517, // auipc x10, 524289
+        0x001000EF, // jal x1, 2048
+        0x80000FEF, // jal x31, -1048576
+        0x7FFFF0EF, // jal x1, 1048574
+        0xFFC300E7, // jalr x1, -4(x6)
+        0x00418463, // beq x3, x4, 8
+        0x80A4D063, // bge x9, x10, -4096
+        0x7EC5EFE3, // bltu x11, x12, 4094
+        0xFFF10083, // lb x1, -1(x2)
+        0x7FF32283, // lw x5, 2047(x6)
+        0x00055483, // lhu x9, 0(x10)
+        0xFFFF0FA3, // sb x31, -0x1(x30)
+        0x80D72023, // sw x13, -2048(x14)
+        0x04100313, // addi x6, x0, 65
+        0x0FF57493, // andi x9, x10, 0x0fF
+        0x80012093, // slti x1, x2, -2048
+        0x01F61593, // slli x11, x12, 31
+        0x41185793, // srai x15, x16, 0017
+        0x40628233, // sub x4, x5, x6
+        0x01EEFE33, // and x28, x29, x30
+        0x03DF7FB3, // remu x31, x30, x29
+        0x0000000F, // fence
+        0x0000100F, // fence.i
+        0x00000073, // ecall
+        0x00100073, // ebreak
+        0x305110F3, // csrrw x1, 0x305, x2
+        0xC00021F3, // csrrs x3, 3072, x0
+        0x300FD373, // csrrwi x6, 0x300, 31
+        0x30047073, // csrrci x0, 0x300, 8
+        0x30200073, // mret
+        0x10500073, // wfi
+        0xFFFFFFFF, // .word 0xFFFFFFFF
+        0xFFFFFFFF, // .word -1
+        65, // .word 65
+        0x003100B3, // add x1 ,x2,  x3  # with blanks
+        0x023100B3, // a_1 : mul x1, x2, x3 # : no label
     ];
-    for (line, word) in lines {
-        assert!(rt; line.len() < 100);
-        let words = assemble(rt.alloc(), line)?;
-        assert_eq!(rt; words.as_slice(), [word].as_slice(), "at {line}");
-    }
-    Ok(())
-}
-
-#[test]
-fn labels_are_found_before_and_behind(rt: HostRuntime) -> Result<(), Fail> {
-    let text =
-        "# a program\n\n  jal x0, end\nback: beq x0, x0, back\n\t# between\nend: jal x0, back";
     let words = assemble(rt.alloc(), text)?;
-    assert_eq!(rt;
-        words.as_slice(),
-        [0x0080006F, 0x00000063, 0xFFDFF06F].as_slice()
-    );
-    let none = assemble(rt.alloc(), " \t\n#\n")?;
-    assert_eq!(rt; none.len(), 0);
+    assert_eq!(rt; words.as_slice(), meant.as_slice());
     Ok(())
 }
 
@@ -138,6 +165,6 @@ fn the_first_fault_of_a_text(rt: HostRuntime) {
     ];
     for (text, n, cause) in texts {
         assert!(rt; text.len() <= 100);
-        assert_eq!(rt; fault_of(rt.alloc(), text), Some((n, cause)), "at {text}");
+        assert_eq!(rt; fault_of(rt.alloc(), text), Some((n, cause)));
     }
 }

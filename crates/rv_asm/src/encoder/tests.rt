@@ -1,4 +1,4 @@
-//! Words from an assembler, and instructions that no word means.
+//! Words from an assembler.
 use super::*;
 use std::test::Fail;
 
@@ -74,38 +74,8 @@ fn each_row_goes_round(rt: HostRuntime) -> Result<(), Fail> {
     ];
     for word in words {
         let instr = decode(word).ok_or("means nothing")?;
-        assert!(rt; is_valid(&instr), "at {word:#x}");
+        assert!(rt; is_valid(&instr));
         assert_eq!(rt; encode(&instr), word);
     }
     Ok(())
-}
-
-#[test]
-fn fields_outside_their_format_are_not_valid(rt: HostRuntime) {
-    // name, rd, rs1, rs2, imm
-    let others = [
-        (Op::Addi, 32, 0, 0, 0), // no such register
-        (Op::Addi, 1, 1, 0, 2048), // one above the greatest immediate
-        (Op::Addi, 1, 1, 0, 0xFFFF_F7FF), // one below the least
-        (Op::Addi, 1, 1, 1, 0), // a field that the format lacks
-        (Op::Slli, 1, 1, 0, 32), // an amount of 32
-        (Op::Add, 1, 1, 1, 1), // an immediate in format R
-        (Op::Beq, 0, 1, 1, 1), // an odd offset
-        (Op::Beq, 0, 1, 1, 4096), // one beyond 13 bits
-        (Op::Jal, 1, 0, 0, 0x10_0000), // one beyond 21 bits
-        (Op::Sb, 1, 0, 0, 0), // a store with rd
-        (Op::Lui, 1, 0, 0, 1), // low bits
-        (Op::Csrrw, 1, 1, 0, 4096), // a number beyond 12 bits
-        (Op::Ecall, 1, 0, 0, 0), // a field of a fixed word
-    ];
-    for (op, rd, rs1, rs2, imm) in others {
-        let instr = Instr {
-            op,
-            rd,
-            rs1,
-            rs2,
-            imm,
-        };
-        assert!(rt; !is_valid(&instr), "at {instr:?}");
-    }
 }

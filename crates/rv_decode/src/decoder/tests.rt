@@ -73,8 +73,16 @@ fn words_of_an_assembler_mean_their_instructions(rt: HostRuntime) {
         (0x10500073, Op::Wfi, 0, 0, 0, 0), // wfi
     ];
     for (word, op, rd, rs1, rs2, imm) in words {
-        let instr = Instr::from_fields(op, rd, rs1, rs2, imm);
-        assert_eq!(rt; decode(word), Some(instr), "at {word:#x}");
+        assert_eq!(rt;
+            decode(word),
+            Some(Instr {
+                op,
+                rd,
+                rs1,
+                rs2,
+                imm
+            })
+        );
     }
 }
 
@@ -113,7 +121,6 @@ fn other_words_mean_nothing(rt: HostRuntime) {
         0x003170D3, // fadd.s f1, f2, f3
     ];
     for word in words {
-        assert_eq!(rt; decode(word), None, "at {word:#x}");
+        assert_eq!(rt; decode(word), None);
     }
-    rows_differ();
 }

@@ -12,7 +12,8 @@ ghost use Rattle.rv_hart.specs.Csr.{
   with_low,
 };
 
-use crate::bits::{INTERRUPT_BITS, is_set};
+use crate::bits::is_set;
+use crate::cause::INTERRUPT_BITS;
 use crate::csr::{CsrFault, Lines};
 use crate::hart::Hart;
 use crate::numbers;

@@ -1,15 +1,14 @@
-//! Trap entry and return, the choice of an interrupt, and the jump, which may trap.
+//! Trap entry and return, and the choice of an interrupt.
 ghost use Rattle.std.specs.Prelude.{◌≡◌, ◌%◌, ◌<◌, ◌==◌, ◌||◌, not, is_none, bit_and};
-ghost use Rattle.rv_hart.specs.Trap.{chosen, enter, interrupt, is_ready, jump, leave, most_urgent, target};
+ghost use Rattle.rv_hart.specs.Cause.{cause_of};
+ghost use Rattle.rv_hart.specs.Trap.{chosen, enter, interrupt, is_ready, leave, most_urgent, target};
 
 use crate::bits::{aligned, is_set};
+use crate::cause::{EXTERNAL_INTERRUPT, Exception, INTERRUPT, SOFTWARE_INTERRUPT, TIMER_INTERRUPT};
 use crate::hart::Hart;
 
-/// The bit of a cause that says that the trap is an interrupt.
-const INTERRUPT: u32 = 1 << 31;
-
-/// The interrupts of machine mode, the most urgent first: external, software, timer.
-const BY_PRIORITY: [u8; 3] = [11, 3, 7];
+/// The interrupts of machine mode, the most urgent first (Privileged ISA 3.1.9).
+const BY_PRIORITY: [u8; 3] = [EXTERNAL_INTERRUPT, SOFTWARE_INTERRUPT, TIMER_INTERRUPT];
 
 /// The most urgent of these interrupts.
 #[tactic(auto, unfolding(crate::specs::Trap::most_urgent))]
@@ -71,6 +70,13 @@ impl Hart {
         self.state.pc = target;
     }
 
+    /// Enters the trap of an exception, with what mtval is to show.
+    pub fn enter_exception(&mut self, exception: Exception, value: u32)
+        ensures { self.new ≡ enter self.old (cause_of exception) value }
+    {
+        self.enter_trap(exception.cause(), value);
+    }
+
     /// Enters the interrupt n, as one that `pending` gives.
     pub fn enter_interrupt(&mut self, n: u8)
         ensures { self.new ≡ interrupt self.old n }
@@ -86,23 +92,5 @@ impl Hart {
         self.state.pc = self.state.mepc;
         self.state.on = self.state.before;
         self.state.before = true;
-    }
-
-    /// Jumps to the target, with the pc of the next instruction in a register, and answers true. A
-    /// target that is not divisible by 4 is the exception of cause 0 in its place, and the answer
-    /// is false. The counters stay.
-    #[tactic(auto, unfolding(crate::specs::Trap::jump, crate::specs::Core::finish))]
-    pub fn jump(&mut self, rd: u8, target: u32) -> bool
-        requires { rd < 32 }
-        ensures core { self.new ≡ jump self.old rd target }
-        ensures arrived { result ≡ (target % 4 == 0) }
-    {
-        if target % 4 != 0 {
-            self.enter_trap(0, target);
-            return false;
-        }
-        self.finish(rd, self.pc().wrapping_add(4));
-        self.set_pc(target);
-        true
     }
 }

@@ -1,4 +1,4 @@
--- A run of whole quanta and the run behind it are one run.
+-- The rounds of both runs, one after another.
 use Rattle.lab_state.proofs.RunLemmas.{runs-join}
 use Rattle.lab_state.proofs.laws.runs_join.Goals as goal
 

@@ -1,33 +1,33 @@
--- One board more has made its run.
-use Rattle.std.proofs.Common.{◌≡◌, ◌∙◌, sym, ap, ◌<◌, ◌++◌, length, arith}
+-- One board more has taken its slots.
+use Rattle.std.proofs.Common.{◌≡◌, ◌∙◌, sym, ap, ◌+◌, ◌<◌, ◌++◌, length, set, get_or, arith}
+use Rattle.std.proofs.lemmas.List.Edits.{map_over_more}
 use Rattle.log_merge.specs.Merge.{all_entries}
-use Rattle.board.specs.Slot.{quiet}
-use Rattle.lab_state.specs.Made.{run_of}
-use Rattle.lab_state.proofs.RoundLemmas.{map_more, flat_more}
+use Rattle.lab_state.specs.Board.{Board}
+use Rattle.lab_state.specs.Round.{granted, stepped, posts_made, entries_made}
+use Rattle.lab_state.proofs.ListLemmas.{not_yet, flat_map_more}
 use Rattle.lab_state.proofs.round.step_all.Goals as goal
 
 pub loop-board-preserved : goal.loop-board-preserved
 loop-board-preserved c =
-    let below : c.loop-board.board-index < length c.loop-board.boards = omega arith in
-    let long : length c.loop-board.boards ≡ length c.args.boards.now = omega arith in
-    let before : c.loop-board.board-index < length c.args.boards.now = omega arith in
-    let run = run_of c.args.from.0 c.args.q in
-    let is = sym c.board-item.is in
-    let moved =
-    map_more (λ board. quiet (run board).view) c.loop-board.boards c.args.boards.now c.loop-board.board-index
-    c.board-item.result c.step_board.new.board below long c.loop-board.invariant.done c.loop-board.invariant.left
-    c.board-item.is (c.in_ok-step_board.ensures.board ∙ ap (λ board. quiet (run board).view) is) in
+    let grant = granted c.args.from.0 (c.args.from.0 + c.args.q) in
+    let i = c.loop-board.board-index in
+    let old = c.args.boards.now in
+    let item = c.board-item.result in
+    let below : c.loop-board.board-index < length c.args.boards.now = omega arith in
+    let same : get_or c.loop-board.boards i item ≡ get_or old i item =
+    ap (λ boards. get_or boards i item) c.loop-board.invariant.boards ∙ not_yet (stepped grant) old i item in
     record {
-      done = moved.0;
-      left = moved.1;
+      boards =
+          ap (set c.loop-board.boards i) (c.in_ok-step.ensures.board ∙ ap (stepped grant) (sym c.board-item.is))
+          ∙ map_over_more (stepped grant) old c.loop-board.boards i item below c.loop-board.invariant.boards
+          c.board-item.is;
       posts =
-          flat_more (λ board. (run board).posts) _ _ _ c.args.boards.now c.loop-board.board-index
-          c.board-item.result before moved.2 c.loop-board.invariant.posts
-          (c.in_ok-step_board.ensures.posts
-          ∙ ap (λ board. c.loop-board.made.posts.items ++ (run board).posts) is);
+          flat_map_more (posts_made grant) c.args.made.now.posts.items old i item below c.loop-board.invariant.posts
+          (c.in_ok-step.ensures.posts ∙ ap
+          (λ (board : Board). c.loop-board.made.posts.items ++ posts_made grant board) same);
       entries =
-          flat_more (λ board. (run board).entries) _ _ _ c.args.boards.now c.loop-board.board-index
-          c.board-item.result before moved.2 c.loop-board.invariant.entries
-          (c.in_ok-step_board.ensures.entries
-          ∙ ap (λ board. all_entries c.loop-board.made.entries.items ++ (run board).entries) is);
+          flat_map_more (entries_made grant)
+          (all_entries c.args.made.now.entries.items) old i item below c.loop-board.invariant.entries
+          (c.in_ok-step.ensures.entries ∙ ap
+          (λ (board : Board). all_entries c.loop-board.made.entries.items ++ entries_made grant board) same);
     }

@@ -1,13 +1,15 @@
 use Rattle.std.proofs.Common.{◌≡◌, List, [], ◌∷◌, ◌++◌, refl, append_assoc}
 use Rattle.log_merge.specs.declared.item.LogItem.{LogItem}
+use Rattle.log_merge.specs.declared.names.Names.{Names}
 use Rattle.lab_top.specs.Log.{Line, text, open_lines, opened}
 use Rattle.lab_top.proofs.laws.prints_join.Goals as goal
 
 text_joins :
-    (lines : List Line) (items more : List LogItem) →
-    text lines (items ++ more) ≡ text lines items ++ text (open_lines lines items) more
-text_joins lines [] more = refl
-text_joins lines (item ∷ items) more = rw (text_joins (opened lines item) items more, append_assoc) refl
+    (names : Names) (lines : List Line) (items more : List LogItem) →
+    text names lines (items ++ more) ≡ text names lines items ++ text names (open_lines lines items) more
+text_joins names lines [] more = refl
+text_joins names lines (item ∷ items) more =
+    rw (text_joins names (opened lines item) items more, append_assoc) refl
 
 open_joins :
     (lines : List Line) (items more : List LogItem) →
@@ -16,7 +18,7 @@ open_joins lines [] more = refl
 open_joins lines (item ∷ items) more = open_joins (opened lines item) items more
 
 pub returns-clause-text : goal.returns-clause-text
-returns-clause-text c = λ lines items more. text_joins lines items more
+returns-clause-text c = λ names lines items more. text_joins names lines items more
 
 pub returns-clause-open : goal.returns-clause-open
 returns-clause-open c = λ lines items more. open_joins lines items more

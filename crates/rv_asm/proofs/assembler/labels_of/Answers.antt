@@ -17,7 +17,8 @@ loop-line-preserved c =
             places =
                 places_more (texts c.args.lines.now) c.loop-line.line-index c.loop-line.address
                 (line_at c.args.lines.now c.loop-line.line-index)
-                (place_in c.loop-line.labels) (place_in w.add_label_of.new.labels) next (sym c.gives_word.ensures ∙ w.if-gives_word.true)
+                (place_in c.loop-line.labels) (place_in w.add_label_of.new.labels) next
+                (sym c.gives_word.ensures ∙ w.if-gives_word.true)
                 (w.in_ok-add_label_of.ensures {u = tt}) c.loop-line.invariant.places;
           })
       | else-gives_word w ↦
@@ -27,6 +28,7 @@ loop-line-preserved c =
             places =
                 places_blank (texts c.args.lines.now) c.loop-line.line-index c.loop-line.address
                 (line_at c.args.lines.now c.loop-line.line-index)
-                (place_in c.loop-line.labels) next (sym c.gives_word.ensures ∙ w.if-gives_word.false) c.loop-line.invariant.places;
+                (place_in c.loop-line.labels) next (sym c.gives_word.ensures ∙ w.if-gives_word.false)
+                c.loop-line.invariant.places;
           })
     ]

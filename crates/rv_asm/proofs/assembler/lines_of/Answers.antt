@@ -7,4 +7,5 @@ use Rattle.rv_asm.proofs.assembler.lines_of.Goals as goal
 pub returns : goal.returns
 returns c =
     map_from_collect _ c.collect.ensures.ran
-    (YieldsList-from_str_split 10 c.args.text.now (lit< tt) c.split.ensures.text c.split.ensures.has_more c.split.ensures.pattern)
+    (YieldsList-from_str_split 10 c.args.text.now (lit< tt) c.split.ensures.text c.split.ensures.has_more
+    c.split.ensures.pattern)

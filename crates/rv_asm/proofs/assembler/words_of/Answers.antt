@@ -13,7 +13,8 @@ returns-in_err-word c =
     let exit = err_from_is_err_and c.from_residual.result c.from_residual.ensures.1 in
     rw (exit.1, exit.2)
     (gives_fault c.in_err-word.field-0.0 _
-    (words_fault (place_in c.args.labels.now) (texts c.args.lines.now) c.loop-i.i c.loop-i.address (line_at c.args.lines.now c.loop-i.i)
+    (words_fault (place_in c.args.labels.now) (texts c.args.lines.now) c.loop-i.i c.loop-i.address
+    (line_at c.args.lines.now c.loop-i.i)
     c.loop-i.words.items c.in_err-word.field-0.0 next (sym c.gives_word.ensures ∙ c.if-gives_word.true)
     (sym (c.in_err-word.ensures {u = tt})) c.loop-i.invariant.words))
 

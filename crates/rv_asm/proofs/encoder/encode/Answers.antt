@@ -2,7 +2,7 @@
 use Rattle.std.proofs.Common.{◌≡◌, ◌∙◌, sym, subst, ℕ}
 use Rattle.std.specs.Prelude.{Some}
 use Rattle.rv_decode.specs.Means.{means}
-use Rattle.rv_asm.proofs.RoundTrip.{encoded-means}
+use Rattle.rv_asm.proofs.RoundTrip.{encoded-means, Some-is}
 use Rattle.rv_asm.proofs.encoder.encode.Goals as goal
 
 pub word_of-requires : goal.word_of-requires
@@ -10,12 +10,16 @@ word_of-requires c = c.valid_fits.ensures c.args.i.now c.requires
 
 pub returns-clause-meaning : goal.returns-clause-meaning
 returns-clause-meaning c =
-    let is =
-    c.word_of.ensures
-    ∙ encoded-means c.requires.0 c.args.i.now c.requires.1 c.rows_fix_bits.ensures c.requires.2 in
+    let encoded =
+    encoded-means c.requires.0 c.args.i.now c.requires.1 c.rows_differ.ensures.instructions
+    c.rows_match_fields.ensures c.requires.2 in
+    let is : c.word_of.result ≡ c.requires.0 = Some-is (sym c.word_of.ensures ∙ encoded) in
     let P : ℕ → Type 0 = λ word. means word ≡ Some c.args.i.now in
     subst P (sym is) c.requires.2
 
 pub returns-clause-inverse : goal.returns-clause-inverse
 returns-clause-inverse c =
-    λ word fits is. c.word_of.ensures ∙ encoded-means word c.args.i.now fits c.rows_fix_bits.ensures is
+    λ word fits is.
+    Some-is
+    (sym c.word_of.ensures ∙
+    encoded-means word c.args.i.now fits c.rows_differ.ensures.instructions c.rows_match_fields.ensures is)

@@ -5,5 +5,7 @@ use Rattle.rv_decode.specs.contracts.instruction.Op.{the_type}
 use Rattle.rv_asm.proofs.encoder.is_same_op.Goals as goal
 
 pub returns : goal.returns
-returns c =
-    (λ yes. same_true the_type (search rules) _ _ (sym c.eq.ensures ∙ yes), λ same. c.eq.ensures ∙ true_same the_type _ _ same)
+returns c = (
+  λ yes. same_true the_type (search rules) _ _ (sym c.eq.ensures ∙ yes),
+  λ same. c.eq.ensures ∙ true_same the_type _ _ same,
+)

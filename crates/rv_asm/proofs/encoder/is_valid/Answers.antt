@@ -3,14 +3,17 @@ use Rattle.std.proofs.Common.{◌≡◌, ◌∙◌, sym, subst, ℕ, false}
 use Rattle.std.specs.Prelude.{Some, IsTrue}
 use Rattle.std.proofs.lemmas.Bool.{false≢true}
 use Rattle.rv_decode.specs.Means.{means}
-use Rattle.rv_asm.proofs.RoundTrip.{encoded-means}
+use Rattle.rv_asm.proofs.RoundTrip.{encoded-means, Some-is}
 use Rattle.rv_asm.proofs.encoder.is_valid.Goals as goal
 
 pub returns-then-fits : goal.returns-then-fits
 returns-then-fits c = (
   λ yes. (c.word_of.result, c.word_of.type_inv, c.is_meant.ensures.0 yes),
   λ valid.
-      let is = c.word_of.ensures ∙ encoded-means valid.0 c.args.i.now valid.1 c.rows_fix_bits.ensures valid.2 in
+      let encoded =
+      encoded-means valid.0 c.args.i.now valid.1 c.rows_differ.ensures.instructions
+      c.rows_match_fields.ensures valid.2 in
+      let is : c.word_of.result ≡ valid.0 = Some-is (sym c.word_of.ensures ∙ encoded) in
       let P : ℕ → Type 0 = λ word. means word ≡ Some c.args.i.now in
       c.is_meant.ensures.1 (subst P (sym is) valid.2),
 )
@@ -18,5 +21,7 @@ returns-then-fits c = (
 pub returns-else-fits : goal.returns-else-fits
 returns-else-fits c =
     let f = c.if-fits.ensures {u = tt} in
-    let unfit : IsTrue c.fits.result → IsTrue false = λ yes. sym c.if-fits.false ∙ yes in
-    (λ yes. absurd (false≢true (unfit yes)), λ valid. absurd (false≢true (f.1 (c.valid_fits.ensures c.args.i.now valid))))
+    let unfit : IsTrue c.fits.result → IsTrue false = λ yes. sym c.if-fits.false ∙ yes in (
+      λ yes. absurd (false≢true (unfit yes)),
+      λ valid. absurd (false≢true (f.1 (c.valid_fits.ensures c.args.i.now valid))),
+    )

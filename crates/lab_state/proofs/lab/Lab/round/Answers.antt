@@ -1,35 +1,52 @@
 -- What the boards and the hubs come to in a round is what the laboratory comes to.
 use Rattle.std.proofs.Common.{◌≡◌, ◌∙◌, sym, ap, ◌+◌, ◌≤◌, length, false, arith}
-use Rattle.lab_state.proofs.RoundLemmas.{given_back, sound-round, seen_round, seen_items, never_paused}
+use Rattle.lab_state.specs.Lab.{Lab}
+use Rattle.lab_state.specs.Round.{round}
+use Rattle.lab_state.proofs.RoundLemmas.{given_back, sound-round, seen_round, round_items, never_paused}
 use Rattle.lab_state.proofs.lab.Lab.round.Goals as goal
 
 pub invariant_of-self-2 : goal.invariant_of-self-2
 invariant_of-self-2 c h =
+    let unspent : c.self.inside.spent ≡ false = c.if-self.false in
     let now : c.self.inside.time.0 ≡ c.args.self.now.lab.now = ap (λ s. s.lab.now) c.self.view_is in
-    let within : c.self.inside.time.0 + c.args.q ≤ 10000000000 = omega (arith, now, c.requires.within) in
-    let same : length c.play.new.boards ≡ length c.self.inside.boards.items =
-    omega (arith, c.deref_mut.ensures.len) in
-    rw (given_back c.play.new.boards c.self.inside.boards.items c.self.inside.boards.len (omega arith) same)
-    (sound-round c.self.inside.names.items c.self.inside.boards.items c.self.inside.hub_names.items c.self.inside.hubs c.self.inside.time.0
-    c.self.inside.quantum c.args.q c.play.new.boards _ (c.self.invariant h) same c.in-Ok.ensures.boards c.in-Ok.ensures.standing within)
+    let within : c.self.inside.time.0 + c.args.q ≤ 10000000000 =
+    omega (arith, now, c.requires.within (sym (ap (λ s. s.spent) c.self.view_is) ∙ unspent)) in
+    let made = rw c.deref_mut.ensures.value at c.in-Ok.ensures.boards in
+    rw (
+      given_back c.play.new.boards c.self.inside.boards.items c.self.inside.boards.len
+          (omega (arith, c.deref_mut.ensures.len)),
+      made,
+    )
+    (sound-round c.stretches_number.ensures
+    (record {
+      boards = c.self.inside.boards.items;
+      hubs = c.self.inside.hubs;
+      now = c.self.inside.time.0;
+      quantum =
+          c.self.inside.quantum;
+    })
+    c.args.q within (c.self.invariant unspent))
 
 pub returns-clause-lab : goal.returns-clause-lab
 returns-clause-lab c =
-    let same : length c.play.new.boards ≡ length c.self.inside.boards.items =
-    omega (arith, c.deref_mut.ensures.len) in
-    let unspent : c.self.inside.spent ≡ false = c.if-self.false in
     let made = rw c.deref_mut.ensures.value at c.in-Ok.ensures.boards in
-    seen_round c.args.self.now c.self.inside.names.items c.self.inside.boards.items
-    c.self.inside.hub_names.items c.self.inside.hubs c.self.inside.time.0
-    c.self.inside.quantum c.self.inside.spent c.args.q _ c.self.view_is unspent
-    (given_back c.play.new.boards c.self.inside.boards.items c.self.inside.boards.len (omega arith) same ∙ made)
+    seen_round c.args.self.now c.self.inside.boards.items c.self.inside.hubs c.self.inside.time.0
+    c.self.inside.quantum c.self.inside.spent c.args.q
+    c.self.view_is c.if-self.false
+    (given_back c.play.new.boards c.self.inside.boards.items c.self.inside.boards.len
+    (omega (arith, c.deref_mut.ensures.len)) ∙ made)
 
 pub returns-clause-lines : goal.returns-clause-lines
 returns-clause-lines c =
     c.of.ensures ∙ (rw c.deref_mut.ensures.value at c.in-Ok.ensures.items)
-    ∙ seen_items c.args.self.now c.self.inside.names.items c.self.inside.boards.items
-    c.self.inside.hub_names.items c.self.inside.hubs c.self.inside.time.0
-    c.self.inside.quantum c.self.inside.spent c.args.q c.self.view_is
+    ∙ sym (round_items (record {
+      boards = c.self.inside.boards.items;
+      hubs = c.self.inside.hubs;
+      now =
+          c.self.inside.time.0;
+      quantum = c.self.inside.quantum;
+    }) c.args.q)
+    ∙ ap (λ s. (round s.lab c.args.q).items) c.self.view_is
 
 pub returns-clause-paused : goal.returns-clause-paused
 returns-clause-paused c = sym (never_paused c.args.self.now.lab c.args.q)

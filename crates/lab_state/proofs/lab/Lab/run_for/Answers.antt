@@ -1,77 +1,19 @@
--- The rounds are those of the run.
-use Rattle.std.proofs.Common.{◌≡◌, ◌∙◌, sym, ap, ◌+◌, ◌/◌, ◌≤◌, List, None, false, arith}
-use Rattle.log_merge.specs.declared.item.LogItem.{LogItem}
-use Rattle.lab_state.specs.Came.{came_to}
-use Rattle.lab_state.specs.Round.{round}
-use Rattle.lab_state.specs.Run.{go_on, rounds, run}
-use Rattle.lab_state.proofs.RunLemmas.{rounds_none, rounds_more, rounds_now, room_for, room_left, ends_whole, ends_rest}
+-- The whole quanta and what is left are the run.
+use Rattle.std.proofs.Common.{◌≡◌, ap}
+use Rattle.lab_state.specs.Inner.Came.{came_to}
+use Rattle.lab_state.specs.Run.{run}
+use Rattle.lab_state.proofs.RunLemmas.{run_is}
 use Rattle.lab_state.proofs.lab.Lab.run_for.Goals as goal
-use Rattle.lab_state.proofs.lab.Lab.run_for.Goals.{then-rest-ne0+in_ok-run-2, else-rest-ne0}
 
-pub rounds-init : goal.rounds-init
-rounds-init c = record {
-  unspent = ap (λ s. s.spent) (sym c.self.view_is) ∙ c.if-self.false;
-  come =
-      ap (λ (lines : List LogItem). came_to c.args.self.now.lab (record { lines = lines; paused = None })) (c.of.ensures ∙ c.new.ensures.items)
-      ∙ rounds_none c.args.self.now.lab c.self.inside.quantum;
-}
-
-pub go_on-requires-clause-within : goal.go_on-requires-clause-within
-go_on-requires-clause-within c =
-    let now : c.self.inside.time.0 ≡ c.args.self.now.lab.now = ap (λ s. s.lab.now) c.self.view_is in
-    let time = (c.self.invariant c.if-self.false).time in
-    let within : c.args.self.now.lab.now + c.args.d.0 ≤ 10000000000 = omega arith in
-    let seen : c.rounds.self.lab.now ≡ (rounds round c.args.self.now.lab c.self.inside.quantum c.rounds.counter).lab.now =
-    ap (λ r. r.lab.now) c.rounds.invariant.come in
-    room_for c.args.self.now.lab.now c.self.inside.quantum c.args.d.0 c.rounds.counter c.rounds.self.lab.now
-    c.rounds-test.true within
-    (rw seen (rounds_now c.args.self.now.lab c.self.inside.quantum c.rounds.counter))
-
-pub rounds-preserved : goal.rounds-preserved
-rounds-preserved c = record {
-  unspent = c.in_ok-run.ensures.unspent;
-  come =
-      c.in_ok-run.ensures.ok ∙ ap (λ r. go_on round r c.self.inside.quantum) c.rounds.invariant.come
-      ∙ rounds_more c.args.self.now.lab c.self.inside.quantum c.rounds.counter;
-}
-
-pub go_on-requires-then-rest-ne0-clause-within : goal.go_on-requires-then-rest-ne0-clause-within
-go_on-requires-then-rest-ne0-clause-within c =
-    let now : c.self.inside.time.0 ≡ c.args.self.now.lab.now = ap (λ s. s.lab.now) c.self.view_is in
-    let time = (c.self.invariant c.if-self.false).time in
-    let within : c.args.self.now.lab.now + c.args.d.0 ≤ 10000000000 = omega arith in
-    let count : c.rounds.counter ≡ c.args.d.0 / c.self.inside.quantum = omega arith in
-    let seen : c.rounds.self.lab.now ≡ (rounds round c.args.self.now.lab c.self.inside.quantum c.rounds.counter).lab.now =
-    ap (λ r. r.lab.now) c.rounds.invariant.come in
-    room_left c.args.self.now.lab.now c.self.inside.quantum c.args.d.0 c.rounds.self.lab.now within
-    (rw (seen, count) (rounds_now c.args.self.now.lab c.self.inside.quantum (c.args.d.0 / c.self.inside.quantum)))
-
--- the run has come to its end
 ended :
-    (c : goal.Joined-rest-ne0) →
-    came_to c.if-rest-ne0.self.lab c.if-rest-ne0.run ≡ run c.args.self.now.lab c.args.d.0
+    (c : goal.In_ok-run-2) →
+    came_to c.what_is_left.new.self.lab c.in_ok-run-2.run' ≡ run c.args.self.now.lab c.args.d.0
 ended c =
-    let same : c.self.inside.quantum ≡ c.args.self.now.lab.quantum = ap (λ s. s.lab.quantum) c.self.view_is in
-    let count : c.rounds.counter ≡ c.args.d.0 / c.self.inside.quantum = omega arith in
-    elim c.if-rest-ne0.branch [
-      | then-rest-ne0+in_ok-run-2 w ↦
-          (λ i. came_to (w.self-is i).lab (w.run-is i))
-          ∙ ends_rest c.args.self.now.lab c.self.inside.quantum c.args.d.0 c.rounds.counter (came_to c.rounds.self.lab c.rounds.run) _ same count w.if-rest-ne0.true c.rounds.invariant.come
-          w.in_ok-run-2.ensures.ok
-      | else-rest-ne0 w ↦
-          (λ i. came_to (w.self-is i).lab (w.run-is i))
-          ∙ ends_whole c.args.self.now.lab c.self.inside.quantum c.args.d.0 c.rounds.counter (came_to c.rounds.self.lab c.rounds.run) same count w.if-rest-ne0.false c.rounds.invariant.come
-    ]
-
-still_unspent : (c : goal.Joined-rest-ne0) → c.if-rest-ne0.self.spent ≡ false
-still_unspent c =
-    elim c.if-rest-ne0.branch [
-      | then-rest-ne0+in_ok-run-2 w ↦ ap (λ s. s.spent) w.self-is ∙ w.in_ok-run-2.ensures.unspent
-      | else-rest-ne0 w ↦ ap (λ s. s.spent) w.self-is ∙ c.rounds.invariant.unspent
-    ]
+    run_is c.args.self.now.lab c.args.d.0 (ap (λ s. s.lab.quantum) c.self.view_is) c.in_ok-run.ensures.ok
+    c.in_ok-run-2.ensures.ok
 
 pub returns-clause-lab : goal.returns-clause-lab
-returns-clause-lab c = λ i. record { lab = (ended c i).lab; spent = still_unspent c i }
+returns-clause-lab c = λ i. record { lab = (ended c i).lab; spent = c.in_ok-run-2.ensures.unspent i }
 
 pub returns-clause-lines : goal.returns-clause-lines
 returns-clause-lines c = ap (λ r. r.items) (ended c)

@@ -1,4 +1,4 @@
--- A member that stood in no hub stands once.
+-- A member that was in no hub is in the hubs once.
 use Rattle.std.proofs.Common.{◌≡◌, ◌∙◌, ◌<◌, [], false, length, slice_index_or, ap, sym}
 use Rattle.std.proofs.lemmas.List.{get_or_default}
 use Rattle.lab_num.specs.Route.{is_connected}

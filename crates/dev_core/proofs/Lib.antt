@@ -1,0 +1,3 @@
+-- Lemmas of dev_core.
+mod RowLemmas
+mod StockLemmas

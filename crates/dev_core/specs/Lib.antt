@@ -1,0 +1,12 @@
+-- What the contracts of dev_core, of the devices and of the crates above them cite.
+pub mod Answered
+pub mod Bit
+pub mod Can
+pub mod Device
+pub mod Finisher
+pub mod Frame
+pub mod Inner
+pub mod Post
+pub mod Stock
+pub mod Uart
+pub mod UartBits

@@ -1,0 +1,70 @@
+//! Up to thirty-two frames in a row of fixed size.
+ghost use Rattle.std.specs.Prelude.{◌≡◌, ◌≤◌, ◌<◌, [], ◌∷◌, ◌++◌, length};
+
+use crate::frame::Frame;
+use std::marker::Model;
+
+/// Up to thirty-two frames, which contracts see as their list.
+#[derive(Clone, Copy, PartialEq, Eq, Debug)]
+pub struct FrameRow {
+    frames: [Frame; 32],
+    count: usize,
+}
+
+impl Model for FrameRow {
+    ghost use Rattle.std.specs.Prelude.{List};
+    ghost use Rattle.dev_core.specs.Frame.{FrameData};
+
+    ghost Value = { List FrameData };
+
+    ghost use Rattle.dev_core.specs.Inner.FrameRow.{frames_of, row_of, IsRow, row_of-frames_of};
+
+    ghost view = { frames_of };
+
+    ghost invariant = { IsRow };
+
+    ghost inverse = { row_of };
+
+    ghost inverse_ok = { row_of-frames_of };
+}
+
+impl FrameRow {
+    /// No frames.
+    pub fn new() -> FrameRow
+        ensures { result ≡ [] }
+    {
+        FrameRow {
+            frames: [Frame::new(0, &[]); 32],
+            count: 0,
+        }
+    }
+
+    /// These frames.
+    pub fn of(frames: &[Frame]) -> FrameRow
+        requires { length frames.now ≤ 32 }
+        ensures { result ≡ frames.now }
+    {
+        let mut row = FrameRow::new();
+        for &frame in frames {
+            row.push(frame);
+        }
+        row
+    }
+
+    /// The frames in their order.
+    pub fn items(&self) -> &[Frame]
+        ensures items { result.now ≡ self.now }
+        ensures fits { length result.now ≤ 32 }
+    {
+        &self.frames[..self.count]
+    }
+
+    /// Puts a frame at the end.
+    pub fn push(&mut self, frame: Frame)
+        requires { length self.old < 32 }
+        ensures { self.new ≡ self.old ++ frame ∷ [] }
+    {
+        self.frames[self.count] = frame;
+        self.count += 1;
+    }
+}

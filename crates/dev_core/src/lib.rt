@@ -1,0 +1,30 @@
+//! What all devices of a board share: their states, what they send and take, what each call does,
+//! and the trait by which a board uses them.
+#![tactic(auto)]
+
+mod byte_row;
+mod can_state;
+mod device;
+mod frame;
+mod frame_row;
+mod kind;
+mod payload;
+mod post;
+mod state;
+mod stock;
+mod uart_state;
+
+pub use byte_row::ByteRow;
+pub use can_state::CanState;
+pub use device::Device;
+pub use frame::Frame;
+pub use frame_row::FrameRow;
+pub use kind::Kind;
+pub use payload::{Effect, Finish, Payload, Taken};
+pub use post::{Entry, Post, What};
+pub use state::{DevState, is_valid_state};
+pub use stock::Stock;
+pub use uart_state::UartState;
+
+#[cfg(test)]
+mod tests;

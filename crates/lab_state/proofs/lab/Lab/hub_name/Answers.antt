@@ -1,0 +1,9 @@
+-- No two hubs have one name.
+use Rattle.std.proofs.Common.{◌≡◌, ◌∙◌, ap, false}
+use Rattle.lab_state.proofs.SoundLemmas.{hub-found}
+use Rattle.lab_state.proofs.lab.Lab.hub_name.Goals as goal
+
+pub returns-clause-found : goal.returns-clause-found
+returns-clause-found c =
+    let unspent : c.self.inside.spent ≡ false = ap (λ s. s.spent) c.self.view_is ∙ c.requires.unspent in
+    rw (← c.self.view_is) (hub-found _ c.args.n c.head.result.now.name (c.self.invariant unspent) c.head.ensures.name)

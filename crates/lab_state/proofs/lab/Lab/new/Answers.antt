@@ -1,0 +1,6 @@
+-- There is nothing yet.
+use Rattle.lab_state.proofs.SoundLemmas.{sound-new}
+use Rattle.lab_state.proofs.lab.Lab.new.Goals as goal
+
+pub invariant_of-result : goal.invariant_of-result
+invariant_of-result c h = rw (c.new.ensures.items, c.new-2.ensures) sound-new

@@ -1,0 +1,147 @@
+//! The hubs of a laboratory.
+ghost use Rattle.std.specs.Prelude.{◌≡◌, ◌+◌, ◌^◌, ◌<◌, ◌↔◌, ◌++◌, ◌∷◌, [], length, position, slice_get, Some, IsTrue, OnOk, OnErr, IfOk};
+ghost use Rattle.std.specs.Option.{option_map};
+ghost use Rattle.std.specs.Str.{bytes_eq};
+ghost use Rattle.lab_num.specs.Route.{StandOnce, is_connected};
+ghost use Rattle.lab_num.specs.Route as routes;
+ghost use Rattle.lab_state.specs.Change.{change_at};
+ghost use Rattle.lab_state.specs.Hub.{members_of};
+ghost use Rattle.lab_state.specs.One.{with_member};
+
+use lab_num::{Kind, Member, NoMemory, Text};
+use std::alloc::Global;
+use std::marker::Model;
+use uart_hub::{HubFault, UartHubs};
+
+/// The name of a hub, and the kind of devices that it connects.
+#[derive(Drop)]
+pub struct HubName {
+    pub name: Text,
+    pub kind: Kind,
+}
+
+/// The hubs in order of creation. The members of those that connect UARTs stand apart.
+#[derive(Drop)]
+pub struct HubList {
+    names: Vec<HubName>,
+    uarts: UartHubs,
+}
+
+impl Model for HubList {
+    ghost use Rattle.std.specs.Prelude.{◌≡◌, ◌<◌, ◌^◌, List, length};
+    ghost use Rattle.lab_state.specs.Hub.{Hub};
+    ghost use Rattle.lab_state.specs.Inner.Hubs.{hubs_of};
+
+    ghost Value = { List Hub };
+
+    ghost view = { λ h. hubs_of h.names.items h.uarts };
+
+    ghost invariant = { λ h. (length h.names.items ≡ length h.uarts)
+        × (length h.uarts < 2 ^ 32) };
+}
+
+/// The number of the first of these that has the name.
+fn number_of(hubs: &[HubName], name: &str) -> Option<usize>
+    ensures { result ≡ position (λ hub. bytes_eq hub.name name.now) hubs.now }
+{
+    hubs.iter().position(|hub| hub.name.as_str() == name)
+}
+
+/// Puts a name at the end of the names and makes a hub, or neither.
+fn create_both(
+    names: &mut Vec<HubName>,
+    uarts: &mut UartHubs,
+    name: HubName,
+) -> Result<(), NoMemory>
+    requires { length uarts.old + 1 < 2 ^ 32 }
+    ensures name { OnOk result (names.new.items ≡ names.old.items ++ name ∷ []) }
+    ensures hub { OnOk result (uarts.new ≡ uarts.old ++ [] ∷ []) }
+    ensures no_name { OnErr result (names.new.items ≡ names.old.items) }
+    ensures no_hub { OnErr result (uarts.new ≡ uarts.old) }
+{
+    names.push(name)?;
+    if uarts.create().is_err() {
+        let _ = names.pop();
+        return Err(NoMemory);
+    }
+    Ok(())
+}
+
+impl HubList {
+    ghost use Rattle.lab_num.specs.declared.kind.Kind.TheVariants.{Uart};
+
+    pub fn new(alloc: Global) -> HubList
+        ensures { result ≡ [] }
+    {
+        HubList {
+            names: Vec::new(alloc),
+            uarts: UartHubs::new(alloc),
+        }
+    }
+
+    pub fn len(&self) -> u32
+        ensures { result ≡ length self.now }
+    {
+        self.names.len() as u32
+    }
+
+    /// The number of the first hub of this name.
+    pub fn find(&self, name: &str) -> Option<usize>
+        ensures { result ≡ position (λ hub. bytes_eq hub.name name.now) self.now }
+    {
+        number_of(&self.names, name)
+    }
+
+    /// The name and the kind of a hub.
+    pub fn head(&self, n: u32) -> &HubName
+        requires { n < length self.now }
+        ensures name { Some result.now.name
+            ≡ option_map (λ hub. hub.name) (slice_get self.now n) }
+        ensures kind { Some result.now.kind
+            ≡ option_map (λ hub. hub.kind) (slice_get self.now n) }
+    {
+        &self.names[n as usize]
+    }
+
+    /// The members of a hub, in order of connection.
+    pub fn members(&self, n: u32) -> &[Member]
+        requires { n < length self.now }
+        ensures value { Some result.now ≡ option_map (λ hub. hub.members) (slice_get self.now n) }
+        ensures once { StandOnce (members_of self.now) }
+    {
+        self.uarts.members(n)
+    }
+
+    /// Creates a hub that connects UARTs, without members.
+    pub fn create_uart_hub(&mut self, name: Text) -> Result<(), NoMemory>
+        requires { length self.old + 1 < 2 ^ 32 }
+        ensures ok { OnOk result (self.new
+            ≡ self.old ++ record { name = name; kind = Uart; members = [] } ∷ []) }
+        ensures err { OnErr result (self.new ≡ self.old) }
+    {
+        let hub = HubName {
+            name,
+            kind: Kind::Uart,
+        };
+        create_both(&mut self.names, &mut self.uarts, hub)?;
+        Ok(())
+    }
+
+    /// Puts a member at the end of a hub.
+    pub fn connect(&mut self, n: usize, member: Member) -> Result<(), HubFault>
+        requires { n < length self.old }
+        ensures ok { OnOk result (self.new ≡ change_at self.old n (with_member member)) }
+        ensures already { (result ≡ Err HubFault.Already)
+            ↔ IsTrue (is_connected (members_of self.old) member) }
+        ensures err { OnErr result (self.new ≡ self.old) }
+    {
+        self.uarts.connect(n as u32, member)
+    }
+
+    /// The other members of the hub of `from`, in order of connection.
+    pub fn route(&self, from: Member) -> Result<Vec<Member>, NoMemory>
+        ensures { IfOk result (λ list. list.items ≡ routes.route (members_of self.now) from) }
+    {
+        self.uarts.route(from)
+    }
+}

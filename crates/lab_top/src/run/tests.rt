@@ -1,0 +1,50 @@
+//! Commands that print.
+use super::*;
+use lab_io::MemSink;
+use lab_num::NoMemory;
+use lab_state::Lab;
+use std::test::Fail;
+
+/// `lui x5, 0x10000`, `addi x6, x0, 65`, `sb x6, 0(x5)`, `addi x6, x0, 10`, `sb x6, 0(x5)`,
+/// `jal x0, -16`: sends a line of one `A` every five microseconds, the first in slot 4.
+const LINES_OF_A: [u8; 24] = [
+    0xB7, 0x02, 0x00, 0x10, 0x13, 0x03, 0x10, 0x04, 0x23, 0x80, 0x62, 0x00, 0x13, 0x03, 0xA0, 0x00,
+    0x23, 0x80, 0x62, 0x00, 0x6F, 0xF0, 0x1F, 0xFF,
+];
+
+/// A laboratory of one board that sends lines.
+fn lab_of_lines(alloc: Global) -> Result<Lab, NoMemory>
+    ensures { IfOk result (λ lab. lab.spent ≡ false) }
+{
+    let mut lab = Lab::new(alloc)?;
+    let Ok(board) = lab.add_board("m0") else {
+        return Err(NoMemory);
+    };
+    let Ok(()) = lab.create_uart_hub("hub") else {
+        return Err(NoMemory);
+    };
+    board::early_memory_is_64_kib();
+    builtin::equip(&mut lab, board, &LINES_OF_A)?;
+    Ok(lab)
+}
+
+#[test]
+fn what_a_command_prints_is_written_before_the_next_is_taken(rt: HostRuntime) -> Result<(), Fail> {
+    // The write that fails, the number of the status, and what was written before.
+    let first = "[0.000004] m0/uart: A\n";
+    let both = "[0.000004] m0/uart: A\n[0.000009] m0/uart: A\n";
+    let rows = [(0, 5, ""), (1, 5, first), (2, 0, both)];
+    let alloc = rt.alloc();
+    for (call, number, written) in rows {
+        let lab = lab_of_lines(alloc)?;
+        let script = b"emulation RunFor \"0.000005\"\nemulation RunFor \"0.000005\"\n";
+        let bytes = Vec::from_slice(alloc, script)?;
+        let mut session = Session::new(alloc, lab, Text::of(alloc, "s.resc")?, bytes);
+        let mut out = MemSink::new(alloc, 4096);
+        out.fail_at(call)?;
+        let status = take_commands(alloc, &mut session, &mut out);
+        assert_eq!(rt; status.number(), number);
+        assert_eq!(rt; out.bytes(), written.as_bytes());
+    }
+    Ok(())
+}

@@ -1,0 +1,10 @@
+-- The keys of two boards differ.
+use Rattle.std.proofs.Common.{refl}
+use Rattle.std.specs.List.{IsDistinct}
+use Rattle.log_merge.proofs.merge.tests.entries_of_one_microsecond_come_in_order_of_board.Goals as goal
+
+pub merge_entries-requires : goal.merge_entries-requires
+unfolding IsDistinct
+merge_entries-requires g c =
+    rw (c.in_ok-lists.ensures.items, c.in_ok-first.ensures.items, c.in_ok-second.ensures.items)
+    (rw (c.entry-a.ensures, c.entry-b.ensures, c.key.ensures, c.key-2.ensures) ((refl, tt), (tt, tt)))

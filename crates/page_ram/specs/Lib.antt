@@ -1,0 +1,4 @@
+-- What contracts of page_ram and of the crates above cite.
+pub mod LittleEndian
+pub mod Bytes
+pub mod Access

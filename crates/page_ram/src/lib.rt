@@ -1,0 +1,12 @@
+//! The memory of a board: bytes that are loaded and stored as little-endian numbers.
+#![tactic(auto)]
+
+mod laws;
+mod number;
+mod ram;
+
+pub use laws::aligned_numbers_lie_in_one_page;
+pub use ram::PageRam;
+
+#[cfg(test)]
+mod tests;
