@@ -61,19 +61,25 @@ fn board_with(alloc: Global, text: &str) -> Option<Board> {
     Some(board)
 }
 
-/// How many instructions a board retires in the task's slots, if they end within the longest lab
-/// time.
-fn retired(alloc: Global, task: Task) -> Option<u64> {
-    let mut board = board_with(alloc, task.text)?;
-    if task.slots / u64::from(board.speed()) > MOST_MICROS {
+/// How many instructions a board has retired after so many slots, if they end within the longest
+/// lab time. It stands apart from its caller, so that it is compiled for any board.
+#[inline(never)]
+fn retired_in(board: &mut Board, slots: u64) -> Option<u64> {
+    if slots / u64::from(board.speed()) > MOST_MICROS {
         return None;
     }
     let start = SlotAt {
         from: Micros(0),
         first: 0,
     };
-    let _ = board.turn(start, task.slots);
+    let _ = board.turn(start, slots);
     Some(board.retired())
+}
+
+/// Does a task, and answers how many instructions were retired.
+fn done(alloc: Global, task: Task) -> Option<u64> {
+    let mut board = board_with(alloc, task.text)?;
+    retired_in(&mut board, task.slots)
 }
 
 fn main(rt: HostRuntime) -> io::Result<ExitCode> {
@@ -81,7 +87,7 @@ fn main(rt: HostRuntime) -> io::Result<ExitCode> {
         println!(rt; "{USAGE}")?;
         return Ok(ExitCode::from(2));
     };
-    let Some(retired) = retired(rt.alloc(), task) else {
+    let Some(retired) = done(rt.alloc(), task) else {
         return Ok(ExitCode::from(1));
     };
     println!(rt; "{} {} {}", task.name, task.slots, retired)?;
