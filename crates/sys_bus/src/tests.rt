@@ -1,0 +1,2 @@
+//! Plans by tables.
+use super::*;
