@@ -1,5 +1,4 @@
 -- What contracts of sys_bus and of the crates above cite.
-pub mod Differ
 pub mod Region
 pub mod Name
 pub mod Part

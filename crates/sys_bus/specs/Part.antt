@@ -48,11 +48,16 @@ abbrev pub names_part : ℕ → ℕ → NamedWhat → Bool
 names_part memories devices Cpu = true
 names_part memories devices (Part kind) = is_part memories devices kind
 
+abbrev pub all_name_parts : ℕ → ℕ → List Named → Bool
+all_name_parts memories devices names = list_all (λ n. names_part memories devices n.what) names
+
+abbrev pub all_hold_parts : ℕ → ℕ → List Region → Bool
+all_hold_parts memories devices regions = list_all (λ region. is_part memories devices region.kind) regions
+
 -- there is no further name or region
 abbrev pub has_no_others : List Named → List Region → ℕ → ℕ → Bool
 has_no_others names regions memories devices =
-    list_all (λ n. names_part memories devices n.what) names
-    && list_all (λ region. is_part memories devices region.kind) regions
+    all_name_parts memories devices names && all_hold_parts memories devices regions
 
 -- a region of the part is there
 abbrev pub has_region : List Region → RegionKind → Bool

@@ -1,5 +1,5 @@
 -- Regions of addresses, and which one an access belongs to.
-use Rattle.std.specs.Prelude.{◌≡◌, ℕ, ◌+◌, ◌-◌, ◌^◌, ◌==◌, ◌<◌, ◌≤◌, ◌⊎◌, nat_lt, nat_le, min, max, Bool, true, false, ◌&&◌, List, filter, find, Any, IsTrue, Option, None, Some}
+use Rattle.std.specs.Prelude.{◌≡◌, ℕ, ◌+◌, ◌-◌, ◌^◌, ◌==◌, ◌≤◌, ◌⊎◌, nat_lt, nat_le, min, max, Bool, true, false, ◌&&◌, List, find, count_by, Any, Option, None, Some}
 use Rattle.std.specs.List.{list_all}
 use Rattle.sys_bus.specs.declared.region.RegionKind.{RegionKind}
 use Rattle.sys_bus.specs.declared.region.RegionKind.TheVariants.{Ram, Clint, Plic, Dev}
@@ -7,7 +7,6 @@ use Rattle.sys_bus.specs.declared.region.Region.{Region}
 use Rattle.sys_bus.specs.declared.region.Target.{Target}
 use Rattle.sys_bus.specs.declared.region.Target.TheVariants.{Nothing}
 use Rattle.sys_bus.specs.declared.region.Target.TheVariants as to
-use Rattle.sys_bus.specs.Differ.{no_two}
 
 -- the same memory, timer, interrupt controller or device
 abbrev pub same_part : RegionKind → RegionKind → Bool
@@ -29,9 +28,12 @@ holds at width region = nat_le region.base at && nat_le (at + width) (end_of reg
 abbrev pub overlaps : Region → Region → Bool
 overlaps a b = nat_lt (max a.base b.base) (min (end_of a) (end_of b))
 
--- no byte lies in two regions
+-- no byte lies in two regions: each overlaps at most one of them, itself
+abbrev pub count_of_overlaps : List Region → Region → ℕ
+count_of_overlaps regions region = count_by (overlaps region) regions
+
 abbrev pub are_apart : List Region → Bool
-are_apart regions = no_two overlaps regions
+are_apart regions = list_all (λ region. nat_le (count_of_overlaps regions region) 1) regions
 
 -- all bytes have addresses of 32 bits
 abbrev pub are_addressed : List Region → Bool

@@ -1,6 +1,5 @@
 //! How many parts a board has, how large they are, and the ranges of its numbers.
-ghost use Rattle.std.specs.Prelude.{◌≡◌, ◌<◌, sum};
-ghost use Rattle.std.specs.List.{list_all};
+ghost use Rattle.std.specs.Prelude.{◌≡◌, ◌<◌, ◌≤◌, length, sum};
 ghost use Rattle.sys_bus.specs.Limits as limit;
 
 use crate::plan::PlicSize;
@@ -69,25 +68,27 @@ fn count_of(kinds: &[Kind], kind: Kind) -> usize
 
 /// Whether there are no more UARTs, CAN controllers and finishers than a board may have.
 pub(crate) fn are_few_devices(kinds: &[Kind]) -> bool
-    ensures value { result ≡ limit.are_few_devices kinds.now }
+    ensures { result ≡ limit.are_few_devices kinds.now }
 {
     count_of(kinds, Kind::Uart) <= MOST_UARTS
         && count_of(kinds, Kind::Can) <= MOST_CANS
         && count_of(kinds, Kind::Finisher) <= MOST_FINISHERS
 }
 
+/// The bytes of all memories together.
+fn bytes_of(memories: &[u32]) -> u64
+    requires { length memories.now ≤ 8 }
+    ensures { result ≡ sum memories.now }
+{
+    memories.iter().map(|&size| u64::from(size)).sum()
+}
+
 /// Whether there are 1 to 8 memories, of together at most 64 MiB.
 pub(crate) fn are_few_memories(memories: &[u32]) -> bool
     ensures { result ≡ limit.are_few_memories memories.now }
 {
-    if memories.is_empty() || memories.len() > MOST_MEMORIES {
-        return false;
-    }
-    let mut bytes: u64 = 0;
-    for &size in memories {
-        bytes += u64::from(size);
-    }
-    bytes <= MOST_MEMORY
+    let count = memories.len();
+    1 <= count && count <= MOST_MEMORIES && bytes_of(memories) <= MOST_MEMORY
 }
 
 pub(crate) fn is_speed(speed: u32) -> bool

@@ -88,6 +88,20 @@ fn names_part(memories: usize, devices: usize, what: NamedWhat) -> bool
     }
 }
 
+fn all_name_parts(memories: usize, devices: usize, names: &[Named]) -> bool
+    ensures { result ≡ part_spec.all_name_parts memories devices names.now }
+{
+    names.iter().all(|n| names_part(memories, devices, n.what))
+}
+
+fn all_hold_parts(memories: usize, devices: usize, regions: &[Region]) -> bool
+    ensures { result ≡ part_spec.all_hold_parts memories devices regions.now }
+{
+    regions
+        .iter()
+        .all(|region| is_part(memories, devices, region.kind))
+}
+
 /// Whether no name and no region is that of a memory or a device beyond so many.
 pub(crate) fn has_no_others(
     names: &[Named],
@@ -97,10 +111,7 @@ pub(crate) fn has_no_others(
 ) -> bool
     ensures { result ≡ part_spec.has_no_others names.now regions.now memories devices }
 {
-    names.iter().all(|n| names_part(memories, devices, n.what))
-        && regions
-            .iter()
-            .all(|region| is_part(memories, devices, region.kind))
+    all_name_parts(memories, devices, names) && all_hold_parts(memories, devices, regions)
 }
 
 pub(crate) fn has_region(regions: &[Region], part: RegionKind) -> bool

@@ -1,23 +1,27 @@
 //! The regions of a board.
 ghost use Rattle.std.specs.Prelude.{◌≡◌, ℕ, ◌<◌, ◌≤◌, List, length, filter, IsTrue};
 ghost use Rattle.sys_bus.specs.declared.region.Region.{Region};
-ghost use Rattle.sys_bus.specs.Region.{holds, overlaps, are_apart, are_addressed, target_of, IsWithin, IsWidth};
+ghost use Rattle.sys_bus.specs.Region.{holds, overlaps, count_of_overlaps, are_apart, are_addressed, target_of, IsWithin, IsWidth};
 
 use crate::region::{Region, Target};
 use std::marker::Model;
+
+fn count_of_overlaps(regions: &[Region], region: &Region) -> usize
+    ensures { result ≡ count_of_overlaps regions.now region.now }
+{
+    regions
+        .iter()
+        .filter(|other| region.overlaps(other))
+        .count()
+}
 
 /// Whether no byte lies in two regions.
 pub(crate) fn are_apart(regions: &[Region]) -> bool
     ensures { result ≡ are_apart regions.now }
 {
-    let mut rest = regions;
-    while let [first, others @ ..] = rest {
-        if others.iter().any(|other| first.overlaps(other)) {
-            return false;
-        }
-        rest = others;
-    }
-    true
+    regions
+        .iter()
+        .all(|region| count_of_overlaps(regions, region) <= 1)
 }
 
 /// Whether the last byte of each region has an address of 32 bits.
