@@ -1,0 +1,37 @@
+-- The names of a platform's entries.
+use Rattle.std.specs.Prelude.{ℕ, Bool, false, true, ◌==◌, ◌&&◌, ◌||◌, not, List, count_by, slice_index}
+use Rattle.std.specs.Char.{is_ascii_alphabetic, is_ascii_alphanumeric}
+use Rattle.std.specs.List.{list_all}
+use Rattle.std.specs.Str.{byte, bytes_eq}
+use Rattle.sys_bus.specs.declared.plan.NamedWhat.{NamedWhat}
+use Rattle.sys_bus.specs.declared.plan.NamedWhat.TheVariants.{Cpu, Part}
+use Rattle.sys_bus.specs.declared.plan.Named.{Named}
+
+-- an ASCII letter or digit, or `_`
+abbrev pub is_entry_byte : ℕ → Bool
+is_entry_byte b = is_ascii_alphanumeric b || b == byte "_"
+
+-- letters, digits and `_`, of which the first is a letter
+abbrev pub is_entry_name : List ℕ → Bool
+is_entry_name name = is_ascii_alphabetic (slice_index name 0) && list_all is_entry_byte name
+
+abbrev pub are_names : List Named → Bool
+are_names names = list_all (λ n. is_entry_name n.name) names
+
+-- each name stands there once
+abbrev pub names_differ : List Named → Bool
+names_differ names = list_all (λ n. count_by (λ other. bytes_eq other.name n.name) names == 1) names
+
+abbrev pub is_processor : NamedWhat → Bool
+is_processor Cpu = true
+is_processor (Part kind) = false
+
+-- one entry alone is a processor, and a processor has this name
+abbrev pub count_of_processors : List Named → ℕ
+count_of_processors names = count_by (λ n. is_processor n.what) names
+
+abbrev pub are_processors_named : List ℕ → List Named → Bool
+are_processors_named cpu names = list_all (λ n. not (is_processor n.what) || bytes_eq n.name cpu) names
+
+abbrev pub has_one_processor : List ℕ → List Named → Bool
+has_one_processor cpu names = (count_of_processors names == 1) && are_processors_named cpu names

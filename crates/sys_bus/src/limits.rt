@@ -1,0 +1,203 @@
+//! How many parts a board has, how large they are, and the ranges of its numbers.
+ghost use Rattle.std.specs.Prelude.{◌≡◌, ◌<◌, ◌≤◌, length, sum};
+ghost use Rattle.sys_bus.specs.Limits as limit;
+
+use crate::plan::PlicSize;
+use crate::region::{Region, RegionKind};
+use dev_core::Kind;
+
+pub const MOST_UARTS: usize = 4;
+
+pub const MOST_CANS: usize = 4;
+
+pub const MOST_FINISHERS: usize = 1;
+
+pub const MOST_MEMORIES: usize = 8;
+
+/// The most bytes of all memories together: 64 MiB.
+pub const MOST_MEMORY: u64 = 67_108_864;
+
+/// A memory has whole pages, at least one.
+pub const PAGE_SIZE: u32 = 4096;
+
+/// The most instructions in a microsecond.
+pub const MOST_SPEED: u32 = 1000;
+
+/// The most ticks of the timer in a second.
+pub const MOST_FREQUENCY: u32 = 1_000_000_000;
+
+pub const MOST_SOURCES: u8 = 127;
+
+pub const MOST_CONTEXTS: u8 = 15;
+
+/// Addresses and sizes of regions are multiples of this.
+pub const REGION_UNIT: u32 = 4;
+
+/// The fewest bytes of the region of a timer, up to the last word of mtime.
+pub const LEAST_CLINT: u32 = 0xC000;
+
+/// The fewest bytes of the region of an interrupt controller, up to the words of its contexts.
+pub const LEAST_PLIC: u32 = 0x21_0000;
+
+/// The fewest bytes of the region of a UART: eight registers.
+pub const LEAST_UART: u32 = 8;
+
+/// The fewest bytes of the region of a UART whose registers lie four bytes apart.
+pub const LEAST_WIDE_UART: u32 = 32;
+
+pub const LEAST_CAN: u32 = 32;
+
+pub const LEAST_FINISHER: u32 = 4;
+
+fn is_kind(kind: Kind, other: Kind) -> bool
+    ensures { result ≡ limit.is_kind kind other }
+{
+    match (kind, other) {
+        (Kind::Uart, Kind::Uart) => true,
+        (Kind::Can, Kind::Can) => true,
+        (Kind::Finisher, Kind::Finisher) => true,
+        _ => false,
+    }
+}
+
+fn count_of(kinds: &[Kind], kind: Kind) -> usize
+    ensures { result ≡ limit.count_of kinds.now kind }
+{
+    kinds.iter().filter(|other| is_kind(kind, **other)).count()
+}
+
+/// Whether there are no more UARTs, CAN controllers and finishers than a board may have.
+pub(crate) fn are_few_devices(kinds: &[Kind]) -> bool
+    ensures { result ≡ limit.are_few_devices kinds.now }
+{
+    count_of(kinds, Kind::Uart) <= MOST_UARTS
+        && count_of(kinds, Kind::Can) <= MOST_CANS
+        && count_of(kinds, Kind::Finisher) <= MOST_FINISHERS
+}
+
+/// The bytes of all memories together.
+fn bytes_of(memories: &[u32]) -> u64
+    requires { length memories.now ≤ 8 }
+    ensures { result ≡ sum memories.now }
+{
+    memories.iter().map(|&size| u64::from(size)).sum()
+}
+
+/// Whether there are 1 to 8 memories, of together at most 64 MiB.
+pub(crate) fn are_few_memories(memories: &[u32]) -> bool
+    ensures { result ≡ limit.are_few_memories memories.now }
+{
+    let count = memories.len();
+    1 <= count && count <= MOST_MEMORIES && bytes_of(memories) <= MOST_MEMORY
+}
+
+pub(crate) fn is_speed(speed: u32) -> bool
+    ensures { result ≡ limit.is_speed speed }
+{
+    1 <= speed && speed <= MOST_SPEED
+}
+
+pub(crate) fn is_frequency(frequency: Option<u32>) -> bool
+    ensures { result ≡ limit.is_frequency frequency }
+{
+    match frequency {
+        Some(ticks) => 1 <= ticks && ticks <= MOST_FREQUENCY,
+        None => true,
+    }
+}
+
+pub(crate) fn is_plic_size(plic: Option<PlicSize>) -> bool
+    ensures { result ≡ limit.is_plic_size plic }
+{
+    match plic {
+        Some(size) => {
+            1 <= size.sources
+                && size.sources <= MOST_SOURCES
+                && 1 <= size.contexts
+                && size.contexts <= MOST_CONTEXTS
+        }
+        None => true,
+    }
+}
+
+/// The kind of the device that stands in a region, if a device does.
+fn device_in(kinds: &[Kind], kind: RegionKind) -> Option<Kind>
+    ensures { result ≡ limit.device_in kinds.now kind }
+{
+    match kind {
+        RegionKind::Dev(i) => kinds.get(usize::from(i)).copied(),
+        _ => None,
+    }
+}
+
+fn is_step(device: Option<Kind>, step: u8) -> bool
+    ensures { result ≡ limit.is_step device step }
+{
+    match device {
+        Some(Kind::Uart) => step == 1 || step == 4,
+        _ => step == 1,
+    }
+}
+
+/// Whether a UART's registers lie 1 or 4 bytes apart, and those of all else 1.
+pub(crate) fn are_steps(kinds: &[Kind], regions: &[Region]) -> bool
+    ensures { result ≡ limit.are_steps kinds.now regions.now }
+{
+    regions.iter().all(|region| is_step(device_in(kinds, region.kind), region.step))
+}
+
+fn least_device_size(kind: Kind, step: u8) -> u32
+    ensures { result ≡ limit.least_device_size kind step }
+{
+    match kind {
+        Kind::Uart => {
+            if step == 4 {
+                LEAST_WIDE_UART
+            } else {
+                LEAST_UART
+            }
+        }
+        Kind::Can => LEAST_CAN,
+        Kind::Finisher => LEAST_FINISHER,
+    }
+}
+
+fn least_size(kinds: &[Kind], kind: RegionKind, step: u8) -> u32
+    ensures { result ≡ limit.least_size kinds.now kind step }
+{
+    match kind {
+        RegionKind::Ram(_) => PAGE_SIZE,
+        RegionKind::Clint => LEAST_CLINT,
+        RegionKind::Plic => LEAST_PLIC,
+        RegionKind::Dev(i) => match kinds.get(usize::from(i)) {
+            Some(&device) => least_device_size(device, step),
+            None => 0,
+        },
+    }
+}
+
+/// What the size of a region is a multiple of.
+fn unit_of(kind: RegionKind) -> u32
+    ensures value { result ≡ limit.unit_of kind }
+    ensures positive { 0 < result }
+{
+    match kind {
+        RegionKind::Ram(_) => PAGE_SIZE,
+        _ => REGION_UNIT,
+    }
+}
+
+fn is_range(kinds: &[Kind], region: &Region) -> bool
+    ensures { result ≡ limit.is_range kinds.now region.now }
+{
+    region.base % REGION_UNIT == 0
+        && region.size % unit_of(region.kind) == 0
+        && least_size(kinds, region.kind, region.step) <= region.size
+}
+
+/// Whether each region has an address and a size that may be.
+pub(crate) fn are_ranges(kinds: &[Kind], regions: &[Region]) -> bool
+    ensures { result ≡ limit.are_ranges kinds.now regions.now }
+{
+    regions.iter().all(|region| is_range(kinds, region))
+}

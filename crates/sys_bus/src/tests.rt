@@ -1,0 +1,407 @@
+//! Plans of two boards and of boards that are nearly right, and accesses at the ends of regions.
+use super::*;
+use crate::regions::{are_addressed, are_apart};
+use dev_core::Kind;
+use lab_num::{NoMemory, Rows, Text};
+use std::alloc::Global;
+use std::test::Fail;
+
+const RAM: Region = Region {
+    base: 0x8000_0000,
+    size: 0x1_0000,
+    kind: RegionKind::Ram(0),
+    step: 1,
+};
+
+const UART: Region = Region {
+    base: 0x1000_0000,
+    size: 0x100,
+    kind: RegionKind::Dev(0),
+    step: 1,
+};
+
+const FINISHER: Region = Region {
+    base: 0x10_0000,
+    size: 0x1000,
+    kind: RegionKind::Dev(1),
+    step: 1,
+};
+
+const CLINT: Region = Region {
+    base: 0x200_0000,
+    size: 0x1_0000,
+    kind: RegionKind::Clint,
+    step: 1,
+};
+
+const PLIC: Region = Region {
+    base: 0xC00_0000,
+    size: 0x400_0000,
+    kind: RegionKind::Plic,
+    step: 1,
+};
+
+/// What a plan is made of.
+#[derive(Clone, Copy)]
+struct Parts<'a> {
+    names: &'a [(&'a str, NamedWhat)],
+    regions: &'a [Region],
+    memories: &'a [u32],
+    kinds: &'a [Kind],
+    frequency: Option<u32>,
+    plic: Option<PlicSize>,
+    wires: &'a [Wire],
+    speed: u32,
+    cpu: &'a str,
+}
+
+const SMALL_NAMES: [(&str, NamedWhat); 4] = [
+    ("ram", NamedWhat::Part(RegionKind::Ram(0))),
+    ("uart", NamedWhat::Part(RegionKind::Dev(0))),
+    ("fin", NamedWhat::Part(RegionKind::Dev(1))),
+    ("cpu", NamedWhat::Cpu),
+];
+
+const SMALL_REGIONS: [Region; 3] = [RAM, UART, FINISHER];
+
+const SMALL_KINDS: [Kind; 2] = [Kind::Uart, Kind::Finisher];
+
+/// A board with a memory, a UART and a finisher.
+const SMALL: Parts<'static> = Parts {
+    names: &SMALL_NAMES,
+    regions: &SMALL_REGIONS,
+    memories: &[0x1_0000],
+    kinds: &SMALL_KINDS,
+    frequency: None,
+    plic: None,
+    wires: &[],
+    speed: 1,
+    cpu: "cpu",
+};
+
+const USUAL_NAMES: [(&str, NamedWhat); 5] = [
+    ("ram", NamedWhat::Part(RegionKind::Ram(0))),
+    ("clint", NamedWhat::Part(RegionKind::Clint)),
+    ("plic", NamedWhat::Part(RegionKind::Plic)),
+    ("uart", NamedWhat::Part(RegionKind::Dev(0))),
+    ("cpu", NamedWhat::Cpu),
+];
+
+const USUAL_REGIONS: [Region; 4] = [RAM, CLINT, PLIC, UART];
+
+const USUAL_KINDS: [Kind; 1] = [Kind::Uart];
+
+/// A board with a memory, a timer, an interrupt controller and a UART.
+const USUAL: Parts<'static> = Parts {
+    names: &USUAL_NAMES,
+    regions: &USUAL_REGIONS,
+    memories: &[0x1_0000],
+    kinds: &USUAL_KINDS,
+    frequency: Some(1_000_000),
+    plic: Some(PlicSize {
+        sources: 31,
+        contexts: 1,
+    }),
+    wires: &[],
+    speed: 25,
+    cpu: "cpu",
+};
+
+fn names_of(alloc: Global, names: &[(&str, NamedWhat)]) -> Result<Vec<Named>, NoMemory> {
+    let mut list = Vec::new(alloc);
+    for &(name, what) in names {
+        let name = Text::of(alloc, name)?;
+        list.push(Named { name, what })?;
+    }
+    Ok(list)
+}
+
+fn plan(alloc: Global, parts: &Parts) -> Result<BoardPlan, NoMemory> {
+    Ok(BoardPlan {
+        names: Rows::of(names_of(alloc, parts.names)?),
+        regions: Rows::of(parts.regions.to_vec(alloc)?),
+        memories: Rows::of(parts.memories.to_vec(alloc)?),
+        kinds: Rows::of(parts.kinds.to_vec(alloc)?),
+        frequency: parts.frequency,
+        plic: parts.plic,
+        wires: Rows::of(parts.wires.to_vec(alloc)?),
+        speed: parts.speed,
+        cpu: Text::of(alloc, parts.cpu)?,
+    })
+}
+
+/// Each row: how many names, regions, memories and devices of the small board there are.
+const COUNTS: [(usize, usize, usize, usize, bool); 5] = [
+    (4, 3, 1, 2, true),
+    (3, 3, 1, 2, false),
+    (4, 2, 1, 2, false),
+    (4, 3, 0, 2, false),
+    (4, 3, 1, 1, false),
+];
+
+/// Each row: an entry of the small board that is another, and the name of the processor.
+const NAMES: [(usize, &str, NamedWhat, &str, bool); 11] = [
+    (
+        1,
+        "Uart_0",
+        NamedWhat::Part(RegionKind::Dev(0)),
+        "cpu",
+        true,
+    ),
+    (1, "ram", NamedWhat::Part(RegionKind::Dev(0)), "cpu", false),
+    (1, "", NamedWhat::Part(RegionKind::Dev(0)), "cpu", false),
+    (
+        1,
+        "0uart",
+        NamedWhat::Part(RegionKind::Dev(0)),
+        "cpu",
+        false,
+    ),
+    (
+        1,
+        "_uart",
+        NamedWhat::Part(RegionKind::Dev(0)),
+        "cpu",
+        false,
+    ),
+    (
+        1,
+        "uart-0",
+        NamedWhat::Part(RegionKind::Dev(0)),
+        "cpu",
+        false,
+    ),
+    (3, "hart", NamedWhat::Cpu, "cpu", false),
+    (3, "hart", NamedWhat::Cpu, "hart", true),
+    (1, "uart", NamedWhat::Cpu, "cpu", false),
+    (1, "uart", NamedWhat::Part(RegionKind::Dev(1)), "cpu", false),
+    (1, "uart", NamedWhat::Part(RegionKind::Clint), "cpu", false),
+];
+
+#[test]
+fn each_part_has_one_name_and_one_region(rt: HostRuntime) -> Result<(), Fail> {
+    let alloc = rt.alloc();
+    for (names, regions, memories, kinds, valid) in COUNTS {
+        let mut parts = SMALL;
+        parts.names = &SMALL_NAMES[..names.min(4)];
+        parts.regions = &SMALL_REGIONS[..regions.min(3)];
+        parts.memories = &[0x1_0000][..memories.min(1)];
+        parts.kinds = &SMALL_KINDS[..kinds.min(2)];
+        assert_eq!(rt; plan(alloc, &parts)?.is_valid(), valid);
+    }
+    for (i, name, what, cpu, valid) in NAMES {
+        let mut names = SMALL_NAMES;
+        names[i % 4] = (name, what);
+        let mut parts = SMALL;
+        parts.names = &names;
+        parts.cpu = cpu;
+        assert_eq!(rt; plan(alloc, &parts)?.is_valid(), valid, "{i}: {name}");
+    }
+    Ok(())
+}
+
+/// Each row: a region of the small board with another base, size and step, and the size of the
+/// memory.
+const SMALL_RANGES: [(usize, u32, u32, u8, u32, bool); 17] = [
+    (0, 0xFFFF_0000, 0x1_0000, 1, 0x1_0000, true),
+    (0, 0xFFFF_0004, 0x1_0000, 1, 0x1_0000, false),
+    (0, 0x8000_0004, 0x1_0000, 1, 0x1_0000, true),
+    (0, 0x8000_0002, 0x1_0000, 1, 0x1_0000, false),
+    (0, 0x8000_0000, 0x1_0000, 1, 0x1_1000, false),
+    (0, 0x8000_0000, 0x1_0004, 1, 0x1_0004, false),
+    (0, 0x8000_0000, 0x0, 1, 0x0, false),
+    (0, 0x8000_0000, 0x400_0000, 1, 0x400_0000, true),
+    (0, 0x8000_0000, 0x400_1000, 1, 0x400_1000, false),
+    (1, 0x1000_0000, 0x8, 1, 0x1_0000, true),
+    (1, 0x1000_0000, 0x4, 1, 0x1_0000, false),
+    (1, 0x1000_0000, 0x20, 4, 0x1_0000, true),
+    (1, 0x1000_0000, 0x1C, 4, 0x1_0000, false),
+    (1, 0x1000_0000, 0x100, 2, 0x1_0000, false),
+    (2, 0x1000_0100, 0x4, 1, 0x1_0000, true),
+    (2, 0x1000_00FC, 0x4, 1, 0x1_0000, false),
+    (2, 0x10_0000, 0x20, 4, 0x1_0000, false),
+];
+
+/// The same for the timer and the interrupt controller of the usual board.
+const USUAL_RANGES: [(usize, u32, u32, bool); 4] = [
+    (1, 0x200_0000, 0xC000, true),
+    (1, 0x200_0000, 0xBFFC, false),
+    (2, 0xC00_0000, 0x21_0000, true),
+    (2, 0xC00_0000, 0x20_FFFC, false),
+];
+
+fn with_range(region: Region, base: u32, size: u32, step: u8) -> Region {
+    Region {
+        base,
+        size,
+        kind: region.kind,
+        step,
+    }
+}
+
+#[test]
+fn regions_lie_apart_within_their_limits(rt: HostRuntime) -> Result<(), Fail> {
+    let alloc = rt.alloc();
+    for (i, base, size, step, memory, valid) in SMALL_RANGES {
+        let mut regions = SMALL_REGIONS;
+        regions[i % 3] = with_range(regions[i % 3], base, size, step);
+        let memories = [memory];
+        let mut parts = SMALL;
+        parts.regions = &regions;
+        parts.memories = &memories;
+        assert_eq!(rt;
+            plan(alloc, &parts)?.is_valid(),
+            valid,
+            "{i}: {base:#x}, {size:#x}"
+        );
+    }
+    for (i, base, size, valid) in USUAL_RANGES {
+        let mut regions = USUAL_REGIONS;
+        regions[i % 4] = with_range(regions[i % 4], base, size, 1);
+        let mut parts = USUAL;
+        parts.regions = &regions;
+        assert_eq!(rt;
+            plan(alloc, &parts)?.is_valid(),
+            valid,
+            "{i}: {base:#x}, {size:#x}"
+        );
+    }
+    Ok(())
+}
+
+fn plic(sources: u8, contexts: u8) -> Option<PlicSize> {
+    Some(PlicSize { sources, contexts })
+}
+
+/// Each row: the frequency, sources, contexts and speed of the usual board.
+const NUMBERS: [(Option<u32>, u8, u8, u32, bool); 12] = [
+    (Some(1), 1, 1, 1, true),
+    (Some(1_000_000_000), 127, 15, 1000, true),
+    (None, 31, 1, 25, false),
+    (Some(0), 31, 1, 25, false),
+    (Some(1_000_000_001), 31, 1, 25, false),
+    (Some(1), 0, 1, 25, false),
+    (Some(1), 128, 1, 25, false),
+    (Some(1), 31, 0, 25, false),
+    (Some(1), 31, 16, 25, false),
+    (Some(1), 31, 1, 0, false),
+    (Some(1), 31, 1, 1001, false),
+    (Some(1), 31, 1, 25, true),
+];
+
+/// Each row: a wire, and whether the usual board and the small one may have it.
+const WIRES: [(WireFrom, WirePin, bool, bool); 15] = [
+    (WireFrom::Soft, WirePin::Cpu(3), true, false),
+    (WireFrom::Timer, WirePin::Cpu(7), true, false),
+    (WireFrom::Timer, WirePin::Cpu(8), false, false),
+    (WireFrom::Soft, WirePin::Source(1), false, false),
+    (WireFrom::Timer, WirePin::Source(1), false, false),
+    (WireFrom::Context(0), WirePin::Cpu(11), true, false),
+    (WireFrom::Context(1), WirePin::Cpu(11), false, false),
+    (WireFrom::Context(0), WirePin::Source(1), false, false),
+    (WireFrom::Dev(0), WirePin::Cpu(11), true, true),
+    (WireFrom::Dev(0), WirePin::Cpu(0), false, false),
+    (WireFrom::Dev(0), WirePin::Source(1), true, false),
+    (WireFrom::Dev(0), WirePin::Source(31), true, false),
+    (WireFrom::Dev(0), WirePin::Source(0), false, false),
+    (WireFrom::Dev(0), WirePin::Source(32), false, false),
+    (WireFrom::Dev(1), WirePin::Cpu(3), false, false),
+];
+
+/// The kinds of the small board's devices.
+const KINDS: [(Kind, Kind, bool); 3] = [
+    (Kind::Can, Kind::Finisher, true),
+    (Kind::Can, Kind::Can, true),
+    (Kind::Finisher, Kind::Finisher, false),
+];
+
+#[test]
+fn numbers_wires_and_kinds_are_those_that_may_be(rt: HostRuntime) -> Result<(), Fail> {
+    let alloc = rt.alloc();
+    for (frequency, sources, contexts, speed, valid) in NUMBERS {
+        let mut parts = USUAL;
+        parts.frequency = frequency;
+        parts.plic = plic(sources, contexts);
+        parts.speed = speed;
+        assert_eq!(rt;
+            plan(alloc, &parts)?.is_valid(),
+            valid,
+            "{frequency:?}, {sources}"
+        );
+    }
+    for (from, pin, on_usual, on_small) in WIRES {
+        let wires = [Wire { from, pin }];
+        let (mut usual, mut small) = (USUAL, SMALL);
+        usual.wires = &wires;
+        small.wires = &wires;
+        assert_eq!(rt;
+            plan(alloc, &usual)?.is_valid(),
+            on_usual,
+            "{from:?}, {pin:?}"
+        );
+        assert_eq!(rt;
+            plan(alloc, &small)?.is_valid(),
+            on_small,
+            "{from:?}, {pin:?}"
+        );
+    }
+    for (first, second, valid) in KINDS {
+        let kinds = [first, second];
+        let mut parts = SMALL;
+        parts.kinds = &kinds;
+        assert_eq!(rt;
+            plan(alloc, &parts)?.is_valid(),
+            valid,
+            "{first:?}, {second:?}"
+        );
+    }
+    Ok(())
+}
+
+/// Accesses of the usual board, at both ends of each region and past them.
+const ACCESSES: [(u32, u8, Target); 17] = [
+    (0x7FFF_FFFE, 4, Target::Nothing),
+    (0x7FFF_FFFF, 1, Target::Nothing),
+    (0x8000_0000, 4, Target::Ram { part: 0, at: 0 }),
+    (
+        0x8000_FFFC,
+        4,
+        Target::Ram {
+            part: 0,
+            at: 0xFFFC,
+        },
+    ),
+    (
+        0x8000_FFFF,
+        1,
+        Target::Ram {
+            part: 0,
+            at: 0xFFFF,
+        },
+    ),
+    (0x8000_FFFE, 4, Target::Nothing),
+    (0x8001_0000, 1, Target::Nothing),
+    (0x0200_0000, 4, Target::Clint { at: 0 }),
+    (0x0200_FFFC, 4, Target::Clint { at: 0xFFFC }),
+    (0x0201_0000, 4, Target::Nothing),
+    (0x0FFF_FFFC, 4, Target::Plic { at: 0x3FF_FFFC }),
+    (0x0FFF_FFFE, 4, Target::Nothing),
+    (0x1000_0000, 1, Target::Dev { dev: 0, at: 0 }),
+    (0x1000_00FE, 2, Target::Dev { dev: 0, at: 0xFE }),
+    (0x1000_00FF, 2, Target::Nothing),
+    (0xFFFF_FFFF, 4, Target::Nothing),
+    (0x0000_0000, 1, Target::Nothing),
+];
+
+#[test]
+fn an_access_belongs_to_the_region_that_holds_it_whole(rt: HostRuntime) -> Result<(), Fail> {
+    let list = USUAL_REGIONS.to_vec(rt.alloc())?;
+    assert!(rt; are_apart(&list));
+    assert!(rt; are_addressed(&list));
+    let regions = Regions::new(list);
+    for (at, width, target) in ACCESSES {
+        assert!(rt; width == 1 || width == 2 || width == 4);
+        assert_eq!(rt; regions.find(at, width), target, "{width} bytes at {at:#x}");
+    }
+    Ok(())
+}

@@ -1,0 +1,106 @@
+//! The wires of interrupts.
+ghost use Rattle.std.specs.Prelude.{◌≡◌};
+ghost use Rattle.sys_bus.specs.Wire as wire_spec;
+
+use crate::part::has_region;
+use crate::plan::PlicSize;
+use crate::region::{Region, RegionKind};
+use dev_core::Kind;
+
+/// The line that a wire begins at.
+#[derive(Clone, Copy, PartialEq, Eq, Debug)]
+pub enum WireFrom {
+    /// The software interrupt of the timer.
+    Soft,
+    /// The timer interrupt.
+    Timer,
+    /// A context of the interrupt controller.
+    Context(u8),
+    /// The line of a device.
+    Dev(u8),
+}
+
+/// Where a wire ends.
+#[derive(Clone, Copy, PartialEq, Eq, Debug)]
+pub enum WirePin {
+    /// A bit of the processor's `mip`.
+    Cpu(u8),
+    /// A source of the interrupt controller.
+    Source(u8),
+}
+
+#[derive(Clone, Copy, PartialEq, Eq, Debug)]
+pub struct Wire {
+    pub from: WireFrom,
+    pub pin: WirePin,
+}
+
+/// Whether this is a pin of the processor.
+fn is_pin(pin: u8) -> bool
+    ensures { result ≡ wire_spec.is_pin pin }
+{
+    pin == 3 || pin == 7 || pin == 11
+}
+
+fn is_source(plic: Option<PlicSize>, source: u8) -> bool
+    ensures { result ≡ wire_spec.is_source plic source }
+{
+    match plic {
+        Some(size) => 1 <= source && source <= size.sources,
+        None => false,
+    }
+}
+
+fn is_context(plic: Option<PlicSize>, context: u8) -> bool
+    ensures { result ≡ wire_spec.is_context plic context }
+{
+    match plic {
+        Some(size) => context < size.contexts,
+        None => false,
+    }
+}
+
+/// Whether the device of this number is there and has a line.
+fn has_line(kinds: &[Kind], dev: u8) -> bool
+    ensures { result ≡ wire_spec.has_line kinds.now dev }
+{
+    match kinds.get(usize::from(dev)) {
+        Some(Kind::Uart | Kind::Can) => true,
+        Some(Kind::Finisher) | None => false,
+    }
+}
+
+fn is_from(kinds: &[Kind], regions: &[Region], plic: Option<PlicSize>, from: WireFrom) -> bool
+    ensures { result ≡ wire_spec.is_from kinds.now regions.now plic from }
+{
+    match from {
+        WireFrom::Soft | WireFrom::Timer => has_region(regions, RegionKind::Clint),
+        WireFrom::Context(context) => is_context(plic, context),
+        WireFrom::Dev(dev) => has_line(kinds, dev),
+    }
+}
+
+/// Whether a wire from there may end at a pin.
+fn may_end(plic: Option<PlicSize>, from: WireFrom, pin: WirePin) -> bool
+    ensures { result ≡ wire_spec.may_end plic from pin }
+{
+    match (from, pin) {
+        (_, WirePin::Cpu(number)) => is_pin(number),
+        (WireFrom::Dev(_), WirePin::Source(source)) => is_source(plic, source),
+        _ => false,
+    }
+}
+
+/// Whether each wire is one that a board may have.
+pub(crate) fn are_wires(
+    kinds: &[Kind],
+    regions: &[Region],
+    plic: Option<PlicSize>,
+    wires: &[Wire],
+) -> bool
+    ensures { result ≡ wire_spec.are_wires kinds.now regions.now plic wires.now }
+{
+    wires.iter().all(|wire| {
+        is_from(kinds, regions, plic, wire.from) && may_end(plic, wire.from, wire.pin)
+    })
+}
