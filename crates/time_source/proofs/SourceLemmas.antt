@@ -1,9 +1,13 @@
 -- The least of some times, and writes to the places of a source.
-use Rattle.std.proofs.Common.{◌≡◌, ◌∙◌, sym, ap, refl, ℕ, zero, suc, ◌+◌, ◌<◌, ◌≤◌, Bool, true, List, [], ◌∷◌, ◌++◌, length, map, set, get_or, take, drop, add-one, arith}
+use Rattle.std.proofs.Common.{◌≡◌, ◌∙◌, sym, ap, refl, ℕ, zero, suc, ◌+◌, ◌/◌, ◌<◌, ◌≤◌, true, List, [], ◌∷◌, ◌++◌, length, map, set, get_or, take, drop, add-one, slice_get, arith}
 use Rattle.std.specs.List.{All}
 use Rattle.std.proofs.lemmas.List.Elements.{All-head, All-tail, All-take, All-map}
+use Rattle.std.proofs.Math.Nat.{div-mul-le_self}
+use Rattle.std.proofs.lemmas.Nat.{le-div}
+use Rattle.std.proofs.lemmas.Option.{slice_get-get_or}
+use Rattle.std.specs.Option.{ForSome}
 use Rattle.time_handle.specs.Grant as grants
-use Rattle.time_source.specs.Tree.{Tree, least, elapsed, renewed}
+use Rattle.time_source.specs.Tree.{Tree, IsLater, least, elapsed, renewed}
 
 module _ {T : Type 0} (time : T → ℕ) where
   least_at_most :
@@ -31,6 +35,39 @@ module _ {T : Type 0} (time : T → ℕ) where
       let first = All-head (λ y. low ≤ time y) y ys all in
       let rest = least_at_least low (time y) ys (All-tail (λ y. low ≤ time y) y ys all) first in
       omega (arith, first, rest, least_at_most other (y ∷ ys) k x below, ap time at, is)
+
+  least_below : (a b : ℕ) (ts : List ℕ) → a ≤ b → least a ts ≤ least b ts
+  least_below a b [] h = h
+  least_below a b (t ∷ ts) h = omega arith
+
+  -- the least does not fall where one item's time rises
+  pub least-set :
+      (other : ℕ) (xs : List T) (i : ℕ) (y : T) →
+      time (get_or xs i y) ≤ time y → least other (map time xs) ≤ least other (map time (set xs i y))
+  least-set other [] i y h = omega arith
+  least-set other (x ∷ xs) zero y h = omega (arith, h, least_below (time x) (time y) (map time xs) h)
+  least-set other (x ∷ xs) (suc i) y h = omega (arith, least-set (time x) xs i y h)
+
+divided : (a b k : ℕ) → a ≤ b → a / k ≤ b / k
+divided a b zero h = omega arith
+divided a b (suc k) h =
+    le-div (a / suc k) b (suc k) (omega arith) (omega (arith, div-mul-le_self a (suc k), h))
+
+-- a handle's time does not fall
+elapsed-later : (before after : grants.Grant) → IsLater before after → grants.elapsed before ≤ grants.elapsed after
+elapsed-later before after later =
+    let slots = divided before.used after.used before.speed later.used in
+    rw (later.from, later.speed) (omega (arith, slots))
+
+-- nor does the time of a source with an open grant, where a member's handle gives way to a later one
+pub elapsed-put :
+    (t : Tree) (i : ℕ) (handle : grants.Grant) →
+    t.is_open ≡ true → i < length t.handles → ForSome (slice_get t.handles i) (λ g. IsLater g handle) →
+    elapsed t ≤ elapsed (record t { handles = set t.handles i handle })
+elapsed-put t i handle is_open member later =
+    let before = get_or t.handles i handle in
+    let is_later : IsLater before handle = later before (slice_get-get_or t.handles i handle member) in
+    rw is_open (least-set grants.elapsed t.end t.handles i handle (elapsed-later before handle is_later))
 
 -- the time of a source whose grant is open
 pub elapsed-open :

@@ -15,7 +15,7 @@ const MEMBERS: usize = 16;
 /// are boards, numbered from 0 in order of joining.
 #[derive(Drop, Debug)]
 pub struct Source {
-    places: [Handle; 16],
+    places: [Handle; MEMBERS],
     count: usize,
     end: Micros,
     is_open: bool,
@@ -60,7 +60,7 @@ impl Source {
         ensures { result ≡ tree.new }
     {
         Source {
-            places: [Handle::new(Micros(0), Micros(0), 1); 16],
+            places: [Handle::new(Micros(0), Micros(0), 1); MEMBERS],
             count: 0,
             end: Micros(0),
             is_open: false,
@@ -131,9 +131,10 @@ impl Source {
         requires opened { self.old.is_open ≡ true }
         requires member { board.0 < length self.old.handles }
         requires later { ForSome (slice_get self.old.handles board.0) (λ g. tree.IsLater g handle) }
-        ensures { self.new ≡ record self.old {
+        ensures placed { self.new ≡ record self.old {
           handles = slice_set self.old.handles board.0 handle;
         } }
+        ensures rises { tree.elapsed self.old ≤ tree.elapsed self.new }
     {
         self.places[usize::from(board.0)] = handle;
     }

@@ -1,5 +1,5 @@
 -- A source inside: sixteen places, of which the first `count` are in use.
-use Rattle.std.specs.Prelude.{◌≡◌, ℕ, ◌≤◌, ◌^◌, take, All}
+use Rattle.std.specs.Prelude.{◌≡◌, ◌≤◌, ◌^◌, take, All}
 use Rattle.time_source.specs.declared.source.Source.TheInside.{Inside}
 use Rattle.time_source.specs.Tree.{Tree}
 

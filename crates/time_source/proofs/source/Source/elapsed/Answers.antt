@@ -10,7 +10,7 @@ returns-in-Some-clause-value c =
     let now = c.args.self.now in
     let is_open : now.is_open ≡ true = search rules in
     let found =
-        least_is grants.elapsed c.in-Some.time now.end c.handles.result.now k g below at is c.in-Some.ensures.least
+    least_is grants.elapsed c.in-Some.time now.end c.handles.result.now k g below at is c.in-Some.ensures.least
     in
     elapsed-open now c.in-Some.time is_open (rw c.handles.ensures.handles at found)
 
