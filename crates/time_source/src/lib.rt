@@ -5,3 +5,6 @@
 mod source;
 
 pub use source::Source;
+
+#[cfg(test)]
+mod tests;

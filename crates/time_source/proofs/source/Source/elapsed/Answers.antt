@@ -1,6 +1,5 @@
-use Rattle.std.proofs.Common.{◌≡◌, ◌≤◌, ap, true, map, arith, rules}
+use Rattle.std.proofs.Common.{◌≡◌, ap, true, arith, rules}
 use Rattle.time_handle.specs.Grant as grants
-use Rattle.time_source.specs.Tree.{least}
 use Rattle.time_source.proofs.SourceLemmas.{least_is, elapsed-open}
 use Rattle.time_source.proofs.source.Source.elapsed.Goals as goal
 

@@ -1,4 +1,4 @@
-use Rattle.std.proofs.Common.{refl, arith, rules}
+use Rattle.std.proofs.Common.{refl, rules}
 use Rattle.std.proofs.lemmas.List.{take-map}
 use Rattle.time_source.proofs.SourceLemmas.{renewed-ends}
 use Rattle.time_source.proofs.source.Source.grant.Goals as goal
