@@ -1,0 +1,2 @@
+-- What serves the model of a handle.
+pub mod Handle

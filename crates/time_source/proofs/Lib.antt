@@ -1,0 +1,2 @@
+-- Lemmas on members and their times.
+pub mod SourceLemmas

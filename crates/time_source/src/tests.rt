@@ -1,0 +1,235 @@
+//! Tables of grants to two members, to none and to many.
+ghost use Rattle.std.specs.Prelude.{◌≡◌, ◌+◌, ◌^◌, ◌<◌, ◌≤◌, true, false, length, IsTrue, IfSome};
+
+use crate::Source;
+use lab_num::{BoardNo, Micros};
+use time_handle::Report;
+
+/// Two members at these speeds.
+fn pair(speeds: (u32, u32)) -> Option<Source>
+    ensures closed { IfSome result (λ source. source.is_open ≡ false) }
+    ensures members { IfSome result (λ source. length source.handles ≡ 2) }
+    ensures end { IfSome result (λ source. source.end ≡ 0) }
+{
+    let mut source = Source::new();
+    let _ = source.add(speeds.0.clamp(1, 1_000))?;
+    let _ = source.add(speeds.1.clamp(1, 1_000))?;
+    Some(source)
+}
+
+/// Uses so many slots of a member's handle, or all that are left, and gives its report.
+fn play(source: &mut Source, board: BoardNo, slots: u64) -> Report
+    requires opened { source.old.is_open ≡ true }
+    requires member { board.0 < length source.old.handles }
+    ensures opened { source.new.is_open ≡ true }
+    ensures members { length source.new.handles ≡ length source.old.handles }
+    ensures end { source.new.end ≡ source.old.end }
+{
+    let mut handle = source.handle(board);
+    let report = handle.used(slots.min(handle.left()));
+    source.put(board, handle);
+    report
+}
+
+/// What a grant came to: the members' reports, the time, and whether it was done and so was closed.
+type Played = (Report, Report, Micros, bool);
+
+/// A grant of so many microseconds, of which the members use so many slots.
+fn grant(source: &mut Source, micros: u64, slots: (u64, u64)) -> Played
+    requires closed { source.old.is_open ≡ false }
+    requires members { length source.old.handles ≡ 2 }
+    requires last { source.old.end + micros ≤ 10 ^ 10 }
+    ensures closed { IsTrue result.3 → source.new.is_open ≡ false }
+    ensures members { length source.new.handles ≡ 2 }
+    ensures end { source.new.end ≡ source.old.end + micros }
+{
+    source.grant(micros);
+    let first = play(source, BoardNo(0), slots.0);
+    let second = play(source, BoardNo(1), slots.1);
+    let time = source.elapsed();
+    let done = source.is_done();
+    if done {
+        source.close();
+    }
+    (first, second, time, done)
+}
+
+/// A grant that is used up, a change of speeds, and a second grant; what the second came to, and the time in the end.
+fn second_grant(
+    speeds: (u32, u32),
+    first: u64,
+    then: (u32, u32),
+    second: u64,
+    slots: (u64, u64),
+) -> Option<(Played, Micros)> {
+    let mut source = pair(speeds)?;
+    let begun = grant(&mut source, first.min(1_000), (u64::MAX, u64::MAX));
+    if !begun.3 {
+        return None;
+    }
+    source.set_speed(BoardNo(0), then.0.clamp(1, 1_000));
+    source.set_speed(BoardNo(1), then.1.clamp(1, 1_000));
+    let played = grant(&mut source, second.min(1_000), slots);
+    Some((played, source.elapsed()))
+}
+
+const DONE: (Report, Report) = (Report::Continue, Report::Continue);
+
+/// The speeds and the length of the first grant, those of the second, the slots used of it, the reports, the time, and
+/// whether it was done.
+const GRANTS: [(
+    (u32, u32),
+    u64,
+    (u32, u32),
+    u64,
+    (u64, u64),
+    (Report, Report),
+    u64,
+    bool,
+); 12] = [
+    (
+        (1, 1),
+        0,
+        (1, 1),
+        100,
+        (0, 0),
+        (Report::Break, Report::Break),
+        0,
+        false,
+    ),
+    (
+        (1, 1),
+        0,
+        (1, 1),
+        100,
+        (30, 70),
+        (Report::Break, Report::Break),
+        30,
+        false,
+    ),
+    (
+        (1, 1),
+        0,
+        (1, 1),
+        100,
+        (70, 30),
+        (Report::Break, Report::Break),
+        30,
+        false,
+    ),
+    (
+        (1, 1),
+        0,
+        (1, 1),
+        100,
+        (100, 99),
+        (Report::Continue, Report::Break),
+        99,
+        false,
+    ),
+    (
+        (1, 1),
+        0,
+        (1, 1),
+        100,
+        (99, 100),
+        (Report::Break, Report::Continue),
+        99,
+        false,
+    ),
+    ((1, 1), 0, (1, 1), 100, (100, 100), DONE, 100, true),
+    (
+        (1, 1),
+        0,
+        (1, 1_000),
+        100,
+        (99, 99_000),
+        (Report::Break, Report::Break),
+        99,
+        false,
+    ),
+    (
+        (1, 1),
+        0,
+        (1, 1_000),
+        100,
+        (100, 99_999),
+        (Report::Continue, Report::Break),
+        99,
+        false,
+    ),
+    (
+        (1, 1_000),
+        200,
+        (1, 1_000),
+        50,
+        (25, 25_000),
+        (Report::Break, Report::Break),
+        225,
+        false,
+    ),
+    (
+        (1, 1_000),
+        200,
+        (1, 1_000),
+        50,
+        (50, 50_000),
+        DONE,
+        250,
+        true,
+    ),
+    (
+        (1, 1_000),
+        100,
+        (1_000, 2),
+        100,
+        (99_999, 199),
+        (Report::Break, Report::Break),
+        199,
+        false,
+    ),
+    (
+        (1, 1_000),
+        100,
+        (1_000, 2),
+        100,
+        (100_000, 200),
+        DONE,
+        200,
+        true,
+    ),
+];
+
+#[test]
+fn the_time_is_that_of_the_slowest_member(rt: HostRuntime) {
+    for (speeds, first, then, second, slots, reports, time, done) in GRANTS {
+        let time = Micros(time);
+        let expected = Some(((reports.0, reports.1, time, done), time));
+        let found = second_grant(speeds, first, then, second, slots);
+        assert_eq!(rt; found, expected, "{first} {second} {}", time.0);
+    }
+}
+
+#[test]
+fn without_members_a_grant_is_done_at_once(rt: HostRuntime) {
+    for micros in [0, 1, 250, 10_000_000_000_u64] {
+        let mut source = Source::new();
+        assert_eq!(rt; source.elapsed(), Micros(0));
+        source.grant(micros.min(10_000_000_000));
+        assert_eq!(rt; source.elapsed(), Micros(micros));
+        assert!(rt; source.is_done());
+    }
+}
+
+#[test]
+fn the_seventeenth_member_is_refused(rt: HostRuntime) {
+    let mut source = Source::new();
+    for board in 0..18 {
+        let expected = if board < 16 {
+            Some(BoardNo(board))
+        } else {
+            None
+        };
+        assert_eq!(rt; source.add(100), expected, "{board}");
+    }
+}
