@@ -1,0 +1,3 @@
+-- What the contracts of the CLINT and of the crates above it cite.
+pub mod Clint
+pub mod Mtime

@@ -1,0 +1,141 @@
+//! The CLINT and its registers.
+ghost use Rattle.std.specs.Prelude.{◌≡◌, ◌≤◌};
+
+use crate::counter::{counter, offset_for};
+use crate::halves::{high, low, with_high, with_low};
+use crate::registers::*;
+use crate::state::ClintState;
+use lab_num::Micros;
+use std::marker::Model;
+
+/// The width of the accesses that the registers answer, in bytes.
+const WORD: u8 = 4;
+
+/// A CLINT, which contracts see as the frequency of its counter and its state.
+#[derive(Drop, Debug)]
+pub struct Clint {
+    frequency: u32,
+    state: ClintState,
+}
+
+impl Model for Clint {
+    ghost use Rattle.std.specs.Prelude.{◌≤◌};
+    ghost use Rattle.clint.specs.Clint.{Timer};
+
+    ghost Value = { Timer };
+
+    ghost view = { λ c. record { frequency = c.frequency; state = c.state } };
+
+    ghost invariant = { λ c. (1 ≤ c.frequency) × (c.frequency ≤ 1000000000) };
+}
+
+impl Clint {
+    ghost use Rattle.clint.specs.Clint.{
+      clint_load,
+      clint_reset,
+      clint_stored,
+      mtime,
+      mtime_stored,
+      showing,
+      software_line,
+      timer_line,
+    };
+
+    /// A CLINT in its reset state, whose counter rises so many times in a second.
+    pub fn new(frequency: u32) -> Clint
+        requires at_least { 1 ≤ frequency }
+        requires at_most { frequency ≤ 1000000000 }
+        ensures { result ≡ record { frequency = frequency; state = clint_reset } }
+    {
+        Clint {
+            frequency,
+            state: ClintState::reset(),
+        }
+    }
+
+    /// The counter at a time.
+    pub fn mtime(&self, now: Micros) -> u64
+        ensures { result ≡ mtime self.now now.0 }
+    {
+        counter(self.state.offset, self.frequency, now.0)
+    }
+
+    /// The line of the software interrupt.
+    pub fn software(&self) -> bool
+        ensures { result ≡ software_line self.now }
+    {
+        self.state.msip
+    }
+
+    /// The line of the timer interrupt at a time.
+    pub fn timer(&self, now: Micros) -> bool
+        ensures { result ≡ timer_line self.now now.0 }
+    {
+        self.mtime(now) >= self.state.mtimecmp
+    }
+
+    /// A load of `width` bytes at an offset within the CLINT. It gives 0 where no register is.
+    #[tactic(auto, unfolding(crate::specs::Clint::clint_load))]
+    pub fn load(&self, at: u32, width: u8, now: Micros) -> u32
+        ensures { result ≡ clint_load self.now at width now.0 }
+    {
+        if width != WORD {
+            return 0;
+        }
+        match at {
+            MSIP => u32::from(self.state.msip),
+            MTIMECMP_LOW => low(self.state.mtimecmp),
+            MTIMECMP_HIGH => high(self.state.mtimecmp),
+            MTIME_LOW => low(self.mtime(now)),
+            MTIME_HIGH => high(self.mtime(now)),
+            _ => 0,
+        }
+    }
+
+    /// Makes the counter show a value at a time.
+    fn set_mtime(&mut self, value: u64, now: Micros)
+        ensures after { self.new ≡ record self.old { state = showing self.old now.0 value } }
+        ensures shown { mtime self.new now.0 ≡ value }
+    {
+        self.state.offset = offset_for(value, self.frequency, now.0);
+    }
+
+    /// A store of the lowest `width` bytes of a value at an offset within the CLINT. It does
+    /// nothing where no register is.
+    #[tactic(auto, unfolding(crate::specs::Clint::clint_stored, crate::specs::Clint::mtime_stored))]
+    pub fn store(&mut self, at: u32, width: u8, value: u32, now: Micros)
+        ensures after { self.new ≡ record self.old { state = clint_stored self.old at width value now.0 } }
+        ensures counted { mtime self.new now.0 ≡ mtime_stored self.old at width value now.0 }
+    {
+        if width != WORD {
+            return;
+        }
+        match at {
+            MSIP => self.state.msip = value & 1 == 1,
+            MTIMECMP_LOW => self.state.mtimecmp = with_low(self.state.mtimecmp, value),
+            MTIMECMP_HIGH => self.state.mtimecmp = with_high(self.state.mtimecmp, value),
+            MTIME_LOW => self.set_mtime(with_low(self.mtime(now), value), now),
+            MTIME_HIGH => self.set_mtime(with_high(self.mtime(now), value), now),
+            _ => {}
+        }
+    }
+
+    /// Puts the CLINT in its reset state. Its frequency stays.
+    pub fn reset(&mut self)
+        ensures { self.new ≡ record self.old { state = clint_reset } }
+    {
+        self.state = ClintState::reset();
+    }
+
+    pub fn state(&self) -> ClintState
+        ensures { result ≡ self.now.state }
+    {
+        self.state
+    }
+
+    pub fn put(&mut self, state: &ClintState)
+        ensures { self.new ≡ record self.old { state = state.now } }
+    {
+        self.state = *state;
+    }
+}

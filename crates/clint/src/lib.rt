@@ -1,0 +1,15 @@
+//! The CLINT of a board: the counter `mtime`, the timer interrupt and the software interrupt of
+//! its hart.
+#![tactic(auto)]
+
+mod clint;
+mod counter;
+mod halves;
+mod registers;
+mod state;
+
+pub use clint::Clint;
+pub use state::ClintState;
+
+#[cfg(test)]
+mod tests;
