@@ -54,7 +54,8 @@ fn grant(source: &mut Source, micros: u64, slots: (u64, u64)) -> Played
     (first, second, time, done)
 }
 
-/// A grant that is used up, a change of speeds, and a second grant; what the second came to, and the time in the end.
+/// A grant that is used up, a change of speeds, and a second grant: what the second came to, and
+/// the time in the end.
 fn second_grant(
     speeds: (u32, u32),
     first: u64,
@@ -73,11 +74,15 @@ fn second_grant(
     Some((played, source.elapsed()))
 }
 
-const DONE: (Report, Report) = (Report::Continue, Report::Continue);
+const NONE: (Report, Report) = (Report::Break, Report::Break);
 
-/// The speeds and the length of the first grant, those of the second, the slots used of it, the reports, the time, and
-/// whether it was done.
-const GRANTS: [(
+const FIRST: (Report, Report) = (Report::Continue, Report::Break);
+
+const SECOND: (Report, Report) = (Report::Break, Report::Continue);
+
+const BOTH: (Report, Report) = (Report::Continue, Report::Continue);
+
+type Row = (
     (u32, u32),
     u64,
     (u32, u32),
@@ -85,126 +90,30 @@ const GRANTS: [(
     (u64, u64),
     (Report, Report),
     u64,
-    bool,
-); 12] = [
-    (
-        (1, 1),
-        0,
-        (1, 1),
-        100,
-        (0, 0),
-        (Report::Break, Report::Break),
-        0,
-        false,
-    ),
-    (
-        (1, 1),
-        0,
-        (1, 1),
-        100,
-        (30, 70),
-        (Report::Break, Report::Break),
-        30,
-        false,
-    ),
-    (
-        (1, 1),
-        0,
-        (1, 1),
-        100,
-        (70, 30),
-        (Report::Break, Report::Break),
-        30,
-        false,
-    ),
-    (
-        (1, 1),
-        0,
-        (1, 1),
-        100,
-        (100, 99),
-        (Report::Continue, Report::Break),
-        99,
-        false,
-    ),
-    (
-        (1, 1),
-        0,
-        (1, 1),
-        100,
-        (99, 100),
-        (Report::Break, Report::Continue),
-        99,
-        false,
-    ),
-    ((1, 1), 0, (1, 1), 100, (100, 100), DONE, 100, true),
-    (
-        (1, 1),
-        0,
-        (1, 1_000),
-        100,
-        (99, 99_000),
-        (Report::Break, Report::Break),
-        99,
-        false,
-    ),
-    (
-        (1, 1),
-        0,
-        (1, 1_000),
-        100,
-        (100, 99_999),
-        (Report::Continue, Report::Break),
-        99,
-        false,
-    ),
-    (
-        (1, 1_000),
-        200,
-        (1, 1_000),
-        50,
-        (25, 25_000),
-        (Report::Break, Report::Break),
-        225,
-        false,
-    ),
-    (
-        (1, 1_000),
-        200,
-        (1, 1_000),
-        50,
-        (50, 50_000),
-        DONE,
-        250,
-        true,
-    ),
-    (
-        (1, 1_000),
-        100,
-        (1_000, 2),
-        100,
-        (99_999, 199),
-        (Report::Break, Report::Break),
-        199,
-        false,
-    ),
-    (
-        (1, 1_000),
-        100,
-        (1_000, 2),
-        100,
-        (100_000, 200),
-        DONE,
-        200,
-        true,
-    ),
+);
+
+/// The speeds and the length of the first grant, those of the second, the slots used of it, the
+/// reports, and the time. It is done where both report that they are.
+const GRANTS: [Row; 12] = [
+    ((1, 1), 0, (1, 1), 100, (0, 0), NONE, 0),
+    ((1, 1), 0, (1, 1), 100, (30, 70), NONE, 30),
+    ((1, 1), 0, (1, 1), 100, (70, 30), NONE, 30),
+    ((1, 1), 0, (1, 1), 100, (100, 99), FIRST, 99),
+    ((1, 1), 0, (1, 1), 100, (99, 100), SECOND, 99),
+    ((1, 1), 0, (1, 1), 100, (100, 100), BOTH, 100),
+    ((1, 1), 0, (1, 1_000), 100, (99, 99_000), NONE, 99),
+    ((1, 1), 0, (1, 1_000), 100, (100, 99_999), FIRST, 99),
+    ((1, 1_000), 200, (1, 1_000), 50, (25, 25_000), NONE, 225),
+    ((1, 1_000), 200, (1, 1_000), 50, (50, 50_000), BOTH, 250),
+    ((1, 1_000), 100, (1_000, 2), 100, (99_999, 199), NONE, 199),
+    ((1, 1_000), 100, (1_000, 2), 100, (100_000, 200), BOTH, 200),
 ];
 
 #[test]
 fn the_time_is_that_of_the_slowest_member(rt: HostRuntime) {
-    for (speeds, first, then, second, slots, reports, time, done) in GRANTS {
+    for (speeds, first, then, second, slots, reports, time) in GRANTS {
         let time = Micros(time);
-        let expected = Some(((reports.0, reports.1, time, done), time));
+        let expected = Some(((reports.0, reports.1, time, reports == BOTH), time));
         let found = second_grant(speeds, first, then, second, slots);
         assert_eq!(rt; found, expected, "{first} {second} {}", time.0);
     }
