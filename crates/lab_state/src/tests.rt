@@ -120,11 +120,11 @@ fn add(
 }
 
 /// Boards m0, m1 and so on that run these programs, all shown and on one hub.
-fn lab_of(rt: &impl Abort, alloc: Global, programs: &[&[u32]]) -> Result<Lab, Fail> {
+fn lab_of(rt: &impl Abort, alloc: Global, programs: &[Vec<u32>]) -> Result<Lab, Fail> {
     let mut lab = Lab::new(alloc)?;
     assert!(rt; is_name("hub"));
     lab.create_uart_hub("hub")?;
-    for (name, &words) in ["m0", "m1", "m2"].into_iter().zip(programs) {
+    for (name, words) in ["m0", "m1", "m2"].into_iter().zip(programs) {
         add(rt, alloc, &mut lab, name, words)?;
     }
     Ok(lab)
@@ -132,7 +132,8 @@ fn lab_of(rt: &impl Abort, alloc: Global, programs: &[&[u32]]) -> Result<Lab, Fa
 
 /// A board that sends an `A` in slot `at`, and one that sends on what it gets.
 fn sender_and_echo(rt: &impl Abort, alloc: Global, at: usize) -> Result<Lab, Fail> {
-    lab_of(rt, alloc, &[&sender(alloc, LETTER_A, at)?, &ECHO])
+    let sender = sender(alloc, LETTER_A, at)?;
+    lab_of(rt, alloc, &[sender, Vec::from_slice(alloc, &ECHO)?])
 }
 
 fn run(lab: &mut Lab, d: u64) -> Result<RoundLog, Fail> {
@@ -159,31 +160,47 @@ fn a_byte_crosses_at_the_end_of_the_round_in_which_it_was_sent(
     Ok(())
 }
 
-#[test]
-fn a_byte_goes_once_to_each_other_board_in_order_of_time(rt: HostRuntime) -> Result<(), Fail> {
-    let alloc = rt.alloc();
-    let early_a = sender(alloc, LETTER_A, 5)?;
-    let late_b = sender(alloc, LETTER_B, 50)?;
-    // Sends an `A`, and then goes on as the board that sends on what it gets.
-    let mut talker = Vec::new(alloc);
-    talker.extend_from_slice(&[LUI, LETTER_A, SEND])?;
-    talker.extend_from_slice(&ECHO)?;
-    let rows: [(&[&[u32]], &[LogItem]); 3] = [
-        // The later byte, of the first board, takes the place of the other.
-        (
-            &[&late_b, &early_a, &ECHO],
-            &[sent(5, 1), byte_sent(50, 0, b'B'), byte_sent(104, 2, b'B')],
-        ),
-        // A byte is there, and none was lost.
-        (&[&early_a, &STATUS], &[sent(5, 0), byte_sent(103, 1, 0x61)]),
-        // Nobody hears itself.
-        (&[&talker], &[sent(2, 0)]),
-    ];
-    for (programs, lines) in rows {
-        let mut lab = lab_of(&rt, alloc, programs)?;
-        assert_eq!(rt; run(&mut lab, 300)?.lines.items(), lines);
-    }
+/// Runs these programs for 300 microseconds, and compares the log.
+fn assert_log(
+    rt: &impl Abort,
+    alloc: Global,
+    programs: &[Vec<u32>],
+    lines: &[LogItem],
+) -> Result<(), Fail> {
+    let mut lab = lab_of(rt, alloc, programs)?;
+    assert_eq!(rt; run(&mut lab, 300)?.lines.items(), lines);
     Ok(())
+}
+
+#[test]
+fn bytes_come_in_order_of_time(rt: HostRuntime) -> Result<(), Fail> {
+    let alloc = rt.alloc();
+    let late = sender(alloc, LETTER_B, 50)?;
+    let early = sender(alloc, LETTER_A, 5)?;
+    let echo = Vec::from_slice(alloc, &ECHO)?;
+    // The later byte, of the first board, takes the place of the other.
+    let lines = [sent(5, 1), byte_sent(50, 0, b'B'), byte_sent(104, 2, b'B')];
+    assert_log(&rt, alloc, &[late, early, echo], &lines)
+}
+
+#[test]
+fn a_byte_comes_once(rt: HostRuntime) -> Result<(), Fail> {
+    let alloc = rt.alloc();
+    let sender = sender(alloc, LETTER_A, 5)?;
+    let status = Vec::from_slice(alloc, &STATUS)?;
+    // A byte is there, and none was lost.
+    let lines = [sent(5, 0), byte_sent(103, 1, 0x61)];
+    assert_log(&rt, alloc, &[sender, status], &lines)
+}
+
+#[test]
+fn a_sender_does_not_hear_itself(rt: HostRuntime) -> Result<(), Fail> {
+    let alloc = rt.alloc();
+    // Sends an `A`, and then goes on as a board that sends on what it gets.
+    let mut words = Vec::new(alloc);
+    words.extend_from_slice(&[LUI, LETTER_A, SEND])?;
+    words.extend_from_slice(&ECHO)?;
+    assert_log(&rt, alloc, &[words], &[sent(2, 0)])
 }
 
 /// A round, which is asked for once more where the first found no memory.
