@@ -1,5 +1,5 @@
 -- The boundary between two rounds, at which what the boards have sent is handed over.
-use Rattle.std.specs.Prelude.{ℕ, List, [], Option, None, fold}
+use Rattle.std.specs.Prelude.{List, [], Option, None, fold}
 use Rattle.lab_num.specs.declared.key.Key.{Key}
 use Rattle.lab_num.specs.declared.key.Member.{Member}
 use Rattle.lab_num.specs.declared.post.Payload.{Payload}

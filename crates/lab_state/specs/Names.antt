@@ -3,8 +3,6 @@ use Rattle.std.specs.Prelude.{ℕ, Bool, ◌||◌, List, Option, None, Some, is_
 use Rattle.std.specs.List.{position}
 use Rattle.std.specs.Str.{bytes_eq}
 use Rattle.lab_num.specs.declared.key.Member.{Member}
-use Rattle.lab_state.specs.Board.{Board}
-use Rattle.lab_state.specs.Hub.{Hub}
 use Rattle.lab_state.specs.Lab.{Lab}
 use Rattle.lab_state.specs.One.{connected}
 

@@ -1,5 +1,5 @@
 -- One board or one hub of a laboratory.
-use Rattle.std.specs.Prelude.{ℕ, List, ◌∷◌, [], ◌++◌, Option, slice_get, option_and_then}
+use Rattle.std.specs.Prelude.{ℕ, ◌∷◌, [], ◌++◌, Option, slice_get, option_and_then}
 use Rattle.std.specs.Option.{option_map}
 use Rattle.lab_num.specs.declared.key.Member.{Member}
 use Rattle.board.specs.View.{View}

@@ -20,6 +20,19 @@ const NOP: u32 = 0x0000_0013;
 /// jal x0, 0: goes round in one place
 const STAY: u32 = 0x0000_006F;
 
+/// addi x6, x0, 65: the letter `A`
+const LETTER_A: u32 = 0x0410_0313;
+
+/// addi x6, x0, 66: the letter `B`
+const LETTER_B: u32 = 0x0420_0313;
+
+/// sb x6, 0(x5): sends the byte in x6
+const SEND: u32 = 0x0062_8023;
+
+/// lui x5, 0x10000; lbu x6, 5(x5); andi x7, x6, 1; beq x7, x0, -8; sb x6, 0(x5); jal x0, 0: sends
+/// the line status once a byte has come
+const STATUS: [u32; 6] = [LUI, 0x0052_C303, 0x0013_7393, 0xFE03_8CE3, SEND, STAY];
+
 /// lui x5, 0x10000; lbu x6, 5(x5); andi x6, x6, 1; beq x6, x0, -8; lbu x7, 0(x5); sb x7, 0(x5);
 /// jal x0, 0: sends the first byte that it gets on
 const ECHO: [u32; 7] = [
@@ -40,24 +53,28 @@ fn uart(board: BoardNo) -> Member
     Member { board, dev: 0 }
 }
 
-/// The item of the log for the `A` that a board sent.
-fn sent(at: u64, board: u8) -> LogItem {
+/// The item of the log for a byte that a board sent.
+fn byte_sent(at: u64, board: u8, value: u8) -> LogItem {
     let slot = Member0 {
         at: Micros(at),
         board: BoardNo(board),
     };
-    LogItem::Slot(slot, What::Byte { dev: 0, value: 65 })
+    LogItem::Slot(slot, What::Byte { dev: 0, value })
 }
 
-/// lui x5, 0x10000; addi x6, x0, 65; sb x6, 0(x5); jal x0, 0, with as many instructions that do
-/// nothing before the third as make it slot `at`: sends an `A` in that slot alone.
-fn sender(alloc: Global, at: usize) -> Result<Vec<u32>, Fail> {
+/// The item of the log for the `A` that a board sent.
+fn sent(at: u64, board: u8) -> LogItem {
+    byte_sent(at, board, b'A')
+}
+
+/// Sends a letter in slot `at` alone, after as many instructions that do nothing as it takes.
+fn sender(alloc: Global, letter: u32, at: usize) -> Result<Vec<u32>, Fail> {
     let mut words = Vec::new(alloc);
-    words.extend_from_slice(&[LUI, 0x0410_0313])?;
+    words.extend_from_slice(&[LUI, letter])?;
     for _ in 2..at {
         words.push(NOP)?;
     }
-    words.extend_from_slice(&[0x0062_8023, STAY])?;
+    words.extend_from_slice(&[SEND, STAY])?;
     Ok(words)
 }
 
@@ -102,14 +119,21 @@ fn add(
     equip(rt, lab, b, &program)
 }
 
-/// A board that sends an `A` in slot `at`, and one that sends on what it gets.
-fn sender_and_echo(rt: &impl Abort, alloc: Global, at: usize) -> Result<Lab, Fail> {
+/// Boards m0, m1 and so on that run these programs, all shown and on one hub.
+fn lab_of(rt: &impl Abort, alloc: Global, programs: &[Vec<u32>]) -> Result<Lab, Fail> {
     let mut lab = Lab::new(alloc)?;
     assert!(rt; is_name("hub"));
     lab.create_uart_hub("hub")?;
-    add(rt, alloc, &mut lab, "m0", &sender(alloc, at)?)?;
-    add(rt, alloc, &mut lab, "m1", &ECHO)?;
+    for (name, words) in ["m0", "m1", "m2"].into_iter().zip(programs) {
+        add(rt, alloc, &mut lab, name, words)?;
+    }
     Ok(lab)
+}
+
+/// A board that sends an `A` in slot `at`, and one that sends on what it gets.
+fn sender_and_echo(rt: &impl Abort, alloc: Global, at: usize) -> Result<Lab, Fail> {
+    let sender = sender(alloc, LETTER_A, at)?;
+    lab_of(rt, alloc, &[sender, Vec::from_slice(alloc, &ECHO)?])
 }
 
 fn run(lab: &mut Lab, d: u64) -> Result<RoundLog, Fail> {
@@ -134,6 +158,49 @@ fn a_byte_crosses_at_the_end_of_the_round_in_which_it_was_sent(
         assert_eq!(rt; run(&mut lab, 50)?.lines.items(), second, "slot {at}");
     }
     Ok(())
+}
+
+/// Runs these programs for 300 microseconds, and compares the log.
+fn assert_log(
+    rt: &impl Abort,
+    alloc: Global,
+    programs: &[Vec<u32>],
+    lines: &[LogItem],
+) -> Result<(), Fail> {
+    let mut lab = lab_of(rt, alloc, programs)?;
+    assert_eq!(rt; run(&mut lab, 300)?.lines.items(), lines);
+    Ok(())
+}
+
+#[test]
+fn bytes_come_in_order_of_time(rt: HostRuntime) -> Result<(), Fail> {
+    let alloc = rt.alloc();
+    let late = sender(alloc, LETTER_B, 50)?;
+    let early = sender(alloc, LETTER_A, 5)?;
+    let echo = Vec::from_slice(alloc, &ECHO)?;
+    // The later byte, of the first board, takes the place of the other.
+    let lines = [sent(5, 1), byte_sent(50, 0, b'B'), byte_sent(104, 2, b'B')];
+    assert_log(&rt, alloc, &[late, early, echo], &lines)
+}
+
+#[test]
+fn a_byte_comes_once(rt: HostRuntime) -> Result<(), Fail> {
+    let alloc = rt.alloc();
+    let sender = sender(alloc, LETTER_A, 5)?;
+    let status = Vec::from_slice(alloc, &STATUS)?;
+    // A byte is there, and none was lost.
+    let lines = [sent(5, 0), byte_sent(103, 1, 0x61)];
+    assert_log(&rt, alloc, &[sender, status], &lines)
+}
+
+#[test]
+fn a_sender_does_not_hear_itself(rt: HostRuntime) -> Result<(), Fail> {
+    let alloc = rt.alloc();
+    // Sends an `A`, and then goes on as a board that sends on what it gets.
+    let mut words = Vec::new(alloc);
+    words.extend_from_slice(&[LUI, LETTER_A, SEND])?;
+    words.extend_from_slice(&ECHO)?;
+    assert_log(&rt, alloc, &[words], &[sent(2, 0)])
 }
 
 /// A round, which is asked for once more where the first found no memory.

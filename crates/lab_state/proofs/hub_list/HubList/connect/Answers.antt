@@ -1,5 +1,5 @@
 -- The hubs have the members in their order.
-use Rattle.std.proofs.Common.{◌≡◌, ◌∙◌, ap, arith}
+use Rattle.std.proofs.Common.{◌∙◌, ap, arith}
 use Rattle.std.proofs.lemmas.Result.{on_ok_weaker}
 use Rattle.lab_state.specs.Change.{change_at}
 use Rattle.lab_state.specs.One.{with_member}

@@ -1,8 +1,8 @@
 -- A member more of a hub is a device of a board.
-use Rattle.std.proofs.Common.{◌≡◌, ◌∙◌, ap, ◌<◌, length, false, arith}
+use Rattle.std.proofs.Common.{ap, ◌<◌, length, arith}
 use Rattle.std.proofs.lemmas.List.{length-map}
 use Rattle.lab_state.specs.Board.{Board}
-use Rattle.lab_state.specs.Inner.Standing.{outline, outlines}
+use Rattle.lab_state.specs.Inner.Standing.{outlines}
 use Rattle.lab_state.proofs.ListLemmas.{stands}
 use Rattle.lab_state.proofs.SoundLemmas.{sound-member}
 use Rattle.lab_state.proofs.lab.Lab.connect.Goals as goal
