@@ -1,4 +1,6 @@
 //! Commands that print.
+ghost use Rattle.std.specs.Prelude.{IfOk};
+
 use super::*;
 use lab_io::MemSink;
 use lab_num::NoMemory;
