@@ -153,24 +153,46 @@ const NAMES: [(usize, &str, NamedWhat, &str, bool); 11] = [
     (1, "uart", NamedWhat::Part(RegionKind::Clint), "cpu", false),
 ];
 
+fn is_counted(
+    alloc: Global,
+    names: usize,
+    regions: usize,
+    memories: usize,
+    kinds: usize,
+) -> Result<bool, NoMemory> {
+    let mut plan = small(alloc)?;
+    plan.names = Rows::of(names_of(alloc, &SMALL_NAMES[..names.min(4)])?);
+    plan.regions = Rows::of(SMALL_REGIONS[..regions.min(3)].to_vec(alloc)?);
+    plan.memories = Rows::of(MEMORIES[..memories.min(1)].to_vec(alloc)?);
+    plan.kinds = Rows::of(SMALL_KINDS[..kinds.min(2)].to_vec(alloc)?);
+    Ok(plan.is_valid())
+}
+
+fn is_named(
+    alloc: Global,
+    i: usize,
+    name: &'static str,
+    what: NamedWhat,
+    cpu: &str,
+) -> Result<bool, NoMemory> {
+    let mut names = SMALL_NAMES;
+    names[i % 4] = (name, what);
+    let mut plan = small(alloc)?;
+    plan.names = Rows::of(names_of(alloc, &names)?);
+    plan.cpu = Text::of(alloc, cpu)?;
+    Ok(plan.is_valid())
+}
+
 #[test]
 fn each_part_has_one_name_and_one_region(rt: HostRuntime) -> Result<(), Fail> {
     let alloc = rt.alloc();
     for (names, regions, memories, kinds, valid) in COUNTS {
-        let mut plan = small(alloc)?;
-        plan.names = Rows::of(names_of(alloc, &SMALL_NAMES[..names.min(4)])?);
-        plan.regions = Rows::of(SMALL_REGIONS[..regions.min(3)].to_vec(alloc)?);
-        plan.memories = Rows::of(MEMORIES[..memories.min(1)].to_vec(alloc)?);
-        plan.kinds = Rows::of(SMALL_KINDS[..kinds.min(2)].to_vec(alloc)?);
-        assert_eq!(rt; plan.is_valid(), valid);
+        let is_valid = is_counted(alloc, names, regions, memories, kinds)?;
+        assert_eq!(rt; is_valid, valid);
     }
     for (i, name, what, cpu, valid) in NAMES {
-        let mut names = SMALL_NAMES;
-        names[i % 4] = (name, what);
-        let mut plan = small(alloc)?;
-        plan.names = Rows::of(names_of(alloc, &names)?);
-        plan.cpu = Text::of(alloc, cpu)?;
-        assert_eq!(rt; plan.is_valid(), valid, "{i}: {name}");
+        let is_valid = is_named(alloc, i, name, what, cpu)?;
+        assert_eq!(rt; is_valid, valid, "{i}: {name}");
     }
     Ok(())
 }
@@ -214,23 +236,38 @@ fn with_range(region: Region, base: u32, size: u32, step: u8) -> Region {
     }
 }
 
+fn is_small_range(
+    alloc: Global,
+    i: usize,
+    range: (u32, u32, u8),
+    memory: u32,
+) -> Result<bool, NoMemory> {
+    let mut regions = SMALL_REGIONS;
+    regions[i % 3] = with_range(regions[i % 3], range.0, range.1, range.2);
+    let mut plan = small(alloc)?;
+    plan.regions = Rows::of(regions.to_vec(alloc)?);
+    plan.memories = Rows::of([memory].to_vec(alloc)?);
+    Ok(plan.is_valid())
+}
+
+fn is_usual_range(alloc: Global, i: usize, base: u32, size: u32) -> Result<bool, NoMemory> {
+    let mut regions = USUAL_REGIONS;
+    regions[i % 4] = with_range(regions[i % 4], base, size, 1);
+    let mut plan = usual(alloc)?;
+    plan.regions = Rows::of(regions.to_vec(alloc)?);
+    Ok(plan.is_valid())
+}
+
 #[test]
 fn regions_lie_apart_within_their_limits(rt: HostRuntime) -> Result<(), Fail> {
     let alloc = rt.alloc();
     for (i, base, size, step, memory, valid) in SMALL_RANGES {
-        let mut regions = SMALL_REGIONS;
-        regions[i % 3] = with_range(regions[i % 3], base, size, step);
-        let mut plan = small(alloc)?;
-        plan.regions = Rows::of(regions.to_vec(alloc)?);
-        plan.memories = Rows::of([memory].to_vec(alloc)?);
-        assert_eq!(rt; plan.is_valid(), valid, "{i}: {base:#x}, {size:#x}");
+        let is_valid = is_small_range(alloc, i, (base, size, step), memory)?;
+        assert_eq!(rt; is_valid, valid, "{i}: {base:#x}, {size:#x}");
     }
     for (i, base, size, valid) in USUAL_RANGES {
-        let mut regions = USUAL_REGIONS;
-        regions[i % 4] = with_range(regions[i % 4], base, size, 1);
-        let mut plan = usual(alloc)?;
-        plan.regions = Rows::of(regions.to_vec(alloc)?);
-        assert_eq!(rt; plan.is_valid(), valid, "{i}: {base:#x}, {size:#x}");
+        let is_valid = is_usual_range(alloc, i, base, size)?;
+        assert_eq!(rt; is_valid, valid, "{i}: {base:#x}, {size:#x}");
     }
     Ok(())
 }
@@ -281,29 +318,59 @@ const KINDS: [(Kind, Kind, bool); 3] = [
     (Kind::Finisher, Kind::Finisher, false),
 ];
 
+fn has_numbers(
+    alloc: Global,
+    frequency: Option<u32>,
+    sources: u8,
+    contexts: u8,
+    speed: u32,
+) -> Result<bool, NoMemory> {
+    let mut plan = usual(alloc)?;
+    plan.frequency = frequency;
+    plan.plic = plic(sources, contexts);
+    plan.speed = speed;
+    Ok(plan.is_valid())
+}
+
+/// Whether a board's plan is valid with one wire.
+fn has_wire(
+    alloc: Global,
+    mut plan: BoardPlan,
+    from: WireFrom,
+    pin: WirePin,
+) -> Result<bool, NoMemory> {
+    plan.wires = Rows::of([Wire { from, pin }].to_vec(alloc)?);
+    Ok(plan.is_valid())
+}
+
+fn has_kinds(alloc: Global, first: Kind, second: Kind) -> Result<bool, NoMemory> {
+    let mut plan = small(alloc)?;
+    plan.kinds = Rows::of([first, second].to_vec(alloc)?);
+    Ok(plan.is_valid())
+}
+
 #[test]
-fn numbers_wires_and_kinds_are_those_that_may_be(rt: HostRuntime) -> Result<(), Fail> {
+fn numbers_and_kinds_are_those_that_may_be(rt: HostRuntime) -> Result<(), Fail> {
     let alloc = rt.alloc();
     for (frequency, sources, contexts, speed, valid) in NUMBERS {
-        let mut plan = usual(alloc)?;
-        plan.frequency = frequency;
-        plan.plic = plic(sources, contexts);
-        plan.speed = speed;
-        assert_eq!(rt; plan.is_valid(), valid, "{frequency:?}, {sources}");
-    }
-    for (from, pin, on_usual, on_small) in WIRES {
-        let wires = [Wire { from, pin }];
-        let (mut usual, mut small) = (usual(alloc)?, small(alloc)?);
-        usual.wires = Rows::of(wires.to_vec(alloc)?);
-        small.wires = Rows::of(wires.to_vec(alloc)?);
-        assert_eq!(rt; usual.is_valid(), on_usual, "{from:?}, {pin:?}");
-        assert_eq!(rt; small.is_valid(), on_small, "{from:?}, {pin:?}");
+        let is_valid = has_numbers(alloc, frequency, sources, contexts, speed)?;
+        assert_eq!(rt; is_valid, valid);
     }
     for (first, second, valid) in KINDS {
-        let kinds = [first, second];
-        let mut plan = small(alloc)?;
-        plan.kinds = Rows::of(kinds.to_vec(alloc)?);
-        assert_eq!(rt; plan.is_valid(), valid, "{first:?}, {second:?}");
+        let is_valid = has_kinds(alloc, first, second)?;
+        assert_eq!(rt; is_valid, valid);
+    }
+    Ok(())
+}
+
+#[test]
+fn wires_are_those_that_may_be(rt: HostRuntime) -> Result<(), Fail> {
+    let alloc = rt.alloc();
+    for (from, pin, on_usual, on_small) in WIRES {
+        let is_valid = has_wire(alloc, usual(alloc)?, from, pin)?;
+        assert_eq!(rt; is_valid, on_usual);
+        let is_valid = has_wire(alloc, small(alloc)?, from, pin)?;
+        assert_eq!(rt; is_valid, on_small);
     }
     Ok(())
 }
