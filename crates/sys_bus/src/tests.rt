@@ -41,20 +41,6 @@ const PLIC: Region = Region {
     step: 1,
 };
 
-/// What a plan is made of.
-#[derive(Clone, Copy)]
-struct Parts<'a> {
-    names: &'a [(&'a str, NamedWhat)],
-    regions: &'a [Region],
-    memories: &'a [u32],
-    kinds: &'a [Kind],
-    frequency: Option<u32>,
-    plic: Option<PlicSize>,
-    wires: &'a [Wire],
-    speed: u32,
-    cpu: &'a str,
-}
-
 const SMALL_NAMES: [(&str, NamedWhat); 4] = [
     ("ram", NamedWhat::Part(RegionKind::Ram(0))),
     ("uart", NamedWhat::Part(RegionKind::Dev(0))),
@@ -66,18 +52,7 @@ const SMALL_REGIONS: [Region; 3] = [RAM, UART, FINISHER];
 
 const SMALL_KINDS: [Kind; 2] = [Kind::Uart, Kind::Finisher];
 
-/// A board with a memory, a UART and a finisher.
-const SMALL: Parts<'static> = Parts {
-    names: &SMALL_NAMES,
-    regions: &SMALL_REGIONS,
-    memories: &[0x1_0000],
-    kinds: &SMALL_KINDS,
-    frequency: None,
-    plic: None,
-    wires: &[],
-    speed: 1,
-    cpu: "cpu",
-};
+const MEMORIES: [u32; 1] = [0x1_0000];
 
 const USUAL_NAMES: [(&str, NamedWhat); 5] = [
     ("ram", NamedWhat::Part(RegionKind::Ram(0))),
@@ -91,22 +66,6 @@ const USUAL_REGIONS: [Region; 4] = [RAM, CLINT, PLIC, UART];
 
 const USUAL_KINDS: [Kind; 1] = [Kind::Uart];
 
-/// A board with a memory, a timer, an interrupt controller and a UART.
-const USUAL: Parts<'static> = Parts {
-    names: &USUAL_NAMES,
-    regions: &USUAL_REGIONS,
-    memories: &[0x1_0000],
-    kinds: &USUAL_KINDS,
-    frequency: Some(1_000_000),
-    plic: Some(PlicSize {
-        sources: 31,
-        contexts: 1,
-    }),
-    wires: &[],
-    speed: 25,
-    cpu: "cpu",
-};
-
 fn names_of(alloc: Global, names: &[(&str, NamedWhat)]) -> Result<Vec<Named>, NoMemory> {
     let mut list = Vec::new(alloc);
     for &(name, what) in names {
@@ -116,17 +75,33 @@ fn names_of(alloc: Global, names: &[(&str, NamedWhat)]) -> Result<Vec<Named>, No
     Ok(list)
 }
 
-fn plan(alloc: Global, parts: &Parts) -> Result<BoardPlan, NoMemory> {
+/// A board with a memory, a UART and a finisher.
+fn small(alloc: Global) -> Result<BoardPlan, NoMemory> {
     Ok(BoardPlan {
-        names: Rows::of(names_of(alloc, parts.names)?),
-        regions: Rows::of(parts.regions.to_vec(alloc)?),
-        memories: Rows::of(parts.memories.to_vec(alloc)?),
-        kinds: Rows::of(parts.kinds.to_vec(alloc)?),
-        frequency: parts.frequency,
-        plic: parts.plic,
-        wires: Rows::of(parts.wires.to_vec(alloc)?),
-        speed: parts.speed,
-        cpu: Text::of(alloc, parts.cpu)?,
+        names: Rows::of(names_of(alloc, &SMALL_NAMES)?),
+        regions: Rows::of(SMALL_REGIONS.to_vec(alloc)?),
+        memories: Rows::of(MEMORIES.to_vec(alloc)?),
+        kinds: Rows::of(SMALL_KINDS.to_vec(alloc)?),
+        frequency: None,
+        plic: None,
+        wires: Rows::of(Vec::new(alloc)),
+        speed: 1,
+        cpu: Text::of(alloc, "cpu")?,
+    })
+}
+
+/// A board with a memory, a timer, an interrupt controller and a UART.
+fn usual(alloc: Global) -> Result<BoardPlan, NoMemory> {
+    Ok(BoardPlan {
+        names: Rows::of(names_of(alloc, &USUAL_NAMES)?),
+        regions: Rows::of(USUAL_REGIONS.to_vec(alloc)?),
+        memories: Rows::of(MEMORIES.to_vec(alloc)?),
+        kinds: Rows::of(USUAL_KINDS.to_vec(alloc)?),
+        frequency: Some(1_000_000),
+        plic: plic(31, 1),
+        wires: Rows::of(Vec::new(alloc)),
+        speed: 25,
+        cpu: Text::of(alloc, "cpu")?,
     })
 }
 
@@ -178,24 +153,46 @@ const NAMES: [(usize, &str, NamedWhat, &str, bool); 11] = [
     (1, "uart", NamedWhat::Part(RegionKind::Clint), "cpu", false),
 ];
 
+fn is_counted(
+    alloc: Global,
+    names: usize,
+    regions: usize,
+    memories: usize,
+    kinds: usize,
+) -> Result<bool, NoMemory> {
+    let mut plan = small(alloc)?;
+    plan.names = Rows::of(names_of(alloc, &SMALL_NAMES[..names.min(4)])?);
+    plan.regions = Rows::of(SMALL_REGIONS[..regions.min(3)].to_vec(alloc)?);
+    plan.memories = Rows::of(MEMORIES[..memories.min(1)].to_vec(alloc)?);
+    plan.kinds = Rows::of(SMALL_KINDS[..kinds.min(2)].to_vec(alloc)?);
+    Ok(plan.is_valid())
+}
+
+fn is_named(
+    alloc: Global,
+    i: usize,
+    name: &'static str,
+    what: NamedWhat,
+    cpu: &str,
+) -> Result<bool, NoMemory> {
+    let mut names = SMALL_NAMES;
+    names[i % 4] = (name, what);
+    let mut plan = small(alloc)?;
+    plan.names = Rows::of(names_of(alloc, &names)?);
+    plan.cpu = Text::of(alloc, cpu)?;
+    Ok(plan.is_valid())
+}
+
 #[test]
 fn each_part_has_one_name_and_one_region(rt: HostRuntime) -> Result<(), Fail> {
     let alloc = rt.alloc();
     for (names, regions, memories, kinds, valid) in COUNTS {
-        let mut parts = SMALL;
-        parts.names = &SMALL_NAMES[..names.min(4)];
-        parts.regions = &SMALL_REGIONS[..regions.min(3)];
-        parts.memories = &[0x1_0000][..memories.min(1)];
-        parts.kinds = &SMALL_KINDS[..kinds.min(2)];
-        assert_eq!(rt; plan(alloc, &parts)?.is_valid(), valid);
+        let is_valid = is_counted(alloc, names, regions, memories, kinds)?;
+        assert_eq!(rt; is_valid, valid);
     }
     for (i, name, what, cpu, valid) in NAMES {
-        let mut names = SMALL_NAMES;
-        names[i % 4] = (name, what);
-        let mut parts = SMALL;
-        parts.names = &names;
-        parts.cpu = cpu;
-        assert_eq!(rt; plan(alloc, &parts)?.is_valid(), valid, "{i}: {name}");
+        let is_valid = is_named(alloc, i, name, what, cpu)?;
+        assert_eq!(rt; is_valid, valid, "{i}: {name}");
     }
     Ok(())
 }
@@ -239,32 +236,38 @@ fn with_range(region: Region, base: u32, size: u32, step: u8) -> Region {
     }
 }
 
+fn is_small_range(
+    alloc: Global,
+    i: usize,
+    range: (u32, u32, u8),
+    memory: u32,
+) -> Result<bool, NoMemory> {
+    let mut regions = SMALL_REGIONS;
+    regions[i % 3] = with_range(regions[i % 3], range.0, range.1, range.2);
+    let mut plan = small(alloc)?;
+    plan.regions = Rows::of(regions.to_vec(alloc)?);
+    plan.memories = Rows::of([memory].to_vec(alloc)?);
+    Ok(plan.is_valid())
+}
+
+fn is_usual_range(alloc: Global, i: usize, base: u32, size: u32) -> Result<bool, NoMemory> {
+    let mut regions = USUAL_REGIONS;
+    regions[i % 4] = with_range(regions[i % 4], base, size, 1);
+    let mut plan = usual(alloc)?;
+    plan.regions = Rows::of(regions.to_vec(alloc)?);
+    Ok(plan.is_valid())
+}
+
 #[test]
 fn regions_lie_apart_within_their_limits(rt: HostRuntime) -> Result<(), Fail> {
     let alloc = rt.alloc();
     for (i, base, size, step, memory, valid) in SMALL_RANGES {
-        let mut regions = SMALL_REGIONS;
-        regions[i % 3] = with_range(regions[i % 3], base, size, step);
-        let memories = [memory];
-        let mut parts = SMALL;
-        parts.regions = &regions;
-        parts.memories = &memories;
-        assert_eq!(rt;
-            plan(alloc, &parts)?.is_valid(),
-            valid,
-            "{i}: {base:#x}, {size:#x}"
-        );
+        let is_valid = is_small_range(alloc, i, (base, size, step), memory)?;
+        assert_eq!(rt; is_valid, valid, "{i}: {base:#x}, {size:#x}");
     }
     for (i, base, size, valid) in USUAL_RANGES {
-        let mut regions = USUAL_REGIONS;
-        regions[i % 4] = with_range(regions[i % 4], base, size, 1);
-        let mut parts = USUAL;
-        parts.regions = &regions;
-        assert_eq!(rt;
-            plan(alloc, &parts)?.is_valid(),
-            valid,
-            "{i}: {base:#x}, {size:#x}"
-        );
+        let is_valid = is_usual_range(alloc, i, base, size)?;
+        assert_eq!(rt; is_valid, valid, "{i}: {base:#x}, {size:#x}");
     }
     Ok(())
 }
@@ -315,45 +318,59 @@ const KINDS: [(Kind, Kind, bool); 3] = [
     (Kind::Finisher, Kind::Finisher, false),
 ];
 
+fn has_numbers(
+    alloc: Global,
+    frequency: Option<u32>,
+    sources: u8,
+    contexts: u8,
+    speed: u32,
+) -> Result<bool, NoMemory> {
+    let mut plan = usual(alloc)?;
+    plan.frequency = frequency;
+    plan.plic = plic(sources, contexts);
+    plan.speed = speed;
+    Ok(plan.is_valid())
+}
+
+/// Whether a board's plan is valid with one wire.
+fn has_wire(
+    alloc: Global,
+    mut plan: BoardPlan,
+    from: WireFrom,
+    pin: WirePin,
+) -> Result<bool, NoMemory> {
+    plan.wires = Rows::of([Wire { from, pin }].to_vec(alloc)?);
+    Ok(plan.is_valid())
+}
+
+fn has_kinds(alloc: Global, first: Kind, second: Kind) -> Result<bool, NoMemory> {
+    let mut plan = small(alloc)?;
+    plan.kinds = Rows::of([first, second].to_vec(alloc)?);
+    Ok(plan.is_valid())
+}
+
 #[test]
-fn numbers_wires_and_kinds_are_those_that_may_be(rt: HostRuntime) -> Result<(), Fail> {
+fn numbers_and_kinds_are_those_that_may_be(rt: HostRuntime) -> Result<(), Fail> {
     let alloc = rt.alloc();
     for (frequency, sources, contexts, speed, valid) in NUMBERS {
-        let mut parts = USUAL;
-        parts.frequency = frequency;
-        parts.plic = plic(sources, contexts);
-        parts.speed = speed;
-        assert_eq!(rt;
-            plan(alloc, &parts)?.is_valid(),
-            valid,
-            "{frequency:?}, {sources}"
-        );
-    }
-    for (from, pin, on_usual, on_small) in WIRES {
-        let wires = [Wire { from, pin }];
-        let (mut usual, mut small) = (USUAL, SMALL);
-        usual.wires = &wires;
-        small.wires = &wires;
-        assert_eq!(rt;
-            plan(alloc, &usual)?.is_valid(),
-            on_usual,
-            "{from:?}, {pin:?}"
-        );
-        assert_eq!(rt;
-            plan(alloc, &small)?.is_valid(),
-            on_small,
-            "{from:?}, {pin:?}"
-        );
+        let is_valid = has_numbers(alloc, frequency, sources, contexts, speed)?;
+        assert_eq!(rt; is_valid, valid);
     }
     for (first, second, valid) in KINDS {
-        let kinds = [first, second];
-        let mut parts = SMALL;
-        parts.kinds = &kinds;
-        assert_eq!(rt;
-            plan(alloc, &parts)?.is_valid(),
-            valid,
-            "{first:?}, {second:?}"
-        );
+        let is_valid = has_kinds(alloc, first, second)?;
+        assert_eq!(rt; is_valid, valid);
+    }
+    Ok(())
+}
+
+#[test]
+fn wires_are_those_that_may_be(rt: HostRuntime) -> Result<(), Fail> {
+    let alloc = rt.alloc();
+    for (from, pin, on_usual, on_small) in WIRES {
+        let is_valid = has_wire(alloc, usual(alloc)?, from, pin)?;
+        assert_eq!(rt; is_valid, on_usual);
+        let is_valid = has_wire(alloc, small(alloc)?, from, pin)?;
+        assert_eq!(rt; is_valid, on_small);
     }
     Ok(())
 }
