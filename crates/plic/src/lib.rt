@@ -10,3 +10,6 @@ mod valid;
 
 pub use plic::Plic;
 pub use state::PlicState;
+
+#[cfg(test)]
+mod tests;
