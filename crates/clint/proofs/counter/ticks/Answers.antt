@@ -1,5 +1,5 @@
 -- The whole seconds and the rest give the quotient, and the sum wraps as it does.
-use Rattle.std.proofs.Common.{◌%◌, ◌*◌, ◌/◌, ◌+◌, ℕ, ◌≡◌, ◌∙◌, ap, sym, arith}
+use Rattle.std.proofs.Common.{◌%◌, ◌*◌, ◌/◌, ℕ, ◌∙◌, ap, sym, arith}
 use Rattle.std.proofs.Math.Nat.{mod-add-mod}
 use Rattle.clint.specs.Mtime.{ticks}
 use Rattle.clint.proofs.Wraps.{div-apart}
