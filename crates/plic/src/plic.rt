@@ -51,8 +51,7 @@ impl Plic {
     /// Samples the lines of the sources; bit `s` is the line of source `s`.
     #[tactic(auto, unfolding(crate::specs::Claim::sampled))]
     pub fn sample(&mut self, lines: u128)
-        ensures {
-            self.new ≡ record self.old { state = sampled self.old.sources self.old.state lines } }
+        ensures { self.new ≡ record self.old { state = sampled self.old.sources self.old.state lines } }
     {
         let raised = lines & sources_to(u32::from(self.sources)) & !self.state.shut;
         self.state.pending = self.state.pending | raised;
@@ -130,8 +129,7 @@ impl Plic {
     /// nothing where no register is.
     #[tactic(auto, unfolding(crate::specs::Plic::plic_stored))]
     pub fn store(&mut self, at: u32, width: u8, value: u32)
-        ensures {
-            self.new ≡ record self.old { state = plic_stored self.old at width value } }
+        ensures { self.new ≡ record self.old { state = plic_stored self.old at width value } }
     {
         let sources = u32::from(self.sources);
         match reached(sources, u32::from(self.contexts), at, width) {
@@ -165,10 +163,8 @@ impl Plic {
 
     /// Takes a state over, or answers false where this PLIC cannot have it.
     pub fn put(&mut self, state: &PlicState) -> bool
-        ensures valid {
-            IsTrue result ↔ IsPlicState self.old.sources self.old.contexts state.now }
-        ensures after {
-            self.new ≡ (if result then record self.old { state = state.now } else self.old) }
+        ensures valid { IsTrue result ↔ IsPlicState self.old.sources self.old.contexts state.now }
+        ensures after { self.new ≡ (if result then record self.old { state = state.now } else self.old) }
     {
         let is_valid = is_valid(state, u32::from(self.sources), usize::from(self.contexts));
         if is_valid {

@@ -42,30 +42,37 @@ fn a_register_keeps_the_bits_that_are_there(rt: HostRuntime) {
     }
 }
 
-/// The priorities of sources 1 to 3, a threshold, the lines that are sampled; the output, and what
-/// three claims then give.
-const CLAIMS: [([u32; 3], u32, u128, bool, [u32; 3]); 8] = [
-    ([1, 1, 1], 0, 0b1110, true, [1, 2, 3]),
-    ([1, 2, 3], 0, 0b1110, true, [3, 2, 1]),
-    ([3, 7, 7], 0, 0b1110, true, [2, 3, 1]),
-    ([1, 7, 7], 0, 0b0010, true, [1, 0, 0]),
-    ([0, 0, 1], 0, 0b0110, false, [0, 0, 0]),
-    ([2, 1, 1], 2, 0b1110, false, [1, 2, 3]),
-    ([2, 1, 3], 2, 0b1110, true, [3, 1, 2]),
-    ([7, 7, 7], 0, 0b0001, false, [0, 0, 0]),
+/// The priorities of sources 1 to 3 and a threshold, in a state in which the three are pending and
+/// enabled in context 0; the output, and what three claims then give.
+const CLAIMS: [([u8; 3], u8, bool, [u32; 3]); 6] = [
+    ([1, 1, 1], 0, true, [1, 2, 3]),
+    ([1, 2, 3], 0, true, [3, 2, 1]),
+    ([3, 7, 7], 0, true, [2, 3, 1]),
+    ([0, 0, 1], 1, false, [3, 0, 0]),
+    ([2, 1, 1], 2, false, [1, 2, 3]),
+    ([2, 1, 3], 2, true, [3, 1, 2]),
 ];
+
+/// The output to context 0 in a state.
+fn output(state: &PlicState) -> bool {
+    let mut plic = Plic::new(3, 1);
+    let taken = plic.put(state);
+    taken && plic.output(0)
+}
 
 #[test]
 fn a_claim_takes_the_greatest_priority(rt: HostRuntime) {
-    for (priorities, threshold, lines, output, claims) in CLAIMS {
+    for (priorities, threshold, up, claims) in CLAIMS {
+        let mut state = PlicState::reset();
+        state.priorities[1] = priorities[0];
+        state.priorities[2] = priorities[1];
+        state.priorities[3] = priorities[2];
+        state.pending = 0b1110;
+        state.enables[0] = 0b1110;
+        state.thresholds[0] = threshold;
+        assert_eq!(rt; output(&state), up, "{priorities:?}");
         let mut plic = Plic::new(3, 1);
-        plic.store(0x2000, 4, 0b1110);
-        plic.store(0x20_0000, 4, threshold);
-        for (source, priority) in priorities.iter().enumerate() {
-            plic.store(4 + 4 * source as u32, 4, *priority);
-        }
-        plic.sample(lines);
-        assert_eq!(rt; plic.output(0), output, "{priorities:?}");
+        assert!(rt; plic.put(&state));
         for claim in claims {
             assert_eq!(rt; plic.load(0x20_0004, 4), claim, "{priorities:?}");
         }
@@ -103,7 +110,7 @@ fn a_gateway_passes_on_one_request_until_it_is_completed(rt: HostRuntime) {
     for (step, pending) in STEPS {
         match step {
             Step::Sample => plic.sample(0b110),
-            Step::Claim => assert_eq!(rt; plic.claim(0), 1),
+            Step::Claim => assert_eq!(rt; plic.load(0x20_0004, 4), 1),
             Step::Complete(source) => plic.store(0x20_0004, 4, source),
         }
         assert_eq!(rt; plic.load(0x1000, 4), pending, "{step:?}");
