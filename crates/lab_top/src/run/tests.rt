@@ -1,5 +1,5 @@
 //! Commands that print.
-ghost use Rattle.std.specs.Prelude.{IfOk};
+ghost use Rattle.std.specs.Prelude.{◌≡◌, false, IfOk};
 
 use super::*;
 use lab_io::MemSink;
