@@ -1,4 +1,3 @@
-pub mod SlotLemmas
 pub mod NumberLemmas
+pub mod SlotLemmas
 pub mod StretchLemmas
-pub mod MemoryLemmas

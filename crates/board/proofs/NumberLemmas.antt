@@ -10,11 +10,18 @@ use Rattle.rv_hart.specs.Core.{ticked}
 use Rattle.rv_hart.specs.Trap.{chosen, interrupt, is_ready}
 use Rattle.rv_exec.specs.Outcome.{counted}
 use Rattle.rv_exec.specs.Effect.{Effect, Done, Load, Store, effect_of_fetch}
-use Rattle.board.specs.Space.{place_of, after_load, after_store, byte_sent, lines_of}
+use Rattle.dev_core.specs.declared.payload.Effect.{Effect as DeviceEffect}
+use Rattle.dev_core.specs.declared.payload.Effect.TheVariants.{Quiet, Send}
+use Rattle.dev_core.specs.declared.payload.Payload.{Payload}
+use Rattle.dev_core.specs.declared.post.What.{What}
+use Rattle.dev_core.specs.declared.post.What.TheVariants as what
+use Rattle.sys_bus.specs.declared.region.Target.{Target}
+use Rattle.sys_bus.specs.declared.region.Target.TheVariants.{Ram, Clint, Plic, Dev, Nothing}
+use Rattle.board.specs.Space.{device_at, target_at, device_store, after_load, after_store, lines_of}
 use Rattle.board.specs.Numbers.{Numbers}
-use Rattle.board.specs.Wires.{sent, sent_if, posted, entered, fetched, answer}
-use Rattle.board.specs.View.{View, State, wires_of, state_of, after}
-use Rattle.board.specs.Slot.{slot, awake, asleep, woken, quiet, cycle, carried_out, instruction}
+use Rattle.board.specs.Wires.{note_if, sent, acted, posted, entered, entered_if, reading, loaded, stored, stored_to, fetched, answer}
+use Rattle.board.specs.View.{View, State, quiet, wires_of, state_of, after}
+use Rattle.board.specs.Slot.{slot, awake, asleep, woken, cycle, carried_out, instruction}
 use Rattle.board.specs.Stretch.{stretch}
 use Rattle.board.specs.Numbered.{AreNumbered, IsNumbered}
 
@@ -36,16 +43,38 @@ numbered_none v n = record {
   entry_keys = tt;
 }
 
--- a byte was sent
+-- something was noted for the log
+numbered_entered :
+    (v : View) (t : ℕ) (note : What) → HasRoom v.numbers 1 →
+    IsNumbered v.numbers 1 (state_of v.core (entered (wires_of v t) note))
+numbered_entered v t note room = record {
+  number = refl;
+  speed = refl;
+  posted = omega arith;
+  entered = omega (arith, room.entered);
+  few_posts = omega arith;
+  few_entries = omega arith;
+  post_keys = tt;
+  entry_keys = (refl, refl, tt);
+}
+
+numbered_entered_if :
+    (v : View) (t : ℕ) (note : Option What) → HasRoom v.numbers 1 →
+    IsNumbered v.numbers 1 (state_of v.core (entered_if (wires_of v t) note))
+numbered_entered_if v t None room = numbered_none v 1
+numbered_entered_if v t (Some note) room = numbered_entered v t note room
+
+-- a payload was sent
 numbered_sent :
-    (v : View) (t byte : ℕ) → HasRoom v.numbers 1 → IsNumbered v.numbers 1 (state_of v.core (sent (wires_of v t) byte))
+    (v : View) (t dev : ℕ) (payload : Payload) → HasRoom v.numbers 1 →
+    IsNumbered v.numbers 1 (state_of v.core (sent (wires_of v t) dev payload))
 unfolding sent
-numbered_sent v t byte room = by_shown v.space.shown
+numbered_sent v t dev payload room = by_note (note_if (device_at v.space dev).shown dev payload)
   where
-    by_shown :
-        (shown : Bool) → let made = posted (wires_of v t) byte in
-        IsNumbered v.numbers 1 (state_of v.core (if shown then entered made byte else made))
-    by_shown true = record {
+    by_note :
+        (note : Option What) → let made = posted (wires_of v t) dev payload in
+        IsNumbered v.numbers 1 (state_of v.core (entered_if made note))
+    by_note (Some note) = record {
       number = refl;
       speed = refl;
       posted = omega (arith, room.posted);
@@ -55,7 +84,7 @@ numbered_sent v t byte room = by_shown v.space.shown
       post_keys = (refl, refl, tt);
       entry_keys = (refl, refl, tt);
     }
-    by_shown false = record {
+    by_note None = record {
       number = refl;
       speed = refl;
       posted = omega (arith, room.posted);
@@ -66,24 +95,37 @@ numbered_sent v t byte room = by_shown v.space.shown
       entry_keys = tt;
     }
 
-numbered_sent_if :
-    (v : View) (t : ℕ) (byte : Option ℕ) → HasRoom v.numbers 1 →
-    IsNumbered v.numbers 1 (state_of v.core (sent_if (wires_of v t) byte))
-numbered_sent_if v t None room = numbered_none v 1
-numbered_sent_if v t (Some byte) room = numbered_sent v t byte room
+numbered_acted :
+    (v : View) (t dev : ℕ) (effect : DeviceEffect) → HasRoom v.numbers 1 →
+    IsNumbered v.numbers 1 (state_of v.core (acted (wires_of v t) dev effect))
+numbered_acted v t dev Quiet room = numbered_none v 1
+numbered_acted v t dev (Send payload) room = numbered_sent v t dev payload room
+
+numbered_stored :
+    (v : View) (t at width value : ℕ) (target : Target) → HasRoom v.numbers 1 →
+    IsNumbered v.numbers 1 (state_of v.core (stored_to (wires_of v t) at width value target))
+numbered_stored v t at width value (Ram part offset) room =
+    numbered_none (record v { space = after_store v.space width value (Ram part offset) }) 1
+numbered_stored v t at width value (Dev dev offset) room =
+    numbered_acted (record v { space = after_store v.space width value (Dev dev offset) }) t dev
+    (device_store v.space dev offset width value).answer room
+numbered_stored v t at width value (Clint offset) room = numbered_none v 1
+numbered_stored v t at width value (Plic offset) room = numbered_none v 1
+numbered_stored v t at width value Nothing room = numbered_entered v t (what.Write width at value) room
 
 -- an effect was carried out
 numbered_effect :
     (v : View) (t : ℕ) (effect : Effect) → HasRoom v.numbers 1 →
     IsNumbered v.numbers 1 (carried_out (wires_of v t) effect)
+unfolding loaded stored
 numbered_effect v t (Done done) room = numbered_none (record v { core = counted done }) 1
 numbered_effect v t (Load at width complete) room =
     let core = counted (complete (answer (wires_of v t) at width)) in
-    numbered_none (record v { core = core; space = after_load v.space (place_of v.space at width) }) 1
+    let target = target_at v.space at width in
+    numbered_entered_if (record v { core = core; space = after_load v.space width target }) t
+    (reading at width target) room
 numbered_effect v t (Store at width value done) room =
-    let place = place_of v.space at width in
-    let stored = record v { core = counted done; space = after_store v.space width value place } in
-    numbered_sent_if stored t (byte_sent value place) room
+    numbered_stored (record v { core = counted done }) t at width value (target_at v.space at width) room
 
 -- a slot was taken
 numbered_awake : (v : View) (t : ℕ) (lines : Lines) → HasRoom v.numbers 1 → IsNumbered v.numbers 1 (awake v t lines)

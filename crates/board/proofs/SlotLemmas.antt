@@ -6,11 +6,18 @@ use Rattle.std.proofs.lemmas.List.{append-nil}
 use Rattle.rv_hart.specs.declared.csr.Lines.{Lines}
 use Rattle.rv_hart.specs.Core.{Core}
 use Rattle.rv_hart.specs.Trap.{chosen, interrupt, is_ready}
-use Rattle.board.specs.Space.{place_of, after_store, byte_sent, lines_of}
-use Rattle.board.specs.Wires.{Wires, posted, entered, sent, sent_if, fetched, answer, loaded, stored}
+use Rattle.dev_core.specs.declared.payload.Effect.{Effect as DeviceEffect}
+use Rattle.dev_core.specs.declared.payload.Effect.TheVariants.{Quiet, Send}
+use Rattle.dev_core.specs.declared.payload.Payload.{Payload}
+use Rattle.dev_core.specs.declared.post.What.{What}
+use Rattle.dev_core.specs.declared.post.What.TheVariants as what
+use Rattle.sys_bus.specs.declared.region.Target.{Target}
+use Rattle.sys_bus.specs.declared.region.Target.TheVariants.{Ram, Clint, Plic, Dev, Nothing}
+use Rattle.board.specs.Space.{device_at, target_at, device_store, after_load, after_store, lines_of}
+use Rattle.board.specs.Wires.{Wires, posted, entered_if, note_if, sent, acted, reading, fetched, answer, loaded, stored, stored_to}
 use Rattle.rv_exec.specs.Effect.{Effect, Done, Load, Store, effect_of_fetch, core_after, bus_after}
-use Rattle.board.specs.View.{View, State, wires_of, state_of, after}
-use Rattle.board.specs.Slot.{slot, awake, asleep, woken, quiet, cycle, carried_out, instruction}
+use Rattle.board.specs.View.{View, State, quiet, wires_of, state_of, after}
+use Rattle.board.specs.Slot.{slot, awake, asleep, woken, cycle, carried_out, instruction}
 
 -- wires by which nothing was made yet
 abbrev pub emptied : Wires → Wires
@@ -23,31 +30,56 @@ behind front w = record w { posts = front.posts ++ w.posts; entries = front.entr
 behind-emptied : (w : Wires) → w ≡ behind w (emptied w)
 behind-emptied w = sym (simp append-nil)
 
--- a byte that is sent
-sent-emptied : (w : Wires) (byte : ℕ) → sent w byte ≡ behind w (sent (emptied w) byte)
-unfolding sent
-sent-emptied w byte = by_shown w.space.shown
-  where
-    by_shown :
-        (shown : Bool) →
-        (if shown then entered (posted w byte) byte else posted w byte)
-        ≡ behind w (if shown then entered (posted (emptied w) byte) byte else posted (emptied w) byte)
-    by_shown true = refl
-    by_shown false = sym (simp append-nil)
+-- a note for the log
+entered_if-emptied : (w : Wires) (note : Option What) → entered_if w note ≡ behind w (entered_if (emptied w) note)
+entered_if-emptied w None = behind-emptied w
+entered_if-emptied w (Some note) = sym (simp append-nil)
 
-sent_if-emptied : (w : Wires) (byte : Option ℕ) → sent_if w byte ≡ behind w (sent_if (emptied w) byte)
-sent_if-emptied w None = behind-emptied w
-sent_if-emptied w (Some byte) = sent-emptied w byte
+-- a payload that is sent
+sent-emptied : (w : Wires) (dev : ℕ) (payload : Payload) → sent w dev payload ≡ behind w (sent (emptied w) dev payload)
+unfolding sent
+sent-emptied w dev payload = by_note (note_if (device_at w.space dev).shown dev payload)
+  where
+    by_note :
+        (note : Option What) →
+        entered_if (posted w dev payload) note ≡ behind w (entered_if (posted (emptied w) dev payload) note)
+    by_note None = sym (simp append-nil)
+    by_note (Some note) = refl
+
+acted-emptied : (w : Wires) (dev : ℕ) (effect : DeviceEffect) → acted w dev effect ≡ behind w (acted (emptied w) dev effect)
+acted-emptied w dev Quiet = behind-emptied w
+acted-emptied w dev (Send payload) = sent-emptied w dev payload
+
+-- a load, and a store
+loaded-emptied : (w : Wires) (at width : ℕ) → loaded w at width ≡ behind w (loaded (emptied w) at width)
+unfolding loaded
+loaded-emptied w at width =
+    let target = target_at w.space at width in
+    entered_if-emptied (record w { space = after_load w.space width target }) (reading at width target)
+
+stored-emptied :
+    (w : Wires) (at width value : ℕ) → stored w at width value ≡ behind w (stored (emptied w) at width value)
+unfolding stored
+stored-emptied w at width value = by_target (target_at w.space at width)
+  where
+    by_target :
+        (target : Target) → stored_to w at width value target ≡ behind w (stored_to (emptied w) at width value target)
+    by_target (Ram part offset) =
+        behind-emptied (record w { space = after_store w.space width value (Ram part offset) })
+    by_target (Dev dev offset) =
+        acted-emptied (record w { space = after_store w.space width value (Dev dev offset) }) dev
+        (device_store w.space dev offset width value).answer
+    by_target (Clint offset) = behind-emptied w
+    by_target (Plic offset) = behind-emptied w
+    by_target Nothing = entered_if-emptied w (Some (what.Write width at value))
 
 -- an effect
 bus_after-emptied :
     (w : Wires) (effect : Effect) →
     bus_after loaded stored w effect ≡ behind w (bus_after loaded stored (emptied w) effect)
 bus_after-emptied w (Done done) = behind-emptied w
-bus_after-emptied w (Load at width complete) = behind-emptied (loaded w at width)
-bus_after-emptied w (Store at width value done) =
-    let place = place_of w.space at width in
-    sent_if-emptied (record w { space = after_store w.space width value place }) (byte_sent value place)
+bus_after-emptied w (Load at width complete) = loaded-emptied w at width
+bus_after-emptied w (Store at width value done) = stored-emptied w at width value
 
 -- what an effect makes comes after what was made before
 pub state_of-effect :
@@ -78,22 +110,34 @@ unfolding slot
 slot-halted v t halted = rw halted refl
 
 -- a slot keeps the speed
-pub speed-sent_if : (w : Wires) (byte : Option ℕ) → (sent_if w byte).numbers.speed ≡ w.numbers.speed
+speed-entered_if : (w : Wires) (note : Option What) → (entered_if w note).numbers.speed ≡ w.numbers.speed
+speed-entered_if w None = refl
+speed-entered_if w (Some note) = refl
+
+speed-acted : (w : Wires) (dev : ℕ) (effect : DeviceEffect) → (acted w dev effect).numbers.speed ≡ w.numbers.speed
 unfolding sent
-speed-sent_if w None = refl
-speed-sent_if w (Some byte) = by_shown w.space.shown
-  where
-    by_shown :
-        (shown : Bool) → (if shown then entered (posted w byte) byte else posted w byte).numbers.speed ≡ w.numbers.speed
-    by_shown true = refl
-    by_shown false = refl
+speed-acted w dev Quiet = refl
+speed-acted w dev (Send payload) =
+    speed-entered_if (posted w dev payload) (note_if (device_at w.space dev).shown dev payload)
+
+speed-stored_to :
+    (w : Wires) (at width value : ℕ) (target : Target) →
+    (stored_to w at width value target).numbers.speed ≡ w.numbers.speed
+speed-stored_to w at width value (Ram part offset) = refl
+speed-stored_to w at width value (Dev dev offset) =
+    speed-acted (record w { space = after_store w.space width value (Dev dev offset) }) dev
+    (device_store w.space dev offset width value).answer
+speed-stored_to w at width value (Clint offset) = refl
+speed-stored_to w at width value (Plic offset) = refl
+speed-stored_to w at width value Nothing = refl
 
 pub speed-effect : (w : Wires) (effect : Effect) → (bus_after loaded stored w effect).numbers.speed ≡ w.numbers.speed
+unfolding loaded stored
 speed-effect w (Done done) = refl
-speed-effect w (Load at width complete) = refl
-speed-effect w (Store at width value done) =
-    let place = place_of w.space at width in
-    speed-sent_if (record w { space = after_store w.space width value place }) (byte_sent value place)
+speed-effect w (Load at width complete) =
+    let target = target_at w.space at width in
+    speed-entered_if (record w { space = after_load w.space width target }) (reading at width target)
+speed-effect w (Store at width value done) = speed-stored_to w at width value (target_at w.space at width)
 
 speed-awake : (v : View) (t : ℕ) (lines : Lines) → (awake v t lines).view.numbers.speed ≡ v.numbers.speed
 unfolding awake

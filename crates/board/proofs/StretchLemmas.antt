@@ -3,8 +3,8 @@ use Rattle.std.proofs.Common.{◌≡◌, ℕ, true, zero, suc, ◌+◌, ◌*◌,
 use Rattle.std.proofs.lemmas.List.Sums.{sum_by-cons}
 use Rattle.std.proofs.Math.Nat.{mul-le-mul, suc-mul}
 use Rattle.lab_num.specs.Paid.{slot_at}
-use Rattle.board.specs.View.{View, State, after}
-use Rattle.board.specs.Slot.{slot, quiet}
+use Rattle.board.specs.View.{View, State, quiet, after}
+use Rattle.board.specs.Slot.{slot}
 use Rattle.board.specs.Stretch.{stretch, in_turns}
 use Rattle.board.proofs.SlotLemmas.{quiet-behind, slot-halted, speed-slot}
 

@@ -1,7 +1,19 @@
 -- What may be changed of a board from outside.
-use Rattle.std.specs.Prelude.{ℕ, ◌-◌, Bool, true, List}
-use Rattle.board.specs.Memory.{memory_base, put_bytes}
-use Rattle.board.specs.View.{View}
+use Rattle.std.specs.Prelude.{◌≡◌, ℕ, ◌+◌, ◌%◌, ◌≤◌, ◌==◌, length, take, Bool, true, false, if◌then◌else◌, List, [], ◌∷◌, Option, None}
+use Rattle.std.specs.List.{list_all, range_with_len}
+use Rattle.dev_core.specs.declared.kind.Kind.{Kind}
+use Rattle.dev_core.specs.declared.kind.Kind.TheVariants.{Uart, Can, Finisher}
+use Rattle.dev_core.specs.declared.payload.Payload.{Payload}
+use Rattle.dev_core.specs.declared.payload.Taken.{Taken}
+use Rattle.dev_core.specs.declared.state.DevState.{DevState}
+use Rattle.dev_core.specs.Answered.{Answered}
+use Rattle.dev_core.specs.Device.{dev_take, kind_of}
+use Rattle.page_ram.specs.Bytes.{put_bytes}
+use Rattle.sys_bus.specs.declared.region.Target.{Target}
+use Rattle.sys_bus.specs.declared.region.Target.TheVariants.{Ram, Clint, Plic, Dev, Nothing}
+use Rattle.board.specs.Space.{Space, memory_at, with_memory, device_at, with_device, with_state, target_at}
+use Rattle.board.specs.Wires.{word_in}
+use Rattle.board.specs.View.{View, State}
 
 -- a board whose next instruction is at this address
 abbrev pub with_pc : View → ℕ → View
@@ -11,11 +23,74 @@ with_pc v pc = record v { core = record v.core { pc = pc } }
 abbrev pub with_halted : View → Bool → View
 with_halted v on = record v { core = record v.core { halted = on } }
 
--- a board whose UART is shown
-abbrev pub with_shown : View → View
-with_shown v = record v { space = record v.space { shown = true } }
+-- a board of so many instructions a microsecond
+abbrev pub with_speed : View → ℕ → View
+with_speed v speed = record v { numbers = record v.numbers { speed = speed } }
 
--- a board whose memory holds these bytes from an address on
+-- UARTs and CAN controllers may be shown
+abbrev pub is_shown_kind : Kind → Bool
+is_shown_kind Uart = true
+is_shown_kind Can = true
+is_shown_kind Finisher = false
+
+abbrev pub may_be_shown : View → ℕ → Bool
+may_be_shown v dev = is_shown_kind (kind_of (device_at v.space dev).state)
+
+-- a board of which a device is shown
+abbrev pub with_shown : View → ℕ → View
+with_shown v dev =
+    record v { space = with_device v.space dev (record (device_at v.space dev) { shown = true }) }
+
+-- what a device answers that is handed a payload, and the board after it
+abbrev pub handed_to : View → ℕ → Payload → Answered Taken DevState
+handed_to v dev payload = dev_take (device_at v.space dev).state payload
+
+abbrev pub taken_by : View → ℕ → Payload → Taken
+taken_by v dev payload = (handed_to v dev payload).answer
+
+abbrev pub handed : View → ℕ → Payload → View
+handed v dev payload = record v { space = with_state v.space dev (handed_to v dev payload).after }
+
+-- whether an address is that of a byte of a memory
+abbrev pub is_memory : Target → Bool
+is_memory (Ram part at) = true
+is_memory (Dev dev at) = false
+is_memory (Clint at) = false
+is_memory (Plic at) = false
+is_memory Nothing = false
+
+abbrev pub in_memory : Space → ℕ → Bool
+in_memory s at = is_memory (target_at s at 1)
+
+-- whether each of so many bytes from an address on is in a memory
+abbrev pub holds_each : Space → ℕ → ℕ → Bool
+holds_each s at count = list_all (in_memory s) (range_with_len at count)
+
+-- a byte is put in its place in a memory
+abbrev pub put_in : Space → ℕ → Target → Space
+put_in s byte (Ram part at) = with_memory s part (put_bytes (memory_at s part) at (byte ∷ []))
+put_in s byte (Dev dev at) = s
+put_in s byte (Clint at) = s
+put_in s byte (Plic at) = s
+put_in s byte Nothing = s
+
+abbrev pub put_byte : Space → ℕ → ℕ → Space
+put_byte s at byte = put_in s byte (target_at s at 1)
+
+-- bytes are put in memories, one after another from an address on
+abbrev pub copied : Space → ℕ → List ℕ → Space
+copied s at [] = s
+copied s at (byte ∷ bytes) = copied (put_byte s at byte) (at + 1) bytes
+
+-- a board whose memories have these bytes from an address on
 abbrev pub with_bytes : View → ℕ → List ℕ → View
-with_bytes v at bytes =
-    record v { space = record v.space { memory = put_bytes v.space.memory (at - memory_base) bytes } }
+with_bytes v at bytes = record v { space = copied v.space at bytes }
+
+-- the word of memory at an address that is a multiple of 4
+abbrev pub word_held : View → ℕ → Option ℕ
+word_held v at = if at % 4 == 0 then word_in v.space at else None
+
+-- a board in whose memories some of the first of these bytes were written
+abbrev pub WritesPrefix : State → State → ℕ → List ℕ → Type 0
+WritesPrefix old new at bytes =
+    (n : ℕ) × ((n ≤ length bytes) × (new ≡ record old { view = with_bytes old.view at (take n bytes) }))

@@ -1,23 +1,11 @@
--- The board in its early form at lab time 0.
-use Rattle.std.specs.Prelude.{ℕ, false, List, replicate}
-use Rattle.rv_hart.specs.Core.{initial}
-use Rattle.board.specs.Memory.{memory_base}
-use Rattle.board.specs.Uart.{silent}
-use Rattle.board.specs.Numbers.{Numbers}
-use Rattle.board.specs.View.{View}
+-- The plans that boards can be made by so far: with no timer, no interrupt controller, no wire and no CAN controller.
+use Rattle.std.specs.Prelude.{◌≡◌, [], None}
+use Rattle.dev_core.specs.declared.kind.Kind.TheVariants.{Can}
+use Rattle.sys_bus.specs.declared.plan.BoardPlan.{BoardPlan}
+use Rattle.sys_bus.specs.Limits.{count_of}
 
--- so many bytes of 0
-unfoldable pub zeros : ℕ → List ℕ
-zeros n = replicate n 0
-
--- the numbers of a board that has made nothing yet, at one instruction a microsecond
-abbrev pub early_numbers : ℕ → Numbers
-early_numbers number = record { number = number; speed = 1; posted = 0; entered = 0 }
-
--- A board of this number at its first instruction. Its 64 KiB of memory are 0, and its UART is not shown.
-unfoldable pub early : ℕ → View
-early number = record {
-  numbers = early_numbers number;
-  core = record initial { pc = memory_base };
-  space = record { memory = zeros 0x10000; uart = silent; shown = false };
-}
+pub record IsEarly (plan : BoardPlan) : Type 0 where
+  pub timer : plan.frequency ≡ None
+  pub controller : plan.plic ≡ None
+  pub wires : plan.wires ≡ []
+  pub cans : count_of plan.kinds Can ≡ 0

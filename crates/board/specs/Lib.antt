@@ -1,14 +1,11 @@
-pub mod LittleEndian
-pub mod Memory
-pub mod Uart
-pub mod Space
 pub mod Numbers
+pub mod Space
 pub mod Wires
 pub mod View
 pub mod Slot
 pub mod Stretch
 pub mod Numbered
-pub mod Taken
-pub mod Changes
+pub mod New
 pub mod Early
+pub mod Changes
 pub mod Inner

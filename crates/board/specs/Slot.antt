@@ -1,5 +1,5 @@
 -- One slot of a board.
-use Rattle.std.specs.Prelude.{ℕ, false, if◌then◌else◌, []}
+use Rattle.std.specs.Prelude.{ℕ, false, if◌then◌else◌}
 use Rattle.std.specs.Option.{option_map_or}
 use Rattle.rv_hart.specs.declared.csr.Lines.{Lines}
 use Rattle.rv_hart.specs.Core.{Core, ticked}
@@ -7,11 +7,7 @@ use Rattle.rv_hart.specs.Trap.{chosen, interrupt, is_ready}
 use Rattle.rv_exec.specs.Effect.{Effect, effect_of_fetch, core_after, bus_after}
 use Rattle.board.specs.Space.{lines_of}
 use Rattle.board.specs.Wires.{Wires, fetched, answer, loaded, stored}
-use Rattle.board.specs.View.{View, State, wires_of, state_of}
-
--- nothing is made
-abbrev pub quiet : View → State
-quiet v = record { view = v; posts = []; entries = [] }
+use Rattle.board.specs.View.{View, State, quiet, wires_of, state_of}
 
 -- a slot that leaves the processor like this, but for its cycle, which is counted
 abbrev pub cycle : View → Core → State

@@ -1,52 +1,101 @@
--- All that the loads and stores of a board's processor reach: one memory and one UART.
-use Rattle.std.specs.Prelude.{ℕ, ◌-◌, ◌%◌, ◌==◌, Bool, if◌then◌else◌, List, Option, None, Some}
+-- All that the loads and stores of a board's processor reach: memories and devices, each in its region of addresses.
+use Rattle.std.specs.Prelude.{ℕ, ◌/◌, ◌%◌, ◌^◌, ◌==◌, Bool, false, if◌then◌else◌, List, [], slice_index_or, slice_set, Option, None, Some}
+use Rattle.dev_core.specs.declared.payload.Effect.{Effect}
+use Rattle.dev_core.specs.declared.payload.Effect.TheVariants.{Quiet}
+use Rattle.dev_core.specs.declared.state.DevState.{DevState}
+use Rattle.dev_core.specs.declared.state.DevState.TheVariants.{Finisher}
+use Rattle.dev_core.specs.Answered.{Answered, unchanged}
+use Rattle.dev_core.specs.Device.{dev_load, dev_store}
+use Rattle.page_ram.specs.Bytes.{value_at, put_value}
 use Rattle.rv_hart.specs.declared.csr.Lines.{Lines}
-use Rattle.board.specs.declared.space.Place.{Place}
-use Rattle.board.specs.declared.space.Place.TheVariants.{InMemory, InUart, Nowhere}
-use Rattle.board.specs.Memory.{memory_base, is_within, in_memory, value_at, put_value}
-use Rattle.board.specs.Uart.{Uart, uart_answer, uart_loaded}
+use Rattle.sys_bus.specs.declared.plan.BoardPlan.{BoardPlan}
+use Rattle.sys_bus.specs.declared.region.Target.{Target}
+use Rattle.sys_bus.specs.declared.region.Target.TheVariants.{Ram, Clint, Plic, Dev, Nothing}
+use Rattle.sys_bus.specs.Region.{target_of, step_of}
 
--- the bytes of the memory, the UART, and whether that is shown
-pub record Space : Type 0 where
-  pub memory : List ℕ
-  pub uart : Uart
+-- a device of a board, and whether it is shown
+pub record Fitted : Type 0 where
+  pub state : DevState
   pub shown : Bool
 
--- where the UART's registers begin, a byte each
-abbrev pub uart_base : ℕ
-uart_base = 0x10000000
+-- the plan of a board, the bytes of its memories, and its devices, both in the plan's order
+pub record Space : Type 0 where
+  pub plan : BoardPlan
+  pub memories : List (List ℕ)
+  pub devices : List Fitted
 
-abbrev pub in_uart : ℕ → ℕ → Bool
-in_uart at count = is_within uart_base 0x100 at count
+-- the memory of a number
+abbrev pub memory_at : Space → ℕ → List ℕ
+memory_at s part = slice_index_or s.memories part []
 
--- where so many bytes from an address on lie: in the one region that holds all of them, if there is one
-unfoldable pub place_of : Space → ℕ → ℕ → Place
-place_of space at count =
-    if in_memory space.memory at count then InMemory (at - memory_base)
-    else if in_uart at count then InUart (at - uart_base) else Nowhere
+abbrev pub with_memory : Space → ℕ → List ℕ → Space
+with_memory s part bytes = record s { memories = slice_set s.memories part bytes }
 
--- what a load of so many bytes answers at a place, and the space after it
-abbrev pub load_answer : Space → ℕ → Place → ℕ
-load_answer space width (InMemory i) = value_at space.memory i width
-load_answer space width (InUart register) = uart_answer space.uart register
-load_answer space width Nowhere = 0
+-- the device of a number
+abbrev pub device_at : Space → ℕ → Fitted
+device_at s dev = slice_index_or s.devices dev (record { state = Finisher; shown = false })
 
-abbrev pub after_load : Space → Place → Space
-after_load space (InMemory i) = space
-after_load space (InUart register) = record space { uart = uart_loaded space.uart register }
-after_load space Nowhere = space
+abbrev pub with_device : Space → ℕ → Fitted → Space
+with_device s dev fitted = record s { devices = slice_set s.devices dev fitted }
 
--- the space after a store of so many bytes of a value at a place, and the byte that the UART sends by it
-abbrev pub after_store : Space → ℕ → ℕ → Place → Space
-after_store space width value (InMemory i) = record space { memory = put_value space.memory i width value }
-after_store space width value (InUart register) = space
-after_store space width value Nowhere = space
+abbrev pub with_state : Space → ℕ → DevState → Space
+with_state s dev state = with_device s dev (record (device_at s dev) { state = state })
 
-abbrev pub byte_sent : ℕ → Place → Option ℕ
-byte_sent value (InMemory i) = None
-byte_sent value (InUart register) = if register == 0 then Some (value % 0x100) else None
-byte_sent value Nowhere = None
+-- what so many bytes from an address on belong to
+abbrev pub target_at : Space → ℕ → ℕ → Target
+target_at s at width = target_of s.plan.regions at width
+
+-- the register at a place of a device whose registers begin so many bytes apart; between them there is none
+abbrev pub register_at : ℕ → ℕ → Option ℕ
+register_at step at = if at % step == 0 then Some (at / step) else None
+
+abbrev pub register_of : Space → ℕ → ℕ → Option ℕ
+register_of s dev at = register_at (step_of s.plan.regions dev) at
+
+-- A load of a device gives the value of one register, zero-extended to the width or cut to it. Between registers it
+-- gives 0.
+abbrev pub cut : ℕ → Answered ℕ DevState → Answered ℕ DevState
+cut width answered = record answered { answer = answered.answer % 256 ^ width }
+
+abbrev pub register_load : DevState → ℕ → Option ℕ → Answered ℕ DevState
+register_load state width None = unchanged 0 state
+register_load state width (Some reg) = cut width (dev_load state reg width)
+
+abbrev pub device_load : Space → ℕ → ℕ → ℕ → Answered ℕ DevState
+device_load s dev at width = register_load (device_at s dev).state width (register_of s dev at)
+
+-- a store in a device, which does nothing between registers
+abbrev pub register_store : DevState → ℕ → ℕ → Option ℕ → Answered Effect DevState
+register_store state width value None = unchanged Quiet state
+register_store state width value (Some reg) = dev_store state reg width value
+
+abbrev pub device_store : Space → ℕ → ℕ → ℕ → ℕ → Answered Effect DevState
+device_store s dev at width value = register_store (device_at s dev).state width value (register_of s dev at)
+
+-- What a load of so many bytes answers that belong to a target, and the space after it. Nothing stands for a timer or
+-- an interrupt controller yet.
+abbrev pub load_answer : Space → ℕ → Target → ℕ
+load_answer s width (Ram part at) = value_at (memory_at s part) at width
+load_answer s width (Dev dev at) = (device_load s dev at width).answer
+load_answer s width (Clint at) = 0
+load_answer s width (Plic at) = 0
+load_answer s width Nothing = 0
+
+abbrev pub after_load : Space → ℕ → Target → Space
+after_load s width (Ram part at) = s
+after_load s width (Dev dev at) = with_state s dev (device_load s dev at width).after
+after_load s width (Clint at) = s
+after_load s width (Plic at) = s
+after_load s width Nothing = s
+
+-- the space after a store of so many bytes of a value that belong to a target, and what a device does by it
+abbrev pub after_store : Space → ℕ → ℕ → Target → Space
+after_store s width value (Ram part at) = with_memory s part (put_value (memory_at s part) at width value)
+after_store s width value (Dev dev at) = with_state s dev (device_store s dev at width value).after
+after_store s width value (Clint at) = s
+after_store s width value (Plic at) = s
+after_store s width value Nothing = s
 
 -- what the interrupt lines and the timer show in a microsecond: nothing is wired to the processor's pins yet
 abbrev pub lines_of : Space → ℕ → Lines
-lines_of space t = record { mip = 0; mtime = 0 }
+lines_of s t = record { mip = 0; mtime = 0 }

@@ -3,8 +3,8 @@ use Rattle.std.specs.Prelude.{◌≡◌, ℕ, zero, suc, ◌+◌, ◌<◌, List,
 use Rattle.lab_num.specs.Paid.{slot_at}
 use Rattle.board.specs.declared.board.Turn.{Turn}
 use Rattle.board.specs.declared.board.Turn.TheVariants.{Used, Starved}
-use Rattle.board.specs.View.{View, State, after}
-use Rattle.board.specs.Slot.{slot, quiet}
+use Rattle.board.specs.View.{View, State, quiet, after}
+use Rattle.board.specs.Slot.{slot}
 
 -- what so many slots have come to, and then one more in this microsecond
 abbrev pub go_on : State → ℕ → State

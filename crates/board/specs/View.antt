@@ -1,13 +1,13 @@
 -- What a board is, apart from what it has made and nobody has taken.
 use Rattle.std.specs.Prelude.{ℕ, List, [], ◌++◌}
-use Rattle.lab_num.specs.declared.post.Post.{Post}
-use Rattle.lab_num.specs.declared.post.Entry.{Entry}
+use Rattle.dev_core.specs.declared.post.Post.{Post}
+use Rattle.dev_core.specs.declared.post.Entry.{Entry}
 use Rattle.rv_hart.specs.Core.{Core}
 use Rattle.board.specs.Numbers.{Numbers}
 use Rattle.board.specs.Space.{Space}
 use Rattle.board.specs.Wires.{Wires}
 
--- a board's numbers, its processor, and what that reaches
+-- a board's numbers, its processor, and what that reaches, which has the board's plan
 pub record View : Type 0 where
   pub numbers : Numbers
   pub core : Core
@@ -18,6 +18,10 @@ pub record State : Type 0 where
   pub view : View
   pub posts : List Post
   pub entries : List Entry
+
+-- nothing is made
+abbrev pub quiet : View → State
+quiet v = record { view = v; posts = []; entries = [] }
 
 -- what the processor of a board is wired to in a slot at this microsecond, in which nothing was made yet
 abbrev pub wires_of : View → ℕ → Wires

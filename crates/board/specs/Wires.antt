@@ -1,13 +1,19 @@
 -- What the processor is wired to in a slot, and what each of its accesses does.
-use Rattle.std.specs.Prelude.{ℕ, if◌then◌else◌, List, [], ◌∷◌, ◌++◌, Option, None, Some}
+use Rattle.std.specs.Prelude.{ℕ, Bool, if◌then◌else◌, List, [], ◌∷◌, ◌++◌, Option, None, Some}
 use Rattle.lab_num.specs.declared.key.Key.{Key}
-use Rattle.lab_num.specs.declared.post.Post.{Post}
-use Rattle.lab_num.specs.declared.post.Payload.TheVariants as payload
-use Rattle.lab_num.specs.declared.post.Entry.{Entry}
-use Rattle.lab_num.specs.declared.post.What.TheVariants as what
-use Rattle.board.specs.Memory.{word_in}
+use Rattle.dev_core.specs.declared.payload.Effect.{Effect}
+use Rattle.dev_core.specs.declared.payload.Effect.TheVariants.{Quiet, Send}
+use Rattle.dev_core.specs.declared.payload.Payload.{Payload}
+use Rattle.dev_core.specs.declared.payload.Payload.TheVariants.{Byte, Frame, Finish}
+use Rattle.dev_core.specs.declared.post.Entry.{Entry}
+use Rattle.dev_core.specs.declared.post.Post.{Post}
+use Rattle.dev_core.specs.declared.post.What.{What}
+use Rattle.dev_core.specs.declared.post.What.TheVariants as what
+use Rattle.page_ram.specs.Bytes.{value_at}
+use Rattle.sys_bus.specs.declared.region.Target.{Target}
+use Rattle.sys_bus.specs.declared.region.Target.TheVariants.{Ram, Clint, Plic, Dev, Nothing}
 use Rattle.board.specs.Numbers.{Numbers, after_post, after_entry}
-use Rattle.board.specs.Space.{Space, place_of, load_answer, after_load, after_store, byte_sent}
+use Rattle.board.specs.Space.{Space, memory_at, device_at, target_at, device_store, load_answer, after_load, after_store}
 
 -- the board's numbers, its space, the microsecond of the slot, and the posts and entries that nobody has taken
 pub record Wires : Type 0 where
@@ -22,46 +28,88 @@ abbrev pub key_of : Wires → ℕ → Key
 key_of w number =
     record { at = record { 0 = w.at }; board = record { 0 = w.numbers.number }; number = record { 0 = number } }
 
--- a byte as a post of the UART, which is device 0, and as an entry
-abbrev pub post_of : Wires → ℕ → Post
-post_of w byte = record {
+-- what a device sends, as a post
+abbrev pub post_of : Wires → ℕ → Payload → Post
+post_of w dev payload = record {
   key = key_of w w.numbers.posted;
-  from = record { board = record { 0 = w.numbers.number }; dev = 0 };
-  payload = payload.Byte byte;
+  from = record { board = record { 0 = w.numbers.number }; dev = dev };
+  payload = payload;
 }
 
-abbrev pub entry_of : Wires → ℕ → Entry
-entry_of w byte = record { key = key_of w w.numbers.entered; what = what.Byte 0 byte }
+abbrev pub posted : Wires → ℕ → Payload → Wires
+posted w dev payload = record w { numbers = after_post w.numbers; posts = w.posts ++ post_of w dev payload ∷ [] }
 
--- a byte was posted, and it was entered
-abbrev pub posted : Wires → ℕ → Wires
-posted w byte = record w { numbers = after_post w.numbers; posts = w.posts ++ post_of w byte ∷ [] }
+-- a note for the log, as an entry
+abbrev pub entry_of : Wires → What → Entry
+entry_of w note = record { key = key_of w w.numbers.entered; what = note }
 
-abbrev pub entered : Wires → ℕ → Wires
-entered w byte = record w { numbers = after_entry w.numbers; entries = w.entries ++ entry_of w byte ∷ [] }
+abbrev pub entered : Wires → What → Wires
+entered w note = record w { numbers = after_entry w.numbers; entries = w.entries ++ entry_of w note ∷ [] }
 
--- the UART sends a byte: that makes a post, and an entry too where the UART is shown
-unfoldable pub sent : Wires → ℕ → Wires
-sent w byte = if w.space.shown then entered (posted w byte) byte else posted w byte
+abbrev pub entered_if : Wires → Option What → Wires
+entered_if w None = w
+entered_if w (Some note) = entered w note
 
--- the UART sends a byte, if there is one
-abbrev pub sent_if : Wires → Option ℕ → Wires
-sent_if w None = w
-sent_if w (Some byte) = sent w byte
+-- what the log notes of a payload that a shown device sends: of a byte and of a frame
+abbrev pub note_of : ℕ → Payload → Option What
+note_of dev (Byte value) = Some (what.Byte dev value)
+note_of dev (Frame frame) = Some (what.Sent dev frame)
+note_of dev (Finish finish) = None
 
--- the word of an instruction at an address, if the memory holds it
+abbrev pub note_if : Bool → ℕ → Payload → Option What
+note_if shown dev payload = if shown then note_of dev payload else None
+
+-- a device sends a payload: that makes a post, and an entry too where the device is shown
+unfoldable pub sent : Wires → ℕ → Payload → Wires
+sent w dev payload = entered_if (posted w dev payload) (note_if (device_at w.space dev).shown dev payload)
+
+-- a device does what a store made it do
+abbrev pub acted : Wires → ℕ → Effect → Wires
+acted w dev Quiet = w
+acted w dev (Send payload) = sent w dev payload
+
+-- the word of an instruction at an address, if a memory holds it
+abbrev pub word_at : Space → Target → Option ℕ
+word_at s (Ram part at) = Some (value_at (memory_at s part) at 4)
+word_at s (Dev dev at) = None
+word_at s (Clint at) = None
+word_at s (Plic at) = None
+word_at s Nothing = None
+
+abbrev pub word_in : Space → ℕ → Option ℕ
+word_in s at = word_at s (target_at s at 4)
+
 abbrev pub fetched : Wires → ℕ → Option ℕ
-fetched w at = word_in w.space.memory at
+fetched w at = word_in w.space at
 
--- what a load answers, and what it changes
+-- what a load answers
 abbrev pub answer : Wires → ℕ → ℕ → ℕ
-answer w at width = load_answer w.space width (place_of w.space at width)
+answer w at width = load_answer w.space width (target_at w.space at width)
 
-abbrev pub loaded : Wires → ℕ → ℕ → Wires
-loaded w at width = record w { space = after_load w.space (place_of w.space at width) }
+-- what a load changes; one that reaches nothing is noted
+abbrev pub reading : ℕ → ℕ → Target → Option What
+reading at width Nothing = Some (what.Read width at)
+reading at width (Ram part offset) = None
+reading at width (Dev dev offset) = None
+reading at width (Clint offset) = None
+reading at width (Plic offset) = None
 
--- what a store changes
-abbrev pub stored : Wires → ℕ → ℕ → ℕ → Wires
-stored w at width value =
-    let place = place_of w.space at width in
-    sent_if (record w { space = after_store w.space width value place }) (byte_sent value place)
+abbrev pub loaded_from : Wires → ℕ → ℕ → Target → Wires
+loaded_from w at width target =
+    entered_if (record w { space = after_load w.space width target }) (reading at width target)
+
+unfoldable pub loaded : Wires → ℕ → ℕ → Wires
+loaded w at width = loaded_from w at width (target_at w.space at width)
+
+-- what a store changes; one that reaches nothing is noted
+abbrev pub stored_to : Wires → ℕ → ℕ → ℕ → Target → Wires
+stored_to w at width value (Ram part offset) = record w { space = after_store w.space width value (Ram part offset) }
+stored_to w at width value (Dev dev offset) =
+    acted (record w { space = after_store w.space width value (Dev dev offset) })
+    dev (device_store w.space dev offset width value).answer
+stored_to w at width value (Clint offset) = w
+stored_to w at width value (Plic offset) = w
+stored_to w at width value Nothing = entered w (what.Write width at value)
+
+unfoldable pub stored : Wires → ℕ → ℕ → ℕ → Wires
+stored w at width value = stored_to w at width value (target_at w.space at width)

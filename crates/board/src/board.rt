@@ -1,21 +1,18 @@
 //! The board: its slots, and what they make.
-ghost use Rattle.std.specs.Prelude.{◌≡◌, ◌≢◌, ◌+◌, ◌/◌, ◌%◌, ◌<◌, ◌≤◌, [], true, length, drop, slice_get, OnOk, OnErr, IfOk, IsTrue};
+ghost use Rattle.std.specs.Prelude.{◌≡◌, ◌≢◌, ◌+◌, ◌/◌, ◌%◌, ◌<◌, ◌≤◌, ◌^◌, [], true, length, drop, map, All, slice_get, OnOk, OnErr, IfOk, IfErr, IsTrue};
 
-use crate::memory::MEMORY_BASE;
 use crate::numbers::Numbers;
 use crate::space::Space;
-use crate::uart::Taken;
 use crate::wires::Wires;
-use lab_num::{BoardNo, Entry, Micros, NoMemory, Payload, Post};
+use dev_core::{Device, Entry, Payload, Post, Taken};
+use lab_num::{BoardNo, Micros, NoMemory};
 use rv_exec::step;
 use rv_hart::{Hart, Lines};
 use std::alloc::Global;
 use std::collections::VecDeque;
 use std::marker::Model;
 use std::mem;
-
-/// Bytes of memory.
-const MEMORY_SIZE: usize = 0x1_0000;
+use sys_bus::BoardPlan;
 
 /// Where a turn begins: slot `first` of the grant that begins at microsecond `from`.
 #[derive(Clone, Copy, PartialEq, Eq, Debug)]
@@ -34,14 +31,15 @@ pub enum Turn {
     Starved(u64),
 }
 
-/// A board. It runs one instruction a slot.
+/// A board, which takes one slot after another. Its devices are those that it was made with: they
+/// are seen as their states, in the order of the plan.
 #[derive(Drop)]
-pub struct Board {
+pub struct Board<D: Device> {
     hart: Hart,
-    wires: Wires,
+    wires: Wires<D>,
 }
 
-impl Model for Board {
+impl<D: Device> Model for Board<D> {
     ghost use Rattle.std.specs.Prelude.{◌≤◌};
     ghost use Rattle.board.specs.View.{State, state_of};
 
@@ -52,33 +50,42 @@ impl Model for Board {
     ghost invariant = { λ b. (1 ≤ b.wires.numbers.speed) × (b.wires.numbers.speed ≤ 1000) };
 }
 
-impl Board {
-    ghost use Rattle.board.specs.Early.{early, early_numbers};
-    ghost use Rattle.board.specs.Memory.{holds_each, word_held};
-    ghost use Rattle.board.specs.Changes.{with_pc, with_halted, with_shown, with_bytes};
-    ghost use Rattle.board.specs.Taken.{taken_by, handed};
-    ghost use Rattle.board.specs.View.{after};
-    ghost use Rattle.board.specs.Slot.{quiet, slot, awake, asleep};
+impl<D: Device> Board<D> {
+    ghost use Rattle.dev_core.specs.Device.{kind_of, IsValid as IsValidState};
+    ghost use Rattle.sys_bus.specs.Plan.{IsValid};
+    ghost use Rattle.board.specs.Early.{IsEarly};
+    ghost use Rattle.board.specs.New.{first_states, new_board, reset};
+    ghost use Rattle.board.specs.Changes.{with_pc, with_halted, with_speed, with_shown, may_be_shown, with_bytes, WritesPrefix, holds_each, word_held, taken_by, handed};
+    ghost use Rattle.board.specs.Space.{device_at};
+    ghost use Rattle.board.specs.View.{quiet, after};
+    ghost use Rattle.board.specs.Slot.{slot, awake, asleep};
+    ghost use Rattle.page_ram.specs.Bytes.{zeros};
     ghost use Rattle.rv_hart.specs.Core.{reg};
     ghost use Rattle.board.specs.Stretch.{IsTurn};
 
-    /// A board of this number in its early form, at lab time 0: one instruction a microsecond, 64
-    /// KiB of memory at 0x80000000 with 0 in each byte, a UART at 0x10000000 that is not shown, and
-    /// the pc at 0x80000000.
-    #[tactic(auto, unfolding(crate::specs::Early::early))]
-    pub fn early(alloc: Global, number: BoardNo) -> Result<Board, NoMemory>
-        ensures state { IfOk result (λ board. board ≡ quiet (early number.0)) }
-        ensures numbers { IfOk result (λ board. board.view.numbers ≡ early_numbers number.0) }
+    /// A board of this number by a plan, at lab time 0, with devices in their reset states and in
+    /// the plan's order. Memories are 0, the pc is 0, and no device is shown. `Err` is for want of
+    /// memory alone, and gives the devices back in their order.
+    pub fn new(
+        alloc: Global,
+        number: BoardNo,
+        plan: BoardPlan,
+        devices: Vec<D>,
+    ) -> Result<Board<D>, Vec<D>>
+        requires plan { IsValid plan }
+        requires early { IsEarly plan }
+        requires devices { map D.meaning devices.items ≡ first_states plan }
+        ensures state { IfOk result (λ board. board ≡ quiet (new_board number.0 plan)) }
+        ensures back { IfErr result (λ back. back.items ≡ devices.items) }
     {
-        let space = Space::new(alloc, MEMORY_SIZE)?;
-        let mut hart = Hart::new();
-        hart.set_pc(MEMORY_BASE);
+        let speed = plan.speed;
+        let space = Space::new(alloc, plan, devices)?;
         Ok(Board {
-            hart,
+            hart: Hart::new(),
             wires: Wires {
                 numbers: Numbers {
                     number,
-                    speed: 1,
+                    speed,
                     posted: 0,
                     entered: 0,
                 },
@@ -90,6 +97,18 @@ impl Board {
         })
     }
 
+    /// The plan that the board was made by. At every moment its devices are of the plan's kinds,
+    /// in the plan's order, and in states that such devices can have.
+    pub fn plan(&self) -> &BoardPlan
+        ensures plan { result.now ≡ self.now.view.space.plan }
+        ensures valid { IsValid result.now }
+        ensures kinds { map (λ device. kind_of device.state) self.now.view.space.devices ≡ result.now.kinds }
+        ensures states { All (λ device. IsValidState device.state) self.now.view.space.devices }
+        ensures sizes { map length self.now.view.space.memories ≡ result.now.memories }
+    {
+        self.wires.space.plan()
+    }
+
     /// Instructions a microsecond, 1 to 1,000.
     pub fn speed(&self) -> u32
         ensures value { result ≡ self.now.view.numbers.speed }
@@ -99,11 +118,22 @@ impl Board {
         self.wires.numbers.speed
     }
 
+    /// Sets the speed, in instructions a microsecond.
+    pub fn set_speed(&mut self, speed: u32)
+        requires least { 1 ≤ speed }
+        requires most { speed ≤ 1000 }
+        ensures { self.new ≡ record self.old { view = with_speed self.old.view speed } }
+    {
+        self.wires.numbers.speed = speed;
+    }
+
     /// Takes the next `n` slots. Slot `i` of the call lies in microsecond
     /// `at.from + (at.first + i) / speed`. A halted board's slots pass and change nothing.
     /// `Starved` is for want of memory alone.
     pub fn turn(&mut self, at: SlotAt, n: u64) -> Turn
-        requires { at.from.0 + (at.first + n) / self.old.view.numbers.speed ≤ 10000000000 }
+        requires time { at.from.0 + (at.first + n) / self.old.view.numbers.speed ≤ 10000000000 }
+        requires posts { self.old.view.numbers.posted + n < 2 ^ 64 }
+        requires entries { self.old.view.numbers.entered + n < 2 ^ 64 }
         ensures { IsTurn self.old at.from.0 at.first n result self.new }
     {
         if self.halted() {
@@ -180,17 +210,13 @@ impl Board {
         Ok(())
     }
 
-    /// Hands what another board has sent to a device. The early board has one device, its UART, as
-    /// number 0.
-    #[tactic(auto, unfolding(crate::specs::Taken::handed))]
+    /// Hands a device what another board has sent.
     pub fn deliver(&mut self, dev: u8, payload: &Payload) -> Taken
-        requires { dev ≡ 0 }
-        ensures taken { result ≡ taken_by self.old.view.space.uart }
-        ensures after { self.new ≡ record self.old { view = handed self.old.view payload.now } }
+        requires { dev < length self.old.view.space.devices }
+        ensures taken { result ≡ taken_by self.old.view dev payload.now }
+        ensures after { self.new ≡ record self.old { view = handed self.old.view dev payload.now } }
     {
-        match payload {
-            Payload::Byte(byte) => self.wires.space.uart.take(*byte),
-        }
+        self.wires.space.take(dev, payload)
     }
 
     /// The oldest post that was not dropped yet.
@@ -218,34 +244,61 @@ impl Board {
         mem::replace(&mut self.wires.entries, none)
     }
 
-    /// Shows a device: from now on each byte that it sends makes a log entry. Again, it changes
-    /// nothing.
+    /// Shows a UART or a CAN controller: from now on each byte or frame that it sends makes a log
+    /// entry. Again, it changes nothing.
     pub fn show(&mut self, dev: u8)
-        requires { dev ≡ 0 }
-        ensures { self.new ≡ record self.old { view = with_shown self.old.view } }
+        requires dev { dev < length self.old.view.space.devices }
+        requires kind { IsTrue (may_be_shown self.old.view dev) }
+        ensures { self.new ≡ record self.old { view = with_shown self.old.view dev } }
     {
-        self.wires.space.shown = true;
+        self.wires.space.show(dev);
     }
 
-    /// Whether each of `count` bytes from an address on is in the memory. Where `count` is 0, that
+    /// Whether a device is shown.
+    pub fn is_shown(&self, dev: u8) -> bool
+        requires { dev < length self.now.view.space.devices }
+        ensures { result ≡ (device_at self.now.view.space dev).shown }
+    {
+        self.wires.space.is_shown(dev)
+    }
+
+    /// Whether each of `count` bytes from an address on lies in a memory. Where `count` is 0, that
     /// is so at every address.
     pub fn holds(&self, at: u32, count: u32) -> bool
-        ensures { result ≡ holds_each self.now.view.space.memory at count }
+        ensures { result ≡ holds_each self.now.view.space at count }
     {
-        count == 0 || self.wires.space.memory.find(at, count as usize).is_some()
+        self.wires.space.holds(at, count)
     }
 
-    /// Writes bytes into the memory from an address on.
+    /// Writes bytes into the memories from an address on. After an `Err` some of the first of them
+    /// are written.
     pub fn copy_in(&mut self, at: u32, bytes: &[u8]) -> Result<(), NoMemory>
-        requires { IsTrue (holds_each self.old.view.space.memory at (length bytes.now)) }
+        requires { IsTrue (holds_each self.old.view.space at (length bytes.now)) }
         ensures ok { OnOk result
             (self.new ≡ record self.old { view = with_bytes self.old.view at bytes.now }) }
-        ensures err { OnErr result (self.new ≡ self.old) }
+        ensures err { OnErr result (WritesPrefix self.old self.new at bytes.now) }
     {
-        if let Some(i) = self.wires.space.memory.find(at, bytes.len()) {
-            self.wires.space.memory.copy_in(i, bytes);
-        }
-        Ok(())
+        self.wires.space.copy_in(at, bytes)
+    }
+
+    /// Puts 0 into `count` bytes of the memories from an address on.
+    pub fn zero(&mut self, at: u32, count: u32)
+        requires { IsTrue (holds_each self.old.view.space at count) }
+        ensures { self.new ≡ record self.old { view = with_bytes self.old.view at (zeros count) } }
+    {
+        self.wires.space.zero(at, count);
+    }
+
+    /// Brings the processor and the devices into their first states, with the pc at 0. Memories,
+    /// speed, whether the processor is halted, which devices are shown, and the counts of posts and
+    /// entries stay.
+    pub fn reset(&mut self)
+        ensures { self.new ≡ record self.old { view = reset self.old.view } }
+    {
+        let halted = self.hart.halted();
+        self.hart = Hart::new();
+        self.hart.set_halted(halted);
+        self.wires.space.reset();
     }
 
     /// Sets the address of the next instruction.
@@ -285,6 +338,20 @@ impl Board {
         self.hart.register(n)
     }
 
+    /// How many posts the board has made so far.
+    pub fn posted(&self) -> u64
+        ensures { result ≡ self.now.view.numbers.posted }
+    {
+        self.wires.numbers.posted
+    }
+
+    /// How many log entries the board has made so far.
+    pub fn entered(&self) -> u64
+        ensures { result ≡ self.now.view.numbers.entered }
+    {
+        self.wires.numbers.entered
+    }
+
     /// How many instructions the processor has retired, by its CSR minstret.
     pub fn retired(&self) -> u64
         ensures { result ≡ self.now.view.core.minstret }
@@ -293,13 +360,13 @@ impl Board {
     }
 
     /// The word of memory at an address. None exactly where the address is not a multiple of 4 or
-    /// the memory does not hold all four bytes.
+    /// no memory holds all four bytes.
     pub fn load_word(&self, at: u32) -> Option<u32>
-        ensures { result ≡ word_held self.now.view.space.memory at }
+        ensures { result ≡ word_held self.now.view at }
     {
         if at % 4 != 0 {
             return None;
         }
-        self.wires.space.memory.word(at)
+        self.wires.space.word(at)
     }
 }

@@ -1,8 +1,8 @@
 //! Laws of boards and of slots one after another. Each is the contract of a function that does
 //! nothing.
-ghost use Rattle.std.specs.Prelude.{◌≡◌, ℕ, ◌+◌, ◌<◌, ◌^◌, List, length, sum};
+ghost use Rattle.std.specs.Prelude.{◌≡◌, ℕ, ◌+◌, ◌<◌, ◌^◌, List, sum};
 ghost use Rattle.board.specs.View.{View, after};
-ghost use Rattle.board.specs.Early.{early};
+ghost use Rattle.board.specs.New.{IsSameKept, reset};
 ghost use Rattle.board.specs.Stretch.{stretch, in_turns};
 ghost use Rattle.board.specs.Numbered.{IsNumbered};
 
@@ -28,7 +28,7 @@ pub fn stretches_number()
         IsNumbered v.numbers n (stretch v from a n) }
 {}
 
-/// An early board has 64 KiB of memory.
-pub fn early_memory_is_64_kib()
-    ensures { (number : ℕ) → length (early number).space.memory ≡ 0x10000 }
+/// What a reset leaves depends on nothing that the processor and the devices had come to.
+pub fn resets_agree()
+    ensures { (v w : View) → IsSameKept v w → reset v ≡ reset w }
 {}

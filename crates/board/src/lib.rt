@@ -1,17 +1,15 @@
-//! One emulated board: a processor, 64 KiB of memory and a UART, run slot by slot on virtual time.
+//! One emulated board: a processor, and the memories and devices of its plan, run slot by slot on
+//! virtual time.
 #![tactic(auto)]
 
 mod board;
+mod fitted;
 mod laws;
-mod memory;
 mod numbers;
+mod plan;
 mod space;
-mod uart;
 mod wires;
 
 pub use board::{Board, SlotAt, Turn};
-pub use laws::{early_memory_is_64_kib, stretches_join, stretches_number, turns_join};
-pub use uart::Taken;
-
-#[cfg(test)]
-mod tests;
+pub use laws::{resets_agree, stretches_join, stretches_number, turns_join};
+pub use plan::is_early;

@@ -1,70 +1,116 @@
-//! All that the loads and stores of a board's processor reach: the memory and the UART.
-ghost use Rattle.std.specs.Prelude.{◌≡◌, ◌^◌, ◌<◌, ◌≤◌, false, IfOk};
-ghost use Rattle.board.specs.Early.{zeros};
-ghost use Rattle.rv_exec.specs.Access.{IsWidth};
-ghost use Rattle.board.specs.Uart.{silent};
-ghost use Rattle.board.specs.Space.{place_of, load_answer, after_load, after_store, byte_sent, lines_of};
-ghost use Rattle.board.specs.Inner.Lies.{LiesIn};
+//! All that the loads and stores of a board's processor reach: memories and devices.
+ghost use Rattle.std.specs.Prelude.{◌≡◌, ◌≤◌, ◌+◌, ◌<◌, ◌^◌, length, map, All, IfOk, IfErr, OnOk, OnErr};
+ghost use Rattle.rv_exec.specs.Access.{IsAccess, IsWidth};
+ghost use Rattle.page_ram.specs.Access.{IsInOnePage, IsRamSize};
+ghost use Rattle.page_ram.specs.Bytes.{zeros, value_at, put_value};
+ghost use Rattle.sys_bus.specs.Plan.{IsValid};
+ghost use Rattle.board.specs.Space.{memory_at, with_memory, target_at, lines_of};
+ghost use Rattle.board.specs.Wires.{word_in};
+ghost use Rattle.board.specs.New.{first_states, hidden, new_space};
+ghost use Rattle.board.specs.Inner.Fit.{IsFit, LiesIn, IsInPage};
 
-use crate::memory::Memory;
-use crate::uart::EarlyUart;
+mod devices;
+mod memories;
+
+use crate::fitted::Fitted;
+use dev_core::Device;
 use lab_num::{Micros, NoMemory};
+use page_ram::PageRam;
 use rv_hart::Lines;
 use std::alloc::Global;
 use std::marker::Model;
+use sys_bus::{BoardPlan, Regions, Target};
 
-/// The address of the UART's first register. Its registers follow one another, a byte each.
-const UART_BASE: u32 = 0x1000_0000;
-
-/// Bytes of addresses that belong to the UART.
-const UART_SIZE: u32 = 0x100;
-
-/// Where an access lies.
-#[derive(Clone, Copy, PartialEq, Eq, Debug)]
-pub enum Place {
-    /// At this byte of the memory.
-    InMemory(usize),
-    /// At this register of the UART.
-    InUart(u32),
-    /// In no region, or not in one alone.
-    Nowhere,
-}
-
-/// The memory and the UART of a board, and whether the UART is shown.
+/// The memories and devices of a board, in the order of its plan.
 #[derive(Drop)]
-pub struct Space {
-    pub memory: Memory,
-    pub uart: EarlyUart,
-    pub shown: bool,
+pub struct Space<D: Device> {
+    plan: BoardPlan,
+    /// The plan's.
+    regions: Regions,
+    memories: Vec<PageRam>,
+    devices: Vec<Fitted<D>>,
+    /// The region of the last fetch, in which the next one is sought first.
+    near: usize,
 }
 
-impl Model for Space {
+impl<D: Device> Model for Space<D> {
+    ghost use Rattle.std.specs.Prelude.{◌≡◌};
     ghost use Rattle.board.specs.Space.{Space as Seen};
+    ghost use Rattle.board.specs.Inner.Fit.{IsFit};
 
     ghost Value = { Seen };
 
-    ghost view = { λ s. record { memory = s.memory; uart = s.uart; shown = s.shown } };
+    ghost view = { λ s. record {
+      plan = s.plan;
+      memories = s.memories.items;
+      devices = s.devices.items;
+    } };
+
+    ghost invariant = { λ s. (s.regions ≡ s.plan.regions) × IsFit (record {
+      plan = s.plan;
+      memories = s.memories.items;
+      devices = s.devices.items;
+    }) };
 }
 
-impl Space {
-    /// So many bytes of memory with 0 in each, and a UART that is not shown.
-    pub fn new(alloc: Global, size: usize) -> Result<Space, NoMemory>
-        requires { size < 0x80000000 }
-        ensures { IfOk result (λ space.
-            space ≡ record { memory = zeros size; uart = silent; shown = false }) }
+/// Memories of these sizes, with 0 in each byte.
+fn memories_of(alloc: Global, sizes: &[u32]) -> Result<Vec<PageRam>, NoMemory>
+    requires { All IsRamSize sizes.now }
+    ensures { IfOk result (λ memories. memories.items ≡ map zeros sizes.now) }
+{
+    let mut memories = Vec::new(alloc);
+    for &size in sizes {
+        memories.push(PageRam::new(alloc, size)?)?;
+    }
+    Ok(memories)
+}
+
+/// Devices as those of a board, none of them shown. `Err` gives them back in their order.
+fn fit_all<D: Device>(alloc: Global, devices: Vec<D>) -> Result<Vec<Fitted<D>>, Vec<D>>
+    ensures ok { IfOk result (λ fitted.
+        fitted.items ≡ map hidden (map D.meaning devices.items)) }
+    ensures err { IfErr result (λ back. back.items ≡ devices.items) }
+{
+    let mut fitted = Vec::new(alloc);
+    if fitted.reserve(devices.len()).is_err() {
+        return Err(devices);
+    }
+    for device in devices {
+        fitted.push_reserved(Fitted::new(device));
+    }
+    Ok(fitted)
+}
+
+impl<D: Device> Space<D> {
+    /// What a new board of the plan reaches. `Err` is for want of memory alone, and gives the
+    /// devices back in their order.
+    pub fn new(alloc: Global, plan: BoardPlan, devices: Vec<D>) -> Result<Space<D>, Vec<D>>
+        requires plan { IsValid plan }
+        requires devices { map D.meaning devices.items ≡ first_states plan }
+        ensures ok { IfOk result (λ space. space ≡ new_space plan) }
+        ensures err { IfErr result (λ back. back.items ≡ devices.items) }
     {
+        let Ok(regions) = Vec::from_slice(alloc, plan.regions.items()) else {
+            return Err(devices);
+        };
+        let Ok(memories) = memories_of(alloc, plan.memories.items()) else {
+            return Err(devices);
+        };
+        let devices = fit_all(alloc, devices)?;
         Ok(Space {
-            memory: Memory::new(alloc, size)?,
-            uart: EarlyUart::new(),
-            shown: false,
+            plan,
+            regions: Regions::new(regions),
+            memories,
+            devices,
+            near: 0,
         })
     }
 
-    /// Whether the UART is shown.
-    pub fn is_shown(&self) -> bool
-        ensures { result ≡ self.now.shown }
+    pub fn plan(&self) -> &BoardPlan
+        ensures plan { result.now ≡ self.now.plan }
+        ensures fit { IsFit self.now }
     {
-        self.shown
+        &self.plan
     }
 
     /// What the interrupt lines and the timer show in a microsecond: nothing is wired to the
@@ -75,49 +121,60 @@ impl Space {
         Lines { mip: 0, mtime: 0 }
     }
 
-    /// Where so many bytes from an address on lie.
-    #[tactic(auto, unfolding(crate::specs::Space::place_of))]
-    fn place_of(&self, at: u32, width: u8) -> Place
-        requires { IsWidth width }
-        ensures place { result ≡ place_of self.now at width }
-        ensures fits { LiesIn self.now width result }
+    /// The word at an address, where a memory holds all four bytes.
+    #[inline]
+    pub fn fetch(&mut self, at: u32) -> Option<u32>
+        ensures value { result ≡ word_in self.old at }
+        ensures same { self.new ≡ self.old }
     {
-        if let Some(i) = self.memory.find(at, usize::from(width)) {
-            return Place::InMemory(i);
+        match self.find_near(at) {
+            Target::Ram { part, at } => Some(self.load_memory(part, at, 4)),
+            _ => None,
         }
-        if at < UART_BASE || at - UART_BASE + u32::from(width) > UART_SIZE {
-            return Place::Nowhere;
-        }
-        Place::InUart(at - UART_BASE)
     }
 
-    /// Loads from the memory, or the UART's register at the address, or 0.
-    pub fn load(&mut self, at: u32, width: u8) -> u32
-        requires { IsWidth width }
-        ensures answer { result ≡ load_answer self.old width (place_of self.old at width) }
-        ensures after { self.new ≡ after_load self.old (place_of self.old at width) }
+    /// What a word belongs to. It is sought first where the last one was.
+    #[inline]
+    fn find_near(&mut self, at: u32) -> Target
+        ensures target { result ≡ target_at self.old at 4 }
+        ensures lies { LiesIn self.old 4 result }
+        ensures same { self.new ≡ self.old }
+    {
+        self.regions.find_near(&mut self.near, at, 4)
+    }
+
+    /// What an access belongs to.
+    #[inline]
+    pub fn find(&self, at: u32, width: u8) -> Target
+        requires { IsAccess at width }
+        ensures target { result ≡ target_at self.now at width }
+        ensures lies { LiesIn self.now width result }
+        ensures page { IsInPage width result }
+    {
+        self.regions.find(at, width)
+    }
+
+    #[inline]
+    pub fn load_memory(&self, part: u8, at: u32, width: u8) -> u32
+        requires width { IsWidth width }
+        requires part { part < length self.now.memories }
+        requires lies { at + width ≤ length (memory_at self.now part) }
+        ensures value { result ≡ value_at (memory_at self.now part) at width }
         ensures fits { result < 256 ^ width }
     {
-        match self.place_of(at, width) {
-            Place::InMemory(i) => self.memory.load(i, width),
-            Place::InUart(register) => u32::from(self.uart.load(register)),
-            Place::Nowhere => 0,
-        }
+        self.memories[usize::from(part)].load(at, width)
     }
 
-    /// Stores into the memory, or gives the byte that the UART is to send, or does nothing.
-    pub fn store(&mut self, at: u32, width: u8, value: u32) -> Option<u8>
-        requires { IsWidth width }
-        ensures sent { result ≡ byte_sent value (place_of self.old at width) }
-        ensures after { self.new ≡ after_store self.old width value (place_of self.old at width) }
+    #[inline]
+    pub fn store_memory(&mut self, part: u8, at: u32, width: u8, value: u32) -> Result<(), NoMemory>
+        requires width { IsWidth width }
+        requires part { part < length self.old.memories }
+        requires lies { at + width ≤ length (memory_at self.old part) }
+        requires page { IsInOnePage at width }
+        ensures ok { OnOk result (self.new ≡
+            with_memory self.old part (put_value (memory_at self.old part) at width value)) }
+        ensures err { OnErr result (self.new ≡ self.old) }
     {
-        match self.place_of(at, width) {
-            Place::InMemory(i) => {
-                self.memory.store(i, width, value);
-                None
-            }
-            Place::InUart(0) => Some((value % 0x100) as u8),
-            Place::InUart(_) | Place::Nowhere => None,
-        }
+        self.memories[usize::from(part)].store(at, width, value)
     }
 }

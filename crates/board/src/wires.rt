@@ -1,30 +1,33 @@
 //! What the processor is wired to in a slot, and what the board makes by it.
-ghost use Rattle.std.specs.Prelude.{◌≡◌, ◌^◌, ◌<◌, [], OnOk, OnErr};
-ghost use Rattle.board.specs.Wires.{fetched, answer, loaded, stored, sent, post_of, entry_of, key_of};
+ghost use Rattle.std.specs.Prelude.{◌≡◌, ◌^◌, ◌%◌, ◌<◌, ◌≤◌, ◌+◌, length, OnOk, OnErr};
+ghost use Rattle.page_ram.specs.Access.{IsInOnePage};
+ghost use Rattle.rv_exec.specs.Access.{IsWidth};
+ghost use Rattle.sys_bus.specs.declared.region.Target.TheVariants.{Ram, Dev};
+ghost use Rattle.board.specs.Space.{memory_at};
+ghost use Rattle.board.specs.Wires.{fetched, answer, loaded, stored, stored_to, sent, entered, note_if, post_of, entry_of, key_of};
 
 use crate::numbers::Numbers;
 use crate::space::Space;
-use lab_num::{Entry, Key, Member, Micros, Payload, Post, PostNo, What};
+use dev_core::{Device, Effect, Entry, Payload, Post, What};
+use lab_num::{Key, Member, Micros, PostNo};
 use rv_exec::{Bus, NoMemory as OutOfMemory};
 use std::collections::VecDeque;
 use std::marker::Model;
-
-/// The place of the UART among the board's devices.
-const UART: u8 = 0;
+use sys_bus::Target;
 
 /// What a board has but its processor: its numbers, its space, and what it has made and nobody has
 /// taken yet.
 #[derive(Drop)]
-pub struct Wires {
+pub struct Wires<D: Device> {
     pub numbers: Numbers,
-    pub space: Space,
+    pub space: Space<D>,
     /// The microsecond of the slot.
     pub at: Micros,
     pub posts: VecDeque<Post>,
     pub entries: Vec<Entry>,
 }
 
-impl Model for Wires {
+impl<D: Device> Model for Wires<D> {
     ghost use Rattle.board.specs.Wires.{Wires as Seen};
 
     ghost Value = { Seen };
@@ -38,7 +41,7 @@ impl Model for Wires {
     } };
 }
 
-impl Wires {
+impl<D: Device> Wires<D> {
     /// Begins a slot, in this microsecond.
     pub fn begin_slot(&mut self, at: Micros)
         ensures { self.new ≡ record self.old { at = at.0 } }
@@ -46,51 +49,62 @@ impl Wires {
         self.at = at;
     }
 
-    /// Sends a byte by the UART: a post, and an entry where the UART is shown.
+    /// Notes something for the log.
+    #[cold]
+    #[inline(never)]
+    fn enter(&mut self, note: What) -> Result<(), OutOfMemory>
+        ensures ok { OnOk result (self.new ≡ entered self.old note) }
+        ensures err { OnErr result (self.new ≡ self.old) }
+    {
+        let entry = self.entry_of(note);
+        if self.entries.push(entry).is_err() {
+            return Err(OutOfMemory);
+        }
+        self.numbers.count_entry();
+        Ok(())
+    }
+
+    /// A device sends: a post, and an entry where the device is shown.
     #[tactic(auto, unfolding(crate::specs::Wires::sent))]
     #[cold]
     #[inline(never)]
-    fn send(&mut self, byte: u8) -> Result<(), OutOfMemory>
-        ensures ok { OnOk result (self.new ≡ sent self.old byte) }
+    fn send(&mut self, dev: u8, payload: Payload) -> Result<(), OutOfMemory>
+        requires { dev < length self.old.space.devices }
+        ensures ok { OnOk result (self.new ≡ sent self.old dev payload) }
         ensures err { OnErr result (self.new ≡ self.old) }
     {
-        let post = self.post_of(byte);
-        let entry = self.entry_of(byte);
+        let post = self.post_of(dev, payload);
         if self.entries.reserve(1).is_err() || self.posts.push_back(post).is_err() {
             return Err(OutOfMemory);
         }
         self.numbers.count_post();
-        if self.space.is_shown() {
-            let Ok(()) = self.entries.push(entry) else {
-                unreachable!()
-            };
+        if let Some(note) = note_if(self.space.is_shown(dev), dev, payload) {
+            let entry = self.entry_of(note);
+            self.entries.push_reserved(entry);
             self.numbers.count_entry();
         }
         Ok(())
     }
 
-    fn post_of(&self, byte: u8) -> Post
-        ensures { result ≡ post_of self.now byte }
+    fn post_of(&self, dev: u8, payload: Payload) -> Post
+        ensures { result ≡ post_of self.now dev payload }
     {
         Post {
             key: self.key_of(self.numbers.posted),
             from: Member {
                 board: self.numbers.number,
-                dev: UART,
+                dev,
             },
-            payload: Payload::Byte(byte),
+            payload,
         }
     }
 
-    fn entry_of(&self, byte: u8) -> Entry
-        ensures { result ≡ entry_of self.now byte }
+    fn entry_of(&self, what: What) -> Entry
+        ensures { result ≡ entry_of self.now what }
     {
         Entry {
             key: self.key_of(self.numbers.entered),
-            what: What::Byte {
-                dev: UART,
-                value: byte,
-            },
+            what,
         }
     }
 
@@ -104,9 +118,49 @@ impl Wires {
             number: PostNo(number),
         }
     }
+
+    /// Stores in a device, and does what it makes the device do. After an `Err` the device is as
+    /// before.
+    fn store_in_device(
+        &mut self,
+        dev: u8,
+        at: u32,
+        width: u8,
+        value: u32,
+    ) -> Result<(), OutOfMemory>
+        requires { dev < length self.old.space.devices }
+        ensures ok { OnOk result (self.new ≡ stored_to self.old at width value (Dev dev at)) }
+        ensures err { OnErr result (self.new ≡ self.old) }
+    {
+        let before = self.space.state(dev);
+        match self.space.store_device(dev, at, width, value) {
+            Effect::Quiet => Ok(()),
+            Effect::Send(payload) => {
+                let Ok(()) = self.send(dev, payload) else {
+                    self.space.put_back(dev, &before);
+                    return Err(OutOfMemory);
+                };
+                Ok(())
+            }
+        }
+    }
 }
 
-impl Bus for Wires {
+/// What the log notes of a payload that a device sends which is shown or not.
+fn note_if(shown: bool, dev: u8, payload: Payload) -> Option<What>
+    ensures { result ≡ note_if shown dev payload }
+{
+    if !shown {
+        return None;
+    }
+    match payload {
+        Payload::Byte(value) => Some(What::Byte { dev, value }),
+        Payload::Frame(frame) => Some(What::Sent { dev, frame }),
+        Payload::Finish(_) => None,
+    }
+}
+
+impl<D: Device> Bus for Wires<D> {
     ghost fetched = { fetched };
 
     ghost answer = { answer };
@@ -116,18 +170,34 @@ impl Bus for Wires {
     ghost stored = { stored };
 
     fn fetch(&mut self, at: u32) -> Option<u32> {
-        self.space.memory.word(at)
+        self.space.fetch(at)
     }
 
-    /// It is never refused.
+    #[tactic(auto, unfolding(crate::specs::Wires::loaded))]
     fn load(&mut self, at: u32, width: u8) -> Result<u32, OutOfMemory> {
-        Ok(self.space.load(at, width))
+        match self.space.find(at, width) {
+            Target::Ram { part, at } => Ok(self.space.load_memory(part, at, width)),
+            Target::Dev { dev, at } => Ok(self.space.load_device(dev, at, width)),
+            Target::Clint { .. } | Target::Plic { .. } => Ok(0),
+            Target::Nothing => {
+                self.enter(What::Read { width, at })?;
+                Ok(0)
+            }
+        }
     }
 
+    #[tactic(auto, unfolding(crate::specs::Wires::stored))]
     fn store(&mut self, at: u32, width: u8, value: u32) -> Result<(), OutOfMemory> {
-        match self.space.store(at, width, value) {
-            Some(byte) => self.send(byte),
-            None => Ok(()),
+        match self.space.find(at, width) {
+            Target::Ram { part, at } => {
+                let Ok(()) = self.space.store_memory(part, at, width, value) else {
+                    return Err(OutOfMemory);
+                };
+                Ok(())
+            }
+            Target::Dev { dev, at } => self.store_in_device(dev, at, width, value),
+            Target::Clint { .. } | Target::Plic { .. } => Ok(()),
+            Target::Nothing => self.enter(What::Write { width, at, value }),
         }
     }
 }

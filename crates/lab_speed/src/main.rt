@@ -4,7 +4,7 @@
 
 mod loops;
 
-use board::{Board, SlotAt};
+use early_board::{Board, SlotAt};
 use lab_num::{BoardNo, Micros};
 use loops::LOOPS;
 use rv_asm::assemble;

@@ -16,10 +16,10 @@ use Rattle.lab_num.specs.Listing.{listing}
 use Rattle.lab_num.specs.Paid.{paid}
 use Rattle.lab_num.specs.Post.{post_key, entry_key}
 use Rattle.lab_num.specs.Route.{route, hub_of, has_member}
-use Rattle.board.specs.View.{View, State}
-use Rattle.board.specs.Stretch.{stretch}
-use Rattle.board.specs.Numbered.{IsNumbered, AreNumbered}
-use Rattle.board.specs.Taken.{handed}
+use Rattle.early_board.specs.View.{View, State}
+use Rattle.early_board.specs.Stretch.{stretch}
+use Rattle.early_board.specs.Numbered.{IsNumbered, AreNumbered}
+use Rattle.early_board.specs.Taken.{handed}
 use Rattle.lab_state.specs.Board.{Board}
 use Rattle.lab_state.specs.Boundary.{to_member, to_route, boundary}
 use Rattle.lab_state.specs.Hub.{Hub, members_of}

@@ -9,9 +9,9 @@ use Rattle.std.specs.List.{AllByRecursion, IsDistinct}
 use Rattle.std.specs.Option.{option_map, ForSome}
 use Rattle.std.specs.Str.{bytes_eq}
 use Rattle.lab_num.specs.declared.key.Member.{Member}
-use Rattle.board.specs.Early.{early_numbers}
-use Rattle.board.specs.Numbers.{Numbers}
-use Rattle.board.specs.View.{View}
+use Rattle.early_board.specs.Early.{early_numbers}
+use Rattle.early_board.specs.Numbers.{Numbers}
+use Rattle.early_board.specs.View.{View}
 use Rattle.lab_state.specs.Board.{Board}
 use Rattle.lab_state.specs.Change.{change_at}
 use Rattle.lab_state.specs.Hub.{Hub}

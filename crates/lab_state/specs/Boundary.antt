@@ -8,7 +8,7 @@ use Rattle.lab_num.specs.Listing.{listing}
 use Rattle.lab_num.specs.Post.{post_key}
 use Rattle.lab_num.specs.Route.{route}
 use Rattle.log_merge.specs.declared.item.LogItem.{LogItem}
-use Rattle.board.specs.Taken.{handed}
+use Rattle.early_board.specs.Taken.{handed}
 use Rattle.lab_state.specs.Board.{Board}
 use Rattle.lab_state.specs.Hub.{Hub, members_of}
 use Rattle.lab_state.specs.Change.{change_at}

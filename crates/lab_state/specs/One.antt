@@ -2,7 +2,7 @@
 use Rattle.std.specs.Prelude.{ℕ, ◌∷◌, [], ◌++◌, Option, slice_get, option_and_then}
 use Rattle.std.specs.Option.{option_map}
 use Rattle.lab_num.specs.declared.key.Member.{Member}
-use Rattle.board.specs.View.{View}
+use Rattle.early_board.specs.View.{View}
 use Rattle.lab_state.specs.Board.{Board}
 use Rattle.lab_state.specs.Hub.{Hub}
 use Rattle.lab_state.specs.Lab.{Lab}

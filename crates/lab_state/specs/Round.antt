@@ -10,8 +10,8 @@ use Rattle.lab_num.specs.Paid.{paid}
 use Rattle.lab_num.specs.Post.{entry_key}
 use Rattle.log_merge.specs.declared.item.LogItem.{LogItem}
 use Rattle.log_merge.specs.declared.item.LogItem.TheVariants as item
-use Rattle.board.specs.View.{View, State}
-use Rattle.board.specs.Stretch.{stretch}
+use Rattle.early_board.specs.View.{View, State}
+use Rattle.early_board.specs.Stretch.{stretch}
 use Rattle.lab_state.specs.Board.{Board}
 use Rattle.lab_state.specs.Lab.{Lab}
 use Rattle.lab_state.specs.One.{with_view}

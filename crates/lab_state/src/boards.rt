@@ -3,17 +3,17 @@ ghost use Rattle.std.specs.Prelude.{◌≡◌, ◌<◌, ◌%◌, ◌↔◌, ◌+
 ghost use Rattle.std.specs.Option.{option_map, ForSome};
 ghost use Rattle.std.specs.Str.{bytes_eq};
 ghost use Rattle.lab_num.specs.Name as name_spec;
-ghost use Rattle.board.specs.Changes.{with_bytes, with_pc, with_shown};
-ghost use Rattle.board.specs.Early.{early};
-ghost use Rattle.board.specs.Memory.{holds_each};
-ghost use Rattle.board.specs.Slot.{quiet};
+ghost use Rattle.early_board.specs.Changes.{with_bytes, with_pc, with_shown};
+ghost use Rattle.early_board.specs.Early.{early};
+ghost use Rattle.early_board.specs.Memory.{holds_each};
+ghost use Rattle.early_board.specs.Slot.{quiet};
 ghost use Rattle.lab_state.specs.Names as names_spec;
 ghost use Rattle.lab_state.specs.One.{view_of, changed};
 
 use crate::faults::AddFault;
 use crate::lab::Lab;
 use crate::named_board::NamedBoard;
-use board::Board;
+use early_board::Board;
 use lab_num::{BoardNo, Member, NoMemory, Text};
 
 /// The most boards that a laboratory has.

@@ -11,7 +11,7 @@ ghost use Rattle.lab_state.specs.Lab.{Lab};
 ghost use Rattle.lab_state.specs.Run.{run, followed_by};
 ghost use Rattle.lab_state.specs.Turns.{Cut, IsWhole, run_in_turns};
 
-use board::turns_join;
+use early_board::turns_join;
 use lab_num::{Post as BoardPost, listing_laws};
 
 /// A run of a whole number of quanta that does not pause and the run after it are one run.

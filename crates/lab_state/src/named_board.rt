@@ -2,15 +2,15 @@
 ghost use Rattle.std.specs.Prelude.{◌≡◌, ◌+◌, ◌%◌, ◌≤◌, ◌++◌, [], length, IsTrue, Some, OnOk, OnErr};
 ghost use Rattle.std.specs.Option.{option_map, ForSome};
 ghost use Rattle.log_merge.specs.Merge.{all_entries};
-ghost use Rattle.board.specs.Changes.{with_bytes, with_pc, with_shown};
-ghost use Rattle.board.specs.Memory.{holds_each};
-ghost use Rattle.board.specs.Slot.{quiet};
-ghost use Rattle.board.specs.Taken.{handed};
+ghost use Rattle.early_board.specs.Changes.{with_bytes, with_pc, with_shown};
+ghost use Rattle.early_board.specs.Memory.{holds_each};
+ghost use Rattle.early_board.specs.Slot.{quiet};
+ghost use Rattle.early_board.specs.Taken.{handed};
 ghost use Rattle.lab_state.specs.Inner.Standing.{outline};
 ghost use Rattle.lab_state.specs.One.{with_view};
 ghost use Rattle.lab_state.specs.Round.{granted, stepped, posts_made, entries_made};
 
-use board::{Board, SlotAt, Turn};
+use early_board::{Board, SlotAt, Turn};
 use lab_num::{Entry, Micros, NoMemory, Payload, Post, Text};
 use std::marker::Model;
 
@@ -24,7 +24,7 @@ pub struct NamedBoard {
 impl Model for NamedBoard {
     ghost use Rattle.std.specs.Prelude.{◌≡◌};
     ghost use Rattle.std.specs.Option.{option_map};
-    ghost use Rattle.board.specs.Slot.{quiet};
+    ghost use Rattle.early_board.specs.Slot.{quiet};
     ghost use Rattle.lab_state.specs.Board.{Board};
 
     ghost Value = { Board };

@@ -14,7 +14,7 @@ use crate::faults::LabFault;
 use crate::hub_list::HubList;
 use crate::lab::Lab;
 use crate::named_board::{Made, NamedBoard};
-use board::stretches_number;
+use early_board::stretches_number;
 use lab_num::{Entry, Key, Member, Micros, NoMemory, Payload, Post, Rows};
 use log_merge::{LogItem, Member0, merge_entries, merge_posts};
 use std::alloc::Global;

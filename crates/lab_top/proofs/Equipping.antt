@@ -3,11 +3,11 @@ use Rattle.std.proofs.Common.{◌≡◌, ℕ, zero, suc, List, [], ◌∷◌, Op
 use Rattle.std.specs.Prelude.{slice_get, option_and_then}
 use Rattle.std.specs.Option.{option_map}
 use Rattle.lab_num.specs.declared.kind.Kind.TheVariants.{Uart}
-use Rattle.board.specs.View.{View}
+use Rattle.early_board.specs.View.{View}
 use Rattle.lab_state.specs.Board.{Board}
 use Rattle.lab_state.specs.Change.{change_at}
 use Rattle.lab_state.specs.One.{view_of, changed, with_view}
-use Rattle.board.specs.Early.{early}
+use Rattle.early_board.specs.Early.{early}
 use Rattle.lab_state.specs.Lab.{Lab}
 use Rattle.lab_top.specs.Builtin.{built_in, send_a, echo}
 use Rattle.lab_top.specs.Inner.Equipped.{equipped}

@@ -2,9 +2,9 @@
 use Rattle.std.specs.Prelude.{ℕ, List, [], ◌∷◌, Some, codes}
 use Rattle.lab_num.specs.declared.key.Member.{Member}
 use Rattle.lab_num.specs.declared.kind.Kind.TheVariants.{Uart}
-use Rattle.board.specs.Memory.{memory_base}
-use Rattle.board.specs.Changes.{with_bytes, with_shown}
-use Rattle.board.specs.Early.{early}
+use Rattle.early_board.specs.Memory.{memory_base}
+use Rattle.early_board.specs.Changes.{with_bytes, with_shown}
+use Rattle.early_board.specs.Early.{early}
 use Rattle.lab_state.specs.Board.{Board}
 use Rattle.lab_state.specs.Lab.{Lab}
 

@@ -3,7 +3,7 @@ ghost use Rattle.std.specs.Prelude.{◌≡◌, false, length, IfOk, IsSome, IsTr
 ghost use Rattle.std.specs.Option.{ForSome};
 ghost use Rattle.lab_top.specs.Builtin.{built_in};
 ghost use Rattle.lab_top.specs.Inner.Equipped.{equipped};
-ghost use Rattle.board.specs.Memory.{memory_base, holds_each};
+ghost use Rattle.early_board.specs.Memory.{memory_base, holds_each};
 ghost use Rattle.lab_state.specs.One.{view_of};
 
 use lab_num::{BoardNo, Member, NoMemory};
@@ -40,7 +40,7 @@ pub fn lab(alloc: Global) -> Result<Lab, NoMemory>
     let Ok(()) = lab.create_uart_hub("hub") else {
         return Err(NoMemory);
     };
-    board::early_memory_is_64_kib();
+    early_board::early_memory_is_64_kib();
     equip(&mut lab, first, &SEND_A)?;
     equip(&mut lab, second, &ECHO)?;
     Ok(lab)

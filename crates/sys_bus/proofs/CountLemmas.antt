@@ -1,6 +1,7 @@
 -- Counts of the items that pass a test.
-use Rattle.std.proofs.Common.{◌≡◌, ℕ, ◌+◌, ◌≤◌, Bool, true, false, ◌&&◌, cond, if◌then◌else◌, List, [], ◌∷◌, length, filter, count_by, ◌⊎◌, refl, inl, inr, arith}
+use Rattle.std.proofs.Common.{zero, suc, find, slice_get, Option, Some, ◌≡◌, ℕ, ◌+◌, ◌≤◌, Bool, true, false, ◌&&◌, cond, if◌then◌else◌, List, [], ◌∷◌, length, filter, count_by, ◌⊎◌, refl, inl, inr, arith}
 use Rattle.std.proofs.lemmas.List.Sums.{sum_by-cons}
+use Rattle.std.proofs.lemmas.Option.{same_Some}
 use Rattle.std.specs.List.{list_all}
 
 -- an item more
@@ -35,3 +36,44 @@ some_passes {X} p t (x ∷ xs) all =
           ] refl
       | false ↦ λ unmet never. absurd (cc)
     ] refl all
+
+-- an item that passes is among those that do
+passes_some : {X : Type 0} (p : X → Bool) (xs : List X) (i : ℕ) (x : X) →
+    slice_get xs i ≡ Some x → p x ≡ true → 1 ≤ length (filter p xs)
+passes_some p [] i x there passes = absurd (cc)
+passes_some p (y ∷ ys) zero x there passes =
+    let one : p y ≡ true = rw (same_Some _ _ there) passes in
+    rw one (omega arith)
+passes_some p (y ∷ ys) (suc i) x there passes =
+    let rest = passes_some p ys i x there passes in
+    elim (p y) as (λ b. 1 ≤ length (cond b (y ∷ filter p ys) (filter p ys))) [
+      | true ↦ omega arith
+      | false ↦ rest
+    ]
+
+-- what is found is among the items, and passes
+pub found_passes : {X : Type 0} (p : X → Bool) (xs : List X) (x : X) →
+    find p xs ≡ Some x → (p x ≡ true) × ((i : ℕ) × (slice_get xs i ≡ Some x))
+found_passes p [] x found = absurd (cc)
+found_passes {X} p (y ∷ ys) x found =
+    elim (p y) as (λ b. p y ≡ b → cond {A = Option X} b (Some y) (find p ys) ≡ Some x →
+    (p x ≡ true) × ((i : ℕ) × (slice_get (y ∷ ys) i ≡ Some x))) [
+      | true ↦ λ passes same. (rw (← same_Some _ _ same) passes, (0, same))
+      | false ↦ λ fails later. let rest = found_passes p ys x later in (rest.0, (suc rest.1.0, rest.1.1))
+    ] refl found
+
+-- the one item that passes is the one that is found
+pub sole_found : {X : Type 0} (p : X → Bool) (xs : List X) (i : ℕ) (x : X) →
+    length (filter p xs) ≤ 1 → slice_get xs i ≡ Some x → p x ≡ true → find p xs ≡ Some x
+sole_found p [] i x few there passes = absurd (cc)
+sole_found p (y ∷ ys) zero x few there passes =
+    let same = same_Some _ _ there in
+    let one : p y ≡ true = rw same passes in
+    rw (one, same) refl
+sole_found {X} p (y ∷ ys) (suc i) x few there passes =
+    let more = passes_some p ys i x there passes in
+    elim (p y) as (λ b. length (cond b (y ∷ filter p ys) (filter p ys)) ≤ 1 →
+    cond {A = Option X} b (Some y) (find p ys) ≡ Some x) [
+      | true ↦ λ h. absurd (omega (arith, h, more))
+      | false ↦ λ h. sole_found p ys i x h there passes
+    ] few

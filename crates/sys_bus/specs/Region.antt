@@ -58,6 +58,30 @@ target_if at (Some region) = target at region
 abbrev pub target_of : List Region → ℕ → ℕ → Target
 target_of regions at width = target_if at (find (holds at width) regions)
 
+-- how many bytes lie from an address to the end of the region that holds it, and 0 where none does
+abbrev pub room_if : ℕ → Option Region → ℕ
+room_if at None = 0
+room_if at (Some region) = end_of region - at
+
+abbrev pub room_of : List Region → ℕ → ℕ
+room_of regions at = room_if at (find (holds at 1) regions)
+
+-- a target so many bytes further on
+abbrev pub further : ℕ → Target → Target
+further i (to.Ram part at) = to.Ram part (at + i)
+further i (to.Clint at) = to.Clint (at + i)
+further i (to.Plic at) = to.Plic (at + i)
+further i (to.Dev dev at) = to.Dev dev (at + i)
+further i Nothing = Nothing
+
+-- how many bytes lie from one register of a device to the next: the step of its region
+abbrev pub step_if : Option Region → ℕ
+step_if None = 1
+step_if (Some region) = region.step
+
+abbrev pub step_of : List Region → ℕ → ℕ
+step_of regions dev = step_if (find (λ region. same_part region.kind (Dev dev)) regions)
+
 -- a target lies in a region with so many bytes from it on
 abbrev pub LiesIn : List Region → ℕ → RegionKind → ℕ → Type 0
 LiesIn regions width kind at = Any (λ region. (region.kind ≡ kind) × (at + width ≤ region.size)) regions

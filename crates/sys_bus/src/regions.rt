@@ -1,9 +1,9 @@
 //! The regions of a board.
-ghost use Rattle.std.specs.Prelude.{◌≡◌, ℕ, ◌<◌, ◌≤◌, List, length, filter, IsTrue};
+ghost use Rattle.std.specs.Prelude.{◌≡◌, ℕ, ◌+◌, ◌<◌, ◌≤◌, List, length, filter, IsTrue};
 ghost use Rattle.sys_bus.specs.declared.region.Region.{Region};
-ghost use Rattle.sys_bus.specs.Region.{holds, overlaps, count_of_overlaps, are_apart, are_addressed, target_of, IsWithin, IsWidth};
+ghost use Rattle.sys_bus.specs.Region.{holds, overlaps, count_of_overlaps, are_apart, are_addressed, target_of, room_of, step_of, further, IsWithin, IsWidth};
 
-use crate::region::{Region, Target};
+use crate::region::{Region, RegionKind, Target, is_same_part};
 use std::marker::Model;
 
 fn count_of_overlaps(regions: &[Region], region: &Region) -> usize
@@ -38,12 +38,15 @@ pub struct Regions {
 }
 
 impl Model for Regions {
-    ghost use Rattle.std.specs.Prelude.{List};
+    ghost use Rattle.std.specs.Prelude.{List, IsTrue};
     ghost use Rattle.sys_bus.specs.declared.region.Region.{Region};
+    ghost use Rattle.sys_bus.specs.Region.{are_apart};
 
     ghost Value = { List Region };
 
     ghost view = { λ r. r.list.items };
+
+    ghost invariant = { λ r. IsTrue (are_apart r.list.items) };
 }
 
 impl Regions {
@@ -62,12 +65,64 @@ impl Regions {
         ensures target { result ≡ target_of self.now at width }
         ensures within { IsWithin self.now width result }
     {
-        for region in &self.list {
+        let mut near = 0;
+        self.find_near(&mut near, at, width)
+    }
+
+    /// What an access of `width` bytes belongs to, as `find` says, where the region of number
+    /// `near` is tried first. Afterwards `near` is the number of the region that was found, if one
+    /// was; any number is right to begin with.
+    #[inline]
+    pub fn find_near(&self, near: &mut usize, at: u32, width: u8) -> Target
+        requires { IsWidth width }
+        ensures target { result ≡ target_of self.now at width }
+        ensures within { IsWithin self.now width result }
+    {
+        match self.list.get(*near) {
+            Some(region) if region.holds(at, width) => region.target(at),
+            _ => self.find_anew(near, at, width),
+        }
+    }
+
+    /// What an access belongs to, by a search of all regions.
+    fn find_anew(&self, near: &mut usize, at: u32, width: u8) -> Target
+        requires { IsWidth width }
+        ensures target { result ≡ target_of self.now at width }
+        ensures within { IsWithin self.now width result }
+    {
+        for (i, region) in self.list.iter().enumerate() {
             if region.holds(at, width) {
+                *near = i;
                 return region.target(at);
             }
         }
         Target::Nothing
+    }
+
+    /// How many bytes lie from an address to the end of the region that holds it. 0 where none does.
+    pub fn room(&self, at: u32) -> u64
+        ensures { result ≡ room_of self.now at }
+    {
+        for region in &self.list {
+            if region.holds(at, 1) {
+                return region.end() - u64::from(at);
+            }
+        }
+        0
+    }
+
+    /// How many bytes lie from one register of a device to the next. 1 where no region is the
+    /// device's.
+    #[inline]
+    pub fn step_of(&self, dev: u8) -> u8
+        ensures { result ≡ step_of self.now dev }
+    {
+        for region in &self.list {
+            if is_same_part(region.kind, RegionKind::Dev(dev)) {
+                return region.step;
+            }
+        }
+        1
     }
 }
 
@@ -75,4 +130,10 @@ impl Regions {
 pub fn accesses_belong_to_one_region()
     ensures { (regions : List Region) (at width : ℕ) → 0 < width → IsTrue (are_apart regions) →
         length (filter (holds at width) regions) ≤ 1 }
+{}
+
+/// As far as a region goes, each byte belongs to the same as the first, so many bytes further on.
+pub fn bytes_of_a_region_belong_together()
+    ensures { (regions : List Region) (at i : ℕ) → IsTrue (are_apart regions) → i < room_of regions at →
+        target_of regions (at + i) 1 ≡ further i (target_of regions at 1) }
 {}

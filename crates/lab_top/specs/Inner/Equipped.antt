@@ -1,7 +1,7 @@
 -- One board of the built-in laboratory, given its program and put on the hub.
 use Rattle.std.specs.Prelude.{ℕ, List, codes}
-use Rattle.board.specs.Memory.{memory_base}
-use Rattle.board.specs.Changes.{with_bytes, with_shown}
+use Rattle.early_board.specs.Memory.{memory_base}
+use Rattle.early_board.specs.Changes.{with_bytes, with_shown}
 use Rattle.lab_state.specs.Lab.{Lab}
 use Rattle.lab_state.specs.One.{changed}
 use Rattle.lab_state.specs.Names.{hub_named, connected_to}

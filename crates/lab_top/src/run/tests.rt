@@ -25,7 +25,7 @@ fn lab_of_lines(alloc: Global) -> Result<Lab, NoMemory>
     let Ok(()) = lab.create_uart_hub("hub") else {
         return Err(NoMemory);
     };
-    board::early_memory_is_64_kib();
+    early_board::early_memory_is_64_kib();
     builtin::equip(&mut lab, board, &LINES_OF_A)?;
     Ok(lab)
 }

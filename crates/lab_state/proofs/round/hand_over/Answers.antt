@@ -2,7 +2,7 @@
 use Rattle.std.proofs.Common.{◌∙◌, sym, ap, get_or}
 use Rattle.std.proofs.lemmas.List.Sums.{fold_more}
 use Rattle.lab_num.specs.declared.key.Member.{Member}
-use Rattle.board.specs.Taken.{handed}
+use Rattle.early_board.specs.Taken.{handed}
 use Rattle.lab_state.specs.Boundary.{to_member}
 use Rattle.lab_state.specs.Change.{change_at}
 use Rattle.lab_state.specs.One.{with_view}

@@ -1,6 +1,6 @@
 use Rattle.std.proofs.Common.{refl}
-use Rattle.board.specs.Changes.{with_bytes, with_shown}
-use Rattle.board.specs.Memory.{memory_base}
+use Rattle.early_board.specs.Changes.{with_bytes, with_shown}
+use Rattle.early_board.specs.Memory.{memory_base}
 use Rattle.lab_state.specs.Lab.{Lab}
 use Rattle.lab_state.specs.One.{changed}
 use Rattle.lab_top.proofs.Equipping.{still_there}

@@ -1,6 +1,6 @@
 -- A board more, under a number and a name of its own.
 use Rattle.std.proofs.Common.{◌≡◌, ◌∙◌, sym, ap, ◌<◌, List, ℕ, length, vec_len, Some, false, arith}
-use Rattle.board.specs.Early.{early_numbers}
+use Rattle.early_board.specs.Early.{early_numbers}
 use Rattle.lab_state.specs.Board.{Board}
 use Rattle.lab_state.specs.Lab.{Lab}
 use Rattle.lab_state.specs.Names.{is_taken}

@@ -1,7 +1,7 @@
 -- What changes of the board is no part of what holds of the laboratory.
 use Rattle.std.proofs.Common.{refl}
 use Rattle.std.proofs.lemmas.Result.{on_ok_weaker}
-use Rattle.board.specs.Changes.{with_bytes}
+use Rattle.early_board.specs.Changes.{with_bytes}
 use Rattle.lab_state.specs.One.{with_view}
 use Rattle.lab_state.specs.Inner.Standing.{outline}
 use Rattle.lab_state.proofs.ListLemmas.{set-change, map-set_same}

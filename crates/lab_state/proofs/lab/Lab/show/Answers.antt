@@ -1,6 +1,6 @@
 -- What changes of the board is no part of what holds of the laboratory.
 use Rattle.std.proofs.Common.{refl}
-use Rattle.board.specs.Changes.{with_shown}
+use Rattle.early_board.specs.Changes.{with_shown}
 use Rattle.lab_state.specs.One.{with_view}
 use Rattle.lab_state.specs.Inner.Standing.{outline}
 use Rattle.lab_state.proofs.ListLemmas.{set-change, map-set_same}

@@ -1,8 +1,8 @@
 //! The board's UART in its early form: the receiver buffer, the transmitter and the line status
 //! register of the NS16550A, with the FIFOs off.
 ghost use Rattle.std.specs.Prelude.{◌≡◌, ◌^◌, ◌<◌};
-ghost use Rattle.board.specs.Uart.{silent, uart_answer, uart_loaded, uart_taken, line_status, is_ready};
-ghost use Rattle.board.specs.Taken.{taken_by};
+ghost use Rattle.early_board.specs.Uart.{silent, uart_answer, uart_loaded, uart_taken, line_status, is_ready};
+ghost use Rattle.early_board.specs.Taken.{taken_by};
 
 use std::marker::Model;
 
@@ -24,7 +24,7 @@ pub struct EarlyUart {
 
 impl Model for EarlyUart {
     ghost use Rattle.std.specs.Option.{option_to_list};
-    ghost use Rattle.board.specs.Uart.{Uart};
+    ghost use Rattle.early_board.specs.Uart.{Uart};
 
     ghost Value = { Uart };
 

@@ -1,7 +1,7 @@
 //! The board's memory.
 ghost use Rattle.std.specs.Prelude.{◌≡◌, ℕ, ◌+◌, ◌-◌, ◌^◌, ◌<◌, ◌≤◌, ◌++◌, [], ◌∷◌, length, if◌then◌else◌, Some, None, IfOk, IfSome, IsTrue};
-ghost use Rattle.board.specs.Memory.{memory_base, in_memory, value_at, word_in, put_value, put_bytes};
-ghost use Rattle.board.specs.Early.{zeros};
+ghost use Rattle.early_board.specs.Memory.{memory_base, in_memory, value_at, word_in, put_value, put_bytes};
+ghost use Rattle.early_board.specs.Early.{zeros};
 ghost use Rattle.rv_exec.specs.Access.{IsWidth};
 
 use lab_num::NoMemory;

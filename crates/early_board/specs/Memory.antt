@@ -1,6 +1,6 @@
 -- The memory: bytes from one address on.
 use Rattle.std.specs.Prelude.{ℕ, ◌+◌, ◌-◌, ◌%◌, ◌==◌, nat_le, ◌&&◌, ◌||◌, Bool, if◌then◌else◌, List, ◌++◌, length, take, drop, Option, Some, None}
-use Rattle.board.specs.LittleEndian.{little_endian, number_of}
+use Rattle.early_board.specs.LittleEndian.{little_endian, number_of}
 
 -- where the memory begins
 abbrev pub memory_base : ℕ

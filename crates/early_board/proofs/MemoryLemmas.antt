@@ -3,7 +3,7 @@ use Rattle.std.proofs.Common.{◌≡◌, ℕ, suc, ◌+◌, ◌<◌, ◌≤◌, 
 use Rattle.std.specs.Prelude.{slice_set}
 use Rattle.std.proofs.Math.Seq.{take-suc-set}
 use Rattle.std.proofs.lemmas.List.{drop-set-lt, take-append-drop}
-use Rattle.board.specs.Memory.{put_bytes}
+use Rattle.early_board.specs.Memory.{put_bytes}
 
 -- bytes put in a place are the first of them and then the others
 put_bytes-cons :

@@ -2,10 +2,10 @@
 use Rattle.std.specs.Prelude.{if◌then◌else◌}
 use Rattle.lab_num.specs.declared.post.Payload.{Payload}
 use Rattle.lab_num.specs.declared.post.Payload.TheVariants.{Byte}
-use Rattle.board.specs.declared.uart.Taken.{Taken}
-use Rattle.board.specs.declared.uart.Taken.TheVariants.{Kept, Overrun}
-use Rattle.board.specs.Uart.{Uart, is_ready, uart_taken}
-use Rattle.board.specs.View.{View}
+use Rattle.early_board.specs.declared.uart.Taken.{Taken}
+use Rattle.early_board.specs.declared.uart.Taken.TheVariants.{Kept, Overrun}
+use Rattle.early_board.specs.Uart.{Uart, is_ready, uart_taken}
+use Rattle.early_board.specs.View.{View}
 
 -- a byte is kept, or it takes the place of one that was not read
 abbrev pub taken_by : Uart → Taken

@@ -1,7 +1,7 @@
 use Rattle.std.proofs.Common.{ℕ}
 use Rattle.std.proofs.lemmas.List.{length-replicate}
-use Rattle.board.specs.Early.{early, zeros}
-use Rattle.board.proofs.laws.early_memory_is_64_kib.Goals as goal
+use Rattle.early_board.specs.Early.{early, zeros}
+use Rattle.early_board.proofs.laws.early_memory_is_64_kib.Goals as goal
 
 pub returns : goal.returns
 unfolding early zeros

@@ -1,0 +1,31 @@
+-- What the space of a board keeps, and where an access lies in it.
+use Rattle.std.specs.Prelude.{◌≡◌, ℕ, ◌+◌, ◌≤◌, ◌<◌, List, length, map}
+use Rattle.dev_core.specs.Device.{kind_of}
+use Rattle.page_ram.specs.Access.{IsInOnePage}
+use Rattle.sys_bus.specs.declared.region.Region.{Region}
+use Rattle.sys_bus.specs.declared.region.Target.{Target}
+use Rattle.sys_bus.specs.declared.region.Target.TheVariants.{Ram, Clint, Plic, Dev, Nothing}
+use Rattle.sys_bus.specs.Plan.{IsValid}
+use Rattle.board.specs.Space.{Space, memory_at}
+
+-- memories and devices are those of the plan
+pub record IsFit (s : Space) : Type 0 where
+  pub plan : IsValid s.plan
+  pub sizes : map length s.memories ≡ s.plan.memories
+  pub kinds : map (λ f. kind_of f.state) s.devices ≡ s.plan.kinds
+
+-- so many bytes of a target are all there
+abbrev pub LiesIn : Space → ℕ → Target → Type 0
+LiesIn s width (Ram part at) = (part < length s.memories) × (at + width ≤ length (memory_at s part))
+LiesIn s width (Dev dev at) = dev < length s.devices
+LiesIn s width (Clint at) = Unit {0}
+LiesIn s width (Plic at) = Unit {0}
+LiesIn s width Nothing = Unit {0}
+
+-- and those of a memory lie in one page
+abbrev pub IsInPage : ℕ → Target → Type 0
+IsInPage width (Ram part at) = IsInOnePage at width
+IsInPage width (Dev dev at) = Unit {0}
+IsInPage width (Clint at) = Unit {0}
+IsInPage width (Plic at) = Unit {0}
+IsInPage width Nothing = Unit {0}

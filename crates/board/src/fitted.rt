@@ -1,0 +1,132 @@
+//! A device of a board.
+ghost use Rattle.std.specs.Prelude.{◌≡◌, ◌^◌, ◌%◌, ◌<◌, true};
+ghost use Rattle.rv_exec.specs.Access.{IsWidth};
+ghost use Rattle.dev_core.specs.Device.{dev_take, dev_reset, kind_of, IsValid};
+ghost use Rattle.board.specs.Space.{register_load, register_store};
+ghost use Rattle.board.specs.New.{hidden, reset_device};
+
+use dev_core::{DevState, Device, Effect, Payload, Taken};
+use std::marker::Model;
+
+/// A device of a board, and whether it is shown.
+#[derive(Drop)]
+pub struct Fitted<D: Device> {
+    device: D,
+    shown: bool,
+}
+
+impl<D: Device> Model for Fitted<D> {
+    ghost use Rattle.dev_core.specs.Device.{IsValid};
+    ghost use Rattle.board.specs.Space.{Fitted as Seen};
+
+    ghost Value = { Seen };
+
+    ghost view = { λ f. record { state = D.meaning f.device; shown = f.shown } };
+
+    ghost invariant = { λ f. IsValid (D.meaning f.device) };
+}
+
+impl<D: Device> Fitted<D> {
+    /// A device that is not shown.
+    pub fn new(device: D) -> Fitted<D>
+        ensures { result ≡ hidden (D.meaning device) }
+    {
+        // a state that is asked for is valid
+        let _state = device.state();
+        Fitted {
+            device,
+            shown: false,
+        }
+    }
+
+    pub fn is_shown(&self) -> bool
+        ensures { result ≡ self.now.shown }
+    {
+        self.shown
+    }
+
+    /// Shows the device.
+    pub fn show(&mut self)
+        ensures { self.new ≡ record self.old { shown = true } }
+    {
+        self.shown = true;
+    }
+
+    /// Loads a register by an access of `width` bytes, or gives 0 where the access is at none.
+    pub fn load(&mut self, register: Option<u32>, width: u8) -> u32
+        requires { IsWidth width }
+        ensures answer { result ≡ (register_load self.old.state width register).answer }
+        ensures after { self.new ≡ record self.old {
+          state = (register_load self.old.state width register).after;
+        } }
+        ensures fits { result < 256 ^ width }
+        ensures kind { kind_of self.new.state ≡ kind_of self.old.state }
+    {
+        match register {
+            Some(register) => lowest_bytes(self.device.load(register, width), width),
+            None => 0,
+        }
+    }
+
+    /// Stores a value of `width` bytes in a register, or does nothing where the access is at none.
+    pub fn store(&mut self, register: Option<u32>, width: u8, value: u32) -> Effect
+        ensures answer { result ≡ (register_store self.old.state width value register).answer }
+        ensures after { self.new ≡ record self.old {
+          state = (register_store self.old.state width value register).after;
+        } }
+        ensures kind { kind_of self.new.state ≡ kind_of self.old.state }
+    {
+        match register {
+            Some(register) => self.device.store(register, width, value),
+            None => Effect::Quiet,
+        }
+    }
+
+    /// Hands the device what another one sent.
+    pub fn take(&mut self, payload: &Payload) -> Taken
+        ensures answer { result ≡ (dev_take self.old.state payload.now).answer }
+        ensures after { self.new ≡ record self.old {
+          state = (dev_take self.old.state payload.now).after;
+        } }
+        ensures kind { kind_of self.new.state ≡ kind_of self.old.state }
+    {
+        self.device.take(payload)
+    }
+
+    /// Brings the device into its reset state. It stays shown.
+    pub fn reset(&mut self)
+        ensures after { self.new ≡ reset_device self.old }
+        ensures kind { kind_of self.new.state ≡ kind_of self.old.state }
+    {
+        self.device.reset();
+    }
+
+    pub fn state(&self) -> DevState
+        ensures value { result ≡ self.now.state }
+        ensures valid { IsValid result }
+    {
+        self.device.state()
+    }
+
+    /// Puts the device back into a state that it had.
+    pub fn put_back(&mut self, state: &DevState)
+        requires kind { kind_of state.now ≡ kind_of self.old.state }
+        requires valid { IsValid state.now }
+        ensures { self.new ≡ record self.old { state = state.now } }
+    {
+        let _put = self.device.put(state);
+    }
+}
+
+/// The lowest 1, 2 or 4 bytes of a value.
+fn lowest_bytes(value: u32, width: u8) -> u32
+    requires { IsWidth width }
+    ensures value { result ≡ value % 256 ^ width }
+    ensures fits { result < 256 ^ width }
+{
+    match width {
+        1 => value % 0x100,
+        2 => value % 0x1_0000,
+        _ => value,
+    }
+}

@@ -1,0 +1,105 @@
+//! The devices of a board.
+ghost use Rattle.std.specs.Prelude.{◌≡◌, ◌<◌, ◌^◌, ◌⊎◌, length, map, true};
+ghost use Rattle.dev_core.specs.Device.{dev_take, kind_of, IsValid};
+ghost use Rattle.rv_exec.specs.Access.{IsWidth};
+ghost use Rattle.board.specs.Space.{device_at, with_device, with_state, register_at, register_of, device_load, device_store};
+ghost use Rattle.board.specs.New.{reset_device};
+
+use super::Space;
+use dev_core::{DevState, Device, Effect, Payload, Taken};
+
+/// The register at a place of a device whose registers begin 1 or 4 bytes apart.
+fn register_at(step: u8, at: u32) -> Option<u32>
+    requires { (step ≡ 1) ⊎ (step ≡ 4) }
+    ensures { result ≡ register_at step at }
+{
+    match step {
+        1 => Some(at),
+        _ if at % 4 == 0 => Some(at / 4),
+        _ => None,
+    }
+}
+
+impl<D: Device> Space<D> {
+    /// The register at a place of a device, if there is one.
+    fn register_of(&self, dev: u8, at: u32) -> Option<u32>
+        ensures { result ≡ register_of self.now dev at }
+    {
+        register_at(self.regions.step_of(dev), at)
+    }
+
+    pub fn load_device(&mut self, dev: u8, at: u32, width: u8) -> u32
+        requires width { IsWidth width }
+        requires dev { dev < length self.old.devices }
+        ensures answer { result ≡ (device_load self.old dev at width).answer }
+        ensures after { self.new ≡
+            with_state self.old dev (device_load self.old dev at width).after }
+        ensures fits { result < 256 ^ width }
+    {
+        let register = self.register_of(dev, at);
+        self.devices[usize::from(dev)].load(register, width)
+    }
+
+    pub fn store_device(&mut self, dev: u8, at: u32, width: u8, value: u32) -> Effect
+        requires { dev < length self.old.devices }
+        ensures answer { result ≡ (device_store self.old dev at width value).answer }
+        ensures after { self.new ≡
+            with_state self.old dev (device_store self.old dev at width value).after }
+    {
+        let register = self.register_of(dev, at);
+        self.devices[usize::from(dev)].store(register, width, value)
+    }
+
+    /// Hands a device what another one sent.
+    pub fn take(&mut self, dev: u8, payload: &Payload) -> Taken
+        requires { dev < length self.old.devices }
+        ensures answer { result ≡ (dev_take (device_at self.old dev).state payload.now).answer }
+        ensures after { self.new ≡
+            with_state self.old dev (dev_take (device_at self.old dev).state payload.now).after }
+    {
+        self.devices[usize::from(dev)].take(payload)
+    }
+
+    pub fn is_shown(&self, dev: u8) -> bool
+        requires { dev < length self.now.devices }
+        ensures { result ≡ (device_at self.now dev).shown }
+    {
+        self.devices[usize::from(dev)].is_shown()
+    }
+
+    /// Shows a device.
+    pub fn show(&mut self, dev: u8)
+        requires { dev < length self.old.devices }
+        ensures { self.new ≡
+            with_device self.old dev (record (device_at self.old dev) { shown = true }) }
+    {
+        self.devices[usize::from(dev)].show();
+    }
+
+    pub fn state(&self, dev: u8) -> DevState
+        requires { dev < length self.now.devices }
+        ensures value { result ≡ (device_at self.now dev).state }
+        ensures valid { IsValid result }
+    {
+        self.devices[usize::from(dev)].state()
+    }
+
+    /// Puts a device back into a state that it had.
+    pub fn put_back(&mut self, dev: u8, state: &DevState)
+        requires dev { dev < length self.old.devices }
+        requires kind { kind_of state.now ≡ kind_of (device_at self.old dev).state }
+        requires valid { IsValid state.now }
+        ensures { self.new ≡ with_state self.old dev state.now }
+    {
+        self.devices[usize::from(dev)].put_back(state);
+    }
+
+    /// Brings each device into its reset state. Those that are shown stay so.
+    pub fn reset(&mut self)
+        ensures { self.new ≡ record self.old { devices = map reset_device self.old.devices } }
+    {
+        for device in self.devices.iter_mut() {
+            device.reset();
+        }
+    }
+}

@@ -1,0 +1,4 @@
+pub mod SlotLemmas
+pub mod NumberLemmas
+pub mod StretchLemmas
+pub mod MemoryLemmas

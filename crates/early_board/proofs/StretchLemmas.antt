@@ -1,0 +1,82 @@
+-- Laws of slots one after another.
+use Rattle.std.proofs.Common.{◌≡◌, ℕ, true, zero, suc, ◌+◌, ◌*◌, ◌/◌, ◌<◌, ◌≤◌, List, [], ◌∷◌, sum, refl, ◌∙◌, append_assoc, add-one, add-zero, add-suc, add_assoc, arith}
+use Rattle.std.proofs.lemmas.List.Sums.{sum_by-cons}
+use Rattle.std.proofs.Math.Nat.{mul-le-mul, suc-mul}
+use Rattle.lab_num.specs.Paid.{slot_at}
+use Rattle.early_board.specs.View.{View, State, after}
+use Rattle.early_board.specs.Slot.{slot, quiet}
+use Rattle.early_board.specs.Stretch.{stretch, in_turns}
+use Rattle.early_board.proofs.SlotLemmas.{quiet-behind, slot-halted, speed-slot}
+
+-- what is made one after another comes in order
+after-after : (s run more : State) → after (after s run) more ≡ after s (after run more)
+after-after s run more =
+    rw (append_assoc s.posts run.posts more.posts, append_assoc s.entries run.entries more.entries) refl
+
+-- no slots leave the board as it is
+pub after_none : (s : State) (from a : ℕ) → s ≡ after s (stretch s.view from a 0)
+unfolding stretch
+after_none s from a = quiet-behind s
+
+-- slots of a halted board leave it as it is
+stretch-halted : (v : View) (from a n : ℕ) → v.core.halted ≡ true → stretch v from a n ≡ quiet v
+unfolding stretch
+stretch-halted v from a zero halted = refl
+stretch-halted v from a (suc n) halted = rw (stretch-halted v from a n halted, slot-halted v _ halted) refl
+
+pub after_halted :
+    (s : State) (from a n : ℕ) → s.view.core.halted ≡ true → s ≡ after s (stretch s.view from a n)
+after_halted s from a n halted = rw (stretch-halted s.view from a n halted) (quiet-behind s)
+
+-- one slot more
+pub after_more :
+    (s mid new : State) (from a i t : ℕ) →
+    mid ≡ after s (stretch s.view from a i) →
+    new ≡ after mid (slot mid.view t) →
+    t ≡ slot_at from s.view.numbers.speed (a + i) →
+    new ≡ after s (stretch s.view from a (i + 1))
+unfolding stretch
+after_more s mid new from a i t reached slotted time =
+    slotted ∙ rw (reached, time, add-one) (after-after s (stretch s.view from a i) _)
+
+-- the next slot lies in the same microsecond, or begins the next one
+pub slot_within : (a i q r w : ℕ) → a + i ≡ q * r + w → a + (i + 1) ≡ q * r + (w + 1)
+slot_within a i q r w here = omega (arith, here)
+
+pub slot_begins : (a i q r w : ℕ) → a + i ≡ q * r + w → w + 1 ≡ r → a + (i + 1) ≡ (q + 1) * r + 0
+slot_begins a i q r w here full =
+    let more : (q + 1) * r ≡ q * r + r = rw (add-one) (suc-mul q r) in
+    omega (arith, here, full, more)
+
+-- a slot that lies before the last microsecond has a number that fits
+pub slots_fit : (x speed last : ℕ) → 1 ≤ speed → speed ≤ 1000 → x / speed ≤ last → x < 1000 * last + 1000
+slots_fit x speed last least most within =
+    let product : speed * (x / speed) ≤ 1000 * last = mul-le-mul most within in
+    omega arith
+
+pub speed-stretch : (v : View) (from a n : ℕ) → (stretch v from a n).view.numbers.speed ≡ v.numbers.speed
+unfolding stretch
+speed-stretch v from a zero = refl
+speed-stretch v from a (suc n) = speed-slot (stretch v from a n).view _ ∙ speed-stretch v from a n
+
+-- a stretch and the one behind it are one stretch
+pub stretch-add :
+    (v : View) (from a m n : ℕ) →
+    stretch v from a (m + n) ≡ after (stretch v from a m) (stretch (stretch v from a m).view from (a + m) n)
+unfolding stretch
+stretch-add v from a m zero = rw (add-zero) (quiet-behind (stretch v from a m))
+stretch-add v from a m (suc n) =
+    rw (add-suc, stretch-add v from a m n, speed-stretch v from a m, add_assoc)
+    (after-after (stretch v from a m) (stretch (stretch v from a m).view from (a + m) n) _)
+
+stretch-none : (v : View) (from a : ℕ) → quiet v ≡ stretch v from a 0
+unfolding stretch
+stretch-none v from a = refl
+
+-- turns one after another are the whole stretch
+pub turns-add :
+    (v : View) (from a : ℕ) (turns : List ℕ) → in_turns v from a turns ≡ stretch v from a (sum turns)
+turns-add v from a [] = stretch-none v from a
+turns-add v from a (n ∷ turns) =
+    let rest = turns-add (stretch v from a n).view from (a + n) turns in
+    rw (sum_by-cons (λ x. x) n turns, stretch-add v from a n (sum turns), rest) refl

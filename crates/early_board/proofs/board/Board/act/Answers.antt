@@ -1,0 +1,15 @@
+use Rattle.std.proofs.Common.{◌∙◌, sym}
+use Rattle.early_board.proofs.SlotLemmas.{awake-instruction, speed-effect}
+use Rattle.early_board.proofs.board.Board.act.Goals as goal
+
+pub invariant_of-self-2 : goal.invariant_of-self-2
+invariant_of-self-2 c =
+    let ok = c.in-Ok.ensures {u = tt} in
+    rw (ok.bus, speed-effect, c.begin_slot.ensures) c.self.invariant
+
+pub returns-clause-ok : goal.returns-clause-ok
+returns-clause-ok c =
+    let ok = c.in-Ok.ensures {u = tt} in
+    rw (← c.self.view_is)
+    (awake-instruction c.self.inside.hart c.step.new.hart c.self.inside.wires c.begin_slot.new.self c.step.new.bus
+    c.args.at.0 c.args.lines (sym c.pending.ensures.value ∙ c.in_default.is) c.begin_slot.ensures ok.core ok.bus)

@@ -1,0 +1,12 @@
+use Rattle.std.proofs.Common.{◌≡◌, ◌+◌, ◌*◌, ◌<◌}
+use Rattle.early_board.specs.View.{after}
+use Rattle.early_board.specs.Stretch.{stretch}
+use Rattle.early_board.proofs.board.Board.turn.Given as goal
+
+-- The board is as after the slots so far, and the next one lies in this microsecond.
+abbrev pub invariant-loop-i : goal.invariant-loop-i
+invariant-loop-i l = record {
+  run : l.self ≡ after l.fn.self (stretch l.fn.self.view l.at.from.0 l.at.first l.i);
+  next : l.at.first + l.i ≡ l.micros * l.speed + l.within;
+  within : l.within < l.speed;
+}

@@ -1,0 +1,14 @@
+pub mod LittleEndian
+pub mod Memory
+pub mod Uart
+pub mod Space
+pub mod Numbers
+pub mod Wires
+pub mod View
+pub mod Slot
+pub mod Stretch
+pub mod Numbered
+pub mod Taken
+pub mod Changes
+pub mod Early
+pub mod Inner
