@@ -1,23 +1,34 @@
 -- Where accesses of a valid plan lie.
-use Rattle.std.proofs.Common.{◌≡◌, ℕ, ◌+◌, ◌-◌, ◌%◌, ◌*◌, ◌≤◌, ◌<◌, ◌==◌, Bool, true, false, ◌&&◌, List, [], length, map, All, slice_get, slice_index, Option, Some, None, Some-injective, IsTrue, ◌⊎◌, inl, inr, nat_le, nat_lt, refl, sym, ap, ◌∙◌, arith, rules}
-use Rattle.std.specs.Prelude.{slice_index_or, slice_set, find, sum}
-use Rattle.std.specs.List.{list_all}
+use Rattle.std.proofs.Common.{◌≡◌, ℕ, zero, suc, ◌+◌, ◌-◌, ◌%◌, ◌≤◌, ◌<◌, ◌==◌, Bool, true, false, ◌&&◌, List, [], ◌∷◌, length, map, All, slice_get, slice_index, Option, Some, None, IsTrue, ◌⊎◌, inl, inr, nat_le, nat_lt, refl, sym, ap, ◌∙◌, arith, rules}
+use Rattle.std.specs.Prelude.{slice_index_or, find, sum}
+use Rattle.std.specs.List.{list_all, range_with_len}
 use Rattle.std.proofs.lemmas.Bool.Decides.{nat_tests}
-use Rattle.std.proofs.lemmas.List.{length-map}
+use Rattle.std.proofs.lemmas.List.{length-map, length-replicate}
+use Rattle.std.proofs.lemmas.Option.{slice_get_within, get_or_from_slice_get}
+use Rattle.dev_core.specs.Device.{kind_of, dev_reset, IsValid as IsValidState}
+use Rattle.dev_core.specs.declared.state.DevState.{DevState}
+use Rattle.dev_core.specs.declared.state.DevState.TheVariants as state
+use Rattle.dev_core.specs.declared.kind.Kind.{Kind}
+use Rattle.dev_core.specs.declared.kind.Kind.TheVariants.{Uart, Can, Finisher}
 use Rattle.page_ram.specs.Access.{IsInOnePage, IsRamSize}
+use Rattle.page_ram.specs.Bytes.{zeros}
 use Rattle.rv_exec.specs.Access.{IsAccess, IsWidth}
+use Rattle.sys_bus.specs.declared.plan.BoardPlan.{BoardPlan}
 use Rattle.sys_bus.specs.declared.region.Region.{Region}
 use Rattle.sys_bus.specs.declared.region.RegionKind.{RegionKind}
 use Rattle.sys_bus.specs.declared.region.RegionKind.TheVariants as kind
 use Rattle.sys_bus.specs.declared.region.Target.{Target}
 use Rattle.sys_bus.specs.declared.region.Target.TheVariants.{Ram, Clint, Plic, Dev, Nothing}
-use Rattle.sys_bus.specs.Region.{IsWithin, target_of, target_if, target_by, step_of, step_if, holds, same_part}
-use Rattle.sys_bus.specs.Part.{is_part, all_hold_parts, has_memory_size}
-use Rattle.sys_bus.specs.Limits.{is_range, is_step}
+use Rattle.sys_bus.specs.Region.{IsWithin, target_of, target_if, target_by, step_of, step_if, room_of, room_if, end_of, holds, same_part}
+use Rattle.sys_bus.specs.Part.{is_part, all_hold_parts, has_memory_size, has_one_each, regions_of}
+use Rattle.sys_bus.specs.Limits.{is_range, is_step, device_in, are_few_memories}
 use Rattle.sys_bus.specs.Plan.{IsValid}
-use Rattle.board.specs.Space.{Space, memory_at}
+use Rattle.std.proofs.Math.Seq.{map-set_same}
+use Rattle.std.specs.Prelude.{slice_set}
+use Rattle.board.specs.New.{first_state, hidden, new_space, reset_device}
+use Rattle.board.specs.Space.{Space, Fitted, memory_at, with_memory, device_at, with_device}
 use Rattle.board.specs.Inner.Fit.{IsFit, LiesIn, IsInPage}
-use Rattle.board.proofs.ListLemmas.{any_at, passes_at, All-by_place, counted_at, within_sum, range_passes}
+use Rattle.board.proofs.ListLemmas.{any_at, passes_at, All-by_place, All-set, counted_at, found_passes, within_sum, range_passes}
 
 -- the bytes of a memory of the plan
 memory-size :
@@ -31,10 +42,19 @@ memory-size s part fit = rw (← fit.sizes) (by_place s.memories part)
     by_place (m ∷ ms) (suc i) = by_place ms i
 
 memory-count : (s : Space) → IsFit s → length s.plan.memories ≡ length s.memories
-memory-count s fit = rw (← fit.sizes) (length-map length s.memories)
+memory-count s fit = rw (← fit.sizes) (length-map s.memories length)
 
 device-count : (s : Space) → IsFit s → length s.plan.kinds ≡ length s.devices
-device-count s fit = rw (← fit.kinds) (length-map _ s.devices)
+device-count s fit = rw (← fit.kinds) (length-map s.devices (λ f. kind_of f.state))
+
+-- of two tests that are passed
+second_of : (a b : Bool) → (a && b) ≡ true → b ≡ true
+second_of true b both = both
+second_of false b both = absurd (cc)
+
+first_one : (a b : Bool) → (a && b) ≡ true → a ≡ true
+first_one true b both = refl
+first_one false b both = absurd (cc)
 
 -- regions stand for memories and devices that there are
 is-part :
@@ -43,10 +63,7 @@ is-part :
 is-part s i region fit there =
     rw (memory-count s fit, device-count s fit) at
     (passes_at (λ r. is_part (length s.plan.memories) (length s.plan.kinds) r.kind) s.plan.regions i region
-    (all_hold fit.plan.no_others) there)
-  where
-    all_hold : {a b : Bool} → IsTrue (a && b) → b ≡ true
-    all_hold {a} {b} both = elim a as (λ a. IsTrue (a && b) → b ≡ true) [ | true ↦ λ h. search rules | false ↦ λ h. absurd (search rules) ] both
+    (second_of _ _ fit.plan.no_others) there)
 
 -- what lies in a region lies in what stands there
 pub lies :
@@ -59,7 +76,7 @@ lies s width (Ram part at) fit within =
     let is : nat_lt part (length s.memories) ≡ true = rw kind_is at (is-part s found.0 region fit there) in
     let sized : (region.size == slice_index s.plan.memories part) ≡ true =
         rw kind_is at (passes_at (λ r. has_memory_size s.plan.memories r.kind r.size) s.plan.regions found.0 region
-        (search (rules, fit.plan.memory_sizes)) there) in
+        fit.plan.memory_sizes there) in
     let same = memory-size s part fit in
     (grind (arith, nat_tests, is), grind (arith, nat_tests, sized, same, found.1.1.1.1))
 lies s width (Dev dev at) fit within =
@@ -90,7 +107,7 @@ in_page s at width target fit access one_page is =
       | Some region ↦ λ found same.
           let there = found_passes (holds at width) s.plan.regions region found in
           let ranged : is_range s.plan.kinds region ≡ true =
-              passes_at (is_range s.plan.kinds) s.plan.regions there.1.0 region (search (rules, fit.plan.ranges)) there.1.1 in
+              passes_at (is_range s.plan.kinds) s.plan.regions there.1.0 region fit.plan.ranges there.1.1 in
           let low : region.base % 4 ≡ 0 = grind (arith, nat_tests, ranged) in
           let below : region.base ≤ at = grind (arith, nat_tests, there.0) in
           let page = one_page (at - region.base) access.0 (aligned at region.base width access low below) in
@@ -120,7 +137,7 @@ one_or_four s dev fit =
           let there = found_passes test s.plan.regions region found in
           step-is (device_in s.plan.kinds region.kind) region.step
           (passes_at (λ r. is_step (device_in s.plan.kinds r.kind) r.step) s.plan.regions there.1.0 region
-          (search (rules, fit.plan.steps)) there.1.1)
+          fit.plan.steps there.1.1)
     ] refl
 
 -- memories of a valid plan have whole pages, and are not too large
@@ -137,7 +154,7 @@ ram_sizes plan valid = All-by_place IsRamSize plan.memories each
     each i size there =
         let within = slice_get_within plan.memories i size there in
         let parts : list_all (λ j. has_one_each plan.names plan.regions (kind.Ram j)) (range_with_len 0 (length plan.memories)) ≡ true =
-            first_of valid.parts in
+            first_one _ _ (first_one _ _ (first_one _ _ valid.parts)) in
         let one = range_passes _ 0 (length plan.memories) i parts within in
         let counted : 1 ≤ regions_of plan.regions (kind.Ram i) = grind (arith, nat_tests, one) in
         let found = counted_at (λ region. same_part region.kind (kind.Ram i)) plan.regions counted in
@@ -145,13 +162,148 @@ ram_sizes plan valid = All-by_place IsRamSize plan.memories each
         let is = is-ram i region.kind found.1.1.1 in
         let sized : (region.size == slice_index plan.memories i) ≡ true =
             rw is at (passes_at (λ r. has_memory_size plan.memories r.kind r.size) plan.regions found.0 region
-            (search (rules, valid.memory_sizes)) found.1.1.0) in
+            valid.memory_sizes found.1.1.0) in
         let ranged : is_range plan.kinds region ≡ true =
-            passes_at (is_range plan.kinds) plan.regions found.0 region (search (rules, valid.ranges)) found.1.1.0 in
+            passes_at (is_range plan.kinds) plan.regions found.0 region valid.ranges found.1.1.0 in
         let ranged' = rw is at ranged in
         let same : slice_index plan.memories i ≡ size = get_or_from_slice_get plan.memories i size 0 there in
-        let few : are_few_memories plan.memories ≡ true = search (rules, valid.few_memories) in
+        let few : are_few_memories plan.memories ≡ true = valid.few_memories in
         let sum' = within_sum plan.memories i size there in
         (grind (arith, nat_tests, ranged', sized, same), grind (arith, nat_tests, ranged', sized, same), grind (arith, nat_tests, few, sum'))
-    first_of : {a b c d : Bool} → IsTrue (a && b && c && d) → a ≡ true
-    first_of {a} {b} {c} {d} h = elim a as (λ a. IsTrue (a && b && c && d) → a ≡ true) [ | true ↦ λ h. refl | false ↦ λ h. absurd (search rules) ] h
+
+-- one memory or one device was changed
+pub fit_memory :
+    (s : Space) (part : ℕ) (bytes d : List ℕ) → IsFit s → length bytes ≡ length (slice_index_or s.memories part d) →
+    IsFit (with_memory s part bytes)
+fit_memory s part bytes d fit same = record {
+  plan = fit.plan;
+  sizes = map-set_same length s.memories part bytes d same ∙ fit.sizes;
+  kinds = fit.kinds;
+  states = fit.states;
+}
+
+pub fit_device :
+    (s : Space) (dev : ℕ) (fitted d : Fitted) → IsFit s →
+    kind_of fitted.state ≡ kind_of (slice_index_or s.devices dev d).state → IsValidState fitted.state →
+    IsFit (with_device s dev fitted)
+fit_device s dev fitted d fit same valid = record {
+  plan = fit.plan;
+  sizes = fit.sizes;
+  kinds = map-set_same (λ f. kind_of f.state) s.devices dev fitted d same ∙ fit.kinds;
+  states = All-set (λ f. IsValidState f.state) s.devices dev fitted fit.states valid;
+}
+
+-- reset states are valid
+valid_reset : (s : DevState) → IsValidState (dev_reset s)
+valid_reset (state.Uart u) = search rules
+valid_reset (state.Can c) = search rules
+valid_reset state.Finisher = tt
+
+valid_first : (k : Kind) → IsValidState (first_state k)
+valid_first Uart = valid_reset (first_state Uart)
+valid_first Can = valid_reset (first_state Can)
+valid_first Finisher = tt
+
+-- all devices were reset
+pub fit_reset : (s : Space) → IsFit s → IsFit (record s { devices = map reset_device s.devices })
+fit_reset s fit = record {
+  plan = fit.plan;
+  sizes = fit.sizes;
+  kinds = kinds s.devices ∙ fit.kinds;
+  states = states s.devices;
+}
+  where
+    kind : (s : DevState) → kind_of (dev_reset s) ≡ kind_of s
+    kind (state.Uart u) = refl
+    kind (state.Can c) = refl
+    kind state.Finisher = refl
+    kinds : (ds : List Fitted) → map (λ f. kind_of f.state) (map reset_device ds) ≡ map (λ f. kind_of f.state) ds
+    kinds [] = refl
+    kinds (d ∷ ds) = rw (kind d.state, kinds ds) refl
+    states : (ds : List Fitted) → All (λ f. IsValidState f.state) (map reset_device ds)
+    states [] k d within = absurd (omega (arith, within))
+    states (x ∷ ds) zero d within = valid_reset x.state
+    states (x ∷ ds) (suc k) d within = states ds k d (omega (arith, within))
+
+-- a new board
+pub fit_new : (plan : BoardPlan) → IsValid plan → IsFit (new_space plan)
+fit_new plan valid = record {
+  plan = valid;
+  sizes = sizes plan.memories;
+  kinds = kinds plan.kinds;
+  states = states plan.kinds;
+}
+  where
+    sizes : (ns : List ℕ) → map length (map zeros ns) ≡ ns
+    sizes [] = refl
+    sizes (n ∷ ns) = rw (length-replicate {A = ℕ} n 0, sizes ns) refl
+    kind : (k : Kind) → kind_of (first_state k) ≡ k
+    kind Uart = refl
+    kind Can = refl
+    kind Finisher = refl
+    kinds : (ks : List Kind) → map (λ f. kind_of f.state) (map hidden (map first_state ks)) ≡ ks
+    kinds [] = refl
+    kinds (k ∷ ks) = rw (kind k, kinds ks) refl
+    states : (ks : List Kind) → All (λ f. IsValidState f.state) (map hidden (map first_state ks))
+    states [] k d within = absurd (omega (arith, within))
+    states (x ∷ ks) zero d within = valid_first x
+    states (x ∷ ks) (suc k) d within = states ks k d (omega (arith, within))
+
+-- what a reset leaves depends on the kind alone
+same_reset : (a b : DevState) → kind_of a ≡ kind_of b → dev_reset a ≡ dev_reset b
+same_reset (state.Uart u) (state.Uart v) same = refl
+same_reset (state.Can u) (state.Can v) same = refl
+same_reset state.Finisher state.Finisher same = refl
+same_reset (state.Uart u) (state.Can v) same = absurd (cc)
+same_reset (state.Uart u) state.Finisher same = absurd (cc)
+same_reset (state.Can u) (state.Uart v) same = absurd (cc)
+same_reset (state.Can u) state.Finisher same = absurd (cc)
+same_reset state.Finisher (state.Uart v) same = absurd (cc)
+same_reset state.Finisher (state.Can v) same = absurd (cc)
+
+pub same_resets :
+    (xs ys : List Fitted) → map (λ f. kind_of f.state) xs ≡ map (λ f. kind_of f.state) ys →
+    map (λ f. f.shown) xs ≡ map (λ f. f.shown) ys → map reset_device xs ≡ map reset_device ys
+same_resets [] [] kinds shown = refl
+same_resets [] (y ∷ ys) kinds shown = absurd (cc)
+same_resets (x ∷ xs) [] kinds shown = absurd (cc)
+same_resets (x ∷ xs) (y ∷ ys) kinds shown =
+    let kind : kind_of x.state ≡ kind_of y.state = cc in
+    let kinds' : map (λ f. kind_of f.state) xs ≡ map (λ f. kind_of f.state) ys = cc in
+    let seen : x.shown ≡ y.shown = cc in
+    let shown' : map (λ f. f.shown) xs ≡ map (λ f. f.shown) ys = cc in
+    rw (same_reset x.state y.state kind, seen, same_resets xs ys kinds' shown') refl
+
+-- from an address to the end of its memory
+pub room_fits :
+    (s : Space) (at part place : ℕ) → IsFit s → target_of s.plan.regions at 1 ≡ Ram part place →
+    (0 < room_of s.plan.regions at) × (part < length s.memories)
+    × (place + room_of s.plan.regions at ≤ length (memory_at s part))
+room_fits s at part place fit is =
+    elim (find (holds at 1) s.plan.regions) as (λ found. find (holds at 1) s.plan.regions ≡ found →
+    target_if at found ≡ Ram part place →
+    (0 < room_if at found) × (part < length s.memories) × (place + room_if at found ≤ length (memory_at s part))) [
+      | None ↦ λ none never. absurd (cc)
+      | Some region ↦ λ found here.
+          let there = found_passes (holds at 1) s.plan.regions region found in
+          let parted = is-part s there.1.0 region fit there.1.1 in
+          let sized = passes_at (λ r. has_memory_size s.plan.memories r.kind r.size) s.plan.regions there.1.0 region
+          fit.plan.memory_sizes there.1.1 in
+          by_kind region region.kind refl here there.0 parted sized
+    ] refl is
+  where
+    by_kind :
+        (region : Region) (k : RegionKind) → region.kind ≡ k → target_by (at - region.base) k ≡ Ram part place →
+        holds at 1 region ≡ true → is_part (length s.memories) (length s.devices) region.kind ≡ true →
+        has_memory_size s.plan.memories region.kind region.size ≡ true →
+        (0 < end_of region - at) × (part < length s.memories) × (place + (end_of region - at) ≤ length (memory_at s part))
+    by_kind region (kind.Ram i) k_is same held parted sized =
+        let i_is : i ≡ part = cc in
+        let place_is : at - region.base ≡ place = cc in
+        let parted' : nat_lt part (length s.memories) ≡ true = rw (k_is, i_is) at parted in
+        let sized' : (region.size == slice_index s.plan.memories part) ≡ true = rw (k_is, i_is) at sized in
+        let size = memory-size s part fit in
+        (grind (arith, nat_tests, held), grind (arith, nat_tests, parted'), grind (arith, nat_tests, held, sized', size, place_is))
+    by_kind region kind.Clint k_is same held parted sized = absurd (cc)
+    by_kind region kind.Plic k_is same held parted sized = absurd (cc)
+    by_kind region (kind.Dev i) k_is same held parted sized = absurd (cc)

@@ -1,19 +1,17 @@
 -- What holds of the items of lists.
-use Rattle.std.proofs.Common.{◌≡◌, ℕ, zero, suc, ◌+◌, ◌≤◌, ◌<◌, Bool, true, false, ◌&&◌, List, [], ◌∷◌, length, All, slice_get, Option, Some, None, refl, arith, inl, inr, count_by}
-use Rattle.std.specs.Prelude.{Any, sum, if◌then◌else◌}
+use Rattle.std.proofs.Common.{◌≡◌, ℕ, zero, suc, ◌+◌, ◌≤◌, ◌<◌, Bool, true, false, ◌&&◌, cond, List, [], ◌∷◌, length, All, slice_get, Option, Some, None, refl, sym, arith, count_by}
+use Rattle.std.specs.Prelude.{Any, find, slice_index_or, slice_set, sum, if◌then◌else◌}
 use Rattle.std.specs.List.{list_all, range_with_len}
 use Rattle.std.proofs.lemmas.List.Sums.{sum_by-cons}
-use Rattle.std.proofs.lemmas.Option.{same_Some}
+use Rattle.std.proofs.lemmas.Option.{same_Some, slice_get_read, slice_get-get_or}
 
 -- an item of which something holds, and its place
 pub any_at :
     {X : Type 0} (P : X → Type 0) (xs : List X) → Any P xs →
     (i : ℕ) × ((x : X) × ((slice_get xs i ≡ Some x) × P x))
-any_at P [] none = absurd none
-any_at P (x ∷ xs) (inl here) = (0, (x, (refl, here)))
-any_at P (x ∷ xs) (inr later) =
-    let rest = any_at P xs later in
-    (suc rest.0, rest.1)
+any_at P xs found =
+    let there = slice_get_read xs (length xs) found.0 found.1 refl found.2 (sym found.3) in
+    (found.0, (found.1, (there, found.4)))
 
 -- what all items pass, each of them does
 pub passes_at :
@@ -35,8 +33,17 @@ passes_at p (y ∷ ys) (suc i) x all there =
 pub All-by_place :
     {X : Type 0} (P : X → Type 0) (xs : List X) →
     ((i : ℕ) (x : X) → slice_get xs i ≡ Some x → P x) → All P xs
-All-by_place P [] each = tt
-All-by_place P (x ∷ xs) each = (each 0 x refl, All-by_place P xs (λ i y there. each (suc i) y there))
+All-by_place P xs each k d within = each k (slice_index_or xs k d) (slice_get-get_or xs k d within)
+
+-- a list in which one item was replaced
+pub All-set :
+    {X : Type 0} (P : X → Type 0) (xs : List X) (i : ℕ) (x : X) → All P xs → P x → All P (slice_set xs i x)
+All-set P [] i x all here k d within = absurd (omega (arith, within))
+All-set P (y ∷ ys) zero x all here zero d within = here
+All-set P (y ∷ ys) zero x all here (suc k) d within = all (suc k) d within
+All-set P (y ∷ ys) (suc i) x all here zero d within = all 0 d (omega arith)
+All-set P (y ∷ ys) (suc i) x all here (suc k) d within =
+    All-set P ys i x (λ j e inside. all (suc j) e (omega (arith, inside))) here k d (omega (arith, within))
 
 -- where items are counted there is one
 pub counted_at :
@@ -65,19 +72,22 @@ within_sum (y ∷ ys) (suc i) x there =
 -- what all numbers of a range pass, each of them does, and the other way round
 pub range_passes :
     (p : ℕ → Bool) (a n i : ℕ) → list_all p (range_with_len a n) ≡ true → i < n → p (a + i) ≡ true
-range_passes p a zero i all within = absurd (omega arith)
-range_passes p a (suc n) i all within =
-    elim (p a) as (λ b. p a ≡ b → (b && list_all p (range_with_len (a + 1) n)) ≡ true → p (a + i) ≡ true) [
-      | true ↦ λ is rest. by_place i is rest within
-      | false ↦ λ is never. absurd (cc)
-    ] refl all
-  where
-    by_place :
-        (i : ℕ) → p a ≡ true → list_all p (range_with_len (a + 1) n) ≡ true → i < suc n → p (a + i) ≡ true
-    by_place zero is rest within = let same : a + 0 ≡ a = omega arith in rw same is
-    by_place (suc i) is rest within =
-        let same : a + suc i ≡ a + 1 + i = omega arith in
-        rw same (range_passes p (a + 1) n i rest (omega (arith, within)))
+range_passes p a zero i all within = absurd (omega (arith, within))
+range_passes p a (suc n) zero all within =
+    let same : a + 0 ≡ a = omega arith in
+    rw same
+    (elim (p a) as (λ b. (b && list_all p (range_with_len (a + 1) n)) ≡ true → b ≡ true) [
+      | true ↦ λ rest. refl
+      | false ↦ λ never. absurd (cc)
+    ] all)
+range_passes p a (suc n) (suc i) all within =
+    let same : a + suc i ≡ a + 1 + i = omega arith in
+    let rest : list_all p (range_with_len (a + 1) n) ≡ true =
+    elim (p a) as (λ b. (b && list_all p (range_with_len (a + 1) n)) ≡ true → list_all p (range_with_len (a + 1) n) ≡ true) [
+      | true ↦ λ rest. rest
+      | false ↦ λ never. absurd (cc)
+    ] all in
+    rw same (range_passes p (a + 1) n i rest (omega (arith, within)))
 
 pub all_of_range :
     (p : ℕ → Bool) (a n : ℕ) → ((i : ℕ) → i < n → p (a + i) ≡ true) → list_all p (range_with_len a n) ≡ true
@@ -103,3 +113,15 @@ all_of_parts p a (suc m) n each =
     let rest = all_of_parts p (a + 1) m n
     (λ i within. let same : a + suc i ≡ a + 1 + i = omega arith in rw same at (each (suc i) (omega (arith, within)))) in
     rw (more, on, ← rest, first) refl
+
+-- what is found is among the items, and passes
+pub found_passes :
+    {X : Type 0} (p : X → Bool) (xs : List X) (x : X) →
+    find p xs ≡ Some x → (p x ≡ true) × ((i : ℕ) × (slice_get xs i ≡ Some x))
+found_passes p [] x found = absurd (cc)
+found_passes {X} p (y ∷ ys) x found =
+    elim (p y) as (λ b. p y ≡ b → cond {A = Option X} b (Some y) (find p ys) ≡ Some x →
+    (p x ≡ true) × ((i : ℕ) × (slice_get (y ∷ ys) i ≡ Some x))) [
+      | true ↦ λ passes same. (rw (← same_Some _ _ same) passes, (0, same))
+      | false ↦ λ fails later. let rest = found_passes p ys x later in (rest.0, (suc rest.1.0, rest.1.1))
+    ] refl found

@@ -47,7 +47,9 @@ impl<D: Device> Fitted<D> {
 
     /// Shows the device.
     pub fn show(&mut self)
-        ensures { self.new ≡ record self.old { shown = true } }
+        ensures after { self.new ≡ record self.old { shown = true } }
+        ensures kind { kind_of self.new.state ≡ kind_of self.old.state }
+        ensures valid { IsValid self.new.state }
     {
         self.shown = true;
     }
@@ -61,6 +63,7 @@ impl<D: Device> Fitted<D> {
         } }
         ensures fits { result < 256 ^ width }
         ensures kind { kind_of self.new.state ≡ kind_of self.old.state }
+        ensures valid { IsValid self.new.state }
     {
         match register {
             Some(register) => lowest_bytes(self.device.load(register, width), width),
@@ -75,6 +78,7 @@ impl<D: Device> Fitted<D> {
           state = (register_store self.old.state width value register).after;
         } }
         ensures kind { kind_of self.new.state ≡ kind_of self.old.state }
+        ensures valid { IsValid self.new.state }
     {
         match register {
             Some(register) => self.device.store(register, width, value),
@@ -89,6 +93,7 @@ impl<D: Device> Fitted<D> {
           state = (dev_take self.old.state payload.now).after;
         } }
         ensures kind { kind_of self.new.state ≡ kind_of self.old.state }
+        ensures valid { IsValid self.new.state }
     {
         self.device.take(payload)
     }
@@ -97,6 +102,7 @@ impl<D: Device> Fitted<D> {
     pub fn reset(&mut self)
         ensures after { self.new ≡ reset_device self.old }
         ensures kind { kind_of self.new.state ≡ kind_of self.old.state }
+        ensures valid { IsValid self.new.state }
     {
         self.device.reset();
     }
@@ -112,7 +118,9 @@ impl<D: Device> Fitted<D> {
     pub fn put_back(&mut self, state: &DevState)
         requires kind { kind_of state.now ≡ kind_of self.old.state }
         requires valid { IsValid state.now }
-        ensures { self.new ≡ record self.old { state = state.now } }
+        ensures after { self.new ≡ record self.old { state = state.now } }
+        ensures kind { kind_of self.new.state ≡ kind_of self.old.state }
+        ensures valid { IsValid self.new.state }
     {
         let _put = self.device.put(state);
     }

@@ -15,7 +15,7 @@ mod memories;
 use crate::fitted::Fitted;
 use dev_core::Device;
 use lab_num::{Micros, NoMemory};
-use page_ram::PageRam;
+use page_ram::{PageRam, aligned_numbers_lie_in_one_page};
 use rv_hart::Lines;
 use std::alloc::Global;
 use std::marker::Model;
@@ -151,6 +151,7 @@ impl<D: Device> Space<D> {
         ensures lies { LiesIn self.now width result }
         ensures page { IsInPage width result }
     {
+        aligned_numbers_lie_in_one_page();
         self.regions.find(at, width)
     }
 

@@ -68,9 +68,9 @@ impl<D: Device> Wires<D> {
     #[tactic(auto, unfolding(crate::specs::Wires::sent))]
     #[cold]
     #[inline(never)]
-    fn send(&mut self, dev: u8, payload: Payload) -> Result<(), OutOfMemory>
+    fn send(&mut self, dev: u8, payload: &Payload) -> Result<(), OutOfMemory>
         requires { dev < length self.old.space.devices }
-        ensures ok { OnOk result (self.new ≡ sent self.old dev payload) }
+        ensures ok { OnOk result (self.new ≡ sent self.old dev payload.now) }
         ensures err { OnErr result (self.new ≡ self.old) }
     {
         let post = self.post_of(dev, payload);
@@ -86,8 +86,8 @@ impl<D: Device> Wires<D> {
         Ok(())
     }
 
-    fn post_of(&self, dev: u8, payload: Payload) -> Post
-        ensures { result ≡ post_of self.now dev payload }
+    fn post_of(&self, dev: u8, payload: &Payload) -> Post
+        ensures { result ≡ post_of self.now dev payload.now }
     {
         Post {
             key: self.key_of(self.numbers.posted),
@@ -95,7 +95,7 @@ impl<D: Device> Wires<D> {
                 board: self.numbers.number,
                 dev,
             },
-            payload,
+            payload: *payload,
         }
     }
 
@@ -136,7 +136,7 @@ impl<D: Device> Wires<D> {
         match self.space.store_device(dev, at, width, value) {
             Effect::Quiet => Ok(()),
             Effect::Send(payload) => {
-                let Ok(()) = self.send(dev, payload) else {
+                let Ok(()) = self.send(dev, &payload) else {
                     self.space.put_back(dev, &before);
                     return Err(OutOfMemory);
                 };
@@ -147,15 +147,15 @@ impl<D: Device> Wires<D> {
 }
 
 /// What the log notes of a payload that a device sends which is shown or not.
-fn note_if(shown: bool, dev: u8, payload: Payload) -> Option<What>
-    ensures { result ≡ note_if shown dev payload }
+fn note_if(shown: bool, dev: u8, payload: &Payload) -> Option<What>
+    ensures { result ≡ note_if shown dev payload.now }
 {
     if !shown {
         return None;
     }
     match payload {
-        Payload::Byte(value) => Some(What::Byte { dev, value }),
-        Payload::Frame(frame) => Some(What::Sent { dev, frame }),
+        Payload::Byte(value) => Some(What::Byte { dev, value: *value }),
+        Payload::Frame(frame) => Some(What::Sent { dev, frame: *frame }),
         Payload::Finish(_) => None,
     }
 }

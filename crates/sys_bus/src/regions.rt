@@ -100,12 +100,12 @@ impl Regions {
     }
 
     /// How many bytes lie from an address to the end of the region that holds it. 0 where none does.
-    pub fn room(&self, at: u32) -> u64
+    pub fn room(&self, at: u32) -> u32
         ensures { result ≡ room_of self.now at }
     {
         for region in &self.list {
             if region.holds(at, 1) {
-                return region.end() - u64::from(at);
+                return region.size - (at - region.base);
             }
         }
         0

@@ -1,6 +1,6 @@
 -- What the space of a board keeps, and where an access lies in it.
-use Rattle.std.specs.Prelude.{◌≡◌, ℕ, ◌+◌, ◌≤◌, ◌<◌, List, length, map}
-use Rattle.dev_core.specs.Device.{kind_of}
+use Rattle.std.specs.Prelude.{◌≡◌, ℕ, ◌+◌, ◌≤◌, ◌<◌, List, length, map, All}
+use Rattle.dev_core.specs.Device.{kind_of, IsValid as IsValidState}
 use Rattle.page_ram.specs.Access.{IsInOnePage}
 use Rattle.sys_bus.specs.declared.region.Region.{Region}
 use Rattle.sys_bus.specs.declared.region.Target.{Target}
@@ -13,6 +13,7 @@ pub record IsFit (s : Space) : Type 0 where
   pub plan : IsValid s.plan
   pub sizes : map length s.memories ≡ s.plan.memories
   pub kinds : map (λ f. kind_of f.state) s.devices ≡ s.plan.kinds
+  pub states : All (λ f. IsValidState f.state) s.devices
 
 -- so many bytes of a target are all there
 abbrev pub LiesIn : Space → ℕ → Target → Type 0

@@ -95,6 +95,7 @@ impl<D: Device> Space<D> {
     }
 
     /// Brings each device into its reset state. Those that are shown stay so.
+    #[tactic(auto, using(std::proofs::lemmas::List::Edits::map_over_more))]
     pub fn reset(&mut self)
         ensures { self.new ≡ record self.old { devices = map reset_device self.old.devices } }
     {

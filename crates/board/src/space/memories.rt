@@ -8,7 +8,7 @@ ghost use Rattle.board.specs.Inner.Copies.{CopiesPrefix, IsRoom};
 use super::Space;
 use dev_core::Device;
 use lab_num::NoMemory;
-use sys_bus::Target;
+use sys_bus::{Target, bytes_of_a_region_belong_together};
 
 /// Bytes of a memory, from an address to the memory's end.
 #[derive(Clone, Copy)]
@@ -25,11 +25,12 @@ impl<D: Device> Space<D> {
     fn room_at(&self, at: u32) -> Option<Room>
         ensures { IsRoom self.now at result }
     {
+        bytes_of_a_region_belong_together();
         match self.regions.find(at, 1) {
             Target::Ram { part, at: place } => Some(Room {
                 part,
                 at: place,
-                size: self.regions.room(at) as u32,
+                size: self.regions.room(at),
             }),
             _ => None,
         }

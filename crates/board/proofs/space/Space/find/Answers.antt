@@ -1,0 +1,10 @@
+use Rattle.std.proofs.Common.{◌∙◌, ap}
+use Rattle.sys_bus.specs.Region.{target_of}
+use Rattle.board.proofs.FitLemmas.{in_page}
+use Rattle.board.proofs.space.Space.find.Goals as goal
+
+pub returns-clause-page : goal.returns-clause-page
+returns-clause-page g c =
+    in_page _ c.args.at c.args.width c.find.result c.self.invariant.1 c.requires
+    (λ place. c.aligned_numbers_lie_in_one_page.ensures place c.args.width)
+    (c.find.ensures.target ∙ ap (λ regions. target_of regions c.args.at c.args.width) c.self.invariant.0)
