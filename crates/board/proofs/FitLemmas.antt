@@ -1,9 +1,9 @@
 -- Where accesses of a valid plan lie.
-use Rattle.std.proofs.Common.{◌≡◌, ℕ, zero, suc, ◌+◌, ◌-◌, ◌%◌, ◌≤◌, ◌<◌, ◌==◌, Bool, true, false, ◌&&◌, List, [], ◌∷◌, length, map, All, slice_get, slice_index, Option, Some, None, IsTrue, ◌⊎◌, inl, inr, nat_le, nat_lt, refl, sym, ap, ◌∙◌, arith, rules}
-use Rattle.std.specs.Prelude.{slice_index_or, find, sum}
+use Rattle.std.proofs.Common.{◌≡◌, ℕ, zero, suc, ◌+◌, ◌-◌, ◌%◌, ◌^◌, ◌≤◌, ◌<◌, ◌==◌, Bool, true, false, ◌&&◌, List, [], ◌∷◌, length, map, All, slice_get, slice_index, Option, Some, None, ◌⊎◌, inl, inr, nat_le, nat_lt, refl, ap, ◌∙◌, arith, rules}
+use Rattle.std.specs.Prelude.{slice_index_or, find}
 use Rattle.std.specs.List.{list_all, range_with_len}
 use Rattle.std.proofs.lemmas.Bool.Decides.{nat_tests}
-use Rattle.std.proofs.lemmas.List.{length-map, length-replicate}
+use Rattle.std.proofs.lemmas.List.{length-map, length-replicate, get_or-set_same, set-get_or}
 use Rattle.std.proofs.lemmas.Option.{slice_get_within, get_or_from_slice_get}
 use Rattle.dev_core.specs.Device.{kind_of, dev_reset, IsValid as IsValidState}
 use Rattle.dev_core.specs.declared.state.DevState.{DevState}
@@ -20,15 +20,15 @@ use Rattle.sys_bus.specs.declared.region.RegionKind.TheVariants as kind
 use Rattle.sys_bus.specs.declared.region.Target.{Target}
 use Rattle.sys_bus.specs.declared.region.Target.TheVariants.{Ram, Clint, Plic, Dev, Nothing}
 use Rattle.sys_bus.specs.Region.{IsWithin, target_of, target_if, target_by, step_of, step_if, room_of, room_if, end_of, holds, same_part}
-use Rattle.sys_bus.specs.Part.{is_part, all_hold_parts, has_memory_size, has_one_each, regions_of}
+use Rattle.sys_bus.specs.Part.{is_part, has_memory_size, has_one_each, regions_of}
 use Rattle.sys_bus.specs.Limits.{is_range, is_step, device_in, are_few_memories}
 use Rattle.sys_bus.specs.Plan.{IsValid}
 use Rattle.std.proofs.Math.Seq.{map-set_same}
-use Rattle.std.specs.Prelude.{slice_set}
+use Rattle.board.specs.Changes.{in_memory, is_memory}
 use Rattle.board.specs.New.{first_state, hidden, new_space, reset_device}
-use Rattle.board.specs.Space.{Space, Fitted, memory_at, with_memory, device_at, with_device}
+use Rattle.board.specs.Space.{Space, Fitted, memory_at, with_memory, device_at, with_device, with_state}
 use Rattle.board.specs.Inner.Fit.{IsFit, LiesIn, IsInPage}
-use Rattle.board.proofs.ListLemmas.{any_at, passes_at, All-by_place, All-set, counted_at, found_passes, within_sum, range_passes}
+use Rattle.board.proofs.ListLemmas.{any_at, passes_at, All-by_place, All-set, set_set, counted_at, found_passes, within_sum, range_passes}
 
 -- the bytes of a memory of the plan
 memory-size :
@@ -307,3 +307,34 @@ room_fits s at part place fit is =
     by_kind region kind.Clint k_is same held parted sized = absurd (cc)
     by_kind region kind.Plic k_is same held parted sized = absurd (cc)
     by_kind region (kind.Dev i) k_is same held parted sized = absurd (cc)
+
+-- a device that was put back into the state in which it was
+pub put_back_same :
+    (s : Space) (dev : ℕ) (state : DevState) → dev < length s.devices →
+    with_state (with_state s dev state) dev (device_at s dev).state ≡ s
+put_back_same s dev state there =
+    let changed : Fitted = record (device_at s dev) { state = state } in
+    let seen : device_at (with_device s dev changed) dev ≡ changed =
+    get_or-set_same s.devices dev changed _ there in
+    ap (λ f. with_device (with_device s dev changed) dev (record f { state = (device_at s dev).state })) seen
+    ∙ ap (λ devices. record s { devices = devices })
+      (set_set s.devices dev changed (device_at s dev) ∙ set-get_or s.devices dev _)
+
+-- bytes of memories have addresses of 32 bits
+pub memory_below : (s : Space) (at : ℕ) → IsFit s → in_memory s at ≡ true → at < 2 ^ 32
+memory_below s at fit memory =
+    elim (find (holds at 1) s.plan.regions) as (λ found. find (holds at 1) s.plan.regions ≡ found →
+    is_memory (target_if at found) ≡ true → at < 2 ^ 32) [
+      | None ↦ λ none never. absurd (cc)
+      | Some region ↦ λ found here.
+          let there = found_passes (holds at 1) s.plan.regions region found in
+          let below = passes_at (λ r. nat_le (end_of r) (2 ^ 32)) s.plan.regions there.1.0 region fit.plan.addressed there.1.1 in
+          grind (arith, nat_tests, there.0, below)
+    ] refl memory
+
+pub no_memory_above : (s : Space) (at : ℕ) → IsFit s → 2 ^ 32 ≤ at → in_memory s at ≡ false
+no_memory_above s at fit above =
+    elim (in_memory s at) as (λ b. in_memory s at ≡ b → b ≡ false) [
+      | true ↦ λ is. absurd (let below = memory_below s at fit is in omega (arith, above, below))
+      | false ↦ λ is. refl
+    ] refl

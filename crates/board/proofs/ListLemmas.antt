@@ -1,5 +1,5 @@
 -- What holds of the items of lists.
-use Rattle.std.proofs.Common.{◌≡◌, ℕ, zero, suc, ◌+◌, ◌≤◌, ◌<◌, Bool, true, false, ◌&&◌, cond, List, [], ◌∷◌, length, All, slice_get, Option, Some, None, refl, sym, arith, count_by}
+use Rattle.std.proofs.Common.{◌≡◌, ℕ, zero, suc, ◌+◌, ◌≤◌, ◌<◌, Bool, true, false, ◌&&◌, cond, List, [], ◌∷◌, length, All, slice_get, Option, Some, refl, sym, ap, arith, count_by}
 use Rattle.std.specs.Prelude.{Any, find, slice_index_or, slice_set, sum, if◌then◌else◌}
 use Rattle.std.specs.List.{list_all, range_with_len}
 use Rattle.std.proofs.lemmas.List.Sums.{sum_by-cons}
@@ -125,3 +125,14 @@ found_passes {X} p (y ∷ ys) x found =
       | true ↦ λ passes same. (rw (← same_Some _ _ same) passes, (0, same))
       | false ↦ λ fails later. let rest = found_passes p ys x later in (rest.0, (suc rest.1.0, rest.1.1))
     ] refl found
+
+-- an item that is replaced twice
+pub set_set : {X : Type 0} (xs : List X) (i : ℕ) (x y : X) → slice_set (slice_set xs i x) i y ≡ slice_set xs i y
+set_set [] i x y = refl
+set_set (z ∷ zs) zero x y = refl
+set_set (z ∷ zs) (suc i) x y = ap (λ rest. z ∷ rest) (set_set zs i x y)
+
+-- a range whose first number fails
+pub first_fails : (p : ℕ → Bool) (a n : ℕ) → 0 < n → p a ≡ false → list_all p (range_with_len a n) ≡ false
+first_fails p a zero some fails = absurd (omega (arith, some))
+first_fails p a (suc n) some fails = rw fails refl

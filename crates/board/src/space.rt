@@ -18,6 +18,7 @@ use lab_num::{Micros, NoMemory};
 use page_ram::{PageRam, aligned_numbers_lie_in_one_page};
 use rv_hart::Lines;
 use std::alloc::Global;
+use std::collections::VecDeque;
 use std::marker::Model;
 use sys_bus::{BoardPlan, Regions, Target};
 
@@ -75,7 +76,8 @@ fn fit_all<D: Device>(alloc: Global, devices: Vec<D>) -> Result<Vec<Fitted<D>>, 
     if fitted.reserve(devices.len()).is_err() {
         return Err(devices);
     }
-    for device in devices {
+    let mut rest = VecDeque::from(devices);
+    while let Some(device) = rest.pop_front() {
         fitted.push_reserved(Fitted::new(device));
     }
     Ok(fitted)

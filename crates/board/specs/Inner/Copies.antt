@@ -1,5 +1,5 @@
 -- Bytes that are written piece by piece.
-use Rattle.std.specs.Prelude.{◌≡◌, ℕ, ◌+◌, ◌<◌, ◌≤◌, ◌^◌, List, length, take, Bool, true, false, Option, None, Some, IsTrue}
+use Rattle.std.specs.Prelude.{◌≡◌, ℕ, ◌+◌, ◌<◌, ◌≤◌, List, length, take, false, Option, None, Some}
 use Rattle.sys_bus.specs.declared.region.Target.TheVariants.{Ram}
 use Rattle.board.specs.declared.space.memories.Room.{Room}
 use Rattle.board.specs.Space.{Space, memory_at, target_at}

@@ -1,8 +1,7 @@
 -- What the space of a board keeps, and where an access lies in it.
-use Rattle.std.specs.Prelude.{◌≡◌, ℕ, ◌+◌, ◌≤◌, ◌<◌, List, length, map, All}
+use Rattle.std.specs.Prelude.{◌≡◌, ℕ, ◌+◌, ◌≤◌, ◌<◌, length, map, All}
 use Rattle.dev_core.specs.Device.{kind_of, IsValid as IsValidState}
 use Rattle.page_ram.specs.Access.{IsInOnePage}
-use Rattle.sys_bus.specs.declared.region.Region.{Region}
 use Rattle.sys_bus.specs.declared.region.Target.{Target}
 use Rattle.sys_bus.specs.declared.region.Target.TheVariants.{Ram, Clint, Plic, Dev, Nothing}
 use Rattle.sys_bus.specs.Plan.{IsValid}

@@ -22,15 +22,20 @@ struct Room {
 
 impl<D: Device> Space<D> {
     /// The memory at an address, from there to its end.
-    fn room_at(&self, at: u32) -> Option<Room>
+    fn room_at(&self, at: u64) -> Option<Room>
         ensures { IsRoom self.now at result }
     {
         bytes_of_a_region_belong_together();
-        match self.regions.find(at, 1) {
+        let regions = &self.regions;
+        if at > u64::from(u32::MAX) {
+            return None;
+        }
+        let at = at as u32;
+        match regions.find(at, 1) {
             Target::Ram { part, at: place } => Some(Room {
                 part,
                 at: place,
-                size: self.regions.room(at),
+                size: regions.room(at),
             }),
             _ => None,
         }
@@ -51,16 +56,17 @@ impl<D: Device> Space<D> {
     pub fn holds(&self, at: u32, count: u32) -> bool
         ensures { result ≡ holds_each self.now at count }
     {
-        let end = u64::from(at) + u64::from(count);
         let mut next = u64::from(at);
-        while next < end {
-            let Ok(address) = u32::try_from(next) else {
+        let mut left = count;
+        while left > 0 {
+            let Some(room) = self.room_at(next) else {
                 return false;
             };
-            let Some(room) = self.room_at(address) else {
-                return false;
-            };
+            if left <= room.size {
+                return true;
+            }
             next += u64::from(room.size);
+            left -= room.size;
         }
         true
     }
@@ -73,14 +79,14 @@ impl<D: Device> Space<D> {
     {
         let mut done = 0;
         while done < bytes.len() {
-            done += self.copy_piece(at + done as u32, &bytes[done..])?;
+            done += self.copy_piece(u64::from(at) + done as u64, &bytes[done..])?;
         }
         Ok(())
     }
 
     /// Writes as many of the first of these bytes as the memory at the address has room for, and
     /// gives their number.
-    fn copy_piece(&mut self, at: u32, bytes: &[u8]) -> Result<usize, NoMemory>
+    fn copy_piece(&mut self, at: u64, bytes: &[u8]) -> Result<usize, NoMemory>
         requires memory { IsTrue (in_memory self.old at) }
         requires some { 0 < length bytes.now }
         ensures count { IfOk result (λ n. (0 < n) × (n ≤ length bytes.now)) }
@@ -102,13 +108,13 @@ impl<D: Device> Space<D> {
     {
         let mut done = 0;
         while done < count {
-            done += self.zero_piece(at + done, count - done);
+            done += self.zero_piece(u64::from(at) + u64::from(done), count - done);
         }
     }
 
     /// Puts 0 into as many of so many bytes as the memory at the address has, and gives their
     /// number.
-    fn zero_piece(&mut self, at: u32, count: u32) -> u32
+    fn zero_piece(&mut self, at: u64, count: u32) -> u32
         requires memory { IsTrue (in_memory self.old at) }
         requires some { 0 < count }
         ensures some { 0 < result }

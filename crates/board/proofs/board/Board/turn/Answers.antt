@@ -5,17 +5,17 @@ use Rattle.board.proofs.board.Board.turn.Goals as goal
 use Rattle.board.proofs.board.Board.turn.Goals.{then-within-speed, else-within-speed}
 
 pub returns-then-halted : goal.returns-then-halted
-returns-then-halted c = (refl, after_halted _ _ _ _ (sym c.halted.ensures ∙ c.if-halted.true))
+returns-then-halted g c = (refl, after_halted _ _ _ _ (sym c.halted.ensures ∙ c.if-halted.true))
 
 pub loop-i-init : goal.loop-i-init
-loop-i-init c = record {
+loop-i-init g c = record {
   run = after_none _ _ _;
   next = add-zero _ ∙ sym (div-add-mod' _ _);
   within = mod_below _ _ (omega (arith, c.from-speed.ensures, c.speed.ensures.least));
 }
 
 pub loop-i-preserved : goal.loop-i-preserved
-loop-i-preserved c =
+loop-i-preserved g c =
     let ok = c.in-Ok.ensures {u = tt} in
     let at = c.args.at.first + c.loop-i.i in
     let now = c.loop-i.invariant in

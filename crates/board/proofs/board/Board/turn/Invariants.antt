@@ -5,7 +5,7 @@ use Rattle.board.proofs.board.Board.turn.Given as goal
 
 -- The board is as after the slots so far, and the next one lies in this microsecond.
 abbrev pub invariant-loop-i : goal.invariant-loop-i
-invariant-loop-i l = record {
+invariant-loop-i g l = record {
   run : l.self ≡ after l.fn.self (stretch l.fn.self.view l.at.from.0 l.at.first l.i);
   next : l.at.first + l.i ≡ l.micros * l.speed + l.within;
   within : l.within < l.speed;

@@ -1,10 +1,21 @@
-use Rattle.std.proofs.Common.{◌∙◌, sym, ap}
+use Rattle.std.proofs.Common.{◌∙◌, ap, arith, length, ℕ}
+use Rattle.std.proofs.lemmas.List.{length-replicate}
+use Rattle.page_ram.specs.Bytes.{zeros}
 use Rattle.board.proofs.FitLemmas.{fit_memory}
-use Rattle.board.proofs.CopyLemmas.{copied_piece}
+use Rattle.board.proofs.CopyLemmas.{put_piece}
 use Rattle.board.proofs.space.Space.zero_piece.Goals as goal
 
 pub invariant_of-self : goal.invariant_of-self
-invariant_of-self g c = ?
+invariant_of-self g c =
+    (c.self.invariant.0,
+    fit_memory _ c.from.result c.zero.new.self _ c.self.invariant.1
+    (c.zero.ensures.size ∙ ap length c.index_mut.ensures.value))
 
 pub returns-clause-after : goal.returns-clause-after
-returns-clause-after g c = ?
+returns-clause-after g c =
+    let room = rw (← c.self.view_is) at (c.in-Some.ensures {u = tt}) in
+    let count = length-replicate {A = ℕ} c.min-count.result 0 in
+    rw (← c.self.view_is)
+    (put_piece _ c.args.at c.in-Some.room (zeros c.min-count.result) _ c.index_mut.result.now
+    c.zero.new.self c.from.result room (omega (arith, count, c.min-count.ensures)) c.from.ensures
+    c.index_mut.ensures.value c.zero.ensures.value)
