@@ -4,3 +4,4 @@ pub mod ListLemmas
 pub mod NumberLemmas
 pub mod SlotLemmas
 pub mod StretchLemmas
+pub mod PlanLemmas

@@ -28,6 +28,11 @@ pub fn stretches_number()
         IsNumbered v.numbers n (stretch v from a n) }
 {}
 
+/// A stretch keeps the plan of the board.
+pub fn stretches_keep_plans()
+    ensures { (v : View) (from a n : ℕ) → (stretch v from a n).view.space.plan ≡ v.space.plan }
+{}
+
 /// What a reset leaves depends on nothing that the processor and the devices had come to.
 pub fn resets_agree()
     ensures { (v w : View) → IsSameKept v w → reset v ≡ reset w }
