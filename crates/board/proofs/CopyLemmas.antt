@@ -78,26 +78,26 @@ copied_piece s at part place (byte ∷ bytes) there room each =
     let memory = memory_at s part in
     let one = with_memory s part (put_bytes memory place (byte ∷ [])) in
     let begin : target_at s at 1 ≡ Ram part place =
-        let a : at + 0 ≡ at = omega arith in
-        let b : place + 0 ≡ place = omega arith in
-        rw (a, b) at (each 0 (omega arith)) in
+    let a : at + 0 ≡ at = omega arith in
+    let b : place + 0 ≡ place = omega arith in
+    rw (a, b) at (each 0 (omega arith)) in
     let first : put_byte s at byte ≡ one = ap (put_in s byte) begin in
     let seen : memory_at one part ≡ put_bytes memory place (byte ∷ []) =
-        get_or-set_same s.memories part (put_bytes memory place (byte ∷ [])) [] there in
+    get_or-set_same s.memories part (put_bytes memory place (byte ∷ [])) [] there in
     let size : length (memory_at one part) ≡ length memory =
-        ap length seen ∙ length-put_one memory place byte (omega (arith, room)) in
+    ap length seen ∙ length-put_one memory place byte (omega (arith, room)) in
     let count : length one.memories ≡ length s.memories = length-set s.memories part (put_bytes memory place (byte ∷ [])) in
     let rest = copied_piece one (at + 1) part (place + 1) bytes (omega (arith, there, count)) (omega (arith, room, size))
     (λ i within.
-        let a : at + 1 + i ≡ at + suc i = omega arith in
-        let b : place + 1 + i ≡ place + suc i = omega arith in
-        rw (a, b) (each (suc i) (omega (arith, within)))) in
+    let a : at + 1 + i ≡ at + suc i = omega arith in
+    let b : place + 1 + i ≡ place + suc i = omega arith in
+    rw (a, b) (each (suc i) (omega (arith, within)))) in
     ap (λ now. copied now (at + 1) bytes) first
     ∙ rest
     ∙ ap (λ m. with_memory one part (put_bytes m (place + 1) bytes)) seen
     ∙ ap (λ m. with_memory one part m) (sym (put_bytes-first memory place byte bytes (omega (arith, room))))
     ∙ ap (λ memories. record s { memories = memories })
-      (set_set s.memories part (put_bytes memory place (byte ∷ [])) (put_bytes memory place (byte ∷ bytes)))
+    (set_set s.memories part (put_bytes memory place (byte ∷ [])) (put_bytes memory place (byte ∷ bytes)))
 
 -- a piece of a memory
 pub put_piece :
@@ -107,11 +107,11 @@ pub put_piece :
 put_piece s at room bytes d old new from has few part_is old_is new_is =
     let there = has.part in
     let found : old ≡ memory_at s room.part =
-        old_is ∙ ap (λ i. slice_index_or s.memories i d) part_is ∙ get_or_default s.memories room.part d [] there in
+    old_is ∙ ap (λ i. slice_index_or s.memories i d) part_is ∙ get_or_default s.memories room.part d [] there in
     ap (λ i. with_memory s i new) part_is
     ∙ ap (λ m. with_memory s room.part m) (new_is ∙ ap (λ m. put_bytes m room.at bytes) found)
     ∙ sym (copied_piece s at room.part room.at bytes there (omega (arith, few, has.lies))
-      (λ i within. has.bytes i (omega (arith, few, within))))
+    (λ i within. has.bytes i (omega (arith, few, within))))
 
 pub put_front :
     (s : Space) (at : ℕ) (room : Room) (bytes : List ℕ) (count n : ℕ) (d old new : List ℕ) (from : ℕ) →
@@ -121,10 +121,14 @@ pub put_front :
 put_front s at room bytes count n d old new from has few within part_is old_is new_is =
     let whole = length-take count bytes in
     let same : take n (take count bytes) ≡ take n bytes = take-take n count bytes (omega (arith, within, whole)) in
-    let size = length-take n bytes in
-    (n, (omega (arith, within, whole),
-    put_piece s at room (take n bytes) d old new from has (omega (arith, size, within, whole, few)) part_is old_is
-    (new_is ∙ ap (λ b. put_bytes old room.at b) same)))
+    let size = length-take n bytes in (
+      n,
+      (
+        omega (arith, within, whole),
+        put_piece s at room (take n bytes) d old new from has (omega (arith, size, within, whole, few)) part_is old_is
+            (new_is ∙ ap (λ b. put_bytes old room.at b) same),
+      ),
+    )
 
 -- what holds in any case holds after an error
 pub on_err : {T E P : Type 0} (r : Result T E) → P → OnErr r P
@@ -159,9 +163,13 @@ pub front_of :
     mid ≡ copied s at (take done bytes) → CopiesPrefix mid new (at + done) (drop done bytes) →
     CopiesPrefix s new at bytes
 front_of s mid new at done bytes within mid_is front =
-    let left = length-drop done bytes in
-    (done + front.0, (omega (arith, left, front.1.0, within),
-    one_more s mid new at done front.0 bytes within mid_is front.1.1))
+    let left = length-drop done bytes in (
+      done + front.0,
+      (
+        omega (arith, left, front.1.0, within),
+        one_more s mid new at done front.0 bytes within mid_is front.1.1,
+      ),
+    )
 
 -- a byte of a memory, of which some are written
 pub still_memory :

@@ -75,14 +75,14 @@ lies s width (Ram part at) fit within =
     let kind_is = found.1.1.1.0 in
     let is : nat_lt part (length s.memories) ≡ true = rw kind_is at (is-part s found.0 region fit there) in
     let sized : (region.size == slice_index s.plan.memories part) ≡ true =
-        rw kind_is at (passes_at (λ r. has_memory_size s.plan.memories r.kind r.size) s.plan.regions found.0 region
-        fit.plan.memory_sizes there) in
+    rw kind_is at (passes_at (λ r. has_memory_size s.plan.memories r.kind r.size) s.plan.regions found.0 region
+    fit.plan.memory_sizes there) in
     let same = memory-size s part fit in
     (grind (arith, nat_tests, is), grind (arith, nat_tests, sized, same, found.1.1.1.1))
 lies s width (Dev dev at) fit within =
     let found = any_at _ s.plan.regions within in
     let is : nat_lt dev (length s.devices) ≡ true =
-        rw found.1.1.1.0 at (is-part s found.0 found.1.0 fit found.1.1.0) in
+    rw found.1.1.1.0 at (is-part s found.0 found.1.0 fit found.1.1.0) in
     grind (arith, nat_tests, is)
 lies s width (Clint at) fit within = tt
 lies s width (Plic at) fit within = tt
@@ -107,7 +107,7 @@ in_page s at width target fit access one_page is =
       | Some region ↦ λ found same.
           let there = found_passes (holds at width) s.plan.regions region found in
           let ranged : is_range s.plan.kinds region ≡ true =
-              passes_at (is_range s.plan.kinds) s.plan.regions there.1.0 region fit.plan.ranges there.1.1 in
+          passes_at (is_range s.plan.kinds) s.plan.regions there.1.0 region fit.plan.ranges there.1.1 in
           let low : region.base % 4 ≡ 0 = grind (arith, nat_tests, ranged) in
           let below : region.base ≤ at = grind (arith, nat_tests, there.0) in
           let page = one_page (at - region.base) access.0 (aligned at region.base width access low below) in
@@ -154,17 +154,17 @@ ram_sizes plan valid = All-by_place IsRamSize plan.memories each
     each i size there =
         let within = slice_get_within plan.memories i size there in
         let parts : list_all (λ j. has_one_each plan.names plan.regions (kind.Ram j)) (range_with_len 0 (length plan.memories)) ≡ true =
-            first_one _ _ (first_one _ _ (first_one _ _ valid.parts)) in
+        first_one _ _ (first_one _ _ (first_one _ _ valid.parts)) in
         let one = range_passes _ 0 (length plan.memories) i parts within in
         let counted : 1 ≤ regions_of plan.regions (kind.Ram i) = grind (arith, nat_tests, one) in
         let found = counted_at (λ region. same_part region.kind (kind.Ram i)) plan.regions counted in
         let region = found.1.0 in
         let is = is-ram i region.kind found.1.1.1 in
         let sized : (region.size == slice_index plan.memories i) ≡ true =
-            rw is at (passes_at (λ r. has_memory_size plan.memories r.kind r.size) plan.regions found.0 region
-            valid.memory_sizes found.1.1.0) in
+        rw is at (passes_at (λ r. has_memory_size plan.memories r.kind r.size) plan.regions found.0 region
+        valid.memory_sizes found.1.1.0) in
         let ranged : is_range plan.kinds region ≡ true =
-            passes_at (is_range plan.kinds) plan.regions found.0 region valid.ranges found.1.1.0 in
+        passes_at (is_range plan.kinds) plan.regions found.0 region valid.ranges found.1.1.0 in
         let ranged' = rw is at ranged in
         let same : slice_index plan.memories i ≡ size = get_or_from_slice_get plan.memories i size 0 there in
         let few : are_few_memories plan.memories ≡ true = valid.few_memories in
@@ -217,9 +217,11 @@ fit_reset s fit = record {
     kind (state.Uart u) = refl
     kind (state.Can c) = refl
     kind state.Finisher = refl
+
     kinds : (ds : List Fitted) → map (λ f. kind_of f.state) (map reset_device ds) ≡ map (λ f. kind_of f.state) ds
     kinds [] = refl
     kinds (d ∷ ds) = rw (kind d.state, kinds ds) refl
+
     states : (ds : List Fitted) → All (λ f. IsValidState f.state) (map reset_device ds)
     states [] k d within = absurd (omega (arith, within))
     states (x ∷ ds) zero d within = valid_reset x.state
@@ -237,13 +239,16 @@ fit_new plan valid = record {
     sizes : (ns : List ℕ) → map length (map zeros ns) ≡ ns
     sizes [] = refl
     sizes (n ∷ ns) = rw (length-replicate {A = ℕ} n 0, sizes ns) refl
+
     kind : (k : Kind) → kind_of (first_state k) ≡ k
     kind Uart = refl
     kind Can = refl
     kind Finisher = refl
+
     kinds : (ks : List Kind) → map (λ f. kind_of f.state) (map hidden (map first_state ks)) ≡ ks
     kinds [] = refl
     kinds (k ∷ ks) = rw (kind k, kinds ks) refl
+
     states : (ks : List Kind) → All (λ f. IsValidState f.state) (map hidden (map first_state ks))
     states [] k d within = absurd (omega (arith, within))
     states (x ∷ ks) zero d within = valid_first x
@@ -318,7 +323,7 @@ put_back_same s dev state there =
     get_or-set_same s.devices dev changed _ there in
     ap (λ f. with_device (with_device s dev changed) dev (record f { state = (device_at s dev).state })) seen
     ∙ ap (λ devices. record s { devices = devices })
-      (set_set s.devices dev changed (device_at s dev) ∙ set-get_or s.devices dev _)
+    (set_set s.devices dev changed (device_at s dev) ∙ set-get_or s.devices dev _)
 
 -- bytes of memories have addresses of 32 bits
 pub memory_below : (s : Space) (at : ℕ) → IsFit s → in_memory s at ≡ true → at < 2 ^ 32

@@ -2,6 +2,6 @@ pub mod CopyLemmas
 pub mod FitLemmas
 pub mod ListLemmas
 pub mod NumberLemmas
+pub mod PlanLemmas
 pub mod SlotLemmas
 pub mod StretchLemmas
-pub mod PlanLemmas

@@ -1,5 +1,5 @@
 //! The board: its slots, and what they make.
-ghost use Rattle.std.specs.Prelude.{◌≡◌, ◌≢◌, ◌+◌, ◌/◌, ◌%◌, ◌<◌, ◌≤◌, ◌^◌, [], true, length, drop, map, All, slice_get, OnOk, OnErr, IfOk, IfErr, IsTrue};
+ghost use Rattle.std.specs.Prelude.{◌≡◌, ◌≢◌, ℕ, ◌+◌, ◌/◌, ◌%◌, ◌<◌, ◌≤◌, ◌^◌, [], true, length, drop, map, All, slice_get, slice_index_or, OnOk, OnErr, IfOk, IfErr, IsTrue};
 
 use crate::numbers::Numbers;
 use crate::space::Space;
@@ -52,6 +52,7 @@ impl<D: Device> Model for Board<D> {
 
 impl<D: Device> Board<D> {
     ghost use Rattle.dev_core.specs.Device.{kind_of, IsValid as IsValidState};
+    ghost use Rattle.dev_core.specs.declared.kind.Kind.TheVariants.{Finisher};
     ghost use Rattle.sys_bus.specs.Plan.{IsValid};
     ghost use Rattle.board.specs.Early.{IsEarly};
     ghost use Rattle.board.specs.New.{first_states, new_board, reset};
@@ -104,6 +105,10 @@ impl<D: Device> Board<D> {
         ensures valid { IsValid result.now }
         ensures kinds { map (λ device. kind_of device.state) self.now.view.space.devices ≡ result.now.kinds }
         ensures states { All (λ device. IsValidState device.state) self.now.view.space.devices }
+        ensures count { length self.now.view.space.devices ≡ length result.now.kinds }
+        ensures kind { (dev : ℕ) → dev < length result.now.kinds →
+            kind_of (device_at self.now.view.space dev).state
+            ≡ slice_index_or result.now.kinds dev Finisher }
         ensures sizes { map length self.now.view.space.memories ≡ result.now.memories }
     {
         self.wires.space.plan()

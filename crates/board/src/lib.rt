@@ -11,7 +11,8 @@ mod space;
 mod wires;
 
 pub use board::{Board, SlotAt, Turn};
-pub use laws::{
-    resets_agree, stretches_join, stretches_keep_plans, stretches_number, turns_join,
-};
+pub use laws::{resets_agree, stretches_join, stretches_keep_plans, stretches_number, turns_join};
 pub use plan::is_early;
+
+#[cfg(test)]
+mod tests;

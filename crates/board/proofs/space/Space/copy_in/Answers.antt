@@ -11,7 +11,7 @@ copy_piece-requires-clause-memory g c =
     (still_memory c.args.self.now c.loop-done.self c.args.at (c.args.at + c.loop-done.done)
     (take c.loop-done.done c.args.bytes.now) c.loop-done.invariant.self
     ∙ range_passes (in_memory c.args.self.now) c.args.at (length c.args.bytes.now) c.loop-done.done c.requires
-      c.loop-done-test.true)
+    c.loop-done-test.true)
 
 pub returns-in_err-done-clause-err : goal.returns-in_err-done-clause-err
 returns-in_err-done-clause-err g c =

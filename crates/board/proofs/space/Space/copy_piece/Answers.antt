@@ -5,10 +5,11 @@ use Rattle.board.proofs.CopyLemmas.{put_piece, put_front, on_err}
 use Rattle.board.proofs.space.Space.copy_piece.Goals as goal
 
 pub invariant_of-self : goal.invariant_of-self
-invariant_of-self g c =
-    (c.self.invariant.0,
-    fit_memory _ c.from.result c.copy_in.new.self _ c.self.invariant.1
-    (c.copy_in.ensures.size ∙ ap length c.index_mut.ensures.value))
+invariant_of-self g c = (
+  c.self.invariant.0,
+  fit_memory _ c.from.result c.copy_in.new.self _ c.self.invariant.1
+      (c.copy_in.ensures.size ∙ ap length c.index_mut.ensures.value),
+)
 
 pub returns-in_err-copy_in-clause-err : goal.returns-in_err-copy_in-clause-err
 returns-in_err-copy_in-clause-err g c =
@@ -22,10 +23,11 @@ returns-in_err-copy_in-clause-err g c =
     (omega (arith, c.min-count.ensures)) failed.1.0 c.from.ensures c.index_mut.ensures.value failed.1.1))
 
 pub invariant_of-self-2 : goal.invariant_of-self-2
-invariant_of-self-2 g c =
-    (c.self.invariant.0,
-    fit_memory _ c.from.result c.copy_in.new.self _ c.self.invariant.1
-    (c.copy_in.ensures.size ∙ ap length c.index_mut.ensures.value))
+invariant_of-self-2 g c = (
+  c.self.invariant.0,
+  fit_memory _ c.from.result c.copy_in.new.self _ c.self.invariant.1
+      (c.copy_in.ensures.size ∙ ap length c.index_mut.ensures.value),
+)
 
 pub returns-clause-ok : goal.returns-clause-ok
 returns-clause-ok g c =

@@ -8,7 +8,7 @@ returns-then-left-room g c =
     let room = c.in-Some.ensures {u = tt} in
     sym (c.loop-left.invariant.rest
     ∙ all_of_range (in_memory c.args.self.now) c.loop-left.next c.loop-left.left
-      (λ i within. ap is_memory (room.bytes i (omega (arith, within, c.if-left-room.true)))))
+    (λ i within. ap is_memory (room.bytes i (omega (arith, within, c.if-left-room.true)))))
 
 pub loop-left-preserved : goal.loop-left-preserved
 loop-left-preserved g c =
@@ -21,7 +21,7 @@ loop-left-preserved g c =
           c.loop-left.invariant.rest
           ∙ ap (λ n. holds_each c.args.self.now c.loop-left.next n) split
           ∙ all_of_parts (in_memory c.args.self.now) c.loop-left.next size left
-            (λ i within. ap is_memory (room.bytes i within))
+          (λ i within. ap is_memory (room.bytes i within))
           ∙ ap (λ k. holds_each c.args.self.now (c.loop-left.next + k) left) (sym c.from-next-in-loop-left.ensures);
       end = omega (arith, c.loop-left.invariant.end, c.from-next-in-loop-left.ensures, c.if-left-room.false);
     }

@@ -10,7 +10,7 @@ returns-then-at-from g c = rw (← c.self.view_is) (no_memory_above _ c.args.at 
 pub returns-in-Ram : goal.returns-in-Ram
 returns-in-Ram g c =
     let there : target_of c.self.inside.plan.regions c.args.at 1 ≡ Ram c.in-Ram.part c.in-Ram.place =
-        rw c.self.invariant.0 at (sym ((c.in-Ram.ensures {u = tt}).target)) in
+    rw c.self.invariant.0 at (sym ((c.in-Ram.ensures {u = tt}).target)) in
     let fits = room_fits _ c.args.at c.in-Ram.part c.in-Ram.place c.self.invariant.1 there in
     rw (c.room.ensures, c.self.invariant.0, ← c.self.view_is)
     (record {

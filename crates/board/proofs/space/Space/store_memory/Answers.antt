@@ -3,7 +3,8 @@ use Rattle.board.proofs.FitLemmas.{fit_memory}
 use Rattle.board.proofs.space.Space.store_memory.Goals as goal
 
 pub invariant_of-self : goal.invariant_of-self
-invariant_of-self g c =
-    (c.self.invariant.0,
-    fit_memory _ c.from.result c.store.new.self _ c.self.invariant.1
-    (c.store.ensures.size ∙ ap length c.index_mut.ensures.value))
+invariant_of-self g c = (
+  c.self.invariant.0,
+  fit_memory _ c.from.result c.store.new.self _ c.self.invariant.1
+      (c.store.ensures.size ∙ ap length c.index_mut.ensures.value),
+)

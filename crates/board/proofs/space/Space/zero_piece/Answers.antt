@@ -6,10 +6,11 @@ use Rattle.board.proofs.CopyLemmas.{put_piece}
 use Rattle.board.proofs.space.Space.zero_piece.Goals as goal
 
 pub invariant_of-self : goal.invariant_of-self
-invariant_of-self g c =
-    (c.self.invariant.0,
-    fit_memory _ c.from.result c.zero.new.self _ c.self.invariant.1
-    (c.zero.ensures.size ∙ ap length c.index_mut.ensures.value))
+invariant_of-self g c = (
+  c.self.invariant.0,
+  fit_memory _ c.from.result c.zero.new.self _ c.self.invariant.1
+      (c.zero.ensures.size ∙ ap length c.index_mut.ensures.value),
+)
 
 pub returns-clause-after : goal.returns-clause-after
 returns-clause-after g c =
