@@ -2,7 +2,7 @@
 use Rattle.std.specs.Prelude.{List, Vec}
 use Rattle.std.specs.List.{flat_map}
 use Rattle.std.specs.declared.alloc.Global.{Global}
-use Rattle.lab_num.specs.declared.post.Entry.{Entry}
+use Rattle.dev_core.specs.declared.post.Entry.{Entry}
 
 -- the entries of the lists, one list after another
 abbrev pub all_entries : List (Vec Entry Global) → List Entry

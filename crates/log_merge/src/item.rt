@@ -1,5 +1,6 @@
 //! The items of the log.
-use lab_num::{BoardNo, Micros, What};
+use dev_core::{Finish, Frame, What};
+use lab_num::{BoardNo, Member, Micros};
 
 /// A time on a board.
 #[derive(Clone, Copy, PartialEq, Eq, Debug)]
@@ -8,9 +9,32 @@ pub struct Member0 {
     pub board: BoardNo,
 }
 
+/// What became of a payload that a shown device was handed at a boundary.
+#[derive(Clone, Copy, PartialEq, Eq, Debug)]
+pub enum Note {
+    /// A byte took the place of one that was not read.
+    Overrun,
+    /// A frame waits to be read.
+    Received(Frame),
+    /// There was no room for a frame.
+    Lost(Frame),
+}
+
 /// One item of the log.
 #[derive(Clone, Copy, PartialEq, Eq, Debug)]
 pub enum LogItem {
     /// What a board noted in one of its slots.
     Slot(Member0, What),
+    /// What became of a payload that a device was handed at the boundary at `at`.
+    Note {
+        at: Micros,
+        member: Member,
+        note: Note,
+    },
+    /// The device `member` asked for a pause, which began at the boundary at `at`.
+    Pause {
+        at: Micros,
+        member: Member,
+        finish: Finish,
+    },
 }

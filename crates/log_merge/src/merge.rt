@@ -2,10 +2,11 @@
 ghost use Rattle.std.specs.Prelude.{◌≡◌, IfOk};
 ghost use Rattle.lab_num.specs.Key.{KeysDiffer};
 ghost use Rattle.lab_num.specs.Listing.{IsListing, listing};
-ghost use Rattle.lab_num.specs.Post.{entry_key, post_key};
+ghost use Rattle.dev_core.specs.Post.{entry_key, post_key};
 ghost use Rattle.log_merge.specs.Merge.{all_entries};
 
-use lab_num::{Entry, NoMemory, Post, listing_laws};
+use dev_core::{Entry, Post};
+use lab_num::{NoMemory, listing_laws};
 use std::alloc::Global;
 
 /// The entries of all the lists, one list after another.
@@ -46,7 +47,8 @@ pub fn merge_posts(alloc: Global, mut list: Vec<Post>) -> Result<Vec<Post>, NoMe
 #[cfg(test)]
 mod tests {
     use super::*;
-    use lab_num::{BoardNo, Key, Member, Micros, Payload, PostNo, What};
+    use dev_core::{Payload, What};
+    use lab_num::{BoardNo, Key, Member, Micros, PostNo};
     use std::test::Fail;
 
     /// The key of the first event of a board in microsecond 2.
@@ -91,24 +93,23 @@ mod tests {
     #[test]
     fn posts_of_one_microsecond_come_in_order_of_board(rt: HostRuntime) -> Result<(), Fail> {
         let alloc = rt.alloc();
-        let a = post(key(0));
-        let b = post(key(1));
-        let list = vec![in alloc; b, a]?;
+        let list = vec![in alloc; post(key(1)), post(key(0))]?;
         let merged = merge_posts(alloc, list)?;
-        assert_eq!(rt; merged.as_slice(), [a, b].as_slice());
+        assert_eq!(rt; merged.as_slice(), [post(key(0)), post(key(1))].as_slice());
         Ok(())
     }
 
     #[test]
     fn entries_of_one_microsecond_come_in_order_of_board(rt: HostRuntime) -> Result<(), Fail> {
         let alloc = rt.alloc();
-        let a = entry(key(0));
-        let b = entry(key(1));
-        let first = vec![in alloc; b]?;
-        let second = vec![in alloc; a]?;
+        let first = vec![in alloc; entry(key(1))]?;
+        let second = vec![in alloc; entry(key(0))]?;
         let lists = vec![in alloc; first, second]?;
         let merged = merge_entries(alloc, lists)?;
-        assert_eq!(rt; merged.as_slice(), [a, b].as_slice());
+        assert_eq!(rt;
+            merged.as_slice(),
+            [entry(key(0)), entry(key(1))].as_slice()
+        );
         Ok(())
     }
 }

@@ -3,7 +3,7 @@ use Rattle.std.proofs.Common.{◌≡◌, ◌∙◌, ap, rules}
 use Rattle.std.specs.List.Sorted.{IsPermutation}
 use Rattle.std.proofs.lemmas.List.Sorted.{answers_always}
 use Rattle.lab_num.specs.Listing.{IsListing}
-use Rattle.lab_num.specs.Post.{entry_key}
+use Rattle.dev_core.specs.Post.{entry_key}
 use Rattle.log_merge.specs.Merge.{all_entries}
 use Rattle.log_merge.proofs.merge.merge_entries.Goals as goal
 

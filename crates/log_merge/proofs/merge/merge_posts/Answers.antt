@@ -4,7 +4,7 @@ use Rattle.std.proofs.Math.Seq.{take-append_seam}
 use Rattle.std.specs.List.Sorted.{IsPermutation}
 use Rattle.std.proofs.lemmas.List.Sorted.{answers_always}
 use Rattle.lab_num.specs.Listing.{IsListing}
-use Rattle.lab_num.specs.Post.{post_key}
+use Rattle.dev_core.specs.Post.{post_key}
 use Rattle.log_merge.proofs.merge.merge_posts.Goals as goal
 
 -- a list that is written whole over one of its length

@@ -7,4 +7,4 @@ pub merge_entries-requires : goal.merge_entries-requires
 unfolding IsDistinct
 merge_entries-requires g c =
     rw (c.in_ok-lists.ensures.items, c.in_ok-first.ensures.items, c.in_ok-second.ensures.items)
-    (rw (c.entry-a.ensures, c.entry-b.ensures, c.key.ensures, c.key-2.ensures) ((refl, tt), (tt, tt)))
+    (rw (c.entry-2.ensures, c.entry.ensures, c.key.ensures, c.key-2.ensures) ((refl, tt), (tt, tt)))

@@ -7,5 +7,5 @@ pub merge_posts-requires : goal.merge_posts-requires
 unfolding IsDistinct
 merge_posts-requires g c =
     rw
-    (c.in_ok-list.ensures.items, c.post-a.ensures, c.post-b.ensures, c.key.ensures, c.key-2.ensures)
+    (c.in_ok-list.ensures.items, c.post-2.ensures, c.post.ensures, c.key.ensures, c.key-2.ensures)
     ((refl, tt), (tt, tt))
