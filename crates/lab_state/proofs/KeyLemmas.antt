@@ -9,7 +9,7 @@ use Rattle.std.specs.declared.cmp.Ordering.{Ordering}
 use Rattle.std.specs.declared.cmp.Ordering.TheVariants.{Less, Equal, Greater}
 use Rattle.lab_num.specs.declared.key.Key.{Key}
 use Rattle.lab_num.specs.Key.{key_cmp, KeysDiffer}
-use Rattle.early_board.specs.Numbered.{AreNumbered}
+use Rattle.board.specs.Numbered.{AreNumbered}
 use Rattle.lab_state.proofs.ListLemmas.{each-weaker, each-append, distinct-append}
 
 -- two keys are not one

@@ -8,18 +8,18 @@ use Rattle.std.specs.List.{flat_map, All, AllByRecursion}
 use Rattle.std.specs.Option.{option_map, option_map_or, ForSome}
 use Rattle.lab_num.specs.declared.key.Key.{Key}
 use Rattle.lab_num.specs.declared.key.Member.{Member}
-use Rattle.lab_num.specs.declared.post.Payload.{Payload}
-use Rattle.lab_num.specs.declared.post.Payload.TheVariants.{Byte}
-use Rattle.lab_num.specs.declared.post.Post.{Post}
+use Rattle.dev_core.specs.declared.post.Payload.{Payload}
+use Rattle.dev_core.specs.declared.post.Payload.TheVariants.{Byte}
+use Rattle.dev_core.specs.declared.post.Post.{Post}
 use Rattle.lab_num.specs.Key.{same_member, KeysDiffer}
 use Rattle.lab_num.specs.Listing.{listing}
 use Rattle.lab_num.specs.Paid.{paid}
-use Rattle.lab_num.specs.Post.{post_key, entry_key}
+use Rattle.dev_core.specs.Post.{post_key, entry_key}
 use Rattle.lab_num.specs.Route.{route, hub_of, has_member}
-use Rattle.early_board.specs.View.{View, State}
-use Rattle.early_board.specs.Stretch.{stretch}
-use Rattle.early_board.specs.Numbered.{IsNumbered, AreNumbered}
-use Rattle.early_board.specs.Taken.{handed}
+use Rattle.board.specs.View.{View, State}
+use Rattle.board.specs.Stretch.{stretch}
+use Rattle.board.specs.Numbered.{IsNumbered, AreNumbered}
+use Rattle.board.specs.Taken.{handed}
 use Rattle.lab_state.specs.Board.{Board}
 use Rattle.lab_state.specs.Boundary.{to_member, to_route, boundary}
 use Rattle.lab_state.specs.Hub.{Hub, members_of}

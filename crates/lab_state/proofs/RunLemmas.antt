@@ -7,10 +7,10 @@ use Rattle.std.proofs.Math.Nat.{mul-add-mod_self_left, mul-add-div, div-add-mod}
 use Rattle.std.specs.List.Sorted.{IsPermutation}
 use Rattle.std.proofs.lemmas.List.Sorted.{IsPermutation-sym, IsPermutation-trans}
 use Rattle.lab_num.specs.declared.key.Key.{Key}
-use Rattle.lab_num.specs.declared.post.Post.{Post}
+use Rattle.dev_core.specs.declared.post.Post.{Post}
 use Rattle.lab_num.specs.Key.{KeysDiffer}
 use Rattle.lab_num.specs.Listing.{IsListing, listing}
-use Rattle.lab_num.specs.Post.{post_key}
+use Rattle.dev_core.specs.Post.{post_key}
 use Rattle.lab_state.specs.Board.{Board}
 use Rattle.lab_state.specs.Boundary.{boundary}
 use Rattle.lab_state.specs.Hub.{Hub}

@@ -1,6 +1,6 @@
 -- What holds of a laboratory goes on to hold where it is changed.
-use Rattle.std.proofs.Common.{◌≡◌, ◌∙◌, sym, ap, refl, false, ◌||◌, ℕ, ◌+◌, ◌*◌, ◌<◌, ◌≤◌, List, [], ◌∷◌, ◌++◌, length, map, slice_get, Option, Some, None, unwrap_or, subst, add-zero, zero-add, append_assoc, arith}
-use Rattle.std.specs.Prelude.{Bool, true, is_some}
+use Rattle.std.proofs.Common.{◌≡◌, ◌∙◌, sym, ap, refl, false, true, ◌||◌, ℕ, zero, suc, ◌+◌, ◌*◌, ◌<◌, ◌≤◌, List, [], ◌∷◌, ◌++◌, length, map, fold, slice_get, Option, Some, None, unwrap_or, subst, add-zero, append_assoc, arith}
+use Rattle.std.specs.Prelude.{Bool, is_some, count_by, IsSome}
 use Rattle.std.proofs.lemmas.Cmp.{nat_list_eq_equiv}
 use Rattle.std.proofs.lemmas.List.{append-nil, map-append, length-map, length_push}
 use Rattle.std.proofs.lemmas.List.Elements.{All-append, recursion_from_All}
@@ -9,33 +9,88 @@ use Rattle.std.specs.List.{AllByRecursion, IsDistinct}
 use Rattle.std.specs.Option.{option_map, ForSome}
 use Rattle.std.specs.Str.{bytes_eq}
 use Rattle.lab_num.specs.declared.key.Member.{Member}
-use Rattle.early_board.specs.Early.{early_numbers}
-use Rattle.early_board.specs.Numbers.{Numbers}
-use Rattle.early_board.specs.View.{View}
+use Rattle.dev_core.specs.declared.kind.Kind.{Kind}
+use Rattle.board.specs.View.{View}
 use Rattle.lab_state.specs.Board.{Board}
 use Rattle.lab_state.specs.Change.{change_at}
 use Rattle.lab_state.specs.Hub.{Hub}
-use Rattle.lab_state.specs.Lab.{Lab}
 use Rattle.lab_state.specs.Names.{is_taken, board_named, hub_named}
-use Rattle.lab_state.specs.One.{with_view, with_member}
-use Rattle.lab_state.specs.Inner.Standing.{Outline, outline, outlines, IsStanding, AreStanding, IsDevice, AreDevices, names_of, IsSound, IsSoundLab}
+use Rattle.lab_state.specs.Lab.{Lab}
+use Rattle.lab_state.specs.One.{view_at, with_view, with_member}
+use Rattle.lab_state.specs.Inner.Spares.{Spares, full}
+use Rattle.lab_state.specs.Inner.Standing.{Outline, outline, outlines, IsStanding, AreStanding, kind_in, AreMembers, AreDevices, names_of, count_of_plans, IsEnough, IsSound}
 use Rattle.lab_state.proofs.ListLemmas.{map-change, each-change, each-weaker, each-append, distinct-insert, distinct-right, position-map, none_named, named_at}
 
--- ---- outlines
+-- ---- other boards of the same outlines
+
+-- some time later
+pub sound-same :
+    {boards : List Board} {hubs : List Hub} {spares : Spares} {now quantum : ℕ} (others : List Board) (later : ℕ) →
+    outlines others ≡ outlines boards → AreStanding (1000 * later) 0 others → later ≤ 10000000000 →
+    IsSound boards hubs spares now quantum → IsSound others hubs spares later quantum
+sound-same {boards = boards} others later same standing within sound =
+    let long : length others ≡ length boards =
+    sym (length-map others outline) ∙ ap length same ∙ length-map boards outline in
+    record {
+      few_boards = rw long sound.few_boards;
+      standing = standing;
+      devices = rw same sound.devices;
+      names = rw same sound.names;
+      enough = rw same sound.enough;
+      times = record {
+        time = within;
+        least_quantum = sound.times.least_quantum;
+        most_quantum = sound.times.most_quantum;
+      };
+    }
+
+-- ---- one board changed
 
 outline-view :
-    (f : View → View) → ((v : View) → (f v).numbers ≡ v.numbers) → (name : List ℕ) (o : Option View) →
+    (f : View → View) → ((v : View) → (f v).space.plan ≡ v.space.plan) → (name : List ℕ) (o : Option View) →
     outline (record { name = name; view = option_map f o }) ≡ outline (record { name = name; view = o })
 outline-view f keeps name None = refl
 outline-view f keeps name (Some v) =
-    let made : Numbers → Outline = λ n. record { name = name; numbers = Some n } in ap made (keeps v)
+    let made : List Kind → Outline = λ kinds. record { name = name; kinds = Some kinds } in
+    ap (λ plan. made plan.kinds) (keeps v)
 
--- a change of a board that leaves its numbers
 pub outlines-change :
-    (f : View → View) → ((v : View) → (f v).numbers ≡ v.numbers) → (boards : List Board) (i : ℕ) →
+    (f : View → View) → ((v : View) → (f v).space.plan ≡ v.space.plan) → (boards : List Board) (i : ℕ) →
     outlines (change_at boards i (with_view f)) ≡ outlines boards
 outlines-change f keeps boards i =
     map-change outline (with_view f) (λ board. outline-view f keeps board.name board.view) boards i
+
+-- a change keeps the board standing
+abbrev pub KeepsStanding : ℕ → (View → View) → Option View → Type 0
+KeepsStanding most f o =
+    (b : ℕ) (v : View) → o ≡ Some v → IsStanding most b v.numbers → IsStanding most b (f v).numbers
+
+standing-view :
+    (most b : ℕ) (f : View → View) (o : Option View) → KeepsStanding most f o →
+    ForSome o (λ v. IsStanding most b v.numbers) → ForSome (option_map f o) (λ v. IsStanding most b v.numbers)
+standing-view most b f None keeps is = λ v at. absurd (cc)
+standing-view most b f (Some v) keeps is =
+    λ w at. subst (λ (v : View). IsStanding most b v.numbers) (ap (λ o. unwrap_or o w) at) (keeps b v refl (is v refl))
+
+pub standing-change :
+    (most first : ℕ) (f : View → View) (boards : List Board) (i : ℕ) → KeepsStanding most f (view_at boards i) →
+    AreStanding most first boards → AreStanding most first (change_at boards i (with_view f))
+standing-change most first f [] i keeps are = tt
+standing-change most first f (x ∷ xs) zero keeps are = (standing-view most first f x.view keeps are.0, are.1)
+standing-change most first f (x ∷ xs) (suc i) keeps are = (are.0, standing-change most (first + 1) f xs i keeps are.1)
+
+-- a change that leaves the numbers
+pub keeps_standing :
+    (most : ℕ) (f : View → View) (o : Option View) → ((v : View) → (f v).numbers ≡ v.numbers) → KeepsStanding most f o
+keeps_standing most f o same = λ b v at is. rw (same v) is
+
+pub sound-change :
+    {boards : List Board} {hubs : List Hub} {spares : Spares} {now quantum : ℕ} (f : View → View) (i : ℕ) →
+    ((v : View) → (f v).space.plan ≡ v.space.plan) → KeepsStanding (1000 * now) f (view_at boards i) →
+    IsSound boards hubs spares now quantum → IsSound (change_at boards i (with_view f)) hubs spares now quantum
+sound-change {boards = boards} {now = now} f i plan keeps sound =
+    sound-same (change_at boards i (with_view f)) now (outlines-change f plan boards i)
+    (standing-change (1000 * now) 0 f boards i keeps sound.standing) sound.times.time sound
 
 -- ---- names
 
@@ -56,132 +111,70 @@ new_name lab name free =
     (none_named (λ (hub : Hub). hub.name) lab.hubs name none.1))
 
 -- and a board and a hub are found by their names
-board_outline : (o : Option Board) → option_map (λ board. board.name) o ≡ option_map (λ o. o.name)
-    (option_map outline o)
+board_outline :
+    (o : Option Board) → option_map (λ board. board.name) o ≡ option_map (λ o. o.name) (option_map outline o)
 board_outline None = refl
 board_outline (Some board) = refl
 
 pub board-found :
-    (lab : Lab) (b : ℕ) (name : List ℕ) → IsSoundLab lab →
+    (lab : Lab) (b : ℕ) (name : List ℕ) → IsDistinct bytes_eq (names_of (outlines lab.boards) lab.hubs) →
     Some name ≡ option_map (λ board. board.name) (slice_get lab.boards b) → board_named lab name ≡ Some b
-board-found lab b name sound is =
+board-found lab b name names is =
     let at = is ∙ board_outline (slice_get lab.boards b) ∙ ap (option_map (λ (o : Outline). o.name))
     (sym (slice_get-map outline lab.boards b)) in
     sym (position-map outline (λ o. bytes_eq o.name name) lab.boards)
-    ∙ named_at (λ (o : Outline). o.name) (outlines lab.boards) (map (λ hub. hub.name) lab.hubs) b name sound.names at
+    ∙ named_at (λ (o : Outline). o.name) (outlines lab.boards) (map (λ hub. hub.name) lab.hubs) b name names at
 
 pub hub-found :
-    (lab : Lab) (n : ℕ) (name : List ℕ) → IsSoundLab lab →
+    (lab : Lab) (n : ℕ) (name : List ℕ) → IsDistinct bytes_eq (names_of (outlines lab.boards) lab.hubs) →
     Some name ≡ option_map (λ hub. hub.name) (slice_get lab.hubs n) → hub_named lab name ≡ Some n
-hub-found lab n name sound is =
+hub-found lab n name all is =
     let names = map (λ (hub : Hub). hub.name) lab.hubs in
     let apart : IsDistinct bytes_eq (names ++ []) =
-    rw append-nil (distinct-right bytes_eq (map (λ (o : Outline). o.name) (outlines lab.boards)) names sound.names) in
+    rw append-nil (distinct-right bytes_eq (map (λ (o : Outline). o.name) (outlines lab.boards)) names all) in
     named_at (λ (hub : Hub). hub.name) lab.hubs [] n name apart is
 
 -- ---- a laboratory without boards and hubs
 
-pub sound-new : IsSound [] [] 0 100
+pub sound-new : IsSound [] [] full 0 100
 unfolding IsDistinct
 sound-new = record {
   few_boards = omega arith;
   standing = tt;
   devices = tt;
   names = tt;
+  enough = record { uarts = omega arith; finishers = omega arith };
   times = record { time = omega arith; least_quantum = omega arith; most_quantum = omega arith };
 }
 
 -- ---- a board more
 
 standing-push :
-    (most first : ℕ) (os : List Outline) (o : Outline) → AreStanding most first os →
-    ForSome o.numbers (IsStanding most (first + length os)) → AreStanding most first (os ++ o ∷ [])
-standing-push most first [] o all is = (rw add-zero at is, tt)
-standing-push most first (x ∷ os) o all is =
-    let later : first + length (x ∷ os) ≡ first + 1 + length os = omega arith in
-    (all.0, standing-push most (first + 1) os o all.1 (rw later at is))
+    (most first : ℕ) (boards : List Board) (name : List ℕ) → AreStanding most first boards →
+    AreStanding most first (boards ++ record { name = name; view = None } ∷ [])
+standing-push most first [] name all = (λ v at. absurd (cc), tt)
+standing-push most first (x ∷ xs) name all = (all.0, standing-push most (first + 1) xs name all.1)
 
--- devices of some boards are devices of more
-more_devices : (m n : ℕ) → m ≤ n → (hubs : List Hub) → AreDevices m hubs → AreDevices n hubs
-more_devices m n le hubs all =
-    each-weaker (λ (hub : Hub). AllByRecursion (IsDevice m) hub.members)
-    (λ hub. AllByRecursion (IsDevice n) hub.members)
-    (λ hub are. each-weaker (IsDevice m) (IsDevice n)
-    (λ d is. record { board = omega (arith, is.board); dev = is.dev }) hub.members are)
-    hubs all
+-- members of hubs that stay devices of their kind
+pub devices-kept :
+    (before after : List Outline) →
+    ((m : Member) (kind : Kind) → kind_in before m ≡ Some kind → kind_in after m ≡ Some kind) → (hubs : List Hub) →
+    AreDevices before hubs → AreDevices after hubs
+devices-kept before after keeps hubs all =
+    each-weaker (AreMembers before) (AreMembers after)
+    (λ hub are. each-weaker (λ m. kind_in before m ≡ Some hub.kind) (λ m. kind_in after m ≡ Some hub.kind)
+    (λ m is. keeps m hub.kind is) hub.members are) hubs all
 
-sound-push :
-    (os : List Outline) (hubs : List Hub) (now quantum : ℕ) (o : Outline) → IsSound os hubs now quantum →
-    length os < 16 → ForSome o.numbers (IsStanding (1000 * now) (length os)) →
-    AllByRecursion (λ y. bytes_eq o.name y ≡ false) (names_of os hubs) → IsSound (os ++ o ∷ []) hubs now quantum
-sound-push os hubs now quantum o sound room is apart =
-    let long : length (os ++ o ∷ []) ≡ length os + 1 = length_push os o in
-    record {
-      few_boards = omega (arith, long);
-      standing = standing-push (1000 * now) 0 os o sound.standing (rw (← zero-add (length os)) at is);
-      devices = rw long (more_devices (length os) (length os + 1) (omega arith) hubs sound.devices);
-      names = rw (map-append, append_assoc)
-          (distinct-insert bytes_eq nat_list_eq_equiv.symm o.name (map (λ o. o.name) os)
-          (map (λ hub. hub.name) hubs) sound.names apart);
-      times = sound.times;
-    }
+-- what is found in a list is found in a longer one
+found-push :
+    {A B : Type 0} (F : Option A → Option B) → F None ≡ None → (xs ys : List A) (i : ℕ) (y : B) →
+    F (slice_get xs i) ≡ Some y → F (slice_get (xs ++ ys) i) ≡ Some y
+found-push F none [] ys i y at = absurd (cc)
+found-push F none (x ∷ xs) ys zero y at = at
+found-push F none (x ∷ xs) ys (suc i) y at = found-push F none xs ys i y at
 
-early_standing :
-    (most b : ℕ) → ForSome (Some (early_numbers b)) (IsStanding most b)
-early_standing most b =
-    λ n at. subst (IsStanding most b) (ap (λ o. unwrap_or o n) at)
-    (record {
-      number = refl;
-      least_speed = omega arith;
-      most_speed = omega arith;
-      few_posts = omega arith;
-      few_entries = omega arith;
-    })
-
--- a laboratory with an early board more
-pub sound-board :
-    (lab : Lab) {name : List ℕ} {board : Board} {v : View} → IsSound
-    (outlines lab.boards) lab.hubs lab.now lab.quantum →
-    length lab.boards < 16 → is_taken lab name ≡ false → board ≡ record { name = name; view = Some v } →
-    v.numbers ≡ early_numbers (length lab.boards) →
-    IsSound (outlines (lab.boards ++ board ∷ [])) lab.hubs lab.now lab.quantum
-sound-board lab {name = name} {board = board} sound room free is numbers =
-    let named : Numbers → Outline = λ n. record { name = name; numbers = Some n } in
-    let o : Outline = named (early_numbers (length lab.boards)) in
-    let made : outline board ≡ o = ap outline is ∙ ap named numbers in
-    rw (map-append, made)
-    (sound-push (outlines lab.boards) lab.hubs lab.now lab.quantum o sound (rw length-map room)
-    (rw length-map (early_standing (1000 * lab.now) (length lab.boards))) (new_name lab name free))
-
--- ---- hubs
-
--- a laboratory with a hub more
-pub sound-hub :
-    (lab : Lab) (hub : Hub) → IsSound (outlines lab.boards) lab.hubs lab.now lab.quantum → hub.members ≡ [] →
-    is_taken lab hub.name ≡ false → IsSound (outlines lab.boards) (lab.hubs ++ hub ∷ []) lab.now lab.quantum
-sound-hub lab hub sound none free = record {
-  few_boards = sound.few_boards;
-  standing = sound.standing;
-  devices = each-append (λ hub. AllByRecursion (IsDevice (length (outlines lab.boards))) hub.members) lab.hubs
-      (hub ∷ []) sound.devices (rw none tt, tt);
-  names =
-      rw (map-append, ← append_assoc)
-      (distinct-insert bytes_eq nat_list_eq_equiv.symm hub.name (names_of (outlines lab.boards) lab.hubs) []
-      (rw append-nil sound.names) (rw append-nil (new_name lab hub.name free)));
-  times = sound.times;
-}
-
--- a laboratory with a member more in one of its hubs
-pub sound-member :
-    (os : List Outline) (hubs : List Hub) (now quantum n : ℕ) (m : Member) → IsSound os hubs now quantum →
-    m.board.0 < length os → m.dev ≡ 0 → IsSound os (change_at hubs n (with_member m)) now quantum
-sound-member os hubs now quantum n m sound exists device = record {
-  few_boards = sound.few_boards;
-  standing = sound.standing;
-  devices =
-      each-change (λ hub. AllByRecursion (IsDevice (length os)) hub.members) (with_member m)
-      (λ hub are. each-append (IsDevice (length os)) hub.members (m ∷ []) are
-      (record { board = exists; dev = device }, tt)) hubs n sound.devices;
-  names = rw (map-change (λ (hub : Hub). hub.name) (with_member m) (λ hub. refl) hubs n) sound.names;
-  times = sound.times;
-}
+plans-push :
+    (boards : List Outline) (name : List ℕ) →
+    count_of_plans (boards ++ record { name = name; kinds = None } ∷ []) ≡ count_of_plans boards
+plans-push [] name = refl
+plans-push (x ∷ xs) name = grind (arith, plans-push xs name)

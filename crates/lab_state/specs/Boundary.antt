@@ -1,38 +1,90 @@
 -- The boundary between two rounds, at which what the boards have sent is handed over.
-use Rattle.std.specs.Prelude.{List, [], Option, None, fold}
-use Rattle.lab_num.specs.declared.key.Key.{Key}
+use Rattle.std.specs.Prelude.{ℕ, Bool, if◌then◌else◌, List, [], ◌++◌, Option, None, Some, is_some, option_and_then, fold, find}
+use Rattle.std.specs.Option.{option_map, option_to_list}
 use Rattle.lab_num.specs.declared.key.Member.{Member}
-use Rattle.lab_num.specs.declared.post.Payload.{Payload}
-use Rattle.lab_num.specs.declared.post.Post.{Post}
 use Rattle.lab_num.specs.Listing.{listing}
-use Rattle.lab_num.specs.Post.{post_key}
 use Rattle.lab_num.specs.Route.{route}
+use Rattle.dev_core.specs.declared.payload.Finish.{Finish}
+use Rattle.dev_core.specs.declared.payload.Payload.{Payload}
+use Rattle.dev_core.specs.declared.payload.Payload.TheVariants as payload
+use Rattle.dev_core.specs.declared.payload.Taken.{Taken}
+use Rattle.dev_core.specs.declared.payload.Taken.TheVariants.{Kept, Overrun}
+use Rattle.dev_core.specs.declared.post.Post.{Post}
+use Rattle.dev_core.specs.Post.{post_key}
 use Rattle.log_merge.specs.declared.item.LogItem.{LogItem}
-use Rattle.early_board.specs.Taken.{handed}
+use Rattle.log_merge.specs.declared.item.LogItem.TheVariants as item
+use Rattle.log_merge.specs.declared.item.Note.{Note}
+use Rattle.log_merge.specs.declared.item.Note.TheVariants as note
+use Rattle.board.specs.Changes.{handed, taken_by}
+use Rattle.board.specs.Space.{device_at}
+use Rattle.board.specs.View.{View}
 use Rattle.lab_state.specs.Board.{Board}
 use Rattle.lab_state.specs.Hub.{Hub, members_of}
 use Rattle.lab_state.specs.Change.{change_at}
-use Rattle.lab_state.specs.One.{with_view}
+use Rattle.lab_state.specs.One.{with_view, view_at}
 
--- the boards after one device was handed this
-abbrev pub to_member : Payload → List Board → Member → List Board
-to_member payload boards m = change_at boards m.board.0 (with_view (λ v. handed v payload))
+-- what the log notes of a payload that a device was handed, by its answer: a byte that had no room, and a frame that
+-- was kept or had none
+abbrev pub note_of : Payload → Taken → Option Note
+note_of (payload.Byte byte) Overrun = Some note.Overrun
+note_of (payload.Frame frame) Kept = Some (note.Received frame)
+note_of (payload.Frame frame) Overrun = Some (note.Lost frame)
+note_of _ _ = None
 
--- the boards after a post was handed to each other member of its device's hub once, in order of connection
-abbrev pub to_route : List (List Member) → List Board → Post → List Board
-to_route hubs boards post = fold (to_member post.payload) boards (route hubs post.from)
+-- and of a device that is not shown, nothing
+abbrev pub note_if : Bool → Payload → Taken → Option Note
+note_if shown payload taken = if shown then note_of payload taken else None
 
--- What a boundary comes to: the boards, what the log notes of what they were handed, and the pause that was asked for,
--- if one was. Nothing is noted and no pause is asked for yet.
+-- what the log notes of a payload that a device of a board is handed
+abbrev pub note_by : ℕ → Payload → View → Option Note
+note_by dev payload v = note_if (device_at v.space dev).shown payload (taken_by v dev payload)
+
+-- a note of a device at a boundary
+abbrev pub note_item : ℕ → Member → Note → LogItem
+note_item at m note = item.Note (record { 0 = at }) m note
+
+-- boards that were handed something, and what the log notes of it
+pub record Handed : Type 0 where
+  pub boards : List Board
+  pub notes : List LogItem
+
+-- a payload is handed to one device
+abbrev pub to_member : ℕ → Payload → Handed → Member → Handed
+to_member at payload h m =
+    let note = option_and_then (note_by m.dev payload) (view_at h.boards m.board.0) in
+    record {
+      boards = change_at h.boards m.board.0 (with_view (λ v. handed v m.dev payload));
+      notes = h.notes ++ option_to_list (option_map (note_item at m) note);
+    }
+
+-- how a test ended, which a finisher's post tells
+abbrev pub finish_of : Payload → Option Finish
+finish_of (payload.Byte byte) = None
+finish_of (payload.Frame frame) = None
+finish_of (payload.Finish finish) = Some finish
+
+abbrev pub is_finish : Post → Bool
+is_finish post = is_some (finish_of post.payload)
+
+-- a post is handed to each other member of its device's hub once, in order of connection, and a finisher's to nobody
+abbrev pub to_route : ℕ → List (List Member) → Handed → Post → Handed
+to_route at hubs h post =
+    if is_finish post then h else fold (to_member at post.payload) h (route hubs post.from)
+
+-- the posts one after another
+abbrev pub to_routes : ℕ → List Hub → List Board → List Post → Handed
+to_routes at hubs boards posts =
+    fold (to_route at (members_of hubs)) (record { boards = boards; notes = [] }) posts
+
+-- What a boundary comes to: the boards, what the log notes of what they were handed, and the post by which a pause was
+-- asked for, if one was.
 pub record Boundary : Type 0 where
   pub boards : List Board
   pub notes : List LogItem
-  pub pause : Option Key
+  pub pause : Option Post
 
--- all posts of a round are handed over, in rising order of key
-unfoldable pub boundary : List Hub → List Board → List Post → Boundary
-boundary hubs boards posts = record {
-  boards = fold (to_route (members_of hubs)) boards (listing post_key posts);
-  notes = [];
-  pause = None;
-}
+-- All posts of a round are handed over, in rising order of key. The first that a finisher made asks for a pause.
+unfoldable pub boundary : ℕ → List Hub → List Board → List Post → Boundary
+boundary at hubs boards posts =
+    let handed = to_routes at hubs boards (listing post_key posts) in
+    record { boards = handed.boards; notes = handed.notes; pause = find is_finish (listing post_key posts) }

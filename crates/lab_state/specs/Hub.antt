@@ -1,7 +1,7 @@
 -- A hub of a laboratory.
 use Rattle.std.specs.Prelude.{ℕ, List, map}
 use Rattle.lab_num.specs.declared.key.Member.{Member}
-use Rattle.lab_num.specs.declared.kind.Kind.{Kind}
+use Rattle.dev_core.specs.declared.kind.Kind.{Kind}
 
 -- its name, the kind of devices that it connects, and its members in order of connection
 pub record Hub : Type 0 where

@@ -1,5 +1,8 @@
--- What serves proofs alone.
+-- What serves private contracts and proofs alone.
 pub mod Came
+pub mod Change
+pub mod End
 pub mod Fault
 pub mod Hubs
+pub mod Spares
 pub mod Standing

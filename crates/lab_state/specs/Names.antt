@@ -1,8 +1,19 @@
--- How boards and hubs are found by name.
-use Rattle.std.specs.Prelude.{ℕ, Bool, ◌||◌, List, Option, None, Some, is_some}
-use Rattle.std.specs.List.{position}
+-- How boards and hubs are found by name, and the names that the log prints.
+use Rattle.std.specs.Prelude.{ℕ, Bool, true, false, ◌||◌, ◌==◌, List, [], length, map, find, slice_get, Option, None, Some, is_some, option_and_then}
+use Rattle.std.specs.List.{position, range_with_len}
+use Rattle.std.specs.Option.{option_map, option_map_or}
 use Rattle.std.specs.Str.{bytes_eq}
 use Rattle.lab_num.specs.declared.key.Member.{Member}
+use Rattle.dev_core.specs.declared.kind.Kind.{Kind}
+use Rattle.sys_bus.specs.declared.plan.BoardPlan.{BoardPlan}
+use Rattle.sys_bus.specs.declared.plan.Named.{Named}
+use Rattle.sys_bus.specs.declared.plan.NamedWhat.{NamedWhat}
+use Rattle.sys_bus.specs.declared.plan.NamedWhat.TheVariants.{Cpu, Part}
+use Rattle.sys_bus.specs.declared.region.RegionKind.TheVariants.{Dev}
+use Rattle.log_merge.specs.declared.names.BoardNames.{BoardNames}
+use Rattle.log_merge.specs.declared.names.Names.{Names}
+use Rattle.board.specs.View.{View}
+use Rattle.lab_state.specs.Board.{Board}
 use Rattle.lab_state.specs.Lab.{Lab}
 use Rattle.lab_state.specs.One.{connected}
 
@@ -14,6 +25,11 @@ board_named lab name = position (λ board. bytes_eq board.name name) lab.boards
 abbrev pub hub_named : Lab → List ℕ → Option ℕ
 hub_named lab name = position (λ hub. bytes_eq hub.name name) lab.hubs
 
+-- the kind of devices that the hub of this name connects
+abbrev pub kind_named : Lab → List ℕ → Option Kind
+kind_named lab name =
+    option_and_then (λ n. option_map (λ hub. hub.kind) (slice_get lab.hubs n)) (hub_named lab name)
+
 -- whether a board or a hub has the name
 abbrev pub is_taken : Lab → List ℕ → Bool
 is_taken lab name = is_some (board_named lab name) || is_some (hub_named lab name)
@@ -22,3 +38,25 @@ is_taken lab name = is_some (board_named lab name) || is_some (hub_named lab nam
 abbrev pub connected_to : Lab → Option ℕ → Member → Lab
 connected_to lab None m = lab
 connected_to lab (Some hub) m = connected lab hub m
+
+-- whether a name of a plan is that of the device of this number
+abbrev pub is_device : ℕ → NamedWhat → Bool
+is_device dev (Part (Dev other)) = other == dev
+is_device dev _ = false
+
+-- the name of a device in a plan
+abbrev pub device_name : BoardPlan → ℕ → List ℕ
+device_name plan dev = option_map_or (λ named. named.name) (find (λ named. is_device dev named.what) plan.names) []
+
+-- the names of the devices of a plan, in order of their numbers
+abbrev pub device_names : BoardPlan → List (List ℕ)
+device_names plan = map (device_name plan) (range_with_len 0 (length plan.kinds))
+
+-- the names of a board and of its devices; a board without a plan has none
+abbrev pub board_names : Board → BoardNames
+board_names board =
+    record { name = board.name; devices = option_map_or (λ v. device_names v.space.plan) board.view [] }
+
+-- the names of all boards
+abbrev pub names : Lab → Names
+names lab = record { boards = map board_names lab.boards }

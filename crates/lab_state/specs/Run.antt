@@ -1,5 +1,5 @@
 -- Runs: rounds of one quantum each, and a shorter one for what is left. A run ends at the first round that has a pause.
-use Rattle.std.specs.Prelude.{ℕ, ◌/◌, ◌%◌, ◌==◌, if◌then◌else◌, List, [], ◌∷◌, ◌++◌, replicate, fold, None, is_some}
+use Rattle.std.specs.Prelude.{◌≡◌, ◌+◌, ◌<◌, ℕ, ◌/◌, ◌%◌, ◌==◌, if◌then◌else◌, List, [], ◌∷◌, ◌++◌, length, take, replicate, fold, None, is_some}
 use Rattle.lab_state.specs.Lab.{Lab}
 use Rattle.lab_state.specs.Round.{Rounded, round}
 
@@ -26,6 +26,16 @@ go_on play run q = if is_some run.paused then run else followed_by run (play run
 -- no round
 abbrev pub still : Lab → Rounded
 still lab = record { lab = lab; items = []; paused = None }
+
+-- what the first so many of these rounds come to
+abbrev pub rounds : Play → Lab → List ℕ → ℕ → Rounded
+rounds play lab qs n = fold (go_on play) (still lab) (take n qs)
+
+-- The run of rounds of these lengths has a pause of round `n`: before that round there was none, and it is the last.
+pub record EndsIn (play : Play) (lab : Lab) (qs : List ℕ) (run : Rounded) (n : ℕ) : Type 0 where
+  pub within : n < length qs
+  pub none_before : (rounds play lab qs n).paused ≡ None
+  pub last : run ≡ rounds play lab qs (n + 1)
 
 -- a run of this length whose rounds are played so
 unfoldable pub run_by : Play → Lab → ℕ → Rounded

@@ -1,8 +1,8 @@
 -- Runs in which each board takes the slots of its grants in turns.
 use Rattle.std.specs.Prelude.{◌≡◌, ℕ, List, sum}
 use Rattle.lab_num.specs.Paid.{paid}
-use Rattle.early_board.specs.View.{View}
-use Rattle.early_board.specs.Stretch.{in_turns}
+use Rattle.board.specs.View.{View}
+use Rattle.board.specs.Stretch.{in_turns}
 use Rattle.lab_state.specs.Lab.{Lab}
 use Rattle.lab_state.specs.Round.{Grant, Rounded, round_by}
 use Rattle.lab_state.specs.Run.{run_by}

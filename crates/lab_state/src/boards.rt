@@ -1,26 +1,24 @@
 //! The boards of a laboratory.
-ghost use Rattle.std.specs.Prelude.{◌≡◌, ◌<◌, ◌%◌, ◌↔◌, ◌++◌, ◌∷◌, [], length, false, Some, slice_get, position, is_some, IsSome, IsTrue, IfOk, OnOk, OnErr};
-ghost use Rattle.std.specs.Option.{option_map, ForSome};
+ghost use Rattle.std.specs.Prelude.{◌≡◌, ◌<◌, ◌↔◌, ◌++◌, ◌∷◌, [], length, false, Some, None, slice_get, position, is_some, IsSome, IsTrue, IfOk, OnOk, OnErr};
+ghost use Rattle.std.specs.Option.{option_map};
 ghost use Rattle.std.specs.Str.{bytes_eq};
 ghost use Rattle.lab_num.specs.Name as name_spec;
-ghost use Rattle.early_board.specs.Changes.{with_bytes, with_pc, with_shown};
-ghost use Rattle.early_board.specs.Early.{early};
-ghost use Rattle.early_board.specs.Memory.{holds_each};
-ghost use Rattle.early_board.specs.Slot.{quiet};
+ghost use Rattle.board.specs.View.{quiet};
 ghost use Rattle.lab_state.specs.Names as names_spec;
-ghost use Rattle.lab_state.specs.One.{view_of, changed};
+ghost use Rattle.lab_state.specs.One.{view_of, kind_at};
 
 use crate::faults::AddFault;
 use crate::lab::Lab;
 use crate::named_board::NamedBoard;
-use early_board::Board;
+use board::Board;
+use dev_core::{Device, Kind};
 use lab_num::{BoardNo, Member, NoMemory, Text};
 
 /// The most boards that a laboratory has.
 const MOST_BOARDS: usize = 16;
 
 /// The number of the first board of this name.
-fn number_of(boards: &[NamedBoard], name: &str) -> Option<usize>
+fn number_of<D: Device>(boards: &[NamedBoard<D>], name: &str) -> Option<usize>
     ensures { result ≡ position (λ board. bytes_eq board.name name.now) boards.now }
 {
     boards
@@ -28,7 +26,10 @@ fn number_of(boards: &[NamedBoard], name: &str) -> Option<usize>
         .position(|board| board.name().as_str() == name)
 }
 
-fn push(boards: &mut Vec<NamedBoard>, board: NamedBoard) -> Result<(), NoMemory>
+fn push<D: Device>(
+    boards: &mut Vec<NamedBoard<D>>,
+    board: NamedBoard<D>,
+) -> Result<(), NoMemory>
     ensures ok { OnOk result (boards.new.items ≡ boards.old.items ++ board ∷ []) }
     ensures err { OnErr result (boards.new.items ≡ boards.old.items) }
 {
@@ -36,7 +37,7 @@ fn push(boards: &mut Vec<NamedBoard>, board: NamedBoard) -> Result<(), NoMemory>
     Ok(())
 }
 
-impl Lab {
+impl<D: Device> Lab<D> {
     /// Whether a board or a hub has the name.
     pub(crate) fn is_taken(&self, name: &str) -> bool
         ensures { result ≡ names_spec.is_taken self.now.lab name.now }
@@ -44,7 +45,7 @@ impl Lab {
         number_of(&self.boards, name).is_some() || self.hub_named(name).is_some()
     }
 
-    /// Adds a board in its early form, which runs from the time of the laboratory on.
+    /// Adds a board without a plan.
     pub fn add_board(&mut self, name: &str) -> Result<BoardNo, AddFault>
         requires unspent { self.old.spent ≡ false }
         requires is_name { IsTrue (name_spec.is_name name.now) }
@@ -53,7 +54,7 @@ impl Lab {
           lab = record self.old.lab {
             boards = self.old.lab.boards ++ record {
               name = name.now;
-              view = Some (early (length self.old.lab.boards));
+              view = None;
             } ∷ [];
           };
         }) }
@@ -73,9 +74,8 @@ impl Lab {
             return Err(AddFault::Boards);
         }
         let number = BoardNo(self.boards.len() as u8);
-        let board = Board::early(self.alloc, number)?;
         let text = Text::of(self.alloc, name)?;
-        push(&mut self.boards, NamedBoard::new(text, board))?;
+        push(&mut self.boards, NamedBoard::new(text))?;
         Ok(number)
     }
 
@@ -110,8 +110,7 @@ impl Lab {
         self.boards[b.0 as usize].name()
     }
 
-    /// Whether a board has its memory and devices. Every board has them from the time on at which
-    /// it is added.
+    /// Whether a board has a plan.
     pub fn has_plan(&self, b: BoardNo) -> bool
         requires unspent { self.now.spent ≡ false }
         requires exists { b.0 < length self.now.lab.boards }
@@ -121,7 +120,7 @@ impl Lab {
     }
 
     /// A board. Nobody is yet to take a post or an entry of it.
-    pub fn board(&self, b: BoardNo) -> &Board
+    pub fn board(&self, b: BoardNo) -> &Board<D>
         requires unspent { self.now.spent ≡ false }
         requires has_plan { IsSome (view_of self.now.lab b.0) }
         ensures view { Some result.now.view ≡ view_of self.now.lab b.0 }
@@ -130,45 +129,13 @@ impl Lab {
         self.boards[b.0 as usize].board().unwrap()
     }
 
-    /// Writes bytes into the memory of a board from an address on.
-    pub fn copy_in(&mut self, b: BoardNo, at: u32, bytes: &[u8]) -> Result<(), NoMemory>
-        requires unspent { self.old.spent ≡ false }
-        requires has_plan { IsSome (view_of self.old.lab b.0) }
-        requires holds { ForSome (view_of self.old.lab b.0) (λ v.
-            IsTrue (holds_each v.space.memory at (length bytes.now))) }
-        ensures ok { OnOk result (self.new ≡ record self.old {
-          lab = changed self.old.lab b.0 (λ v. with_bytes v at bytes.now);
-        }) }
-        ensures err { OnErr result (self.new ≡ self.old) }
+    /// The kind of a device.
+    pub(crate) fn kind_of(&self, member: Member) -> Kind
+        requires unspent { self.now.spent ≡ false }
+        requires device { IsSome (kind_at self.now.lab.boards member) }
+        ensures { Some result ≡ kind_at self.now.lab.boards member }
     {
-        let board = &mut self.boards[b.0 as usize];
-        board.copy_in(at, bytes)
-    }
-
-    /// Sets the address of a board's next instruction.
-    pub fn set_pc(&mut self, b: BoardNo, pc: u32)
-        requires unspent { self.old.spent ≡ false }
-        requires has_plan { IsSome (view_of self.old.lab b.0) }
-        requires aligned { pc % 4 ≡ 0 }
-        ensures { self.new ≡ record self.old {
-          lab = changed self.old.lab b.0 (λ v. with_pc v pc);
-        } }
-    {
-        let board = &mut self.boards[b.0 as usize];
-        board.set_pc(pc);
-    }
-
-    /// Shows a device: from now on each byte that it sends makes an item of the log. Again, it
-    /// changes nothing.
-    pub fn show(&mut self, member: Member)
-        requires unspent { self.old.spent ≡ false }
-        requires has_plan { IsSome (view_of self.old.lab member.board.0) }
-        requires device { member.dev ≡ 0 }
-        ensures { self.new ≡ record self.old {
-          lab = changed self.old.lab member.board.0 with_shown;
-        } }
-    {
-        let board = &mut self.boards[member.board.0 as usize];
-        board.show(member.dev);
+        let plan = self.board(member.board).plan();
+        plan.kinds.items()[usize::from(member.dev)]
     }
 }

@@ -1,5 +1,5 @@
 //! Why a call on a laboratory is refused.
-use lab_num::NoMemory;
+use lab_num::{BoardNo, NoMemory};
 use uart_hub::HubFault;
 
 /// Why a board was not added.
@@ -9,6 +9,15 @@ pub enum AddFault {
     Taken,
     /// There are 16 boards.
     Boards,
+    /// Memory ran out.
+    Memory,
+}
+
+/// Why a board was not made by a plan.
+#[derive(Clone, Copy, PartialEq, Eq, Debug)]
+pub enum FitFault {
+    /// The board has a plan.
+    Has,
     /// Memory ran out.
     Memory,
 }
@@ -27,6 +36,8 @@ pub enum HubNameFault {
 pub enum ConnectFault {
     /// No hub has the name.
     Name,
+    /// The hub connects devices of another kind.
+    Kind,
     /// The device is in some hub.
     Already,
     /// Memory ran out.
@@ -43,6 +54,8 @@ pub enum LabFault {
 /// Why a run was not made.
 #[derive(Clone, Copy, PartialEq, Eq, Debug)]
 pub enum RunFault {
+    /// A board, the first of these, has no plan.
+    NoPlan(BoardNo),
     /// It would go past the last microsecond that a laboratory has.
     TooLong,
     /// Memory ran out, in this run or in one before. The laboratory is spent.
@@ -57,6 +70,17 @@ impl From<NoMemory> for AddFault {
 
     fn from(_fault: NoMemory) -> AddFault {
         AddFault::Memory
+    }
+}
+
+impl From<NoMemory> for FitFault {
+    ghost use Rattle.std.specs.Prelude.{◌≡◌};
+    ghost use Rattle.lab_state.specs.declared.faults.FitFault.TheVariants.{Memory};
+
+    ghost from_gives = { λ _ fault. fault ≡ Memory };
+
+    fn from(_fault: NoMemory) -> FitFault {
+        FitFault::Memory
     }
 }
 

@@ -8,7 +8,8 @@ ghost use Rattle.lab_state.specs.Change.{change_at};
 ghost use Rattle.lab_state.specs.Hub.{members_of};
 ghost use Rattle.lab_state.specs.One.{with_member};
 
-use lab_num::{Kind, Member, NoMemory, Text};
+use dev_core::Kind;
+use lab_num::{Member, NoMemory, Text};
 use std::alloc::Global;
 use std::marker::Model;
 use uart_hub::{HubFault, UartHubs};
@@ -68,7 +69,7 @@ fn create_both(
 }
 
 impl HubList {
-    ghost use Rattle.lab_num.specs.declared.kind.Kind.TheVariants.{Uart};
+    ghost use Rattle.dev_core.specs.declared.kind.Kind.TheVariants.{Uart};
 
     pub fn new(alloc: Global) -> HubList
         ensures { result ≡ [] }

@@ -1,18 +1,19 @@
 //! The hubs of a laboratory.
-ghost use Rattle.std.specs.Prelude.{◌≡◌, ◌+◌, ◌^◌, ◌<◌, ◌↔◌, ◌++◌, ◌∷◌, [], length, false, Some, None, slice_get, IsSome, IsTrue, OnOk, OnErr};
+ghost use Rattle.std.specs.Prelude.{◌≡◌, ◌+◌, ◌^◌, ◌<◌, ◌↔◌, ◌≢◌, ◌++◌, ◌∷◌, [], length, false, Some, None, slice_get, IsSome, IsTrue, OnOk, OnErr};
 ghost use Rattle.std.specs.Option.{option_map};
 ghost use Rattle.lab_num.specs.Name as name_spec;
 ghost use Rattle.lab_num.specs.Route.{StandOnce, is_connected};
-ghost use Rattle.lab_num.specs.declared.kind.Kind.TheVariants.{Uart};
+ghost use Rattle.dev_core.specs.declared.kind.Kind.TheVariants.{Uart};
 ghost use Rattle.lab_state.specs.Hub.{members_of};
 ghost use Rattle.lab_state.specs.Names as names_spec;
-ghost use Rattle.lab_state.specs.One.{view_of};
+ghost use Rattle.lab_state.specs.One.{kind_at};
 
 use crate::faults::{ConnectFault, HubNameFault};
 use crate::lab::Lab;
-use lab_num::{Kind, Member, Text};
+use dev_core::{Device, Kind};
+use lab_num::{Member, Text};
 
-impl Lab {
+impl<D: Device> Lab<D> {
     /// The number of the hub of this name.
     pub(crate) fn hub_named(&self, name: &str) -> Option<usize>
         ensures { result ≡ names_spec.hub_named self.now.lab name.now }
@@ -43,11 +44,10 @@ impl Lab {
         Ok(())
     }
 
-    /// Puts a device at the end of the hub of this name.
+    /// Puts a device of a board that has a plan at the end of the hub of this name.
     pub fn connect(&mut self, member: Member, hub: &str) -> Result<(), ConnectFault>
         requires unspent { self.old.spent ≡ false }
-        requires has_plan { IsSome (view_of self.old.lab member.board.0) }
-        requires device { member.dev ≡ 0 }
+        requires device { IsSome (kind_at self.old.lab.boards member) }
         ensures ok { OnOk result (self.new ≡ record self.old {
           lab = names_spec.connected_to self.old.lab
               (names_spec.hub_named self.old.lab hub.now) member;
@@ -56,14 +56,21 @@ impl Lab {
         // A hub that does not exist is reported as such, even where the device is in another.
         ensures name { (result ≡ Err ConnectFault.Name)
             ↔ (names_spec.hub_named self.old.lab hub.now ≡ None) }
-        ensures already { (result ≡ Err ConnectFault.Already)
+        // A hub of another kind is reported as such, even where the device is in another.
+        ensures kind { (result ≡ Err ConnectFault.Kind)
             ↔ (IsSome (names_spec.hub_named self.old.lab hub.now)
+            × (names_spec.kind_named self.old.lab hub.now ≢ kind_at self.old.lab.boards member)) }
+        ensures already { (result ≡ Err ConnectFault.Already)
+            ↔ ((names_spec.kind_named self.old.lab hub.now ≡ kind_at self.old.lab.boards member)
             × IsTrue (is_connected (members_of self.old.lab.hubs) member)) }
         ensures err { OnErr result (self.new ≡ self.old) }
     {
         let Some(n) = self.hub_named(hub) else {
             return Err(ConnectFault::Name);
         };
+        if self.hubs.head(n as u32).kind != self.kind_of(member) {
+            return Err(ConnectFault::Kind);
+        }
         self.hubs.connect(n, member)?;
         Ok(())
     }

@@ -1,8 +1,10 @@
 //! The laboratory, its time and its quantum.
-ghost use Rattle.std.specs.Prelude.{◌≡◌, ◌≤◌, [], false, IfOk};
+ghost use Rattle.std.specs.Prelude.{◌≡◌, ◌≤◌, [], map, false, IfOk};
 
 use crate::hub_list::HubList;
 use crate::named_board::NamedBoard;
+use crate::spares::Spares;
+use dev_core::{Device, Stock};
 use lab_num::{Micros, NoMemory};
 use std::alloc::Global;
 use std::marker::Model;
@@ -13,19 +15,20 @@ const QUANTUM: u64 = 100;
 /// Boards and the hubs between them, paused between two rounds. It is spent once memory ran out
 /// inside a round.
 #[derive(Drop)]
-pub struct Lab {
+pub struct Lab<D: Device> {
     pub(crate) alloc: Global,
-    pub(crate) boards: Vec<NamedBoard>,
+    pub(crate) boards: Vec<NamedBoard<D>>,
     pub(crate) hubs: HubList,
+    pub(crate) spares: Spares<D>,
     pub(crate) time: Micros,
     pub(crate) quantum: u64,
     pub(crate) spent: bool,
 }
 
-impl Model for Lab {
+impl<D: Device> Model for Lab<D> {
     ghost use Rattle.std.specs.Prelude.{◌≡◌, false};
     ghost use Rattle.lab_state.specs.Lab.{Seen};
-    ghost use Rattle.lab_state.specs.Inner.Standing.{IsSound, outlines};
+    ghost use Rattle.lab_state.specs.Inner.Standing.{IsSound};
 
     ghost Value = { Seen };
 
@@ -40,14 +43,18 @@ impl Model for Lab {
     } };
 
     ghost invariant = { λ l. l.spent ≡ false →
-        IsSound (outlines l.boards.items) l.hubs l.time.0 l.quantum };
+        IsSound l.boards.items l.hubs l.spares l.time.0 l.quantum };
 }
 
-impl Lab {
+impl<D: Device> Lab<D> {
+    ghost use Rattle.dev_core.specs.Stock.{IsFull};
     ghost use Rattle.lab_state.specs.Lab.{Lab, Seen};
 
-    /// A laboratory at time 0, without boards and hubs, at a quantum of 100 microseconds.
-    pub fn new(alloc: Global) -> Result<Lab, NoMemory>
+    /// A laboratory at time 0, without boards and hubs, at a quantum of 100 microseconds. Boards are
+    /// made of the devices of the stock.
+    pub fn new(alloc: Global, stock: Stock<D>) -> Result<Lab<D>, NoMemory>
+        requires { IsFull (map D.meaning stock.uarts.items) (map D.meaning stock.cans.items)
+            (map D.meaning stock.finishers.items) }
         ensures { IfOk result (λ made. made ≡ record {
           lab = record { boards = []; hubs = []; now = 0; quantum = 100 };
           spent = false;
@@ -57,6 +64,7 @@ impl Lab {
             alloc,
             boards: Vec::new(alloc),
             hubs: HubList::new(alloc),
+            spares: Spares::of(stock),
             time: Micros(0),
             quantum: QUANTUM,
             spent: false,

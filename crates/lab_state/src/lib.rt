@@ -2,19 +2,23 @@
 #![tactic(auto)]
 
 mod boards;
+mod boundary;
+mod change;
+mod changes;
 mod faults;
+mod fit;
 mod hub_list;
 mod hubs;
 mod lab;
 mod laws;
 mod named_board;
+mod names;
 mod round;
 mod run;
+mod spares;
 
-pub use faults::{AddFault, ConnectFault, HubNameFault, LabFault, RunFault};
+pub use faults::{AddFault, ConnectFault, FitFault, HubNameFault, LabFault, RunFault};
 pub use lab::Lab;
-pub use laws::{boundaries_agree, runs_join, turns_agree};
+pub use laws::{boundaries_agree, runs_end, runs_join, turns_agree};
 pub use round::RoundLog;
 
-#[cfg(test)]
-mod tests;

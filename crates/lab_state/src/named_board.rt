@@ -1,30 +1,33 @@
 //! A board under its name.
-ghost use Rattle.std.specs.Prelude.{◌≡◌, ◌+◌, ◌%◌, ◌≤◌, ◌++◌, [], length, IsTrue, Some, OnOk, OnErr};
+ghost use Rattle.std.specs.Prelude.{◌≡◌, ◌+◌, ◌≤◌, ◌<◌, ◌++◌, [], length, take, ℕ, IsTrue, Some, None, OnOk, OnErr, option_and_then};
 ghost use Rattle.std.specs.Option.{option_map, ForSome};
 ghost use Rattle.log_merge.specs.Merge.{all_entries};
-ghost use Rattle.early_board.specs.Changes.{with_bytes, with_pc, with_shown};
-ghost use Rattle.early_board.specs.Memory.{holds_each};
-ghost use Rattle.early_board.specs.Slot.{quiet};
-ghost use Rattle.early_board.specs.Taken.{handed};
-ghost use Rattle.lab_state.specs.Inner.Standing.{outline};
+ghost use Rattle.board.specs.Changes.{with_bytes, handed, holds_each};
+ghost use Rattle.board.specs.View.{quiet};
+ghost use Rattle.lab_state.specs.Boundary as boundary_spec;
+ghost use Rattle.lab_state.specs.Boundary.{note_by};
+ghost use Rattle.lab_state.specs.Inner.Change.{changed_by, MayChange};
 ghost use Rattle.lab_state.specs.One.{with_view};
 ghost use Rattle.lab_state.specs.Round.{granted, stepped, posts_made, entries_made};
 
-use early_board::{Board, SlotAt, Turn};
-use lab_num::{Entry, Micros, NoMemory, Payload, Post, Text};
+use crate::change::Change;
+use board::{Board, SlotAt, Turn};
+use dev_core::{Device, Entry, Payload, Post, Taken};
+use lab_num::{Micros, NoMemory, Text};
+use log_merge::Note;
 use std::marker::Model;
 
-/// A board and its name. The board may be missing. Nobody is yet to take a post or an entry of it.
+/// A name, and the board under it if there is one. Nobody is yet to take a post or an entry of it.
 #[derive(Drop)]
-pub struct NamedBoard {
+pub struct NamedBoard<D: Device> {
     name: Text,
-    board: Option<Board>,
+    board: Option<Board<D>>,
 }
 
-impl Model for NamedBoard {
+impl<D: Device> Model for NamedBoard<D> {
     ghost use Rattle.std.specs.Prelude.{◌≡◌};
     ghost use Rattle.std.specs.Option.{option_map};
-    ghost use Rattle.early_board.specs.Slot.{quiet};
+    ghost use Rattle.board.specs.View.{quiet};
     ghost use Rattle.lab_state.specs.Board.{Board};
 
     ghost Value = { Board };
@@ -45,7 +48,7 @@ pub struct Made {
 }
 
 /// Moves the posts of a board to the end of a list.
-fn take_posts(board: &mut Board, posts: &mut Vec<Post>) -> Result<(), NoMemory>
+fn take_posts<D: Device>(board: &mut Board<D>, posts: &mut Vec<Post>) -> Result<(), NoMemory>
     ensures board { OnOk result (board.new ≡ record board.old { posts = [] }) }
     ensures posts { OnOk result (posts.new.items ≡ posts.old.items ++ board.old.posts) }
 {
@@ -57,9 +60,16 @@ fn take_posts(board: &mut Board, posts: &mut Vec<Post>) -> Result<(), NoMemory>
 }
 
 /// Gives a board the slots of a round, and takes what it has made.
-fn step_board(board: &mut Board, from: Micros, q: u64, made: &mut Made) -> Result<(), NoMemory>
+fn step_board<D: Device>(
+    board: &mut Board<D>,
+    from: Micros,
+    q: u64,
+    made: &mut Made,
+) -> Result<(), NoMemory>
     requires within { from.0 + q ≤ 10000000000 }
     requires quiet { board.old ≡ quiet board.old.view }
+    requires posts { board.old.view.numbers.posted ≤ 10000000000000 }
+    requires entries { board.old.view.numbers.entered ≤ 10000000000000 }
     ensures board { OnOk result (board.new
         ≡ quiet (granted from.0 (from.0 + q) board.old.view).view) }
     ensures posts { OnOk result (made.new.posts.items
@@ -77,15 +87,45 @@ fn step_board(board: &mut Board, from: Micros, q: u64, made: &mut Made) -> Resul
     Ok(())
 }
 
-impl NamedBoard {
-    pub fn new(name: Text, board: Board) -> NamedBoard
-        requires { board ≡ quiet board.view }
-        ensures { result ≡ record { name = name; view = Some board.view } }
+/// What the log notes of a payload that a shown device was handed and answered so.
+fn note_of(payload: &Payload, taken: Taken) -> Option<Note>
+    ensures { result ≡ boundary_spec.note_of payload.now taken }
+{
+    match (payload, taken) {
+        (Payload::Byte(_), Taken::Overrun) => Some(Note::Overrun),
+        (Payload::Frame(frame), Taken::Kept) => Some(Note::Received(*frame)),
+        (Payload::Frame(frame), Taken::Overrun) => Some(Note::Lost(*frame)),
+        _ => None,
+    }
+}
+
+/// Hands a payload to a device of a board, and gives what the log notes of it.
+fn deliver_to<D: Device>(board: &mut Board<D>, dev: u8, payload: &Payload) -> Option<Note>
+    requires { dev < length board.old.view.space.plan.kinds }
+    ensures board { board.new ≡ record board.old { view = handed board.old.view dev payload.now } }
+    ensures note { result ≡ note_by dev payload.now board.old.view }
+{
+    // a board has a device for each kind of its plan
+    let _plan = board.plan();
+    let shown = board.is_shown(dev);
+    let taken = board.deliver(dev, payload);
+    if shown { note_of(payload, taken) } else { None }
+}
+
+impl<D: Device> NamedBoard<D> {
+    /// A name without a board.
+    pub fn new(name: Text) -> NamedBoard<D>
+        ensures { result ≡ record { name = name; view = None } }
     {
-        NamedBoard {
-            name,
-            board: Some(board),
-        }
+        NamedBoard { name, board: None }
+    }
+
+    /// Puts a board under the name.
+    pub fn fit(&mut self, board: Board<D>)
+        requires { board ≡ quiet board.view }
+        ensures { self.new ≡ record self.old { view = Some board.view } }
+    {
+        self.board = Some(board);
     }
 
     pub fn name(&self) -> &Text
@@ -94,7 +134,7 @@ impl NamedBoard {
         &self.name
     }
 
-    pub fn board(&self) -> Option<&Board>
+    pub fn board(&self) -> Option<&Board<D>>
         ensures { option_map (λ board. board.now) result ≡ option_map quiet self.now.view }
     {
         self.board.as_ref()
@@ -104,6 +144,8 @@ impl NamedBoard {
     /// the board is lost.
     pub fn step(&mut self, from: Micros, q: u64, made: &mut Made) -> Result<(), NoMemory>
         requires within { from.0 + q ≤ 10000000000 }
+        requires posts { ForSome self.old.view (λ v. v.numbers.posted ≤ 10000000000000) }
+        requires entries { ForSome self.old.view (λ v. v.numbers.entered ≤ 10000000000000) }
         ensures board { OnOk result (self.new
             ≡ stepped (granted from.0 (from.0 + q)) self.old) }
         ensures posts { OnOk result (made.new.posts.items ≡ made.old.posts.items
@@ -120,43 +162,36 @@ impl NamedBoard {
         Ok(())
     }
 
-    /// Hands a payload to a device of the board.
-    pub fn deliver(&mut self, dev: u8, payload: &Payload)
-        requires { dev ≡ 0 }
-        ensures { self.new ≡ with_view (λ v. handed v payload.now) self.old }
+    /// Hands a payload to a device of the board, and gives what the log notes of it.
+    pub fn deliver(&mut self, dev: u8, payload: &Payload) -> Option<Note>
+        requires { ForSome self.old.view (λ v. dev < length v.space.plan.kinds) }
+        ensures board { self.new ≡ with_view (λ v. handed v dev payload.now) self.old }
+        ensures note { result ≡ option_and_then (note_by dev payload.now) self.old.view }
     {
-        if let Some(board) = &mut self.board {
-            let _ = board.deliver(dev, payload);
+        match &mut self.board {
+            Some(board) => deliver_to(board, dev, payload),
+            None => None,
         }
     }
 
-    pub fn show(&mut self, dev: u8)
-        requires { dev ≡ 0 }
-        ensures shown { self.new ≡ with_view with_shown self.old }
-        ensures outline { outline self.new ≡ outline self.old }
+    /// Changes the board.
+    pub fn change(&mut self, change: Change)
+        requires { ForSome self.old.view (MayChange change) }
+        ensures { self.new ≡ with_view (changed_by change) self.old }
     {
         if let Some(board) = &mut self.board {
-            board.show(dev);
+            change.make(board);
         }
     }
 
-    pub fn set_pc(&mut self, pc: u32)
-        requires { pc % 4 ≡ 0 }
-        ensures pc { self.new ≡ with_view (λ v. with_pc v pc) self.old }
-        ensures outline { outline self.new ≡ outline self.old }
-    {
-        if let Some(board) = &mut self.board {
-            board.set_pc(pc);
-        }
-    }
-
+    /// Writes bytes into the memories from an address on. After an `Err` some of the first of them
+    /// are written.
     pub fn copy_in(&mut self, at: u32, bytes: &[u8]) -> Result<(), NoMemory>
         requires { ForSome self.old.view (λ v.
-            IsTrue (holds_each v.space.memory at (length bytes.now))) }
-        ensures ok { OnOk result (self.new
-            ≡ with_view (λ v. with_bytes v at bytes.now) self.old) }
-        ensures err { OnErr result (self.new ≡ self.old) }
-        ensures outline { outline self.new ≡ outline self.old }
+            IsTrue (holds_each v.space at (length bytes.now))) }
+        ensures ok { OnOk result (self.new ≡ with_view (λ v. with_bytes v at bytes.now) self.old) }
+        ensures err { OnErr result ((n : ℕ) × ((n ≤ length bytes.now)
+            × (self.new ≡ with_view (λ v. with_bytes v at (take n bytes.now)) self.old))) }
     {
         match &mut self.board {
             Some(board) => board.copy_in(at, bytes),

@@ -1,21 +1,25 @@
 //! One round: every board takes the slots that its grant pays, and then what they have sent is
 //! handed over.
-ghost use Rattle.std.specs.Prelude.{◌≡◌, ℕ, ◌+◌, ◌*◌, ◌<◌, ◌≤◌, ◌++◌, [], length, map, fold, true, false, IfOk, OnOk, OnErr};
-ghost use Rattle.std.specs.List.{flat_map, All};
+ghost use Rattle.std.specs.Prelude.{◌≡◌, ◌+◌, ◌*◌, ◌<◌, ◌≤◌, ◌++◌, map, true, false, IfOk, OnOk, OnErr, IsNone};
+ghost use Rattle.std.specs.Option.{option_map};
+ghost use Rattle.std.specs.List.{flat_map};
 ghost use Rattle.lab_num.specs.Listing.{listing};
+ghost use Rattle.dev_core.specs.Post.{post_key};
 ghost use Rattle.log_merge.specs.Merge.{all_entries};
-ghost use Rattle.lab_state.specs.Boundary.{to_member, to_route, boundary};
-ghost use Rattle.lab_state.specs.Hub.{members_of};
-ghost use Rattle.lab_state.specs.Inner.Standing.{outlines, AreStanding, IsDevice, AreDevices};
+ghost use Rattle.lab_state.specs.Inner.End.{end_of, items_of};
+ghost use Rattle.lab_state.specs.Inner.Standing.{outlines, AreStanding, AreDevices};
+ghost use Rattle.lab_state.specs.One.{HaveAllPlans};
 ghost use Rattle.lab_state.specs.Round as round_spec;
-ghost use Rattle.lab_state.specs.Round.{granted, stepped, posts_made, entries_made, slot_items, met};
+ghost use Rattle.lab_state.specs.Round.{granted, stepped, posts_made, entries_made, slot_items};
 
+use crate::boundary::{hand_over_all, pause_of, push_pause};
 use crate::faults::LabFault;
 use crate::hub_list::HubList;
 use crate::lab::Lab;
 use crate::named_board::{Made, NamedBoard};
-use early_board::stretches_number;
-use lab_num::{Entry, Key, Member, Micros, NoMemory, Payload, Post, Rows};
+use board::{stretches_keep_plans, stretches_number};
+use dev_core::{Device, Entry, Post};
+use lab_num::{Key, Micros, NoMemory, Rows};
 use log_merge::{LogItem, Member0, merge_entries, merge_posts};
 use std::alloc::Global;
 
@@ -29,14 +33,23 @@ pub struct RoundLog {
     pub paused: Option<Key>,
 }
 
+/// What the slots of a round have made, in rising order of key: the posts, and the entries as items
+/// of the log.
+#[derive(Drop)]
+struct Slots {
+    posts: Vec<Post>,
+    items: Vec<LogItem>,
+}
+
 /// Gives every board the slots of a round, and takes what they have made.
-fn step_all(
-    boards: &mut [NamedBoard],
+fn step_all<D: Device>(
+    boards: &mut [NamedBoard<D>],
     from: Micros,
     q: u64,
     made: &mut Made,
 ) -> Result<(), NoMemory>
-    requires { from.0 + q ≤ 10000000000 }
+    requires within { from.0 + q ≤ 10000000000 }
+    requires standing { AreStanding (1000 * from.0) 0 boards.old }
     ensures boards { OnOk result (boards.new
         ≡ map (stepped (granted from.0 (from.0 + q))) boards.old) }
     ensures posts { OnOk result (made.new.posts.items ≡ made.old.posts.items
@@ -47,30 +60,6 @@ fn step_all(
 {
     for board in boards.iter_mut() {
         board.step(from, q, made)?;
-    }
-    Ok(())
-}
-
-/// Hands a payload to each of these devices.
-fn hand_over(boards: &mut [NamedBoard], to: &[Member], payload: &Payload)
-    requires { All (IsDevice (length boards.old)) to.now }
-    ensures { boards.new ≡ fold (to_member payload.now) boards.old to.now }
-{
-    for member in to {
-        let board = &mut boards[member.board.0 as usize];
-        board.deliver(member.dev, payload);
-    }
-}
-
-/// Hands each post to the other members of its device's hub.
-fn hand_over_all(boards: &mut [NamedBoard], hubs: &HubList, posts: &[Post]) -> Result<(), NoMemory>
-    requires { AreDevices (length boards.old) hubs.now }
-    ensures { OnOk result (boards.new
-        ≡ fold (to_route (members_of hubs.now)) boards.old posts.now) }
-{
-    for post in posts {
-        let to = hubs.route(post.from)?;
-        hand_over(boards, &to, &post.payload);
     }
     Ok(())
 }
@@ -94,22 +83,20 @@ fn items_of(alloc: Global, entries: &[Entry]) -> Result<Vec<LogItem>, NoMemory>
     Ok(items)
 }
 
-/// Runs the boards for a round of `q` microseconds, and hands over what they have sent. Gives the
-/// items of the log.
-fn play(
+/// Runs the boards for a round of `q` microseconds, and takes what they have made.
+fn take_slots<D: Device>(
     alloc: Global,
-    boards: &mut [NamedBoard],
-    hubs: &HubList,
+    boards: &mut [NamedBoard<D>],
     from: Micros,
     q: u64,
-) -> Result<Vec<LogItem>, NoMemory>
+) -> Result<Slots, NoMemory>
     requires within { from.0 + q ≤ 10000000000 }
-    requires standing { AreStanding (1000 * from.0) 0 (outlines boards.old) }
-    requires devices { AreDevices (length boards.old) hubs.now }
-    ensures boards { OnOk result (boards.new ≡ (boundary hubs.now
-        (map (stepped (granted from.0 (from.0 + q))) boards.old)
-        (flat_map (posts_made (granted from.0 (from.0 + q))) boards.old)).boards) }
-    ensures items { IfOk result (λ items. items.items
+    requires standing { AreStanding (1000 * from.0) 0 boards.old }
+    ensures boards { OnOk result (boards.new
+        ≡ map (stepped (granted from.0 (from.0 + q))) boards.old) }
+    ensures posts { IfOk result (λ slots. slots.posts.items
+        ≡ listing post_key (flat_map (posts_made (granted from.0 (from.0 + q))) boards.old)) }
+    ensures items { IfOk result (λ slots. slots.items.items
         ≡ slot_items (granted from.0 (from.0 + q)) boards.old) }
 {
     stretches_number();
@@ -121,14 +108,51 @@ fn play(
     let Made { posts, entries } = made;
     let posts = merge_posts(alloc, posts)?;
     let entries = merge_entries(alloc, entries)?;
-    hand_over_all(boards, hubs, &posts)?;
-    items_of(alloc, &entries)
+    let items = items_of(alloc, &entries)?;
+    Ok(Slots { posts, items })
 }
 
-impl Lab {
+fn key_of(post: &Option<Post>) -> Option<Key>
+    ensures { result ≡ option_map post_key post.now }
+{
+    post.as_ref().map(|post| post.key)
+}
+
+/// Runs the boards for a round of `q` microseconds, and hands over what they have sent.
+fn play<D: Device>(
+    alloc: Global,
+    boards: &mut [NamedBoard<D>],
+    hubs: &HubList,
+    from: Micros,
+    q: u64,
+) -> Result<RoundLog, NoMemory>
+    requires within { from.0 + q ≤ 10000000000 }
+    requires standing { AreStanding (1000 * from.0) 0 boards.old }
+    requires devices { AreDevices (outlines boards.old) hubs.now }
+    ensures boards { OnOk result (boards.new
+        ≡ (end_of from.0 q hubs.now boards.old).boards) }
+    ensures lines { IfOk result (λ log. log.lines ≡ items_of from.0 q hubs.now boards.old) }
+    ensures paused { IfOk result (λ log. log.paused
+        ≡ option_map post_key (end_of from.0 q hubs.now boards.old).pause) }
+{
+    stretches_keep_plans();
+    let Slots { posts, mut items } = take_slots(alloc, boards, from, q)?;
+    let at = Micros(from.0 + q);
+    let notes = hand_over_all(alloc, boards, hubs, &posts, at)?;
+    items.extend_from_slice(&notes)?;
+    let pause = pause_of(&posts);
+    push_pause(&mut items, at, &pause)?;
+    Ok(RoundLog {
+        lines: Rows::of(items),
+        paused: key_of(&pause),
+    })
+}
+
+impl<D: Device> Lab<D> {
     /// Runs one round of `q` microseconds. `LabFault::Memory` spends the laboratory.
     pub fn round(&mut self, q: u64) -> Result<RoundLog, LabFault>
         requires some { 0 < q }
+        requires plans { self.old.spent ≡ false → HaveAllPlans self.old.lab }
         requires within { self.old.spent ≡ false → self.old.lab.now + q ≤ 10000000000 }
         ensures lab { OnOk result (self.new
             ≡ record { lab = (round_spec.round self.old.lab q).lab; spent = false }) }
@@ -142,14 +166,12 @@ impl Lab {
             return Err(LabFault::Memory);
         }
         stretches_number();
-        let Ok(items) = play(self.alloc, &mut self.boards, &self.hubs, self.time, q) else {
+        stretches_keep_plans();
+        let Ok(log) = play(self.alloc, &mut self.boards, &self.hubs, self.time, q) else {
             self.spent = true;
             return Err(LabFault::Memory);
         };
         self.time = Micros(self.time.0 + q);
-        Ok(RoundLog {
-            lines: Rows::of(items),
-            paused: None,
-        })
+        Ok(log)
     }
 }

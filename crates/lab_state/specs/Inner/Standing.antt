@@ -1,21 +1,22 @@
 -- What holds of every laboratory that is not spent.
-use Rattle.std.specs.Prelude.{◌≡◌, ℕ, ◌+◌, ◌*◌, ◌<◌, ◌≤◌, List, [], ◌∷◌, ◌++◌, length, map, Option}
+use Rattle.std.specs.Prelude.{◌≡◌, ℕ, ◌+◌, ◌*◌, ◌<◌, ◌≤◌, List, [], ◌∷◌, ◌++◌, length, map, count_by, slice_get, Option, Some, is_some, IsSome, option_and_then}
 use Rattle.std.specs.List.{AllByRecursion, IsDistinct}
 use Rattle.std.specs.Option.{option_map, ForSome}
 use Rattle.std.specs.Str.{bytes_eq}
 use Rattle.lab_num.specs.declared.key.Member.{Member}
-use Rattle.early_board.specs.Numbers.{Numbers}
+use Rattle.dev_core.specs.declared.kind.Kind.{Kind}
+use Rattle.board.specs.Numbers.{Numbers}
 use Rattle.lab_state.specs.Board.{Board}
 use Rattle.lab_state.specs.Hub.{Hub}
-use Rattle.lab_state.specs.Lab.{Lab}
+use Rattle.lab_state.specs.Inner.Spares.{Spares}
 
--- what no change of one board touches: its name, and its numbers if something stands under it
+-- what no change of one board touches: its name, and the kinds of its devices if it has a plan
 pub record Outline : Type 0 where
   pub name : List ℕ
-  pub numbers : Option Numbers
+  pub kinds : Option (List Kind)
 
 abbrev pub outline : Board → Outline
-outline board = record { name = board.name; numbers = option_map (λ v. v.numbers) board.view }
+outline board = record { name = board.name; kinds = option_map (λ v. v.space.plan.kinds) board.view }
 
 abbrev pub outlines : List Board → List Outline
 outlines boards = map outline boards
@@ -29,19 +30,25 @@ pub record IsStanding (most b : ℕ) (n : Numbers) : Type 0 where
   pub few_entries : n.entered ≤ most
 
 -- boards that are numbered one after another from this number on
-abbrev pub AreStanding : ℕ → ℕ → List Outline → Type 0
+abbrev pub AreStanding : ℕ → ℕ → List Board → Type 0
 AreStanding most first [] = Unit {0}
 AreStanding most first (board ∷ boards) =
-    ForSome board.numbers (IsStanding most first) × AreStanding most (first + 1) boards
+    ForSome board.view (λ v. IsStanding most first v.numbers) × AreStanding most (first + 1) boards
 
--- device 0 of one of so many boards
-pub record IsDevice (count : ℕ) (m : Member) : Type 0 where
-  pub board : m.board.0 < count
-  pub dev : m.dev ≡ 0
+-- the kind of a device, if its board has a plan and the device is one of it
+abbrev pub kind_in : List Outline → Member → Option Kind
+kind_in boards m =
+    option_and_then (λ kinds. slice_get kinds m.dev) (option_and_then (λ o. o.kinds) (slice_get boards m.board.0))
 
--- all members of the hubs are devices of so many boards
-abbrev pub AreDevices : ℕ → List Hub → Type 0
-AreDevices count hubs = AllByRecursion (λ hub. AllByRecursion (IsDevice count) hub.members) hubs
+abbrev pub IsDevice : List Outline → Member → Type 0
+IsDevice boards m = IsSome (kind_in boards m)
+
+-- all members of the hubs are devices of the hub's kind
+abbrev pub AreMembers : List Outline → Hub → Type 0
+AreMembers boards hub = AllByRecursion (λ m. kind_in boards m ≡ Some hub.kind) hub.members
+
+abbrev pub AreDevices : List Outline → List Hub → Type 0
+AreDevices boards hubs = AllByRecursion (AreMembers boards) hubs
 
 -- the names of the boards and of the hubs
 abbrev pub names_of : List Outline → List Hub → List (List ℕ)
@@ -53,15 +60,21 @@ pub record AreTimes (now quantum : ℕ) : Type 0 where
   pub least_quantum : 1 ≤ quantum
   pub most_quantum : quantum ≤ 1000000
 
+-- how many boards have a plan
+abbrev pub count_of_plans : List Outline → ℕ
+count_of_plans boards = count_by (λ board. is_some board.kinds) boards
+
+-- devices enough for those of 16 boards that have no plan: a plan has at most 4 UARTs and one finisher
+pub record IsEnough (spares : Spares) (plans : ℕ) : Type 0 where
+  pub uarts : 64 ≤ spares.uarts + 4 * plans
+  pub finishers : 16 ≤ spares.finishers + plans
+
 -- at most 16 boards under numbers of their own, of which no two have made two things under one number; hubs that
--- connect
--- devices of these boards; names that differ
-pub record IsSound (boards : List Outline) (hubs : List Hub) (now quantum : ℕ) : Type 0 where
+-- connect devices of these boards; names that differ; devices for the boards that have no plan yet
+pub record IsSound (boards : List Board) (hubs : List Hub) (spares : Spares) (now quantum : ℕ) : Type 0 where
   pub few_boards : length boards ≤ 16
   pub standing : AreStanding (1000 * now) 0 boards
-  pub devices : AreDevices (length boards) hubs
-  pub names : IsDistinct bytes_eq (names_of boards hubs)
+  pub devices : AreDevices (outlines boards) hubs
+  pub names : IsDistinct bytes_eq (names_of (outlines boards) hubs)
+  pub enough : IsEnough spares (count_of_plans (outlines boards))
   pub times : AreTimes now quantum
-
-abbrev pub IsSoundLab : Lab → Type 0
-IsSoundLab lab = IsSound (outlines lab.boards) lab.hubs lab.now lab.quantum

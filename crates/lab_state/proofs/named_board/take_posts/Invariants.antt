@@ -3,10 +3,10 @@ use Rattle.std.proofs.Common.{◌≡◌, ◌++◌, length}
 use Rattle.lab_state.proofs.named_board.take_posts.Given as goal
 
 abbrev pub invariant-loop-post : goal.invariant-loop-post
-invariant-loop-post l = record {
+invariant-loop-post g l = record {
   board : l.board ≡ record l.fn.board { posts = l.board.posts };
   posts : l.posts.items ++ l.board.posts ≡ l.fn.posts.items ++ l.fn.board.posts;
 }
 
 abbrev pub decreases-loop-post : goal.decreases-loop-post
-decreases-loop-post l = length l.board.posts
+decreases-loop-post g l = length l.board.posts

@@ -6,19 +6,19 @@ use Rattle.lab_state.proofs.RoundLemmas.{posts_differ, entries_differ, boundary_
 use Rattle.lab_state.proofs.round.play.Goals as goal
 
 pub merge_posts-requires : goal.merge_posts-requires
-merge_posts-requires c =
+merge_posts-requires g c =
     rw (c.in_ok-step_all.ensures.posts, c.new.ensures.items)
     (posts_differ c.stretches_number.ensures c.args.from.0 c.args.q c.requires.within c.args.boards.now
     c.requires.standing)
 
 pub merge_entries-requires : goal.merge_entries-requires
-merge_entries-requires c =
+merge_entries-requires g c =
     rw (c.in_ok-step_all.ensures.entries, c.new-2.ensures.items)
     (entries_differ c.stretches_number.ensures c.args.from.0 c.args.q c.requires.within c.args.boards.now
     c.requires.standing)
 
 pub returns-clause-boards : goal.returns-clause-boards
-returns-clause-boards c =
+returns-clause-boards g c =
     let grant = granted c.args.from.0 (c.args.from.0 + c.args.q) in
     always_ok c.items_of.result
     (c.in_ok-hand_over_all.ensures

@@ -8,7 +8,7 @@ use Rattle.lab_state.proofs.ListLemmas.{not_yet, flat_map_more}
 use Rattle.lab_state.proofs.round.step_all.Goals as goal
 
 pub loop-board-preserved : goal.loop-board-preserved
-loop-board-preserved c =
+loop-board-preserved g c =
     let grant = granted c.args.from.0 (c.args.from.0 + c.args.q) in
     let i = c.loop-board.board-index in
     let old = c.args.boards.now in

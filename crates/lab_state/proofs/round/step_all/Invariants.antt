@@ -6,7 +6,7 @@ use Rattle.lab_state.specs.Round.{granted, stepped, posts_made, entries_made}
 use Rattle.lab_state.proofs.round.step_all.Given as goal
 
 abbrev pub invariant-loop-board : goal.invariant-loop-board
-invariant-loop-board l = record {
+invariant-loop-board g l = record {
   boards :
       l.boards
       ≡ map (stepped (granted l.from.0 (l.from.0 + l.q))) (take l.board-index l.fn.boards)

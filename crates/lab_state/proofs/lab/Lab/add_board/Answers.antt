@@ -1,6 +1,6 @@
 -- A board more, under a number and a name of its own.
 use Rattle.std.proofs.Common.{◌≡◌, ◌∙◌, sym, ap, ◌<◌, List, ℕ, length, vec_len, Some, false, arith}
-use Rattle.early_board.specs.Early.{early_numbers}
+use Rattle.board.specs.Early.{early_numbers}
 use Rattle.lab_state.specs.Board.{Board}
 use Rattle.lab_state.specs.Lab.{Lab}
 use Rattle.lab_state.specs.Names.{is_taken}
@@ -8,7 +8,7 @@ use Rattle.lab_state.proofs.SoundLemmas.{sound-board}
 use Rattle.lab_state.proofs.lab.Lab.add_board.Goals as goal
 
 pub invariant_of-self-2 : goal.invariant_of-self-2
-invariant_of-self-2 c h =
+invariant_of-self-2 g c h =
     let lab : Lab = record {
       boards = c.self.inside.boards.items;
       hubs = c.self.inside.hubs;

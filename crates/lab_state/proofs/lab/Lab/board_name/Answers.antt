@@ -7,7 +7,7 @@ use Rattle.lab_state.proofs.SoundLemmas.{board-found}
 use Rattle.lab_state.proofs.lab.Lab.board_name.Goals as goal
 
 pub returns-clause-found : goal.returns-clause-found
-returns-clause-found c =
+returns-clause-found g c =
     let unspent : c.self.inside.spent ≡ false = ap (λ s. s.spent) c.self.view_is ∙ c.requires.unspent in
     let below : c.args.b.0 < length c.self.inside.boards.items =
     omega (arith, ap (λ s. length s.lab.boards) c.self.view_is, c.requires.exists) in

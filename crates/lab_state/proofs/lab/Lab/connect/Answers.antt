@@ -8,7 +8,7 @@ use Rattle.lab_state.proofs.SoundLemmas.{sound-member}
 use Rattle.lab_state.proofs.lab.Lab.connect.Goals as goal
 
 pub invariant_of-self-2 : goal.invariant_of-self-2
-invariant_of-self-2 c h =
+invariant_of-self-2 g c h =
     let exists = stands (λ (board : Board). board.view) c.args.self.now.lab.boards c.args.member.board.0
     c.requires.has_plan in
     let below : c.args.member.board.0 < length (outlines c.self.inside.boards.items) =

@@ -1,13 +1,13 @@
 -- A hub more, under a name of its own.
 use Rattle.std.proofs.Common.{◌≡◌, ◌∙◌, sym, ap, refl, false, []}
-use Rattle.lab_num.specs.declared.kind.Kind.TheVariants.{Uart}
+use Rattle.dev_core.specs.declared.kind.Kind.TheVariants.{Uart}
 use Rattle.lab_state.specs.Lab.{Lab}
 use Rattle.lab_state.specs.Names.{is_taken}
 use Rattle.lab_state.proofs.SoundLemmas.{sound-hub}
 use Rattle.lab_state.proofs.lab.Lab.create_uart_hub.Goals as goal
 
 pub invariant_of-self-2 : goal.invariant_of-self-2
-invariant_of-self-2 c h =
+invariant_of-self-2 g c h =
     let lab : Lab = record {
       boards = c.self.inside.boards.items;
       hubs = c.self.inside.hubs;

@@ -5,7 +5,7 @@ use Rattle.lab_state.proofs.RoundLemmas.{given_back, sound-round, seen_round, ro
 use Rattle.lab_state.proofs.lab.Lab.round.Goals as goal
 
 pub invariant_of-self-2 : goal.invariant_of-self-2
-invariant_of-self-2 c h =
+invariant_of-self-2 g c h =
     let unspent : c.self.inside.spent ≡ false = c.if-self.false in
     let now : c.self.inside.time.0 ≡ c.args.self.now.lab.now = ap (λ s. s.lab.now) c.self.view_is in
     let within : c.self.inside.time.0 + c.args.q ≤ 10000000000 =
@@ -27,7 +27,7 @@ invariant_of-self-2 c h =
     c.args.q within (c.self.invariant unspent))
 
 pub returns-clause-lab : goal.returns-clause-lab
-returns-clause-lab c =
+returns-clause-lab g c =
     let made = rw c.deref_mut.ensures.value at c.in-Ok.ensures.boards in
     seen_round c.args.self.now c.self.inside.boards.items c.self.inside.hubs c.self.inside.time.0
     c.self.inside.quantum c.self.inside.spent c.args.q
@@ -36,7 +36,7 @@ returns-clause-lab c =
     (omega (arith, c.deref_mut.ensures.len)) ∙ made)
 
 pub returns-clause-lines : goal.returns-clause-lines
-returns-clause-lines c =
+returns-clause-lines g c =
     c.of.ensures ∙ (rw c.deref_mut.ensures.value at c.in-Ok.ensures.items)
     ∙ sym (round_items (record {
       boards = c.self.inside.boards.items;
@@ -48,4 +48,4 @@ returns-clause-lines c =
     ∙ ap (λ s. (round s.lab c.args.q).items) c.self.view_is
 
 pub returns-clause-paused : goal.returns-clause-paused
-returns-clause-paused c = sym (never_paused c.args.self.now.lab c.args.q)
+returns-clause-paused g c = sym (never_paused c.args.self.now.lab c.args.q)

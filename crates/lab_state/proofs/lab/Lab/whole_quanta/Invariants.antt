@@ -6,7 +6,7 @@ use Rattle.lab_state.specs.Run.{go_on, still}
 use Rattle.lab_state.proofs.lab.Lab.whole_quanta.Given as goal
 
 abbrev pub invariant-rounds : goal.invariant-rounds
-invariant-rounds l = record {
+invariant-rounds g l = record {
   unspent : l.self.spent ≡ false;
   now : l.self.lab.now ≤ l.fn.self.lab.now + l.q * l.counter;
   come : came_to l.self.lab l.run ≡ fold (go_on round) (still l.fn.self.lab) (replicate l.counter l.q);

@@ -1,0 +1,11 @@
+-- The devices that no board has yet.
+use Rattle.std.proofs.Common.{◌≡◌, refl, ℕ, zero, suc, List, [], ◌∷◌, map, replicate, length, arith}
+use Rattle.std.specs.List.{AllByRecursion}
+
+-- items that are all seen as one thing
+pub seen_as :
+    {A B : Type 0} (f : A → B) (n : ℕ) (xs : List A) (b : B) → map f xs ≡ replicate n b →
+    AllByRecursion (λ x. f x ≡ b) xs
+seen_as f n [] b is = tt
+seen_as f zero (x ∷ xs) b is = absurd (cc)
+seen_as f (suc n) (x ∷ xs) b is = (cc, seen_as f n xs b (cc))

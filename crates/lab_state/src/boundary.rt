@@ -1,0 +1,146 @@
+//! The boundary between two rounds: what the boards have sent is handed over.
+ghost use Rattle.std.specs.Prelude.{◌≡◌, ◌++◌, All, [], length, fold, find, OnOk, IfOk};
+ghost use Rattle.std.specs.Option.{option_map, option_to_list};
+ghost use Rattle.lab_state.specs.Boundary as boundary_spec;
+ghost use Rattle.lab_state.specs.Boundary.{Handed, note_item, to_member, to_route, to_routes, is_finish};
+ghost use Rattle.lab_state.specs.Hub.{members_of};
+ghost use Rattle.lab_state.specs.Inner.Standing.{outlines, IsDevice, AreDevices};
+ghost use Rattle.lab_state.specs.Round as round_spec;
+
+use crate::hub_list::HubList;
+use crate::named_board::NamedBoard;
+use dev_core::{Device, Finish, Payload, Post};
+use lab_num::{Member, Micros, NoMemory};
+use log_merge::{LogItem, Note};
+use std::alloc::Global;
+use std::slice;
+
+/// How a test ended, which a finisher's post tells.
+fn finish_of(payload: &Payload) -> Option<Finish>
+    ensures { result ≡ boundary_spec.finish_of payload.now }
+{
+    match payload {
+        Payload::Finish(finish) => Some(*finish),
+        _ => None,
+    }
+}
+
+fn is_finish(post: &Post) -> bool
+    ensures { result ≡ is_finish post.now }
+{
+    finish_of(&post.payload).is_some()
+}
+
+/// A note of a device as an item of the log, if there is one.
+fn note_item(at: Micros, member: Member, note: Option<Note>) -> Option<LogItem>
+    ensures { result ≡ option_map (note_item at.0 member) note }
+{
+    let note = note?;
+    Some(LogItem::Note { at, member, note })
+}
+
+/// Puts an item at the end of the items, if there is one.
+fn push(items: &mut Vec<LogItem>, item: &Option<LogItem>) -> Result<(), NoMemory>
+    ensures { OnOk result (items.new.items ≡ items.old.items ++ option_to_list item.now) }
+{
+    if let Some(item) = item {
+        items.extend_from_slice(slice::from_ref(item))?;
+    }
+    Ok(())
+}
+
+/// Hands a payload to each of these devices, and notes what the log says of it.
+fn hand_over<D: Device>(
+    boards: &mut [NamedBoard<D>],
+    to: &[Member],
+    payload: &Payload,
+    at: Micros,
+    notes: &mut Vec<LogItem>,
+) -> Result<(), NoMemory>
+    requires { All (IsDevice (outlines boards.old)) to.now }
+    ensures { OnOk result (◌≡◌ {A = Handed}
+        (record { boards = boards.new; notes = notes.new.items })
+        (fold (to_member at.0 payload.now)
+            (record { boards = boards.old; notes = notes.old.items }) to.now)) }
+{
+    for member in to {
+        let note = boards[usize::from(member.board.0)].deliver(member.dev, payload);
+        push(notes, &note_item(at, *member, note))?;
+    }
+    Ok(())
+}
+
+/// Hands a post to the other members of its device's hub, unless a finisher made it.
+fn hand_post<D: Device>(
+    boards: &mut [NamedBoard<D>],
+    hubs: &HubList,
+    post: &Post,
+    at: Micros,
+    notes: &mut Vec<LogItem>,
+) -> Result<(), NoMemory>
+    requires { AreDevices (outlines boards.old) hubs.now }
+    ensures { OnOk result (◌≡◌ {A = Handed}
+        (record { boards = boards.new; notes = notes.new.items })
+        (to_route at.0 (members_of hubs.now)
+            (record { boards = boards.old; notes = notes.old.items }) post.now)) }
+{
+    if is_finish(post) {
+        return Ok(());
+    }
+    let to = hubs.route(post.from)?;
+    hand_over(boards, &to, &post.payload, at, notes)
+}
+
+/// Hands over the posts one after another, and gives what the log notes of it.
+pub fn hand_over_all<D: Device>(
+    alloc: Global,
+    boards: &mut [NamedBoard<D>],
+    hubs: &HubList,
+    posts: &[Post],
+    at: Micros,
+) -> Result<Vec<LogItem>, NoMemory>
+    requires { AreDevices (outlines boards.old) hubs.now }
+    ensures { IfOk result (λ notes. ◌≡◌ {A = Handed}
+        (record { boards = boards.new; notes = notes.items })
+        (to_routes at.0 hubs.now boards.old posts.now)) }
+{
+    let mut notes = Vec::new(alloc);
+    for post in posts {
+        hand_post(boards, hubs, post, at, &mut notes)?;
+    }
+    Ok(notes)
+}
+
+/// The first post that a finisher made.
+pub fn pause_of(posts: &[Post]) -> Option<Post>
+    ensures { result ≡ find is_finish posts.now }
+{
+    posts.iter().copied().find(is_finish)
+}
+
+/// What the log says of the pause that a finisher's post asked for.
+fn pause_item(at: Micros, post: &Post) -> Option<LogItem>
+    ensures { result ≡ round_spec.pause_item at.0 post.now }
+{
+    let finish = finish_of(&post.payload)?;
+    Some(LogItem::Pause {
+        at,
+        member: post.from,
+        finish,
+    })
+}
+
+/// Puts the pause at the end of the items, if there is one.
+pub fn push_pause(
+    items: &mut Vec<LogItem>,
+    at: Micros,
+    pause: &Option<Post>,
+) -> Result<(), NoMemory>
+    ensures { OnOk result (items.new.items
+        ≡ items.old.items ++ round_spec.pause_items at.0 pause.now) }
+{
+    let Some(post) = pause else {
+        return Ok(());
+    };
+    push(items, &pause_item(at, post))
+}

@@ -1,0 +1,120 @@
+//! Changes of one board.
+ghost use Rattle.std.specs.Prelude.{◌≡◌, ◌≤◌, ◌<◌, ◌%◌, length, false, IsSome, IsTrue, OnOk, OnErr};
+ghost use Rattle.std.specs.Option.{ForSome};
+ghost use Rattle.page_ram.specs.Bytes.{zeros};
+ghost use Rattle.board.specs.Changes.{with_pc, with_halted, with_speed, with_shown, with_bytes, may_be_shown, holds_each};
+ghost use Rattle.board.specs.New as board_spec;
+ghost use Rattle.lab_state.specs.Inner.Change.{changed_by, MayChange};
+ghost use Rattle.lab_state.specs.One.{view_of, changed, WritesPrefix};
+
+use crate::change::Change;
+use crate::lab::Lab;
+use dev_core::Device;
+use lab_num::{BoardNo, Member, NoMemory};
+
+impl<D: Device> Lab<D> {
+    fn change(&mut self, b: BoardNo, change: Change)
+        requires unspent { self.old.spent ≡ false }
+        requires has_plan { IsSome (view_of self.old.lab b.0) }
+        requires may { ForSome (view_of self.old.lab b.0) (MayChange change) }
+        ensures { self.new ≡ record self.old {
+          lab = changed self.old.lab b.0 (changed_by change);
+        } }
+    {
+        self.boards[usize::from(b.0)].change(change);
+    }
+
+    /// Writes bytes into the memories of a board from an address on. After an `Err` some of the
+    /// first of them are written.
+    pub fn copy_in(&mut self, b: BoardNo, at: u32, bytes: &[u8]) -> Result<(), NoMemory>
+        requires unspent { self.old.spent ≡ false }
+        requires has_plan { IsSome (view_of self.old.lab b.0) }
+        requires holds { ForSome (view_of self.old.lab b.0) (λ v.
+            IsTrue (holds_each v.space at (length bytes.now))) }
+        ensures ok { OnOk result (self.new ≡ record self.old {
+          lab = changed self.old.lab b.0 (λ v. with_bytes v at bytes.now);
+        }) }
+        ensures err { OnErr result (WritesPrefix self.old self.new b.0 at bytes.now) }
+    {
+        self.boards[usize::from(b.0)].copy_in(at, bytes)
+    }
+
+    /// Puts 0 into `count` bytes of the memories of a board from an address on.
+    pub fn zero(&mut self, b: BoardNo, at: u32, count: u32)
+        requires unspent { self.old.spent ≡ false }
+        requires has_plan { IsSome (view_of self.old.lab b.0) }
+        requires holds { ForSome (view_of self.old.lab b.0) (λ v.
+            IsTrue (holds_each v.space at count)) }
+        ensures { self.new ≡ record self.old {
+          lab = changed self.old.lab b.0 (λ v. with_bytes v at (zeros count));
+        } }
+    {
+        self.change(b, Change::Zero { at, count });
+    }
+
+    /// Sets the address of a board's next instruction.
+    pub fn set_pc(&mut self, b: BoardNo, pc: u32)
+        requires unspent { self.old.spent ≡ false }
+        requires has_plan { IsSome (view_of self.old.lab b.0) }
+        requires aligned { pc % 4 ≡ 0 }
+        ensures { self.new ≡ record self.old {
+          lab = changed self.old.lab b.0 (λ v. with_pc v pc);
+        } }
+    {
+        self.change(b, Change::Pc(pc));
+    }
+
+    /// Halts the processor of a board, or lets it run. The slots of a halted one pass and change
+    /// nothing.
+    pub fn set_halted(&mut self, b: BoardNo, on: bool)
+        requires unspent { self.old.spent ≡ false }
+        requires has_plan { IsSome (view_of self.old.lab b.0) }
+        ensures { self.new ≡ record self.old {
+          lab = changed self.old.lab b.0 (λ v. with_halted v on);
+        } }
+    {
+        self.change(b, Change::Halted(on));
+    }
+
+    /// Sets the speed of a board for the rounds to come, in instructions a microsecond.
+    pub fn set_speed(&mut self, b: BoardNo, speed: u32)
+        requires unspent { self.old.spent ≡ false }
+        requires has_plan { IsSome (view_of self.old.lab b.0) }
+        requires least { 1 ≤ speed }
+        requires most { speed ≤ 1000 }
+        ensures { self.new ≡ record self.old {
+          lab = changed self.old.lab b.0 (λ v. with_speed v speed);
+        } }
+    {
+        self.change(b, Change::Speed(speed));
+    }
+
+    /// Shows a UART or a CAN controller: from now on each byte or frame that it sends makes an item
+    /// of the log, and what it is handed may make one. Again, it changes nothing.
+    pub fn show(&mut self, member: Member)
+        requires unspent { self.old.spent ≡ false }
+        requires has_plan { IsSome (view_of self.old.lab member.board.0) }
+        requires device { ForSome (view_of self.old.lab member.board.0) (λ v.
+            member.dev < length v.space.devices) }
+        requires kind { ForSome (view_of self.old.lab member.board.0) (λ v.
+            IsTrue (may_be_shown v member.dev)) }
+        ensures { self.new ≡ record self.old {
+          lab = changed self.old.lab member.board.0 (λ v. with_shown v member.dev);
+        } }
+    {
+        self.change(member.board, Change::Shown(member.dev));
+    }
+
+    /// Brings the processor and the devices of a board into their first states, with the pc at 0.
+    /// Memories, speed, whether the processor is halted, which devices are shown, and the counts of
+    /// posts and entries stay.
+    pub fn reset(&mut self, b: BoardNo)
+        requires unspent { self.old.spent ≡ false }
+        requires has_plan { IsSome (view_of self.old.lab b.0) }
+        ensures { self.new ≡ record self.old {
+          lab = changed self.old.lab b.0 board_spec.reset;
+        } }
+    {
+        self.change(b, Change::Reset);
+    }
+}
