@@ -3,6 +3,7 @@
 #![tactic(auto)]
 
 mod program;
+mod stock;
 
 use crate::program::{Ended, run};
 

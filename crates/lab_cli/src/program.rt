@@ -3,6 +3,7 @@ ghost use Rattle.std.specs.Prelude.{◌≡◌};
 ghost use Rattle.std.specs.Process.{exit_status};
 ghost use Rattle.lab_top.specs.Headline.{number_of};
 
+use crate::stock::full_stock;
 use lab_io::{DiskFiles, OutSink};
 use lab_top::{Status, run_lab};
 use std::io::ErrorKind;
@@ -35,17 +36,28 @@ impl Termination for Ended {
     }
 }
 
-/// Runs the program. Where there is no memory for the words, it ends as any run that finds none.
+/// Runs the program. Where there is no memory for the words or for the devices, it ends as any run
+/// that finds none.
 pub fn run<R: Env + Files + Print + AllocGlobal>(rt: &R) -> Ended {
+    Ended {
+        status: status_of(rt),
+    }
+}
+
+/// How a run of the program ends.
+fn status_of<R: Env + Files + Print + AllocGlobal>(rt: &R) -> Status {
     let Ok(words) = words_of(rt) else {
-        return Ended {
-            status: Status::Memory,
-        };
+        return Status::Memory;
     };
+    let Ok(stock) = full_stock(rt.alloc()) else {
+        return Status::Memory;
+    };
+    if !stock.is_full() {
+        return Status::Memory;
+    }
     let mut files = DiskFiles::new(rt);
     let mut out = OutSink::new(rt);
-    let status = run_lab(rt.alloc(), &words, &mut files, &mut out);
-    Ended { status }
+    run_lab(rt.alloc(), &words, &mut files, &mut out, stock)
 }
 
 #[cfg(test)]

@@ -1,9 +1,6 @@
-pub mod Digits
 pub mod ScriptLemmas
 pub mod Pieces
 pub mod Courses
 pub mod Onward
 pub mod Openings
-pub mod Lines
-pub mod Naming
 pub mod Equipping

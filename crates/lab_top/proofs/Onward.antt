@@ -10,7 +10,7 @@ use Rattle.lab_top.specs.declared.step.Step.TheVariants.{Text, End, Fault, Memor
 use Rattle.lab_top.specs.declared.body.TakenLine.{TakenLine}
 use Rattle.lab_top.specs.Script.{command_of}
 use Rattle.lab_top.specs.Bodies.{Body, NextLine, next_line}
-use Rattle.lab_top.specs.Log.{Line}
+use Rattle.log_text.specs.declared.line.OpenLine.{OpenLine}
 use Rattle.lab_top.specs.State.{State}
 use Rattle.lab_top.specs.Command.{Answer, Did, Goes, Faults, Misses, did, answer_to, past, fault_at}
 use Rattle.lab_top.specs.Transcript.{Transcript, Done, Script, Absent, after, ended, stopped, from, rest_of}
@@ -106,12 +106,12 @@ next_is_none : (body : Body) → body.lines ≡ [] → next_line (body ∷ []) �
 next_is_none body none = rw none refl
 
 -- a run whose only open body is this
-abbrev pub in_body : Body → ℕ → Lab → List Line → State
+abbrev pub in_body : Body → ℕ → Lab → List OpenLine → State
 in_body body taken lab lines = record { bodies = body ∷ []; taken = taken; lab = lab; lines = lines }
 
 -- no line is left
 pub step_ends :
-    (held : Held) (body left : Body) (taken : ℕ) (lab : Lab) (lines : List Line) → body.lines ≡ [] →
+    (held : Held) (body left : Body) (taken : ℕ) (lab : Lab) (lines : List OpenLine) → body.lines ≡ [] →
     rest_of run held (in_body body taken lab lines) ≡ stopped [] (in_body left taken lab lines) Done
 step_ends held body left taken lab lines none =
     from_end (100000 - taken) held (in_body body taken lab lines) (next_is_none body none)
@@ -131,7 +131,7 @@ one_fault a b is = cc
 
 -- a line after the last command that may be taken is refused
 pub step_refuses :
-    (held : Held) (body left : Body) (line : TakenLine) (taken : ℕ) (lab : Lab) (lines : List Line) (step : Step)
+    (held : Held) (body left : Body) (line : TakenLine) (taken : ℕ) (lab : Lab) (lines : List OpenLine) (step : Step)
     (old new : Running) →
     TakesLine body line left → 100000 ≤ taken →
     IsAnswer (Faults (fault_at (record { file = left.file; number = line.number }) Commands)) step old new →
@@ -187,7 +187,7 @@ answered_line held s line spent Memory new is few answer = tt
 
 -- the command of a line has been answered
 pub step_answers :
-    (held : Held) (body left : Body) (line : TakenLine) (taken : ℕ) (lab : Lab) (lines : List Line) (spent : Bool)
+    (held : Held) (body left : Body) (line : TakenLine) (taken : ℕ) (lab : Lab) (lines : List OpenLine) (spent : Bool)
     (step : Step)
     (new : Running) →
     TakesLine body line left → taken < 100000 →

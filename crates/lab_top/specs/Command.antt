@@ -1,18 +1,19 @@
 -- What commands do.
-use Rattle.std.specs.Prelude.{ℕ, ◌+◌, ◌^◌, nat_lt, if◌then◌else◌, List, [], Result, Ok, Err}
+use Rattle.std.specs.Prelude.{ℕ, ◌+◌, ◌^◌, nat_lt, if◌then◌else◌, List, [], Result, Ok, Err, is_some}
 use Rattle.lab_io.specs.Held.{Held}
+use Rattle.lab_state.specs.One.{first_without}
 use Rattle.lab_state.specs.Round.{Rounded}
 use Rattle.lab_state.specs.Run.{Play}
 use Rattle.lab_top.specs.declared.fault.Cause.TheVariants as fault_cause
 use Rattle.lab_top.specs.declared.fault.ScriptCause.{ScriptCause}
-use Rattle.lab_top.specs.declared.fault.ScriptCause.TheVariants.{LabTime}
+use Rattle.lab_top.specs.declared.fault.ScriptCause.TheVariants.{LabTime, Platform}
 use Rattle.lab_top.specs.declared.fault.ScriptFault.{ScriptFault}
 use Rattle.lab_top.specs.declared.script.Command.{Command}
 use Rattle.lab_top.specs.declared.script.Command.TheVariants.{RunFor, Quantum}
 use Rattle.lab_top.specs.Script.{command_of}
 use Rattle.lab_top.specs.Bodies.{Place, NextLine}
-use Rattle.lab_top.specs.Names.{names_of}
-use Rattle.lab_top.specs.Log.{text, open_lines}
+use Rattle.lab_state.specs.Names.{names}
+use Rattle.log_text.specs.Log.{text, open_lines}
 use Rattle.lab_top.specs.State.{State}
 
 -- how a command is answered: it prints this and the run goes on so, or it is refused, or a name that it reads
@@ -34,13 +35,14 @@ fault_at place cause = record { file = place.file; line = place.number; cause = 
 -- what rounds have come to is printed
 abbrev pub has_run : State → Rounded → Answer
 has_run s rounded =
-    Goes (text (names_of rounded.lab) s.lines rounded.items)
+    Goes (text (names rounded.lab) s.lines rounded.items)
     (record s { lab = rounded.lab; lines = open_lines s.lines rounded.items })
 
--- a run of the laboratory ends at 10,000 seconds of lab time at the latest
+-- a run of the laboratory needs a plan of each board, and ends at 10,000 seconds of lab time at the latest
 abbrev pub run_answer : Play → State → Place → ℕ → Answer
 run_answer play s place length =
-    if nat_lt (10 ^ 10) (s.lab.now + length) then Faults (fault_at place LabTime) else has_run s (play s.lab length)
+    if is_some (first_without s.lab.boards) then Faults (fault_at place Platform)
+    else if nat_lt (10 ^ 10) (s.lab.now + length) then Faults (fault_at place LabTime) else has_run s (play s.lab length)
 
 -- the quantum of the runs to come is set
 abbrev pub quantum_answer : State → ℕ → Answer

@@ -2,7 +2,7 @@
 use Rattle.std.specs.Prelude.{ℕ, List, ◌++◌, codes}
 use Rattle.std.specs.Fmt.{decimal}
 use Rattle.lab_top.specs.declared.fault.ScriptCause.{ScriptCause}
-use Rattle.lab_top.specs.declared.fault.ScriptCause.TheVariants.{Unknown, Arguments, Time, Commands, LabTime, Size}
+use Rattle.lab_top.specs.declared.fault.ScriptCause.TheVariants.{Unknown, Arguments, Time, Commands, LabTime, Platform, Size}
 use Rattle.lab_top.specs.declared.fault.Cause.{Cause}
 use Rattle.lab_top.specs.declared.fault.Cause.TheVariants.{Script}
 use Rattle.lab_top.specs.declared.fault.ScriptFault.{ScriptFault}
@@ -14,6 +14,7 @@ script_cause_text Arguments = codes "S2 arguments"
 script_cause_text Time = codes "S10 time"
 script_cause_text Commands = codes "S12 commands"
 script_cause_text LabTime = codes "S14 lab time"
+script_cause_text Platform = codes "S15 platform"
 script_cause_text Size = codes "S19 size"
 
 abbrev pub cause_text : Cause → List ℕ

@@ -1,7 +1,5 @@
 pub mod Script
 pub mod Bodies
-pub mod Log
-pub mod Names
 pub mod Fault
 pub mod State
 pub mod Command

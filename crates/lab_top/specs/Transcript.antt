@@ -13,8 +13,8 @@ use Rattle.lab_top.specs.declared.fault.ScriptFault.{ScriptFault}
 use Rattle.lab_top.specs.Fault.{fault_text}
 use Rattle.lab_top.specs.Script.{lines_of}
 use Rattle.lab_top.specs.Bodies.{Place, next_line}
-use Rattle.lab_top.specs.Names.{names_of}
-use Rattle.lab_top.specs.Log.{rest}
+use Rattle.lab_state.specs.Names.{names as names_of}
+use Rattle.log_text.specs.Log.{rest}
 use Rattle.lab_top.specs.State.{State}
 use Rattle.lab_top.specs.Command.{Goes, Faults, Misses, did, fault_at}
 use Rattle.lab_top.specs.Builtin.{built_in}

@@ -16,6 +16,8 @@ pub enum ScriptCause {
     Commands,
     /// S14: the run would end above 10,000 seconds of lab time.
     LabTime,
+    /// S15: a board has no plan, so that nothing can run.
+    Platform,
     /// S19: the script has more than 16 MiB.
     Size,
 }
@@ -33,6 +35,7 @@ impl fmt::Display for ScriptCause {
             ScriptCause::Time => write!(f, "S10 time"),
             ScriptCause::Commands => write!(f, "S12 commands"),
             ScriptCause::LabTime => write!(f, "S14 lab time"),
+            ScriptCause::Platform => write!(f, "S15 platform"),
             ScriptCause::Size => write!(f, "S19 size"),
         }
     }

@@ -1,10 +1,7 @@
-//! Laws of the transcript and of the log. Each is the contract of a function that does nothing.
-ghost use Rattle.std.specs.Prelude.{◌≡◌, ◌++◌, ℕ, List};
+//! A law of the transcript. It is the contract of a function that does nothing.
+ghost use Rattle.std.specs.Prelude.{◌≡◌, ℕ, List};
 ghost use Rattle.lab_io.specs.Held.{Held};
 ghost use Rattle.lab_state.specs.Turns.{Cut, IsWhole, run_in_turns};
-ghost use Rattle.log_merge.specs.declared.item.LogItem.{LogItem};
-ghost use Rattle.log_merge.specs.declared.names.Names.{Names};
-ghost use Rattle.lab_top.specs.Log.{Line, text, open_lines};
 ghost use Rattle.lab_top.specs.Transcript.{transcript, transcript_by};
 
 use lab_state::turns_agree;
@@ -17,13 +14,3 @@ pub fn transcripts_agree()
 {
     turns_agree();
 }
-
-/// However the items of a log are cut into parts, the parts print what the items print at once, and
-/// leave the same lines open.
-pub fn prints_join()
-    ensures text { (names : Names) (lines : List Line) (items more : List LogItem) →
-        text names lines (items ++ more)
-        ≡ text names lines items ++ text names (open_lines lines items) more }
-    ensures open { (lines : List Line) (items more : List LogItem) →
-        open_lines lines (items ++ more) ≡ open_lines (open_lines lines items) more }
-{}

@@ -5,8 +5,6 @@ mod body;
 mod builtin;
 mod fault;
 mod laws;
-mod log;
-mod names;
 mod run;
 mod script;
 mod session;
@@ -14,7 +12,7 @@ mod status;
 mod step;
 
 pub use fault::{Cause, ScriptCause, ScriptFault};
-pub use laws::{prints_join, transcripts_agree};
+pub use laws::transcripts_agree;
 pub use run::run_lab;
 pub use status::{Status, UsageCause};
 

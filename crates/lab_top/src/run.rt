@@ -3,8 +3,9 @@ ghost use Rattle.std.specs.Prelude.{◌≡◌, ◌≢◌, ◌≤◌, [], false, 
 ghost use Rattle.lab_io.specs.Held.{Held};
 ghost use Rattle.lab_io.specs.Known.{Rose};
 ghost use Rattle.lab_state.specs.Run.{run};
-ghost use Rattle.lab_top.specs.Names.{names_of};
-ghost use Rattle.lab_top.specs.Log.{rest};
+ghost use Rattle.dev_core.specs.Stock.{IsFull};
+ghost use Rattle.lab_state.specs.Names.{names};
+ghost use Rattle.log_text.specs.Log.{rest};
 ghost use Rattle.lab_top.specs.Builtin.{built_in};
 ghost use Rattle.lab_top.specs.Command.{fault_at};
 ghost use Rattle.lab_top.specs.Transcript.{transcript, run_of, request_of, rest_of, started, whole, Run, Refused, Script, Usage, Done};
@@ -16,6 +17,7 @@ use crate::fault::{Cause, ScriptCause, ScriptFault};
 use crate::session::Session;
 use crate::status::{Status, UsageCause};
 use crate::step::Step;
+use dev_core::{Device, Stock};
 use lab_io::{Files, ReadAnswer, Sink, write_whole};
 use lab_num::Text;
 use std::alloc::Global;
@@ -28,12 +30,16 @@ const USAGE: &str =
 const MOST_BYTES: usize = 16_777_216;
 
 /// Runs the program for its command words, reading from `files` and writing to `out`.
-pub fn run_lab<F: Files, K: Sink>(
+pub fn run_lab<D: Device, F: Files, K: Sink>(
     alloc: Global,
     words: &[String],
     files: &mut F,
     out: &mut K,
+    stock: Stock<D>,
 ) -> Status
+    requires { IsFull (map D.meaning stock.uarts.items) (map D.meaning stock.cans.items)
+        (map D.meaning stock.finishers.items) }
+
     // Where nothing cut the run short, it ended and wrote as its transcript says.
     ensures outcome { IfSome (F.held files.old) (λ held.
         IsWhole (transcript (map string_bytes words.now) held) result
@@ -72,16 +78,19 @@ pub fn run_lab<F: Files, K: Sink>(
     ensures read_faults { F.faults files.old ≤ F.faults files.new }
     ensures write_faults { K.faults out.old ≤ K.faults out.new }
 {
-    run_words(alloc, words, files, out)
+    run_words(alloc, words, files, out, stock)
 }
 
 /// Does what the words ask for.
-fn run_words<F: Files, K: Sink>(
+fn run_words<D: Device, F: Files, K: Sink>(
     alloc: Global,
     words: &[String],
     files: &mut F,
     out: &mut K,
+    stock: Stock<D>,
 ) -> Status
+    requires { IsFull (map D.meaning stock.uarts.items) (map D.meaning stock.cans.items)
+        (map D.meaning stock.finishers.items) }
     ensures course { Told (F.held files.old) (λ held.
         Course (transcript (map string_bytes words.now) held) result
         (K.written out.old) (K.written out.new) (F.asked files.old) (F.asked files.new)) }
@@ -96,7 +105,7 @@ fn run_words<F: Files, K: Sink>(
     ensures write_faults { K.faults out.old ≤ K.faults out.new }
 {
     match script_of(words) {
-        Ok(script) => run_file(alloc, script, files, out),
+        Ok(script) => run_file(alloc, script, files, out, stock),
         Err(cause) => refuse_words(cause, out),
     }
 }
@@ -136,7 +145,15 @@ fn refuse_words<K: Sink>(cause: UsageCause, out: &mut K) -> Status
 }
 
 /// Reads a script and runs it.
-fn run_file<F: Files, K: Sink>(alloc: Global, script: &str, files: &mut F, out: &mut K) -> Status
+fn run_file<D: Device, F: Files, K: Sink>(
+    alloc: Global,
+    script: &str,
+    files: &mut F,
+    out: &mut K,
+    stock: Stock<D>,
+) -> Status
+    requires { IsFull (map D.meaning stock.uarts.items) (map D.meaning stock.cans.items)
+        (map D.meaning stock.finishers.items) }
     ensures course { Told (F.held files.old) (λ held.
         Course (run_of run held script.now) result
         (K.written out.old) (K.written out.new) (F.asked files.old) (F.asked files.new)) }
@@ -149,7 +166,7 @@ fn run_file<F: Files, K: Sink>(alloc: Global, script: &str, files: &mut F, out: 
 {
     let mut bytes = Vec::new(alloc);
     match files.read(script, MOST_BYTES, &mut bytes) {
-        ReadAnswer::Done => run_script(alloc, script, bytes, out),
+        ReadAnswer::Done => run_script(alloc, script, bytes, out, stock),
         ReadAnswer::TooLarge => refuse_file(alloc, script, out),
         ReadAnswer::Failed => Status::Unread,
         ReadAnswer::Memory => Status::Memory,
@@ -157,8 +174,16 @@ fn run_file<F: Files, K: Sink>(alloc: Global, script: &str, files: &mut F, out: 
 }
 
 /// Runs the built-in laboratory by a script.
-fn run_script<K: Sink>(alloc: Global, script: &str, bytes: Vec<u8>, out: &mut K) -> Status
-    requires { length bytes.items ≤ 16777216 }
+fn run_script<D: Device, K: Sink>(
+    alloc: Global,
+    script: &str,
+    bytes: Vec<u8>,
+    out: &mut K,
+    stock: Stock<D>,
+) -> Status
+    requires short { length bytes.items ≤ 16777216 }
+    requires full { IsFull (map D.meaning stock.uarts.items) (map D.meaning stock.cans.items)
+        (map D.meaning stock.finishers.items) }
     ensures course { (held : Held) (log : Option (List (List ℕ))) →
         Course (rest_of run held (started built_in script.now bytes.items)) result
         (K.written out.old) (K.written out.new) log log }
@@ -167,7 +192,7 @@ fn run_script<K: Sink>(alloc: Global, script: &str, bytes: Vec<u8>, out: &mut K)
     ensures unwritten { result ≡ Status.Unwritten → Rose (K.faults out.old) (K.faults out.new) }
     ensures faults { K.faults out.old ≤ K.faults out.new }
 {
-    let Ok(lab) = builtin::lab(alloc) else {
+    let Ok(lab) = builtin::lab(alloc, stock) else {
         return Status::Memory;
     };
     let Ok(script) = Text::of(alloc, script) else {
@@ -179,7 +204,11 @@ fn run_script<K: Sink>(alloc: Global, script: &str, bytes: Vec<u8>, out: &mut K)
 
 /// Takes the commands of a script to its end or the first fault, and writes what each prints before
 /// the next is taken.
-fn take_commands<K: Sink>(alloc: Global, session: &mut Session, out: &mut K) -> Status
+fn take_commands<D: Device, K: Sink>(
+    alloc: Global,
+    session: &mut Session<D>,
+    out: &mut K,
+) -> Status
     requires { session.old.spent ≡ false }
     ensures course { (held : Held) (log : Option (List (List ℕ))) →
         Course (rest_of run held session.old.state) result
@@ -192,7 +221,7 @@ fn take_commands<K: Sink>(alloc: Global, session: &mut Session, out: &mut K) -> 
     'commands: loop {
         match session.step() {
             Step::Text(text) => {
-                if let Err(fault) = write_whole(out, text.as_bytes()) {
+                if let Err(fault) = write_whole(out, &text) {
                     return Status::from(fault);
                 }
             }
@@ -204,9 +233,9 @@ fn take_commands<K: Sink>(alloc: Global, session: &mut Session, out: &mut K) -> 
 }
 
 /// Writes what is left of the lines where a script has ended.
-fn stop<K: Sink>(session: &Session, out: &mut K) -> Status
-    requires { session.now.spent ≡ false }
-    ensures course { IsEnd (rest (names_of session.now.state.lab) session.now.state.lines) Done
+fn stop<D: Device, K: Sink>(session: &mut Session<D>, out: &mut K) -> Status
+    requires { session.old.spent ≡ false }
+    ensures course { IsEnd (rest (names session.old.state.lab) session.old.state.lines) Done
         result (K.written out.old) (K.written out.new) }
     ensures usage { IsNoUsage result }
     ensures never { result ≢ Status.Unread }
@@ -216,16 +245,21 @@ fn stop<K: Sink>(session: &Session, out: &mut K) -> Status
     let Ok(text) = session.rest() else {
         return Status::Memory;
     };
-    match write_whole(out, text.as_bytes()) {
+    match write_whole(out, &text) {
         Ok(()) => Status::Done,
         Err(fault) => Status::from(fault),
     }
 }
 
 /// Writes what is left of the lines where a line of a script is refused, and then says so.
-fn stop_at<K: Sink>(alloc: Global, session: &Session, fault: ScriptFault, out: &mut K) -> Status
-    requires { session.now.spent ≡ false }
-    ensures course { IsEnd (rest (names_of session.now.state.lab) session.now.state.lines)
+fn stop_at<D: Device, K: Sink>(
+    alloc: Global,
+    session: &mut Session<D>,
+    fault: ScriptFault,
+    out: &mut K,
+) -> Status
+    requires { session.old.spent ≡ false }
+    ensures course { IsEnd (rest (names session.old.state.lab) session.old.state.lines)
         (Script fault) result (K.written out.old) (K.written out.new) }
     ensures usage { IsNoUsage result }
     ensures never { result ≢ Status.Unread }
@@ -235,7 +269,7 @@ fn stop_at<K: Sink>(alloc: Global, session: &Session, fault: ScriptFault, out: &
     let Ok(text) = session.rest() else {
         return Status::Memory;
     };
-    if let Err(fault) = write_whole(out, text.as_bytes()) {
+    if let Err(fault) = write_whole(out, &text) {
         return Status::from(fault);
     }
     tell(alloc, fault, out)

@@ -1,21 +1,21 @@
 //! A run of a script, step by step: its open file, its laboratory, and the open lines of its log.
-ghost use Rattle.std.specs.Prelude.{◌≡◌, ◌≤◌, false, length, IfOk, string_bytes, Result, Ok};
+ghost use Rattle.std.specs.Prelude.{◌≡◌, ◌≤◌, false, length, IfOk, Result, Ok};
 ghost use Rattle.lab_io.specs.Held.{Held};
 ghost use Rattle.lab_state.specs.Run.{run};
-ghost use Rattle.lab_top.specs.Names.{names_of};
-ghost use Rattle.lab_top.specs.Log.{rest};
+ghost use Rattle.lab_state.specs.Names.{names};
+ghost use Rattle.log_text.specs.Log.{rest};
 ghost use Rattle.lab_top.specs.Command as command_spec;
 ghost use Rattle.lab_top.specs.Transcript.{started};
 ghost use Rattle.lab_top.specs.Inner.Session.{IsAnswer, IsStep, IsWithin, IsTaken, going, place_in};
 
 use crate::body::{Body, TakenLine};
 use crate::fault::{Cause, ScriptCause, ScriptFault};
-use crate::log::Lines;
-use crate::names;
 use crate::script::Command;
 use crate::step::Step;
+use dev_core::Device;
 use lab_num::{Micros, NoMemory, Text};
 use lab_state::{Lab, RunFault};
+use log_text::Lines;
 use std::alloc::Global;
 use std::marker::Model;
 
@@ -24,15 +24,15 @@ const MOST_COMMANDS: u32 = 100_000;
 
 /// A run of a script, between two of its lines.
 #[derive(Drop)]
-pub struct Session {
+pub struct Session<D: Device> {
     alloc: Global,
     body: Body,
     taken: u32,
-    lab: Lab,
+    lab: Lab<D>,
     lines: Lines,
 }
 
-impl Model for Session {
+impl<D: Device> Model for Session<D> {
     ghost use Rattle.std.specs.Prelude.{[], ◌∷◌};
     ghost use Rattle.lab_top.specs.Inner.Session.{Running};
 
@@ -49,9 +49,9 @@ impl Model for Session {
     } };
 }
 
-impl Session {
+impl<D: Device> Session<D> {
     /// A laboratory before the first line of a script.
-    pub fn new(alloc: Global, lab: Lab, script: Text, bytes: Vec<u8>) -> Session
+    pub fn new(alloc: Global, lab: Lab<D>, script: Text, bytes: Vec<u8>) -> Session<D>
         requires unspent { lab.spent ≡ false }
         requires short { length bytes.items ≤ 16777216 }
         ensures { result ≡ going (started lab.lab script bytes.items) }
@@ -105,13 +105,14 @@ impl Session {
     {
         let log = match self.lab.run_for(length) {
             Ok(log) => log,
+            Err(RunFault::NoPlan(_)) => return self.fault(number, ScriptCause::Platform),
             Err(RunFault::TooLong) => return self.fault(number, ScriptCause::LabTime),
             Err(RunFault::Memory) => return Step::Memory,
         };
-        let Ok(names) = names::names_of(self.alloc, &self.lab) else {
+        let Ok(names) = self.lab.names() else {
             return Step::Memory;
         };
-        match self.lines.text_of(&names, log.lines.items()) {
+        match self.lines.text(&names, log.lines.items()) {
             Ok(text) => Step::Text(text),
             Err(_) => Step::Memory,
         }
@@ -126,7 +127,7 @@ impl Session {
             result self.old self.new }
     {
         self.lab.set_quantum(length.0);
-        Step::Text(String::new(self.alloc))
+        Step::Text(Vec::new(self.alloc))
     }
 
     /// A fault of a line of the open file.
@@ -146,13 +147,13 @@ impl Session {
         })
     }
 
-    /// What is printed of the lines that are open where the run ends.
-    pub fn rest(&self) -> Result<String, NoMemory>
-        requires { self.now.spent ≡ false }
-        ensures { IfOk result (λ text. string_bytes text
-            ≡ rest (names_of self.now.state.lab) self.now.state.lines) }
+    /// What is printed of the lines that are open where the run ends. None is open afterwards.
+    pub fn rest(&mut self) -> Result<Vec<u8>, NoMemory>
+        requires { self.old.spent ≡ false }
+        ensures { IfOk result (λ text. text.items
+            ≡ rest (names self.old.state.lab) self.old.state.lines) }
     {
-        let names = names::names_of(self.alloc, &self.lab)?;
+        let names = self.lab.names()?;
         self.lines.rest(&names)
     }
 }

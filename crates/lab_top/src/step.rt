@@ -5,7 +5,7 @@ use crate::fault::ScriptFault;
 #[derive(Drop)]
 pub enum Step {
     /// Its command was carried out, and prints this.
-    Text(String),
+    Text(Vec<u8>),
     /// There is no further line.
     End,
     /// It was refused, and has changed nothing.

@@ -1,8 +1,13 @@
 //! Whole runs over files and an output in memory.
 use crate::{Status, UsageCause, run_lab};
+use dev_core::{Device, Stock};
 use lab_io::{MemFiles, MemSink};
+use lab_num::NoMemory;
 use std::alloc::Global;
+use std::process::Abort;
 use std::test::Fail;
+use test_finisher::Finisher;
+use uart_16550::Uart;
 
 const USAGE: &str =
     "usage: lab run SCRIPT [--workers N] [--until TIME] | check SCRIPT | gen SEED BOARDS [--workers N]\n";
@@ -11,22 +16,72 @@ const FIRST_LINE: &str = "[0.000002] m0/uart: A\n";
 
 const BOTH_LINES: &str = "[0.000002] m0/uart: A\n[0.000104] m1/uart: A\n";
 
-fn words_of(alloc: Global, words: &[&str]) -> Result<Vec<String>, Fail> {
+/// Devices enough for every board.
+pub(crate) fn stock(alloc: Global) -> Result<Stock<Box<dyn Device + Send>>, NoMemory> {
+    let mut uarts: Vec<Box<dyn Device + Send>> = Vec::new(alloc);
+    for _ in 0..64 {
+        uarts.push(Box::new(alloc, Uart::new())?)?;
+    }
+    let mut finishers: Vec<Box<dyn Device + Send>> = Vec::new(alloc);
+    for _ in 0..16 {
+        finishers.push(Box::new(alloc, Finisher::new())?)?;
+    }
+    Ok(Stock {
+        uarts,
+        cans: Vec::new(alloc),
+        finishers,
+    })
+}
+
+/// Files of which `s.resc` alone is there.
+fn files_with(alloc: Global, script: &[u8]) -> Result<MemFiles, NoMemory> {
+    let mut files = MemFiles::new(alloc);
+    files.put("s.resc", script)?;
+    Ok(files)
+}
+
+/// An output that takes at most so many bytes at once, and the write with this number fails.
+fn sink_with(alloc: Global, most: usize, failing: Option<u64>) -> Result<MemSink, NoMemory> {
+    let mut out = MemSink::new(alloc, most.max(1));
+    if let Some(call) = failing {
+        out.fail_at(call)?;
+    }
+    Ok(out)
+}
+
+/// A run for its words: how it ended, and what it wrote to.
+fn run(
+    alloc: Global,
+    words: &[&str],
+    mut files: MemFiles,
+    mut out: MemSink,
+) -> Result<(Status, MemSink), NoMemory> {
     let mut owned = Vec::new(alloc);
     for word in words {
         owned.push(String::from_str(alloc, word)?)?;
     }
-    Ok(owned)
+    let stock = stock(alloc)?;
+    if !stock.is_full() {
+        return Err(NoMemory);
+    }
+    let status = run_lab(alloc, &owned, &mut files, &mut out, stock);
+    Ok((status, out))
 }
 
-/// Runs `s.resc`: the status number, and what was written.
-fn run(alloc: Global, script: &[u8]) -> Result<(u8, Vec<u8>), Fail> {
-    let words = words_of(alloc, &["run", "s.resc"])?;
-    let mut files = MemFiles::new(alloc);
-    files.put("s.resc", script)?;
-    let mut out = MemSink::new(alloc, 4096);
-    let status = run_lab(alloc, &words, &mut files, &mut out);
-    Ok((status.number(), Vec::from_slice(alloc, out.bytes())?))
+/// A run of a script, with no fault outside.
+fn run_script(alloc: Global, script: &str) -> Result<(Status, MemSink), NoMemory> {
+    let files = files_with(alloc, script.as_bytes())?;
+    run(
+        alloc,
+        &["run", "s.resc"],
+        files,
+        sink_with(alloc, 4096, None)?,
+    )
+}
+
+fn assert_run(rt: &impl Abort, name: &str, run: &(Status, MemSink), number: u8, written: &str) {
+    assert_eq!(rt; run.0.number(), number, "{name}");
+    assert_eq!(rt; run.1.bytes(), written.as_bytes(), "{name}");
 }
 
 #[test]
@@ -50,11 +105,24 @@ fn the_second_board_answers_in_the_round_after_the_first_byte(rt: HostRuntime) -
         ),
     ];
     for (script, log) in rows {
-        let (number, written) = run(rt.alloc(), script.as_bytes())?;
-        assert_eq!(rt; number, 0, "{script}");
-        assert_eq!(rt; written.as_slice(), log.as_bytes(), "{script}");
+        assert_run(&rt, script, &run_script(rt.alloc(), script)?, 0, log);
     }
     Ok(())
+}
+
+/// A script that goes on after a run with this log.
+fn script_after(alloc: Global, log: &str, rest: &str) -> Result<String, NoMemory> {
+    let run = if log.is_empty() {
+        ""
+    } else {
+        "emulation RunFor \"0.0003\"\n"
+    };
+    Ok(format!(in alloc; "{run}{rest}")?)
+}
+
+/// What a run writes that ends with a fault.
+fn refusal(alloc: Global, log: &str, fault: &str) -> Result<String, NoMemory> {
+    Ok(format!(in alloc; "{log}error: s.resc:{fault}\n")?)
 }
 
 #[test]
@@ -103,19 +171,21 @@ fn a_line_is_refused_by_its_number_and_cause_after_the_log(rt: HostRuntime) -> R
         (BOTH_LINES, "\nquit\n", "2: S1 unknown command"),
     ];
     for (log, rest, fault) in rows {
-        let alloc = rt.alloc();
-        let before = if log.is_empty() {
-            ""
-        } else {
-            "emulation RunFor \"0.0003\"\n"
-        };
-        let script = format!(in alloc; "{before}{rest}")?;
-        let (number, written) = run(alloc, script.as_bytes())?;
-        let wanted = format!(in alloc; "{log}error: s.resc:{fault}\n")?;
-        assert_eq!(rt; number, 3, "{script}");
-        assert_eq!(rt; written.as_slice(), wanted.as_bytes(), "{script}");
+        let script = script_after(rt.alloc(), log, rest)?;
+        let wanted = refusal(rt.alloc(), log, fault)?;
+        assert_run(&rt, rest, &run_script(rt.alloc(), &script)?, 3, &wanted);
     }
     Ok(())
+}
+
+/// A line so many times, and then another.
+fn repeated(alloc: Global, line: &str, count: u32, last: &str) -> Result<String, NoMemory> {
+    let mut script = String::new(alloc);
+    for _ in 0..count {
+        script.push_str(line)?;
+    }
+    script.push_str(last)?;
+    Ok(script)
 }
 
 #[test]
@@ -133,16 +203,24 @@ fn scripts_have_16_mib_and_100_000_commands_at_most(rt: HostRuntime) -> Result<(
         ),
     ];
     for (line, count, last, status, text) in rows {
-        let mut script = String::new(rt.alloc());
-        for _ in 0..count {
-            script.push_str(line)?;
-        }
-        script.push_str(last)?;
-        let (number, written) = run(rt.alloc(), script.as_bytes())?;
-        assert_eq!(rt; number, status);
-        assert_eq!(rt; written.as_slice(), text.as_bytes());
+        let script = repeated(rt.alloc(), line, count, last)?;
+        assert_run(&rt, last, &run_script(rt.alloc(), &script)?, status, text);
     }
     Ok(())
+}
+
+/// A run for its words, with no file.
+fn run_alone(alloc: Global, words: &[&str]) -> Result<(Status, MemSink), NoMemory> {
+    run(
+        alloc,
+        words,
+        MemFiles::new(alloc),
+        sink_with(alloc, 4096, None)?,
+    )
+}
+
+fn is_usage(status: &Status, cause: UsageCause) -> bool {
+    matches!(status, Status::Usage(given) if *given == cause)
 }
 
 #[test]
@@ -157,16 +235,9 @@ fn other_words_are_answered_by_the_usage_line(rt: HostRuntime) -> Result<(), Fai
     ];
     let alloc = rt.alloc();
     for (words, cause) in rows {
-        let owned = words_of(alloc, words)?;
-        let mut files = MemFiles::new(alloc);
-        let mut out = MemSink::new(alloc, 4096);
-        let status = run_lab(alloc, &owned, &mut files, &mut out);
-        assert_eq!(rt; status.number(), 2, "{words:?}");
-        assert!(rt;
-            matches!(status, Status::Usage(given) if given == cause),
-            "{words:?}"
-        );
-        assert_eq!(rt; out.bytes(), USAGE.as_bytes(), "{words:?}");
+        let found = run_alone(alloc, words)?;
+        assert_run(&rt, words.last().copied().unwrap_or(""), &found, 2, USAGE);
+        assert!(rt; is_usage(&found.0, cause));
     }
     Ok(())
 }
@@ -184,43 +255,31 @@ fn faults_outside_cut_a_run_short(rt: HostRuntime) -> Result<(), Fail> {
     ];
     let alloc = rt.alloc();
     for (name, read, write, most, number, written) in rows {
-        let words = words_of(alloc, &["run", name])?;
-        let mut files = MemFiles::new(alloc);
-        files.put("s.resc", b"emulation RunFor \"0.0003\"")?;
+        let mut files = files_with(alloc, b"emulation RunFor \"0.0003\"")?;
         if let Some(call) = read {
             files.fail_at(call)?;
         }
-        let mut out = MemSink::new(alloc, most);
-        if let Some(call) = write {
-            out.fail_at(call)?;
-        }
-        let status = run_lab(alloc, &words, &mut files, &mut out);
-        assert_eq!(rt; status.number(), number, "{name}");
-        assert_eq!(rt; out.bytes(), written.as_bytes(), "{name}");
+        let found = run(alloc, &["run", name], files, sink_with(alloc, most, write)?)?;
+        assert_run(&rt, name, &found, number, written);
     }
     Ok(())
 }
 
 /// Whether a run of a script has done all and written the whole log, or has found no memory and
-/// written a front of it. None where there is no memory for the words and the file either.
-fn is_whole_or_starved(alloc: Global, script: &[u8], log: &[u8]) -> Option<bool> {
-    let mut words = Vec::new(alloc);
-    words.push(String::from_str(alloc, "run").ok()?).ok()?;
-    words.push(String::from_str(alloc, "s.resc").ok()?).ok()?;
-    let mut files = MemFiles::new(alloc);
-    files.put("s.resc", script).ok()?;
-    let mut out = MemSink::new(alloc, 16);
-    match run_lab(alloc, &words, &mut files, &mut out) {
-        Status::Done => Some(out.bytes() == log),
-        Status::Memory => Some(log.starts_with(out.bytes())),
-        _ => Some(false),
-    }
+/// written a front of it. An error where there is no memory for the words and the file either.
+fn is_whole_or_starved(alloc: Global, script: &str, log: &[u8]) -> Result<bool, NoMemory> {
+    let (status, out) = run_script(alloc, script)?;
+    Ok(match status {
+        Status::Done => out.bytes() == log,
+        Status::Memory => log.starts_with(out.bytes()),
+        _ => false,
+    })
 }
 
 #[test]
 fn a_run_that_finds_no_memory_has_written_a_front_of_the_log(rt: HostRuntime) {
     // By `rt try --test --fail-alloc N` the Nth allocation fails.
-    let script = b"emulation RunFor \"0.0001\"\nemulation RunFor \"0.0002\"\n";
-    let is_right = is_whole_or_starved(rt.alloc(), script, BOTH_LINES.as_bytes());
-    assert!(rt; is_right != Some(false));
+    let script = "emulation RunFor \"0.0001\"\nemulation RunFor \"0.0002\"\n";
+    let found = is_whole_or_starved(rt.alloc(), script, BOTH_LINES.as_bytes());
+    assert!(rt; found.unwrap_or(true));
 }

@@ -1,5 +1,5 @@
 -- What one step of a run has done.
-use Rattle.std.specs.Prelude.{◌≡◌, ℕ, ◌+◌, ◌<◌, ◌≤◌, Bool, false, List, [], ◌∷◌, Result, Ok, Err, string_bytes}
+use Rattle.std.specs.Prelude.{◌≡◌, ℕ, ◌+◌, ◌<◌, ◌≤◌, Bool, false, List, [], ◌∷◌, Result, Ok, Err}
 use Rattle.lab_io.specs.Held.{Held}
 use Rattle.lab_state.specs.Run.{run}
 use Rattle.lab_top.specs.declared.step.Step.{Step}
@@ -42,7 +42,7 @@ pub record TakesLine (body : Body) (taken : TakenLine) (left : Body) : Type 0 wh
 -- a command has been answered so, or memory ran out
 abbrev pub IsAnswer : Answer → Step → Running → Running → Type 0
 IsAnswer answer (Text text) old new =
-    (answer ≡ Goes (string_bytes text) new.state) × (new.state.taken ≡ old.state.taken) × (new.spent ≡ false)
+    (answer ≡ Goes (text.items) new.state) × (new.state.taken ≡ old.state.taken) × (new.spent ≡ false)
 IsAnswer answer End old new = ⊥
 IsAnswer answer (Fault fault) old new = (answer ≡ Faults fault) × (new ≡ old)
 IsAnswer answer Memory old new = Unit {0}
@@ -58,7 +58,7 @@ place_in s number = record { file = file_of s.bodies; number = number }
 
 -- a step has gone on along the transcript of what was left of the run, or memory ran out
 abbrev pub IsStep : Held → Step → State → State → Type 0
-IsStep held (Text text) s s' = rest_of run held s ≡ after [] (string_bytes text) (rest_of run held s')
+IsStep held (Text text) s s' = rest_of run held s ≡ after [] (text.items) (rest_of run held s')
 IsStep held End s s' = rest_of run held s ≡ stopped [] s' Done
 IsStep held (Fault fault) s s' = rest_of run held s ≡ stopped [] s' (Script fault)
 IsStep held Memory s s' = Unit {0}

@@ -2,6 +2,7 @@
 ghost use Rattle.std.specs.Prelude.{◌≡◌, false, IfOk};
 
 use super::*;
+use crate::tests::stock;
 use lab_io::MemSink;
 use lab_num::NoMemory;
 use lab_state::Lab;
@@ -15,19 +16,41 @@ const LINES_OF_A: [u8; 24] = [
 ];
 
 /// A laboratory of one board that sends lines.
-fn lab_of_lines(alloc: Global) -> Result<Lab, NoMemory>
+fn lab_of_lines<D: Device>(alloc: Global, stock: Stock<D>) -> Result<Lab<D>, NoMemory>
     ensures { IfOk result (λ lab. lab.spent ≡ false) }
 {
-    let mut lab = Lab::new(alloc)?;
+    if !stock.is_full() {
+        return Err(NoMemory);
+    }
+    let mut lab = Lab::new(alloc, stock)?;
     let Ok(board) = lab.add_board("m0") else {
         return Err(NoMemory);
     };
     let Ok(()) = lab.create_uart_hub("hub") else {
         return Err(NoMemory);
     };
-    early_board::early_memory_is_64_kib();
-    builtin::equip(&mut lab, board, &LINES_OF_A)?;
+    builtin::equip(alloc, &mut lab, board, &LINES_OF_A)?;
     Ok(lab)
+}
+
+/// A run of two commands that print a line each, before the first.
+fn session<D: Device>(alloc: Global, stock: Stock<D>) -> Result<Session<D>, NoMemory>
+    ensures { IfOk result (λ session. session.spent ≡ false) }
+{
+    let lab = lab_of_lines(alloc, stock)?;
+    let script = b"emulation RunFor \"0.000005\"\nemulation RunFor \"0.000005\"\n";
+    let bytes = Vec::from_slice(alloc, script)?;
+    Ok(Session::new(alloc, lab, Text::of(alloc, "s.resc")?, bytes))
+}
+
+/// How the run ends.
+fn status<D: Device>(
+    alloc: Global,
+    stock: Stock<D>,
+    out: &mut MemSink,
+) -> Result<Status, NoMemory> {
+    let mut session = session(alloc, stock)?;
+    Ok(take_commands(alloc, &mut session, out))
 }
 
 #[test]
@@ -38,14 +61,9 @@ fn what_a_command_prints_is_written_before_the_next_is_taken(rt: HostRuntime) ->
     let rows = [(0, 5, ""), (1, 5, first), (2, 0, both)];
     let alloc = rt.alloc();
     for (call, number, written) in rows {
-        let lab = lab_of_lines(alloc)?;
-        let script = b"emulation RunFor \"0.000005\"\nemulation RunFor \"0.000005\"\n";
-        let bytes = Vec::from_slice(alloc, script)?;
-        let mut session = Session::new(alloc, lab, Text::of(alloc, "s.resc")?, bytes);
         let mut out = MemSink::new(alloc, 4096);
         out.fail_at(call)?;
-        let status = take_commands(alloc, &mut session, &mut out);
-        assert_eq!(rt; status.number(), number);
+        assert_eq!(rt; status(alloc, stock(alloc)?, &mut out)?.number(), number);
         assert_eq!(rt; out.bytes(), written.as_bytes());
     }
     Ok(())
