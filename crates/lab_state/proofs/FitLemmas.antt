@@ -89,7 +89,7 @@ pub has-for :
     {boards : List Board} {hubs : List Hub} {spares : Spares} {now quantum : ℕ} (i : ℕ) (plan : BoardPlan) →
     IsSound boards hubs spares now quantum → i < length boards → view_at boards i ≡ None → IsValid plan →
     IsEarly plan → HasFor spares plan.kinds
-has-for {boards = boards} i plan sound below none valid early = each
+has-for {boards = boards} {spares = spares} i plan sound below none valid early = each
   where
     few : count_of_plans (outlines boards) < 16
     few = omega (arith, plans-few boards i below none, sound.few_boards)
@@ -106,7 +106,8 @@ none_of (Some v) is = absurd (cc)
 pub not_planned :
     {boards : List Board} (s : Seen) (b : ℕ) {planned : Bool} → boards ≡ s.lab.boards →
     planned ≡ is_some (view_of s.lab b) → planned ≡ false → view_at boards b ≡ None
-not_planned s b seen asked no = none_of _ (ap (λ boards. is_some (view_at boards b)) seen ∙ sym asked ∙ no)
+not_planned s b seen asked unplanned =
+    none_of _ (ap (λ boards. is_some (view_at boards b)) seen ∙ sym asked ∙ unplanned)
 
 -- ---- a board by a plan
 
@@ -234,16 +235,16 @@ all-reset f ds kinds is = All-from_recursion _ ds (reset-first f ds kinds is)
 
 -- there is room for what was taken
 pub room-for :
-    {boards : List Board} {hubs : List Hub} {spares left : Spares} {now quantum : ℕ} (kinds : List Kind) →
+    {boards : List Board} {hubs : List Hub} {spares : Spares} {now quantum : ℕ} (left : Spares) (kinds : List Kind) →
     IsSound boards hubs spares now quantum → AreTaken spares left kinds → HasRoomFor left kinds
-room-for kinds sound taken = λ kind. omega (arith, taken kind, sound.enough.few kind)
+room-for left kinds sound taken = λ kind. omega (arith, taken kind, sound.enough.few kind)
 
 -- and then all are there again
 pub sound-back :
-    {boards : List Board} {hubs : List Hub} {spares left : Spares} {now quantum : ℕ} (back : Spares)
+    {boards : List Board} {hubs : List Hub} {spares : Spares} {now quantum : ℕ} (left back : Spares)
     (kinds : List Kind) → IsSound boards hubs spares now quantum → AreTaken spares left kinds →
     AreTaken back left kinds → IsSound boards hubs back now quantum
-sound-back back kinds sound taken given = record {
+sound-back left back kinds sound taken given = record {
   few_boards = sound.few_boards;
   standing = sound.standing;
   devices = sound.devices;

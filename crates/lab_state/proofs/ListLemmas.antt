@@ -198,7 +198,9 @@ range-more a (suc n) =
 pub range_map_more :
     {A : Type 0} (f : ℕ → A) (n : ℕ) {now next : List A} {item : A} → now ≡ map f (range_with_len 0 n) →
     next ≡ now ++ item ∷ [] → item ≡ f n → next ≡ map f (range_with_len 0 (n + 1))
-range_map_more f n so more is =
+range_map_more f n {item = item} so more is =
     let whole : map f (range_with_len 0 (n + 1)) ≡ map f (range_with_len 0 n) ++ f n ∷ [] =
-    rw (add-one, range-more 0 n, map-append, zero-add) refl in
-    more ∙ rw (so, is, whole) refl
+    rw add-one
+    (ap (map f) (range-more 0 n) ∙ map-append f (range_with_len 0 n) ((0 + n) ∷ [])
+    ∙ ap (λ k. map f (range_with_len 0 n) ++ f k ∷ []) (zero-add n)) in
+    more ∙ ap (λ l. l ++ item ∷ []) so ∙ ap (λ y. map f (range_with_len 0 n) ++ y ∷ []) is ∙ sym whole

@@ -1,7 +1,8 @@
 -- The steps of a round, and what they keep.
-use Rattle.std.proofs.Common.{◌≡◌, ◌∙◌, sym, ap, refl, Bool, true, false, cond, not, ℕ, zero, suc, ◌+◌, ◌-◌, ◌*◌, ◌^◌, ◌<◌, ◌≤◌, List, [], ◌∷◌, ◌++◌, length, map, fold, find, unwrap_or, slice_get, Option, Some, None, Result, Ok, Err, OnOk, take, drop, subst, add-zero, arith}
+use Rattle.std.proofs.Common.{◌≡◌, ◌∙◌, sym, ap, refl, Bool, true, false, cond, not, ℕ, zero, suc, ◌+◌, ◌-◌, ◌*◌, ◌^◌, ◌<◌, ◌≤◌, List, [], ◌∷◌, ◌++◌, length, map, fold, find, unwrap_or, get_or, slice_get, Option, Some, None, Result, Ok, Err, OnOk, take, drop, subst, add-zero, arith}
 use Rattle.std.specs.Prelude.{if◌then◌else◌, IsSome, is_none, option_and_then}
 use Rattle.std.proofs.lemmas.List.Elements.{All-filter, All-from_recursion}
+use Rattle.std.proofs.lemmas.Option.{slice_get-get_or}
 use Rattle.std.proofs.Math.Nat.{mul-le-mul_left}
 use Rattle.std.proofs.Math.Seq.{take-append_seam}
 use Rattle.std.specs.List.{flat_map, All, AllByRecursion, position}
@@ -29,7 +30,7 @@ use Rattle.lab_state.specs.Round.{granted, stepped, posts_made, entries_made, ro
 use Rattle.lab_state.specs.Inner.End.{end_of, items_of}
 use Rattle.lab_state.specs.Inner.Spares.{Spares}
 use Rattle.lab_state.specs.Inner.Standing.{Outline, outline, outlines, IsStanding, AreStanding, kind_in, IsDevice, AreDevices, IsSound}
-use Rattle.lab_state.proofs.ListLemmas.{each-weaker, position-map, stands}
+use Rattle.lab_state.proofs.ListLemmas.{each-weaker, not_yet, position-map, stands}
 use Rattle.lab_state.proofs.KeyLemmas.{AreKeyed, keyed_differ}
 use Rattle.lab_state.proofs.SoundLemmas.{outline-view, outlines-change, standing-change, keeps_standing, sound-same, kind-outlines}
 
@@ -332,6 +333,23 @@ standing_at most b (x ∷ xs) zero board are at =
 standing_at most b (x ∷ xs) (suc i) board are at =
     let place : b + 1 + i ≡ b + suc i = omega arith in
     subst (λ b. ForSome board.view (λ v. IsStanding most b v.numbers)) place (standing_at most (b + 1) xs i board are.1 at)
+
+-- a member that a loop has not come to is a device of the boards as they are by then
+pub still_device :
+    {boards : List Board} (h : Handed) (at : ℕ) (payload : Payload) (done to : List Member) (i : ℕ) (d : Member) →
+    boards ≡ (fold (to_member at payload) h done).boards → All (IsDevice (outlines h.boards)) to → i < length to →
+    IsDevice (outlines boards) (get_or to i d)
+still_device h at payload done to i d is all below =
+    rw (ap outlines is ∙ (kept-members h.boards at payload h done (kept-same h.boards)).same) (all i d below)
+
+-- and a board that it has not come to stands as it stood
+pub standing_next :
+    (step : Board → Board) (most : ℕ) (old boards : List Board) (i : ℕ) (item : Board) →
+    boards ≡ map step (take i old) ++ drop i old → i < length old → AreStanding most 0 old →
+    ForSome (get_or boards i item).view (λ v. IsStanding most (0 + i) v.numbers)
+standing_next step most old boards i item is below are =
+    rw (ap (λ boards. get_or boards i item) is ∙ not_yet step old i item)
+    (standing_at most 0 old i (get_or old i item) are (slice_get-get_or old i item below))
 
 -- what holds holds of an answer
 pub always_ok : {T E P : Type 0} (r : Result T E) → P → OnOk r P

@@ -131,12 +131,17 @@ ends :
     (play : Play) (run : Rounded) (qs : List ℕ) → run.paused ≡ None →
     is_some (fold (go_on play) run qs).paused ≡ true → (n : ℕ) × Ends play run qs n
 ends play run [] none some = absurd (cc)
-ends play run (q ∷ qs) none some = elim (none_or (go_on play run q).paused) [
-  inl still_none ↦
-      let rest = ends play (go_on play run q) qs still_none some in
-      (rest.0 + 1, (omega (arith, rest.1.0), rw add-one rest.1.1, rw (add-one, add-one) rest.1.2))
-| inr paused ↦ (0, (omega arith, none, after_pause play (go_on play run q) qs paused))
-  ]
+ends play run (q ∷ qs) none some =
+    by_pause (none_or (go_on play run q).paused) (λ still. ends play (go_on play run q) qs still some)
+  where
+    by_pause :
+        (((go_on play run q).paused ≡ None) ⊎ (is_some (go_on play run q).paused ≡ true)) →
+        ((go_on play run q).paused ≡ None → (n : ℕ) × Ends play (go_on play run q) qs n) →
+        (n : ℕ) × Ends play run (q ∷ qs) n
+    by_pause (inl still) rest =
+        let found = rest still in
+        (found.0 + 1, (omega (arith, found.1.0), rw add-one found.1.1, rw (add-one, add-one) (rw add-one at found.1.2)))
+    by_pause (inr paused) rest = (0, (omega arith, none, after_pause play (go_on play run q) qs paused))
 
 pub runs-end :
     (play : Play) (lab : Lab) (d : ℕ) → IsSome (run_by play lab d).paused →

@@ -1,5 +1,5 @@
 -- One device more was handed the payload.
-use Rattle.std.proofs.Common.{◌≡◌, ◌∙◌, sym, ap, ◌<◌, ◌++◌, length, get_or, slice_get, Some, subst, arith}
+use Rattle.std.proofs.Common.{◌≡◌, ◌∙◌, sym, ap, ◌<◌, ◌++◌, length, get_or, take}
 use Rattle.std.specs.Prelude.{option_and_then}
 use Rattle.std.specs.Option.{option_map, option_to_list}
 use Rattle.std.proofs.lemmas.List.Sums.{fold_more}
@@ -9,50 +9,47 @@ use Rattle.board.specs.Changes.{handed}
 use Rattle.lab_state.specs.Board.{Board}
 use Rattle.lab_state.specs.Boundary.{Handed, note_item, note_by, to_member}
 use Rattle.lab_state.specs.One.{view_at, with_view}
-use Rattle.lab_state.specs.Inner.Standing.{outlines, IsDevice}
 use Rattle.lab_state.proofs.ListLemmas.{set-change}
-use Rattle.lab_state.proofs.RoundLemmas.{kept-members, kept-same, board-within, device-within}
-use Rattle.lab_state.proofs.boundary.hand_over.Given as given
+use Rattle.lab_state.proofs.RoundLemmas.{still_device, board-within, device-within}
 use Rattle.lab_state.proofs.boundary.hand_over.Goals as goal
 
 abbrev nobody : Member
 nobody = record { board = record { 0 = 0 }; dev = 0 }
 
--- the member is a device of the boards as they are by now
-is_device :
-    (g : given.Over) (c : goal.After-index-boards-member g) →
-    IsDevice (outlines c.loop-member.boards) (get_or c.args.to.now c.loop-member.member-index nobody)
-is_device g c =
-    let start : Handed = record { boards = c.args.boards.now; notes = c.args.notes.now.items } in
-    let kept = kept-members c.args.boards.now c.args.at.0 c.args.payload.now start _ (kept-same c.args.boards.now) in
-    rw (ap (λ (h : Handed). outlines h.boards) c.loop-member.invariant ∙ kept.same)
-    (c.requires c.loop-member.member-index nobody c.loop-member-test.true)
-
-found :
-    (g : given.Over) (c : goal.After-index-boards-member g) →
-    let b = (get_or c.args.to.now c.loop-member.member-index nobody).board.0 in
-    slice_get c.loop-member.boards b ≡ Some (get_or c.loop-member.boards b c.index-boards-member.result)
-found g c =
-    slice_get-get_or c.loop-member.boards _ c.index-boards-member.result
-    (board-within c.loop-member.boards _ (is_device g c))
-
 pub deliver-note-requires : goal.deliver-note-requires
 deliver-note-requires g c =
-    λ v view. device-within c.loop-member.boards _ _ v (is_device g c) (found g c) view
+    let i = c.loop-member.member-index in
+    let m = get_or c.args.to.now i nobody in
+    let start : Handed = record { boards = c.args.boards.now; notes = c.args.notes.now.items } in
+    let is =
+    still_device start c.args.at.0 c.args.payload.now (take i c.args.to.now) c.args.to.now i nobody
+    (ap (λ (h : Handed). h.boards) c.loop-member.invariant) c.requires c.loop-member-test.true in
+    let found =
+    slice_get-get_or c.loop-member.boards m.board.0 c.index-boards-member.result
+    (board-within c.loop-member.boards m is) in
+    λ v view. device-within c.loop-member.boards m (get_or c.loop-member.boards m.board.0 c.index-boards-member.result) v
+    is found view
 
 pub loop-member-preserved : goal.loop-member-preserved
 loop-member-preserved g c =
-    let m = get_or c.args.to.now c.loop-member.member-index nobody in
-    let b = m.board.0 in
-    let now : Handed = record { boards = c.loop-member.boards; notes = c.loop-member.notes.items } in
+    let i = c.loop-member.member-index in
+    let m = get_or c.args.to.now i nobody in
     let start : Handed = record { boards = c.args.boards.now; notes = c.args.notes.now.items } in
+    let is =
+    still_device start c.args.at.0 c.args.payload.now (take i c.args.to.now) c.args.to.now i nobody
+    (ap (λ (h : Handed). h.boards) c.loop-member.invariant) c.requires c.loop-member-test.true in
+    let found =
+    slice_get-get_or c.loop-member.boards m.board.0 c.index-boards-member.result
+    (board-within c.loop-member.boards m is) in
+    let now : Handed = record { boards = c.loop-member.boards; notes = c.loop-member.notes.items } in
+    let b = m.board.0 in
     let step = with_view (λ v. handed v m.dev c.args.payload.now) in
     let boards =
     set-change step c.loop-member.boards b c.index-boards-member.is
     (c.deliver-note.ensures.board ∙ ap step (sym c.index-boards-member.is)) in
-    let view = ap (option_and_then (λ (board : Board). board.view)) (found g c) in
+    let view = ap (option_and_then (λ (board : Board). board.view)) found in
     let notes =
-    c.in_ok-push.ensures {u = tt}
+    c.in_ok-push.ensures
     ∙ ap (λ note. c.loop-member.notes.items ++ option_to_list note)
     (c.note_item.ensures ∙ ap (option_map (note_item c.args.at.0 m))
     (c.deliver-note.ensures.note ∙ ap (option_and_then (note_by m.dev c.args.payload.now)) (sym view))) in

@@ -24,7 +24,7 @@ invariant_of-self-in-Ok g c h =
     c.if-has_plan.false in
     let below : c.args.board.0 < length c.self.inside.boards.items =
     omega (arith, ap (λ s. length s.lab.boards) c.self.view_is, c.requires.exists) in
-    let taken = rw c.items.ensures at (c.in_ok-devices.ensures.left {u = tt}) in
+    let taken = rw c.items.ensures at c.in_ok-devices.ensures.left in
     let v = new_board c.args.board.0 c.args.plan in
     let made = set-change (with_new v) c.self.inside.boards.items c.args.board.0 c.index_mut.ensures.value
     (c.fit.ensures ∙ ap (λ (s : State). record c.index_mut.result.now { view = Some s.view }) c.in-Ok.ensures.state) in
@@ -47,17 +47,17 @@ give_back-requires-clause-reset g c =
 pub give_back-requires-clause-room : goal.give_back-requires-clause-room
 give_back-requires-clause-room g c =
     let unspent : c.self.inside.spent ≡ false = ap (λ s. s.spent) c.self.view_is ∙ c.requires.unspent in
-    let taken = rw c.items.ensures at (c.in_ok-devices.ensures.left {u = tt}) in
+    let taken = rw c.items.ensures at c.in_ok-devices.ensures.left in
     let states =
     ap (map g.D.Device.meaning) c.in-Err.ensures.back ∙ c.in_ok-devices.ensures.devices
     ∙ ap (map first_state) c.items.ensures in
-    rw (states, kinds-first c.args.plan.kinds) (room-for c.args.plan.kinds (c.self.invariant unspent) taken)
+    rw (states, kinds-first c.args.plan.kinds) (room-for c.take.new.self c.args.plan.kinds (c.self.invariant unspent) taken)
 
 pub invariant_of-self-in-Err : goal.invariant_of-self-in-Err
 invariant_of-self-in-Err g c h =
-    let taken = rw c.items.ensures at (c.in_ok-devices.ensures.left {u = tt}) in
+    let taken = rw c.items.ensures at c.in_ok-devices.ensures.left in
     let states =
     ap (map g.D.Device.meaning) c.in-Err.ensures.back ∙ c.in_ok-devices.ensures.devices
     ∙ ap (map first_state) c.items.ensures in
     let given = rw (states, kinds-first c.args.plan.kinds) at c.give_back.ensures in
-    sound-back c.give_back.new.self c.args.plan.kinds (c.self.invariant h) taken given
+    sound-back c.take.new.self c.give_back.new.self c.args.plan.kinds (c.self.invariant h) taken given
