@@ -3,6 +3,8 @@ pub mod ListLemmas
 pub mod HubLemmas
 pub mod SpareLemmas
 pub mod SoundLemmas
+pub mod FitLemmas
+pub mod ChangeLemmas
 pub mod KeyLemmas
 pub mod RoundLemmas
 pub mod RunLemmas

@@ -1,14 +1,14 @@
 -- Lists: a change of one place, maps, and items that differ.
-use Rattle.std.proofs.Common.{◌≡◌, ◌∙◌, sym, ap, refl, Bool, true, false, not, cond, ℕ, zero, suc, ◌+◌, ◌<◌, ◌≤◌, List, [], ◌∷◌, ◌++◌, length, map, set, get_or, take, drop, fold, slice_get, unwrap_or, Option, Some, None, subst, append_assoc, arith}
+use Rattle.std.proofs.Common.{◌≡◌, ◌∙◌, sym, ap, refl, Bool, true, false, not, cond, ℕ, zero, suc, ◌+◌, ◌<◌, ◌≤◌, List, [], ◌∷◌, ◌++◌, length, map, set, get_or, take, drop, fold, slice_get, unwrap_or, Option, Some, None, subst, append_assoc, add-one, add-zero, zero-add, arith}
 use Rattle.std.specs.Prelude.{is_some, nat_lt, IsSome, option_and_then}
 use Rattle.std.proofs.lemmas.Bool.Decides.{nat_tests}
 use Rattle.std.proofs.lemmas.Cmp.{nat_list_eq_equiv}
-use Rattle.std.proofs.lemmas.List.{append-nil, take_more, length-map}
+use Rattle.std.proofs.lemmas.List.{append-nil, take_more, length-map, map-append}
 use Rattle.std.proofs.lemmas.List.Concat.{flat_map-append}
 use Rattle.std.proofs.lemmas.List.Elements.{All-map}
 use Rattle.std.proofs.lemmas.List.Sums.{fails_before_first}
 use Rattle.std.proofs.lemmas.Option.{slice_get-map, slice_get_within}
-use Rattle.std.specs.List.{flat_map, All, AllByRecursion, IsDistinct, position, position_or_len}
+use Rattle.std.specs.List.{flat_map, range_with_len, All, AllByRecursion, IsDistinct, position, position_or_len}
 use Rattle.std.specs.Option.{option_map}
 use Rattle.std.specs.Str.{bytes_eq}
 use Rattle.lab_state.specs.Change.{change_at}
@@ -185,3 +185,22 @@ named_at f xs ys i name distinct is =
     inside (position_or_len (λ x. bytes_eq (f x) name) xs) (length xs) i
     (sym (position_or_len-map f (λ x. bytes_eq x name) xs) ∙ first_at (map f xs) ys i name distinct at)
     (rw length-map at below)
+
+-- ---- numbers one after another
+
+range-more : (a n : ℕ) → range_with_len a (suc n) ≡ range_with_len a n ++ (a + n) ∷ []
+range-more a zero = ap (λ k. k ∷ []) (sym (add-zero a))
+range-more a (suc n) =
+    let last : a + 1 + n ≡ a + suc n = omega arith in
+    ap (λ rest. a ∷ rest) (range-more (a + 1) n ∙ ap (λ k. range_with_len (a + 1) n ++ k ∷ []) last)
+
+-- what is made for one number more comes last
+pub range_map_more :
+    {A : Type 0} (f : ℕ → A) (n : ℕ) {now next : List A} {item : A} → now ≡ map f (range_with_len 0 n) →
+    next ≡ now ++ item ∷ [] → item ≡ f n → next ≡ map f (range_with_len 0 (n + 1))
+range_map_more f n {item = item} so more is =
+    let whole : map f (range_with_len 0 (n + 1)) ≡ map f (range_with_len 0 n) ++ f n ∷ [] =
+    rw add-one
+    (ap (map f) (range-more 0 n) ∙ map-append f (range_with_len 0 n) ((0 + n) ∷ [])
+    ∙ ap (λ k. map f (range_with_len 0 n) ++ f k ∷ []) (zero-add n)) in
+    more ∙ ap (λ l. l ++ item ∷ []) so ∙ ap (λ y. map f (range_with_len 0 n) ++ y ∷ []) is ∙ sym whole

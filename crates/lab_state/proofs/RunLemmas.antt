@@ -1,6 +1,6 @@
 -- Rounds one after another.
-use Rattle.std.proofs.Common.{◌≡◌, ◌∙◌, sym, ap, refl, eq-eqb, Bool, true, false, ℕ, ◌+◌, ◌*◌, ◌/◌, ◌%◌, ◌<◌, List, [], ◌∷◌, ◌++◌, fold, replicate, None, append_assoc, arith}
-use Rattle.std.specs.Prelude.{if◌then◌else◌, is_some}
+use Rattle.std.proofs.Common.{◌≡◌, ◌∙◌, sym, ap, refl, eq-eqb, Bool, true, false, ℕ, ◌+◌, ◌*◌, ◌/◌, ◌%◌, ◌<◌, List, [], ◌∷◌, ◌++◌, length, take, fold, replicate, None, ◌⊎◌, inl, inr, add-one, append_assoc, arith}
+use Rattle.std.specs.Prelude.{if◌then◌else◌, is_some, IsSome, Option, Some}
 use Rattle.std.proofs.lemmas.List.{append-nil, replicate-append-replicate}
 use Rattle.std.proofs.lemmas.List.Sums.{fold-append}
 use Rattle.std.proofs.Math.Nat.{mul-add-mod_self_left, mul-add-div, div-add-mod}
@@ -16,7 +16,7 @@ use Rattle.lab_state.specs.Boundary.{boundary}
 use Rattle.lab_state.specs.Hub.{Hub}
 use Rattle.lab_state.specs.Lab.{Lab}
 use Rattle.lab_state.specs.Round.{Rounded, round_by, round}
-use Rattle.lab_state.specs.Run.{rest_of, lengths, followed_by, go_on, still, run_by, run}
+use Rattle.lab_state.specs.Run.{Play, rest_of, lengths, followed_by, go_on, still, EndsIn, run_by, run}
 use Rattle.lab_state.proofs.ListLemmas.{fold-kept}
 
 round_quantum : (lab : Lab) (q : ℕ) → (round lab q).lab.quantum ≡ lab.quantum
@@ -95,11 +95,11 @@ runs-join lab d e some whole unpaused =
 pub boundaries-agree :
     ((key : Post → Key) (items : List Post) → KeysDiffer key items → IsListing key items (listing key items)) →
     ((key : Post → Key) (items listed : List Post) → IsListing key items listed → listed ≡ listing key items) →
-    (hubs : List Hub) (boards : List Board) (posts others : List Post) → KeysDiffer post_key posts →
+    (at : ℕ) (hubs : List Hub) (boards : List Board) (posts others : List Post) → KeysDiffer post_key posts →
     IsPermutation posts others →
-    boundary hubs boards posts ≡ boundary hubs boards others
+    boundary at hubs boards posts ≡ boundary at hubs boards others
 unfolding boundary
-boundaries-agree is only hubs boards posts others differ same =
+boundaries-agree is only at hubs boards posts others differ same =
     let listed = is post_key posts differ in
     let also : IsListing post_key others (listing post_key posts) = record {
       members = IsPermutation-trans others posts (listing post_key posts)
@@ -107,3 +107,46 @@ boundaries-agree is only hubs boards posts others differ same =
       rising = listed.rising;
     } in
     rw (only post_key others (listing post_key posts) also) refl
+
+-- ---- the end of a run
+
+-- a run that has paused goes on no more
+after_pause : (play : Play) (run : Rounded) (qs : List ℕ) → is_some run.paused ≡ true → fold (go_on play) run qs ≡ run
+after_pause play run [] is = refl
+after_pause play run (q ∷ qs) is =
+    let stays : go_on play run q ≡ run = rw is refl in
+    ap (λ run. fold (go_on play) run qs) stays ∙ after_pause play run qs is
+
+none_or : (o : Option Key) → (o ≡ None) ⊎ (is_some o ≡ true)
+none_or None = inl refl
+none_or (Some key) = inr refl
+
+-- rounds that come to a pause, from a run that has none
+abbrev Ends : Play → Rounded → List ℕ → ℕ → Type 0
+Ends play run qs n =
+    (n < length qs) × ((fold (go_on play) run (take n qs)).paused ≡ None)
+    × (fold (go_on play) run qs ≡ fold (go_on play) run (take (n + 1) qs))
+
+ends :
+    (play : Play) (run : Rounded) (qs : List ℕ) → run.paused ≡ None →
+    is_some (fold (go_on play) run qs).paused ≡ true → (n : ℕ) × Ends play run qs n
+ends play run [] none some = absurd (cc)
+ends play run (q ∷ qs) none some =
+    by_pause (none_or (go_on play run q).paused) (λ still. ends play (go_on play run q) qs still some)
+  where
+    by_pause :
+        (((go_on play run q).paused ≡ None) ⊎ (is_some (go_on play run q).paused ≡ true)) →
+        ((go_on play run q).paused ≡ None → (n : ℕ) × Ends play (go_on play run q) qs n) →
+        (n : ℕ) × Ends play run (q ∷ qs) n
+    by_pause (inl still) rest =
+        let found = rest still in
+        (found.0 + 1, (omega (arith, found.1.0), rw add-one found.1.1, rw (add-one, add-one) (rw add-one at found.1.2)))
+    by_pause (inr paused) rest = (0, (omega arith, none, after_pause play (go_on play run q) qs paused))
+
+pub runs-end :
+    (play : Play) (lab : Lab) (d : ℕ) → IsSome (run_by play lab d).paused →
+    (n : ℕ) × EndsIn play lab (lengths lab.quantum d) (run_by play lab d) n
+unfolding run_by
+runs-end play lab d some =
+    let found = ends play (still lab) (lengths lab.quantum d) refl some in
+    (found.0, record { within = found.1.0; none_before = found.1.1; last = found.1.2 })

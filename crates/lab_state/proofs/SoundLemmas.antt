@@ -1,11 +1,12 @@
 -- What holds of a laboratory goes on to hold where it is changed.
-use Rattle.std.proofs.Common.{◌≡◌, ◌∙◌, sym, ap, refl, false, true, ◌||◌, ℕ, zero, suc, ◌+◌, ◌*◌, ◌<◌, ◌≤◌, List, [], ◌∷◌, ◌++◌, length, map, fold, slice_get, Option, Some, None, unwrap_or, subst, add-zero, append_assoc, arith}
-use Rattle.std.specs.Prelude.{Bool, is_some, count_by, IsSome}
+use Rattle.std.proofs.Common.{◌≡◌, ◌∙◌, sym, ap, refl, false, true, cond, ◌||◌, sum_by, ℕ, zero, suc, ◌+◌, ◌*◌, ◌<◌, ◌≤◌, List, [], ◌∷◌, ◌++◌, length, map, fold, slice_get, Option, Some, None, unwrap_or, subst, add-zero, append_assoc, arith}
+use Rattle.std.specs.Prelude.{Bool, is_some, option_and_then}
 use Rattle.std.proofs.lemmas.Cmp.{nat_list_eq_equiv}
 use Rattle.std.proofs.lemmas.List.{append-nil, map-append, length-map, length_push}
 use Rattle.std.proofs.lemmas.List.Elements.{All-append, recursion_from_All}
+use Rattle.std.proofs.lemmas.List.Sums.{sum_by-cons, sum_by-append}
 use Rattle.std.proofs.lemmas.Option.{slice_get-map}
-use Rattle.std.specs.List.{AllByRecursion, IsDistinct}
+use Rattle.std.specs.List.{AllByRecursion, IsDistinct, position}
 use Rattle.std.specs.Option.{option_map, ForSome}
 use Rattle.std.specs.Str.{bytes_eq}
 use Rattle.lab_num.specs.declared.key.Member.{Member}
@@ -14,9 +15,9 @@ use Rattle.board.specs.View.{View}
 use Rattle.lab_state.specs.Board.{Board}
 use Rattle.lab_state.specs.Change.{change_at}
 use Rattle.lab_state.specs.Hub.{Hub}
-use Rattle.lab_state.specs.Names.{is_taken, board_named, hub_named}
+use Rattle.lab_state.specs.Names.{is_taken}
 use Rattle.lab_state.specs.Lab.{Lab}
-use Rattle.lab_state.specs.One.{view_at, with_view, with_member}
+use Rattle.lab_state.specs.One.{view_at, kind_at, with_view, with_member}
 use Rattle.lab_state.specs.Inner.Spares.{Spares, full}
 use Rattle.lab_state.specs.Inner.Standing.{Outline, outline, outlines, IsStanding, AreStanding, kind_in, AreMembers, AreDevices, names_of, count_of_plans, IsEnough, IsSound}
 use Rattle.lab_state.proofs.ListLemmas.{map-change, each-change, each-weaker, each-append, distinct-insert, distinct-right, position-map, none_named, named_at}
@@ -46,7 +47,7 @@ sound-same {boards = boards} others later same standing within sound =
 
 -- ---- one board changed
 
-outline-view :
+pub outline-view :
     (f : View → View) → ((v : View) → (f v).space.plan ≡ v.space.plan) → (name : List ℕ) (o : Option View) →
     outline (record { name = name; view = option_map f o }) ≡ outline (record { name = name; view = o })
 outline-view f keeps name None = refl
@@ -117,22 +118,26 @@ board_outline None = refl
 board_outline (Some board) = refl
 
 pub board-found :
-    (lab : Lab) (b : ℕ) (name : List ℕ) → IsDistinct bytes_eq (names_of (outlines lab.boards) lab.hubs) →
-    Some name ≡ option_map (λ board. board.name) (slice_get lab.boards b) → board_named lab name ≡ Some b
-board-found lab b name names is =
-    let at = is ∙ board_outline (slice_get lab.boards b) ∙ ap (option_map (λ (o : Outline). o.name))
-    (sym (slice_get-map outline lab.boards b)) in
-    sym (position-map outline (λ o. bytes_eq o.name name) lab.boards)
-    ∙ named_at (λ (o : Outline). o.name) (outlines lab.boards) (map (λ hub. hub.name) lab.hubs) b name names at
+    (boards : List Board) (hubs : List Hub) (b : ℕ) (name : List ℕ) →
+    IsDistinct bytes_eq (names_of (outlines boards) hubs) →
+    Some name ≡ option_map (λ board. board.name) (slice_get boards b) →
+    position (λ board. bytes_eq board.name name) boards ≡ Some b
+board-found boards hubs b name names is =
+    let at = is ∙ board_outline (slice_get boards b) ∙ ap (option_map (λ (o : Outline). o.name))
+    (sym (slice_get-map outline boards b)) in
+    sym (position-map outline (λ o. bytes_eq o.name name) boards)
+    ∙ named_at (λ (o : Outline). o.name) (outlines boards) (map (λ hub. hub.name) hubs) b name names at
 
 pub hub-found :
-    (lab : Lab) (n : ℕ) (name : List ℕ) → IsDistinct bytes_eq (names_of (outlines lab.boards) lab.hubs) →
-    Some name ≡ option_map (λ hub. hub.name) (slice_get lab.hubs n) → hub_named lab name ≡ Some n
-hub-found lab n name all is =
-    let names = map (λ (hub : Hub). hub.name) lab.hubs in
+    (boards : List Board) (hubs : List Hub) (n : ℕ) (name : List ℕ) →
+    IsDistinct bytes_eq (names_of (outlines boards) hubs) →
+    Some name ≡ option_map (λ hub. hub.name) (slice_get hubs n) →
+    position (λ hub. bytes_eq hub.name name) hubs ≡ Some n
+hub-found boards hubs n name all is =
+    let names = map (λ (hub : Hub). hub.name) hubs in
     let apart : IsDistinct bytes_eq (names ++ []) =
-    rw append-nil (distinct-right bytes_eq (map (λ (o : Outline). o.name) (outlines lab.boards)) names all) in
-    named_at (λ (hub : Hub). hub.name) lab.hubs [] n name apart is
+    rw append-nil (distinct-right bytes_eq (map (λ (o : Outline). o.name) (outlines boards)) names all) in
+    named_at (λ (hub : Hub). hub.name) hubs [] n name apart is
 
 -- ---- a laboratory without boards and hubs
 
@@ -143,7 +148,7 @@ sound-new = record {
   standing = tt;
   devices = tt;
   names = tt;
-  enough = record { uarts = omega arith; finishers = omega arith };
+  enough = record { few = λ kind. omega arith; uarts = omega arith; finishers = omega arith };
   times = record { time = omega arith; least_quantum = omega arith; most_quantum = omega arith };
 }
 
@@ -173,8 +178,110 @@ found-push F none [] ys i y at = absurd (cc)
 found-push F none (x ∷ xs) ys zero y at = at
 found-push F none (x ∷ xs) ys (suc i) y at = found-push F none xs ys i y at
 
+-- a name without a plan adds no plan
+abbrev pub one_if : Outline → ℕ
+one_if board = cond (is_some board.kinds) 1 0
+
 plans-push :
-    (boards : List Outline) (name : List ℕ) →
-    count_of_plans (boards ++ record { name = name; kinds = None } ∷ []) ≡ count_of_plans boards
-plans-push [] name = refl
-plans-push (x ∷ xs) name = grind (arith, plans-push xs name)
+    (boards : List Outline) (o : Outline) → o.kinds ≡ None →
+    count_of_plans (boards ++ o ∷ []) ≡ count_of_plans boards
+plans-push boards o none =
+    let one : sum_by one_if (o ∷ []) ≡ 0 =
+    sum_by-cons one_if o [] ∙ ap (λ kinds. cond (is_some kinds) 1 0 + sum_by one_if []) none in
+    omega (arith, sum_by-append one_if boards (o ∷ []), one)
+
+-- a laboratory with a name more
+pub sound-push :
+    (lab : Lab) {spares : Spares} (name : List ℕ) → IsSound lab.boards lab.hubs spares lab.now lab.quantum →
+    length lab.boards < 16 → is_taken lab name ≡ false →
+    IsSound (lab.boards ++ record { name = name; view = None } ∷ []) lab.hubs spares lab.now lab.quantum
+sound-push lab {spares = spares} name sound room free =
+    let board : Board = record { name = name; view = None } in
+    let os = outlines lab.boards in
+    let o : Outline = record { name = name; kinds = None } in
+    let pushed : outlines (lab.boards ++ board ∷ []) ≡ os ++ o ∷ [] = map-append outline lab.boards (board ∷ []) in
+    record {
+      few_boards = omega (arith, length_push lab.boards board);
+      standing = standing-push (1000 * lab.now) 0 lab.boards name sound.standing;
+      devices =
+          rw pushed
+          (devices-kept os (os ++ o ∷ [])
+          (λ m kind is. found-push (λ o. option_and_then (λ kinds. slice_get kinds m.dev)
+          (option_and_then (λ o. o.kinds) o)) refl os (o ∷ []) m.board.0 kind is) lab.hubs sound.devices);
+      names =
+          rw (pushed, map-append, append_assoc)
+          (distinct-insert bytes_eq nat_list_eq_equiv.symm name (map (λ o. o.name) os)
+          (map (λ hub. hub.name) lab.hubs) sound.names (new_name lab name free));
+      enough = rw (pushed, plans-push os o refl) sound.enough;
+      times = sound.times;
+    }
+
+-- ---- hubs
+
+-- a laboratory with a hub more
+pub sound-hub :
+    (lab : Lab) {spares : Spares} (hub : Hub) → IsSound lab.boards lab.hubs spares lab.now lab.quantum →
+    hub.members ≡ [] → is_taken lab hub.name ≡ false →
+    IsSound lab.boards (lab.hubs ++ hub ∷ []) spares lab.now lab.quantum
+sound-hub lab hub sound none free =
+    let os = outlines lab.boards in
+    let empty : AreMembers os hub =
+    subst (AllByRecursion (λ m. kind_in os m ≡ Some hub.kind)) (sym none) tt in
+    record {
+      few_boards = sound.few_boards;
+      standing = sound.standing;
+      devices = each-append (AreMembers os) lab.hubs (hub ∷ []) sound.devices (empty, tt);
+      names =
+          rw (map-append, ← append_assoc)
+          (distinct-insert bytes_eq nat_list_eq_equiv.symm hub.name (names_of os lab.hubs) []
+          (rw append-nil sound.names) (rw append-nil (new_name lab hub.name free)));
+      enough = sound.enough;
+      times = sound.times;
+    }
+
+-- a hub of this kind stands at this number, if one does
+member-change :
+    (os : List Outline) (hubs : List Hub) (n : ℕ) (m : Member) →
+    ((hub : Hub) → slice_get hubs n ≡ Some hub → kind_in os m ≡ Some hub.kind) → AreDevices os hubs →
+    AreDevices os (change_at hubs n (with_member m))
+member-change os [] n m kind all = tt
+member-change os (hub ∷ hubs) zero m kind all = (
+  each-append (λ m. kind_in os m ≡ Some hub.kind) hub.members (m ∷ []) all.0 (kind hub refl, tt),
+  all.1,
+)
+member-change os (hub ∷ hubs) (suc n) m kind all = (all.0, member-change os hubs n m kind all.1)
+
+-- a laboratory with a member more in one of its hubs
+pub sound-member :
+    {boards : List Board} {hubs : List Hub} {spares : Spares} {now quantum : ℕ} (n : ℕ) (m : Member) →
+    IsSound boards hubs spares now quantum →
+    ((hub : Hub) → slice_get hubs n ≡ Some hub → kind_in (outlines boards) m ≡ Some hub.kind) →
+    IsSound boards (change_at hubs n (with_member m)) spares now quantum
+sound-member {boards = boards} {hubs = hubs} n m sound kind = record {
+  few_boards = sound.few_boards;
+  standing = sound.standing;
+  devices = member-change (outlines boards) hubs n m kind sound.devices;
+  names = rw (map-change (λ (hub : Hub). hub.name) (with_member m) (λ hub. refl) hubs n) sound.names;
+  enough = sound.enough;
+  times = sound.times;
+}
+
+-- the kind of a device, by boards and by outlines
+pub kind-outlines : (boards : List Board) (m : Member) → kind_in (outlines boards) m ≡ kind_at boards m
+kind-outlines boards m =
+    ap (λ o. option_and_then (λ kinds. slice_get kinds m.dev) (option_and_then (λ (o : Outline). o.kinds) o))
+    (slice_get-map outline boards m.board.0)
+    ∙ by_board (slice_get boards m.board.0)
+  where
+    by_view :
+        (o : Option View) →
+        option_and_then (λ kinds. slice_get kinds m.dev) (option_map (λ v. v.space.plan.kinds) o)
+        ≡ option_and_then (λ v. slice_get v.space.plan.kinds m.dev) o
+    by_view None = refl
+    by_view (Some v) = refl
+    by_board :
+        (o : Option Board) →
+        option_and_then (λ kinds. slice_get kinds m.dev) (option_and_then (λ (o : Outline). o.kinds) (option_map outline o))
+        ≡ option_and_then (λ v. slice_get v.space.plan.kinds m.dev) (option_and_then (λ board. board.view) o)
+    by_board None = refl
+    by_board (Some board) = by_view board.view

@@ -1,5 +1,6 @@
 -- The devices that no board has yet.
-use Rattle.std.proofs.Common.{◌≡◌, refl, ℕ, zero, suc, List, [], ◌∷◌, map, replicate, length, arith}
+use Rattle.std.proofs.Common.{◌≡◌, refl, ℕ, zero, suc, List, [], ◌∷◌, map, replicate, length, sym, ap, ◌∙◌, arith}
+use Rattle.std.proofs.lemmas.List.{length-map, length-replicate}
 use Rattle.std.specs.List.{AllByRecursion}
 
 -- items that are all seen as one thing
@@ -9,3 +10,8 @@ pub seen_as :
 seen_as f n [] b is = tt
 seen_as f zero (x ∷ xs) b is = absurd (cc)
 seen_as f (suc n) (x ∷ xs) b is = (cc, seen_as f n xs b (cc))
+
+-- a list that is seen as so many items is so long
+pub seen_long : {A B : Type 0} (f : A → B) (n : ℕ) (xs : List A) (b : B) → map f xs ≡ replicate n b → length xs ≡ n
+seen_long f n xs b is =
+    sym (length-map xs f) ∙ ap length is ∙ length-replicate n b

@@ -5,7 +5,7 @@ ghost use Rattle.std.specs.Str.{bytes_eq};
 ghost use Rattle.lab_num.specs.Name as name_spec;
 ghost use Rattle.board.specs.View.{quiet};
 ghost use Rattle.lab_state.specs.Names as names_spec;
-ghost use Rattle.lab_state.specs.One.{view_of, kind_at};
+ghost use Rattle.lab_state.specs.One.{view_of, kind_at, first_without};
 
 use crate::faults::AddFault;
 use crate::lab::Lab;
@@ -24,6 +24,13 @@ fn number_of<D: Device>(boards: &[NamedBoard<D>], name: &str) -> Option<usize>
     boards
         .iter()
         .position(|board| board.name().as_str() == name)
+}
+
+/// The number of the first board without a plan.
+fn first_bare<D: Device>(boards: &[NamedBoard<D>]) -> Option<usize>
+    ensures { result ≡ first_without boards.now }
+{
+    boards.iter().position(|board| board.is_bare())
 }
 
 fn push<D: Device>(
@@ -119,6 +126,17 @@ impl<D: Device> Lab<D> {
         self.boards[b.0 as usize].board().is_some()
     }
 
+    /// The first board that has no plan.
+    pub fn first_without_plan(&self) -> Option<BoardNo>
+        requires { self.now.spent ≡ false }
+        ensures { option_map (λ b. b.0) result ≡ first_without self.now.lab.boards }
+    {
+        match first_bare(&self.boards) {
+            Some(b) => Some(BoardNo(b as u8)),
+            None => None,
+        }
+    }
+
     /// A board. Nobody is yet to take a post or an entry of it.
     pub fn board(&self, b: BoardNo) -> &Board<D>
         requires unspent { self.now.spent ≡ false }
@@ -129,13 +147,22 @@ impl<D: Device> Lab<D> {
         self.boards[b.0 as usize].board().unwrap()
     }
 
-    /// The kind of a device.
+    /// The kind of a device. None exactly where its board has no plan or the plan has no such device.
+    pub fn device_kind(&self, member: Member) -> Option<Kind>
+        requires { self.now.spent ≡ false }
+        ensures { result ≡ kind_at self.now.lab.boards member }
+    {
+        let board = self.boards.get(member.board.0 as usize)?;
+        board.device_kind(member.dev)
+    }
+
+    /// The kind of a device that a board has.
     pub(crate) fn kind_of(&self, member: Member) -> Kind
         requires unspent { self.now.spent ≡ false }
         requires device { IsSome (kind_at self.now.lab.boards member) }
         ensures { Some result ≡ kind_at self.now.lab.boards member }
     {
         let plan = self.board(member.board).plan();
-        plan.kinds.items()[usize::from(member.dev)]
+        plan.kinds.items()[member.dev as usize]
     }
 }

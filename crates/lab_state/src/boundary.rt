@@ -64,7 +64,7 @@ fn hand_over<D: Device>(
             (record { boards = boards.old; notes = notes.old.items }) to.now)) }
 {
     for member in to {
-        let note = boards[usize::from(member.board.0)].deliver(member.dev, payload);
+        let note = boards[member.board.0 as usize].deliver(member.dev, payload);
         push(notes, &note_item(at, *member, note))?;
     }
     Ok(())

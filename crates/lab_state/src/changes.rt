@@ -21,7 +21,7 @@ impl<D: Device> Lab<D> {
           lab = changed self.old.lab b.0 (changed_by change);
         } }
     {
-        self.boards[usize::from(b.0)].change(change);
+        self.boards[b.0 as usize].change(change);
     }
 
     /// Writes bytes into the memories of a board from an address on. After an `Err` some of the
@@ -36,7 +36,7 @@ impl<D: Device> Lab<D> {
         }) }
         ensures err { OnErr result (WritesPrefix self.old self.new b.0 at bytes.now) }
     {
-        self.boards[usize::from(b.0)].copy_in(at, bytes)
+        self.boards[b.0 as usize].copy_in(at, bytes)
     }
 
     /// Puts 0 into `count` bytes of the memories of a board from an address on.

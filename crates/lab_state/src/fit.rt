@@ -32,7 +32,7 @@ impl<D: Device> Lab<D> {
         let devices = self.spares.take(self.alloc, plan.kinds.items())?;
         match Board::new(self.alloc, board, plan, devices) {
             Ok(made) => {
-                self.boards[usize::from(board.0)].fit(made);
+                self.boards[board.0 as usize].fit(made);
                 Ok(())
             }
             Err(devices) => {

@@ -94,14 +94,14 @@ impl HubList {
     }
 
     /// The name and the kind of a hub.
-    pub fn head(&self, n: u32) -> &HubName
+    pub fn head(&self, n: usize) -> &HubName
         requires { n < length self.now }
         ensures name { Some result.now.name
             ≡ option_map (λ hub. hub.name) (slice_get self.now n) }
         ensures kind { Some result.now.kind
             ≡ option_map (λ hub. hub.kind) (slice_get self.now n) }
     {
-        &self.names[n as usize]
+        &self.names[n]
     }
 
     /// The members of a hub, in order of connection.

@@ -13,6 +13,12 @@ use crate::lab::Lab;
 use dev_core::{Device, Kind};
 use lab_num::{Member, Text};
 
+fn is_same(a: Kind, b: Kind) -> bool
+    ensures { IsTrue result ↔ (a ≡ b) }
+{
+    a == b
+}
+
 impl<D: Device> Lab<D> {
     /// The number of the hub of this name.
     pub(crate) fn hub_named(&self, name: &str) -> Option<usize>
@@ -68,7 +74,7 @@ impl<D: Device> Lab<D> {
         let Some(n) = self.hub_named(hub) else {
             return Err(ConnectFault::Name);
         };
-        if self.hubs.head(n as u32).kind != self.kind_of(member) {
+        if !is_same(self.hubs.head(n).kind, self.kind_of(member)) {
             return Err(ConnectFault::Kind);
         }
         self.hubs.connect(n, member)?;
@@ -91,7 +97,7 @@ impl<D: Device> Lab<D> {
             ≡ option_map (λ hub. hub.name) (slice_get self.now.lab.hubs n) }
         ensures found { names_spec.hub_named self.now.lab result.now ≡ Some n }
     {
-        &self.hubs.head(n).name
+        &self.hubs.head(n as usize).name
     }
 
     /// The kind of devices that a hub connects.
@@ -100,7 +106,7 @@ impl<D: Device> Lab<D> {
         requires exists { n < length self.now.lab.hubs }
         ensures { Some result ≡ option_map (λ hub. hub.kind) (slice_get self.now.lab.hubs n) }
     {
-        self.hubs.head(n).kind
+        self.hubs.head(n as usize).kind
     }
 
     /// The members of a hub, in order of connection.

@@ -1,5 +1,5 @@
 //! A board under its name.
-ghost use Rattle.std.specs.Prelude.{◌≡◌, ◌+◌, ◌≤◌, ◌<◌, ◌++◌, [], length, take, ℕ, IsTrue, Some, None, OnOk, OnErr, option_and_then};
+ghost use Rattle.std.specs.Prelude.{◌≡◌, ◌+◌, ◌≤◌, ◌<◌, ◌++◌, [], length, take, ℕ, IsTrue, Some, None, OnOk, OnErr, option_and_then, is_none, slice_get};
 ghost use Rattle.std.specs.Option.{option_map, ForSome};
 ghost use Rattle.log_merge.specs.Merge.{all_entries};
 ghost use Rattle.board.specs.Changes.{with_bytes, handed, holds_each};
@@ -12,10 +12,11 @@ ghost use Rattle.lab_state.specs.Round.{granted, stepped, posts_made, entries_ma
 
 use crate::change::Change;
 use board::{Board, SlotAt, Turn};
-use dev_core::{Device, Entry, Payload, Post, Taken};
+use dev_core::{Device, Entry, Kind, Payload, Post, Taken};
 use lab_num::{Micros, NoMemory, Text};
 use log_merge::Note;
 use std::marker::Model;
+use sys_bus::BoardPlan;
 
 /// A name, and the board under it if there is one. Nobody is yet to take a post or an entry of it.
 #[derive(Drop)]
@@ -112,6 +113,13 @@ fn deliver_to<D: Device>(board: &mut Board<D>, dev: u8, payload: &Payload) -> Op
     if shown { note_of(payload, taken) } else { None }
 }
 
+/// The kind of a device of a plan, if the plan has it.
+fn kind_in(plan: &BoardPlan, dev: u8) -> Option<Kind>
+    ensures { result ≡ slice_get plan.now.kinds dev }
+{
+    plan.kinds.items().get(dev as usize).copied()
+}
+
 impl<D: Device> NamedBoard<D> {
     /// A name without a board.
     pub fn new(name: Text) -> NamedBoard<D>
@@ -138,6 +146,23 @@ impl<D: Device> NamedBoard<D> {
         ensures { option_map (λ board. board.now) result ≡ option_map quiet self.now.view }
     {
         self.board.as_ref()
+    }
+
+    /// Whether there is no board under the name.
+    pub fn is_bare(&self) -> bool
+        ensures { result ≡ is_none self.now.view }
+    {
+        self.board.is_none()
+    }
+
+    /// The kind of a device of the board, if there is one.
+    pub fn device_kind(&self, dev: u8) -> Option<Kind>
+        ensures { result ≡ option_and_then (λ v. slice_get v.space.plan.kinds dev) self.now.view }
+    {
+        match &self.board {
+            Some(board) => kind_in(board.plan(), dev),
+            None => None,
+        }
     }
 
     /// Gives the board the slots of a round, and takes what it has made. Without memory for that

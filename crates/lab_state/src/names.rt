@@ -1,5 +1,6 @@
 //! The names that the log prints.
-ghost use Rattle.std.specs.Prelude.{◌≡◌, map, false, IfOk};
+ghost use Rattle.std.specs.Prelude.{◌≡◌, map, find, false, IfOk};
+ghost use Rattle.std.specs.Option.{option_map};
 ghost use Rattle.lab_state.specs.Names as names_spec;
 
 use crate::lab::Lab;
@@ -8,23 +9,34 @@ use dev_core::Device;
 use lab_num::{NoMemory, Rows, Text};
 use log_merge::{BoardNames, Names};
 use std::alloc::Global;
-use sys_bus::{BoardPlan, NamedWhat, RegionKind};
+use sys_bus::{BoardPlan, Named, NamedWhat, RegionKind};
 
 /// Whether a name of a plan is that of the device of this number.
-fn is_device(dev: u8, what: NamedWhat) -> bool
+fn is_device(dev: usize, what: NamedWhat) -> bool
     ensures { result ≡ names_spec.is_device dev what }
 {
     match what {
-        NamedWhat::Part(RegionKind::Dev(other)) => other == dev,
+        NamedWhat::Part(RegionKind::Dev(other)) => usize::from(other) == dev,
         _ => false,
     }
 }
 
+/// The first entry of a plan's names that is that of a device.
+fn find_device(plan: &BoardPlan, dev: usize) -> Option<&Named>
+    ensures { option_map (λ named. named.now) result
+        ≡ find (λ named. names_spec.is_device dev named.what) plan.now.names }
+{
+    plan.names
+        .items()
+        .iter()
+        .find(|named| is_device(dev, named.what))
+}
+
 /// The name of a device in a plan.
-fn device_name(plan: &BoardPlan, dev: u8) -> &str
+fn device_name(plan: &BoardPlan, dev: usize) -> &str
     ensures { result.now ≡ names_spec.device_name plan.now dev }
 {
-    match plan.names.items().iter().find(|named| is_device(dev, named.what)) {
+    match find_device(plan, dev) {
         Some(named) => named.name.as_str(),
         None => "",
     }
@@ -36,7 +48,7 @@ fn device_names(alloc: Global, plan: &BoardPlan) -> Result<Rows<Text>, NoMemory>
 {
     let mut names = Vec::new(alloc);
     for dev in 0..plan.kinds.items().len() {
-        names.push(Text::of(alloc, device_name(plan, dev as u8))?)?;
+        names.push(Text::of(alloc, device_name(plan, dev))?)?;
     }
     Ok(Rows::of(names))
 }
@@ -53,16 +65,27 @@ fn board_names<D: Device>(alloc: Global, board: &NamedBoard<D>) -> Result<BoardN
     Ok(BoardNames { name, devices })
 }
 
+/// The names of boards and of their devices.
+fn all_names<D: Device>(
+    alloc: Global,
+    boards: &[NamedBoard<D>],
+) -> Result<Vec<BoardNames>, NoMemory>
+    ensures { IfOk result (λ names. names.items ≡ map names_spec.board_names boards.now) }
+{
+    let mut names = Vec::new(alloc);
+    for board in boards {
+        names.push(board_names(alloc, board)?)?;
+    }
+    Ok(names)
+}
+
 impl<D: Device> Lab<D> {
     /// The names of all boards and of their devices. A board without a plan has none of these.
     pub fn names(&self) -> Result<Names, NoMemory>
         requires { self.now.spent ≡ false }
         ensures { IfOk result (λ names. names ≡ names_spec.names self.now.lab) }
     {
-        let mut boards = Vec::new(self.alloc);
-        for board in &self.boards {
-            boards.push(board_names(self.alloc, board)?)?;
-        }
+        let boards = all_names(self.alloc, &self.boards)?;
         Ok(Names {
             boards: Rows::of(boards),
         })

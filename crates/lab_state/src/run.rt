@@ -11,6 +11,7 @@ ghost use Rattle.lab_state.specs.Run.{still, rest_of};
 use crate::faults::{LabFault, RunFault};
 use crate::lab::Lab;
 use crate::round::RoundLog;
+use board::stretches_keep_plans;
 use dev_core::Device;
 use lab_num::{BoardNo, Micros, Rows};
 
@@ -35,6 +36,7 @@ impl<D: Device> Lab<D> {
         if run.paused.is_some() {
             return Ok(run);
         }
+        stretches_keep_plans();
         let more = self.round(q)?;
         let mut lines = run.lines.into_items();
         if lines.extend_from_slice(more.lines.items()).is_err() {
@@ -85,15 +87,6 @@ impl<D: Device> Lab<D> {
             return Ok(run);
         }
         self.go_on(run, rest)
-    }
-
-    /// The first board that has no plan.
-    fn first_without_plan(&self) -> Option<BoardNo>
-        requires { self.now.spent ≡ false }
-        ensures { option_map (λ b. b.0) result ≡ first_without self.now.lab.boards }
-    {
-        let first = self.boards.iter().position(|board| board.board().is_none())?;
-        Some(BoardNo(first as u8))
     }
 
     /// Runs for `d` microseconds: rounds of one quantum each, and then a shorter one if the quanta

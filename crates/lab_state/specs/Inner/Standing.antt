@@ -8,7 +8,7 @@ use Rattle.dev_core.specs.declared.kind.Kind.{Kind}
 use Rattle.board.specs.Numbers.{Numbers}
 use Rattle.lab_state.specs.Board.{Board}
 use Rattle.lab_state.specs.Hub.{Hub}
-use Rattle.lab_state.specs.Inner.Spares.{Spares}
+use Rattle.lab_state.specs.Inner.Spares.{Spares, left_of, full}
 
 -- what no change of one board touches: its name, and the kinds of its devices if it has a plan
 pub record Outline : Type 0 where
@@ -66,6 +66,7 @@ count_of_plans boards = count_by (λ board. is_some board.kinds) boards
 
 -- devices enough for those of 16 boards that have no plan: a plan has at most 4 UARTs and one finisher
 pub record IsEnough (spares : Spares) (plans : ℕ) : Type 0 where
+  pub few : (kind : Kind) → left_of spares kind ≤ left_of full kind
   pub uarts : 64 ≤ spares.uarts + 4 * plans
   pub finishers : 16 ≤ spares.finishers + plans
 

@@ -1,11 +1,30 @@
 -- One board more has taken its slots.
-use Rattle.std.proofs.Common.{◌≡◌, ◌∙◌, sym, ap, ◌+◌, ◌<◌, ◌++◌, length, set, get_or, arith}
+use Rattle.std.proofs.Common.{◌≡◌, ◌∙◌, sym, ap, ◌+◌, ◌*◌, ◌<◌, ◌≤◌, ◌++◌, length, set, get_or, arith}
 use Rattle.std.proofs.lemmas.List.Edits.{map_over_more}
 use Rattle.log_merge.specs.Merge.{all_entries}
 use Rattle.lab_state.specs.Board.{Board}
 use Rattle.lab_state.specs.Round.{granted, stepped, posts_made, entries_made}
 use Rattle.lab_state.proofs.ListLemmas.{not_yet, flat_map_more}
+use Rattle.lab_state.proofs.RoundLemmas.{standing_next}
 use Rattle.lab_state.proofs.round.step_all.Goals as goal
+
+pub step-requires-clause-posts : goal.step-requires-clause-posts
+step-requires-clause-posts g c =
+    let step = stepped (granted c.args.from.0 (c.args.from.0 + c.args.q)) in
+    let below : c.loop-board.board-index < length c.args.boards.now = omega arith in
+    let stands =
+    standing_next step (1000 * c.args.from.0) c.args.boards.now c.loop-board.boards c.loop-board.board-index
+    c.board-item.result c.loop-board.invariant.boards below c.requires.standing in
+    λ v at. omega (arith, (stands v at).few_posts, c.requires.within)
+
+pub step-requires-clause-entries : goal.step-requires-clause-entries
+step-requires-clause-entries g c =
+    let step = stepped (granted c.args.from.0 (c.args.from.0 + c.args.q)) in
+    let below : c.loop-board.board-index < length c.args.boards.now = omega arith in
+    let stands =
+    standing_next step (1000 * c.args.from.0) c.args.boards.now c.loop-board.boards c.loop-board.board-index
+    c.board-item.result c.loop-board.invariant.boards below c.requires.standing in
+    λ v at. omega (arith, (stands v at).few_entries, c.requires.within)
 
 pub loop-board-preserved : goal.loop-board-preserved
 loop-board-preserved g c =

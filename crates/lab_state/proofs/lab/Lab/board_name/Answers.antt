@@ -14,5 +14,5 @@ returns-clause-found g c =
     let at = slice_get_read c.self.inside.boards.items _ c.args.b.0 c.index.result.now
     (λ i. length c.self.inside.boards.items) below c.index.ensures in
     rw (← c.self.view_is)
-    (board-found _ c.args.b.0 c.name.result.now (c.self.invariant unspent)
+    (board-found c.self.inside.boards.items c.self.inside.hubs c.args.b.0 c.name.result.now (c.self.invariant unspent).names
     (ap Some c.name.ensures ∙ ap (option_map (λ (board : Board). board.name)) (sym at)))

@@ -1,19 +1,21 @@
--- A member more of a hub is a device of a board.
-use Rattle.std.proofs.Common.{ap, ◌<◌, length, arith}
-use Rattle.std.proofs.lemmas.List.{length-map}
-use Rattle.lab_state.specs.Board.{Board}
-use Rattle.lab_state.specs.Inner.Standing.{outlines}
-use Rattle.lab_state.proofs.ListLemmas.{stands}
-use Rattle.lab_state.proofs.SoundLemmas.{sound-member}
+-- A member more of a hub is a device of its kind.
+use Rattle.std.proofs.Common.{◌≡◌, ◌∙◌, sym, ap, Some}
+use Rattle.std.specs.Option.{option_map}
+use Rattle.lab_state.specs.Hub.{Hub}
+use Rattle.lab_state.specs.Lab.{Seen}
+use Rattle.lab_state.specs.One.{kind_at}
+use Rattle.lab_state.proofs.SoundLemmas.{sound-member, kind-outlines}
 use Rattle.lab_state.proofs.lab.Lab.connect.Goals as goal
 
 pub invariant_of-self-2 : goal.invariant_of-self-2
 invariant_of-self-2 g c h =
-    let exists = stands (λ (board : Board). board.view) c.args.self.now.lab.boards c.args.member.board.0
-    c.requires.has_plan in
-    let below : c.args.member.board.0 < length (outlines c.self.inside.boards.items) =
-    rw length-map (omega (arith, exists, ap (λ s. length s.lab.boards) c.self.view_is)) in
+    let m = c.args.member in
+    let same = c.is_same.ensures.0 c.if-not-is_same.false in
     rw c.in_ok-connect.ensures.ok
-    (sound-member (outlines c.self.inside.boards.items) c.self.inside.hubs c.self.inside.time.0
-    c.self.inside.quantum c.in-Some.n c.args.member
-    (c.self.invariant h) below c.requires.device)
+    (sound-member c.in-Some.n m (c.self.invariant h)
+    (λ hub at. kind-outlines c.self.inside.boards.items m
+    ∙ ap (λ (s : Seen). kind_at s.lab.boards m) c.self.view_is
+    ∙ sym c.kind_of.ensures
+    ∙ ap Some (sym same)
+    ∙ c.head.ensures.kind
+    ∙ ap (option_map (λ (hub : Hub). hub.kind)) at))

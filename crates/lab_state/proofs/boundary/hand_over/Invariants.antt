@@ -1,0 +1,10 @@
+-- The devices so far were handed the payload.
+use Rattle.std.proofs.Common.{◌≡◌, take, fold}
+use Rattle.lab_state.specs.Boundary.{Handed, to_member}
+use Rattle.lab_state.proofs.boundary.hand_over.Given as goal
+
+abbrev pub invariant-loop-member : goal.invariant-loop-member
+invariant-loop-member g l =
+    ◌≡◌ {A = Handed} (record { boards = l.boards; notes = l.notes.items })
+    (fold (to_member l.at.0 l.payload) (record { boards = l.fn.boards; notes = l.fn.notes.items })
+    (take l.member-index l.to))

@@ -1,0 +1,10 @@
+-- The members of a route are devices of boards.
+use Rattle.std.proofs.Common.{◌∙◌}
+use Rattle.lab_state.specs.Inner.Standing.{outlines}
+use Rattle.lab_state.proofs.RoundLemmas.{route_devices}
+use Rattle.lab_state.proofs.boundary.hand_post.Goals as goal
+
+pub hand_over-requires : goal.hand_over-requires
+hand_over-requires g c =
+    rw (c.deref.ensures.value ∙ c.in_ok-to.ensures)
+    (route_devices (outlines c.args.boards.now) c.args.hubs.now _ c.requires)
