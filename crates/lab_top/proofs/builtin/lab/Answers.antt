@@ -1,10 +1,10 @@
 use Rattle.std.proofs.Common.{◌≡◌, false, refl}
 use Rattle.lab_state.specs.Lab.{Seen}
-use Rattle.lab_top.proofs.Equipping.{bare, both_equipped}
+use Rattle.lab_top.proofs.Equipping.{bare, both_equipped, holds_send_a, holds_echo}
 use Rattle.lab_top.proofs.builtin.lab.Goals as goal
 
 pub returns : goal.returns
-returns c =
+returns g c =
     let whole : Seen = record { lab = bare; spent = false } in
     let made : c.create_uart_hub.new.self ≡ whole =
     rw (

@@ -1,0 +1,95 @@
+//! The lines of items that come alone: of bus errors, overruns and pauses.
+ghost use Rattle.std.specs.Prelude.{◌≡◌, ◌++◌, ◌∷◌, OnOk, IsTrue, string_bytes, codes};
+ghost use Rattle.std.specs.Fmt.{decimal};
+ghost use Rattle.log_text.specs.Log as log_spec;
+ghost use Rattle.log_text.specs.Names as names_spec;
+ghost use Rattle.log_text.specs.Number as number_spec;
+
+use crate::names::{board_name, device_name};
+use crate::number::{Seconds, Word};
+use dev_core::Finish;
+use lab_num::{Member, Micros, NoMemory};
+use log_merge::{Member0, Names};
+
+/// Writes the line of a load of `width` bytes that reached nothing.
+pub fn print_read(
+    from: Member0,
+    width: u8,
+    address: u32,
+    names: &Names,
+    text: &mut String,
+) -> Result<(), NoMemory>
+    ensures { OnOk result (string_bytes text.new ≡ string_bytes text.old
+        ++ log_spec.log_line from.at (names_spec.board_name names.now from.board
+        ++ codes "/sysbus: read " ++ decimal width ++ codes " at " ++ number_spec.word address)) }
+{
+    let at = Seconds(from.at);
+    let board = board_name(names, from.board);
+    let address = Word(address);
+    writeln!(text, "[{at}] {board}/sysbus: read {width} at {address}")?;
+    Ok(())
+}
+
+/// Writes the line of a store of `width` bytes that reached nothing.
+pub fn print_write(
+    from: Member0,
+    width: u8,
+    address: u32,
+    value: u32,
+    names: &Names,
+    text: &mut String,
+) -> Result<(), NoMemory>
+    ensures { OnOk result (string_bytes text.new ≡ string_bytes text.old
+        ++ log_spec.log_line from.at (names_spec.board_name names.now from.board
+        ++ codes "/sysbus: write " ++ decimal width ++ codes " at " ++ number_spec.word address
+        ++ codes " value " ++ number_spec.word value)) }
+{
+    let at = Seconds(from.at);
+    let board = board_name(names, from.board);
+    let address = Word(address);
+    let value = Word(value);
+    writeln!(
+        text,
+        "[{at}] {board}/sysbus: write {width} at {address} value {value}"
+    )?;
+    Ok(())
+}
+
+/// Writes the line of a byte that took the place of one that was not read.
+pub fn print_overrun(
+    at: Micros,
+    member: Member,
+    names: &Names,
+    text: &mut String,
+) -> Result<(), NoMemory>
+    ensures { OnOk result (string_bytes text.new ≡ string_bytes text.old
+        ++ log_spec.log_line at (names_spec.place_name names.now member ++ codes ": overrun")) }
+{
+    let at = Seconds(at);
+    let board = board_name(names, member.board);
+    let device = device_name(names, member);
+    writeln!(text, "[{at}] {board}/{device}: overrun")?;
+    Ok(())
+}
+
+/// Writes the line of a pause.
+pub fn print_pause(
+    at: Micros,
+    member: Member,
+    finish: Finish,
+    names: &Names,
+    text: &mut String,
+) -> Result<(), NoMemory>
+    ensures { OnOk result (string_bytes text.new ≡ string_bytes text.old
+        ++ log_spec.log_line at (codes "pause " ++ names_spec.place_name names.now member
+        ++ codes ": " ++ log_spec.finish_text finish)) }
+{
+    let at = Seconds(at);
+    let board = board_name(names, member.board);
+    let device = device_name(names, member);
+    match finish {
+        Finish::Pass => writeln!(text, "[{at}] pause {board}/{device}: pass")?,
+        Finish::Fail(code) => writeln!(text, "[{at}] pause {board}/{device}: fail {code}")?,
+    }
+    Ok(())
+}

@@ -1,0 +1,16 @@
+//! The bytes of the log.
+#![tactic(auto)]
+
+mod item;
+mod laws;
+mod line;
+mod lines;
+mod names;
+mod number;
+
+pub use laws::{lines_are_whole, prints_join};
+pub use line::OpenLine;
+pub use lines::Lines;
+
+#[cfg(test)]
+mod tests;
