@@ -1,13 +1,15 @@
 -- What equipping the boards makes of them.
-use Rattle.std.proofs.Common.{◌≡◌, ◌∙◌, ℕ, zero, suc, ◌<◌, true, List, [], ◌∷◌, length, Option, None, Some, IsSome, codes, refl, arith}
+use Rattle.std.proofs.Common.{◌≡◌, ◌∙◌, sym, ℕ, zero, suc, ◌<◌, true, List, [], ◌∷◌, length, Option, None, Some, IsSome, codes, refl, arith}
 use Rattle.std.specs.Prelude.{slice_get, option_and_then}
+use Rattle.std.proofs.lemmas.Option.{same_Some}
 use Rattle.std.specs.Option.{option_map}
 use Rattle.lab_num.specs.declared.key.Member.{Member}
 use Rattle.dev_core.specs.declared.kind.Kind.TheVariants.{Uart}
+use Rattle.sys_bus.specs.declared.plan.BoardPlan.{BoardPlan}
 use Rattle.sys_bus.specs.Plan.{IsValid}
-use Rattle.board.specs.Changes.{holds_each}
+use Rattle.board.specs.Changes.{holds_each, may_be_shown}
 use Rattle.board.specs.Early.{IsEarly}
-use Rattle.board.specs.New.{new_space}
+use Rattle.board.specs.New.{new_board, new_space}
 use Rattle.board.specs.View.{View}
 use Rattle.lab_state.specs.Board.{Board}
 use Rattle.lab_state.specs.Change.{change_at}
@@ -66,6 +68,19 @@ pub holds_echo : holds_each (new_space usual_plan) start 28 ≡ true
 unfolding usual_plan
 holds_echo = refl
 
+-- its first device is a UART, which may be shown
+pub usual_device : (n : ℕ) → 0 < length (new_board n usual_plan).space.devices
+unfolding usual_plan
+usual_device n = omega arith
+
+pub usual_uart : (n : ℕ) → may_be_shown (new_board n usual_plan) 0 ≡ true
+unfolding usual_plan
+usual_uart n = refl
+
+pub usual_kind : IsSome (slice_get usual_plan.kinds 0)
+unfolding usual_plan
+usual_kind = refl
+
 -- what stands under the number of a board that was changed
 view-change_at :
     (boards : List Board) (b : ℕ) (f : View → View) →
@@ -75,8 +90,10 @@ view-change_at [] b f = refl
 view-change_at (board ∷ boards) zero f = refl
 view-change_at (board ∷ boards) (suc b) f = view-change_at boards b f
 
-pub view-changed : (lab : Lab) (b : ℕ) (f : View → View) → view_of (changed lab b f) b ≡ option_map f (view_of lab b)
-view-changed lab b f = view-change_at lab.boards b f
+pub view-changed :
+    (old new : Lab) (b : ℕ) (f : View → View) (v : View) → new ≡ changed old b f → view_of old b ≡ Some v →
+    view_of new b ≡ Some (f v)
+view-changed old new b f v is at = rw (is, view-change_at old.boards b f, at) refl
 
 -- and of one that was made
 view-fit_at :
@@ -87,10 +104,21 @@ view-fit_at [] b v there = absurd (omega (arith, there))
 view-fit_at (board ∷ boards) zero v there = refl
 view-fit_at (board ∷ boards) (suc b) v there = view-fit_at boards b v (omega (arith, there))
 
-pub view-fitted : (lab : Lab) (b : ℕ) (v : View) → b < length lab.boards → view_of (fitted lab b v) b ≡ Some v
-view-fitted lab b v there = view-fit_at lab.boards b v there
+pub view-fitted :
+    (old new : Lab) (b : ℕ) (plan : BoardPlan) → b < length old.boards → plan ≡ usual_plan →
+    new ≡ fitted old b (new_board b plan) → view_of new b ≡ Some (new_board b usual_plan)
+view-fitted old new b plan there usual is = rw (is, usual) (view-fit_at old.boards b (new_board b usual_plan) there)
 
 -- a hub that gets a member changes no board
-pub view-connected : (lab : Lab) (hub : Option ℕ) (m : Member) (b : ℕ) → view_of (connected_to lab hub m) b ≡ view_of lab b
-view-connected lab None m b = refl
-view-connected lab (Some hub) m b = refl
+same-connected : (lab : Lab) (hub : Option ℕ) (m : Member) (b : ℕ) → view_of (connected_to lab hub m) b ≡ view_of lab b
+same-connected lab None m b = refl
+same-connected lab (Some hub) m b = refl
+
+pub view-connected :
+    (old new : Lab) (hub : Option ℕ) (m : Member) (b : ℕ) (v : View) → new ≡ connected_to old hub m →
+    view_of old b ≡ Some v → view_of new b ≡ Some v
+view-connected old new hub m b v is at = rw (is, same-connected old hub m b) at
+
+-- what holds of the view that stands there
+pub of_view : (P : View → Type 0) (o : Option View) (v : View) → o ≡ Some v → P v → (x : View) → o ≡ Some x → P x
+of_view P o v at holds x same = rw (← same_Some v x (sym at ∙ same)) holds

@@ -1,3 +1,5 @@
+pub mod Lines
+pub mod RunLemmas
 pub mod ScriptLemmas
 pub mod Pieces
 pub mod Courses

@@ -204,11 +204,7 @@ fn run_script<D: Device, K: Sink>(
 
 /// Takes the commands of a script to its end or the first fault, and writes what each prints before
 /// the next is taken.
-fn take_commands<D: Device, K: Sink>(
-    alloc: Global,
-    session: &mut Session<D>,
-    out: &mut K,
-) -> Status
+fn take_commands<D: Device, K: Sink>(alloc: Global, session: &mut Session<D>, out: &mut K) -> Status
     requires { session.old.spent ≡ false }
     ensures course { (held : Held) (log : Option (List (List ℕ))) →
         Course (rest_of run held session.old.state) result

@@ -3,6 +3,12 @@ use Rattle.lab_state.specs.Lab.{Seen}
 use Rattle.lab_top.proofs.Equipping.{bare, both_equipped, holds_send_a, holds_echo}
 use Rattle.lab_top.proofs.builtin.lab.Goals as goal
 
+pub equip-requires-clause-holds : goal.equip-requires-clause-holds
+equip-requires-clause-holds g c = holds_send_a
+
+pub equip-requires-2-clause-holds : goal.equip-requires-2-clause-holds
+equip-requires-2-clause-holds g c = holds_echo
+
 pub returns : goal.returns
 returns g c =
     let whole : Seen = record { lab = bare; spent = false } in

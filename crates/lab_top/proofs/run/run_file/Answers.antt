@@ -1,4 +1,6 @@
 use Rattle.std.proofs.Common.{refl}
+use Rattle.lab_top.proofs.Pieces.{grown-nil}
+use Rattle.lab_top.proofs.Courses.{course_memory}
 use Rattle.lab_top.proofs.Openings.{told, opening_runs, opening_large, opening_unread}
 use Rattle.lab_top.proofs.run.run_file.Goals as goal
 
@@ -15,3 +17,7 @@ returns-in-TooLarge-clause-course g c = λ held is.
 
 pub returns-in-Failed-clause-course : goal.returns-in-Failed-clause-course
 returns-in-Failed-clause-course g c = λ held is. opening_unread held _ _ _ _ c.in-Failed.ensures.asked
+
+pub returns-in-Memory-clause-course : goal.returns-in-Memory-clause-course
+returns-in-Memory-clause-course g c = λ held is.
+    rw (c.in-Memory.ensures.asked, grown-nil (g.F.Files.asked c.args.files.now)) (course_memory _ _ _)

@@ -7,7 +7,7 @@ pub returns-in-Err-clause-course : goal.returns-in-Err-clause-course
 returns-in-Err-clause-course g c = λ held log.
     c.commands.invariant.course held c.from.result (g.K.Sink.written c.write_whole.new.out) log
     (rw c.from.ensures
-    (course_breaks _ _ _ (c.in-Text.ensures.step held) (rw (← c.as_bytes.ensures.value) c.in-Err.ensures.part)))
+    (course_breaks _ _ _ (c.in-Text.ensures.step held) (rw (← c.deref.ensures.value) c.in-Err.ensures.part)))
 
 pub returns-in-End-clause-course : goal.returns-in-End-clause-course
 returns-in-End-clause-course g c = λ held log.
@@ -27,7 +27,7 @@ pub commands-preserved : goal.commands-preserved
 commands-preserved g c = record {
   course = λ held status out log going.
       c.commands.invariant.course held status out log
-      (course_says _ _ _ (c.in-Text.ensures.step held) (rw (← c.as_bytes.ensures.value)
+      (course_says _ _ _ (c.in-Text.ensures.step held) (rw (← c.deref.ensures.value)
       c.in_default.ensures.whole) going);
   unspent = c.in-Text.ensures.taken.2;
   faults = omega (arith, c.commands.invariant.faults, c.write_whole.ensures.faults);
