@@ -1,9 +1,10 @@
 -- The first source of the greatest priority: that there is one, and what it says of the output and of a claim.
-use Rattle.std.proofs.Common.{◌≡◌, ℕ, zero, suc, ◌+◌, ◌<◌, ◌≤◌, ◌&&◌, ◌||◌, not, nat_lt, nat_le, Bool, true, false, IsTrue, find, Some, None, inl, inr, refl, ap, sym, ◌∙◌, arith, rules, slice_index, add-one}
+use Rattle.std.proofs.Common.{◌≡◌, ℕ, zero, suc, ◌+◌, ◌<◌, ◌≤◌, ◌&&◌, ◌||◌, not, nat_lt, nat_le, Bool, true, false, List, Some, None, inl, inr, refl, ap, sym, ◌∙◌, arith, slice_index}
 use Rattle.std.proofs.lemmas.Bool.{cases_lt, cases_Bool, and_parts, both_ways, leb-true}
 use Rattle.std.proofs.lemmas.Bool.Decides.{nat_tests}
+use Rattle.std.specs.List.{list_any}
 use Rattle.plic.specs.declared.state.PlicState.{PlicState}
-use Rattle.plic.specs.Sources.{is_source, sources}
+use Rattle.plic.specs.Sources.{has, is_source, sources}
 use Rattle.plic.specs.Claim.{is_ready, interrupts, is_claimable, is_highest, priority, threshold, claim, output}
 use Rattle.plic.specs.Laws.{IsChosen, ClaimsTheChosen, ClaimsWhatIsThere, OutputsApart}
 use Rattle.plic.specs.Inner.Best.{IsBest}
@@ -82,17 +83,18 @@ best_of : (p : PlicState) (context n : ℕ) → Best p context (n + 1)
 best_of p context zero = record { source = 0; highest = 0; best = best_none p context }
 best_of p context (suc n) =
     let so_far : Best p context (n + 1) = best_of p context n in
-    rw add-one (elim (cases_Bool (is_ready p context (n + 1))) [
+    let next : suc n + 1 ≡ n + 1 + 1 = omega arith in
+    rw next (elim (cases_Bool (is_ready p context (n + 1))) [
       | inl ready ↦ elim (cases_lt so_far.highest (priority p (n + 1))) [
         | inl above ↦ record {
             source = n + 1;
             highest = priority p (n + 1);
             best = best_taken p context (n + 1) so_far.source so_far.highest (omega arith) so_far.best ready above;
           }
-        | inr no ↦ record {
+        | inr not_above ↦ record {
             source = so_far.source;
             highest = so_far.highest;
-            best = best_kept p context (n + 1) so_far.source so_far.highest so_far.best (λ r. no);
+            best = best_kept p context (n + 1) so_far.source so_far.highest so_far.best (λ r. not_above);
           }
       ]
       | inr not_ready ↦ record {
@@ -183,7 +185,7 @@ chosen-best n p context source highest best positive =
       there = grind (arith, nat_tests);
       pending = (and_parts _ _ (best.ready positive)).0;
       enabled = (and_parts _ _ (best.ready positive)).1;
-      priority = omega arith;
+      above_zero = omega arith;
       greatest = λ s there can.
           let within : (nat_le 1 s ≡ true) × (nat_le s n ≡ true) = and_parts _ _ there in
           let from : 1 ≤ s = leb-true 1 s within.0 in
@@ -230,9 +232,17 @@ none_is_claimable n p context source nothing there =
     ])
 
 -- the output is by a context's own enables and threshold
+output_by : ℕ → ℕ → ℕ → List ℕ → ℕ → Bool
+output_by n pending enabled priorities threshold =
+    list_any (λ s. has pending s && has enabled s && nat_lt threshold (slice_index priorities s)) (sources n)
+
 pub output_is_own : OutputsApart
-unfolding output
-output_is_own n p q context pending priorities enabled threshold = rw (pending, priorities, enabled, threshold) refl
+unfolding output output_by
+output_is_own n p q context pending priorities enabled level =
+    ap (λ (x : ℕ). output_by n x (slice_index p.enables context) p.priorities (threshold p context)) pending
+    ∙ ap (λ (x : ℕ). output_by n q.pending x p.priorities (threshold p context)) enabled
+    ∙ ap (λ (x : List ℕ). output_by n q.pending (slice_index q.enables context) x (threshold p context)) priorities
+    ∙ ap (λ (x : ℕ). output_by n q.pending (slice_index q.enables context) q.priorities x) level
 
 -- what the best says of a claim and of the output
 pub ruleset best_lemmas = (output-best, claim-best)

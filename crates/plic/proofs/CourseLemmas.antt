@@ -23,18 +23,17 @@ handed_on true false = refl
 handed_on false shut = refl
 
 -- nothing is raised by the same lines once they are sampled
-raised-again : (n : ℕ) (p : PlicState) (lines s : ℕ) → s < 128 → has (raised n (sample n p lines) lines) s ≡ false
-unfolding sample
-raised-again n p lines s h =
-    rw (has-raised n (sample n p lines) lines s h, has-union p.shut (raised n p lines) s h, has-raised n p lines s h)
-    (handed_on (is_source n s && has lines s) (has p.shut s))
+raised-again : (n shut lines s : ℕ) → s < 128 → has (raised n (union shut (raised n shut lines)) lines) s ≡ false
+raised-again n shut lines s h =
+    rw (has-raised n (union shut (raised n shut lines)) lines s h, has-union shut (raised n shut lines) s h, has-raised n shut lines s h)
+    (handed_on (is_source n s && has lines s) (has shut s))
 
 pub samples_once : SamplesOnce
 unfolding sample
 samples_once n p lines =
     ap₂ (λ (a b : ℕ). record p { pending = a; shut = b })
-    (union-stays (union p.pending (raised n p lines)) _ (union-lt p.pending (raised n p lines)) (raised-again n p lines))
-    (union-stays (union p.shut (raised n p lines)) _ (union-lt p.shut (raised n p lines)) (raised-again n p lines))
+    (union-stays (union p.pending (raised n p.shut lines)) _ (union-lt p.pending (raised n p.shut lines)) (raised-again n p.shut lines))
+    (union-stays (union p.shut (raised n p.shut lines)) _ (union-lt p.shut (raised n p.shut lines)) (raised-again n p.shut lines))
 
 -- ---- a source that was claimed and is not completed
 
@@ -45,9 +44,9 @@ record Waits (p : PlicState) (source : ℕ) : Type 0 where
 waits-sample : (n : ℕ) (p : PlicState) (lines source : ℕ) → source < 128 → Waits p source → Waits (sample n p lines) source
 unfolding sample
 waits-sample n p lines source h waits = record {
-  shut = rw (has-union p.shut (raised n p lines) source h, waits.shut) refl;
+  shut = rw (has-union p.shut (raised n p.shut lines) source h, waits.shut) refl;
   pending =
-      rw (has-union p.pending (raised n p lines) source h, waits.pending, has-raised n p lines source h, waits.shut)
+      rw (has-union p.pending (raised n p.shut lines) source h, waits.pending, has-raised n p.shut lines source h, waits.shut)
       (and_right (is_source n source && has lines source) false refl);
 }
 

@@ -1,11 +1,10 @@
 -- Sets as numbers of 128 bits: what is in a set that a test gives, and in one that bits give.
-use Rattle.std.proofs.Common.{◌≡◌, ℕ, zero, suc, ◌+◌, ◌-◌, ◌*◌, ◌/◌, ◌%◌, ◌^◌, ◌<◌, ◌≤◌, min, max, ◌==◌, ◌&&◌, ◌||◌, not, nat_le, Bool, true, false, if◌then◌else◌, bit_and, bit_or, inl, inr, refl, sym, ap, ◌∙◌, arith, pow-suc, pow_pos, add-one, add-zero, mod-lt, lt_of_le_of_lt}
+use Rattle.std.proofs.Common.{◌≡◌, ℕ, zero, suc, ◌+◌, ◌-◌, ◌*◌, ◌/◌, ◌%◌, ◌^◌, ◌<◌, ◌≤◌, min, max, ◌==◌, ◌&&◌, ◌||◌, not, nat_le, Bool, true, false, if◌then◌else◌, bit_and, bit_or, inl, inr, refl, sym, ap, ◌∙◌, arith, pow-suc, pow_pos, add-one, add-zero, lt_of_le_of_lt}
 use Rattle.std.specs.Int.{bit_at, bit_not, w128}
 use Rattle.std.proofs.lemmas.Bool.{cases_lt, cases_eq, cases_Bool, eq-eqb, ne_eqb, le-leb, lt-leb, both_ways, and_parts, and_right, or_cases}
 use Rattle.std.proofs.Math.Nat.{pow-le-pow_right}
-use Rattle.std.proofs.lemmas.Nat.{or_lt, and_le_l, and_le_r, one_shl, shl_whole}
+use Rattle.std.proofs.lemmas.Nat.{or_lt, and_le_l, and_le_r, one_shl, shl_whole, mod_below}
 use Rattle.std.proofs.lemmas.Nat.Bits.{bit_at-zero, bit_at-lt, bit_at_above, bit_at_and, bit_at_or, bit_at_not, bit_at_ones, bit_at_cat_low, bit_at_cat_high, bit_at_clear_same, bit_at_clear_other, bit_at_mask_inside, bit_at_mask_below, bit_at_mask_above, same_from_bits_below}
-use Rattle.plic.specs.declared.state.PlicState.{PlicState}
 use Rattle.plic.specs.Sources.{has, set_below, set_of, is_source, all_sources, union, without, with_word, AreSources}
 use Rattle.plic.specs.Gateway.{is_raised, raised}
 
@@ -21,7 +20,9 @@ is_one-bit true = refl
 is_one-bit false = refl
 
 is_one-min : (x y : ℕ) → x < 2 → y < 2 → (min x y == 1) ≡ ((x == 1) && (y == 1))
-is_one-min zero y h k = refl
+is_one-min zero zero h k = refl
+is_one-min zero (suc zero) h k = refl
+is_one-min zero (suc (suc n)) h k = absurd (omega arith)
 is_one-min (suc zero) zero h k = refl
 is_one-min (suc zero) (suc zero) h k = refl
 is_one-min (suc zero) (suc (suc n)) h k = absurd (omega arith)
@@ -193,20 +194,20 @@ pub has-without : (set source s : ℕ) → s < 128 → has (without set source) 
 unfolding without
 has-without set source s h = has-set_of _ s h
 
-pub raised-and : (n : ℕ) (p : PlicState) (lines : ℕ) → lines < 2 ^ 128 → p.shut < 2 ^ 128 →
-    bit_and (bit_and (all_sources n) lines) (bit_not w128 p.shut) ≡ raised n p lines
+pub raised-and : (n shut lines : ℕ) → lines < 2 ^ 128 → shut < 2 ^ 128 →
+    bit_and (bit_and (all_sources n) lines) (bit_not w128 shut) ≡ raised n shut lines
 unfolding raised
-raised-and n p lines h k =
-    set_of-same (bit_and (bit_and (all_sources n) lines) (bit_not w128 p.shut)) (is_raised n p lines)
-    (lt_of_le_of_lt (and_le_l (bit_and (all_sources n) lines) (bit_not w128 p.shut))
+raised-and n shut lines h k =
+    set_of-same (bit_and (bit_and (all_sources n) lines) (bit_not w128 shut)) (is_raised n shut lines)
+    (lt_of_le_of_lt (and_le_l (bit_and (all_sources n) lines) (bit_not w128 shut))
     (lt_of_le_of_lt (and_le_l (all_sources n) lines) (all_sources-lt n)))
     (λ s below.
-    rw (has-and (bit_and (all_sources n) lines) (bit_not w128 p.shut) s, has-and (all_sources n) lines s,
-    has-all_sources n s below, has-not p.shut s k below) refl)
+    rw (has-and (bit_and (all_sources n) lines) (bit_not w128 shut) s, has-and (all_sources n) lines s,
+    has-all_sources n s below, has-not shut s k below) refl)
 
-pub has-raised : (n : ℕ) (p : PlicState) (lines s : ℕ) → s < 128 → has (raised n p lines) s ≡ is_raised n p lines s
+pub has-raised : (n shut lines s : ℕ) → s < 128 → has (raised n shut lines) s ≡ is_raised n shut lines s
 unfolding raised
-has-raised n p lines s h = has-set_of (is_raised n p lines) s h
+has-raised n shut lines s h = has-set_of (is_raised n shut lines) s h
 
 -- ---- a word of a set
 
@@ -253,7 +254,7 @@ with_word-or n set k word h fits within =
     (λ s below.
     rw (has-and (all_sources n) (bit_or (bit_and set (bit_not w128 mask)) value) s, has-all_sources n s below,
     has-or (bit_and set (bit_not w128 mask)) value s, has-and set (bit_not w128 mask) s,
-    has-not mask s (mod-lt (pow_pos 128)) below, has-word_at 0xFFFFFFFF k s (omega arith) within,
+    has-not mask s (mod_below (0xFFFFFFFF * 2 ^ (32 * k)) (2 ^ 128) (pow_pos 128)) below, has-word_at 0xFFFFFFFF k s (omega arith) within,
     has-word_at word k s fits within, has-ones (s % 32) (omega arith))
     (ap (λ (t : Bool). is_source n s && t) (replaced (has set s) (s / 32 == k) (has word (s % 32)))))
 
@@ -285,9 +286,9 @@ pub AreSources-with_word : (n set k word : ℕ) → AreSources n (with_word n se
 unfolding with_word
 AreSources-with_word n set k word = AreSources-set_of n _ (λ s t. (and_parts _ _ t).0)
 
-pub AreSources-raised : (n : ℕ) (p : PlicState) (lines : ℕ) → AreSources n (raised n p lines)
+pub AreSources-raised : (n shut lines : ℕ) → AreSources n (raised n shut lines)
 unfolding raised
-AreSources-raised n p lines = AreSources-set_of n _ (λ s t. (and_parts _ _ (and_parts _ _ t).0).0)
+AreSources-raised n shut lines = AreSources-set_of n _ (λ s t. (and_parts _ _ (and_parts _ _ t).0).0)
 
 -- the test of it
 pub AreSources-from_and : (n set : ℕ) → bit_and set (all_sources n) ≡ set → AreSources n set

@@ -39,8 +39,8 @@ IsPlicState-reset n k = record {
 pub IsPlicState-sample : (n k : ℕ) (p : PlicState) (lines : ℕ) → IsPlicState n k p → IsPlicState n k (sample n p lines)
 unfolding sample
 IsPlicState-sample n k p lines valid = record {
-  pending = AreSources-union n p.pending (raised n p lines) valid.pending (AreSources-raised n p lines);
-  shut = AreSources-union n p.shut (raised n p lines) valid.shut (AreSources-raised n p lines);
+  pending = AreSources-union n p.pending (raised n p.shut lines) valid.pending (AreSources-raised n p.shut lines);
+  shut = AreSources-union n p.shut (raised n p.shut lines) valid.shut (AreSources-raised n p.shut lines);
   priorities = valid.priorities;
   enables = valid.enables;
   thresholds = valid.thresholds;

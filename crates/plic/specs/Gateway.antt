@@ -5,16 +5,16 @@ use Rattle.plic.specs.declared.state.PlicState.{PlicState}
 use Rattle.plic.specs.Sources.{has, set_of, is_source, union, without}
 
 -- whether a gateway hands a request on: its source's line is up, and it is open
-abbrev pub is_raised : ℕ → PlicState → ℕ → ℕ → Bool
-is_raised n p lines source = is_source n source && has lines source && not (has p.shut source)
+abbrev pub is_raised : ℕ → ℕ → ℕ → ℕ → Bool
+is_raised n shut lines source = is_source n source && has lines source && not (has shut source)
 
-unfoldable pub raised : ℕ → PlicState → ℕ → ℕ
-raised n p lines = set_of (is_raised n p lines)
+unfoldable pub raised : ℕ → ℕ → ℕ → ℕ
+raised n shut lines = set_of (is_raised n shut lines)
 
 -- the lines are sampled: each request that a gateway hands on makes its source pending, and shuts the gateway
 unfoldable pub sample : ℕ → PlicState → ℕ → PlicState
 sample n p lines =
-    record p { pending = union p.pending (raised n p lines); shut = union p.shut (raised n p lines) }
+    record p { pending = union p.pending (raised n p.shut lines); shut = union p.shut (raised n p.shut lines) }
 
 -- whether a source is enabled in a context ("Interrupt Enables")
 abbrev pub is_enabled : PlicState → ℕ → ℕ → Bool

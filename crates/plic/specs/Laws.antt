@@ -26,7 +26,7 @@ pub record IsChosen (n : ℕ) (p : PlicState) (context source : ℕ) : Type 0 wh
   pub there : IsTrue (is_source n source)
   pub pending : IsTrue (has p.pending source)
   pub enabled : IsTrue (is_enabled p context source)
-  pub priority : 0 < priority p source
+  pub above_zero : 0 < priority p source
   pub greatest : (s : ℕ) → IsTrue (is_source n s) → IsTrue (is_claimable p context s) → priority p s ≤ priority p source
   pub least : (s : ℕ) → IsTrue (is_source n s) → IsTrue (is_claimable p context s) → priority p s ≡ priority p source → source ≤ s
 

@@ -16,3 +16,6 @@ pub use laws::{
 pub use plic::Plic;
 pub use state::PlicState;
 
+
+#[cfg(test)]
+mod tests;

@@ -64,7 +64,7 @@ impl Plic {
     pub fn sample(&mut self, lines: u128)
         ensures { self.new ≡ record self.old { state = sample self.old.sources self.old.state lines } }
     {
-        let raised = raised(&self.state, u32::from(self.sources), lines);
+        let raised = raised(u32::from(self.sources), self.state.shut, lines);
         self.state.pending = union(self.state.pending, raised);
         self.state.shut = union(self.state.shut, raised);
     }

@@ -3,8 +3,6 @@ ghost use Rattle.std.specs.Prelude.{◌≡◌, ◌<◌, IsTrue};
 ghost use Rattle.plic.specs.Gateway.{raised};
 ghost use Rattle.plic.specs.Sources.{all_sources, has, union, with_word, without, word_of};
 
-use crate::state::PlicState;
-
 /// The sources of a word of a register.
 const WORD: u128 = 0xFFFF_FFFF;
 
@@ -57,9 +55,9 @@ pub fn with_word(n: u32, set: u128, k: u32, word: u32) -> u128
 }
 
 /// The sources 1 to n whose lines are up while their gateways are open.
-pub fn raised(state: &PlicState, n: u32, lines: u128) -> u128
+pub fn raised(n: u32, shut: u128, lines: u128) -> u128
     requires { n < 128 }
-    ensures { result ≡ raised n state.now lines }
+    ensures { result ≡ raised n shut lines }
 {
-    all_sources(n) & lines & !state.shut
+    all_sources(n) & lines & !shut
 }
