@@ -1,6 +1,6 @@
 //! The source that a context would claim.
 ghost use Rattle.std.specs.Prelude.{◌≡◌, ◌+◌, ◌<◌, ◌≤◌};
-ghost use Rattle.plic.specs.Claim.{is_ready};
+ghost use Rattle.plic.specs.Claim.{claim, is_ready};
 ghost use Rattle.plic.specs.Inner.Best.{IsBest};
 
 use crate::sources::has;
@@ -59,4 +59,15 @@ pub fn best_ready(state: &PlicState, n: u8, context: usize) -> Best
         best = best.or(state, context, source);
     }
     best
+}
+
+/// The source that a context would claim, or 0 where there is none.
+#[tactic(auto, using(crate::proofs::BestLemmas::best_lemmas))]
+pub fn source_to_claim(state: &PlicState, n: u8, context: usize) -> u8
+    requires sources { n < 128 }
+    requires context { context < 15 }
+    ensures source { result ≡ claim n state.now context }
+    ensures within { result < 128 }
+{
+    best_ready(state, n, context).source
 }

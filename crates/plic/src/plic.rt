@@ -1,7 +1,7 @@
 //! The PLIC and its registers.
 ghost use Rattle.std.specs.Prelude.{◌≡◌, ◌<◌, ◌≤◌, ◌↔◌, if◌then◌else◌, IsTrue};
 
-use crate::best::best_ready;
+use crate::best::{best_ready, source_to_claim};
 use crate::register::{Register, reached};
 use crate::sources::{has, raised, union, with_word, without, word_of};
 use crate::state::PlicState;
@@ -45,6 +45,7 @@ impl Plic {
 
     /// A PLIC in its reset state, with the sources 1 to `sources` and the contexts below
     /// `contexts`.
+    #[tactic(auto, using(crate::proofs::ValidLemmas::valid_lemmas))]
     pub fn new(sources: u8, contexts: u8) -> Plic
         requires a_source { 1 ≤ sources }
         requires sources { sources ≤ 127 }
@@ -60,7 +61,7 @@ impl Plic {
     }
 
     /// Samples the lines of the sources; bit `s` is the line of source `s`.
-    #[tactic(auto, unfolding(crate::specs::Gateway::sample))]
+    #[tactic(auto, unfolding(crate::specs::Gateway::sample), using(crate::proofs::ValidLemmas::valid_lemmas))]
     pub fn sample(&mut self, lines: u128)
         ensures { self.new ≡ record self.old { state = sample self.old.sources self.old.state lines } }
     {
@@ -80,13 +81,13 @@ impl Plic {
     }
 
     /// Claims a source for a context: its number, or 0 where there is none to claim.
-    #[tactic(auto, unfolding(crate::specs::Claim::after_claim), using(crate::proofs::BestLemmas::best_lemmas))]
+    #[tactic(auto, unfolding(crate::specs::Claim::after_claim), using(crate::proofs::ValidLemmas::valid_lemmas))]
     pub fn claim(&mut self, context: u8) -> u8
         requires { context < self.old.contexts }
         ensures source { result ≡ claim self.old.sources self.old.state context }
         ensures after { self.new ≡ record self.old { state = after_claim self.old.sources self.old.state context } }
     {
-        let source = best_ready(&self.state, self.sources, usize::from(context)).source;
+        let source = source_to_claim(&self.state, self.sources, usize::from(context));
         if source != 0 {
             self.state.pending = without(self.state.pending, u32::from(source));
         }
@@ -95,14 +96,21 @@ impl Plic {
 
     /// Completes a source for a context. It does nothing where the number is not that of a source
     /// that is enabled in the context.
-    #[tactic(auto, unfolding(crate::specs::Gateway::complete))]
     pub fn complete(&mut self, context: u8, source: u8)
         requires { context < self.old.contexts }
         ensures { self.new ≡ record self.old { state = complete self.old.state context source } }
     {
-        let source = u32::from(source);
-        if has(self.state.enables[usize::from(context)], source) {
-            self.state.shut = without(self.state.shut, source);
+        self.complete_number(context, u32::from(source));
+    }
+
+    /// The same for any number that a store brings.
+    #[tactic(auto, unfolding(crate::specs::Gateway::complete), using(crate::proofs::ValidLemmas::valid_lemmas))]
+    fn complete_number(&mut self, context: u8, number: u32)
+        requires { context < self.old.contexts }
+        ensures { self.new ≡ record self.old { state = complete self.old.state context number } }
+    {
+        if has(self.state.enables[usize::from(context)], number) {
+            self.state.shut = without(self.state.shut, number);
         }
     }
 
@@ -112,15 +120,15 @@ impl Plic {
         ensures after { self.new ≡ record self.old { state = loaded self.old.sources self.old.state register } }
     {
         match register {
-            Register::Priority { source } => u32::from(self.state.priorities[source as usize]),
-            Register::Pending { word } => word_of(self.state.pending, word),
+            Register::Priority { source } => u32::from(self.state.priorities[usize::from(source)]),
+            Register::Pending { word } => word_of(self.state.pending, u32::from(word)),
             Register::Enable { context, word } => {
-                word_of(self.state.enables[context as usize], word)
+                word_of(self.state.enables[usize::from(context)], u32::from(word))
             }
             Register::Threshold { context } => {
-                u32::from(self.state.thresholds[context as usize])
+                u32::from(self.state.thresholds[usize::from(context)])
             }
-            Register::Claim { context } => u32::from(self.claim(context as u8)),
+            Register::Claim { context } => u32::from(self.claim(context)),
         }
     }
 
@@ -131,34 +139,31 @@ impl Plic {
         ensures value { result ≡ plic_load self.old at width }
         ensures after { self.new ≡ record self.old { state = plic_loaded self.old at width } }
     {
-        match reached(u32::from(self.sources), u32::from(self.contexts), at, width) {
+        match reached(self.sources, self.contexts, at, width) {
             Some(register) => self.load_register(register),
             None => 0,
         }
     }
 
+    #[tactic(auto, using(crate::proofs::ValidLemmas::valid_lemmas))]
     fn store_register(&mut self, register: Register, value: u32)
         requires { IsThere self.old.sources self.old.contexts register }
         ensures { self.new ≡ record self.old { state = stored self.old.sources self.old.state register value } }
     {
         match register {
             Register::Priority { source } => {
-                self.state.priorities[source as usize] = (value & LEVEL) as u8;
+                self.state.priorities[usize::from(source)] = (value & LEVEL) as u8;
             }
             Register::Pending { word: _ } => {}
             Register::Enable { context, word } => {
-                let enabled = self.state.enables[context as usize];
-                let enabled = with_word(u32::from(self.sources), enabled, word, value);
-                self.state.enables[context as usize] = enabled;
+                let enabled = self.state.enables[usize::from(context)];
+                let enabled = with_word(u32::from(self.sources), enabled, u32::from(word), value);
+                self.state.enables[usize::from(context)] = enabled;
             }
             Register::Threshold { context } => {
-                self.state.thresholds[context as usize] = (value & LEVEL) as u8;
+                self.state.thresholds[usize::from(context)] = (value & LEVEL) as u8;
             }
-            Register::Claim { context } => {
-                if let Ok(source) = u8::try_from(value) {
-                    self.complete(context as u8, source);
-                }
-            }
+            Register::Claim { context } => self.complete_number(context, value),
         }
     }
 
@@ -168,12 +173,13 @@ impl Plic {
     pub fn store(&mut self, at: u32, width: u8, value: u32)
         ensures { self.new ≡ record self.old { state = plic_stored self.old at width value } }
     {
-        if let Some(register) = reached(u32::from(self.sources), u32::from(self.contexts), at, width) {
+        if let Some(register) = reached(self.sources, self.contexts, at, width) {
             self.store_register(register, value);
         }
     }
 
     /// Puts the PLIC in its reset state. How many sources and contexts it has stays.
+    #[tactic(auto, using(crate::proofs::ValidLemmas::valid_lemmas))]
     pub fn reset(&mut self)
         ensures { self.new ≡ record self.old { state = plic_reset } }
     {

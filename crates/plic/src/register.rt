@@ -1,4 +1,4 @@
-//! The memory map of a PLIC (RISC-V PLIC 1.0.0, section 3).
+//! The memory map of a PLIC (RISC-V PLIC 1.0.0, "Memory Map").
 ghost use Rattle.std.specs.Prelude.{◌≡◌, ◌<◌, ◌≤◌, IfSome};
 ghost use Rattle.plic.specs.Inner.There.{IsThere};
 ghost use Rattle.plic.specs.Map.{index_in, reached};
@@ -6,11 +6,11 @@ ghost use Rattle.plic.specs.Map.{index_in, reached};
 /// A register, of the sources from 1 and the contexts from 0.
 #[derive(Clone, Copy, PartialEq, Eq, Debug)]
 pub enum Register {
-    Priority { source: u32 },
-    Pending { word: u32 },
-    Enable { context: u32, word: u32 },
-    Threshold { context: u32 },
-    Claim { context: u32 },
+    Priority { source: u8 },
+    Pending { word: u8 },
+    Enable { context: u8, word: u8 },
+    Threshold { context: u8 },
+    Claim { context: u8 },
 }
 
 /// The width of the accesses that the registers answer, in bytes.
@@ -18,7 +18,7 @@ const WORD: u8 = 4;
 
 /// The place of an address in a bank of registers.
 #[tactic(auto, unfolding(crate::specs::Map::index_in))]
-fn index_in(first: u32, step: u32, count: u32, at: u32) -> Option<u32>
+fn index_in(first: u32, step: u32, count: u8, at: u32) -> Option<u8>
     requires { 0 < step }
     ensures place { result ≡ index_in first step count at }
     ensures within { IfSome result (λ i. i < count) }
@@ -27,15 +27,15 @@ fn index_in(first: u32, step: u32, count: u32, at: u32) -> Option<u32>
         return None;
     }
     let offset = at - first;
-    if offset % step != 0 || offset / step >= count {
+    if offset % step != 0 || offset / step >= u32::from(count) {
         return None;
     }
-    Some(offset / step)
+    Some((offset / step) as u8)
 }
 
 /// The register that an access reaches, with so many sources and contexts.
 #[tactic(auto, unfolding(crate::specs::Map::reached))]
-pub fn reached(sources: u32, contexts: u32, at: u32, width: u8) -> Option<Register>
+pub fn reached(sources: u8, contexts: u8, at: u32, width: u8) -> Option<Register>
     requires { sources < 128 }
     ensures register { result ≡ reached sources contexts at width }
     ensures there { IfSome result (IsThere sources contexts) }
