@@ -77,7 +77,8 @@ unfolding set_below
 set_below-lt test zero = omega arith
 set_below-lt test (suc n) = below_more (set_below test n) n (test n) (set_below-lt test n)
 
-bit_at-more_low : (b n : ℕ) (t : Bool) (i : ℕ) → i < n → bit_at (b + (if t then 2 ^ n else 0)) i ≡ bit_at b i
+bit_at-more_low : (b n : ℕ) (t : Bool) (i : ℕ) → i < n →
+    bit_at (b + (if t then 2 ^ n else 0)) i ≡ bit_at b i
 bit_at-more_low b n true i h =
     let turned : b + 2 ^ n ≡ 1 * 2 ^ n + b = omega arith in
     rw turned (bit_at_cat_low 1 n b i h)
@@ -85,7 +86,8 @@ bit_at-more_low b n false i h =
     let same : b + 0 ≡ b = omega arith in
     rw same refl
 
-bit_at-more_high : (b n : ℕ) (t : Bool) → b < 2 ^ n → bit_at (b + (if t then 2 ^ n else 0)) n ≡ (if t then 1 else 0)
+bit_at-more_high : (b n : ℕ) (t : Bool) → b < 2 ^ n →
+    bit_at (b + (if t then 2 ^ n else 0)) n ≡ (if t then 1 else 0)
 bit_at-more_high b n true h =
     let turned : b + 2 ^ n ≡ 1 * 2 ^ n + b = omega arith in
     let first : n - n ≡ 0 = omega arith in
@@ -112,7 +114,8 @@ pub has-set_of : (test : ℕ → Bool) (s : ℕ) → s < 128 → has (set_of tes
 has-set_of test s h = rw (bit_at-set_below test 128 s h) (is_one-bit (test s))
 
 -- a set is what a test gives, if the same sources are in it
-pub set_of-same : (a : ℕ) (test : ℕ → Bool) → a < 2 ^ 128 → ((s : ℕ) → s < 128 → has a s ≡ test s) → a ≡ set_of test
+pub set_of-same : (a : ℕ) (test : ℕ → Bool) → a < 2 ^ 128 → ((s : ℕ) → s < 128 → has a s ≡ test s) →
+    a ≡ set_of test
 set_of-same a test h same =
     same_sets a (set_of test) h (set_of-lt test) (λ s below. same s below ∙ sym (has-set_of test s below))
 
@@ -169,7 +172,8 @@ or_none false u h = h
 
 pub union-stays : (a b : ℕ) → a < 2 ^ 128 → ((s : ℕ) → s < 128 → has b s ≡ false) → union a b ≡ a
 union-stays a b h none =
-    same_sets (union a b) a (union-lt a b) h (λ s below. has-union a b s below ∙ or_none (has a s) (has b s) (none s below))
+    same_sets (union a b) a (union-lt a b) h (λ s below.
+    has-union a b s below ∙ or_none (has a s) (has b s) (none s below))
 
 and_true : (t : Bool) → (t && true) ≡ t
 and_true true = refl
@@ -243,7 +247,8 @@ replaced true false word = refl
 replaced false false word = refl
 
 pub with_word-or : (n set k word : ℕ) → set < 2 ^ 128 → word < 2 ^ 32 → k < 4 →
-    bit_and (all_sources n) (bit_or (bit_and set (bit_not w128 (0xFFFFFFFF * 2 ^ (32 * k) % 2 ^ 128))) (word * 2 ^ (32 * k) % 2 ^ 128))
+    bit_and (all_sources n)
+    (bit_or (bit_and set (bit_not w128 (0xFFFFFFFF * 2 ^ (32 * k) % 2 ^ 128))) (word * 2 ^ (32 * k) % 2 ^ 128))
     ≡ with_word n set k word
 unfolding with_word
 with_word-or n set k word h fits within =
@@ -254,13 +259,15 @@ with_word-or n set k word h fits within =
     (λ s below.
     rw (has-and (all_sources n) (bit_or (bit_and set (bit_not w128 mask)) value) s, has-all_sources n s below,
     has-or (bit_and set (bit_not w128 mask)) value s, has-and set (bit_not w128 mask) s,
-    has-not mask s (mod_below (0xFFFFFFFF * 2 ^ (32 * k)) (2 ^ 128) (pow_pos 128)) below, has-word_at 0xFFFFFFFF k s (omega arith) within,
+    has-not mask s (mod_below (0xFFFFFFFF * 2 ^ (32 * k)) (2 ^ 128) (pow_pos 128)) below,
+    has-word_at 0xFFFFFFFF k s (omega arith) within,
     has-word_at word k s fits within, has-ones (s % 32) (omega arith))
     (ap (λ (t : Bool). is_source n s && t) (replaced (has set s) (s / 32 == k) (has word (s % 32)))))
 
 -- ---- sets of sources that are there
 
-pub AreSources-set_of : (n : ℕ) (test : ℕ → Bool) → ((s : ℕ) → test s ≡ true → is_source n s ≡ true) → AreSources n (set_of test)
+pub AreSources-set_of : (n : ℕ) (test : ℕ → Bool) → ((s : ℕ) → test s ≡ true → is_source n s ≡ true) →
+    AreSources n (set_of test)
 AreSources-set_of n test within = record {
   each = λ s in_it. elim (cases_lt s 128) [
     | inl below ↦ within s (sym (has-set_of test s below) ∙ in_it)
@@ -294,10 +301,12 @@ AreSources-raised n shut lines = AreSources-set_of n _ (λ s t. (and_parts _ _ (
 pub AreSources-from_and : (n set : ℕ) → bit_and set (all_sources n) ≡ set → AreSources n set
 AreSources-from_and n set same = record {
   each = λ s in_it.
-      let both : (has set s && has (all_sources n) s) ≡ true = sym (has-and set (all_sources n) s) ∙ ap (λ (x : ℕ). has x s) same ∙ in_it in
+      let both : (has set s && has (all_sources n) s) ≡ true =
+      sym (has-and set (all_sources n) s) ∙ ap (λ (x : ℕ). has x s) same ∙ in_it in
       elim (cases_lt s 128) [
         | inl below ↦ sym (has-all_sources n s below) ∙ (and_parts _ _ both).1
-        | inr above ↦ absurd (both_ways _ (has-above (all_sources n) s (all_sources-lt n) above) (and_parts _ _ both).1)
+        | inr above ↦
+            absurd (both_ways _ (has-above (all_sources n) s (all_sources-lt n) above) (and_parts _ _ both).1)
       ];
 }
 

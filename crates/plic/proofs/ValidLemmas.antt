@@ -30,8 +30,9 @@ IsPlicState-reset n k = record {
   };
 }
 
-pub IsController-pending : (n k : ℕ) (p : PlicState) (set : ℕ) → IsController (record { sources = n; contexts = k; state = p }) →
-    AreSources n set → IsController (record { sources = n; contexts = k; state = record p { pending = set } })
+pub IsController-pending : (n k : ℕ) (p : PlicState) (set : ℕ) →
+    IsController (record { sources = n; contexts = k; state = p }) → AreSources n set →
+    IsController (record { sources = n; contexts = k; state = record p { pending = set } })
 IsController-pending n k p set c all = record {
   a_source = c.a_source;
   sources = c.sources;
@@ -46,8 +47,9 @@ IsController-pending n k p set c all = record {
   };
 }
 
-pub IsController-shut : (n k : ℕ) (p : PlicState) (set : ℕ) → IsController (record { sources = n; contexts = k; state = p }) →
-    AreSources n set → IsController (record { sources = n; contexts = k; state = record p { shut = set } })
+pub IsController-shut : (n k : ℕ) (p : PlicState) (set : ℕ) →
+    IsController (record { sources = n; contexts = k; state = p }) → AreSources n set →
+    IsController (record { sources = n; contexts = k; state = record p { shut = set } })
 IsController-shut n k p set c all = record {
   a_source = c.a_source;
   sources = c.sources;
@@ -62,8 +64,8 @@ IsController-shut n k p set c all = record {
   };
 }
 
-pub IsController-enables : (n k : ℕ) (p : PlicState) (i set : ℕ) → IsController (record { sources = n; contexts = k; state = p }) →
-    i < k → AreSources n set →
+pub IsController-enables : (n k : ℕ) (p : PlicState) (i set : ℕ) →
+    IsController (record { sources = n; contexts = k; state = p }) → i < k → AreSources n set →
     IsController (record { sources = n; contexts = k; state = record p { enables = slice_set p.enables i set } })
 IsController-enables n k p i set c within all = record {
   a_source = c.a_source;
@@ -93,4 +95,5 @@ IsController-reset n k p reset a_source sources a_context contexts = rw reset (r
 })
 
 -- what keeps the state of a PLIC one that it can have
-pub ruleset valid_lemmas = (IsController-pending, IsController-shut, IsController-enables, IsController-reset, AreSources-union, AreSources-without, AreSources-raised, AreSources-with_word)
+pub ruleset valid_lemmas =
+    (IsController-pending, IsController-shut, AreSources-union, AreSources-without, AreSources-raised)

@@ -17,7 +17,8 @@ abbrev pub AwaitsCompletion : Type 0
 AwaitsCompletion =
     (c : Controller) (context : ℕ) (steps : List Step) → IsController c →
     let source = claim c.sources c.state context in
-    0 < source → IsTrue (has c.state.shut source) → is_completed (after c (Claims context)) steps source ≡ false →
+    0 < source → IsTrue (has c.state.shut source) →
+    is_completed (after c (Claims context)) steps source ≡ false →
     has (course (after c (Claims context)) steps).state.pending source ≡ false
 
 -- the source that a context is to claim: it is pending and enabled, no source that can be claimed is of a greater
@@ -27,8 +28,10 @@ pub record IsChosen (n : ℕ) (p : PlicState) (context source : ℕ) : Type 0 wh
   pub pending : IsTrue (has p.pending source)
   pub enabled : IsTrue (is_enabled p context source)
   pub above_zero : 0 < priority p source
-  pub greatest : (s : ℕ) → IsTrue (is_source n s) → IsTrue (is_claimable p context s) → priority p s ≤ priority p source
-  pub least : (s : ℕ) → IsTrue (is_source n s) → IsTrue (is_claimable p context s) → priority p s ≡ priority p source → source ≤ s
+  pub greatest : (s : ℕ) → IsTrue (is_source n s) → IsTrue (is_claimable p context s) →
+      priority p s ≤ priority p source
+  pub least : (s : ℕ) → IsTrue (is_source n s) → IsTrue (is_claimable p context s) →
+      priority p s ≡ priority p source → source ≤ s
 
 -- what is claimed is that source
 abbrev pub ClaimsTheChosen : Type 0

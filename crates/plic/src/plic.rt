@@ -26,7 +26,8 @@ impl Model for Plic {
 
     ghost view = { λ p. record { sources = p.sources; contexts = p.contexts; state = p.state } };
 
-    ghost invariant = { λ p. IsController (record { sources = p.sources; contexts = p.contexts; state = p.state }) };
+    ghost invariant = { λ p. IsController (record {
+        sources = p.sources; contexts = p.contexts; state = p.state }) };
 }
 
 impl Plic {
@@ -63,7 +64,8 @@ impl Plic {
     /// Samples the lines of the sources; bit `s` is the line of source `s`.
     #[tactic(auto, unfolding(crate::specs::Gateway::sample), using(crate::proofs::ValidLemmas::valid_lemmas))]
     pub fn sample(&mut self, lines: u128)
-        ensures { self.new ≡ record self.old { state = sample self.old.sources self.old.state lines } }
+        ensures { self.new ≡ record self.old {
+            state = sample self.old.sources self.old.state lines } }
     {
         let raised = raised(u32::from(self.sources), self.state.shut, lines);
         self.state.pending = union(self.state.pending, raised);
@@ -85,7 +87,8 @@ impl Plic {
     pub fn claim(&mut self, context: u8) -> u8
         requires { context < self.old.contexts }
         ensures source { result ≡ claim self.old.sources self.old.state context }
-        ensures after { self.new ≡ record self.old { state = after_claim self.old.sources self.old.state context } }
+        ensures after { self.new ≡ record self.old {
+            state = after_claim self.old.sources self.old.state context } }
     {
         let source = source_to_claim(&self.state, self.sources, usize::from(context));
         if source != 0 {
@@ -117,7 +120,8 @@ impl Plic {
     fn load_register(&mut self, register: Register) -> u32
         requires { IsThere self.old.sources self.old.contexts register }
         ensures value { result ≡ value_of self.old.sources self.old.state register }
-        ensures after { self.new ≡ record self.old { state = loaded self.old.sources self.old.state register } }
+        ensures after { self.new ≡ record self.old {
+            state = loaded self.old.sources self.old.state register } }
     {
         match register {
             Register::Priority { source } => u32::from(self.state.priorities[usize::from(source)]),
@@ -148,7 +152,8 @@ impl Plic {
     #[tactic(auto, using(crate::proofs::ValidLemmas::valid_lemmas))]
     fn store_register(&mut self, register: Register, value: u32)
         requires { IsThere self.old.sources self.old.contexts register }
-        ensures { self.new ≡ record self.old { state = stored self.old.sources self.old.state register value } }
+        ensures { self.new ≡ record self.old {
+            state = stored self.old.sources self.old.state register value } }
     {
         match register {
             Register::Priority { source } => {
@@ -186,9 +191,10 @@ impl Plic {
         self.state = PlicState::reset();
     }
 
+    /// The state. It is one that this PLIC can have, as each PLIC's is.
     pub fn state(&self) -> PlicState
         ensures state { result ≡ self.now.state }
-        ensures valid { IsPlicState self.now.sources self.now.contexts result }
+        ensures valid { IsController self.now }
     {
         self.state
     }
@@ -198,7 +204,8 @@ impl Plic {
     /// threshold is above 7.
     pub fn put(&mut self, state: &PlicState) -> bool
         ensures valid { IsTrue result ↔ IsPlicState self.old.sources self.old.contexts state.now }
-        ensures after { self.new ≡ (if result then record self.old { state = state.now } else self.old) }
+        ensures after {
+            self.new ≡ (if result then record self.old { state = state.now } else self.old) }
     {
         let is_valid = is_valid(state, u32::from(self.sources), usize::from(self.contexts));
         if is_valid {

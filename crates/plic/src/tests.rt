@@ -1,4 +1,6 @@
 //! Tables of the PLIC, through its calls and its registers.
+ghost use Rattle.std.specs.Prelude.{◌<◌};
+
 use crate::{Plic, PlicState};
 
 #[test]
