@@ -87,21 +87,22 @@ best_of p context (suc n) =
     rw next (elim (cases_Bool (is_ready p context (n + 1))) [
       | inl ready ↦ elim (cases_lt so_far.highest (priority p (n + 1))) [
         | inl above ↦ record {
-            source = n + 1;
-            highest = priority p (n + 1);
-            best = best_taken p context (n + 1) so_far.source so_far.highest (omega arith) so_far.best ready above;
-          }
+          source = n + 1;
+          highest = priority p (n + 1);
+          best = best_taken p context (n + 1) so_far.source so_far.highest (omega arith) so_far.best ready above;
+        }
         | inr not_above ↦ record {
-            source = so_far.source;
-            highest = so_far.highest;
-            best = best_kept p context (n + 1) so_far.source so_far.highest so_far.best (λ r. not_above);
-          }
-      ]
-      | inr not_ready ↦ record {
           source = so_far.source;
           highest = so_far.highest;
-          best = best_kept p context (n + 1) so_far.source so_far.highest so_far.best (λ r. absurd (both_ways _ not_ready r));
+          best = best_kept p context (n + 1) so_far.source so_far.highest so_far.best (λ r. not_above);
         }
+      ]
+      | inr not_ready ↦ record {
+        source = so_far.source;
+        highest = so_far.highest;
+        best = best_kept p context (n + 1) so_far.source so_far.highest so_far.best
+            (λ r. absurd (both_ways _ not_ready r));
+      }
     ])
 
 -- the output, by the best
@@ -115,7 +116,8 @@ output-best n p context source highest best = elim (cases_lt (threshold p contex
       let same : priority p source ≡ highest = best.rank positive in
       let below : source < n + 1 = best.below positive in
       list_any-found (interrupts p context) 1 n source (best.at_least positive) (omega arith)
-      (and_above (is_ready p context source) (threshold p context) (priority p source) (best.ready positive) (omega arith))
+      (and_above (is_ready p context source) (threshold p context) (priority p source) (best.ready positive)
+      (omega arith))
       ∙ sym e
   | inr not_above ↦
       let e : nat_lt (threshold p context) highest ≡ false = grind (arith, nat_tests) in
@@ -131,7 +133,8 @@ unfolding claim
 claim-none n p context source best =
     let none : (s : ℕ) → 1 ≤ s → s < 1 + n → is_claimable p context s ≡ false =
     λ s low high. and_not_above (is_ready p context s) 0 (priority p s) (best.greatest s low (omega arith)) in
-    rw (find-none (λ s. is_claimable p context s && is_highest n p context s) 1 n (λ s low high. rw (none s low high) refl))
+    rw (find-none (λ s. is_claimable p context s && is_highest n p context s) 1 n
+    (λ s low high. rw (none s low high) refl))
     refl
 
 -- the best is of the greatest priority, and none before it is
@@ -166,7 +169,8 @@ claim-best n p context source (suc h) best =
     let below : source < n + 1 = best.below positive in
     let claimable : is_claimable p context source ≡ true =
     and_above (is_ready p context source) 0 (priority p source) (best.ready positive) (omega arith) in
-    rw (find-first (λ s. is_claimable p context s && is_highest n p context s) 1 n source (best.at_least positive) (omega arith)
+    rw (find-first (λ s. is_claimable p context s && is_highest n p context s) 1 n source (best.at_least positive)
+    (omega arith)
     (rw claimable (highest-best n p context source (suc h) best positive))
     (λ s low before. elim (cases_Bool (is_claimable p context s)) [
       | inl can ↦ rw can (not_highest-before n p context source (suc h) s best positive low before can)

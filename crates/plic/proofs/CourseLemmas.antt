@@ -25,15 +25,19 @@ handed_on false shut = refl
 -- nothing is raised by the same lines once they are sampled
 raised-again : (n shut lines s : ℕ) → s < 128 → has (raised n (union shut (raised n shut lines)) lines) s ≡ false
 raised-again n shut lines s h =
-    rw (has-raised n (union shut (raised n shut lines)) lines s h, has-union shut (raised n shut lines) s h, has-raised n shut lines s h)
+    rw (
+      has-raised n (union shut (raised n shut lines)) lines s h,
+      has-union shut (raised n shut lines) s h,
+      has-raised n shut lines s h,
+    )
     (handed_on (is_source n s && has lines s) (has shut s))
 
 pub samples_once : SamplesOnce
 unfolding sample
 samples_once n p lines =
     ap₂ (λ (a b : ℕ). record p { pending = a; shut = b })
-    (union-stays (union p.pending (raised n p.shut lines)) _ (union-lt p.pending (raised n p.shut lines)) (raised-again n p.shut lines))
-    (union-stays (union p.shut (raised n p.shut lines)) _ (union-lt p.shut (raised n p.shut lines)) (raised-again n p.shut lines))
+    (union-stays (union p.pending (raised n p.shut lines)) _ (union-lt _ _) (raised-again n p.shut lines))
+    (union-stays (union p.shut (raised n p.shut lines)) _ (union-lt _ _) (raised-again n p.shut lines))
 
 -- ---- a source that was claimed and is not completed
 
@@ -41,24 +45,32 @@ record Waits (p : PlicState) (source : ℕ) : Type 0 where
   shut : has p.shut source ≡ true
   pending : has p.pending source ≡ false
 
-waits-sample : (n : ℕ) (p : PlicState) (lines source : ℕ) → source < 128 → Waits p source → Waits (sample n p lines) source
+waits-sample : (n : ℕ) (p : PlicState) (lines source : ℕ) → source < 128 → Waits p source →
+    Waits (sample n p lines) source
 unfolding sample
 waits-sample n p lines source h waits = record {
   shut = rw (has-union p.shut (raised n p.shut lines) source h, waits.shut) refl;
   pending =
-      rw (has-union p.pending (raised n p.shut lines) source h, waits.pending, has-raised n p.shut lines source h, waits.shut)
+      rw (
+        has-union p.pending (raised n p.shut lines) source h,
+        waits.pending,
+        has-raised n p.shut lines source h,
+        waits.shut,
+      )
       (and_right (is_source n source && has lines source) false refl);
 }
 
-waits-claim : (n : ℕ) (p : PlicState) (context source : ℕ) → source < 128 → Waits p source → Waits (after_claim n p context) source
+waits-claim : (n : ℕ) (p : PlicState) (context source : ℕ) → source < 128 → Waits p source →
+    Waits (after_claim n p context) source
 unfolding after_claim
 waits-claim n p context source h waits =
-    elim (claim n p context == 0) as (λ t. Waits (if t then p else record p { pending = without p.pending (claim n p context) }) source) [
+    elim (claim n p context == 0) as (λ t.
+    Waits (if t then p else record p { pending = without p.pending (claim n p context) }) source) [
       | true ↦ waits
       | false ↦ record {
-          shut = waits.shut;
-          pending = rw (has-without p.pending (claim n p context) source h, waits.pending) refl;
-        }
+        shut = waits.shut;
+        pending = rw (has-without p.pending (claim n p context) source h, waits.pending) refl;
+      }
     ]
 
 waits-complete : (p : PlicState) (context number source : ℕ) → source < 128 → Waits p source →
@@ -68,12 +80,12 @@ waits-complete p context number source h waits other =
     elim (is_enabled p context number) as (λ t. (number == source && t) ≡ false →
     Waits (if t then record p { shut = without p.shut number } else p) source) [
       | true ↦ λ apart. record {
-          shut =
-              let differs : (source == number) ≡ false = ne_eqb source number (λ e.
-              both_ways _ apart (rw (eq-eqb number source (sym e)) refl)) in
-              rw (has-without p.shut number source h, waits.shut, differs) refl;
-          pending = waits.pending;
-        }
+        shut =
+            let differs : (source == number) ≡ false = ne_eqb source number (λ e.
+            both_ways _ apart (rw (eq-eqb number source (sym e)) refl)) in
+            rw (has-without p.shut number source h, waits.shut, differs) refl;
+        pending = waits.pending;
+      }
       | false ↦ λ apart. waits
     ] other
 
@@ -89,10 +101,13 @@ waits-loaded n p (Some (Claim context)) source h waits = waits-claim n p context
 waits-stored : (n : ℕ) (p : PlicState) (register : Option Register) (value source : ℕ) → source < 128 → Waits p source →
     is_completion_at p register value source ≡ false → Waits (stored_at n p register value) source
 waits-stored n p None value source h waits other = waits
-waits-stored n p (Some (Priority s)) value source h waits other = record { shut = waits.shut; pending = waits.pending }
+waits-stored n p (Some (Priority s)) value source h waits other =
+    record { shut = waits.shut; pending = waits.pending }
 waits-stored n p (Some (Pending word)) value source h waits other = waits
-waits-stored n p (Some (Enable context word)) value source h waits other = record { shut = waits.shut; pending = waits.pending }
-waits-stored n p (Some (Threshold context)) value source h waits other = record { shut = waits.shut; pending = waits.pending }
+waits-stored n p (Some (Enable context word)) value source h waits other =
+    record { shut = waits.shut; pending = waits.pending }
+waits-stored n p (Some (Threshold context)) value source h waits other =
+    record { shut = waits.shut; pending = waits.pending }
 waits-stored n p (Some (Claim context)) value source h waits other = waits-complete p context value source h waits other
 
 waits-step : (c : Controller) (step : Step) (source : ℕ) → source < 128 → Waits c.state source →
@@ -100,7 +115,8 @@ waits-step : (c : Controller) (step : Step) (source : ℕ) → source < 128 → 
 unfolding plic_loaded plic_stored
 waits-step c (Samples lines) source h waits other = waits-sample c.sources c.state lines source h waits
 waits-step c (Claims context) source h waits other = waits-claim c.sources c.state context source h waits
-waits-step c (Completes context number) source h waits other = waits-complete c.state context number source h waits other
+waits-step c (Completes context number) source h waits other =
+    waits-complete c.state context number source h waits other
 waits-step c (Loads at width) source h waits other =
     waits-loaded c.sources c.state (reached c.sources c.contexts at width) source h waits
 waits-step c (Stores at width value) source h waits other =
@@ -121,7 +137,10 @@ waits-claimed n p context some h shut =
     rw is (record {
       shut = shut;
       pending =
-          rw (has-without p.pending (claim n p context) (claim n p context) h, eq-eqb (claim n p context) (claim n p context) refl)
+          rw (
+            has-without p.pending (claim n p context) (claim n p context) h,
+            eq-eqb (claim n p context) (claim n p context) refl,
+          )
           (and_right (has p.pending (claim n p context)) false refl);
     })
 

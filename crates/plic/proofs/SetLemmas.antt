@@ -206,8 +206,12 @@ raised-and n shut lines h k =
     (lt_of_le_of_lt (and_le_l (bit_and (all_sources n) lines) (bit_not w128 shut))
     (lt_of_le_of_lt (and_le_l (all_sources n) lines) (all_sources-lt n)))
     (λ s below.
-    rw (has-and (bit_and (all_sources n) lines) (bit_not w128 shut) s, has-and (all_sources n) lines s,
-    has-all_sources n s below, has-not shut s k below) refl)
+    rw (
+      has-and (bit_and (all_sources n) lines) (bit_not w128 shut) s,
+      has-and (all_sources n) lines s,
+      has-all_sources n s below,
+      has-not shut s k below,
+    ) refl)
 
 pub has-raised : (n shut lines s : ℕ) → s < 128 → has (raised n shut lines) s ≡ is_raised n shut lines s
 unfolding raised
@@ -257,11 +261,16 @@ with_word-or n set k word h fits within =
     set_of-same (bit_and (all_sources n) (bit_or (bit_and set (bit_not w128 mask)) value)) _
     (lt_of_le_of_lt (and_le_l (all_sources n) (bit_or (bit_and set (bit_not w128 mask)) value)) (all_sources-lt n))
     (λ s below.
-    rw (has-and (all_sources n) (bit_or (bit_and set (bit_not w128 mask)) value) s, has-all_sources n s below,
-    has-or (bit_and set (bit_not w128 mask)) value s, has-and set (bit_not w128 mask) s,
-    has-not mask s (mod_below (0xFFFFFFFF * 2 ^ (32 * k)) (2 ^ 128) (pow_pos 128)) below,
-    has-word_at 0xFFFFFFFF k s (omega arith) within,
-    has-word_at word k s fits within, has-ones (s % 32) (omega arith))
+    rw (
+      has-and (all_sources n) (bit_or (bit_and set (bit_not w128 mask)) value) s,
+      has-all_sources n s below,
+      has-or (bit_and set (bit_not w128 mask)) value s,
+      has-and set (bit_not w128 mask) s,
+      has-not mask s (mod_below (0xFFFFFFFF * 2 ^ (32 * k)) (2 ^ 128) (pow_pos 128)) below,
+      has-word_at 0xFFFFFFFF k s (omega arith) within,
+      has-word_at word k s fits within,
+      has-ones (s % 32) (omega arith),
+    )
     (ap (λ (t : Bool). is_source n s && t) (replaced (has set s) (s / 32 == k) (has word (s % 32)))))
 
 -- ---- sets of sources that are there
@@ -272,7 +281,7 @@ AreSources-set_of n test within = record {
   each = λ s in_it. elim (cases_lt s 128) [
     | inl below ↦ within s (sym (has-set_of test s below) ∙ in_it)
     | inr above ↦ absurd (both_ways _ (has-above (set_of test) s (set_of-lt test) above) in_it)
-  ]
+  ];
 }
 
 pub AreSources-zero : (n : ℕ) → AreSources n 0

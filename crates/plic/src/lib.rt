@@ -16,6 +16,5 @@ pub use laws::{
 pub use plic::Plic;
 pub use state::PlicState;
 
-
 #[cfg(test)]
 mod tests;

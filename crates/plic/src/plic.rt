@@ -27,7 +27,10 @@ impl Model for Plic {
     ghost view = { λ p. record { sources = p.sources; contexts = p.contexts; state = p.state } };
 
     ghost invariant = { λ p. IsController (record {
-        sources = p.sources; contexts = p.contexts; state = p.state }) };
+      sources = p.sources;
+      contexts = p.contexts;
+      state = p.state;
+    }) };
 }
 
 impl Plic {
@@ -65,7 +68,8 @@ impl Plic {
     #[tactic(auto, unfolding(crate::specs::Gateway::sample), using(crate::proofs::ValidLemmas::valid_lemmas))]
     pub fn sample(&mut self, lines: u128)
         ensures { self.new ≡ record self.old {
-            state = sample self.old.sources self.old.state lines } }
+          state = sample self.old.sources self.old.state lines;
+        } }
     {
         let raised = raised(u32::from(self.sources), self.state.shut, lines);
         self.state.pending = union(self.state.pending, raised);
@@ -88,7 +92,8 @@ impl Plic {
         requires { context < self.old.contexts }
         ensures source { result ≡ claim self.old.sources self.old.state context }
         ensures after { self.new ≡ record self.old {
-            state = after_claim self.old.sources self.old.state context } }
+          state = after_claim self.old.sources self.old.state context;
+        } }
     {
         let source = source_to_claim(&self.state, self.sources, usize::from(context));
         if source != 0 {
@@ -121,7 +126,8 @@ impl Plic {
         requires { IsThere self.old.sources self.old.contexts register }
         ensures value { result ≡ value_of self.old.sources self.old.state register }
         ensures after { self.new ≡ record self.old {
-            state = loaded self.old.sources self.old.state register } }
+          state = loaded self.old.sources self.old.state register;
+        } }
     {
         match register {
             Register::Priority { source } => u32::from(self.state.priorities[usize::from(source)]),
@@ -153,7 +159,8 @@ impl Plic {
     fn store_register(&mut self, register: Register, value: u32)
         requires { IsThere self.old.sources self.old.contexts register }
         ensures { self.new ≡ record self.old {
-            state = stored self.old.sources self.old.state register value } }
+          state = stored self.old.sources self.old.state register value;
+        } }
     {
         match register {
             Register::Priority { source } => {
@@ -204,8 +211,7 @@ impl Plic {
     /// threshold is above 7.
     pub fn put(&mut self, state: &PlicState) -> bool
         ensures valid { IsTrue result ↔ IsPlicState self.old.sources self.old.contexts state.now }
-        ensures after {
-            self.new ≡ (if result then record self.old { state = state.now } else self.old) }
+        ensures after { self.new ≡ (if result then record self.old { state = state.now } else self.old) }
     {
         let is_valid = is_valid(state, u32::from(self.sources), usize::from(self.contexts));
         if is_valid {
