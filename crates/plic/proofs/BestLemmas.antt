@@ -1,10 +1,10 @@
 -- The first source of the greatest priority: that there is one, and what it says of the output and of a claim.
-use Rattle.std.proofs.Common.{◌≡◌, ℕ, zero, suc, ◌+◌, ◌<◌, ◌≤◌, ◌&&◌, ◌||◌, not, nat_lt, nat_le, Bool, true, false, List, Some, None, inl, inr, refl, ap, sym, ◌∙◌, arith, slice_index}
+use Rattle.std.proofs.Common.{◌≡◌, ℕ, zero, suc, ◌+◌, ◌<◌, ◌≤◌, ◌&&◌, ◌||◌, not, nat_lt, nat_le, Bool, true, false, List, inl, inr, refl, ap, sym, ◌∙◌, arith, slice_index}
 use Rattle.std.proofs.lemmas.Bool.{cases_lt, cases_Bool, and_parts, both_ways, leb-true}
 use Rattle.std.proofs.lemmas.Bool.Decides.{nat_tests}
 use Rattle.std.specs.List.{list_any}
 use Rattle.plic.specs.declared.state.PlicState.{PlicState}
-use Rattle.plic.specs.Sources.{has, is_source, sources}
+use Rattle.plic.specs.Sources.{has, sources}
 use Rattle.plic.specs.Claim.{is_ready, interrupts, is_claimable, is_highest, priority, threshold, claim, output}
 use Rattle.plic.specs.Laws.{IsChosen, ClaimsTheChosen, ClaimsWhatIsThere, OutputsApart}
 use Rattle.plic.specs.Inner.Best.{IsBest}

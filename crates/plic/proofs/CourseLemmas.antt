@@ -1,11 +1,11 @@
 -- A source that waits for its completion, and samples that change nothing.
-use Rattle.std.proofs.Common.{◌≡◌, ℕ, ◌+◌, ◌^◌, ◌<◌, ◌≤◌, ◌==◌, ◌&&◌, ◌||◌, not, nat_le, Bool, true, false, if◌then◌else◌, List, [], ◌∷◌, Option, Some, None, refl, sym, ap₂, arith}
+use Rattle.std.proofs.Common.{◌≡◌, ℕ, ◌<◌, ◌≤◌, ◌==◌, ◌&&◌, ◌||◌, not, Bool, true, false, if◌then◌else◌, List, [], ◌∷◌, Option, Some, None, refl, sym, ap₂, arith}
 use Rattle.std.proofs.lemmas.Bool.{and_parts, and_right, or_parts, both_ways, eq-eqb, ne_eqb, leb-true}
 use Rattle.plic.specs.declared.register.Register.{Register}
 use Rattle.plic.specs.declared.register.Register.TheVariants.{Priority, Pending, Enable, Threshold, Claim}
 use Rattle.plic.specs.declared.state.PlicState.{PlicState}
 use Rattle.plic.specs.Sources.{has, is_source, union, without}
-use Rattle.plic.specs.State.{Controller, IsController}
+use Rattle.plic.specs.State.{Controller}
 use Rattle.plic.specs.Gateway.{is_enabled, raised, sample, complete}
 use Rattle.plic.specs.Claim.{claim, after_claim}
 use Rattle.plic.specs.Map.{reached}

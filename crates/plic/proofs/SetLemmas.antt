@@ -3,7 +3,7 @@ use Rattle.std.proofs.Common.{◌≡◌, ℕ, zero, suc, ◌+◌, ◌-◌, ◌*�
 use Rattle.std.specs.Int.{bit_at, bit_not, w128}
 use Rattle.std.proofs.lemmas.Bool.{cases_lt, cases_eq, cases_Bool, eq-eqb, ne_eqb, le-leb, lt-leb, both_ways, and_parts, and_right, or_cases}
 use Rattle.std.proofs.Math.Nat.{pow-le-pow_right}
-use Rattle.std.proofs.lemmas.Nat.{or_lt, and_le_l, and_le_r, one_shl, shl_whole, mod_below}
+use Rattle.std.proofs.lemmas.Nat.{or_lt, and_le_l, one_shl, shl_whole, mod_below}
 use Rattle.std.proofs.lemmas.Nat.Bits.{bit_at-zero, bit_at-lt, bit_at_above, bit_at_and, bit_at_or, bit_at_not, bit_at_ones, bit_at_cat_low, bit_at_cat_high, bit_at_clear_same, bit_at_clear_other, bit_at_mask_inside, bit_at_mask_below, bit_at_mask_above, same_from_bits_below}
 use Rattle.plic.specs.Sources.{has, set_below, set_of, is_source, all_sources, union, without, with_word, AreSources}
 use Rattle.plic.specs.Gateway.{is_raised, raised}

@@ -1,4 +1,4 @@
-use Rattle.std.proofs.Common.{◌≡◌, sym, ◌∙◌, eqb-true, eq-eqb}
+use Rattle.std.proofs.Common.{eqb-true, eq-eqb}
 use Rattle.plic.proofs.SetLemmas.{AreSources-from_and, and-AreSources}
 use Rattle.plic.proofs.valid.are_sources.Goals as goal
 
