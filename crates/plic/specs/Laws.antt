@@ -1,11 +1,20 @@
 -- Laws of every PLIC.
-use Rattle.std.specs.Prelude.{◌≡◌, ℕ, ◌<◌, ◌≤◌, IsTrue, false, List, slice_index}
+use Rattle.std.specs.Prelude.{◌≡◌, ℕ, ◌<◌, ◌^◌, ◌≤◌, Bool, IsTrue, false, List, slice_index}
 use Rattle.plic.specs.declared.state.PlicState.{PlicState}
-use Rattle.plic.specs.Sources.{has, is_source}
+use Rattle.plic.specs.Sources.{has, is_source, set_of}
 use Rattle.plic.specs.State.{Controller, IsController}
 use Rattle.plic.specs.Gateway.{sample, is_enabled}
 use Rattle.plic.specs.Claim.{priority, threshold, is_claimable, output, claim}
 use Rattle.plic.specs.Course.{Step, Claims, after, course, is_completed}
+
+-- in the set that a test gives is what passes it
+abbrev pub HasWhatPasses : Type 0
+HasWhatPasses = (test : ℕ → Bool) (source : ℕ) → source < 128 → has (set_of test) source ≡ test source
+
+-- sets with the same sources are one
+abbrev pub SameSets : Type 0
+SameSets =
+    (a b : ℕ) → a < 2 ^ 128 → b < 2 ^ 128 → ((source : ℕ) → source < 128 → has a source ≡ has b source) → a ≡ b
 
 -- a second sample of the same lines changes nothing
 abbrev pub SamplesOnce : Type 0

@@ -3,9 +3,17 @@ ghost use Rattle.plic.specs.Laws.{
   AwaitsCompletion,
   ClaimsTheChosen,
   ClaimsWhatIsThere,
+  HasWhatPasses,
   OutputsApart,
+  SameSets,
   SamplesOnce,
 };
+
+/// In the set that a test gives is what passes it, and sets with the same sources are one.
+pub fn sets_have_what_passes()
+    ensures passes { HasWhatPasses }
+    ensures same { SameSets }
+{}
 
 /// A second sample of the same lines changes nothing.
 pub fn second_samples_change_nothing()

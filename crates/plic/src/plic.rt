@@ -49,7 +49,6 @@ impl Plic {
 
     /// A PLIC in its reset state, with the sources 1 to `sources` and the contexts below
     /// `contexts`.
-    #[tactic(auto, using(crate::proofs::ValidLemmas::valid_lemmas))]
     pub fn new(sources: u8, contexts: u8) -> Plic
         requires a_source { 1 ≤ sources }
         requires sources { sources ≤ 127 }
@@ -191,7 +190,6 @@ impl Plic {
     }
 
     /// Puts the PLIC in its reset state. How many sources and contexts it has stays.
-    #[tactic(auto, using(crate::proofs::ValidLemmas::valid_lemmas))]
     pub fn reset(&mut self)
         ensures { self.new ≡ record self.old { state = plic_reset } }
     {
