@@ -1,5 +1,5 @@
 -- Laws of every PLIC.
-use Rattle.std.specs.Prelude.{◌≡◌, ℕ, ◌<◌, ◌^◌, ◌≤◌, Bool, IsTrue, false, List, slice_index}
+use Rattle.std.specs.Prelude.{◌≡◌, ℕ, ◌<◌, ◌^◌, ◌≤◌, Bool, IsTrue, true, false, List, slice_index}
 use Rattle.plic.specs.declared.state.PlicState.{PlicState}
 use Rattle.plic.specs.Sources.{has, is_source, set_of}
 use Rattle.plic.specs.State.{Controller, IsController}
@@ -19,6 +19,13 @@ SameSets =
 -- a second sample of the same lines changes nothing
 abbrev pub SamplesOnce : Type 0
 SamplesOnce = (n : ℕ) (p : PlicState) (lines : ℕ) → sample n (sample n p lines) lines ≡ sample n p lines
+
+-- a gateway that is shut stays shut until its source is completed, whatever befalls the PLIC
+abbrev pub StaysShut : Type 0
+StaysShut =
+    (c : Controller) (steps : List Step) (source : ℕ) → source < 128 →
+    has c.state.shut source ≡ true → is_completed c steps source ≡ false →
+    has (course c steps).state.shut source ≡ true
 
 -- A claimed source whose gateway is shut is not pending again before its completion, whatever the lines do and whatever
 -- else is claimed, completed, loaded and stored.

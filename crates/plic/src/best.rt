@@ -16,7 +16,7 @@ fn is_ready(state: &PlicState, context: usize, source: u8) -> bool
 }
 
 /// A source and its priority; both are 0 for none.
-#[derive(Clone, Copy, PartialEq, Eq, Debug)]
+#[derive(Clone, Copy)]
 pub struct Best {
     pub source: u8,
     pub priority: u8,

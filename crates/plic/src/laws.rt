@@ -7,6 +7,7 @@ ghost use Rattle.plic.specs.Laws.{
   OutputsApart,
   SameSets,
   SamplesOnce,
+  StaysShut,
 };
 
 /// In the set that a test gives is what passes it, and sets with the same sources are one.
@@ -18,6 +19,11 @@ pub fn sets_have_what_passes()
 /// A second sample of the same lines changes nothing.
 pub fn second_samples_change_nothing()
     ensures { SamplesOnce }
+{}
+
+/// A gateway that is shut stays shut until its source is completed.
+pub fn gateways_await_completion()
+    ensures { StaysShut }
 {}
 
 /// A claimed source whose gateway is shut is not pending again before its completion, whatever its

@@ -10,8 +10,8 @@ mod state;
 mod valid;
 
 pub use laws::{
-    claimed_sources_await_completion, claims_take_the_greatest_priority, outputs_are_apart,
-    second_samples_change_nothing, sets_have_what_passes,
+    claimed_sources_await_completion, claims_take_the_greatest_priority, gateways_await_completion,
+    outputs_are_apart, second_samples_change_nothing, sets_have_what_passes,
 };
 pub use plic::Plic;
 pub use state::PlicState;

@@ -4,7 +4,7 @@ ghost use Rattle.plic.specs.Inner.There.{IsThere};
 ghost use Rattle.plic.specs.Map.{index_in, reached};
 
 /// A register, of the sources from 1 and the contexts from 0.
-#[derive(Clone, Copy, PartialEq, Eq, Debug)]
+#[derive(Clone, Copy)]
 pub enum Register {
     Priority { source: u8 },
     Pending { word: u8 },
