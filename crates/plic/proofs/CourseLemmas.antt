@@ -89,8 +89,8 @@ waits-complete p context number source may h waits other =
       | false ↦ λ apart. waits
     ] other
 
-waits-loaded : (n : ℕ) (p : PlicState) (register : Option Register) (source : ℕ) (may : Bool) → source < 128 → Waits p source may →
-    Waits (loaded_at n p register) source may
+waits-loaded : (n : ℕ) (p : PlicState) (register : Option Register) (source : ℕ) (may : Bool) →
+    source < 128 → Waits p source may → Waits (loaded_at n p register) source may
 waits-loaded n p None source may h waits = waits
 waits-loaded n p (Some (Priority s)) source may h waits = waits
 waits-loaded n p (Some (Pending word)) source may h waits = waits
@@ -98,8 +98,8 @@ waits-loaded n p (Some (Enable context word)) source may h waits = waits
 waits-loaded n p (Some (Threshold context)) source may h waits = waits
 waits-loaded n p (Some (Claim context)) source may h waits = waits-claim n p context source may h waits
 
-waits-stored : (n : ℕ) (p : PlicState) (register : Option Register) (value source : ℕ) (may : Bool) → source < 128 → Waits p source may →
-    is_completion_at p register value source ≡ false → Waits (stored_at n p register value) source may
+waits-stored : (n : ℕ) (p : PlicState) (register : Option Register) (value source : ℕ) (may : Bool) →
+    source < 128 → Waits p source may → is_completion_at p register value source ≡ false → Waits (stored_at n p register value) source may
 waits-stored n p None value source may h waits other = waits
 waits-stored n p (Some (Priority s)) value source may h waits other =
     record { shut = waits.shut; pending = waits.pending }
@@ -108,7 +108,8 @@ waits-stored n p (Some (Enable context word)) value source may h waits other =
     record { shut = waits.shut; pending = waits.pending }
 waits-stored n p (Some (Threshold context)) value source may h waits other =
     record { shut = waits.shut; pending = waits.pending }
-waits-stored n p (Some (Claim context)) value source may h waits other = waits-complete p context value source may h waits other
+waits-stored n p (Some (Claim context)) value source may h waits other =
+    waits-complete p context value source may h waits other
 
 waits-step : (c : Controller) (step : Step) (source : ℕ) (may : Bool) → source < 128 → Waits c.state source may →
     is_completion c step source ≡ false → Waits (after c step).state source may
@@ -122,8 +123,8 @@ waits-step c (Loads at width) source may h waits other =
 waits-step c (Stores at width value) source may h waits other =
     waits-stored c.sources c.state (reached c.sources c.contexts at width) value source may h waits other
 
-waits-course : (c : Controller) (steps : List Step) (source : ℕ) (may : Bool) → source < 128 → Waits c.state source may →
-    is_completed c steps source ≡ false → Waits (course c steps).state source may
+waits-course : (c : Controller) (steps : List Step) (source : ℕ) (may : Bool) → source < 128 →
+    Waits c.state source may → is_completed c steps source ≡ false → Waits (course c steps).state source may
 waits-course c [] source may h waits never = waits
 waits-course c (step ∷ steps) source may h waits never =
     let parts = or_parts (is_completion c step source) (is_completed (after c step) steps source) never in
