@@ -99,7 +99,8 @@ waits-loaded n p (Some (Threshold context)) source may h waits = waits
 waits-loaded n p (Some (Claim context)) source may h waits = waits-claim n p context source may h waits
 
 waits-stored : (n : ℕ) (p : PlicState) (register : Option Register) (value source : ℕ) (may : Bool) →
-    source < 128 → Waits p source may → is_completion_at p register value source ≡ false → Waits (stored_at n p register value) source may
+    source < 128 → Waits p source may → is_completion_at p register value source ≡ false →
+    Waits (stored_at n p register value) source may
 waits-stored n p None value source may h waits other = waits
 waits-stored n p (Some (Priority s)) value source may h waits other =
     record { shut = waits.shut; pending = waits.pending }

@@ -49,7 +49,7 @@ fn a_priority_above_the_threshold_interrupts_and_one_above_0_is_claimed(rt: Host
 }
 
 /// What is done with a PLIC of 127 sources and 15 contexts.
-#[derive(Clone, Copy, Debug)]
+#[derive(Clone, Copy)]
 enum Act {
     Sample(u128),
     Load(u32),
@@ -129,7 +129,7 @@ fn a_gateway_hands_on_one_request_until_it_is_completed(rt: HostRuntime) {
         let _ = carry_out(&mut plic, Act::Store(4 * (source % 128), 1));
     }
     for (step, answer) in COURSE {
-        assert_eq!(rt; carry_out(&mut plic, step), answer, "{step:?}");
+        assert_eq!(rt; carry_out(&mut plic, step), answer);
     }
 }
 
@@ -175,7 +175,7 @@ fn a_register_keeps_the_bits_that_are_there(rt: HostRuntime) {
     for (at, width, read) in REGISTERS {
         let mut plic = Plic::new(40, 2);
         plic.store(at, width, 0xFFFF_FFFF);
-        assert_eq!(rt; plic.load(at, 4), read, "{at:x} {width}");
+        assert_eq!(rt; (at, width, plic.load(at, 4)), (at, width, read));
         assert_eq!(rt; (plic.load(at, 1), plic.load(at, 2)), (0, 0));
     }
 }
@@ -217,7 +217,7 @@ fn put_refuses_what_is_absent(rt: HostRuntime) {
         state.thresholds[1] = thresholds[0];
         state.thresholds[2] = thresholds[1];
         let mut plic = Plic::new(40, 2);
-        assert_eq!(rt; plic.put(&state), valid, "{state:?}");
+        assert_eq!(rt; plic.put(&state), valid);
         let after = if valid { state } else { PlicState::reset() };
         assert_eq!(rt; plic.state(), after);
     }
