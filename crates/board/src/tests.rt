@@ -135,8 +135,11 @@ fn start<D: Device>(
 {
     assert!(rt; plan.is_valid());
     assert!(rt; is_early(&plan));
-    let devices = vec![in alloc; devices.0, devices.1]?;
-    match Board::new(alloc, BOARD, plan, devices) {
+    let mut list = Vec::new(alloc);
+    if list.push(devices.0).is_err() || list.push(devices.1).is_err() {
+        return Err(Fail::from(NoMemory));
+    }
+    match Board::new(alloc, BOARD, plan, list) {
         Ok(board) => Ok(board),
         Err(_) => Err(Fail::from(NoMemory)),
     }

@@ -2,7 +2,7 @@
 
 /// Each loop by its name, in the order of docs/SPEED.md: instructions of one kind that run for ever,
 /// from address 0x80000000 on.
-pub const LOOPS: [(&str, &str); 6] = [
+pub const LOOPS: [(&str, &str); 7] = [
     (
         "jumps",
         "auipc x1, 0\n\
@@ -54,5 +54,12 @@ pub const LOOPS: [(&str, &str); 6] = [
             csrrs x8, 0xB00, x0\ncsrrs x9, 0xC02, x0\ncsrrw x10, 0x341, x3\ncsrrs x11, 0x341, x0\n\
             csrrsi x12, 0x300, 8\ncsrrci x13, 0x300, 8\ncsrrw x14, 0x305, x1\n\
             csrrs x15, 0x304, x1\ncsrrs x16, 0x344, x0\ncsrrs x17, 0xF14, x0\njal x0, loop\n",
+    ),
+    (
+        "uart",
+        "lui x1, 0x10000\naddi x2, x0, 85\n\
+            loop: sb x2, 7(x1)\nlbu x3, 7(x1)\nlbu x4, 5(x1)\nsb x3, 3(x1)\nlbu x5, 3(x1)\n\
+            sb x0, 1(x1)\nlbu x6, 1(x1)\nlbu x7, 2(x1)\nlbu x8, 5(x1)\nsb x2, 7(x1)\n\
+            lbu x9, 0(x1)\nlbu x10, 4(x1)\njal x0, loop\n",
     ),
 ];

@@ -1,23 +1,32 @@
-//! How fast a board runs: `lab_speed LOOP SLOTS` runs an early board over a loop of instructions for
-//! so many slots, and prints the loop's name, the slots and minstret.
+//! How fast a board runs: `lab_speed LOOP SLOTS` runs a board over a loop of instructions for so many
+//! slots, and prints the loop's name, the slots and minstret.
 #![tactic(auto)]
 
-mod loops;
+ghost use Rattle.std.specs.Prelude.{◌≡◌};
+ghost use Rattle.dev_core.specs.declared.kind.Kind.TheVariants as Kind;
+ghost use Rattle.board.specs.New.{first_state};
 
-use early_board::{Board, SlotAt};
+mod loops;
+mod platform;
+
+use board::{Board, SlotAt};
+use dev_core::Device;
 use lab_num::{BoardNo, Micros};
 use loops::LOOPS;
+use platform::usual_board;
 use rv_asm::assemble;
 use std::alloc::Global;
 use std::process::ExitCode;
 use std::rt::Env;
 use std::{env, io};
+use test_finisher::Finisher;
+use uart_16550::Uart;
 
 /// How the program is called.
 const USAGE: &str =
-    "lab_speed LOOP SLOTS, where LOOP is jumps, additions, products, memory, branches or csr";
+    "lab_speed LOOP SLOTS, where LOOP is jumps, additions, products, memory, branches, csr or uart";
 
-/// Where an early board begins.
+/// Where the memory begins.
 const START: u32 = 0x8000_0000;
 
 /// The longest lab time, 10,000 seconds.
@@ -43,8 +52,8 @@ fn asked<R: Env + AllocGlobal>(rt: &R) -> Option<Task> {
     Some(Task { name, text, slots })
 }
 
-/// An early board with the words of a text in its memory.
-fn board_with(alloc: Global, text: &str) -> Option<Board> {
+/// The words of a text as bytes.
+fn program_of(alloc: Global, text: &str) -> Option<Vec<u8>> {
     if text.len() > 1 << 24 {
         return None;
     }
@@ -52,20 +61,25 @@ fn board_with(alloc: Global, text: &str) -> Option<Board> {
     for word in assemble(alloc, text).ok()? {
         bytes.extend(word.to_le_bytes()).ok()?;
     }
-    let mut board = Board::early(alloc, BoardNo(0)).ok()?;
-    let count = u32::try_from(bytes.len()).ok()?;
+    Some(bytes)
+}
+
+/// Puts a program into the memory of a board, which is to begin with it.
+fn load<D: Device>(board: &mut Board<D>, program: &[u8]) -> Option<()> {
+    let count = u32::try_from(program.len()).ok()?;
     if !board.holds(START, count) {
         return None;
     }
-    board.copy_in(START, &bytes).ok()?;
-    Some(board)
+    board.copy_in(START, program).ok()?;
+    board.set_pc(START);
+    Some(())
 }
 
 /// How many instructions a board has retired after so many slots, if they end within the longest
 /// lab time. It stands apart from its caller, so that it is compiled for any board.
 #[inline(never)]
-fn retired_in(board: &mut Board, slots: u64) -> Option<u64> {
-    if slots / u64::from(board.speed()) > MOST_MICROS {
+fn retired_in<D: Device>(board: &mut Board<D>, slots: u64) -> Option<u64> {
+    if slots / u64::from(board.speed()) > MOST_MICROS || board.posted() > 0 || board.entered() > 0 {
         return None;
     }
     let start = SlotAt {
@@ -76,10 +90,23 @@ fn retired_in(board: &mut Board, slots: u64) -> Option<u64> {
     Some(board.retired())
 }
 
-/// Does a task, and answers how many instructions were retired.
-fn done(alloc: Global, task: Task) -> Option<u64> {
-    let mut board = board_with(alloc, task.text)?;
+/// Runs a task on a board with these devices, a UART and a finisher, and answers how many
+/// instructions were retired.
+fn run<D: Device>(alloc: Global, task: Task, uart: D, finisher: D) -> Option<u64>
+    requires uart { D.meaning uart ≡ first_state Kind.Uart }
+    requires finisher { D.meaning finisher ≡ first_state Kind.Finisher }
+{
+    let program = program_of(alloc, task.text)?;
+    let mut board = usual_board(alloc, uart, finisher)?;
+    load(&mut board, &program)?;
     retired_in(&mut board, task.slots)
+}
+
+/// Does a task with devices in boxes, as the laboratory has them.
+fn done(alloc: Global, task: Task) -> Option<u64> {
+    let uart: Box<dyn Device + Send> = Box::new(alloc, Uart::new()).ok()?;
+    let finisher: Box<dyn Device + Send> = Box::new(alloc, Finisher::new()).ok()?;
+    run(alloc, task, uart, finisher)
 }
 
 fn main(rt: HostRuntime) -> io::Result<ExitCode> {

@@ -1,5 +1,7 @@
 //! A board calls the devices that it was given.
 ghost use Rattle.std.specs.Prelude.{◌≡◌};
+ghost use Rattle.dev_core.specs.declared.kind.Kind.TheVariants.{Uart as uart};
+ghost use Rattle.board.specs.New.{first_state};
 
 use super::Step::Run;
 use super::{plan, play_on};
@@ -18,7 +20,7 @@ struct Counted<'a> {
 
 impl<'a> Counted<'a> {
     fn new(loads: &'a Cell<u32>, stores: &'a Cell<u32>) -> Counted<'a>
-        ensures { ⟦<Uart as Device>⟧.meaning result.uart ≡ ⟦<Uart as Device>⟧.meaning Uart::new() }
+        ensures { ⟦<Uart as Device>⟧.meaning result.uart ≡ first_state uart }
     {
         Counted {
             uart: Uart::new(),
@@ -83,7 +85,15 @@ fn a_board_calls_a_device_once_for_each_load_and_store(rt: HostRuntime) -> Resul
     let first = Counted::new(&counts[0], &counts[1]);
     let second = Counted::new(&counts[2], &counts[3]);
     let plan = plan(alloc, 1, Kind::Uart)?;
-    play_on(&rt, alloc, plan, Kind::Uart, (first, second), &ACCESSES, &[Run(0, 0, 6)])?;
+    play_on(
+        &rt,
+        alloc,
+        plan,
+        Kind::Uart,
+        (first, second),
+        &ACCESSES,
+        &[Run(0, 0, 6)],
+    )?;
     assert_eq!(rt; counts[0].get(), 2);
     assert_eq!(rt; counts[1].get(), 1);
     assert_eq!(rt; counts[2].get(), 0);

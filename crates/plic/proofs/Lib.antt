@@ -1,0 +1,6 @@
+-- The lemmas of this crate.
+pub mod BestLemmas
+pub mod CourseLemmas
+pub mod SearchLemmas
+pub mod SetLemmas
+pub mod ValidLemmas
