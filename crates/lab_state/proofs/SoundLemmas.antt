@@ -279,9 +279,11 @@ kind-outlines boards m =
         ≡ option_and_then (λ v. slice_get v.space.plan.kinds m.dev) o
     by_view None = refl
     by_view (Some v) = refl
+
     by_board :
         (o : Option Board) →
-        option_and_then (λ kinds. slice_get kinds m.dev) (option_and_then (λ (o : Outline). o.kinds) (option_map outline o))
+        option_and_then (λ kinds. slice_get kinds m.dev)
+        (option_and_then (λ (o : Outline). o.kinds) (option_map outline o))
         ≡ option_and_then (λ v. slice_get v.space.plan.kinds m.dev) (option_and_then (λ board. board.view) o)
     by_board None = refl
     by_board (Some board) = by_view board.view

@@ -27,8 +27,8 @@ deliver-note-requires g c =
     let found =
     slice_get-get_or c.loop-member.boards m.board.0 c.index-boards-member.result
     (board-within c.loop-member.boards m is) in
-    λ v view. device-within c.loop-member.boards m (get_or c.loop-member.boards m.board.0 c.index-boards-member.result) v
-    is found view
+    let board = get_or c.loop-member.boards m.board.0 c.index-boards-member.result in
+    λ v view. device-within c.loop-member.boards m board v is found view
 
 pub loop-member-preserved : goal.loop-member-preserved
 loop-member-preserved g c =
