@@ -1,12 +1,11 @@
 -- A board of a laboratory is made by its plan.
-use Rattle.std.proofs.Common.{◌≡◌, ◌∙◌, sym, ap, refl, ℕ, zero, suc, ◌+◌, ◌*◌, ◌<◌, ◌≤◌, Bool, true, false, cond, ◌&&◌, List, [], ◌∷◌, length, map, sum_by, slice_get, unwrap_or, Option, Some, None, subst, add-zero, zero-add, arith}
+use Rattle.std.proofs.Common.{◌≡◌, ◌∙◌, sym, ap, refl, ℕ, zero, suc, ◌+◌, ◌*◌, ◌<◌, ◌≤◌, Bool, true, false, cond, ◌&&◌, List, [], ◌∷◌, length, map, slice_get, unwrap_or, Option, Some, None, subst, add-zero, zero-add, arith}
 use Rattle.std.specs.Prelude.{is_some, IsTrue, nat_le, option_and_then}
 use Rattle.std.specs.List.{All, AllByRecursion}
 use Rattle.std.specs.Option.{option_map}
 use Rattle.std.proofs.lemmas.Bool.Decides.{nat_tests}
 use Rattle.std.proofs.lemmas.List.Elements.{All-from_recursion}
-use Rattle.std.proofs.lemmas.List.Sums.{sum_by-cons, count_by-le-length}
-use Rattle.lab_num.specs.declared.key.Member.{Member}
+use Rattle.std.proofs.lemmas.List.Sums.{sum_by-cons}
 use Rattle.dev_core.specs.declared.kind.Kind.{Kind}
 use Rattle.dev_core.specs.declared.kind.Kind.TheVariants.{Uart, Can, Finisher}
 use Rattle.dev_core.specs.declared.state.DevState.{DevState}
@@ -22,8 +21,8 @@ use Rattle.lab_state.specs.Change.{change_at}
 use Rattle.lab_state.specs.Hub.{Hub}
 use Rattle.lab_state.specs.One.{view_at, view_of}
 use Rattle.lab_state.specs.Lab.{Seen}
-use Rattle.lab_state.specs.Inner.Spares.{Spares, left_of, full, kinds_of, HasFor, HasRoomFor, AreTaken}
-use Rattle.lab_state.specs.Inner.Standing.{Outline, outline, outlines, IsStanding, AreStanding, count_of_plans, IsEnough, IsSound}
+use Rattle.lab_state.specs.Inner.Spares.{Spares, kinds_of, HasFor, HasRoomFor, AreTaken}
+use Rattle.lab_state.specs.Inner.Standing.{Outline, outline, outlines, IsStanding, AreStanding, count_of_plans, IsSound}
 use Rattle.lab_state.proofs.SoundLemmas.{one_if, devices-kept}
 
 -- ---- what a plan takes

@@ -1,5 +1,5 @@
 -- One device more was handed the payload.
-use Rattle.std.proofs.Common.{◌≡◌, ◌∙◌, sym, ap, ◌<◌, ◌++◌, length, get_or, take}
+use Rattle.std.proofs.Common.{◌≡◌, ◌∙◌, sym, ap, ◌++◌, get_or, take}
 use Rattle.std.specs.Prelude.{option_and_then}
 use Rattle.std.specs.Option.{option_map, option_to_list}
 use Rattle.std.proofs.lemmas.List.Sums.{fold_more}
@@ -8,7 +8,7 @@ use Rattle.lab_num.specs.declared.key.Member.{Member}
 use Rattle.board.specs.Changes.{handed}
 use Rattle.lab_state.specs.Board.{Board}
 use Rattle.lab_state.specs.Boundary.{Handed, note_item, note_by, to_member}
-use Rattle.lab_state.specs.One.{view_at, with_view}
+use Rattle.lab_state.specs.One.{with_view}
 use Rattle.lab_state.proofs.ListLemmas.{set-change}
 use Rattle.lab_state.proofs.RoundLemmas.{still_device, board-within, device-within}
 use Rattle.lab_state.proofs.boundary.hand_over.Goals as goal

@@ -1,6 +1,5 @@
 -- A full stock has room for all its devices.
-use Rattle.std.proofs.Common.{◌≡◌, ◌≤◌, length, deque_capacity, arith}
-use Rattle.dev_core.specs.declared.state.DevState.TheVariants.{Finisher}
+use Rattle.std.proofs.Common.{arith}
 use Rattle.lab_state.proofs.SpareLemmas.{seen_as, seen_long}
 use Rattle.lab_state.proofs.spares.Spares.of.Goals as goal
 
