@@ -1,12 +1,11 @@
 -- A board of a laboratory is made by its plan.
-use Rattle.std.proofs.Common.{◌≡◌, ◌∙◌, sym, ap, refl, ℕ, zero, suc, ◌+◌, ◌*◌, ◌<◌, ◌≤◌, Bool, true, false, cond, ◌&&◌, List, [], ◌∷◌, length, map, sum_by, slice_get, unwrap_or, Option, Some, None, subst, add-zero, zero-add, arith}
+use Rattle.std.proofs.Common.{◌≡◌, ◌∙◌, sym, ap, refl, ℕ, zero, suc, ◌+◌, ◌*◌, ◌<◌, ◌≤◌, Bool, true, false, cond, ◌&&◌, List, [], ◌∷◌, length, map, slice_get, unwrap_or, Option, Some, None, subst, add-zero, zero-add, arith}
 use Rattle.std.specs.Prelude.{is_some, IsTrue, nat_le, option_and_then}
 use Rattle.std.specs.List.{All, AllByRecursion}
 use Rattle.std.specs.Option.{option_map}
 use Rattle.std.proofs.lemmas.Bool.Decides.{nat_tests}
 use Rattle.std.proofs.lemmas.List.Elements.{All-from_recursion}
-use Rattle.std.proofs.lemmas.List.Sums.{sum_by-cons, count_by-le-length}
-use Rattle.lab_num.specs.declared.key.Member.{Member}
+use Rattle.std.proofs.lemmas.List.Sums.{sum_by-cons}
 use Rattle.dev_core.specs.declared.kind.Kind.{Kind}
 use Rattle.dev_core.specs.declared.kind.Kind.TheVariants.{Uart, Can, Finisher}
 use Rattle.dev_core.specs.declared.state.DevState.{DevState}
@@ -22,8 +21,8 @@ use Rattle.lab_state.specs.Change.{change_at}
 use Rattle.lab_state.specs.Hub.{Hub}
 use Rattle.lab_state.specs.One.{view_at, view_of}
 use Rattle.lab_state.specs.Lab.{Seen}
-use Rattle.lab_state.specs.Inner.Spares.{Spares, left_of, full, kinds_of, HasFor, HasRoomFor, AreTaken}
-use Rattle.lab_state.specs.Inner.Standing.{Outline, outline, outlines, IsStanding, AreStanding, count_of_plans, IsEnough, IsSound}
+use Rattle.lab_state.specs.Inner.Spares.{Spares, kinds_of, HasFor, HasRoomFor, AreTaken}
+use Rattle.lab_state.specs.Inner.Standing.{Outline, outline, outlines, IsStanding, AreStanding, count_of_plans, IsSound}
 use Rattle.lab_state.proofs.SoundLemmas.{one_if, devices-kept}
 
 -- ---- what a plan takes
@@ -60,12 +59,15 @@ one_small : (o : Option (List Kind)) → cond (is_some o) 1 0 ≤ 1
 one_small None = omega arith
 one_small (Some kinds) = omega arith
 
+no_plan : (board : Board) → board.view ≡ None → one_if (outline board) ≡ 0
+no_plan board none = ap (λ (o : Option View). cond (is_some (option_map (λ v. v.space.plan.kinds) o)) 1 0) none
+
 plans-few :
     (boards : List Board) (i : ℕ) → i < length boards → view_at boards i ≡ None →
     count_of_plans (outlines boards) < length boards
 plans-few [] i below none = absurd (omega arith)
 plans-few (x ∷ xs) zero below none =
-    let no : one_if (outline x) ≡ 0 = ap (λ (o : Option View). cond (is_some (option_map (λ v. v.space.plan.kinds) o)) 1 0) none in
+    let no = no_plan x none in
     omega (
       arith,
       sum_by-cons one_if (outline x) (outlines xs),
@@ -93,6 +95,7 @@ has-for {boards = boards} {spares = spares} i plan sound below none valid early 
   where
     few : count_of_plans (outlines boards) < 16
     few = omega (arith, plans-few boards i below none, sound.few_boards)
+
     each : HasFor spares plan.kinds
     each Uart = omega (arith, (small plan valid).uarts, sound.enough.uarts, few)
     each Can = omega (arith, early.cans)
@@ -123,9 +126,11 @@ fit-standing :
     (most first : ℕ) (boards : List Board) (i : ℕ) (v : View) → IsStanding most (first + i) v.numbers →
     AreStanding most first boards → AreStanding most first (change_at boards i (with_new v))
 fit-standing most first [] i v is are = tt
-fit-standing most first (x ∷ xs) zero v is are =
-    (λ w at. subst (λ (v : View). IsStanding most first v.numbers) (ap (λ o. unwrap_or o w) at)
-    (rw add-zero at is), are.1)
+fit-standing most first (x ∷ xs) zero v is are = (
+  λ w at. subst (λ (v : View). IsStanding most first v.numbers) (ap (λ o. unwrap_or o w) at)
+      (rw add-zero at is),
+  are.1,
+)
 fit-standing most first (x ∷ xs) (suc i) v is are =
     let place : first + suc i ≡ first + 1 + i = omega arith in
     (are.0, fit-standing most (first + 1) xs i v (rw place at is) are.1)
@@ -155,7 +160,7 @@ fit-plans :
     count_of_plans (outlines (change_at boards i (with_new v))) ≡ count_of_plans (outlines boards) + 1
 fit-plans [] i v below none = absurd (omega arith)
 fit-plans (x ∷ xs) zero v below none =
-    let no : one_if (outline x) ≡ 0 = ap (λ (o : Option View). cond (is_some (option_map (λ v. v.space.plan.kinds) o)) 1 0) none in
+    let no = no_plan x none in
     omega (
       arith,
       sum_by-cons one_if (outline x) (outlines xs),

@@ -37,8 +37,8 @@ use Rattle.lab_state.proofs.SoundLemmas.{outline-view, outlines-change, standing
 -- ---- what handing over keeps
 
 fold-holds :
-    {A B : Type 0} (P : A → Type 0) (step : A → B → A) → ((a : A) (b : B) → P a → P (step a b)) → (a : A) (bs : List B) →
-    P a → P (fold step a bs)
+    {A B : Type 0} (P : A → Type 0) (step : A → B → A) → ((a : A) (b : B) → P a → P (step a b)) → (a : A)
+    (bs : List B) → P a → P (fold step a bs)
 fold-holds P step keeps a [] is = is
 fold-holds P step keeps a (b ∷ bs) is = fold-holds P step keeps (step a b) bs (keeps a b is)
 
@@ -332,7 +332,8 @@ standing_at most b (x ∷ xs) zero board are at =
     (ap (λ o. unwrap_or o x) at) (rw add-zero are.0)
 standing_at most b (x ∷ xs) (suc i) board are at =
     let place : b + 1 + i ≡ b + suc i = omega arith in
-    subst (λ b. ForSome board.view (λ v. IsStanding most b v.numbers)) place (standing_at most (b + 1) xs i board are.1 at)
+    subst (λ b. ForSome board.view (λ v. IsStanding most b v.numbers)) place
+    (standing_at most (b + 1) xs i board are.1 at)
 
 -- a member that a loop has not come to is a device of the boards as they are by then
 pub still_device :

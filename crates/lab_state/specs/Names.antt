@@ -1,18 +1,16 @@
 -- How boards and hubs are found by name, and the names that the log prints.
-use Rattle.std.specs.Prelude.{ℕ, Bool, true, false, ◌||◌, ◌==◌, List, [], length, map, find, slice_get, Option, None, Some, is_some, option_and_then}
+use Rattle.std.specs.Prelude.{ℕ, Bool, false, ◌||◌, ◌==◌, List, [], length, map, find, slice_get, Option, None, Some, is_some, option_and_then}
 use Rattle.std.specs.List.{position, range_with_len}
 use Rattle.std.specs.Option.{option_map, option_map_or}
 use Rattle.std.specs.Str.{bytes_eq}
 use Rattle.lab_num.specs.declared.key.Member.{Member}
 use Rattle.dev_core.specs.declared.kind.Kind.{Kind}
 use Rattle.sys_bus.specs.declared.plan.BoardPlan.{BoardPlan}
-use Rattle.sys_bus.specs.declared.plan.Named.{Named}
 use Rattle.sys_bus.specs.declared.plan.NamedWhat.{NamedWhat}
-use Rattle.sys_bus.specs.declared.plan.NamedWhat.TheVariants.{Cpu, Part}
+use Rattle.sys_bus.specs.declared.plan.NamedWhat.TheVariants.{Part}
 use Rattle.sys_bus.specs.declared.region.RegionKind.TheVariants.{Dev}
 use Rattle.log_merge.specs.declared.names.BoardNames.{BoardNames}
 use Rattle.log_merge.specs.declared.names.Names.{Names}
-use Rattle.board.specs.View.{View}
 use Rattle.lab_state.specs.Board.{Board}
 use Rattle.lab_state.specs.Lab.{Lab}
 use Rattle.lab_state.specs.One.{connected}

@@ -42,7 +42,7 @@ changed lab b f = record lab { boards = change_at lab.boards b (with_view f) }
 abbrev pub WritesPrefix : Seen → Seen → ℕ → ℕ → List ℕ → Type 0
 WritesPrefix old new b at bytes =
     (n : ℕ) × ((n ≤ length bytes)
-        × (new ≡ record old { lab = changed old.lab b (λ v. with_bytes v at (take n bytes)) }))
+    × (new ≡ record old { lab = changed old.lab b (λ v. with_bytes v at (take n bytes)) }))
 
 -- the laboratory with something put under the name of a board
 abbrev pub fitted : Lab → ℕ → View → Lab

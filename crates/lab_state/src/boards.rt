@@ -33,10 +33,7 @@ fn first_bare<D: Device>(boards: &[NamedBoard<D>]) -> Option<usize>
     boards.iter().position(|board| board.is_bare())
 }
 
-fn push<D: Device>(
-    boards: &mut Vec<NamedBoard<D>>,
-    board: NamedBoard<D>,
-) -> Result<(), NoMemory>
+fn push<D: Device>(boards: &mut Vec<NamedBoard<D>>, board: NamedBoard<D>) -> Result<(), NoMemory>
     ensures ok { OnOk result (boards.new.items ≡ boards.old.items ++ board ∷ []) }
     ensures err { OnErr result (boards.new.items ≡ boards.old.items) }
 {
@@ -147,7 +144,8 @@ impl<D: Device> Lab<D> {
         self.boards[b.0 as usize].board().unwrap()
     }
 
-    /// The kind of a device. None exactly where its board has no plan or the plan has no such device.
+    /// The kind of a device. None exactly where its board has no plan or the plan has no such
+    /// device.
     pub fn device_kind(&self, member: Member) -> Option<Kind>
         requires { self.now.spent ≡ false }
         ensures { result ≡ kind_at self.now.lab.boards member }

@@ -61,7 +61,7 @@ fn hand_over<D: Device>(
     ensures { OnOk result (◌≡◌ {A = Handed}
         (record { boards = boards.new; notes = notes.new.items })
         (fold (to_member at.0 payload.now)
-            (record { boards = boards.old; notes = notes.old.items }) to.now)) }
+        (record { boards = boards.old; notes = notes.old.items }) to.now)) }
 {
     for member in to {
         let note = boards[member.board.0 as usize].deliver(member.dev, payload);
@@ -82,7 +82,7 @@ fn hand_post<D: Device>(
     ensures { OnOk result (◌≡◌ {A = Handed}
         (record { boards = boards.new; notes = notes.new.items })
         (to_route at.0 (members_of hubs.now)
-            (record { boards = boards.old; notes = notes.old.items }) post.now)) }
+        (record { boards = boards.old; notes = notes.old.items }) post.now)) }
 {
     if is_finish(post) {
         return Ok(());

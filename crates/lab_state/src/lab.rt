@@ -50,8 +50,8 @@ impl<D: Device> Lab<D> {
     ghost use Rattle.dev_core.specs.Stock.{IsFull};
     ghost use Rattle.lab_state.specs.Lab.{Lab, Seen};
 
-    /// A laboratory at time 0, without boards and hubs, at a quantum of 100 microseconds. Boards are
-    /// made of the devices of the stock.
+    /// A laboratory at time 0, without boards and hubs, at a quantum of 100 microseconds. Boards
+    /// are made of the devices of the stock.
     pub fn new(alloc: Global, stock: Stock<D>) -> Result<Lab<D>, NoMemory>
         requires { IsFull (map D.meaning stock.uarts.items) (map D.meaning stock.cans.items)
             (map D.meaning stock.finishers.items) }

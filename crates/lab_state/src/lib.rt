@@ -22,6 +22,5 @@ pub use lab::Lab;
 pub use laws::{boundaries_agree, runs_end, runs_join, turns_agree};
 pub use round::RoundLog;
 
-
 #[cfg(test)]
 mod tests;

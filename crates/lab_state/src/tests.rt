@@ -1,13 +1,14 @@
 //! What rounds and runs of programs show, on boards with a memory, a UART and a finisher.
-ghost use Rattle.std.specs.Prelude.{◌≡◌, ◌+◌, ◌<◌, ◌≤◌, true, false, OnErr};
-ghost use Rattle.lab_state.specs.One.{HaveAllPlans};
+ghost use Rattle.std.specs.Prelude.{◌≡◌};
 
+mod chip;
 mod counted;
 mod faults;
 mod programs;
 
 use crate::{Lab, LabFault, RoundLog};
 use board::is_early;
+use chip::{Chip, stock};
 use dev_core::{Device, Finish, Kind, Stock, What};
 use lab_num::{BoardNo, Key, Member, Micros, NoMemory, PostNo, Rows, Text, is_name};
 use log_merge::{LogItem, Member0, Note};
@@ -15,10 +16,6 @@ use std::alloc::Global;
 use std::process::Abort;
 use std::test::Fail;
 use sys_bus::{BoardPlan, Named, NamedWhat, Region, RegionKind};
-use test_finisher::Finisher;
-use uart_16550::Uart;
-
-type Chip = Box<dyn Device + Send>;
 
 /// Where a board's memory begins.
 const START: u32 = 0x8000_0000;
@@ -106,25 +103,6 @@ fn plan(alloc: Global) -> Result<BoardPlan, Fail> {
         wires: Rows::of(Vec::new(alloc)),
         speed: 1,
         cpu: Text::of(alloc, "cpu")?,
-    })
-}
-
-/// The devices of a full stock.
-fn stock(alloc: Global) -> Result<Stock<Chip>, Fail> {
-    let mut uarts = Vec::new(alloc);
-    for _ in 0..64 {
-        let uart: Chip = Box::new(alloc, Uart::new())?;
-        uarts.push(uart)?;
-    }
-    let mut finishers = Vec::new(alloc);
-    for _ in 0..16 {
-        let finisher: Chip = Box::new(alloc, Finisher::new())?;
-        finishers.push(finisher)?;
-    }
-    Ok(Stock {
-        uarts,
-        cans: Vec::new(alloc),
-        finishers,
     })
 }
 

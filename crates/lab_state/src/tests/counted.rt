@@ -51,7 +51,7 @@ impl<'a> Device for Counted<'a> {
 
 /// The devices of a stock, of which the first UART, the second and all others count in cells of
 /// their own.
-fn counted<'a>(
+fn counting_stock<'a>(
     alloc: Global,
     first: &'a Cell<u32>,
     second: &'a Cell<u32>,
@@ -83,7 +83,7 @@ fn counted<'a>(
 fn boards_take_the_devices_of_the_stock_in_order(rt: HostRuntime) -> Result<(), Fail> {
     let (first, second, others) = (Cell::new(0), Cell::new(0), Cell::new(0));
     let alloc = rt.alloc();
-    let stock = counted(alloc, &first, &second, &others)?;
+    let stock = counting_stock(alloc, &first, &second, &others)?;
     let mut lab = new_lab(&rt, alloc, stock)?;
     let send = bytes_of(alloc, &[LUI, SEND, STAY])?;
     let send_twice = bytes_of(alloc, &[LUI, SEND, SEND, STAY])?;

@@ -1,4 +1,7 @@
 //! What the log says of programs.
+ghost use Rattle.std.specs.Prelude.{◌≡◌, ◌+◌, ◌<◌, ◌≤◌, true, false, OnErr};
+ghost use Rattle.lab_state.specs.One.{HaveAllPlans};
+
 use super::*;
 
 /// lui x5, 0x10000; lbu x6, 5(x5); andi x7, x6, 1; beq x7, x0, -8; sb x6, 0(x5); jal x0, 0: sends
@@ -130,7 +133,10 @@ fn a_byte_comes_once_and_to_others_alone(rt: HostRuntime) -> Result<(), Fail> {
     let alloc = rt.alloc();
     // A byte is there, and none was lost.
     let lines = [sent(5, 0), byte_sent(103, 1, 0x61)];
-    let programs = [sender(alloc, LETTER_A, 5)?, Vec::from_slice(alloc, &STATUS)?];
+    let programs = [
+        sender(alloc, LETTER_A, 5)?,
+        Vec::from_slice(alloc, &STATUS)?,
+    ];
     assert_log(&rt, alloc, &programs, 0, &lines)?;
     // Sends an `A`, and then goes on as a board that sends on what it gets.
     let mut words = Vec::new(alloc);

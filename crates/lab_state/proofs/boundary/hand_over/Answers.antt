@@ -1,5 +1,5 @@
 -- One device more was handed the payload.
-use Rattle.std.proofs.Common.{◌≡◌, ◌∙◌, sym, ap, ◌<◌, ◌++◌, length, get_or, take}
+use Rattle.std.proofs.Common.{◌≡◌, ◌∙◌, sym, ap, ◌++◌, get_or, take}
 use Rattle.std.specs.Prelude.{option_and_then}
 use Rattle.std.specs.Option.{option_map, option_to_list}
 use Rattle.std.proofs.lemmas.List.Sums.{fold_more}
@@ -8,7 +8,7 @@ use Rattle.lab_num.specs.declared.key.Member.{Member}
 use Rattle.board.specs.Changes.{handed}
 use Rattle.lab_state.specs.Board.{Board}
 use Rattle.lab_state.specs.Boundary.{Handed, note_item, note_by, to_member}
-use Rattle.lab_state.specs.One.{view_at, with_view}
+use Rattle.lab_state.specs.One.{with_view}
 use Rattle.lab_state.proofs.ListLemmas.{set-change}
 use Rattle.lab_state.proofs.RoundLemmas.{still_device, board-within, device-within}
 use Rattle.lab_state.proofs.boundary.hand_over.Goals as goal
@@ -27,8 +27,8 @@ deliver-note-requires g c =
     let found =
     slice_get-get_or c.loop-member.boards m.board.0 c.index-boards-member.result
     (board-within c.loop-member.boards m is) in
-    λ v view. device-within c.loop-member.boards m (get_or c.loop-member.boards m.board.0 c.index-boards-member.result) v
-    is found view
+    let board = get_or c.loop-member.boards m.board.0 c.index-boards-member.result in
+    λ v view. device-within c.loop-member.boards m board v is found view
 
 pub loop-member-preserved : goal.loop-member-preserved
 loop-member-preserved g c =

@@ -1,5 +1,5 @@
 -- The entry that was found has the name.
-use Rattle.std.proofs.Common.{◌≡◌, ◌∙◌, sym, ap, [], List, ℕ, Option, find}
+use Rattle.std.proofs.Common.{◌∙◌, ap, [], List, ℕ, Option}
 use Rattle.std.specs.Option.{option_map_or}
 use Rattle.sys_bus.specs.declared.plan.Named.{Named}
 use Rattle.lab_state.proofs.names.device_name.Goals as goal

@@ -10,8 +10,10 @@ use Rattle.lab_state.proofs.round.play.Goals as goal
 
 pub hand_over_all-requires : goal.hand_over_all-requires
 hand_over_all-requires g c =
-    rw (c.in_ok-posts.ensures.boards,
-    outlines-stepped c.stretches_keep_plans.ensures c.args.from.0 (c.args.from.0 + c.args.q) c.args.boards.now)
+    rw (
+      c.in_ok-posts.ensures.boards,
+      outlines-stepped c.stretches_keep_plans.ensures c.args.from.0 (c.args.from.0 + c.args.q) c.args.boards.now,
+    )
     c.requires.devices
 
 pub returns-clause-boards : goal.returns-clause-boards

@@ -1,5 +1,5 @@
 -- One board more has taken its slots.
-use Rattle.std.proofs.Common.{◌≡◌, ◌∙◌, sym, ap, ◌+◌, ◌*◌, ◌<◌, ◌≤◌, ◌++◌, length, set, get_or, arith}
+use Rattle.std.proofs.Common.{◌≡◌, ◌∙◌, sym, ap, ◌+◌, ◌*◌, ◌<◌, ◌++◌, length, set, get_or, arith}
 use Rattle.std.proofs.lemmas.List.Edits.{map_over_more}
 use Rattle.log_merge.specs.Merge.{all_entries}
 use Rattle.lab_state.specs.Board.{Board}

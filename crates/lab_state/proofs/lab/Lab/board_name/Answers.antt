@@ -13,6 +13,7 @@ returns-clause-found g c =
     omega (arith, ap (λ s. length s.lab.boards) c.self.view_is, c.requires.exists) in
     let at = slice_get_read c.self.inside.boards.items _ c.args.b.0 c.index.result.now
     (λ i. length c.self.inside.boards.items) below c.index.ensures in
+    let names = (c.self.invariant unspent).names in
     rw (← c.self.view_is)
-    (board-found c.self.inside.boards.items c.self.inside.hubs c.args.b.0 c.name.result.now (c.self.invariant unspent).names
+    (board-found c.self.inside.boards.items c.self.inside.hubs c.args.b.0 c.name.result.now names
     (ap Some c.name.ensures ∙ ap (option_map (λ (board : Board). board.name)) (sym at)))

@@ -1,5 +1,5 @@
 -- A change of one board keeps what holds of the laboratory.
-use Rattle.std.proofs.Common.{◌≡◌, ap, refl, false, ◌*◌, ◌∙◌}
+use Rattle.std.proofs.Common.{ap, refl, ◌*◌}
 use Rattle.std.specs.Option.{ForSome}
 use Rattle.lab_state.specs.Lab.{Seen}
 use Rattle.lab_state.specs.One.{with_view, view_of, view_at}

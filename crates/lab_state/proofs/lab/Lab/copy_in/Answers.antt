@@ -1,5 +1,5 @@
 -- What is written is no part of what holds of the laboratory.
-use Rattle.std.proofs.Common.{◌≡◌, refl, ◌*◌, List, ℕ, take, Result, Ok, Err, OnOk}
+use Rattle.std.proofs.Common.{refl, ◌*◌, List, ℕ, take, Result, Ok, Err, OnOk}
 use Rattle.std.specs.Prelude.{OnErr}
 use Rattle.std.proofs.lemmas.Result.{on_ok_weaker, on_err_weaker}
 use Rattle.board.specs.Changes.{with_bytes}

@@ -51,7 +51,8 @@ give_back-requires-clause-room g c =
     let states =
     ap (map g.D.Device.meaning) c.in-Err.ensures.back ∙ c.in_ok-devices.ensures.devices
     ∙ ap (map first_state) c.items.ensures in
-    rw (states, kinds-first c.args.plan.kinds) (room-for c.take.new.self c.args.plan.kinds (c.self.invariant unspent) taken)
+    rw (states, kinds-first c.args.plan.kinds)
+    (room-for c.take.new.self c.args.plan.kinds (c.self.invariant unspent) taken)
 
 pub invariant_of-self-in-Err : goal.invariant_of-self-in-Err
 invariant_of-self-in-Err g c h =

@@ -1,5 +1,5 @@
 -- The devices that are left can be put back.
-use Rattle.std.proofs.Common.{◌≡◌, ◌+◌, map, length, ℕ}
+use Rattle.std.proofs.Common.{◌≡◌, ◌+◌, map, length}
 use Rattle.std.specs.Prelude.{All}
 use Rattle.dev_core.specs.declared.kind.Kind.{Kind}
 use Rattle.dev_core.specs.Device.{kind_of}

@@ -1,6 +1,5 @@
 -- A full stock has room for all its devices.
-use Rattle.std.proofs.Common.{◌≡◌, ◌≤◌, length, deque_capacity, arith}
-use Rattle.dev_core.specs.declared.state.DevState.TheVariants.{Finisher}
+use Rattle.std.proofs.Common.{arith}
 use Rattle.lab_state.proofs.SpareLemmas.{seen_as, seen_long}
 use Rattle.lab_state.proofs.spares.Spares.of.Goals as goal
 
@@ -10,8 +9,7 @@ invariant_of-result g c =
     let cans = rw (← c.from-2.ensures.0) at c.requires.1 in
     let finishers = rw (← c.from-3.ensures.0) at c.requires.2 in
     let uarts_long = seen_long g.D.Device.meaning 64 c.from.result.items _ uarts in
-    let finishers_long = seen_long g.D.Device.meaning 16 c.from-3.result.items _ finishers in
-    (
+    let finishers_long = seen_long g.D.Device.meaning 16 c.from-3.result.items _ finishers in (
       seen_as g.D.Device.meaning 64 c.from.result.items _ uarts,
       seen_as g.D.Device.meaning 0 c.from-2.result.items _ cans,
       seen_as g.D.Device.meaning 16 c.from-3.result.items _ finishers,
