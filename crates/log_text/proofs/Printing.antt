@@ -26,7 +26,9 @@ use Rattle.log_text.proofs.Parts.{list_all-both}
 abbrev is_printable_byte : ℕ → Bool
 is_printable_byte byte = nat_le 32 byte && nat_le byte 126
 
-both : (front back : List ℕ) → is_printable front ≡ true → is_printable back ≡ true → is_printable (front ++ back) ≡ true
+both :
+    (front back : List ℕ) → is_printable front ≡ true → is_printable back ≡ true →
+    is_printable (front ++ back) ≡ true
 both front back one other = list_all-both is_printable_byte front back one other
 
 -- ---- numbers
@@ -59,10 +61,12 @@ zeros_printable zero = refl
 zeros_printable (suc n) = zeros_printable n
 
 filled_printable : (least : ℕ) (shown : List ℕ) → is_printable shown ≡ true → is_printable (filled least shown) ≡ true
-filled_printable least shown is = both (replicate (least - length shown) 48) shown (zeros_printable (least - length shown)) is
+filled_printable least shown is =
+    both (replicate (least - length shown) 48) shown (zeros_printable (least - length shown)) is
 
 hexadecimal_printable : (least n : ℕ) → is_printable (hexadecimal least n) ≡ true
-hexadecimal_printable least n = filled_printable least (digits 16 false n) (digits_printable 16 n (omega arith) (omega arith))
+hexadecimal_printable least n =
+    filled_printable least (digits 16 false n) (digits_printable 16 n (omega arith) (omega arith))
 
 word_printable : (n : ℕ) → is_printable (word n) ≡ true
 unfolding word
@@ -115,7 +119,8 @@ both_lines front back one other = record {
 log_line_is_one : (at : Micros) (said : List ℕ) → is_printable said ≡ true → AreLines (log_line at said)
 log_line_is_one at said is =
     let line = codes "[" ++ seconds at ++ codes "] " ++ said in
-    let stamp = both (codes "[" ++ seconds at) (codes "] ") (both (codes "[") (seconds at) refl (seconds_printable at)) refl in
+    let stamp =
+    both (codes "[" ++ seconds at) (codes "] ") (both (codes "[") (seconds at) refl (seconds_printable at)) refl in
     record {
       lines = line ∷ [];
       printable = and_from (is_printable line) true (both (codes "[" ++ seconds at ++ codes "] ") said stamp is) refl;
@@ -132,7 +137,8 @@ escaped_printable byte =
           | inl is ↦ rw (not_92, other, is) refl
           | inr not_9 ↦ elim (cases_Bool (byte == 13)) [
             | inl is ↦ rw (not_92, other, not_9, is) refl
-            | inr not_13 ↦ rw (not_92, other, not_9, not_13) (both (codes "\\x") (hexadecimal 2 byte) refl (hexadecimal_printable 2 byte))
+            | inr not_13 ↦ rw (not_92, other, not_9, not_13)
+                (both (codes "\\x") (hexadecimal 2 byte) refl (hexadecimal_printable 2 byte))
           ]
         ]
       ]
@@ -140,7 +146,8 @@ escaped_printable byte =
 
 escaped_all_printable : (bytes : List ℕ) → is_printable (flat_map escaped bytes) ≡ true
 escaped_all_printable [] = refl
-escaped_all_printable (byte ∷ bytes) = both (escaped byte) (flat_map escaped bytes) (escaped_printable byte) (escaped_all_printable bytes)
+escaped_all_printable (byte ∷ bytes) =
+    both (escaped byte) (flat_map escaped bytes) (escaped_printable byte) (escaped_all_printable bytes)
 
 module _ (names : Names) (are : are_printable_names names ≡ true) where
   uart_line_is_one : (line : OpenLine) → AreLines (uart_line names line)
@@ -167,9 +174,11 @@ module _ (names : Names) (are : are_printable_names names ≡ true) where
       is_printable (board_name names board ++ codes "/sysbus: read " ++ decimal width ++ codes " at " ++ word at) ≡ true
   read_printable board width at =
       let name = both (board_name names board) (codes "/sysbus: read ") (board_parts names are board).0 refl in
-      let wide = both (board_name names board ++ codes "/sysbus: read ") (decimal width) name (decimal_printable width) in
+      let wide =
+      both (board_name names board ++ codes "/sysbus: read ") (decimal width) name (decimal_printable width) in
       both (board_name names board ++ codes "/sysbus: read " ++ decimal width ++ codes " at ") (word at)
-      (both (board_name names board ++ codes "/sysbus: read " ++ decimal width) (codes " at ") wide refl) (word_printable at)
+      (both (board_name names board ++ codes "/sysbus: read " ++ decimal width) (codes " at ") wide refl)
+      (word_printable at)
 
   write_printable :
       (board : BoardNo) (width at value : ℕ) →
@@ -177,11 +186,15 @@ module _ (names : Names) (are : are_printable_names names ≡ true) where
       ++ codes " value " ++ word value) ≡ true
   write_printable board width at value =
       let name = both (board_name names board) (codes "/sysbus: write ") (board_parts names are board).0 refl in
-      let wide = both (board_name names board ++ codes "/sysbus: write ") (decimal width) name (decimal_printable width) in
+      let wide =
+      both (board_name names board ++ codes "/sysbus: write ") (decimal width) name (decimal_printable width) in
       let placed =
       both (board_name names board ++ codes "/sysbus: write " ++ decimal width ++ codes " at ") (word at)
-      (both (board_name names board ++ codes "/sysbus: write " ++ decimal width) (codes " at ") wide refl) (word_printable at) in
-      both (board_name names board ++ codes "/sysbus: write " ++ decimal width ++ codes " at " ++ word at ++ codes " value ")
+      (both (board_name names board ++ codes "/sysbus: write " ++ decimal width) (codes " at ") wide refl)
+      (word_printable at) in
+      both
+      (board_name names board ++ codes "/sysbus: write " ++ decimal width ++ codes " at " ++ word at
+      ++ codes " value ")
       (word value)
       (both (board_name names board ++ codes "/sysbus: write " ++ decimal width ++ codes " at " ++ word at)
       (codes " value ") placed refl)
@@ -200,7 +213,8 @@ module _ (names : Names) (are : are_printable_names names ≡ true) where
   printed_is_whole lines (Slot from (Byte dev byte)) = ended_is_whole (own (device_of from dev) lines) from.at byte
   printed_is_whole lines (Slot from (Sent dev frame)) = no_lines
   printed_is_whole lines (Slot from (Read width at)) =
-      log_line_is_one from.at (board_name names from.board ++ codes "/sysbus: read " ++ decimal width ++ codes " at " ++ word at)
+      log_line_is_one from.at
+      (board_name names from.board ++ codes "/sysbus: read " ++ decimal width ++ codes " at " ++ word at)
       (read_printable from.board width at)
   printed_is_whole lines (Slot from (Write width at value)) =
       log_line_is_one from.at (board_name names from.board ++ codes "/sysbus: write " ++ decimal width ++ codes " at "
@@ -211,7 +225,8 @@ module _ (names : Names) (are : are_printable_names names ≡ true) where
   printed_is_whole lines (Note at m (Received frame)) = no_lines
   printed_is_whole lines (Note at m (Lost frame)) = no_lines
   printed_is_whole lines (Pause at m finish) =
-      log_line_is_one at (codes "pause " ++ place_name names m ++ codes ": " ++ finish_text finish) (pause_printable m finish)
+      log_line_is_one at (codes "pause " ++ place_name names m ++ codes ": " ++ finish_text finish)
+      (pause_printable m finish)
 
   pub text_is_whole : (lines : List OpenLine) (items : List LogItem) → AreLines (text names lines items)
   text_is_whole lines [] = no_lines
@@ -221,4 +236,5 @@ module _ (names : Names) (are : are_printable_names names ≡ true) where
 
   pub rest_is_whole : (lines : List OpenLine) → AreLines (rest names lines)
   rest_is_whole [] = no_lines
-  rest_is_whole (line ∷ lines) = both_lines (uart_line names line) (rest names lines) (uart_line_is_one line) (rest_is_whole lines)
+  rest_is_whole (line ∷ lines) =
+      both_lines (uart_line names line) (rest names lines) (uart_line_is_one line) (rest_is_whole lines)

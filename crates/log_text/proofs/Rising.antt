@@ -168,7 +168,8 @@ rise_all lines i past so_far = sym (so_far ∙ rise_end lines (i - 1) (omega ari
 
 -- ---- open lines without a member's own, and with it
 
-unended_parts : (lines : List OpenLine) → are_unended lines ≡ true → (list_all is_unended lines ≡ true) × (rise lines ≡ true)
+unended_parts :
+    (lines : List OpenLine) → are_unended lines ≡ true → (list_all is_unended lines ≡ true) × (rise lines ≡ true)
 unended_parts lines are = and_parts (list_all is_unended lines) (rise lines) are
 
 -- lower lines, some that are not lower, all of them unended
@@ -189,7 +190,8 @@ higher_above :
     (m : Member) (lines : List OpenLine) → list_all (λ line. not (is_lower line.member m)) (higher m lines) ≡ true
 higher_above m lines =
     list_all-weaker (λ (line : OpenLine). is_lower m line.member) (λ line. not (is_lower line.member m))
-    (λ line is. higher_not_lower line.member m is) (higher m lines) (filter_passes (λ line. is_lower m line.member) lines)
+    (λ line is. higher_not_lower line.member m is) (higher m lines)
+    (filter_passes (λ line. is_lower m line.member) lines)
 
 higher_unended : (m : Member) (lines : List OpenLine) → are_unended lines ≡ true → are_unended (higher m lines) ≡ true
 higher_unended m lines are =
@@ -201,7 +203,8 @@ higher_unended m lines are =
 pub others_unended :
     (m : Member) (lines : List OpenLine) → are_unended lines ≡ true →
     are_unended (lower m lines ++ higher m lines) ≡ true
-others_unended m lines are = unended-append m lines (higher m lines) are (higher_unended m lines are) (higher_above m lines)
+others_unended m lines are =
+    unended-append m lines (higher m lines) are (higher_unended m lines are) (higher_above m lines)
 
 -- a line of the member between the others
 pub between_unended :
@@ -215,7 +218,8 @@ between_unended m lines line are is of =
     unended-append m lines (line ∷ higher m lines) are
     (and_from (list_all is_unended (line ∷ higher m lines)) (rise (line ∷ higher m lines))
     (and_from (is_unended line) (list_all is_unended (higher m lines)) is highs.0)
-    (and_from (list_all (λ later. is_lower line.member later.member) (higher m lines)) (rise (higher m lines)) above highs.1))
+    (and_from (list_all (λ later. is_lower line.member later.member) (higher m lines)) (rise (higher m lines)) above
+    highs.1))
     (and_from (not (is_lower line.member m)) (list_all (λ line. not (is_lower line.member m)) (higher m lines)) here
     (higher_above m lines))
 
@@ -249,12 +253,16 @@ module _ (m : Member) (lines : List OpenLine) (n : ℕ) (at : n ≡ place_of m l
   split : Parted (λ (line : OpenLine). is_lower line.member m) (λ line. is_lower m line.member) lines
   split = parted m lines (unended_parts lines are).1
 
-  stands_parts : stands_at m lines n ≡ true → (n < length lines) × (same_member (get_or lines n (blank m)).member m ≡ true)
+  stands_parts :
+      stands_at m lines n ≡ true → (n < length lines) × (same_member (get_or lines n (blank m)).member m ≡ true)
   stands_parts stands =
       let parts = and_parts (nat_lt n (length lines)) (same_member (get_or lines n (blank m)).member m) stands in
       (ltb-true n (length lines) parts.0, parts.1)
 
-  standing : stands_at m lines n ≡ true → Found (λ (line : OpenLine). is_lower line.member m) (λ line. same_member line.member m) (λ line. is_lower m line.member) (apart m) lines (blank m) n
+  standing :
+      stands_at m lines n ≡ true →
+      Found (λ (line : OpenLine). is_lower line.member m) (λ line. same_member line.member m)
+      (λ line. is_lower m line.member) (apart m) lines (blank m) n
   standing stands =
       let parts = stands_parts stands in
       found (λ (line : OpenLine). is_lower line.member m) (λ line. same_member line.member m)
@@ -270,7 +278,10 @@ module _ (m : Member) (lines : List OpenLine) (n : ℕ) (at : n ≡ place_of m l
   pub taken_others : stands_at m lines n ≡ true → take n lines ++ drop (suc n) lines ≡ lower m lines ++ higher m lines
   taken_others stands = sym (standing stands).others
 
-  absent : stands_at m lines n ≡ false → Unfound (λ (line : OpenLine). is_lower line.member m) (λ line. same_member line.member m) (λ line. is_lower m line.member) (apart m) lines
+  absent :
+      stands_at m lines n ≡ false →
+      Unfound (λ (line : OpenLine). is_lower line.member m) (λ line. same_member line.member m)
+      (λ line. is_lower m line.member) (apart m) lines
   absent stands =
       unfound (λ (line : OpenLine). is_lower line.member m) (λ line. same_member line.member m)
       (λ line. is_lower m line.member) (apart m) lines n (sym at) split
@@ -304,18 +315,28 @@ module _ (m : Member) (lines : List OpenLine) (n : ℕ) (at : n ≡ place_of m l
         drop_at (lower m lines) (higher m lines) n (sym lower_count),
       ) refl
 
--- a byte that ends no line, taken into the member's own line, which is put in its place
+-- a byte that ends no line, taken into the member's own line, which is put in its place among the others
 module _ (m : Member) (lines : List OpenLine) (n : ℕ) (at : n ≡ place_of m lines) (are : are_unended lines ≡ true)
-    (time : Micros) (byte : ℕ) (goes_on : is_ending (own m lines) byte ≡ false) where
+    (time : Micros) (byte : ℕ) where
   pub put_back :
-      take n (lower m lines ++ higher m lines)
-      ++ gathered (own m lines) time byte ∷ drop n (lower m lines ++ higher m lines)
-      ≡ with_byte lines m time byte
-  put_back = rw goes_on (put_between m lines n at are (gathered (own m lines) time byte) ∙ sym (append_assoc (lower m lines) (gathered (own m lines) time byte ∷ []) (higher m lines)))
+      (others : List OpenLine) (taken longer : OpenLine) → others ≡ lower m lines ++ higher m lines →
+      taken ≡ own m lines → longer ≡ gathered taken time byte → is_ending taken byte ≡ false →
+      take n others ++ longer ∷ drop n others ≡ with_byte lines m time byte
+  put_back others taken longer left is_own is_longer goes_on =
+      let longer_own = gathered (own m lines) time byte in
+      let goes_on_own : is_ending (own m lines) byte ≡ false = rw is_own at goes_on in
+      rw (left, is_longer, is_own, goes_on_own)
+      (put_between m lines n at are longer_own
+      ∙ sym (append_assoc (lower m lines) (longer_own ∷ []) (higher m lines)))
 
-  pub with_byte_unended : are_unended (with_byte lines m time byte) ≡ true
-  with_byte_unended =
+  pub with_byte_unended :
+      (taken : OpenLine) → taken ≡ own m lines → is_ending taken byte ≡ false →
+      are_unended (with_byte lines m time byte) ≡ true
+  with_byte_unended taken is_own goes_on =
+      let longer_own = gathered (own m lines) time byte in
+      let goes_on_own : is_ending (own m lines) byte ≡ false = rw is_own at goes_on in
       subst (λ (after : List OpenLine). are_unended after ≡ true)
-      (sym (put_between m lines n at are (gathered (own m lines) time byte)) ∙ put_back)
-      (between_unended m lines (gathered (own m lines) time byte) are
-      (gathered_unended (own m lines) time byte (own_no_feed m lines are) goes_on) (own_member m lines))
+      (sym (put_between m lines n at are longer_own)
+      ∙ put_back (lower m lines ++ higher m lines) (own m lines) longer_own refl refl refl goes_on_own)
+      (between_unended m lines longer_own are
+      (gathered_unended (own m lines) time byte (own_no_feed m lines are) goes_on_own) (own_member m lines))

@@ -64,7 +64,8 @@ impl Lines {
         &self.lines
     }
 
-    /// What the items print, in order. The bytes that end no line are gathered.
+    /// The bytes that the items print, in order. Bytes of UARTs that end no line are gathered. `Err`
+    /// where memory runs out.
     pub fn text(&mut self, names: &Names, items: &[LogItem]) -> Result<Vec<u8>, NoMemory>
         ensures text { IfOk result (λ printed.
             printed.items ≡ log_spec.text names.now self.old items.now) }
@@ -80,7 +81,8 @@ impl Lines {
         Ok(text.into_bytes())
     }
 
-    /// What is printed of all open lines at the end of the log, in order. None is open then.
+    /// The bytes that all open lines print at the end of the log, in order of their members, each
+    /// with the time of its last byte. None is open then. `Err` where memory runs out.
     pub fn rest(&mut self, names: &Names) -> Result<Vec<u8>, NoMemory>
         ensures text { IfOk result (λ printed. printed.items ≡ log_spec.rest names.now self.old) }
         ensures lines { OnOk result (self.new ≡ []) }
@@ -182,7 +184,8 @@ impl Lines {
 
     /// Takes the member's own line out, which stands at this place if it is open.
     fn take_out(&mut self, place: usize, member: Member) -> OpenLine
-        requires { place ≡ place_spec.place_of member self.old }
+        requires place { place ≡ place_spec.place_of member self.old }
+        requires unended { IsTrue (line_spec.are_unended self.old) }
         ensures line { result ≡ line_spec.own member self.old }
         ensures lines { self.new ≡ line_spec.lower member self.old ++ line_spec.higher member self.old }
     {

@@ -29,6 +29,7 @@ impl fmt::Display for Word {
 
     ghost output = { λ number. Some (word number.0) };
 
+    #[tactic(auto, using(crate::proofs::Digits::filled_eight), unfolding(crate::specs::Number::word))]
     fn fmt<W: fmt::Write>(&self, f: &mut fmt::Formatter<W>) -> fmt::Result {
         let number = self.0;
         write!(f, "0x{number:08x}")

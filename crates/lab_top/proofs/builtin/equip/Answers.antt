@@ -15,37 +15,37 @@ fit-requires-clause-early g c = rw c.in_ok-plan.ensures usual_early
 pub show-requires-clause-has_plan : goal.show-requires-clause-has_plan
 show-requires-clause-has_plan g c =
     let fitted =
-        view-fitted c.args.lab.now.lab _ c.args.board.0 _ c.requires.exists c.in_ok-plan.ensures
-        (ap (λ seen. seen.lab) c.in-Ok.ensures.ok) in
+    view-fitted c.args.lab.now.lab _ c.args.board.0 _ c.requires.exists c.in_ok-plan.ensures
+    (ap (λ seen. seen.lab) c.in-Ok.ensures.ok) in
     ap is_some fitted
 
 pub show-requires-clause-device : goal.show-requires-clause-device
 show-requires-clause-device g c =
     let fitted =
-        view-fitted c.args.lab.now.lab _ c.args.board.0 _ c.requires.exists c.in_ok-plan.ensures
-        (ap (λ seen. seen.lab) c.in-Ok.ensures.ok) in
+    view-fitted c.args.lab.now.lab _ c.args.board.0 _ c.requires.exists c.in_ok-plan.ensures
+    (ap (λ seen. seen.lab) c.in-Ok.ensures.ok) in
     of_view (λ v. 0 < length v.space.devices) _ _ fitted (usual_device c.args.board.0)
 
 pub show-requires-clause-kind : goal.show-requires-clause-kind
 show-requires-clause-kind g c =
     let fitted =
-        view-fitted c.args.lab.now.lab _ c.args.board.0 _ c.requires.exists c.in_ok-plan.ensures
-        (ap (λ seen. seen.lab) c.in-Ok.ensures.ok) in
+    view-fitted c.args.lab.now.lab _ c.args.board.0 _ c.requires.exists c.in_ok-plan.ensures
+    (ap (λ seen. seen.lab) c.in-Ok.ensures.ok) in
     of_view (λ v. IsTrue (may_be_shown v 0)) _ _ fitted (usual_uart c.args.board.0)
 
 pub connect-requires-clause-device : goal.connect-requires-clause-device
 connect-requires-clause-device g c =
     let fitted =
-        view-fitted c.args.lab.now.lab _ c.args.board.0 _ c.requires.exists c.in_ok-plan.ensures
-        (ap (λ seen. seen.lab) c.in-Ok.ensures.ok) in
+    view-fitted c.args.lab.now.lab _ c.args.board.0 _ c.requires.exists c.in_ok-plan.ensures
+    (ap (λ seen. seen.lab) c.in-Ok.ensures.ok) in
     let shown = view-changed _ _ c.args.board.0 _ _ (ap (λ seen. seen.lab) c.show.ensures) fitted in
     ap (λ o. is_some (option_and_then (λ v. slice_get v.space.plan.kinds 0) o)) shown ∙ usual_kind
 
 pub set_pc-requires-clause-has_plan : goal.set_pc-requires-clause-has_plan
 set_pc-requires-clause-has_plan g c =
     let fitted =
-        view-fitted c.args.lab.now.lab _ c.args.board.0 _ c.requires.exists c.in_ok-plan.ensures
-        (ap (λ seen. seen.lab) c.in-Ok.ensures.ok) in
+    view-fitted c.args.lab.now.lab _ c.args.board.0 _ c.requires.exists c.in_ok-plan.ensures
+    (ap (λ seen. seen.lab) c.in-Ok.ensures.ok) in
     let shown = view-changed _ _ c.args.board.0 _ _ (ap (λ seen. seen.lab) c.show.ensures) fitted in
     let joined = view-connected _ _ _ _ c.args.board.0 _ (ap (λ seen. seen.lab) c.in-Ok-connect.ensures.ok) shown in
     ap is_some joined
@@ -53,8 +53,8 @@ set_pc-requires-clause-has_plan g c =
 pub copy_in-requires-clause-has_plan : goal.copy_in-requires-clause-has_plan
 copy_in-requires-clause-has_plan g c =
     let fitted =
-        view-fitted c.args.lab.now.lab _ c.args.board.0 _ c.requires.exists c.in_ok-plan.ensures
-        (ap (λ seen. seen.lab) c.in-Ok.ensures.ok) in
+    view-fitted c.args.lab.now.lab _ c.args.board.0 _ c.requires.exists c.in_ok-plan.ensures
+    (ap (λ seen. seen.lab) c.in-Ok.ensures.ok) in
     let shown = view-changed _ _ c.args.board.0 _ _ (ap (λ seen. seen.lab) c.show.ensures) fitted in
     let joined = view-connected _ _ _ _ c.args.board.0 _ (ap (λ seen. seen.lab) c.in-Ok-connect.ensures.ok) shown in
     let set = view-changed _ _ c.args.board.0 _ _ (ap (λ seen. seen.lab) c.set_pc.ensures) joined in
@@ -63,8 +63,8 @@ copy_in-requires-clause-has_plan g c =
 pub copy_in-requires-clause-holds : goal.copy_in-requires-clause-holds
 copy_in-requires-clause-holds g c =
     let fitted =
-        view-fitted c.args.lab.now.lab _ c.args.board.0 _ c.requires.exists c.in_ok-plan.ensures
-        (ap (λ seen. seen.lab) c.in-Ok.ensures.ok) in
+    view-fitted c.args.lab.now.lab _ c.args.board.0 _ c.requires.exists c.in_ok-plan.ensures
+    (ap (λ seen. seen.lab) c.in-Ok.ensures.ok) in
     let shown = view-changed _ _ c.args.board.0 _ _ (ap (λ seen. seen.lab) c.show.ensures) fitted in
     let joined = view-connected _ _ _ _ c.args.board.0 _ (ap (λ seen. seen.lab) c.in-Ok-connect.ensures.ok) shown in
     let set = view-changed _ _ c.args.board.0 _ _ (ap (λ seen. seen.lab) c.set_pc.ensures) joined in

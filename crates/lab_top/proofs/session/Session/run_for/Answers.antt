@@ -11,15 +11,15 @@ returns-in-Err-NoPlan g c =
     let stays = facts.unchanged (λ memory. absurd (cc (refused, memory))) in
     let without = ((facts.no_plan c.in-Err-NoPlan.field-0-0).0 (ap Err refused)).1 in
     let new : Running =
-        record {
-          state = record {
-            bodies = c.self.inside.body ∷ [];
-            taken = c.self.inside.taken;
-            lab = c.run_for.new.self.lab;
-            lines = c.self.inside.lines;
-          };
-          spent = c.run_for.new.self.spent;
-        } in
+    record {
+      state = record {
+        bodies = c.self.inside.body ∷ [];
+        taken = c.self.inside.taken;
+        lab = c.run_for.new.self.lab;
+        lines = c.self.inside.lines;
+      };
+      spent = c.run_for.new.self.spent;
+    } in
     refused_so run c.args.self.now new c.fault.result c.args.number c.args.length.0 c.in-Err-NoPlan.field-0-0.0
     c.fault.ensures
     (rw stays without)
@@ -29,11 +29,12 @@ pub returns-in-Ok-text : goal.returns-in-Ok-text
 returns-in-Ok-text g c =
     let facts = c.in-Ok.ensures {u = tt} in
     let texts = c.in-Ok-text.ensures {u = tt} in
-    let unspent : c.self.inside.lab.spent ≡ false = ap (λ r. r.spent) c.self.view_is ∙ c.requires in
-    ( rw (← c.self.view_is)
-      (has_gone run _ _ c.args.length.0
-        (λ b without. absurd (cc ((facts.no_plan (record { 0 = b })).1 (unspent, without))))
-        (λ planned long. absurd (cc (facts.too_long.1 (unspent, planned, long))))
-        ∙ rw (texts.text, texts.lines, c.items.ensures, facts.lines, c.in-Ok-names.ensures, facts.lab) refl),
+    let unspent : c.self.inside.lab.spent ≡ false = ap (λ r. r.spent) c.self.view_is ∙ c.requires in (
+      rw (← c.self.view_is)
+          (has_gone run _ _ c.args.length.0
+          (λ b without. absurd (cc ((facts.no_plan (record { 0 = b })).1 (unspent, without))))
+          (λ planned long. absurd (cc (facts.too_long.1 (unspent, planned, long))))
+          ∙ rw (texts.text, texts.lines, c.items.ensures, facts.lines, c.in-Ok-names.ensures, facts.lab) refl),
       rw (← c.self.view_is) refl,
-      rw facts.lab refl )
+      rw facts.lab refl,
+    )

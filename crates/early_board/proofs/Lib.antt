@@ -1,4 +1,0 @@
-pub mod SlotLemmas
-pub mod NumberLemmas
-pub mod StretchLemmas
-pub mod MemoryLemmas

@@ -1,5 +1,0 @@
-use Rattle.early_board.proofs.StretchLemmas.{turns-add}
-use Rattle.early_board.proofs.laws.turns_join.Goals as goal
-
-pub returns : goal.returns
-returns c = turns-add
