@@ -1,12 +1,12 @@
 -- How a command that runs the laboratory is answered.
-use Rattle.std.proofs.Common.{◌≡◌, ℕ, ◌+◌, ◌<◌, ◌^◌, Bool, true, false, Option, None, Some, nat_lt, refl, arith}
+use Rattle.std.proofs.Common.{◌≡◌, ℕ, ◌+◌, ◌<◌, ◌^◌, true, false, None, Some, nat_lt, refl, arith}
 use Rattle.std.specs.Prelude.{if◌then◌else◌, is_some}
 use Rattle.std.proofs.lemmas.Bool.Decides.{nat_tests}
 use Rattle.lab_state.specs.One.{first_without}
 use Rattle.lab_state.specs.Run.{Play}
 use Rattle.lab_top.specs.declared.fault.ScriptCause.TheVariants.{LabTime, Platform}
 use Rattle.lab_top.specs.Bodies.{Place}
-use Rattle.lab_top.specs.Command.{Answer, Faults, fault_at, has_run, run_answer}
+use Rattle.lab_top.specs.Command.{Faults, fault_at, has_run, run_answer}
 use Rattle.lab_top.specs.State.{State}
 use Rattle.lab_top.specs.declared.step.Step.{Step}
 use Rattle.lab_top.specs.Inner.Session.{Running, IsAnswer, place_in}

@@ -1,4 +1,4 @@
-use Rattle.std.proofs.Common.{◌≡◌, ◌∙◌, ◌<◌, length, ap, refl}
+use Rattle.std.proofs.Common.{◌∙◌, ◌<◌, length, ap, refl}
 use Rattle.std.specs.Prelude.{is_some, slice_get, option_and_then, IsTrue}
 use Rattle.std.proofs.lemmas.Result.{on_ok_weaker}
 use Rattle.board.specs.Changes.{holds_each, may_be_shown}
