@@ -91,6 +91,7 @@ impl<D: Device> Lab<D> {
 
     /// Runs for `d` microseconds: rounds of one quantum each, and then a shorter one if the quanta
     /// do not fill `d`. A run of 0 changes nothing. `RunFault::Memory` spends the laboratory.
+    #[tactic(auto, using(crate::proofs::RunLemmas::run_is))]
     pub fn run_for(&mut self, d: Micros) -> Result<RoundLog, RunFault>
         ensures lab { OnOk result (self.new
             ≡ record { lab = (run_spec.run self.old.lab d.0).lab; spent = false }) }
