@@ -1,0 +1,5 @@
+-- Lemmas of repl_read.
+pub mod CommentLemmas
+pub mod NumeralLemmas
+pub mod TokenLemmas
+pub mod Utf8Lemmas
