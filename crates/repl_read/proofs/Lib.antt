@@ -1,5 +1,7 @@
 -- Lemmas of repl_read.
 pub mod CommentLemmas
+pub mod CutLemmas
+pub mod ListLemmas
 pub mod NumeralLemmas
 pub mod TokenLemmas
 pub mod Utf8Lemmas

@@ -1,5 +1,5 @@
 -- A text with blanks for its comments is a text: signs beyond ASCII change nothing that a comment or a string is in.
-use Rattle.std.proofs.Common.{◌≡◌, ℕ, ◌<◌, ◌≤◌, ◌∙◌, ◌⊎◌, Bool, true, false, cond, ◌&&◌, ◌||◌, refl, ap, inl, inr, zero, suc, List, [], ◌∷◌, ◌++◌, length, get_or, map, Option, None, Some, arith, lit<}
+use Rattle.std.proofs.Common.{◌≡◌, ℕ, ◌<◌, ◌≤◌, ◌∙◌, ◌⊎◌, Bool, true, false, cond, ltb, ◌==◌, ◌&&◌, ◌||◌, refl, ap, inl, inr, zero, suc, List, [], ◌∷◌, ◌++◌, length, get_or, map, Option, None, Some, arith, lit<}
 use Rattle.std.specs.List.{AllByRecursion}
 use Rattle.std.specs.Option.{option_map}
 use Rattle.std.specs.Str.{byte, IsAscii, IsUtf8}
@@ -119,18 +119,21 @@ turn_next_high :
 turn_next_high inside b [] rest high some = absurd (omega arith)
 turn_next_high inside b (h ∷ hs) rest high some = rw (turn_at_next_high inside b h high.0) refl
 
+two_blanks : IsAscii (32 ∷ 32 ∷ [])
+two_blanks = IsAscii-cons 32 (32 ∷ []) (lit< tt) (IsAscii-cons 32 [] (lit< tt) IsAscii-nil)
+
+blank_and_star : IsAscii (32 ∷ 42 ∷ [])
+blank_and_star = IsAscii-cons 32 (42 ∷ []) (lit< tt) (IsAscii-cons 42 [] (lit< tt) IsAscii-nil)
+
+marks_choice : (b : Bool) → IsAscii (cond b (32 ∷ 32 ∷ []) (32 ∷ 42 ∷ []))
+marks_choice true = two_blanks
+marks_choice false = blank_and_star
+
 marks_ascii : (inside : Inside) (rest : List ℕ) → IsAscii (marks inside rest)
 marks_ascii Nothing rest = two_blanks
-  where
-    two_blanks : IsAscii (32 ∷ 32 ∷ [])
-    two_blanks = IsAscii-cons 32 (32 ∷ []) (lit< tt) (IsAscii-cons 32 [] (lit< tt) IsAscii-nil)
-marks_ascii Words rest = marks_ascii Nothing rest
-marks_ascii Line rest = marks_ascii Nothing rest
-marks_ascii Block rest = by_close (closes rest)
-  where
-    by_close : (b : Bool) → IsAscii (cond b (32 ∷ 32 ∷ []) (32 ∷ 42 ∷ []))
-    by_close true = IsAscii-cons 32 (32 ∷ []) (lit< tt) (IsAscii-cons 32 [] (lit< tt) IsAscii-nil)
-    by_close false = IsAscii-cons 32 (42 ∷ []) (lit< tt) (IsAscii-cons 42 [] (lit< tt) IsAscii-nil)
+marks_ascii Words rest = two_blanks
+marks_ascii Line rest = two_blanks
+marks_ascii Block rest = marks_choice (closes rest)
 
 -- two signs are taken, both ASCII, or one is
 abbrev Taken : Inside → ℕ → List ℕ → Type 0

@@ -15,7 +15,7 @@ is_mark mark.Arrow token.Arrow = true
 is_mark mark.EndList token.EndList = true
 is_mark mark.OpenBrace token.OpenBrace = true
 is_mark mark.CloseBrace token.CloseBrace = true
-is_mark sign other = false
+is_mark sign _ = false
 
 -- what stands before and after the first such sign, if there is one
 abbrev pub cut : Mark → List Token → Option (List Token × List Token)

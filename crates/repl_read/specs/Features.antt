@@ -16,7 +16,7 @@ is_feature_word word =
 abbrev pub is_feature : Token → Bool
 is_feature Bar = true
 is_feature (Word word) = is_feature_word word
-is_feature other = false
+is_feature _ = false
 
 abbrev pub is_section_word : List ℕ → Bool
 is_section_word word =
@@ -42,7 +42,7 @@ has_type tokens = with_cut (cut mark.Colon tokens) false (λ name rest. begins_w
 
 abbrev pub is_at : Token → Bool
 is_at At = true
-is_at other = false
+is_at _ = false
 
 -- in a head, also a registration without a type
 abbrev pub in_head : List Token → Bool

@@ -1,5 +1,5 @@
 //! A line's tokens, cut at signs.
-ghost use Rattle.std.specs.Prelude.{◌≡◌, IfOk, map};
+ghost use Rattle.std.specs.Prelude.{◌≡◌, ◌<◌, IfOk, IfSome, length, map, position};
 ghost use Rattle.std.specs.Option.{option_map};
 ghost use Rattle.repl_read.specs.Cuts.{is_mark, cut, parts};
 
@@ -33,12 +33,22 @@ pub(crate) fn is_mark(sign: Mark, token: &Token) -> bool
     )
 }
 
+/// The place of the first such sign.
+fn place_of(sign: Mark, tokens: &[Token]) -> Option<usize>
+    ensures place { result ≡ position (is_mark sign) tokens.now }
+    ensures inside { IfSome result (λ at. at < length tokens.now) }
+{
+    tokens.iter().position(|token| is_mark(sign, token))
+}
+
 /// What stands before and after the first such sign.
 pub(crate) fn cut(sign: Mark, tokens: &[Token]) -> Option<(&[Token], &[Token])>
     ensures { option_map (λ x. (x.0.now, x.1.now)) result ≡ cut sign tokens.now }
 {
-    let at = tokens.iter().position(|token| is_mark(sign, token))?;
-    Some((&tokens[..at], &tokens[at + 1..]))
+    match place_of(sign, tokens) {
+        Some(at) => Some((&tokens[..at], &tokens[at + 1..])),
+        None => None,
+    }
 }
 
 /// What stands between such signs, and before the first and after the last.

@@ -59,7 +59,7 @@ fn has_later_close(lines: &[TokenLine]) -> bool
 
 /// Passes where there is no feature that is left out.
 fn judge(feature: bool) -> Result<(), Fault>
-    ensures { Gives result (judged feature (Ok ())) }
+    ensures { Gives result (judged feature (Ok tt)) }
 {
     if feature {
         Err(Fault::Cause(PlatCause::Feature))

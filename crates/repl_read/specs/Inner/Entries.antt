@@ -52,5 +52,8 @@ abbrev pub begun_by : ℕ → Option Head → Option Entry → Option Entry
 begun_by n None begun = begun
 begun_by n (Some head) begun = Some (record { file = 0; line = n; head = head; items = [] })
 
+abbrev pub extended : List Item → Entry → Entry
+extended items e = record e { items = e.items ++ items }
+
 abbrev pub extended_by : List Item → Option Entry → Option Entry
-extended_by items begun = option_map (λ e. record e { items = e.items ++ items }) begun
+extended_by items begun = option_map (extended items) begun
