@@ -1,6 +1,8 @@
 -- Lemmas of repl_read.
 pub mod CommentLemmas
 pub mod CutLemmas
+pub mod EntryLemmas
+pub mod LengthLemmas
 pub mod ListLemmas
 pub mod NumeralLemmas
 pub mod TokenLemmas

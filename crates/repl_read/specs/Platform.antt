@@ -25,7 +25,7 @@ abbrev pub LineFault : Type 0
 LineFault = ℕ × PlatCause
 
 infixl 10 ◌>>=◌
-abbrev ◌>>=◌ : {A B : Type 0} → Result A LineFault → (A → Result B LineFault) → Result B LineFault
+abbrev pub ◌>>=◌ : {A B : Type 0} → Result A LineFault → (A → Result B LineFault) → Result B LineFault
 (Ok x) >>= f = f x
 (Err fault) >>= f = Err fault
 

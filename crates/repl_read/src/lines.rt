@@ -94,8 +94,16 @@ fn within_line(alloc: Global, tokens: &[Token]) -> Result<Said, Fault>
 {
     judge(in_list(tokens))?;
     let list = list_of(alloc, tokens)?;
-    let next = if list.ended { Stand::Apart } else { Stand::Within };
-    Ok(Said { head: None, items: list.items, next })
+    let next = if list.ended {
+        Stand::Apart
+    } else {
+        Stand::Within
+    };
+    Ok(Said {
+        head: None,
+        items: list.items,
+        next,
+    })
 }
 
 /// An indented line.
@@ -107,7 +115,11 @@ fn item_line(alloc: Global, stand: Stand, tokens: &[Token]) -> Result<Said, Faul
         return Err(Fault::Cause(PlatCause::Form));
     }
     let item = item_of(alloc, tokens)?;
-    Ok(Said { head: None, items: Rows::of(vec![in alloc; item]?), next: Stand::Under })
+    Ok(Said {
+        head: None,
+        items: Rows::of(vec![in alloc; item]?),
+        next: Stand::Under,
+    })
 }
 
 /// Where the lines behind a `{` stand.
@@ -130,7 +142,11 @@ fn plain_head(alloc: Global, tokens: &[Token]) -> Result<Said, Fault>
 {
     judge(in_head(tokens))?;
     let head = head_of(tokens)?;
-    Ok(Said { head: Some(head), items: Rows::of(Vec::new(alloc)), next: Stand::Under })
+    Ok(Said {
+        head: Some(head),
+        items: Rows::of(Vec::new(alloc)),
+        next: Stand::Under,
+    })
 }
 
 /// A head with `{` and items.
@@ -146,7 +162,11 @@ fn braced_head(
     let head = head_of(front)?;
     let list = list_of(alloc, rest)?;
     let next = behind_brace(list.ended, later)?;
-    Ok(Said { head: Some(head), items: list.items, next })
+    Ok(Said {
+        head: Some(head),
+        items: list.items,
+        next,
+    })
 }
 
 /// A line that is not indented.
@@ -155,7 +175,11 @@ fn head_line(alloc: Global, later: &[TokenLine], tokens: &[Token]) -> Result<Sai
 {
     if let Some(file) = using_of(tokens) {
         let head = Head::Using(file.clone()?);
-        return Ok(Said { head: Some(head), items: Rows::of(Vec::new(alloc)), next: Stand::Apart });
+        return Ok(Said {
+            head: Some(head),
+            items: Rows::of(Vec::new(alloc)),
+            next: Stand::Apart,
+        });
     }
     match cut(Mark::OpenBrace, tokens) {
         None => plain_head(alloc, tokens),
@@ -193,7 +217,11 @@ pub(crate) fn said_of(
 {
     let tokens = line.tokens.items();
     if tokens.is_empty() {
-        return Ok(Said { head: None, items: Rows::of(Vec::new(alloc)), next: stand });
+        return Ok(Said {
+            head: None,
+            items: Rows::of(Vec::new(alloc)),
+            next: stand,
+        });
     }
     some_line(alloc, stand, line.indented, later, tokens)
 }
