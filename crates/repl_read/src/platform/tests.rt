@@ -138,19 +138,17 @@ cpu:
     PerformanceInMips: 25
 ";
 
-#[test]
-fn boards_are_read_as_their_entries(rt: HostRuntime) -> Result<(), Fail> {
-    for (text, expected) in [
-        (
-            ONE_BOARD,
-            "[0 1 ram is Memory.MappedMemory @ 2147483648; 2 size = 65536]\
+static BOARDS: [(&str, &str); 34] = [
+    (
+        ONE_BOARD,
+        "[0 1 ram is Memory.MappedMemory @ 2147483648; 2 size = 65536]\
              [0 3 uart is UART.NS16550 @ 268435456]\
              [0 4 fin is Miscellaneous.SiFiveTest @ 1048576]\
              [0 5 cpu is CPU.RiscV32 @ bus; 6 cpuType = 'rv32im'; 7 PerformanceInMips = 1]",
-        ),
-        (
-            USUAL_BOARD,
-            "[0 2 ram is Memory.MappedMemory @ 2147483648; 2 size = 65536]\
+    ),
+    (
+        USUAL_BOARD,
+        "[0 2 ram is Memory.MappedMemory @ 2147483648; 2 size = 65536]\
              [0 3 clint is IRQControllers.CoreLevelInterruptor @ 33554432; 4 frequency = 1000000; \
              5 (0..0)(1..1) to cpu (3..3)(7..7)]\
              [0 6 plic is IRQControllers.PlatformLevelInterruptController @ 201326592; \
@@ -158,217 +156,225 @@ fn boards_are_read_as_their_entries(rt: HostRuntime) -> Result<(), Fail> {
              [0 9 uart is UART.NS16550 @ 268435456 + 256; 10 - to plic (10..10)]\
              [0 11 cpu is CPU.RiscV32 @ bus; 12 cpuType = 'rv32im'; 13 timeProvider = clint]\
              [0 14 cpu again; 15 PerformanceInMips = 25]",
-        ),
-        ("", ""),
-        ("\n \n\t\n// only\n/* a\nb */\n", ""),
-        // heads
-        ("a:", "[0 1 a again]"),
-        ("a:B", "[0 1 a is B]"),
-        ("a_1 : B_2.C3 ", "[0 1 a_1 is B_2.C3]"),
-        ("a:B@sysbus", "[0 1 a is B @ bus]"),
-        ("a: B @ sysbus 0xfF", "[0 1 a is B @ 255]"),
-        ("a : B @ sysbus < 0x10 , + 16 >", "[0 1 a is B @ 16 + 16]"),
-        ("using \"x.repl\"\na: B", "[0 1 using 'x.repl'][0 2 a is B]"),
-        ("using\"\" // c", "[0 1 using '']"),
-        (
-            "using: using\ntrue: IRQ\nsysbus:",
-            "[0 1 using is using][0 2 true is IRQ][0 3 sysbus again]",
-        ),
-        (
-            "a: B.new @ sysbus\nb: as.none",
-            "[0 1 a is B.new @ bus][0 2 b is as.none]",
-        ),
-        // attributes
-        (
-            "a:\n k: true\n l: false\n m: True",
-            "[0 1 a again; 2 k = true!; 3 l = false!; 4 m = True]",
-        ),
-        (
-            "a:\n\n\tk: x.y\n l: init",
-            "[0 1 a again; 3 k = x.y; 4 l = init]",
-        ),
-        (
-            "a:\n k: \"// no /* comment */ | as; }\"",
-            "[0 1 a again; 2 k = '// no /* comment */ | as; }']",
-        ),
-        (
-            "a:\n k: \"\u{e9}\r\t\"",
-            "[0 1 a again; 2 k = '\u{e9}\r\t']",
-        ),
-        ("a:\n k: \"\\\"", "[0 1 a again; 2 k = '\\']"),
-        (
-            "a:\n k: 4294967295\n l: 000",
-            "[0 1 a again; 2 k = 4294967295; 3 l = 0]",
-        ),
-        (
-            "a:\n k: 0xFFFFFFFF\n l: 0x00000000000aB",
-            "[0 1 a again; 2 k = 4294967295; 3 l = 171]",
-        ),
-        // wires
-        ("a:\n IRQ->p@3", "[0 1 a again; 2 irq to p (3..3)]"),
-        (
-            "a:\n [ 0 , 2 - 3 ] -> p @ [ 0x3 ]",
-            "[0 1 a again; 2 (0..0)(2..3) to p (3..3)]",
-        ),
-        (
-            "a:\n -> p@[1-1,0-4294967295]",
-            "[0 1 a again; 2 - to p (1..1)(0..4294967295)]",
-        ),
-        // braces
-        (
-            "a: B { k: 1; -> p@2 }",
-            "[0 1 a is B; 1 k = 1; 1 - to p (2..2)]",
-        ),
-        ("a: {}\nb: B{;\n;}", "[0 1 a again][0 2 b is B]"),
-        (
-            "a: B @ sysbus 1 { k: 1\nl: 2;;\n\n  m: \"}\" // }\n} \n\nb:",
-            "[0 1 a is B @ 1; 1 k = 1; 2 l = 2; 4 m = '}'][0 7 b again]",
-        ),
-        // comments
-        (
-            "a: /* { */ B // /* not begun\n k: 1",
-            "[0 1 a is B; 2 k = 1]",
-        ),
-        ("a: B /* x\n k: 1 */ k: 2", "[0 1 a is B; 2 k = 2]"),
-        ("a: B {/*\n} */ }", "[0 1 a is B]"),
-        ("a:/**/B/*/*/@/***/sysbus", "[0 1 a is B @ bus]"),
-        ("a: B // \r\u{e9}", "[0 1 a is B]"),
-        // ends of lines
-        ("a: B\r\n k: 1\r\n\r\n", "[0 1 a is B; 2 k = 1]"),
-        ("a: B // c\r\n k: 1 /* \r\n */\r\n", "[0 1 a is B; 2 k = 1]"),
-    ] {
+    ),
+    ("", ""),
+    ("\n \n\t\n// only\n/* a\nb */\n", ""),
+    // heads
+    ("a:", "[0 1 a again]"),
+    ("a:B", "[0 1 a is B]"),
+    ("a_1 : B_2.C3 ", "[0 1 a_1 is B_2.C3]"),
+    ("a:B@sysbus", "[0 1 a is B @ bus]"),
+    ("a: B @ sysbus 0xfF", "[0 1 a is B @ 255]"),
+    ("a : B @ sysbus < 0x10 , + 16 >", "[0 1 a is B @ 16 + 16]"),
+    ("using \"x.repl\"\na: B", "[0 1 using 'x.repl'][0 2 a is B]"),
+    ("using\"\" // c", "[0 1 using '']"),
+    (
+        "using: using\ntrue: IRQ\nsysbus:",
+        "[0 1 using is using][0 2 true is IRQ][0 3 sysbus again]",
+    ),
+    (
+        "a: B.new @ sysbus\nb: as.none",
+        "[0 1 a is B.new @ bus][0 2 b is as.none]",
+    ),
+    // attributes
+    (
+        "a:\n k: true\n l: false\n m: True",
+        "[0 1 a again; 2 k = true!; 3 l = false!; 4 m = True]",
+    ),
+    (
+        "a:\n\n\tk: x.y\n l: init",
+        "[0 1 a again; 3 k = x.y; 4 l = init]",
+    ),
+    (
+        "a:\n k: \"// no /* comment */ | as; }\"",
+        "[0 1 a again; 2 k = '// no /* comment */ | as; }']",
+    ),
+    (
+        "a:\n k: \"\u{e9}\r\t\"",
+        "[0 1 a again; 2 k = '\u{e9}\r\t']",
+    ),
+    ("a:\n k: \"\\\"", "[0 1 a again; 2 k = '\\']"),
+    (
+        "a:\n k: 4294967295\n l: 000",
+        "[0 1 a again; 2 k = 4294967295; 3 l = 0]",
+    ),
+    (
+        "a:\n k: 0xFFFFFFFF\n l: 0x00000000000aB",
+        "[0 1 a again; 2 k = 4294967295; 3 l = 171]",
+    ),
+    // wires
+    ("a:\n IRQ->p@3", "[0 1 a again; 2 irq to p (3..3)]"),
+    (
+        "a:\n [ 0 , 2 - 3 ] -> p @ [ 0x3 ]",
+        "[0 1 a again; 2 (0..0)(2..3) to p (3..3)]",
+    ),
+    (
+        "a:\n -> p@[1-1,0-4294967295]",
+        "[0 1 a again; 2 - to p (1..1)(0..4294967295)]",
+    ),
+    // braces
+    (
+        "a: B { k: 1; -> p@2 }",
+        "[0 1 a is B; 1 k = 1; 1 - to p (2..2)]",
+    ),
+    ("a: {}\nb: B{;\n;}", "[0 1 a again][0 2 b is B]"),
+    (
+        "a: B @ sysbus 1 { k: 1\nl: 2;;\n\n  m: \"}\" // }\n} \n\nb:",
+        "[0 1 a is B @ 1; 1 k = 1; 2 l = 2; 4 m = '}'][0 7 b again]",
+    ),
+    // comments
+    (
+        "a: /* { */ B // /* not begun\n k: 1",
+        "[0 1 a is B; 2 k = 1]",
+    ),
+    ("a: B /* x\n k: 1 */ k: 2", "[0 1 a is B; 2 k = 2]"),
+    ("a: B {/*\n} */ }", "[0 1 a is B]"),
+    ("a:/**/B/*/*/@/***/sysbus", "[0 1 a is B @ bus]"),
+    ("a: B // \r\u{e9}", "[0 1 a is B]"),
+    // ends of lines
+    ("a: B\r\n k: 1\r\n\r\n", "[0 1 a is B; 2 k = 1]"),
+    ("a: B // c\r\n k: 1 /* \r\n */\r\n", "[0 1 a is B; 2 k = 1]"),
+];
+
+#[test]
+fn boards_are_read_as_their_entries(rt: HostRuntime) -> Result<(), Fail> {
+    for (text, expected) in BOARDS {
         assert_eq!(rt; reading(rt.alloc(), text)?.as_str(), expected);
     }
     Ok(())
 }
+
+static FORMS: [(&str, &str); 77] = [
+    // heads
+    ("a", "form 0 1"),
+    ("1a: B", "form 0 1"),
+    ("_a: B", "form 0 1"),
+    ("a.b: B", "form 0 1"),
+    ("a:: B", "form 0 1"),
+    (": B @ sysbus", "form 0 1"),
+    ("a: B C", "form 0 1"),
+    ("a: 1B", "form 0 1"),
+    ("a: .B", "form 0 1"),
+    ("a: B..C", "form 0 1"),
+    ("a: B.", "form 0 1"),
+    ("a: \"B\"", "form 0 1"),
+    ("a: B @ bus", "form 0 1"),
+    ("a: B @ sysbus b", "form 0 1"),
+    ("a: B @ sysbus 4294967296", "form 0 1"),
+    ("a: B @ sysbus <1, 2>", "form 0 1"),
+    ("a: B @ sysbus <1, +2", "form 0 1"),
+    ("a: B;", "form 0 1"),
+    ("a: B\u{a0}", "form 0 1"),
+    ("a: B\u{c}", "form 0 1"),
+    (" using \"x\"", "form 0 1"),
+    ("using \"x\" y", "form 0 1"),
+    ("using \"x\n", "form 0 1"),
+    ("Using \"x\"", "form 0 1"),
+    ("using \"x\"\n k: 1", "form 0 2"),
+    ("/**/a: B", "form 0 1"),
+    // items
+    ("\n k: 1", "form 0 2"),
+    ("a:\n k", "form 0 2"),
+    ("a:\n k:", "form 0 2"),
+    ("a:\n k.l: 1", "form 0 2"),
+    ("a:\n k: 1 2", "form 0 2"),
+    ("a:\n k: 1;", "form 0 2"),
+    ("a:\n k: a..b", "form 0 2"),
+    ("a:\n k: 4294967296", "form 0 2"),
+    ("a:\n k: 0x100000000", "form 0 2"),
+    ("a:\n k: 0X10", "form 0 2"),
+    ("a:\n k: 0x", "form 0 2"),
+    ("a:\n k: +1", "form 0 2"),
+    ("a:\n k: 1g", "form 0 2"),
+    ("a:\n k: \u{e9}", "form 0 2"),
+    ("a:\n k: \"x", "form 0 2"),
+    ("a:\n k: \"x\n l: \"", "form 0 2"),
+    ("a:\n 0-1 -> p@3", "form 0 2"),
+    ("a:\n [2-1] -> p@3", "form 0 2"),
+    ("a:\n -> p@[3-2]", "form 0 2"),
+    ("a:\n [] -> p@3", "form 0 2"),
+    ("a:\n [1,] -> p@3", "form 0 2"),
+    ("a:\n [IRQ] -> p@3", "form 0 2"),
+    ("a:\n b -> p@3", "form 0 2"),
+    ("a:\n - > p@3", "form 0 2"),
+    ("a:\n -> p.q@3", "form 0 2"),
+    ("a:\n -> p@", "form 0 2"),
+    ("a:\n -> p@IRQ", "form 0 2"),
+    ("a:\n -> p@[1", "form 0 2"),
+    ("a:\n -> p@[1]2", "form 0 2"),
+    // braces
+    ("a: B\n{ k: 1 }", "form 0 2"),
+    ("a: B\n { k: 1 }", "form 0 2"),
+    ("a: B }", "form 0 1"),
+    ("}", "form 0 1"),
+    ("a: B { k: 1 } b", "form 0 1"),
+    ("a: B { k: 1 }\n l: 2", "form 0 2"),
+    ("a: B {\nk: 1 {\n}\n}", "form 0 2"),
+    ("a: B { { } }", "form 0 1"),
+    ("a: B {\n} }", "form 0 2"),
+    ("a: B {\nk: 1 l: 2\n}", "form 0 2"),
+    // what is not closed
+    ("a:\nb: B {\nk: 1", "form 0 2"),
+    ("a: B {\nk\nl: |\n", "form 0 1"),
+    ("a: B {\nk: \"}\" // }\n/* } */", "form 0 1"),
+    ("a: B {\n/* }", "form 0 1"),
+    ("a: B\n k: 1 /* x\nb: |", "form 0 2"),
+    ("a: B\n/* x\n", "form 0 2"),
+    ("a: B /*/", "form 0 1"),
+    // lone carriage returns
+    ("a: B\r", "form 0 1"),
+    ("a: B\r\r\n", "form 0 1"),
+    ("a:\r B\n", "form 0 1"),
+    ("a:\n k: 1 /* \r\n \r */ \r", "form 0 3"),
+    // the last line
+    ("a:\nb:\nc", "form 0 3"),
+];
 
 #[test]
 fn other_forms_are_faults_at_their_lines(rt: HostRuntime) -> Result<(), Fail> {
-    for (text, expected) in [
-        // heads
-        ("a", "form 0 1"),
-        ("1a: B", "form 0 1"),
-        ("_a: B", "form 0 1"),
-        ("a.b: B", "form 0 1"),
-        ("a:: B", "form 0 1"),
-        (": B @ sysbus", "form 0 1"),
-        ("a: B C", "form 0 1"),
-        ("a: 1B", "form 0 1"),
-        ("a: .B", "form 0 1"),
-        ("a: B..C", "form 0 1"),
-        ("a: B.", "form 0 1"),
-        ("a: \"B\"", "form 0 1"),
-        ("a: B @ bus", "form 0 1"),
-        ("a: B @ sysbus b", "form 0 1"),
-        ("a: B @ sysbus 4294967296", "form 0 1"),
-        ("a: B @ sysbus <1, 2>", "form 0 1"),
-        ("a: B @ sysbus <1, +2", "form 0 1"),
-        ("a: B;", "form 0 1"),
-        ("a: B\u{a0}", "form 0 1"),
-        ("a: B\u{c}", "form 0 1"),
-        (" using \"x\"", "form 0 1"),
-        ("using \"x\" y", "form 0 1"),
-        ("using \"x\n", "form 0 1"),
-        ("Using \"x\"", "form 0 1"),
-        ("using \"x\"\n k: 1", "form 0 2"),
-        ("/**/a: B", "form 0 1"),
-        // items
-        ("\n k: 1", "form 0 2"),
-        ("a:\n k", "form 0 2"),
-        ("a:\n k:", "form 0 2"),
-        ("a:\n k.l: 1", "form 0 2"),
-        ("a:\n k: 1 2", "form 0 2"),
-        ("a:\n k: 1;", "form 0 2"),
-        ("a:\n k: a..b", "form 0 2"),
-        ("a:\n k: 4294967296", "form 0 2"),
-        ("a:\n k: 0x100000000", "form 0 2"),
-        ("a:\n k: 0X10", "form 0 2"),
-        ("a:\n k: 0x", "form 0 2"),
-        ("a:\n k: +1", "form 0 2"),
-        ("a:\n k: 1g", "form 0 2"),
-        ("a:\n k: \u{e9}", "form 0 2"),
-        ("a:\n k: \"x", "form 0 2"),
-        ("a:\n k: \"x\n l: \"", "form 0 2"),
-        ("a:\n 0-1 -> p@3", "form 0 2"),
-        ("a:\n [2-1] -> p@3", "form 0 2"),
-        ("a:\n -> p@[3-2]", "form 0 2"),
-        ("a:\n [] -> p@3", "form 0 2"),
-        ("a:\n [1,] -> p@3", "form 0 2"),
-        ("a:\n [IRQ] -> p@3", "form 0 2"),
-        ("a:\n b -> p@3", "form 0 2"),
-        ("a:\n - > p@3", "form 0 2"),
-        ("a:\n -> p.q@3", "form 0 2"),
-        ("a:\n -> p@", "form 0 2"),
-        ("a:\n -> p@IRQ", "form 0 2"),
-        ("a:\n -> p@[1", "form 0 2"),
-        ("a:\n -> p@[1]2", "form 0 2"),
-        // braces
-        ("a: B\n{ k: 1 }", "form 0 2"),
-        ("a: B\n { k: 1 }", "form 0 2"),
-        ("a: B }", "form 0 1"),
-        ("}", "form 0 1"),
-        ("a: B { k: 1 } b", "form 0 1"),
-        ("a: B { k: 1 }\n l: 2", "form 0 2"),
-        ("a: B {\nk: 1 {\n}\n}", "form 0 2"),
-        ("a: B { { } }", "form 0 1"),
-        ("a: B {\n} }", "form 0 2"),
-        ("a: B {\nk: 1 l: 2\n}", "form 0 2"),
-        // what is not closed
-        ("a:\nb: B {\nk: 1", "form 0 2"),
-        ("a: B {\nk\nl: |\n", "form 0 1"),
-        ("a: B {\nk: \"}\" // }\n/* } */", "form 0 1"),
-        ("a: B {\n/* }", "form 0 1"),
-        ("a: B\n k: 1 /* x\nb: |", "form 0 2"),
-        ("a: B\n/* x\n", "form 0 2"),
-        ("a: B /*/", "form 0 1"),
-        // lone carriage returns
-        ("a: B\r", "form 0 1"),
-        ("a: B\r\r\n", "form 0 1"),
-        ("a:\r B\n", "form 0 1"),
-        ("a:\n k: 1 /* \r\n \r */ \r", "form 0 3"),
-        // the last line
-        ("a:\nb:\nc", "form 0 3"),
-    ] {
+    for (text, expected) in FORMS {
         assert_eq!(rt; reading(rt.alloc(), text)?.as_str(), expected);
     }
     Ok(())
 }
 
+static FEATURES: [(&str, &str); 29] = [
+    ("a: B\n k: local", "feature 0 2"),
+    ("a: B @ sysbus as b", "feature 0 1"),
+    ("a: new B", "feature 0 1"),
+    ("a: B @ none", "feature 0 1"),
+    ("local a: B", "feature 0 1"),
+    ("a:\n k: 1 | 2", "feature 0 2"),
+    ("a:\n -> p@1 | q@2", "feature 0 2"),
+    ("init:", "feature 0 1"),
+    ("a:\n reset: 1", "feature 0 2"),
+    ("a:\n : preinit", "feature 0 2"),
+    ("a: B { init }", "feature 0 1"),
+    ("a: B { k: 1; reset\n: 2 }", "feature 0 1"),
+    ("a: B {\n k: 1\n k: 1; preinit: x\n}", "feature 0 3"),
+    ("a: B { k: 1 } as", "feature 0 1"),
+    ("cpu: @ sysbus", "feature 0 1"),
+    ("cpu @ sysbus", "feature 0 1"),
+    ("@ { k: 1 }", "feature 0 1"),
+    ("a:\n[0] -> p@3", "feature 0 2"),
+    ("using \"x\" as", "feature 0 1"),
+    (" |", "feature 0 1"),
+    // before a fault of the form on one line
+    ("a b |", "feature 0 1"),
+    ("a:\n k: as \"x", "feature 0 2"),
+    ("a | /* x", "feature 0 1"),
+    ("a: B { |", "feature 0 1"),
+    ("a: B { k } |", "feature 0 1"),
+    // the first line of two
+    ("a b\nc |", "form 0 1"),
+    ("c |\na b", "feature 0 1"),
+    ("a: B {\nk: |\n}\nx", "feature 0 2"),
+    ("a: B {\nx\nk: |\n}", "form 0 2"),
+];
+
 #[test]
 fn features_left_out_come_first_on_their_lines(rt: HostRuntime) -> Result<(), Fail> {
-    for (text, expected) in [
-        ("a: B\n k: local", "feature 0 2"),
-        ("a: B @ sysbus as b", "feature 0 1"),
-        ("a: new B", "feature 0 1"),
-        ("a: B @ none", "feature 0 1"),
-        ("local a: B", "feature 0 1"),
-        ("a:\n k: 1 | 2", "feature 0 2"),
-        ("a:\n -> p@1 | q@2", "feature 0 2"),
-        ("init:", "feature 0 1"),
-        ("a:\n reset: 1", "feature 0 2"),
-        ("a:\n : preinit", "feature 0 2"),
-        ("a: B { init }", "feature 0 1"),
-        ("a: B { k: 1; reset\n: 2 }", "feature 0 1"),
-        ("a: B {\n k: 1\n k: 1; preinit: x\n}", "feature 0 3"),
-        ("a: B { k: 1 } as", "feature 0 1"),
-        ("cpu: @ sysbus", "feature 0 1"),
-        ("cpu @ sysbus", "feature 0 1"),
-        ("@ { k: 1 }", "feature 0 1"),
-        ("a:\n[0] -> p@3", "feature 0 2"),
-        ("using \"x\" as", "feature 0 1"),
-        (" |", "feature 0 1"),
-        // before a fault of the form on one line
-        ("a b |", "feature 0 1"),
-        ("a:\n k: as \"x", "feature 0 2"),
-        ("a | /* x", "feature 0 1"),
-        ("a: B { |", "feature 0 1"),
-        ("a: B { k } |", "feature 0 1"),
-        // the first line of two
-        ("a b\nc |", "form 0 1"),
-        ("c |\na b", "feature 0 1"),
-        ("a: B {\nk: |\n}\nx", "feature 0 2"),
-        ("a: B {\nx\nk: |\n}", "form 0 2"),
-    ] {
+    for (text, expected) in FEATURES {
         assert_eq!(rt; reading(rt.alloc(), text)?.as_str(), expected);
     }
     Ok(())
