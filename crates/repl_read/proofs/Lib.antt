@@ -1,7 +1,9 @@
 -- Lemmas of repl_read.
+pub mod BlankLemmas
 pub mod CommentLemmas
 pub mod CutLemmas
 pub mod EntryLemmas
+pub mod FaultLemmas
 pub mod LengthLemmas
 pub mod ListLemmas
 pub mod NumeralLemmas

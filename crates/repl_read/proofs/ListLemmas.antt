@@ -4,7 +4,7 @@ use Rattle.std.proofs.lemmas.Bool.Decides.{nat_tests}
 use Rattle.std.proofs.lemmas.List.{drop_more, drop_all, append-nil, drop-map}
 use Rattle.repl_read.specs.declared.fault.Fault.{Fault}
 use Rattle.repl_read.specs.declared.fault.Fault.TheVariants.{Cause, Memory}
-use Rattle.repl_read.specs.declared.fault.PlatCause.{PlatCause}
+use Rattle.repl_read.specs.declared.fault.ReadCause.{ReadCause}
 use Rattle.repl_read.specs.declared.entry.ItemWhat.{ItemWhat}
 use Rattle.repl_read.specs.declared.tokens.Token.{Token}
 use Rattle.repl_read.specs.Items.{is_filled, item_of, items_of}
@@ -13,29 +13,29 @@ use Rattle.repl_read.specs.Inner.Gives.{Gives}
 use denote.Ref.{Bor}
 
 -- what is read so far, in front of what the other parts say
-abbrev pub onto : {Y : Type 0} → List Y → Result (List Y) PlatCause → Result (List Y) PlatCause
+abbrev pub onto : {Y : Type 0} → List Y → Result (List Y) ReadCause → Result (List Y) ReadCause
 onto done (Ok more) = Ok (done ++ more)
 onto done (Err cause) = Err cause
 
-pub onto_none : {Y : Type 0} (r : Result (List Y) PlatCause) → onto [] r ≡ r
+pub onto_none : {Y : Type 0} (r : Result (List Y) ReadCause) → onto [] r ≡ r
 onto_none (Ok more) = refl
 onto_none (Err cause) = refl
 
 onto_more :
-    {Y : Type 0} (done : List Y) (y : Y) (r : Result (List Y) PlatCause) →
+    {Y : Type 0} (done : List Y) (y : Y) (r : Result (List Y) ReadCause) →
     onto done (r >>= λ ys. Ok (y ∷ ys)) ≡ onto (done ++ y ∷ []) r
 onto_more done y (Ok more) = ap Ok (sym (append_assoc done (y ∷ []) more))
 onto_more done y (Err cause) = refl
 
 -- a part more
 pub all_more :
-    {X Y : Type 0} (f : X → Result Y PlatCause) (x : X) (xs : List X) (y : Y) (done : List Y) →
+    {X Y : Type 0} (f : X → Result Y ReadCause) (x : X) (xs : List X) (y : Y) (done : List Y) →
     f x ≡ Ok y → onto done (all_of f (x ∷ xs)) ≡ onto (done ++ y ∷ []) (all_of f xs)
 all_more f x xs y done is = rw is (onto_more done y (all_of f xs))
 
 -- a part with a fault
 pub all_fault :
-    {X Y : Type 0} (f : X → Result Y PlatCause) (x : X) (xs : List X) (cause : PlatCause) (done : List Y) →
+    {X Y : Type 0} (f : X → Result Y ReadCause) (x : X) (xs : List X) (cause : ReadCause) (done : List Y) →
     f x ≡ Err cause → onto done (all_of f (x ∷ xs)) ≡ Err cause
 all_fault f x xs cause done is = rw is refl
 
@@ -44,8 +44,8 @@ all_read done = ap Ok (append-nil done)
 
 -- a fault of a part is a fault of the whole
 pub gives_fault :
-    {X Y : Type 0} (fault : Fault) (part : Result X PlatCause) (whole : Result Y PlatCause) →
-    Gives (Err fault) part → ((cause : PlatCause) → part ≡ Err cause → whole ≡ Err cause) → Gives (Err fault) whole
+    {X Y : Type 0} (fault : Fault) (part : Result X ReadCause) (whole : Result Y ReadCause) →
+    Gives (Err fault) part → ((cause : ReadCause) → part ≡ Err cause → whole ≡ Err cause) → Gives (Err fault) whole
 gives_fault Memory part whole given same = tt
 gives_fault (Cause cause) part whole given same = same cause given
 

@@ -97,7 +97,7 @@ seen_low Words b next low = low
 seen_low Line b next low = low_choice (ends_line b next) b low
 seen_low Block b next low = low_choice (ends_line b next) b low
 
-neither : (s t : Bool) → cond (s && false) (Some Line) (cond (t && false) (Some Block) None) ≡ None
+pub neither : (s t : Bool) → cond (s && false) (Some Line) (cond (t && false) (Some Block) None) ≡ None
 neither true true = refl
 neither true false = refl
 neither false true = refl

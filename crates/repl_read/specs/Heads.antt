@@ -6,8 +6,8 @@ use Rattle.repl_read.specs.declared.entry.Head.{Head}
 use Rattle.repl_read.specs.declared.entry.Head.TheVariants.{Typed, Update}
 use Rattle.repl_read.specs.declared.entry.Place.{Place}
 use Rattle.repl_read.specs.declared.entry.Place.TheVariants.{Absent, Bus, Address, Range}
-use Rattle.repl_read.specs.declared.fault.PlatCause.{PlatCause}
-use Rattle.repl_read.specs.declared.fault.PlatCause.TheVariants.{Form}
+use Rattle.repl_read.specs.declared.fault.ReadCause.{ReadCause}
+use Rattle.repl_read.specs.declared.fault.ReadCause.TheVariants.{Form}
 use Rattle.repl_read.specs.declared.tokens.Token.{Token}
 use Rattle.repl_read.specs.declared.tokens.Token.TheVariants.{Word, Quoted, Colon, At, Less, More, Comma, Plus}
 use Rattle.repl_read.specs.Words.{is_name, is_dotted_name, number_of}
@@ -19,7 +19,7 @@ using_of (Word word ∷ Quoted file ∷ []) = if bytes_eq word (codes "using") t
 using_of other = None
 
 -- where an entry is registered, by what stands behind its type
-abbrev pub place_of : List Token → Result Place PlatCause
+abbrev pub place_of : List Token → Result Place ReadCause
 place_of [] = Ok Absent
 place_of (At ∷ Word word ∷ []) = do
   on ← require (bytes_eq word (codes "sysbus"))
@@ -36,7 +36,7 @@ place_of (At ∷ Word word ∷ Less ∷ Word base ∷ Comma ∷ Plus ∷ Word si
 place_of other = Err Form
 
 -- the head that a line's tokens make
-abbrev pub head_of : List Token → Result Head PlatCause
+abbrev pub head_of : List Token → Result Head ReadCause
 head_of (Word name ∷ Colon ∷ []) = do
   good ← require (is_name name)
   Ok (Update name)

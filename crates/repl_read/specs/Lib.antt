@@ -5,6 +5,7 @@ pub mod Features
 pub mod Forms
 pub mod Heads
 pub mod Items
+pub mod Laws
 pub mod Lines
 pub mod Platform
 pub mod Tokens

@@ -10,8 +10,11 @@ use Rattle.repl_read.specs.declared.entry.Head.{Head}
 use Rattle.repl_read.specs.declared.entry.Item.{Item}
 use Rattle.repl_read.specs.declared.entry.ItemWhat.{ItemWhat}
 use Rattle.repl_read.specs.declared.fault.PlatCause.{PlatCause}
+use Rattle.repl_read.specs.declared.fault.PlatCause.TheVariants.{Form, Feature}
 use Rattle.repl_read.specs.declared.fault.PlatFault.{PlatFault}
 use Rattle.repl_read.specs.declared.fault.PlatFault.TheVariants.{At, Memory}
+use Rattle.repl_read.specs.declared.fault.ReadCause.{ReadCause}
+use Rattle.repl_read.specs.declared.fault.ReadCause.TheVariants as read
 use Rattle.repl_read.specs.declared.lines.Said.{Said}
 use Rattle.repl_read.specs.declared.lines.Stand.{Stand}
 use Rattle.repl_read.specs.declared.lines.Stand.TheVariants.{Apart}
@@ -29,10 +32,15 @@ abbrev pub ◌>>=◌ : {A B : Type 0} → Result A LineFault → (A → Result B
 (Ok x) >>= f = f x
 (Err fault) >>= f = Err fault
 
+-- a text has faults of its form and features that are left out, and no others
+abbrev pub plat_cause : ReadCause → PlatCause
+plat_cause read.Form = Form
+plat_cause read.Feature = Feature
+
 -- a cause, told with its line
-abbrev pub at_line : {X : Type 0} → ℕ → Result X PlatCause → Result X LineFault
+abbrev pub at_line : {X : Type 0} → ℕ → Result X ReadCause → Result X LineFault
 at_line n (Ok x) = Ok x
-at_line n (Err cause) = Err (n, cause)
+at_line n (Err cause) = Err (n, plat_cause cause)
 
 -- items of one line
 abbrev pub items_at : ℕ → List ItemWhat → List Item

@@ -45,10 +45,17 @@ pub enum PlatFault {
     Memory,
 }
 
+/// What is wrong with a line of a text.
+#[derive(Clone, Copy, PartialEq, Eq, Debug)]
+pub(crate) enum ReadCause {
+    Form,
+    Feature,
+}
+
 /// Why a part of a text is not read.
 #[derive(Clone, Copy, PartialEq, Eq, Debug)]
 pub(crate) enum Fault {
-    Cause(PlatCause),
+    Cause(ReadCause),
     /// Memory was wanting.
     Memory,
 }

@@ -9,7 +9,7 @@ ghost use Rattle.repl_read.specs.Inner.Gives.{Gives};
 ghost use Rattle.repl_read.specs.Words.{number_of};
 
 use crate::entry::{Head, Place};
-use crate::fault::{Fault, PlatCause};
+use crate::fault::{Fault, ReadCause};
 use crate::numbers::{is_dotted_name, is_name, number_of};
 use crate::tokens::Token;
 use lab_num::Text;
@@ -21,7 +21,7 @@ pub(crate) fn require(holds: bool) -> Result<(), Fault>
     if holds {
         Ok(())
     } else {
-        Err(Fault::Cause(PlatCause::Form))
+        Err(Fault::Cause(ReadCause::Form))
     }
 }
 
@@ -31,7 +31,7 @@ pub(crate) fn number(word: &Text) -> Result<u32, Fault>
 {
     match number_of(word.as_str()) {
         Some(n) => Ok(n),
-        None => Err(Fault::Cause(PlatCause::Form)),
+        None => Err(Fault::Cause(ReadCause::Form)),
     }
 }
 
@@ -87,7 +87,7 @@ fn place_of(tokens: &[Token]) -> Result<Place, Fault>
                 size: number(size)?,
             })
         }
-        _ => Err(Fault::Cause(PlatCause::Form)),
+        _ => Err(Fault::Cause(ReadCause::Form)),
     }
 }
 
@@ -117,6 +117,6 @@ pub(crate) fn head_of(tokens: &[Token]) -> Result<Head, Fault>
                 at,
             })
         }
-        _ => Err(Fault::Cause(PlatCause::Form)),
+        _ => Err(Fault::Cause(ReadCause::Form)),
     }
 }

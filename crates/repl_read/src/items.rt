@@ -6,7 +6,7 @@ ghost use Rattle.repl_read.specs.Items.{word_value, attribute_of, span_of, spans
 
 use crate::cuts::{Mark, cut, parts};
 use crate::entry::{Ends, ItemWhat, Span, Value};
-use crate::fault::{Fault, PlatCause};
+use crate::fault::{Fault, ReadCause};
 use crate::heads::{number, require};
 use crate::numbers::{is_dotted_name, is_name, number_of};
 use crate::tokens::Token;
@@ -25,7 +25,7 @@ fn word_value(word: &Text) -> Result<Value, Fault>
         "true" => Ok(Value::Truth(true)),
         "false" => Ok(Value::Truth(false)),
         _ if is_dotted_name(text) => Ok(Value::Name(word.clone()?)),
-        _ => Err(Fault::Cause(PlatCause::Form)),
+        _ => Err(Fault::Cause(ReadCause::Form)),
     }
 }
 
@@ -49,7 +49,7 @@ fn attribute_of(tokens: &[Token]) -> Result<ItemWhat, Fault>
                 value: Value::Words(words.clone()?),
             })
         }
-        _ => Err(Fault::Cause(PlatCause::Form)),
+        _ => Err(Fault::Cause(ReadCause::Form)),
     }
 }
 
@@ -68,7 +68,7 @@ fn span_of(tokens: &[Token]) -> Result<Span, Fault>
             require(first <= last)?;
             Ok(Span { first, last })
         }
-        _ => Err(Fault::Cause(PlatCause::Form)),
+        _ => Err(Fault::Cause(ReadCause::Form)),
     }
 }
 
@@ -92,7 +92,7 @@ fn bracketed(alloc: Global, tokens: &[Token]) -> Result<Rows<Span>, Fault>
             let parts = parts(alloc, Mark::Comma, inner)?;
             spans_of(alloc, &parts)
         }
-        _ => Err(Fault::Cause(PlatCause::Form)),
+        _ => Err(Fault::Cause(ReadCause::Form)),
     }
 }
 
@@ -112,7 +112,7 @@ fn pins_of(alloc: Global, tokens: &[Token]) -> Result<Rows<Span>, Fault>
     match tokens {
         [Token::Word(word)] => one_span(alloc, word),
         [Token::StartList, rest @ ..] => bracketed(alloc, rest),
-        _ => Err(Fault::Cause(PlatCause::Form)),
+        _ => Err(Fault::Cause(ReadCause::Form)),
     }
 }
 
@@ -155,7 +155,7 @@ fn wire_of(alloc: Global, front: &[Token], behind: &[Token]) -> Result<ItemWhat,
                 pins,
             })
         }
-        _ => Err(Fault::Cause(PlatCause::Form)),
+        _ => Err(Fault::Cause(ReadCause::Form)),
     }
 }
 

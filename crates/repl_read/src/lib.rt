@@ -8,11 +8,13 @@ mod fault;
 mod features;
 mod heads;
 mod items;
+mod laws;
 mod lines;
 mod numbers;
 mod platform;
 mod tokens;
 
 pub use entry::{Ends, Entry, Head, Item, ItemWhat, Place, Span, Value};
+pub use laws::platform_laws;
 pub use fault::{PlatCause, PlatFault};
 pub use platform::read_platform;

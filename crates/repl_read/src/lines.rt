@@ -7,7 +7,7 @@ ghost use Rattle.repl_read.specs.Forms.{judged};
 
 use crate::cuts::{Mark, cut, is_mark, parts};
 use crate::entry::{Head, ItemWhat};
-use crate::fault::{Fault, PlatCause};
+use crate::fault::{Fault, ReadCause};
 use crate::features::{in_head, in_item, in_list};
 use crate::heads::{head_of, using_of};
 use crate::items::{item_of, items_of};
@@ -62,7 +62,7 @@ fn judge(feature: bool) -> Result<(), Fault>
     ensures { Gives result (judged feature (Ok tt)) }
 {
     if feature {
-        Err(Fault::Cause(PlatCause::Feature))
+        Err(Fault::Cause(ReadCause::Feature))
     } else {
         Ok(())
     }
@@ -84,7 +84,7 @@ fn list_of(alloc: Global, tokens: &[Token]) -> Result<Listed, Fault>
     match cut(Mark::CloseBrace, tokens) {
         None => parted_items(alloc, tokens, false),
         Some((inner, [])) => parted_items(alloc, inner, true),
-        Some(_) => Err(Fault::Cause(PlatCause::Form)),
+        Some(_) => Err(Fault::Cause(ReadCause::Form)),
     }
 }
 
@@ -112,7 +112,7 @@ fn item_line(alloc: Global, stand: Stand, tokens: &[Token]) -> Result<Said, Faul
 {
     judge(in_item(tokens))?;
     if stand != Stand::Under {
-        return Err(Fault::Cause(PlatCause::Form));
+        return Err(Fault::Cause(ReadCause::Form));
     }
     let item = item_of(alloc, tokens)?;
     Ok(Said {
@@ -132,7 +132,7 @@ fn behind_brace(ended: bool, later: &[TokenLine]) -> Result<Stand, Fault>
     if has_later_close(later) {
         Ok(Stand::Within)
     } else {
-        Err(Fault::Cause(PlatCause::Form))
+        Err(Fault::Cause(ReadCause::Form))
     }
 }
 

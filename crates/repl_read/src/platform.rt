@@ -1,11 +1,11 @@
 //! From a text to its entries.
 ghost use Rattle.std.specs.Prelude.{◌≡◌, ◌≤◌, ◌<◌, ◌+◌, ◌^◌, ◌++◌, length, drop, OnOk, IfOk, IfErr};
 ghost use Rattle.repl_read.specs.Inner.Entries.{fault_at, TellsPart, said_from, opened, closed, done_by, begun_by, extended_by};
-ghost use Rattle.repl_read.specs.Platform.{items_at, entries_of, Tells, Reads};
+ghost use Rattle.repl_read.specs.Platform.{plat_cause, items_at, entries_of, Tells, Reads};
 
 use crate::comments::without_comments;
 use crate::entry::{Entry, Head, Item, ItemWhat};
-use crate::fault::{Fault, PlatFault};
+use crate::fault::{Fault, PlatCause, PlatFault, ReadCause};
 use crate::lines::{Said, Stand, said_of};
 use crate::tokens::{TokenLine, token_lines};
 use lab_num::Rows;
@@ -19,6 +19,15 @@ struct Begun {
     items: Vec<Item>,
 }
 
+fn plat_cause(cause: ReadCause) -> PlatCause
+    ensures { result ≡ plat_cause cause }
+{
+    match cause {
+        ReadCause::Form => PlatCause::Form,
+        ReadCause::Feature => PlatCause::Feature,
+    }
+}
+
 /// A fault of line `n`.
 fn fault_at(n: u32, fault: Fault) -> PlatFault
     ensures { result ≡ fault_at n fault }
@@ -27,7 +36,7 @@ fn fault_at(n: u32, fault: Fault) -> PlatFault
         Fault::Cause(cause) => PlatFault::At {
             file: 0,
             line: n,
-            cause,
+            cause: plat_cause(cause),
         },
         Fault::Memory => PlatFault::Memory,
     }

@@ -14,10 +14,10 @@ use Rattle.repl_read.specs.declared.lines.Stand.{Stand}
 use Rattle.repl_read.specs.declared.platform.Begun.{Begun}
 use Rattle.repl_read.specs.declared.tokens.TokenLine.{TokenLine}
 use Rattle.repl_read.specs.Lines.{said_of, has_close, nothing_said}
-use Rattle.repl_read.specs.Platform.{LineFault, at_line}
+use Rattle.repl_read.specs.Platform.{LineFault, plat_cause, at_line}
 
 abbrev pub fault_at : ℕ → Fault → PlatFault
-fault_at n (fault.Cause cause) = At 0 n cause
+fault_at n (fault.Cause cause) = At 0 n (plat_cause cause)
 fault_at n fault.Memory = Memory
 
 -- a part of a text, or a fault in the file with the number 0, unless memory is wanting
