@@ -1,7 +1,6 @@
 -- A text with blanks for its comments has none.
-use Rattle.std.proofs.Common.{◌≡◌, ℕ, ◌==◌, ◌&&◌, ◌||◌, ◌∙◌, ◌⊎◌, inl, inr, Bool, true, false, cond, refl, sym, ap, List, [], ◌∷◌, ◌++◌, get_or, Option, None, Some}
-use Rattle.std.specs.Option.{option_map, option_map_or}
-use Rattle.std.specs.Str.{byte}
+use Rattle.std.proofs.Common.{◌≡◌, ℕ, ◌==◌, ◌&&◌, ◌||◌, ◌∙◌, inl, inr, Bool, true, false, cond, refl, ap, List, [], ◌∷◌, ◌++◌, Option, None, Some}
+use Rattle.std.specs.Option.{option_map_or}
 use Rattle.repl_read.specs.declared.comments.Inside.{Inside}
 use Rattle.repl_read.specs.declared.comments.Inside.TheVariants.{Nothing, Words, Line, Block}
 use Rattle.repl_read.specs.Comments.{quote, turn_at, behind, ends_line, seen, closes, marks, blanked}
@@ -114,9 +113,9 @@ comment_dull b next =
     elim (eqb_tells b 10) [
       | inl ten ↦ rw ten.1 (refl, refl)
       | inr other ↦ rw other.0 (elim (eqb_tells b 13) [
-          | inl return_ ↦ rw return_.1 (at_return (next == 10))
-          | inr neither_ ↦ rw neither_.0 (refl, refl)
-        ])
+        | inl return_ ↦ rw return_.1 (at_return (next == 10))
+        | inr neither_ ↦ rw neither_.0 (refl, refl)
+      ])
     ]
   where
     at_return : (c : Bool) → ((cond c 13 32 == 47) ≡ false) × ((cond c 13 32 == 34) ≡ false)

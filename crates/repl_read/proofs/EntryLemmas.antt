@@ -1,7 +1,7 @@
 -- Lines to entries, line by line.
 use Rattle.std.proofs.Common.{◌≡◌, ℕ, ◌+◌, ◌<◌, ◌∙◌, refl, sym, ap, List, [], ◌∷◌, ◌++◌, length, drop, Option, None, Some, Result, Ok, Err, append_assoc, arith}
 use Rattle.std.specs.Prelude.{option_to_list}
-use Rattle.std.proofs.lemmas.List.{append-nil, drop_all, drop-drop, length-drop}
+use Rattle.std.proofs.lemmas.List.{append-nil, drop-drop, length-drop}
 use Rattle.repl_read.specs.declared.entry.Entry.{Entry}
 use Rattle.repl_read.specs.declared.entry.Head.{Head}
 use Rattle.repl_read.specs.declared.entry.Item.{Item}
@@ -10,7 +10,7 @@ use Rattle.repl_read.specs.declared.fault.PlatFault.TheVariants.{At, Memory}
 use Rattle.repl_read.specs.declared.lines.Said.{Said}
 use Rattle.repl_read.specs.declared.lines.Stand.{Stand}
 use Rattle.repl_read.specs.declared.tokens.TokenLine.{TokenLine}
-use Rattle.repl_read.specs.Platform.{◌>>=◌, LineFault, Rest, put, items_at, read_lines, entries_of, Tells}
+use Rattle.repl_read.specs.Platform.{◌>>=◌, LineFault, Rest, put, items_at, read_lines, Tells}
 use Rattle.repl_read.specs.Inner.Entries.{TellsPart, said_from, done_by, begun_by, extended_by}
 
 -- entries that are done, one that was begun, and what the other lines say

@@ -1,10 +1,8 @@
 -- A fault is of the form or a feature that is left out, at a line from 1 on.
 use Rattle.std.proofs.Common.{◌≡◌, ℕ, ◌+◌, ◌<◌, ◌⊎◌, inl, inr, refl, List, [], ◌∷◌, Result, Ok, Err, lit<, arith}
-use Rattle.repl_read.specs.declared.fault.PlatCause.{PlatCause}
 use Rattle.repl_read.specs.declared.fault.PlatCause.TheVariants as plat
 use Rattle.repl_read.specs.declared.fault.ReadCause.{ReadCause}
 use Rattle.repl_read.specs.declared.fault.ReadCause.TheVariants.{Form, Feature}
-use Rattle.repl_read.specs.declared.lines.Said.{Said}
 use Rattle.repl_read.specs.declared.lines.Stand.{Stand}
 use Rattle.repl_read.specs.declared.lines.Stand.TheVariants.{Apart}
 use Rattle.repl_read.specs.declared.tokens.TokenLine.{TokenLine}

@@ -7,5 +7,6 @@ pub mod FaultLemmas
 pub mod LengthLemmas
 pub mod ListLemmas
 pub mod NumeralLemmas
+pub mod ReturnLemmas
 pub mod TokenLemmas
 pub mod Utf8Lemmas

@@ -1,7 +1,7 @@
 -- What each part of a list says, part by part.
-use Rattle.std.proofs.Common.{◌≡◌, ℕ, ◌+◌, ◌<◌, ◌≤◌, ◌==◌, ◌∙◌, Bool, true, false, refl, sym, ap, List, [], ◌∷◌, ◌++◌, length, get_or, map, filter, take, drop, Result, Ok, Err, append_assoc, arith}
+use Rattle.std.proofs.Common.{◌≡◌, ℕ, ◌+◌, ◌<◌, ◌==◌, ◌∙◌, true, false, refl, sym, ap, List, [], ◌∷◌, ◌++◌, length, get_or, map, filter, drop, Result, Ok, Err, append_assoc, arith}
 use Rattle.std.proofs.lemmas.Bool.Decides.{nat_tests}
-use Rattle.std.proofs.lemmas.List.{drop_more, drop_all, append-nil, drop-map}
+use Rattle.std.proofs.lemmas.List.{drop_more, append-nil}
 use Rattle.repl_read.specs.declared.fault.Fault.{Fault}
 use Rattle.repl_read.specs.declared.fault.Fault.TheVariants.{Cause, Memory}
 use Rattle.repl_read.specs.declared.fault.ReadCause.{ReadCause}

@@ -1,5 +1,5 @@
 -- The tokens of a line, one at a time.
-use Rattle.std.proofs.Common.{◌≡◌, ℕ, ◌+◌, ◌<◌, ◌≤◌, ◌==◌, ◌||◌, Bool, true, false, not, ◌∙◌, refl, sym, ap, rules, subst, add-zero, add-one, zero, suc, List, [], ◌∷◌, ◌++◌, length, get_or, take, drop, Option, None, Some, arith, append_assoc}
+use Rattle.std.proofs.Common.{◌≡◌, ℕ, ◌+◌, ◌<◌, ◌≤◌, ◌==◌, true, false, ◌∙◌, refl, sym, ap, rules, subst, add-zero, add-one, zero, suc, List, [], ◌∷◌, ◌++◌, length, get_or, take, drop, Some, arith}
 use Rattle.std.specs.List.{list_all}
 use Rattle.std.specs.Str.{IsUtf8, IsCharBoundary}
 use Rattle.std.proofs.lemmas.Bool.{and_parts}
@@ -8,8 +8,8 @@ use Rattle.std.proofs.lemmas.List.{take-append-drop, get_or-drop, drop_more, dro
 use Rattle.std.proofs.lemmas.List.Folds.{list_all_more}
 use Rattle.std.proofs.lemmas.Str.{IsCharBoundary-before_ascii, IsCharBoundary-after_ascii}
 use Rattle.repl_read.specs.Comments.{quote}
-use Rattle.repl_read.specs.Tokens.{is_blank, is_word_byte, glue, into_string, tokens_of}
-use Rattle.repl_read.specs.Inner.Steps.{is_no_quote, in_front, IsStep}
+use Rattle.repl_read.specs.Tokens.{is_blank, is_word_byte, glue, tokens_of}
+use Rattle.repl_read.specs.Inner.Steps.{is_no_quote, IsStep}
 use Rattle.repl_read.specs.declared.tokens.Token.{Token}
 use Rattle.repl_read.specs.declared.tokens.Token.TheVariants.{Word, Quoted, Other}
 

@@ -1,10 +1,9 @@
 -- A text with blanks for its comments is a text: signs beyond ASCII change nothing that a comment or a string is in.
-use Rattle.std.proofs.Common.{◌≡◌, ℕ, ◌<◌, ◌≤◌, ◌∙◌, ◌⊎◌, Bool, true, false, cond, ltb, ◌==◌, ◌&&◌, ◌||◌, refl, ap, inl, inr, zero, suc, List, [], ◌∷◌, ◌++◌, length, get_or, map, Option, None, Some, arith, lit<}
+use Rattle.std.proofs.Common.{◌≡◌, ℕ, ◌<◌, ◌≤◌, ◌∙◌, ◌⊎◌, Bool, true, false, cond, ltb, ◌==◌, ◌&&◌, refl, ap, inl, inr, zero, suc, List, [], ◌∷◌, ◌++◌, length, get_or, map, Option, None, Some, arith, lit<}
 use Rattle.std.specs.List.{AllByRecursion}
 use Rattle.std.specs.Option.{option_map}
 use Rattle.std.specs.Str.{byte, IsAscii, IsUtf8}
 use Rattle.std.proofs.lemmas.Bool.{and_parts, cases_lt, le-ltb, ne_eqb}
-use Rattle.std.proofs.lemmas.Bool.Decides.{nat_tests}
 use Rattle.std.proofs.lemmas.Str.{IsUtf8-append, IsUtf8-nil, IsUtf8-encode, IsUtf8-from_ascii, encode_ascii, length-encode, len_utf8_bounds}
 use Rattle.std.proofs.lemmas.Str.Ascii.{IsAscii-cons, IsAscii-nil}
 use lib.Utf8.{encode, encodes, scalar, scalars}
@@ -103,7 +102,7 @@ neither true false = refl
 neither false true = refl
 neither false false = refl
 
-never : (t : Bool) → cond (t && false) (Some Nothing) None ≡ None
+pub never : (t : Bool) → cond (t && false) (Some Nothing) None ≡ None
 never true = refl
 never false = refl
 

@@ -1,5 +1,5 @@
 -- A line's tokens, cut at signs.
-use Rattle.std.specs.Prelude.{ℕ, nat_lt, Bool, true, false, if◌then◌else◌, List, length, Option, Some, None}
+use Rattle.std.specs.Prelude.{nat_lt, Bool, true, false, if◌then◌else◌, List, length, Option, Some, None}
 use Rattle.std.specs.List.{slice_split, position_or_len, before_first, after_first}
 use Rattle.repl_read.specs.declared.cuts.Mark.{Mark}
 use Rattle.repl_read.specs.declared.cuts.Mark.TheVariants as mark

@@ -2,9 +2,7 @@
 use Rattle.std.specs.Prelude.{ℕ, ◌||◌, Bool, true, false, if◌then◌else◌, List, [], ◌∷◌, Option, Some, None, Result, Ok, Err}
 use Rattle.std.specs.List.{list_any}
 use Rattle.repl_read.specs.declared.cuts.Mark.TheVariants as mark
-use Rattle.repl_read.specs.declared.entry.Head.{Head}
 use Rattle.repl_read.specs.declared.entry.Head.TheVariants.{Using}
-use Rattle.repl_read.specs.declared.entry.ItemWhat.{ItemWhat}
 use Rattle.repl_read.specs.declared.fault.ReadCause.{ReadCause}
 use Rattle.repl_read.specs.declared.fault.ReadCause.TheVariants.{Form}
 use Rattle.repl_read.specs.declared.lines.Listed.{Listed}

@@ -15,7 +15,6 @@ use Rattle.repl_read.specs.declared.fault.PlatFault.{PlatFault}
 use Rattle.repl_read.specs.declared.fault.PlatFault.TheVariants.{At, Memory}
 use Rattle.repl_read.specs.declared.fault.ReadCause.{ReadCause}
 use Rattle.repl_read.specs.declared.fault.ReadCause.TheVariants as read
-use Rattle.repl_read.specs.declared.lines.Said.{Said}
 use Rattle.repl_read.specs.declared.lines.Stand.{Stand}
 use Rattle.repl_read.specs.declared.lines.Stand.TheVariants.{Apart}
 use Rattle.repl_read.specs.declared.tokens.TokenLine.{TokenLine}

@@ -15,6 +15,6 @@ mod platform;
 mod tokens;
 
 pub use entry::{Ends, Entry, Head, Item, ItemWhat, Place, Span, Value};
-pub use laws::platform_laws;
 pub use fault::{PlatCause, PlatFault};
+pub use laws::platform_laws;
 pub use platform::read_platform;

@@ -1,5 +1,5 @@
 -- The course of the reader over comments, sign by sign.
-use Rattle.std.specs.Prelude.{ℕ, List, [], ◌∷◌, Option, None, Some}
+use Rattle.std.specs.Prelude.{ℕ, List, [], ◌∷◌, Option, None}
 use Rattle.std.specs.Option.{option_map}
 use Rattle.repl_read.specs.declared.comments.Inside.{Inside}
 use Rattle.repl_read.specs.Comments.{turn_at}

@@ -1,5 +1,4 @@
 -- The bytes are a text.
-use Rattle.std.proofs.Common.{sym}
 use Rattle.repl_read.specs.declared.comments.Inside.TheVariants.{Nothing}
 use Rattle.repl_read.proofs.Utf8Lemmas.{blanked_utf8}
 use Rattle.repl_read.proofs.comments.without_comments.Goals as goal

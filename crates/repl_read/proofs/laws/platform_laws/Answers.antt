@@ -1,11 +1,12 @@
 -- The laws, from their lemmas.
 use Rattle.std.proofs.Common.{ap}
 use Rattle.repl_read.specs.declared.comments.Inside.TheVariants.{Nothing}
-use Rattle.repl_read.specs.Platform.{entries_of, token_lines}
+use Rattle.repl_read.specs.Platform.{entries_of}
 use Rattle.repl_read.specs.Tokens.{token_line}
 use Rattle.std.specs.Str.Lines.{lines}
 use Rattle.std.proofs.Common.{map}
 use Rattle.repl_read.proofs.BlankLemmas.{blanked_again}
+use Rattle.repl_read.proofs.ReturnLemmas.{platform_returns}
 use Rattle.repl_read.proofs.FaultLemmas.{platform-fault}
 use Rattle.repl_read.proofs.laws.platform_laws.Goals as goal
 
@@ -13,7 +14,7 @@ pub returns-clause-comments : goal.returns-clause-comments
 returns-clause-comments c = λ text. ap (λ blank. entries_of (map token_line (lines blank))) (blanked_again Nothing text)
 
 pub returns-clause-returns : goal.returns-clause-returns
-returns-clause-returns c = ?
+returns-clause-returns c = platform_returns
 
 pub returns-clause-faults : goal.returns-clause-faults
 returns-clause-faults c = λ text. platform-fault text

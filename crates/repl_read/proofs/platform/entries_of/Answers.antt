@@ -1,5 +1,5 @@
 -- A line more.
-use Rattle.std.proofs.Common.{◌≡◌, ◌<◌, length, arith}
+use Rattle.std.proofs.Common.{◌<◌, length, arith}
 use Rattle.repl_read.specs.Inner.Entries.{opened}
 use Rattle.repl_read.specs.Platform.{entries_of}
 use Rattle.repl_read.proofs.EntryLemmas.{line_more}

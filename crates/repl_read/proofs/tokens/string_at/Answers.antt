@@ -1,5 +1,5 @@
 -- A string, from the place of its first quote in the line.
-use Rattle.std.proofs.Common.{◌≡◌, ◌+◌, ◌-◌, ◌<◌, take, drop, length, arith}
+use Rattle.std.proofs.Common.{◌≡◌, ◌+◌, ◌-◌, ◌<◌, drop, length, arith}
 use Rattle.std.proofs.lemmas.List.{take_rest, length-drop}
 use Rattle.repl_read.proofs.TokenLemmas.{quote_end, unclosed_step, string_step}
 use Rattle.repl_read.proofs.tokens.string_at.Goals as goal

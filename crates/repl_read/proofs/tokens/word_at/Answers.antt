@@ -1,5 +1,5 @@
 -- A word, from its place in the line.
-use Rattle.std.proofs.Common.{◌≡◌, ◌+◌, ◌-◌, take, drop, length, arith}
+use Rattle.std.proofs.Common.{◌≡◌, ◌+◌, ◌-◌, arith}
 use Rattle.std.proofs.lemmas.List.{take_rest}
 use Rattle.repl_read.proofs.TokenLemmas.{word_end, word_step}
 use Rattle.repl_read.proofs.tokens.word_at.Goals as goal
