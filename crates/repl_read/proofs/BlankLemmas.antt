@@ -1,9 +1,12 @@
 -- A text with blanks for its comments has none.
-use Rattle.std.proofs.Common.{◌≡◌, ℕ, ◌==◌, ◌&&◌, ◌||◌, ◌∙◌, inl, inr, Bool, true, false, cond, refl, ap, List, [], ◌∷◌, ◌++◌, Option, None, Some}
+use Rattle.std.proofs.Common.{◌≡◌, ℕ, ◌==◌, ◌&&◌, ◌||◌, ◌∙◌, inl, inr, Bool, true, false, cond, refl, ap, List, [], map, ◌∷◌, ◌++◌, Option, None, Some}
 use Rattle.std.specs.Option.{option_map_or}
+use Rattle.std.specs.Str.Lines.{lines}
 use Rattle.repl_read.specs.declared.comments.Inside.{Inside}
 use Rattle.repl_read.specs.declared.comments.Inside.TheVariants.{Nothing, Words, Line, Block}
 use Rattle.repl_read.specs.Comments.{quote, turn_at, behind, ends_line, seen, closes, marks, blanked}
+use Rattle.repl_read.specs.Platform.{platform, entries_of}
+use Rattle.repl_read.specs.Tokens.{token_line}
 use Rattle.repl_read.specs.Inner.Turns.{turn}
 use Rattle.std.proofs.lemmas.Bool.Decides.{eqb_tells}
 use Rattle.repl_read.proofs.CommentLemmas.{blanked_first, turned}
@@ -15,7 +18,7 @@ outside Words = Words
 outside _ = Nothing
 
 -- a sign that does not begin a comment
-plain :
+pub plain :
     (b : ℕ) (bs : List ℕ) → turn Nothing b bs ≡ None →
     blanked Nothing (b ∷ bs) ≡ b ∷ blanked (behind Nothing b) bs
 plain b bs none = blanked_first Nothing b bs ∙ rw none refl
@@ -28,11 +31,13 @@ no_slash b [] other = refl
 no_slash b (next ∷ bs) other = rw (no_slash-turn b next other) refl
 
 -- a blank, a line's end or `*`
-dull :
+pub dull :
     (b : ℕ) (bs : List ℕ) → (b == 47) ≡ false → (b == 34) ≡ false → blanked Nothing (b ∷ bs) ≡ b ∷ blanked Nothing bs
 dull b bs slash string = plain b bs (no_slash b bs slash) ∙ rw string refl
 
-marks_again : (inside : Inside) (rest bs : List ℕ) → blanked Nothing (marks inside rest ++ bs) ≡ marks inside rest ++ blanked Nothing bs
+marks_again :
+    (inside : Inside) (rest bs : List ℕ) →
+    blanked Nothing (marks inside rest ++ bs) ≡ marks inside rest ++ blanked Nothing bs
 marks_again Nothing rest bs = dull 32 (32 ∷ bs) refl refl ∙ ap (λ xs. 32 ∷ xs) (dull 32 bs refl refl)
 marks_again Words rest bs = dull 32 (32 ∷ bs) refl refl ∙ ap (λ xs. 32 ∷ xs) (dull 32 bs refl refl)
 marks_again Line rest bs = dull 32 (32 ∷ bs) refl refl ∙ ap (λ xs. 32 ∷ xs) (dull 32 bs refl refl)
@@ -40,7 +45,8 @@ marks_again Block rest bs = either (closes rest)
   where
     either :
         (b : Bool) →
-        blanked Nothing (cond b (32 ∷ 32 ∷ []) (32 ∷ 42 ∷ []) ++ bs) ≡ cond b (32 ∷ 32 ∷ []) (32 ∷ 42 ∷ []) ++ blanked Nothing bs
+        blanked Nothing (cond b (32 ∷ 32 ∷ []) (32 ∷ 42 ∷ []) ++ bs)
+        ≡ cond b (32 ∷ 32 ∷ []) (32 ∷ 42 ∷ []) ++ blanked Nothing bs
     either true = dull 32 (32 ∷ bs) refl refl ∙ ap (λ xs. 32 ∷ xs) (dull 32 bs refl refl)
     either false = dull 32 (42 ∷ bs) refl refl ∙ ap (λ xs. 32 ∷ xs) (dull 42 bs refl refl)
 
@@ -48,7 +54,7 @@ words_turn : (b : ℕ) (bs : List ℕ) → turn Words b bs ≡ None
 words_turn b [] = refl
 words_turn b (next ∷ bs) = refl
 
-words_plain : (b : ℕ) (bs : List ℕ) → blanked Words (b ∷ bs) ≡ b ∷ blanked (behind Words b) bs
+pub words_plain : (b : ℕ) (bs : List ℕ) → blanked Words (b ∷ bs) ≡ b ∷ blanked (behind Words b) bs
 words_plain b bs = blanked_first Words b bs ∙ rw (words_turn b bs) refl
 
 -- no string begins or ends at a turn
@@ -137,7 +143,8 @@ outside_line false = refl
 -- one sign that begins and ends nothing
 again_one :
     (inside : Inside) (b next : ℕ) (bs : List ℕ) → turn_at inside b next ≡ None →
-    blanked (outside (behind inside b)) (blanked (behind inside b) (next ∷ bs)) ≡ blanked (behind inside b) (next ∷ bs) →
+    blanked (outside (behind inside b)) (blanked (behind inside b) (next ∷ bs))
+    ≡ blanked (behind inside b) (next ∷ bs) →
     blanked (outside inside) (seen inside b next ∷ blanked (behind inside b) (next ∷ bs))
     ≡ seen inside b next ∷ blanked (behind inside b) (next ∷ bs)
 again_one Nothing b next bs none same =
@@ -166,7 +173,8 @@ again_two then_ bs out same =
 
 again_by :
     (inside : Inside) (b next : ℕ) (bs : List ℕ) (o : Option Inside) → turn_at inside b next ≡ o →
-    blanked (outside (behind inside b)) (blanked (behind inside b) (next ∷ bs)) ≡ blanked (behind inside b) (next ∷ bs) →
+    blanked (outside (behind inside b)) (blanked (behind inside b) (next ∷ bs))
+    ≡ blanked (behind inside b) (next ∷ bs) →
     ((then_ : Inside) → blanked (outside then_) (blanked then_ bs) ≡ blanked then_ bs) →
     blanked (outside inside) (blanked inside (b ∷ next ∷ bs)) ≡ blanked inside (b ∷ next ∷ bs)
 again_by inside b next bs None is one two = rw is (again_one inside b next bs is one)
@@ -187,3 +195,9 @@ blanked_again inside (b ∷ []) = last_again inside b
 blanked_again inside (b ∷ next ∷ bs) =
     again_by inside b next bs (turn_at inside b next) refl (blanked_again (behind inside b) (next ∷ bs))
     (λ then_. blanked_again then_ bs)
+
+-- so the text reads as with its comments
+pub platform_blanked : (text : List ℕ) → platform (blanked Nothing text) ≡ platform text
+unfolding platform
+platform_blanked text =
+    ap (λ blank. entries_of (map token_line (lines blank))) (blanked_again Nothing text)

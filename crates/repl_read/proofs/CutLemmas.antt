@@ -21,7 +21,8 @@ pub cut_some :
     Some (take at tokens, take (length tokens - (at + 1)) (drop (at + 1) tokens)) ≡ cut sign tokens
 cut_some sign tokens at is =
     rw (take_rest tokens (at + 1))
-    (some_cut (ltb (position_or_len (is_mark sign) tokens) (length tokens)) (position_or_len (is_mark sign) tokens) at tokens is)
+    (some_cut (ltb (position_or_len (is_mark sign) tokens) (length tokens)) (position_or_len (is_mark sign) tokens) at
+    tokens is)
 
 no_cut :
     (b : Bool) (p : ℕ) (found : List Token × List Token) →

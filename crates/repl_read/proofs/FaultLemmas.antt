@@ -27,8 +27,12 @@ read_lines-fault : (stand : Stand) (n : ℕ) (lines : List TokenLine) → 0 < n 
 read_lines-fault stand n [] some = tt
 read_lines-fault stand n (line ∷ later) some =
     then-fault (at_line n _) _ (at_line-fault n _ some)
-    (λ said. then-fault (read_lines said.next (n + 1) later) _ (read_lines-fault said.next (n + 1) later (omega arith)) (λ rest. tt))
+    (λ said.
+    then-fault (read_lines said.next (n + 1) later) _
+    (read_lines-fault said.next (n + 1) later (omega arith)) (λ rest. tt))
 
 pub platform-fault : (text : List ℕ) → IsFault (platform text)
+unfolding platform
 platform-fault text =
-    then-fault (read_lines Apart 1 (token_lines text)) _ (read_lines-fault Apart 1 (token_lines text) (lit< tt)) (λ rest. tt)
+    then-fault (read_lines Apart 1 (token_lines text)) _
+    (read_lines-fault Apart 1 (token_lines text) (lit< tt)) (λ rest. tt)

@@ -51,7 +51,8 @@ length-blanked inside [] = refl
 length-blanked inside (b ∷ []) = refl
 length-blanked inside (b ∷ next ∷ bs) =
     by_turn-length (turn_at inside b next) (seen inside b next) (blanked (behind inside b) (next ∷ bs)) bs
-    (λ then_. blanked then_ bs) (length bs) (length-blanked (behind inside b) (next ∷ bs)) (λ then_. length-blanked then_ bs)
+    (λ then_. blanked then_ bs) (length bs) (length-blanked (behind inside b) (next ∷ bs))
+    (λ then_. length-blanked then_ bs)
 
 pub lines_few : (text : List ℕ) → length text ≤ 2 ^ 24 → length (token_lines text) ≤ 2 ^ 24 + 1
 lines_few text few =

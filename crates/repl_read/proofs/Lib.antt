@@ -1,5 +1,6 @@
 -- Lemmas of repl_read.
 pub mod BlankLemmas
+pub mod CommentLaws
 pub mod CommentLemmas
 pub mod CutLemmas
 pub mod EntryLemmas
@@ -10,3 +11,5 @@ pub mod NumeralLemmas
 pub mod ReturnLemmas
 pub mod TokenLemmas
 pub mod Utf8Lemmas
+pub mod ValidLemmas
+pub mod ValidLines

@@ -59,7 +59,9 @@ split_no_returns (b ∷ bs) all =
     let both = and_parts (is_no_return b) (no_returns bs) all in
     by_feed (is_feed b) (slice_split is_feed bs) both.0 (split_no_returns bs both.1)
   where
-    onto : (parts : List (List ℕ)) → is_no_return b ≡ true → list_all no_returns parts ≡ true → list_all no_returns (onto_first b parts) ≡ true
+    onto :
+        (parts : List (List ℕ)) → is_no_return b ≡ true → list_all no_returns parts ≡ true →
+        list_all no_returns (onto_first b parts) ≡ true
     onto [] here rest = rw here refl
     onto (x ∷ more) here rest = rw here rest
 
@@ -87,7 +89,9 @@ strip_none (b ∷ bs) all =
       | inr other ↦ rw other.0 refl
     ]
 
-lines_returned : (parts : List (List ℕ)) → list_all no_returns parts ≡ true → lines_of_parts (returned parts) ≡ lines_of_parts parts
+lines_returned :
+    (parts : List (List ℕ)) → list_all no_returns parts ≡ true →
+    lines_of_parts (returned parts) ≡ lines_of_parts parts
 lines_returned [] all = refl
 lines_returned (x ∷ []) all = refl
 lines_returned (x ∷ y ∷ []) all =
@@ -188,7 +192,9 @@ seen_no_feed Words b next feed return_ = feed
 seen_no_feed Line b next feed return_ = rw (feed, return_) refl
 seen_no_feed Block b next feed return_ = rw (feed, return_) refl
 
-marks_returns : (inside : Inside) (rest bs : List ℕ) → with_returns (marks inside rest ++ bs) ≡ marks inside rest ++ with_returns bs
+marks_returns :
+    (inside : Inside) (rest bs : List ℕ) →
+    with_returns (marks inside rest ++ bs) ≡ marks inside rest ++ with_returns bs
 marks_returns Nothing rest bs = refl
 marks_returns Words rest bs = refl
 marks_returns Line rest bs = refl
@@ -196,7 +202,8 @@ marks_returns Block rest bs = either (closes rest)
   where
     either :
         (c : Bool) →
-        with_returns (cond c (32 ∷ 32 ∷ []) (32 ∷ 42 ∷ []) ++ bs) ≡ cond c (32 ∷ 32 ∷ []) (32 ∷ 42 ∷ []) ++ with_returns bs
+        with_returns (cond c (32 ∷ 32 ∷ []) (32 ∷ 42 ∷ []) ++ bs)
+        ≡ cond c (32 ∷ 32 ∷ []) (32 ∷ 42 ∷ []) ++ with_returns bs
     either true = refl
     either false = refl
 
@@ -230,7 +237,8 @@ returns_by inside b next bs (Some then_) is feed return_ one two =
     refl
 
 last_returns :
-    (inside : Inside) (b : ℕ) → (b == 13) ≡ false → blanked inside (with_returns (b ∷ [])) ≡ with_returns (blanked inside (b ∷ []))
+    (inside : Inside) (b : ℕ) → (b == 13) ≡ false →
+    blanked inside (with_returns (b ∷ [])) ≡ with_returns (blanked inside (b ∷ []))
 last_returns inside b return_ =
     elim (eqb_tells b 10) [
       | inl feed ↦ rw feed.1 (return_blanked inside [] ∙ ap with_returns (sym (feed_blanked inside [])))
@@ -250,12 +258,16 @@ blanked_returns inside (b ∷ next ∷ bs) all =
     λ then_. blanked_returns then_ bs rest.1 in
     elim (eqb_tells b 10) [
       | inl feed ↦
-          let same : blanked (behind inside 10) (with_returns (next ∷ bs)) ≡ with_returns (blanked (behind inside 10) (next ∷ bs)) =
-          rw feed.1 at one in
+          let same :
+              blanked (behind inside 10) (with_returns (next ∷ bs))
+              ≡ with_returns (blanked (behind inside 10) (next ∷ bs)) =
+              rw feed.1 at one in
           rw feed.1
           (return_blanked inside (with_returns (next ∷ bs))
           ∙ (ap (λ xs. 13 ∷ 10 ∷ xs) same ∙ ap with_returns (sym (feed_blanked inside (next ∷ bs)))))
-      | inr other ↦ rw other.0 (returns_by inside b next bs (turn_at inside b next) refl other.0 (no_return-eqb b both.0) one two)
+      | inr other ↦
+          rw other.0
+          (returns_by inside b next bs (turn_at inside b next) refl other.0 (no_return-eqb b both.0) one two)
     ]
 
 -- blanks bring no carriage returns
@@ -284,7 +296,8 @@ marks_none Block rest = either (closes rest)
     either false = refl
 
 none_by :
-    (o : Option Inside) (bs plain : List ℕ) → no_returns plain ≡ true → ((then_ : Inside) → no_returns (blanked then_ bs) ≡ true) →
+    (o : Option Inside) (bs plain : List ℕ) → no_returns plain ≡ true →
+    ((then_ : Inside) → no_returns (blanked then_ bs) ≡ true) →
     no_returns (option_map_or (λ then_. marks then_ bs ++ blanked then_ bs) o plain) ≡ true
 none_by None bs plain one two = one
 none_by (Some then_) bs plain one two =
@@ -301,6 +314,8 @@ blanked_none inside (b ∷ next ∷ bs) all =
     (λ then_. blanked_none then_ bs rest.1)
 
 pub platform_returns : (text : List ℕ) → no_returns text ≡ true → platform (with_returns text) ≡ platform text
+unfolding platform
 platform_returns text all =
     ap (λ blank. entries_of (map token_line (lines blank))) (blanked_returns Nothing text all)
-    ∙ ap (λ ends. entries_of (map token_line ends)) (lines_returns (blanked Nothing text) (blanked_none Nothing text all))
+    ∙ ap (λ ends. entries_of (map token_line ends))
+    (lines_returns (blanked Nothing text) (blanked_none Nothing text all))

@@ -93,7 +93,8 @@ word_end line start (suc m) text inside first fits all =
     let more : m < length (drop start line) = omega arith in
     let all_more : list_all is_word_byte (take (m + 1) (drop start line)) ≡ true = rw (add-one m) all in
     let last : is_word_byte (get_or (drop start line) m 0) ≡ true =
-    (and_parts (list_all is_word_byte (take m (drop start line))) (is_word_byte (get_or (drop start line) m 0)) (sym (list_all_more is_word_byte (drop start line) m 0 more) ∙ all_more)).1 in
+    (and_parts (list_all is_word_byte (take m (drop start line))) (is_word_byte (get_or (drop start line) m 0))
+    (sym (list_all_more is_word_byte (drop start line) m 0 more) ∙ all_more)).1 in
     let there : is_word_byte (get_or line (start + m) 0) ≡ true = rw (get_or-drop start line m 0) at last in
     let below : start + m < length line = omega (arith, length-drop start line) in
     let place : start + m + 1 ≡ start + suc m = omega arith in
@@ -106,7 +107,8 @@ pub word_step :
     is_word_byte (get_or (drop start line) n 0) ≡ false → word ≡ take n (drop start line) →
     IsStep line start (record { token = Some (Word word); end = start + n })
 word_step line word start n inside first fits all ends is =
-    let here : is_word_byte (get_or (drop start line) 0 0) ≡ true = rw (get_or-drop start line 0 0, add-zero start) first in
+    let here : is_word_byte (get_or (drop start line) 0 0) ≡ true =
+    rw (get_or-drop start line 0 0, add-zero start) first in
     let cut = word_cut (drop start line) n here fits all ends in
     record {
       token = rw (is, ← drop-drop n start line) cut.1;

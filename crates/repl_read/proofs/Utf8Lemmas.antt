@@ -68,7 +68,9 @@ blanked_high :
 blanked_high inside [] rest high = refl
 blanked_high inside (h ∷ hs) rest high =
     blanked_first inside h (hs ++ rest)
-    ∙ rw (turn_high inside h (hs ++ rest) high.0, behind_high inside h high.0, seen-high inside h (get_or (hs ++ rest) 0 0) high.0)
+    ∙ rw
+    (turn_high inside h (hs ++ rest) high.0, behind_high inside h high.0,
+    seen-high inside h (get_or (hs ++ rest) 0 0) high.0)
     (ap (λ xs. seen_high inside h ∷ xs) (blanked_high inside hs rest high.1))
 
 same_bytes : (hs : List ℕ) → map (λ b. b) hs ≡ hs
@@ -138,7 +140,8 @@ marks_ascii Block rest = marks_choice (closes rest)
 abbrev Taken : Inside → ℕ → List ℕ → Type 0
 Taken inside c cs =
     (turn inside c (encodes cs) ≡ None)
-    ⊎ ((then_ : Inside) × (e : ℕ) × (es : List ℕ) × (cs ≡ e ∷ es) × (turn inside c (encodes cs) ≡ Some (then_, encodes es)))
+    ⊎ ((then_ : Inside) × (e : ℕ) × (es : List ℕ) × (cs ≡ e ∷ es)
+    × (turn inside c (encodes cs) ≡ Some (then_, encodes es)))
 
 taken_of :
     (o : Option Inside) (inside : Inside) (c e : ℕ) (es : List ℕ) →
@@ -172,10 +175,12 @@ kept_low inside c cs low took one two =
           IsUtf8-from_ascii (seen inside c next ∷ [])
           (IsAscii-cons (seen inside c next) [] (seen_low inside c next low) IsAscii-nil) in
           rw here
-          (IsUtf8-append (seen inside c next ∷ []) (blanked (behind inside c) (encodes cs)) first (one (behind inside c)))
+          (IsUtf8-append (seen inside c next ∷ []) (blanked (behind inside c) (encodes cs)) first
+          (one (behind inside c)))
       | inr both ↦
-          let here : blanked inside (encodes (c ∷ cs)) ≡ marks both.0 (encodes both.2) ++ blanked both.0 (encodes both.2) =
-          rw (encode_ascii c low) (blanked_first inside c (encodes cs) ∙ rw both.4 refl) in
+          let here :
+              blanked inside (encodes (c ∷ cs)) ≡ marks both.0 (encodes both.2) ++ blanked both.0 (encodes both.2) =
+              rw (encode_ascii c low) (blanked_first inside c (encodes cs) ∙ rw both.4 refl) in
           rw here
           (IsUtf8-append (marks both.0 (encodes both.2)) (blanked both.0 (encodes both.2))
           (IsUtf8-from_ascii _ (marks_ascii both.0 (encodes both.2))) (two both.1 both.2 both.3 both.0))

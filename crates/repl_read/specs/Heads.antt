@@ -1,5 +1,5 @@
--- The first line of an entry: `using "file"`, `name:`, `name: Type`, `name: Type @ sysbus`,
--- `name: Type @ sysbus ADDR` or `name: Type @ sysbus <ADDR, +SIZE>`.
+-- The first line of an entry, with its registration (Renode's platform description format): `using "file"`, `name:`,
+-- `name: Type`, `name: Type @ sysbus`, `name: Type @ sysbus ADDR` or `name: Type @ sysbus <ADDR, +SIZE>`.
 use Rattle.std.specs.Prelude.{ℕ, List, [], ◌∷◌, Option, Some, None, if◌then◌else◌, codes, Result, Ok, Err}
 use Rattle.std.specs.Str.{bytes_eq}
 use Rattle.repl_read.specs.declared.entry.Head.{Head}

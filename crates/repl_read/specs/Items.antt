@@ -1,4 +1,5 @@
--- The items of an entry: attributes `key: value`, and wires `SRC -> dest@DST`.
+-- The items of an entry: attributes `key: value`, and wires `SRC -> dest@DST`, which Renode's platform description
+-- format calls interrupt connections.
 use Rattle.std.specs.Prelude.{ℕ, nat_le, filter, Bool, true, false, List, [], ◌∷◌, Option, Some, None, if◌then◌else◌, codes, Result, Ok, Err}
 use Rattle.std.specs.Str.{bytes_eq}
 use Rattle.repl_read.specs.declared.cuts.Mark.TheVariants as mark

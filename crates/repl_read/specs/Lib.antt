@@ -1,6 +1,7 @@
 -- What contracts of repl_read and of the crates above cite.
 pub mod Comments
 pub mod Cuts
+pub mod Entries
 pub mod Features
 pub mod Forms
 pub mod Heads

@@ -1,4 +1,4 @@
--- A text's entries, or its first fault.
+-- A text's entries, or its first fault: the part of Renode's platform description format that is read here.
 use Rattle.std.specs.Prelude.{◌≡◌, ℕ, ◌+◌, List, [], ◌∷◌, ◌++◌, map, Option, Some, None, Result, Ok, Err}
 use Rattle.std.specs.List.{list_any}
 use Rattle.std.specs.Str.Lines.{lines}
@@ -71,7 +71,7 @@ abbrev pub entries_of : List TokenLine → Result (List Entry) LineFault
 entries_of lines = read_lines Apart 1 lines >>= λ rest. Ok rest.1
 
 -- the entries that a text says, or its first fault
-abbrev pub platform : List ℕ → Result (List Entry) LineFault
+unfoldable pub platform : List ℕ → Result (List Entry) LineFault
 platform text = entries_of (token_lines text)
 
 -- entries or a fault in the file with the number 0, unless memory is wanting

@@ -46,7 +46,8 @@ abbrev pub into_string : ℕ → List Token → List Token
 into_string b (Quoted text ∷ ts) = Quoted (b ∷ text) ∷ ts
 into_string b ts = ts
 
--- the words, strings and signs of a line, from within a string or not; a string that is not closed is a sign that has no form
+-- the words, strings and signs of a line, from within a string or not; a string that is not closed is a sign that has
+-- no form
 abbrev pub tokens_of : Bool → List ℕ → List Token
 tokens_of true [] = Other ∷ []
 tokens_of false [] = []

@@ -16,5 +16,5 @@ mod tokens;
 
 pub use entry::{Ends, Entry, Head, Item, ItemWhat, Place, Span, Value};
 pub use fault::{PlatCause, PlatFault};
-pub use laws::platform_laws;
+pub use laws::{comment_laws, platform_laws};
 pub use platform::read_platform;

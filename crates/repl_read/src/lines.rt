@@ -213,7 +213,8 @@ pub(crate) fn said_of(
     line: &TokenLine,
     later: &[TokenLine],
 ) -> Result<Said, Fault>
-    ensures { Gives result (said_of stand line.now.indented (list_any has_close later.now) line.now.tokens) }
+    ensures { Gives result
+        (said_of stand line.now.indented (list_any has_close later.now) line.now.tokens) }
 {
     let tokens = line.tokens.items();
     if tokens.is_empty() {

@@ -107,7 +107,8 @@ fn add_items(items: &mut Vec<Item>, n: u32, whats: Rows<ItemWhat>) -> Result<(),
 
 /// The entry that was begun, with items of line `n`.
 fn extended(begun: Option<Begun>, n: u32, whats: Rows<ItemWhat>) -> Result<Option<Begun>, PlatFault>
-    ensures ok { IfOk result (λ after. opened after ≡ extended_by (items_at n whats) (opened begun)) }
+    ensures ok { IfOk result
+        (λ after. opened after ≡ extended_by (items_at n whats) (opened begun)) }
     ensures err { IfErr result (λ fault. fault ≡ PlatFault.Memory) }
 {
     let Some(
@@ -145,17 +146,21 @@ fn entries_of(alloc: Global, lines: &[TokenLine]) -> Result<Vec<Entry>, PlatFaul
 
 /// The entries that a platform text says, in its order, each with the file number 0.
 ///
-/// The text is that of one platform description: its own `using` lines become entries, and their
-/// files are not read. `//` to the line's end and `/* */` are blanks outside strings. A line that is
-/// not indented is `using "file"` or a head: `name:`, `name: Type`, `name: Type @ sysbus`,
+/// The forms are a part of Renode's platform description format. A `using` line becomes an entry,
+/// and its file is not read. `//` to the line's end and `/* */` are blanks outside strings. A line
+/// that is not indented is `using "file"` or a head: `name:`, `name: Type`, `name: Type @ sysbus`,
 /// `name: Type @ sysbus ADDR` or `name: Type @ sysbus <ADDR, +SIZE>`. The items of a head are the
 /// indented lines behind it, or stand between `{` on its line and `}`, parted by `;` or line ends:
-/// attributes `key: value`, and wires `SRC -> dest@DST`.
+/// attributes `key: value`, and wires `SRC -> dest@DST`. Numbers are below 2^32, decimal or
+/// hexadecimal behind `0x`.
 ///
-/// `At` with `Feature` is answered for a line that asks for a feature of Renode's format that is
-/// left out: `|`, the words `local`, `as`, `new` and `none`, the sections `init`, `reset` and
-/// `preinit`, and a registration in a head without a type. `At` with `Form` is answered for any
-/// other line of no form. The first line with a fault counts, and on one line `Feature` comes first.
+/// `At` with `Feature` is answered for a line that asks for a feature of that format which is left
+/// out: `|`, the words `local`, `as`, `new` and `none`, the sections `init`, `reset` and `preinit`,
+/// and a registration in a head without a type. `At` with `Form` is answered for any other line of
+/// no form, and for the line of a `{` or of a comment that is not closed. The first line with a
+/// fault counts, and on one line `Feature` comes first. `Memory` is answered where memory is
+/// wanting alone.
+#[tactic(auto, unfolding(crate::specs::Platform::platform))]
 pub fn read_platform(alloc: Global, text: &str) -> Result<Vec<Entry>, PlatFault>
     requires { length text.now ≤ 2 ^ 24 }
     ensures { Reads text.now result }

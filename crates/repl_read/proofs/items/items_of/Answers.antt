@@ -17,7 +17,9 @@ loop-part-preserved c =
       | then-not-is_empty+in_ok-item_of+in_ok-push w ↦
           let some : (length part.now == 0) ≡ false = search rules in
           rw (w.items-is, (w.in_ok-push.ensures {u = tt}).items)
-          (sym (items_more part.now rest w.in_ok-item_of.field-0 c.loop-part.items.items some (w.in_ok-item_of.ensures {u = tt}))
+          (sym
+          (items_more part.now rest w.in_ok-item_of.field-0 c.loop-part.items.items some
+          (w.in_ok-item_of.ensures {u = tt}))
           ∙ read)
       | else-not-is_empty w ↦
           let none : (length part.now == 0) ≡ true = search rules in

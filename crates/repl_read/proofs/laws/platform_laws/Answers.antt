@@ -5,13 +5,17 @@ use Rattle.repl_read.specs.Platform.{entries_of}
 use Rattle.repl_read.specs.Tokens.{token_line}
 use Rattle.std.specs.Str.Lines.{lines}
 use Rattle.std.proofs.Common.{map}
-use Rattle.repl_read.proofs.BlankLemmas.{blanked_again}
+use Rattle.repl_read.proofs.BlankLemmas.{platform_blanked}
+use Rattle.repl_read.proofs.ValidLines.{platform_entries}
 use Rattle.repl_read.proofs.ReturnLemmas.{platform_returns}
 use Rattle.repl_read.proofs.FaultLemmas.{platform-fault}
 use Rattle.repl_read.proofs.laws.platform_laws.Goals as goal
 
 pub returns-clause-comments : goal.returns-clause-comments
-returns-clause-comments c = λ text. ap (λ blank. entries_of (map token_line (lines blank))) (blanked_again Nothing text)
+returns-clause-comments c = platform_blanked
+
+pub returns-clause-entries : goal.returns-clause-entries
+returns-clause-entries c = platform_entries
 
 pub returns-clause-returns : goal.returns-clause-returns
 returns-clause-returns c = platform_returns
