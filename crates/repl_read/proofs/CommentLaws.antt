@@ -1,18 +1,12 @@
 -- Comments and strings of one line, whole.
-use Rattle.std.proofs.Common.{◌≡◌, ℕ, ◌+◌, ◌==◌, ◌&&◌, ◌||◌, ◌∙◌, not, Bool, true, false, cond, zero, suc, refl, sym, ap, List, [], ◌∷◌, ◌++◌, length, get_or, replicate, Option, None, Some, arith}
+use Rattle.std.proofs.Common.{◌≡◌, ℕ, ◌+◌, ◌==◌, ◌&&◌, ◌||◌, ◌∙◌, Bool, true, false, zero, suc, refl, ap, List, [], ◌∷◌, ◌++◌, length, get_or, arith}
 use Rattle.std.specs.List.{list_all}
-use Rattle.std.specs.Option.{option_map, option_map_or}
-use Rattle.std.specs.Str.{byte}
 use Rattle.std.proofs.lemmas.Bool.{and_parts}
 use Rattle.std.proofs.lemmas.Bool.Decides.{nat_tests}
-use Rattle.repl_read.specs.declared.comments.Inside.{Inside}
 use Rattle.repl_read.specs.declared.comments.Inside.TheVariants.{Nothing, Words, Line, Block}
-use Rattle.repl_read.specs.Comments.{quote, turn_at, behind, ends_line, seen, closes, marks, blanked}
+use Rattle.repl_read.specs.Comments.{closes, blanked}
 use Rattle.repl_read.specs.Laws.{stays_on_line, stays_in_string, blanks}
-use Rattle.repl_read.specs.Inner.Turns.{turn}
-use Rattle.repl_read.proofs.CommentLemmas.{blanked_first, turned}
-use Rattle.repl_read.proofs.BlankLemmas.{plain, dull, words_plain}
-use Rattle.repl_read.proofs.Utf8Lemmas.{neither, never}
+use Rattle.repl_read.proofs.BlankLemmas.{dull, words_plain}
 
 no_feed : (b : ℕ) → stays_on_line b ≡ true → (b == 10) ≡ false
 no_feed b here = grind (arith, nat_tests)

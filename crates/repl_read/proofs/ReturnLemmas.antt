@@ -259,9 +259,9 @@ blanked_returns inside (b ∷ next ∷ bs) all =
     elim (eqb_tells b 10) [
       | inl feed ↦
           let same :
-              blanked (behind inside 10) (with_returns (next ∷ bs))
-              ≡ with_returns (blanked (behind inside 10) (next ∷ bs)) =
-              rw feed.1 at one in
+          blanked (behind inside 10) (with_returns (next ∷ bs))
+          ≡ with_returns (blanked (behind inside 10) (next ∷ bs)) =
+          rw feed.1 at one in
           rw feed.1
           (return_blanked inside (with_returns (next ∷ bs))
           ∙ (ap (λ xs. 13 ∷ 10 ∷ xs) same ∙ ap with_returns (sym (feed_blanked inside (next ∷ bs)))))

@@ -68,9 +68,11 @@ blanked_high :
 blanked_high inside [] rest high = refl
 blanked_high inside (h ∷ hs) rest high =
     blanked_first inside h (hs ++ rest)
-    ∙ rw
-    (turn_high inside h (hs ++ rest) high.0, behind_high inside h high.0,
-    seen-high inside h (get_or (hs ++ rest) 0 0) high.0)
+    ∙ rw (
+      turn_high inside h (hs ++ rest) high.0,
+      behind_high inside h high.0,
+      seen-high inside h (get_or (hs ++ rest) 0 0) high.0,
+    )
     (ap (λ xs. seen_high inside h ∷ xs) (blanked_high inside hs rest high.1))
 
 same_bytes : (hs : List ℕ) → map (λ b. b) hs ≡ hs
@@ -179,8 +181,8 @@ kept_low inside c cs low took one two =
           (one (behind inside c)))
       | inr both ↦
           let here :
-              blanked inside (encodes (c ∷ cs)) ≡ marks both.0 (encodes both.2) ++ blanked both.0 (encodes both.2) =
-              rw (encode_ascii c low) (blanked_first inside c (encodes cs) ∙ rw both.4 refl) in
+          blanked inside (encodes (c ∷ cs)) ≡ marks both.0 (encodes both.2) ++ blanked both.0 (encodes both.2) =
+          rw (encode_ascii c low) (blanked_first inside c (encodes cs) ∙ rw both.4 refl) in
           rw here
           (IsUtf8-append (marks both.0 (encodes both.2)) (blanked both.0 (encodes both.2))
           (IsUtf8-from_ascii _ (marks_ascii both.0 (encodes both.2))) (two both.1 both.2 both.3 both.0))

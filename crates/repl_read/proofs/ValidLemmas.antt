@@ -1,17 +1,12 @@
 -- What each entry of a text meets, form by form.
-use Rattle.std.proofs.Common.{◌≡◌, ℕ, ◌+◌, ◌≤◌, ◌∙◌, ◌&&◌, ◌||◌, Bool, true, false, refl, sym, List, [], ◌∷◌, ◌++◌, map, filter, Option, None, Some, Result, Ok, Err, arith}
-use Rattle.std.specs.Prelude.{nat_le, IfOk, if◌then◌else◌, codes}
-use Rattle.std.specs.List.{list_all, list_any}
+use Rattle.std.proofs.Common.{◌≡◌, ℕ, ◌&&◌, ◌||◌, Bool, true, false, refl, List, [], ◌∷◌, filter, Option, None, Some, Result, Ok, Err, arith}
+use Rattle.std.specs.Prelude.{nat_le, if◌then◌else◌, codes}
+use Rattle.std.specs.List.{list_all}
 use Rattle.std.specs.Str.{bytes_eq}
 use Rattle.std.proofs.lemmas.Bool.{le-leb}
-use Rattle.std.proofs.lemmas.List.Folds.{list_all-append, list_all-map}
 use Rattle.repl_read.specs.declared.cuts.Mark.TheVariants as mark
-use Rattle.repl_read.specs.declared.entry.Ends.TheVariants.{Absent, Irq, Spans}
-use Rattle.repl_read.specs.declared.entry.Entry.{Entry}
+use Rattle.repl_read.specs.declared.entry.Ends.TheVariants.{Irq}
 use Rattle.repl_read.specs.declared.entry.Head.{Head}
-use Rattle.repl_read.specs.declared.entry.Item.{Item}
-use Rattle.repl_read.specs.declared.entry.ItemWhat.{ItemWhat}
-use Rattle.repl_read.specs.declared.entry.Span.{Span}
 use Rattle.repl_read.specs.declared.fault.ReadCause.{ReadCause}
 use Rattle.repl_read.specs.declared.lines.Listed.{Listed}
 use Rattle.repl_read.specs.declared.lines.Said.{Said}
@@ -19,14 +14,13 @@ use Rattle.repl_read.specs.declared.lines.Stand.{Stand}
 use Rattle.repl_read.specs.declared.lines.Stand.TheVariants.{Apart, Under, Within}
 use Rattle.repl_read.specs.declared.tokens.Token.{Token}
 use Rattle.repl_read.specs.declared.tokens.Token.TheVariants.{Word, Quoted, Colon, At, Minus, StartList}
-use Rattle.repl_read.specs.declared.tokens.TokenLine.{TokenLine}
 use Rattle.repl_read.specs.Cuts.{cut, with_cut, parts}
-use Rattle.repl_read.specs.Entries.{is_span, is_source, are_pins, is_item, is_head, are_items, is_entry}
+use Rattle.repl_read.specs.Entries.{is_span, is_source, are_pins, is_item, is_head}
 use Rattle.repl_read.specs.Features.{in_item, in_head, in_list}
 use Rattle.repl_read.specs.Forms.{◌>>=◌, require, judged, number, all_of}
 use Rattle.repl_read.specs.Heads.{using_of, place_of, head_of}
-use Rattle.repl_read.specs.Items.{word_value, attribute_of, span_of, spans_of, ended_list, bracketed, one_span, pins_of, numbered_ends, source_of, wire_of, is_filled, item_of, items_of}
-use Rattle.repl_read.specs.Lines.{has_close, parted_items, closed_list, list_of, within_line, item_line, behind_brace, plain_head, braced_head, using_or, head_line, some_line, said_of}
+use Rattle.repl_read.specs.Items.{word_value, attribute_of, span_of, ended_list, one_span, pins_of, numbered_ends, source_of, wire_of, is_filled, item_of, items_of}
+use Rattle.repl_read.specs.Lines.{parted_items, closed_list, list_of, within_line, item_line, behind_brace, plain_head, braced_head, using_or, head_line, some_line, said_of}
 use Rattle.repl_read.specs.Words.{is_name, is_dotted_name, number_of}
 
 -- what is read passes a test

@@ -1,10 +1,9 @@
 -- What each entry of a text meets, line by line.
-use Rattle.std.proofs.Common.{◌≡◌, ℕ, ◌+◌, ◌∙◌, ◌&&◌, Bool, true, false, refl, List, [], ◌∷◌, ◌++◌, map, Option, None, Some, Result, Ok, Err}
+use Rattle.std.proofs.Common.{◌≡◌, ℕ, ◌+◌, ◌∙◌, ◌&&◌, true, refl, List, [], ◌∷◌, ◌++◌, Option, None, Some, Result, Ok, Err}
 use Rattle.std.specs.Prelude.{IfOk}
 use Rattle.std.specs.List.{list_all, list_any}
 use Rattle.std.proofs.lemmas.Bool.{and_parts}
 use Rattle.std.proofs.lemmas.List.Folds.{list_all-append, list_all-map}
-use Rattle.repl_read.specs.declared.entry.Entry.{Entry}
 use Rattle.repl_read.specs.declared.entry.Head.{Head}
 use Rattle.repl_read.specs.declared.entry.Item.{Item}
 use Rattle.repl_read.specs.declared.entry.ItemWhat.{ItemWhat}
@@ -15,7 +14,7 @@ use Rattle.repl_read.specs.declared.lines.Stand.TheVariants.{Apart}
 use Rattle.repl_read.specs.declared.tokens.TokenLine.{TokenLine}
 use Rattle.repl_read.specs.Entries.{is_item, is_head, are_items, is_entry}
 use Rattle.repl_read.specs.Lines.{has_close, said_of}
-use Rattle.repl_read.specs.Platform.{◌>>=◌, LineFault, Rest, at_line, items_at, put, read_lines, entries_of, token_lines, platform}
+use Rattle.repl_read.specs.Platform.{◌>>=◌, LineFault, Rest, at_line, items_at, put, read_lines, token_lines, platform}
 use Rattle.repl_read.proofs.ValidLemmas.{Good, is_head_if, is_said, said_good}
 
 -- the items and the entries that lines say

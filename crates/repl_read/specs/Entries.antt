@@ -1,5 +1,5 @@
 -- What each entry of a text meets.
-use Rattle.std.specs.Prelude.{ℕ, nat_le, ◌&&◌, Bool, true, false, List}
+use Rattle.std.specs.Prelude.{nat_le, ◌&&◌, Bool, true, false, List}
 use Rattle.std.specs.List.{list_all}
 use Rattle.repl_read.specs.declared.entry.Ends.{Ends}
 use Rattle.repl_read.specs.declared.entry.Ends.TheVariants.{Absent, Irq, Spans}

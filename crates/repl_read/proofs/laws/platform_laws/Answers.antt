@@ -1,10 +1,4 @@
 -- The laws, from their lemmas.
-use Rattle.std.proofs.Common.{ap}
-use Rattle.repl_read.specs.declared.comments.Inside.TheVariants.{Nothing}
-use Rattle.repl_read.specs.Platform.{entries_of}
-use Rattle.repl_read.specs.Tokens.{token_line}
-use Rattle.std.specs.Str.Lines.{lines}
-use Rattle.std.proofs.Common.{map}
 use Rattle.repl_read.proofs.BlankLemmas.{platform_blanked}
 use Rattle.repl_read.proofs.ValidLines.{platform_entries}
 use Rattle.repl_read.proofs.ReturnLemmas.{platform_returns}
