@@ -3,7 +3,6 @@
 #![tactic(auto)]
 
 mod program;
-mod stock;
 
 use crate::program::{Ended, run};
 

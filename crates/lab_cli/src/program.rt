@@ -3,13 +3,21 @@ ghost use Rattle.std.specs.Prelude.{◌≡◌};
 ghost use Rattle.std.specs.Process.{exit_status};
 ghost use Rattle.lab_top.specs.Headline.{number_of};
 
-use crate::stock::full_stock;
+use dev_core::{Device, Stock};
 use lab_io::{DiskFiles, OutSink};
 use lab_top::{Status, run_lab};
+use std::alloc::AllocError;
 use std::io::ErrorKind;
 use std::process::{ExitCode, Termination};
 use std::rt::{Env, Files};
 use std::{env, io};
+use test_finisher::Finisher;
+use uart_16550::Uart;
+
+/// Four UARTs and a finisher for each of 16 boards.
+const UARTS: usize = 64;
+
+const FINISHERS: usize = 16;
 
 /// The words after the program's name. Where a word is not UTF-8 there are none. It fails only
 /// where memory runs out.
@@ -46,18 +54,38 @@ pub fn run<R: Env + Files + Print + AllocGlobal>(rt: &R) -> Ended {
 
 /// How a run of the program ends.
 fn status_of<R: Env + Files + Print + AllocGlobal>(rt: &R) -> Status {
-    let Ok(words) = words_of(rt) else {
-        return Status::Memory;
-    };
-    let Ok(stock) = full_stock(rt.alloc()) else {
-        return Status::Memory;
+    match words_of(rt) {
+        Ok(words) => run_on_boxes(rt, &words).unwrap_or(Status::Memory),
+        Err(_) => Status::Memory,
+    }
+}
+
+/// Runs the program by these words, on devices enough for each board that a laboratory can have,
+/// each in a box of its own.
+fn run_on_boxes<R: Files + Print + AllocGlobal>(
+    rt: &R,
+    words: &[String],
+) -> Result<Status, AllocError> {
+    let alloc = rt.alloc();
+    let mut uarts: Vec<Box<dyn Device + Send>> = Vec::new(alloc);
+    for _ in 0..UARTS {
+        uarts.push(Box::new(alloc, Uart::new())?)?;
+    }
+    let mut finishers: Vec<Box<dyn Device + Send>> = Vec::new(alloc);
+    for _ in 0..FINISHERS {
+        finishers.push(Box::new(alloc, Finisher::new())?)?;
+    }
+    let stock = Stock {
+        uarts,
+        cans: Vec::new(alloc),
+        finishers,
     };
     if !stock.is_full() {
-        return Status::Memory;
+        return Ok(Status::Memory);
     }
     let mut files = DiskFiles::new(rt);
     let mut out = OutSink::new(rt);
-    run_lab(rt.alloc(), &words, &mut files, &mut out, stock)
+    Ok(run_lab(alloc, words, &mut files, &mut out, stock))
 }
 
 #[cfg(test)]
