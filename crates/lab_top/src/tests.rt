@@ -16,23 +16,6 @@ const FIRST_LINE: &str = "[0.000002] m0/uart: A\n";
 
 const BOTH_LINES: &str = "[0.000002] m0/uart: A\n[0.000104] m1/uart: A\n";
 
-/// Devices enough for every board.
-pub(crate) fn stock(alloc: Global) -> Result<Stock<Box<dyn Device + Send>>, NoMemory> {
-    let mut uarts: Vec<Box<dyn Device + Send>> = Vec::new(alloc);
-    for _ in 0..64 {
-        uarts.push(Box::new(alloc, Uart::new())?)?;
-    }
-    let mut finishers: Vec<Box<dyn Device + Send>> = Vec::new(alloc);
-    for _ in 0..16 {
-        finishers.push(Box::new(alloc, Finisher::new())?)?;
-    }
-    Ok(Stock {
-        uarts,
-        cans: Vec::new(alloc),
-        finishers,
-    })
-}
-
 /// Files of which `s.resc` alone is there.
 fn files_with(alloc: Global, script: &[u8]) -> Result<MemFiles, NoMemory> {
     let mut files = MemFiles::new(alloc);
@@ -60,7 +43,19 @@ fn run(
     for word in words {
         owned.push(String::from_str(alloc, word)?)?;
     }
-    let stock = stock(alloc)?;
+    let mut uarts: Vec<Box<dyn Device + Send>> = Vec::new(alloc);
+    for _ in 0..64 {
+        uarts.push(Box::new(alloc, Uart::new())?)?;
+    }
+    let mut finishers: Vec<Box<dyn Device + Send>> = Vec::new(alloc);
+    for _ in 0..16 {
+        finishers.push(Box::new(alloc, Finisher::new())?)?;
+    }
+    let stock = Stock {
+        uarts,
+        cans: Vec::new(alloc),
+        finishers,
+    };
     if !stock.is_full() {
         return Err(NoMemory);
     }

@@ -2,11 +2,12 @@
 ghost use Rattle.std.specs.Prelude.{◌≡◌, false, IfOk};
 
 use super::*;
-use crate::tests::stock;
 use lab_io::MemSink;
 use lab_num::NoMemory;
 use lab_state::Lab;
 use std::test::Fail;
+use test_finisher::Finisher;
+use uart_16550::Uart;
 
 /// `lui x5, 0x10000`, `addi x6, x0, 65`, `sb x6, 0(x5)`, `addi x6, x0, 10`, `sb x6, 0(x5)`,
 /// `jal x0, -16`: sends a line of one `A` every five microseconds, the first in slot 4.
@@ -44,11 +45,20 @@ fn session<D: Device>(alloc: Global, stock: Stock<D>) -> Result<Session<D>, NoMe
 }
 
 /// How the run ends.
-fn status<D: Device>(
-    alloc: Global,
-    stock: Stock<D>,
-    out: &mut MemSink,
-) -> Result<Status, NoMemory> {
+fn status(alloc: Global, out: &mut MemSink) -> Result<Status, NoMemory> {
+    let mut uarts: Vec<Box<dyn Device + Send>> = Vec::new(alloc);
+    for _ in 0..64 {
+        uarts.push(Box::new(alloc, Uart::new())?)?;
+    }
+    let mut finishers: Vec<Box<dyn Device + Send>> = Vec::new(alloc);
+    for _ in 0..16 {
+        finishers.push(Box::new(alloc, Finisher::new())?)?;
+    }
+    let stock = Stock {
+        uarts,
+        cans: Vec::new(alloc),
+        finishers,
+    };
     let mut session = session(alloc, stock)?;
     Ok(take_commands(alloc, &mut session, out))
 }
@@ -63,7 +73,7 @@ fn what_a_command_prints_is_written_before_the_next_is_taken(rt: HostRuntime) ->
     for (call, number, written) in rows {
         let mut out = MemSink::new(alloc, 4096);
         out.fail_at(call)?;
-        assert_eq!(rt; status(alloc, stock(alloc)?, &mut out)?.number(), number);
+        assert_eq!(rt; status(alloc, &mut out)?.number(), number);
         assert_eq!(rt; out.bytes(), written.as_bytes());
     }
     Ok(())
