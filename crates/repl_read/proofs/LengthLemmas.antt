@@ -1,0 +1,64 @@
+-- A text has at most one line more than bytes.
+use Rattle.std.proofs.Common.{◌≡◌, ℕ, ◌+◌, ◌≤◌, ◌^◌, ◌==◌, suc, refl, List, [], ◌∷◌, ◌++◌, length, Bool, true, false, cond, Option, None, Some, arith}
+use Rattle.std.specs.List.{slice_split}
+use Rattle.std.specs.Option.{option_map_or}
+use Rattle.std.specs.Str.Lines.{lines, lines_of_parts}
+use Rattle.std.proofs.lemmas.List.{length-append, length-map}
+use Rattle.std.proofs.lemmas.List.Sums.{count_by-le-length}
+use Rattle.std.proofs.lemmas.List.Splits.{length-slice_split}
+use Rattle.repl_read.specs.declared.comments.Inside.{Inside}
+use Rattle.repl_read.specs.declared.comments.Inside.TheVariants.{Nothing, Words, Line, Block}
+use Rattle.repl_read.specs.Comments.{turn_at, behind, seen, closes, marks, blanked}
+use Rattle.repl_read.specs.Platform.{token_lines}
+use Rattle.repl_read.specs.Tokens.{token_line}
+
+lines_of_parts-le : (parts : List (List ℕ)) → length (lines_of_parts parts) ≤ length parts
+lines_of_parts-le [] = omega arith
+lines_of_parts-le (x ∷ []) = one (length x == 0)
+  where
+    one : (b : Bool) → length (cond b [] (x ∷ [])) ≤ length (x ∷ [])
+    one true = omega arith
+    one false = omega arith
+lines_of_parts-le (x ∷ y ∷ more) =
+    let rest = lines_of_parts-le (y ∷ more) in omega (arith, rest)
+
+lines-le : (text : List ℕ) → length (lines text) ≤ length text + 1
+lines-le text =
+    let parts = slice_split (λ b. b == 10) text in
+    omega
+    (arith, lines_of_parts-le parts, length-slice_split (λ b. b == 10) text, count_by-le-length (λ b. b == 10) text)
+
+length-marks : (inside : Inside) (rest : List ℕ) → length (marks inside rest) ≡ 2
+length-marks Nothing rest = refl
+length-marks Words rest = refl
+length-marks Line rest = refl
+length-marks Block rest = either (closes rest)
+  where
+    either : (b : Bool) → length {A = ℕ} (cond b (32 ∷ 32 ∷ []) (32 ∷ 42 ∷ [])) ≡ 2
+    either true = refl
+    either false = refl
+
+by_turn-length :
+    (o : Option Inside) (sign : ℕ) (one two : List ℕ) (rest : Inside → List ℕ) (n : ℕ) →
+    length one ≡ suc n → ((then_ : Inside) → length (rest then_) ≡ n) →
+    length (option_map_or (λ then_. marks then_ two ++ rest then_) o (sign ∷ one)) ≡ suc (suc n)
+by_turn-length None sign one two rest n here there = omega (arith, here)
+by_turn-length (Some then_) sign one two rest n here there =
+    omega (arith, length-append (marks then_ two) (rest then_), length-marks then_ two, there then_)
+
+length-blanked : (inside : Inside) (text : List ℕ) → length (blanked inside text) ≡ length text
+length-blanked inside [] = refl
+length-blanked inside (b ∷ []) = refl
+length-blanked inside (b ∷ next ∷ bs) =
+    by_turn-length (turn_at inside b next) (seen inside b next) (blanked (behind inside b) (next ∷ bs)) bs
+    (λ then_. blanked then_ bs) (length bs) (length-blanked (behind inside b) (next ∷ bs))
+    (λ then_. length-blanked then_ bs)
+
+pub lines_few : (text : List ℕ) → length text ≤ 2 ^ 24 → length (token_lines text) ≤ 2 ^ 24 + 1
+lines_few text few =
+    omega (
+      arith,
+      length-map (lines (blanked Nothing text)) token_line,
+      lines-le (blanked Nothing text),
+      length-blanked Nothing text,
+    )

@@ -1,0 +1,31 @@
+-- What the laws of platform text speak of.
+use Rattle.std.specs.Prelude.{◌≡◌, ℕ, ◌<◌, ◌⊎◌, ◌==◌, ◌&&◌, not, replicate, Bool, if◌then◌else◌, List, [], ◌∷◌, Result, Ok, Err}
+use Rattle.std.specs.Str.{byte}
+use Rattle.repl_read.specs.declared.fault.PlatCause.TheVariants.{Form, Feature}
+use Rattle.repl_read.specs.Comments.{quote}
+use Rattle.repl_read.specs.Platform.{LineFault}
+
+abbrev pub is_no_return : ℕ → Bool
+is_no_return b = not (b == byte "\r")
+
+-- a text with a carriage return before each line feed
+abbrev pub with_returns : List ℕ → List ℕ
+with_returns [] = []
+with_returns (b ∷ bs) =
+    if b == byte "\n" then byte "\r" ∷ byte "\n" ∷ with_returns bs else b ∷ with_returns bs
+
+-- a sign that does not end a line
+abbrev pub stays_on_line : ℕ → Bool
+stays_on_line b = not (b == byte "\n") && not (b == byte "\r")
+
+-- a sign of a string that is closed on its line
+abbrev pub stays_in_string : ℕ → Bool
+stays_in_string b = not (b == quote) && not (b == byte "\n")
+
+abbrev pub blanks : ℕ → List ℕ
+blanks n = replicate n (byte " ")
+
+-- a fault, if there is one, is of the form or a feature that is left out, at a line from 1 on
+abbrev pub IsFault : {X : Type 0} → Result X LineFault → Type 0
+IsFault (Ok x) = Unit {0}
+IsFault (Err fault) = (0 < fault.0) × ((fault.1 ≡ Form) ⊎ (fault.1 ≡ Feature))
