@@ -17,6 +17,11 @@ abbrev pub ◌>>=◌ : {A B : Type 0} → Result A LineFault → (A → Result B
 (Ok x) >>= f = f x
 (Err fault) >>= f = Err fault
 
+-- the value in a result
+abbrev pub map_ok : {A B : Type 0} → (A → B) → Result A LineFault → Result B LineFault
+map_ok f (Ok x) = Ok (f x)
+map_ok f (Err fault) = Err fault
+
 -- a board or a hub
 abbrev pub name : List ℕ → Result (List ℕ) LineFault
 name word = ok_or (name_of word) Arguments
@@ -71,23 +76,18 @@ abbrev pub one_word : List (List ℕ) → Result (List ℕ) LineFault
 one_word (word ∷ []) = Ok word
 one_word others = Err Arguments
 
--- one word or none
-abbrev pub word_or_none : List (List ℕ) → Result (Option (List ℕ)) LineFault
-word_or_none [] = Ok None
-word_or_none (word ∷ []) = Ok (Some word)
-word_or_none others = Err Arguments
-
 -- two words
 abbrev pub two_words : List (List ℕ) → Result (List ℕ × List ℕ) LineFault
 two_words (first ∷ second ∷ []) = Ok (first, second)
 two_words others = Err Arguments
 
--- what a word says, if there is one
-abbrev pub if_word : {A : Type 0} → (List ℕ → Result A LineFault) → Option (List ℕ) → Result (Option A) LineFault
-if_word sort None = Ok None
-if_word sort (Some word) = do
+-- what the one word says, or nothing where there is none
+abbrev pub at_most_one : {A : Type 0} → (List ℕ → Result A LineFault) → List (List ℕ) → Result (Option A) LineFault
+at_most_one sort [] = Ok None
+at_most_one sort (word ∷ []) = do
   x ← sort word
   Ok (Some x)
+at_most_one sort others = Err Arguments
 
 -- a command without arguments
 abbrev pub none : Command → List (List ℕ) → Result Command LineFault
@@ -106,8 +106,7 @@ one sort make words = do
 abbrev pub optional :
     {A : Type 0} → (List ℕ → Result A LineFault) → (Option A → Command) → List (List ℕ) → Result Command LineFault
 optional sort make words = do
-  word ← word_or_none words
-  x ← if_word sort word
+  x ← at_most_one sort words
   Ok (make x)
 
 -- a command of two arguments
@@ -126,11 +125,5 @@ abbrev pub processor :
     List ℕ → List (List ℕ) → Result Command LineFault
 processor sort make cpu words = do
   name ← entry cpu
-  word ← word_or_none words
-  x ← if_word sort word
+  x ← at_most_one sort words
   Ok (make name x)
-
--- whether there is no fault, and what the definition of a result is over texts
-abbrev pub map_ok : {A B : Type 0} → (A → B) → Result A LineFault → Result B LineFault
-map_ok f (Ok x) = Ok (f x)
-map_ok f (Err fault) = Err fault

@@ -1,6 +1,5 @@
 //! The arguments of a command: how many words there are, and of which sorts.
 ghost use Rattle.std.specs.Prelude.{◌≡◌, map};
-ghost use Rattle.std.specs.Option.{option_map};
 ghost use Rattle.resc_read.specs.Arguments as arguments;
 
 use crate::command::LineFault;
@@ -100,23 +99,45 @@ pub(crate) fn one_word<'a>(words: &[&'a str]) -> Result<&'a str, LineFault>
     }
 }
 
-pub(crate) fn word_or_none<'a>(words: &[&'a str]) -> Result<Option<&'a str>, LineFault>
-    ensures { arguments.map_ok (option_map (λ word. word.now)) result
-        ≡ arguments.word_or_none (map (λ word. word.now) words.now) }
-{
-    match words {
-        [] => Ok(None),
-        [word] => Ok(Some(*word)),
-        _ => Err(LineFault::Arguments),
-    }
-}
-
 pub(crate) fn two_words<'a>(words: &[&'a str]) -> Result<(&'a str, &'a str), LineFault>
     ensures { arguments.map_ok (λ both. (both.0.now, both.1.now)) result
         ≡ arguments.two_words (map (λ word. word.now) words.now) }
 {
     match words {
         [first, second] => Ok((*first, *second)),
+        _ => Err(LineFault::Arguments),
+    }
+}
+
+pub(crate) fn number_or_none(words: &[&str]) -> Result<Option<u32>, LineFault>
+    ensures { result
+        ≡ arguments.at_most_one arguments.number (map (λ word. word.now) words.now) }
+{
+    match words {
+        [] => Ok(None),
+        [word] => Ok(Some(number(word)?)),
+        _ => Err(LineFault::Arguments),
+    }
+}
+
+pub(crate) fn truth_or_none(words: &[&str]) -> Result<Option<bool>, LineFault>
+    ensures { result
+        ≡ arguments.at_most_one arguments.truth (map (λ word. word.now) words.now) }
+{
+    match words {
+        [] => Ok(None),
+        [word] => Ok(Some(truth(word)?)),
+        _ => Err(LineFault::Arguments),
+    }
+}
+
+pub(crate) fn speed_or_none(words: &[&str]) -> Result<Option<u32>, LineFault>
+    ensures { result
+        ≡ arguments.at_most_one arguments.speed (map (λ word. word.now) words.now) }
+{
+    match words {
+        [] => Ok(None),
+        [word] => Ok(Some(speed(word)?)),
         _ => Err(LineFault::Arguments),
     }
 }

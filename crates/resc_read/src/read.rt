@@ -1,6 +1,5 @@
 //! The command of a line.
 ghost use Rattle.std.specs.Prelude.{◌≡◌, drop, map};
-ghost use Rattle.std.specs.Option.{option_map};
 ghost use Rattle.resc_read.specs.declared.command.Command.TheVariants as commands;
 ghost use Rattle.resc_read.specs.Arguments as arguments;
 ghost use Rattle.resc_read.specs.Line as lines;
@@ -8,8 +7,8 @@ ghost use Rattle.resc_read.specs.Line.{IsReadAs};
 ghost use Rattle.resc_read.specs.Table as table;
 
 use crate::arguments::{
-    entry, name, no_word, number, one_word, path, quantum, speed, time, truth, two_words, variable,
-    word_or_none,
+    entry, name, no_word, number, number_or_none, one_word, path, quantum, speed_or_none, time,
+    truth_or_none, two_words, variable,
 };
 use crate::command::{Command, LineFault};
 use crate::variable::is_assignment;
@@ -17,41 +16,13 @@ use crate::words::words_of;
 use lab_num::Text;
 use std::alloc::Global;
 
-/// The number in a word, if there is a word.
-fn if_number(word: Option<&str>) -> Result<Option<u32>, LineFault>
-    ensures { result ≡ arguments.if_word arguments.number (option_map (λ word. word.now) word) }
-{
-    match word {
-        None => Ok(None),
-        Some(word) => Ok(Some(number(word)?)),
-    }
-}
-
-fn if_truth(word: Option<&str>) -> Result<Option<bool>, LineFault>
-    ensures { result ≡ arguments.if_word arguments.truth (option_map (λ word. word.now) word) }
-{
-    match word {
-        None => Ok(None),
-        Some(word) => Ok(Some(truth(word)?)),
-    }
-}
-
-fn if_speed(word: Option<&str>) -> Result<Option<u32>, LineFault>
-    ensures { result ≡ arguments.if_word arguments.speed (option_map (λ word. word.now) word) }
-{
-    match word {
-        None => Ok(None),
-        Some(word) => Ok(Some(speed(word)?)),
-    }
-}
-
 fn pc(alloc: Global, cpu: &str, words: &[&str]) -> Result<Command, LineFault>
     ensures { IsReadAs
         (arguments.processor arguments.number commands.Pc cpu.now (map (λ w. w.now) words.now))
         result }
 {
     let cpu = entry(cpu)?;
-    let value = if_number(word_or_none(words)?)?;
+    let value = number_or_none(words)?;
     Ok(Command::Pc {
         cpu: Text::of(alloc, cpu)?,
         value,
@@ -64,7 +35,7 @@ fn halted(alloc: Global, cpu: &str, words: &[&str]) -> Result<Command, LineFault
         result }
 {
     let cpu = entry(cpu)?;
-    let value = if_truth(word_or_none(words)?)?;
+    let value = truth_or_none(words)?;
     Ok(Command::Halted {
         cpu: Text::of(alloc, cpu)?,
         value,
@@ -77,7 +48,7 @@ fn mips(alloc: Global, cpu: &str, words: &[&str]) -> Result<Command, LineFault>
         result }
 {
     let cpu = entry(cpu)?;
-    let value = if_speed(word_or_none(words)?)?;
+    let value = speed_or_none(words)?;
     Ok(Command::Mips {
         cpu: Text::of(alloc, cpu)?,
         value,
@@ -88,12 +59,13 @@ fn create(alloc: Global, words: &[&str]) -> Result<Command, LineFault>
     ensures { IsReadAs
         (arguments.optional arguments.name commands.Create (map (λ w. w.now) words.now)) result }
 {
-    match word_or_none(words)? {
-        None => Ok(Command::Create { name: None }),
-        Some(word) => {
+    match words {
+        [] => Ok(Command::Create { name: None }),
+        [word] => {
             let name = Text::of(alloc, name(word)?)?;
             Ok(Command::Create { name: Some(name) })
         }
+        _ => Err(LineFault::Arguments),
     }
 }
 
