@@ -6,16 +6,16 @@ use Rattle.resc_read.specs.declared.command.LineFault.{LineFault}
 use Rattle.resc_read.specs.declared.command.LineFault.TheVariants.{Unknown, Arguments, Time, Memory}
 use Rattle.resc_read.specs.Words.{words}
 use Rattle.resc_read.specs.Variable.{is_assignment}
-use Rattle.resc_read.specs.Table.{word_at, table, by_first_row}
+use Rattle.resc_read.specs.Table.{word_at, by_all_rows}
 
 -- a line with these first words sets a variable or begins a macro, and is no command
 abbrev pub is_definition : List ℕ → List ℕ → Bool
 is_definition first second = bytes_eq first (codes "macro") || is_assignment first second
 
 -- the command of a line's words, or the line's first fault
-unfoldable pub command_of : List (List ℕ) → Result Command LineFault
+abbrev pub command_of : List (List ℕ) → Result Command LineFault
 command_of words =
-    if is_definition (word_at words 0) (word_at words 1) then Err Arguments else by_first_row table words
+    if is_definition (word_at words 0) (word_at words 1) then Err Arguments else by_all_rows words
 
 -- the command of a line, or its first fault
 abbrev pub line_of : List ℕ → Result Command LineFault

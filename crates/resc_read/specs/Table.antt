@@ -39,12 +39,28 @@ row opening command = record { opening = opening; command = λ first words. comm
 abbrev pub processor_row : List ℕ → (List ℕ → List (List ℕ) → Result Command LineFault) → Row
 processor_row second command = record { opening = Second second; command = command }
 
--- a processor's commands come first, since its name may be any word
-abbrev pub table : List Row
-table =
+-- commands to a processor, whose name may be any word
+abbrev pub processor_rows : List Row
+processor_rows =
     processor_row (codes "PC") (processor number commands.Pc) ∷
     processor_row (codes "IsHalted") (processor truth commands.Halted) ∷
     processor_row (codes "PerformanceInMips") (processor speed commands.Mips) ∷
+    []
+
+-- commands that begin with one word
+abbrev pub word_rows : List Row
+word_rows =
+    row (One (codes "showAnalyzer")) (one entry commands.Show) ∷
+    row (One (codes "include")) (one path commands.Include) ∷
+    row (One (codes "runMacro")) (one variable commands.RunMacro) ∷
+    row (One (codes "pause")) (none commands.Pause) ∷
+    row (One (codes "start")) (none commands.Start) ∷
+    row (One (codes "quit")) (none commands.Quit) ∷
+    []
+
+-- commands that begin with two words
+abbrev pub pair_rows : List Row
+pair_rows =
     row (Two (codes "mach") (codes "create")) (optional name commands.Create) ∷
     row (Two (codes "mach") (codes "set")) (one name commands.Select) ∷
     row (Two (codes "machine") (codes "LoadPlatformDescription")) (one path commands.LoadPlatform) ∷
@@ -56,19 +72,23 @@ table =
     row (Two (codes "emulation") (codes "RunFor")) (one time commands.RunFor) ∷
     row (Two (codes "emulation") (codes "CreateUARTHub")) (one name commands.UartHub) ∷
     row (Two (codes "connector") (codes "Connect")) (two entry name commands.Connect) ∷
-    row (One (codes "showAnalyzer")) (one entry commands.Show) ∷
-    row (One (codes "include")) (one path commands.Include) ∷
-    row (One (codes "runMacro")) (one variable commands.RunMacro) ∷
     row (Two (codes "using") (codes "sysbus")) (none commands.UsingSysbus) ∷
-    row (One (codes "pause")) (none commands.Pause) ∷
-    row (One (codes "start")) (none commands.Start) ∷
-    row (One (codes "quit")) (none commands.Quit) ∷
     []
 
--- the first row that a line's words begin
-abbrev pub by_first_row : List Row → List (List ℕ) → Result Command LineFault
-by_first_row [] words = Err Unknown
-by_first_row (r ∷ rows) words =
+-- by the first row that a line's words begin, and otherwise this
+abbrev pub by_rows : List Row → List (List ℕ) → Result Command LineFault → Result Command LineFault
+by_rows [] words otherwise = otherwise
+by_rows (r ∷ rows) words otherwise =
     if begins r.opening (word_at words 0) (word_at words 1)
     then r.command (word_at words 0) (drop (opening_len r.opening) words)
-    else by_first_row rows words
+    else by_rows rows words otherwise
+
+-- the command of the words that begin a row, or the fault of words that begin none
+unfoldable pub by_pair_rows : List (List ℕ) → Result Command LineFault
+by_pair_rows words = by_rows pair_rows words (Err Unknown)
+
+unfoldable pub by_word_rows : List (List ℕ) → Result Command LineFault
+by_word_rows words = by_rows word_rows words (by_pair_rows words)
+
+unfoldable pub by_all_rows : List (List ℕ) → Result Command LineFault
+by_all_rows words = by_rows processor_rows words (by_word_rows words)

@@ -12,5 +12,5 @@ mod variable;
 mod words;
 
 pub use command::{Command, LineFault};
-pub use laws::line_laws;
+pub use laws::{line_laws, prefix_law};
 pub use read::read_line;

@@ -222,18 +222,13 @@ fn is_definition(first: &str, second: &str) -> bool
     first == "macro" || is_assignment(first, second)
 }
 
-/// The command that a line's words begin.
-fn by_first_words(alloc: Global, words: &[&str]) -> Result<Command, LineFault>
-    ensures { IsReadAs (table.by_first_row table.table (map (λ w. w.now) words.now)) result }
+/// The command that a line's first two words begin.
+#[tactic(auto, unfolding(crate::specs::Table::by_pair_rows))]
+fn by_first_pair(alloc: Global, words: &[&str]) -> Result<Command, LineFault>
+    ensures { IsReadAs (table.by_pair_rows (map (λ w. w.now) words.now)) result }
 {
-    let first = word_at(words, 0);
-    let second = word_at(words, 1);
-    let rest = words_from(words, 1);
     let after = words_from(words, 2);
-    match (first, second) {
-        (_, "PC") => pc(alloc, first, after),
-        (_, "IsHalted") => halted(alloc, first, after),
-        (_, "PerformanceInMips") => mips(alloc, first, after),
+    match (word_at(words, 0), word_at(words, 1)) {
         ("mach", "create") => create(alloc, after),
         ("mach", "set") => select(alloc, after),
         ("machine", "LoadPlatformDescription") => load_platform(alloc, after),
@@ -245,19 +240,44 @@ fn by_first_words(alloc: Global, words: &[&str]) -> Result<Command, LineFault>
         ("emulation", "RunFor") => run_for(after),
         ("emulation", "CreateUARTHub") => uart_hub(alloc, after),
         ("connector", "Connect") => connect(alloc, after),
-        ("showAnalyzer", _) => show(alloc, rest),
-        ("include", _) => include(alloc, rest),
-        ("runMacro", _) => run_macro(alloc, rest),
         ("using", "sysbus") => alone(Command::UsingSysbus, after),
-        ("pause", _) => alone(Command::Pause, rest),
-        ("start", _) => alone(Command::Start, rest),
-        ("quit", _) => alone(Command::Quit, rest),
         _ => Err(LineFault::Unknown),
     }
 }
 
+/// The command that a line's first word begins, alone or with the second.
+#[tactic(auto, unfolding(crate::specs::Table::by_word_rows))]
+fn by_first_word(alloc: Global, words: &[&str]) -> Result<Command, LineFault>
+    ensures { IsReadAs (table.by_word_rows (map (λ w. w.now) words.now)) result }
+{
+    let after = words_from(words, 1);
+    match word_at(words, 0) {
+        "showAnalyzer" => show(alloc, after),
+        "include" => include(alloc, after),
+        "runMacro" => run_macro(alloc, after),
+        "pause" => alone(Command::Pause, after),
+        "start" => alone(Command::Start, after),
+        "quit" => alone(Command::Quit, after),
+        _ => by_first_pair(alloc, words),
+    }
+}
+
+/// The command that a line's first words begin. A processor may have the name of a command.
+#[tactic(auto, unfolding(crate::specs::Table::by_all_rows))]
+fn by_first_words(alloc: Global, words: &[&str]) -> Result<Command, LineFault>
+    ensures { IsReadAs (table.by_all_rows (map (λ w. w.now) words.now)) result }
+{
+    let first = word_at(words, 0);
+    let after = words_from(words, 2);
+    match word_at(words, 1) {
+        "PC" => pc(alloc, first, after),
+        "IsHalted" => halted(alloc, first, after),
+        "PerformanceInMips" => mips(alloc, first, after),
+        _ => by_first_word(alloc, words),
+    }
+}
+
 /// The command of a line's words.
-#[tactic(auto, unfolding(crate::specs::Line::command_of))]
 fn of_words(alloc: Global, words: &[&str]) -> Result<Command, LineFault>
     ensures { IsReadAs (lines.command_of (map (λ w. w.now) words.now)) result }
 {

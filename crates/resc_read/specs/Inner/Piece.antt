@@ -6,4 +6,5 @@ use Rattle.resc_read.specs.Words.{is_blank, pieces}
 pub record IsFirstPiece (line : List ℕ) (n : ℕ) : Type 0 where
   pub within : n ≤ length line
   pub blank : n < length line → is_blank (slice_index line n) ≡ true
-  pub pieces : pieces false line ≡ (if n == length line then line ∷ [] else take n line ∷ pieces false (drop (n + 1) line))
+  pub pieces :
+      pieces false line ≡ (if n == length line then line ∷ [] else take n line ∷ pieces false (drop (n + 1) line))
