@@ -2,3 +2,4 @@ mod PieceLemmas
 mod NumeralLemmas
 mod LineLemmas
 mod WholeLemmas
+mod TableLemmas

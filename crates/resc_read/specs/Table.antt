@@ -58,16 +58,26 @@ word_rows =
     row (One (codes "quit")) (none commands.Quit) ∷
     []
 
--- commands that begin with two words
-abbrev pub pair_rows : List Row
-pair_rows =
+-- commands for boards
+abbrev pub machine_rows : List Row
+machine_rows =
     row (Two (codes "mach") (codes "create")) (optional name commands.Create) ∷
     row (Two (codes "mach") (codes "set")) (one name commands.Select) ∷
     row (Two (codes "machine") (codes "LoadPlatformDescription")) (one path commands.LoadPlatform) ∷
     row (Two (codes "machine") (codes "Reset")) (none commands.Reset) ∷
+    []
+
+-- commands for memory
+abbrev pub memory_rows : List Row
+memory_rows =
     row (Two (codes "sysbus") (codes "LoadBinary")) (two path number commands.LoadBinary) ∷
     row (Two (codes "sysbus") (codes "ReadDoubleWord")) (one number commands.ReadWord) ∷
     row (Two (codes "sysbus") (codes "WriteDoubleWord")) (two number number commands.WriteWord) ∷
+    []
+
+-- commands for the whole emulation
+abbrev pub emulation_rows : List Row
+emulation_rows =
     row (Two (codes "emulation") (codes "SetGlobalQuantum")) (one quantum commands.Quantum) ∷
     row (Two (codes "emulation") (codes "RunFor")) (one time commands.RunFor) ∷
     row (Two (codes "emulation") (codes "CreateUARTHub")) (one name commands.UartHub) ∷
@@ -83,12 +93,18 @@ by_rows (r ∷ rows) words otherwise =
     then r.command (word_at words 0) (drop (opening_len r.opening) words)
     else by_rows rows words otherwise
 
--- the command of the words that begin a row, or the fault of words that begin none
-unfoldable pub by_pair_rows : List (List ℕ) → Result Command LineFault
-by_pair_rows words = by_rows pair_rows words (Err Unknown)
+-- the command of the words that begin a row, from each part of the table on, or the fault of words that begin none
+unfoldable pub by_emulation_rows : List (List ℕ) → Result Command LineFault
+by_emulation_rows words = by_rows emulation_rows words (Err Unknown)
+
+unfoldable pub by_memory_rows : List (List ℕ) → Result Command LineFault
+by_memory_rows words = by_rows memory_rows words (by_emulation_rows words)
+
+unfoldable pub by_machine_rows : List (List ℕ) → Result Command LineFault
+by_machine_rows words = by_rows machine_rows words (by_memory_rows words)
 
 unfoldable pub by_word_rows : List (List ℕ) → Result Command LineFault
-by_word_rows words = by_rows word_rows words (by_pair_rows words)
+by_word_rows words = by_rows word_rows words (by_machine_rows words)
 
 unfoldable pub by_all_rows : List (List ℕ) → Result Command LineFault
 by_all_rows words = by_rows processor_rows words (by_word_rows words)

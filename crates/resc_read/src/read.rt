@@ -1,5 +1,6 @@
 //! The command of a line.
-ghost use Rattle.std.specs.Prelude.{◌≡◌, drop, map};
+ghost use Rattle.std.specs.Prelude.{◌≡◌, ◌&&◌, drop, map};
+ghost use Rattle.std.specs.Str.{bytes_eq};
 ghost use Rattle.resc_read.specs.declared.command.Command.TheVariants as commands;
 ghost use Rattle.resc_read.specs.Arguments as arguments;
 ghost use Rattle.resc_read.specs.Line as lines;
@@ -222,26 +223,69 @@ fn is_definition(first: &str, second: &str) -> bool
     first == "macro" || is_assignment(first, second)
 }
 
-/// The command that a line's first two words begin.
-#[tactic(auto, unfolding(crate::specs::Table::by_pair_rows))]
-fn by_first_pair(alloc: Global, words: &[&str]) -> Result<Command, LineFault>
-    ensures { IsReadAs (table.by_pair_rows (map (λ w. w.now) words.now)) result }
+/// Whether the first two words of a line are these.
+fn begins(words: &[&str], first: &str, second: &str) -> bool
+    ensures { result
+        ≡ (bytes_eq (table.word_at (map (λ w. w.now) words.now) 0) first.now
+        && bytes_eq (table.word_at (map (λ w. w.now) words.now) 1) second.now) }
+{
+    word_at(words, 0) == first && word_at(words, 1) == second
+}
+
+/// A command of runs and hubs.
+#[tactic(auto, unfolding(crate::specs::Table::by_emulation_rows))]
+fn by_emulation_words(alloc: Global, words: &[&str]) -> Result<Command, LineFault>
+    ensures { IsReadAs (table.by_emulation_rows (map (λ w. w.now) words.now)) result }
 {
     let after = words_from(words, 2);
-    match (word_at(words, 0), word_at(words, 1)) {
-        ("mach", "create") => create(alloc, after),
-        ("mach", "set") => select(alloc, after),
-        ("machine", "LoadPlatformDescription") => load_platform(alloc, after),
-        ("machine", "Reset") => alone(Command::Reset, after),
-        ("sysbus", "LoadBinary") => load_binary(alloc, after),
-        ("sysbus", "ReadDoubleWord") => read_word(after),
-        ("sysbus", "WriteDoubleWord") => write_word(after),
-        ("emulation", "SetGlobalQuantum") => set_quantum(after),
-        ("emulation", "RunFor") => run_for(after),
-        ("emulation", "CreateUARTHub") => uart_hub(alloc, after),
-        ("connector", "Connect") => connect(alloc, after),
-        ("using", "sysbus") => alone(Command::UsingSysbus, after),
-        _ => Err(LineFault::Unknown),
+    if begins(words, "emulation", "SetGlobalQuantum") {
+        set_quantum(after)
+    } else if begins(words, "emulation", "RunFor") {
+        run_for(after)
+    } else if begins(words, "emulation", "CreateUARTHub") {
+        uart_hub(alloc, after)
+    } else if begins(words, "connector", "Connect") {
+        connect(alloc, after)
+    } else if begins(words, "using", "sysbus") {
+        alone(Command::UsingSysbus, after)
+    } else {
+        Err(LineFault::Unknown)
+    }
+}
+
+/// A command of memory, or a command of those that follow it in the table.
+#[tactic(auto, unfolding(crate::specs::Table::by_memory_rows))]
+fn by_memory_words(alloc: Global, words: &[&str]) -> Result<Command, LineFault>
+    ensures { IsReadAs (table.by_memory_rows (map (λ w. w.now) words.now)) result }
+{
+    let after = words_from(words, 2);
+    if begins(words, "sysbus", "LoadBinary") {
+        load_binary(alloc, after)
+    } else if begins(words, "sysbus", "ReadDoubleWord") {
+        read_word(after)
+    } else if begins(words, "sysbus", "WriteDoubleWord") {
+        write_word(after)
+    } else {
+        by_emulation_words(alloc, words)
+    }
+}
+
+/// A command of boards, or a command of those that follow it in the table.
+#[tactic(auto, unfolding(crate::specs::Table::by_machine_rows))]
+fn by_machine_words(alloc: Global, words: &[&str]) -> Result<Command, LineFault>
+    ensures { IsReadAs (table.by_machine_rows (map (λ w. w.now) words.now)) result }
+{
+    let after = words_from(words, 2);
+    if begins(words, "mach", "create") {
+        create(alloc, after)
+    } else if begins(words, "mach", "set") {
+        select(alloc, after)
+    } else if begins(words, "machine", "LoadPlatformDescription") {
+        load_platform(alloc, after)
+    } else if begins(words, "machine", "Reset") {
+        alone(Command::Reset, after)
+    } else {
+        by_memory_words(alloc, words)
     }
 }
 
@@ -258,7 +302,7 @@ fn by_first_word(alloc: Global, words: &[&str]) -> Result<Command, LineFault>
         "pause" => alone(Command::Pause, after),
         "start" => alone(Command::Start, after),
         "quit" => alone(Command::Quit, after),
-        _ => by_first_pair(alloc, words),
+        _ => by_machine_words(alloc, words),
     }
 }
 

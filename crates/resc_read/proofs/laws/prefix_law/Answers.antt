@@ -1,6 +1,7 @@
 use Rattle.std.proofs.Common.{◌≡◌, ◌++◌, ◌∷◌, ◌∙◌, ℕ, List, [], false, Ok, codes, refl, ap}
 use Rattle.resc_read.specs.declared.command.Command.TheVariants as commands
 use Rattle.resc_read.specs.Sorts.{has_quote}
+use Rattle.resc_read.specs.Words.{words}
 use Rattle.resc_read.specs.Line.{command_of}
 use Rattle.resc_read.specs.Table.{by_all_rows, by_word_rows}
 use Rattle.resc_read.proofs.LineLemmas.{line_words}
@@ -14,4 +15,6 @@ unfolding by_all_rows by_word_rows
 shown dev none = rw none refl
 
 pub returns : goal.returns
-returns c = λ line dev none is. ap command_of (line_words line _ is) ∙ shown dev none
+returns c = λ line dev none is.
+    let all : words line ≡ codes "showAnalyzer" ∷ (codes "sysbus." ++ dev) ∷ [] = line_words line _ is in
+    ap command_of all ∙ shown dev none
