@@ -1,5 +1,5 @@
 -- How a line is put together says what its words are.
-use Rattle.std.proofs.Common.{◌≡◌, ℕ, ◌<◌, ◌++◌, ◌==◌, ◌&&◌, ◌∙◌, not, Bool, true, false, cond, List, [], ◌∷◌, length, filter, refl, sym, ap, ne_eqb, append-nil, arith}
+use Rattle.std.proofs.Common.{◌≡◌, ℕ, ◌<◌, ◌++◌, ◌&&◌, ◌∙◌, not, Bool, true, false, cond, List, [], ◌∷◌, length, filter, refl, sym, ap, ne_eqb, append-nil, arith}
 use Rattle.std.specs.List.{list_all, onto_first}
 use Rattle.std.proofs.lemmas.Bool.{and_parts}
 use Rattle.resc_read.specs.Words.{is_blank, is_some_text, quoted_after, pieces, words}
@@ -54,9 +54,9 @@ word_first (b ∷ word) [] is =
 word_first (b ∷ word) (c ∷ rest) is =
     let gap : pieces false (c ∷ rest) ≡ [] ∷ pieces false rest = rw is.ends.0 refl in
     let here : pieces false ((b ∷ word) ++ c ∷ rest) ≡ (b ∷ word) ∷ pieces false rest =
-        word_front false b word (c ∷ rest) is.no_gap
-        ∙ (ap (λ quoted. onto_front (b ∷ word) (pieces quoted (c ∷ rest))) is.ends.1
-        ∙ (ap (onto_front (b ∷ word)) gap ∙ ap (λ x. x ∷ pieces false rest) (append-nil (b ∷ word)))) in
+    word_front false b word (c ∷ rest) is.no_gap
+    ∙ (ap (λ quoted. onto_front (b ∷ word) (pieces quoted (c ∷ rest))) is.ends.1
+    ∙ (ap (onto_front (b ∷ word)) gap ∙ ap (λ x. x ∷ pieces false rest) (append-nil (b ∷ word)))) in
     ap (filter is_some_text) here
     ∙ (kept (b ∷ word) (pieces false rest) is.some
     ∙ ap (λ xs. (b ∷ word) ∷ xs) (sym (blank_first c rest is.ends.0)))

@@ -1,5 +1,5 @@
 -- Each line is put together of its words.
-use Rattle.std.proofs.Common.{◌≡◌, ℕ, zero, suc, ◌+◌, ◌<◌, ◌≤◌, ◌++◌, ◌&&◌, ◌⊎◌, inl, inr, ◌∙◌, not, Bool, true, false, List, [], ◌∷◌, length, filter, refl, sym, ap, append-nil, length-append, arith}
+use Rattle.std.proofs.Common.{◌≡◌, ℕ, zero, suc, ◌+◌, ◌<◌, ◌++◌, ◌&&◌, ◌⊎◌, inl, inr, ◌∙◌, not, Bool, true, false, List, [], ◌∷◌, length, filter, refl, sym, ap, append-nil, length-append, arith}
 use Rattle.std.proofs.lemmas.Bool.{and_parts}
 use Rattle.resc_read.specs.Words.{is_blank, is_some_text, quoted_after, pieces, words}
 use Rattle.resc_read.specs.Laws.{gaps, quoted_behind, IsWord, IsLine}
@@ -64,14 +64,14 @@ by_first line [] others no_gap (inr cut) shorter =
 by_first line (c ∷ piece) others no_gap (inl whole) shorter =
     let word : IsWord (c ∷ piece) [] = record { some = omega arith; no_gap = no_gap; ends = tt } in
     let all : IsLine line ((c ∷ piece) ∷ []) =
-        ([], [], whole.0 ∙ sym (append-nil (c ∷ piece)), refl, word, refl) in
+    ([], [], whole.0 ∙ sym (append-nil (c ∷ piece)), refl, word, refl) in
     rw (whole.1, kept (c ∷ piece) [] (omega arith)) all
 by_first line (c ∷ piece) others no_gap (inr cut) shorter =
     let less : length cut.1 < length line = rw cut.2 (shorter_rest (c ∷ piece) cut.0 cut.1) in
     let word : IsWord (c ∷ piece) (cut.0 ∷ cut.1) =
-        record { some = omega arith; no_gap = no_gap; ends = (cut.3, cut.4) } in
+    record { some = omega arith; no_gap = no_gap; ends = (cut.3, cut.4) } in
     let all : IsLine line ((c ∷ piece) ∷ words cut.1) =
-        ([], cut.0 ∷ cut.1, cut.2, refl, word, blank_more cut.0 cut.1 (words cut.1) cut.3 (shorter cut.1 less)) in
+    ([], cut.0 ∷ cut.1, cut.2, refl, word, blank_more cut.0 cut.1 (words cut.1) cut.3 (shorter cut.1 less)) in
     rw (cut.5, kept (c ∷ piece) (pieces false cut.1) (omega arith)) all
 
 up_to : (n : ℕ) (line : List ℕ) → length line < n → IsLine line (words line)
@@ -79,7 +79,7 @@ up_to zero line below = absurd (omega (arith, below))
 up_to (suc n) line below =
     let first = has_first false line in
     let all : IsLine line (filter is_some_text (first.0 ∷ first.1)) =
-        by_first line first.0 first.1 first.3 first.4 (λ rest less. up_to n rest (omega (arith, less, below))) in
+    by_first line first.0 first.1 first.3 first.4 (λ rest less. up_to n rest (omega (arith, less, below))) in
     rw first.2 all
 
 pub put_together : (line : List ℕ) → IsLine line (words line)

@@ -7,7 +7,7 @@ use Rattle.lab_num.specs.declared.time.TimeFault.{TimeFault}
 use Rattle.lab_num.specs.Time.{time_of}
 use Rattle.resc_read.specs.declared.command.Command.{Command}
 use Rattle.resc_read.specs.declared.command.LineFault.{LineFault}
-use Rattle.resc_read.specs.declared.command.LineFault.TheVariants.{Unknown, Arguments, Time}
+use Rattle.resc_read.specs.declared.command.LineFault.TheVariants.{Arguments, Time}
 use Rattle.resc_read.specs.Sorts.{text_of, path_of, name_of, number_of, truth_of}
 use Rattle.resc_read.specs.Variable.{variable_of}
 

@@ -3,7 +3,7 @@ use Rattle.std.specs.Prelude.{◌≡◌, ℕ, Bool, ◌||◌, if◌then◌else�
 use Rattle.std.specs.Str.{bytes_eq}
 use Rattle.resc_read.specs.declared.command.Command.{Command}
 use Rattle.resc_read.specs.declared.command.LineFault.{LineFault}
-use Rattle.resc_read.specs.declared.command.LineFault.TheVariants.{Unknown, Arguments, Time, Memory}
+use Rattle.resc_read.specs.declared.command.LineFault.TheVariants.{Arguments, Memory}
 use Rattle.resc_read.specs.Words.{words}
 use Rattle.resc_read.specs.Variable.{is_assignment}
 use Rattle.resc_read.specs.Table.{word_at, by_all_rows}

@@ -10,7 +10,7 @@ returns-then-begins-3 c =
       sym c.begins.ensures ∙ c.if-begins.false,
       sym c.begins-else-begins.ensures ∙ c.if-begins-2.false,
       sym c.begins-else-begins-2.ensures ∙ c.if-begins-3.true,
-      sym c.words_from-after.ensures
+      sym c.words_from-after.ensures,
     ) c.uart_hub.ensures
 
 pub returns-then-begins-4 : goal.returns-then-begins-4
@@ -21,7 +21,7 @@ returns-then-begins-4 c =
       sym c.begins-else-begins.ensures ∙ c.if-begins-2.false,
       sym c.begins-else-begins-2.ensures ∙ c.if-begins-3.false,
       sym c.begins-else-begins-3.ensures ∙ c.if-begins-4.true,
-      sym c.words_from-after.ensures
+      sym c.words_from-after.ensures,
     ) c.connect.ensures
 
 pub returns-then-begins-5 : goal.returns-then-begins-5
@@ -33,5 +33,5 @@ returns-then-begins-5 c =
       sym c.begins-else-begins-2.ensures ∙ c.if-begins-3.false,
       sym c.begins-else-begins-3.ensures ∙ c.if-begins-4.false,
       sym c.begins-else-begins-4.ensures ∙ c.if-begins-5.true,
-      sym c.words_from-after.ensures
+      sym c.words_from-after.ensures,
     ) c.alone.ensures

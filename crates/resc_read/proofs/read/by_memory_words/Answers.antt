@@ -9,7 +9,7 @@ returns-then-begins-2 c =
     rw (
       sym c.begins.ensures ∙ c.if-begins.false,
       sym c.begins-else-begins.ensures ∙ c.if-begins-2.true,
-      sym c.words_from-after.ensures
+      sym c.words_from-after.ensures,
     ) c.read_word.ensures
 
 pub returns-then-begins-3 : goal.returns-then-begins-3
@@ -19,5 +19,5 @@ returns-then-begins-3 c =
       sym c.begins.ensures ∙ c.if-begins.false,
       sym c.begins-else-begins.ensures ∙ c.if-begins-2.false,
       sym c.begins-else-begins-2.ensures ∙ c.if-begins-3.true,
-      sym c.words_from-after.ensures
+      sym c.words_from-after.ensures,
     ) c.write_word.ensures

@@ -8,5 +8,5 @@ pub returns : goal.returns
 returns c =
     let words = map (λ word. word.now) c.args.words.now in
     let no : is_definition (word_at words 0) (word_at words 1) ≡ false =
-        rw (sym c.word_at.ensures, sym c.word_at-2.ensures, sym c.is_definition.ensures) c.if-is_definition.false in
+    rw (sym c.word_at.ensures, sym c.word_at-2.ensures, sym c.is_definition.ensures) c.if-is_definition.false in
     rw no c.by_first_words.ensures
