@@ -1,0 +1,5 @@
+mod PieceLemmas
+mod NumeralLemmas
+mod LineLemmas
+mod WholeLemmas
+mod TableLemmas

@@ -1,0 +1,37 @@
+-- The rows before do not begin the line, and this one does.
+use Rattle.std.proofs.Common.{◌∙◌, sym}
+use Rattle.resc_read.specs.Table.{by_emulation_rows}
+use Rattle.resc_read.proofs.read.by_emulation_words.Goals as goal
+
+pub returns-then-begins-3 : goal.returns-then-begins-3
+unfolding by_emulation_rows
+returns-then-begins-3 c =
+    rw (
+      sym c.begins.ensures ∙ c.if-begins.false,
+      sym c.begins-else-begins.ensures ∙ c.if-begins-2.false,
+      sym c.begins-else-begins-2.ensures ∙ c.if-begins-3.true,
+      sym c.words_from-after.ensures,
+    ) c.uart_hub.ensures
+
+pub returns-then-begins-4 : goal.returns-then-begins-4
+unfolding by_emulation_rows
+returns-then-begins-4 c =
+    rw (
+      sym c.begins.ensures ∙ c.if-begins.false,
+      sym c.begins-else-begins.ensures ∙ c.if-begins-2.false,
+      sym c.begins-else-begins-2.ensures ∙ c.if-begins-3.false,
+      sym c.begins-else-begins-3.ensures ∙ c.if-begins-4.true,
+      sym c.words_from-after.ensures,
+    ) c.connect.ensures
+
+pub returns-then-begins-5 : goal.returns-then-begins-5
+unfolding by_emulation_rows
+returns-then-begins-5 c =
+    rw (
+      sym c.begins.ensures ∙ c.if-begins.false,
+      sym c.begins-else-begins.ensures ∙ c.if-begins-2.false,
+      sym c.begins-else-begins-2.ensures ∙ c.if-begins-3.false,
+      sym c.begins-else-begins-3.ensures ∙ c.if-begins-4.false,
+      sym c.begins-else-begins-4.ensures ∙ c.if-begins-5.true,
+      sym c.words_from-after.ensures,
+    ) c.alone.ensures

@@ -1,0 +1,23 @@
+-- The rows before do not begin the line, and this one does.
+use Rattle.std.proofs.Common.{◌∙◌, sym}
+use Rattle.resc_read.specs.Table.{by_memory_rows}
+use Rattle.resc_read.proofs.read.by_memory_words.Goals as goal
+
+pub returns-then-begins-2 : goal.returns-then-begins-2
+unfolding by_memory_rows
+returns-then-begins-2 c =
+    rw (
+      sym c.begins.ensures ∙ c.if-begins.false,
+      sym c.begins-else-begins.ensures ∙ c.if-begins-2.true,
+      sym c.words_from-after.ensures,
+    ) c.read_word.ensures
+
+pub returns-then-begins-3 : goal.returns-then-begins-3
+unfolding by_memory_rows
+returns-then-begins-3 c =
+    rw (
+      sym c.begins.ensures ∙ c.if-begins.false,
+      sym c.begins-else-begins.ensures ∙ c.if-begins-2.false,
+      sym c.begins-else-begins-2.ensures ∙ c.if-begins-3.true,
+      sym c.words_from-after.ensures,
+    ) c.write_word.ensures

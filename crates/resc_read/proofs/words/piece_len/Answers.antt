@@ -1,0 +1,5 @@
+use Rattle.resc_read.proofs.PieceLemmas.{none_read}
+use Rattle.resc_read.proofs.words.piece_len.Goals as goal
+
+pub loop-i-init : goal.loop-i-init
+loop-i-init c = none_read c.args.line.now

@@ -1,0 +1,16 @@
+//! The lines of a monitor script: the command that a line asks for.
+#![tactic(auto)]
+
+mod arguments;
+mod command;
+mod laws;
+mod read;
+mod sorts;
+#[cfg(test)]
+mod tests;
+mod variable;
+mod words;
+
+pub use command::{Command, LineFault};
+pub use laws::{line_laws, prefix_law};
+pub use read::read_line;
