@@ -44,6 +44,16 @@ fn session<D: Device>(alloc: Global, stock: Stock<D>) -> Result<Session<D>, NoMe
     Ok(Session::new(alloc, lab, Text::of(alloc, "s.resc")?, bytes))
 }
 
+/// How the run ends, on these devices.
+fn status_on<D: Device>(
+    alloc: Global,
+    stock: Stock<D>,
+    out: &mut MemSink,
+) -> Result<Status, NoMemory> {
+    let mut session = session(alloc, stock)?;
+    Ok(take_commands(alloc, &mut session, out))
+}
+
 /// How the run ends.
 fn status(alloc: Global, out: &mut MemSink) -> Result<Status, NoMemory> {
     let mut uarts: Vec<Box<dyn Device + Send>> = Vec::new(alloc);
@@ -59,8 +69,7 @@ fn status(alloc: Global, out: &mut MemSink) -> Result<Status, NoMemory> {
         cans: Vec::new(alloc),
         finishers,
     };
-    let mut session = session(alloc, stock)?;
-    Ok(take_commands(alloc, &mut session, out))
+    status_on(alloc, stock, out)
 }
 
 #[test]
