@@ -1,9 +1,12 @@
 -- Bytes that are put in memories piece by piece.
-use Rattle.std.proofs.Common.{◌≡◌, ℕ, suc, ◌+◌, ◌≤◌, ◌<◌, List, [], ◌∷◌, ◌++◌, length, take, drop, refl, sym, ap, ◌∙◌, arith, add-one, add-zero, append_assoc, length-set}
+use Rattle.std.proofs.Common.{◌≡◌, ℕ, suc, ◌+◌, ◌≤◌, ◌<◌, List, [], ◌∷◌, ◌++◌, length, take, drop, refl, sym, ap, ◌∙◌}
+use Rattle.std.proofs.Common.{arith, add-one, add-zero, append_assoc, length-set}
 use Rattle.std.specs.Prelude.{slice_index_or, slice_set}
 use Rattle.std.proofs.Math.Seq.{take-suc-set}
 use Rattle.std.proofs.Math.Seq.{take-add}
-use Rattle.std.proofs.lemmas.List.{drop-set-lt, take-append-drop, get_or-set_same, set-get_or, get_or_default, length-take, length-take-le, length-drop, take-take, length-replicate, replicate-append-replicate}
+use Rattle.std.proofs.lemmas.List.{drop-set-lt, take-append-drop, get_or-set_same, set-get_or, get_or_default}
+use Rattle.std.proofs.lemmas.List.{length-take, length-take-le, length-drop, take-take, length-replicate}
+use Rattle.std.proofs.lemmas.List.{replicate-append-replicate}
 use Rattle.std.specs.Prelude.{Result, Ok, Err}
 use Rattle.std.specs.Result.{OnErr}
 use Rattle.page_ram.specs.Bytes.{put_bytes, zeros}

@@ -1,5 +1,7 @@
 -- Where accesses of a valid plan lie.
-use Rattle.std.proofs.Common.{◌≡◌, ℕ, zero, suc, ◌+◌, ◌-◌, ◌%◌, ◌^◌, ◌≤◌, ◌<◌, ◌==◌, Bool, true, false, ◌&&◌, List, [], ◌∷◌, length, map, All, slice_get, slice_index, Option, Some, None, ◌⊎◌, inl, inr, nat_le, nat_lt, refl, ap, ◌∙◌, arith, rules}
+use Rattle.std.proofs.Common.{◌≡◌, ℕ, zero, suc, ◌+◌, ◌-◌, ◌%◌, ◌^◌, ◌≤◌, ◌<◌, ◌==◌, Bool, true, false, ◌&&◌, List, []}
+use Rattle.std.proofs.Common.{◌∷◌, length, map, All, slice_get, slice_index, Option, Some, None, ◌⊎◌, inl, inr, nat_le}
+use Rattle.std.proofs.Common.{nat_lt, refl, ap, ◌∙◌, arith, rules}
 use Rattle.std.specs.Prelude.{slice_index_or, find}
 use Rattle.std.specs.List.{list_all, range_with_len}
 use Rattle.std.proofs.lemmas.Bool.Decides.{nat_tests}
@@ -19,7 +21,8 @@ use Rattle.sys_bus.specs.declared.region.RegionKind.{RegionKind}
 use Rattle.sys_bus.specs.declared.region.RegionKind.TheVariants as kind
 use Rattle.sys_bus.specs.declared.region.Target.{Target}
 use Rattle.sys_bus.specs.declared.region.Target.TheVariants.{Ram, Clint, Plic, Dev, Nothing}
-use Rattle.sys_bus.specs.Region.{IsWithin, target_of, target_if, target_by, step_of, step_if, room_of, room_if, end_of, holds, same_part}
+use Rattle.sys_bus.specs.Region.{IsWithin, target_of, target_if, target_by, step_of, step_if, room_of, room_if, end_of}
+use Rattle.sys_bus.specs.Region.{holds, same_part}
 use Rattle.sys_bus.specs.Part.{is_part, has_memory_size, has_one_each, regions_of}
 use Rattle.sys_bus.specs.Limits.{is_range, is_step, device_in, are_few_memories}
 use Rattle.sys_bus.specs.Plan.{IsValid}
@@ -28,7 +31,8 @@ use Rattle.board.specs.Changes.{in_memory, is_memory}
 use Rattle.board.specs.New.{first_state, hidden, new_space, reset_device}
 use Rattle.board.specs.Space.{Space, Fitted, memory_at, with_memory, device_at, with_device, with_state}
 use Rattle.board.specs.Inner.Fit.{IsFit, LiesIn, IsInPage}
-use Rattle.board.proofs.ListLemmas.{any_at, passes_at, All-by_place, All-set, set_set, counted_at, found_passes, within_sum, range_passes}
+use Rattle.board.proofs.ListLemmas.{any_at, passes_at, All-by_place, All-set, set_set, counted_at, found_passes}
+use Rattle.board.proofs.ListLemmas.{within_sum, range_passes}
 
 -- the bytes of a memory of the plan
 memory-size :

@@ -1,5 +1,6 @@
 -- What holds of the items of lists.
-use Rattle.std.proofs.Common.{◌≡◌, ℕ, zero, suc, ◌+◌, ◌≤◌, ◌<◌, Bool, true, false, ◌&&◌, cond, List, [], ◌∷◌, length, All, slice_get, Option, Some, refl, sym, ap, arith, count_by}
+use Rattle.std.proofs.Common.{◌≡◌, ℕ, zero, suc, ◌+◌, ◌≤◌, ◌<◌, Bool, true, false, ◌&&◌, cond, List, [], ◌∷◌, length}
+use Rattle.std.proofs.Common.{All, slice_get, Option, Some, refl, sym, ap, arith, count_by}
 use Rattle.std.specs.Prelude.{Any, find, slice_index_or, slice_set, sum, if◌then◌else◌}
 use Rattle.std.specs.List.{list_all, range_with_len}
 use Rattle.std.proofs.lemmas.List.Sums.{sum_by-cons}

@@ -1,5 +1,6 @@
 -- A stretch numbers what it makes.
-use Rattle.std.proofs.Common.{◌≡◌, ℕ, zero, suc, ◌+◌, ◌^◌, ◌<◌, Bool, true, false, List, [], ◌∷◌, ◌++◌, length, map, refl, ◌∙◌, length-append, add-zero, add-one, arith}
+use Rattle.std.proofs.Common.{◌≡◌, ℕ, zero, suc, ◌+◌, ◌^◌, ◌<◌, Bool, true, false, List, [], ◌∷◌, ◌++◌, length, map}
+use Rattle.std.proofs.Common.{refl, ◌∙◌, length-append, add-zero, add-one, arith}
 use Rattle.std.specs.Prelude.{if◌then◌else◌, Option, None, Some}
 use Rattle.std.specs.Option.{option_map_or}
 use Rattle.std.proofs.lemmas.List.{map-append, length-map}
@@ -19,7 +20,8 @@ use Rattle.sys_bus.specs.declared.region.Target.{Target}
 use Rattle.sys_bus.specs.declared.region.Target.TheVariants.{Ram, Clint, Plic, Dev, Nothing}
 use Rattle.board.specs.Space.{device_at, target_at, device_store, after_load, after_store, lines_of}
 use Rattle.board.specs.Numbers.{Numbers}
-use Rattle.board.specs.Wires.{note_if, sent, acted, posted, entered, entered_if, reading, loaded, stored, stored_to, fetched, answer}
+use Rattle.board.specs.Wires.{note_if, sent, acted, posted, entered, entered_if, reading, loaded, stored, stored_to}
+use Rattle.board.specs.Wires.{fetched, answer}
 use Rattle.board.specs.View.{View, State, quiet, wires_of, state_of, after}
 use Rattle.board.specs.Slot.{slot, awake, asleep, woken, cycle, carried_out, instruction}
 use Rattle.board.specs.Stretch.{stretch}

@@ -11,7 +11,8 @@ use Rattle.dev_core.specs.declared.post.What.{What}
 use Rattle.sys_bus.specs.declared.region.Target.{Target}
 use Rattle.sys_bus.specs.declared.region.Target.TheVariants.{Ram, Clint, Plic, Dev, Nothing}
 use Rattle.board.specs.Space.{Space, device_at, target_at, device_store, after_load, after_store, lines_of}
-use Rattle.board.specs.Wires.{Wires, posted, entered_if, note_if, sent, acted, reading, fetched, loaded, stored, stored_to}
+use Rattle.board.specs.Wires.{Wires, posted, entered_if, note_if, sent, acted, reading, fetched, loaded, stored}
+use Rattle.board.specs.Wires.{stored_to}
 use Rattle.board.specs.View.{View, quiet, wires_of}
 use Rattle.board.specs.Slot.{slot, awake, asleep, woken, cycle, instruction}
 use Rattle.board.specs.Stretch.{stretch}

@@ -14,7 +14,8 @@ use Rattle.dev_core.specs.declared.post.What.TheVariants as what
 use Rattle.sys_bus.specs.declared.region.Target.{Target}
 use Rattle.sys_bus.specs.declared.region.Target.TheVariants.{Ram, Clint, Plic, Dev, Nothing}
 use Rattle.board.specs.Space.{device_at, target_at, device_store, after_load, after_store, lines_of}
-use Rattle.board.specs.Wires.{Wires, posted, entered_if, note_if, sent, acted, reading, fetched, answer, loaded, stored, stored_to}
+use Rattle.board.specs.Wires.{Wires, posted, entered_if, note_if, sent, acted, reading, fetched, answer, loaded, stored}
+use Rattle.board.specs.Wires.{stored_to}
 use Rattle.rv_exec.specs.Effect.{Effect, Done, Load, Store, effect_of_fetch, core_after, bus_after}
 use Rattle.board.specs.View.{View, State, quiet, wires_of, state_of, after}
 use Rattle.board.specs.Slot.{slot, awake, asleep, woken, cycle, carried_out, instruction}

@@ -1,5 +1,6 @@
 -- Laws of slots one after another.
-use Rattle.std.proofs.Common.{◌≡◌, ℕ, true, zero, suc, ◌+◌, ◌*◌, ◌/◌, ◌<◌, ◌≤◌, List, [], ◌∷◌, sum, refl, ◌∙◌, append_assoc, add-one, add-zero, add-suc, add_assoc, arith}
+use Rattle.std.proofs.Common.{◌≡◌, ℕ, true, zero, suc, ◌+◌, ◌*◌, ◌/◌, ◌<◌, ◌≤◌, List, [], ◌∷◌, sum, refl, ◌∙◌}
+use Rattle.std.proofs.Common.{append_assoc, add-one, add-zero, add-suc, add_assoc, arith}
 use Rattle.std.proofs.lemmas.List.Sums.{sum_by-cons}
 use Rattle.std.proofs.Math.Nat.{mul-le-mul, suc-mul}
 use Rattle.lab_num.specs.Paid.{slot_at}

@@ -1,5 +1,6 @@
 -- All that the loads and stores of a board's processor reach: memories and devices, each in its region of addresses.
-use Rattle.std.specs.Prelude.{ℕ, ◌/◌, ◌%◌, ◌^◌, ◌==◌, Bool, false, if◌then◌else◌, List, [], slice_index_or, slice_set, Option, None, Some}
+use Rattle.std.specs.Prelude.{ℕ, ◌/◌, ◌%◌, ◌^◌, ◌==◌, Bool, false, if◌then◌else◌, List, [], slice_index_or, slice_set}
+use Rattle.std.specs.Prelude.{Option, None, Some}
 use Rattle.dev_core.specs.declared.payload.Effect.{Effect}
 use Rattle.dev_core.specs.declared.payload.Effect.TheVariants.{Quiet}
 use Rattle.dev_core.specs.declared.state.DevState.{DevState}

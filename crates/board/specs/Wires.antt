@@ -13,7 +13,8 @@ use Rattle.page_ram.specs.Bytes.{value_at}
 use Rattle.sys_bus.specs.declared.region.Target.{Target}
 use Rattle.sys_bus.specs.declared.region.Target.TheVariants.{Ram, Clint, Plic, Dev, Nothing}
 use Rattle.board.specs.Numbers.{Numbers, after_post, after_entry}
-use Rattle.board.specs.Space.{Space, memory_at, device_at, target_at, device_store, load_answer, after_load, after_store}
+use Rattle.board.specs.Space.{Space, memory_at, device_at, target_at, device_store, load_answer, after_load}
+use Rattle.board.specs.Space.{after_store}
 
 -- the board's numbers, its space, the microsecond of the slot, and the posts and entries that nobody has taken
 pub record Wires : Type 0 where

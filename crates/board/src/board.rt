@@ -1,5 +1,6 @@
 //! The board: its slots, and what they make.
-ghost use Rattle.std.specs.Prelude.{◌≡◌, ◌≢◌, ℕ, ◌+◌, ◌/◌, ◌%◌, ◌<◌, ◌≤◌, ◌^◌, [], true, length, drop, map, All, slice_get, slice_index_or, OnOk, OnErr, IfOk, IfErr, IsTrue};
+ghost use Rattle.std.specs.Prelude.{◌≡◌, ◌≢◌, ℕ, ◌+◌, ◌/◌, ◌%◌, ◌<◌, ◌≤◌, ◌^◌, [], true, length, drop, map, All};
+ghost use Rattle.std.specs.Prelude.{slice_get, slice_index_or, OnOk, OnErr, IfOk, IfErr, IsTrue};
 
 use crate::numbers::Numbers;
 use crate::space::Space;
@@ -56,7 +57,8 @@ impl<D: Device> Board<D> {
     ghost use Rattle.sys_bus.specs.Plan.{IsValid};
     ghost use Rattle.board.specs.Early.{IsEarly};
     ghost use Rattle.board.specs.New.{first_states, new_board, reset};
-    ghost use Rattle.board.specs.Changes.{with_pc, with_halted, with_speed, with_shown, may_be_shown, with_bytes, WritesPrefix, holds_each, word_held, taken_by, handed};
+    ghost use Rattle.board.specs.Changes.{with_pc, with_halted, with_speed, with_shown, may_be_shown, with_bytes};
+    ghost use Rattle.board.specs.Changes.{WritesPrefix, holds_each, word_held, taken_by, handed};
     ghost use Rattle.board.specs.Space.{device_at};
     ghost use Rattle.board.specs.View.{quiet, after};
     ghost use Rattle.board.specs.Slot.{slot, awake, asleep};

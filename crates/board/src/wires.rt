@@ -4,7 +4,8 @@ ghost use Rattle.page_ram.specs.Access.{IsInOnePage};
 ghost use Rattle.rv_exec.specs.Access.{IsWidth};
 ghost use Rattle.sys_bus.specs.declared.region.Target.TheVariants.{Ram, Dev};
 ghost use Rattle.board.specs.Space.{memory_at};
-ghost use Rattle.board.specs.Wires.{fetched, answer, loaded, stored, stored_to, sent, entered, note_if, post_of, entry_of, key_of};
+ghost use Rattle.board.specs.Wires.{fetched, answer, loaded, stored, stored_to, sent, entered, note_if, post_of};
+ghost use Rattle.board.specs.Wires.{entry_of, key_of};
 
 use crate::numbers::Numbers;
 use crate::space::Space;

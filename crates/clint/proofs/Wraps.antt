@@ -1,6 +1,7 @@
 -- How a counter of 64 bits is computed: whole seconds apart from the rest, and the offset with which it shows a value.
 use Rattle.std.proofs.Common.{◌≡◌, ℕ, ◌+◌, ◌-◌, ◌*◌, ◌/◌, ◌%◌, ◌<◌, ◌∙◌, ap, sym, arith}
-use Rattle.std.proofs.Math.Nat.{add-mul, mul_right_comm, mul-add-div_right, mod-add-mod, add-mul-mod_self_right, mod-eq_of_lt}
+use Rattle.std.proofs.Math.Nat.{add-mul, mul_right_comm, mul-add-div_right, mod-add-mod, add-mul-mod_self_right}
+use Rattle.std.proofs.Math.Nat.{mod-eq_of_lt}
 use Rattle.std.proofs.lemmas.Nat.{div-add-mod', mod_below}
 
 -- a quotient, with a multiple of the divisor taken out of the dividend

@@ -1,5 +1,6 @@
 -- The frames of a CAN bus (CAN 2.0A): a data frame, or a remote frame, which asks for data and carries none.
-use Rattle.std.specs.Prelude.{◌≡◌, ℕ, ◌+◌, ◌-◌, ◌<◌, ◌≤◌, Bool, true, false, if◌then◌else◌, List, ◌++◌, length, drop, replicate}
+use Rattle.std.specs.Prelude.{◌≡◌, ℕ, ◌+◌, ◌-◌, ◌<◌, ◌≤◌, Bool, true, false, if◌then◌else◌, List, ◌++◌, length, drop}
+use Rattle.std.specs.Prelude.{replicate}
 
 -- a frame as contracts see it
 pub record FrameData : Type 0 where

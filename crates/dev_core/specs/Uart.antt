@@ -1,6 +1,7 @@
 -- The UART, by the PC16550D data sheet, section 8: its registers, interrupts and receiver. A byte is sent at once, so
 -- the transmitter is always empty; there are no modem lines, parity, framing or break.
-use Rattle.std.specs.Prelude.{ℕ, ◌+◌, ◌*◌, ◌/◌, ◌%◌, ◌^◌, ◌≤◌, ◌==◌, ◌&&◌, ◌||◌, not, nat_lt, nat_le, Bool, true, false, IsTrue, if◌then◌else◌, List, [], ◌∷◌, ◌++◌, length, drop, find, slice_index, unwrap_or}
+use Rattle.std.specs.Prelude.{ℕ, ◌+◌, ◌*◌, ◌/◌, ◌%◌, ◌^◌, ◌≤◌, ◌==◌, ◌&&◌, ◌||◌, not, nat_lt, nat_le, Bool, true, false}
+use Rattle.std.specs.Prelude.{IsTrue, if◌then◌else◌, List, [], ◌∷◌, ◌++◌, length, drop, find, slice_index, unwrap_or}
 use Rattle.dev_core.specs.declared.payload.Effect.{Effect}
 use Rattle.dev_core.specs.declared.payload.Effect.TheVariants.{Quiet, Send}
 use Rattle.dev_core.specs.declared.payload.Payload.{Payload}
@@ -10,7 +11,8 @@ use Rattle.dev_core.specs.declared.payload.Taken.TheVariants.{Kept, Refused, Ove
 use Rattle.dev_core.specs.declared.uart_state.UartState.{UartState}
 use Rattle.dev_core.specs.Answered.{Answered, unchanged}
 use Rattle.dev_core.specs.Bit.{is_set, flag}
-use Rattle.dev_core.specs.UartBits.{erbfi, etbei, elsi, fifo_enable, receiver_reset, dlab, dr, overrun, thre, temt, cts, dsr, dcd}
+use Rattle.dev_core.specs.UartBits.{erbfi, etbei, elsi, fifo_enable, receiver_reset, dlab, dr, overrun, thre, temt, cts}
+use Rattle.dev_core.specs.UartBits.{dsr, dcd}
 
 -- the state after a reset (table I)
 abbrev pub uart_reset : UartState

@@ -1,5 +1,6 @@
 -- What a read of one byte more than the limit tells of the whole.
-use Rattle.std.proofs.Common.{◌≡◌, ◌∙◌, ap, ℕ, min, ◌+◌, ◌≤◌, List, length, take, Option, None, Some, IfSome, option_map, arith, take_all}
+use Rattle.std.proofs.Common.{◌≡◌, ◌∙◌, ap, ℕ, min, ◌+◌, ◌≤◌, List, length, take, Option, None, Some, IfSome}
+use Rattle.std.proofs.Common.{option_map, arith, take_all}
 use Rattle.std.proofs.lemmas.List.{length-take}
 
 -- what fits into the limit is the whole

@@ -1,5 +1,6 @@
 //! An output in memory, whose writes can be made short and made to fail.
-ghost use Rattle.std.specs.Prelude.{◌≡◌, ◌≢◌, ◌↔◌, ◌≤◌, ◌++◌, ◌∷◌, [], Some, length, take, OnOk, OnErr, IsTrue, Contains};
+ghost use Rattle.std.specs.Prelude.{◌≡◌, ◌≢◌, ◌↔◌, ◌≤◌, ◌++◌, ◌∷◌, [], Some, length, take, OnOk, OnErr, IsTrue};
+ghost use Rattle.std.specs.Prelude.{Contains};
 ghost use Rattle.lab_io.specs.Known.{grown, Rose};
 ghost use Rattle.lab_io.specs.Sink.{IsTaken, taken};
 

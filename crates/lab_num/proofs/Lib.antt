@@ -2,4 +2,5 @@
 pub mod DigitLemmas
 mod Examples
 pub mod ListingLemmas
+mod NumeralLemmas
 pub mod SortLemmas

@@ -2,7 +2,7 @@
 pub mod Key
 pub mod Listing
 pub mod Name
+pub mod Numeral
 pub mod Paid
-pub mod Post
 pub mod Route
 pub mod Time

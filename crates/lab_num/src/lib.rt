@@ -2,21 +2,19 @@
 #![tactic(auto)]
 
 mod key;
-mod kind;
 mod listing;
 mod name;
 mod number;
-mod post;
+mod numeral;
 mod rows;
 mod text;
 mod time;
 
 pub use key::{Key, Member};
-pub use kind::Kind;
 pub use listing::{key_laws, listing_laws};
 pub use name::is_name;
 pub use number::{BoardNo, Micros, NoMemory, PostNo};
-pub use post::{Entry, Payload, Post, What};
+pub use numeral::number_of;
 pub use rows::Rows;
 pub use text::Text;
 pub use time::{TimeFault, read_time};

@@ -1,5 +1,7 @@
 -- A board of a laboratory is made by its plan.
-use Rattle.std.proofs.Common.{◌≡◌, ◌∙◌, sym, ap, refl, ℕ, zero, suc, ◌+◌, ◌*◌, ◌<◌, ◌≤◌, Bool, true, false, cond, ◌&&◌, List, [], ◌∷◌, length, map, slice_get, unwrap_or, Option, Some, None, subst, add-zero, zero-add, arith}
+use Rattle.std.proofs.Common.{◌≡◌, ◌∙◌, sym, ap, refl, ℕ, zero, suc, ◌+◌, ◌*◌, ◌<◌, ◌≤◌, Bool, true, false, cond, ◌&&◌}
+use Rattle.std.proofs.Common.{List, [], ◌∷◌, length, map, slice_get, unwrap_or, Option, Some, None, subst, add-zero}
+use Rattle.std.proofs.Common.{zero-add, arith}
 use Rattle.std.specs.Prelude.{is_some, IsTrue, nat_le, option_and_then}
 use Rattle.std.specs.List.{All, AllByRecursion}
 use Rattle.std.specs.Option.{option_map}

@@ -1,5 +1,7 @@
 -- Lists: a change of one place, maps, and items that differ.
-use Rattle.std.proofs.Common.{◌≡◌, ◌∙◌, sym, ap, refl, Bool, true, false, not, cond, ℕ, zero, suc, ◌+◌, ◌<◌, ◌≤◌, List, [], ◌∷◌, ◌++◌, length, map, set, get_or, take, drop, fold, slice_get, unwrap_or, Option, Some, None, subst, append_assoc, add-one, add-zero, zero-add, arith}
+use Rattle.std.proofs.Common.{◌≡◌, ◌∙◌, sym, ap, refl, Bool, true, false, not, cond, ℕ, zero, suc, ◌+◌, ◌<◌, ◌≤◌, List}
+use Rattle.std.proofs.Common.{[], ◌∷◌, ◌++◌, length, map, set, get_or, take, drop, fold, slice_get, unwrap_or, Option}
+use Rattle.std.proofs.Common.{Some, None, subst, append_assoc, add-one, add-zero, zero-add, arith}
 use Rattle.std.specs.Prelude.{is_some, nat_lt, IsSome, option_and_then}
 use Rattle.std.proofs.lemmas.Bool.Decides.{nat_tests}
 use Rattle.std.proofs.lemmas.Cmp.{nat_list_eq_equiv}

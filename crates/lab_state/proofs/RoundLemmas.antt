@@ -1,5 +1,7 @@
 -- The steps of a round, and what they keep.
-use Rattle.std.proofs.Common.{◌≡◌, ◌∙◌, sym, ap, refl, Bool, true, false, cond, not, ℕ, zero, suc, ◌+◌, ◌-◌, ◌*◌, ◌^◌, ◌<◌, ◌≤◌, List, [], ◌∷◌, ◌++◌, length, map, fold, find, unwrap_or, get_or, slice_get, Option, Some, None, Result, Ok, Err, OnOk, take, drop, subst, add-zero, arith}
+use Rattle.std.proofs.Common.{◌≡◌, ◌∙◌, sym, ap, refl, Bool, true, false, cond, not, ℕ, zero, suc, ◌+◌, ◌-◌, ◌*◌, ◌^◌}
+use Rattle.std.proofs.Common.{◌<◌, ◌≤◌, List, [], ◌∷◌, ◌++◌, length, map, fold, find, unwrap_or, get_or, slice_get}
+use Rattle.std.proofs.Common.{Option, Some, None, Result, Ok, Err, OnOk, take, drop, subst, add-zero, arith}
 use Rattle.std.specs.Prelude.{if◌then◌else◌, IsSome, is_none, option_and_then}
 use Rattle.std.proofs.lemmas.List.Elements.{All-filter, All-from_recursion}
 use Rattle.std.proofs.lemmas.Option.{slice_get-get_or}
@@ -29,10 +31,12 @@ use Rattle.lab_state.specs.One.{view_at, first_without, HaveAllPlans}
 use Rattle.lab_state.specs.Round.{granted, stepped, posts_made, entries_made, round_by, round}
 use Rattle.lab_state.specs.Inner.End.{end_of, items_of}
 use Rattle.lab_state.specs.Inner.Spares.{Spares}
-use Rattle.lab_state.specs.Inner.Standing.{Outline, outline, outlines, IsStanding, AreStanding, kind_in, IsDevice, AreDevices, IsSound}
+use Rattle.lab_state.specs.Inner.Standing.{Outline, outline, outlines, IsStanding, AreStanding, kind_in, IsDevice}
+use Rattle.lab_state.specs.Inner.Standing.{AreDevices, IsSound}
 use Rattle.lab_state.proofs.ListLemmas.{each-weaker, not_yet, position-map, stands}
 use Rattle.lab_state.proofs.KeyLemmas.{AreKeyed, keyed_differ}
-use Rattle.lab_state.proofs.SoundLemmas.{outline-view, outlines-change, standing-change, keeps_standing, sound-same, kind-outlines}
+use Rattle.lab_state.proofs.SoundLemmas.{outline-view, outlines-change, standing-change, keeps_standing, sound-same}
+use Rattle.lab_state.proofs.SoundLemmas.{kind-outlines}
 
 -- ---- what handing over keeps
 

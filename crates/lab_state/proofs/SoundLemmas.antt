@@ -1,5 +1,7 @@
 -- What holds of a laboratory goes on to hold where it is changed.
-use Rattle.std.proofs.Common.{◌≡◌, ◌∙◌, sym, ap, refl, false, true, cond, ◌||◌, sum_by, ℕ, zero, suc, ◌+◌, ◌*◌, ◌<◌, ◌≤◌, List, [], ◌∷◌, ◌++◌, length, map, slice_get, Option, Some, None, unwrap_or, subst, append_assoc, arith}
+use Rattle.std.proofs.Common.{◌≡◌, ◌∙◌, sym, ap, refl, false, true, cond, ◌||◌, sum_by, ℕ, zero, suc, ◌+◌, ◌*◌, ◌<◌}
+use Rattle.std.proofs.Common.{◌≤◌, List, [], ◌∷◌, ◌++◌, length, map, slice_get, Option, Some, None, unwrap_or, subst}
+use Rattle.std.proofs.Common.{append_assoc, arith}
 use Rattle.std.specs.Prelude.{Bool, is_some, option_and_then}
 use Rattle.std.proofs.lemmas.Cmp.{nat_list_eq_equiv}
 use Rattle.std.proofs.lemmas.List.{append-nil, map-append, length-map, length_push}
@@ -19,8 +21,10 @@ use Rattle.lab_state.specs.Names.{is_taken}
 use Rattle.lab_state.specs.Lab.{Lab}
 use Rattle.lab_state.specs.One.{view_at, kind_at, with_view, with_member}
 use Rattle.lab_state.specs.Inner.Spares.{Spares, full}
-use Rattle.lab_state.specs.Inner.Standing.{Outline, outline, outlines, IsStanding, AreStanding, kind_in, AreMembers, AreDevices, names_of, count_of_plans, IsSound}
-use Rattle.lab_state.proofs.ListLemmas.{map-change, each-weaker, each-append, distinct-insert, distinct-right, position-map, none_named, named_at}
+use Rattle.lab_state.specs.Inner.Standing.{Outline, outline, outlines, IsStanding, AreStanding, kind_in, AreMembers}
+use Rattle.lab_state.specs.Inner.Standing.{AreDevices, names_of, count_of_plans, IsSound}
+use Rattle.lab_state.proofs.ListLemmas.{map-change, each-weaker, each-append, distinct-insert, distinct-right}
+use Rattle.lab_state.proofs.ListLemmas.{position-map, none_named, named_at}
 
 -- ---- other boards of the same outlines
 

@@ -1,5 +1,6 @@
 -- The boundary between two rounds, at which what the boards have sent is handed over.
-use Rattle.std.specs.Prelude.{ℕ, Bool, if◌then◌else◌, List, [], ◌++◌, Option, None, Some, is_some, option_and_then, fold, find}
+use Rattle.std.specs.Prelude.{ℕ, Bool, if◌then◌else◌, List, [], ◌++◌, Option, None, Some, is_some, option_and_then}
+use Rattle.std.specs.Prelude.{fold, find}
 use Rattle.std.specs.Option.{option_map, option_to_list}
 use Rattle.lab_num.specs.declared.key.Member.{Member}
 use Rattle.lab_num.specs.Listing.{listing}

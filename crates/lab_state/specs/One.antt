@@ -1,5 +1,6 @@
 -- One board, one device or one hub of a laboratory.
-use Rattle.std.specs.Prelude.{ℕ, ◌∷◌, [], ◌++◌, ◌≡◌, ◌≤◌, length, take, List, Option, None, Some, is_none, slice_get, option_and_then}
+use Rattle.std.specs.Prelude.{ℕ, ◌∷◌, [], ◌++◌, ◌≡◌, ◌≤◌, length, take, List, Option, None, Some, is_none, slice_get}
+use Rattle.std.specs.Prelude.{option_and_then}
 use Rattle.std.specs.List.{position}
 use Rattle.std.specs.Option.{option_map}
 use Rattle.lab_num.specs.declared.key.Member.{Member}

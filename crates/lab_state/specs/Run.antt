@@ -1,5 +1,6 @@
 -- Runs: rounds of one quantum each, and a shorter one for what is left. A run ends at the first round that has a pause.
-use Rattle.std.specs.Prelude.{◌≡◌, ◌+◌, ◌<◌, ℕ, ◌/◌, ◌%◌, ◌==◌, if◌then◌else◌, List, [], ◌∷◌, ◌++◌, length, take, replicate, fold, None, is_some}
+use Rattle.std.specs.Prelude.{◌≡◌, ◌+◌, ◌<◌, ℕ, ◌/◌, ◌%◌, ◌==◌, if◌then◌else◌, List, [], ◌∷◌, ◌++◌, length, take}
+use Rattle.std.specs.Prelude.{replicate, fold, None, is_some}
 use Rattle.lab_state.specs.Lab.{Lab}
 use Rattle.lab_state.specs.Round.{Rounded, round}
 

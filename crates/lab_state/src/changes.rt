@@ -2,7 +2,8 @@
 ghost use Rattle.std.specs.Prelude.{◌≡◌, ◌≤◌, ◌<◌, ◌%◌, length, false, IsSome, IsTrue, OnOk, OnErr};
 ghost use Rattle.std.specs.Option.{ForSome};
 ghost use Rattle.page_ram.specs.Bytes.{zeros};
-ghost use Rattle.board.specs.Changes.{with_pc, with_halted, with_speed, with_shown, with_bytes, may_be_shown, holds_each};
+ghost use Rattle.board.specs.Changes.{with_pc, with_halted, with_speed, with_shown, with_bytes, may_be_shown};
+ghost use Rattle.board.specs.Changes.{holds_each};
 ghost use Rattle.board.specs.New as board_spec;
 ghost use Rattle.lab_state.specs.Inner.Change.{changed_by, MayChange};
 ghost use Rattle.lab_state.specs.One.{view_of, changed, WritesPrefix};

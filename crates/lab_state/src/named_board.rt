@@ -1,5 +1,6 @@
 //! A board under its name.
-ghost use Rattle.std.specs.Prelude.{◌≡◌, ◌+◌, ◌≤◌, ◌<◌, ◌++◌, [], length, take, ℕ, IsTrue, Some, None, OnOk, OnErr, option_and_then, is_none, slice_get};
+ghost use Rattle.std.specs.Prelude.{◌≡◌, ◌+◌, ◌≤◌, ◌<◌, ◌++◌, [], length, take, ℕ, IsTrue, Some, None, OnOk, OnErr};
+ghost use Rattle.std.specs.Prelude.{option_and_then, is_none, slice_get};
 ghost use Rattle.std.specs.Option.{option_map, ForSome};
 ghost use Rattle.log_merge.specs.Merge.{all_entries};
 ghost use Rattle.board.specs.Changes.{with_bytes, handed, holds_each};

@@ -1,5 +1,6 @@
 -- What equipping the boards makes of them.
-use Rattle.std.proofs.Common.{◌≡◌, ◌∙◌, sym, ℕ, zero, suc, ◌<◌, true, List, [], ◌∷◌, length, Option, None, Some, IsSome, codes, refl, arith}
+use Rattle.std.proofs.Common.{◌≡◌, ◌∙◌, sym, ℕ, zero, suc, ◌<◌, true, List, [], ◌∷◌, length, Option, None, Some, IsSome}
+use Rattle.std.proofs.Common.{codes, refl, arith}
 use Rattle.std.specs.Prelude.{slice_get, option_and_then}
 use Rattle.std.proofs.lemmas.Option.{same_Some}
 use Rattle.std.specs.Option.{option_map}

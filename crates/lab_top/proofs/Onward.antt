@@ -1,5 +1,6 @@
 -- One step of a run, in its transcript.
-use Rattle.std.proofs.Common.{◌≡◌, ℕ, zero, suc, ◌+◌, ◌-◌, ◌<◌, ◌≤◌, Bool, List, [], ◌∷◌, Option, None, Some, refl, arith}
+use Rattle.std.proofs.Common.{◌≡◌, ℕ, zero, suc, ◌+◌, ◌-◌, ◌<◌, ◌≤◌, Bool, List, [], ◌∷◌, Option, None, Some, refl}
+use Rattle.std.proofs.Common.{arith}
 use Rattle.lab_io.specs.Held.{Held}
 use Rattle.lab_state.specs.Lab.{Lab}
 use Rattle.lab_state.specs.Run.{run}

@@ -1,5 +1,6 @@
 -- The course of a run, from the words and the read of its script on.
-use Rattle.std.proofs.Common.{◌≡◌, ℕ, ◌<◌, ◌≤◌, List, [], ◌∷◌, length, Option, None, Some, IfSome, IsSomeAnd, sym, arith}
+use Rattle.std.proofs.Common.{◌≡◌, ℕ, ◌<◌, ◌≤◌, List, [], ◌∷◌, length, Option, None, Some, IfSome, IsSomeAnd, sym}
+use Rattle.std.proofs.Common.{arith}
 use Rattle.std.proofs.lemmas.Bool.Decides.{nat_tests}
 use Rattle.std.specs.FinMap.{get}
 use Rattle.lab_io.specs.Known.{grown}
@@ -10,7 +11,8 @@ use Rattle.lab_top.specs.declared.status.UsageCause.{UsageCause}
 use Rattle.lab_top.specs.declared.status.Status.{Status}
 use Rattle.lab_top.specs.declared.status.Status.TheVariants as end_by
 use Rattle.lab_top.specs.Builtin.{built_in}
-use Rattle.lab_top.specs.Transcript.{Usage, Script, ended, whole, rest_of, started, begun, run_of, transcript, request_of, Refused}
+use Rattle.lab_top.specs.Transcript.{Usage, Script, ended, whole, rest_of, started, begun, run_of, transcript}
+use Rattle.lab_top.specs.Transcript.{request_of, Refused}
 use Rattle.lab_top.specs.Inner.Course.{Told, Course, IsEnd}
 use Rattle.lab_top.specs.Command.{fault_at}
 use Rattle.lab_top.proofs.Pieces.{grown-nil}

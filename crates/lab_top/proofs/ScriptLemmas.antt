@@ -1,5 +1,7 @@
 -- Lines and quotes, by the place of the first byte of a value.
-use Rattle.std.proofs.Common.{◌≡◌, ℕ, zero, suc, ◌+◌, ◌<◌, ◌≤◌, ◌==◌, Bool, true, false, not, List, [], ◌∷◌, ◌++◌, length, take, drop, None, Some, Option, Result, Err, codes, refl, sym, ap, ◌∙◌, arith, length-append, length-take}
+use Rattle.std.proofs.Common.{◌≡◌, ℕ, zero, suc, ◌+◌, ◌<◌, ◌≤◌, ◌==◌, Bool, true, false, not, List, [], ◌∷◌, ◌++◌}
+use Rattle.std.proofs.Common.{length, take, drop, None, Some, Option, Result, Err, codes, refl, sym, ap, ◌∙◌, arith}
+use Rattle.std.proofs.Common.{length-append, length-take}
 use Rattle.std.specs.Prelude.{slice_index, take_while}
 use Rattle.std.specs.List.{list_all}
 use Rattle.std.specs.Str.{bytes_eq, IsUtf8, is_utf8}
@@ -13,7 +15,8 @@ use Rattle.lab_num.specs.Time.{time_of}
 use Rattle.lab_top.specs.declared.fault.ScriptCause.{ScriptCause}
 use Rattle.lab_top.specs.declared.fault.ScriptCause.TheVariants.{Unknown}
 use Rattle.lab_top.specs.declared.script.Command.{Command}
-use Rattle.lab_top.specs.Script.{lines_of, is_unquoted, closed, time_in, rest_after, quoted, argument, run_for, quantum, by_words, command_of}
+use Rattle.lab_top.specs.Script.{lines_of, is_unquoted, closed, time_in, rest_after, quoted, argument, run_for, quantum}
+use Rattle.lab_top.specs.Script.{by_words, command_of}
 
 -- a test that fails where its opposite passes
 passes : (b : Bool) → not b ≡ true → b ≡ false

@@ -2,7 +2,8 @@
 use Rattle.std.specs.Prelude.{ℕ, List, ◌++◌, codes}
 use Rattle.std.specs.Fmt.{decimal}
 use Rattle.lab_top.specs.declared.fault.ScriptCause.{ScriptCause}
-use Rattle.lab_top.specs.declared.fault.ScriptCause.TheVariants.{Unknown, Arguments, Time, Commands, LabTime, Platform, Size}
+use Rattle.lab_top.specs.declared.fault.ScriptCause.TheVariants.{Unknown, Arguments, Time, Commands, LabTime, Platform}
+use Rattle.lab_top.specs.declared.fault.ScriptCause.TheVariants.{Size}
 use Rattle.lab_top.specs.declared.fault.Cause.{Cause}
 use Rattle.lab_top.specs.declared.fault.Cause.TheVariants.{Script}
 use Rattle.lab_top.specs.declared.fault.ScriptFault.{ScriptFault}

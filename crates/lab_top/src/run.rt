@@ -1,5 +1,6 @@
 //! The whole program, from the command words to the status.
-ghost use Rattle.std.specs.Prelude.{◌≡◌, ◌≢◌, ◌≤◌, [], false, length, IfSome, MatchResult, map, string_bytes, Option, List, ℕ};
+ghost use Rattle.std.specs.Prelude.{◌≡◌, ◌≢◌, ◌≤◌, [], false, length, IfSome, MatchResult, map, string_bytes, Option};
+ghost use Rattle.std.specs.Prelude.{List, ℕ};
 ghost use Rattle.lab_io.specs.Held.{Held};
 ghost use Rattle.lab_io.specs.Known.{Rose};
 ghost use Rattle.lab_state.specs.Run.{run};
@@ -8,8 +9,10 @@ ghost use Rattle.lab_state.specs.Names.{names};
 ghost use Rattle.log_text.specs.Log.{rest};
 ghost use Rattle.lab_top.specs.Builtin.{built_in};
 ghost use Rattle.lab_top.specs.Command.{fault_at};
-ghost use Rattle.lab_top.specs.Transcript.{transcript, run_of, request_of, rest_of, started, whole, Run, Refused, Script, Usage, Done};
-ghost use Rattle.lab_top.specs.Headline.{IsWhole, WritesPart, WritesUsage, AsksPart, IsCounted, HasAll, IsUncut, IsUsageBy, IsNoUsage, OnRefused, final};
+ghost use Rattle.lab_top.specs.Transcript.{transcript, run_of, request_of, rest_of, started, whole, Run, Refused};
+ghost use Rattle.lab_top.specs.Transcript.{Script, Usage, Done};
+ghost use Rattle.lab_top.specs.Headline.{IsWhole, WritesPart, WritesUsage, AsksPart, IsCounted, HasAll, IsUncut};
+ghost use Rattle.lab_top.specs.Headline.{IsUsageBy, IsNoUsage, OnRefused, final};
 ghost use Rattle.lab_top.specs.Inner.Course.{Told, Course, IsEnd};
 
 use crate::builtin;

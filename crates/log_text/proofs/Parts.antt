@@ -1,5 +1,6 @@
 -- A list whose elements that are low come first, then at most one that is own, then those that are high.
-use Rattle.std.proofs.Common.{◌≡◌, ◌∙◌, ℕ, zero, suc, ◌+◌, ◌<◌, Bool, true, false, Some, None, unwrap_or, List, [], ◌∷◌, ◌++◌, length, get_or, take, drop, filter, find, refl, ap, inl, inr, arith}
+use Rattle.std.proofs.Common.{◌≡◌, ◌∙◌, ℕ, zero, suc, ◌+◌, ◌<◌, Bool, true, false, Some, None, unwrap_or, List, [], ◌∷◌}
+use Rattle.std.proofs.Common.{◌++◌, length, get_or, take, drop, filter, find, refl, ap, inl, inr, arith}
 use Rattle.std.specs.Prelude.{⊤}
 use Rattle.std.specs.List.{list_all, prefix_len}
 use Rattle.std.proofs.lemmas.List.Folds.{list_all-append}

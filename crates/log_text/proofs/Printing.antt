@@ -1,5 +1,6 @@
 -- The log has whole lines of printable bytes.
-use Rattle.std.proofs.Common.{◌≡◌, ℕ, zero, suc, ◌-◌, ◌/◌, ◌%◌, ◌<◌, ◌≤◌, ◌==◌, ◌&&◌, nat_le, Bool, true, false, List, [], ◌∷◌, ◌++◌, length, get_or, replicate, codes, refl, sym, inl, inr, append-nil, arith}
+use Rattle.std.proofs.Common.{◌≡◌, ℕ, zero, suc, ◌-◌, ◌/◌, ◌%◌, ◌<◌, ◌≤◌, ◌==◌, ◌&&◌, nat_le, Bool, true, false, List}
+use Rattle.std.proofs.Common.{[], ◌∷◌, ◌++◌, length, get_or, replicate, codes, refl, sym, inl, inr, append-nil, arith}
 use Rattle.std.specs.Fmt.{decimal, digit_glyph, digits, digits_onto}
 use Rattle.std.specs.List.{flat_map, list_all}
 use Rattle.std.proofs.lemmas.Bool.{cases_Bool, and_from, and_parts}
@@ -17,7 +18,8 @@ use Rattle.log_merge.specs.declared.item.Note.TheVariants.{Overrun, Received, Lo
 use Rattle.log_merge.specs.declared.names.Names.{Names}
 use Rattle.log_text.specs.declared.line.OpenLine.{OpenLine}
 use Rattle.log_text.specs.Line.{gathered, is_ending, own}
-use Rattle.log_text.specs.Log.{device_of, ended_by, escaped, finish_text, log_line, opened, printed, rest, text, uart_line}
+use Rattle.log_text.specs.Log.{device_of, ended_by, escaped, finish_text, log_line, opened, printed, rest, text}
+use Rattle.log_text.specs.Log.{uart_line}
 use Rattle.log_text.specs.Names.{board_name, device_name, names_of_board, place_name}
 use Rattle.log_text.specs.Number.{filled, hexadecimal, seconds, word}
 use Rattle.log_text.specs.Printable.{AreLines, are_board_names, are_printable_names, is_printable}

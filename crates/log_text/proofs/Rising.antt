@@ -1,5 +1,7 @@
 -- Open lines that rise by member.
-use Rattle.std.proofs.Common.{◌≡◌, ◌∙◌, ℕ, zero, suc, ◌+◌, ◌-◌, ◌<◌, ◌≤◌, Bool, true, false, not, ◌==◌, ◌&&◌, nat_lt, Option, unwrap_or, List, [], ◌∷◌, ◌++◌, length, get_or, take, drop, filter, refl, sym, ap, subst, inl, inr, append_assoc, arith, length-append}
+use Rattle.std.proofs.Common.{◌≡◌, ◌∙◌, ℕ, zero, suc, ◌+◌, ◌-◌, ◌<◌, ◌≤◌, Bool, true, false, not, ◌==◌, ◌&&◌, nat_lt}
+use Rattle.std.proofs.Common.{Option, unwrap_or, List, [], ◌∷◌, ◌++◌, length, get_or, take, drop, filter, refl, sym, ap}
+use Rattle.std.proofs.Common.{subst, inl, inr, append_assoc, arith, length-append}
 use Rattle.std.proofs.lemmas.List.{drop_at, drop_more, get_or_default, take_at}
 use Rattle.std.specs.List.{list_all, list_any}
 use Rattle.std.proofs.lemmas.Bool.{cases_Bool, and_parts, and_from, and_cases, ltb-true, ltb-false, false≢true}
@@ -9,9 +11,11 @@ use Rattle.lab_num.specs.declared.key.Member.{Member}
 use Rattle.lab_num.specs.declared.number.Micros.{Micros}
 use Rattle.lab_num.specs.Key.{same_member}
 use Rattle.log_text.specs.declared.line.OpenLine.{OpenLine}
-use Rattle.log_text.specs.Line.{are_unended, blank, gathered, higher, is_ending, is_lower, is_unended, lower, own, rise, with_byte}
+use Rattle.log_text.specs.Line.{are_unended, blank, gathered, higher, is_ending, is_lower, is_unended, lower, own, rise}
+use Rattle.log_text.specs.Line.{with_byte}
 use Rattle.log_text.specs.Inner.Place.{place_of, stands_at}
-use Rattle.log_text.proofs.Parts.{Apart, Found, Parted, Unfound, found, unfound, low_count, filter_passes, find_keeps, find_passes, list_all-filter, list_all-weaker}
+use Rattle.log_text.proofs.Parts.{Apart, Found, Parted, Unfound, found, unfound, low_count, filter_passes, find_keeps}
+use Rattle.log_text.proofs.Parts.{find_passes, list_all-filter, list_all-weaker}
 
 -- ---- the order of members
 

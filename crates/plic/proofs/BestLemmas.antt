@@ -1,5 +1,6 @@
 -- The first source of the greatest priority: that there is one, and what it says of the output and of a claim.
-use Rattle.std.proofs.Common.{◌≡◌, ℕ, zero, suc, ◌+◌, ◌<◌, ◌≤◌, ◌&&◌, ◌||◌, not, nat_lt, nat_le, Bool, true, false, List, inl, inr, refl, ap, sym, ◌∙◌, arith, slice_index}
+use Rattle.std.proofs.Common.{◌≡◌, ℕ, zero, suc, ◌+◌, ◌<◌, ◌≤◌, ◌&&◌, ◌||◌, not, nat_lt, nat_le, Bool, true, false}
+use Rattle.std.proofs.Common.{List, inl, inr, refl, ap, sym, ◌∙◌, arith, slice_index}
 use Rattle.std.proofs.lemmas.Bool.{cases_lt, cases_Bool, and_parts, both_ways, leb-true}
 use Rattle.std.proofs.lemmas.Bool.Decides.{nat_tests}
 use Rattle.std.specs.List.{list_any}
@@ -8,7 +9,8 @@ use Rattle.plic.specs.Sources.{has, sources}
 use Rattle.plic.specs.Claim.{is_ready, interrupts, is_claimable, is_highest, priority, threshold, claim, output}
 use Rattle.plic.specs.Laws.{IsChosen, ClaimsTheChosen, ClaimsWhatIsThere, OutputsApart}
 use Rattle.plic.specs.Inner.Best.{IsBest}
-use Rattle.plic.proofs.SearchLemmas.{find-none, find-first, list_any-none, list_any-found, list_all-each, list_all-fails}
+use Rattle.plic.proofs.SearchLemmas.{find-none, find-first, list_any-none, list_any-found, list_all-each}
+use Rattle.plic.proofs.SearchLemmas.{list_all-fails}
 
 -- a number is above another and something holds, or not
 and_above : (b : Bool) (m n : ℕ) → b ≡ true → m < n → (b && nat_lt m n) ≡ true

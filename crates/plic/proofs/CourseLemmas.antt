@@ -1,6 +1,8 @@
 -- A source that waits for its completion, and samples that change nothing.
-use Rattle.std.proofs.Common.{◌≡◌, ℕ, ◌<◌, ◌≤◌, ◌==◌, ◌&&◌, ◌||◌, not, Bool, true, false, if◌then◌else◌, List, [], ◌∷◌, Option, Some, None, inl, inr, refl, sym, ap₂, ◌∙◌, arith}
-use Rattle.std.proofs.lemmas.Bool.{and_parts, or_cases, not-true, false_from_ne_true, or_parts, both_ways, eq-eqb, ne_eqb, leb-true}
+use Rattle.std.proofs.Common.{◌≡◌, ℕ, ◌<◌, ◌≤◌, ◌==◌, ◌&&◌, ◌||◌, not, Bool, true, false, if◌then◌else◌, List, [], ◌∷◌}
+use Rattle.std.proofs.Common.{Option, Some, None, inl, inr, refl, sym, ap₂, ◌∙◌, arith}
+use Rattle.std.proofs.lemmas.Bool.{and_parts, or_cases, not-true, false_from_ne_true, or_parts, both_ways, eq-eqb}
+use Rattle.std.proofs.lemmas.Bool.{ne_eqb, leb-true}
 use Rattle.plic.specs.declared.register.Register.{Register}
 use Rattle.plic.specs.declared.register.Register.TheVariants.{Priority, Pending, Enable, Threshold, Claim}
 use Rattle.plic.specs.declared.state.PlicState.{PlicState}
@@ -10,7 +12,8 @@ use Rattle.plic.specs.Gateway.{is_enabled, is_raised, raised, sample, complete}
 use Rattle.plic.specs.Claim.{claim, after_claim}
 use Rattle.plic.specs.Map.{reached}
 use Rattle.plic.specs.Registers.{loaded_at, stored_at, plic_loaded, plic_stored}
-use Rattle.plic.specs.Course.{Step, Samples, Claims, Completes, Loads, Stores, after, course, is_completion, is_completion_at, is_completed}
+use Rattle.plic.specs.Course.{Step, Samples, Claims, Completes, Loads, Stores, after, course, is_completion}
+use Rattle.plic.specs.Course.{is_completion_at, is_completed}
 use Rattle.plic.specs.Laws.{SamplesOnce, StaysShut, AwaitsCompletion}
 use Rattle.plic.proofs.SetLemmas.{has-union, has-raised, has-without, union-lt, union-stays}
 use Rattle.plic.proofs.BestLemmas.{claim_is_chosen}

@@ -1,10 +1,16 @@
 -- Sets as numbers of 128 bits: what is in a set that a test gives, and in one that bits give.
-use Rattle.std.proofs.Common.{◌≡◌, ℕ, zero, suc, ◌+◌, ◌-◌, ◌*◌, ◌/◌, ◌%◌, ◌^◌, ◌<◌, ◌≤◌, min, max, ◌==◌, ◌&&◌, ◌||◌, not, nat_le, Bool, true, false, if◌then◌else◌, bit_and, bit_or, inl, inr, refl, sym, ap, ◌∙◌, arith, pow-suc, pow_pos, add-one, add-zero, lt_of_le_of_lt}
+use Rattle.std.proofs.Common.{◌≡◌, ℕ, zero, suc, ◌+◌, ◌-◌, ◌*◌, ◌/◌, ◌%◌, ◌^◌, ◌<◌, ◌≤◌, min, max, ◌==◌, ◌&&◌, ◌||◌}
+use Rattle.std.proofs.Common.{not, nat_le, Bool, true, false, if◌then◌else◌, bit_and, bit_or, inl, inr, refl, sym, ap}
+use Rattle.std.proofs.Common.{◌∙◌, arith, pow-suc, pow_pos, add-one, add-zero, lt_of_le_of_lt}
 use Rattle.std.specs.Int.{bit_at, bit_not, w128}
-use Rattle.std.proofs.lemmas.Bool.{cases_lt, cases_eq, cases_Bool, eq-eqb, ne_eqb, le-leb, lt-leb, both_ways, and_parts, and_right, or_cases}
+use Rattle.std.proofs.lemmas.Bool.{cases_lt, cases_eq, cases_Bool, eq-eqb, ne_eqb, le-leb, lt-leb, both_ways, and_parts}
+use Rattle.std.proofs.lemmas.Bool.{and_right, or_cases}
 use Rattle.std.proofs.Math.Nat.{pow-le-pow_right}
 use Rattle.std.proofs.lemmas.Nat.{or_lt, and_le_l, one_shl, shl_whole, mod_below}
-use Rattle.std.proofs.lemmas.Nat.Bits.{bit_at-zero, bit_at-lt, bit_at_above, bit_at_and, bit_at_or, bit_at_not, bit_at_ones, bit_at_cat_low, bit_at_cat_high, bit_at_clear_same, bit_at_clear_other, bit_at_mask_inside, bit_at_mask_below, bit_at_mask_above, same_from_bits_below}
+use Rattle.std.proofs.lemmas.Nat.Bits.{bit_at-zero, bit_at-lt, bit_at_above, bit_at_and, bit_at_or, bit_at_not}
+use Rattle.std.proofs.lemmas.Nat.Bits.{bit_at_ones, bit_at_cat_low, bit_at_cat_high, bit_at_clear_same}
+use Rattle.std.proofs.lemmas.Nat.Bits.{bit_at_clear_other, bit_at_mask_inside, bit_at_mask_below, bit_at_mask_above}
+use Rattle.std.proofs.lemmas.Nat.Bits.{same_from_bits_below}
 use Rattle.plic.specs.Sources.{has, set_below, set_of, is_source, all_sources, union, without, with_word, AreSources}
 use Rattle.plic.specs.Gateway.{is_raised, raised}
 

@@ -1,5 +1,6 @@
 -- What a PLIC tells a context, and what the context claims (RISC-V PLIC 1.0.0).
-use Rattle.std.specs.Prelude.{ℕ, ◌==◌, ◌&&◌, ◌||◌, nat_lt, nat_le, not, Bool, if◌then◌else◌, find, unwrap_or, slice_index}
+use Rattle.std.specs.Prelude.{ℕ, ◌==◌, ◌&&◌, ◌||◌, nat_lt, nat_le, not, Bool, if◌then◌else◌, find, unwrap_or}
+use Rattle.std.specs.Prelude.{slice_index}
 use Rattle.std.specs.List.{list_all, list_any}
 use Rattle.plic.specs.declared.state.PlicState.{PlicState}
 use Rattle.plic.specs.Gateway.{is_enabled}

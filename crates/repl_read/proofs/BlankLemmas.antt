@@ -1,5 +1,6 @@
 -- A text with blanks for its comments has none.
-use Rattle.std.proofs.Common.{◌≡◌, ℕ, ◌==◌, ◌&&◌, ◌||◌, ◌∙◌, inl, inr, Bool, true, false, cond, refl, ap, List, [], map, ◌∷◌, ◌++◌, Option, None, Some}
+use Rattle.std.proofs.Common.{◌≡◌, ℕ, ◌==◌, ◌&&◌, ◌||◌, ◌∙◌, inl, inr, Bool, true, false, cond, refl, ap, List, [], map}
+use Rattle.std.proofs.Common.{◌∷◌, ◌++◌, Option, None, Some}
 use Rattle.std.specs.Option.{option_map_or}
 use Rattle.std.specs.Str.Lines.{lines}
 use Rattle.repl_read.specs.declared.comments.Inside.{Inside}

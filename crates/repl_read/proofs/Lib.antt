@@ -7,7 +7,6 @@ pub mod EntryLemmas
 pub mod FaultLemmas
 pub mod LengthLemmas
 pub mod ListLemmas
-pub mod NumeralLemmas
 pub mod ReturnLemmas
 pub mod TokenLemmas
 pub mod Utf8Lemmas

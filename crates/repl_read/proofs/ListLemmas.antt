@@ -1,5 +1,6 @@
 -- What each part of a list says, part by part.
-use Rattle.std.proofs.Common.{◌≡◌, ℕ, ◌+◌, ◌<◌, ◌==◌, ◌∙◌, true, false, refl, sym, ap, List, [], ◌∷◌, ◌++◌, length, get_or, map, filter, drop, Result, Ok, Err, append_assoc, arith}
+use Rattle.std.proofs.Common.{◌≡◌, ℕ, ◌+◌, ◌<◌, ◌==◌, ◌∙◌, true, false, refl, sym, ap, List, [], ◌∷◌, ◌++◌, length}
+use Rattle.std.proofs.Common.{get_or, map, filter, drop, Result, Ok, Err, append_assoc, arith}
 use Rattle.std.proofs.lemmas.Bool.Decides.{nat_tests}
 use Rattle.std.proofs.lemmas.List.{drop_more, append-nil}
 use Rattle.repl_read.specs.declared.fault.Fault.{Fault}

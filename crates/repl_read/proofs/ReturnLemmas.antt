@@ -1,5 +1,6 @@
 -- A text with a carriage return before each line feed.
-use Rattle.std.proofs.Common.{◌≡◌, ℕ, ◌-◌, ◌<◌, ◌==◌, ◌∙◌, inl, inr, Bool, true, false, cond, refl, sym, ap, List, [], ◌∷◌, ◌++◌, length, get_or, map, Option, None, Some, arith}
+use Rattle.std.proofs.Common.{◌≡◌, ℕ, ◌-◌, ◌<◌, ◌==◌, ◌∙◌, inl, inr, Bool, true, false, cond, refl, sym, ap, List, []}
+use Rattle.std.proofs.Common.{◌∷◌, ◌++◌, length, get_or, map, Option, None, Some, arith}
 use Rattle.std.specs.List.{list_all, slice_split, onto_first}
 use Rattle.std.specs.Option.{option_map_or}
 use Rattle.std.specs.Str.Lines.{lines, lines_of_parts, strip_carriage_return}

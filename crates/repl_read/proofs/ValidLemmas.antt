@@ -1,5 +1,6 @@
 -- What each entry of a text meets, form by form.
-use Rattle.std.proofs.Common.{◌≡◌, ℕ, ◌&&◌, ◌||◌, Bool, true, false, refl, List, [], ◌∷◌, filter, Option, None, Some, Result, Ok, Err, arith}
+use Rattle.std.proofs.Common.{◌≡◌, ℕ, ◌&&◌, ◌||◌, Bool, true, false, refl, List, [], ◌∷◌, filter, Option, None, Some}
+use Rattle.std.proofs.Common.{Result, Ok, Err, arith}
 use Rattle.std.specs.Prelude.{nat_le, if◌then◌else◌, codes}
 use Rattle.std.specs.List.{list_all}
 use Rattle.std.specs.Str.{bytes_eq}
@@ -19,9 +20,12 @@ use Rattle.repl_read.specs.Entries.{is_span, is_source, are_pins, is_item, is_he
 use Rattle.repl_read.specs.Features.{in_item, in_head, in_list}
 use Rattle.repl_read.specs.Forms.{◌>>=◌, require, judged, number, all_of}
 use Rattle.repl_read.specs.Heads.{using_of, place_of, head_of}
-use Rattle.repl_read.specs.Items.{word_value, attribute_of, span_of, ended_list, one_span, pins_of, numbered_ends, source_of, wire_of, is_filled, item_of, items_of}
-use Rattle.repl_read.specs.Lines.{parted_items, closed_list, list_of, within_line, item_line, behind_brace, plain_head, braced_head, using_or, head_line, some_line, said_of}
-use Rattle.repl_read.specs.Words.{is_name, is_dotted_name, number_of}
+use Rattle.repl_read.specs.Items.{word_value, attribute_of, span_of, ended_list, one_span, pins_of, numbered_ends}
+use Rattle.repl_read.specs.Items.{source_of, wire_of, is_filled, item_of, items_of}
+use Rattle.repl_read.specs.Lines.{parted_items, closed_list, list_of, within_line, item_line, behind_brace, plain_head}
+use Rattle.repl_read.specs.Lines.{braced_head, using_or, head_line, some_line, said_of}
+use Rattle.lab_num.specs.Numeral.{number_of}
+use Rattle.repl_read.specs.Words.{is_name, is_dotted_name}
 
 -- what is read passes a test
 abbrev pub Good : {X : Type 0} → (X → Bool) → Result X ReadCause → Type 0

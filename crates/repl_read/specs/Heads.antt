@@ -10,7 +10,8 @@ use Rattle.repl_read.specs.declared.fault.ReadCause.{ReadCause}
 use Rattle.repl_read.specs.declared.fault.ReadCause.TheVariants.{Form}
 use Rattle.repl_read.specs.declared.tokens.Token.{Token}
 use Rattle.repl_read.specs.declared.tokens.Token.TheVariants.{Word, Quoted, Colon, At, Less, More, Comma, Plus}
-use Rattle.repl_read.specs.Words.{is_name, is_dotted_name, number_of}
+use Rattle.lab_num.specs.Numeral.{number_of}
+use Rattle.repl_read.specs.Words.{is_name, is_dotted_name}
 use Rattle.repl_read.specs.Forms.{◌>>=◌, require, number}
 
 -- the file that the line names, if it is `using "file"`

@@ -1,6 +1,7 @@
 -- The items of an entry: attributes `key: value`, and wires `SRC -> dest@DST`, which Renode's platform description
 -- format calls interrupt connections.
-use Rattle.std.specs.Prelude.{ℕ, nat_le, filter, Bool, true, false, List, [], ◌∷◌, Option, Some, None, if◌then◌else◌, codes, Result, Ok, Err}
+use Rattle.std.specs.Prelude.{ℕ, nat_le, filter, Bool, true, false, List, [], ◌∷◌, Option, Some, None, if◌then◌else◌}
+use Rattle.std.specs.Prelude.{codes, Result, Ok, Err}
 use Rattle.std.specs.Str.{bytes_eq}
 use Rattle.repl_read.specs.declared.cuts.Mark.TheVariants as mark
 use Rattle.repl_read.specs.declared.entry.Ends.{Ends}
@@ -15,7 +16,8 @@ use Rattle.repl_read.specs.declared.fault.ReadCause.TheVariants.{Form}
 use Rattle.repl_read.specs.declared.tokens.Token.{Token}
 use Rattle.repl_read.specs.declared.tokens.Token.TheVariants.{Word, Quoted, Colon, At, Minus, StartList}
 use Rattle.repl_read.specs.Cuts.{cut, with_cut, parts}
-use Rattle.repl_read.specs.Words.{is_name, is_dotted_name, number_of}
+use Rattle.lab_num.specs.Numeral.{number_of}
+use Rattle.repl_read.specs.Words.{is_name, is_dotted_name}
 use Rattle.repl_read.specs.Forms.{◌>>=◌, require, number, all_of}
 
 -- a word that is no number: `true`, `false`, or a name with dots

@@ -1,5 +1,6 @@
 -- What one line says, by where it stands.
-use Rattle.std.specs.Prelude.{ℕ, ◌||◌, Bool, true, false, if◌then◌else◌, List, [], ◌∷◌, Option, Some, None, Result, Ok, Err}
+use Rattle.std.specs.Prelude.{ℕ, ◌||◌, Bool, true, false, if◌then◌else◌, List, [], ◌∷◌, Option, Some, None, Result, Ok}
+use Rattle.std.specs.Prelude.{Err}
 use Rattle.std.specs.List.{list_any}
 use Rattle.repl_read.specs.declared.cuts.Mark.TheVariants as mark
 use Rattle.repl_read.specs.declared.entry.Head.TheVariants.{Using}

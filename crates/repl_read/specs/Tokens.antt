@@ -4,7 +4,9 @@ use Rattle.std.specs.Char.{is_ascii_alphanumeric}
 use Rattle.std.specs.Str.{byte}
 use Rattle.repl_read.specs.Comments.{quote}
 use Rattle.repl_read.specs.declared.tokens.Token.{Token}
-use Rattle.repl_read.specs.declared.tokens.Token.TheVariants.{Word, Quoted, Colon, Semicolon, Comma, At, Plus, Minus, Arrow, Less, More, StartList, EndList, OpenBrace, CloseBrace, Bar, Other}
+use Rattle.repl_read.specs.declared.tokens.Token.TheVariants.{Word, Quoted, Colon, Semicolon, Comma, At, Plus, Minus}
+use Rattle.repl_read.specs.declared.tokens.Token.TheVariants.{Arrow, Less, More, StartList, EndList, OpenBrace}
+use Rattle.repl_read.specs.declared.tokens.Token.TheVariants.{CloseBrace, Bar, Other}
 use Rattle.repl_read.specs.declared.tokens.TokenLine.{TokenLine}
 
 -- a space or a tab

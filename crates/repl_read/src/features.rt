@@ -1,7 +1,8 @@
 //! What Renode's format has and this reader leaves out.
 ghost use Rattle.std.specs.Prelude.{◌≡◌};
 ghost use Rattle.std.specs.List.{list_any};
-ghost use Rattle.repl_read.specs.Features.{is_feature_word, is_feature, is_section_word, begins_section, in_item, begins_with_word, has_type, is_at, in_head, in_parts, in_list};
+ghost use Rattle.repl_read.specs.Features.{is_feature_word, is_feature, is_section_word, begins_section, in_item};
+ghost use Rattle.repl_read.specs.Features.{begins_with_word, has_type, is_at, in_head, in_parts, in_list};
 ghost use Rattle.repl_read.specs.Cuts.{is_mark};
 
 use crate::cuts::{Mark, cut, is_mark};

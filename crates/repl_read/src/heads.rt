@@ -6,13 +6,13 @@ ghost use Rattle.std.specs.Prelude.{codes};
 ghost use Rattle.repl_read.specs.Forms.{require, number};
 ghost use Rattle.repl_read.specs.Heads.{using_of, place_of, head_of};
 ghost use Rattle.repl_read.specs.Inner.Gives.{Gives};
-ghost use Rattle.repl_read.specs.Words.{number_of};
+ghost use Rattle.lab_num.specs.Numeral.{number_of};
 
 use crate::entry::{Head, Place};
 use crate::fault::{Fault, ReadCause};
-use crate::numbers::{is_dotted_name, is_name, number_of};
+use crate::numbers::{is_dotted_name, is_name};
 use crate::tokens::Token;
-use lab_num::Text;
+use lab_num::{Text, number_of};
 
 /// Passes where the condition of a form holds.
 pub(crate) fn require(holds: bool) -> Result<(), Fault>

@@ -2,15 +2,16 @@
 ghost use Rattle.std.specs.Prelude.{◌≡◌, codes, map};
 ghost use Rattle.std.specs.Str.{bytes_eq};
 ghost use Rattle.repl_read.specs.Inner.Gives.{Gives};
-ghost use Rattle.repl_read.specs.Items.{word_value, attribute_of, span_of, spans_of, bracketed, one_span, pins_of, numbered_ends, source_of, wire_of, item_of, items_of};
+ghost use Rattle.repl_read.specs.Items.{word_value, attribute_of, span_of, spans_of, bracketed, one_span, pins_of};
+ghost use Rattle.repl_read.specs.Items.{numbered_ends, source_of, wire_of, item_of, items_of};
 
 use crate::cuts::{Mark, cut, parts};
 use crate::entry::{Ends, ItemWhat, Span, Value};
 use crate::fault::{Fault, ReadCause};
 use crate::heads::{number, require};
-use crate::numbers::{is_dotted_name, is_name, number_of};
+use crate::numbers::{is_dotted_name, is_name};
 use crate::tokens::Token;
-use lab_num::{Rows, Text};
+use lab_num::{Rows, Text, number_of};
 use std::alloc::Global;
 
 /// The value that a word is.

@@ -2,7 +2,8 @@
 ghost use Rattle.std.specs.Prelude.{◌≡◌};
 ghost use Rattle.std.specs.List.{list_any};
 ghost use Rattle.repl_read.specs.Inner.Gives.{Gives};
-ghost use Rattle.repl_read.specs.Lines.{has_close, parted_items, list_of, within_line, item_line, behind_brace, plain_head, braced_head, head_line, some_line, said_of};
+ghost use Rattle.repl_read.specs.Lines.{has_close, parted_items, list_of, within_line, item_line, behind_brace};
+ghost use Rattle.repl_read.specs.Lines.{plain_head, braced_head, head_line, some_line, said_of};
 ghost use Rattle.repl_read.specs.Forms.{judged};
 
 use crate::cuts::{Mark, cut, is_mark, parts};

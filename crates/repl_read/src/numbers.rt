@@ -1,8 +1,7 @@
-//! Names, types and numbers.
+//! Names and types.
 ghost use Rattle.std.specs.Prelude.{◌≡◌};
 ghost use Rattle.std.specs.List.{list_all};
-ghost use Rattle.std.specs.Char.{is_ascii_digit, is_ascii_hexdigit};
-ghost use Rattle.repl_read.specs.Words.{is_name_byte, is_name, is_dotted_name, numeral, number_of};
+ghost use Rattle.repl_read.specs.Words.{is_name_byte, is_name, is_dotted_name};
 
 fn is_name_byte(b: u8) -> bool
     ensures { result ≡ is_name_byte b }
@@ -31,44 +30,4 @@ pub(crate) fn is_dotted_name(text: &str) -> bool
     ensures { result ≡ is_dotted_name text.now }
 {
     text.split('.').all(is_name)
-}
-
-fn are_digits(text: &str) -> bool
-    ensures { result ≡ list_all is_ascii_digit text.now }
-{
-    text.bytes().all(|b| b.is_ascii_digit())
-}
-
-fn are_hexadecimal_digits(text: &str) -> bool
-    ensures { result ≡ list_all is_ascii_hexdigit text.now }
-{
-    text.bytes().all(|b| b.is_ascii_hexdigit())
-}
-
-fn decimal(text: &str) -> Option<u32>
-    ensures { result ≡ numeral is_ascii_digit 10 text.now }
-{
-    if text.is_empty() || !are_digits(text) {
-        return None;
-    }
-    u32::from_str_radix(text, 10).ok()
-}
-
-fn hexadecimal(text: &str) -> Option<u32>
-    ensures { result ≡ numeral is_ascii_hexdigit 16 text.now }
-{
-    if text.is_empty() || !are_hexadecimal_digits(text) {
-        return None;
-    }
-    u32::from_str_radix(text, 16).ok()
-}
-
-/// The number below 2^32 that the text writes, decimal or hexadecimal behind `0x`.
-pub(crate) fn number_of(text: &str) -> Option<u32>
-    ensures { result ≡ number_of text.now }
-{
-    match text.strip_prefix("0x") {
-        Some(digits) => hexadecimal(digits),
-        None => decimal(text),
-    }
 }

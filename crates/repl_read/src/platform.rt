@@ -1,6 +1,7 @@
 //! From a text to its entries.
 ghost use Rattle.std.specs.Prelude.{◌≡◌, ◌≤◌, ◌<◌, ◌+◌, ◌^◌, ◌++◌, length, drop, OnOk, IfOk, IfErr};
-ghost use Rattle.repl_read.specs.Inner.Entries.{fault_at, TellsPart, said_from, opened, closed, done_by, begun_by, extended_by};
+ghost use Rattle.repl_read.specs.Inner.Entries.{fault_at, TellsPart, said_from, opened, closed, done_by, begun_by};
+ghost use Rattle.repl_read.specs.Inner.Entries.{extended_by};
 ghost use Rattle.repl_read.specs.Platform.{plat_cause, items_at, entries_of, Tells, Reads};
 
 use crate::comments::without_comments;

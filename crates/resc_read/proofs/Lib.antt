@@ -1,5 +1,4 @@
 mod PieceLemmas
-mod NumeralLemmas
 mod LineLemmas
 mod WholeLemmas
 mod TableLemmas

@@ -1,5 +1,6 @@
 -- How a line is put together says what its words are.
-use Rattle.std.proofs.Common.{◌≡◌, ℕ, ◌<◌, ◌++◌, ◌&&◌, ◌∙◌, not, Bool, true, false, cond, List, [], ◌∷◌, length, filter, refl, sym, ap, ne_eqb, append-nil, arith}
+use Rattle.std.proofs.Common.{◌≡◌, ℕ, ◌<◌, ◌++◌, ◌&&◌, ◌∙◌, not, Bool, true, false, cond, List, [], ◌∷◌, length, filter}
+use Rattle.std.proofs.Common.{refl, sym, ap, ne_eqb, append-nil, arith}
 use Rattle.std.specs.List.{list_all, onto_first}
 use Rattle.std.proofs.lemmas.Bool.{and_parts}
 use Rattle.resc_read.specs.Words.{is_blank, is_some_text, quoted_after, pieces, words}

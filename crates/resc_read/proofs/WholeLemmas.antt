@@ -1,5 +1,6 @@
 -- Each line is put together of its words.
-use Rattle.std.proofs.Common.{◌≡◌, ℕ, zero, suc, ◌+◌, ◌<◌, ◌++◌, ◌&&◌, ◌⊎◌, inl, inr, ◌∙◌, not, Bool, true, false, List, [], ◌∷◌, length, filter, refl, sym, ap, append-nil, length-append, arith}
+use Rattle.std.proofs.Common.{◌≡◌, ℕ, zero, suc, ◌+◌, ◌<◌, ◌++◌, ◌&&◌, ◌⊎◌, inl, inr, ◌∙◌, not, Bool, true, false, List}
+use Rattle.std.proofs.Common.{[], ◌∷◌, length, filter, refl, sym, ap, append-nil, length-append, arith}
 use Rattle.std.proofs.lemmas.Bool.{and_parts}
 use Rattle.resc_read.specs.Words.{is_blank, is_some_text, quoted_after, pieces, words}
 use Rattle.resc_read.specs.Laws.{gaps, quoted_behind, IsWord, IsLine}

@@ -1,14 +1,16 @@
 -- The arguments of a command: how many words there are, and of which sorts. A wrong number of words is told before the
 -- sort of a word, and every other fault before that of a time.
-use Rattle.std.specs.Prelude.{ℕ, ◌^◌, nat_le, Bool, ◌&&◌, if◌then◌else◌, List, [], ◌∷◌, Option, Some, None, Result, Ok, Err}
+use Rattle.std.specs.Prelude.{ℕ, ◌^◌, nat_le, Bool, ◌&&◌, if◌then◌else◌, List, [], ◌∷◌, Option, Some, None, Result, Ok}
+use Rattle.std.specs.Prelude.{Err}
 use Rattle.std.specs.Option.{ok_or}
 use Rattle.lab_num.specs.declared.number.Micros.{Micros}
 use Rattle.lab_num.specs.declared.time.TimeFault.{TimeFault}
+use Rattle.lab_num.specs.Numeral.{number_of}
 use Rattle.lab_num.specs.Time.{time_of}
 use Rattle.resc_read.specs.declared.command.Command.{Command}
 use Rattle.resc_read.specs.declared.command.LineFault.{LineFault}
 use Rattle.resc_read.specs.declared.command.LineFault.TheVariants.{Arguments, Time}
-use Rattle.resc_read.specs.Sorts.{text_of, path_of, name_of, number_of, truth_of}
+use Rattle.resc_read.specs.Sorts.{text_of, path_of, name_of, truth_of}
 use Rattle.resc_read.specs.Variable.{variable_of}
 
 -- a step of a `do` block: the first fault is the fault of all

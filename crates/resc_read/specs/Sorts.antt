@@ -1,10 +1,9 @@
 -- The sorts of words, and what a word of each sort says.
-use Rattle.std.specs.Prelude.{ℕ, ◌^◌, ◌==◌, nat_lt, nat_eq, Bool, true, false, not, ◌&&◌, ◌||◌, if◌then◌else◌, List, length, drop, Option, Some, None, codes, option_and_then}
-use Rattle.std.specs.Char.{is_ascii_digit, is_ascii_hexdigit}
-use Rattle.std.specs.List.{list_all, list_any, starts_with}
+use Rattle.std.specs.Prelude.{ℕ, ◌==◌, nat_eq, Bool, true, false, not, ◌&&◌, ◌||◌, if◌then◌else◌, List, length, drop}
+use Rattle.std.specs.Prelude.{Option, Some, None, codes, option_and_then}
+use Rattle.std.specs.List.{list_any, starts_with}
 use Rattle.std.specs.Option.{option_or}
 use Rattle.std.specs.Str.{str_eq_ignore_ascii_case}
-use Rattle.std.specs.Str.Parse.{digits_value}
 use Rattle.lab_num.specs.Name.{is_name}
 use Rattle.lab_num.specs.Time.{cut, with_cut}
 use Rattle.resc_read.specs.Words.{quote, is_quote}
@@ -42,20 +41,6 @@ if_name text = if is_name text then Some text else None
 
 abbrev pub name_of : List ℕ → Option (List ℕ)
 name_of word = option_and_then if_name (text_of word)
-
--- the number below 2^32 that digits of a radix write
-abbrev pub numeral : (ℕ → Bool) → ℕ → List ℕ → Option ℕ
-numeral is_digit radix text =
-    if not (length text == 0) && list_all is_digit text && nat_lt (digits_value radix text) (2 ^ 32)
-    then Some (digits_value radix text)
-    else None
-
--- a number: decimal digits, or `0x` and hexadecimal digits in either case
-abbrev pub number_of : List ℕ → Option ℕ
-number_of word =
-    if starts_with nat_eq word (codes "0x")
-    then numeral is_ascii_hexdigit 16 (drop 2 word)
-    else numeral is_ascii_digit 10 word
 
 -- `true` or `false`, in any ASCII case
 abbrev pub truth_of : List ℕ → Option Bool

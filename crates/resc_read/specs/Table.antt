@@ -5,7 +5,8 @@ use Rattle.resc_read.specs.declared.command.Command.{Command}
 use Rattle.resc_read.specs.declared.command.Command.TheVariants as commands
 use Rattle.resc_read.specs.declared.command.LineFault.{LineFault}
 use Rattle.resc_read.specs.declared.command.LineFault.TheVariants.{Unknown}
-use Rattle.resc_read.specs.Arguments.{none, one, optional, two, processor, name, entry, path, variable, number, truth, speed, time, quantum}
+use Rattle.resc_read.specs.Arguments.{none, one, optional, two, processor, name, entry, path, variable, number, truth}
+use Rattle.resc_read.specs.Arguments.{speed, time, quantum}
 
 -- how a command begins: with two words, with one, or with any word and this one after it
 pub data Opening : Type 0 where

@@ -1,5 +1,6 @@
 -- The names of variables and macros, and the words that set a variable.
-use Rattle.std.specs.Prelude.{ℕ, ◌==◌, nat_eq, Bool, false, ◌&&◌, ◌||◌, if◌then◌else◌, List, length, drop, slice_index, Option, Some, None, is_some, codes, option_and_then}
+use Rattle.std.specs.Prelude.{ℕ, ◌==◌, nat_eq, Bool, false, ◌&&◌, ◌||◌, if◌then◌else◌, List, length, drop, slice_index}
+use Rattle.std.specs.Prelude.{Option, Some, None, is_some, codes, option_and_then}
 use Rattle.std.specs.Char.{is_ascii_alphabetic, is_ascii_alphanumeric}
 use Rattle.std.specs.List.{list_all, starts_with}
 use Rattle.std.specs.Str.{byte}

@@ -3,9 +3,9 @@ ghost use Rattle.std.specs.Prelude.{◌≡◌, map};
 ghost use Rattle.resc_read.specs.Arguments as arguments;
 
 use crate::command::LineFault;
-use crate::sorts::{name_of, number_of, path_of, text_of, truth_of};
+use crate::sorts::{name_of, path_of, text_of, truth_of};
 use crate::variable::variable_of;
-use lab_num::{Micros, read_time};
+use lab_num::{Micros, number_of, read_time};
 
 /// The greatest speed of a processor, in instructions a microsecond.
 const MOST_SPEED: u32 = 1000;

@@ -1,7 +1,5 @@
 //! The sorts of words, and what a word of each sort says.
 ghost use Rattle.std.specs.Prelude.{◌≡◌, ◌<◌, Some, None};
-ghost use Rattle.std.specs.Char.{is_ascii_digit, is_ascii_hexdigit};
-ghost use Rattle.std.specs.List.{list_all};
 ghost use Rattle.std.specs.Option.{option_map};
 ghost use Rattle.lab_num.specs.Time as times;
 ghost use Rattle.resc_read.specs.Sorts as sorts;
@@ -79,46 +77,6 @@ pub(crate) fn name_of(word: &str) -> Option<&str>
 {
     let name = text_of(word)?;
     if is_name(name) { Some(name) } else { None }
-}
-
-fn are_digits(text: &str) -> bool
-    ensures { result ≡ list_all is_ascii_digit text.now }
-{
-    text.bytes().all(|b| b.is_ascii_digit())
-}
-
-fn are_hex_digits(text: &str) -> bool
-    ensures { result ≡ list_all is_ascii_hexdigit text.now }
-{
-    text.bytes().all(|b| b.is_ascii_hexdigit())
-}
-
-fn decimal(text: &str) -> Option<u32>
-    ensures { result ≡ sorts.numeral is_ascii_digit 10 text.now }
-{
-    if text.is_empty() || !are_digits(text) {
-        return None;
-    }
-    u32::from_str_radix(text, 10).ok()
-}
-
-fn hexadecimal(text: &str) -> Option<u32>
-    ensures { result ≡ sorts.numeral is_ascii_hexdigit 16 text.now }
-{
-    if text.is_empty() || !are_hex_digits(text) {
-        return None;
-    }
-    u32::from_str_radix(text, 16).ok()
-}
-
-/// The number below 2^32 that a word writes, in decimal or, behind `0x`, in hexadecimal.
-pub(crate) fn number_of(word: &str) -> Option<u32>
-    ensures { result ≡ sorts.number_of word.now }
-{
-    match word.strip_prefix("0x") {
-        Some(digits) => hexadecimal(digits),
-        None => decimal(word),
-    }
 }
 
 /// `true` or `false`, in any ASCII case.

@@ -1,5 +1,7 @@
 -- What the course over the lines finds is what the lines give by their positions.
-use Rattle.std.proofs.Common.{◌≡◌, ℕ, ◌+◌, ◌*◌, ◌<◌, Bool, true, false, not, ◌==◌, refl, sym, ap, ◌∙◌, subst, inl, inr, List, [], ◌∷◌, ◌++◌, length, get_or, take, drop, map, Option, Some, None, Result, Ok, Err, arith}
+use Rattle.std.proofs.Common.{◌≡◌, ℕ, ◌+◌, ◌*◌, ◌<◌, Bool, true, false, not, ◌==◌, refl, sym, ap, ◌∙◌, subst, inl, inr}
+use Rattle.std.proofs.Common.{List, [], ◌∷◌, ◌++◌, length, get_or, take, drop, map, Option, Some, None, Result, Ok, Err}
+use Rattle.std.proofs.Common.{arith}
 use Rattle.std.specs.Prelude.{find, filter, count_by}
 use Rattle.std.specs.Option.{option_map}
 use Rattle.std.specs.List.{list_any, enumerate_from}
@@ -18,7 +20,8 @@ use Rattle.rv_asm.specs.declared.fault.AsmFault.TheVariants.{Line, Memory}
 use Rattle.rv_asm.specs.Texts.{trimmed, cut, with_cut, code_of}
 use Rattle.rv_asm.specs.Places.{is_label}
 use Rattle.rv_asm.specs.Lines.{gives_word, label_of, line_word, labelled_word, plain_word}
-use Rattle.rv_asm.specs.Program.{lines_of, address_of, gives_label, place_of, is_new, word_at, given, is_fault, Assembles}
+use Rattle.rv_asm.specs.Program.{lines_of, address_of, gives_label, place_of, is_new, word_at, given, is_fault}
+use Rattle.rv_asm.specs.Program.{Assembles}
 use Rattle.rv_asm.specs.Inner.Scan.{place_from, is_here, is_first, word_from, at_line, words_from, Gives, ◌>>=◌}
 
 -- ---- one line more

@@ -1,5 +1,6 @@
 -- The word of a line, or the first of its faults in the order Name, Form, Label, Range.
-use Rattle.std.specs.Prelude.{ℕ, ◌-◌, ◌^◌, ◌==◌, nat_lt, length, drop, Bool, true, false, not, List, if◌then◌else◌, Option, Some, None, Result, Ok, Err}
+use Rattle.std.specs.Prelude.{ℕ, ◌-◌, ◌^◌, ◌==◌, nat_lt, length, drop, Bool, true, false, not, List, if◌then◌else◌}
+use Rattle.std.specs.Prelude.{Option, Some, None, Result, Ok, Err}
 use Rattle.std.specs.Option.{option_map, ok_or}
 use Rattle.std.specs.List.{position_or_len, before_first}
 use Rattle.std.specs.Str.{byte}
@@ -8,7 +9,8 @@ use Rattle.rv_asm.specs.declared.mnemonics.Mnemonic.{Mnemonic}
 use Rattle.rv_asm.specs.declared.mnemonics.Mnemonic.TheVariants.{Word, Instruction}
 use Rattle.rv_asm.specs.declared.numbers.Number.{Number}
 use Rattle.rv_asm.specs.declared.shapes.Shape.{Shape}
-use Rattle.rv_asm.specs.declared.shapes.Shape.TheVariants.{Registers, Immediate, Shift, Load, Store, Branch, Upper, Jump, Csr, CsrImmediate, Bare}
+use Rattle.rv_asm.specs.declared.shapes.Shape.TheVariants.{Registers, Immediate, Shift, Load, Store, Branch, Upper}
+use Rattle.rv_asm.specs.declared.shapes.Shape.TheVariants.{Jump, Csr, CsrImmediate, Bare}
 use Rattle.rv_asm.specs.declared.fault.AsmCause.{AsmCause}
 use Rattle.rv_asm.specs.declared.fault.AsmCause.TheVariants.{Name, Form, Label, Range}
 use Rattle.rv_asm.specs.Encoded.{word_with}
@@ -16,7 +18,8 @@ use Rattle.rv_asm.specs.Texts.{is_blank, trimmed, cut, with_cut, code_of, is_nam
 use Rattle.rv_asm.specs.Numbers.{number_of, even_in_field}
 use Rattle.rv_asm.specs.Mnemonics.{mnemonic_of}
 use Rattle.rv_asm.specs.Shapes.{shape_of}
-use Rattle.rv_asm.specs.Operands.{register_and, two_registers_and, registers_word, immediate_word, load_word, store_word, upper_word, csr_word, csr_immediate_word, bare_word, directive_word}
+use Rattle.rv_asm.specs.Operands.{register_and, two_registers_and, registers_word, immediate_word, load_word}
+use Rattle.rv_asm.specs.Operands.{store_word, upper_word, csr_word, csr_immediate_word, bare_word, directive_word}
 
 infixl 10 ◌>>=◌
 abbrev pub ◌>>=◌ : {A B : Type 0} → Result A AsmCause → (A → Result B AsmCause) → Result B AsmCause

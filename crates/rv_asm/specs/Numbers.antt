@@ -1,5 +1,6 @@
 -- Numbers: a sign and a magnitude, and the field that they fit.
-use Rattle.std.specs.Prelude.{ℕ, ◌-◌, ◌^◌, ◌%◌, ◌==◌, nat_le, drop, length, Bool, true, false, not, ◌&&◌, List, if◌then◌else◌, Option, Some, None, nat_eq}
+use Rattle.std.specs.Prelude.{ℕ, ◌-◌, ◌^◌, ◌%◌, ◌==◌, nat_le, drop, length, Bool, true, false, not, ◌&&◌, List}
+use Rattle.std.specs.Prelude.{if◌then◌else◌, Option, Some, None, nat_eq}
 use Rattle.std.specs.Option.{option_map}
 use Rattle.std.specs.List.{list_all, starts_with}
 use Rattle.std.specs.Char.{is_ascii_digit, is_ascii_hexdigit}

@@ -1,5 +1,6 @@
 -- The words of a text, or its first fault.
-use Rattle.std.specs.Prelude.{◌≡◌, ℕ, ◌+◌, ◌*◌, ◌==◌, ◌&&◌, not, Bool, true, false, List, map, filter, take, find, Option, Some, Result, Ok, Err, count_by}
+use Rattle.std.specs.Prelude.{◌≡◌, ℕ, ◌+◌, ◌*◌, ◌==◌, ◌&&◌, not, Bool, true, false, List, map, filter, take, find}
+use Rattle.std.specs.Prelude.{Option, Some, Result, Ok, Err, count_by}
 use Rattle.std.specs.Option.{option_map}
 use Rattle.std.specs.List.{slice_split, list_any, enumerate_from}
 use Rattle.std.specs.Str.{byte}

@@ -3,7 +3,9 @@
 ghost use Rattle.std.specs.Prelude.{◌≡◌, None};
 ghost use Rattle.std.specs.Option.{option_map};
 ghost use Rattle.rv_asm.specs.Places.{place_in};
-ghost use Rattle.rv_asm.specs.Lines.{distance, target_by, offset_in, branch_word, jump_word, operands_word, word_by, mnemonic_in, operands_in, plain_word, labelled_word, label_of, line_word, gives_word};
+ghost use Rattle.rv_asm.specs.Lines.{distance, target_by, offset_in, branch_word, jump_word, operands_word, word_by};
+ghost use Rattle.rv_asm.specs.Lines.{mnemonic_in, operands_in, plain_word, labelled_word, label_of, line_word};
+ghost use Rattle.rv_asm.specs.Lines.{gives_word};
 ghost use Rattle.rv_asm.specs.Inner.Scan.{is_first, word_from};
 
 use crate::encoder::word_with;

@@ -1,6 +1,7 @@
 //! The names of instructions.
 ghost use Rattle.std.specs.Prelude.{◌≡◌};
-ghost use Rattle.rv_asm.specs.Mnemonics.{control_named, memory_named, immediate_named, register_named, multiply_named, system_named, op_named, mnemonic_of};
+ghost use Rattle.rv_asm.specs.Mnemonics.{control_named, memory_named, immediate_named, register_named, multiply_named};
+ghost use Rattle.rv_asm.specs.Mnemonics.{system_named, op_named, mnemonic_of};
 
 use rv_decode::Op;
 

@@ -2,7 +2,10 @@
 //! number outside its field `Some(None)`.
 ghost use Rattle.std.specs.Prelude.{◌≡◌, ◌<◌, ◌≤◌, ◌^◌, IfSome};
 ghost use Rattle.std.specs.Option.{option_map};
-ghost use Rattle.rv_asm.specs.Operands.{operand_and, register_and, number_in, csr_and, place_of, registers_word, immediate_word, load_word, store_word, upper_word, csr_word, csr_immediate_fields, csr_immediate_word, bare_word, directive_word, two_registers_and};
+ghost use Rattle.rv_asm.specs.Operands.{operand_and, register_and, number_in, csr_and, place_of, registers_word};
+ghost use Rattle.rv_asm.specs.Operands.{immediate_word, load_word, store_word, upper_word, csr_word};
+ghost use Rattle.rv_asm.specs.Operands.{csr_immediate_fields, csr_immediate_word, bare_word, directive_word};
+ghost use Rattle.rv_asm.specs.Operands.{two_registers_and};
 
 use crate::encoder::word_with;
 use crate::numbers::number_of;

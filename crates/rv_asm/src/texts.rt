@@ -2,7 +2,8 @@
 ghost use Rattle.std.specs.Prelude.{◌≡◌, ◌-◌, ◌<◌, ◌≤◌, true, length, drop, slice_index, IfSome};
 ghost use Rattle.std.specs.Option.{option_map};
 ghost use Rattle.std.specs.List.{list_all, prefix_len, suffix_len, position_or_len, before_first};
-ghost use Rattle.rv_asm.specs.Texts.{is_blank, without_front, without_back, trimmed, cut, code_of, is_name_byte, is_name, register_of};
+ghost use Rattle.rv_asm.specs.Texts.{is_blank, without_front, without_back, trimmed, cut, code_of, is_name_byte};
+ghost use Rattle.rv_asm.specs.Texts.{is_name, register_of};
 
 /// Whether the byte is a space or a tab.
 fn is_blank(b: u8) -> bool

@@ -1,7 +1,8 @@
 -- What known words mean, computed from the definition.
 use Rattle.std.proofs.Common.{◌≡◌, refl, lit<}
 use Rattle.std.specs.Prelude.{Some, None}
-use Rattle.rv_decode.specs.declared.instruction.Op.TheVariants.{Lui, Jal, Bne, Sb, Addi, Srai, Remu, Fence, Csrrwi, Mret}
+use Rattle.rv_decode.specs.declared.instruction.Op.TheVariants.{Lui, Jal, Bne, Sb, Addi, Srai, Remu, Fence, Csrrwi}
+use Rattle.rv_decode.specs.declared.instruction.Op.TheVariants.{Mret}
 use Rattle.rv_decode.specs.Table.{matched_row}
 use Rattle.rv_decode.specs.Means.{means, IsValid}
 

@@ -1,5 +1,6 @@
 -- The test of a row's mask is a test of the fields that the mask covers, for each row of the table.
-use Rattle.std.proofs.Common.{◌≡◌, ℕ, ◌+◌, ◌*◌, ◌^◌, ◌<◌, ◌↔◌, Bool, true, ◌&&◌, ◌==◌, refl, ap, ◌∙◌, sym, List, [], ◌∷◌, arith}
+use Rattle.std.proofs.Common.{◌≡◌, ℕ, ◌+◌, ◌*◌, ◌^◌, ◌<◌, ◌↔◌, Bool, true, ◌&&◌, ◌==◌, refl, ap, ◌∙◌, sym, List, []}
+use Rattle.std.proofs.Common.{◌∷◌, arith}
 use Rattle.std.specs.Prelude.{bit_and, find, Contains, Some}
 use Rattle.std.specs.Option.{option_map}
 use Rattle.std.specs.List.{list_all}
@@ -12,7 +13,8 @@ use Rattle.rv_decode.specs.Table.{Row, matches, matched_row, table}
 use Rattle.rv_decode.specs.Inner.ByFields.{has_fields, op_by}
 use Rattle.rv_decode.proofs.Tests.{holds-row, found-passes}
 use Rattle.rv_decode.proofs.Sole.{matched_row-is}
-use Rattle.rv_decode.proofs.Masks.{mask_opcode, mask_funct3, mask_funct7, mask_word, two_fields, three_fields, same_word}
+use Rattle.rv_decode.proofs.Masks.{mask_opcode, mask_funct3, mask_funct7, mask_word, two_fields, three_fields}
+use Rattle.rv_decode.proofs.Masks.{same_word}
 
 -- the mask of a format's rows
 abbrev mask_by : Format → ℕ

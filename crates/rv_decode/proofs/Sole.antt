@@ -1,5 +1,6 @@
 -- No word matches two rows of the table.
-use Rattle.std.proofs.Common.{◌≡◌, ℕ, zero, suc, ◌<◌, ◌≤◌, length, Bool, true, false, not, ◌&&◌, ◌==◌, refl, ap, List, [], ◌∷◌, inl, inr, arith}
+use Rattle.std.proofs.Common.{◌≡◌, ℕ, zero, suc, ◌<◌, ◌≤◌, length, Bool, true, false, not, ◌&&◌, ◌==◌, refl, ap, List}
+use Rattle.std.proofs.Common.{[], ◌∷◌, inl, inr, arith}
 use Rattle.std.specs.Prelude.{bit_and, count_by, find, Contains, slice_index_or, Some}
 use Rattle.std.specs.List.{list_all}
 use Rattle.std.proofs.lemmas.Nat.Bits.{bit_at_and, same_from_bits}

@@ -1,5 +1,6 @@
 //! From a word to the instruction that it means.
-ghost use Rattle.std.specs.Prelude.{◌≡◌, ℕ, ◌/◌, ◌%◌, ◌^◌, ◌<◌, ◌≤◌, ◌↔◌, ◌≢◌, Some, IfSome, IsTrue, Contains, count_by};
+ghost use Rattle.std.specs.Prelude.{◌≡◌, ℕ, ◌/◌, ◌%◌, ◌^◌, ◌<◌, ◌≤◌, ◌↔◌, ◌≢◌, Some, IfSome, IsTrue, Contains};
+ghost use Rattle.std.specs.Prelude.{count_by};
 ghost use Rattle.std.specs.Option.{option_map};
 ghost use Rattle.rv_decode.specs.Table.{Row, table, matches, matched_row, row_of};
 ghost use Rattle.rv_decode.specs.FixedBits.{fixed_of};

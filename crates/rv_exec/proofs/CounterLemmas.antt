@@ -5,7 +5,9 @@ use Rattle.std.specs.Option.{option_map_or}
 use Rattle.std.proofs.lemmas.Bool.{cases_Bool}
 use Rattle.std.proofs.lemmas.Grind.{common_steps}
 use Rattle.rv_decode.specs.declared.instruction.Op.{Op}
-use Rattle.rv_decode.specs.declared.instruction.Op.TheVariants.{Jal, Jalr, Beq, Bne, Blt, Bge, Bltu, Bgeu, Lb, Lh, Lw, Lbu, Lhu, Sb, Sh, Sw, Csrrw, Csrrs, Csrrc, Csrrwi, Csrrsi, Csrrci}
+use Rattle.rv_decode.specs.declared.instruction.Op.TheVariants.{Jal, Jalr, Beq, Bne, Blt, Bge, Bltu, Bgeu, Lb, Lh, Lw}
+use Rattle.rv_decode.specs.declared.instruction.Op.TheVariants.{Lbu, Lhu, Sb, Sh, Sw, Csrrw, Csrrs, Csrrc, Csrrwi}
+use Rattle.rv_decode.specs.declared.instruction.Op.TheVariants.{Csrrsi, Csrrci}
 use Rattle.rv_decode.specs.declared.instruction.Instr.{Instr}
 use Rattle.rv_decode.specs.Means.{means}
 use Rattle.rv_hart.specs.declared.csr.Lines.{Lines}
@@ -22,7 +24,8 @@ use Rattle.rv_exec.specs.declared.ending.Ending.{Ending}
 use Rattle.rv_exec.specs.declared.ending.Ending.TheVariants.{Retired, Trapped}
 use Rattle.rv_exec.specs.Outcome.{Outcome, outcome, traps, counted, counted_by}
 use Rattle.rv_exec.specs.Csr.{changed, old_value, writes}
-use Rattle.rv_exec.specs.Effect.{Done, address, branches, changes, effect, effect_by, effect_of_fetch, jumps, loads, outcome_with, stores}
+use Rattle.rv_exec.specs.Effect.{Done, address, branches, changes, effect, effect_by, effect_of_fetch, jumps, loads}
+use Rattle.rv_exec.specs.Effect.{outcome_with, stores}
 use Rattle.rv_exec.specs.Laws.{RaisesMcycle, RaisesMinstret, KeepsMinstret}
 
 -- the counters that the instruction has not written are as before

@@ -1,5 +1,6 @@
 -- The instructions that read and change a CSR (RISC-V Unprivileged ISA 20191213, section 9.1).
-use Rattle.std.specs.Prelude.{ℕ, ◌==◌, not, Bool, true, if◌then◌else◌, Option, Some, None, option_and_then, option_map, bit_and, bit_or}
+use Rattle.std.specs.Prelude.{ℕ, ◌==◌, not, Bool, true, if◌then◌else◌, Option, Some, None, option_and_then, option_map}
+use Rattle.std.specs.Prelude.{bit_and, bit_or}
 use Rattle.std.specs.Int.{w32, bit_not}
 use Rattle.rv_decode.specs.declared.instruction.Instr.{Instr}
 use Rattle.rv_hart.specs.declared.csr.Lines.{Lines}

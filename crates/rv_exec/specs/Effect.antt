@@ -1,19 +1,29 @@
 -- What a slot does by its word: the core after it, how its instruction ends, and what it asks of the bus.
-use Rattle.std.specs.Prelude.{ℕ, ◌*◌, ◌/◌, ◌%◌, ◌^◌, ◌==◌, not, Bool, true, if◌then◌else◌, Option, nat_lt, int_lt, unwrap_or, bit_and, bit_or, bit_xor}
+use Rattle.std.specs.Prelude.{ℕ, ◌*◌, ◌/◌, ◌%◌, ◌^◌, ◌==◌, not, Bool, true, if◌then◌else◌, Option, nat_lt, int_lt}
+use Rattle.std.specs.Prelude.{unwrap_or, bit_and, bit_or, bit_xor}
 use Rattle.std.specs.Option.{option_map_or}
 use Rattle.rv_decode.specs.declared.instruction.Op.{Op}
-use Rattle.rv_decode.specs.declared.instruction.Op.TheVariants.{Lui, Auipc, Jal, Jalr, Beq, Bne, Blt, Bge, Bltu, Bgeu, Lb, Lh, Lw, Lbu, Lhu, Sb, Sh, Sw, Addi, Slti, Sltiu, Xori, Ori, Andi, Slli, Srli, Srai, Add, Sub, Sll, Slt, Sltu, Xor, Srl, Sra, Or, And, Fence, Ecall, Ebreak, FenceI, Csrrw, Csrrs, Csrrc, Csrrwi, Csrrsi, Csrrci, Mul, Mulh, Mulhsu, Mulhu, Div, Divu, Rem, Remu, Mret, Wfi}
+use Rattle.rv_decode.specs.declared.instruction.Op.TheVariants.{Lui, Auipc, Jal, Jalr, Beq, Bne, Blt, Bge, Bltu, Bgeu}
+use Rattle.rv_decode.specs.declared.instruction.Op.TheVariants.{Lb, Lh, Lw, Lbu, Lhu, Sb, Sh, Sw, Addi, Slti, Sltiu}
+use Rattle.rv_decode.specs.declared.instruction.Op.TheVariants.{Xori, Ori, Andi, Slli, Srli, Srai, Add, Sub, Sll, Slt}
+use Rattle.rv_decode.specs.declared.instruction.Op.TheVariants.{Sltu, Xor, Srl, Sra, Or, And, Fence, Ecall, Ebreak}
+use Rattle.rv_decode.specs.declared.instruction.Op.TheVariants.{FenceI, Csrrw, Csrrs, Csrrc, Csrrwi, Csrrsi, Csrrci}
+use Rattle.rv_decode.specs.declared.instruction.Op.TheVariants.{Mul, Mulh, Mulhsu, Mulhu, Div, Divu, Rem, Remu, Mret}
+use Rattle.rv_decode.specs.declared.instruction.Op.TheVariants.{Wfi}
 use Rattle.rv_decode.specs.declared.instruction.Instr.{Instr}
 use Rattle.rv_decode.specs.Means.{means}
 use Rattle.rv_hart.specs.declared.csr.Lines.{Lines}
-use Rattle.rv_hart.specs.Cause.{instruction_address_misaligned, instruction_access_fault, illegal_instruction, breakpoint, load_address_misaligned, store_address_misaligned, environment_call}
+use Rattle.rv_hart.specs.Cause.{instruction_address_misaligned, instruction_access_fault, illegal_instruction}
+use Rattle.rv_hart.specs.Cause.{breakpoint, load_address_misaligned, store_address_misaligned, environment_call}
 use Rattle.rv_hart.specs.Core.{Core, reg, next, finish, jump}
 use Rattle.rv_hart.specs.Trap.{leave}
 use Rattle.rv_exec.specs.declared.access.Shape.{Shape}
 use Rattle.rv_exec.specs.declared.access.Shape.TheVariants.{Unsigned, SignedByte, SignedHalf}
 use Rattle.rv_exec.specs.declared.csr.Change.{Change}
 use Rattle.rv_exec.specs.declared.csr.Change.TheVariants.{Write, Set, Clear}
-use Rattle.rv_exec.specs.Word.{signed, add, sub, shift_left, shift_right, shift_right_signed, less, less_unsigned, product, upper_signed, upper_mixed, upper_unsigned, quotient, remainder, quotient_unsigned, remainder_unsigned}
+use Rattle.rv_exec.specs.Word.{signed, add, sub, shift_left, shift_right, shift_right_signed, less, less_unsigned}
+use Rattle.rv_exec.specs.Word.{product, upper_signed, upper_mixed, upper_unsigned, quotient, remainder}
+use Rattle.rv_exec.specs.Word.{quotient_unsigned, remainder_unsigned}
 use Rattle.rv_exec.specs.Access.{shaped}
 use Rattle.rv_exec.specs.Outcome.{Outcome, retires, traps, counted}
 use Rattle.rv_exec.specs.Csr.{accessed}

@@ -1,5 +1,6 @@
 -- Arithmetic on words, the numbers below 2^32 (RISC-V Unprivileged ISA 20191213, sections 2.4 and 7).
-use Rattle.std.specs.Prelude.{ℕ, ℤ, pos, ◌+◌, ◌-◌, ◌*◌, ◌/◌, ◌%◌, ◌^◌, ◌*ℤ◌, ◌==◌, ◌&&◌, Bool, if◌then◌else◌, nat_lt, int_lt, int_div, int_rem}
+use Rattle.std.specs.Prelude.{ℕ, ℤ, pos, ◌+◌, ◌-◌, ◌*◌, ◌/◌, ◌%◌, ◌^◌, ◌*ℤ◌, ◌==◌, ◌&&◌, Bool, if◌then◌else◌, nat_lt}
+use Rattle.std.specs.Prelude.{int_lt, int_div, int_rem}
 use Rattle.std.specs.Int.{Width, w32, cast_signed, cast_unsigned, int_shr}
 use Rattle.rv_hart.specs.Csr.{flag}
 

@@ -1,5 +1,6 @@
 -- The state of one hart as contracts see it, and the words that an instruction is made of.
-use Rattle.std.specs.Prelude.{◌≡◌, ℕ, ◌+◌, ◌%◌, ◌^◌, ◌==◌, Bool, false, if◌then◌else◌, List, slice_index, slice_set, replicate, bit_and}
+use Rattle.std.specs.Prelude.{◌≡◌, ℕ, ◌+◌, ◌%◌, ◌^◌, ◌==◌, Bool, false, if◌then◌else◌, List, slice_index, slice_set}
+use Rattle.std.specs.Prelude.{replicate, bit_and}
 use Rattle.std.specs.Int.{bit_at}
 use Rattle.rv_hart.specs.Cause.{interrupt_bits}
 

@@ -1,5 +1,6 @@
 -- The table of the CSRs: what each number reads, and what a write of it leaves.
-use Rattle.std.specs.Prelude.{ℕ, ◌+◌, ◌*◌, ◌/◌, ◌%◌, ◌^◌, ◌==◌, ◌||◌, Bool, if◌then◌else◌, List, [], ◌∷◌, Option, Some, None, find, option_and_then, option_map, is_some, bit_and}
+use Rattle.std.specs.Prelude.{ℕ, ◌+◌, ◌*◌, ◌/◌, ◌%◌, ◌^◌, ◌==◌, ◌||◌, Bool, if◌then◌else◌, List, [], ◌∷◌, Option, Some}
+use Rattle.std.specs.Prelude.{None, find, option_and_then, option_map, is_some, bit_and}
 use Prim.Native.String.{String}
 use Rattle.rv_hart.specs.declared.numbers.TheConstants.{MCYCLE, MCYCLEH, MINSTRET, MINSTRETH}
 use Rattle.rv_hart.specs.declared.csr.Lines.{Lines}

@@ -1,5 +1,6 @@
 -- Trap entry and return in machine mode, and the choice of an interrupt.
-use Rattle.std.specs.Prelude.{ℕ, ◌+◌, ◌*◌, ◌/◌, ◌%◌, ◌^◌, ◌==◌, ◌&&◌, not, Bool, true, false, if◌then◌else◌, [], ◌∷◌, Option, None, find, bit_and}
+use Rattle.std.specs.Prelude.{ℕ, ◌+◌, ◌*◌, ◌/◌, ◌%◌, ◌^◌, ◌==◌, ◌&&◌, not, Bool, true, false, if◌then◌else◌, [], ◌∷◌}
+use Rattle.std.specs.Prelude.{Option, None, find, bit_and}
 use Rattle.std.specs.Int.{bit_at}
 use Rattle.rv_hart.specs.Cause.{interrupt_cause, external_interrupt, software_interrupt, timer_interrupt}
 use Rattle.rv_hart.specs.Core.{Core}

@@ -1,5 +1,6 @@
 -- Counts of the items that pass a test.
-use Rattle.std.proofs.Common.{zero, suc, find, slice_get, Option, Some, ◌≡◌, ℕ, ◌+◌, ◌≤◌, Bool, true, false, ◌&&◌, cond, if◌then◌else◌, List, [], ◌∷◌, length, filter, count_by, ◌⊎◌, refl, inl, inr, arith}
+use Rattle.std.proofs.Common.{zero, suc, find, slice_get, Option, Some, ◌≡◌, ℕ, ◌+◌, ◌≤◌, Bool, true, false, ◌&&◌, cond}
+use Rattle.std.proofs.Common.{if◌then◌else◌, List, [], ◌∷◌, length, filter, count_by, ◌⊎◌, refl, inl, inr, arith}
 use Rattle.std.proofs.lemmas.List.Sums.{sum_by-cons}
 use Rattle.std.proofs.lemmas.Option.{same_Some}
 use Rattle.std.specs.List.{list_all}

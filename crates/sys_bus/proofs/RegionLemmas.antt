@@ -1,11 +1,13 @@
 -- Which regions hold an access.
-use Rattle.std.proofs.Common.{slice_get, find, Option, Some, None, ap, refl, ◌∙◌, ◌≡◌, ℕ, ◌+◌, ◌-◌, ◌<◌, ◌≤◌, Bool, true, false, List, length, filter, nat_le, IsTrue, inl, inr, arith, rules}
+use Rattle.std.proofs.Common.{slice_get, find, Option, Some, None, ap, refl, ◌∙◌, ◌≡◌, ℕ, ◌+◌, ◌-◌, ◌<◌, ◌≤◌, Bool}
+use Rattle.std.proofs.Common.{true, false, List, length, filter, nat_le, IsTrue, inl, inr, arith, rules}
 use Rattle.std.proofs.lemmas.Bool.Decides.{nat_tests}
 use Rattle.sys_bus.specs.declared.region.Region.{Region}
 use Rattle.sys_bus.specs.declared.region.RegionKind.{RegionKind}
 use Rattle.sys_bus.specs.declared.region.RegionKind.TheVariants.{Ram, Clint, Plic, Dev}
 use Rattle.sys_bus.specs.declared.region.Target.TheVariants as to
-use Rattle.sys_bus.specs.Region.{holds, overlaps, count_of_overlaps, are_apart, target, target_by, target_if, target_of, room_if, room_of, further}
+use Rattle.sys_bus.specs.Region.{holds, overlaps, count_of_overlaps, are_apart, target, target_by, target_if, target_of}
+use Rattle.sys_bus.specs.Region.{room_if, room_of, further}
 use Rattle.sys_bus.proofs.CountLemmas.{filtered_within_count, some_passes, sole_found, found_passes}
 
 -- two regions that hold an access overlap

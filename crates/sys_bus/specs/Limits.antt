@@ -1,9 +1,13 @@
 -- How many parts a board has, how large they are, and the ranges of its numbers.
-use Rattle.std.specs.Prelude.{ℕ, ◌%◌, ◌==◌, nat_le, Bool, true, false, ◌&&◌, ◌||◌, if◌then◌else◌, List, length, sum, count_by, slice_get, Option, None, Some}
+use Rattle.std.specs.Prelude.{ℕ, ◌%◌, ◌==◌, nat_le, Bool, true, false, ◌&&◌, ◌||◌, if◌then◌else◌, List, length, sum}
+use Rattle.std.specs.Prelude.{count_by, slice_get, Option, None, Some}
 use Rattle.std.specs.List.{list_all}
 use Rattle.dev_core.specs.declared.kind.Kind.{Kind}
 use Rattle.dev_core.specs.declared.kind.Kind.TheVariants.{Uart, Can, Finisher}
-use Rattle.sys_bus.specs.declared.limits.TheConstants.{MOST_UARTS, MOST_CANS, MOST_FINISHERS, MOST_MEMORIES, MOST_MEMORY, PAGE_SIZE, MOST_SPEED, MOST_FREQUENCY, MOST_SOURCES, MOST_CONTEXTS, REGION_UNIT, LEAST_CLINT, LEAST_PLIC, LEAST_UART, LEAST_WIDE_UART, LEAST_CAN, LEAST_FINISHER}
+use Rattle.sys_bus.specs.declared.limits.TheConstants.{MOST_UARTS, MOST_CANS, MOST_FINISHERS, MOST_MEMORIES}
+use Rattle.sys_bus.specs.declared.limits.TheConstants.{MOST_MEMORY, PAGE_SIZE, MOST_SPEED, MOST_FREQUENCY, MOST_SOURCES}
+use Rattle.sys_bus.specs.declared.limits.TheConstants.{MOST_CONTEXTS, REGION_UNIT, LEAST_CLINT, LEAST_PLIC, LEAST_UART}
+use Rattle.sys_bus.specs.declared.limits.TheConstants.{LEAST_WIDE_UART, LEAST_CAN, LEAST_FINISHER}
 use Rattle.sys_bus.specs.declared.region.RegionKind.{RegionKind}
 use Rattle.sys_bus.specs.declared.region.RegionKind.TheVariants.{Ram, Clint, Plic, Dev}
 use Rattle.sys_bus.specs.declared.region.Region.{Region}

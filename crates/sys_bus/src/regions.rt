@@ -1,7 +1,8 @@
 //! The regions of a board.
 ghost use Rattle.std.specs.Prelude.{◌≡◌, ℕ, ◌+◌, ◌<◌, ◌≤◌, List, length, filter, IsTrue};
 ghost use Rattle.sys_bus.specs.declared.region.Region.{Region};
-ghost use Rattle.sys_bus.specs.Region.{holds, overlaps, count_of_overlaps, are_apart, are_addressed, target_of, room_of, step_of, further, IsWithin, IsWidth};
+ghost use Rattle.sys_bus.specs.Region.{holds, overlaps, count_of_overlaps, are_apart, are_addressed, target_of};
+ghost use Rattle.sys_bus.specs.Region.{room_of, step_of, further, IsWithin, IsWidth};
 
 use crate::region::{Region, RegionKind, Target, is_same_part};
 use std::marker::Model;

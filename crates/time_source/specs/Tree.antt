@@ -1,5 +1,6 @@
 -- The tree of time, as the time framework of Renode has it: one source, and its members below it.
-use Rattle.std.specs.Prelude.{◌≡◌, ℕ, ◌+◌, ◌≤◌, min, Bool, true, false, if◌then◌else◌, List, [], ◌∷◌, ◌++◌, map, All, slice_set}
+use Rattle.std.specs.Prelude.{◌≡◌, ℕ, ◌+◌, ◌≤◌, min, Bool, true, false, if◌then◌else◌, List, [], ◌∷◌, ◌++◌, map, All}
+use Rattle.std.specs.Prelude.{slice_set}
 use Rattle.time_handle.specs.Grant.{Grant, fresh, left}
 use Rattle.time_handle.specs.Grant as grants
 

@@ -1,5 +1,6 @@
 //! The members of a source and their grants.
-ghost use Rattle.std.specs.Prelude.{◌≡◌, ◌+◌, ◌^◌, ◌<◌, ◌≤◌, ◌↔◌, true, false, [], length, map, All, Any, IsTrue, IsNone, IfSome, IfNone, OnSome, slice_get, slice_set};
+ghost use Rattle.std.specs.Prelude.{◌≡◌, ◌+◌, ◌^◌, ◌<◌, ◌≤◌, ◌↔◌, true, false, [], length, map, All, Any, IsTrue};
+ghost use Rattle.std.specs.Prelude.{IsNone, IfSome, IfNone, OnSome, slice_get, slice_set};
 ghost use Rattle.std.specs.Option.{ForSome};
 ghost use Rattle.time_handle.specs.Grant as grants;
 ghost use Rattle.time_source.specs.Tree as tree;

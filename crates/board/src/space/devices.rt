@@ -2,7 +2,8 @@
 ghost use Rattle.std.specs.Prelude.{◌≡◌, ◌<◌, ◌^◌, ◌⊎◌, length, map, true};
 ghost use Rattle.dev_core.specs.Device.{dev_take, kind_of, IsValid};
 ghost use Rattle.rv_exec.specs.Access.{IsWidth};
-ghost use Rattle.board.specs.Space.{device_at, with_device, with_state, register_at, register_of, device_load, device_store};
+ghost use Rattle.board.specs.Space.{device_at, with_device, with_state, register_at, register_of, device_load};
+ghost use Rattle.board.specs.Space.{device_store};
 ghost use Rattle.board.specs.New.{reset_device};
 
 use super::Space;

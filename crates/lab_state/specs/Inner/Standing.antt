@@ -1,5 +1,6 @@
 -- What holds of every laboratory that is not spent.
-use Rattle.std.specs.Prelude.{◌≡◌, ℕ, ◌+◌, ◌*◌, ◌≤◌, List, [], ◌∷◌, ◌++◌, length, map, count_by, slice_get, Option, Some, is_some, IsSome, option_and_then}
+use Rattle.std.specs.Prelude.{◌≡◌, ℕ, ◌+◌, ◌*◌, ◌≤◌, List, [], ◌∷◌, ◌++◌, length, map, count_by, slice_get, Option}
+use Rattle.std.specs.Prelude.{Some, is_some, IsSome, option_and_then}
 use Rattle.std.specs.List.{AllByRecursion, IsDistinct}
 use Rattle.std.specs.Option.{option_map, ForSome}
 use Rattle.std.specs.Str.{bytes_eq}

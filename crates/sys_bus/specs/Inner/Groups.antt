@@ -5,7 +5,8 @@ use Rattle.sys_bus.specs.declared.plan.BoardPlan.{BoardPlan}
 use Rattle.sys_bus.specs.Region.{are_apart, are_addressed}
 use Rattle.sys_bus.specs.Name.{are_names, names_differ, has_one_processor}
 use Rattle.sys_bus.specs.Part.{has_parts, has_no_others, has_region, have_memory_sizes}
-use Rattle.sys_bus.specs.Limits.{are_few_devices, are_few_memories, is_speed, is_frequency, is_plic_size, are_steps, are_ranges}
+use Rattle.sys_bus.specs.Limits.{are_few_devices, are_few_memories, is_speed, is_frequency, is_plic_size, are_steps}
+use Rattle.sys_bus.specs.Limits.{are_ranges}
 use Rattle.sys_bus.specs.Wire.{are_wires}
 
 pub record IsWithinLimits (plan : BoardPlan) : Type 0 where

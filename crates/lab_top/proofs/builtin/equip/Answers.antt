@@ -3,7 +3,8 @@ use Rattle.std.specs.Prelude.{is_some, slice_get, option_and_then, IsTrue}
 use Rattle.std.proofs.lemmas.Result.{on_ok_weaker}
 use Rattle.board.specs.Changes.{holds_each, may_be_shown}
 use Rattle.lab_top.specs.Builtin.{start}
-use Rattle.lab_top.proofs.Equipping.{usual_valid, usual_early, usual_device, usual_uart, usual_kind, view-changed, view-fitted, view-connected, of_view}
+use Rattle.lab_top.proofs.Equipping.{usual_valid, usual_early, usual_device, usual_uart, usual_kind, view-changed}
+use Rattle.lab_top.proofs.Equipping.{view-fitted, view-connected, of_view}
 use Rattle.lab_top.proofs.builtin.equip.Goals as goal
 
 pub fit-requires-clause-plan : goal.fit-requires-clause-plan

@@ -1,7 +1,8 @@
 use Rattle.std.proofs.Common.{◌++◌, ◌∙◌, ap, string_bytes, inl, inr, arith}
 use Rattle.log_text.proofs.Digits.{escaped_hex}
 use Rattle.log_text.proofs.line.show.Goals as goal
-use Rattle.log_text.proofs.line.show.Goals.{in_default-via-then-byte-lt32, in_default-via-else-byte-lt32+else-byte-lt127}
+use Rattle.log_text.proofs.line.show.Goals.{in_default-via-then-byte-lt32}
+use Rattle.log_text.proofs.line.show.Goals.{in_default-via-else-byte-lt32+else-byte-lt127}
 
 pub returns-in_ok-write-in_default : goal.returns-in_ok-write-in_default
 returns-in_ok-write-in_default c =

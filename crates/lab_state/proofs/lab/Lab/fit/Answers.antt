@@ -3,7 +3,8 @@ use Rattle.std.proofs.Common.{◌≡◌, ◌∙◌, ap, refl, false, ◌<◌, le
 use Rattle.board.specs.New.{first_state, new_board}
 use Rattle.board.specs.View.{State}
 use Rattle.lab_state.proofs.ListLemmas.{set-change}
-use Rattle.lab_state.proofs.FitLemmas.{not_planned, has-for, with_new, sound-fit, kinds-first, all-reset, room-for, sound-back}
+use Rattle.lab_state.proofs.FitLemmas.{not_planned, has-for, with_new, sound-fit, kinds-first, all-reset, room-for}
+use Rattle.lab_state.proofs.FitLemmas.{sound-back}
 use Rattle.lab_state.proofs.lab.Lab.fit.Goals as goal
 
 pub take-requires : goal.take-requires

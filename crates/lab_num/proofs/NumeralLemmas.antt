@@ -1,13 +1,14 @@
--- `from_str_radix` gives what digits write.
-use Rattle.std.proofs.Common.{◌≡◌, ℕ, ◌<◌, ◌≤◌, ◌^◌, ◌==◌, Bool, true, false, cond, ltb, List, [], ◌∷◌, length, get_or, Some, None, Result, Ok, Err, refl, ap, arith}
-use Rattle.std.specs.Char.{is_ascii_digit, is_ascii_hexdigit, digit_value}
+-- What std reads of a text of digits.
+use Rattle.std.proofs.Common.{◌≡◌, ℕ, ◌^◌, ◌<◌, ◌≤◌, Bool, true, false, ◌==◌, cond, ltb, refl, ap, List, [], ◌∷◌}
+use Rattle.std.proofs.Common.{length, get_or, Some, None, Result, Ok, Err, arith}
 use Rattle.std.specs.List.{list_all}
 use Rattle.std.specs.Result.{result_ok, OkIff}
-use Rattle.std.specs.Str.Parse.{digits_value, ParsesUnsigned, AllDigits, IsNumeral}
+use Rattle.std.specs.Char.{digit_value, is_ascii_digit, is_ascii_hexdigit}
+use Rattle.std.specs.Str.Parse.{digits_value, AllDigits, IsNumeral, ParsesUnsigned}
+use Rattle.std.proofs.lemmas.Str.Parse.{without_leading_plus_none}
 use Rattle.std.proofs.lemmas.Bool.{and_parts, lt-ltb, le-ltb}
 use Rattle.std.proofs.lemmas.Bool.Decides.{nat_tests}
-use Rattle.std.proofs.lemmas.Str.Parse.{without_leading_plus_none}
-use Rattle.resc_read.specs.Sorts.{numeral}
+use Rattle.lab_num.specs.Numeral.{numeral}
 
 -- bytes that pass a test of digits are digits
 all_digits :
@@ -15,17 +16,18 @@ all_digits :
     (text : List ℕ) → list_all test text ≡ true → AllDigits radix text
 all_digits test radix digit [] all = tt
 all_digits test radix digit (b ∷ bs) all =
-    let both = and_parts (test b) (list_all test bs) all in
-    (digit b both.0, all_digits test radix digit bs both.1)
+    let both = and_parts (test b) (list_all test bs) all in (digit b both.0, all_digits test radix digit bs both.1)
 
 first_passes :
-    (test : ℕ → Bool) (text : List ℕ) → list_all test text ≡ true → 0 < length text → test (get_or text 0 0) ≡ true
+    (test : ℕ → Bool) (text : List ℕ) → list_all test text ≡ true → 0 < length text →
+    test (get_or text 0 0) ≡ true
 first_passes test [] all some = absurd (omega arith)
 first_passes test (b ∷ bs) all some = (and_parts (test b) (list_all test bs) all).0
 
 not_below : (v : ℕ) → (v < 2 ^ 32 → ⊥) → 2 ^ 32 ≤ v
 not_below v above = omega arith
 
+-- the value where it fits, and nothing where it does not
 fits_or_not :
     {E : Type 0} (r : Result ℕ E) (P : Type 0) (v : ℕ) → P → OkIff r (P × (v < 2 ^ 32)) v →
     result_ok r ≡ cond (ltb v (2 ^ 32)) (Some v) None
@@ -37,7 +39,7 @@ pub numeral_parses :
     ((b : ℕ) → test b ≡ true → digit_value b < radix) → radix ≤ 36 →
     ParsesUnsigned 32 radix text r → (length text == 0) ≡ false → list_all test text ≡ true →
     result_ok r ≡ numeral test radix text
-numeral_parses test radix text r digit most parsed some all =
+numeral_parses test radix text r digit few parsed some all =
     let positive : 0 < length text = grind (arith, nat_tests) in
     let first = digit _ (first_passes test text all positive) in
     let plain = without_leading_plus_none text (λ plus. absurd (omega (arith, first, ap digit_value plus))) in

@@ -1,8 +1,8 @@
 -- All bytes are digits, so a plus does not stand in front.
 use Rattle.std.proofs.Common.{◌∙◌, lit≤, rules}
 use Rattle.std.specs.Char.{is_ascii_digit}
-use Rattle.repl_read.proofs.NumeralLemmas.{numeral_parses, decimal_digit}
-use Rattle.repl_read.proofs.numbers.decimal.Goals as goal
+use Rattle.lab_num.proofs.NumeralLemmas.{numeral_parses, decimal_digit}
+use Rattle.lab_num.proofs.numeral.decimal.Goals as goal
 
 pub returns : goal.returns
 returns c =
