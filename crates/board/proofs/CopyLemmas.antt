@@ -38,7 +38,8 @@ put_bytes-first bytes i byte part h =
     let one = put_bytes-cons bytes i (i + 1) byte [] refl h ∙ put_bytes-nil (slice_set bytes i byte) (i + 1) in
     put_bytes-cons bytes i (i + 1) byte part refl h ∙ ap (λ b. put_bytes b (i + 1) part) (sym one)
 
-length-put_one : (bytes : List ℕ) (i byte : ℕ) → i < length bytes → length (put_bytes bytes i (byte ∷ [])) ≡ length bytes
+length-put_one :
+    (bytes : List ℕ) (i byte : ℕ) → i < length bytes → length (put_bytes bytes i (byte ∷ [])) ≡ length bytes
 length-put_one bytes i byte h =
     ap length (put_bytes-cons bytes i (i + 1) byte [] refl h ∙ put_bytes-nil (slice_set bytes i byte) (i + 1))
     ∙ length-set bytes i byte
@@ -89,8 +90,10 @@ copied_piece s at part place (byte ∷ bytes) there room each =
     get_or-set_same s.memories part (put_bytes memory place (byte ∷ [])) [] there in
     let size : length (memory_at one part) ≡ length memory =
     ap length seen ∙ length-put_one memory place byte (omega (arith, room)) in
-    let count : length one.memories ≡ length s.memories = length-set s.memories part (put_bytes memory place (byte ∷ [])) in
-    let rest = copied_piece one (at + 1) part (place + 1) bytes (omega (arith, there, count)) (omega (arith, room, size))
+    let count : length one.memories ≡ length s.memories =
+    length-set s.memories part (put_bytes memory place (byte ∷ [])) in
+    let rest =
+    copied_piece one (at + 1) part (place + 1) bytes (omega (arith, there, count)) (omega (arith, room, size))
     (λ i within.
     let a : at + 1 + i ≡ at + suc i = omega arith in
     let b : place + 1 + i ≡ place + suc i = omega arith in

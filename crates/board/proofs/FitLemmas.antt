@@ -96,8 +96,12 @@ lies s width Nothing fit within = tt
 aligned :
     (at base width : ℕ) → IsAccess at width → base % 4 ≡ 0 → base ≤ at → (at - base) % width ≡ 0
 aligned at base width (inl one, fits) low below = rw one (omega arith)
-aligned at base width (inr (inl two), fits) low below = let even : at % 2 ≡ 0 = rw two at fits in rw two (omega (arith, even))
-aligned at base width (inr (inr four), fits) low below = let whole : at % 4 ≡ 0 = rw four at fits in rw four (omega (arith, whole))
+aligned at base width (inr (inl two), fits) low below =
+    let even : at % 2 ≡ 0 = rw two at fits in
+    rw two (omega (arith, even))
+aligned at base width (inr (inr four), fits) low below =
+    let whole : at % 4 ≡ 0 = rw four at fits in
+    rw four (omega (arith, whole))
 
 -- accesses of memories lie in one page
 pub in_page :
@@ -157,7 +161,8 @@ ram_sizes plan valid = All-by_place IsRamSize plan.memories each
     each : (i size : ℕ) → slice_get plan.memories i ≡ Some size → IsRamSize size
     each i size there =
         let within = slice_get_within plan.memories i size there in
-        let parts : list_all (λ j. has_one_each plan.names plan.regions (kind.Ram j)) (range_with_len 0 (length plan.memories)) ≡ true =
+        let parts : list_all (λ j. has_one_each plan.names plan.regions (kind.Ram j))
+        (range_with_len 0 (length plan.memories)) ≡ true =
         first_one _ _ (first_one _ _ (first_one _ _ valid.parts)) in
         let one = range_passes _ 0 (length plan.memories) i parts within in
         let counted : 1 ≤ regions_of plan.regions (kind.Ram i) = grind (arith, nat_tests, one) in
@@ -172,8 +177,11 @@ ram_sizes plan valid = All-by_place IsRamSize plan.memories each
         let ranged' = rw is at ranged in
         let same : slice_index plan.memories i ≡ size = get_or_from_slice_get plan.memories i size 0 there in
         let few : are_few_memories plan.memories ≡ true = valid.few_memories in
-        let sum' = within_sum plan.memories i size there in
-        (grind (arith, nat_tests, ranged', sized, same), grind (arith, nat_tests, ranged', sized, same), grind (arith, nat_tests, few, sum'))
+        let sum' = within_sum plan.memories i size there in (
+          grind (arith, nat_tests, ranged', sized, same),
+          grind (arith, nat_tests, ranged', sized, same),
+          grind (arith, nat_tests, few, sum'),
+        )
 
 -- one memory or one device was changed
 pub fit_memory :
@@ -305,14 +313,18 @@ room_fits s at part place fit is =
         (region : Region) (k : RegionKind) → region.kind ≡ k → target_by (at - region.base) k ≡ Ram part place →
         holds at 1 region ≡ true → is_part (length s.memories) (length s.devices) region.kind ≡ true →
         has_memory_size s.plan.memories region.kind region.size ≡ true →
-        (0 < end_of region - at) × (part < length s.memories) × (place + (end_of region - at) ≤ length (memory_at s part))
+        (0 < end_of region - at) × (part < length s.memories) ×
+        (place + (end_of region - at) ≤ length (memory_at s part))
     by_kind region (kind.Ram i) k_is same held parted sized =
         let i_is : i ≡ part = cc in
         let place_is : at - region.base ≡ place = cc in
         let parted' : nat_lt part (length s.memories) ≡ true = rw (k_is, i_is) at parted in
         let sized' : (region.size == slice_index s.plan.memories part) ≡ true = rw (k_is, i_is) at sized in
-        let size = memory-size s part fit in
-        (grind (arith, nat_tests, held), grind (arith, nat_tests, parted'), grind (arith, nat_tests, held, sized', size, place_is))
+        let size = memory-size s part fit in (
+          grind (arith, nat_tests, held),
+          grind (arith, nat_tests, parted'),
+          grind (arith, nat_tests, held, sized', size, place_is),
+        )
     by_kind region kind.Clint k_is same held parted sized = absurd (cc)
     by_kind region kind.Plic k_is same held parted sized = absurd (cc)
     by_kind region (kind.Dev i) k_is same held parted sized = absurd (cc)
@@ -337,7 +349,9 @@ memory_below s at fit memory =
       | None ↦ λ none never. absurd (cc)
       | Some region ↦ λ found here.
           let there = found_passes (holds at 1) s.plan.regions region found in
-          let below = passes_at (λ r. nat_le (end_of r) (2 ^ 32)) s.plan.regions there.1.0 region fit.plan.addressed there.1.1 in
+          let below =
+          passes_at (λ r. nat_le (end_of r) (2 ^ 32)) s.plan.regions there.1.0 region fit.plan.addressed
+          there.1.1 in
           grind (arith, nat_tests, there.0, below)
     ] refl memory
 

@@ -84,7 +84,8 @@ range_passes p a (suc n) zero all within =
 range_passes p a (suc n) (suc i) all within =
     let same : a + suc i ≡ a + 1 + i = omega arith in
     let rest : list_all p (range_with_len (a + 1) n) ≡ true =
-    elim (p a) as (λ b. (b && list_all p (range_with_len (a + 1) n)) ≡ true → list_all p (range_with_len (a + 1) n) ≡ true) [
+    elim (p a) as
+    (λ b. (b && list_all p (range_with_len (a + 1) n)) ≡ true → list_all p (range_with_len (a + 1) n) ≡ true) [
       | true ↦ λ rest. rest
       | false ↦ λ never. absurd (cc)
     ] all in

@@ -47,7 +47,8 @@ sent-emptied w dev payload = by_note (note_if (device_at w.space dev).shown dev 
     by_note None = sym (simp append-nil)
     by_note (Some note) = refl
 
-acted-emptied : (w : Wires) (dev : ℕ) (effect : DeviceEffect) → acted w dev effect ≡ behind w (acted (emptied w) dev effect)
+acted-emptied :
+    (w : Wires) (dev : ℕ) (effect : DeviceEffect) → acted w dev effect ≡ behind w (acted (emptied w) dev effect)
 acted-emptied w dev Quiet = behind-emptied w
 acted-emptied w dev (Send payload) = sent-emptied w dev payload
 

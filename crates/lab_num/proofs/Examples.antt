@@ -51,7 +51,8 @@ key at board number =
 
 -- three keys of one microsecond and one of an earlier one
 by_time_then_board :
-    listing (λ k. k) (key 2 1 0 ∷ key 2 0 5 ∷ key 2 0 4 ∷ key 1 3 9 ∷ []) ≡ key 1 3 9 ∷ key 2 0 4 ∷ key 2 0 5 ∷ key 2 1 0 ∷ []
+    listing (λ k. k) (key 2 1 0 ∷ key 2 0 5 ∷ key 2 0 4 ∷ key 1 3 9 ∷ [])
+    ≡ key 1 3 9 ∷ key 2 0 4 ∷ key 2 0 5 ∷ key 2 1 0 ∷ []
 unfolding listing key
 by_time_then_board = refl
 

@@ -70,8 +70,11 @@ module _ {T : Type 0} (key : T → Key) where
   unfolding IsStrictlySortedBy
   insert_step item x xs Less is apart up more = ((is, above_all (key item) (key x) (map key xs) is up.0), up)
   insert_step item x xs Equal is apart up more = absurd (cc)
-  insert_step item x xs Greater is apart up more =
-      (all_insert (λ y. key_cmp (key x) y ≡ Less) item xs (key_total.antisymm (key x) (key item) ∙ ap ordering_reverse is) up.0, more)
+  insert_step item x xs Greater is apart up more = (
+    all_insert (λ y. key_cmp (key x) y ≡ Less) item xs
+        (key_total.antisymm (key x) (key item) ∙ ap ordering_reverse is) up.0,
+    more,
+  )
 
   -- an item whose key no other has goes into a rising list, which then still rises
   insert_rising :
@@ -152,9 +155,11 @@ module _ {T : Type 0} (key : T → Key) where
       let P : T → Type 0 = λ z. (z ≡ y) ⊎ (key_cmp (key y) (key z) ≡ Less) in
       let Q : T → Type 0 = λ z. (z ≡ x) ⊎ (key_cmp (key x) (key z) ≡ Less) in
       let later : AllByRecursion P ys =
-      any_all (λ z. key_cmp (key y) (key z) ≡ Less) P (λ z below. inr below) ys (key_all (λ z. key_cmp (key y) z ≡ Less) ys down) in
+      any_all (λ z. key_cmp (key y) (key z) ≡ Less) P (λ z below. inr below) ys
+      (key_all (λ z. key_cmp (key y) z ≡ Less) ys down) in
       let sooner : AllByRecursion Q xs =
-      any_all (λ z. key_cmp (key x) (key z) ≡ Less) Q (λ z below. inr below) xs (key_all (λ z. key_cmp (key x) z ≡ Less) xs up) in
+      any_all (λ z. key_cmp (key x) (key z) ≡ Less) Q (λ z below. inr below) xs
+      (key_all (λ z. key_cmp (key x) z ≡ Less) xs up) in
       let there : AllByRecursion P (x ∷ xs) = from P (inl refl, later) in
       let here : AllByRecursion Q (y ∷ ys) = to Q (inl refl, sooner) in
       first_of_both x y there.0 here.0
@@ -189,7 +194,8 @@ module _ {T : Type 0} (key : T → Key) where
   same_rising (x ∷ xs) (y ∷ ys) to from up down =
       let first : x ≡ y = first_is x y xs ys to from up.0 down.0 in
       let rest : xs ≡ ys =
-      same_rising xs ys (rest_holds x y xs ys first to down.0) (rest_holds y x ys xs (sym first) from up.0) up.1 down.1 in
+      same_rising xs ys (rest_holds x y xs ys first to down.0)
+      (rest_holds y x ys xs (sym first) from up.0) up.1 down.1 in
       cc
 
   holds_on : (xs ys : List T) → IsPermutation xs ys → HoldsOn xs ys

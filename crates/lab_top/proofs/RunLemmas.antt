@@ -35,11 +35,13 @@ pub has_gone :
 has_gone play s place length planned short =
     elim (first_without s.lab.boards) as (λ o. first_without s.lab.boards ≡ o →
     (if is_some o then Faults (fault_at place Platform)
-    else if nat_lt (10 ^ 10) (s.lab.now + length) then Faults (fault_at place LabTime) else has_run s (play s.lab length))
+    else if nat_lt (10 ^ 10) (s.lab.now + length) then Faults (fault_at place LabTime)
+    else has_run s (play s.lab length))
     ≡ has_run s (play s.lab length)) [
       | None ↦ λ none.
           elim (nat_lt (10 ^ 10) (s.lab.now + length)) as (λ b. nat_lt (10 ^ 10) (s.lab.now + length) ≡ b →
-          (if b then Faults (fault_at place LabTime) else has_run s (play s.lab length)) ≡ has_run s (play s.lab length)) [
+          (if b then Faults (fault_at place LabTime) else has_run s (play s.lab length))
+          ≡ has_run s (play s.lab length)) [
             | true ↦ λ long. absurd (short none (grind (arith, nat_tests, long)))
             | false ↦ λ within. refl
           ] refl

@@ -123,9 +123,11 @@ second read other none one two not_one is_two = rw (← not_one, ← is_two) ref
 -- a line that begins with the words of a quantum and with no others
 pub command_of-quantum :
     (line rest : List ℕ) →
-    None ≡ rest_after (codes "emulation RunFor") line → Some rest ≡ rest_after (codes "emulation SetGlobalQuantum") line →
+    None ≡ rest_after (codes "emulation RunFor") line →
+    Some rest ≡ rest_after (codes "emulation SetGlobalQuantum") line →
     quantum (argument (quoted rest)) ≡ command_of line
 unfolding command_of
 command_of-quantum line rest not_run is_quantum =
     second (λ rest. run_for (argument (quoted rest))) (λ rest. quantum (argument (quoted rest))) (Err Unknown)
-    (rest_after (codes "emulation RunFor") line) (rest_after (codes "emulation SetGlobalQuantum") line) not_run is_quantum
+    (rest_after (codes "emulation RunFor") line)
+    (rest_after (codes "emulation SetGlobalQuantum") line) not_run is_quantum

@@ -42,7 +42,8 @@ has_run s rounded =
 abbrev pub run_answer : Play → State → Place → ℕ → Answer
 run_answer play s place length =
     if is_some (first_without s.lab.boards) then Faults (fault_at place Platform)
-    else if nat_lt (10 ^ 10) (s.lab.now + length) then Faults (fault_at place LabTime) else has_run s (play s.lab length)
+    else if nat_lt (10 ^ 10) (s.lab.now + length) then Faults (fault_at place LabTime)
+    else has_run s (play s.lab length)
 
 -- the quantum of the runs to come is set
 abbrev pub quantum_answer : State → ℕ → Answer

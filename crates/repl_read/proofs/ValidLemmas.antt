@@ -78,7 +78,8 @@ head_good (Word name ∷ Colon ∷ Word kind ∷ rest) =
     (λ named.
     good_require is_head (is_dotted_name kind) _
     (λ typed.
-    good_then (λ place. true) is_head (place_of rest) _ (good_any (place_of rest)) (λ place any. rw (named, typed) refl)))
+    good_then (λ place. true) is_head (place_of rest) _ (good_any (place_of rest))
+    (λ place any. rw (named, typed) refl)))
 head_good other = tt
 
 attribute_good : (tokens : List Token) → Good is_item (attribute_of tokens)
@@ -138,7 +139,8 @@ wire_good front (Word to ∷ At ∷ rest) =
     (λ from source.
     good_require is_item (is_name to) _
     (λ named.
-    good_then are_pins is_item (numbered_ends rest) _ (numbered_good rest) (λ pins good. rw (source, named, good) refl)))
+    good_then are_pins is_item (numbered_ends rest) _ (numbered_good rest)
+    (λ pins good. rw (source, named, good) refl)))
 wire_good front other = tt
 
 item_good : (tokens : List Token) → Good is_item (item_of tokens)

@@ -31,7 +31,12 @@ items_first :
     are_items (items_at n items ++ more) ≡ true
 items_first n items more first rest =
     list_all-append (λ (item : Item). is_item item.what) (items_at n items) more
-    ∙ rw (list_all-map (λ (item : Item). is_item item.what) (λ (what : ItemWhat). record { line = n; what = what }) items, first, rest) refl
+    ∙ rw (
+      list_all-map (λ (item : Item). is_item item.what)
+          (λ (what : ItemWhat). record { line = n; what = what }) items,
+      first,
+      rest,
+    ) refl
 
 put_good :
     (n : ℕ) (head : Option Head) (items : List ItemWhat) (rest : Rest) →
@@ -50,7 +55,8 @@ put_read n said (Err fault) here good = tt
 line_read :
     (n : ℕ) (line : Result Said ReadCause) (later : List TokenLine) → Good is_said line →
     ((stand : Stand) → GoodRead (read_lines stand (n + 1) later)) →
-    GoodRead (at_line n line >>= λ said. read_lines said.next (n + 1) later >>= λ rest. Ok (put n said.head (items_at n said.items) rest))
+    GoodRead (at_line n line >>= λ said. read_lines said.next (n + 1) later >>= λ rest.
+    Ok (put n said.head (items_at n said.items) rest))
 line_read n (Ok said) later here rest = put_read n said (read_lines said.next (n + 1) later) here (rest said.next)
 line_read n (Err cause) later here rest = tt
 

@@ -22,7 +22,12 @@ length-by_kind (Can ∷ kinds) =
     omega (arith, count_of-cons Uart Can kinds, count_of-cons Can Can kinds, count_of-cons Finisher Can kinds)
 length-by_kind (Finisher ∷ kinds) =
     let rest = length-by_kind kinds in
-    omega (arith, count_of-cons Uart Finisher kinds, count_of-cons Can Finisher kinds, count_of-cons Finisher Finisher kinds)
+    omega (
+      arith,
+      count_of-cons Uart Finisher kinds,
+      count_of-cons Can Finisher kinds,
+      count_of-cons Finisher Finisher kinds,
+    )
 
 pub few_devices : (kinds : List Kind) → IsTrue (are_few_devices kinds) → length kinds ≤ 9
 few_devices kinds few = let all = length-by_kind kinds in grind (arith, nat_tests)

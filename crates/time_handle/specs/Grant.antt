@@ -2,7 +2,8 @@
 use Rattle.std.specs.Prelude.{ℕ, ◌-◌}
 use Rattle.lab_num.specs.Paid.{paid, slot_at}
 
--- the time from one microsecond to another, granted to a board of so many slots a microsecond, of which it has used some
+-- the time from one microsecond to another, granted to a board of so many slots a microsecond, of which it has used
+-- some
 pub record Grant : Type 0 where
   pub from : ℕ
   pub to : ℕ

@@ -74,5 +74,12 @@ copy_in-requires-clause-holds g c =
 pub returns : goal.returns
 returns g c =
     on_ok_weaker c.copy_in.result
-    (λ is. is ∙ rw (c.set_pc.ensures, c.in-Ok-connect.ensures.ok, c.show.ensures, c.in-Ok.ensures.ok, c.in_ok-plan.ensures) refl)
+    (λ is. is
+    ∙ rw (
+      c.set_pc.ensures,
+      c.in-Ok-connect.ensures.ok,
+      c.show.ensures,
+      c.in-Ok.ensures.ok,
+      c.in_ok-plan.ensures,
+    ) refl)
     c.copy_in.ensures.ok

@@ -7,5 +7,5 @@ pub loop-handle-preserved : goal.loop-handle-preserved
 loop-handle-preserved c =
     let new_is : c.new.result ≡ renewed c.args.from.0 c.args.to.0 c.handle-item.result = cc in
     let below : c.loop-handle.handle-index < length c.args.handles.now = omega arith in
-    map-next (renewed c.args.from.0 c.args.to.0) c.args.handles.now c.loop-handle.handle-items c.loop-handle.handle-index
-    c.loop-handle.invariant below c.handle-item.is new_is
+    map-next (renewed c.args.from.0 c.args.to.0) c.args.handles.now c.loop-handle.handle-items
+    c.loop-handle.handle-index c.loop-handle.invariant below c.handle-item.is new_is

@@ -16,7 +16,8 @@ invariant_of-self g c =
     let devices = c.deref_mut-device-items.result.now in
     let end = c.loop-device-test.false in
     let items : c.loop-device.device-items ≡ map reset_device devices =
-    c.loop-device.invariant ∙ rw (take_all c.loop-device.device-index devices end, drop_of_length-le devices end, append-nil) refl in
+    c.loop-device.invariant
+    ∙ rw (take_all c.loop-device.device-index devices end, drop_of_length-le devices end, append-nil) refl in
     let all = take-append-le c.self.inside.devices.len c.loop-device.device-items
     (drop (length c.loop-device.device-items) c.self.inside.devices.items) (search rules)
     ∙ take_all c.self.inside.devices.len c.loop-device.device-items (search rules)

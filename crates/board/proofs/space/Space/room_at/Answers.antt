@@ -5,7 +5,9 @@ use Rattle.board.proofs.FitLemmas.{room_fits, no_memory_above}
 use Rattle.board.proofs.space.Space.room_at.Goals as goal
 
 pub returns-then-at-from : goal.returns-then-at-from
-returns-then-at-from g c = rw (← c.self.view_is) (no_memory_above _ c.args.at c.self.invariant.1 (omega (arith, c.if-at-from.true, c.from.ensures)))
+returns-then-at-from g c =
+    rw (← c.self.view_is) (no_memory_above _ c.args.at c.self.invariant.1
+    (omega (arith, c.if-at-from.true, c.from.ensures)))
 
 pub returns-in-Ram : goal.returns-in-Ram
 returns-in-Ram g c =

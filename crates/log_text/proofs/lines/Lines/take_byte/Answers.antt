@@ -16,7 +16,8 @@ pub returns-clause-lines : goal.returns-clause-lines
 returns-clause-lines c =
     let place = c.place_of-place.ensures in
     (c.in_ok-insert.ensures {u = tt}).items
-    ∙ put_back c.args.member c.args.self.now c.place_of-place.result place.value place.unended c.args.at c.args.byte
+    ∙ put_back c.args.member c.args.self.now c.place_of-place.result place.value place.unended c.args.at
+    c.args.byte
     c.self.inside.lines.items c.take_out-line.result c.in_ok-line.line (c.self.view_is ∙ c.take_out-line.ensures.lines)
     c.take_out-line.ensures.line (c.in_ok-line.ensures {u = tt})
     (sym c.is_ending-is_ended.ensures ∙ c.if-is_ended.false)
@@ -27,9 +28,11 @@ invariant_of-self-2 c =
     let goes_on = sym c.is_ending-is_ended.ensures ∙ c.if-is_ended.false in
     let after : c.insert.new.self.items ≡ with_byte c.args.self.now c.args.member c.args.at c.args.byte =
     (c.in_ok-insert.ensures {u = tt}).items
-    ∙ put_back c.args.member c.args.self.now c.place_of-place.result place.value place.unended c.args.at c.args.byte
+    ∙ put_back c.args.member c.args.self.now c.place_of-place.result place.value place.unended c.args.at
+    c.args.byte
     c.self.inside.lines.items c.take_out-line.result c.in_ok-line.line (c.self.view_is ∙ c.take_out-line.ensures.lines)
     c.take_out-line.ensures.line (c.in_ok-line.ensures {u = tt}) goes_on in
     rw after
-    (with_byte_unended c.args.member c.args.self.now c.place_of-place.result place.value place.unended c.args.at c.args.byte
+    (with_byte_unended c.args.member c.args.self.now c.place_of-place.result place.value place.unended c.args.at
+    c.args.byte
     c.take_out-line.result c.take_out-line.ensures.line goes_on)

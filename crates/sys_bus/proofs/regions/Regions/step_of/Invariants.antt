@@ -5,4 +5,5 @@ use Rattle.sys_bus.proofs.regions.Regions.step_of.Given as goal
 
 -- No region so far is the one.
 abbrev pub invariant-loop-region : goal.invariant-loop-region
-invariant-loop-region l = find (λ region. same_part region.kind (Dev l.dev)) l.self ≡ find (λ region. same_part region.kind (Dev l.dev)) (drop l.region-index l.region-items)
+invariant-loop-region l = find (λ region. same_part region.kind (Dev l.dev)) l.self
+    ≡ find (λ region. same_part region.kind (Dev l.dev)) (drop l.region-index l.region-items)

@@ -11,6 +11,7 @@ invariant_of-self-2 c =
     let hub : c.index_mut.result.now ≡ slice_index_or c.self.inside.hubs.items c.args.hub [] =
     c.index_mut.ensures.value ∙ get_or_default c.self.inside.hubs.items c.args.hub c.index_mut.result.now [] below in
     let absent : is_connected c.self.inside.hubs.items c.args.member ≡ false =
-    ap (λ hubs. is_connected hubs c.args.member) c.self.view_is ∙ sym c.is_connected.ensures ∙ c.if-is_connected.false in
+    ap (λ hubs. is_connected hubs c.args.member) c.self.view_is ∙ sym c.is_connected.ensures
+    ∙ c.if-is_connected.false in
     rw (c.in_ok-push.ensures.ok, hub)
     (connected_once c.self.inside.hubs.items c.args.hub c.args.member below absent c.self.invariant)
