@@ -5,7 +5,7 @@ use Rattle.std.proofs.Common.{nat_lt, refl, sym, ap, ◌∙◌, arith, rules}
 use Rattle.std.specs.Prelude.{slice_index_or, find}
 use Rattle.std.specs.List.{list_all, range_with_len}
 use Rattle.std.proofs.lemmas.Bool.Decides.{nat_tests}
-use Rattle.std.proofs.lemmas.List.{length-map, length-replicate, get_or-set_same, set-get_or}
+use Rattle.std.proofs.lemmas.List.{length-map, length-replicate}
 use Rattle.std.proofs.lemmas.Option.{slice_get_within, get_or_from_slice_get}
 use Rattle.dev_core.specs.Device.{kind_of, dev_reset, IsValid as IsValidState}
 use Rattle.dev_core.specs.declared.state.DevState.{DevState}
@@ -29,12 +29,12 @@ use Rattle.sys_bus.specs.Plan.{IsValid}
 use Rattle.std.proofs.Math.Seq.{map-set_same}
 use Rattle.board.specs.Changes.{in_memory, is_memory}
 use Rattle.board.specs.New.{first_state, hidden, new_space, reset_device}
-use Rattle.board.specs.Space.{Space, Fitted, memory_at, with_memory, device_at, with_device, with_state}
+use Rattle.board.specs.Space.{Space, Fitted, memory_at, with_memory, with_device}
 use Rattle.board.specs.Inner.Fit.{IsFit, LiesIn, IsInPage, HoldsAccesses}
 use Rattle.sys_bus.specs.declared.near.Place.{Place}
 use Rattle.sys_bus.specs.Place.{IsPlace}
 use Rattle.std.specs.Option.{IfSome}
-use Rattle.board.proofs.ListLemmas.{any_at, passes_at, All-by_place, All-set, set_set, counted_at, found_passes}
+use Rattle.board.proofs.ListLemmas.{any_at, passes_at, All-by_place, All-set, counted_at, found_passes}
 use Rattle.board.proofs.ListLemmas.{within_sum, range_passes}
 
 -- the bytes of a memory of the plan

@@ -1,6 +1,6 @@
 -- Which regions hold an access.
-use Rattle.std.proofs.Common.{slice_get, find, Option, Some, None, ap, refl, ◌∙◌, ◌≡◌, ℕ, ◌+◌, ◌-◌, ◌<◌, ◌≤◌, Bool}
-use Rattle.std.proofs.Common.{true, false, List, length, filter, nat_le, IsTrue, IfSome, inl, inr, arith, rules, ◌^◌}
+use Rattle.std.proofs.Common.{slice_get, find, Option, Some, None, ap, refl, ◌∙◌, ◌≡◌, ℕ, ◌+◌, ◌-◌, ◌<◌, ◌≤◌}
+use Rattle.std.proofs.Common.{true, List, length, filter, nat_le, IsTrue, IfSome, inl, inr, arith, rules, ◌^◌}
 use Rattle.std.proofs.lemmas.Bool.Decides.{nat_tests}
 use Rattle.std.proofs.lemmas.Option.{slice_get_within, get_or_from_slice_get}
 use Rattle.sys_bus.specs.declared.region.Region.{Region}
@@ -8,7 +8,7 @@ use Rattle.sys_bus.specs.declared.region.RegionKind.{RegionKind}
 use Rattle.sys_bus.specs.declared.region.RegionKind.TheVariants.{Ram, Clint, Plic, Dev}
 use Rattle.sys_bus.specs.declared.region.Target.TheVariants as to
 use Rattle.sys_bus.specs.Region.{holds, overlaps, count_of_overlaps, are_apart, target, target_by, target_if, target_of}
-use Rattle.sys_bus.specs.Region.{room_if, room_of, further, end_of, are_addressed, IsWithin, IsWidth, LiesIn}
+use Rattle.sys_bus.specs.Region.{room_if, room_of, further, end_of, are_addressed, IsWithin, LiesIn}
 use Rattle.sys_bus.specs.declared.near.Near.{Near}
 use Rattle.sys_bus.specs.declared.near.Place.{Place}
 use Rattle.sys_bus.specs.Inner.Near.{IsNear, IsNearPlace}

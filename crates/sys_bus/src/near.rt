@@ -16,7 +16,8 @@ pub struct Place {
 pub(crate) struct Near {
     /// The address of its first byte.
     base: u32,
-    /// How many of its places, from the first on, have four bytes of the memory from there on. 0 where no memory is known.
+    /// From how many of its places, counted from the first, four bytes of it lie. 0 where no memory
+    /// is known.
     starts: u32,
     part: u8,
     ghost addressed: { base + starts ≤ 2 ^ 32 },

@@ -1,4 +1,3 @@
-use Rattle.std.proofs.Common.{IfSome}
 use Rattle.board.proofs.FitLemmas.{accesses_lie}
 use Rattle.board.proofs.space.Space.near_data.Goals as goal
 

@@ -1,5 +1,3 @@
-use Rattle.std.proofs.Common.{IfSome}
-use Rattle.sys_bus.specs.Place.{IsPlace}
 use Rattle.sys_bus.proofs.RegionLemmas.{near_place}
 use Rattle.sys_bus.proofs.regions.Regions.near_data.Goals as goal
 
