@@ -12,8 +12,8 @@ pub invariant_of-self : goal.invariant_of-self
 invariant_of-self c =
     let kept = c.self.invariant in
     let near = c.of-self-inside.ensures in
+    let region = ap (find (holds c.args.at 4)) c.self.view_is ∙ sym c.in-Some.ensures.region in
     let found =
     near_found c.self.inside.list.items c.args.at 4 c.in-Ram.part c.in-Some.region c.of-self-inside.result kept.0
-    (ap (find (holds c.args.at 4)) c.self.view_is ∙ sym c.in-Some.ensures.region) c.in-Ram.is near.base near.starts
-    near.part in
+    region c.in-Ram.is near.base near.starts near.part in
     (kept.0, kept.1, found, kept.3)

@@ -12,8 +12,9 @@ pub invariant_of-self : goal.invariant_of-self
 invariant_of-self c =
     let kept = c.self.invariant in
     let near = c.of-self-inside.ensures in
+    let region =
+    ap (find (holds c.args.at c.args.width)) c.self.view_is ∙ sym c.in-Some.ensures.region in
     let found =
-    near_found c.self.inside.list.items c.args.at c.args.width c.in-Ram.part c.in-Some.region c.of-self-inside.result kept.0
-    (ap (find (holds c.args.at c.args.width)) c.self.view_is ∙ sym c.in-Some.ensures.region) c.in-Ram.is near.base near.starts
-    near.part in
+    near_found c.self.inside.list.items c.args.at c.args.width c.in-Ram.part c.in-Some.region
+    c.of-self-inside.result kept.0 region c.in-Ram.is near.base near.starts near.part in
     (kept.0, kept.1, kept.2, found)
