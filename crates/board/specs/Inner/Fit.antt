@@ -2,10 +2,12 @@
 use Rattle.std.specs.Prelude.{◌≡◌, ℕ, ◌+◌, ◌≤◌, ◌<◌, length, map, All}
 use Rattle.dev_core.specs.Device.{kind_of, IsValid as IsValidState}
 use Rattle.page_ram.specs.Access.{IsInOnePage}
+use Rattle.rv_exec.specs.Access.{IsAccess}
+use Rattle.sys_bus.specs.declared.near.Place.{Place}
 use Rattle.sys_bus.specs.declared.region.Target.{Target}
 use Rattle.sys_bus.specs.declared.region.Target.TheVariants.{Ram, Clint, Plic, Dev, Nothing}
 use Rattle.sys_bus.specs.Plan.{IsValid}
-use Rattle.board.specs.Space.{Space, memory_at}
+use Rattle.board.specs.Space.{Space, memory_at, target_at}
 
 -- memories and devices are those of the plan
 pub record IsFit (s : Space) : Type 0 where
@@ -29,3 +31,13 @@ IsInPage width (Dev dev at) = Unit {0}
 IsInPage width (Clint at) = Unit {0}
 IsInPage width (Plic at) = Unit {0}
 IsInPage width Nothing = Unit {0}
+
+-- each access at an address belongs to this place of a memory
+pub record HoldsAccess (s : Space) (at : ℕ) (place : Place) (width : ℕ) : Type 0 where
+  pub target : target_at s at width ≡ Ram place.part place.at
+  pub part : place.part < length s.memories
+  pub lies : place.at + width ≤ length (memory_at s place.part)
+  pub page : IsInOnePage place.at width
+
+abbrev pub HoldsAccesses : Space → ℕ → Place → Type 0
+HoldsAccesses s at place = (width : ℕ) → IsAccess at width → HoldsAccess s at place width

@@ -7,7 +7,7 @@ ghost use Rattle.board.specs.Space.{device_store};
 ghost use Rattle.board.specs.New.{reset_device};
 
 use super::Space;
-use dev_core::{DevState, Device, Effect, Payload, Taken};
+use dev_core::{Device, Effect, Payload, Taken};
 
 /// The register at a place of a device whose registers begin 1 or 4 bytes apart.
 fn register_at(step: u8, at: u32) -> Option<u32>
@@ -75,24 +75,6 @@ impl<D: Device> Space<D> {
             with_device self.old dev (record (device_at self.old dev) { shown = true }) }
     {
         self.devices[usize::from(dev)].show();
-    }
-
-    pub fn state(&self, dev: u8) -> DevState
-        requires { dev < length self.now.devices }
-        ensures value { result ≡ (device_at self.now dev).state }
-        ensures valid { IsValid result }
-    {
-        self.devices[usize::from(dev)].state()
-    }
-
-    /// Puts a device back into a state that it had.
-    pub fn put_back(&mut self, dev: u8, state: &DevState)
-        requires dev { dev < length self.old.devices }
-        requires kind { kind_of state.now ≡ kind_of (device_at self.old dev).state }
-        requires valid { IsValid state.now }
-        ensures { self.new ≡ with_state self.old dev state.now }
-    {
-        self.devices[usize::from(dev)].put_back(state);
     }
 
     /// Brings each device into its reset state. Those that are shown stay so.
