@@ -128,7 +128,8 @@ impl<D: Device> Space<D> {
     {
         match self.regions.near_code(at) {
             Some(place) => Some(self.load_memory(place.part, place.at, 4)),
-            None => self.fetch_anew(at),
+            // taken apart, so that no tag is tested where a memory is near
+            None => Some(self.fetch_anew(at)?),
         }
     }
 

@@ -205,7 +205,8 @@ impl<D: Device> Bus for Wires<D> {
     fn load(&mut self, at: u32, width: u8) -> Result<u32, OutOfMemory> {
         match self.space.near_data(at) {
             Some(place) => Ok(self.space.load_memory(place.part, place.at, width)),
-            None => self.load_anew(at, width),
+            // taken apart, so that no tag is tested where a memory is near
+            None => Ok(self.load_anew(at, width)?),
         }
     }
 
