@@ -1,0 +1,7 @@
+use Rattle.std.proofs.Common.{◌≡◌, ◌+◌, ◌++◌, drop, map}
+use Rattle.resc_vars.specs.Bodies.{numbered}
+use Rattle.resc_vars.proofs.item.numbered.Given as goal
+
+abbrev pub invariant-loop-i : goal.invariant-loop-i
+invariant-loop-i l =
+    l.made.items ++ numbered (l.i + 1) (drop l.i (map (λ text. text.now) l.texts)) ≡ numbered 1 (map (λ text. text.now) l.texts)

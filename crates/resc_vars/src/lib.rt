@@ -1,0 +1,16 @@
+//! The lines of a monitor script in the order in which they are taken: files that are included,
+//! macros, and variables.
+#![tactic(auto)]
+
+mod answer;
+mod body;
+mod cause;
+mod flow;
+mod form;
+mod item;
+mod name;
+mod variables;
+
+pub use answer::{FlowFault, Next};
+pub use cause::ScriptCause;
+pub use flow::Flow;
