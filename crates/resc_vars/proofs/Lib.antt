@@ -1,2 +1,4 @@
 pub mod ItemLemmas
 mod FlowLemmas
+mod LengthLemmas
+mod VariableLemmas

@@ -290,7 +290,8 @@ impl Flow {
     /// Opens the body of a file within the others.
     fn enter(&mut self, source: Source) -> Result<(), FlowFault>
         requires { self.old.ended ≡ false }
-        ensures { Leaves result self.old self.new (enter self.old source) }
+        ensures leaves { Leaves result self.old self.new (enter self.old source) }
+        ensures goes_on { self.new.ended ≡ false }
     {
         if self.outer.len() >= DEPTH {
             return Err(FlowFault::Depth);
@@ -312,8 +313,9 @@ impl Flow {
     pub fn include(&mut self, name: &str, text: String) -> Result<(), FlowFault>
         requires goes_on { self.old.ended ≡ false }
         requires size { length (string_bytes text) ≤ 2 ^ 24 }
-        ensures { Leaves result self.old self.new
+        ensures leaves { Leaves result self.old self.new
             (enter self.old (source_of name.now (string_bytes text))) }
+        ensures goes_on { self.new.ended ≡ false }
     {
         let source = source_of(self.alloc, name, text.as_str())?;
         self.enter(source)
@@ -325,7 +327,8 @@ impl Flow {
     /// are open beside the script. A refused call changes nothing.
     pub fn run_macro(&mut self, name: &str) -> Result<(), FlowFault>
         requires { self.old.ended ≡ false }
-        ensures { Leaves result self.old self.new (run_of self.old name.now) }
+        ensures leaves { Leaves result self.old self.new (run_of self.old name.now) }
+        ensures goes_on { self.new.ended ≡ false }
     {
         let name = Name::of(self.alloc, name)?;
         let Some(source) = self.macros.get(&name) else {

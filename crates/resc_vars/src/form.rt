@@ -49,7 +49,7 @@ pub(crate) fn is_passed(text: &str) -> bool
 fn are_blanks(text: &str) -> bool
     ensures { result ≡ list_all words.is_blank text.now }
 {
-    text.bytes().all(is_blank)
+    text.bytes().all(|b| is_blank(b))
 }
 
 /// Whether two quotes and blanks follow the first quote of a line.

@@ -175,13 +175,13 @@ fn item_at(alloc: Global, line: &Line, lines: &[Line]) -> Result<(Item, usize), 
 }
 
 /// The first item of lines, and how many lines end with it.
-#[tactic(auto, using(crate::proofs::ItemLemmas::items_kept))]
 pub(crate) fn first_item(alloc: Global, lines: &[Line]) -> Result<Option<(Item, usize)>, NoMemory>
     ensures { IfOk result (λ found. First lines.now found) }
 {
     for (i, line) in lines.iter().enumerate() {
         if !is_passed(line.text.as_str()) {
-            let (item, own) = item_at(alloc, line, &lines[i + 1..])?;
+            let (_, rest) = lines.split_at(i + 1);
+            let (item, own) = item_at(alloc, line, rest)?;
             return Ok(Some((item, i + 1 + own)));
         }
     }

@@ -9,6 +9,8 @@ mod flow;
 mod form;
 mod item;
 mod name;
+#[cfg(test)]
+mod tests;
 mod variables;
 
 pub use answer::{FlowFault, Next};

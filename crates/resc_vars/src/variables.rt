@@ -1,11 +1,10 @@
 //! Lines with their variables replaced.
-ghost use Rattle.std.specs.Prelude.{◌≡◌, ◌++◌, IfOk, OnOk, OnErr};
+ghost use Rattle.std.specs.Prelude.{◌≡◌, IfOk};
 ghost use Rattle.std.specs.Option.{option_map};
 ghost use Rattle.std.specs.String.{string_bytes};
 ghost use Rattle.resc_read.specs.Words as words;
-ghost use Rattle.resc_vars.specs.Variables as variables;
+ghost use Rattle.resc_vars.specs.Variables.{stands_for, replaced, names_macro, after_name, command_text};
 
-use crate::form::Assignment;
 use crate::name::Name;
 use indexmap::IndexMap;
 use lab_num::{NoMemory, Text};
@@ -22,7 +21,7 @@ pub(crate) fn stands_for<'a>(
     word: &'a str,
 ) -> Result<Option<&'a str>, NoMemory>
     ensures { IfOk result (λ found. option_map (λ text. text.now) found
-        ≡ variables.stands_for variables.now.entries word.now) }
+        ≡ stands_for variables.now.entries word.now) }
 {
     let Some(name) = variable_of(word) else {
         return Ok(Some(word));
@@ -37,7 +36,7 @@ pub(crate) fn stands_for<'a>(
 /// The line with its variables replaced, if each is set.
 fn replaced(alloc: Global, variables: &Variables, line: &str) -> Result<Option<String>, NoMemory>
     ensures { IfOk result (λ made. option_map string_bytes made
-        ≡ variables.replaced variables.now.entries line.now) }
+        ≡ replaced variables.now.entries line.now) }
 {
     let mut made = String::new(alloc);
     let mut rest = line;
@@ -59,7 +58,7 @@ fn replaced(alloc: Global, variables: &Variables, line: &str) -> Result<Option<S
 
 /// Whether a line begins with `runMacro $name`.
 fn names_macro(alloc: Global, line: &str) -> Result<bool, NoMemory>
-    ensures { IfOk result (λ is. is ≡ variables.names_macro (words.words line.now)) }
+    ensures { IfOk result (λ is. is ≡ names_macro (words.words line.now)) }
 {
     let words = words_of(alloc, line)?;
     match words.as_slice() {
@@ -71,7 +70,7 @@ fn names_macro(alloc: Global, line: &str) -> Result<bool, NoMemory>
 /// A line with its variables replaced after its first `$`.
 fn after_name(alloc: Global, variables: &Variables, line: &str) -> Result<Option<Text>, NoMemory>
     ensures { IfOk result (λ made. made
-        ≡ variables.after_name variables.now.entries line.now) }
+        ≡ after_name variables.now.entries line.now) }
 {
     let Some((front, rest)) = cut(line, '$') else {
         return Ok(Some(Text::of(alloc, line)?));
@@ -93,7 +92,7 @@ pub(crate) fn command_text(
     line: &str,
 ) -> Result<Option<Text>, NoMemory>
     ensures { IfOk result (λ made. made
-        ≡ variables.command_text variables.now.entries line.now) }
+        ≡ command_text variables.now.entries line.now) }
 {
     if names_macro(alloc, line)? {
         return after_name(alloc, variables, line);
