@@ -1,7 +1,7 @@
 -- The items of lines, line by line, and lines with their numbers.
 use Rattle.std.proofs.Common.{◌≡◌, ℕ, zero, suc, ◌+◌, ◌-◌, ◌<◌, ◌≤◌, ◌++◌, ◌∙◌, List, [], ◌∷◌, length, drop, map, get_or}
 use Rattle.std.proofs.Common.{Bor, false, refl, sym, ap, add-one, append_assoc, drop-cons, length-drop, arith}
-use Rattle.std.proofs.lemmas.List.{drop_more}
+use Rattle.std.proofs.lemmas.List.{drop-drop}
 use Rattle.resc_vars.specs.declared.item.Item.{Item}
 use Rattle.resc_vars.specs.declared.item.Line.{Line}
 use Rattle.resc_vars.specs.Bodies.{numbered}
@@ -24,18 +24,18 @@ cut_at xs i d inner = drop-cons xs i d inner ∙ ap (λ n. get_or xs i d ∷ dro
 
 -- the first item of lines, of which the first i are passed over, is at the next one
 pub first_at :
-    (lines rest : List Line) (i : ℕ) (d : Line) (item : Item) (own : ℕ) → i < length lines →
-    is_passed (get_or lines i d).text ≡ false → rest ≡ drop (i + 1) lines → own ≤ length rest →
-    (item, own) ≡ item_at (get_or lines i d) rest → items 0 lines ≡ items 0 (drop i lines) →
+    (lines rest : List Line) (line : Line) (i : ℕ) (item : Item) (own : ℕ) → i < length lines →
+    line ≡ get_or lines i line → is_passed line.text ≡ false → rest ≡ drop (i + 1) lines → own ≤ length rest →
+    (item, own) ≡ item_at line rest → items 0 lines ≡ items 0 (drop i lines) →
     (i + 1 + own ≤ length lines) × (items 0 lines ≡ item ∷ items 0 (drop (i + 1 + own) lines))
-first_at lines rest i d item own inner kept is few at passed =
-    let line = get_or lines i d in
-    let here : items 0 lines ≡ items 0 (line ∷ rest) =
-    passed ∙ ap (items 0) (cut_at lines i d inner ∙ ap (λ xs. line ∷ xs) (sym is)) in
+first_at lines rest line i item own inner here kept is few at passed =
+    let head : drop i lines ≡ line ∷ rest =
+    cut_at lines i line inner ∙ (ap (λ x. x ∷ drop (i + 1) lines) (sym here) ∙ ap (λ xs. line ∷ xs) (sym is)) in
     let found : items 0 (line ∷ rest) ≡ item ∷ items 0 (drop own rest) =
     items_kept line rest kept ∙ ap (λ (x : Item × ℕ). x.0 ∷ items 0 (drop x.1 rest)) (sym at) in
-    let further : drop own rest ≡ drop (i + 1 + own) lines = ap (drop own) is ∙ ? in
-    (omega (arith, few, ap length is, length-drop (i + 1) lines), here ∙ (found ∙ ap (λ xs. item ∷ items 0 xs) further))
+    let further : drop own rest ≡ drop (i + 1 + own) lines = ap (drop own) is ∙ drop-drop own (i + 1) lines in
+    let enough : length rest ≡ length lines - (i + 1) = ap length is ∙ length-drop (i + 1) lines in
+    (omega (arith, few, enough, inner), passed ∙ (ap (items 0) head ∙ (found ∙ ap (λ xs. item ∷ items 0 xs) further)))
 
 line_at : ℕ → List ℕ → Line
 line_at n text = record { number = n; text = text }

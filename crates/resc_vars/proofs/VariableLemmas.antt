@@ -4,7 +4,8 @@ use Rattle.std.proofs.Common.{get_or, Option, Some, None, refl, sym, ap, eq-eqb,
 use Rattle.std.specs.Option.{option_map}
 use Rattle.std.proofs.lemmas.List.{take_all}
 use Rattle.resc_read.specs.Piece.{IsFirstPiece}
-use Rattle.resc_read.specs.Words.{pieces, gaps}
+use Rattle.std.proofs.lemmas.Bool.Decides.{nat_tests}
+use Rattle.resc_read.specs.Words.{is_blank, pieces, gaps}
 use Rattle.resc_vars.specs.Variables.{Variables, stands_for, each, weave, replaced}
 
 front_woven :
@@ -78,3 +79,6 @@ pub step_more :
 step_more vars line front text n all first inner here read =
     onto_more front text (get_or line n 0) (replaced vars (drop (n + 1) line))
     ∙ rw (replaced_more vars line text n first inner here) at read
+
+pub blank_ascii : (b : ℕ) → is_blank b ≡ true → b < 128
+blank_ascii b blank = grind (arith, nat_tests)
