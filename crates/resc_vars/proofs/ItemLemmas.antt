@@ -1,5 +1,6 @@
 -- The items of lines, line by line, and lines with their numbers.
-use Rattle.std.proofs.Common.{◌≡◌, ℕ, zero, suc, ◌+◌, ◌-◌, ◌<◌, ◌≤◌, ◌++◌, ◌∙◌, List, [], ◌∷◌, length, drop, map, get_or}
+use Rattle.std.proofs.Common.{◌≡◌, ℕ, zero, suc, ◌+◌, ◌-◌, ◌<◌, ◌≤◌, ◌++◌, ◌∙◌, List, [], ◌∷◌, length, drop, map}
+use Rattle.std.proofs.Common.{get_or}
 use Rattle.std.proofs.Common.{Bor, false, refl, sym, ap, add-one, append_assoc, drop-cons, length-drop, arith}
 use Rattle.std.proofs.lemmas.List.{drop-drop}
 use Rattle.resc_vars.specs.declared.item.Item.{Item}

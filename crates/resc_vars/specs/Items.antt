@@ -1,5 +1,6 @@
 -- What stands in the lines of a body: commands, assignments, and macros with their bodies.
-use Rattle.std.specs.Prelude.{ℕ, zero, suc, ◌+◌, Bool, true, false, if◌then◌else◌, List, [], ◌∷◌, take, drop, position, length}
+use Rattle.std.specs.Prelude.{ℕ, zero, suc, ◌+◌, Bool, true, false, if◌then◌else◌, List, [], ◌∷◌, take, drop}
+use Rattle.std.specs.Prelude.{position, length}
 use Rattle.std.specs.Prelude.{Option, Some, None}
 use Rattle.resc_vars.specs.declared.form.Form.{Form}
 use Rattle.resc_vars.specs.declared.form.Form.TheVariants as forms

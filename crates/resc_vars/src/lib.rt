@@ -8,6 +8,7 @@ mod cause;
 mod flow;
 mod form;
 mod item;
+mod laws;
 mod name;
 #[cfg(test)]
 mod tests;
@@ -16,3 +17,4 @@ mod variables;
 pub use answer::{FlowFault, Next};
 pub use cause::ScriptCause;
 pub use flow::Flow;
+pub use laws::return_law;

@@ -1,8 +1,10 @@
 //! Scripts, and the lines, faults and ends that they give.
-ghost use Rattle.std.specs.Prelude.{◌≡◌, ◌≤◌, ◌^◌, false, length, IfOk};
+ghost use Rattle.std.specs.Prelude.{◌≡◌, ◌≤◌, ◌^◌, false, true, is_some, length, IfOk};
 ghost use Rattle.std.specs.String.{string_bytes};
+ghost use Rattle.resc_vars.specs.Script.{is_line};
 
 use crate::{Flow, FlowFault, Next};
+use lab_num::Text;
 use resc_read::{Command, LineFault, read_line};
 use std::alloc::Global;
 use std::test::Fail;
@@ -36,6 +38,22 @@ fn row(alloc: Global, next: &Next) -> Result<String, Fail> {
     }
 }
 
+/// The text of a line.
+fn line_text(next: Next) -> Option<Text>
+    ensures { is_some result ≡ is_line next }
+{
+    match next {
+        Next::Line {
+            file: _file,
+            text,
+            ..
+        } => Some(text),
+        Next::End => None,
+        Next::Fault { file: _file, .. } => None,
+        Next::Memory => None,
+    }
+}
+
 /// Opens what a line opens: `file`, or a macro. An answer is why it is refused.
 fn open(
     alloc: Global,
@@ -59,18 +77,32 @@ fn open(
     }
 }
 
+/// Adds the next answer of a script, and says whether the script goes on.
+fn step(alloc: Global, flow: &mut Flow, said: &mut String, file: &str) -> Result<bool, Fail>
+    requires { flow.old.ended ≡ false }
+    ensures { IfOk result (λ goes_on. goes_on ≡ true → flow.new.ended ≡ false) }
+{
+    let next = flow.next();
+    let row = row(alloc, &next)?;
+    said.push_str(row.as_str())?;
+    let Some(text) = line_text(next) else {
+        return Ok(false);
+    };
+    match open(alloc, flow, text.as_str(), file)? {
+        None => Ok(true),
+        Some(end) => {
+            said.push_str(end)?;
+            Ok(false)
+        }
+    }
+}
+
 /// The answers to a script up to its end. Its lines `include` take the text of `file`.
 fn course(alloc: Global, script: &str, file: &str) -> Result<String, Fail> {
     let mut flow = Flow::new(alloc, "s", short(alloc, script)?)?;
     let mut said = String::new(alloc);
     'lines: for _ in 0..100 {
-        let next = flow.next();
-        said.push_str(row(alloc, &next)?.as_str())?;
-        let Next::Line { text, .. } = next else {
-            return Ok(said);
-        };
-        if let Some(end) = open(alloc, &mut flow, text.as_str(), file)? {
-            said.push_str(end)?;
+        if !step(alloc, &mut flow, &mut said, file)? {
             return Ok(said);
         }
     }

@@ -1,5 +1,6 @@
 -- What one step of a script's flow leaves.
-use Rattle.std.specs.Prelude.{◌≡◌, ℕ, ◌+◌, ◌≤◌, Bool, true, false, List, [], ◌∷◌, length, drop, Option, Some, None, Result}
+use Rattle.std.specs.Prelude.{◌≡◌, ℕ, ◌+◌, ◌≤◌, Bool, true, false, List, [], ◌∷◌, length, drop, Option, Some, None}
+use Rattle.std.specs.Prelude.{Result}
 use Rattle.std.specs.Prelude.{Ok, Err}
 use Rattle.resc_vars.specs.declared.cause.ScriptCause.{ScriptCause}
 use Rattle.resc_vars.specs.declared.item.Line.{Line}
