@@ -10,7 +10,7 @@ use Rattle.resc_vars.specs.declared.item.Source.{Source}
 use Rattle.resc_vars.specs.declared.answer.FlowFault.{FlowFault}
 use Rattle.resc_vars.specs.declared.answer.FlowFault.TheVariants.{Depth, Variable, Memory}
 use Rattle.resc_vars.specs.Items.{items}
-use Rattle.resc_vars.specs.Script.{State, Open, Macros}
+use Rattle.resc_vars.specs.Script.{State, Open}
 
 -- lines with their numbers, from n on
 abbrev pub numbered : ℕ → List (List ℕ) → List Line

@@ -1,7 +1,5 @@
 -- What one step of a script's flow leaves.
-use Rattle.std.specs.Prelude.{◌≡◌, ℕ, ◌+◌, ◌≤◌, Bool, true, false, List, [], ◌∷◌, length, drop, Option, Some, None}
-use Rattle.std.specs.Prelude.{Result}
-use Rattle.std.specs.Prelude.{Ok, Err}
+use Rattle.std.specs.Prelude.{◌≡◌, ℕ, ◌≤◌, Bool, true, false, List, [], ◌∷◌, length, drop, Option, Some, None}
 use Rattle.resc_vars.specs.declared.cause.ScriptCause.{ScriptCause}
 use Rattle.resc_vars.specs.declared.item.Line.{Line}
 use Rattle.resc_vars.specs.declared.item.Item.{Item}
@@ -9,7 +7,7 @@ use Rattle.resc_vars.specs.declared.answer.Next.{Next}
 use Rattle.resc_vars.specs.declared.answer.Next.TheVariants as next
 use Rattle.resc_vars.specs.Items.{items}
 use Rattle.resc_vars.specs.declared.form.Assignment.{Assignment}
-use Rattle.resc_vars.specs.Script.{Open, State, Outcome, Says, assigned, counted, in_body, in_bodies, next_of}
+use Rattle.resc_vars.specs.Script.{State, Outcome, Says, assigned, counted, in_body, in_bodies, next_of}
 
 -- the first item of lines, and how many lines end with it
 abbrev pub First : List Line → Option (Item × ℕ) → Type 0

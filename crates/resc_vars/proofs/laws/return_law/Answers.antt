@@ -1,6 +1,5 @@
 use Rattle.std.proofs.Common.{ap}
 use Rattle.resc_vars.specs.Bodies.{numbered}
-use Rattle.resc_vars.specs.declared.item.Source.{Source}
 use Rattle.resc_vars.proofs.ReturnLemmas.{lines_returns}
 use Rattle.resc_vars.proofs.laws.return_law.Goals as goal
 
