@@ -3,8 +3,8 @@ use Rattle.std.proofs.Common.{◌≡◌, ℕ, ◌<◌, ◌++◌, ◌&&◌, ◌�
 use Rattle.std.proofs.Common.{refl, sym, ap, ne_eqb, append-nil, arith}
 use Rattle.std.specs.List.{list_all, onto_first}
 use Rattle.std.proofs.lemmas.Bool.{and_parts}
-use Rattle.resc_read.specs.Words.{is_blank, is_some_text, quoted_after, pieces, words}
-use Rattle.resc_read.specs.Laws.{gaps, quoted_behind, IsWord, IsLine}
+use Rattle.resc_read.specs.Words.{is_blank, is_some_text, quoted_after, pieces, gaps, words}
+use Rattle.resc_read.specs.Laws.{quoted_behind, IsWord, IsLine}
 use Rattle.resc_read.proofs.PieceLemmas.{onto_front}
 
 blank_first : (b : ℕ) (bs : List ℕ) → is_blank b ≡ true → words (b ∷ bs) ≡ words bs

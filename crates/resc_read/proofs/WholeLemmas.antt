@@ -2,8 +2,8 @@
 use Rattle.std.proofs.Common.{◌≡◌, ℕ, zero, suc, ◌+◌, ◌<◌, ◌++◌, ◌&&◌, ◌⊎◌, inl, inr, ◌∙◌, not, Bool, true, false, List}
 use Rattle.std.proofs.Common.{[], ◌∷◌, length, filter, refl, sym, ap, append-nil, length-append, arith}
 use Rattle.std.proofs.lemmas.Bool.{and_parts}
-use Rattle.resc_read.specs.Words.{is_blank, is_some_text, quoted_after, pieces, words}
-use Rattle.resc_read.specs.Laws.{gaps, quoted_behind, IsWord, IsLine}
+use Rattle.resc_read.specs.Words.{is_blank, is_some_text, quoted_after, pieces, gaps, words}
+use Rattle.resc_read.specs.Laws.{quoted_behind, IsWord, IsLine}
 use Rattle.resc_read.proofs.LineLemmas.{kept}
 
 -- the first piece is the whole line, or a blank outside quotes ends it

@@ -1,13 +1,7 @@
 -- How a line is put together.
-use Rattle.std.specs.Prelude.{◌≡◌, ℕ, ◌<◌, ◌++◌, Bool, true, false, not, ◌&&◌, if◌then◌else◌, List, [], ◌∷◌, length}
+use Rattle.std.specs.Prelude.{◌≡◌, ℕ, ◌<◌, ◌++◌, Bool, true, false, List, [], ◌∷◌, length}
 use Rattle.std.specs.List.{list_all}
-use Rattle.resc_read.specs.Words.{is_blank, quoted_after}
-
--- the blanks outside quotes
-abbrev pub gaps : Bool → List ℕ → List ℕ
-gaps quoted [] = []
-gaps quoted (b ∷ bs) =
-    if not quoted && is_blank b then b ∷ gaps false bs else gaps (quoted_after quoted b) bs
+use Rattle.resc_read.specs.Words.{is_blank, quoted_after, gaps}
 
 -- whether a quote is open after a text
 abbrev pub quoted_behind : Bool → List ℕ → Bool

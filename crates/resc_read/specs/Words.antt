@@ -24,6 +24,12 @@ pieces quoted [] = [] ∷ []
 pieces quoted (b ∷ bs) =
     if not quoted && is_blank b then [] ∷ pieces false bs else onto_first b (pieces (quoted_after quoted b) bs)
 
+-- the blanks outside quotes
+abbrev pub gaps : Bool → List ℕ → List ℕ
+gaps quoted [] = []
+gaps quoted (b ∷ bs) =
+    if not quoted && is_blank b then b ∷ gaps false bs else gaps (quoted_after quoted b) bs
+
 abbrev pub is_some_text : List ℕ → Bool
 is_some_text text = not (length text == 0)
 

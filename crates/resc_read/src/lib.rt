@@ -14,3 +14,6 @@ mod words;
 pub use command::{Command, LineFault};
 pub use laws::{line_laws, prefix_law};
 pub use read::read_line;
+pub use sorts::{cut, path_of, text_of};
+pub use variable::{is_variable_name, variable_of};
+pub use words::{is_blank, piece_len, words_of};

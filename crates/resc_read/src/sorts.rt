@@ -7,7 +7,7 @@ ghost use Rattle.resc_read.specs.Sorts as sorts;
 use lab_num::is_name;
 
 /// The text before the first `sign`, and the text after it.
-pub(crate) fn cut(text: &str, sign: char) -> Option<(&str, &str)>
+pub fn cut(text: &str, sign: char) -> Option<(&str, &str)>
     requires { sign < 128 }
     ensures { option_map (λ x. (x.0.now, x.1.now)) result ≡ times.cut sign text.now }
 {
@@ -45,7 +45,7 @@ fn quoted_of(word: &str) -> Option<&str>
 }
 
 /// The text of a word that may stand with or without quotes.
-pub(crate) fn text_of(word: &str) -> Option<&str>
+pub fn text_of(word: &str) -> Option<&str>
     ensures { option_map (λ text. text.now) result ≡ sorts.text_of word.now }
 {
     match plain_of(word) {
@@ -60,8 +60,8 @@ fn is_web_path(path: &str) -> bool
     path.starts_with("http://") || path.starts_with("https://")
 }
 
-/// The path of a word `@path`.
-pub(crate) fn path_of(word: &str) -> Option<&str>
+/// The path of a word `@path`, which has no quote and names no place of the web.
+pub fn path_of(word: &str) -> Option<&str>
     ensures { option_map (λ path. path.now) result ≡ sorts.path_of word.now }
 {
     let path = word.strip_prefix("@")?;

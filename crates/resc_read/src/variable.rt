@@ -27,14 +27,16 @@ fn are_variable_bytes(text: &str) -> bool
     text.bytes().all(is_variable_byte)
 }
 
-fn is_variable_name(text: &str) -> bool
+/// Whether a text is the name of a variable or of a macro: an ASCII letter or `_`, and then ASCII
+/// letters, digits or `_`.
+pub fn is_variable_name(text: &str) -> bool
     ensures { result ≡ variables.is_variable_name text.now }
 {
     begins_with_letter(text) && are_variable_bytes(text)
 }
 
 /// The name in a word `$name`.
-pub(crate) fn variable_of(word: &str) -> Option<&str>
+pub fn variable_of(word: &str) -> Option<&str>
     ensures { option_map (λ name. name.now) result ≡ variables.variable_of word.now }
 {
     let name = word.strip_prefix("$")?;

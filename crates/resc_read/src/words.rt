@@ -1,19 +1,20 @@
 //! The words of a line.
 ghost use Rattle.std.specs.Prelude.{◌≡◌, ◌<◌, ◌++◌, ◌∷◌, [], filter, map, length, IfOk};
 ghost use Rattle.resc_read.specs.Words as words;
-ghost use Rattle.resc_read.specs.Inner.Piece.{IsFirstPiece};
+ghost use Rattle.resc_read.specs.Piece.{IsFirstPiece};
 
 use lab_num::NoMemory;
 use std::alloc::Global;
 
-fn is_blank(b: u8) -> bool
+/// Whether a byte is a space or a tab.
+pub fn is_blank(b: u8) -> bool
     ensures { result ≡ words.is_blank b }
 {
     b == b' ' || b == b'\t'
 }
 
-/// How long the first piece of a line is.
-fn piece_len(line: &[u8]) -> usize
+/// How many bytes of a line stand before its first blank outside quotes: all where there is none.
+pub fn piece_len(line: &[u8]) -> usize
     ensures { IsFirstPiece line.now result }
 {
     let mut quoted = false;
@@ -43,7 +44,7 @@ fn cut_piece(line: &str) -> (&str, &str)
 }
 
 /// The words of a line, in order: what stands between its blanks outside quotes.
-pub(crate) fn words_of(alloc: Global, line: &str) -> Result<Vec<&str>, NoMemory>
+pub fn words_of(alloc: Global, line: &str) -> Result<Vec<&str>, NoMemory>
     ensures { IfOk result (λ found. map (λ word. word.now) found.items ≡ words.words line.now) }
 {
     let mut found = Vec::new(alloc);

@@ -1,7 +1,7 @@
 -- A blank is a sign of its own, so a line may be cut after it.
 use Rattle.std.proofs.Common.{◌<◌, length, arith}
 use Rattle.std.proofs.lemmas.Str.{IsCharBoundary-after_ascii}
-use Rattle.resc_read.specs.Inner.Piece.{IsFirstPiece}
+use Rattle.resc_read.specs.Piece.{IsFirstPiece}
 use Rattle.resc_read.proofs.PieceLemmas.{blank_ascii}
 use Rattle.resc_read.proofs.words.cut_piece.Goals as goal
 

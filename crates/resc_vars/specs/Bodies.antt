@@ -1,0 +1,61 @@
+-- The bodies that a script opens: its own, files that it includes, and macros.
+use Rattle.std.specs.Prelude.{◌≡◌, ℕ, ◌+◌, nat_eq, nat_lt, if◌then◌else◌, false, List, [], ◌∷◌, length, Option, Some}
+use Rattle.std.specs.Prelude.{None}
+use Rattle.std.specs.Prelude.{Result, Ok, Err}
+use Rattle.std.specs.Cmp.Lexicographic.{pointwise}
+use Rattle.std.specs.Map.{lookup}
+use Rattle.std.specs.Str.Lines.{lines}
+use Rattle.resc_vars.specs.declared.item.Line.{Line}
+use Rattle.resc_vars.specs.declared.item.Source.{Source}
+use Rattle.resc_vars.specs.declared.answer.FlowFault.{FlowFault}
+use Rattle.resc_vars.specs.declared.answer.FlowFault.TheVariants.{Depth, Variable, Memory}
+use Rattle.resc_vars.specs.Items.{items}
+use Rattle.resc_vars.specs.Script.{State, Open}
+
+-- lines with their numbers, from n on
+abbrev pub numbered : ℕ → List (List ℕ) → List Line
+numbered n [] = []
+numbered n (text ∷ texts) = record { number = n; text = text } ∷ numbered (n + 1) texts
+
+-- a file with this text
+abbrev pub source_of : List ℕ → List ℕ → Source
+source_of file text = record { file = file; lines = numbered 1 (lines text) }
+
+abbrev pub opened : Source → Open
+opened source = record { file = source.file; items = items 0 source.lines }
+
+-- a script before its first line
+abbrev pub begun : Source → State
+begun source =
+    record {
+      ended = false;
+      current = opened source;
+      outer = [];
+      kept = record { variables = []; macros = []; taken = 0 };
+    }
+
+-- how many bodies may be open beside the script
+abbrev pub depth_limit : ℕ
+depth_limit = 8
+
+-- a body opened within the others, unless there are too many
+abbrev pub enter : State → Source → Result State FlowFault
+enter s source =
+    if nat_lt (length s.outer) depth_limit
+    then Ok (record s { current = opened source; outer = s.current ∷ s.outer })
+    else Err Depth
+
+-- the body of a macro opened, if there is one of this name
+abbrev pub run_of : State → List ℕ → Result State FlowFault
+run_of s name = enter_macro (lookup (pointwise nat_eq name) s.kept.macros)
+  where
+    enter_macro : Option Source → Result State FlowFault
+    enter_macro None = Err Variable
+    enter_macro (Some source) = enter s source
+
+-- what a call leaves: the state said, or the state before
+abbrev pub Leaves : Result (Unit {0}) FlowFault → State → State → Result State FlowFault → Type 0
+Leaves (Ok done) before after said = said ≡ Ok after
+Leaves (Err Memory) before after said = after ≡ before
+Leaves (Err Depth) before after said = (said ≡ Err Depth) × (after ≡ before)
+Leaves (Err Variable) before after said = (said ≡ Err Variable) × (after ≡ before)

@@ -1,0 +1,58 @@
+-- What one step of a script's flow leaves.
+use Rattle.std.specs.Prelude.{◌≡◌, ℕ, ◌≤◌, Bool, true, false, List, [], ◌∷◌, length, drop, Option, Some, None}
+use Rattle.resc_vars.specs.declared.cause.ScriptCause.{ScriptCause}
+use Rattle.resc_vars.specs.declared.item.Line.{Line}
+use Rattle.resc_vars.specs.declared.item.Item.{Item}
+use Rattle.resc_vars.specs.declared.answer.Next.{Next}
+use Rattle.resc_vars.specs.declared.answer.Next.TheVariants as next
+use Rattle.resc_vars.specs.Items.{items}
+use Rattle.resc_vars.specs.declared.form.Assignment.{Assignment}
+use Rattle.resc_vars.specs.Script.{State, Outcome, Says, assigned, counted, in_body, in_bodies, next_of}
+
+-- the first item of lines, and how many lines end with it
+abbrev pub First : List Line → Option (Item × ℕ) → Type 0
+First lines None = items 0 lines ≡ []
+First lines (Some found) = (found.1 ≤ length lines) × (items 0 lines ≡ found.0 ∷ items 0 (drop found.1 lines))
+
+-- what the first item was, if there was one
+abbrev pub Takes : List Item → Option Item → List Item → Type 0
+Takes before None after = (before ≡ []) × (after ≡ [])
+Takes before (Some item) after = before ≡ item ∷ after
+
+-- the innermost body closed, if there is one around it
+abbrev pub Closes : State → Bool → State → Type 0
+Closes before true after =
+    (before.outer ≡ after.current ∷ after.outer)
+    × (after ≡ record before { current = after.current; outer = after.outer })
+Closes before false after = (before.outer ≡ []) × (after ≡ before)
+
+-- a fault, or memory was wanting
+abbrev pub IsFault : Next → List ℕ → ℕ → ScriptCause → Type 0
+IsFault (next.Line a b c) file n cause = ⊥
+IsFault next.End file n cause = ⊥
+IsFault (next.Fault a b c) file n cause = next.Fault a b c ≡ next.Fault file n cause
+IsFault next.Memory file n cause = Unit {0}
+
+-- the bodies stay, and the script goes on
+pub record IsSameBodies (before after : State) : Type 0 where
+  pub ended : after.ended ≡ before.ended
+  pub current : after.current ≡ before.current
+  pub outer : after.outer ≡ before.outer
+
+-- the next line of a script whose innermost body goes on with this item
+abbrev pub next_with : Item → State → Outcome
+next_with item s = in_body s.current.file (item ∷ s.current.items) s.outer s.kept (in_bodies s.outer)
+
+-- what an item does: it gives the next answer, or leaves the state after which that is sought
+abbrev pub Acts : Option Next → State → Outcome → Type 0
+Acts (Some answer) after said = Says answer after said
+Acts None after said = next_of after ≡ said
+
+-- a state with one command more
+abbrev pub with_counted : State → State
+with_counted s = record s { kept = counted s.kept }
+
+-- an assignment, made or refused
+abbrev pub Sets : Assignment → State → Bool → State → Type 0
+Sets a before true after = assigned before.kept a ≡ Some after.kept
+Sets a before false after = assigned before.kept a ≡ None

@@ -1,0 +1,9 @@
+-- What contracts of resc_vars and of the crates above cite.
+pub mod Cause
+pub mod Form
+pub mod Items
+pub mod Variables
+pub mod Script
+pub mod Bodies
+pub mod Laws
+pub mod Inner

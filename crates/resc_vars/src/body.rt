@@ -1,0 +1,59 @@
+//! An open body.
+ghost use Rattle.std.specs.Prelude.{◌≡◌, IfOk};
+ghost use Rattle.resc_vars.specs.Inner.Steps.{Takes};
+ghost use Rattle.resc_vars.specs.Bodies.{opened};
+
+use crate::item::{Item, Source, first_item};
+use lab_num::{NoMemory, Text};
+use std::alloc::Global;
+use std::marker::Model;
+
+/// The lines of a body, of which the first `taken` are behind.
+#[derive(Drop, Debug)]
+pub(crate) struct Body {
+    source: Source,
+    taken: usize,
+}
+
+impl Model for Body {
+    ghost use Rattle.std.specs.Prelude.{drop, length, ◌≤◌};
+    ghost use Rattle.resc_vars.specs.Script.{Open};
+    ghost use Rattle.resc_vars.specs.Items.{items};
+
+    ghost Value = { Open };
+
+    ghost view = { λ b. record {
+      file = b.source.file;
+      items = items 0 (drop b.taken b.source.lines);
+    } };
+
+    ghost invariant = { λ b. b.taken ≤ length b.source.lines };
+}
+
+impl Body {
+    pub(crate) fn of(source: Source) -> Body
+        ensures { result ≡ opened source }
+    {
+        Body { source, taken: 0 }
+    }
+
+    pub(crate) fn file(&self) -> &Text
+        ensures { result.now ≡ self.now.file }
+    {
+        &self.source.file
+    }
+
+    /// Takes the next item.
+    pub(crate) fn take(&mut self, alloc: Global) -> Result<Option<Item>, NoMemory>
+        ensures took { IfOk result (λ item. Takes self.old.items item self.new.items) }
+        ensures file { self.new.file ≡ self.old.file }
+    {
+        match first_item(alloc, &self.source.lines.items()[self.taken..])? {
+            None => Ok(None),
+            Some((item, n)) => {
+                self.taken += n;
+                Ok(Some(item))
+            }
+        }
+    }
+}

@@ -1,0 +1,20 @@
+//! The lines of a monitor script in the order in which they are taken: files that are included,
+//! macros, and variables.
+#![tactic(auto)]
+
+mod answer;
+mod body;
+mod cause;
+mod flow;
+mod form;
+mod item;
+mod laws;
+mod name;
+#[cfg(test)]
+mod tests;
+mod variables;
+
+pub use answer::{FlowFault, Next};
+pub use cause::ScriptCause;
+pub use flow::Flow;
+pub use laws::return_law;
