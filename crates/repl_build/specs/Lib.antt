@@ -4,9 +4,11 @@ pub mod Counts
 pub mod First
 pub mod Merge
 pub mod Names
+pub mod Numbers
 pub mod Places
 pub mod Plan
 pub mod References
 pub mod Rules
 pub mod Types
 pub mod Wires
+pub mod Inner

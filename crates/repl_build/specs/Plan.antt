@@ -1,6 +1,7 @@
 -- The plan of the board that entries describe, or their first fault.
-use Rattle.std.specs.Prelude.{◌≡◌, ℕ, ◌+◌, Bool, List, [], ◌∷◌, ◌++◌, Option, Some, None, Result, Ok, Err, find}
-use Rattle.std.specs.Prelude.{if◌then◌else◌, codes}
+use Rattle.std.specs.Prelude.{◌≡◌, ℕ, List, [], ◌∷◌, ◌++◌, Option, Some, None, Result, Ok, Err, find}
+use Rattle.std.specs.Prelude.{codes, map, filter}
+use Rattle.std.specs.List.{filter_map}
 use Rattle.std.specs.Option.{option_map}
 use Rattle.dev_core.specs.declared.kind.Kind.{Kind}
 use Rattle.dev_core.specs.declared.kind.Kind.TheVariants as device
@@ -23,31 +24,15 @@ use Rattle.repl_build.specs.declared.rules.Rule.TheVariants.{References}
 use Rattle.repl_build.specs.declared.types.PeripheralType.{PeripheralType}
 use Rattle.repl_build.specs.declared.types.PeripheralType.TheVariants as kind
 use Rattle.repl_build.specs.Attributes.{number_of}
-use Rattle.repl_build.specs.Counts.{count_of, is_bare}
+use Rattle.repl_build.specs.Counts.{is_bare}
 use Rattle.repl_build.specs.First.{◌>>=◌, refuse, fault_if}
 use Rattle.repl_build.specs.Merge.{merged}
 use Rattle.repl_build.specs.Names.{repeated, untyped}
+use Rattle.repl_build.specs.Numbers.{devices_of, what_of}
 use Rattle.repl_build.specs.Places.{base_of, size_of, step_of}
 use Rattle.repl_build.specs.Rules.{broken}
 use Rattle.repl_build.specs.Types.{is_type}
 use Rattle.repl_build.specs.Wires.{placed_wires, items_wires}
-
--- how many devices there are
-abbrev pub devices_of : List Peripheral → ℕ
-devices_of peripherals = count_of peripherals kind.Uart + count_of peripherals kind.Finisher
-
--- what a peripheral is on the board: memories and devices are numbered in the order of the entries
-abbrev pub what_by : List Peripheral → Option PeripheralType → Option NamedWhat
-what_by before (Some kind.Cpu) = Some what.Cpu
-what_by before (Some kind.Memory) = Some (what.Part (part.Ram (count_of before kind.Memory)))
-what_by before (Some kind.Clint) = Some (what.Part part.Clint)
-what_by before (Some kind.Plic) = Some (what.Part part.Plic)
-what_by before (Some kind.Uart) = Some (what.Part (part.Dev (devices_of before)))
-what_by before (Some kind.Finisher) = Some (what.Part (part.Dev (devices_of before)))
-what_by before None = None
-
-abbrev pub what_of : List Peripheral → Peripheral → Option NamedWhat
-what_of before p = what_by before p.kind
 
 -- lists of what each peripheral gives, behind those before it
 abbrev pub each : {X : Type 0} → (List Peripheral → Peripheral → List X) → List Peripheral → List Peripheral → List X
@@ -59,7 +44,7 @@ name_by name None = []
 name_by name (Some what) = record { name = name; what = what } ∷ []
 
 abbrev pub name_of : List Peripheral → Peripheral → List Named
-name_of before p = name_by p.name (what_of before p)
+name_of before p = name_by p.name (what_of before p.kind)
 
 abbrev pub region_by : Peripheral → Option NamedWhat → List Region
 region_by p (Some (what.Part part)) =
@@ -68,18 +53,18 @@ region_by p (Some what.Cpu) = []
 region_by p None = []
 
 abbrev pub region_of : List Peripheral → Peripheral → List Region
-region_of before p = region_by p (what_of before p)
+region_of before p = region_by p (what_of before p.kind)
 
-abbrev pub memory_of : List Peripheral → Peripheral → List ℕ
-memory_of before p = if is_type kind.Memory p.kind then size_of p ∷ [] else []
+abbrev pub memories_of : List Peripheral → List ℕ
+memories_of all = map size_of (filter (λ p. is_type kind.Memory p.kind) all)
 
-abbrev pub kind_by : Option PeripheralType → List Kind
-kind_by (Some kind.Uart) = device.Uart ∷ []
-kind_by (Some kind.Finisher) = device.Finisher ∷ []
-kind_by _ = []
+abbrev pub kind_by : Option PeripheralType → Option Kind
+kind_by (Some kind.Uart) = Some device.Uart
+kind_by (Some kind.Finisher) = Some device.Finisher
+kind_by _ = None
 
-abbrev pub kind_of : List Peripheral → Peripheral → List Kind
-kind_of before p = kind_by p.kind
+abbrev pub kinds_of : List Peripheral → List Kind
+kinds_of all = filter_map (λ p. kind_by p.kind) all
 
 -- the first peripheral of a type
 abbrev pub first_with : PeripheralType → List Peripheral → Option Peripheral
@@ -122,8 +107,8 @@ plan_with all wires =
     record {
       names = each name_of [] all;
       regions = each region_of [] all;
-      memories = each memory_of [] all;
-      kinds = each kind_of [] all;
+      memories = memories_of all;
+      kinds = kinds_of all;
       frequency = option_map frequency_of (first_with kind.Clint all);
       plic = plic_of all;
       wires = wires;

@@ -7,6 +7,7 @@ mod counts;
 mod fault;
 mod merge;
 mod names;
+mod numbers;
 mod places;
 mod plan;
 mod references;

@@ -1,5 +1,175 @@
 //! The plan of peripherals that keep all rules.
-ghost use Rattle.std.specs.Prelude.{◌≡◌};
+ghost use Rattle.std.specs.Prelude.{◌≡◌, ◌<◌, [], IfOk, IfErr, option_to_list};
+ghost use Rattle.std.specs.Option.{option_map};
+ghost use Rattle.repl_build.specs.Inner.Tested.{IsTested};
+ghost use Rattle.repl_build.specs.Numbers.{AreFew};
+ghost use Rattle.repl_build.specs.Plan as plan_spec;
 
+use crate::attributes::number_of;
 use crate::merge::Peripheral;
-use sys_bus::BoardPlan;
+use crate::numbers::what_of;
+use crate::places::{base_of, size_of, step_of};
+use crate::types::{PeripheralType, is_type};
+use crate::wires::wires_of;
+use dev_core::Kind;
+use lab_num::{Rows, Text};
+use repl_read::PlatFault;
+use std::alloc::{AllocError, Global};
+use sys_bus::{BoardPlan, Named, NamedWhat, PlicSize, Region};
+
+fn names_of(alloc: Global, all: &[Peripheral]) -> Result<Rows<Named>, PlatFault>
+    requires { AreFew all.now }
+    ensures ok { IfOk result (λ names. names ≡ plan_spec.each plan_spec.name_of [] all.now) }
+    ensures err { IfErr result (λ fault. fault ≡ PlatFault.Memory) }
+{
+    let mut names = Vec::new(alloc);
+    for (i, p) in all.iter().enumerate() {
+        if let Some(what) = what_of(all, i, p.kind) {
+            let name = p.name.clone()?;
+            names.push(Named { name, what })?;
+        }
+    }
+    Ok(Rows::of(names))
+}
+
+/// The region of a peripheral, unless it is the processor.
+fn region_by(p: &Peripheral, what: Option<NamedWhat>) -> Option<Region>
+    ensures { option_to_list result ≡ plan_spec.region_by p.now what }
+{
+    let Some(NamedWhat::Part(kind)) = what else {
+        return None;
+    };
+    Some(Region {
+        base: base_of(p),
+        size: size_of(p),
+        kind,
+        step: step_of(p.kind, p.items.items()),
+    })
+}
+
+fn regions_of(alloc: Global, all: &[Peripheral]) -> Result<Rows<Region>, PlatFault>
+    requires { AreFew all.now }
+    ensures ok { IfOk result (λ regions. regions ≡ plan_spec.each plan_spec.region_of [] all.now) }
+    ensures err { IfErr result (λ fault. fault ≡ PlatFault.Memory) }
+{
+    let mut regions = Vec::new(alloc);
+    for (i, p) in all.iter().enumerate() {
+        if let Some(region) = region_by(p, what_of(all, i, p.kind)) {
+            regions.push(region)?;
+        }
+    }
+    Ok(Rows::of(regions))
+}
+
+/// The sizes of the memories in bytes.
+fn memories_of(alloc: Global, all: &[Peripheral]) -> Result<Vec<u32>, AllocError>
+    ensures { IfOk result (λ sizes. sizes.items ≡ plan_spec.memories_of all.now) }
+{
+    all.iter()
+        .filter(|p| is_type(PeripheralType::Memory, p.kind))
+        .map(|p| size_of(p))
+        .collect(alloc)
+}
+
+fn kind_by(kind: Option<PeripheralType>) -> Option<Kind>
+    ensures { result ≡ plan_spec.kind_by kind }
+{
+    match kind {
+        Some(PeripheralType::Uart) => Some(Kind::Uart),
+        Some(PeripheralType::Finisher) => Some(Kind::Finisher),
+        _ => None,
+    }
+}
+
+/// The kinds of the devices.
+fn kinds_of(alloc: Global, all: &[Peripheral]) -> Result<Vec<Kind>, AllocError>
+    ensures { IfOk result (λ kinds. kinds.items ≡ plan_spec.kinds_of all.now) }
+{
+    all.iter().filter_map(|p| kind_by(p.kind)).collect(alloc)
+}
+
+/// The first peripheral of a type.
+fn first_with(kind: PeripheralType, all: &[Peripheral]) -> Option<&Peripheral>
+    ensures { option_map (λ p. p.now) result ≡ plan_spec.first_with kind all.now }
+{
+    all.iter().find(|p| is_type(kind, p.kind))
+}
+
+/// Ticks of the timer in a second, where there is a timer.
+fn frequency_in(all: &[Peripheral]) -> Option<u32>
+    ensures { result ≡ option_map plan_spec.frequency_of (plan_spec.first_with PeripheralType.Clint all.now) }
+{
+    match first_with(PeripheralType::Clint, all) {
+        Some(clint) => Some(number_of("frequency", 0, clint.items.items())),
+        None => None,
+    }
+}
+
+fn plic_size_of(p: &Peripheral) -> PlicSize
+    requires sources { (plan_spec.plic_size_of p.now).sources < 256 }
+    requires contexts { (plan_spec.plic_size_of p.now).contexts < 256 }
+    ensures { result ≡ plan_spec.plic_size_of p.now }
+{
+    let items = p.items.items();
+    PlicSize {
+        sources: number_of("numberOfSources", 0, items) as u8,
+        contexts: number_of("numberOfContexts", 1, items) as u8,
+    }
+}
+
+/// The sources and contexts of the interrupt controller, where there is one.
+fn plic_of(all: &[Peripheral]) -> Option<PlicSize>
+    requires { IsTested all.now }
+    ensures { result ≡ plan_spec.plic_of all.now }
+{
+    match first_with(PeripheralType::Plic, all) {
+        Some(plic) => Some(plic_size_of(plic)),
+        None => None,
+    }
+}
+
+/// Instructions in a microsecond.
+fn speed_in(cpu: Option<&Peripheral>) -> u32
+    ensures { result ≡ plan_spec.speed_in (option_map (λ p. p.now) cpu) }
+{
+    match cpu {
+        Some(cpu) => number_of("PerformanceInMips", 100, cpu.items.items()),
+        None => 100,
+    }
+}
+
+fn cpu_name_in(alloc: Global, cpu: Option<&Peripheral>) -> Result<Text, PlatFault>
+    ensures ok { IfOk result (λ name. name ≡ plan_spec.cpu_name_in (option_map (λ p. p.now) cpu)) }
+    ensures err { IfErr result (λ fault. fault ≡ PlatFault.Memory) }
+{
+    match cpu {
+        Some(cpu) => Ok(cpu.name.clone()?),
+        None => Ok(Text::of(alloc, "")?),
+    }
+}
+
+/// The plan of peripherals that keep all rules, or the fault of the first wire that cannot be.
+pub(crate) fn plan_of(alloc: Global, all: &[Peripheral]) -> Result<BoardPlan, PlatFault>
+    requires { IsTested all.now }
+    ensures { plan_spec.Gives result (plan_spec.plan_of all.now) }
+{
+    let plic = plic_of(all);
+    let wires = wires_of(alloc, plic, all)?;
+    let names = names_of(alloc, all)?;
+    let regions = regions_of(alloc, all)?;
+    let memories = memories_of(alloc, all)?;
+    let kinds = kinds_of(alloc, all)?;
+    let cpu = first_with(PeripheralType::Cpu, all);
+    let name = cpu_name_in(alloc, cpu)?;
+    Ok(BoardPlan {
+        names,
+        regions,
+        memories: Rows::of(memories),
+        kinds: Rows::of(kinds),
+        frequency: frequency_in(all),
+        plic,
+        wires,
+        speed: speed_in(cpu),
+        cpu: name,
+    })
+}

@@ -1,15 +1,17 @@
 //! The wires: interrupt lines, connected one by one with pins.
-ghost use Rattle.std.specs.Prelude.{◌≡◌, ◌+◌, ◌++◌, ◌≤◌, IfOk, IfErr, OnOk, IsTrue, true};
+ghost use Rattle.std.specs.Prelude.{◌≡◌, ◌+◌, ◌++◌, ◌<◌, [], IfOk, IfErr, OnOk, IsTrue, true};
 ghost use Rattle.std.specs.List.{list_all, flat_map};
-ghost use Rattle.std.specs.Option.{option_map};
 ghost use Rattle.sys_bus.specs.Wire as bus_wire;
-ghost use Rattle.repl_build.specs.Plan.{Gives};
+ghost use Rattle.repl_build.specs.Numbers.{devices_of};
+ghost use Rattle.repl_build.specs.Plan.{Gives, wires_from};
 ghost use Rattle.repl_build.specs.Wires as wires_spec;
 
 use crate::merge::{Peripheral, PlacedItem};
+use crate::numbers::device_number;
 use crate::references::names_a;
 use crate::types::{PeripheralType, is_type};
 use repl_read::{Ends, ItemWhat, PlatCause, PlatFault, Span};
+use lab_num::Rows;
 use std::alloc::Global;
 use sys_bus::{PlicSize, Wire, WireFrom, WirePin};
 
@@ -48,17 +50,17 @@ fn are_low(spans: &[Span]) -> bool
 }
 
 /// The numbers that an end of a wire names, unless one is beyond all lines and pins.
-fn ends_of(alloc: Global, ends: &Ends) -> Result<Option<Vec<u8>>, PlatFault>
+fn ends_of(alloc: Global, ends: &Ends) -> Result<Option<Rows<u8>>, PlatFault>
     ensures ok { IfOk result
-        (λ made. option_map (λ numbers. numbers.items) made ≡ wires_spec.ends_of ends.now) }
+        (λ made. made ≡ wires_spec.ends_of ends.now) }
     ensures err { IfErr result (λ fault. fault ≡ PlatFault.Memory) }
 {
     match ends {
-        Ends::Absent | Ends::Irq => Ok(Some(vec![in alloc; 0]?)),
+        Ends::Absent | Ends::Irq => Ok(Some(Rows::of(vec![in alloc; 0]?))),
         Ends::Spans(spans) => {
             let spans = spans.items();
             if are_low(spans) {
-                Ok(Some(numbers_of(alloc, spans)?))
+                Ok(Some(Rows::of(numbers_of(alloc, spans)?)))
             } else {
                 Ok(None)
             }
@@ -146,8 +148,8 @@ fn wire_at(between: Between, line: u8, pin: u8) -> Option<Wire>
 }
 
 /// Lines and pins, connected one by one.
-fn wired(alloc: Global, between: Between, lines: &[u8], pins: &[u8]) -> Result<Option<Vec<Wire>>, PlatFault>
-    ensures ok { IfOk result (λ made. option_map (λ wires. wires.items) made ≡ wires_spec.wired
+fn wired(alloc: Global, between: Between, lines: &[u8], pins: &[u8]) -> Result<Option<Rows<Wire>>, PlatFault>
+    ensures ok { IfOk result (λ made. made ≡ wires_spec.wired
         (wires_spec.wire_at between.plic between.kind between.dev between.to_cpu) lines.now pins.now) }
     ensures err { IfErr result (λ fault. fault ≡ PlatFault.Memory) }
 {
@@ -161,7 +163,7 @@ fn wired(alloc: Global, between: Between, lines: &[u8], pins: &[u8]) -> Result<O
         };
         wires.push(wire)?;
     }
-    Ok(Some(wires))
+    Ok(Some(Rows::of(wires)))
 }
 
 /// Whether a device may have such an end: `IRQ` is the one line of a UART.
@@ -175,8 +177,8 @@ fn has_ends(kind: Option<PeripheralType>, ends: &Ends) -> bool
 }
 
 /// The wires between two ends.
-fn wires_between(alloc: Global, between: Between, from: &Ends, pins: &Ends) -> Result<Option<Vec<Wire>>, PlatFault>
-    ensures ok { IfOk result (λ made. option_map (λ wires. wires.items) made
+fn wires_between(alloc: Global, between: Between, from: &Ends, pins: &Ends) -> Result<Option<Rows<Wire>>, PlatFault>
+    ensures ok { IfOk result (λ made. made
         ≡ wires_spec.wires_between between.plic between.kind between.dev between.to_cpu from.now pins.now) }
     ensures err { IfErr result (λ fault. fault ≡ PlatFault.Memory) }
 {
@@ -189,7 +191,7 @@ fn wires_between(alloc: Global, between: Between, from: &Ends, pins: &Ends) -> R
     let Some(pins) = ends_of(alloc, pins)? else {
         return Ok(None);
     };
-    wired(alloc, between, &lines, &pins)
+    wired(alloc, between, lines.items(), pins.items())
 }
 
 /// The wires of an item of a device.
@@ -200,13 +202,13 @@ fn item_wires(
     kind: Option<PeripheralType>,
     dev: u8,
     what: &ItemWhat,
-) -> Result<Option<Vec<Wire>>, PlatFault>
-    ensures ok { IfOk result (λ made. option_map (λ wires. wires.items) made
+) -> Result<Option<Rows<Wire>>, PlatFault>
+    ensures ok { IfOk result (λ made. made
         ≡ wires_spec.item_wires plic all.now kind dev what.now) }
     ensures err { IfErr result (λ fault. fault ≡ PlatFault.Memory) }
 {
     match what {
-        ItemWhat::Attribute { .. } => Ok(Some(Vec::new(alloc))),
+        ItemWhat::Attribute { .. } => Ok(Some(Rows::of(Vec::new(alloc)))),
         ItemWhat::Wire { from, to, pins } => {
             let to_cpu = names_a(PeripheralType::Cpu, all, to.as_str());
             let between = Between {
@@ -228,9 +230,8 @@ fn placed_wires(
     kind: Option<PeripheralType>,
     dev: u8,
     item: &PlacedItem,
-) -> Result<Vec<Wire>, PlatFault>
-    ensures { let seen = map_ok (λ wires. wires.items) result in
-        Gives seen (wires_spec.placed_wires plic all.now kind dev item.now) }
+) -> Result<Rows<Wire>, PlatFault>
+    ensures { Gives result (wires_spec.placed_wires plic all.now kind dev item.now) }
 {
     match item_wires(alloc, plic, all, kind, dev, &item.what)? {
         Some(wires) => Ok(wires),
@@ -240,4 +241,52 @@ fn placed_wires(
             cause: PlatCause::Line,
         }),
     }
+}
+
+/// Puts wires behind others.
+fn append(wires: &mut Vec<Wire>, more: &[Wire]) -> Result<(), PlatFault>
+    ensures ok { OnOk result (wires.new.items ≡ wires.old.items ++ more.now) }
+    ensures err { IfErr result (λ fault. fault ≡ PlatFault.Memory) }
+{
+    for wire in more {
+        wires.push(*wire)?;
+    }
+    Ok(())
+}
+
+/// The wires of a peripheral, which is the device `dev` if it is one, or the first fault.
+fn peripheral_wires(
+    alloc: Global,
+    plic: Option<PlicSize>,
+    all: &[Peripheral],
+    p: &Peripheral,
+    dev: u8,
+) -> Result<Rows<Wire>, PlatFault>
+    ensures { Gives result (wires_spec.items_wires
+        (wires_spec.placed_wires plic all.now p.now.kind dev) p.now.items) }
+{
+    let mut wires = Vec::new(alloc);
+    for item in p.items.items() {
+        let more = placed_wires(alloc, plic, all, p.kind, dev, item)?;
+        append(&mut wires, more.items())?;
+    }
+    Ok(Rows::of(wires))
+}
+
+/// All wires, or the first fault.
+pub(crate) fn wires_of(
+    alloc: Global,
+    plic: Option<PlicSize>,
+    all: &[Peripheral],
+) -> Result<Rows<Wire>, PlatFault>
+    requires { devices_of all.now < 256 }
+    ensures { Gives result (wires_from plic all.now [] all.now) }
+{
+    let mut wires = Vec::new(alloc);
+    for (i, p) in all.iter().enumerate() {
+        let dev = device_number(all, i);
+        let more = peripheral_wires(alloc, plic, all, p, dev)?;
+        append(&mut wires, more.items())?;
+    }
+    Ok(Rows::of(wires))
 }
