@@ -104,4 +104,4 @@ overlaps a b = nat_lt (max (base_of a) (base_of b)) (min (end_of a) (end_of b))
 
 -- test 9: it overlaps an earlier one, or ends past 2^32
 abbrev pub collides : List Peripheral → Peripheral → Bool
-collides before p = nat_lt (2 ^ 32) (end_of p) || list_any (λ other. overlaps p other) before
+collides before p = nat_lt (2 ^ 32) (end_of p) || list_any (overlaps p) before

@@ -70,8 +70,11 @@ kinds_of all = filter_map (λ p. kind_by p.kind) all
 abbrev pub first_with : PeripheralType → List Peripheral → Option Peripheral
 first_with type_ peripherals = find (λ p. is_type type_ p.kind) peripherals
 
-abbrev pub frequency_of : Peripheral → ℕ
-frequency_of p = number_of (codes "frequency") 0 p.items
+abbrev pub clint_frequency : Peripheral → ℕ
+clint_frequency p = number_of (codes "frequency") 0 p.items
+
+abbrev pub frequency_of : List Peripheral → Option ℕ
+frequency_of all = option_map clint_frequency (first_with kind.Clint all)
 
 abbrev pub plic_size_of : Peripheral → PlicSize
 plic_size_of p =
@@ -87,9 +90,15 @@ abbrev pub speed_in : Option Peripheral → ℕ
 speed_in None = 100
 speed_in (Some p) = number_of (codes "PerformanceInMips") 100 p.items
 
+abbrev pub speed_of : List Peripheral → ℕ
+speed_of all = speed_in (first_with kind.Cpu all)
+
 abbrev pub cpu_name_in : Option Peripheral → List ℕ
 cpu_name_in None = []
 cpu_name_in (Some p) = p.name
+
+abbrev pub cpu_name_of : List Peripheral → List ℕ
+cpu_name_of all = cpu_name_in (first_with kind.Cpu all)
 
 -- test 11, and the wires in the order of peripherals, items and pairs
 abbrev pub wires_from : Option PlicSize → List Peripheral → List Peripheral → List Peripheral → Result (List Wire) PlatFault
@@ -109,11 +118,11 @@ plan_with all wires =
       regions = each region_of [] all;
       memories = memories_of all;
       kinds = kinds_of all;
-      frequency = option_map frequency_of (first_with kind.Clint all);
+      frequency = frequency_of all;
       plic = plic_of all;
       wires = wires;
-      speed = speed_in (first_with kind.Cpu all);
-      cpu = cpu_name_in (first_with kind.Cpu all)
+      speed = speed_of all;
+      cpu = cpu_name_of all
     }
 
 -- tests 3 to 10, in their order

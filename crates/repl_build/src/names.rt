@@ -1,5 +1,6 @@
 //! What the entries are called.
-ghost use Rattle.std.specs.Prelude.{◌≡◌, [], take};
+ghost use Rattle.std.specs.Prelude.{◌≡◌, []};
+ghost use Rattle.std.specs.List.{list_any};
 ghost use Rattle.repl_build.specs.First.{first_fault};
 ghost use Rattle.repl_build.specs.Names as names_spec;
 
@@ -41,11 +42,18 @@ pub(crate) fn has_key(key: &str, what: &ItemWhat) -> bool
     }
 }
 
+/// Whether an attribute of that key stands there.
+fn has_any_key(key: &str, items: &[Item]) -> bool
+    ensures { result ≡ list_any (λ item. names_spec.has_key key.now item.what) items.now }
+{
+    items.iter().any(|item| has_key(key, &item.what))
+}
+
 fn repeats_key(before: &[Item], what: &ItemWhat) -> bool
     ensures { result ≡ names_spec.repeats_key before.now what.now }
 {
     match what {
-        ItemWhat::Attribute { key, .. } => before.iter().any(|item| has_key(key.as_str(), &item.what)),
+        ItemWhat::Attribute { key, .. } => has_any_key(key.as_str(), before),
         ItemWhat::Wire { .. } => false,
     }
 }

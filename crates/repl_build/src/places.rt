@@ -1,5 +1,6 @@
 //! Where peripherals stand: their registration, addresses and sizes.
 ghost use Rattle.std.specs.Prelude.{◌≡◌};
+ghost use Rattle.std.specs.List.{list_any};
 ghost use Rattle.repl_build.specs.Places as place;
 
 use crate::attributes::{PAGE_SIZE, has_attribute, is_set, number_of};
@@ -162,9 +163,15 @@ fn overlaps(a: &Peripheral, b: &Peripheral) -> bool
     u64::from(base_of(a).max(base_of(b))) < end_of(a).min(end_of(b))
 }
 
+fn overlaps_any(others: &[Peripheral], p: &Peripheral) -> bool
+    ensures { result ≡ list_any (place.overlaps p.now) others.now }
+{
+    others.iter().any(|other| overlaps(p, other))
+}
+
 /// Whether a peripheral overlaps an earlier one, or ends past the last address.
 pub(crate) fn collides(before: &[Peripheral], p: &Peripheral) -> bool
     ensures { result ≡ place.collides before.now p.now }
 {
-    end_of(p) > 0x1_0000_0000 || before.iter().any(|other| overlaps(p, other))
+    0x1_0000_0000 < end_of(p) || overlaps_any(before, p)
 }

@@ -96,8 +96,8 @@ fn first_with(kind: PeripheralType, all: &[Peripheral]) -> Option<&Peripheral>
 }
 
 /// Ticks of the timer in a second, where there is a timer.
-fn frequency_in(all: &[Peripheral]) -> Option<u32>
-    ensures { result ≡ option_map plan_spec.frequency_of (plan_spec.first_with PeripheralType.Clint all.now) }
+fn frequency_of(all: &[Peripheral]) -> Option<u32>
+    ensures { result ≡ plan_spec.frequency_of all.now }
 {
     match first_with(PeripheralType::Clint, all) {
         Some(clint) => Some(number_of("frequency", 0, clint.items.items())),
@@ -129,20 +129,21 @@ fn plic_of(all: &[Peripheral]) -> Option<PlicSize>
 }
 
 /// Instructions in a microsecond.
-fn speed_in(cpu: Option<&Peripheral>) -> u32
-    ensures { result ≡ plan_spec.speed_in (option_map (λ p. p.now) cpu) }
+fn speed_of(all: &[Peripheral]) -> u32
+    ensures { result ≡ plan_spec.speed_of all.now }
 {
-    match cpu {
+    match first_with(PeripheralType::Cpu, all) {
         Some(cpu) => number_of("PerformanceInMips", 100, cpu.items.items()),
         None => 100,
     }
 }
 
-fn cpu_name_in(alloc: Global, cpu: Option<&Peripheral>) -> Result<Text, PlatFault>
-    ensures ok { IfOk result (λ name. name ≡ plan_spec.cpu_name_in (option_map (λ p. p.now) cpu)) }
+/// The name of the processor.
+fn cpu_name_of(alloc: Global, all: &[Peripheral]) -> Result<Text, PlatFault>
+    ensures ok { IfOk result (λ name. name ≡ plan_spec.cpu_name_of all.now) }
     ensures err { IfErr result (λ fault. fault ≡ PlatFault.Memory) }
 {
-    match cpu {
+    match first_with(PeripheralType::Cpu, all) {
         Some(cpu) => Ok(cpu.name.clone()?),
         None => Ok(Text::of(alloc, "")?),
     }
@@ -159,17 +160,16 @@ pub(crate) fn plan_of(alloc: Global, all: &[Peripheral]) -> Result<BoardPlan, Pl
     let regions = regions_of(alloc, all)?;
     let memories = memories_of(alloc, all)?;
     let kinds = kinds_of(alloc, all)?;
-    let cpu = first_with(PeripheralType::Cpu, all);
-    let name = cpu_name_in(alloc, cpu)?;
+    let cpu = cpu_name_of(alloc, all)?;
     Ok(BoardPlan {
         names,
         regions,
         memories: Rows::of(memories),
         kinds: Rows::of(kinds),
-        frequency: frequency_in(all),
+        frequency: frequency_of(all),
         plic,
         wires,
-        speed: speed_in(cpu),
-        cpu: name,
+        speed: speed_of(all),
+        cpu,
     })
 }

@@ -1,0 +1,2 @@
+-- Lemmas of repl_build.
+pub mod FirstLemmas
