@@ -1,5 +1,6 @@
 -- Peripherals: the entries that have types, each with the further items that other entries give it.
-use Rattle.std.specs.Prelude.{ℕ, Bool, true, false, List, [], ◌∷◌, ◌++◌, map, if◌then◌else◌}
+use Rattle.std.specs.Prelude.{ℕ, Bool, true, false, List, [], ◌∷◌, ◌++◌, map, position, slice_set}
+use Rattle.std.specs.Prelude.{Option, Some, None, if◌then◌else◌}
 use Rattle.std.specs.List.{flat_map, fold}
 use Rattle.std.specs.Str.{bytes_eq}
 use Rattle.repl_read.specs.declared.entry.Entry.{Entry}
@@ -26,11 +27,13 @@ abbrev pub has_same_key : ItemWhat → PlacedItem → Bool
 has_same_key (Attribute key value) item = has_key key item.what
 has_same_key (Wire from to pins) item = false
 
+abbrev pub put_at : Option ℕ → List PlacedItem → PlacedItem → List PlacedItem
+put_at (Some i) items further = slice_set items i further
+put_at None items further = items ++ further ∷ []
+
 -- with a further item: an attribute takes the place of the one that was there, and all else comes to the end
 abbrev pub with_item : List PlacedItem → PlacedItem → List PlacedItem
-with_item [] further = further ∷ []
-with_item (item ∷ items) further =
-    if has_same_key further.what item then further ∷ items else item ∷ with_item items further
+with_item items further = put_at (position (has_same_key further.what) items) items further
 
 -- the entry has further items of the name
 abbrev pub updates : List ℕ → Head → Bool

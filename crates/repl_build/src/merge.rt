@@ -1,6 +1,6 @@
 //! Peripherals: the entries that have types, each with the further items that other entries give
 //! it.
-ghost use Rattle.std.specs.Prelude.{◌≡◌, ◌++◌, IfOk, IfErr, OnOk, map, position};
+ghost use Rattle.std.specs.Prelude.{◌≡◌, ◌++◌, ◌<◌, IfOk, IfErr, IfSome, OnOk, length, position};
 ghost use Rattle.std.specs.List.{fold};
 ghost use Rattle.repl_build.specs.Merge as merge_spec;
 
@@ -66,7 +66,8 @@ fn has_same_key(what: &ItemWhat, item: &PlacedItem) -> bool
 
 /// Where an attribute stands already.
 fn place_of(items: &[PlacedItem], what: &ItemWhat) -> Option<usize>
-    ensures { result ≡ position (merge_spec.has_same_key what.now) items.now }
+    ensures place { result ≡ position (merge_spec.has_same_key what.now) items.now }
+    ensures inside { IfSome result (λ at. at < length items.now) }
 {
     items.iter().position(|item| has_same_key(what, item))
 }
