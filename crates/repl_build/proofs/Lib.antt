@@ -1,2 +1,3 @@
 -- Lemmas of repl_build.
 pub mod FirstLemmas
+pub mod WireLemmas

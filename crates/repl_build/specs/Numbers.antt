@@ -1,5 +1,5 @@
 -- What peripherals are on a board, and their numbers there.
-use Rattle.std.specs.Prelude.{ℕ, ◌<◌, Bool, true, false, List, count_by, Option, Some, None}
+use Rattle.std.specs.Prelude.{ℕ, ◌+◌, ◌<◌, List, Option, Some, None}
 use Rattle.sys_bus.specs.declared.plan.NamedWhat.{NamedWhat}
 use Rattle.sys_bus.specs.declared.plan.NamedWhat.TheVariants as what
 use Rattle.sys_bus.specs.declared.region.RegionKind.TheVariants as part
@@ -8,13 +8,9 @@ use Rattle.repl_build.specs.declared.types.PeripheralType.{PeripheralType}
 use Rattle.repl_build.specs.declared.types.PeripheralType.TheVariants.{Cpu, Memory, Clint, Plic, Uart, Finisher}
 use Rattle.repl_build.specs.Counts.{count_of}
 
-abbrev pub is_device : Option PeripheralType → Bool
-is_device (Some Uart) = true
-is_device (Some Finisher) = true
-is_device _ = false
-
+-- how many devices there are
 abbrev pub devices_of : List Peripheral → ℕ
-devices_of peripherals = count_by (λ p. is_device p.kind) peripherals
+devices_of peripherals = count_of peripherals Uart + count_of peripherals Finisher
 
 -- memories and devices are numbered in the order of the entries
 abbrev pub what_of : List Peripheral → Option PeripheralType → Option NamedWhat

@@ -8,28 +8,16 @@ use crate::merge::Peripheral;
 use crate::types::PeripheralType;
 use sys_bus::{NamedWhat, RegionKind};
 
-fn is_device(kind: Option<PeripheralType>) -> bool
-    ensures { result ≡ numbers_spec.is_device kind }
-{
-    match kind {
-        Some(PeripheralType::Uart | PeripheralType::Finisher) => true,
-        _ => false,
-    }
-}
-
-fn devices_of(peripherals: &[Peripheral]) -> usize
-    ensures { result ≡ numbers_spec.devices_of peripherals.now }
-{
-    peripherals.iter().filter(|p| is_device(p.kind)).count()
-}
-
 /// The number of the device at `i`, if a device is there: how many are before it.
 pub(crate) fn device_number(all: &[Peripheral], i: usize) -> u8
     requires few { numbers_spec.devices_of all.now < 256 }
     requires inside { i ≤ length all.now }
     ensures { result ≡ numbers_spec.devices_of (take i all.now) }
 {
-    devices_of(&all[..i]) as u8
+    let before = &all[..i];
+    let uarts = count_of(before, PeripheralType::Uart);
+    let finishers = count_of(before, PeripheralType::Finisher);
+    (uarts + finishers) as u8
 }
 
 /// The number of the memory at `i`, if a memory is there: how many are before it.
