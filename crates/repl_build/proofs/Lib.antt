@@ -1,3 +1,6 @@
 -- Lemmas of repl_build.
-pub mod FirstLemmas
+pub mod CountLemmas
+pub mod NoneLemmas
+pub mod TestedLemmas
+pub mod TypeLemmas
 pub mod WireLemmas

@@ -14,7 +14,7 @@ use crate::wires::wires_of;
 use dev_core::Kind;
 use lab_num::{Rows, Text};
 use repl_read::PlatFault;
-use std::alloc::{AllocError, Global};
+use std::alloc::Global;
 use sys_bus::{BoardPlan, Named, NamedWhat, PlicSize, Region};
 
 fn names_of(alloc: Global, all: &[Peripheral]) -> Result<Rows<Named>, PlatFault>
@@ -62,13 +62,17 @@ fn regions_of(alloc: Global, all: &[Peripheral]) -> Result<Rows<Region>, PlatFau
 }
 
 /// The sizes of the memories in bytes.
-fn memories_of(alloc: Global, all: &[Peripheral]) -> Result<Vec<u32>, AllocError>
-    ensures { IfOk result (λ sizes. sizes.items ≡ plan_spec.memories_of all.now) }
+fn memories_of(alloc: Global, all: &[Peripheral]) -> Result<Rows<u32>, PlatFault>
+    ensures ok { IfOk result (λ sizes. sizes ≡ plan_spec.memories_of all.now) }
+    ensures err { IfErr result (λ fault. fault ≡ PlatFault.Memory) }
 {
-    all.iter()
-        .filter(|p| is_type(PeripheralType::Memory, p.kind))
-        .map(|p| size_of(p))
-        .collect(alloc)
+    let mut sizes = Vec::new(alloc);
+    for p in all {
+        if is_type(PeripheralType::Memory, p.kind) {
+            sizes.push(size_of(p))?;
+        }
+    }
+    Ok(Rows::of(sizes))
 }
 
 fn kind_by(kind: Option<PeripheralType>) -> Option<Kind>
@@ -82,10 +86,17 @@ fn kind_by(kind: Option<PeripheralType>) -> Option<Kind>
 }
 
 /// The kinds of the devices.
-fn kinds_of(alloc: Global, all: &[Peripheral]) -> Result<Vec<Kind>, AllocError>
-    ensures { IfOk result (λ kinds. kinds.items ≡ plan_spec.kinds_of all.now) }
+fn kinds_of(alloc: Global, all: &[Peripheral]) -> Result<Rows<Kind>, PlatFault>
+    ensures ok { IfOk result (λ kinds. kinds ≡ plan_spec.kinds_of all.now) }
+    ensures err { IfErr result (λ fault. fault ≡ PlatFault.Memory) }
 {
-    all.iter().filter_map(|p| kind_by(p.kind)).collect(alloc)
+    let mut kinds = Vec::new(alloc);
+    for p in all {
+        if let Some(kind) = kind_by(p.kind) {
+            kinds.push(kind)?;
+        }
+    }
+    Ok(Rows::of(kinds))
 }
 
 /// The first peripheral of a type.
@@ -164,8 +175,8 @@ pub(crate) fn plan_of(alloc: Global, all: &[Peripheral]) -> Result<BoardPlan, Pl
     Ok(BoardPlan {
         names,
         regions,
-        memories: Rows::of(memories),
-        kinds: Rows::of(kinds),
+        memories,
+        kinds,
         frequency: frequency_of(all),
         plic,
         wires,
