@@ -1,5 +1,5 @@
 -- What holds where no fault is found.
-use Rattle.std.proofs.Common.{◌≡◌, Bool, true, false, refl, sym, List, [], ◌∷◌, ◌++◌, Option, None, Some, find, cond}
+use Rattle.std.proofs.Common.{◌≡◌, Bool, true, false, refl, List, [], ◌∷◌, ◌++◌, Option, None, Some, find, cond}
 use Rattle.std.proofs.lemmas.Option.{same_Some}
 use Rattle.repl_read.specs.declared.fault.PlatFault.{PlatFault}
 use Rattle.repl_build.specs.declared.merge.Peripheral.{Peripheral}

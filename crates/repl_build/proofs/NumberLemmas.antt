@@ -1,23 +1,19 @@
 -- Numbers of attributes that keep the rule of values are within their ranges.
-use Rattle.std.proofs.Common.{◌≡◌, ℕ, ◌+◌, ◌<◌, ◌≤◌, ◌∙◌, Bool, true, false, not, ◌&&◌, refl, sym, ap, List, [], Option}
-use Rattle.std.proofs.Common.{None, Some, nat_le, arith, codes, find, subst, ◌⊎◌, inl, inr}
+use Rattle.std.proofs.Common.{◌≡◌, ℕ, ◌≤◌, ◌∙◌, true, false, not, refl, sym, ap, List, [], Option}
+use Rattle.std.proofs.Common.{None, Some, arith}
 use Rattle.std.proofs.lemmas.Bool.Decides.{nat_tests}
 use Rattle.std.proofs.lemmas.Slice.Eq.{bytes_eq-Decides}
-use Rattle.std.specs.List.{list_any}
-use Rattle.std.specs.Str.{bytes_eq}
 use Rattle.repl_read.specs.declared.entry.ItemWhat.{ItemWhat}
 use Rattle.repl_read.specs.declared.entry.ItemWhat.TheVariants.{Attribute, Wire}
 use Rattle.repl_read.specs.declared.entry.Place.{Place}
 use Rattle.repl_read.specs.declared.entry.Value.{Value}
 use Rattle.repl_read.specs.declared.entry.Value.TheVariants.{Number, Words, Truth, Name}
-use Rattle.repl_build.specs.declared.attributes.Sort.{Sort}
 use Rattle.repl_build.specs.declared.attributes.Sort.TheVariants.{Within}
 use Rattle.repl_build.specs.declared.merge.Peripheral.{Peripheral}
 use Rattle.repl_build.specs.declared.merge.PlacedItem.{PlacedItem}
 use Rattle.repl_build.specs.declared.rules.Rule.TheVariants.{Values}
 use Rattle.repl_build.specs.declared.types.PeripheralType.{PeripheralType}
 use Rattle.repl_build.specs.Attributes.{sort_of, takes, takes_by, is_refused, item_of, number_by, number_in, number_of}
-use Rattle.repl_build.specs.First.{first_fault}
 use Rattle.repl_build.specs.Names.{has_key}
 use Rattle.repl_build.specs.Plan.{first_with}
 use Rattle.repl_build.specs.Rules.{item_fault, items_fault, peripheral_fault, broken}

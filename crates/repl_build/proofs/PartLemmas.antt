@@ -1,14 +1,12 @@
 -- The processor, the CLINT and the PLIC of peripherals that keep all rules.
-use Rattle.std.proofs.Common.{◌≡◌, ℕ, ◌≤◌, ◌∙◌, Bool, true, false, not, ◌&&◌, ◌||◌, refl, sym, ap, List, [], ◌∷◌, Option}
+use Rattle.std.proofs.Common.{◌≡◌, ◌∙◌, Bool, true, false, not, ◌&&◌, ◌||◌, refl, sym, ap, List, [], ◌∷◌, Option}
 use Rattle.std.proofs.Common.{None, Some, arith, codes, find, cond}
 use Rattle.std.specs.List.{list_any}
-use Rattle.repl_read.specs.declared.entry.Place.{Place}
 use Rattle.repl_build.specs.declared.merge.Peripheral.{Peripheral}
-use Rattle.repl_build.specs.declared.merge.PlacedItem.{PlacedItem}
 use Rattle.repl_build.specs.declared.rules.Rule.TheVariants.{Required}
 use Rattle.repl_build.specs.declared.types.PeripheralType.{PeripheralType}
 use Rattle.repl_build.specs.declared.types.PeripheralType.TheVariants.{Cpu, Clint, Plic}
-use Rattle.repl_build.specs.Attributes.{sort_of, item_of, number_of}
+use Rattle.repl_build.specs.Attributes.{sort_of, number_of}
 use Rattle.repl_build.specs.Places.{is_registered, has_required, is_lacking}
 use Rattle.repl_build.specs.Plan.{first_with}
 use Rattle.repl_build.specs.Rules.{peripheral_fault, broken}
@@ -51,11 +49,12 @@ pub plic_numbers :
     × IsBetween 1 15 (number_of (codes "numberOfContexts") 1 p.items)
 plic_numbers all p keeps found =
     let values = found_values all Plic p keeps.values found in
-    let required = found_required all Plic p keeps.required found values.0 in
-    (number_within p all (codes "numberOfSources") 1 127 0 (ap (λ o. sort_of o (codes "numberOfSources")) values.0) values.1
-     (λ none. absurd (any_found _ p.items required none)),
-     number_within p all (codes "numberOfContexts") 1 15 1 (ap (λ o. sort_of o (codes "numberOfContexts")) values.0) values.1
-     (λ none. (omega arith, omega arith)))
+    let required = found_required all Plic p keeps.required found values.0 in (
+      number_within p all (codes "numberOfSources") 1 127 0 (ap (λ o. sort_of o (codes "numberOfSources")) values.0) values.1
+          (λ none. absurd (any_found _ p.items required none)),
+      number_within p all (codes "numberOfContexts") 1 15 1 (ap (λ o. sort_of o (codes "numberOfContexts")) values.0) values.1
+          (λ none. (omega arith, omega arith)),
+    )
 
 -- the frequency of the CLINT
 pub clint_number :

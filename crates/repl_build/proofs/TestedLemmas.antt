@@ -1,15 +1,13 @@
 -- What peripherals meet that keep all rules.
-use Rattle.std.proofs.Common.{◌≡◌, ℕ, ◌+◌, ◌<◌, ◌≤◌, ◌∙◌, Bool, true, false, not, ◌&&◌, ◌||◌, refl, sym, ap, List, [], ◌∷◌}
-use Rattle.std.proofs.Common.{◌++◌, Option, None, Some, Result, Ok, Err, count_by, nat_le, cond, arith, append_assoc, append-nil, find}
-use Rattle.std.proofs.lemmas.Bool.Decides.{nat_tests}
+use Rattle.std.proofs.Common.{◌≡◌, Bool, true, false, refl, List}
+use Rattle.std.proofs.Common.{Option, None, Some, Result, Ok}
 use Rattle.repl_read.specs.declared.fault.PlatFault.{PlatFault}
 use Rattle.repl_read.specs.declared.fault.PlatFault.TheVariants.{At}
 use Rattle.repl_read.specs.declared.fault.PlatCause.TheVariants as cause
 use Rattle.repl_build.specs.declared.merge.Peripheral.{Peripheral}
 use Rattle.repl_build.specs.declared.rules.Rule.TheVariants.{Types, Attributes, Required, Values, Core, Counts, Apart}
-use Rattle.repl_build.specs.declared.rules.Rule.TheVariants.{References}
 use Rattle.repl_build.specs.Counts.{is_bare}
-use Rattle.repl_build.specs.First.{◌>>=◌, refuse, fault_if, first_of, first_fault}
+use Rattle.repl_build.specs.First.{◌>>=◌, refuse, fault_if}
 use Rattle.repl_build.specs.Plan.{tested}
 use Rattle.repl_build.specs.Rules.{broken}
 
@@ -50,5 +48,5 @@ keeps all is =
       values = d.0;
       counts = f.0;
       whole = no_fault (is_bare all) _ g.0;
-      apart = h.0
+      apart = h.0;
     }

@@ -1,7 +1,6 @@
 -- Lists of wires, part by part.
-use Rattle.std.proofs.Common.{◌≡◌, ◌≢◌, ℕ, ◌+◌, ◌-◌, ◌<◌, ◌≤◌, ◌∙◌, refl, sym, ap, List, [], ◌∷◌, ◌++◌, length, arith}
-use Rattle.std.proofs.Common.{get_or, take, drop, Option, None, Some, Result, Ok, Err, append_assoc, add-one, suc}
-use Rattle.std.proofs.lemmas.List.{drop_more, take_more, append-nil}
+use Rattle.std.proofs.Common.{◌≡◌, ◌≢◌, ℕ, ◌+◌, ◌-◌, ◌<◌, ◌∙◌, refl, sym, ap, List, [], ◌∷◌, ◌++◌, length, arith}
+use Rattle.std.proofs.Common.{Option, None, Some, Result, Ok, append_assoc, add-one, suc}
 use Rattle.std.specs.List.{range_with_len}
 use Rattle.repl_read.specs.declared.fault.PlatFault.{PlatFault}
 use Rattle.sys_bus.specs.declared.wire.Wire.{Wire}

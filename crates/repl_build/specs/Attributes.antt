@@ -6,7 +6,7 @@ use Rattle.std.specs.Str.{bytes_eq}
 use Rattle.repl_read.specs.declared.entry.ItemWhat.{ItemWhat}
 use Rattle.repl_read.specs.declared.entry.ItemWhat.TheVariants.{Attribute, Wire}
 use Rattle.repl_read.specs.declared.entry.Place.{Place}
-use Rattle.repl_read.specs.declared.entry.Place.TheVariants.{Absent, Bus, Address, Range}
+use Rattle.repl_read.specs.declared.entry.Place.TheVariants.{Range}
 use Rattle.repl_read.specs.declared.entry.Value.{Value}
 use Rattle.repl_read.specs.declared.entry.Value.TheVariants.{Number, Words, Truth, Name}
 use Rattle.sys_bus.specs.declared.limits.TheConstants.{MOST_SPEED, MOST_FREQUENCY, MOST_SOURCES, MOST_CONTEXTS, PAGE_SIZE}

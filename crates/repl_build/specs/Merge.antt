@@ -1,5 +1,5 @@
 -- Peripherals: the entries that have types, each with the further items that other entries give it.
-use Rattle.std.specs.Prelude.{ℕ, Bool, true, false, List, [], ◌∷◌, ◌++◌, map, position, slice_set}
+use Rattle.std.specs.Prelude.{ℕ, Bool, false, List, [], ◌∷◌, ◌++◌, map, position, slice_set}
 use Rattle.std.specs.Prelude.{Option, Some, None, if◌then◌else◌}
 use Rattle.std.specs.List.{flat_map, fold}
 use Rattle.std.specs.Str.{bytes_eq}
@@ -59,7 +59,7 @@ peripheral entries entry name type_name place =
       name = name;
       kind = type_of type_name;
       at = place;
-      items = merged_items entries name entry
+      items = merged_items entries name entry;
     }
 
 abbrev pub peripheral_by : List Entry → Entry → Head → List Peripheral

@@ -1,6 +1,6 @@
 -- What the entries are called: each name has one type, an attribute stands once in an entry, and further items are of a
 -- name that was given its type before.
-use Rattle.std.specs.Prelude.{ℕ, Bool, true, false, not, List, [], ◌∷◌, Option, None}
+use Rattle.std.specs.Prelude.{ℕ, Bool, false, not, List, [], Option}
 use Rattle.std.specs.List.{list_any}
 use Rattle.std.specs.Str.{bytes_eq}
 use Rattle.repl_read.specs.declared.entry.Entry.{Entry}

@@ -3,7 +3,7 @@ use Rattle.std.specs.Prelude.{ℕ, ◌+◌, ◌^◌, ◌%◌, ◌==◌, nat_le, 
 use Rattle.std.specs.Prelude.{Option, Some, None, if◌then◌else◌, codes}
 use Rattle.std.specs.List.{list_any}
 use Rattle.repl_read.specs.declared.entry.Place.{Place}
-use Rattle.repl_read.specs.declared.entry.Place.TheVariants.{Absent, Bus, Address, Range}
+use Rattle.repl_read.specs.declared.entry.Place.TheVariants.{Bus, Address, Range}
 use Rattle.dev_core.specs.declared.kind.Kind.TheVariants as device
 use Rattle.sys_bus.specs.declared.limits.TheConstants.{PAGE_SIZE, REGION_UNIT, LEAST_CLINT, LEAST_PLIC}
 use Rattle.sys_bus.specs.Limits.{least_device_size}

@@ -15,8 +15,6 @@ use Rattle.sys_bus.specs.declared.plan.NamedWhat.{NamedWhat}
 use Rattle.sys_bus.specs.declared.plan.NamedWhat.TheVariants as what
 use Rattle.sys_bus.specs.declared.plan.PlicSize.{PlicSize}
 use Rattle.sys_bus.specs.declared.region.Region.{Region}
-use Rattle.sys_bus.specs.declared.region.RegionKind.{RegionKind}
-use Rattle.sys_bus.specs.declared.region.RegionKind.TheVariants as part
 use Rattle.sys_bus.specs.declared.wire.Wire.{Wire}
 use Rattle.repl_build.specs.declared.merge.Peripheral.{Peripheral}
 use Rattle.repl_build.specs.declared.rules.Rule.TheVariants.{Types, Attributes, Required, Values, Core, Counts, Apart}
@@ -80,7 +78,7 @@ abbrev pub plic_size_of : Peripheral → PlicSize
 plic_size_of p =
     record {
       sources = number_of (codes "numberOfSources") 0 p.items;
-      contexts = number_of (codes "numberOfContexts") 1 p.items
+      contexts = number_of (codes "numberOfContexts") 1 p.items;
     }
 
 abbrev pub plic_of : List Peripheral → Option PlicSize
@@ -122,7 +120,7 @@ plan_with all wires =
       plic = plic_of all;
       wires = wires;
       speed = speed_of all;
-      cpu = cpu_name_of all
+      cpu = cpu_name_of all;
     }
 
 -- tests 3 to 10, in their order

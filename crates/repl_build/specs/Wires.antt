@@ -1,8 +1,7 @@
 -- The wires: interrupt lines, connected one by one with pins of the processor or sources of the PLIC.
-use Rattle.std.specs.Prelude.{ℕ, ◌+◌, ◌-◌, ◌==◌, nat_le, Bool, true, false, not, ◌&&◌, if◌then◌else◌, List, [], ◌∷◌, ◌++◌}
-use Rattle.std.specs.Prelude.{Option, Some, None, option_and_then, Result, Ok, Err}
+use Rattle.std.specs.Prelude.{ℕ, ◌+◌, ◌-◌, ◌==◌, nat_le, Bool, true, false, if◌then◌else◌, List, [], ◌∷◌, ◌++◌}
+use Rattle.std.specs.Prelude.{Option, Some, None, Result, Ok, Err}
 use Rattle.std.specs.List.{list_all, flat_map, range_with_len}
-use Rattle.std.specs.Option.{option_map}
 use Rattle.repl_read.specs.declared.entry.Ends.{Ends}
 use Rattle.repl_read.specs.declared.entry.Ends.TheVariants.{Absent, Irq, Spans}
 use Rattle.repl_read.specs.declared.entry.ItemWhat.{ItemWhat}

@@ -30,7 +30,11 @@ fn memory_number(all: &[Peripheral], i: usize) -> u8
 }
 
 /// What a peripheral at `i` is on the board.
-pub(crate) fn what_of(all: &[Peripheral], i: usize, kind: Option<PeripheralType>) -> Option<NamedWhat>
+pub(crate) fn what_of(
+    all: &[Peripheral],
+    i: usize,
+    kind: Option<PeripheralType>,
+) -> Option<NamedWhat>
     requires few { numbers_spec.AreFew all.now }
     requires inside { i ≤ length all.now }
     ensures { result ≡ numbers_spec.what_of (take i all.now) kind }

@@ -56,13 +56,7 @@ pub(crate) fn step_of(kind: Option<PeripheralType>, items: &[PlacedItem]) -> u8
     ensures { result ≡ place.step_of kind items.now }
 {
     match kind {
-        Some(PeripheralType::Uart) => {
-            if is_set("wideRegisters", items) {
-                4
-            } else {
-                1
-            }
-        }
+        Some(PeripheralType::Uart) => { if is_set("wideRegisters", items) { 4 } else { 1 } }
         _ => 1,
     }
 }
@@ -75,13 +69,7 @@ fn least_of(kind: Option<PeripheralType>, step: u8) -> u32
         Some(PeripheralType::Memory) => PAGE_SIZE,
         Some(PeripheralType::Clint) => 0xC000,
         Some(PeripheralType::Plic) => 0x21_0000,
-        Some(PeripheralType::Uart) => {
-            if step == 4 {
-                32
-            } else {
-                8
-            }
-        }
+        Some(PeripheralType::Uart) => { if step == 4 { 32 } else { 8 } }
         Some(PeripheralType::Finisher) => 4,
         Some(PeripheralType::Cpu) | None => 0,
     }

@@ -10,8 +10,8 @@ use crate::merge::{Peripheral, PlacedItem};
 use crate::numbers::device_number;
 use crate::references::names_a;
 use crate::types::{PeripheralType, is_type};
-use repl_read::{Ends, ItemWhat, PlatCause, PlatFault, Span};
 use lab_num::Rows;
+use repl_read::{Ends, ItemWhat, PlatCause, PlatFault, Span};
 use std::alloc::Global;
 use sys_bus::{PlicSize, Wire, WireFrom, WirePin};
 
@@ -148,7 +148,12 @@ fn wire_at(between: Between, line: u8, pin: u8) -> Option<Wire>
 }
 
 /// Lines and pins, connected one by one.
-fn wired(alloc: Global, between: Between, lines: &[u8], pins: &[u8]) -> Result<Option<Rows<Wire>>, PlatFault>
+fn wired(
+    alloc: Global,
+    between: Between,
+    lines: &[u8],
+    pins: &[u8],
+) -> Result<Option<Rows<Wire>>, PlatFault>
     ensures ok { IfOk result (λ made. made ≡ wires_spec.wired
         (wires_spec.wire_at between.plic between.kind between.dev between.to_cpu) lines.now pins.now) }
     ensures err { IfErr result (λ fault. fault ≡ PlatFault.Memory) }
@@ -177,7 +182,12 @@ fn has_ends(kind: Option<PeripheralType>, ends: &Ends) -> bool
 }
 
 /// The wires between two ends.
-fn wires_between(alloc: Global, between: Between, from: &Ends, pins: &Ends) -> Result<Option<Rows<Wire>>, PlatFault>
+fn wires_between(
+    alloc: Global,
+    between: Between,
+    from: &Ends,
+    pins: &Ends,
+) -> Result<Option<Rows<Wire>>, PlatFault>
     ensures ok { IfOk result (λ made. made
         ≡ wires_spec.wires_between between.plic between.kind between.dev between.to_cpu from.now pins.now) }
     ensures err { IfErr result (λ fault. fault ≡ PlatFault.Memory) }
