@@ -1,8 +1,12 @@
 -- Lemmas of repl_build.
 pub mod CountLemmas
+pub mod ListLemmas
 pub mod NoneLemmas
 pub mod NumberLemmas
+pub mod PartCounts
 pub mod PartLemmas
+pub mod RegionLemmas
+pub mod SoundLemmas
 pub mod TestedLemmas
 pub mod TypeLemmas
 pub mod WireLemmas

@@ -5,6 +5,7 @@ mod attributes;
 mod builder;
 mod counts;
 mod fault;
+mod laws;
 mod merge;
 mod names;
 mod numbers;
