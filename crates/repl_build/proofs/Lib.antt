@@ -9,4 +9,5 @@ pub mod RegionLemmas
 pub mod SoundLemmas
 pub mod TestedLemmas
 pub mod TypeLemmas
+pub mod WhatLemmas
 pub mod WireLemmas

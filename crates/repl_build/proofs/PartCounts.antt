@@ -157,7 +157,7 @@ device_hit before (Some Plic) i = refl
 device_hit before (Some Uart) i = refl
 device_hit before (Some Finisher) i = refl
 
-either : (o : Option PeripheralType) (a b : ℕ) →
+pub either : (o : Option PeripheralType) (a b : ℕ) →
     (a + (if is_type Uart o then 1 else 0)) + (b + (if is_type Finisher o then 1 else 0))
     ≡ (a + b) + (if is_device o then 1 else 0)
 either None a b = omega arith
