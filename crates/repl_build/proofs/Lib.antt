@@ -5,6 +5,7 @@ pub mod NoneLemmas
 pub mod NumberLemmas
 pub mod PartCounts
 pub mod PartLemmas
+pub mod RangeLemmas
 pub mod RegionLemmas
 pub mod SoundLemmas
 pub mod TestedLemmas

@@ -45,7 +45,7 @@ abbrev pub NoneBefore : {X : Type 0} → (X → X → Bool) → List X → List 
 NoneBefore q before [] = Unit {0}
 NoneBefore q before (x ∷ xs) = (list_any (q x) before ≡ false) × NoneBefore q (before ++ x ∷ []) xs
 
-or_false : (a b : Bool) → (a || b) ≡ false → (a ≡ false) × (b ≡ false)
+pub or_false : (a b : Bool) → (a || b) ≡ false → (a ≡ false) × (b ≡ false)
 or_false true b is = absurd (cc)
 or_false false b is = (refl, is)
 

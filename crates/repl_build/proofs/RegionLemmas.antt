@@ -3,7 +3,9 @@ use Rattle.std.proofs.Common.{◌≡◌, ℕ, ◌+◌, ◌<◌, ◌≤◌, ◌^�
 use Rattle.std.proofs.Common.{[], ◌∷◌, ◌++◌, Option, None, Some, nat_lt, nat_le, min, max, arith, count_by, length, append_assoc}
 use Rattle.std.proofs.Common.{if◌then◌else◌, cond, codes, subst}
 use Rattle.std.proofs.lemmas.Bool.Decides.{nat_tests}
+use Rattle.std.proofs.Math.Nat.{max_comm, min_comm}
 use Rattle.std.proofs.lemmas.List.{append-nil}
+use Rattle.std.proofs.lemmas.List.Folds.{list_any-append}
 use Rattle.std.specs.List.{list_all, list_any}
 use Rattle.sys_bus.specs.declared.region.Region.{Region}
 use Rattle.sys_bus.specs.declared.region.RegionKind.{RegionKind}
@@ -25,7 +27,7 @@ use Rattle.repl_build.specs.Plan.{each, region_by, region_of, memories_of, kinds
 use Rattle.repl_build.specs.Types.{is_type}
 use Rattle.repl_build.proofs.PartCounts.{is_device}
 use Rattle.repl_build.proofs.WhatLemmas.{same_part_of, memory_at, kind_at}
-use Rattle.repl_build.proofs.ListLemmas.{both_true, all_append, count_append, count_cons}
+use Rattle.repl_build.proofs.ListLemmas.{both_true, all_append, or_false, NoneBefore, self_alone}
 use Rattle.repl_build.proofs.SoundLemmas.{Fits, Sound}
 
 same_number : (n : ℕ) → (n == n) ≡ true
@@ -141,11 +143,54 @@ each_append before (x ∷ xs) ys =
     ∙ (rw (append_assoc before (x ∷ []) xs) (sym (append_assoc (region_of before x) _ _)))
 
 apart_one :
-    (p q : Peripheral) (part : RegionKind) (o : Option NamedWhat) → place.overlaps p q ≡ false →
+    (p q : Peripheral) (o : Option NamedWhat) → place.overlaps p q ≡ false →
     (r : Region) → r.base ≡ place.base_of p → r.size ≡ place.size_of p → list_any (overlaps r) (region_by q o) ≡ false
-apart_one p q part None apart r base size = refl
-apart_one p q part (Some what.Cpu) apart r base size = refl
-apart_one p q part (Some (what.Part other)) apart r base size =
+apart_one p q None apart r base size = refl
+apart_one p q (Some what.Cpu) apart r base size = refl
+apart_one p q (Some (what.Part other)) apart r base size =
     let same : overlaps r (record { base = place.base_of q; size = place.size_of q; kind = other; step = place.step_of q.kind q.items })
         ≡ place.overlaps p q = rw (base, size) refl in
     rw (same, apart) refl
+
+regions_apart :
+    (p : Peripheral) (r : Region) → r.base ≡ place.base_of p → r.size ≡ place.size_of p → (before xs : List Peripheral) →
+    list_any (place.overlaps p) xs ≡ false → list_any (overlaps r) (each region_of before xs) ≡ false
+regions_apart p r base size before [] none = refl
+regions_apart p r base size before (q ∷ qs) none =
+    let parts = or_false (place.overlaps p q) (list_any (place.overlaps p) qs) none in
+    let one = apart_one p q (what_of before q.kind) parts.0 r base size in
+    let rest = regions_apart p r base size (before ++ q ∷ []) qs parts.1 in
+    list_any-append (overlaps r) (region_of before q) (each region_of (before ++ q ∷ []) qs) ∙ (rw (one, rest) refl)
+
+put_front :
+    (p : Peripheral) (o : Option NamedWhat) (before rest : List Region) →
+    ((r : Region) → r.base ≡ place.base_of p → r.size ≡ place.size_of p → list_any (overlaps r) before ≡ false) →
+    NoneBefore overlaps (before ++ region_by p o) rest → NoneBefore overlaps before (region_by p o ++ rest)
+put_front p None before rest none later = subst (λ b. NoneBefore overlaps b rest) (append-nil before) later
+put_front p (Some what.Cpu) before rest none later = subst (λ b. NoneBefore overlaps b rest) (append-nil before) later
+put_front p (Some (what.Part part)) before rest none later =
+    let region : Region =
+        record { base = place.base_of p; size = place.size_of p; kind = part; step = place.step_of p.kind p.items } in
+    (none region refl refl, later)
+
+none_overlap :
+    (all before xs : List Peripheral) → Sound all before xs →
+    NoneBefore overlaps (each region_of [] before) (each region_of before xs)
+none_overlap all before [] sound = tt
+none_overlap all before (p ∷ ps) sound =
+    let last : each region_of [] (before ++ p ∷ []) ≡ each region_of [] before ++ region_of before p =
+        each_append [] before (p ∷ []) ∙ ap (λ more. each region_of [] before ++ more) (append-nil (region_of before p)) in
+    put_front p (what_of before p.kind) (each region_of [] before) (each region_of (before ++ p ∷ []) ps)
+    (λ r base size. regions_apart p r base size [] before sound.0.apart)
+    (subst (λ b. NoneBefore overlaps b (each region_of (before ++ p ∷ []) ps)) last (none_overlap all (before ++ p ∷ []) ps sound.1))
+
+at_most_one : (n : ℕ) (b : Bool) → n ≡ cond {A = ℕ} b 1 0 → nat_le n 1 ≡ true
+at_most_one n true is = rw is refl
+at_most_one n false is = rw is refl
+
+-- no byte lies in two regions
+pub apart : (all : List Peripheral) → Sound all [] all → are_apart (each region_of [] all) ≡ true
+apart all sound =
+    let regions = each region_of [] all in
+    self_alone overlaps same_overlap (λ region. nat_le (count_of_overlaps regions region) 1) [] regions regions
+    (λ r is. at_most_one (count_of_overlaps regions r) (overlaps r r) is) refl (none_overlap all [] all sound)
