@@ -1,10 +1,12 @@
 -- Lemmas of repl_build.
 pub mod CountLemmas
 pub mod ListLemmas
+pub mod NameLemmas
 pub mod NoneLemmas
 pub mod NumberLemmas
 pub mod PartCounts
 pub mod PartLemmas
+pub mod PlanCounts
 pub mod RangeLemmas
 pub mod RegionLemmas
 pub mod SoundLemmas

@@ -44,7 +44,7 @@ region_hit part p (Some (what.Part k)) =
     elim (same_part k part) as (λ b. 0 + cond {A = ℕ} b 1 0 ≡ cond {A = ℕ} b 1 0) [ true ↦ refl | false ↦ refl ]
 
 -- sums of parts
-split : (a b c h r : ℕ) → a ≡ b + c → b ≡ h → c ≡ r → a ≡ h + r
+pub split : (a b c h r : ℕ) → a ≡ b + c → b ≡ h → c ≡ r → a ≡ h + r
 split a b c h r whole one two = omega arith
 
 -- a part has as many names as peripherals that are it

@@ -42,7 +42,7 @@ memory_at (q ∷ qs) p ps is =
           rw same rest
     ] sum
 
-device_cons : (q : Peripheral) (qs : List Peripheral) →
+pub device_cons : (q : Peripheral) (qs : List Peripheral) →
     devices_of (q ∷ qs) ≡ (if is_device q.kind then 1 else 0) + devices_of qs
 device_cons q qs =
     let uart = count_cons (λ r. is_type Uart r.kind) q qs in

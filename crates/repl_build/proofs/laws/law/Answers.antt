@@ -3,6 +3,8 @@ use Rattle.repl_build.proofs.PartCounts.{clint_hits, names_hits, regions_hits, o
 use Rattle.repl_build.proofs.SoundLemmas.{sound}
 use Rattle.repl_build.proofs.RegionLemmas.{addressed}
 use Rattle.repl_build.proofs.RangeLemmas.{ranges}
+use Rattle.repl_build.proofs.PlanCounts.{parts}
+use Rattle.repl_build.proofs.NameLemmas.{differ}
 use Rattle.repl_build.proofs.WhatLemmas.{memory_at}
 use Rattle.repl_build.proofs.ListLemmas.{self_alone}
 use Rattle.repl_build.proofs.laws.law.Goals as goal
