@@ -14,3 +14,4 @@ pub mod TestedLemmas
 pub mod TypeLemmas
 pub mod WhatLemmas
 pub mod WireLemmas
+pub mod WireValid

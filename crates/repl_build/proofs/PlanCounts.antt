@@ -198,7 +198,7 @@ parts all clints plics =
          each_one all (part.Dev i) _ (names_hits (part.Dev i) [] all) (regions_hits (part.Dev i) [] all) one) in
     both_true _ _ (both_true _ _ (both_true _ _
      (all_in_range _ 0 (length (memories_of all)) memory) (all_in_range _ 0 (length (kinds_of all)) device))
-     (most_one _ _ part.Clint (count_of all Clint) (names_hits part.Clint [] all ∙ clint_hits [] all)
+     (most_one (each name_of [] all) (each region_of [] all) part.Clint (count_of all Clint) (names_hits part.Clint [] all ∙ clint_hits [] all)
       (regions_hits part.Clint [] all ∙ clint_hits [] all) clints))
-    (most_one _ _ part.Plic (count_of all Plic) (names_hits part.Plic [] all ∙ plic_hits [] all)
+    (most_one (each name_of [] all) (each region_of [] all) part.Plic (count_of all Plic) (names_hits part.Plic [] all ∙ plic_hits [] all)
      (regions_hits part.Plic [] all ∙ plic_hits [] all) plics)

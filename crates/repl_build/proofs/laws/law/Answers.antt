@@ -5,6 +5,7 @@ use Rattle.repl_build.proofs.RegionLemmas.{addressed}
 use Rattle.repl_build.proofs.RangeLemmas.{ranges}
 use Rattle.repl_build.proofs.PlanCounts.{parts}
 use Rattle.repl_build.proofs.NameLemmas.{differ}
+use Rattle.repl_build.proofs.WireValid.{wires_good}
 use Rattle.repl_build.proofs.WhatLemmas.{memory_at}
 use Rattle.repl_build.proofs.ListLemmas.{self_alone}
 use Rattle.repl_build.proofs.laws.law.Goals as goal
