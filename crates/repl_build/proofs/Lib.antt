@@ -12,6 +12,7 @@ pub mod RegionLemmas
 pub mod SoundLemmas
 pub mod TestedLemmas
 pub mod TypeLemmas
+pub mod ValidLemmas
 pub mod WhatLemmas
 pub mod WireLemmas
 pub mod WireValid

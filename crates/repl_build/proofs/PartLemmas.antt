@@ -15,7 +15,7 @@ use Rattle.repl_build.proofs.NoneLemmas.{unbroken, found_sound}
 use Rattle.repl_build.proofs.NumberLemmas.{IsBetween, number_within, found_values}
 use Rattle.repl_build.proofs.TestedLemmas.{Keeps}
 
-both : (a b : Bool) → not (a && b) ≡ false → (a ≡ true) × (b ≡ true)
+pub both : (a b : Bool) → not (a && b) ≡ false → (a ≡ true) × (b ≡ true)
 both true true is = (refl, refl)
 both true false is = absurd (cc)
 both false b is = absurd (cc)

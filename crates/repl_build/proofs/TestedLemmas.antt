@@ -20,7 +20,7 @@ pub record Keeps (all : List Peripheral) : Type 0 where
   pub whole : is_bare all ≡ false
   pub apart : broken Apart all ≡ None
 
-passed :
+pub passed :
     {X : Type 0} (o : Option PlatFault) (rest : Unit {0} → Result X PlatFault) (x : X) → (refuse o >>= rest) ≡ Ok x →
     (o ≡ None) × (rest tt ≡ Ok x)
 passed None rest x is = (refl, is)

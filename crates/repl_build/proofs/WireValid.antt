@@ -35,13 +35,13 @@ use Rattle.repl_build.proofs.PartCounts.{is_device}
 use Rattle.repl_build.proofs.WhatLemmas.{kind_at}
 
 -- a step of a `do` block that gives a value
-ok_then :
+pub ok_then :
     {A B : Type 0} (r : Result A PlatFault) (f : A → Result B PlatFault) (y : B) → (r >>= f) ≡ Ok y →
     (x : A) × ((r ≡ Ok x) × (f x ≡ Ok y))
 ok_then (Ok x) f y is = (x, (refl, is))
 ok_then (Err fault) f y is = absurd (cc)
 
-same_ok : {A : Type 0} (x y : A) → (let r : Result A PlatFault = Ok x in r) ≡ Ok y → x ≡ y
+pub same_ok : {A : Type 0} (x y : A) → (let r : Result A PlatFault = Ok x in r) ≡ Ok y → x ≡ y
 same_ok x y is = cc
 
 same_some : {A : Type 0} (x y : A) → (let r : Option A = Some x in r) ≡ Some y → x ≡ y

@@ -1,5 +1,8 @@
 //! From entries to the plan.
-ghost use Rattle.std.specs.Prelude.{◌≡◌};
+ghost use Rattle.std.specs.Prelude.{IfOk, IsTrue};
+ghost use Rattle.std.specs.List.{list_all};
+ghost use Rattle.repl_read.specs.Entries.{is_entry};
+ghost use Rattle.sys_bus.specs.Plan.{IsValid};
 ghost use Rattle.repl_build.specs.Plan.{Builds};
 
 use crate::fault::refuse;
@@ -10,6 +13,18 @@ use crate::rules::tested;
 use repl_read::{Entry, PlatFault};
 use std::alloc::Global;
 use sys_bus::BoardPlan;
+
+/// The plan or the first fault.
+#[tactic(auto, unfolding(crate::specs::Plan::built))]
+fn plan_or_fault(alloc: Global, entries: &[Entry]) -> Result<BoardPlan, PlatFault>
+    ensures { Builds entries.now result }
+{
+    refuse(repeated(entries))?;
+    refuse(untyped(entries))?;
+    let all = merged(alloc, entries)?;
+    tested(&all)?;
+    plan_of(alloc, &all)
+}
 
 /// The plan of the board that the entries of its platform files describe, which are a part of
 /// Renode's platform description format. The entries of a `using` line are to stand in its place
@@ -26,15 +41,13 @@ use sys_bus::BoardPlan;
 /// wire to neither the processor nor a PLIC) and `Line` (lines and pins of a wire that do not fit).
 /// From `TypeName` on, the further items of an entry stand in the entry that gives the name its type.
 /// `Memory` is answered where memory is wanting alone.
-#[tactic(auto, unfolding(crate::specs::Plan::built))]
+///
+/// The plan is valid where each name has its form, as in what `read_platform` gives.
 pub fn build(alloc: Global, entries: Vec<Entry>) -> Result<BoardPlan, PlatFault>
-    ensures { Builds entries.items result }
+    ensures builds { Builds entries.items result }
+    ensures valid { IsTrue (list_all is_entry entries.items) → IfOk result IsValid }
 {
-    refuse(repeated(&entries))?;
-    refuse(untyped(&entries))?;
-    let all = merged(alloc, &entries)?;
-    tested(&all)?;
-    plan_of(alloc, &all)
+    plan_or_fault(alloc, &entries)
 }
 
 #[cfg(test)]

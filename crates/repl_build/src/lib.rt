@@ -5,7 +5,6 @@ mod attributes;
 mod builder;
 mod counts;
 mod fault;
-mod laws;
 mod merge;
 mod names;
 mod numbers;
