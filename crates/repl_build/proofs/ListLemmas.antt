@@ -1,8 +1,7 @@
 -- Lists and counts.
-use Rattle.std.proofs.Common.{◌≡◌, ℕ, ◌+◌, ◌<◌, ◌≤◌, ◌==◌, ◌∙◌, Bool, true, false, ◌&&◌, refl, sym, ap, List, [], ◌∷◌, ◌++◌}
-use Rattle.std.proofs.Common.{count_by, if◌then◌else◌, arith, zero, suc, length, add-one, slice_get, Option, None, Some, ◌||◌, cond}
+use Rattle.std.proofs.Common.{◌≡◌, ℕ, ◌+◌, ◌<◌, ◌≤◌, ◌∙◌, Bool, true, false, ◌&&◌, refl, sym, ap, List, [], ◌∷◌, ◌++◌}
+use Rattle.std.proofs.Common.{count_by, if◌then◌else◌, arith, zero, suc, length, slice_get, Some, ◌||◌, cond}
 use Rattle.std.proofs.Common.{append_assoc, subst}
-use Rattle.std.proofs.lemmas.Bool.Decides.{nat_tests}
 use Rattle.std.proofs.lemmas.List.Folds.{list_all-append, list_any-append}
 use Rattle.std.proofs.lemmas.List.Sums.{sum_by-append, sum_by-cons, sum_by_push}
 use Rattle.std.specs.List.{list_all, list_any, range_with_len}
@@ -64,11 +63,11 @@ none_later :
 none_later q same front x back [] none = refl
 none_later q same front x back (y ∷ ys) none =
     let split = or_false (list_any (q y) front) (list_any (q y) (x ∷ back))
-        (sym (list_any-append (q y) front (x ∷ back)) ∙ none.0) in
+    (sym (list_any-append (q y) front (x ∷ back)) ∙ none.0) in
     let here : q x y ≡ false = same x y ∙ (or_false (q y x) (list_any (q y) back) split.1).0 in
     let one : cond {A = ℕ} (q x y) 1 0 ≡ 0 = rw here refl in
     let later = none_later q same front x (back ++ y ∷ []) ys
-        (subst (λ before. NoneBefore q before ys) (append_assoc front (x ∷ back) (y ∷ [])) none.1) in
+    (subst (λ before. NoneBefore q before ys) (append_assoc front (x ∷ back) (y ∷ [])) none.1) in
     let sum = count_cons (q x) y ys in
     omega (arith, one, later, sum)
 

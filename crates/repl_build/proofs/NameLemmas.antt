@@ -1,6 +1,6 @@
 -- The names of a plan, and what stands for what.
-use Rattle.std.proofs.Common.{◌≡◌, ℕ, ◌+◌, ◌<◌, ◌≤◌, ◌==◌, ◌∙◌, Bool, true, false, not, ◌&&◌, ◌||◌, refl, sym, ap, List, []}
-use Rattle.std.proofs.Common.{◌∷◌, ◌++◌, Option, None, Some, nat_lt, cond, count_by, arith, find, is_some, append_assoc, subst}
+use Rattle.std.proofs.Common.{◌≡◌, ℕ, ◌+◌, ◌<◌, ◌≤◌, ◌==◌, ◌∙◌, Bool, true, false, ◌||◌, refl, sym, ap, List, []}
+use Rattle.std.proofs.Common.{◌∷◌, ◌++◌, Option, None, Some, nat_lt, cond, count_by, arith, is_some, append_assoc, subst}
 use Rattle.std.proofs.lemmas.Bool.Decides.{nat_tests}
 use Rattle.std.proofs.lemmas.List.{append-nil}
 use Rattle.std.proofs.lemmas.List.Folds.{list_any-append}
@@ -17,18 +17,17 @@ use Rattle.repl_read.specs.declared.entry.Head.TheVariants.{Using, Typed, Update
 use Rattle.sys_bus.specs.declared.plan.Named.{Named}
 use Rattle.sys_bus.specs.declared.plan.NamedWhat.{NamedWhat}
 use Rattle.sys_bus.specs.declared.plan.NamedWhat.TheVariants as what
-use Rattle.sys_bus.specs.declared.region.Region.{Region}
 use Rattle.sys_bus.specs.declared.region.RegionKind.{RegionKind}
 use Rattle.sys_bus.specs.declared.region.RegionKind.TheVariants as part
 use Rattle.sys_bus.specs.Name.{is_entry_name, are_names, names_differ, is_processor, count_of_processors}
 use Rattle.sys_bus.specs.Name.{are_processors_named, has_one_processor}
-use Rattle.sys_bus.specs.Part.{is_part, names_part, all_name_parts, all_hold_parts, has_no_others, has_region}
+use Rattle.sys_bus.specs.Part.{is_part, names_part, has_no_others, has_region}
 use Rattle.sys_bus.specs.Region.{same_part}
 use Rattle.repl_build.specs.declared.merge.Peripheral.{Peripheral}
 use Rattle.repl_build.specs.declared.types.PeripheralType.{PeripheralType}
 use Rattle.repl_build.specs.declared.types.PeripheralType.TheVariants.{Cpu, Memory, Clint, Plic, Uart, Finisher}
 use Rattle.repl_build.specs.Counts.{count_of, has_type}
-use Rattle.repl_build.specs.First.{first_of, first_fault, fault_if}
+use Rattle.repl_build.specs.First.{first_fault}
 use Rattle.repl_build.specs.Merge.{peripheral_by, peripheral_of, merged}
 use Rattle.repl_build.specs.Names.{types_name, is_typed, repeats_name, repeated_in, repeated}
 use Rattle.repl_build.specs.Numbers.{devices_of, what_of}
@@ -36,18 +35,17 @@ use Rattle.repl_build.specs.Plan.{each, name_by, name_of, region_by, region_of, 
 use Rattle.repl_build.specs.Types.{is_type}
 use Rattle.repl_build.proofs.ListLemmas.{count_cons, count_append, both_true, all_append, or_false, NoneBefore, self_alone}
 use Rattle.repl_build.proofs.NoneLemmas.{no_fault, first_none}
-use Rattle.repl_build.proofs.PartCounts.{is_device, either, split}
+use Rattle.repl_build.proofs.PartCounts.{is_device}
 use Rattle.repl_build.proofs.RangeLemmas.{and_true}
 use Rattle.repl_build.proofs.RegionLemmas.{regions_pass}
-use Rattle.repl_build.proofs.SoundLemmas.{Fits, Sound}
-use Rattle.repl_build.proofs.TypeLemmas.{is_type_same}
+use Rattle.repl_build.proofs.SoundLemmas.{Sound}
 use Rattle.repl_build.proofs.WhatLemmas.{same_part_of, device_cons}
 
 -- a test of each name
 names_pass :
     (test : Named → Bool) (all before xs : List Peripheral) →
     ((before : List Peripheral) (p : Peripheral) (ps : List Peripheral) (o : Option NamedWhat) →
-     all ≡ before ++ p ∷ ps → o ≡ what_of before p.kind → list_all test (name_by p.name o) ≡ true) →
+    all ≡ before ++ p ∷ ps → o ≡ what_of before p.kind → list_all test (name_by p.name o) ≡ true) →
     all ≡ before ++ xs → list_all test (each name_of before xs) ≡ true
 names_pass test all before [] one whole = refl
 names_pass test all before (p ∷ ps) one whole =
@@ -191,15 +189,16 @@ no_more : (cpu : List ℕ) (xs : List Peripheral) → count_of xs Cpu ≡ 0 → 
 no_more cpu [] none = tt
 no_more cpu (p ∷ ps) none =
     let sum : count_of (p ∷ ps) Cpu ≡ cond {A = ℕ} (is_type Cpu p.kind) 1 0 + count_of ps Cpu =
-        count_cons (λ q. is_type Cpu q.kind) p ps in
-    (λ is. let one : cond {A = ℕ} (is_type Cpu p.kind) 1 0 ≡ 1 = rw is refl in absurd (omega (arith, one, sum, none)),
-     no_more cpu ps (omega (arith, sum, none)))
+    count_cons (λ q. is_type Cpu q.kind) p ps in (
+      λ is. let one : cond {A = ℕ} (is_type Cpu p.kind) 1 0 ≡ 1 = rw is refl in absurd (omega (arith, one, sum, none)),
+      no_more cpu ps (omega (arith, sum, none)),
+    )
 
 sole : (xs : List Peripheral) → count_of xs Cpu ≤ 1 → AreNamed (cpu_name_of xs) xs
 sole [] few = tt
 sole (p ∷ ps) few =
     let sum : count_of (p ∷ ps) Cpu ≡ cond {A = ℕ} (is_type Cpu p.kind) 1 0 + count_of ps Cpu =
-        count_cons (λ q. is_type Cpu q.kind) p ps in
+    count_cons (λ q. is_type Cpu q.kind) p ps in
     elim (is_type Cpu p.kind) as (λ b. is_type Cpu p.kind ≡ b → count_of (p ∷ ps) Cpu ≡ cond {A = ℕ} b 1 0 + count_of ps Cpu →
     AreNamed (cpu_name_in (cond {A = Option Peripheral} b (Some p) (first_with Cpu ps))) (p ∷ ps)) [
       | true ↦ λ is sum. (λ same. refl, no_more p.name ps (omega (arith, sum, few)))
@@ -291,7 +290,7 @@ none_same :
 none_same before [] none = tt
 none_same before (p ∷ ps) none =
     let last : each name_of [] (before ++ p ∷ []) ≡ each name_of [] before ++ name_of before p =
-        name_append [] before (p ∷ []) ∙ ap (λ more. each name_of [] before ++ more) (append-nil (name_of before p)) in
+    name_append [] before (p ∷ []) ∙ ap (λ more. each name_of [] before ++ more) (append-nil (name_of before p)) in
     put_name p (what_of before p.kind) (each name_of [] before) (each name_of (before ++ p ∷ []) ps)
     (λ n is. other_names p n is [] before none.0)
     (subst (λ b. NoneBefore same_name b (each name_of (before ++ p ∷ []) ps)) last (none_same (before ++ p ∷ []) ps none.1))
@@ -338,8 +337,8 @@ distinct_from all before (e ∷ es) none =
     let parts = first_none _ _ none in
     let here = no_fault (repeats_name before e.head) _ (first_none _ _ parts.0).0 in
     let last : flat_map (peripheral_of all) (before ++ e ∷ []) ≡ flat_map (peripheral_of all) before ++ peripheral_of all e =
-        flat_map-append (peripheral_of all) before (e ∷ [])
-        ∙ ap (λ more. flat_map (peripheral_of all) before ++ more) (append-nil (peripheral_of all e)) in
+    flat_map-append (peripheral_of all) before (e ∷ [])
+    ∙ ap (λ more. flat_map (peripheral_of all) before ++ more) (append-nil (peripheral_of all e)) in
     put_entry all before e e.head (flat_map (peripheral_of all) es) here
     (subst (λ b. NoneBefore called_same b (flat_map (peripheral_of all) es)) last (distinct_from all (before ++ e ∷ []) es parts.1))
 

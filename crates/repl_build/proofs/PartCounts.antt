@@ -1,16 +1,13 @@
 -- How many names and regions a part of the board has.
-use Rattle.std.proofs.Common.{◌≡◌, ℕ, ◌+◌, ◌<◌, ◌≤◌, ◌==◌, ◌∙◌, Bool, true, false, ◌&&◌, refl, sym, ap, List, [], ◌∷◌, ◌++◌}
-use Rattle.std.proofs.Common.{count_by, if◌then◌else◌, arith, length, Option, None, Some, append_assoc, nat_le, nat_lt, cond}
+use Rattle.std.proofs.Common.{◌≡◌, ℕ, ◌+◌, ◌<◌, ◌≤◌, ◌==◌, ◌∙◌, Bool, true, false, refl, sym, List, [], ◌∷◌, ◌++◌}
+use Rattle.std.proofs.Common.{if◌then◌else◌, arith, Option, None, Some, append_assoc, cond}
 use Rattle.std.proofs.lemmas.Bool.Decides.{nat_tests}
 use Rattle.std.proofs.lemmas.List.{append-nil}
-use Rattle.std.specs.List.{list_all}
-use Rattle.sys_bus.specs.declared.plan.Named.{Named}
 use Rattle.sys_bus.specs.declared.plan.NamedWhat.{NamedWhat}
 use Rattle.sys_bus.specs.declared.plan.NamedWhat.TheVariants as what
-use Rattle.sys_bus.specs.declared.region.Region.{Region}
 use Rattle.sys_bus.specs.declared.region.RegionKind.{RegionKind}
 use Rattle.sys_bus.specs.declared.region.RegionKind.TheVariants as part
-use Rattle.sys_bus.specs.Part.{names_of, regions_of, names_part, is_part}
+use Rattle.sys_bus.specs.Part.{names_of, regions_of}
 use Rattle.sys_bus.specs.Region.{same_part}
 use Rattle.repl_build.specs.declared.merge.Peripheral.{Peripheral}
 use Rattle.repl_build.specs.declared.types.PeripheralType.{PeripheralType}
@@ -82,11 +79,11 @@ none_later count part is n i before (p ∷ ps) low =
     let push = n.push before p in
     let later = none_later count part is n i (before ++ p ∷ []) ps (omega (arith, push, low)) in
     let here : hit (part i) (what_of before p.kind) ≡ 0 =
-        n.numbered before p.kind i
-        ∙ (elim (is p.kind) as (λ b. cond {A = ℕ} b (cond {A = ℕ} (count before == i) 1 0) 0 ≡ 0) [
-          | true ↦ above (count before) i low
-          | false ↦ refl
-        ]) in
+    n.numbered before p.kind i
+    ∙ (elim (is p.kind) as (λ b. cond {A = ℕ} b (cond {A = ℕ} (count before == i) 1 0) 0 ≡ 0) [
+      | true ↦ above (count before) i low
+      | false ↦ refl
+    ]) in
     omega (arith, here, later)
 
 -- each number up to the count of all is that of one peripheral

@@ -1,38 +1,32 @@
 -- The counts of the parts of a plan.
-use Rattle.std.proofs.Common.{◌≡◌, ℕ, ◌+◌, ◌<◌, ◌≤◌, ◌==◌, ◌∙◌, Bool, true, false, not, ◌&&◌, ◌||◌, refl, sym, ap, List, []}
-use Rattle.std.proofs.Common.{◌∷◌, ◌++◌, Option, None, Some, nat_le, nat_lt, cond, length, map, filter, sum, count_by, arith}
-use Rattle.std.proofs.Common.{find, is_some, if◌then◌else◌, append_assoc, suc}
+use Rattle.std.proofs.Common.{◌≡◌, ℕ, ◌+◌, ◌<◌, ◌≤◌, ◌==◌, ◌∙◌, Bool, true, false, ◌&&◌, ◌||◌, refl, sym, List, []}
+use Rattle.std.proofs.Common.{◌∷◌, ◌++◌, Option, None, Some, nat_le, nat_lt, cond, length, map, filter, sum, arith}
+use Rattle.std.proofs.Common.{append_assoc}
 use Rattle.std.proofs.lemmas.Bool.Decides.{nat_tests}
 use Rattle.std.proofs.lemmas.List.{append-nil}
 use Rattle.std.proofs.lemmas.List.Sums.{sum_by-cons, sum_by_push}
-use Rattle.std.proofs.lemmas.List.Folds.{list_any-append}
-use Rattle.std.specs.List.{list_all, list_any, cons_option, sum_by, range_with_len}
-use Rattle.std.specs.Option.{option_map}
+use Rattle.std.specs.List.{cons_option, sum_by}
 use Rattle.dev_core.specs.declared.kind.Kind.{Kind}
 use Rattle.dev_core.specs.declared.kind.Kind.TheVariants as device
 use Rattle.sys_bus.specs.declared.limits.TheConstants.{MOST_MEMORY}
 use Rattle.sys_bus.specs.declared.plan.Named.{Named}
-use Rattle.sys_bus.specs.declared.plan.NamedWhat.{NamedWhat}
-use Rattle.sys_bus.specs.declared.plan.NamedWhat.TheVariants as what
 use Rattle.sys_bus.specs.declared.region.Region.{Region}
 use Rattle.sys_bus.specs.declared.region.RegionKind.{RegionKind}
 use Rattle.sys_bus.specs.declared.region.RegionKind.TheVariants as part
 use Rattle.sys_bus.specs.Limits as limit
-use Rattle.sys_bus.specs.Part.{names_of, regions_of, has_one_each, has_at_most_one_each, has_parts, is_part, names_part}
-use Rattle.sys_bus.specs.Part.{all_name_parts, all_hold_parts, has_no_others, has_region}
-use Rattle.sys_bus.specs.Region.{same_part}
+use Rattle.sys_bus.specs.Part.{names_of, regions_of, has_one_each, has_at_most_one_each, has_parts}
 use Rattle.repl_build.specs.declared.merge.Peripheral.{Peripheral}
 use Rattle.repl_build.specs.declared.types.PeripheralType.{PeripheralType}
 use Rattle.repl_build.specs.declared.types.PeripheralType.TheVariants.{Cpu, Memory, Clint, Plic, Uart, Finisher}
-use Rattle.repl_build.specs.Counts.{most_of, count_of, bytes_of, passes_memory, has_type, is_bare}
-use Rattle.repl_build.specs.Numbers.{devices_of, what_of}
+use Rattle.repl_build.specs.Counts.{count_of, bytes_of, has_type}
+use Rattle.repl_build.specs.Numbers.{devices_of}
 use Rattle.repl_build.specs.Places.{size_of}
-use Rattle.repl_build.specs.Plan.{each, name_by, name_of, region_by, region_of, kind_by, kinds_of, memories_of, first_with}
+use Rattle.repl_build.specs.Plan.{each, name_of, region_of, kind_by, kinds_of, memories_of}
 use Rattle.repl_build.specs.Types.{is_type}
-use Rattle.repl_build.proofs.ListLemmas.{count_push, count_cons, count_append, both_true, all_in_range, all_append}
+use Rattle.repl_build.proofs.ListLemmas.{count_cons, both_true, all_in_range}
 use Rattle.repl_build.proofs.PartCounts.{names_hits, regions_hits, one_each, memories_numbered, devices_numbered, clint_hits}
 use Rattle.repl_build.proofs.PartCounts.{plic_hits, is_device}
-use Rattle.repl_build.proofs.SoundLemmas.{Fits, Sound}
+use Rattle.repl_build.proofs.SoundLemmas.{Sound}
 use Rattle.repl_build.proofs.WhatLemmas.{device_cons}
 
 -- memories
@@ -41,7 +35,7 @@ memories_count [] = refl
 memories_count (p ∷ ps) =
     let rest = memories_count ps in
     let sum : count_of (p ∷ ps) Memory ≡ cond {A = ℕ} (is_type Memory p.kind) 1 0 + count_of ps Memory =
-        count_cons (λ q. is_type Memory q.kind) p ps in
+    count_cons (λ q. is_type Memory q.kind) p ps in
     elim (is_type Memory p.kind) as (λ b. count_of (p ∷ ps) Memory ≡ cond {A = ℕ} b 1 0 + count_of ps Memory →
     length (map size_of (cond b (p ∷ filter (λ q. is_type Memory q.kind) ps) (filter (λ q. is_type Memory q.kind) ps)))
     ≡ count_of (p ∷ ps) Memory) [
@@ -54,7 +48,7 @@ memories_sum [] = refl
 memories_sum (p ∷ ps) =
     let rest = memories_sum ps in
     let whole : sum_by bytes_of (p ∷ ps) ≡ cond {A = ℕ} (is_type Memory p.kind) (size_of p) 0 + sum_by bytes_of ps =
-        sum_by-cons bytes_of p ps in
+    sum_by-cons bytes_of p ps in
     elim (is_type Memory p.kind) as (λ b. sum_by bytes_of (p ∷ ps) ≡ cond {A = ℕ} b (size_of p) 0 + sum_by bytes_of ps →
     sum (map size_of (cond b (p ∷ filter (λ q. is_type Memory q.kind) ps) (filter (λ q. is_type Memory q.kind) ps)))
     ≡ sum_by bytes_of (p ∷ ps)) [
@@ -74,8 +68,8 @@ memory_within :
 memory_within all before [] few sound = rw append-nil few
 memory_within all before (p ∷ ps) few sound =
     let more : sum_by bytes_of (before ++ p ∷ []) ≤ MOST_MEMORY =
-        rw (sum_by_push bytes_of before p)
-        (memory_more (is_type Memory p.kind) (bytes_of p) (size_of p) (sum_by bytes_of before) refl few sound.0.few) in
+    rw (sum_by_push bytes_of before p)
+    (memory_more (is_type Memory p.kind) (bytes_of p) (size_of p) (sum_by bytes_of before) refl few sound.0.few) in
     rw (← append_assoc before (p ∷ []) ps) (memory_within all (before ++ p ∷ []) ps more sound.1)
 
 pub few_bytes : (all : List Peripheral) → Sound all [] all → sum_by bytes_of all ≤ MOST_MEMORY
@@ -86,7 +80,7 @@ pub counted_type : (k : PeripheralType) (all : List Peripheral) → has_type k a
 counted_type k [] is = absurd (cc)
 counted_type k (p ∷ ps) is =
     let sum : count_of (p ∷ ps) k ≡ cond {A = ℕ} (is_type k p.kind) 1 0 + count_of ps k =
-        count_cons (λ q. is_type k q.kind) p ps in
+    count_cons (λ q. is_type k q.kind) p ps in
     elim (is_type k p.kind) as (λ b. (b || has_type k ps) ≡ true →
     count_of (p ∷ ps) k ≡ cond {A = ℕ} b 1 0 + count_of ps k → 1 ≤ count_of (p ∷ ps) k) [
       | true ↦ λ is sum. omega (arith, sum)
@@ -189,16 +183,16 @@ pub parts :
     has_parts (each name_of [] all) (each region_of [] all) (length (memories_of all)) (length (kinds_of all)) ≡ true
 parts all clints plics =
     let memory = λ (i : ℕ) (low : 0 ≤ i) (high : i < 0 + length (memories_of all)).
-        (let inside : i < count_of all Memory = omega (arith, high, memories_count all) in
-         let one = one_each _ part.Ram _ memories_numbered i [] all (omega arith) inside in
-         each_one all (part.Ram i) _ (names_hits (part.Ram i) [] all) (regions_hits (part.Ram i) [] all) one) in
+    (let inside : i < count_of all Memory = omega (arith, high, memories_count all) in
+    let one = one_each _ part.Ram _ memories_numbered i [] all (omega arith) inside in
+    each_one all (part.Ram i) _ (names_hits (part.Ram i) [] all) (regions_hits (part.Ram i) [] all) one) in
     let device = λ (i : ℕ) (low : 0 ≤ i) (high : i < 0 + length (kinds_of all)).
-        (let inside : i < devices_of all = omega (arith, high, devices_count all) in
-         let one = one_each _ part.Dev _ devices_numbered i [] all (omega arith) inside in
-         each_one all (part.Dev i) _ (names_hits (part.Dev i) [] all) (regions_hits (part.Dev i) [] all) one) in
+    (let inside : i < devices_of all = omega (arith, high, devices_count all) in
+    let one = one_each _ part.Dev _ devices_numbered i [] all (omega arith) inside in
+    each_one all (part.Dev i) _ (names_hits (part.Dev i) [] all) (regions_hits (part.Dev i) [] all) one) in
     both_true _ _ (both_true _ _ (both_true _ _
-     (all_in_range _ 0 (length (memories_of all)) memory) (all_in_range _ 0 (length (kinds_of all)) device))
-     (most_one (each name_of [] all) (each region_of [] all) part.Clint (count_of all Clint) (names_hits part.Clint [] all ∙ clint_hits [] all)
-      (regions_hits part.Clint [] all ∙ clint_hits [] all) clints))
+    (all_in_range _ 0 (length (memories_of all)) memory) (all_in_range _ 0 (length (kinds_of all)) device))
+    (most_one (each name_of [] all) (each region_of [] all) part.Clint (count_of all Clint) (names_hits part.Clint [] all ∙ clint_hits [] all)
+    (regions_hits part.Clint [] all ∙ clint_hits [] all) clints))
     (most_one (each name_of [] all) (each region_of [] all) part.Plic (count_of all Plic) (names_hits part.Plic [] all ∙ plic_hits [] all)
-     (regions_hits part.Plic [] all ∙ plic_hits [] all) plics)
+    (regions_hits part.Plic [] all ∙ plic_hits [] all) plics)

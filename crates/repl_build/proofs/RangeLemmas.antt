@@ -1,6 +1,6 @@
 -- Addresses and sizes of peripherals that keep all rules.
-use Rattle.std.proofs.Common.{◌≡◌, ℕ, ◌+◌, ◌%◌, ◌==◌, ◌∙◌, Bool, true, false, not, ◌&&◌, ◌||◌, refl, sym, ap, List, [], ◌∷◌, ◌++◌}
-use Rattle.std.proofs.Common.{Option, None, Some, nat_le, cond, codes, slice_get, if◌then◌else◌}
+use Rattle.std.proofs.Common.{◌≡◌, ℕ, ◌%◌, ◌==◌, ◌∙◌, Bool, true, false, ◌&&◌, ◌||◌, refl, sym, ap, List, [], ◌∷◌, ◌++◌}
+use Rattle.std.proofs.Common.{Option, None, Some, nat_le, cond, codes, slice_get}
 use Rattle.std.specs.List.{list_all}
 use Rattle.dev_core.specs.declared.kind.Kind.{Kind}
 use Rattle.dev_core.specs.declared.kind.Kind.TheVariants as device
@@ -9,7 +9,6 @@ use Rattle.repl_read.specs.declared.entry.Place.TheVariants.{Absent, Bus, Addres
 use Rattle.sys_bus.specs.declared.limits.TheConstants.{PAGE_SIZE, REGION_UNIT}
 use Rattle.sys_bus.specs.declared.plan.NamedWhat.{NamedWhat}
 use Rattle.sys_bus.specs.declared.plan.NamedWhat.TheVariants as what
-use Rattle.sys_bus.specs.declared.region.Region.{Region}
 use Rattle.sys_bus.specs.declared.region.RegionKind.{RegionKind}
 use Rattle.sys_bus.specs.Limits.{least_device_size, is_range, are_ranges}
 use Rattle.repl_build.specs.declared.merge.Peripheral.{Peripheral}
@@ -122,7 +121,7 @@ required_size : (at : Place) (items : List PlacedItem) → has_required (Some Me
     item_of (codes "size") items ≡ None → ⊥
 required_size at items required range none =
     let there : has_attribute (codes "size") items ≡ true =
-        sym (ap (λ b. b || has_attribute (codes "size") items) range) ∙ required in
+    sym (ap (λ b. b || has_attribute (codes "size") items) range) ∙ required in
     any_found _ items there none
 
 ranged_one :
@@ -132,14 +131,14 @@ ranged_one all before p ps None fits whole is = refl
 ranged_one all before p ps (Some what.Cpu) fits whole is = refl
 ranged_one all before p ps (Some (what.Part part)) fits whole is =
     let memory : is_type Memory p.kind ≡ true → has_range p.at ≡ false →
-            is_memory_size (number_of (codes "size") 0 p.items) ≡ true =
-        λ memory range.
-            let kind = is_type_same Memory p.kind memory in
-            memory_sized p all kind fits.values
-            (required_size p.at p.items (sym (ap (λ t. has_required t p.at p.items) kind) ∙ fits.required) range) in
+    is_memory_size (number_of (codes "size") 0 p.items) ≡ true =
+    λ memory range.
+    let kind = is_type_same Memory p.kind memory in
+    memory_sized p all kind fits.values
+    (required_size p.at p.items (sym (ap (λ t. has_required t p.at p.items) kind) ∙ fits.required) range) in
     let good = placed p.kind p.at p.items before part is memory fits.registered fits.placed in
     let found : is_device p.kind ≡ true → slice_get (kinds_of all) (devices_of before) ≡ kind_by p.kind =
-        λ device. ap (λ ps. slice_get (kinds_of ps) (devices_of before)) whole ∙ kind_at before p ps device in
+    λ device. ap (λ ps. slice_get (kinds_of ps) (devices_of before)) whole ∙ kind_at before p ps device in
     both_true _ _ (range_of p.kind p.at p.items before part (kinds_of all) is found good) refl
 
 -- each region has an address and a size that may be

@@ -1,7 +1,7 @@
 -- The regions of peripherals that keep all rules.
-use Rattle.std.proofs.Common.{◌≡◌, ℕ, ◌+◌, ◌<◌, ◌≤◌, ◌^◌, ◌%◌, ◌==◌, ◌∙◌, Bool, true, false, not, ◌&&◌, ◌||◌, refl, sym, ap, List}
-use Rattle.std.proofs.Common.{[], ◌∷◌, ◌++◌, Option, None, Some, nat_lt, nat_le, min, max, arith, count_by, length, append_assoc}
-use Rattle.std.proofs.Common.{if◌then◌else◌, cond, codes, subst}
+use Rattle.std.proofs.Common.{◌≡◌, ℕ, ◌+◌, ◌^◌, ◌==◌, ◌∙◌, Bool, true, false, refl, sym, ap, List}
+use Rattle.std.proofs.Common.{[], ◌∷◌, ◌++◌, Option, None, Some, nat_lt, nat_le, arith, append_assoc}
+use Rattle.std.proofs.Common.{cond, codes, subst}
 use Rattle.std.proofs.lemmas.Bool.Decides.{nat_tests}
 use Rattle.std.proofs.Math.Nat.{max_comm, min_comm}
 use Rattle.std.proofs.lemmas.List.{append-nil}
@@ -21,7 +21,7 @@ use Rattle.repl_build.specs.declared.types.PeripheralType.{PeripheralType}
 use Rattle.repl_build.specs.declared.types.PeripheralType.TheVariants.{Cpu, Memory, Clint, Plic, Uart, Finisher}
 use Rattle.repl_build.specs.Attributes.{is_set}
 use Rattle.repl_build.specs.Counts.{count_of}
-use Rattle.repl_build.specs.Numbers.{devices_of, what_of}
+use Rattle.repl_build.specs.Numbers.{what_of}
 use Rattle.repl_build.specs.Places as place
 use Rattle.repl_build.specs.Plan.{each, region_by, region_of, memories_of, kinds_of, kind_by}
 use Rattle.repl_build.specs.Types.{is_type}
@@ -37,7 +37,7 @@ same_number n = grind (arith, nat_tests)
 pub regions_pass :
     (test : Region → Bool) (all before xs : List Peripheral) →
     ((before : List Peripheral) (p : Peripheral) (ps : List Peripheral) (o : Option NamedWhat) → Fits all before p →
-     all ≡ before ++ p ∷ ps → o ≡ what_of before p.kind → list_all test (region_by p o) ≡ true) →
+    all ≡ before ++ p ∷ ps → o ≡ what_of before p.kind → list_all test (region_by p o) ≡ true) →
     all ≡ before ++ xs → Sound all before xs → list_all test (each region_of before xs) ≡ true
 regions_pass test all before [] one whole sound = refl
 regions_pass test all before (p ∷ ps) one whole sound =
@@ -52,7 +52,7 @@ addressed_one all before p None fits = refl
 addressed_one all before p (Some what.Cpu) fits = refl
 addressed_one all before p (Some (what.Part part)) fits =
     let low : nat_le (place.base_of p + place.size_of p) (2 ^ 32) ≡ true =
-        below (2 ^ 32) (place.base_of p + place.size_of p) fits.addressed in
+    below (2 ^ 32) (place.base_of p + place.size_of p) fits.addressed in
     both_true _ _ low refl
   where
     below : (m n : ℕ) → nat_lt m n ≡ false → nat_le n m ≡ true
@@ -73,7 +73,7 @@ size_one (Some Memory) p before ps part kind is =
     let same = same_part_of _ _ is in
     let memory : is_type Memory p.kind ≡ true = ap (is_type Memory) kind in
     let at : (place.size_of p == slice_index (memories_of (before ++ p ∷ ps)) (count_of before Memory)) ≡ true =
-        rw (memory_at before p ps memory) (same_number (place.size_of p)) in
+    rw (memory_at before p ps memory) (same_number (place.size_of p)) in
     rw same at
 size_one (Some Clint) p before ps part kind is = rw (same_part_of _ _ is) refl
 size_one (Some Plic) p before ps part kind is = rw (same_part_of _ _ is) refl
@@ -109,8 +109,8 @@ step_one (Some Uart) p before ps part kind is =
     let same = same_part_of _ _ is in
     let at = kind_at before p ps (ap is_device kind) ∙ ap kind_by kind in
     let steps : is_step (Some device.Uart) (place.step_of (Some Uart) p.items) ≡ true =
-        elim (is_set (codes "wideRegisters") p.items) as
-        (λ b. is_step (Some device.Uart) (cond {A = ℕ} b 4 1) ≡ true) [ true ↦ refl | false ↦ refl ] in
+    elim (is_set (codes "wideRegisters") p.items) as
+    (λ b. is_step (Some device.Uart) (cond {A = ℕ} b 4 1) ≡ true) [ true ↦ refl | false ↦ refl ] in
     rw same (rw at steps)
 step_one (Some Finisher) p before ps part kind is =
     let same = same_part_of _ _ is in
@@ -149,7 +149,7 @@ apart_one p q None apart r base size = refl
 apart_one p q (Some what.Cpu) apart r base size = refl
 apart_one p q (Some (what.Part other)) apart r base size =
     let same : overlaps r (record { base = place.base_of q; size = place.size_of q; kind = other; step = place.step_of q.kind q.items })
-        ≡ place.overlaps p q = rw (base, size) refl in
+    ≡ place.overlaps p q = rw (base, size) refl in
     rw (same, apart) refl
 
 regions_apart :
@@ -170,7 +170,7 @@ put_front p None before rest none later = subst (λ b. NoneBefore overlaps b res
 put_front p (Some what.Cpu) before rest none later = subst (λ b. NoneBefore overlaps b rest) (append-nil before) later
 put_front p (Some (what.Part part)) before rest none later =
     let region : Region =
-        record { base = place.base_of p; size = place.size_of p; kind = part; step = place.step_of p.kind p.items } in
+    record { base = place.base_of p; size = place.size_of p; kind = part; step = place.step_of p.kind p.items } in
     (none region refl refl, later)
 
 none_overlap :
@@ -179,7 +179,7 @@ none_overlap :
 none_overlap all before [] sound = tt
 none_overlap all before (p ∷ ps) sound =
     let last : each region_of [] (before ++ p ∷ []) ≡ each region_of [] before ++ region_of before p =
-        each_append [] before (p ∷ []) ∙ ap (λ more. each region_of [] before ++ more) (append-nil (region_of before p)) in
+    each_append [] before (p ∷ []) ∙ ap (λ more. each region_of [] before ++ more) (append-nil (region_of before p)) in
     put_front p (what_of before p.kind) (each region_of [] before) (each region_of (before ++ p ∷ []) ps)
     (λ r base size. regions_apart p r base size [] before sound.0.apart)
     (subst (λ b. NoneBefore overlaps b (each region_of (before ++ p ∷ []) ps)) last (none_overlap all (before ++ p ∷ []) ps sound.1))

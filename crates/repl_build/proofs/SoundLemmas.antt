@@ -1,13 +1,12 @@
 -- What each peripheral meets that stands behind others, where all rules are kept.
-use Rattle.std.proofs.Common.{◌≡◌, ℕ, ◌+◌, ◌<◌, ◌≤◌, ◌^◌, ◌∙◌, Bool, true, false, not, ◌&&◌, ◌||◌, refl, sym, ap, List, []}
-use Rattle.std.proofs.Common.{◌∷◌, ◌++◌, Option, None, Some, nat_lt, is_none, arith}
+use Rattle.std.proofs.Common.{◌≡◌, ◌^◌, Bool, true, false, not, ◌||◌, refl, List, []}
+use Rattle.std.proofs.Common.{◌∷◌, ◌++◌, None, nat_lt, is_none}
 use Rattle.std.specs.List.{list_any}
 use Rattle.repl_build.specs.declared.merge.Peripheral.{Peripheral}
 use Rattle.repl_build.specs.declared.rules.Rule.TheVariants.{Types, Required, Values, Counts, Apart}
-use Rattle.repl_build.specs.declared.types.PeripheralType.{PeripheralType}
 use Rattle.repl_build.specs.Counts.{passes_memory, are_as_many_as_may_be}
 use Rattle.repl_build.specs.First.{first_fault}
-use Rattle.repl_build.specs.Places.{is_registered, has_required, is_place, step_of, is_misplaced, overlaps, end_of}
+use Rattle.repl_build.specs.Places.{is_registered, has_required, is_place, step_of, overlaps, end_of}
 use Rattle.repl_build.specs.Rules.{items_fault, peripheral_fault}
 use Rattle.repl_build.proofs.NoneLemmas.{first_none, unbroken}
 use Rattle.repl_build.proofs.PartLemmas.{complete}
@@ -52,16 +51,16 @@ sound_from all before (p ∷ ps) types required values counts apart =
     let value = unbroken Values all before p v.0 in
     let collides = neither (nat_lt (2 ^ 32) (end_of p)) (list_any (overlaps p) before) (unbroken Apart all before p a.0).0 in
     let fits : Fits all before p =
-        record {
-          known = (unbroken Types all before p t.0).0;
-          registered = whole.0;
-          required = whole.1;
-          placed = not_false (is_place p.kind (step_of p.kind p.items) p.at) value.0;
-          values = value.1;
-          few = (neither (are_as_many_as_may_be before p.kind) (passes_memory before p) (unbroken Counts all before p c.0).0).1;
-          apart = collides.1;
-          addressed = collides.0
-        } in
+    record {
+      known = (unbroken Types all before p t.0).0;
+      registered = whole.0;
+      required = whole.1;
+      placed = not_false (is_place p.kind (step_of p.kind p.items) p.at) value.0;
+      values = value.1;
+      few = (neither (are_as_many_as_may_be before p.kind) (passes_memory before p) (unbroken Counts all before p c.0).0).1;
+      apart = collides.1;
+      addressed = collides.0;
+    } in
     (fits, sound_from all (before ++ p ∷ []) ps t.1 r.1 v.1 c.1 a.1)
 
 -- peripherals that keep all rules are sound, one by one

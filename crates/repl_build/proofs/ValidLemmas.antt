@@ -1,5 +1,5 @@
 -- The plan of entries without a fault is valid.
-use Rattle.std.proofs.Common.{◌≡◌, ℕ, ◌≤◌, ◌∙◌, Bool, true, false, ◌&&◌, refl, sym, ap, List, Option, None, Some, Result, Ok, Err}
+use Rattle.std.proofs.Common.{◌≡◌, ℕ, ◌≤◌, ◌∙◌, true, ◌&&◌, refl, sym, List, Option, None, Some, Result, Ok, Err}
 use Rattle.std.proofs.Common.{nat_le, length, sum, arith, [], IfOk, IsTrue}
 use Rattle.std.proofs.lemmas.Bool.Decides.{nat_tests}
 use Rattle.std.specs.List.{list_all}
@@ -12,16 +12,14 @@ use Rattle.sys_bus.specs.declared.limits.TheConstants.{MOST_MEMORY}
 use Rattle.sys_bus.specs.declared.plan.BoardPlan.{BoardPlan}
 use Rattle.sys_bus.specs.declared.wire.Wire.{Wire}
 use Rattle.sys_bus.specs.Limits as limit
-use Rattle.sys_bus.specs.Part.{has_no_others}
 use Rattle.sys_bus.specs.Plan.{IsValid}
 use Rattle.repl_build.specs.declared.merge.Peripheral.{Peripheral}
 use Rattle.repl_build.specs.declared.types.PeripheralType.TheVariants.{Cpu, Memory, Clint, Plic, Uart, Finisher}
 use Rattle.repl_build.specs.Counts.{count_of, has_type}
-use Rattle.repl_build.specs.First.{◌>>=◌, refuse}
 use Rattle.repl_build.specs.Merge.{merged}
 use Rattle.repl_build.specs.Names.{repeated, untyped}
-use Rattle.repl_build.specs.Plan.{each, name_of, region_of, memories_of, kinds_of, first_with, clint_frequency, plic_size_of}
-use Rattle.repl_build.specs.Plan.{speed_in, wires_of, plan_with, tested, plan_of, built, Gives}
+use Rattle.repl_build.specs.Plan.{memories_of, kinds_of, first_with, clint_frequency, plic_size_of}
+use Rattle.repl_build.specs.Plan.{speed_in, wires_of, plan_with, tested, built, Gives}
 use Rattle.repl_build.proofs.CountLemmas.{few_of}
 use Rattle.repl_build.proofs.ListLemmas.{both_true}
 use Rattle.repl_build.proofs.NameLemmas.{names_good, differ, distinct, processor, no_others, clint_there, plic_there, found_type}
@@ -64,7 +62,7 @@ devices_few all keeps =
     let finishers = few_of all Finisher keeps.counts in
     both_true _ _
     (both_true _ _ (at_most (limit.count_of (kinds_of all) device.Uart) 4 (omega (arith, uarts, uarts_count all)))
-     (at_most (limit.count_of (kinds_of all) device.Can) 4 (omega (arith, cans_count all))))
+    (at_most (limit.count_of (kinds_of all) device.Can) 4 (omega (arith, cans_count all))))
     (at_most (limit.count_of (kinds_of all) device.Finisher) 1 (omega (arith, finishers, finishers_count all)))
 
 memories_few : (all : List Peripheral) → Keeps all → has_type Memory all ≡ true →
@@ -77,7 +75,7 @@ memories_few all keeps there =
     let total = memories_sum all in
     both_true _ _
     (both_true _ _ (at_most 1 (length (memories_of all)) (omega (arith, some, count)))
-     (at_most (length (memories_of all)) 8 (omega (arith, few, count))))
+    (at_most (length (memories_of all)) 8 (omega (arith, few, count))))
     (at_most (sum (memories_of all)) MOST_MEMORY (omega (arith, bytes, total)))
 
 plan_valid :
@@ -108,7 +106,7 @@ plan_valid entries wires good once keeps is =
       ranges = ranges all sound;
       apart = apart all sound;
       addressed = addressed all sound;
-      wires = wires_good all wires is
+      wires = wires_good all wires is;
     }
 
 built_valid :

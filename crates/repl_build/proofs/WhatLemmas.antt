@@ -1,18 +1,17 @@
 -- What a peripheral is on the board, backwards.
-use Rattle.std.proofs.Common.{◌≡◌, ℕ, ◌+◌, ◌∙◌, true, false, refl, sym, ap, List, [], ◌∷◌, ◌++◌, Option, None, Some, arith}
-use Rattle.std.proofs.Common.{count_by, slice_get, map, filter, length, cond, suc, zero, if◌then◌else◌, subst}
+use Rattle.std.proofs.Common.{◌≡◌, ℕ, ◌+◌, true, false, refl, List, [], ◌∷◌, ◌++◌, Option, None, Some, arith}
+use Rattle.std.proofs.Common.{slice_get, map, filter, cond, suc, if◌then◌else◌}
 use Rattle.std.specs.Prelude.{slice_index}
 use Rattle.std.specs.List.{cons_option}
 use Rattle.dev_core.specs.declared.kind.Kind.{Kind}
 use Rattle.sys_bus.specs.declared.plan.NamedWhat.{NamedWhat}
 use Rattle.sys_bus.specs.declared.plan.NamedWhat.TheVariants as what
 use Rattle.sys_bus.specs.declared.region.RegionKind.{RegionKind}
-use Rattle.sys_bus.specs.declared.region.RegionKind.TheVariants as part
 use Rattle.repl_build.specs.declared.merge.Peripheral.{Peripheral}
 use Rattle.repl_build.specs.declared.types.PeripheralType.{PeripheralType}
 use Rattle.repl_build.specs.declared.types.PeripheralType.TheVariants.{Cpu, Memory, Clint, Plic, Uart, Finisher}
 use Rattle.repl_build.specs.Counts.{count_of}
-use Rattle.repl_build.specs.Numbers.{devices_of, what_of}
+use Rattle.repl_build.specs.Numbers.{devices_of}
 use Rattle.repl_build.specs.Places.{size_of}
 use Rattle.repl_build.specs.Plan.{kind_by, kinds_of, memories_of}
 use Rattle.repl_build.specs.Types.{is_type}
@@ -30,7 +29,7 @@ memory_at [] p ps is = rw is refl
 memory_at (q ∷ qs) p ps is =
     let rest = memory_at qs p ps is in
     let sum : count_of (q ∷ qs) Memory ≡ (if is_type Memory q.kind then 1 else 0) + count_of qs Memory =
-        count_cons (λ r. is_type Memory r.kind) q qs in
+    count_cons (λ r. is_type Memory r.kind) q qs in
     elim (is_type Memory q.kind) as (λ b. count_of (q ∷ qs) Memory ≡ (if b then 1 else 0) + count_of qs Memory →
     slice_index (map size_of (cond b (q ∷ filter (λ r. is_type Memory r.kind) (qs ++ p ∷ ps))
     (filter (λ r. is_type Memory r.kind) (qs ++ p ∷ ps)))) (count_of (q ∷ qs) Memory) ≡ size_of p) [

@@ -1,10 +1,8 @@
 -- Wires that are given are wires that a board may have.
-use Rattle.std.proofs.Common.{◌≡◌, ℕ, ◌+◌, ◌==◌, ◌∙◌, Bool, true, false, ◌&&◌, ◌||◌, refl, sym, ap, List, [], ◌∷◌, ◌++◌, Option}
-use Rattle.std.proofs.Common.{None, Some, Result, Ok, Err, cond, slice_get, append_assoc, if◌then◌else◌, subst}
-use Rattle.std.specs.List.{list_all, list_any}
+use Rattle.std.proofs.Common.{◌≡◌, ℕ, ◌==◌, ◌∙◌, Bool, true, false, ◌&&◌, ◌||◌, refl, sym, ap, List, [], ◌∷◌, ◌++◌, Option}
+use Rattle.std.proofs.Common.{None, Some, Result, Ok, Err, cond, slice_get, append_assoc}
+use Rattle.std.specs.List.{list_all}
 use Rattle.dev_core.specs.declared.kind.Kind.{Kind}
-use Rattle.dev_core.specs.declared.kind.Kind.TheVariants as device
-use Rattle.repl_read.specs.declared.entry.Ends.{Ends}
 use Rattle.repl_read.specs.declared.entry.ItemWhat.{ItemWhat}
 use Rattle.repl_read.specs.declared.entry.ItemWhat.TheVariants as item
 use Rattle.repl_read.specs.declared.fault.PlatFault.{PlatFault}
@@ -27,8 +25,8 @@ use Rattle.repl_build.specs.Numbers.{devices_of}
 use Rattle.repl_build.specs.Plan.{each, region_of, kinds_of, kind_by, plic_of, wires_from, wires_of}
 use Rattle.repl_build.specs.References.{names_a}
 use Rattle.repl_build.specs.Types.{is_type}
-use Rattle.repl_build.specs.Wires.{ends_of, line_of, pin_by, wire_if, wire_by, wire_at, in_front, wired, wired_ends, has_ends}
-use Rattle.repl_build.specs.Wires.{wires_between, item_wires, wires_or, placed_wires, items_wires}
+use Rattle.repl_build.specs.Wires.{ends_of, line_of, pin_by, wire_by, wire_at, in_front, wired, wired_ends, has_ends}
+use Rattle.repl_build.specs.Wires.{item_wires, wires_or, placed_wires, items_wires}
 use Rattle.repl_build.proofs.ListLemmas.{both_true, all_append}
 use Rattle.repl_build.proofs.NameLemmas.{clint_there}
 use Rattle.repl_build.proofs.PartCounts.{is_device}
@@ -108,7 +106,7 @@ item_good kinds regions plic all t dev (item.Wire from to pins) wires lines is =
       | true ↦ λ is.
           ends_good (good kinds regions plic) f
           (λ line pin wire same. wire_good kinds regions plic (line_of plic t dev line) (pin_by (names_a Cpu all to) pin) wire
-           (λ from there. lines line from there) same)
+          (λ from there. lines line from there) same)
           (ends_of from) (ends_of pins) wires is
       | false ↦ λ is. absurd (cc)
     ] is
@@ -179,13 +177,13 @@ from_good plic all before (p ∷ ps) wires whole is =
     let first = ok_then (items_wires f p.items) _ wires is in
     let rest = ok_then (wires_from plic all (before ++ p ∷ []) ps) _ wires first.1.1 in
     let clint : is_type Clint p.kind ≡ true → has_region regions part.Clint ≡ true =
-        λ is. clint_there [] all ∙ (ap (has_type Clint) whole ∙ there Clint before p ps is) in
+    λ is. clint_there [] all ∙ (ap (has_type Clint) whole ∙ there Clint before p ps is) in
     let device : is_device p.kind ≡ true → slice_get kinds (devices_of before) ≡ kind_by p.kind =
-        λ is. ap (λ ps. slice_get (kinds_of ps) (devices_of before)) whole ∙ kind_at before p ps is in
+    λ is. ap (λ ps. slice_get (kinds_of ps) (devices_of before)) whole ∙ kind_at before p ps is in
     let lines = lines_by p.kind kinds regions plic (devices_of before) clint device in
     let mine = items_good (good kinds regions plic) f
-        (λ i ws same. item_good kinds regions plic all p.kind (devices_of before) i.what ws lines (given _ _ ws same))
-        p.items first.0 first.1.0 in
+    (λ i ws same. item_good kinds regions plic all p.kind (devices_of before) i.what ws lines (given _ _ ws same))
+    p.items first.0 first.1.0 in
     let later = from_good plic all (before ++ p ∷ []) ps rest.0 (whole ∙ sym (append_assoc before (p ∷ []) ps)) rest.1.0 in
     rw (← same_ok _ _ rest.1.1) (all_append (good kinds regions plic) first.0 rest.0 mine later)
 
