@@ -1,5 +1,6 @@
 -- Peripherals that keep the rule of counts are few.
-use Rattle.std.proofs.Common.{◌≡◌, ◌+◌, ◌<◌, ◌≤◌, ◌∙◌, Bool, true, false, ◌||◌, refl, sym, ap, List, [], ◌∷◌, ◌++◌, Option}
+use Rattle.std.proofs.Common.{◌≡◌, ◌+◌, ◌<◌, ◌≤◌, ◌∙◌, Bool, true, false, ◌||◌, refl, sym, ap, List, [], ◌∷◌, ◌++◌}
+use Rattle.std.proofs.Common.{Option}
 use Rattle.std.proofs.Common.{None, Some, nat_le, arith, append_assoc, if◌then◌else◌}
 use Rattle.std.proofs.lemmas.Bool.Decides.{nat_tests}
 use Rattle.std.proofs.lemmas.List.{append-nil}
@@ -33,7 +34,8 @@ one_more before x k few fits =
     let push : count_of (before ++ x ∷ []) k ≡ count_of before k + (if is_type k x.kind then 1 else 0) =
     sum_by_push (λ p. if is_type k p.kind then 1 else 0) before x in
     elim (is_type k x.kind) as (λ b. is_type k x.kind ≡ b →
-    count_of (before ++ x ∷ []) k ≡ count_of before k + (if b then 1 else 0) → count_of (before ++ x ∷ []) k ≤ most_of k) [
+    count_of (before ++ x ∷ []) k ≡ count_of before k + (if b then 1 else 0) →
+    count_of (before ++ x ∷ []) k ≤ most_of k) [
       | true ↦ λ is more.
           let below = room before k x.kind (is_type_same k x.kind is)
           (none_of _ (passes_memory before x) fits) in

@@ -31,7 +31,8 @@ all_in_range p a (suc n) each =
     (all_in_range p (a + 1) n (λ i low high. each i (omega arith) (omega arith)))
 
 pub all_append :
-    {X : Type 0} (p : X → Bool) (xs ys : List X) → list_all p xs ≡ true → list_all p ys ≡ true → list_all p (xs ++ ys) ≡ true
+    {X : Type 0} (p : X → Bool) (xs ys : List X) → list_all p xs ≡ true → list_all p ys ≡ true →
+    list_all p (xs ++ ys) ≡ true
 all_append p xs ys one two = list_all-append p xs ys ∙ both_true _ _ one two
 
 -- what stands behind a list in front

@@ -1,6 +1,7 @@
 -- The names of a plan, and what stands for what.
 use Rattle.std.proofs.Common.{◌≡◌, ℕ, ◌+◌, ◌<◌, ◌≤◌, ◌==◌, ◌∙◌, Bool, true, false, ◌||◌, refl, sym, ap, List, []}
-use Rattle.std.proofs.Common.{◌∷◌, ◌++◌, Option, None, Some, nat_lt, cond, count_by, arith, is_some, append_assoc, subst}
+use Rattle.std.proofs.Common.{◌∷◌, ◌++◌, Option, None, Some, nat_lt, cond, count_by, arith, is_some, append_assoc}
+use Rattle.std.proofs.Common.{subst}
 use Rattle.std.proofs.lemmas.Bool.Decides.{nat_tests}
 use Rattle.std.proofs.lemmas.List.{append-nil}
 use Rattle.std.proofs.lemmas.List.Folds.{list_any-append}
@@ -33,7 +34,8 @@ use Rattle.repl_build.specs.Names.{types_name, is_typed, repeats_name, repeated_
 use Rattle.repl_build.specs.Numbers.{devices_of, what_of}
 use Rattle.repl_build.specs.Plan.{each, name_by, name_of, region_by, region_of, first_with, cpu_name_in, cpu_name_of}
 use Rattle.repl_build.specs.Types.{is_type}
-use Rattle.repl_build.proofs.ListLemmas.{count_cons, count_append, both_true, all_append, or_false, NoneBefore, self_alone}
+use Rattle.repl_build.proofs.ListLemmas.{count_cons, count_append, both_true, all_append, or_false, NoneBefore}
+use Rattle.repl_build.proofs.ListLemmas.{self_alone}
 use Rattle.repl_build.proofs.NoneLemmas.{no_fault, first_none}
 use Rattle.repl_build.proofs.PartCounts.{is_device}
 use Rattle.repl_build.proofs.RangeLemmas.{and_true}
@@ -78,7 +80,8 @@ device_before all before p ps whole is =
     omega (arith, one, uarts, finishers, three, same)
 
 in_parts :
-    (t : Option PeripheralType) (before : List Peripheral) (k : RegionKind) (m d : ℕ) → Some (what.Part k) ≡ what_of before t →
+    (t : Option PeripheralType) (before : List Peripheral) (k : RegionKind) (m d : ℕ) →
+    Some (what.Part k) ≡ what_of before t →
     (is_type Memory t ≡ true → count_of before Memory < m) → (is_device t ≡ true → devices_of before < d) →
     is_part m d k ≡ true
 in_parts None before k m d is memory device = absurd (cc)
@@ -97,7 +100,8 @@ part_one all before p ps k whole is =
     (device_before all before p ps whole)
 
 name_part :
-    (all before : List Peripheral) (p : Peripheral) (ps : List Peripheral) (o : Option NamedWhat) → all ≡ before ++ p ∷ ps →
+    (all before : List Peripheral) (p : Peripheral) (ps : List Peripheral) (o : Option NamedWhat) →
+    all ≡ before ++ p ∷ ps →
     o ≡ what_of before p.kind →
     list_all (λ n. names_part (count_of all Memory) (devices_of all) n.what) (name_by p.name o) ≡ true
 name_part all before p ps None whole is = refl
@@ -105,7 +109,8 @@ name_part all before p ps (Some what.Cpu) whole is = refl
 name_part all before p ps (Some (what.Part k)) whole is = both_true _ _ (part_one all before p ps k whole is) refl
 
 region_part :
-    (all before : List Peripheral) (p : Peripheral) (ps : List Peripheral) (o : Option NamedWhat) → all ≡ before ++ p ∷ ps →
+    (all before : List Peripheral) (p : Peripheral) (ps : List Peripheral) (o : Option NamedWhat) →
+    all ≡ before ++ p ∷ ps →
     o ≡ what_of before p.kind →
     list_all (λ region. is_part (count_of all Memory) (devices_of all) region.kind) (region_by p o) ≡ true
 region_part all before p ps None whole is = refl
@@ -134,7 +139,8 @@ clint_region (Some Finisher) p before = refl
 pub clint_there : (before xs : List Peripheral) → has_region (each region_of before xs) part.Clint ≡ has_type Clint xs
 clint_there before [] = refl
 clint_there before (p ∷ ps) =
-    list_any-append (λ region. same_part region.kind part.Clint) (region_of before p) (each region_of (before ++ p ∷ []) ps)
+    list_any-append (λ region. same_part region.kind part.Clint) (region_of before p) (each region_of
+    (before ++ p ∷ []) ps)
     ∙ (rw (clint_region p.kind p before, clint_there (before ++ p ∷ []) ps) refl)
 
 plic_region : (t : Option PeripheralType) (p : Peripheral) (before : List Peripheral) →
@@ -150,7 +156,8 @@ plic_region (Some Finisher) p before = refl
 pub plic_there : (before xs : List Peripheral) → has_region (each region_of before xs) part.Plic ≡ has_type Plic xs
 plic_there before [] = refl
 plic_there before (p ∷ ps) =
-    list_any-append (λ region. same_part region.kind part.Plic) (region_of before p) (each region_of (before ++ p ∷ []) ps)
+    list_any-append (λ region. same_part region.kind part.Plic) (region_of before p) (each region_of
+    (before ++ p ∷ []) ps)
     ∙ (rw (plic_region p.kind p before, plic_there (before ++ p ∷ []) ps) refl)
 
 pub found_type :
@@ -158,7 +165,8 @@ pub found_type :
     is_some (option_map f (first_with k xs)) ≡ has_type k xs
 found_type f k [] = refl
 found_type {X} f k (p ∷ ps) =
-    elim (is_type k p.kind) as (λ b. is_some (option_map f (cond {A = Option Peripheral} b (Some p) (first_with k ps)))
+    elim (is_type k p.kind) as (λ b. is_some (option_map f (cond {A = Option Peripheral} b (Some p)
+    (first_with k ps)))
     ≡ (b || has_type k ps)) [ true ↦ refl | false ↦ found_type f k ps ]
 
 -- the processor
@@ -175,7 +183,8 @@ processor_one (Some Finisher) name before = refl
 processors : (before xs : List Peripheral) → count_of_processors (each name_of before xs) ≡ count_of xs Cpu
 processors before [] = refl
 processors before (p ∷ ps) =
-    let two = count_append (λ (n : Named). is_processor n.what) (name_of before p) (each name_of (before ++ p ∷ []) ps) in
+    let two = count_append (λ (n : Named). is_processor n.what) (name_of before p) (each name_of
+    (before ++ p ∷ []) ps) in
     let one = processor_one p.kind p.name before in
     let rest = processors (before ++ p ∷ []) ps in
     let sum = count_cons (λ q. is_type Cpu q.kind) p ps in
@@ -190,7 +199,8 @@ no_more cpu [] none = tt
 no_more cpu (p ∷ ps) none =
     let sum : count_of (p ∷ ps) Cpu ≡ cond {A = ℕ} (is_type Cpu p.kind) 1 0 + count_of ps Cpu =
     count_cons (λ q. is_type Cpu q.kind) p ps in (
-      λ is. let one : cond {A = ℕ} (is_type Cpu p.kind) 1 0 ≡ 1 = rw is refl in absurd (omega (arith, one, sum, none)),
+      λ is. let one : cond {A = ℕ} (is_type Cpu p.kind) 1 0 ≡ 1 =
+          rw is refl in absurd (omega (arith, one, sum, none)),
       no_more cpu ps (omega (arith, sum, none)),
     )
 
@@ -199,13 +209,15 @@ sole [] few = tt
 sole (p ∷ ps) few =
     let sum : count_of (p ∷ ps) Cpu ≡ cond {A = ℕ} (is_type Cpu p.kind) 1 0 + count_of ps Cpu =
     count_cons (λ q. is_type Cpu q.kind) p ps in
-    elim (is_type Cpu p.kind) as (λ b. is_type Cpu p.kind ≡ b → count_of (p ∷ ps) Cpu ≡ cond {A = ℕ} b 1 0 + count_of ps Cpu →
+    elim (is_type Cpu p.kind) as (λ b. is_type Cpu p.kind ≡ b →
+    count_of (p ∷ ps) Cpu ≡ cond {A = ℕ} b 1 0 + count_of ps Cpu →
     AreNamed (cpu_name_in (cond {A = Option Peripheral} b (Some p) (first_with Cpu ps))) (p ∷ ps)) [
       | true ↦ λ is sum. (λ same. refl, no_more p.name ps (omega (arith, sum, few)))
       | false ↦ λ is sum. (λ same. absurd (cc), sole ps (omega (arith, sum, few)))
     ] refl sum
 
-named_one : (t : Option PeripheralType) (name cpu : List ℕ) (before : List Peripheral) → (is_type Cpu t ≡ true → name ≡ cpu) →
+named_one : (t : Option PeripheralType) (name cpu : List ℕ) (before : List Peripheral) → (is_type Cpu t ≡ true →
+    name ≡ cpu) →
     are_processors_named cpu (name_by name (what_of before t)) ≡ true
 named_one None name cpu before same = refl
 named_one (Some Cpu) name cpu before same = both_true _ _ ((bytes_eq-Decides name cpu).1 (same refl)) refl
@@ -215,7 +227,8 @@ named_one (Some Plic) name cpu before same = refl
 named_one (Some Uart) name cpu before same = refl
 named_one (Some Finisher) name cpu before same = refl
 
-named : (cpu : List ℕ) (before xs : List Peripheral) → AreNamed cpu xs → are_processors_named cpu (each name_of before xs) ≡ true
+named : (cpu : List ℕ) (before xs : List Peripheral) → AreNamed cpu xs →
+    are_processors_named cpu (each name_of before xs) ≡ true
 named cpu before [] same = refl
 named cpu before (p ∷ ps) same =
     all_append _ (name_of before p) (each name_of (before ++ p ∷ []) ps) (named_one p.kind p.name cpu before same.0)
@@ -293,7 +306,8 @@ none_same before (p ∷ ps) none =
     name_append [] before (p ∷ []) ∙ ap (λ more. each name_of [] before ++ more) (append-nil (name_of before p)) in
     put_name p (what_of before p.kind) (each name_of [] before) (each name_of (before ++ p ∷ []) ps)
     (λ n is. other_names p n is [] before none.0)
-    (subst (λ b. NoneBefore same_name b (each name_of (before ++ p ∷ []) ps)) last (none_same (before ++ p ∷ []) ps none.1))
+    (subst (λ b. NoneBefore same_name b (each name_of (before ++ p ∷ []) ps)) last (none_same
+    (before ++ p ∷ []) ps none.1))
 
 -- each name stands there once
 pub differ : (all : List Peripheral) → NoneBefore called_same [] all → names_differ (each name_of [] all) ≡ true
@@ -301,7 +315,8 @@ differ all none =
     let names = each name_of [] all in
     self_alone same_name (λ a b. bytes_eq_comm b.name a.name)
     (λ n. count_by (λ other. bytes_eq other.name n.name) names == 1) [] names names
-    (λ n is. once (count_by (same_name n) names) (bytes_eq n.name n.name) is ((bytes_eq-Decides n.name n.name).1 refl)) refl
+    (λ n is. once (count_by (same_name n) names) (bytes_eq n.name n.name) is
+    ((bytes_eq-Decides n.name n.name).1 refl)) refl
     (none_same [] all none)
   where
     once : (n : ℕ) (b : Bool) → n ≡ cond {A = ℕ} b 1 0 → b ≡ true → (n == 1) ≡ true
@@ -336,11 +351,13 @@ distinct_from all before [] none = tt
 distinct_from all before (e ∷ es) none =
     let parts = first_none _ _ none in
     let here = no_fault (repeats_name before e.head) _ (first_none _ _ parts.0).0 in
-    let last : flat_map (peripheral_of all) (before ++ e ∷ []) ≡ flat_map (peripheral_of all) before ++ peripheral_of all e =
+    let last : flat_map (peripheral_of all) (before ++ e ∷ []) ≡ flat_map
+    (peripheral_of all) before ++ peripheral_of all e =
     flat_map-append (peripheral_of all) before (e ∷ [])
     ∙ ap (λ more. flat_map (peripheral_of all) before ++ more) (append-nil (peripheral_of all e)) in
     put_entry all before e e.head (flat_map (peripheral_of all) es) here
-    (subst (λ b. NoneBefore called_same b (flat_map (peripheral_of all) es)) last (distinct_from all (before ++ e ∷ []) es parts.1))
+    (subst (λ b. NoneBefore called_same b (flat_map (peripheral_of all) es)) last (distinct_from all
+    (before ++ e ∷ []) es parts.1))
 
 pub distinct : (entries : List Entry) → repeated entries ≡ None → NoneBefore called_same [] (merged entries)
 distinct entries none = distinct_from entries [] entries none
@@ -373,5 +390,6 @@ good_names before (p ∷ ps) good =
     one None good = refl
     one (Some what) good = both_true _ _ good refl
 
-pub names_good : (entries : List Entry) → list_all is_entry entries ≡ true → are_names (each name_of [] (merged entries)) ≡ true
+pub names_good : (entries : List Entry) → list_all is_entry entries ≡ true →
+    are_names (each name_of [] (merged entries)) ≡ true
 names_good entries good = good_names [] (merged entries) (good_merged entries entries good)

@@ -15,7 +15,8 @@ use Rattle.repl_build.specs.declared.rules.Rule.TheVariants.{Values}
 use Rattle.repl_build.specs.declared.types.PeripheralType.{PeripheralType}
 use Rattle.repl_build.specs.declared.types.PeripheralType.TheVariants.{Memory}
 use Rattle.repl_build.specs.Attributes.{is_memory_size, fits_range}
-use Rattle.repl_build.specs.Attributes.{sort_of, takes, takes_by, is_refused, item_of, number_by, number_in, number_of}
+use Rattle.repl_build.specs.Attributes.{sort_of, takes, takes_by, is_refused, item_of, number_by, number_in}
+use Rattle.repl_build.specs.Attributes.{number_of}
 use Rattle.repl_build.specs.Names.{has_key}
 use Rattle.repl_build.specs.Plan.{first_with}
 use Rattle.repl_build.specs.Rules.{item_fault, items_fault, peripheral_fault, broken}
@@ -27,7 +28,8 @@ abbrev pub IsBetween : ℕ → ℕ → ℕ → Type 0
 IsBetween least most n = (least ≤ n) × (n ≤ most)
 
 taken :
-    (least most : ℕ) (at : Place) (value : Value) (key : List ℕ) (default : ℕ) → not (takes (Within least most) at value) ≡ false →
+    (least most : ℕ) (at : Place) (value : Value) (key : List ℕ) (default : ℕ) →
+    not (takes (Within least most) at value) ≡ false →
     IsBetween least most (number_by default (Attribute key value))
 taken least most at (Number n) key default is = (grind (arith, nat_tests), grind (arith, nat_tests))
 taken least most at (Words text) key default is = absurd (cc)
@@ -92,7 +94,8 @@ value_sized at (Attribute k value) fits is =
 
 memory_found :
     (p : Peripheral) (all : List Peripheral) (found : Option PlacedItem) → item_of (codes "size") p.items ≡ found →
-    p.kind ≡ Some Memory → items_fault Values all p ≡ None → (found ≡ None → ⊥) → is_memory_size (number_in 0 found) ≡ true
+    p.kind ≡ Some Memory → items_fault Values all p ≡ None → (found ≡ None → ⊥) →
+    is_memory_size (number_in 0 found) ≡ true
 memory_found p all None is kind none there = absurd (there refl)
 memory_found p all (Some item) is kind none there =
     let sound = found_sound (item_fault Values all p) (λ i. has_key (codes "size") i.what) [] p.items item none is in

@@ -34,7 +34,8 @@ named_hit part name (Some what.Cpu) = refl
 named_hit part name (Some (what.Part k)) =
     elim (same_part k part) as (λ b. 0 + cond {A = ℕ} b 1 0 ≡ cond {A = ℕ} b 1 0) [ true ↦ refl | false ↦ refl ]
 
-region_hit : (part : RegionKind) (p : Peripheral) (o : Option NamedWhat) → regions_of (region_by p o) part ≡ hit part o
+region_hit : (part : RegionKind) (p : Peripheral) (o : Option NamedWhat) →
+    regions_of (region_by p o) part ≡ hit part o
 region_hit part p None = refl
 region_hit part p (Some what.Cpu) = refl
 region_hit part p (Some (what.Part k)) =
@@ -54,14 +55,16 @@ names_hits part before (p ∷ ps) =
 
 -- and as many regions
 pub regions_hits :
-    (part : RegionKind) (before xs : List Peripheral) → regions_of (each region_of before xs) part ≡ hits part before xs
+    (part : RegionKind) (before xs : List Peripheral) →
+    regions_of (each region_of before xs) part ≡ hits part before xs
 regions_hits part before [] = refl
 regions_hits part before (p ∷ ps) =
     split _ _ _ _ _ (count_append _ (region_of before p) (each region_of (before ++ p ∷ []) ps))
     (region_hit part p (what_of before p.kind)) (regions_hits part (before ++ p ∷ []) ps)
 
 -- peripherals that are numbered by those of their sort before them
-pub record IsNumbering (count : List Peripheral → ℕ) (part : ℕ → RegionKind) (is : Option PeripheralType → Bool) : Type 0 where
+pub record IsNumbering (count : List Peripheral → ℕ) (part : ℕ → RegionKind) (is : Option PeripheralType →
+    Bool) : Type 0 where
   pub empty : count [] ≡ 0
   pub push : (before : List Peripheral) (p : Peripheral) →
       count (before ++ p ∷ []) ≡ count before + (if is p.kind then 1 else 0)
@@ -121,7 +124,8 @@ one_each count part is n i before (p ∷ ps) low high =
 
 memory_hit :
     (before : List Peripheral) (o : Option PeripheralType) (i : ℕ) →
-    hit (part.Ram i) (what_of before o) ≡ (if is_type Memory o then (if count_of before Memory == i then 1 else 0) else 0)
+    hit (part.Ram i) (what_of before o) ≡ (if is_type Memory o then
+    (if count_of before Memory == i then 1 else 0) else 0)
 memory_hit before None i = refl
 memory_hit before (Some Cpu) i = refl
 memory_hit before (Some Memory) i = refl
@@ -132,7 +136,12 @@ memory_hit before (Some Finisher) i = refl
 
 pub memories_numbered : IsNumbering (λ ps. count_of ps Memory) part.Ram (is_type Memory)
 memories_numbered =
-    record { empty = refl; push = λ before p. count_push (λ q. is_type Memory q.kind) before p; numbered = memory_hit }
+    record {
+      empty = refl;
+      push = λ before p. count_push
+          (λ q. is_type Memory q.kind) before p;
+      numbered = memory_hit;
+    }
 
 abbrev pub is_device : Option PeripheralType → Bool
 is_device None = false

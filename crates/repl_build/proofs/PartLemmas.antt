@@ -22,14 +22,16 @@ both false b is = absurd (cc)
 
 -- what is not lacking
 pub complete :
-    (p : Peripheral) → is_lacking p ≡ false → (is_registered p.kind p.at ≡ true) × (has_required p.kind p.at p.items ≡ true)
+    (p : Peripheral) → is_lacking p ≡ false → (is_registered p.kind p.at ≡ true) ×
+    (has_required p.kind p.at p.items ≡ true)
 complete p is = both (is_registered p.kind p.at) (has_required p.kind p.at p.items) is
 
 -- what stands in a list is found
 pub any_found : {X : Type 0} (test : X → Bool) (xs : List X) → list_any test xs ≡ true → find test xs ≡ None → ⊥
 any_found test [] there none = cc
 any_found {X} test (x ∷ xs) there none =
-    elim (test x) as (λ b. (b || list_any test xs) ≡ true → cond {A = Option X} b (Some x) (find test xs) ≡ None → ⊥) [
+    elim (test x) as (λ b. (b || list_any test xs) ≡ true → cond {A = Option X} b (Some x) (find test xs) ≡ None →
+    ⊥) [
       | true ↦ λ there none. cc
       | false ↦ λ there none. any_found test xs there none
     ] there none
@@ -50,9 +52,11 @@ pub plic_numbers :
 plic_numbers all p keeps found =
     let values = found_values all Plic p keeps.values found in
     let required = found_required all Plic p keeps.required found values.0 in (
-      number_within p all (codes "numberOfSources") 1 127 0 (ap (λ o. sort_of o (codes "numberOfSources")) values.0) values.1
+      number_within p all (codes "numberOfSources") 1 127 0 (ap (λ o. sort_of o
+          (codes "numberOfSources")) values.0) values.1
           (λ none. absurd (any_found _ p.items required none)),
-      number_within p all (codes "numberOfContexts") 1 15 1 (ap (λ o. sort_of o (codes "numberOfContexts")) values.0) values.1
+      number_within p all (codes "numberOfContexts") 1 15 1 (ap (λ o. sort_of o
+          (codes "numberOfContexts")) values.0) values.1
           (λ none. (omega arith, omega arith)),
     )
 
@@ -72,5 +76,6 @@ pub cpu_number :
     IsBetween 1 1000 (number_of (codes "PerformanceInMips") 100 p.items)
 cpu_number all p keeps found =
     let values = found_values all Cpu p keeps.values found in
-    number_within p all (codes "PerformanceInMips") 1 1000 100 (ap (λ o. sort_of o (codes "PerformanceInMips")) values.0)
+    number_within p all (codes "PerformanceInMips") 1 1000 100 (ap (λ o. sort_of o
+    (codes "PerformanceInMips")) values.0)
     values.1 (λ none. (omega arith, omega arith))

@@ -24,7 +24,8 @@ use Rattle.repl_build.specs.Places.{size_of}
 use Rattle.repl_build.specs.Plan.{each, name_of, region_of, kind_by, kinds_of, memories_of}
 use Rattle.repl_build.specs.Types.{is_type}
 use Rattle.repl_build.proofs.ListLemmas.{count_cons, both_true, all_in_range}
-use Rattle.repl_build.proofs.PartCounts.{names_hits, regions_hits, one_each, memories_numbered, devices_numbered, clint_hits}
+use Rattle.repl_build.proofs.PartCounts.{names_hits, regions_hits, one_each, memories_numbered, devices_numbered}
+use Rattle.repl_build.proofs.PartCounts.{clint_hits}
 use Rattle.repl_build.proofs.PartCounts.{plic_hits, is_device}
 use Rattle.repl_build.proofs.SoundLemmas.{Sound}
 use Rattle.repl_build.proofs.WhatLemmas.{device_cons}
@@ -37,7 +38,8 @@ memories_count (p ∷ ps) =
     let sum : count_of (p ∷ ps) Memory ≡ cond {A = ℕ} (is_type Memory p.kind) 1 0 + count_of ps Memory =
     count_cons (λ q. is_type Memory q.kind) p ps in
     elim (is_type Memory p.kind) as (λ b. count_of (p ∷ ps) Memory ≡ cond {A = ℕ} b 1 0 + count_of ps Memory →
-    length (map size_of (cond b (p ∷ filter (λ q. is_type Memory q.kind) ps) (filter (λ q. is_type Memory q.kind) ps)))
+    length (map size_of (cond b (p ∷ filter (λ q. is_type Memory q.kind) ps) (filter
+    (λ q. is_type Memory q.kind) ps)))
     ≡ count_of (p ∷ ps) Memory) [
       | true ↦ λ sum. omega (arith, sum, rest)
       | false ↦ λ sum. omega (arith, sum, rest)
@@ -49,10 +51,12 @@ memories_sum (p ∷ ps) =
     let rest = memories_sum ps in
     let whole : sum_by bytes_of (p ∷ ps) ≡ cond {A = ℕ} (is_type Memory p.kind) (size_of p) 0 + sum_by bytes_of ps =
     sum_by-cons bytes_of p ps in
-    elim (is_type Memory p.kind) as (λ b. sum_by bytes_of (p ∷ ps) ≡ cond {A = ℕ} b (size_of p) 0 + sum_by bytes_of ps →
+    elim (is_type Memory p.kind) as (λ b. sum_by bytes_of (p ∷ ps) ≡ cond {A = ℕ} b
+    (size_of p) 0 + sum_by bytes_of ps →
     sum (map size_of (cond b (p ∷ filter (λ q. is_type Memory q.kind) ps) (filter (λ q. is_type Memory q.kind) ps)))
     ≡ sum_by bytes_of (p ∷ ps)) [
-      | true ↦ λ whole. let more = sum_by-cons (λ (n : ℕ). n) (size_of p) (memories_of ps) in omega (arith, whole, rest, more)
+      | true ↦ λ whole. let more = sum_by-cons (λ (n : ℕ). n) (size_of p) (memories_of ps) in omega
+          (arith, whole, rest, more)
       | false ↦ λ whole. omega (arith, whole, rest)
     ] whole
 
@@ -89,7 +93,8 @@ counted_type k (p ∷ ps) is =
 
 -- devices
 uart_kind : (t : Option PeripheralType) (kinds : List Kind) →
-    limit.count_of (cons_option (kind_by t) kinds) device.Uart ≡ cond {A = ℕ} (is_type Uart t) 1 0 + limit.count_of kinds device.Uart
+    limit.count_of (cons_option (kind_by t) kinds) device.Uart ≡ cond {A = ℕ}
+    (is_type Uart t) 1 0 + limit.count_of kinds device.Uart
 uart_kind None kinds = omega arith
 uart_kind (Some Cpu) kinds = omega arith
 uart_kind (Some Memory) kinds = omega arith
@@ -99,7 +104,8 @@ uart_kind (Some Uart) kinds = count_cons (limit.is_kind device.Uart) device.Uart
 uart_kind (Some Finisher) kinds = count_cons (limit.is_kind device.Uart) device.Finisher kinds
 
 finisher_kind : (t : Option PeripheralType) (kinds : List Kind) →
-    limit.count_of (cons_option (kind_by t) kinds) device.Finisher ≡ cond {A = ℕ} (is_type Finisher t) 1 0 + limit.count_of kinds device.Finisher
+    limit.count_of (cons_option (kind_by t) kinds) device.Finisher ≡ cond {A = ℕ}
+    (is_type Finisher t) 1 0 + limit.count_of kinds device.Finisher
 finisher_kind None kinds = omega arith
 finisher_kind (Some Cpu) kinds = omega arith
 finisher_kind (Some Memory) kinds = omega arith
@@ -109,7 +115,8 @@ finisher_kind (Some Uart) kinds = count_cons (limit.is_kind device.Finisher) dev
 finisher_kind (Some Finisher) kinds = count_cons (limit.is_kind device.Finisher) device.Finisher kinds
 
 can_kind : (t : Option PeripheralType) (kinds : List Kind) →
-    limit.count_of (cons_option (kind_by t) kinds) device.Can ≡ cond {A = ℕ} (false) 1 0 + limit.count_of kinds device.Can
+    limit.count_of (cons_option (kind_by t) kinds) device.Can ≡ cond {A = ℕ}
+    (false) 1 0 + limit.count_of kinds device.Can
 can_kind None kinds = omega arith
 can_kind (Some Cpu) kinds = omega arith
 can_kind (Some Memory) kinds = omega arith
@@ -165,12 +172,14 @@ equal m n is = grind (arith, nat_tests)
 
 each_one :
     (all : List Peripheral) (k : RegionKind) (n : ℕ) → names_of (each name_of [] all) k ≡ n →
-    regions_of (each region_of [] all) k ≡ n → n ≡ 1 → has_one_each (each name_of [] all) (each region_of [] all) k ≡ true
+    regions_of (each region_of [] all) k ≡ n → n ≡ 1 →
+    has_one_each (each name_of [] all) (each region_of [] all) k ≡ true
 each_one all k n names regions one =
     both_true _ _ (equal _ 1 (names ∙ one)) (equal _ 1 (regions ∙ one))
 
 most_one :
-    (names : List Named) (regions : List Region) (k : RegionKind) (n : ℕ) → names_of names k ≡ n → regions_of regions k ≡ n →
+    (names : List Named) (regions : List Region) (k : RegionKind) (n : ℕ) → names_of names k ≡ n →
+    regions_of regions k ≡ n →
     n ≤ 1 → has_at_most_one_each names regions k ≡ true
 most_one names regions k n is at few =
     both_true _ _ (below (regions_of regions k) 1 (omega (arith, at, few))) (equal _ _ (is ∙ sym at))
@@ -192,7 +201,9 @@ parts all clints plics =
     each_one all (part.Dev i) _ (names_hits (part.Dev i) [] all) (regions_hits (part.Dev i) [] all) one) in
     both_true _ _ (both_true _ _ (both_true _ _
     (all_in_range _ 0 (length (memories_of all)) memory) (all_in_range _ 0 (length (kinds_of all)) device))
-    (most_one (each name_of [] all) (each region_of [] all) part.Clint (count_of all Clint) (names_hits part.Clint [] all ∙ clint_hits [] all)
+    (most_one (each name_of [] all) (each region_of [] all) part.Clint (count_of all Clint)
+    (names_hits part.Clint [] all ∙ clint_hits [] all)
     (regions_hits part.Clint [] all ∙ clint_hits [] all) clints))
-    (most_one (each name_of [] all) (each region_of [] all) part.Plic (count_of all Plic) (names_hits part.Plic [] all ∙ plic_hits [] all)
+    (most_one (each name_of [] all) (each region_of [] all) part.Plic (count_of all Plic)
+    (names_hits part.Plic [] all ∙ plic_hits [] all)
     (regions_hits part.Plic [] all ∙ plic_hits [] all) plics)

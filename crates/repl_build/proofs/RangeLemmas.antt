@@ -1,5 +1,6 @@
 -- Addresses and sizes of peripherals that keep all rules.
-use Rattle.std.proofs.Common.{◌≡◌, ℕ, ◌%◌, ◌==◌, ◌∙◌, Bool, true, false, ◌&&◌, ◌||◌, refl, sym, ap, List, [], ◌∷◌, ◌++◌}
+use Rattle.std.proofs.Common.{◌≡◌, ℕ, ◌%◌, ◌==◌, ◌∙◌, Bool, true, false, ◌&&◌, ◌||◌, refl, sym, ap, List, [], ◌∷◌}
+use Rattle.std.proofs.Common.{◌++◌}
 use Rattle.std.proofs.Common.{Option, None, Some, nat_le, cond, codes, slice_get}
 use Rattle.std.specs.List.{list_all}
 use Rattle.dev_core.specs.declared.kind.Kind.{Kind}
@@ -44,7 +45,8 @@ wide true = refl
 wide false = refl
 
 placed :
-    (t : Option PeripheralType) (at : Place) (items : List PlacedItem) (before : List Peripheral) (part : RegionKind) →
+    (t : Option PeripheralType) (at : Place) (items : List PlacedItem) (before : List Peripheral)
+    (part : RegionKind) →
     Some (what.Part part) ≡ what_of before t →
     (is_type Memory t ≡ true → has_range at ≡ false → is_memory_size (number_of (codes "size") 0 items) ≡ true) →
     is_registered t at ≡ true → is_place t (step_of t items) at ≡ true → IsPlaced t at items
@@ -99,7 +101,13 @@ range_of :
     (t : Option PeripheralType) (at : Place) (items : List PlacedItem) (before : List Peripheral) (part : RegionKind)
     (kinds : List Kind) → Some (what.Part part) ≡ what_of before t →
     (is_device t ≡ true → slice_get kinds (devices_of before) ≡ kind_by t) → IsPlaced t at items →
-    is_range kinds (record { base = base_at at; size = size_at (usual_size t items) at; kind = part; step = step_of t items }) ≡ true
+    is_range kinds (record {
+      base = base_at at;
+      size = size_at
+          (usual_size t items) at;
+      kind = part;
+      step = step_of t items;
+    }) ≡ true
 range_of None at items before part kinds is found good = absurd (cc)
 range_of (Some Cpu) at items before part kinds is found good = absurd (cc)
 range_of (Some Memory) at items before part kinds is found good =
@@ -117,7 +125,8 @@ range_of (Some Finisher) at items before part kinds is found good =
     let kind = found refl in
     rw (same, kind) (all_three _ _ _ good.base good.unit good.least)
 
-required_size : (at : Place) (items : List PlacedItem) → has_required (Some Memory) at items ≡ true → has_range at ≡ false →
+required_size : (at : Place) (items : List PlacedItem) → has_required (Some Memory) at items ≡ true →
+    has_range at ≡ false →
     item_of (codes "size") items ≡ None → ⊥
 required_size at items required range none =
     let there : has_attribute (codes "size") items ≡ true =
@@ -125,7 +134,8 @@ required_size at items required range none =
     any_found _ items there none
 
 ranged_one :
-    (all before : List Peripheral) (p : Peripheral) (ps : List Peripheral) (o : Option NamedWhat) → Fits all before p →
+    (all before : List Peripheral) (p : Peripheral) (ps : List Peripheral) (o : Option NamedWhat) →
+    Fits all before p →
     all ≡ before ++ p ∷ ps → o ≡ what_of before p.kind → list_all (is_range (kinds_of all)) (region_by p o) ≡ true
 ranged_one all before p ps None fits whole is = refl
 ranged_one all before p ps (Some what.Cpu) fits whole is = refl

@@ -148,12 +148,19 @@ apart_one :
 apart_one p q None apart r base size = refl
 apart_one p q (Some what.Cpu) apart r base size = refl
 apart_one p q (Some (what.Part other)) apart r base size =
-    let same : overlaps r (record { base = place.base_of q; size = place.size_of q; kind = other; step = place.step_of q.kind q.items })
+    let same : overlaps r (record {
+      base = place.base_of q;
+      size = place.size_of q;
+      kind = other;
+      step
+          = place.step_of q.kind q.items;
+    })
     ≡ place.overlaps p q = rw (base, size) refl in
     rw (same, apart) refl
 
 regions_apart :
-    (p : Peripheral) (r : Region) → r.base ≡ place.base_of p → r.size ≡ place.size_of p → (before xs : List Peripheral) →
+    (p : Peripheral) (r : Region) → r.base ≡ place.base_of p → r.size ≡ place.size_of p →
+    (before xs : List Peripheral) →
     list_any (place.overlaps p) xs ≡ false → list_any (overlaps r) (each region_of before xs) ≡ false
 regions_apart p r base size before [] none = refl
 regions_apart p r base size before (q ∷ qs) none =
@@ -179,10 +186,12 @@ none_overlap :
 none_overlap all before [] sound = tt
 none_overlap all before (p ∷ ps) sound =
     let last : each region_of [] (before ++ p ∷ []) ≡ each region_of [] before ++ region_of before p =
-    each_append [] before (p ∷ []) ∙ ap (λ more. each region_of [] before ++ more) (append-nil (region_of before p)) in
+    each_append [] before (p ∷ []) ∙ ap (λ more. each region_of [] before ++ more) (append-nil
+    (region_of before p)) in
     put_front p (what_of before p.kind) (each region_of [] before) (each region_of (before ++ p ∷ []) ps)
     (λ r base size. regions_apart p r base size [] before sound.0.apart)
-    (subst (λ b. NoneBefore overlaps b (each region_of (before ++ p ∷ []) ps)) last (none_overlap all (before ++ p ∷ []) ps sound.1))
+    (subst (λ b. NoneBefore overlaps b (each region_of (before ++ p ∷ []) ps)) last (none_overlap all
+    (before ++ p ∷ []) ps sound.1))
 
 at_most_one : (n : ℕ) (b : Bool) → n ≡ cond {A = ℕ} b 1 0 → nat_le n 1 ≡ true
 at_most_one n true is = rw is refl

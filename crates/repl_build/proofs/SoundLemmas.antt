@@ -49,7 +49,8 @@ sound_from all before (p ∷ ps) types required values counts apart =
     let a = first_none _ _ apart in
     let whole = complete p (unbroken Required all before p r.0).0 in
     let value = unbroken Values all before p v.0 in
-    let collides = neither (nat_lt (2 ^ 32) (end_of p)) (list_any (overlaps p) before) (unbroken Apart all before p a.0).0 in
+    let collides = neither (nat_lt (2 ^ 32) (end_of p)) (list_any (overlaps p) before)
+    (unbroken Apart all before p a.0).0 in
     let fits : Fits all before p =
     record {
       known = (unbroken Types all before p t.0).0;
@@ -57,7 +58,8 @@ sound_from all before (p ∷ ps) types required values counts apart =
       required = whole.1;
       placed = not_false (is_place p.kind (step_of p.kind p.items) p.at) value.0;
       values = value.1;
-      few = (neither (are_as_many_as_may_be before p.kind) (passes_memory before p) (unbroken Counts all before p c.0).0).1;
+      few = (neither (are_as_many_as_may_be before p.kind) (passes_memory before p)
+          (unbroken Counts all before p c.0).0).1;
       apart = collides.1;
       addressed = collides.0;
     } in

@@ -22,10 +22,12 @@ use Rattle.repl_build.specs.Plan.{memories_of, kinds_of, first_with, clint_frequ
 use Rattle.repl_build.specs.Plan.{speed_in, wires_of, plan_with, tested, built, Gives}
 use Rattle.repl_build.proofs.CountLemmas.{few_of}
 use Rattle.repl_build.proofs.ListLemmas.{both_true}
-use Rattle.repl_build.proofs.NameLemmas.{names_good, differ, distinct, processor, no_others, clint_there, plic_there, found_type}
+use Rattle.repl_build.proofs.NameLemmas.{names_good, differ, distinct, processor, no_others, clint_there, plic_there}
+use Rattle.repl_build.proofs.NameLemmas.{found_type}
 use Rattle.repl_build.proofs.NumberLemmas.{IsBetween}
 use Rattle.repl_build.proofs.PartLemmas.{both, plic_numbers, clint_number, cpu_number}
-use Rattle.repl_build.proofs.PlanCounts.{memories_count, memories_sum, few_bytes, counted_type, uarts_count, finishers_count}
+use Rattle.repl_build.proofs.PlanCounts.{memories_count, memories_sum, few_bytes, counted_type, uarts_count}
+use Rattle.repl_build.proofs.PlanCounts.{finishers_count}
 use Rattle.repl_build.proofs.PlanCounts.{cans_count, devices_count, parts}
 use Rattle.repl_build.proofs.RangeLemmas.{ranges}
 use Rattle.repl_build.proofs.RegionLemmas.{addressed, memory_sizes, steps, apart}
@@ -110,7 +112,8 @@ plan_valid entries wires good once keeps is =
     }
 
 built_valid :
-    (entries : List Entry) (plan : BoardPlan) → list_all is_entry entries ≡ true → built entries ≡ Ok plan → IsValid plan
+    (entries : List Entry) (plan : BoardPlan) → list_all is_entry entries ≡ true → built entries ≡ Ok plan →
+    IsValid plan
 unfolding built
 built_valid entries plan good is =
     let once = passed (repeated entries) _ plan is in

@@ -18,7 +18,8 @@ use Rattle.repl_build.specs.Types.{is_type}
 use Rattle.repl_build.proofs.ListLemmas.{count_cons}
 use Rattle.repl_build.proofs.PartCounts.{is_device, either}
 
-pub same_part_of : (a b : RegionKind) → (let x : Option NamedWhat = Some (what.Part a) in x) ≡ Some (what.Part b) → a ≡ b
+pub same_part_of : (a b : RegionKind) → (let x : Option NamedWhat = Some (what.Part a) in x) ≡ Some (what.Part b) →
+    a ≡ b
 same_part_of a b is = cc
 
 -- the memory with the number of memories before it
@@ -76,5 +77,6 @@ pub kind_at :
     slice_get (kinds_of (before ++ p ∷ ps)) (devices_of before) ≡ kind_by p.kind
 kind_at [] p ps is = kind_first p.kind (kinds_of ps) is
 kind_at (q ∷ qs) p ps is =
-    kind_next q.kind (kinds_of (qs ++ p ∷ ps)) (devices_of (q ∷ qs)) (devices_of qs) (kind_by p.kind) (device_cons q qs)
+    kind_next q.kind (kinds_of (qs ++ p ∷ ps)) (devices_of (q ∷ qs)) (devices_of qs) (kind_by p.kind)
+    (device_cons q qs)
     (kind_at qs p ps is)

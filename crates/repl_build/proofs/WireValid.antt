@@ -1,5 +1,6 @@
 -- Wires that are given are wires that a board may have.
-use Rattle.std.proofs.Common.{◌≡◌, ℕ, ◌==◌, ◌∙◌, Bool, true, false, ◌&&◌, ◌||◌, refl, sym, ap, List, [], ◌∷◌, ◌++◌, Option}
+use Rattle.std.proofs.Common.{◌≡◌, ℕ, ◌==◌, ◌∙◌, Bool, true, false, ◌&&◌, ◌||◌, refl, sym, ap, List, [], ◌∷◌, ◌++◌}
+use Rattle.std.proofs.Common.{Option}
 use Rattle.std.proofs.Common.{None, Some, Result, Ok, Err, cond, slice_get, append_assoc}
 use Rattle.std.specs.List.{list_all}
 use Rattle.dev_core.specs.declared.kind.Kind.{Kind}
@@ -54,13 +55,15 @@ LinesAre kinds regions plic t dev =
     (line : ℕ) (from : WireFrom) → line_of plic t dev line ≡ Some from → is_from kinds regions plic from ≡ true
 
 wire_good :
-    (kinds : List Kind) (regions : List Region) (plic : Option PlicSize) (o : Option WireFrom) (pin : WirePin) (wire : Wire) →
+    (kinds : List Kind) (regions : List Region) (plic : Option PlicSize) (o : Option WireFrom) (pin : WirePin)
+    (wire : Wire) →
     ((from : WireFrom) → o ≡ Some from → is_from kinds regions plic from ≡ true) → wire_by plic o pin ≡ Some wire →
     good kinds regions plic wire ≡ true
 wire_good kinds regions plic None pin wire lines is = absurd (cc)
 wire_good kinds regions plic (Some from) pin wire lines is =
     elim (may_end plic from pin) as (λ b. may_end plic from pin ≡ b →
-    cond {A = Option Wire} b (Some (record { from = from; pin = pin })) None ≡ Some wire → good kinds regions plic wire ≡ true) [
+    cond {A = Option Wire} b (Some (record { from = from; pin = pin })) None ≡ Some wire →
+    good kinds regions plic wire ≡ true) [
       | true ↦ λ ends is.
           let same = same_some _ _ is in
           rw (← same) (both_true (is_from kinds regions plic from) (may_end plic from pin) (lines from refl) ends)
@@ -69,7 +72,8 @@ wire_good kinds regions plic (Some from) pin wire lines is =
 
 put_wire :
     (test : Wire → Bool) (o : Option Wire) (more : Option (List Wire)) (wires : List Wire) →
-    ((wire : Wire) → o ≡ Some wire → test wire ≡ true) → ((ws : List Wire) → more ≡ Some ws → list_all test ws ≡ true) →
+    ((wire : Wire) → o ≡ Some wire → test wire ≡ true) → ((ws : List Wire) → more ≡ Some ws →
+    list_all test ws ≡ true) →
     in_front o more ≡ Some wires → list_all test wires ≡ true
 put_wire test None more wires one rest is = absurd (cc)
 put_wire test (Some wire) None wires one rest is = absurd (cc)
@@ -78,7 +82,8 @@ put_wire test (Some wire) (Some ws) wires one rest is =
     rw (← same) (both_true (test wire) (list_all test ws) (one wire refl) (rest ws refl))
 
 wired_good :
-    (test : Wire → Bool) (f : ℕ → ℕ → Option Wire) → ((line pin : ℕ) (wire : Wire) → f line pin ≡ Some wire → test wire ≡ true) →
+    (test : Wire → Bool) (f : ℕ → ℕ → Option Wire) → ((line pin : ℕ) (wire : Wire) → f line pin ≡ Some wire →
+    test wire ≡ true) →
     (lines pins : List ℕ) (wires : List Wire) → wired f lines pins ≡ Some wires → list_all test wires ≡ true
 wired_good test f one [] [] wires is = rw (← same_some _ _ is) refl
 wired_good test f one [] (pin ∷ pins) wires is = absurd (cc)
@@ -88,30 +93,36 @@ wired_good test f one (line ∷ lines) (pin ∷ pins) wires is =
     (λ ws same. wired_good test f one lines pins ws same) is
 
 ends_good :
-    (test : Wire → Bool) (f : ℕ → ℕ → Option Wire) → ((line pin : ℕ) (wire : Wire) → f line pin ≡ Some wire → test wire ≡ true) →
-    (lines pins : Option (List ℕ)) (wires : List Wire) → wired_ends f lines pins ≡ Some wires → list_all test wires ≡ true
+    (test : Wire → Bool) (f : ℕ → ℕ → Option Wire) → ((line pin : ℕ) (wire : Wire) → f line pin ≡ Some wire →
+    test wire ≡ true) →
+    (lines pins : Option (List ℕ)) (wires : List Wire) → wired_ends f lines pins ≡ Some wires →
+    list_all test wires ≡ true
 ends_good test f one None pins wires is = absurd (cc)
 ends_good test f one (Some lines) None wires is = absurd (cc)
 ends_good test f one (Some lines) (Some pins) wires is = wired_good test f one lines pins wires is
 
 item_good :
-    (kinds : List Kind) (regions : List Region) (plic : Option PlicSize) (all : List Peripheral) (t : Option PeripheralType)
+    (kinds : List Kind) (regions : List Region) (plic : Option PlicSize) (all : List Peripheral)
+    (t : Option PeripheralType)
     (dev : ℕ) (what : ItemWhat) (wires : List Wire) → LinesAre kinds regions plic t dev →
     item_wires plic all t dev what ≡ Some wires → list_all (good kinds regions plic) wires ≡ true
 item_good kinds regions plic all t dev (item.Attribute key value) wires lines is = rw (← same_some _ _ is) refl
 item_good kinds regions plic all t dev (item.Wire from to pins) wires lines is =
     let f = wire_at plic t dev (names_a Cpu all to) in
-    elim (has_ends t from) as (λ b. cond {A = Option (List Wire)} b (wired_ends f (ends_of from) (ends_of pins)) None ≡ Some wires →
+    elim (has_ends t from) as (λ b. cond {A = Option (List Wire)} b (wired_ends f (ends_of from)
+    (ends_of pins)) None ≡ Some wires →
     list_all (good kinds regions plic) wires ≡ true) [
       | true ↦ λ is.
           ends_good (good kinds regions plic) f
-          (λ line pin wire same. wire_good kinds regions plic (line_of plic t dev line) (pin_by (names_a Cpu all to) pin) wire
+          (λ line pin wire same. wire_good kinds regions plic (line_of plic t dev line) (pin_by
+          (names_a Cpu all to) pin) wire
           (λ from there. lines line from there) same)
           (ends_of from) (ends_of pins) wires is
       | false ↦ λ is. absurd (cc)
     ] is
 
-given : (fault : PlatFault) (o : Option (List Wire)) (wires : List Wire) → wires_or fault o ≡ Ok wires → o ≡ Some wires
+given : (fault : PlatFault) (o : Option (List Wire)) (wires : List Wire) → wires_or fault o ≡ Ok wires →
+    o ≡ Some wires
 given fault None wires is = absurd (cc)
 given fault (Some ws) wires is = ap (λ ws. Some ws) (same_ok _ _ is)
 
@@ -126,7 +137,8 @@ items_good test f one (i ∷ items) wires is =
     rw (← same_ok _ _ rest.1.1)
     (all_append test first.0 rest.0 (one i first.0 first.1.0) (items_good test f one items rest.0 rest.1.0))
 
-there : (k : PeripheralType) (before : List Peripheral) (p : Peripheral) (ps : List Peripheral) → is_type k p.kind ≡ true →
+there : (k : PeripheralType) (before : List Peripheral) (p : Peripheral) (ps : List Peripheral) →
+    is_type k p.kind ≡ true →
     has_type k (before ++ p ∷ ps) ≡ true
 there k [] p ps is = rw is refl
 there k (q ∷ qs) p ps is =
@@ -152,14 +164,16 @@ lines_by (Some Clint) kinds regions plic dev clint device line from is =
           ] is
     ] is
 lines_by (Some Plic) kinds regions plic dev clint device line from is =
-    elim (is_context plic line) as (λ b. is_context plic line ≡ b → cond {A = Option WireFrom} b (Some (Context line)) None ≡ Some from →
+    elim (is_context plic line) as (λ b. is_context plic line ≡ b →
+    cond {A = Option WireFrom} b (Some (Context line)) None ≡ Some from →
     is_from kinds regions plic from ≡ true) [
       | true ↦ λ there is. rw (← same_some _ _ is) there
       | false ↦ λ there is. absurd (cc)
     ] refl is
 lines_by (Some Uart) kinds regions plic dev clint device line from is =
     let uart : has_line kinds dev ≡ true = ap kind_has_line (device refl) in
-    elim (line == 0) as (λ b. cond {A = Option WireFrom} b (Some (Dev dev)) None ≡ Some from → is_from kinds regions plic from ≡ true) [
+    elim (line == 0) as (λ b. cond {A = Option WireFrom} b (Some (Dev dev)) None ≡ Some from →
+    is_from kinds regions plic from ≡ true) [
       | true ↦ λ is. rw (← same_some _ _ is) uart
       | false ↦ λ is. absurd (cc)
     ] is
@@ -184,7 +198,8 @@ from_good plic all before (p ∷ ps) wires whole is =
     let mine = items_good (good kinds regions plic) f
     (λ i ws same. item_good kinds regions plic all p.kind (devices_of before) i.what ws lines (given _ _ ws same))
     p.items first.0 first.1.0 in
-    let later = from_good plic all (before ++ p ∷ []) ps rest.0 (whole ∙ sym (append_assoc before (p ∷ []) ps)) rest.1.0 in
+    let later = from_good plic all (before ++ p ∷ []) ps rest.0 (whole
+    ∙ sym (append_assoc before (p ∷ []) ps)) rest.1.0 in
     rw (← same_ok _ _ rest.1.1) (all_append (good kinds regions plic) first.0 rest.0 mine later)
 
 -- each wire is one that a board may have

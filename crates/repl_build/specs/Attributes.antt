@@ -9,7 +9,8 @@ use Rattle.repl_read.specs.declared.entry.Place.{Place}
 use Rattle.repl_read.specs.declared.entry.Place.TheVariants.{Range}
 use Rattle.repl_read.specs.declared.entry.Value.{Value}
 use Rattle.repl_read.specs.declared.entry.Value.TheVariants.{Number, Words, Truth, Name}
-use Rattle.sys_bus.specs.declared.limits.TheConstants.{MOST_SPEED, MOST_FREQUENCY, MOST_SOURCES, MOST_CONTEXTS, PAGE_SIZE}
+use Rattle.sys_bus.specs.declared.limits.TheConstants.{MOST_SPEED, MOST_FREQUENCY, MOST_SOURCES, MOST_CONTEXTS}
+use Rattle.sys_bus.specs.declared.limits.TheConstants.{PAGE_SIZE}
 use Rattle.repl_build.specs.declared.attributes.Sort.{Sort}
 use Rattle.repl_build.specs.declared.attributes.Sort.TheVariants.{Quoted, Reference, Flag, Yes, Within, Size}
 use Rattle.repl_build.specs.declared.merge.PlacedItem.{PlacedItem}

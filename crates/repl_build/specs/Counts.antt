@@ -1,5 +1,6 @@
 -- How many peripherals of a type a board has.
-use Rattle.std.specs.Prelude.{ℕ, ◌+◌, nat_le, nat_lt, Bool, false, not, ◌&&◌, ◌||◌, List, Option, Some, None, count_by}
+use Rattle.std.specs.Prelude.{ℕ, ◌+◌, nat_le, nat_lt, Bool, false, not, ◌&&◌, ◌||◌, List, Option, Some, None}
+use Rattle.std.specs.Prelude.{count_by}
 use Rattle.std.specs.Prelude.{if◌then◌else◌}
 use Rattle.std.specs.List.{list_any, sum_by}
 use Rattle.sys_bus.specs.declared.limits.TheConstants.{MOST_MEMORIES, MOST_MEMORY, MOST_UARTS, MOST_FINISHERS}

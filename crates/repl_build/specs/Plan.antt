@@ -99,7 +99,8 @@ abbrev pub cpu_name_of : List Peripheral → List ℕ
 cpu_name_of all = cpu_name_in (first_with kind.Cpu all)
 
 -- test 11, and the wires in the order of peripherals, items and pairs
-abbrev pub wires_from : Option PlicSize → List Peripheral → List Peripheral → List Peripheral → Result (List Wire) PlatFault
+abbrev pub wires_from : Option PlicSize → List Peripheral → List Peripheral → List Peripheral →
+    Result (List Wire) PlatFault
 wires_from plic all before [] = Ok []
 wires_from plic all before (p ∷ ps) = do
   first ← items_wires (placed_wires plic all p.kind (devices_of before)) p.items

@@ -99,7 +99,8 @@ wires_or fault None = Err fault
 
 -- test 11, of an item: lists of different lengths, a source line or pin out of range, or a pair of types that cannot be
 -- connected
-abbrev pub placed_wires : Option PlicSize → List Peripheral → Option PeripheralType → ℕ → PlacedItem → Result (List Wire) PlatFault
+abbrev pub placed_wires : Option PlicSize → List Peripheral → Option PeripheralType → ℕ → PlacedItem →
+    Result (List Wire) PlatFault
 placed_wires plic all type_ dev i =
     wires_or (At i.file i.line Line) (item_wires plic all type_ dev i.what)
 

@@ -6,5 +6,6 @@ use Rattle.repl_build.proofs.builder.build.Goals as goal
 
 pub returns-clause-valid : goal.returns-clause-valid
 returns-clause-valid c =
-    let builds = subst (λ entries. Builds entries c.plan_or_fault.result) c.deref.ensures.value c.plan_or_fault.ensures in
+    let builds = subst (λ entries. Builds entries c.plan_or_fault.result) c.deref.ensures.value
+    c.plan_or_fault.ensures in
     given_valid c.args.entries.items c.plan_or_fault.result builds
