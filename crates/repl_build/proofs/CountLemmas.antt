@@ -1,0 +1,65 @@
+-- Peripherals that keep the rule of counts are few.
+use Rattle.std.proofs.Common.{◌≡◌, ◌+◌, ◌<◌, ◌≤◌, ◌∙◌, Bool, true, false, ◌||◌, refl, sym, ap, List, [], ◌∷◌, ◌++◌}
+use Rattle.std.proofs.Common.{Option}
+use Rattle.std.proofs.Common.{None, Some, nat_le, arith, append_assoc, if◌then◌else◌}
+use Rattle.std.proofs.lemmas.Bool.Decides.{nat_tests}
+use Rattle.std.proofs.lemmas.List.{append-nil}
+use Rattle.std.proofs.lemmas.List.Sums.{sum_by_push}
+use Rattle.repl_build.specs.declared.merge.Peripheral.{Peripheral}
+use Rattle.repl_build.specs.declared.rules.Rule.TheVariants.{Counts}
+use Rattle.repl_build.specs.declared.types.PeripheralType.{PeripheralType}
+use Rattle.repl_build.specs.declared.types.PeripheralType.TheVariants.{Memory, Uart, Finisher}
+use Rattle.repl_build.specs.Counts.{most_of, count_of, are_as_many_as_may_be, passes_memory, is_one_too_many}
+use Rattle.repl_build.specs.First.{first_fault}
+use Rattle.repl_build.specs.Numbers.{AreFew}
+use Rattle.repl_build.specs.Rules.{peripheral_fault, broken}
+use Rattle.repl_build.specs.Types.{is_type}
+use Rattle.repl_build.proofs.NoneLemmas.{first_none, unbroken}
+use Rattle.repl_build.proofs.TypeLemmas.{is_type_same}
+
+none_of : (a b : Bool) → (a || b) ≡ false → a ≡ false
+none_of true b is = absurd (cc)
+none_of false b is = refl
+
+room : (before : List Peripheral) (k : PeripheralType) (o : Option PeripheralType) → o ≡ Some k →
+    are_as_many_as_may_be before o ≡ false → count_of before k < most_of k
+room before k o same few =
+    let fits : nat_le (most_of k) (count_of before k) ≡ false = sym (ap (are_as_many_as_may_be before) same) ∙ few in
+    grind (arith, nat_tests)
+
+one_more :
+    (before : List Peripheral) (x : Peripheral) (k : PeripheralType) → count_of before k ≤ most_of k →
+    is_one_too_many before x ≡ false → count_of (before ++ x ∷ []) k ≤ most_of k
+one_more before x k few fits =
+    let push : count_of (before ++ x ∷ []) k ≡ count_of before k + (if is_type k x.kind then 1 else 0) =
+    sum_by_push (λ p. if is_type k p.kind then 1 else 0) before x in
+    elim (is_type k x.kind) as (λ b. is_type k x.kind ≡ b →
+    count_of (before ++ x ∷ []) k ≡ count_of before k + (if b then 1 else 0) →
+    count_of (before ++ x ∷ []) k ≤ most_of k) [
+      | true ↦ λ is more.
+          let below = room before k x.kind (is_type_same k x.kind is)
+          (none_of _ (passes_memory before x) fits) in
+          omega (arith, more, below)
+      | false ↦ λ is more. omega (arith, more, few)
+    ] refl push
+
+counted :
+    (all : List Peripheral) (k : PeripheralType) (before xs : List Peripheral) → count_of before k ≤ most_of k →
+    first_fault (peripheral_fault Counts all) before xs ≡ None → count_of (before ++ xs) k ≤ most_of k
+counted all k before [] few none = rw append-nil few
+counted all k before (x ∷ xs) few none =
+    let parts = first_none _ _ none in
+    let here = unbroken Counts all before x parts.0 in
+    let later = counted all k (before ++ x ∷ []) xs (one_more before x k few here.0) parts.1 in
+    rw (← append_assoc before (x ∷ []) xs) later
+
+-- of each type there are no more than a board may have
+pub few_of : (all : List Peripheral) (k : PeripheralType) → broken Counts all ≡ None → count_of all k ≤ most_of k
+few_of all k none = counted all k [] all (omega arith) none
+
+pub are_few : (all : List Peripheral) → broken Counts all ≡ None → AreFew all
+are_few all none =
+    let memories = few_of all Memory none in
+    let uarts = few_of all Uart none in
+    let finishers = few_of all Finisher none in
+    (omega (arith, memories), omega (arith, uarts, finishers))

@@ -1,0 +1,395 @@
+-- The names of a plan, and what stands for what.
+use Rattle.std.proofs.Common.{◌≡◌, ℕ, ◌+◌, ◌<◌, ◌≤◌, ◌==◌, ◌∙◌, Bool, true, false, ◌||◌, refl, sym, ap, List, []}
+use Rattle.std.proofs.Common.{◌∷◌, ◌++◌, Option, None, Some, nat_lt, cond, count_by, arith, is_some, append_assoc}
+use Rattle.std.proofs.Common.{subst}
+use Rattle.std.proofs.lemmas.Bool.Decides.{nat_tests}
+use Rattle.std.proofs.lemmas.List.{append-nil}
+use Rattle.std.proofs.lemmas.List.Folds.{list_any-append}
+use Rattle.std.proofs.lemmas.Grind.{flat_map-append}
+use Rattle.std.proofs.lemmas.Slice.Eq.{bytes_eq-Decides}
+use Rattle.std.specs.List.{list_all, list_any, flat_map}
+use Rattle.std.specs.Option.{option_map}
+use Rattle.std.specs.Str.{bytes_eq}
+use Rattle.repl_read.specs.Entries.{is_entry, is_head, are_items}
+use Rattle.repl_read.specs.Words.{is_name, is_dotted_name}
+use Rattle.repl_read.specs.declared.entry.Entry.{Entry}
+use Rattle.repl_read.specs.declared.entry.Head.{Head}
+use Rattle.repl_read.specs.declared.entry.Head.TheVariants.{Using, Typed, Update}
+use Rattle.sys_bus.specs.declared.plan.Named.{Named}
+use Rattle.sys_bus.specs.declared.plan.NamedWhat.{NamedWhat}
+use Rattle.sys_bus.specs.declared.plan.NamedWhat.TheVariants as what
+use Rattle.sys_bus.specs.declared.region.RegionKind.{RegionKind}
+use Rattle.sys_bus.specs.declared.region.RegionKind.TheVariants as part
+use Rattle.sys_bus.specs.Name.{is_entry_name, are_names, names_differ, is_processor, count_of_processors}
+use Rattle.sys_bus.specs.Name.{are_processors_named, has_one_processor}
+use Rattle.sys_bus.specs.Part.{is_part, names_part, has_no_others, has_region}
+use Rattle.sys_bus.specs.Region.{same_part}
+use Rattle.repl_build.specs.declared.merge.Peripheral.{Peripheral}
+use Rattle.repl_build.specs.declared.types.PeripheralType.{PeripheralType}
+use Rattle.repl_build.specs.declared.types.PeripheralType.TheVariants.{Cpu, Memory, Clint, Plic, Uart, Finisher}
+use Rattle.repl_build.specs.Counts.{count_of, has_type}
+use Rattle.repl_build.specs.First.{first_fault}
+use Rattle.repl_build.specs.Merge.{peripheral_by, peripheral_of, merged}
+use Rattle.repl_build.specs.Names.{types_name, is_typed, repeats_name, repeated_in, repeated}
+use Rattle.repl_build.specs.Numbers.{devices_of, what_of}
+use Rattle.repl_build.specs.Plan.{each, name_by, name_of, region_by, region_of, first_with, cpu_name_in, cpu_name_of}
+use Rattle.repl_build.specs.Types.{is_type}
+use Rattle.repl_build.proofs.ListLemmas.{count_cons, count_append, both_true, all_append, or_false, NoneBefore}
+use Rattle.repl_build.proofs.ListLemmas.{self_alone}
+use Rattle.repl_build.proofs.NoneLemmas.{no_fault, first_none}
+use Rattle.repl_build.proofs.PartCounts.{is_device}
+use Rattle.repl_build.proofs.RangeLemmas.{and_true}
+use Rattle.repl_build.proofs.RegionLemmas.{regions_pass}
+use Rattle.repl_build.proofs.SoundLemmas.{Sound}
+use Rattle.repl_build.proofs.WhatLemmas.{same_part_of, device_cons}
+
+-- a test of each name
+names_pass :
+    (test : Named → Bool) (all before xs : List Peripheral) →
+    ((before : List Peripheral) (p : Peripheral) (ps : List Peripheral) (o : Option NamedWhat) →
+    all ≡ before ++ p ∷ ps → o ≡ what_of before p.kind → list_all test (name_by p.name o) ≡ true) →
+    all ≡ before ++ xs → list_all test (each name_of before xs) ≡ true
+names_pass test all before [] one whole = refl
+names_pass test all before (p ∷ ps) one whole =
+    all_append test (name_of before p) (each name_of (before ++ p ∷ []) ps)
+    (one before p ps (what_of before p.kind) whole refl)
+    (names_pass test all (before ++ p ∷ []) ps one (whole ∙ sym (append_assoc before (p ∷ []) ps)))
+
+below : (m n : ℕ) → m < n → nat_lt m n ≡ true
+below m n lt = grind (arith, nat_tests)
+
+memory_before :
+    (all before : List Peripheral) (p : Peripheral) (ps : List Peripheral) → all ≡ before ++ p ∷ ps →
+    is_type Memory p.kind ≡ true → count_of before Memory < count_of all Memory
+memory_before all before p ps whole is =
+    let two = count_append (λ q. is_type Memory q.kind) before (p ∷ ps) in
+    let three = count_cons (λ q. is_type Memory q.kind) p ps in
+    let one : cond {A = ℕ} (is_type Memory p.kind) 1 0 ≡ 1 = rw is refl in
+    let same = ap (λ ps. count_of ps Memory) whole in
+    omega (arith, one, two, three, same)
+
+device_before :
+    (all before : List Peripheral) (p : Peripheral) (ps : List Peripheral) → all ≡ before ++ p ∷ ps →
+    is_device p.kind ≡ true → devices_of before < devices_of all
+device_before all before p ps whole is =
+    let uarts = count_append (λ q. is_type Uart q.kind) before (p ∷ ps) in
+    let finishers = count_append (λ q. is_type Finisher q.kind) before (p ∷ ps) in
+    let three = device_cons p ps in
+    let one : cond {A = ℕ} (is_device p.kind) 1 0 ≡ 1 = rw is refl in
+    let same = ap devices_of whole in
+    omega (arith, one, uarts, finishers, three, same)
+
+in_parts :
+    (t : Option PeripheralType) (before : List Peripheral) (k : RegionKind) (m d : ℕ) →
+    Some (what.Part k) ≡ what_of before t →
+    (is_type Memory t ≡ true → count_of before Memory < m) → (is_device t ≡ true → devices_of before < d) →
+    is_part m d k ≡ true
+in_parts None before k m d is memory device = absurd (cc)
+in_parts (Some Cpu) before k m d is memory device = absurd (cc)
+in_parts (Some Memory) before k m d is memory device = rw (same_part_of _ _ is) (below _ _ (memory refl))
+in_parts (Some Clint) before k m d is memory device = rw (same_part_of _ _ is) refl
+in_parts (Some Plic) before k m d is memory device = rw (same_part_of _ _ is) refl
+in_parts (Some Uart) before k m d is memory device = rw (same_part_of _ _ is) (below _ _ (device refl))
+in_parts (Some Finisher) before k m d is memory device = rw (same_part_of _ _ is) (below _ _ (device refl))
+
+part_one :
+    (all before : List Peripheral) (p : Peripheral) (ps : List Peripheral) (k : RegionKind) → all ≡ before ++ p ∷ ps →
+    Some (what.Part k) ≡ what_of before p.kind → is_part (count_of all Memory) (devices_of all) k ≡ true
+part_one all before p ps k whole is =
+    in_parts p.kind before k (count_of all Memory) (devices_of all) is (memory_before all before p ps whole)
+    (device_before all before p ps whole)
+
+name_part :
+    (all before : List Peripheral) (p : Peripheral) (ps : List Peripheral) (o : Option NamedWhat) →
+    all ≡ before ++ p ∷ ps →
+    o ≡ what_of before p.kind →
+    list_all (λ n. names_part (count_of all Memory) (devices_of all) n.what) (name_by p.name o) ≡ true
+name_part all before p ps None whole is = refl
+name_part all before p ps (Some what.Cpu) whole is = refl
+name_part all before p ps (Some (what.Part k)) whole is = both_true _ _ (part_one all before p ps k whole is) refl
+
+region_part :
+    (all before : List Peripheral) (p : Peripheral) (ps : List Peripheral) (o : Option NamedWhat) →
+    all ≡ before ++ p ∷ ps →
+    o ≡ what_of before p.kind →
+    list_all (λ region. is_part (count_of all Memory) (devices_of all) region.kind) (region_by p o) ≡ true
+region_part all before p ps None whole is = refl
+region_part all before p ps (Some what.Cpu) whole is = refl
+region_part all before p ps (Some (what.Part k)) whole is = both_true _ _ (part_one all before p ps k whole is) refl
+
+-- there is no further name or region
+pub no_others :
+    (all : List Peripheral) → Sound all [] all →
+    has_no_others (each name_of [] all) (each region_of [] all) (count_of all Memory) (devices_of all) ≡ true
+no_others all sound =
+    both_true _ _ (names_pass _ all [] all (name_part all) refl)
+    (regions_pass _ all [] all (λ before p ps o fits whole is. region_part all before p ps o whole is) refl sound)
+
+-- a type that is there has a region
+clint_region : (t : Option PeripheralType) (p : Peripheral) (before : List Peripheral) →
+    has_region (region_by p (what_of before t)) part.Clint ≡ is_type Clint t
+clint_region None p before = refl
+clint_region (Some Cpu) p before = refl
+clint_region (Some Memory) p before = refl
+clint_region (Some Clint) p before = refl
+clint_region (Some Plic) p before = refl
+clint_region (Some Uart) p before = refl
+clint_region (Some Finisher) p before = refl
+
+pub clint_there : (before xs : List Peripheral) → has_region (each region_of before xs) part.Clint ≡ has_type Clint xs
+clint_there before [] = refl
+clint_there before (p ∷ ps) =
+    list_any-append (λ region. same_part region.kind part.Clint) (region_of before p) (each region_of
+    (before ++ p ∷ []) ps)
+    ∙ (rw (clint_region p.kind p before, clint_there (before ++ p ∷ []) ps) refl)
+
+plic_region : (t : Option PeripheralType) (p : Peripheral) (before : List Peripheral) →
+    has_region (region_by p (what_of before t)) part.Plic ≡ is_type Plic t
+plic_region None p before = refl
+plic_region (Some Cpu) p before = refl
+plic_region (Some Memory) p before = refl
+plic_region (Some Clint) p before = refl
+plic_region (Some Plic) p before = refl
+plic_region (Some Uart) p before = refl
+plic_region (Some Finisher) p before = refl
+
+pub plic_there : (before xs : List Peripheral) → has_region (each region_of before xs) part.Plic ≡ has_type Plic xs
+plic_there before [] = refl
+plic_there before (p ∷ ps) =
+    list_any-append (λ region. same_part region.kind part.Plic) (region_of before p) (each region_of
+    (before ++ p ∷ []) ps)
+    ∙ (rw (plic_region p.kind p before, plic_there (before ++ p ∷ []) ps) refl)
+
+pub found_type :
+    {X : Type 0} (f : Peripheral → X) (k : PeripheralType) (xs : List Peripheral) →
+    is_some (option_map f (first_with k xs)) ≡ has_type k xs
+found_type f k [] = refl
+found_type {X} f k (p ∷ ps) =
+    elim (is_type k p.kind) as (λ b. is_some (option_map f (cond {A = Option Peripheral} b (Some p)
+    (first_with k ps)))
+    ≡ (b || has_type k ps)) [ true ↦ refl | false ↦ found_type f k ps ]
+
+-- the processor
+processor_one : (t : Option PeripheralType) (name : List ℕ) (before : List Peripheral) →
+    count_of_processors (name_by name (what_of before t)) ≡ cond {A = ℕ} (is_type Cpu t) 1 0
+processor_one None name before = refl
+processor_one (Some Cpu) name before = refl
+processor_one (Some Memory) name before = refl
+processor_one (Some Clint) name before = refl
+processor_one (Some Plic) name before = refl
+processor_one (Some Uart) name before = refl
+processor_one (Some Finisher) name before = refl
+
+processors : (before xs : List Peripheral) → count_of_processors (each name_of before xs) ≡ count_of xs Cpu
+processors before [] = refl
+processors before (p ∷ ps) =
+    let two = count_append (λ (n : Named). is_processor n.what) (name_of before p) (each name_of
+    (before ++ p ∷ []) ps) in
+    let one = processor_one p.kind p.name before in
+    let rest = processors (before ++ p ∷ []) ps in
+    let sum = count_cons (λ q. is_type Cpu q.kind) p ps in
+    omega (arith, one, two, rest, sum)
+
+abbrev AreNamed : List ℕ → List Peripheral → Type 0
+AreNamed cpu [] = Unit {0}
+AreNamed cpu (p ∷ ps) = (is_type Cpu p.kind ≡ true → p.name ≡ cpu) × AreNamed cpu ps
+
+no_more : (cpu : List ℕ) (xs : List Peripheral) → count_of xs Cpu ≡ 0 → AreNamed cpu xs
+no_more cpu [] none = tt
+no_more cpu (p ∷ ps) none =
+    let sum : count_of (p ∷ ps) Cpu ≡ cond {A = ℕ} (is_type Cpu p.kind) 1 0 + count_of ps Cpu =
+    count_cons (λ q. is_type Cpu q.kind) p ps in (
+      λ is. let one : cond {A = ℕ} (is_type Cpu p.kind) 1 0 ≡ 1 =
+          rw is refl in absurd (omega (arith, one, sum, none)),
+      no_more cpu ps (omega (arith, sum, none)),
+    )
+
+sole : (xs : List Peripheral) → count_of xs Cpu ≤ 1 → AreNamed (cpu_name_of xs) xs
+sole [] few = tt
+sole (p ∷ ps) few =
+    let sum : count_of (p ∷ ps) Cpu ≡ cond {A = ℕ} (is_type Cpu p.kind) 1 0 + count_of ps Cpu =
+    count_cons (λ q. is_type Cpu q.kind) p ps in
+    elim (is_type Cpu p.kind) as (λ b. is_type Cpu p.kind ≡ b →
+    count_of (p ∷ ps) Cpu ≡ cond {A = ℕ} b 1 0 + count_of ps Cpu →
+    AreNamed (cpu_name_in (cond {A = Option Peripheral} b (Some p) (first_with Cpu ps))) (p ∷ ps)) [
+      | true ↦ λ is sum. (λ same. refl, no_more p.name ps (omega (arith, sum, few)))
+      | false ↦ λ is sum. (λ same. absurd (cc), sole ps (omega (arith, sum, few)))
+    ] refl sum
+
+named_one : (t : Option PeripheralType) (name cpu : List ℕ) (before : List Peripheral) → (is_type Cpu t ≡ true →
+    name ≡ cpu) →
+    are_processors_named cpu (name_by name (what_of before t)) ≡ true
+named_one None name cpu before same = refl
+named_one (Some Cpu) name cpu before same = both_true _ _ ((bytes_eq-Decides name cpu).1 (same refl)) refl
+named_one (Some Memory) name cpu before same = refl
+named_one (Some Clint) name cpu before same = refl
+named_one (Some Plic) name cpu before same = refl
+named_one (Some Uart) name cpu before same = refl
+named_one (Some Finisher) name cpu before same = refl
+
+named : (cpu : List ℕ) (before xs : List Peripheral) → AreNamed cpu xs →
+    are_processors_named cpu (each name_of before xs) ≡ true
+named cpu before [] same = refl
+named cpu before (p ∷ ps) same =
+    all_append _ (name_of before p) (each name_of (before ++ p ∷ []) ps) (named_one p.kind p.name cpu before same.0)
+    (named cpu (before ++ p ∷ []) ps same.1)
+
+-- one entry alone is the processor, and has its name
+pub processor :
+    (all : List Peripheral) → count_of all Cpu ≡ 1 → has_one_processor (cpu_name_of all) (each name_of [] all) ≡ true
+processor all one =
+    let count = processors [] all in
+    both_true _ _ (is_one (count_of_processors (each name_of [] all)) (count ∙ one))
+    (named (cpu_name_of all) [] all (sole all (omega (arith, one))))
+  where
+    is_one : (n : ℕ) → n ≡ 1 → (n == 1) ≡ true
+    is_one n is = rw is refl
+
+-- names
+abbrev same_name : Named → Named → Bool
+same_name a b = bytes_eq b.name a.name
+
+abbrev pub called_same : Peripheral → Peripheral → Bool
+called_same a b = bytes_eq b.name a.name
+
+bytes_eq_comm : (xs ys : List ℕ) → bytes_eq xs ys ≡ bytes_eq ys xs
+bytes_eq_comm xs ys =
+    elim (bytes_eq xs ys) as (λ b. bytes_eq xs ys ≡ b → b ≡ bytes_eq ys xs) [
+      | true ↦ λ is. sym ((bytes_eq-Decides ys xs).1 (sym ((bytes_eq-Decides xs ys).0 is)))
+      | false ↦ λ differ.
+          elim (bytes_eq ys xs) as (λ c. bytes_eq ys xs ≡ c → false ≡ c) [
+            | true ↦ λ is.
+                let same = (bytes_eq-Decides xs ys).1 (sym ((bytes_eq-Decides ys xs).0 is)) in
+                absurd (cc)
+            | false ↦ λ is. refl
+          ] refl
+    ] refl
+
+other_name : (p : Peripheral) (name : List ℕ) (o : Option NamedWhat) (n : Named) → n.name ≡ p.name →
+    bytes_eq name p.name ≡ false → list_any (same_name n) (name_by name o) ≡ false
+other_name p name None n is differ = refl
+other_name p name (Some what) n is differ =
+    let same : bytes_eq name n.name ≡ false = rw is differ in rw same refl
+
+other_names : (p : Peripheral) (n : Named) → n.name ≡ p.name → (before xs : List Peripheral) →
+    list_any (called_same p) xs ≡ false → list_any (same_name n) (each name_of before xs) ≡ false
+other_names p n is before [] none = refl
+other_names p n is before (q ∷ qs) none =
+    let parts = or_false (called_same p q) (list_any (called_same p) qs) none in
+    let one = other_name p q.name (what_of before q.kind) n is parts.0 in
+    let rest = other_names p n is (before ++ q ∷ []) qs parts.1 in
+    list_any-append (same_name n) (name_of before q) (each name_of (before ++ q ∷ []) qs) ∙ (rw (one, rest) refl)
+
+name_append :
+    (before xs ys : List Peripheral) →
+    each name_of before (xs ++ ys) ≡ each name_of before xs ++ each name_of (before ++ xs) ys
+name_append before [] ys = rw append-nil refl
+name_append before (x ∷ xs) ys =
+    ap (λ more. name_of before x ++ more) (name_append (before ++ x ∷ []) xs ys)
+    ∙ (rw (append_assoc before (x ∷ []) xs) (sym (append_assoc (name_of before x) _ _)))
+
+put_name :
+    (p : Peripheral) (o : Option NamedWhat) (before rest : List Named) →
+    ((n : Named) → n.name ≡ p.name → list_any (same_name n) before ≡ false) →
+    NoneBefore same_name (before ++ name_by p.name o) rest → NoneBefore same_name before (name_by p.name o ++ rest)
+put_name p None before rest none later = subst (λ b. NoneBefore same_name b rest) (append-nil before) later
+put_name p (Some what) before rest none later =
+    let n : Named = record { name = p.name; what = what } in
+    (none n refl, later)
+
+none_same :
+    (before xs : List Peripheral) → NoneBefore called_same before xs →
+    NoneBefore same_name (each name_of [] before) (each name_of before xs)
+none_same before [] none = tt
+none_same before (p ∷ ps) none =
+    let last : each name_of [] (before ++ p ∷ []) ≡ each name_of [] before ++ name_of before p =
+    name_append [] before (p ∷ []) ∙ ap (λ more. each name_of [] before ++ more) (append-nil (name_of before p)) in
+    put_name p (what_of before p.kind) (each name_of [] before) (each name_of (before ++ p ∷ []) ps)
+    (λ n is. other_names p n is [] before none.0)
+    (subst (λ b. NoneBefore same_name b (each name_of (before ++ p ∷ []) ps)) last (none_same
+    (before ++ p ∷ []) ps none.1))
+
+-- each name stands there once
+pub differ : (all : List Peripheral) → NoneBefore called_same [] all → names_differ (each name_of [] all) ≡ true
+differ all none =
+    let names = each name_of [] all in
+    self_alone same_name (λ a b. bytes_eq_comm b.name a.name)
+    (λ n. count_by (λ other. bytes_eq other.name n.name) names == 1) [] names names
+    (λ n is. once (count_by (same_name n) names) (bytes_eq n.name n.name) is
+    ((bytes_eq-Decides n.name n.name).1 refl)) refl
+    (none_same [] all none)
+  where
+    once : (n : ℕ) (b : Bool) → n ≡ cond {A = ℕ} b 1 0 → b ≡ true → (n == 1) ≡ true
+    once n true is same = rw is refl
+    once n false is same = absurd (cc)
+
+typed_before :
+    (all before : List Entry) (name : List ℕ) →
+    list_any (λ p. bytes_eq p.name name) (flat_map (peripheral_of all) before) ≡ is_typed before name
+typed_before all [] name = refl
+typed_before all (e ∷ es) name =
+    list_any-append (λ p. bytes_eq p.name name) (peripheral_of all e) (flat_map (peripheral_of all) es)
+    ∙ (rw (one e.head, typed_before all es name) refl)
+  where
+    one : (head : Head) → list_any (λ p. bytes_eq p.name name) (peripheral_by all e head) ≡ types_name name head
+    one (Using file) = refl
+    one (Update n) = refl
+    one (Typed n kind at) = elim (bytes_eq n name) as (λ b. (b || false) ≡ b) [ true ↦ refl | false ↦ refl ]
+
+put_entry :
+    (all before : List Entry) (e : Entry) (head : Head) (rest : List Peripheral) → repeats_name before head ≡ false →
+    NoneBefore called_same (flat_map (peripheral_of all) before ++ peripheral_by all e head) rest →
+    NoneBefore called_same (flat_map (peripheral_of all) before) (peripheral_by all e head ++ rest)
+put_entry all before e (Using file) rest none later = subst (λ b. NoneBefore called_same b rest) (append-nil _) later
+put_entry all before e (Update n) rest none later = subst (λ b. NoneBefore called_same b rest) (append-nil _) later
+put_entry all before e (Typed n kind at) rest none later = (typed_before all before n ∙ none, later)
+
+distinct_from :
+    (all before xs : List Entry) → first_fault repeated_in before xs ≡ None →
+    NoneBefore called_same (flat_map (peripheral_of all) before) (flat_map (peripheral_of all) xs)
+distinct_from all before [] none = tt
+distinct_from all before (e ∷ es) none =
+    let parts = first_none _ _ none in
+    let here = no_fault (repeats_name before e.head) _ (first_none _ _ parts.0).0 in
+    let last : flat_map (peripheral_of all) (before ++ e ∷ []) ≡ flat_map
+    (peripheral_of all) before ++ peripheral_of all e =
+    flat_map-append (peripheral_of all) before (e ∷ [])
+    ∙ ap (λ more. flat_map (peripheral_of all) before ++ more) (append-nil (peripheral_of all e)) in
+    put_entry all before e e.head (flat_map (peripheral_of all) es) here
+    (subst (λ b. NoneBefore called_same b (flat_map (peripheral_of all) es)) last (distinct_from all
+    (before ++ e ∷ []) es parts.1))
+
+pub distinct : (entries : List Entry) → repeated entries ≡ None → NoneBefore called_same [] (merged entries)
+distinct entries none = distinct_from entries [] entries none
+
+-- names have their form
+good_entry :
+    (all : List Entry) (e : Entry) (head : Head) → is_head head ≡ true →
+    list_all (λ p. is_entry_name p.name) (peripheral_by all e head) ≡ true
+good_entry all e (Using file) good = refl
+good_entry all e (Update n) good = refl
+good_entry all e (Typed n kind at) good = both_true _ _ (and_true (is_name n) (is_dotted_name kind) good).0 refl
+
+good_merged : (all xs : List Entry) → list_all is_entry xs ≡ true →
+    list_all (λ p. is_entry_name p.name) (flat_map (peripheral_of all) xs) ≡ true
+good_merged all [] good = refl
+good_merged all (e ∷ es) good =
+    let parts = and_true (is_entry e) (list_all is_entry es) good in
+    all_append _ (peripheral_of all e) (flat_map (peripheral_of all) es)
+    (good_entry all e e.head (and_true (is_head e.head) (are_items e.items) parts.0).0) (good_merged all es parts.1)
+
+good_names : (before xs : List Peripheral) → list_all (λ p. is_entry_name p.name) xs ≡ true →
+    are_names (each name_of before xs) ≡ true
+good_names before [] good = refl
+good_names before (p ∷ ps) good =
+    let parts = and_true (is_entry_name p.name) (list_all (λ p. is_entry_name p.name) ps) good in
+    all_append _ (name_of before p) (each name_of (before ++ p ∷ []) ps) (one (what_of before p.kind) parts.0)
+    (good_names (before ++ p ∷ []) ps parts.1)
+  where
+    one : (o : Option NamedWhat) → is_entry_name p.name ≡ true → are_names (name_by p.name o) ≡ true
+    one None good = refl
+    one (Some what) good = both_true _ _ good refl
+
+pub names_good : (entries : List Entry) → list_all is_entry entries ≡ true →
+    are_names (each name_of [] (merged entries)) ≡ true
+names_good entries good = good_names [] (merged entries) (good_merged entries entries good)

@@ -1,0 +1,131 @@
+-- The plan of entries without a fault is valid.
+use Rattle.std.proofs.Common.{◌≡◌, ℕ, ◌≤◌, ◌∙◌, true, ◌&&◌, refl, sym, List, Option, None, Some, Result, Ok, Err}
+use Rattle.std.proofs.Common.{nat_le, length, sum, arith, [], IfOk, IsTrue}
+use Rattle.std.proofs.lemmas.Bool.Decides.{nat_tests}
+use Rattle.std.specs.List.{list_all}
+use Rattle.std.specs.Option.{option_map}
+use Rattle.dev_core.specs.declared.kind.Kind.TheVariants as device
+use Rattle.repl_read.specs.Entries.{is_entry}
+use Rattle.repl_read.specs.declared.entry.Entry.{Entry}
+use Rattle.repl_read.specs.declared.fault.PlatFault.{PlatFault}
+use Rattle.sys_bus.specs.declared.limits.TheConstants.{MOST_MEMORY}
+use Rattle.sys_bus.specs.declared.plan.BoardPlan.{BoardPlan}
+use Rattle.sys_bus.specs.declared.wire.Wire.{Wire}
+use Rattle.sys_bus.specs.Limits as limit
+use Rattle.sys_bus.specs.Plan.{IsValid}
+use Rattle.repl_build.specs.declared.merge.Peripheral.{Peripheral}
+use Rattle.repl_build.specs.declared.types.PeripheralType.TheVariants.{Cpu, Memory, Clint, Plic, Uart, Finisher}
+use Rattle.repl_build.specs.Counts.{count_of, has_type}
+use Rattle.repl_build.specs.Merge.{merged}
+use Rattle.repl_build.specs.Names.{repeated, untyped}
+use Rattle.repl_build.specs.Plan.{memories_of, kinds_of, first_with, clint_frequency, plic_size_of}
+use Rattle.repl_build.specs.Plan.{speed_in, wires_of, plan_with, tested, built, Gives}
+use Rattle.repl_build.proofs.CountLemmas.{few_of}
+use Rattle.repl_build.proofs.ListLemmas.{both_true}
+use Rattle.repl_build.proofs.NameLemmas.{names_good, differ, distinct, processor, no_others, clint_there, plic_there}
+use Rattle.repl_build.proofs.NameLemmas.{found_type}
+use Rattle.repl_build.proofs.NumberLemmas.{IsBetween}
+use Rattle.repl_build.proofs.PartLemmas.{both, plic_numbers, clint_number, cpu_number}
+use Rattle.repl_build.proofs.PlanCounts.{memories_count, memories_sum, few_bytes, counted_type, uarts_count}
+use Rattle.repl_build.proofs.PlanCounts.{finishers_count}
+use Rattle.repl_build.proofs.PlanCounts.{cans_count, devices_count, parts}
+use Rattle.repl_build.proofs.RangeLemmas.{ranges}
+use Rattle.repl_build.proofs.RegionLemmas.{addressed, memory_sizes, steps, apart}
+use Rattle.repl_build.proofs.SoundLemmas.{sound}
+use Rattle.repl_build.proofs.TestedLemmas.{Keeps, keeps, passed}
+use Rattle.repl_build.proofs.WireValid.{ok_then, same_ok, wires_good}
+
+at_most : (m n : ℕ) → m ≤ n → nat_le m n ≡ true
+at_most m n le = grind (arith, nat_tests)
+
+within : (least most n : ℕ) → IsBetween least most n → (nat_le least n && nat_le n most) ≡ true
+within least most n is = both_true _ _ (at_most least n is.0) (at_most n most is.1)
+
+speed_good : (all : List Peripheral) (o : Option Peripheral) → Keeps all → first_with Cpu all ≡ o →
+    limit.is_speed (speed_in o) ≡ true
+speed_good all None keeps found = refl
+speed_good all (Some p) keeps found = within 1 1000 _ (cpu_number all p keeps found)
+
+frequency_good : (all : List Peripheral) (o : Option Peripheral) → Keeps all → first_with Clint all ≡ o →
+    limit.is_frequency (option_map clint_frequency o) ≡ true
+frequency_good all None keeps found = refl
+frequency_good all (Some p) keeps found = within 1 1000000000 _ (clint_number all p keeps found)
+
+plic_good : (all : List Peripheral) (o : Option Peripheral) → Keeps all → first_with Plic all ≡ o →
+    limit.is_plic_size (option_map plic_size_of o) ≡ true
+plic_good all None keeps found = refl
+plic_good all (Some p) keeps found =
+    let numbers = plic_numbers all p keeps found in
+    both_true _ _ (both_true _ _ (within 1 127 _ numbers.0) (at_most 1 _ numbers.1.0)) (at_most _ 15 numbers.1.1)
+
+devices_few : (all : List Peripheral) → Keeps all → limit.are_few_devices (kinds_of all) ≡ true
+devices_few all keeps =
+    let uarts = few_of all Uart keeps.counts in
+    let finishers = few_of all Finisher keeps.counts in
+    both_true _ _
+    (both_true _ _ (at_most (limit.count_of (kinds_of all) device.Uart) 4 (omega (arith, uarts, uarts_count all)))
+    (at_most (limit.count_of (kinds_of all) device.Can) 4 (omega (arith, cans_count all))))
+    (at_most (limit.count_of (kinds_of all) device.Finisher) 1 (omega (arith, finishers, finishers_count all)))
+
+memories_few : (all : List Peripheral) → Keeps all → has_type Memory all ≡ true →
+    limit.are_few_memories (memories_of all) ≡ true
+memories_few all keeps there =
+    let few = few_of all Memory keeps.counts in
+    let some = counted_type Memory all there in
+    let bytes = few_bytes all (sound all keeps) in
+    let count = memories_count all in
+    let total = memories_sum all in
+    both_true _ _
+    (both_true _ _ (at_most 1 (length (memories_of all)) (omega (arith, some, count)))
+    (at_most (length (memories_of all)) 8 (omega (arith, few, count))))
+    (at_most (sum (memories_of all)) MOST_MEMORY (omega (arith, bytes, total)))
+
+plan_valid :
+    (entries : List Entry) (wires : List Wire) → list_all is_entry entries ≡ true → repeated entries ≡ None →
+    Keeps (merged entries) → wires_of (merged entries) ≡ Ok wires → IsValid (plan_with (merged entries) wires)
+plan_valid entries wires good once keeps is =
+    let all = merged entries in
+    let there = both (has_type Cpu all) (has_type Memory all) keeps.whole in
+    let sound = sound all keeps in
+    let few = few_of all Cpu keeps.counts in
+    let some = counted_type Cpu all there.0 in
+    let one : count_of all Cpu ≡ 1 = omega (arith, few, some) in
+    record {
+      are_names = names_good entries good;
+      names_differ = differ all (distinct entries once);
+      processor = processor all one;
+      parts = parts all (few_of all Clint keeps.counts) (few_of all Plic keeps.counts);
+      no_others = rw (memories_count all, devices_count all) (no_others all sound);
+      timer = found_type clint_frequency Clint all ∙ sym (clint_there [] all);
+      controller = found_type plic_size_of Plic all ∙ sym (plic_there [] all);
+      memory_sizes = memory_sizes all sound;
+      steps = steps all sound;
+      few_devices = devices_few all keeps;
+      few_memories = memories_few all keeps there.1;
+      speed = speed_good all (first_with Cpu all) keeps refl;
+      frequency = frequency_good all (first_with Clint all) keeps refl;
+      plic = plic_good all (first_with Plic all) keeps refl;
+      ranges = ranges all sound;
+      apart = apart all sound;
+      addressed = addressed all sound;
+      wires = wires_good all wires is;
+    }
+
+built_valid :
+    (entries : List Entry) (plan : BoardPlan) → list_all is_entry entries ≡ true → built entries ≡ Ok plan →
+    IsValid plan
+unfolding built
+built_valid entries plan good is =
+    let once = passed (repeated entries) _ plan is in
+    let typed = passed (untyped entries) _ plan once.1 in
+    let rules = ok_then (tested (merged entries)) _ plan typed.1 in
+    let wires = ok_then (wires_of (merged entries)) _ plan rules.1.1 in
+    rw (← same_ok _ _ wires.1.1)
+    (plan_valid entries wires.0 good once.0 (keeps (merged entries) rules.1.0) wires.1.0)
+
+-- what is given is valid
+pub given_valid :
+    (entries : List Entry) (result : Result BoardPlan PlatFault) → Gives result (built entries) →
+    IsTrue (list_all is_entry entries) → IfOk result IsValid
+given_valid entries (Ok plan) is good = built_valid entries plan good is
+given_valid entries (Err fault) is good = tt

@@ -1,0 +1,9 @@
+-- No entry so far has a fault.
+use Rattle.std.proofs.Common.{◌≡◌, [], take, drop}
+use Rattle.repl_build.specs.First.{first_fault}
+use Rattle.repl_build.specs.Names.{repeated_in}
+use Rattle.repl_build.proofs.names.repeated.Given as goal
+
+abbrev pub invariant-loop-i : goal.invariant-loop-i
+invariant-loop-i l = first_fault repeated_in (take l.i l.entries)
+    (drop l.i l.entries) ≡ first_fault repeated_in [] l.entries

@@ -1,0 +1,132 @@
+-- The attributes that each type has, and the values that they take.
+use Rattle.std.specs.Prelude.{ℕ, ◌%◌, ◌==◌, nat_le, Bool, true, false, not, ◌&&◌, ◌||◌, if◌then◌else◌, List, Option}
+use Rattle.std.specs.Prelude.{Some, None, is_none, find, codes}
+use Rattle.std.specs.List.{list_any}
+use Rattle.std.specs.Str.{bytes_eq}
+use Rattle.repl_read.specs.declared.entry.ItemWhat.{ItemWhat}
+use Rattle.repl_read.specs.declared.entry.ItemWhat.TheVariants.{Attribute, Wire}
+use Rattle.repl_read.specs.declared.entry.Place.{Place}
+use Rattle.repl_read.specs.declared.entry.Place.TheVariants.{Range}
+use Rattle.repl_read.specs.declared.entry.Value.{Value}
+use Rattle.repl_read.specs.declared.entry.Value.TheVariants.{Number, Words, Truth, Name}
+use Rattle.sys_bus.specs.declared.limits.TheConstants.{MOST_SPEED, MOST_FREQUENCY, MOST_SOURCES, MOST_CONTEXTS}
+use Rattle.sys_bus.specs.declared.limits.TheConstants.{PAGE_SIZE}
+use Rattle.repl_build.specs.declared.attributes.Sort.{Sort}
+use Rattle.repl_build.specs.declared.attributes.Sort.TheVariants.{Quoted, Reference, Flag, Yes, Within, Size}
+use Rattle.repl_build.specs.declared.merge.PlacedItem.{PlacedItem}
+use Rattle.repl_build.specs.declared.types.PeripheralType.{PeripheralType}
+use Rattle.repl_build.specs.declared.types.PeripheralType.TheVariants as kind
+use Rattle.repl_build.specs.Names.{has_key}
+
+abbrev pub cpu_sort : List ℕ → Option Sort
+cpu_sort key =
+    if bytes_eq key (codes "cpuType") then Some Quoted
+    else if bytes_eq key (codes "timeProvider") then Some Reference
+    else if bytes_eq key (codes "hartId") then Some (Within 0 0)
+    else if bytes_eq key (codes "PerformanceInMips") then Some (Within 1 MOST_SPEED)
+    else if bytes_eq key (codes "privilegeArchitecture") then Some Reference
+    else if bytes_eq key (codes "privilegedArchitecture") then Some Reference
+    else None
+
+abbrev pub memory_sort : List ℕ → Option Sort
+memory_sort key = if bytes_eq key (codes "size") then Some Size else None
+
+abbrev pub clint_sort : List ℕ → Option Sort
+clint_sort key =
+    if bytes_eq key (codes "frequency") then Some (Within 1 MOST_FREQUENCY)
+    else if bytes_eq key (codes "numberOfTargets") then Some (Within 1 1)
+    else None
+
+abbrev pub plic_sort : List ℕ → Option Sort
+plic_sort key =
+    if bytes_eq key (codes "numberOfSources") then Some (Within 1 MOST_SOURCES)
+    else if bytes_eq key (codes "numberOfContexts") then Some (Within 1 MOST_CONTEXTS)
+    else if bytes_eq key (codes "prioritiesEnabled") then Some Yes
+    else None
+
+abbrev pub uart_sort : List ℕ → Option Sort
+uart_sort key = if bytes_eq key (codes "wideRegisters") then Some Flag else None
+
+-- what an attribute of a type takes, if the type has it
+abbrev pub sort_of : Option PeripheralType → List ℕ → Option Sort
+sort_of (Some kind.Cpu) key = cpu_sort key
+sort_of (Some kind.Memory) key = memory_sort key
+sort_of (Some kind.Clint) key = clint_sort key
+sort_of (Some kind.Plic) key = plic_sort key
+sort_of (Some kind.Uart) key = uart_sort key
+sort_of (Some kind.Finisher) key = None
+sort_of None key = None
+
+-- test 4: an attribute that is unknown for its type
+abbrev pub is_unknown : Option PeripheralType → ItemWhat → Bool
+is_unknown type_ (Attribute key value) = is_none (sort_of type_ key)
+is_unknown type_ (Wire from to pins) = false
+
+-- whole pages, at least one
+abbrev pub is_memory_size : ℕ → Bool
+is_memory_size size = (size % PAGE_SIZE == 0) && nat_le PAGE_SIZE size
+
+-- the size of a memory is that of its range, if it has one
+abbrev pub fits_range : Place → ℕ → Bool
+fits_range (Range base size) n = n == size
+fits_range _ n = true
+
+abbrev pub takes : Sort → Place → Value → Bool
+takes Quoted at (Words text) = true
+takes Reference at (Name name) = true
+takes Flag at (Truth truth) = true
+takes Yes at (Truth truth) = truth
+takes (Within least most) at (Number n) = nat_le least n && nat_le n most
+takes Size at (Number n) = is_memory_size n && fits_range at n
+takes _ at value = false
+
+abbrev pub takes_by : Option Sort → Place → Value → Bool
+takes_by (Some sort) at value = takes sort at value
+takes_by None at value = true
+
+-- test 6, of an item: a value of another sort or out of range
+abbrev pub is_refused : Option PeripheralType → Place → ItemWhat → Bool
+is_refused type_ at (Attribute key value) = not (takes_by (sort_of type_ key) at value)
+is_refused type_ at (Wire from to pins) = false
+
+-- an attribute's item, if it stands there
+abbrev pub item_of : List ℕ → List PlacedItem → Option PlacedItem
+item_of key items = find (λ item. has_key key item.what) items
+
+abbrev pub has_attribute : List ℕ → List PlacedItem → Bool
+has_attribute key items = list_any (λ item. has_key key item.what) items
+
+abbrev pub number_by : ℕ → ItemWhat → ℕ
+number_by default (Attribute key (Number n)) = n
+number_by default _ = default
+
+abbrev pub number_in : ℕ → Option PlacedItem → ℕ
+number_in default None = default
+number_in default (Some item) = number_by default item.what
+
+-- the number that an attribute has, or its default
+abbrev pub number_of : List ℕ → ℕ → List PlacedItem → ℕ
+number_of key default items = number_in default (item_of key items)
+
+abbrev pub is_true : ItemWhat → Bool
+is_true (Attribute key (Truth truth)) = truth
+is_true _ = false
+
+abbrev pub is_true_in : Option PlacedItem → Bool
+is_true_in None = false
+is_true_in (Some item) = is_true item.what
+
+-- whether an attribute stands there and is true
+abbrev pub is_set : List ℕ → List PlacedItem → Bool
+is_set key items = is_true_in (item_of key items)
+
+-- the processors that are built
+abbrev pub is_core : List ℕ → Bool
+is_core text =
+    bytes_eq text (codes "rv32im") || bytes_eq text (codes "rv32im_zicsr")
+    || bytes_eq text (codes "rv32im_zicsr_zifencei")
+
+-- test 7: another cpuType
+abbrev pub is_other_core : ItemWhat → Bool
+is_other_core (Attribute key (Words text)) = bytes_eq key (codes "cpuType") && not (is_core text)
+is_other_core _ = false

@@ -1,0 +1,44 @@
+-- How many peripherals of a type a board has.
+use Rattle.std.specs.Prelude.{ℕ, ◌+◌, nat_le, nat_lt, Bool, false, not, ◌&&◌, ◌||◌, List, Option, Some, None}
+use Rattle.std.specs.Prelude.{count_by}
+use Rattle.std.specs.Prelude.{if◌then◌else◌}
+use Rattle.std.specs.List.{list_any, sum_by}
+use Rattle.sys_bus.specs.declared.limits.TheConstants.{MOST_MEMORIES, MOST_MEMORY, MOST_UARTS, MOST_FINISHERS}
+use Rattle.repl_build.specs.declared.merge.Peripheral.{Peripheral}
+use Rattle.repl_build.specs.declared.types.PeripheralType.{PeripheralType}
+use Rattle.repl_build.specs.declared.types.PeripheralType.TheVariants.{Cpu, Memory, Clint, Plic, Uart, Finisher}
+use Rattle.repl_build.specs.Places.{size_of}
+use Rattle.repl_build.specs.Types.{is_type}
+
+abbrev pub most_of : PeripheralType → ℕ
+most_of Cpu = 1
+most_of Memory = MOST_MEMORIES
+most_of Clint = 1
+most_of Plic = 1
+most_of Uart = MOST_UARTS
+most_of Finisher = MOST_FINISHERS
+
+abbrev pub count_of : List Peripheral → PeripheralType → ℕ
+count_of peripherals type_ = count_by (λ p. is_type type_ p.kind) peripherals
+
+abbrev pub are_as_many_as_may_be : List Peripheral → Option PeripheralType → Bool
+are_as_many_as_may_be before (Some type_) = nat_le (most_of type_) (count_of before type_)
+are_as_many_as_may_be before None = false
+
+-- the bytes of a memory
+abbrev pub bytes_of : Peripheral → ℕ
+bytes_of p = if is_type Memory p.kind then size_of p else 0
+
+abbrev pub passes_memory : List Peripheral → Peripheral → Bool
+passes_memory before p = is_type Memory p.kind && nat_lt MOST_MEMORY (bytes_of p + sum_by bytes_of before)
+
+-- test 8: the entry that is one too many, or the memory that passes 64 MiB
+abbrev pub is_one_too_many : List Peripheral → Peripheral → Bool
+is_one_too_many before p = are_as_many_as_may_be before p.kind || passes_memory before p
+
+abbrev pub has_type : PeripheralType → List Peripheral → Bool
+has_type type_ peripherals = list_any (λ p. is_type type_ p.kind) peripherals
+
+-- test 8, at its end: there is no processor or no memory
+abbrev pub is_bare : List Peripheral → Bool
+is_bare peripherals = not (has_type Cpu peripherals && has_type Memory peripherals)

@@ -1,0 +1,14 @@
+-- What contracts of repl_build and of the crates above cite.
+pub mod Attributes
+pub mod Counts
+pub mod First
+pub mod Merge
+pub mod Names
+pub mod Numbers
+pub mod Places
+pub mod Plan
+pub mod References
+pub mod Rules
+pub mod Types
+pub mod Wires
+pub mod Inner

@@ -1,0 +1,108 @@
+-- Where peripherals stand: their registration, addresses and sizes.
+use Rattle.std.specs.Prelude.{ℕ, ◌+◌, ◌^◌, ◌%◌, ◌==◌, nat_le, nat_lt, min, max, Bool, true, false, not, ◌&&◌, ◌||◌}
+use Rattle.std.specs.Prelude.{List}
+use Rattle.std.specs.Prelude.{Option, Some, None, if◌then◌else◌, codes}
+use Rattle.std.specs.List.{list_any}
+use Rattle.repl_read.specs.declared.entry.Place.{Place}
+use Rattle.repl_read.specs.declared.entry.Place.TheVariants.{Bus, Address, Range}
+use Rattle.dev_core.specs.declared.kind.Kind.TheVariants as device
+use Rattle.sys_bus.specs.declared.limits.TheConstants.{PAGE_SIZE, REGION_UNIT, LEAST_CLINT, LEAST_PLIC}
+use Rattle.sys_bus.specs.Limits.{least_device_size}
+use Rattle.repl_build.specs.declared.merge.Peripheral.{Peripheral}
+use Rattle.repl_build.specs.declared.merge.PlacedItem.{PlacedItem}
+use Rattle.repl_build.specs.declared.types.PeripheralType.{PeripheralType}
+use Rattle.repl_build.specs.declared.types.PeripheralType.TheVariants.{Cpu, Memory, Clint, Plic, Uart, Finisher}
+use Rattle.repl_build.specs.Attributes.{has_attribute, number_of, is_set}
+
+-- a processor is registered without an address, and all else with one
+abbrev pub is_registered : Option PeripheralType → Place → Bool
+is_registered (Some Cpu) Bus = true
+is_registered (Some Cpu) _ = false
+is_registered _ (Address base) = true
+is_registered _ (Range base size) = true
+is_registered _ _ = false
+
+abbrev pub has_range : Place → Bool
+has_range (Range base size) = true
+has_range _ = false
+
+-- the attributes that a type requires
+abbrev pub has_required : Option PeripheralType → Place → List PlacedItem → Bool
+has_required (Some Cpu) at items = has_attribute (codes "cpuType") items
+has_required (Some Memory) at items = has_range at || has_attribute (codes "size") items
+has_required (Some Clint) at items = has_attribute (codes "frequency") items
+has_required (Some Plic) at items = has_attribute (codes "numberOfSources") items
+has_required (Some Uart) at items = true
+has_required (Some Finisher) at items = true
+has_required None at items = true
+
+-- test 5: a required attribute or registration is absent, or a processor has an address, or another type has none
+abbrev pub is_lacking : Peripheral → Bool
+is_lacking p = not (is_registered p.kind p.at && has_required p.kind p.at p.items)
+
+-- the registers of a UART lie 4 bytes apart where `wideRegisters` says so, and those of all else 1
+abbrev pub step_of : Option PeripheralType → List PlacedItem → ℕ
+step_of (Some Uart) items = if is_set (codes "wideRegisters") items then 4 else 1
+step_of _ items = 1
+
+-- the fewest bytes
+abbrev pub least_of : Option PeripheralType → ℕ → ℕ
+least_of (Some Cpu) step = 0
+least_of (Some Memory) step = PAGE_SIZE
+least_of (Some Clint) step = LEAST_CLINT
+least_of (Some Plic) step = LEAST_PLIC
+least_of (Some Uart) step = least_device_size device.Uart step
+least_of (Some Finisher) step = least_device_size device.Finisher step
+least_of None step = 0
+
+-- a memory has whole pages, and all else whole words
+abbrev pub is_unit : Option PeripheralType → ℕ → Bool
+is_unit (Some Memory) size = size % PAGE_SIZE == 0
+is_unit _ size = size % REGION_UNIT == 0
+
+abbrev pub is_place : Option PeripheralType → ℕ → Place → Bool
+is_place type_ step (Address base) = base % REGION_UNIT == 0
+is_place type_ step (Range base size) =
+    (base % REGION_UNIT == 0) && is_unit type_ size && nat_le (least_of type_ step) size
+is_place type_ step _ = true
+
+-- test 6, of an entry: an address or size of a wrong multiple or below the least
+abbrev pub is_misplaced : Peripheral → Bool
+is_misplaced p = not (is_place p.kind (step_of p.kind p.items) p.at)
+
+-- the size in bytes where no range says it
+abbrev pub usual_size : Option PeripheralType → List PlacedItem → ℕ
+usual_size (Some Cpu) items = 0
+usual_size (Some Memory) items = number_of (codes "size") 0 items
+usual_size (Some Clint) items = 0x1_0000
+usual_size (Some Plic) items = 0x400_0000
+usual_size (Some Uart) items = 0x100
+usual_size (Some Finisher) items = 0x1000
+usual_size None items = 0
+
+abbrev pub size_at : ℕ → Place → ℕ
+size_at usual (Range base size) = size
+size_at usual _ = usual
+
+abbrev pub size_of : Peripheral → ℕ
+size_of p = size_at (usual_size p.kind p.items) p.at
+
+abbrev pub base_at : Place → ℕ
+base_at (Address base) = base
+base_at (Range base size) = base
+base_at _ = 0
+
+abbrev pub base_of : Peripheral → ℕ
+base_of p = base_at p.at
+
+-- the address after the last byte
+abbrev pub end_of : Peripheral → ℕ
+end_of p = base_of p + size_of p
+
+-- a byte lies in both
+abbrev pub overlaps : Peripheral → Peripheral → Bool
+overlaps a b = nat_lt (max (base_of a) (base_of b)) (min (end_of a) (end_of b))
+
+-- test 9: it overlaps an earlier one, or ends past 2^32
+abbrev pub collides : List Peripheral → Peripheral → Bool
+collides before p = nat_lt (2 ^ 32) (end_of p) || list_any (overlaps p) before

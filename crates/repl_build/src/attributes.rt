@@ -1,0 +1,234 @@
+//! The attributes that each type has, and the values that they take.
+ghost use Rattle.std.specs.Prelude.{◌≡◌, find, codes};
+ghost use Rattle.std.specs.Option.{option_map};
+ghost use Rattle.repl_build.specs.Attributes as attribute;
+
+use crate::merge::PlacedItem;
+use crate::names::has_key;
+use crate::types::PeripheralType;
+use repl_read::{ItemWhat, Place, Value};
+
+/// A memory has whole pages, at least one.
+pub(crate) const PAGE_SIZE: u32 = 4096;
+
+/// What an attribute takes.
+#[derive(Clone, Copy, PartialEq, Eq, Debug)]
+pub(crate) enum Sort {
+    /// A string.
+    Quoted,
+    /// A name.
+    Reference,
+    /// `true` or `false`.
+    Flag,
+    /// `true` alone.
+    Yes,
+    /// A number from the least to the most.
+    Within { least: u32, most: u32 },
+    /// The size of a memory in bytes.
+    Size,
+}
+
+fn cpu_sort(key: &str) -> Option<Sort>
+    ensures { result ≡ attribute.cpu_sort key.now }
+{
+    match key {
+        "cpuType" => Some(Sort::Quoted),
+        "timeProvider" => Some(Sort::Reference),
+        "hartId" => Some(Sort::Within { least: 0, most: 0 }),
+        "PerformanceInMips" => Some(Sort::Within {
+            least: 1,
+            most: 1000,
+        }),
+        "privilegeArchitecture" => Some(Sort::Reference),
+        "privilegedArchitecture" => Some(Sort::Reference),
+        _ => None,
+    }
+}
+
+fn memory_sort(key: &str) -> Option<Sort>
+    ensures { result ≡ attribute.memory_sort key.now }
+{
+    match key {
+        "size" => Some(Sort::Size),
+        _ => None,
+    }
+}
+
+fn clint_sort(key: &str) -> Option<Sort>
+    ensures { result ≡ attribute.clint_sort key.now }
+{
+    match key {
+        "frequency" => Some(Sort::Within {
+            least: 1,
+            most: 1_000_000_000,
+        }),
+        "numberOfTargets" => Some(Sort::Within { least: 1, most: 1 }),
+        _ => None,
+    }
+}
+
+fn plic_sort(key: &str) -> Option<Sort>
+    ensures { result ≡ attribute.plic_sort key.now }
+{
+    match key {
+        "numberOfSources" => Some(Sort::Within {
+            least: 1,
+            most: 127,
+        }),
+        "numberOfContexts" => Some(Sort::Within { least: 1, most: 15 }),
+        "prioritiesEnabled" => Some(Sort::Yes),
+        _ => None,
+    }
+}
+
+fn uart_sort(key: &str) -> Option<Sort>
+    ensures { result ≡ attribute.uart_sort key.now }
+{
+    match key {
+        "wideRegisters" => Some(Sort::Flag),
+        _ => None,
+    }
+}
+
+/// What an attribute of a type takes, if the type has it.
+fn sort_of(kind: Option<PeripheralType>, key: &str) -> Option<Sort>
+    ensures { result ≡ attribute.sort_of kind key.now }
+{
+    match kind {
+        Some(PeripheralType::Cpu) => cpu_sort(key),
+        Some(PeripheralType::Memory) => memory_sort(key),
+        Some(PeripheralType::Clint) => clint_sort(key),
+        Some(PeripheralType::Plic) => plic_sort(key),
+        Some(PeripheralType::Uart) => uart_sort(key),
+        Some(PeripheralType::Finisher) | None => None,
+    }
+}
+
+/// Whether this is an attribute that the type does not have.
+pub(crate) fn is_unknown(kind: Option<PeripheralType>, what: &ItemWhat) -> bool
+    ensures { result ≡ attribute.is_unknown kind what.now }
+{
+    match what {
+        ItemWhat::Attribute { key, .. } => sort_of(kind, key.as_str()).is_none(),
+        ItemWhat::Wire { .. } => false,
+    }
+}
+
+fn is_memory_size(size: u32) -> bool
+    ensures { result ≡ attribute.is_memory_size size }
+{
+    size % PAGE_SIZE == 0 && PAGE_SIZE <= size
+}
+
+fn fits_range(at: Place, n: u32) -> bool
+    ensures { result ≡ attribute.fits_range at n }
+{
+    match at {
+        Place::Range { size, .. } => n == size,
+        _ => true,
+    }
+}
+
+fn takes(sort: Sort, at: Place, value: &Value) -> bool
+    ensures { result ≡ attribute.takes sort at value.now }
+{
+    match (sort, value) {
+        (Sort::Quoted, Value::Words(_)) => true,
+        (Sort::Reference, Value::Name(_)) => true,
+        (Sort::Flag, Value::Truth(_)) => true,
+        (Sort::Yes, Value::Truth(truth)) => *truth,
+        (Sort::Within { least, most }, Value::Number(n)) => least <= *n && *n <= most,
+        (Sort::Size, Value::Number(n)) => is_memory_size(*n) && fits_range(at, *n),
+        _ => false,
+    }
+}
+
+/// Whether an attribute's value is of another sort than it takes, or out of range.
+pub(crate) fn is_refused(kind: Option<PeripheralType>, at: Place, what: &ItemWhat) -> bool
+    ensures { result ≡ attribute.is_refused kind at what.now }
+{
+    match what {
+        ItemWhat::Attribute { key, value } => match sort_of(kind, key.as_str()) {
+            Some(sort) => !takes(sort, at, value),
+            None => false,
+        },
+        ItemWhat::Wire { .. } => false,
+    }
+}
+
+fn item_of<'a>(key: &str, items: &'a [PlacedItem]) -> Option<&'a PlacedItem>
+    ensures { option_map (λ item. item.now) result ≡ attribute.item_of key.now items.now }
+{
+    items.iter().find(|item| has_key(key, &item.what))
+}
+
+/// Whether an attribute stands there.
+pub(crate) fn has_attribute(key: &str, items: &[PlacedItem]) -> bool
+    ensures { result ≡ attribute.has_attribute key.now items.now }
+{
+    items.iter().any(|item| has_key(key, &item.what))
+}
+
+/// The number that an attribute has, or its default.
+pub(crate) fn number_of(key: &str, default: u32, items: &[PlacedItem]) -> u32
+    ensures { result ≡ attribute.number_of key.now default items.now }
+{
+    match item_of(key, items) {
+        Some(item) => number_by(default, &item.what),
+        None => default,
+    }
+}
+
+fn number_by(default: u32, what: &ItemWhat) -> u32
+    ensures { result ≡ attribute.number_by default what.now }
+{
+    match what {
+        ItemWhat::Attribute {
+            value: Value::Number(n),
+            ..
+        } => *n,
+        _ => default,
+    }
+}
+
+fn is_true(what: &ItemWhat) -> bool
+    ensures { result ≡ attribute.is_true what.now }
+{
+    match what {
+        ItemWhat::Attribute {
+            value: Value::Truth(truth),
+            ..
+        } => *truth,
+        _ => false,
+    }
+}
+
+/// Whether an attribute stands there and is true.
+pub(crate) fn is_set(key: &str, items: &[PlacedItem]) -> bool
+    ensures { result ≡ attribute.is_set key.now items.now }
+{
+    match item_of(key, items) {
+        Some(item) => is_true(&item.what),
+        None => false,
+    }
+}
+
+/// Whether a processor of this type is built.
+fn is_core(text: &str) -> bool
+    ensures { result ≡ attribute.is_core text.now }
+{
+    text == "rv32im" || text == "rv32im_zicsr" || text == "rv32im_zicsr_zifencei"
+}
+
+/// Whether this is a `cpuType` that is not built.
+pub(crate) fn is_other_core(what: &ItemWhat) -> bool
+    ensures { result ≡ attribute.is_other_core what.now }
+{
+    match what {
+        ItemWhat::Attribute {
+            key,
+            value: Value::Words(text),
+        } => key.as_str() == "cpuType" && !is_core(text.as_str()),
+        _ => false,
+    }
+}

@@ -1,0 +1,746 @@
+//! Platform texts and what is built of them.
+use super::*;
+use dev_core::Kind;
+use repl_read::{PlatCause, read_platform};
+use std::alloc::AllocError;
+use std::fmt::Write;
+use std::test::Fail;
+use sys_bus::{Named, NamedWhat, Region, RegionKind, Wire, WireFrom, WirePin};
+
+fn show_part(out: &mut String, part: RegionKind) -> Result<(), AllocError> {
+    match part {
+        RegionKind::Ram(i) => write!(out, "ram{i}"),
+        RegionKind::Clint => out.push_str("clint"),
+        RegionKind::Plic => out.push_str("plic"),
+        RegionKind::Dev(i) => write!(out, "dev{i}"),
+    }
+}
+
+fn show_name(out: &mut String, named: &Named) -> Result<(), AllocError> {
+    write!(out, "{}=", named.name.as_str())?;
+    match named.what {
+        NamedWhat::Cpu => out.push_str("cpu")?,
+        NamedWhat::Part(part) => show_part(out, part)?,
+    }
+    out.push_str(" ")
+}
+
+fn show_region(out: &mut String, region: &Region) -> Result<(), AllocError> {
+    show_part(out, region.kind)?;
+    let (base, size, step) = (region.base, region.size, region.step);
+    write!(out, "@{base:x}+{size:x}/{step} ")
+}
+
+fn show_kind(out: &mut String, kind: Kind) -> Result<(), AllocError> {
+    out.push_str(match kind {
+        Kind::Uart => "uart ",
+        Kind::Can => "can ",
+        Kind::Finisher => "finisher ",
+    })
+}
+
+fn show_wire(out: &mut String, wire: &Wire) -> Result<(), AllocError> {
+    match wire.from {
+        WireFrom::Soft => out.push_str("soft")?,
+        WireFrom::Timer => out.push_str("timer")?,
+        WireFrom::Context(i) => write!(out, "context{i}")?,
+        WireFrom::Dev(i) => write!(out, "dev{i}")?,
+    }
+    match wire.pin {
+        WirePin::Cpu(pin) => write!(out, ">pin{pin} "),
+        WirePin::Source(source) => write!(out, ">source{source} "),
+    }
+}
+
+fn show_numbers(out: &mut String, plan: &BoardPlan) -> Result<(), AllocError> {
+    if let Some(frequency) = plan.frequency {
+        write!(out, "{frequency}Hz ")?;
+    }
+    if let Some(size) = plan.plic {
+        let (sources, contexts) = (size.sources, size.contexts);
+        write!(out, "{sources}x{contexts} ")?;
+    }
+    let speed = plan.speed;
+    write!(out, "speed{speed} cpu={}", plan.cpu.as_str())
+}
+
+fn show_plan(out: &mut String, plan: &BoardPlan) -> Result<(), AllocError> {
+    for named in plan.names.items() {
+        show_name(out, named)?;
+    }
+    for region in plan.regions.items() {
+        show_region(out, region)?;
+    }
+    for size in plan.memories.items() {
+        let size = *size;
+        write!(out, "{size:x} ")?;
+    }
+    for kind in plan.kinds.items() {
+        show_kind(out, *kind)?;
+    }
+    for wire in plan.wires.items() {
+        show_wire(out, wire)?;
+    }
+    show_numbers(out, plan)
+}
+
+fn cause_name(cause: PlatCause) -> &'static str {
+    match cause {
+        PlatCause::Form => "P1",
+        PlatCause::Feature => "P2",
+        PlatCause::TypeName => "P3",
+        PlatCause::Attribute => "P4",
+        PlatCause::Value => "P5",
+        PlatCause::Missing => "P6",
+        PlatCause::Twice => "P7",
+        PlatCause::Reference => "P8",
+        PlatCause::Overlap => "P9",
+        PlatCause::Line => "P10",
+        PlatCause::Count => "P11",
+        PlatCause::Core => "P12",
+    }
+}
+
+/// The plan or the first fault of a text, which is that of file 2.
+fn built(alloc: Global, text: &str) -> Result<BoardPlan, PlatFault> {
+    if text.len() > 1_000_000 {
+        return Err(PlatFault::Memory);
+    }
+    let mut entries = read_platform(alloc, text)?;
+    for entry in entries.iter_mut() {
+        entry.file = 2;
+    }
+    build(alloc, entries)
+}
+
+fn show_fault(out: &mut String, fault: PlatFault) -> Result<(), AllocError> {
+    match fault {
+        PlatFault::At { file, line, cause } => {
+            let name = cause_name(cause);
+            write!(out, "{name} {file}:{line}")
+        }
+        PlatFault::Memory => out.push_str("memory"),
+    }
+}
+
+/// What is built of a text, in one line.
+fn building(alloc: Global, text: &str) -> Result<String, AllocError> {
+    let mut out = String::new(alloc);
+    match built(alloc, text) {
+        Ok(plan) => show_plan(&mut out, &plan)?,
+        Err(fault) => show_fault(&mut out, fault)?,
+    }
+    Ok(out)
+}
+
+/// Whether a text is accepted, or its first fault.
+fn outcome(alloc: Global, text: &str) -> Result<String, AllocError> {
+    let mut out = String::new(alloc);
+    match built(alloc, text) {
+        Ok(_) => out.push_str("accepted")?,
+        Err(fault) => show_fault(&mut out, fault)?,
+    }
+    Ok(out)
+}
+
+/// The wires of a text, or its first fault.
+fn wiring(alloc: Global, text: &str) -> Result<String, AllocError> {
+    let mut out = String::new(alloc);
+    match built(alloc, text) {
+        Ok(plan) => {
+            for wire in plan.wires.items() {
+                show_wire(&mut out, wire)?;
+            }
+        }
+        Err(fault) => show_fault(&mut out, fault)?,
+    }
+    Ok(out)
+}
+
+const ONE_BOARD: &str = "\
+ram: Memory.MappedMemory @ sysbus 0x80000000
+    size: 0x10000
+uart: UART.NS16550 @ sysbus 0x10000000
+fin: Miscellaneous.SiFiveTest @ sysbus 0x100000
+cpu: CPU.RiscV32 @ sysbus
+    cpuType: \"rv32im\"
+    PerformanceInMips: 1
+";
+
+const USUAL_BOARD: &str = "\
+// a usual board
+ram: Memory.MappedMemory @ sysbus 0x80000000 { size: 0x10000 }
+clint: IRQControllers.CoreLevelInterruptor @ sysbus 0x2000000
+    frequency: 1000000
+    [0,1] -> cpu@[3,7]
+plic: IRQControllers.PlatformLevelInterruptController @ sysbus 0xC000000
+    numberOfSources: 31
+    0 -> cpu@11
+uart: UART.NS16550 @ sysbus <0x10000000, +0x100>
+    -> plic@10
+cpu: CPU.RiscV32 @ sysbus
+    cpuType: \"rv32im\"
+    timeProvider: clint
+cpu:
+    PerformanceInMips: 25
+";
+
+/// Each row: a text, and what is built of it.
+const WHOLE: [(&str, &str); 2] = [
+    (
+        ONE_BOARD,
+        "ram=ram0 uart=dev0 fin=dev1 cpu=cpu ram0@80000000+10000/1 dev0@10000000+100/1 \
+dev1@100000+1000/1 10000 uart finisher speed1 cpu=cpu",
+    ),
+    (
+        USUAL_BOARD,
+        "ram=ram0 clint=clint plic=plic uart=dev0 cpu=cpu ram0@80000000+10000/1 \
+clint@2000000+10000/1 plic@c000000+4000000/1 dev0@10000000+100/1 10000 uart soft>pin3 timer>pin7 \
+context0>pin11 dev0>source10 1000000Hz 31x1 speed25 cpu=cpu",
+    ),
+];
+
+const SMALL: &str = "\
+ram: Memory.MappedMemory @ sysbus 0x80000000 { size: 0x10000 }
+cpu: CPU.RiscV32 @ sysbus { cpuType: \"rv32im\" }
+";
+
+const FULL: &str = "\
+ram: Memory.MappedMemory @ sysbus 0x80000000 { size: 0x10000 }
+cpu: CPU.RiscV32 @ sysbus { cpuType: \"rv32im\" }
+clint: IRQControllers.CoreLevelInterruptor @ sysbus 0x2000000 { frequency: 1 }
+plic: IRQControllers.PlatformLevelInterruptController @ sysbus 0xC000000 { numberOfSources: 31; numberOfContexts: 2 }
+fin: Miscellaneous.SiFiveTest @ sysbus 0x1000
+u: UART.NS16550 @ sysbus 0x100
+";
+
+/// Each row: lines behind those of a memory and a processor, and the first fault.
+const BESIDE: [(&str, &str); 146] = [
+    ("", "accepted"),
+    ("ram: UART.NS16550 @ sysbus 0x100\n", "P7 2:3"),
+    ("cpu: CPU.RiscV32 @ sysbus\n", "P7 2:3"),
+    (
+        "u: UART.NS16550 @ sysbus 0x100\n wideRegisters: true\n wideRegisters: true\n",
+        "P7 2:5",
+    ),
+    ("cpu:\n hartId: 0\n hartId: 0\n", "P7 2:5"),
+    ("u: A\nu: B\n", "P7 2:4"),
+    ("u: A { a: 1; b: 2; a: 3 }\nv:\n", "P7 2:3"),
+    (
+        "u: UART.NS16550 @ sysbus 0x100 { a: 1; a: 1 }\nram: X\n",
+        "P7 2:3",
+    ),
+    ("cpu: { hartId: 0 }\ncpu: { hartId: 0 }\n", "accepted"),
+    ("v:\n", "P8 2:3"),
+    ("v:\n a: 1\n", "P8 2:3"),
+    ("v:\nv: UART.NS16550 @ sysbus 0x100\n", "P8 2:3"),
+    ("u: X\nv:\n", "P8 2:4"),
+    ("v:\nw:\n", "P8 2:3"),
+    ("Cpu:\n", "P8 2:3"),
+    ("u: UART.NS16551 @ sysbus 0x100\n", "P3 2:3"),
+    ("u: uart.ns16550 @ sysbus 0x100\n", "P3 2:3"),
+    ("u: UART @ sysbus 0x100\n", "P3 2:3"),
+    ("u: CAN.SJA1000 @ sysbus 0x100\n", "P3 2:3"),
+    ("u: CPU.RiscV64 @ sysbus\n", "P3 2:3"),
+    ("u: X { a: 1 }\n", "P3 2:3"),
+    ("u: UART.NS16550 { a: 1 }\nv: X\n", "P3 2:4"),
+    ("u: UART.NS16550 @ sysbus 0x100 { baud: 1 }\n", "P4 2:3"),
+    (
+        "f: Miscellaneous.SiFiveTest @ sysbus 0x100\n size: 4\n",
+        "P4 2:4",
+    ),
+    ("cpu:\n cputype: 1\n", "P4 2:4"),
+    ("cpu: { frequency: 1 }\n", "P4 2:3"),
+    ("ram: { wideRegisters: true }\n", "P4 2:3"),
+    (
+        "l: IRQControllers.CoreLevelInterruptor @ sysbus 0x2000000 { size: 1 }\n",
+        "P4 2:3",
+    ),
+    (
+        "p: IRQControllers.PlatformLevelInterruptController { frequency: 1 }\n",
+        "P4 2:3",
+    ),
+    ("ram:\n b: 1\nu: UART.NS16550 { a: 1 }\n", "P4 2:4"),
+    ("u: UART.NS16550\n", "P6 2:3"),
+    ("u: UART.NS16550 @ sysbus\n", "P6 2:3"),
+    (
+        "c: CPU.RiscV32 @ sysbus 0x100 { cpuType: \"rv32im\" }\n",
+        "P6 2:3",
+    ),
+    (
+        "c: CPU.RiscV32 @ sysbus <0x100, +4> { cpuType: \"rv32im\" }\n",
+        "P6 2:3",
+    ),
+    ("c: CPU.RiscV32 { cpuType: \"rv32im\" }\n", "P6 2:3"),
+    ("c: CPU.RiscV32 @ sysbus\n", "P6 2:3"),
+    (
+        "l: IRQControllers.CoreLevelInterruptor @ sysbus 0x2000000\n",
+        "P6 2:3",
+    ),
+    (
+        "p: IRQControllers.PlatformLevelInterruptController @ sysbus 0xC000000\n",
+        "P6 2:3",
+    ),
+    ("m: Memory.MappedMemory @ sysbus 0x1000\n", "P6 2:3"),
+    (
+        "m: Memory.MappedMemory @ sysbus 0x1000 { size: 1 }\nu: UART.NS16550\n",
+        "P6 2:4",
+    ),
+    (
+        "m: Memory.MappedMemory @ sysbus 0x1000\nm: { size: 0x1000 }\n",
+        "accepted",
+    ),
+    (
+        "m: Memory.MappedMemory @ sysbus <0x1000, +0x1000>\n",
+        "accepted",
+    ),
+    ("cpu: { hartId: 0 }\n", "accepted"),
+    ("cpu: { hartId: 1 }\n", "P5 2:3"),
+    ("cpu: { PerformanceInMips: 0 }\n", "P5 2:3"),
+    ("cpu: { PerformanceInMips: 1 }\n", "accepted"),
+    ("cpu: { PerformanceInMips: 1000 }\n", "accepted"),
+    ("cpu: { PerformanceInMips: 1001 }\n", "P5 2:3"),
+    ("cpu: { PerformanceInMips: \"1\" }\n", "P5 2:3"),
+    ("cpu: { cpuType: rv32im }\n", "P5 2:3"),
+    ("cpu: { cpuType: 1 }\n", "P5 2:3"),
+    ("cpu: { timeProvider: \"x\" }\n", "P5 2:3"),
+    ("cpu: { timeProvider: true }\n", "P5 2:3"),
+    ("cpu: { privilegeArchitecture: Priv1_10 }\n", "accepted"),
+    ("cpu: { privilegeArchitecture: \"x\" }\n", "P5 2:3"),
+    ("cpu: { privilegedArchitecture: x.y }\n", "accepted"),
+    ("cpu: { privilegedArchitecture: 1 }\n", "P5 2:3"),
+    (
+        "m: Memory.MappedMemory @ sysbus 0x1000 { size: 0x1000 }\n",
+        "accepted",
+    ),
+    (
+        "m: Memory.MappedMemory @ sysbus 0x1000 { size: 0 }\n",
+        "P5 2:3",
+    ),
+    (
+        "m: Memory.MappedMemory @ sysbus 0x1000 { size: 0x800 }\n",
+        "P5 2:3",
+    ),
+    (
+        "m: Memory.MappedMemory @ sysbus 0x1000 { size: 0x1800 }\n",
+        "P5 2:3",
+    ),
+    (
+        "m: Memory.MappedMemory @ sysbus 0x1000 { size: \"0x1000\" }\n",
+        "P5 2:3",
+    ),
+    (
+        "m: Memory.MappedMemory @ sysbus 4 { size: 0x1000 }\n",
+        "accepted",
+    ),
+    (
+        "m: Memory.MappedMemory @ sysbus 2 { size: 0x1000 }\n",
+        "P5 2:3",
+    ),
+    (
+        "m: Memory.MappedMemory @ sysbus <0x1000, +0x1000> { size: 0x1000 }\n",
+        "accepted",
+    ),
+    (
+        "m: Memory.MappedMemory @ sysbus <0x1000, +0x1000> { size: 0x2000 }\n",
+        "P5 2:3",
+    ),
+    (
+        "m: Memory.MappedMemory @ sysbus <0x1000, +0x800> { size: 0x800 }\n",
+        "P5 2:3",
+    ),
+    (
+        "m: Memory.MappedMemory @ sysbus <0x1000, +0> { size: 0 }\n",
+        "P5 2:3",
+    ),
+    (
+        "m: Memory.MappedMemory @ sysbus <0x1000, +0x1000>\n size: 0x2000\n",
+        "P5 2:4",
+    ),
+    (
+        "m: Memory.MappedMemory @ sysbus <0x1000, +0x800>\n size: 0x2000\n",
+        "P5 2:3",
+    ),
+    (
+        "l: IRQControllers.CoreLevelInterruptor @ sysbus 0x2000000 { frequency: 0 }\n",
+        "P5 2:3",
+    ),
+    (
+        "l: IRQControllers.CoreLevelInterruptor @ sysbus 0x2000000 { frequency: 1 }\n",
+        "accepted",
+    ),
+    (
+        "l: IRQControllers.CoreLevelInterruptor @ sysbus 0x2000000 { frequency: 1000000000 }\n",
+        "accepted",
+    ),
+    (
+        "l: IRQControllers.CoreLevelInterruptor @ sysbus 0x2000000 { frequency: 1000000001 }\n",
+        "P5 2:3",
+    ),
+    (
+        "l: IRQControllers.CoreLevelInterruptor @ sysbus 0x2000000 { frequency: 1; numberOfTargets: 1 \
+}\n",
+        "accepted",
+    ),
+    (
+        "l: IRQControllers.CoreLevelInterruptor @ sysbus 0x2000000 { frequency: 1; numberOfTargets: 0 \
+}\n",
+        "P5 2:3",
+    ),
+    (
+        "l: IRQControllers.CoreLevelInterruptor @ sysbus 0x2000000 { frequency: 1; numberOfTargets: 2 \
+}\n",
+        "P5 2:3",
+    ),
+    (
+        "l: IRQControllers.CoreLevelInterruptor @ sysbus <0x2000000, +0xC000> { frequency: 1 }\n",
+        "accepted",
+    ),
+    (
+        "l: IRQControllers.CoreLevelInterruptor @ sysbus <0x2000000, +0xBFFC> { frequency: 1 }\n",
+        "P5 2:3",
+    ),
+    (
+        "l: IRQControllers.CoreLevelInterruptor @ sysbus <0x2000000, +0xC002> { frequency: 1 }\n",
+        "P5 2:3",
+    ),
+    (
+        "p: IRQControllers.PlatformLevelInterruptController @ sysbus 0xC000000 { numberOfSources: 0 }\n",
+        "P5 2:3",
+    ),
+    (
+        "p: IRQControllers.PlatformLevelInterruptController @ sysbus 0xC000000 { numberOfSources: 1 }\n",
+        "accepted",
+    ),
+    (
+        "p: IRQControllers.PlatformLevelInterruptController @ sysbus 0xC000000 { numberOfSources: 127 \
+}\n",
+        "accepted",
+    ),
+    (
+        "p: IRQControllers.PlatformLevelInterruptController @ sysbus 0xC000000 { numberOfSources: 128 \
+}\n",
+        "P5 2:3",
+    ),
+    (
+        "p: IRQControllers.PlatformLevelInterruptController @ sysbus 0xC000000 { numberOfSources: 1; \
+numberOfContexts: 0 }\n",
+        "P5 2:3",
+    ),
+    (
+        "p: IRQControllers.PlatformLevelInterruptController @ sysbus 0xC000000 { numberOfSources: 1; \
+numberOfContexts: 15 }\n",
+        "accepted",
+    ),
+    (
+        "p: IRQControllers.PlatformLevelInterruptController @ sysbus 0xC000000 { numberOfSources: 1; \
+numberOfContexts: 16 }\n",
+        "P5 2:3",
+    ),
+    (
+        "p: IRQControllers.PlatformLevelInterruptController @ sysbus 0xC000000 { numberOfSources: 1; \
+prioritiesEnabled: true }\n",
+        "accepted",
+    ),
+    (
+        "p: IRQControllers.PlatformLevelInterruptController @ sysbus 0xC000000 { numberOfSources: 1; \
+prioritiesEnabled: false }\n",
+        "P5 2:3",
+    ),
+    (
+        "p: IRQControllers.PlatformLevelInterruptController @ sysbus <0xC000000, +0x210000> { \
+numberOfSources: 1 }\n",
+        "accepted",
+    ),
+    (
+        "p: IRQControllers.PlatformLevelInterruptController @ sysbus <0xC000000, +0x20FFFC> { \
+numberOfSources: 1 }\n",
+        "P5 2:3",
+    ),
+    (
+        "u: UART.NS16550 @ sysbus 0x100 { wideRegisters: 1 }\n",
+        "P5 2:3",
+    ),
+    (
+        "u: UART.NS16550 @ sysbus 0x100 { wideRegisters: false }\n",
+        "accepted",
+    ),
+    ("u: UART.NS16550 @ sysbus <0x100, +8> {  }\n", "accepted"),
+    ("u: UART.NS16550 @ sysbus <0x100, +4> {  }\n", "P5 2:3"),
+    (
+        "u: UART.NS16550 @ sysbus <0x100, +32> { wideRegisters: true }\n",
+        "accepted",
+    ),
+    (
+        "u: UART.NS16550 @ sysbus <0x100, +28> { wideRegisters: true }\n",
+        "P5 2:3",
+    ),
+    (
+        "u: UART.NS16550 @ sysbus 0x102\n wideRegisters: 3\n",
+        "P5 2:3",
+    ),
+    (
+        "u: UART.NS16550 @ sysbus <0x100, +28>\n wideRegisters: 3\n",
+        "P5 2:4",
+    ),
+    (
+        "u: UART.NS16550 @ sysbus <0x100, +28>\nu:\n wideRegisters: true\n",
+        "P5 2:3",
+    ),
+    (
+        "f: Miscellaneous.SiFiveTest @ sysbus <0x100, +4>\n",
+        "accepted",
+    ),
+    (
+        "f: Miscellaneous.SiFiveTest @ sysbus <0x100, +0>\n",
+        "P5 2:3",
+    ),
+    ("cpu: { hartId: 1 }\ncpu: { hartId: 0 }\n", "accepted"),
+    ("cpu: { hartId: 0 }\ncpu: { hartId: 1 }\n", "P5 2:4"),
+    ("cpu: { cpuType: \"rv32im_zicsr\" }\n", "accepted"),
+    ("cpu: { cpuType: \"rv32im_zicsr_zifencei\" }\n", "accepted"),
+    ("cpu: { cpuType: \"rv64gc\" }\n", "P12 2:3"),
+    ("cpu: { cpuType: \"rv32i\" }\n", "P12 2:3"),
+    ("cpu: { cpuType: \"\" }\n", "P12 2:3"),
+    ("cpu: { cpuType: \"RV32IM\" }\n", "P12 2:3"),
+    ("cpu: { cpuType: \"rv32im \" }\n", "P12 2:3"),
+    (
+        "c: CPU.RiscV32 @ sysbus { cpuType: \"rv32i\" }\n",
+        "P12 2:3",
+    ),
+    (
+        "cpu: { cpuType: \"rv32i\" }\nu: UART.NS16550 @ sysbus 0x102\n",
+        "P5 2:4",
+    ),
+    ("init:\n", "P2 0:3"),
+    (
+        "c: CPU.RiscV32 @ sysbus { cpuType: \"rv32im\" }\n",
+        "P11 2:3",
+    ),
+    (
+        "u0: UART.NS16550 @ sysbus 256\nu1: UART.NS16550 @ sysbus 512\n\
+u2: UART.NS16550 @ sysbus 768\nu3: UART.NS16550 @ sysbus 1024\n",
+        "accepted",
+    ),
+    (
+        "u0: UART.NS16550 @ sysbus 256\nu1: UART.NS16550 @ sysbus 512\n\
+u2: UART.NS16550 @ sysbus 768\nu3: UART.NS16550 @ sysbus 1024\n\
+u4: UART.NS16550 @ sysbus 1280\n",
+        "P11 2:7",
+    ),
+    (
+        "f0: Miscellaneous.SiFiveTest @ sysbus 0\n\
+f1: Miscellaneous.SiFiveTest @ sysbus 0\n",
+        "P11 2:4",
+    ),
+    (
+        "l0: IRQControllers.CoreLevelInterruptor @ sysbus 0 { frequency: 1 }\n\
+l1: IRQControllers.CoreLevelInterruptor @ sysbus 0 { frequency: 1 }\n",
+        "P11 2:4",
+    ),
+    (
+        "p0: IRQControllers.PlatformLevelInterruptController @ sysbus 0 { numberOfSources: 1 }\n\
+p1: IRQControllers.PlatformLevelInterruptController @ sysbus 0 { numberOfSources: 1 }\n",
+        "P11 2:4",
+    ),
+    (
+        "m0: Memory.MappedMemory @ sysbus <0, +0x1000>\n\
+m1: Memory.MappedMemory @ sysbus <4096, +0x1000>\n\
+m2: Memory.MappedMemory @ sysbus <8192, +0x1000>\n\
+m3: Memory.MappedMemory @ sysbus <12288, +0x1000>\n\
+m4: Memory.MappedMemory @ sysbus <16384, +0x1000>\n\
+m5: Memory.MappedMemory @ sysbus <20480, +0x1000>\n\
+m6: Memory.MappedMemory @ sysbus <24576, +0x1000>\n",
+        "accepted",
+    ),
+    (
+        "m0: Memory.MappedMemory @ sysbus <0, +0x1000>\n\
+m1: Memory.MappedMemory @ sysbus <4096, +0x1000>\n\
+m2: Memory.MappedMemory @ sysbus <8192, +0x1000>\n\
+m3: Memory.MappedMemory @ sysbus <12288, +0x1000>\n\
+m4: Memory.MappedMemory @ sysbus <16384, +0x1000>\n\
+m5: Memory.MappedMemory @ sysbus <20480, +0x1000>\n\
+m6: Memory.MappedMemory @ sysbus <24576, +0x1000>\n\
+m7: Memory.MappedMemory @ sysbus <28672, +0x1000>\n",
+        "P11 2:10",
+    ),
+    (
+        "m: Memory.MappedMemory @ sysbus <0, +0x3FF0000>\n",
+        "accepted",
+    ),
+    (
+        "m: Memory.MappedMemory @ sysbus <0, +0x3FF1000>\n",
+        "P11 2:3",
+    ),
+    (
+        "m: Memory.MappedMemory @ sysbus <0x80000000, +0x3FF0000>\n\
+n: Memory.MappedMemory @ sysbus <0, +0x1000>\n",
+        "P11 2:4",
+    ),
+    (
+        "m: Memory.MappedMemory @ sysbus 0x8000F000 { size: 0x1000 }\n",
+        "P9 2:3",
+    ),
+    (
+        "m: Memory.MappedMemory @ sysbus 0x80010000 { size: 0x1000 }\n",
+        "accepted",
+    ),
+    (
+        "m: Memory.MappedMemory @ sysbus 0x7FFFF000 { size: 0x1000 }\n",
+        "accepted",
+    ),
+    (
+        "m: Memory.MappedMemory @ sysbus 0x7FFFF004 { size: 0x1000 }\n",
+        "P9 2:3",
+    ),
+    (
+        "m: Memory.MappedMemory @ sysbus 0xFFFFF000 { size: 0x1000 }\n",
+        "accepted",
+    ),
+    (
+        "m: Memory.MappedMemory @ sysbus 0xFFFFF004 { size: 0x1000 }\n",
+        "P9 2:3",
+    ),
+    ("u: UART.NS16550 @ sysbus 0x80000100\n", "P9 2:3"),
+    (
+        "u: UART.NS16550 @ sysbus 0x100\nv: UART.NS16550 @ sysbus 0x1FC\n",
+        "P9 2:4",
+    ),
+    (
+        "u: UART.NS16550 @ sysbus 0x100\nv: UART.NS16550 @ sysbus 0x200\n",
+        "accepted",
+    ),
+    (
+        "u: UART.NS16550 @ sysbus 0x80000000\nv: UART.NS16550 @ sysbus 0xFFFFFF80\n",
+        "P9 2:3",
+    ),
+    (
+        "u: UART.NS16550 @ sysbus 0xFFFFFF80\nv: UART.NS16550 @ sysbus 0x80000000\n",
+        "P9 2:3",
+    ),
+    ("u: UART.NS16550 @ sysbus 0x80000000 { -> u@3 }\n", "P9 2:3"),
+    ("cpu: { timeProvider: clint }\n", "P8 2:3"),
+    ("cpu: { timeProvider: ram }\n", "P8 2:3"),
+    ("cpu: { timeProvider: cpu }\n", "P8 2:3"),
+    ("cpu: { timeProvider: a.b }\n", "P8 2:3"),
+    ("u: UART.NS16550 @ sysbus 0x100 { -> ram@3 }\n", "P8 2:3"),
+    ("u: UART.NS16550 @ sysbus 0x100\n -> nobody@3\n", "P8 2:4"),
+    ("u: UART.NS16550 @ sysbus 0x100\n -> u@99\n", "P8 2:4"),
+    (
+        "u: UART.NS16550 @ sysbus 0x100 { -> u@3 }\ncpu: { timeProvider: u }\n",
+        "P8 2:4",
+    ),
+    (
+        "u: UART.NS16550 @ sysbus 0x100 { 1 -> cpu@3 }\n\
+v: UART.NS16550 @ sysbus 0x200 { -> u@3 }\n",
+        "P8 2:4",
+    ),
+];
+
+/// Each row: lines behind those of a whole board, and its wires or the first fault.
+const WIRES: [(&str, &str); 36] = [
+    ("clint: { 0 -> cpu@3 }\n", "soft>pin3"),
+    ("clint: { 1 -> cpu@11 }\n", "timer>pin11"),
+    ("clint: { -> cpu@7 }\n", "soft>pin7"),
+    ("clint: { [0,1] -> cpu@[3,7] }\n", "soft>pin3 timer>pin7"),
+    ("clint: { [0-1] -> cpu@[7,11] }\n", "soft>pin7 timer>pin11"),
+    ("plic: { 0 -> cpu@11 }\n", "context0>pin11"),
+    (
+        "plic: { [0-1] -> cpu@[3,7] }\n",
+        "context0>pin3 context1>pin7",
+    ),
+    ("plic: { -> cpu@3 }\n", "context0>pin3"),
+    ("u: { IRQ -> plic@31 }\n", "dev1>source31"),
+    ("u: { -> cpu@3 }\n", "dev1>pin3"),
+    ("u: { 0 -> plic@1 }\n", "dev1>source1"),
+    ("u: { [0,0] -> plic@[1,1] }\n", "dev1>source1 dev1>source1"),
+    (
+        "u: { -> cpu@7 }\nclint: { 0 -> cpu@3 }\nu: { -> plic@2 }\n",
+        "soft>pin3 dev1>pin7 dev1>source2",
+    ),
+    ("cpu: { timeProvider: clint }\n", ""),
+    ("clint: { 2 -> cpu@3 }\n", "P10 2:7"),
+    ("clint: { 0 -> cpu@4 }\n", "P10 2:7"),
+    ("clint: { [0,1] -> cpu@3 }\n", "P10 2:7"),
+    ("clint: { 0 -> cpu@[3,7] }\n", "P10 2:7"),
+    ("clint: { IRQ -> cpu@3 }\n", "P10 2:7"),
+    ("clint: { 0 -> plic@1 }\n", "P10 2:7"),
+    ("plic: { 2 -> cpu@3 }\n", "P10 2:7"),
+    ("plic: { IRQ -> cpu@3 }\n", "P10 2:7"),
+    ("plic: { 0 -> plic@1 }\n", "P10 2:7"),
+    ("u: { 1 -> cpu@3 }\n", "P10 2:7"),
+    ("u: { -> plic@0 }\n", "P10 2:7"),
+    ("u: { -> plic@32 }\n", "P10 2:7"),
+    ("u: { -> cpu@12 }\n", "P10 2:7"),
+    ("u: { [0-1] -> plic@[1-2] }\n", "P10 2:7"),
+    ("u: { [0-4294967295] -> cpu@[0-4294967295] }\n", "P10 2:7"),
+    ("u: { 0 -> plic@4294967295 }\n", "P10 2:7"),
+    ("fin: { -> cpu@3 }\n", "P10 2:7"),
+    ("fin: { IRQ -> plic@1 }\n", "P10 2:7"),
+    ("ram: { -> cpu@3 }\n", "P10 2:7"),
+    ("cpu: { -> cpu@3 }\n", "P10 2:7"),
+    ("u:\n -> cpu@3\n -> cpu@4\n -> cpu@5\n", "P10 2:9"),
+    ("u: { -> cpu@4 }\nclint: { 0 -> cpu@4 }\n", "P10 2:8"),
+];
+
+/// Each row: a text, and its first fault.
+const BARE: [(&str, &str); 8] = [
+    ("", "P11 0:0"),
+    (
+        "ram: Memory.MappedMemory @ sysbus <0, +0x1000>\n",
+        "P11 0:0",
+    ),
+    (
+        "cpu: CPU.RiscV32 @ sysbus { cpuType: \"rv32im\" }\n",
+        "P11 0:0",
+    ),
+    (
+        "cpu: CPU.RiscV32 @ sysbus { cpuType: \"rv32im\" }\n\
+u: UART.NS16550 @ sysbus 0xFFFFFFFC\n",
+        "P11 0:0",
+    ),
+    (
+        "c: CPU.RiscV32 @ sysbus { cpuType: \"rv32im\" }\n\
+d: CPU.RiscV32 @ sysbus { cpuType: \"rv32im\" }\n",
+        "P11 2:2",
+    ),
+    (
+        "m: Memory.MappedMemory @ sysbus <0, +0x4001000>\n",
+        "P11 2:1",
+    ),
+    (
+        "ram: Memory.MappedMemory @ sysbus <0, +0x1000>\nu: X\n",
+        "P3 2:2",
+    ),
+    ("\n\n  \n// nothing\n", "P11 0:0"),
+];
+
+fn joined(alloc: Global, front: &str, behind: &str) -> Result<String, AllocError> {
+    let mut text = String::from_str(alloc, front)?;
+    text.push_str(behind)?;
+    Ok(text)
+}
+
+#[test]
+fn platforms_are_built_or_refused(rt: HostRuntime) -> Result<(), Fail> {
+    let alloc = rt.alloc();
+    for (text, expected) in WHOLE {
+        let made = building(alloc, text)?;
+        assert_eq!(rt; made.as_str(), expected);
+    }
+    for (lines, expected) in BESIDE {
+        let text = joined(alloc, SMALL, lines)?;
+        let made = outcome(alloc, text.as_str())?;
+        assert_eq!(rt; made.as_str(), expected, "{lines}");
+    }
+    for (lines, expected) in WIRES {
+        let text = joined(alloc, FULL, lines)?;
+        let made = wiring(alloc, text.as_str())?;
+        assert_eq!(rt; made.as_str().trim_end(), expected, "{lines}");
+    }
+    for (text, expected) in BARE {
+        let made = outcome(alloc, text)?;
+        assert_eq!(rt; made.as_str(), expected, "{text}");
+    }
+    Ok(())
+}

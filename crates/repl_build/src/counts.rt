@@ -1,0 +1,91 @@
+//! How many peripherals of a type a board has.
+ghost use Rattle.std.specs.Prelude.{◌≡◌, ◌+◌, nat_lt, length};
+ghost use Rattle.std.specs.List.{sum_by};
+ghost use Rattle.sys_bus.specs.declared.limits.TheConstants as limit;
+ghost use Rattle.repl_build.specs.Counts as counts_spec;
+
+use crate::merge::Peripheral;
+use crate::places::size_of;
+use crate::types::{PeripheralType, is_type};
+
+/// The most bytes of all memories together: 64 MiB.
+const MOST_MEMORY: u64 = 67_108_864;
+
+fn most_of(kind: PeripheralType) -> usize
+    ensures { result ≡ counts_spec.most_of kind }
+{
+    match kind {
+        PeripheralType::Cpu => 1,
+        PeripheralType::Memory => 8,
+        PeripheralType::Clint => 1,
+        PeripheralType::Plic => 1,
+        PeripheralType::Uart => 4,
+        PeripheralType::Finisher => 1,
+    }
+}
+
+pub(crate) fn count_of(peripherals: &[Peripheral], kind: PeripheralType) -> usize
+    ensures { result ≡ counts_spec.count_of peripherals.now kind }
+{
+    peripherals.iter().filter(|p| is_type(kind, p.kind)).count()
+}
+
+fn are_as_many_as_may_be(before: &[Peripheral], kind: Option<PeripheralType>) -> bool
+    ensures { result ≡ counts_spec.are_as_many_as_may_be before.now kind }
+{
+    match kind {
+        Some(kind) => most_of(kind) <= count_of(before, kind),
+        None => false,
+    }
+}
+
+/// The bytes of a memory.
+fn bytes_of(p: &Peripheral) -> u32
+    ensures { result ≡ counts_spec.bytes_of p.now }
+{
+    if is_type(PeripheralType::Memory, p.kind) {
+        size_of(p)
+    } else {
+        0
+    }
+}
+
+/// Whether so many bytes and those of all memories are more than a board may have.
+fn are_too_many_bytes(bytes: u32, before: &[Peripheral]) -> bool
+    ensures { result ≡ nat_lt limit.MOST_MEMORY (bytes + sum_by counts_spec.bytes_of before.now) }
+{
+    let mut total = u64::from(bytes);
+    for p in before {
+        if total > MOST_MEMORY {
+            return true;
+        }
+        total += u64::from(bytes_of(p));
+    }
+    total > MOST_MEMORY
+}
+
+fn passes_memory(before: &[Peripheral], p: &Peripheral) -> bool
+    ensures { result ≡ counts_spec.passes_memory before.now p.now }
+{
+    is_type(PeripheralType::Memory, p.kind) && are_too_many_bytes(bytes_of(p), before)
+}
+
+/// Whether a peripheral is one too many, or a memory by which all have more than 64 MiB.
+pub(crate) fn is_one_too_many(before: &[Peripheral], p: &Peripheral) -> bool
+    ensures { result ≡ counts_spec.is_one_too_many before.now p.now }
+{
+    are_as_many_as_may_be(before, p.kind) || passes_memory(before, p)
+}
+
+fn has_type(kind: PeripheralType, peripherals: &[Peripheral]) -> bool
+    ensures { result ≡ counts_spec.has_type kind peripherals.now }
+{
+    peripherals.iter().any(|p| is_type(kind, p.kind))
+}
+
+/// Whether there is no processor or no memory.
+pub(crate) fn is_bare(peripherals: &[Peripheral]) -> bool
+    ensures { result ≡ counts_spec.is_bare peripherals.now }
+{
+    !(has_type(PeripheralType::Cpu, peripherals) && has_type(PeripheralType::Memory, peripherals))
+}

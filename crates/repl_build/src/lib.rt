@@ -1,0 +1,18 @@
+//! The plan of a board, built from the entries of its platform files.
+#![tactic(auto)]
+
+mod attributes;
+mod builder;
+mod counts;
+mod fault;
+mod merge;
+mod names;
+mod numbers;
+mod places;
+mod plan;
+mod references;
+mod rules;
+mod types;
+mod wires;
+
+pub use builder::build;

@@ -1,0 +1,186 @@
+//! The plan of peripherals that keep all rules.
+ghost use Rattle.std.specs.Prelude.{◌≡◌, ◌<◌, [], IfOk, IfErr, option_to_list};
+ghost use Rattle.std.specs.Option.{option_map};
+ghost use Rattle.repl_build.specs.Inner.Tested.{IsTested};
+ghost use Rattle.repl_build.specs.Numbers.{AreFew};
+ghost use Rattle.repl_build.specs.Plan as plan_spec;
+
+use crate::attributes::number_of;
+use crate::merge::Peripheral;
+use crate::numbers::what_of;
+use crate::places::{base_of, size_of, step_of};
+use crate::types::{PeripheralType, is_type};
+use crate::wires::wires_of;
+use dev_core::Kind;
+use lab_num::{Rows, Text};
+use repl_read::PlatFault;
+use std::alloc::Global;
+use sys_bus::{BoardPlan, Named, NamedWhat, PlicSize, Region};
+
+fn names_of(alloc: Global, all: &[Peripheral]) -> Result<Rows<Named>, PlatFault>
+    requires { AreFew all.now }
+    ensures ok { IfOk result (λ names. names ≡ plan_spec.each plan_spec.name_of [] all.now) }
+    ensures err { IfErr result (λ fault. fault ≡ PlatFault.Memory) }
+{
+    let mut names = Vec::new(alloc);
+    for (i, p) in all.iter().enumerate() {
+        if let Some(what) = what_of(all, i, p.kind) {
+            let name = p.name.clone()?;
+            names.push(Named { name, what })?;
+        }
+    }
+    Ok(Rows::of(names))
+}
+
+/// The region of a peripheral, unless it is the processor.
+fn region_by(p: &Peripheral, what: Option<NamedWhat>) -> Option<Region>
+    ensures { option_to_list result ≡ plan_spec.region_by p.now what }
+{
+    let Some(NamedWhat::Part(kind)) = what else {
+        return None;
+    };
+    Some(Region {
+        base: base_of(p),
+        size: size_of(p),
+        kind,
+        step: step_of(p.kind, p.items.items()),
+    })
+}
+
+fn regions_of(alloc: Global, all: &[Peripheral]) -> Result<Rows<Region>, PlatFault>
+    requires { AreFew all.now }
+    ensures ok { IfOk result (λ regions. regions ≡ plan_spec.each plan_spec.region_of [] all.now) }
+    ensures err { IfErr result (λ fault. fault ≡ PlatFault.Memory) }
+{
+    let mut regions = Vec::new(alloc);
+    for (i, p) in all.iter().enumerate() {
+        if let Some(region) = region_by(p, what_of(all, i, p.kind)) {
+            regions.push(region)?;
+        }
+    }
+    Ok(Rows::of(regions))
+}
+
+/// The sizes of the memories in bytes.
+fn memories_of(alloc: Global, all: &[Peripheral]) -> Result<Rows<u32>, PlatFault>
+    ensures ok { IfOk result (λ sizes. sizes ≡ plan_spec.memories_of all.now) }
+    ensures err { IfErr result (λ fault. fault ≡ PlatFault.Memory) }
+{
+    let mut sizes = Vec::new(alloc);
+    for p in all {
+        if is_type(PeripheralType::Memory, p.kind) {
+            sizes.push(size_of(p))?;
+        }
+    }
+    Ok(Rows::of(sizes))
+}
+
+fn kind_by(kind: Option<PeripheralType>) -> Option<Kind>
+    ensures { result ≡ plan_spec.kind_by kind }
+{
+    match kind {
+        Some(PeripheralType::Uart) => Some(Kind::Uart),
+        Some(PeripheralType::Finisher) => Some(Kind::Finisher),
+        _ => None,
+    }
+}
+
+/// The kinds of the devices.
+fn kinds_of(alloc: Global, all: &[Peripheral]) -> Result<Rows<Kind>, PlatFault>
+    ensures ok { IfOk result (λ kinds. kinds ≡ plan_spec.kinds_of all.now) }
+    ensures err { IfErr result (λ fault. fault ≡ PlatFault.Memory) }
+{
+    let mut kinds = Vec::new(alloc);
+    for p in all {
+        if let Some(kind) = kind_by(p.kind) {
+            kinds.push(kind)?;
+        }
+    }
+    Ok(Rows::of(kinds))
+}
+
+/// The first peripheral of a type.
+fn first_with(kind: PeripheralType, all: &[Peripheral]) -> Option<&Peripheral>
+    ensures { option_map (λ p. p.now) result ≡ plan_spec.first_with kind all.now }
+{
+    all.iter().find(|p| is_type(kind, p.kind))
+}
+
+/// Ticks of the timer in a second, where there is a timer.
+fn frequency_of(all: &[Peripheral]) -> Option<u32>
+    ensures { result ≡ plan_spec.frequency_of all.now }
+{
+    match first_with(PeripheralType::Clint, all) {
+        Some(clint) => Some(number_of("frequency", 0, clint.items.items())),
+        None => None,
+    }
+}
+
+fn plic_size_of(p: &Peripheral) -> PlicSize
+    requires sources { (plan_spec.plic_size_of p.now).sources < 256 }
+    requires contexts { (plan_spec.plic_size_of p.now).contexts < 256 }
+    ensures { result ≡ plan_spec.plic_size_of p.now }
+{
+    let items = p.items.items();
+    PlicSize {
+        sources: number_of("numberOfSources", 0, items) as u8,
+        contexts: number_of("numberOfContexts", 1, items) as u8,
+    }
+}
+
+/// The sources and contexts of the interrupt controller, where there is one.
+fn plic_of(all: &[Peripheral]) -> Option<PlicSize>
+    requires { IsTested all.now }
+    ensures { result ≡ plan_spec.plic_of all.now }
+{
+    match first_with(PeripheralType::Plic, all) {
+        Some(plic) => Some(plic_size_of(plic)),
+        None => None,
+    }
+}
+
+/// Instructions in a microsecond.
+fn speed_of(all: &[Peripheral]) -> u32
+    ensures { result ≡ plan_spec.speed_of all.now }
+{
+    match first_with(PeripheralType::Cpu, all) {
+        Some(cpu) => number_of("PerformanceInMips", 100, cpu.items.items()),
+        None => 100,
+    }
+}
+
+/// The name of the processor.
+fn cpu_name_of(alloc: Global, all: &[Peripheral]) -> Result<Text, PlatFault>
+    ensures ok { IfOk result (λ name. name ≡ plan_spec.cpu_name_of all.now) }
+    ensures err { IfErr result (λ fault. fault ≡ PlatFault.Memory) }
+{
+    match first_with(PeripheralType::Cpu, all) {
+        Some(cpu) => Ok(cpu.name.clone()?),
+        None => Ok(Text::of(alloc, "")?),
+    }
+}
+
+/// The plan of peripherals that keep all rules, or the fault of the first wire that cannot be.
+pub(crate) fn plan_of(alloc: Global, all: &[Peripheral]) -> Result<BoardPlan, PlatFault>
+    requires { IsTested all.now }
+    ensures { plan_spec.Gives result (plan_spec.plan_of all.now) }
+{
+    let plic = plic_of(all);
+    let wires = wires_of(alloc, plic, all)?;
+    let names = names_of(alloc, all)?;
+    let regions = regions_of(alloc, all)?;
+    let memories = memories_of(alloc, all)?;
+    let kinds = kinds_of(alloc, all)?;
+    let cpu = cpu_name_of(alloc, all)?;
+    Ok(BoardPlan {
+        names,
+        regions,
+        memories,
+        kinds,
+        frequency: frequency_of(all),
+        plic,
+        wires,
+        speed: speed_of(all),
+        cpu,
+    })
+}
