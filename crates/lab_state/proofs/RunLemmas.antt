@@ -19,7 +19,13 @@ use Rattle.lab_state.specs.Hub.{Hub}
 use Rattle.lab_state.specs.Lab.{Lab}
 use Rattle.lab_state.specs.Round.{Rounded, round_by, round}
 use Rattle.lab_state.specs.Run.{Play, rest_of, lengths, followed_by, go_on, still, EndsIn, run_by, run}
-use Rattle.lab_state.proofs.ListLemmas.{fold-kept}
+
+-- a fold of steps that a map does not look at
+fold-kept :
+    {A B X : Type 0} (g : A → X) (step : A → B → A) → ((a : A) (b : B) → g (step a b) ≡ g a) → (a : A) (bs : List B) →
+    g (fold step a bs) ≡ g a
+fold-kept g step same a [] = refl
+fold-kept g step same a (b ∷ bs) = fold-kept g step same (step a b) bs ∙ same a b
 
 round_quantum : (lab : Lab) (q : ℕ) → (round lab q).lab.quantum ≡ lab.quantum
 unfolding round_by
