@@ -83,7 +83,8 @@ pub record IsEnough (spares : Spares) (plans : ℕ) : Type 0 where
   pub finishers : 16 ≤ spares.finishers + plans
 
 -- at most 16 boards under numbers of their own, of which no two have made two things under one number; hubs that
--- connect devices of these boards; names that differ; devices for the boards that have no plan yet
+-- connect devices of these boards; no two boards and no two hubs of one name; devices for the boards that have no plan
+-- yet
 pub record IsSound (lab : Lab) (spares : Spares) : Type 0 where
   pub few_boards : length lab.boards ≤ 16
   pub standing : AreStanding (1000 * lab.now) 0 (map number_of lab.boards)

@@ -95,7 +95,7 @@ pub enum Program {
 /// Instructions of which the one before the last stands in this slot.
 fn with_last(alloc: Global, first: &[u32], last: u32, slot: usize) -> Result<Vec<u32>, Fail> {
     let mut words = Vec::from_slice(alloc, first)?;
-    while words.len() < slot {
+    for _ in first.len()..slot {
         words.push(NOP)?;
     }
     words.extend_from_slice(&[last, STAY])?;
@@ -326,8 +326,8 @@ pub const READ_AND_REFUSED: [Step; 19] = [
     Named(0, "m0"),
     Named(1, "m1"),
     Members(2),
-    Logged(0, ["m0", "uart", "fin"]),
-    Logged(1, ["m1", "uart", "fin"]),
+    Logged(0, "m0"),
+    Logged(1, "m1"),
 ];
 
 /// Board 0 stores once and board 1 twice.

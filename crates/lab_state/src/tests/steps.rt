@@ -52,8 +52,8 @@ pub enum Step {
     Retired(u8, u64),
     /// Its name, by which it is found.
     Named(u8, &'static str),
-    /// Its name in the log, and those of its UART and its finisher.
-    Logged(u8, [&'static str; 3]),
+    /// Its name in the log, where its devices are named by the plan.
+    Logged(u8, &'static str),
     /// The hub has the UARTs of so many boards, in order.
     Members(u8),
     /// So many boards and hubs.
@@ -316,24 +316,20 @@ fn assert_named<D: Device>(rt: &impl Abort, lab: &Lab<D>, b: u8, name: &str) {
 }
 
 /// The log prints these names of a board and of its devices.
-fn assert_logged<D: Device>(
-    rt: &impl Abort,
-    lab: &Lab<D>,
-    b: u8,
-    names: [&str; 3],
-) -> Result<(), Fail> {
+fn assert_logged<D: Device>(rt: &impl Abort, lab: &Lab<D>, b: u8, name: &str) -> Result<(), Fail> {
     assert!(rt; !lab.is_spent());
     let all = lab.names()?;
-    let board = all.boards.items().get(usize::from(b));
-    assert!(rt; board.is_some_and(|board| has_names(board, names)));
+    match all.boards.items().get(usize::from(b)) {
+        Some(board) => assert!(rt; is_logged(board, name)),
+        None => assert!(rt; false),
+    }
     Ok(())
 }
 
-fn has_names(board: &BoardNames, names: [&str; 3]) -> bool {
-    let [name, uart, finisher] = names;
+fn is_logged(board: &BoardNames, name: &str) -> bool {
     match board.devices.items() {
-        [first, second] => {
-            board.name.as_str() == name && first.as_str() == uart && second.as_str() == finisher
+        [uart, finisher] => {
+            board.name.as_str() == name && uart.as_str() == "uart" && finisher.as_str() == "fin"
         }
         _ => false,
     }
@@ -355,7 +351,7 @@ fn read<D: Device>(rt: &impl Abort, lab: &mut Lab<D>, step: Step) -> Result<(), 
             assert_eq!(rt; lab.board(BoardNo(b)).retired(), n);
         }
         Step::Named(b, name) => assert_named(rt, lab, b, name),
-        Step::Logged(b, names) => assert_logged(rt, lab, b, names)?,
+        Step::Logged(b, name) => assert_logged(rt, lab, b, name)?,
         Step::Members(count) => assert_members(rt, lab, count),
         Step::Count(boards, hubs) => {
             assert!(rt; !lab.is_spent());

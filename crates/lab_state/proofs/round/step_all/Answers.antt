@@ -10,23 +10,17 @@ use Rattle.lab_state.proofs.ListLemmas.{not_yet, one_more}
 use Rattle.lab_state.proofs.RoundLemmas.{standing_next}
 use Rattle.lab_state.proofs.round.step_all.Goals as goal
 
-pub step-requires-clause-posts : goal.step-requires-clause-posts
-step-requires-clause-posts g c =
-    let step = stepped (granted c.args.from.0 (c.args.from.0 + c.args.q)) in
+pub step-requires-clause-made : goal.step-requires-clause-made
+step-requires-clause-made g c =
     let below : c.loop-board.board-index < length c.args.boards.now = omega arith in
     let stands =
-    standing_next step (1000 * c.args.from.0) c.args.boards.now c.loop-board.boards c.loop-board.board-index
-    c.board-item.result c.loop-board.invariant.boards below c.requires.standing in
-    λ v at. omega (arith, (stands v.numbers (ap (option_map (λ (v : View). v.numbers)) at)).few_posts, c.requires.within)
-
-pub step-requires-clause-entries : goal.step-requires-clause-entries
-step-requires-clause-entries g c =
-    let step = stepped (granted c.args.from.0 (c.args.from.0 + c.args.q)) in
-    let below : c.loop-board.board-index < length c.args.boards.now = omega arith in
-    let stands =
-    standing_next step (1000 * c.args.from.0) c.args.boards.now c.loop-board.boards c.loop-board.board-index
-    c.board-item.result c.loop-board.invariant.boards below c.requires.standing in
-    λ v at. omega (arith, (stands v.numbers (ap (option_map (λ (v : View). v.numbers)) at)).few_entries, c.requires.within)
+    standing_next (stepped (granted c.args.from.0 (c.args.from.0 + c.args.q))) (1000 * c.args.from.0) c.args.boards.now
+    c.loop-board.boards c.loop-board.board-index c.board-item.result c.loop-board.invariant.boards below
+    c.requires.standing in
+    λ v at. let is = stands v.numbers (ap (option_map (λ (v : View). v.numbers)) at) in (
+      omega (arith, is.few_posts, c.requires.within),
+      omega (arith, is.few_entries, c.requires.within),
+    )
 
 pub loop-board-preserved : goal.loop-board-preserved
 loop-board-preserved g c =
