@@ -3,22 +3,19 @@ use Rattle.std.proofs.Common.{◌≡◌, ◌∙◌, sym, ap, refl, Bool, true, f
 use Rattle.std.proofs.Common.{List, [], ◌∷◌, ◌++◌, subst}
 use Rattle.std.proofs.Common.{length, map, set, get_or, slice_get, Option, Some, None, add-zero, zero-add, arith}
 use Rattle.std.specs.Prelude.{is_some, option_and_then}
-use Rattle.std.specs.List.{All, AllByRecursion}
 use Rattle.std.specs.Option.{option_map, ForSome}
 use Rattle.std.proofs.Math.ListN.{get_or-map}
 use Rattle.std.proofs.Math.Seq.{map-set_same}
 use Rattle.std.proofs.lemmas.Bool.Decides.{nat_tests}
 use Rattle.std.proofs.lemmas.List.{map-append, map-set, length-map, length-set, length_push}
-use Rattle.std.proofs.lemmas.List.Elements.{All-nil, All-weaker, All-push, All-from_recursion}
+use Rattle.std.proofs.lemmas.List.Elements.{All-nil, All-weaker, All-push}
 use Rattle.std.proofs.lemmas.List.Sums.{sum_by_push, sum_by-set, count_by-le-length}
 use Rattle.std.proofs.lemmas.Option.{slice_get-get_or, same_Some}
 use Rattle.lab_num.specs.declared.key.Member.{Member}
 use Rattle.dev_core.specs.declared.kind.Kind.{Kind}
 use Rattle.dev_core.specs.declared.kind.Kind.TheVariants.{Uart, Can, Finisher}
-use Rattle.dev_core.specs.declared.state.DevState.{DevState}
-use Rattle.dev_core.specs.Device.{kind_of}
 use Rattle.board.specs.Early.{IsEarly}
-use Rattle.board.specs.New.{first_state, new_board}
+use Rattle.board.specs.New.{new_board}
 use Rattle.board.specs.Numbers.{Numbers}
 use Rattle.board.specs.View.{View}
 use Rattle.sys_bus.specs.declared.plan.BoardPlan.{BoardPlan}
@@ -30,10 +27,10 @@ use Rattle.lab_state.specs.Hub.{Hub}
 use Rattle.lab_state.specs.Lab.{Lab, Seen}
 use Rattle.lab_state.specs.Names.{is_taken}
 use Rattle.lab_state.specs.One.{view_at, view_of, kind_at, with_member}
-use Rattle.lab_state.specs.Inner.Spares.{Spares, full, kinds_of, HasFor, HasRoomFor, AreTaken}
+use Rattle.lab_state.specs.Inner.Spares.{Spares, full, HasFor, HasRoomFor, AreTaken}
 use Rattle.lab_state.specs.Inner.Standing.{Outline, outline, outlines, number_of, IsStanding, AreStanding, IsKept}
 use Rattle.lab_state.specs.Inner.Standing.{kind_of_outline, kind_in, AreMembers, AreDevices, count_of_plans, IsSound}
-use Rattle.lab_state.proofs.ListLemmas.{map-change, each-weaker, found-push, found-set, one_name_more}
+use Rattle.lab_state.proofs.ListLemmas.{set-change, map-change, each-weaker, found-push, found-set, one_name_more}
 
 -- ---- other boards of the same outlines
 
@@ -93,6 +90,14 @@ sound-set {lab = lab} i {old = old} {new = new} is kept sound =
     (map-set_same outline lab.boards i new old (kept.same ∙ ap outline is))
     (numbers-set (1000 * lab.now) lab.boards i new is (kept.stands (1000 * lab.now) (0 + i)) sound.standing)
     sound.times.time sound
+
+-- and what it is seen as
+pub seen_set :
+    {s : Seen} {lab : Lab} {spent : Bool} (F : Board → Board) (i : ℕ) {old new : Board} →
+    record { lab = lab; spent = spent } ≡ s → old ≡ get_or lab.boards i old → new ≡ F old →
+    ◌≡◌ {A = Seen} (record { lab = record lab { boards = set lab.boards i new }; spent = spent })
+    (record s { lab = record s.lab { boards = change_at s.lab.boards i F } })
+seen_set {lab = lab} F i is at made = rw (← is, set-change F lab.boards i at made) refl
 
 -- ---- a laboratory without boards and hubs
 
@@ -338,28 +343,6 @@ not_planned s b seen asked unplanned =
     none_of _ (ap (λ boards. is_some (view_at boards b)) seen ∙ sym asked ∙ unplanned)
 
 -- ---- devices that are given back
-
-kind-first : (kind : Kind) → kind_of (first_state kind) ≡ kind
-kind-first Uart = refl
-kind-first Can = refl
-kind-first Finisher = refl
-
-pub kinds-first : (kinds : List Kind) → kinds_of (map first_state kinds) ≡ kinds
-kinds-first [] = refl
-kinds-first (k ∷ ks) = λ i. kind-first k i ∷ kinds-first ks i
-
-reset-first :
-    {D : Type 0} (f : D → DevState) (ds : List D) (kinds : List Kind) → map f ds ≡ map first_state kinds →
-    AllByRecursion (λ d. f d ≡ first_state (kind_of (f d))) ds
-reset-first f [] kinds is = tt
-reset-first f (d ∷ ds) [] is = absurd (cc)
-reset-first f (d ∷ ds) (k ∷ ks) is =
-    let head : f d ≡ first_state k = cc in (rw head (rw kind-first refl), reset-first f ds ks (cc))
-
-pub all-reset :
-    {D : Type 0} (f : D → DevState) (ds : List D) (kinds : List Kind) → map f ds ≡ map first_state kinds →
-    All (λ d. f d ≡ first_state (kind_of (f d))) ds
-all-reset f ds kinds is = All-from_recursion _ ds (reset-first f ds kinds is)
 
 -- there is room for what was taken
 pub room-for :

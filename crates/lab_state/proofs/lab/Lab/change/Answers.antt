@@ -1,9 +1,7 @@
 -- A change of one board keeps what holds of the laboratory.
-use Rattle.std.proofs.Common.{refl}
 use Rattle.lab_state.specs.One.{with_view}
 use Rattle.lab_state.specs.Inner.Change.{changed_by}
-use Rattle.lab_state.proofs.ListLemmas.{set-change}
-use Rattle.lab_state.proofs.SoundLemmas.{sound-set}
+use Rattle.lab_state.proofs.SoundLemmas.{sound-set, seen_set}
 use Rattle.lab_state.proofs.ChangeLemmas.{change-kept}
 use Rattle.lab_state.proofs.lab.Lab.change.Goals as goal
 
@@ -18,10 +16,4 @@ invariant_of-self g c h =
 
 pub returns : goal.returns
 returns g c =
-    rw (
-      ← c.self.view_is,
-      set-change
-          (with_view (changed_by c.args.change)) c.self.inside.boards.items c.args.b.0 c.index_mut.ensures.value
-          c.change.ensures,
-    )
-    refl
+    seen_set (with_view (changed_by c.args.change)) c.args.b.0 c.self.view_is c.index_mut.ensures.value c.change.ensures

@@ -1,11 +1,10 @@
 -- What is written is no part of what holds of the laboratory.
-use Rattle.std.proofs.Common.{refl, take, Result, Ok, Err, OnOk}
+use Rattle.std.proofs.Common.{take, Result, Ok, Err, OnOk}
 use Rattle.std.specs.Prelude.{OnErr}
 use Rattle.std.proofs.lemmas.Result.{on_ok_weaker, on_err_weaker}
 use Rattle.board.specs.Changes.{with_bytes}
 use Rattle.lab_state.specs.One.{with_view}
-use Rattle.lab_state.proofs.ListLemmas.{set-change}
-use Rattle.lab_state.proofs.SoundLemmas.{sound-set}
+use Rattle.lab_state.proofs.SoundLemmas.{sound-set, seen_set}
 use Rattle.lab_state.proofs.ChangeLemmas.{bytes-kept}
 use Rattle.lab_state.proofs.lab.Lab.copy_in.Goals as goal
 
@@ -25,12 +24,8 @@ invariant_of-self g c h =
 pub returns-clause-ok : goal.returns-clause-ok
 returns-clause-ok g c =
     on_ok_weaker c.copy_in.result
-    (λ made. rw (
-      ← c.self.view_is,
-      set-change
-          (with_view (λ v. with_bytes v c.args.at c.args.bytes.now)) c.self.inside.boards.items c.args.b.0
-          c.index_mut.ensures.value made,
-    ) refl)
+    (seen_set (with_view (λ v. with_bytes v c.args.at c.args.bytes.now)) c.args.b.0 c.self.view_is
+    c.index_mut.ensures.value)
     c.copy_in.ensures.ok
 
 pub returns-clause-err : goal.returns-clause-err
@@ -40,12 +35,8 @@ returns-clause-err g c =
       made.0,
       (
         made.1.0,
-        rw (
-          ← c.self.view_is,
-          set-change
-              (with_view (λ v. with_bytes v c.args.at (take made.0 c.args.bytes.now))) c.self.inside.boards.items
-              c.args.b.0 c.index_mut.ensures.value made.1.1,
-        ) refl,
+        seen_set (with_view (λ v. with_bytes v c.args.at (take made.0 c.args.bytes.now))) c.args.b.0 c.self.view_is
+            c.index_mut.ensures.value made.1.1,
       ),
     ))
     c.copy_in.ensures.err
