@@ -22,7 +22,8 @@ apart : (a b : Key) → From a.board.0 (a.number.0 + 1) b → eq_by_cmp key_cmp 
 apart a b from =
     sym (tied_then (nat_cmp a.at.0 b.at.0) _) ∙ ap (λ rest. is_eq (nat_cmp a.at.0 b.at.0) && rest)
     (sym (tied_then (nat_cmp a.board.0 b.board.0) _))
-    ∙ differ (is_eq (nat_cmp a.at.0 b.at.0)) (is_eq (nat_cmp a.board.0 b.board.0)) (is_eq (nat_cmp a.number.0 b.number.0))
+    ∙ differ (is_eq (nat_cmp a.at.0 b.at.0)) (is_eq (nat_cmp a.board.0 b.board.0))
+    (is_eq (nat_cmp a.number.0 b.number.0))
     (rw (← unsigned_ties, ← unsigned_ties) unequal)
   where
     unequal : (a.board.0 == b.board.0 && a.number.0 == b.number.0) ≡ false
@@ -37,7 +38,9 @@ pub none_ascend : (b : ℕ) → Ascend b 0 []
 unfolding IsDistinct
 none_ascend b = record { from = tt; differ = tt }
 
-later : (b first c other : ℕ) (keys : List Key) → (c ≤ b) × (c ≡ b → other ≤ first) → Ascend b first keys → Ascend c other keys
+later :
+    (b first c other : ℕ) (keys : List Key) → (c ≤ b) × (c ≡ b → other ≤ first) → Ascend b first keys →
+    Ascend c other keys
 later b first c other keys after ascend = record {
   from =
       each-weaker (From b first) (From c other)
@@ -48,7 +51,8 @@ later b first c other keys after ascend = record {
 
 -- the keys of one board, numbered one after another, and then those of later boards
 pub board_ascends :
-    (b first : ℕ) (keys rest : List Key) → AreNumbered b first keys → Ascend (b + 1) 0 rest → Ascend b first (keys ++ rest)
+    (b first : ℕ) (keys rest : List Key) → AreNumbered b first keys → Ascend (b + 1) 0 rest →
+    Ascend b first (keys ++ rest)
 unfolding IsDistinct
 board_ascends b first [] rest is ascend = later (b + 1) 0 b first rest (omega arith, λ same. omega arith) ascend
 board_ascends b first (key ∷ keys) rest is ascend =

@@ -97,7 +97,8 @@ by_view :
     ForSome o (λ v. dev < length v.space.plan.kinds)
 by_view dev None is = λ v at. absurd (cc)
 by_view dev (Some v) is =
-    λ w at. subst (λ (v : View). dev < length v.space.plan.kinds) (same_Some _ _ at) (some-within v.space.plan.kinds dev is)
+    λ w at. subst (λ (v : View). dev < length v.space.plan.kinds) (same_Some _ _ at)
+    (some-within v.space.plan.kinds dev is)
 
 can_take :
     (boards : List Board) (b dev : ℕ) (d : Board) → IsSome (kind_of_outline dev (slice_get (outlines boards) b)) →
@@ -199,7 +200,8 @@ module _ (law : Numbering) (from q : ℕ) (within : from + q ≤ 10000000000) wh
     ascend :
         (b : ℕ) (boards : List Board) → AreStanding (1000 * from) b (map number_of boards) →
         Ascend b 0
-        (map key (flat_map (λ (board : Board). option_map_or (λ v. made (granted from (from + q) v)) board.view []) boards))
+        (map key
+        (flat_map (λ (board : Board). option_map_or (λ v. made (granted from (from + q) v)) board.view []) boards))
     ascend b [] are = none_ascend b
     ascend b (board ∷ boards) are = rw map-append (one b _ (ascend (b + 1) boards are.1) board.view are.0)
 
@@ -259,7 +261,8 @@ sound-round law plans {lab = lab} q within sound =
     (outlines-routes (lab.now + q) lab.hubs (map (stepped grant) lab.boards) posts
     ∙ outlines-stepped plans lab.now (lab.now + q) lab.boards)
     (rw (map-routes number_of (λ dev payload board. same_part (λ v. v.numbers) (λ v. handed v dev payload) (λ v. refl)
-    board.view) (lab.now + q) (members_of lab.hubs) (record { boards = map (stepped grant) lab.boards; notes = [] }) posts)
+    board.view) (lab.now + q) (members_of lab.hubs)
+    (record { boards = map (stepped grant) lab.boards; notes = [] }) posts)
     (standing_stepped law lab.now q within 0 lab.boards sound.standing)) within sound
 
 -- every board has a plan after a round if it had one before

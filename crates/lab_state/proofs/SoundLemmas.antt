@@ -174,7 +174,9 @@ sound-hub {lab = lab} hub sound none free = record {
   standing = sound.standing;
   devices = hubs-push lab.hubs sound.devices;
   board_names = sound.board_names;
-  hub_names = rw map-append (one_name_more (λ (hub : Hub). hub.name) lab.hubs hub.name (neither _ _ free).1 sound.hub_names);
+  hub_names =
+      rw map-append
+      (one_name_more (λ (hub : Hub). hub.name) lab.hubs hub.name (neither _ _ free).1 sound.hub_names);
   enough = sound.enough;
   times = sound.times;
 }
@@ -265,7 +267,8 @@ module _ {lab : Lab} {spares : Spares} (i : ℕ) (plan : BoardPlan) (sound : IsS
       let d : Outline = record { name = []; kinds = None } in
       let long : i < length os = rw length-map below in
       let no : (get_or os i d).kinds ≡ None =
-      sym (ap (option_and_then (λ (o : Outline). o.kinds)) (slice_get-get_or os i d long)) ∙ bare_at lab.boards i none in
+      sym (ap (option_and_then (λ (o : Outline). o.kinds)) (slice_get-get_or os i d long))
+      ∙ bare_at lab.boards i none in
       let before : one_if (get_or os i d) ≡ 0 = rw no refl in
       let after : one_if o ≡ 1 = rw some refl in
       omega (arith, sum_by-set one_if os i o d long)
