@@ -1,6 +1,9 @@
--- Changes of a board from outside, and what they keep.
-use Rattle.std.proofs.Common.{◌≡◌, ◌∙◌, refl, ℕ, ◌+◌, List, [], ◌∷◌, Option}
-use Rattle.std.specs.Option.{ForSome}
+-- Changes of one board, and what they keep.
+use Rattle.std.proofs.Common.{◌≡◌, ◌∙◌, sym, ap, refl, false, true, ℕ, zero, suc, ◌+◌, ◌<◌, List, [], ◌∷◌, length}
+use Rattle.std.proofs.Common.{get_or, Option, Some, None, subst, arith}
+use Rattle.std.specs.Prelude.{IsSome, option_and_then}
+use Rattle.std.specs.Option.{option_map, ForSome}
+use Rattle.std.proofs.lemmas.Option.{slice_get-get_or, same_Some}
 use Rattle.sys_bus.specs.declared.region.Target.{Target}
 use Rattle.sys_bus.specs.declared.region.Target.TheVariants.{Ram, Clint, Plic, Dev, Nothing}
 use Rattle.page_ram.specs.Bytes.{zeros}
@@ -9,8 +12,28 @@ use Rattle.board.specs.Space.{Space, target_at}
 use Rattle.board.specs.View.{View}
 use Rattle.lab_state.specs.declared.change.Change.{Change}
 use Rattle.lab_state.specs.declared.change.Change.TheVariants as change
+use Rattle.lab_state.specs.Board.{Board}
+use Rattle.lab_state.specs.One.{view_at, with_view}
 use Rattle.lab_state.specs.Inner.Change.{changed_by, MayChange}
-use Rattle.lab_state.proofs.SoundLemmas.{KeepsStanding, keeps_standing}
+use Rattle.lab_state.specs.Inner.Standing.{outline, IsStanding, IsKept}
+
+-- ---- a part of a view that a change leaves
+
+pub same_part :
+    {A B : Type 0} (g : A → B) (f : A → A) → ((x : A) → g (f x) ≡ g x) → (o : Option A) →
+    option_map g (option_map f o) ≡ option_map g o
+same_part g f same None = refl
+same_part g f same (Some x) = ap Some (same x)
+
+abbrev pub KeepsPlan : (View → View) → Type 0
+KeepsPlan f = (v : View) → (f v).space.plan ≡ v.space.plan
+
+pub outline-view : (f : View → View) → KeepsPlan f → (board : Board) → outline (with_view f board) ≡ outline board
+outline-view f keeps board =
+    ap (λ kinds. record { name = board.name; kinds = kinds })
+    (same_part (λ v. v.space.plan.kinds) f (λ v. ap (λ plan. plan.kinds) (keeps v)) board.view)
+
+-- ---- changes from outside
 
 put-plan : (s : Space) (byte : ℕ) (target : Target) → (put_in s byte target).plan ≡ s.plan
 put-plan s byte (Ram part at) = refl
@@ -24,30 +47,59 @@ copied-plan s at [] = refl
 copied-plan s at (byte ∷ bytes) =
     copied-plan (put_byte s at byte) (at + 1) bytes ∙ put-plan s byte (target_at s at 1)
 
-pub bytes-plan : (at : ℕ) (bytes : List ℕ) (v : View) → (with_bytes v at bytes).space.plan ≡ v.space.plan
-bytes-plan at bytes v = copied-plan v.space at bytes
+-- bytes that are written are no part of what is kept
+pub bytes-kept : (at : ℕ) (bytes : List ℕ) (board : Board) → IsKept board (with_view (λ v. with_bytes v at bytes) board)
+bytes-kept at bytes board = record {
+  same = outline-view (λ v. with_bytes v at bytes) (λ v. copied-plan v.space at bytes) board;
+  stands = λ most b is. rw (same_part (λ v. v.numbers) (λ v. with_bytes v at bytes) (λ v. refl) board.view) is;
+}
 
-pub change-plan : (c : Change) (v : View) → (changed_by c v).space.plan ≡ v.space.plan
+change-plan : (c : Change) → KeepsPlan (changed_by c)
 change-plan (change.Pc pc) v = refl
 change-plan (change.Halted on) v = refl
 change-plan (change.Speed speed) v = refl
 change-plan (change.Shown dev) v = refl
-change-plan (change.Zero at count) v = bytes-plan at (zeros count) v
+change-plan (change.Zero at count) v = copied-plan v.space at (zeros count)
 change-plan change.Reset v = refl
 
-pub change-stands :
-    (most : ℕ) (c : Change) (o : Option View) → ForSome o (MayChange c) → KeepsStanding most (changed_by c) o
-change-stands most (change.Pc pc) o may = keeps_standing most (changed_by (change.Pc pc)) o (λ v. refl)
-change-stands most (change.Halted on) o may = keeps_standing most (changed_by (change.Halted on)) o (λ v. refl)
-change-stands most (change.Speed speed) o may =
-    λ b v at is. record {
-      number = is.number;
-      least_speed = (may v at).0;
-      most_speed = (may v at).1;
-      few_posts = is.few_posts;
-      few_entries = is.few_entries;
+change-stands :
+    (most b : ℕ) (c : Change) (v : View) → MayChange c v → IsStanding most b v.numbers →
+    IsStanding most b (changed_by c v).numbers
+change-stands most b (change.Pc pc) v may is = is
+change-stands most b (change.Halted on) v may is = is
+change-stands most b (change.Speed speed) v may is = record {
+  number = is.number;
+  least_speed = may.0;
+  most_speed = may.1;
+  few_posts = is.few_posts;
+  few_entries = is.few_entries;
+}
+change-stands most b (change.Shown dev) v may is = is
+change-stands most b (change.Zero at count) v may is = is
+change-stands most b change.Reset v may is = is
+
+view-stands :
+    (most b : ℕ) (c : Change) (o : Option View) → ForSome o (MayChange c) →
+    ForSome (option_map (λ v. v.numbers) o) (IsStanding most b) →
+    ForSome (option_map (λ v. v.numbers) (option_map (changed_by c) o)) (IsStanding most b)
+view-stands most b c None may is = λ n at. absurd (cc)
+view-stands most b c (Some v) may is =
+    λ n at. subst (IsStanding most b) (same_Some _ _ at) (change-stands most b c v (may v refl) (is v.numbers refl))
+
+within : (boards : List Board) (i : ℕ) → IsSome (view_at boards i) → i < length boards
+within [] i is = let no : false ≡ true = is in absurd (cc)
+within (x ∷ xs) zero is = omega arith
+within (x ∷ xs) (suc i) is = omega (arith, within xs i is)
+
+-- a board of a laboratory that has a plan is changed
+pub change-kept :
+    (c : Change) (boards : List Board) (i : ℕ) {old : Board} → IsSome (view_at boards i) → old ≡ get_or boards i old →
+    ForSome (view_at boards i) (MayChange c) → IsKept old (with_view (changed_by c) old)
+change-kept c boards i {old = old} has is may =
+    let found = slice_get-get_or boards i old (within boards i has) ∙ ap Some (sym is) in
+    let here : ForSome old.view (MayChange c) =
+    subst (λ (o : Option Board). ForSome (option_and_then (λ board. board.view) o) (MayChange c)) found may in
+    record {
+      same = outline-view (changed_by c) (change-plan c) old;
+      stands = λ most b. view-stands most b c old.view here;
     }
-change-stands most (change.Shown dev) o may = keeps_standing most (changed_by (change.Shown dev)) o (λ v. refl)
-change-stands most (change.Zero at count) o may =
-    keeps_standing most (changed_by (change.Zero at count)) o (λ v. refl)
-change-stands most change.Reset o may = keeps_standing most (changed_by change.Reset) o (λ v. refl)

@@ -3,7 +3,6 @@ pub mod ListLemmas
 pub mod HubLemmas
 pub mod SpareLemmas
 pub mod SoundLemmas
-pub mod FitLemmas
 pub mod ChangeLemmas
 pub mod KeyLemmas
 pub mod RoundLemmas

@@ -1,6 +1,6 @@
 -- Rounds one after another.
 use Rattle.std.proofs.Common.{◌≡◌, ◌∙◌, sym, ap, refl, eq-eqb, Bool, true, false, ℕ, ◌+◌, ◌*◌, ◌/◌, ◌%◌, ◌<◌, List, []}
-use Rattle.std.proofs.Common.{◌∷◌, ◌++◌, length, take, fold, replicate, None, ◌⊎◌, inl, inr, add-one, append_assoc}
+use Rattle.std.proofs.Common.{◌∷◌, ◌++◌, length, take, fold, replicate, None, add-one, append_assoc}
 use Rattle.std.proofs.Common.{arith}
 use Rattle.std.specs.Prelude.{if◌then◌else◌, is_some, IsSome, Option, Some}
 use Rattle.std.proofs.lemmas.List.{append-nil, replicate-append-replicate}
@@ -19,17 +19,19 @@ use Rattle.lab_state.specs.Hub.{Hub}
 use Rattle.lab_state.specs.Lab.{Lab}
 use Rattle.lab_state.specs.Round.{Rounded, round_by, round}
 use Rattle.lab_state.specs.Run.{Play, rest_of, lengths, followed_by, go_on, still, EndsIn, run_by, run}
-use Rattle.lab_state.proofs.ListLemmas.{fold-kept}
-
-round_quantum : (lab : Lab) (q : ℕ) → (round lab q).lab.quantum ≡ lab.quantum
-unfolding round_by
-round_quantum lab q = refl
 
 on_quantum :
     (paused : Bool) (run more : Rounded) → more.lab.quantum ≡ run.lab.quantum →
     (if paused then run else followed_by run more).lab.quantum ≡ run.lab.quantum
 on_quantum true run more is = refl
 on_quantum false run more is = is
+
+-- rounds leave the quantum
+same_quantum : (run : Rounded) (qs : List ℕ) → (fold (go_on round) run qs).lab.quantum ≡ run.lab.quantum
+unfolding round_by
+same_quantum run [] = refl
+same_quantum run (q ∷ qs) =
+    same_quantum (go_on round run q) qs ∙ on_quantum (is_some run.paused) run (round run.lab q) refl
 
 -- a run is the round of what is left, after those of the whole quanta
 pub run_is :
@@ -64,13 +66,6 @@ fold-followed a b (q ∷ qs) =
 followed-still : (a : Rounded) → a.paused ≡ None → a ≡ followed_by a (still a.lab)
 followed-still a unpaused = λ i. record { lab = a.lab; items = sym (append-nil a.items) i; paused = unpaused i }
 
-run_quantum : (lab : Lab) (d : ℕ) → (run lab d).lab.quantum ≡ lab.quantum
-unfolding run_by
-run_quantum lab d =
-    fold-kept (λ (run : Rounded). run.lab.quantum) (go_on round)
-    (λ run q. on_quantum (is_some run.paused) run (round run.lab q) (round_quantum run.lab q)) (still lab)
-    (lengths lab.quantum d)
-
 lengths-join :
     (q d e : ℕ) → 0 < q → d % q ≡ 0 → lengths q (d + e) ≡ lengths q d ++ lengths q e
 lengths-join q d e some whole =
@@ -90,7 +85,7 @@ runs-join lab d e some whole unpaused =
     ∙ ap (λ run. fold (go_on round) run (lengths lab.quantum e)) (followed-still (run lab d) unpaused)
     ∙ fold-followed (run lab d) (still (run lab d).lab) (lengths lab.quantum e)
     ∙ ap (λ q. followed_by (run lab d) (fold (go_on round) (still (run lab d).lab) (lengths q e)))
-    (sym (run_quantum lab d))
+    (sym (same_quantum (still lab) (lengths lab.quantum d)))
 
 -- ---- the order of the posts
 
@@ -119,10 +114,6 @@ after_pause play run (q ∷ qs) is =
     let stays : go_on play run q ≡ run = rw is refl in
     ap (λ run. fold (go_on play) run qs) stays ∙ after_pause play run qs is
 
-none_or : (o : Option Key) → (o ≡ None) ⊎ (is_some o ≡ true)
-none_or None = inl refl
-none_or (Some key) = inr refl
-
 -- rounds that come to a pause, from a run that has none
 abbrev Ends : Play → Rounded → List ℕ → ℕ → Type 0
 Ends play run qs n =
@@ -134,16 +125,16 @@ ends :
     is_some (fold (go_on play) run qs).paused ≡ true → (n : ℕ) × Ends play run qs n
 ends play run [] none some = absurd (cc)
 ends play run (q ∷ qs) none some =
-    by_pause (none_or (go_on play run q).paused) (λ still. ends play (go_on play run q) qs still some)
+    by_pause (go_on play run q).paused refl (λ still. ends play (go_on play run q) qs still some)
   where
     by_pause :
-        (((go_on play run q).paused ≡ None) ⊎ (is_some (go_on play run q).paused ≡ true)) →
+        (o : Option Key) → (go_on play run q).paused ≡ o →
         ((go_on play run q).paused ≡ None → (n : ℕ) × Ends play (go_on play run q) qs n) →
         (n : ℕ) × Ends play run (q ∷ qs) n
-    by_pause (inl still) rest =
-        let found = rest still in
+    by_pause None is rest =
+        let found = rest is in
         (found.0 + 1, (omega (arith, found.1.0), rw add-one found.1.1, rw (add-one, add-one) (rw add-one at found.1.2)))
-    by_pause (inr paused) rest = (0, (omega arith, none, after_pause play (go_on play run q) qs paused))
+    by_pause (Some key) is rest = (0, (omega arith, none, after_pause play (go_on play run q) qs (ap is_some is)))
 
 pub runs-end :
     (play : Play) (lab : Lab) (d : ℕ) → IsSome (run_by play lab d).paused →

@@ -1,46 +1,59 @@
 -- What holds of a laboratory goes on to hold where it is changed.
-use Rattle.std.proofs.Common.{◌≡◌, ◌∙◌, sym, ap, refl, false, true, cond, ◌||◌, sum_by, ℕ, zero, suc, ◌+◌, ◌*◌, ◌<◌}
-use Rattle.std.proofs.Common.{◌≤◌, List, [], ◌∷◌, ◌++◌, length, map, slice_get, Option, Some, None, unwrap_or, subst}
-use Rattle.std.proofs.Common.{append_assoc, arith}
-use Rattle.std.specs.Prelude.{Bool, is_some, option_and_then}
-use Rattle.std.proofs.lemmas.Cmp.{nat_list_eq_equiv}
-use Rattle.std.proofs.lemmas.List.{append-nil, map-append, length-map, length_push}
-use Rattle.std.proofs.lemmas.List.Elements.{All-append, recursion_from_All}
-use Rattle.std.proofs.lemmas.List.Sums.{sum_by-cons, sum_by-append}
-use Rattle.std.proofs.lemmas.Option.{slice_get-map}
-use Rattle.std.specs.List.{AllByRecursion, IsDistinct, position}
+use Rattle.std.proofs.Common.{◌≡◌, ◌∙◌, sym, ap, refl, Bool, true, false, ◌||◌, cond, ℕ, zero, suc, ◌+◌, ◌*◌, ◌<◌, ◌≤◌}
+use Rattle.std.proofs.Common.{List, [], ◌∷◌, ◌++◌, subst}
+use Rattle.std.proofs.Common.{length, map, set, get_or, slice_get, Option, Some, None, add-zero, zero-add, arith}
+use Rattle.std.specs.Prelude.{is_some, option_and_then}
 use Rattle.std.specs.Option.{option_map, ForSome}
-use Rattle.std.specs.Str.{bytes_eq}
+use Rattle.std.proofs.Math.ListN.{get_or-map}
+use Rattle.std.proofs.Math.Seq.{map-set_same}
+use Rattle.std.proofs.lemmas.Bool.Decides.{nat_tests}
+use Rattle.std.proofs.lemmas.List.{map-append, map-set, length-map, length-set, length_push}
+use Rattle.std.proofs.lemmas.List.Elements.{All-nil, All-weaker, All-push}
+use Rattle.std.proofs.lemmas.List.Sums.{sum_by_push, sum_by-set, count_by-le-length}
+use Rattle.std.proofs.lemmas.Option.{slice_get-get_or, same_Some}
 use Rattle.lab_num.specs.declared.key.Member.{Member}
 use Rattle.dev_core.specs.declared.kind.Kind.{Kind}
+use Rattle.dev_core.specs.declared.kind.Kind.TheVariants.{Uart, Can, Finisher}
+use Rattle.board.specs.Early.{IsEarly}
+use Rattle.board.specs.New.{new_board}
+use Rattle.board.specs.Numbers.{Numbers}
 use Rattle.board.specs.View.{View}
+use Rattle.sys_bus.specs.declared.plan.BoardPlan.{BoardPlan}
+use Rattle.sys_bus.specs.Limits.{count_of}
+use Rattle.sys_bus.specs.Plan.{IsValid}
 use Rattle.lab_state.specs.Board.{Board}
 use Rattle.lab_state.specs.Change.{change_at}
 use Rattle.lab_state.specs.Hub.{Hub}
+use Rattle.lab_state.specs.Lab.{Lab, Seen}
 use Rattle.lab_state.specs.Names.{is_taken}
-use Rattle.lab_state.specs.Lab.{Lab}
-use Rattle.lab_state.specs.One.{view_at, kind_at, with_view, with_member}
-use Rattle.lab_state.specs.Inner.Spares.{Spares, full}
-use Rattle.lab_state.specs.Inner.Standing.{Outline, outline, outlines, IsStanding, AreStanding, kind_in, AreMembers}
-use Rattle.lab_state.specs.Inner.Standing.{AreDevices, names_of, count_of_plans, IsSound}
-use Rattle.lab_state.proofs.ListLemmas.{map-change, each-weaker, each-append, distinct-insert, distinct-right}
-use Rattle.lab_state.proofs.ListLemmas.{position-map, none_named, named_at}
+use Rattle.lab_state.specs.One.{view_at, view_of, kind_at, with_member}
+use Rattle.lab_state.specs.Inner.Spares.{Spares, full, HasFor, HasRoomFor, AreTaken}
+use Rattle.lab_state.specs.Inner.Standing.{Outline, outline, outlines, number_of, IsStanding, AreStanding, IsKept}
+use Rattle.lab_state.specs.Inner.Standing.{kind_of_outline, kind_in, AreMembers, AreDevices, count_of_plans, IsSound}
+use Rattle.lab_state.proofs.ListLemmas.{set-change, map-change, each-weaker, found-push, found-set, one_name_more}
 
 -- ---- other boards of the same outlines
 
+names-outlines : (boards : List Board) → map (λ o. o.name) (outlines boards) ≡ map (λ board. board.name) boards
+names-outlines [] = refl
+names-outlines (x ∷ xs) = ap (λ names. x.name ∷ names) (names-outlines xs)
+
 -- some time later
 pub sound-same :
-    {boards : List Board} {hubs : List Hub} {spares : Spares} {now quantum : ℕ} (others : List Board) (later : ℕ) →
-    outlines others ≡ outlines boards → AreStanding (1000 * later) 0 others → later ≤ 10000000000 →
-    IsSound boards hubs spares now quantum → IsSound others hubs spares later quantum
-sound-same {boards = boards} others later same standing within sound =
-    let long : length others ≡ length boards =
-    sym (length-map others outline) ∙ ap length same ∙ length-map boards outline in
+    {lab : Lab} {spares : Spares} (others : List Board) (later : ℕ) → outlines others ≡ outlines lab.boards →
+    AreStanding (1000 * later) 0 (map number_of others) → later ≤ 10000000000 → IsSound lab spares →
+    IsSound (record lab { boards = others; now = later }) spares
+sound-same {lab = lab} others later same standing within sound =
+    let long : length others ≡ length lab.boards =
+    sym (length-map others outline) ∙ ap length same ∙ length-map lab.boards outline in
+    let names : map (λ board. board.name) others ≡ map (λ board. board.name) lab.boards =
+    sym (names-outlines others) ∙ ap (map (λ (o : Outline). o.name)) same ∙ names-outlines lab.boards in
     record {
       few_boards = rw long sound.few_boards;
       standing = standing;
       devices = rw same sound.devices;
-      names = rw same sound.names;
+      board_names = rw names sound.board_names;
+      hub_names = sound.hub_names;
       enough = rw same sound.enough;
       times = record {
         time = within;
@@ -49,109 +62,52 @@ sound-same {boards = boards} others later same standing within sound =
       };
     }
 
--- ---- one board changed
+-- one of them written over
+standing-set :
+    (most first : ℕ) (ns : List (Option Numbers)) (i : ℕ) {old new : Option Numbers} → old ≡ get_or ns i old →
+    (ForSome old (IsStanding most (first + i)) → ForSome new (IsStanding most (first + i))) →
+    AreStanding most first ns → AreStanding most first (set ns i new)
+standing-set most first [] i is keeps are = tt
+standing-set most first (n ∷ ns) zero is keeps are = (rw add-zero at (keeps (rw (add-zero, is) are.0)), are.1)
+standing-set most first (n ∷ ns) (suc i) is keeps are =
+    let place : first + suc i ≡ first + 1 + i = omega arith in
+    (are.0, standing-set most (first + 1) ns i is (rw place at keeps) are.1)
 
-pub outline-view :
-    (f : View → View) → ((v : View) → (f v).space.plan ≡ v.space.plan) → (name : List ℕ) (o : Option View) →
-    outline (record { name = name; view = option_map f o }) ≡ outline (record { name = name; view = o })
-outline-view f keeps name None = refl
-outline-view f keeps name (Some v) =
-    let made : List Kind → Outline = λ kinds. record { name = name; kinds = Some kinds } in
-    ap (λ plan. made plan.kinds) (keeps v)
+numbers-set :
+    (most : ℕ) (boards : List Board) (i : ℕ) {old : Board} (new : Board) → old ≡ get_or boards i old →
+    (ForSome (number_of old) (IsStanding most (0 + i)) → ForSome (number_of new) (IsStanding most (0 + i))) →
+    AreStanding most 0 (map number_of boards) → AreStanding most 0 (map number_of (set boards i new))
+numbers-set most boards i {old = old} new is keeps are =
+    rw map-set
+    (standing-set most 0 (map number_of boards) i (ap number_of is ∙ sym (get_or-map number_of boards i old)) keeps are)
 
-pub outlines-change :
-    (f : View → View) → ((v : View) → (f v).space.plan ≡ v.space.plan) → (boards : List Board) (i : ℕ) →
-    outlines (change_at boards i (with_view f)) ≡ outlines boards
-outlines-change f keeps boards i =
-    map-change outline (with_view f) (λ board. outline-view f keeps board.name board.view) boards i
+-- one board changed
+pub sound-set :
+    {lab : Lab} {spares : Spares} (i : ℕ) {old new : Board} → old ≡ get_or lab.boards i old → IsKept old new →
+    IsSound lab spares → IsSound (record lab { boards = set lab.boards i new }) spares
+sound-set {lab = lab} i {old = old} {new = new} is kept sound =
+    sound-same (set lab.boards i new) lab.now
+    (map-set_same outline lab.boards i new old (kept.same ∙ ap outline is))
+    (numbers-set (1000 * lab.now) lab.boards i new is (kept.stands (1000 * lab.now) (0 + i)) sound.standing)
+    sound.times.time sound
 
--- a change keeps the board standing
-abbrev pub KeepsStanding : ℕ → (View → View) → Option View → Type 0
-KeepsStanding most f o =
-    (b : ℕ) (v : View) → o ≡ Some v → IsStanding most b v.numbers → IsStanding most b (f v).numbers
-
-standing-view :
-    (most b : ℕ) (f : View → View) (o : Option View) → KeepsStanding most f o →
-    ForSome o (λ v. IsStanding most b v.numbers) → ForSome (option_map f o) (λ v. IsStanding most b v.numbers)
-standing-view most b f None keeps is = λ v at. absurd (cc)
-standing-view most b f (Some v) keeps is =
-    λ w at. subst (λ (v : View). IsStanding most b v.numbers) (ap (λ o. unwrap_or o w) at) (keeps b v refl (is v refl))
-
-pub standing-change :
-    (most first : ℕ) (f : View → View) (boards : List Board) (i : ℕ) → KeepsStanding most f (view_at boards i) →
-    AreStanding most first boards → AreStanding most first (change_at boards i (with_view f))
-standing-change most first f [] i keeps are = tt
-standing-change most first f (x ∷ xs) zero keeps are = (standing-view most first f x.view keeps are.0, are.1)
-standing-change most first f (x ∷ xs) (suc i) keeps are = (are.0, standing-change most (first + 1) f xs i keeps are.1)
-
--- a change that leaves the numbers
-pub keeps_standing :
-    (most : ℕ) (f : View → View) (o : Option View) → ((v : View) → (f v).numbers ≡ v.numbers) → KeepsStanding most f o
-keeps_standing most f o same = λ b v at is. rw (same v) is
-
-pub sound-change :
-    {boards : List Board} {hubs : List Hub} {spares : Spares} {now quantum : ℕ} (f : View → View) (i : ℕ) →
-    ((v : View) → (f v).space.plan ≡ v.space.plan) → KeepsStanding (1000 * now) f (view_at boards i) →
-    IsSound boards hubs spares now quantum → IsSound (change_at boards i (with_view f)) hubs spares now quantum
-sound-change {boards = boards} {now = now} f i plan keeps sound =
-    sound-same (change_at boards i (with_view f)) now (outlines-change f plan boards i)
-    (standing-change (1000 * now) 0 f boards i keeps sound.standing) sound.times.time sound
-
--- ---- names
-
-neither : (a b : Bool) → (a || b) ≡ false → (a ≡ false) × (b ≡ false)
-neither true b is = absurd (cc)
-neither false b is = (refl, is)
-
--- a name that is not taken differs from all names
-pub new_name :
-    (lab : Lab) (name : List ℕ) → is_taken lab name ≡ false →
-    AllByRecursion (λ y. bytes_eq name y ≡ false) (names_of (outlines lab.boards) lab.hubs)
-new_name lab name free =
-    let none = neither _ _ free in
-    let no_board = ap is_some (position-map outline (λ o. bytes_eq o.name name) lab.boards) ∙ none.0 in
-    recursion_from_All (λ y. bytes_eq name y ≡ false) _
-    (All-append (λ y. bytes_eq name y ≡ false) _ _
-    (none_named (λ (o : Outline). o.name) (outlines lab.boards) name no_board)
-    (none_named (λ (hub : Hub). hub.name) lab.hubs name none.1))
-
--- and a board and a hub are found by their names
-board_outline :
-    (o : Option Board) → option_map (λ board. board.name) o ≡ option_map (λ o. o.name) (option_map outline o)
-board_outline None = refl
-board_outline (Some board) = refl
-
-pub board-found :
-    (boards : List Board) (hubs : List Hub) (b : ℕ) (name : List ℕ) →
-    IsDistinct bytes_eq (names_of (outlines boards) hubs) →
-    Some name ≡ option_map (λ board. board.name) (slice_get boards b) →
-    position (λ board. bytes_eq board.name name) boards ≡ Some b
-board-found boards hubs b name names is =
-    let at = is ∙ board_outline (slice_get boards b) ∙ ap (option_map (λ (o : Outline). o.name))
-    (sym (slice_get-map outline boards b)) in
-    sym (position-map outline (λ o. bytes_eq o.name name) boards)
-    ∙ named_at (λ (o : Outline). o.name) (outlines boards) (map (λ hub. hub.name) hubs) b name names at
-
-pub hub-found :
-    (boards : List Board) (hubs : List Hub) (n : ℕ) (name : List ℕ) →
-    IsDistinct bytes_eq (names_of (outlines boards) hubs) →
-    Some name ≡ option_map (λ hub. hub.name) (slice_get hubs n) →
-    position (λ hub. bytes_eq hub.name name) hubs ≡ Some n
-hub-found boards hubs n name all is =
-    let names = map (λ (hub : Hub). hub.name) hubs in
-    let apart : IsDistinct bytes_eq (names ++ []) =
-    rw append-nil (distinct-right bytes_eq (map (λ (o : Outline). o.name) (outlines boards)) names all) in
-    named_at (λ (hub : Hub). hub.name) hubs [] n name apart is
+-- and what it is seen as
+pub seen_set :
+    {s : Seen} {lab : Lab} {spent : Bool} (F : Board → Board) (i : ℕ) {old new : Board} →
+    record { lab = lab; spent = spent } ≡ s → old ≡ get_or lab.boards i old → new ≡ F old →
+    ◌≡◌ {A = Seen} (record { lab = record lab { boards = set lab.boards i new }; spent = spent })
+    (record s { lab = record s.lab { boards = change_at s.lab.boards i F } })
+seen_set {lab = lab} F i is at made = rw (← is, set-change F lab.boards i at made) refl
 
 -- ---- a laboratory without boards and hubs
 
-pub sound-new : IsSound [] [] full 0 100
-unfolding IsDistinct
+pub sound-new : IsSound (record { boards = []; hubs = []; now = 0; quantum = 100 }) full
 sound-new = record {
   few_boards = omega arith;
   standing = tt;
   devices = tt;
-  names = tt;
+  board_names = λ i j d before within. absurd (omega arith);
+  hub_names = λ i j d before within. absurd (omega arith);
   enough = record { few = λ kind. omega arith; uarts = omega arith; finishers = omega arith };
   times = record { time = omega arith; least_quantum = omega arith; most_quantum = omega arith };
 }
@@ -159,64 +115,51 @@ sound-new = record {
 -- ---- a board more
 
 standing-push :
-    (most first : ℕ) (boards : List Board) (name : List ℕ) → AreStanding most first boards →
-    AreStanding most first (boards ++ record { name = name; view = None } ∷ [])
-standing-push most first [] name all = (λ v at. absurd (cc), tt)
+    (most first : ℕ) (boards : List Board) (name : List ℕ) → AreStanding most first (map number_of boards) →
+    AreStanding most first (map number_of (boards ++ record { name = name; view = None } ∷ []))
+standing-push most first [] name all = (λ n at. absurd (cc), tt)
 standing-push most first (x ∷ xs) name all = (all.0, standing-push most (first + 1) xs name all.1)
 
 -- members of hubs that stay devices of their kind
-pub devices-kept :
+devices-kept :
     (before after : List Outline) →
     ((m : Member) (kind : Kind) → kind_in before m ≡ Some kind → kind_in after m ≡ Some kind) → (hubs : List Hub) →
     AreDevices before hubs → AreDevices after hubs
 devices-kept before after keeps hubs all =
     each-weaker (AreMembers before) (AreMembers after)
-    (λ hub are. each-weaker (λ m. kind_in before m ≡ Some hub.kind) (λ m. kind_in after m ≡ Some hub.kind)
-    (λ m is. keeps m hub.kind is) hub.members are) hubs all
+    (λ hub are. All-weaker _ _ (λ m. keeps m hub.kind) hub.members are) hubs all
 
--- what is found in a list is found in a longer one
-found-push :
-    {A B : Type 0} (F : Option A → Option B) → F None ≡ None → (xs ys : List A) (i : ℕ) (y : B) →
-    F (slice_get xs i) ≡ Some y → F (slice_get (xs ++ ys) i) ≡ Some y
-found-push F none [] ys i y at = absurd (cc)
-found-push F none (x ∷ xs) ys zero y at = at
-found-push F none (x ∷ xs) ys (suc i) y at = found-push F none xs ys i y at
+-- a plan or none
+abbrev one_if : Outline → ℕ
+one_if o = cond (is_some o.kinds) 1 0
 
--- a name without a plan adds no plan
-abbrev pub one_if : Outline → ℕ
-one_if board = cond (is_some board.kinds) 1 0
-
-plans-push :
-    (boards : List Outline) (o : Outline) → o.kinds ≡ None →
-    count_of_plans (boards ++ o ∷ []) ≡ count_of_plans boards
-plans-push boards o none =
-    let one : sum_by one_if (o ∷ []) ≡ 0 =
-    sum_by-cons one_if o [] ∙ ap (λ kinds. cond (is_some kinds) 1 0 + sum_by one_if []) none in
-    omega (arith, sum_by-append one_if boards (o ∷ []), one)
+neither : (a b : Bool) → (a || b) ≡ false → (a ≡ false) × (b ≡ false)
+neither true b is = absurd (cc)
+neither false b is = (refl, is)
 
 -- a laboratory with a name more
 pub sound-push :
-    (lab : Lab) {spares : Spares} (name : List ℕ) → IsSound lab.boards lab.hubs spares lab.now lab.quantum →
-    length lab.boards < 16 → is_taken lab name ≡ false →
-    IsSound (lab.boards ++ record { name = name; view = None } ∷ []) lab.hubs spares lab.now lab.quantum
-sound-push lab {spares = spares} name sound room free =
+    {lab : Lab} {spares : Spares} (name : List ℕ) → IsSound lab spares → length lab.boards < 16 →
+    is_taken lab name ≡ false →
+    IsSound (record lab { boards = lab.boards ++ record { name = name; view = None } ∷ [] }) spares
+sound-push {lab = lab} name sound room free =
     let board : Board = record { name = name; view = None } in
     let os = outlines lab.boards in
     let o : Outline = record { name = name; kinds = None } in
     let pushed : outlines (lab.boards ++ board ∷ []) ≡ os ++ o ∷ [] = map-append outline lab.boards (board ∷ []) in
+    let plans : count_of_plans (os ++ o ∷ []) ≡ count_of_plans os = sum_by_push one_if os o ∙ add-zero _ in
     record {
       few_boards = omega (arith, length_push lab.boards board);
       standing = standing-push (1000 * lab.now) 0 lab.boards name sound.standing;
       devices =
           rw pushed
           (devices-kept os (os ++ o ∷ [])
-          (λ m kind is. found-push (λ o. option_and_then (λ kinds. slice_get kinds m.dev)
-          (option_and_then (λ o. o.kinds) o)) refl os (o ∷ []) m.board.0 kind is) lab.hubs sound.devices);
-      names =
-          rw (pushed, map-append, append_assoc)
-          (distinct-insert bytes_eq nat_list_eq_equiv.symm name (map (λ o. o.name) os)
-          (map (λ hub. hub.name) lab.hubs) sound.names (new_name lab name free));
-      enough = rw (pushed, plans-push os o refl) sound.enough;
+          (λ m kind. found-push (kind_of_outline m.dev) os (o ∷ []) m.board.0 kind refl) lab.hubs sound.devices);
+      board_names =
+          rw map-append
+          (one_name_more (λ (board : Board). board.name) lab.boards name (neither _ _ free).0 sound.board_names);
+      hub_names = sound.hub_names;
+      enough = rw (pushed, plans) sound.enough;
       times = sound.times;
     }
 
@@ -224,70 +167,206 @@ sound-push lab {spares = spares} name sound room free =
 
 -- a laboratory with a hub more
 pub sound-hub :
-    (lab : Lab) {spares : Spares} (hub : Hub) → IsSound lab.boards lab.hubs spares lab.now lab.quantum →
-    hub.members ≡ [] → is_taken lab hub.name ≡ false →
-    IsSound lab.boards (lab.hubs ++ hub ∷ []) spares lab.now lab.quantum
-sound-hub lab hub sound none free =
-    let os = outlines lab.boards in
-    let empty : AreMembers os hub =
-    subst (AllByRecursion (λ m. kind_in os m ≡ Some hub.kind)) (sym none) tt in
-    record {
-      few_boards = sound.few_boards;
-      standing = sound.standing;
-      devices = each-append (AreMembers os) lab.hubs (hub ∷ []) sound.devices (empty, tt);
-      names =
-          rw (map-append, ← append_assoc)
-          (distinct-insert bytes_eq nat_list_eq_equiv.symm hub.name (names_of os lab.hubs) []
-          (rw append-nil sound.names) (rw append-nil (new_name lab hub.name free)));
-      enough = sound.enough;
-      times = sound.times;
-    }
-
--- a hub of this kind stands at this number, if one does
-member-change :
-    (os : List Outline) (hubs : List Hub) (n : ℕ) (m : Member) →
-    ((hub : Hub) → slice_get hubs n ≡ Some hub → kind_in os m ≡ Some hub.kind) → AreDevices os hubs →
-    AreDevices os (change_at hubs n (with_member m))
-member-change os [] n m kind all = tt
-member-change os (hub ∷ hubs) zero m kind all = (
-  each-append (λ m. kind_in os m ≡ Some hub.kind) hub.members (m ∷ []) all.0 (kind hub refl, tt),
-  all.1,
-)
-member-change os (hub ∷ hubs) (suc n) m kind all = (all.0, member-change os hubs n m kind all.1)
-
--- a laboratory with a member more in one of its hubs
-pub sound-member :
-    {boards : List Board} {hubs : List Hub} {spares : Spares} {now quantum : ℕ} (n : ℕ) (m : Member) →
-    IsSound boards hubs spares now quantum →
-    ((hub : Hub) → slice_get hubs n ≡ Some hub → kind_in (outlines boards) m ≡ Some hub.kind) →
-    IsSound boards (change_at hubs n (with_member m)) spares now quantum
-sound-member {boards = boards} {hubs = hubs} n m sound kind = record {
+    {lab : Lab} {spares : Spares} (hub : Hub) → IsSound lab spares → hub.members ≡ [] → is_taken lab hub.name ≡ false →
+    IsSound (record lab { hubs = lab.hubs ++ hub ∷ [] }) spares
+sound-hub {lab = lab} hub sound none free = record {
   few_boards = sound.few_boards;
   standing = sound.standing;
-  devices = member-change (outlines boards) hubs n m kind sound.devices;
-  names = rw (map-change (λ (hub : Hub). hub.name) (with_member m) (λ hub. refl) hubs n) sound.names;
+  devices = hubs-push lab.hubs sound.devices;
+  board_names = sound.board_names;
+  hub_names =
+      rw map-append
+      (one_name_more (λ (hub : Hub). hub.name) lab.hubs hub.name (neither _ _ free).1 sound.hub_names);
   enough = sound.enough;
   times = sound.times;
 }
+  where
+    os : List Outline
+    os = outlines lab.boards
+
+    hubs-push : (hubs : List Hub) → AreDevices os hubs → AreDevices os (hubs ++ hub ∷ [])
+    hubs-push [] all = (rw none (All-nil (λ m. kind_in os m ≡ Some hub.kind)), tt)
+    hubs-push (h ∷ hs) all = (all.0, hubs-push hs all.1)
+
+-- a laboratory with a member more in one of its hubs, of which a hub that has this number has the kind
+pub sound-member :
+    {lab : Lab} {spares : Spares} (n : ℕ) (m : Member) → IsSound lab spares →
+    ((hub : Hub) → slice_get lab.hubs n ≡ Some hub → kind_in (outlines lab.boards) m ≡ Some hub.kind) →
+    IsSound (record lab { hubs = change_at lab.hubs n (with_member m) }) spares
+sound-member {lab = lab} n m sound kind = record {
+  few_boards = sound.few_boards;
+  standing = sound.standing;
+  devices = member-change lab.hubs n kind sound.devices;
+  board_names = sound.board_names;
+  hub_names = rw (map-change (λ (hub : Hub). hub.name) (with_member m) (λ hub. refl) lab.hubs n) sound.hub_names;
+  enough = sound.enough;
+  times = sound.times;
+}
+  where
+    os : List Outline
+    os = outlines lab.boards
+
+    member-change :
+        (hubs : List Hub) (n : ℕ) → ((hub : Hub) → slice_get hubs n ≡ Some hub → kind_in os m ≡ Some hub.kind) →
+        AreDevices os hubs → AreDevices os (change_at hubs n (with_member m))
+    member-change [] n kind all = tt
+    member-change (hub ∷ hubs) zero kind all =
+        (All-push (λ m. kind_in os m ≡ Some hub.kind) hub.members m all.0 (kind hub refl), all.1)
+    member-change (hub ∷ hubs) (suc n) kind all = (all.0, member-change hubs n kind all.1)
 
 -- the kind of a device, by boards and by outlines
-pub kind-outlines : (boards : List Board) (m : Member) → kind_in (outlines boards) m ≡ kind_at boards m
-kind-outlines boards m =
-    ap (λ o. option_and_then (λ kinds. slice_get kinds m.dev) (option_and_then (λ (o : Outline). o.kinds) o))
-    (slice_get-map outline boards m.board.0)
-    ∙ by_board (slice_get boards m.board.0)
-  where
-    by_view :
-        (o : Option View) →
-        option_and_then (λ kinds. slice_get kinds m.dev) (option_map (λ v. v.space.plan.kinds) o)
-        ≡ option_and_then (λ v. slice_get v.space.plan.kinds m.dev) o
-    by_view None = refl
-    by_view (Some v) = refl
+kind_of_view :
+    (dev : ℕ) (o : Option View) →
+    option_and_then (λ kinds. slice_get kinds dev) (option_map (λ v. v.space.plan.kinds) o)
+    ≡ option_and_then (λ v. slice_get v.space.plan.kinds dev) o
+kind_of_view dev None = refl
+kind_of_view dev (Some v) = refl
 
-    by_board :
-        (o : Option Board) →
-        option_and_then (λ kinds. slice_get kinds m.dev)
-        (option_and_then (λ (o : Outline). o.kinds) (option_map outline o))
-        ≡ option_and_then (λ v. slice_get v.space.plan.kinds m.dev) (option_and_then (λ board. board.view) o)
-    by_board None = refl
-    by_board (Some board) = by_view board.view
+kind_of_board :
+    (boards : List Board) (b dev : ℕ) →
+    kind_of_outline dev (slice_get (outlines boards) b)
+    ≡ option_and_then (λ v. slice_get v.space.plan.kinds dev) (view_at boards b)
+kind_of_board [] b dev = refl
+kind_of_board (x ∷ xs) zero dev = kind_of_view dev x.view
+kind_of_board (x ∷ xs) (suc b) dev = kind_of_board xs b dev
+
+pub kind-outlines : (boards : List Board) (m : Member) → kind_in (outlines boards) m ≡ kind_at boards m
+kind-outlines boards m = kind_of_board boards m.board.0 m.dev
+
+-- ---- a board by its plan
+
+-- a plan has few devices, and a speed that a board may have
+record IsSmall (plan : BoardPlan) : Type 0 where
+  uarts : count_of plan.kinds Uart ≤ 4
+  finishers : count_of plan.kinds Finisher ≤ 1
+  least : 1 ≤ plan.speed
+  most : plan.speed ≤ 1000
+
+small : (plan : BoardPlan) → IsValid plan → IsSmall plan
+small plan valid = record {
+  uarts = grind (arith, nat_tests, valid.few_devices);
+  finishers = grind (arith, nat_tests, valid.few_devices);
+  least = grind (arith, nat_tests, valid.speed);
+  most = grind (arith, nat_tests, valid.speed);
+}
+
+bare_at :
+    (boards : List Board) (i : ℕ) → view_at boards i ≡ None →
+    option_and_then (λ (o : Outline). o.kinds) (slice_get (outlines boards) i) ≡ None
+bare_at [] i none = refl
+bare_at (x ∷ xs) zero none = ap (option_map (λ (v : View). v.space.plan.kinds)) none
+bare_at (x ∷ xs) (suc i) none = bare_at xs i none
+
+module _ {lab : Lab} {spares : Spares} (i : ℕ) (plan : BoardPlan) (sound : IsSound lab spares)
+    (below : i < length lab.boards) (none : view_at lab.boards i ≡ None) (valid : IsValid plan) where
+  one_plan_more :
+      (o : Outline) → is_some o.kinds ≡ true →
+      count_of_plans (set (outlines lab.boards) i o) ≡ count_of_plans (outlines lab.boards) + 1
+  one_plan_more o some =
+      let os = outlines lab.boards in
+      let d : Outline = record { name = []; kinds = None } in
+      let long : i < length os = rw length-map below in
+      let no : (get_or os i d).kinds ≡ None =
+      sym (ap (option_and_then (λ (o : Outline). o.kinds)) (slice_get-get_or os i d long))
+      ∙ bare_at lab.boards i none in
+      let before : one_if (get_or os i d) ≡ 0 = rw no refl in
+      let after : one_if o ≡ 1 = rw some refl in
+      omega (arith, sum_by-set one_if os i o d long)
+
+  pub has-for : IsEarly plan → HasFor spares plan.kinds
+  has-for early = each
+    where
+      few : count_of_plans (outlines lab.boards) < 16
+      few =
+          let planned : Outline = record { name = []; kinds = Some [] } in
+          let os = set (outlines lab.boards) i planned in
+          omega (
+            arith,
+            one_plan_more planned refl,
+            count_by-le-length (λ (o : Outline). is_some o.kinds) os,
+            length-set (outlines lab.boards) i planned,
+            length-map lab.boards outline,
+            sound.few_boards,
+          )
+
+      each : HasFor spares plan.kinds
+      each Uart = omega (arith, (small plan valid).uarts, sound.enough.uarts, few)
+      each Can = omega (arith, early.cans)
+      each Finisher = omega (arith, (small plan valid).finishers, sound.enough.finishers, few)
+
+  pub sound-fit :
+      (left : Spares) {old : Board} → old ≡ get_or lab.boards i old → AreTaken spares left plan.kinds →
+      IsSound (record lab { boards = set lab.boards i (record old { view = Some (new_board i plan) }) }) left
+  sound-fit left {old = old} is taken =
+      let new : Board = record old { view = Some (new_board i plan) } in
+      let os = outlines lab.boards in
+      let o = outline new in
+      let after : outlines (set lab.boards i new) ≡ set os i o = map-set outline lab.boards i new in
+      let plans : count_of_plans (outlines (set lab.boards i new)) ≡ count_of_plans os + 1 =
+      ap count_of_plans after ∙ one_plan_more o refl in
+      let is_small = small plan valid in
+      record {
+        few_boards = rw length-set sound.few_boards;
+        standing = numbers-set (1000 * lab.now) lab.boards i new is
+            (λ before n at. subst (IsStanding (1000 * lab.now) (0 + i)) (same_Some _ _ at)
+            (record {
+              number = sym (zero-add i);
+              least_speed = is_small.least;
+              most_speed = is_small.most;
+              few_posts = omega arith;
+              few_entries = omega arith;
+            })) sound.standing;
+        devices =
+            rw after
+            (devices-kept os (set os i o)
+            (λ m kind at. found-set (kind_of_outline m.dev) os i m.board.0 o kind
+            (ap (option_and_then (λ kinds. slice_get kinds m.dev)) (bare_at lab.boards i none)) at)
+            lab.hubs sound.devices);
+        board_names =
+            rw (map-set_same (λ (board : Board). board.name) lab.boards i new old (ap (λ (b : Board). b.name) is))
+            sound.board_names;
+        hub_names = sound.hub_names;
+        enough = record {
+          few = λ kind. omega (arith, taken kind, sound.enough.few kind);
+          uarts = omega (arith, taken Uart, is_small.uarts, plans, sound.enough.uarts);
+          finishers = omega (arith, taken Finisher, is_small.finishers, plans, sound.enough.finishers);
+        };
+        times = sound.times;
+      }
+
+-- a board that was asked for its plan
+none_of : (o : Option View) → is_some o ≡ false → o ≡ None
+none_of None is = refl
+none_of (Some v) is = absurd (cc)
+
+pub not_planned :
+    {boards : List Board} (s : Seen) (b : ℕ) {planned : Bool} → boards ≡ s.lab.boards →
+    planned ≡ is_some (view_of s.lab b) → planned ≡ false → view_at boards b ≡ None
+not_planned s b seen asked unplanned =
+    none_of _ (ap (λ boards. is_some (view_at boards b)) seen ∙ sym asked ∙ unplanned)
+
+-- ---- devices that are given back
+
+-- there is room for what was taken
+pub room-for :
+    {lab : Lab} {spares : Spares} (left : Spares) (kinds : List Kind) → IsSound lab spares →
+    AreTaken spares left kinds → HasRoomFor left kinds
+room-for left kinds sound taken = λ kind. omega (arith, taken kind, sound.enough.few kind)
+
+-- and then all are there again
+pub sound-back :
+    {lab : Lab} {spares : Spares} (left back : Spares) (kinds : List Kind) → IsSound lab spares →
+    AreTaken spares left kinds → AreTaken back left kinds → IsSound lab back
+sound-back left back kinds sound taken given = record {
+  few_boards = sound.few_boards;
+  standing = sound.standing;
+  devices = sound.devices;
+  board_names = sound.board_names;
+  hub_names = sound.hub_names;
+  enough = record {
+    few = λ kind. omega (arith, taken kind, given kind, sound.enough.few kind);
+    uarts = omega (arith, taken Uart, given Uart, sound.enough.uarts);
+    finishers = omega (arith, taken Finisher, given Finisher, sound.enough.finishers);
+  };
+  times = sound.times;
+}

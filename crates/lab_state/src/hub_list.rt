@@ -30,15 +30,16 @@ pub struct HubList {
 }
 
 impl Model for HubList {
-    ghost use Rattle.std.specs.Prelude.{◌≡◌, ◌<◌, ◌^◌, List, length};
+    ghost use Rattle.std.specs.Prelude.{◌<◌, ◌^◌, List, length};
     ghost use Rattle.lab_state.specs.Hub.{Hub};
-    ghost use Rattle.lab_state.specs.Inner.Hubs.{hubs_of};
+    ghost use Rattle.lab_state.specs.Inner.Hubs.{hubs_of, AreParts};
 
     ghost Value = { List Hub };
 
     ghost view = { λ h. hubs_of h.names.items h.uarts };
 
-    ghost invariant = { λ h. (length h.names.items ≡ length h.uarts)
+    ghost invariant = { λ h.
+        AreParts h.names.items h.uarts (hubs_of h.names.items h.uarts)
         × (length h.uarts < 2 ^ 32) };
 }
 

@@ -42,8 +42,14 @@ impl<D: Device> Model for Lab<D> {
       spent = l.spent;
     } };
 
-    ghost invariant = { λ l. l.spent ≡ false →
-        IsSound l.boards.items l.hubs l.spares l.time.0 l.quantum };
+    ghost invariant = { λ l. l.spent ≡ false → IsSound
+        (record {
+          boards = l.boards.items;
+          hubs = l.hubs;
+          now = l.time.0;
+          quantum = l.quantum;
+        })
+        l.spares };
 }
 
 impl<D: Device> Lab<D> {

@@ -170,8 +170,8 @@ impl<D: Device> NamedBoard<D> {
     /// the board is lost.
     pub fn step(&mut self, from: Micros, q: u64, made: &mut Made) -> Result<(), NoMemory>
         requires within { from.0 + q ≤ 10000000000 }
-        requires posts { ForSome self.old.view (λ v. v.numbers.posted ≤ 10000000000000) }
-        requires entries { ForSome self.old.view (λ v. v.numbers.entered ≤ 10000000000000) }
+        requires made { ForSome self.old.view (λ v.
+            (v.numbers.posted ≤ 10000000000000) × (v.numbers.entered ≤ 10000000000000)) }
         ensures board { OnOk result (self.new
             ≡ stepped (granted from.0 (from.0 + q)) self.old) }
         ensures posts { OnOk result (made.new.posts.items ≡ made.old.posts.items

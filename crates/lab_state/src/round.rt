@@ -6,8 +6,8 @@ ghost use Rattle.std.specs.List.{flat_map};
 ghost use Rattle.lab_num.specs.Listing.{listing};
 ghost use Rattle.dev_core.specs.Post.{post_key};
 ghost use Rattle.log_merge.specs.Merge.{all_entries};
-ghost use Rattle.lab_state.specs.Inner.End.{end_of, items_of};
-ghost use Rattle.lab_state.specs.Inner.Standing.{outlines, AreStanding, AreDevices};
+ghost use Rattle.lab_state.specs.Inner.End.{Played, played};
+ghost use Rattle.lab_state.specs.Inner.Standing.{outlines, number_of, AreStanding, AreDevices};
 ghost use Rattle.lab_state.specs.One.{HaveAllPlans};
 ghost use Rattle.lab_state.specs.Round as round_spec;
 ghost use Rattle.lab_state.specs.Round.{granted, stepped, posts_made, entries_made, slot_items};
@@ -49,7 +49,7 @@ fn step_all<D: Device>(
     made: &mut Made,
 ) -> Result<(), NoMemory>
     requires within { from.0 + q ≤ 10000000000 }
-    requires standing { AreStanding (1000 * from.0) 0 boards.old }
+    requires standing { AreStanding (1000 * from.0) 0 (map number_of boards.old) }
     ensures boards { OnOk result (boards.new
         ≡ map (stepped (granted from.0 (from.0 + q))) boards.old) }
     ensures posts { OnOk result (made.new.posts.items ≡ made.old.posts.items
@@ -91,7 +91,7 @@ fn take_slots<D: Device>(
     q: u64,
 ) -> Result<Slots, NoMemory>
     requires within { from.0 + q ≤ 10000000000 }
-    requires standing { AreStanding (1000 * from.0) 0 boards.old }
+    requires standing { AreStanding (1000 * from.0) 0 (map number_of boards.old) }
     ensures boards { OnOk result (boards.new
         ≡ map (stepped (granted from.0 (from.0 + q))) boards.old) }
     ensures posts { IfOk result (λ slots. slots.posts.items
@@ -127,13 +127,11 @@ fn play<D: Device>(
     q: u64,
 ) -> Result<RoundLog, NoMemory>
     requires within { from.0 + q ≤ 10000000000 }
-    requires standing { AreStanding (1000 * from.0) 0 boards.old }
+    requires standing { AreStanding (1000 * from.0) 0 (map number_of boards.old) }
     requires devices { AreDevices (outlines boards.old) hubs.now }
-    ensures boards { OnOk result (boards.new
-        ≡ (end_of from.0 q hubs.now boards.old).boards) }
-    ensures lines { IfOk result (λ log. log.lines ≡ items_of from.0 q hubs.now boards.old) }
-    ensures paused { IfOk result (λ log. log.paused
-        ≡ option_map post_key (end_of from.0 q hubs.now boards.old).pause) }
+    ensures { IfOk result (λ log. ◌≡◌ {A = Played}
+        (record { boards = boards.new; items = log.lines; paused = log.paused })
+        (played from.0 q hubs.now boards.old)) }
 {
     stretches_keep_plans();
     let Slots { posts, mut items } = take_slots(alloc, boards, from, q)?;
@@ -159,6 +157,7 @@ impl<D: Device> Lab<D> {
         ensures lines { IfOk result (λ log. log.lines ≡ (round_spec.round self.old.lab q).items) }
         ensures paused { IfOk result (λ log.
             log.paused ≡ (round_spec.round self.old.lab q).paused) }
+        ensures plans { OnOk result (HaveAllPlans self.new.lab) }
         ensures err { OnErr result (self.new.spent ≡ true) }
         ensures spent { self.old.spent ≡ true → result ≡ Err LabFault.Memory }
     {

@@ -12,7 +12,6 @@ ghost use Rattle.lab_state.specs.Run.{still, rest_of};
 use crate::faults::{LabFault, RunFault};
 use crate::lab::Lab;
 use crate::round::RoundLog;
-use board::stretches_keep_plans;
 use dev_core::Device;
 use lab_num::{BoardNo, Micros, Rows};
 
@@ -37,7 +36,6 @@ impl<D: Device> Lab<D> {
         if run.paused.is_some() {
             return Ok(run);
         }
-        stretches_keep_plans();
         let more = self.round(q)?;
         let mut lines = run.lines.into_items();
         if lines.extend_from_slice(more.lines.items()).is_err() {

@@ -1,57 +1,26 @@
-//! What rounds and runs of programs show, on boards with a memory, a UART and a finisher.
+//! What laboratories do and show, step by step, on boards with a memory, a UART and a finisher.
 ghost use Rattle.std.specs.Prelude.{◌≡◌};
 
+mod cases;
 mod chip;
-mod counted;
-mod faults;
-mod programs;
+mod steps;
 
-use crate::{Lab, LabFault, RoundLog};
+use crate::Lab;
 use board::is_early;
-use chip::{Chip, stock};
-use dev_core::{Device, Finish, Kind, Stock, What};
-use lab_num::{BoardNo, Key, Member, Micros, NoMemory, PostNo, Rows, Text, is_name};
-use log_merge::{LogItem, Member0, Note};
+use cases::{CHANGES, PROGRAMS, READ_AND_REFUSED};
+use chip::{Counts, stock};
+use dev_core::{Device, Kind, Stock};
+use lab_num::{BoardNo, Member, Rows, Text, is_name};
 use std::alloc::Global;
 use std::process::Abort;
 use std::test::Fail;
+use steps::{Step, play};
 use sys_bus::{BoardPlan, Named, NamedWhat, Region, RegionKind};
 
 /// Where a board's memory begins.
 const START: u32 = 0x8000_0000;
 
 const HUB: &str = "hub";
-
-const NAMES: [&str; 4] = ["m0", "m1", "m2", "m3"];
-
-/// lui x5, 0x10000: the address of the UART
-const LUI: u32 = 0x1000_02B7;
-
-/// addi x0, x0, 0: does nothing
-const NOP: u32 = 0x0000_0013;
-
-/// jal x0, 0: goes round in one place
-const STAY: u32 = 0x0000_006F;
-
-/// addi x6, x0, 65: the letter `A`. A letter more is this much more.
-const LETTER_A: u32 = 0x0410_0313;
-
-const LETTER_STEP: u32 = 0x0010_0000;
-
-/// sb x6, 0(x5): sends the byte in x6
-const SEND: u32 = 0x0062_8023;
-
-/// lui x5, 0x10000; lbu x6, 5(x5); andi x6, x6, 1; beq x6, x0, -8; lbu x7, 0(x5); sb x7, 0(x5);
-/// jal x0, 0: sends the first byte that it gets on
-const ECHO: [u32; 7] = [
-    LUI,
-    0x0052_C303,
-    0x0013_7313,
-    0xFE03_0CE3,
-    0x0002_C383,
-    0x0072_8023,
-    STAY,
-];
 
 /// A device of a board: its UART is 0 and its finisher is 1.
 fn device(board: BoardNo, dev: u8) -> Member
@@ -115,115 +84,32 @@ fn new_lab<D: Device>(rt: &impl Abort, alloc: Global, stock: Stock<D>) -> Result
     Ok(lab)
 }
 
-/// Adds a board of this name, and makes it by the plan.
-fn add<D: Device>(
-    rt: &impl Abort,
-    alloc: Global,
-    lab: &mut Lab<D>,
-    name: &str,
-) -> Result<BoardNo, Fail> {
-    assert!(rt; !lab.is_spent());
-    assert!(rt; is_name(name));
-    let b = lab.add_board(name)?;
-    let plan = plan(alloc)?;
-    assert!(rt; plan.is_valid());
-    assert!(rt; is_early(&plan));
-    assert!(rt; b.0 < lab.boards());
-    lab.fit(b, plan)?;
-    Ok(b)
-}
-
-/// The bytes of a program.
-fn bytes_of(alloc: Global, words: &[u32]) -> Result<Vec<u8>, Fail> {
-    let mut bytes = Vec::new(alloc);
-    for word in words {
-        bytes.extend_from_slice(&word.to_le_bytes())?;
+/// Takes the steps of each case, in a laboratory of its own.
+fn play_all(rt: &impl Abort, alloc: Global, cases: &[&[Step]]) -> Result<(), Fail> {
+    for steps in cases {
+        let counts = Counts::new();
+        let lab = new_lab(rt, alloc, stock(alloc, &counts)?)?;
+        play(rt, alloc, lab, steps)?;
     }
-    Ok(bytes)
-}
-
-/// Puts a program where a board's memory begins, and makes it the next to run.
-fn load<D: Device>(
-    rt: &impl Abort,
-    lab: &mut Lab<D>,
-    b: BoardNo,
-    program: &[u8],
-) -> Result<(), Fail> {
-    assert!(rt; !lab.is_spent());
-    assert!(rt; b.0 < lab.boards());
-    assert!(rt; lab.has_plan(b));
-    assert!(rt; program.len() < 0x1_0000);
-    assert!(rt; lab.board(b).holds(START, program.len() as u32));
-    lab.copy_in(b, START, program)?;
-    assert!(rt; b.0 < lab.boards());
-    assert!(rt; lab.has_plan(b));
-    lab.set_pc(b, START);
     Ok(())
 }
 
-/// Shows the UART of a board.
-fn show<D: Device>(rt: &impl Abort, lab: &mut Lab<D>, b: BoardNo) {
-    assert!(rt; !lab.is_spent());
-    assert!(rt; b.0 < lab.boards());
-    assert!(rt; lab.has_plan(b));
-    assert!(rt; matches!(lab.board(b).plan().kinds.items().first(), Some(Kind::Uart)));
-    lab.show(device(b, 0));
+#[test]
+fn programs_log_what_they_send_load_and_lose(rt: HostRuntime) -> Result<(), Fail> {
+    play_all(&rt, rt.alloc(), &PROGRAMS)
 }
 
-/// Boards m0, m1 and so on that run these programs, those from `first_shown` on shown, and all on
-/// one hub.
-fn lab_of(
-    rt: &impl Abort,
-    alloc: Global,
-    programs: &[Vec<u32>],
-    first_shown: u8,
-) -> Result<Lab<Chip>, Fail> {
-    let mut lab = new_lab(rt, alloc, stock(alloc)?)?;
-    for (name, words) in NAMES.into_iter().zip(programs) {
-        let b = add(rt, alloc, &mut lab, name)?;
-        let program = bytes_of(alloc, words)?;
-        load(rt, &mut lab, b, &program)?;
-        if first_shown <= b.0 {
-            show(rt, &mut lab, b);
-        }
-        connect(rt, &mut lab, device(b, 0))?;
-    }
-    Ok(lab)
+#[test]
+fn a_laboratory_is_changed_read_and_refused(rt: HostRuntime) -> Result<(), Fail> {
+    play_all(&rt, rt.alloc(), &[&CHANGES, &READ_AND_REFUSED])
 }
 
-/// Puts a device on the hub.
-fn connect<D: Device>(rt: &impl Abort, lab: &mut Lab<D>, member: Member) -> Result<(), Fail> {
-    assert!(rt; !lab.is_spent());
-    assert!(rt; lab.device_kind(member).is_some());
-    lab.connect(member, HUB)?;
+#[test]
+fn boards_take_the_devices_of_the_stock_in_order(rt: HostRuntime) -> Result<(), Fail> {
+    let counts = Counts::new();
+    let lab = new_lab(&rt, rt.alloc(), stock(rt.alloc(), &counts)?)?;
+    play(&rt, rt.alloc(), lab, &cases::STORES)?;
+    let stores = (counts.first.get(), counts.second.get(), counts.others.get());
+    assert_eq!(rt; stores, (1, 2, 0));
     Ok(())
-}
-
-/// Sends a letter in slot `at` alone, after as many instructions that do nothing as it takes.
-fn sender(alloc: Global, letter: u32, at: usize) -> Result<Vec<u32>, Fail> {
-    let mut words = Vec::new(alloc);
-    words.extend_from_slice(&[LUI, letter])?;
-    for _ in 2..at {
-        words.push(NOP)?;
-    }
-    words.extend_from_slice(&[SEND, STAY])?;
-    Ok(words)
-}
-
-/// The item of the log for a byte that a board sent.
-fn byte_sent(at: u64, board: u8, value: u8) -> LogItem {
-    let slot = Member0 {
-        at: Micros(at),
-        board: BoardNo(board),
-    };
-    LogItem::Slot(slot, What::Byte { dev: 0, value })
-}
-
-/// The item of the log for the `A` that a board sent.
-fn sent(at: u64, board: u8) -> LogItem {
-    byte_sent(at, board, b'A')
-}
-
-fn run<D: Device>(lab: &mut Lab<D>, d: u64) -> Result<RoundLog, Fail> {
-    Ok(lab.run_for(Micros(d))?)
 }

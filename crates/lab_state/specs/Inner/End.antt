@@ -1,20 +1,28 @@
 -- What a round comes to at its end.
-use Rattle.std.specs.Prelude.{ℕ, ◌+◌, List, ◌++◌, map}
+use Rattle.std.specs.Prelude.{ℕ, ◌+◌, List, ◌++◌, map, Option}
 use Rattle.std.specs.List.{flat_map}
+use Rattle.std.specs.Option.{option_map}
+use Rattle.lab_num.specs.declared.key.Key.{Key}
+use Rattle.dev_core.specs.Post.{post_key}
 use Rattle.log_merge.specs.declared.item.LogItem.{LogItem}
 use Rattle.lab_state.specs.Board.{Board}
-use Rattle.lab_state.specs.Boundary.{Boundary, boundary}
+use Rattle.lab_state.specs.Boundary.{boundary}
 use Rattle.lab_state.specs.Hub.{Hub}
 use Rattle.lab_state.specs.Round.{granted, stepped, posts_made, slot_items, pause_items}
 
--- the boundary after the slots of a round that begins at a microsecond and is so long
-abbrev pub end_of : ℕ → ℕ → List Hub → List Board → Boundary
-end_of from q hubs boards =
-    let grant = granted from (from + q) in
-    boundary (from + q) hubs (map (stepped grant) boards) (flat_map (posts_made grant) boards)
+-- the boards, the items of the log, and the pause that was asked for, if one was
+pub record Played : Type 0 where
+  pub boards : List Board
+  pub items : List LogItem
+  pub paused : Option Key
 
--- what the log says of the round
-abbrev pub items_of : ℕ → ℕ → List Hub → List Board → List LogItem
-items_of from q hubs boards =
-    let end = end_of from q hubs boards in
-    slot_items (granted from (from + q)) boards ++ end.notes ++ pause_items (from + q) end.pause
+-- what boards and hubs come to in a round that begins at a microsecond and is so long
+abbrev pub played : ℕ → ℕ → List Hub → List Board → Played
+played from q hubs boards =
+    let grant = granted from (from + q) in
+    let end = boundary (from + q) hubs (map (stepped grant) boards) (flat_map (posts_made grant) boards) in
+    record {
+      boards = end.boards;
+      items = slot_items grant boards ++ end.notes ++ pause_items (from + q) end.pause;
+      paused = option_map post_key end.pause;
+    }

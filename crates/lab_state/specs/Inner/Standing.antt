@@ -1,7 +1,7 @@
 -- What holds of every laboratory that is not spent.
-use Rattle.std.specs.Prelude.{◌≡◌, ℕ, ◌+◌, ◌*◌, ◌≤◌, List, [], ◌∷◌, ◌++◌, length, map, count_by, slice_get, Option}
-use Rattle.std.specs.Prelude.{Some, is_some, IsSome, option_and_then}
-use Rattle.std.specs.List.{AllByRecursion, IsDistinct}
+use Rattle.std.specs.Prelude.{◌≡◌, ℕ, ◌+◌, ◌*◌, ◌≤◌, List, [], ◌∷◌, length, map, count_by, slice_get, Option}
+use Rattle.std.specs.Prelude.{Some, false, is_some, IsSome, option_and_then}
+use Rattle.std.specs.List.{All, AllByRecursion, AllPairs}
 use Rattle.std.specs.Option.{option_map, ForSome}
 use Rattle.std.specs.Str.{bytes_eq}
 use Rattle.lab_num.specs.declared.key.Member.{Member}
@@ -9,6 +9,7 @@ use Rattle.dev_core.specs.declared.kind.Kind.{Kind}
 use Rattle.board.specs.Numbers.{Numbers}
 use Rattle.lab_state.specs.Board.{Board}
 use Rattle.lab_state.specs.Hub.{Hub}
+use Rattle.lab_state.specs.Lab.{Lab}
 use Rattle.lab_state.specs.Inner.Spares.{Spares, left_of, full}
 
 -- what no change of one board touches: its name, and the kinds of its devices if it has a plan
@@ -30,30 +31,40 @@ pub record IsStanding (most b : ℕ) (n : Numbers) : Type 0 where
   pub few_posts : n.posted ≤ most
   pub few_entries : n.entered ≤ most
 
--- boards that are numbered one after another from this number on
-abbrev pub AreStanding : ℕ → ℕ → List Board → Type 0
+-- the numbers of a board that has a plan
+abbrev pub number_of : Board → Option Numbers
+number_of board = option_map (λ v. v.numbers) board.view
+
+-- the numbers of boards that are numbered one after another from this number on
+abbrev pub AreStanding : ℕ → ℕ → List (Option Numbers) → Type 0
 AreStanding most first [] = Unit {0}
-AreStanding most first (board ∷ boards) =
-    ForSome board.view (λ v. IsStanding most first v.numbers) × AreStanding most (first + 1) boards
+AreStanding most first (n ∷ ns) = ForSome n (IsStanding most first) × AreStanding most (first + 1) ns
+
+-- a board after a change from outside: its name and its devices are the same, and it stands where it stood
+pub record IsKept (old new : Board) : Type 0 where
+  pub same : outline new ≡ outline old
+  pub stands : (most b : ℕ) → ForSome (number_of old) (IsStanding most b) → ForSome (number_of new) (IsStanding most b)
 
 -- the kind of a device, if its board has a plan and the device is one of it
+abbrev pub kind_of_outline : ℕ → Option Outline → Option Kind
+kind_of_outline dev o = option_and_then (λ kinds. slice_get kinds dev) (option_and_then (λ o. o.kinds) o)
+
 abbrev pub kind_in : List Outline → Member → Option Kind
-kind_in boards m =
-    option_and_then (λ kinds. slice_get kinds m.dev) (option_and_then (λ o. o.kinds) (slice_get boards m.board.0))
+kind_in boards m = kind_of_outline m.dev (slice_get boards m.board.0)
 
 abbrev pub IsDevice : List Outline → Member → Type 0
 IsDevice boards m = IsSome (kind_in boards m)
 
 -- all members of the hubs are devices of the hub's kind
 abbrev pub AreMembers : List Outline → Hub → Type 0
-AreMembers boards hub = AllByRecursion (λ m. kind_in boards m ≡ Some hub.kind) hub.members
+AreMembers boards hub = All (λ m. kind_in boards m ≡ Some hub.kind) hub.members
 
 abbrev pub AreDevices : List Outline → List Hub → Type 0
 AreDevices boards hubs = AllByRecursion (AreMembers boards) hubs
 
--- the names of the boards and of the hubs
-abbrev pub names_of : List Outline → List Hub → List (List ℕ)
-names_of boards hubs = map (λ board. board.name) boards ++ map (λ hub. hub.name) hubs
+-- no two of the names are one
+abbrev pub NamesDiffer : List (List ℕ) → Type 0
+NamesDiffer names = AllPairs (λ a b. bytes_eq a b ≡ false) names
 
 -- a time and a quantum that a laboratory may have
 pub record AreTimes (now quantum : ℕ) : Type 0 where
@@ -72,11 +83,13 @@ pub record IsEnough (spares : Spares) (plans : ℕ) : Type 0 where
   pub finishers : 16 ≤ spares.finishers + plans
 
 -- at most 16 boards under numbers of their own, of which no two have made two things under one number; hubs that
--- connect devices of these boards; names that differ; devices for the boards that have no plan yet
-pub record IsSound (boards : List Board) (hubs : List Hub) (spares : Spares) (now quantum : ℕ) : Type 0 where
-  pub few_boards : length boards ≤ 16
-  pub standing : AreStanding (1000 * now) 0 boards
-  pub devices : AreDevices (outlines boards) hubs
-  pub names : IsDistinct bytes_eq (names_of (outlines boards) hubs)
-  pub enough : IsEnough spares (count_of_plans (outlines boards))
-  pub times : AreTimes now quantum
+-- connect devices of these boards; no two boards and no two hubs of one name; devices for the boards that have no plan
+-- yet
+pub record IsSound (lab : Lab) (spares : Spares) : Type 0 where
+  pub few_boards : length lab.boards ≤ 16
+  pub standing : AreStanding (1000 * lab.now) 0 (map number_of lab.boards)
+  pub devices : AreDevices (outlines lab.boards) lab.hubs
+  pub board_names : NamesDiffer (map (λ board. board.name) lab.boards)
+  pub hub_names : NamesDiffer (map (λ hub. hub.name) lab.hubs)
+  pub enough : IsEnough spares (count_of_plans (outlines lab.boards))
+  pub times : AreTimes lab.now lab.quantum

@@ -1,85 +1,112 @@
 //! The devices of the boards.
 use dev_core::{DevState, Device, Effect, Kind, Payload, Stock, Taken};
 use std::alloc::Global;
+use std::cell::Cell;
 use std::test::Fail;
 use test_finisher::Finisher;
 use uart_16550::Uart;
 
-/// A UART or a finisher.
+/// A UART, with a count of the stores that it was handed, or a finisher.
 #[derive(Drop)]
-pub enum Chip {
-    Uart(Uart),
+pub enum Chip<'a> {
+    Uart(Uart, &'a Cell<u32>),
     Finisher(Finisher),
 }
 
-impl Device for Chip {
+impl<'a> Device for Chip<'a> {
     ghost use Rattle.dev_core.specs.declared.state.DevState.TheVariants as state;
     ghost use Rattle.lab_state.specs.declared.tests.chip.Chip.TheVariants.{Uart, Finisher};
 
-    ghost meaning = { elim [ Uart uart ↦ state.Uart uart | Finisher finisher ↦ state.Finisher ] };
+    ghost meaning = { elim [ Uart uart stores ↦ state.Uart uart | Finisher finisher ↦ state.Finisher ] };
 
     fn kind(&self) -> Kind {
         match self {
-            Chip::Uart(uart) => uart.kind(),
+            Chip::Uart(uart, _) => uart.kind(),
             Chip::Finisher(finisher) => finisher.kind(),
         }
     }
 
     fn load(&mut self, reg: u32, width: u8) -> u32 {
         match self {
-            Chip::Uart(uart) => uart.load(reg, width),
+            Chip::Uart(uart, _) => uart.load(reg, width),
             Chip::Finisher(finisher) => finisher.load(reg, width),
         }
     }
 
     fn store(&mut self, reg: u32, width: u8, value: u32) -> Effect {
         match self {
-            Chip::Uart(uart) => uart.store(reg, width, value),
+            Chip::Uart(uart, stores) => {
+                stores.set(stores.get().wrapping_add(1));
+                uart.store(reg, width, value)
+            }
             Chip::Finisher(finisher) => finisher.store(reg, width, value),
         }
     }
 
     fn take(&mut self, payload: &Payload) -> Taken {
         match self {
-            Chip::Uart(uart) => uart.take(payload),
+            Chip::Uart(uart, _) => uart.take(payload),
             Chip::Finisher(finisher) => finisher.take(payload),
         }
     }
 
     fn line(&self) -> bool {
         match self {
-            Chip::Uart(uart) => uart.line(),
+            Chip::Uart(uart, _) => uart.line(),
             Chip::Finisher(finisher) => finisher.line(),
         }
     }
 
     fn reset(&mut self) {
         match self {
-            Chip::Uart(uart) => uart.reset(),
+            Chip::Uart(uart, _) => uart.reset(),
             Chip::Finisher(finisher) => finisher.reset(),
         }
     }
 
     fn state(&self) -> DevState {
         match self {
-            Chip::Uart(uart) => uart.state(),
+            Chip::Uart(uart, _) => uart.state(),
             Chip::Finisher(finisher) => finisher.state(),
         }
     }
 
     fn put(&mut self, state: &DevState) -> bool {
         match self {
-            Chip::Uart(uart) => uart.put(state),
+            Chip::Uart(uart, _) => uart.put(state),
             Chip::Finisher(finisher) => finisher.put(state),
         }
     }
 }
 
+/// How many stores the first UART of a stock, the second and all others were handed.
+#[derive(Drop)]
+pub struct Counts {
+    pub first: Cell<u32>,
+    pub second: Cell<u32>,
+    pub others: Cell<u32>,
+}
+
+impl Counts {
+    pub fn new() -> Counts {
+        Counts {
+            first: Cell::new(0),
+            second: Cell::new(0),
+            others: Cell::new(0),
+        }
+    }
+}
+
 /// The devices of a full stock.
-pub fn stock(alloc: Global) -> Result<Stock<Chip>, Fail> {
+pub fn stock(alloc: Global, counts: &Counts) -> Result<Stock<Chip<'_>>, Fail> {
     let mut uarts = Vec::new(alloc);
-    for _ in 0..64 {
-        uarts.push(Chip::Uart(Uart::new()))?;
+    for n in 0..64 {
+        let stores = match n {
+            0 => &counts.first,
+            1 => &counts.second,
+            _ => &counts.others,
+        };
+        uarts.push(Chip::Uart(Uart::new(), stores))?;
     }
     let mut finishers = Vec::new(alloc);
     for _ in 0..16 {

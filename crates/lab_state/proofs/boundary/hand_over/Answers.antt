@@ -10,7 +10,7 @@ use Rattle.lab_state.specs.Board.{Board}
 use Rattle.lab_state.specs.Boundary.{Handed, note_item, note_by, to_member}
 use Rattle.lab_state.specs.One.{with_view}
 use Rattle.lab_state.proofs.ListLemmas.{set-change}
-use Rattle.lab_state.proofs.RoundLemmas.{still_device, board-within, device-within}
+use Rattle.lab_state.proofs.RoundLemmas.{still_device, deliverable}
 use Rattle.lab_state.proofs.boundary.hand_over.Goals as goal
 
 abbrev nobody : Member
@@ -24,11 +24,7 @@ deliver-note-requires g c =
     let is =
     still_device start c.args.at.0 c.args.payload.now (take i c.args.to.now) c.args.to.now i nobody
     (ap (λ (h : Handed). h.boards) c.loop-member.invariant) c.requires c.loop-member-test.true in
-    let found =
-    slice_get-get_or c.loop-member.boards m.board.0 c.index-boards-member.result
-    (board-within c.loop-member.boards m is) in
-    let board = get_or c.loop-member.boards m.board.0 c.index-boards-member.result in
-    λ v view. device-within c.loop-member.boards m board v is found view
+    (deliverable c.loop-member.boards m c.index-boards-member.result is).1
 
 pub loop-member-preserved : goal.loop-member-preserved
 loop-member-preserved g c =
@@ -38,9 +34,8 @@ loop-member-preserved g c =
     let is =
     still_device start c.args.at.0 c.args.payload.now (take i c.args.to.now) c.args.to.now i nobody
     (ap (λ (h : Handed). h.boards) c.loop-member.invariant) c.requires c.loop-member-test.true in
-    let found =
-    slice_get-get_or c.loop-member.boards m.board.0 c.index-boards-member.result
-    (board-within c.loop-member.boards m is) in
+    let can = deliverable c.loop-member.boards m c.index-boards-member.result is in
+    let found = slice_get-get_or c.loop-member.boards m.board.0 c.index-boards-member.result can.0 in
     let now : Handed = record { boards = c.loop-member.boards; notes = c.loop-member.notes.items } in
     let b = m.board.0 in
     let step = with_view (λ v. handed v m.dev c.args.payload.now) in

@@ -2,29 +2,25 @@
 use Rattle.std.proofs.Common.{◌≡◌, ◌∙◌, sym, ap, ◌+◌, ◌*◌, ◌<◌, ◌++◌, length, set, get_or, arith}
 use Rattle.std.proofs.lemmas.List.Edits.{map_over_more}
 use Rattle.log_merge.specs.Merge.{all_entries}
+use Rattle.std.specs.Option.{option_map}
+use Rattle.board.specs.View.{View}
 use Rattle.lab_state.specs.Board.{Board}
 use Rattle.lab_state.specs.Round.{granted, stepped, posts_made, entries_made}
-use Rattle.lab_state.proofs.ListLemmas.{not_yet, flat_map_more}
+use Rattle.lab_state.proofs.ListLemmas.{not_yet, one_more}
 use Rattle.lab_state.proofs.RoundLemmas.{standing_next}
 use Rattle.lab_state.proofs.round.step_all.Goals as goal
 
-pub step-requires-clause-posts : goal.step-requires-clause-posts
-step-requires-clause-posts g c =
-    let step = stepped (granted c.args.from.0 (c.args.from.0 + c.args.q)) in
+pub step-requires-clause-made : goal.step-requires-clause-made
+step-requires-clause-made g c =
     let below : c.loop-board.board-index < length c.args.boards.now = omega arith in
     let stands =
-    standing_next step (1000 * c.args.from.0) c.args.boards.now c.loop-board.boards c.loop-board.board-index
-    c.board-item.result c.loop-board.invariant.boards below c.requires.standing in
-    λ v at. omega (arith, (stands v at).few_posts, c.requires.within)
-
-pub step-requires-clause-entries : goal.step-requires-clause-entries
-step-requires-clause-entries g c =
-    let step = stepped (granted c.args.from.0 (c.args.from.0 + c.args.q)) in
-    let below : c.loop-board.board-index < length c.args.boards.now = omega arith in
-    let stands =
-    standing_next step (1000 * c.args.from.0) c.args.boards.now c.loop-board.boards c.loop-board.board-index
-    c.board-item.result c.loop-board.invariant.boards below c.requires.standing in
-    λ v at. omega (arith, (stands v at).few_entries, c.requires.within)
+    standing_next (stepped (granted c.args.from.0 (c.args.from.0 + c.args.q))) (1000 * c.args.from.0) c.args.boards.now
+    c.loop-board.boards c.loop-board.board-index c.board-item.result c.loop-board.invariant.boards below
+    c.requires.standing in
+    λ v at. let is = stands v.numbers (ap (option_map (λ (v : View). v.numbers)) at) in (
+      omega (arith, is.few_posts, c.requires.within),
+      omega (arith, is.few_entries, c.requires.within),
+    )
 
 pub loop-board-preserved : goal.loop-board-preserved
 loop-board-preserved g c =
@@ -41,11 +37,11 @@ loop-board-preserved g c =
           ∙ map_over_more (stepped grant) old c.loop-board.boards i item below c.loop-board.invariant.boards
           c.board-item.is;
       posts =
-          flat_map_more (posts_made grant) c.args.made.now.posts.items old i item below c.loop-board.invariant.posts
+          one_more (posts_made grant) c.args.made.now.posts.items old i item below c.loop-board.invariant.posts
           (c.in_ok-step.ensures.posts ∙ ap
           (λ (board : Board). c.loop-board.made.posts.items ++ posts_made grant board) same);
       entries =
-          flat_map_more (entries_made grant)
+          one_more (entries_made grant)
           (all_entries c.args.made.now.entries.items) old i item below c.loop-board.invariant.entries
           (c.in_ok-step.ensures.entries ∙ ap
           (λ (board : Board). all_entries c.loop-board.made.entries.items ++ entries_made grant board) same);

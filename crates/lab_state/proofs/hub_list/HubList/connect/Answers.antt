@@ -1,5 +1,6 @@
 -- The hubs have the members in their order.
-use Rattle.std.proofs.Common.{◌∙◌, ap, arith}
+use Rattle.std.proofs.Common.{◌≡◌, ◌∙◌, sym, ap, length, arith}
+use Rattle.std.proofs.lemmas.Grind.{common_steps}
 use Rattle.std.proofs.lemmas.Result.{on_ok_weaker}
 use Rattle.lab_state.specs.Change.{change_at}
 use Rattle.lab_state.specs.One.{with_member}
@@ -7,20 +8,20 @@ use Rattle.lab_state.specs.Inner.Hubs.{hubs_of}
 use Rattle.lab_state.proofs.HubLemmas.{parts, hubs-connected}
 use Rattle.lab_state.proofs.hub_list.HubList.connect.Goals as goal
 
-pub overflow_cast-n : goal.overflow_cast-n
-overflow_cast-n c =
-    omega (arith, (parts c.self.view_is c.self.invariant.0).long, c.self.invariant.0, c.self.invariant.1)
-
-pub connect-requires : goal.connect-requires
-connect-requires c = omega (arith, (parts c.self.view_is c.self.invariant.0).long, c.self.invariant.0)
+pub invariant_of-self : goal.invariant_of-self
+invariant_of-self c =
+    let are = c.self.invariant.0 in
+    let long : length c.connect.new.self ≡ length c.self.inside.uarts = grind (arith, common_steps) in (
+      parts _ _ (omega (arith, long, are.names_long, are.members_long)),
+      omega (arith, long, c.self.invariant.1),
+    )
 
 pub returns-clause-ok : goal.returns-clause-ok
 returns-clause-ok c =
+    let are = c.self.invariant.0 in
     on_ok_weaker c.connect.result
     (λ made. ap (hubs_of c.self.inside.names.items) made
-    ∙ hubs-connected c.self.inside.names.items c.self.inside.uarts c.args.n c.args.member c.self.invariant.0
+    ∙ hubs-connected c.self.inside.names.items c.self.inside.uarts c.args.n c.args.member
+    (sym are.names_long ∙ are.members_long)
     ∙ ap (λ hubs. change_at hubs c.args.n (with_member c.args.member)) c.self.view_is)
     c.connect.ensures.ok
-
-pub returns-clause-already : goal.returns-clause-already
-returns-clause-already c = rw (parts c.self.view_is c.self.invariant.0).members_are c.connect.ensures.already

@@ -4,11 +4,8 @@ use Rattle.std.proofs.lemmas.Option.{slice_get-map, slice_get_read}
 use Rattle.std.specs.Option.{option_map}
 use Rattle.lab_state.specs.declared.hub_list.HubName.{HubName}
 use Rattle.lab_state.specs.Hub.{Hub}
-use Rattle.lab_state.proofs.HubLemmas.{name_of, parts}
+use Rattle.lab_state.specs.Inner.Hubs.{name_of}
 use Rattle.lab_state.proofs.hub_list.HubList.head.Goals as goal
-
-pub index-requires : goal.index-requires
-index-requires c = omega (arith, (parts c.self.view_is c.self.invariant.0).long)
 
 part :
     {X : Type 0} (q : HubName → X) (o : Option Hub) →
@@ -21,8 +18,8 @@ at :
     {X : Type 0} (q : HubName → X) (c : goal.After-index) →
     Some (q c.index.result.now) ≡ option_map (λ hub. q (name_of hub)) (slice_get c.args.self.now c.args.n)
 at q c =
-    let are = parts c.self.view_is c.self.invariant.0 in
-    let below : c.args.n < length c.self.inside.names.items = omega (arith, are.long) in
+    let are = rw c.self.view_is at c.self.invariant.0 in
+    let below : c.args.n < length c.self.inside.names.items = omega (arith, are.names_long) in
     ap (option_map q)
     (sym (slice_get_read c.self.inside.names.items _ c.args.n c.index.result.now refl below c.index.ensures)
     ∙ ap (λ (names : List HubName). slice_get names c.args.n) (sym are.names_are)

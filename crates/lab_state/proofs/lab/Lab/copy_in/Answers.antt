@@ -1,12 +1,11 @@
 -- What is written is no part of what holds of the laboratory.
-use Rattle.std.proofs.Common.{refl, ◌*◌, List, ℕ, take, Result, Ok, Err, OnOk}
+use Rattle.std.proofs.Common.{take, Result, Ok, Err, OnOk}
 use Rattle.std.specs.Prelude.{OnErr}
 use Rattle.std.proofs.lemmas.Result.{on_ok_weaker, on_err_weaker}
 use Rattle.board.specs.Changes.{with_bytes}
-use Rattle.lab_state.specs.One.{view_at, with_view}
-use Rattle.lab_state.proofs.ListLemmas.{set-change}
-use Rattle.lab_state.proofs.SoundLemmas.{sound-change, keeps_standing}
-use Rattle.lab_state.proofs.ChangeLemmas.{bytes-plan}
+use Rattle.lab_state.specs.One.{with_view}
+use Rattle.lab_state.proofs.SoundLemmas.{sound-set, seen_set}
+use Rattle.lab_state.proofs.ChangeLemmas.{bytes-kept}
 use Rattle.lab_state.proofs.lab.Lab.copy_in.Goals as goal
 
 either : {T E P Q C : Type 0} (r : Result T E) → OnOk r P → OnErr r Q → (P → C) → (Q → C) → C
@@ -15,27 +14,18 @@ either (Err e) p q first second = second q
 
 pub invariant_of-self : goal.invariant_of-self
 invariant_of-self g c h =
-    let items = c.self.inside.boards.items in
-    let sound = λ (bytes : List ℕ). sound-change (λ v. with_bytes v c.args.at bytes) c.args.b.0
-    (bytes-plan c.args.at bytes)
-    (keeps_standing (1000 * c.self.inside.time.0) (λ v. with_bytes v c.args.at bytes) (view_at items c.args.b.0)
-    (λ v. refl))
-    (c.self.invariant h) in
     either c.copy_in.result c.copy_in.ensures.ok c.copy_in.ensures.err
-    (λ made. rw (set-change (with_view (λ v. with_bytes v c.args.at c.args.bytes.now)) items c.args.b.0
-    c.index_mut.ensures.value made) (sound c.args.bytes.now))
-    (λ made. rw (set-change (with_view (λ v. with_bytes v c.args.at (take made.0 c.args.bytes.now))) items c.args.b.0
-    c.index_mut.ensures.value made.1.1) (sound (take made.0 c.args.bytes.now)))
+    (λ made. rw made
+    (sound-set c.args.b.0 c.index_mut.ensures.value (bytes-kept c.args.at c.args.bytes.now _) (c.self.invariant h)))
+    (λ made. rw made.1.1
+    (sound-set c.args.b.0 c.index_mut.ensures.value (bytes-kept c.args.at (take made.0 c.args.bytes.now) _)
+    (c.self.invariant h)))
 
 pub returns-clause-ok : goal.returns-clause-ok
 returns-clause-ok g c =
     on_ok_weaker c.copy_in.result
-    (λ made. rw (
-      ← c.self.view_is,
-      set-change
-          (with_view (λ v. with_bytes v c.args.at c.args.bytes.now)) c.self.inside.boards.items c.args.b.0
-          c.index_mut.ensures.value made,
-    ) refl)
+    (seen_set (with_view (λ v. with_bytes v c.args.at c.args.bytes.now)) c.args.b.0 c.self.view_is
+    c.index_mut.ensures.value)
     c.copy_in.ensures.ok
 
 pub returns-clause-err : goal.returns-clause-err
@@ -45,12 +35,8 @@ returns-clause-err g c =
       made.0,
       (
         made.1.0,
-        rw (
-          ← c.self.view_is,
-          set-change
-              (with_view (λ v. with_bytes v c.args.at (take made.0 c.args.bytes.now))) c.self.inside.boards.items
-              c.args.b.0 c.index_mut.ensures.value made.1.1,
-        ) refl,
+        seen_set (with_view (λ v. with_bytes v c.args.at (take made.0 c.args.bytes.now))) c.args.b.0 c.self.view_is
+            c.index_mut.ensures.value made.1.1,
       ),
     ))
     c.copy_in.ensures.err

@@ -1,10 +1,8 @@
 -- There are devices for the plan, and they are there again where it is refused.
-use Rattle.std.proofs.Common.{◌≡◌, ◌∙◌, ap, refl, false, ◌<◌, length, map, Some, arith}
-use Rattle.board.specs.New.{first_state, new_board}
+use Rattle.std.proofs.Common.{◌≡◌, ◌∙◌, ap, false, ◌<◌, length, Some, arith}
+use Rattle.board.specs.New.{new_board}
 use Rattle.board.specs.View.{State}
-use Rattle.lab_state.proofs.ListLemmas.{set-change}
-use Rattle.lab_state.proofs.FitLemmas.{not_planned, has-for, with_new, sound-fit, kinds-first, all-reset, room-for}
-use Rattle.lab_state.proofs.FitLemmas.{sound-back}
+use Rattle.lab_state.proofs.SoundLemmas.{not_planned, seen_set, has-for, sound-fit, room-for, sound-back}
 use Rattle.lab_state.proofs.lab.Lab.fit.Goals as goal
 
 pub take-requires : goal.take-requires
@@ -25,41 +23,27 @@ invariant_of-self-in-Ok g c h =
     c.if-has_plan.false in
     let below : c.args.board.0 < length c.self.inside.boards.items =
     omega (arith, ap (λ s. length s.lab.boards) c.self.view_is, c.requires.exists) in
-    let taken = rw c.items.ensures at c.in_ok-devices.ensures.left in
-    let v = new_board c.args.board.0 c.args.plan in
-    let made = set-change (with_new v) c.self.inside.boards.items c.args.board.0 c.index_mut.ensures.value
-    (c.fit.ensures ∙ ap (λ (s : State). record c.index_mut.result.now { view = Some s.view }) c.in-Ok.ensures.state) in
-    rw made (sound-fit c.take.new.self c.args.board.0 c.args.plan (c.self.invariant h) below none c.requires.plan taken)
+    rw (c.fit.ensures, c.in-Ok.ensures.state)
+    (sound-fit c.args.board.0 c.args.plan (c.self.invariant h) below none c.requires.plan c.take.new.self
+    c.index_mut.ensures.value (rw c.items.ensures at c.in_ok-devices.ensures.left))
 
 pub returns-in-Ok-clause-ok : goal.returns-in-Ok-clause-ok
 returns-in-Ok-clause-ok g c =
     let v = new_board c.args.board.0 c.args.plan in
-    let made = set-change (with_new v) c.self.inside.boards.items c.args.board.0 c.index_mut.ensures.value
-    (c.fit.ensures ∙ ap (λ (s : State). record c.index_mut.result.now { view = Some s.view }) c.in-Ok.ensures.state) in
-    rw (← c.self.view_is, made) refl
+    seen_set (λ board. record board { view = Some v }) c.args.board.0 c.self.view_is c.index_mut.ensures.value
+    (c.fit.ensures ∙ ap (λ (s : State). record c.index_mut.result.now { view = Some s.view }) c.in-Ok.ensures.state)
 
 pub give_back-requires-clause-reset : goal.give_back-requires-clause-reset
-give_back-requires-clause-reset g c =
-    let states =
-    ap (map g.D.Device.meaning) c.in-Err.ensures.back ∙ c.in_ok-devices.ensures.devices
-    ∙ ap (map first_state) c.items.ensures in
-    all-reset g.D.Device.meaning c.in-Err.devices.items c.args.plan.kinds states
+give_back-requires-clause-reset g c = rw c.in-Err.ensures.back c.in_ok-devices.ensures.reset
 
 pub give_back-requires-clause-room : goal.give_back-requires-clause-room
 give_back-requires-clause-room g c =
     let unspent : c.self.inside.spent ≡ false = ap (λ s. s.spent) c.self.view_is ∙ c.requires.unspent in
-    let taken = rw c.items.ensures at c.in_ok-devices.ensures.left in
-    let states =
-    ap (map g.D.Device.meaning) c.in-Err.ensures.back ∙ c.in_ok-devices.ensures.devices
-    ∙ ap (map first_state) c.items.ensures in
-    rw (states, kinds-first c.args.plan.kinds)
-    (room-for c.take.new.self c.args.plan.kinds (c.self.invariant unspent) taken)
+    rw (c.in-Err.ensures.back, c.in_ok-devices.ensures.kinds)
+    (room-for c.take.new.self c.items.result.now (c.self.invariant unspent) c.in_ok-devices.ensures.left)
 
 pub invariant_of-self-in-Err : goal.invariant_of-self-in-Err
 invariant_of-self-in-Err g c h =
-    let taken = rw c.items.ensures at c.in_ok-devices.ensures.left in
-    let states =
-    ap (map g.D.Device.meaning) c.in-Err.ensures.back ∙ c.in_ok-devices.ensures.devices
-    ∙ ap (map first_state) c.items.ensures in
-    let given = rw (states, kinds-first c.args.plan.kinds) at c.give_back.ensures in
-    sound-back c.take.new.self c.give_back.new.self c.args.plan.kinds (c.self.invariant h) taken given
+    sound-back c.take.new.self c.give_back.new.self c.items.result.now (c.self.invariant h)
+    c.in_ok-devices.ensures.left
+    (rw (c.in-Err.ensures.back, c.in_ok-devices.ensures.kinds) at c.give_back.ensures)
