@@ -1,5 +1,6 @@
 pub mod CopyLemmas
 pub mod FitLemmas
+pub mod LineLemmas
 pub mod ListLemmas
 pub mod NumberLemmas
 pub mod PlanLemmas

@@ -6,7 +6,7 @@ ghost use Rattle.board.specs.New.{first_state};
 mod counted;
 mod programs;
 
-use crate::{Board, SlotAt, Turn, is_early};
+use crate::{Board, SlotAt, Turn, has_no_cans};
 use dev_core::{Device, Entry, Finish, Kind, Payload, Post, Taken, What};
 use lab_num::{BoardNo, Key, Member, Micros, NoMemory, PostNo, Rows, Text};
 use std::alloc::Global;
@@ -134,7 +134,7 @@ fn start<D: Device>(
     requires second { D.meaning devices.1 ≡ first_state second }
 {
     assert!(rt; plan.is_valid());
-    assert!(rt; is_early(&plan));
+    assert!(rt; has_no_cans(&plan));
     let mut list = Vec::new(alloc);
     if list.push(devices.0).is_err() || list.push(devices.1).is_err() {
         return Err(Fail::from(NoMemory));

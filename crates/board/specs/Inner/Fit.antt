@@ -1,16 +1,21 @@
 -- What the space of a board keeps, and where an access lies in it.
-use Rattle.std.specs.Prelude.{◌≡◌, ℕ, ◌+◌, ◌≤◌, ◌<◌, length, map, All}
+use Rattle.std.specs.Prelude.{◌≡◌, ℕ, ◌+◌, ◌≤◌, ◌<◌, length, map, All, Option, None, Some, option_map}
 use Rattle.dev_core.specs.Device.{kind_of, IsValid as IsValidState}
 use Rattle.page_ram.specs.Access.{IsInOnePage}
+use Rattle.plic.specs.declared.state.PlicState.{PlicState}
+use Rattle.plic.specs.State.{Controller, IsPlicState}
 use Rattle.sys_bus.specs.declared.region.Target.{Target}
 use Rattle.sys_bus.specs.declared.region.Target.TheVariants.{Ram, Clint, Plic, Dev, Nothing}
 use Rattle.sys_bus.specs.Plan.{IsValid}
+use Rattle.board.specs.New.{size_of}
 use Rattle.board.specs.Space.{Space, memory_at}
 
--- memories and devices are those of the plan
+-- memories, timer, interrupt controller and devices are those of the plan
 pub record IsFit (s : Space) : Type 0 where
   pub plan : IsValid s.plan
   pub sizes : map length s.memories ≡ s.plan.memories
+  pub timer : option_map (λ c. c.frequency) s.timer ≡ s.plan.frequency
+  pub controller : option_map size_of s.controller ≡ s.plan.plic
   pub kinds : map (λ f. kind_of f.state) s.devices ≡ s.plan.kinds
   pub states : All (λ f. IsValidState f.state) s.devices
 
@@ -29,3 +34,14 @@ IsInPage width (Dev dev at) = Unit {0}
 IsInPage width (Clint at) = Unit {0}
 IsInPage width (Plic at) = Unit {0}
 IsInPage width Nothing = Unit {0}
+
+-- a state that an interrupt controller can have, where there is one, and the controller in it
+abbrev pub IsStateOf : Option Controller → Option PlicState → Type 0
+IsStateOf (Some c) (Some state) = IsPlicState c.sources c.contexts state
+IsStateOf (Some c) None = Unit {0}
+IsStateOf None state = Unit {0}
+
+abbrev pub in_state : Option Controller → Option PlicState → Option Controller
+in_state (Some c) (Some state) = Some (record c { state = state })
+in_state (Some c) None = Some c
+in_state None state = None
