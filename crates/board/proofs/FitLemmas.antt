@@ -213,6 +213,31 @@ fit_device s dev fitted d fit same valid = record {
   states = All-set (λ f. IsValidState f.state) s.devices dev fitted fit.states valid;
 }
 
+-- a timer or an interrupt controller has changed, but for its frequency or its size
+pub fit_timer :
+    (s : Space) (timer : Option Timer) → IsFit s →
+    option_map (λ c. c.frequency) timer ≡ option_map (λ c. c.frequency) s.timer → IsFit (record s { timer = timer })
+fit_timer s timer fit kept = record {
+  plan = fit.plan;
+  sizes = fit.sizes;
+  timer = kept ∙ fit.timer;
+  controller = fit.controller;
+  kinds = fit.kinds;
+  states = fit.states;
+}
+
+pub fit_controller :
+    (s : Space) (controller : Option Controller) → IsFit s →
+    option_map size_of controller ≡ option_map size_of s.controller → IsFit (record s { controller = controller })
+fit_controller s controller fit kept = record {
+  plan = fit.plan;
+  sizes = fit.sizes;
+  timer = fit.timer;
+  controller = kept ∙ fit.controller;
+  kinds = fit.kinds;
+  states = fit.states;
+}
+
 -- reset states are valid
 valid_reset : (s : DevState) → IsValidState (dev_reset s)
 valid_reset (state.Uart u) = search rules

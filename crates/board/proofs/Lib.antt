@@ -5,4 +5,5 @@ pub mod ListLemmas
 pub mod NumberLemmas
 pub mod PlanLemmas
 pub mod SlotLemmas
+pub mod SourceLemmas
 pub mod StretchLemmas

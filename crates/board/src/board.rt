@@ -1,12 +1,13 @@
 //! The board: its slots, and what they make.
 ghost use Rattle.std.specs.Prelude.{◌≡◌, ◌≢◌, ℕ, ◌+◌, ◌/◌, ◌%◌, ◌<◌, ◌≤◌, ◌^◌, [], true, length, drop, map, All};
-ghost use Rattle.std.specs.Prelude.{slice_get, slice_index_or, OnOk, OnErr, IfOk, IfErr, IsTrue};
+ghost use Rattle.std.specs.Prelude.{slice_get, slice_index_or, option_map, OnOk, OnErr, IfOk, IfErr, IsTrue};
 
 use crate::numbers::Numbers;
 use crate::space::Space;
 use crate::wires::Wires;
 use dev_core::{Device, Entry, Payload, Post, Taken};
 use lab_num::{BoardNo, Micros, NoMemory};
+use plic::PlicState;
 use rv_exec::step;
 use rv_hart::{Hart, Lines};
 use std::alloc::Global;
@@ -61,6 +62,7 @@ impl<D: Device> Board<D> {
     ghost use Rattle.board.specs.Changes.{WritesPrefix, holds_each, word_held, taken_by, handed};
     ghost use Rattle.board.specs.Space.{device_at};
     ghost use Rattle.board.specs.View.{quiet, after};
+    ghost use Rattle.board.specs.Inner.Fit.{IsStateOf, with_controller};
     ghost use Rattle.board.specs.Lines.{sampled, lines_of};
     ghost use Rattle.board.specs.Slot.{slot, running, sampling, awake, asleep};
     ghost use Rattle.page_ram.specs.Bytes.{zeros};
@@ -178,6 +180,30 @@ impl<D: Device> Board<D> {
         }
     }
 
+    /// The state of the interrupt controller, where there is one.
+    fn controller_state(&self) -> Option<PlicState>
+        ensures value { result ≡ option_map (λ c. c.state) self.now.view.space.controller }
+        ensures valid { IsStateOf self.now.view.space.controller result }
+    {
+        self.wires.space.controller_state()
+    }
+
+    /// The interrupt controller samples its sources, and the lines are read.
+    fn sample(&mut self, at: Micros) -> Lines
+        ensures after { self.new ≡ record self.old { view = sampling self.old.view } }
+        ensures lines { result ≡ lines_of (sampled self.old.view.space) at.0 }
+    {
+        self.wires.space.sample(at)
+    }
+
+    /// Puts the interrupt controller back into a state that it had.
+    fn put_controller(&mut self, state: &Option<PlicState>)
+        requires { IsStateOf self.old.view.space.controller state.now }
+        ensures { self.new ≡ record self.old { view = with_controller self.old.view state.now } }
+    {
+        self.wires.space.put_controller(state);
+    }
+
     /// The rest of a slot in which the interrupt controller has to sample. After an `Err` the
     /// board is as before, the controller too.
     #[cold]
@@ -187,10 +213,10 @@ impl<D: Device> Board<D> {
             (running (sampling self.old.view) at.0 (lines_of (sampled self.old.view.space) at.0))) }
         ensures err { OnErr result (self.new ≡ self.old) }
     {
-        let before = self.wires.space.controller_state();
-        let lines = self.wires.space.sample(at);
+        let before = self.controller_state();
+        let lines = self.sample(at);
         let Ok(()) = self.run(at, lines) else {
-            self.wires.space.put_controller(&before);
+            self.put_controller(&before);
             return Err(NoMemory);
         };
         Ok(())

@@ -9,6 +9,7 @@ use Rattle.sys_bus.specs.declared.region.Target.TheVariants.{Ram, Clint, Plic, D
 use Rattle.sys_bus.specs.Plan.{IsValid}
 use Rattle.board.specs.New.{size_of}
 use Rattle.board.specs.Space.{Space, memory_at}
+use Rattle.board.specs.View.{View}
 
 -- memories, timer, interrupt controller and devices are those of the plan
 pub record IsFit (s : Space) : Type 0 where
@@ -45,3 +46,7 @@ abbrev pub in_state : Option Controller → Option PlicState → Option Controll
 in_state (Some c) (Some state) = Some (record c { state = state })
 in_state (Some c) None = Some c
 in_state None state = None
+
+abbrev pub with_controller : View → Option PlicState → View
+with_controller v state =
+    record v { space = record v.space { controller = in_state v.space.controller state } }

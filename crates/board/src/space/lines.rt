@@ -2,15 +2,16 @@
 ghost use Rattle.std.specs.Prelude.{◌≡◌, ◌<◌, ◌≤◌, ◌^◌, ◌==◌, ◌||◌, ℕ, IfSome};
 ghost use Rattle.plic.specs.Sources.{has};
 ghost use Rattle.board.specs.Lines.{software_up, timer_up, context_up, device_up, is_up, pin_up, pending, mip_of};
-ghost use Rattle.board.specs.Lines.{mtime_of, lines_of, ends_at_pin, is_from_device, sources_up, sampled};
+ghost use Rattle.board.specs.Lines.{mtime_of, lines_of, ends_at_pin, is_from_device, brings_source_up, sources_up, sampled};
 
 use super::Space;
+use super::interrupts::sample;
 use crate::remembered::Remembered;
 use dev_core::Device;
 use lab_num::Micros;
 use plic::{second_samples_change_nothing, sets_have_what_passes};
 use rv_hart::Lines;
-use sys_bus::{WireFrom, WirePin};
+use sys_bus::{Wire, WireFrom, WirePin};
 
 /// The bits of the software, the timer and the external interrupt of machine mode in `mip`.
 const SOFTWARE: u8 = 3;
@@ -19,12 +20,11 @@ const TIMER: u8 = 7;
 
 const EXTERNAL: u8 = 11;
 
-/// The set of sources with one more.
+/// The set of sources with one more. There are none from 128 on.
 fn with_source(set: u128, source: u8) -> u128
-    requires { source < 128 }
-    ensures { (s : ℕ) → s < 128 → has result s ≡ (has set s || (s == source)) }
+    ensures { (s : ℕ) → s < 128 → has result s ≡ (has set s || (source == s)) }
 {
-    set | 1 << source
+    if source < 128 { set | 1 << source } else { set }
 }
 
 /// Whether a wire ends at a pin of the processor.
@@ -118,22 +118,6 @@ impl<D: Device> Space<D> {
         }
     }
 
-    /// The sources of the interrupt controller whose lines are up.
-    fn sources_up(&self) -> u128
-        ensures { result ≡ sources_up self.now }
-    {
-        sets_have_what_passes();
-        let mut set = 0;
-        for wire in self.plan.wires.items() {
-            if let WirePin::Source(source) = wire.pin {
-                if self.is_from_device(wire.from) {
-                    set = with_source(set, source);
-                }
-            }
-        }
-        set
-    }
-
     fn is_from_device(&self, from: WireFrom) -> bool
         ensures { result ≡ is_from_device self.now from }
     {
@@ -141,6 +125,29 @@ impl<D: Device> Space<D> {
             WireFrom::Dev(dev) => self.is_device_up(dev),
             _ => false,
         }
+    }
+
+    /// The set with the source that a wire brings up, if it does.
+    fn with_wire(&self, set: u128, wire: &Wire) -> u128
+        ensures { (s : ℕ) → s < 128 → has result s ≡ (has set s || brings_source_up self.now s wire.now) }
+    {
+        match wire.pin {
+            WirePin::Source(source) if self.is_from_device(wire.from) => with_source(set, source),
+            _ => set,
+        }
+    }
+
+    /// The sources of the interrupt controller whose lines are up.
+    fn sources_up(&self) -> u128
+        ensures { result ≡ sources_up self.now }
+    {
+        sets_have_what_passes();
+        let wires = self.plan.wires.items();
+        let mut set = 0;
+        for wire in wires {
+            set = self.with_wire(set, wire);
+        }
+        set
     }
 
     /// The interrupt controller samples its sources. To sample them again changes nothing.
@@ -151,9 +158,7 @@ impl<D: Device> Space<D> {
         second_samples_change_nothing();
         let sources = self.sources_up();
         self.remembered = None;
-        if let Some(controller) = &mut self.controller {
-            controller.sample(sources);
-        }
+        sample(&mut self.controller, sources);
     }
 
     /// Samples and reads the lines, and remembers them.

@@ -1,7 +1,12 @@
 use Rattle.std.proofs.Common.{◌∙◌, ap}
 use Rattle.sys_bus.specs.Region.{target_of}
-use Rattle.board.proofs.FitLemmas.{in_page}
+use Rattle.board.proofs.FitLemmas.{in_page, lies}
 use Rattle.board.proofs.space.Space.find.Goals as goal
+
+pub returns-clause-lies : goal.returns-clause-lies
+returns-clause-lies g c =
+    rw (← c.self.view_is)
+    (lies _ c.args.width c.find.result c.self.invariant.1 (rw c.self.invariant.0 at c.find.ensures.within))
 
 pub returns-clause-page : goal.returns-clause-page
 returns-clause-page g c =
