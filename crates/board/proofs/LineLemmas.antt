@@ -1,6 +1,6 @@
 -- What interrupt lines depend on, and what a second sample changes.
-use Rattle.std.proofs.Common.{◌≡◌, ℕ, Bool, true, false, List, [], length, Option, Some, None, is_some, refl, ap, sym, ◌∙◌}
-use Rattle.std.proofs.Common.{◌+◌, ◌^◌, ◌<◌, ◌==◌, ◌||◌, ◌∷◌, ◌⊎◌, inl, inr, not, arith}
+use Rattle.std.proofs.Common.{◌≡◌, ℕ, false, List, [], length, Option, Some, None, is_some, refl, ap, ◌∙◌}
+use Rattle.std.proofs.Common.{◌^◌, ◌<◌, ◌==◌, ◌||◌, ◌∷◌, inl, inr, not, arith}
 use Rattle.std.specs.Prelude.{option_map}
 use Rattle.std.proofs.lemmas.Bool.Decides.{nat_tests}
 use Rattle.clint.specs.Clint.{Timer, clint_load}
@@ -15,7 +15,7 @@ use Rattle.sys_bus.specs.declared.wire.Wire.{Wire}
 use Rattle.board.specs.declared.remembered.Remembered.{Remembered}
 use Rattle.board.specs.Inner.Fit.{IsFit, IsStateOf, in_state, with_controller}
 use Rattle.board.specs.Inner.Remembers.{is_wired, IsRight}
-use Rattle.board.specs.Lines.{sampled, sampled_by, sources_up, mip_of, mtime_of, lines_of}
+use Rattle.board.specs.Lines.{sampled, sampled_by, sources_up, mip_of, lines_of}
 use Rattle.board.specs.New.{size_of}
 use Rattle.board.specs.Slot.{sampling}
 use Rattle.board.specs.Space.{Space}
@@ -73,18 +73,12 @@ unwired_lines s t fit none =
     let controller = none-size s.controller (fit.controller ∙ all.1) in
     (rw controller refl, rw (timer, all.2) refl)
 
--- what sampling leaves, and what it reads
+-- what sampling leaves
 pub sampled_is :
     (s : Space) (controller : Option Controller) (sources : ℕ) → controller ≡ sampled_by s.controller sources →
     sources ≡ sources_up s → record s { controller = controller } ≡ sampled s
 unfolding sampled
 sampled_is s controller sources is from = rw (is, from) refl
-
-pub lines_are :
-    (s : Space) (t mip mtime : ℕ) → mip ≡ mip_of s t → mtime ≡ mtime_of s.timer t →
-    lines_of s t ≡ record { mip = mip; mtime = mtime }
-unfolding lines_of
-lines_are s t mip mtime mip_is mtime_is = rw (mip_is, mtime_is) refl
 
 -- to sample again changes nothing
 pub sampled_twice : SamplesOnce → (s now : Space) → now ≡ sampled s → sampled now ≡ now

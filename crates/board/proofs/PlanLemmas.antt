@@ -1,5 +1,5 @@
 -- Slots keep the plan of a board.
-use Rattle.std.proofs.Common.{◌≡◌, ◌∙◌, ℕ, zero, suc, ◌+◌, Bool, true, false, refl}
+use Rattle.std.proofs.Common.{◌≡◌, ◌∙◌, ℕ, zero, suc, Bool, true, false, refl}
 use Rattle.std.specs.Prelude.{if◌then◌else◌, Option, None, Some}
 use Rattle.std.specs.Option.{option_map_or}
 use Rattle.rv_hart.specs.declared.csr.Lines.{Lines}

@@ -1,5 +1,5 @@
 -- A board at lab time 0, and one that was reset.
-use Rattle.std.specs.Prelude.{◌≡◌, ℕ, false, List, map, Option, option_map}
+use Rattle.std.specs.Prelude.{◌≡◌, ℕ, false, List, map, option_map}
 use Rattle.clint.specs.Clint.{Timer, clint_reset}
 use Rattle.dev_core.specs.declared.kind.Kind.{Kind}
 use Rattle.dev_core.specs.declared.kind.Kind.TheVariants as kind

@@ -66,14 +66,14 @@ impl<D: Device> Model for Space<D> {
     } };
 
     ghost invariant = { λ s.
-      let seen : Seen = record {
-        plan = s.plan;
-        memories = s.memories.items;
-        timer = s.timer;
-        controller = s.controller;
-        devices = s.devices.items;
-      } in
-      (s.regions ≡ s.plan.regions) × IsFit seen × (s.wired ≡ is_wired s.plan) × IsRight seen s.remembered };
+        let seen : Seen = record {
+          plan = s.plan;
+          memories = s.memories.items;
+          timer = s.timer;
+          controller = s.controller;
+          devices = s.devices.items;
+        } in
+        (s.regions ≡ s.plan.regions) × IsFit seen × (s.wired ≡ is_wired s.plan) × IsRight seen s.remembered };
 }
 
 /// Memories of these sizes, with 0 in each byte.

@@ -3,7 +3,7 @@ ghost use Rattle.std.specs.Prelude.{◌≡◌, ◌∷◌, [], IfSome};
 ghost use Rattle.dev_core.specs.declared.kind.Kind.TheVariants.{Uart, Finisher};
 ghost use Rattle.board.specs.New.{first_state};
 
-use board::{Board, is_early};
+use board::{Board, has_no_cans};
 use dev_core::{Device, Kind};
 use lab_num::{BoardNo, Rows, Text};
 use std::alloc::Global;
@@ -71,7 +71,7 @@ pub fn usual_board<D: Device>(alloc: Global, uart: D, finisher: D) -> Option<Boa
     let mut devices = Vec::new(alloc);
     devices.push(uart).ok()?;
     devices.push(finisher).ok()?;
-    if !plan.is_valid() || !is_early(&plan) {
+    if !plan.is_valid() || !has_no_cans(&plan) {
         return None;
     }
     Board::new(alloc, BoardNo(0), plan, devices).ok()

@@ -15,7 +15,7 @@ use Rattle.dev_core.specs.Device.{kind_of}
 use Rattle.sys_bus.specs.declared.plan.BoardPlan.{BoardPlan}
 use Rattle.sys_bus.specs.Limits.{count_of}
 use Rattle.sys_bus.specs.Plan.{IsValid}
-use Rattle.board.specs.Early.{IsEarly}
+use Rattle.board.specs.NoCans.{HasNoCans}
 use Rattle.board.specs.New.{first_state, new_board}
 use Rattle.board.specs.View.{View}
 use Rattle.lab_state.specs.Board.{Board}
@@ -92,15 +92,15 @@ plans-few (x ∷ xs) (suc i) below none =
 pub has-for :
     {boards : List Board} {hubs : List Hub} {spares : Spares} {now quantum : ℕ} (i : ℕ) (plan : BoardPlan) →
     IsSound boards hubs spares now quantum → i < length boards → view_at boards i ≡ None → IsValid plan →
-    IsEarly plan → HasFor spares plan.kinds
-has-for {boards = boards} {spares = spares} i plan sound below none valid early = each
+    HasNoCans plan → HasFor spares plan.kinds
+has-for {boards = boards} {spares = spares} i plan sound below none valid cans = each
   where
     few : count_of_plans (outlines boards) < 16
     few = omega (arith, plans-few boards i below none, sound.few_boards)
 
     each : HasFor spares plan.kinds
     each Uart = omega (arith, (small plan valid).uarts, sound.enough.uarts, few)
-    each Can = omega (arith, early.cans)
+    each Can = omega (arith, cans)
     each Finisher = omega (arith, (small plan valid).finishers, sound.enough.finishers, few)
 
 -- a board that was asked for its plan

@@ -7,7 +7,7 @@ mod faults;
 mod programs;
 
 use crate::{Lab, LabFault, RoundLog};
-use board::is_early;
+use board::has_no_cans;
 use chip::{Chip, stock};
 use dev_core::{Device, Finish, Kind, Stock, What};
 use lab_num::{BoardNo, Key, Member, Micros, NoMemory, PostNo, Rows, Text, is_name};
@@ -127,7 +127,7 @@ fn add<D: Device>(
     let b = lab.add_board(name)?;
     let plan = plan(alloc)?;
     assert!(rt; plan.is_valid());
-    assert!(rt; is_early(&plan));
+    assert!(rt; has_no_cans(&plan));
     assert!(rt; b.0 < lab.boards());
     lab.fit(b, plan)?;
     Ok(b)

@@ -100,9 +100,14 @@ impl<D: Device> Space<D> {
         ensures value { result ≡ pending self.now now.0 pin }
         ensures most { result ≤ 2 ^ pin }
     {
-        if self.is_pin_up(now, pin) { 1 << pin } else { 0 }
+        if self.is_pin_up(now, pin) {
+            1 << pin
+        } else {
+            0
+        }
     }
 
+    #[tactic(auto, unfolding(crate::specs::Lines::mip_of))]
     fn mip(&self, now: Micros) -> u32
         ensures { result ≡ mip_of self.now now.0 }
     {
@@ -161,16 +166,23 @@ impl<D: Device> Space<D> {
         sample(&mut self.controller, sources);
     }
 
+    #[tactic(auto, unfolding(crate::specs::Lines::lines_of))]
+    pub fn lines_at(&self, now: Micros) -> Lines
+        ensures { result ≡ lines_of self.now now.0 }
+    {
+        Lines {
+            mip: self.mip(now),
+            mtime: self.mtime(now),
+        }
+    }
+
     /// Samples and reads the lines, and remembers them.
     pub fn sample(&mut self, now: Micros) -> Lines
         ensures space { self.new ≡ sampled self.old }
         ensures lines { result ≡ lines_of self.new now.0 }
     {
         self.sample_sources();
-        let lines = Lines {
-            mip: self.mip(now),
-            mtime: self.mtime(now),
-        };
+        let lines = self.lines_at(now);
         self.remembered = Some(Remembered { at: now, lines });
         lines
     }

@@ -13,7 +13,7 @@ fn a_board_is_made_once_and_runs_by_its_plan(rt: HostRuntime) -> Result<(), Fail
     assert!(rt; lab.run_for(Micros(10)) == Err(RunFault::NoPlan(second)));
     let plan = plan(alloc)?;
     assert!(rt; plan.is_valid());
-    assert!(rt; is_early(&plan));
+    assert!(rt; has_no_cans(&plan));
     assert!(rt; !lab.is_spent());
     assert!(rt; first.0 < lab.boards());
     assert!(rt; lab.fit(first, plan) == Err(FitFault::Has));

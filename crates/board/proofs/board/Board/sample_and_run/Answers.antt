@@ -1,4 +1,4 @@
-use Rattle.std.proofs.Common.{◌≡◌, ◌∙◌, ap, sym}
+use Rattle.std.proofs.Common.{◌∙◌, ap}
 use Rattle.board.specs.Inner.Fit.{with_controller}
 use Rattle.board.specs.View.{State}
 use Rattle.board.proofs.LineLemmas.{still_state, undone}

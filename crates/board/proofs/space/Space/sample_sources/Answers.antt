@@ -1,4 +1,4 @@
-use Rattle.std.proofs.Common.{◌≡◌, ◌∙◌, ap, sym}
+use Rattle.std.proofs.Common.{◌∙◌, ap, sym}
 use Rattle.board.specs.Lines.{sampled, sources_up}
 use Rattle.board.proofs.LineLemmas.{sampled_is, sampled_twice}
 use Rattle.board.proofs.space.Space.sample_sources.Goals as goal
