@@ -1,7 +1,14 @@
 -- What interrupt lines depend on, and what a second sample changes.
 use Rattle.std.proofs.Common.{◌≡◌, ℕ, false, List, [], length, Option, Some, None, is_some, refl, ap, ◌∙◌}
 use Rattle.std.proofs.Common.{◌^◌, ◌<◌, ◌==◌, ◌||◌, ◌∷◌, inl, inr, not, arith}
-use Rattle.std.specs.Prelude.{option_map}
+use Rattle.std.specs.Prelude.{option_map, slice_index_or}
+use Rattle.std.specs.List.{list_any}
+use Rattle.std.proofs.Math.Path.{fun_ext}
+use Rattle.std.proofs.lemmas.Bool.{cases_eq}
+use Rattle.std.proofs.lemmas.List.{get_or-set_same, get_or-set_other, get_or_default}
+use Rattle.dev_core.specs.Device.{dev_line}
+use Rattle.plic.specs.Sources.{set_of}
+use Rattle.rv_hart.specs.Cause.{software_interrupt, timer_interrupt, external_interrupt}
 use Rattle.std.proofs.lemmas.Bool.Decides.{nat_tests}
 use Rattle.clint.specs.Clint.{Timer, clint_load}
 use Rattle.plic.specs.declared.state.PlicState.{PlicState}
@@ -10,15 +17,19 @@ use Rattle.plic.specs.Map.{reached}
 use Rattle.plic.specs.Registers.{plic_load}
 use Rattle.plic.specs.State.{Controller}
 use Rattle.rv_exec.specs.Access.{IsWidth}
+use Rattle.rv_hart.specs.declared.csr.Lines.{Lines}
 use Rattle.sys_bus.specs.declared.plan.PlicSize.{PlicSize}
 use Rattle.sys_bus.specs.declared.wire.Wire.{Wire}
+use Rattle.sys_bus.specs.declared.wire.WireFrom.{WireFrom}
+use Rattle.sys_bus.specs.declared.wire.WireFrom.TheVariants.{Soft, Timer as TimerLine, Context, Dev}
 use Rattle.board.specs.declared.remembered.Remembered.{Remembered}
 use Rattle.board.specs.Inner.Fit.{IsFit, IsStateOf, in_state, with_controller}
-use Rattle.board.specs.Inner.Remembers.{is_wired, IsRight}
-use Rattle.board.specs.Lines.{sampled, sampled_by, sources_up, mip_of, lines_of}
+use Rattle.board.specs.Inner.Remembers.{is_wired, still, IsRight}
+use Rattle.board.specs.Lines.{sampled, sampled_by, sources_up, timer_up, device_up, mip_of}
+use Rattle.board.specs.Lines.{mtime_of, lines_of, is_up, is_from_device, ends_at_source, ends_at_pin, pin_up}
 use Rattle.board.specs.New.{size_of}
 use Rattle.board.specs.Slot.{sampling}
-use Rattle.board.specs.Space.{Space}
+use Rattle.board.specs.Space.{Space, Fitted, with_device}
 use Rattle.board.specs.View.{View}
 
 -- lines do not depend on what memories hold
@@ -28,7 +39,7 @@ pub right_memories :
 unfolding sampled lines_of mip_of
 right_memories s memories None right = tt
 right_memories s memories (Some r) right =
-    (ap {A = Space} (λ now. record now { memories = memories }) right.0, right.1)
+    (ap {A = Space} (λ now. record now { memories = memories }) right.0, right.1, right.2)
 
 -- words alone reach a register of a timer or of an interrupt controller
 pub timer_fits :
@@ -72,6 +83,81 @@ unwired_lines s t fit none =
     let timer = none-frequency s.timer (fit.timer ∙ all.0) in
     let controller = none-size s.controller (fit.controller ∙ all.1) in
     (rw controller refl, rw (timer, all.2) refl)
+
+-- nor on a device whose line stays as it was
+same_line :
+    (s : Space) (dev : ℕ) (fitted d : Fitted) (k : ℕ) → dev < length s.devices →
+    dev_line fitted.state ≡ dev_line (slice_index_or s.devices dev d).state →
+    device_up (with_device s dev fitted) k ≡ device_up s k
+same_line s dev fitted d k there same = elim (cases_eq k dev) [
+  | inl is ↦ ?
+  | inr other ↦ ?
+]
+
+same_wire :
+    (s : Space) (dev : ℕ) (fitted d : Fitted) (timer : Bool) (from : WireFrom) → dev < length s.devices →
+    dev_line fitted.state ≡ dev_line (slice_index_or s.devices dev d).state →
+    (is_up (with_device s dev fitted) timer from ≡ is_up s timer from)
+    × (is_from_device (with_device s dev fitted) from ≡ is_from_device s from)
+same_wire s dev fitted d timer Soft there same = (refl, refl)
+same_wire s dev fitted d timer TimerLine there same = (refl, refl)
+same_wire s dev fitted d timer (Context context) there same = (refl, refl)
+same_wire s dev fitted d timer (Dev k) there same =
+    let line = same_line s dev fitted d k there same in (line, line)
+
+same_sources :
+    (s : Space) (dev : ℕ) (fitted d : Fitted) → dev < length s.devices →
+    dev_line fitted.state ≡ dev_line (slice_index_or s.devices dev d).state →
+    sources_up (with_device s dev fitted) ≡ sources_up s
+same_sources s dev fitted d there same =
+    ap set_of (fun_ext (λ source. ap (λ test. list_any test s.plan.wires) (fun_ext (λ wire.
+    ap (λ up. ends_at_source source wire.pin && up) (same_wire s dev fitted d false wire.from there same).1))))
+
+same_mip :
+    (s : Space) (dev : ℕ) (fitted d : Fitted) (timer : Bool) → dev < length s.devices →
+    dev_line fitted.state ≡ dev_line (slice_index_or s.devices dev d).state →
+    mip_of (with_device s dev fitted) timer ≡ mip_of s timer
+unfolding mip_of
+same_mip s dev fitted d timer there same =
+    let pin : (n : ℕ) → pin_up (with_device s dev fitted) timer n ≡ pin_up s timer n = λ n.
+    ap (λ test. list_any test s.plan.wires) (fun_ext (λ wire.
+    ap (λ up. ends_at_pin n wire.pin && up) (same_wire s dev fitted d timer wire.from there same).0)) in
+    rw (pin software_interrupt, pin timer_interrupt, pin external_interrupt) refl
+
+right_same :
+    (s : Space) (dev : ℕ) (fitted d : Fitted) (r : Remembered) → IsRight s (Some r) → dev < length s.devices →
+    dev_line fitted.state ≡ dev_line (slice_index_or s.devices dev d).state →
+    IsRight (with_device s dev fitted) (Some r)
+unfolding sampled lines_of
+right_same s dev fitted d r right there same = (
+  rw (same_sources s dev fitted d there same) (ap {A = Space} (λ now. with_device now dev fitted) right.0),
+  right.1,
+  right.2 ∙ rw (same_mip s dev fitted d (timer_up s.timer r.at.0) there same) refl,
+)
+
+pub right_device :
+    (s : Space) (dev : ℕ) (fitted d : Fitted) (r : Option Remembered) (before after : Bool) → IsRight s r →
+    dev < length s.devices → before ≡ (is_some r && dev_line (slice_index_or s.devices dev d).state) →
+    after ≡ (is_some r && dev_line fitted.state) → IsRight (with_device s dev fitted) (still r before after)
+right_device s dev fitted d None true true right there was is = tt
+right_device s dev fitted d None false false right there was is = tt
+right_device s dev fitted d r true false right there was is = tt
+right_device s dev fitted d r false true right there was is = tt
+right_device s dev fitted d (Some r) true true right there was is =
+    right_same s dev fitted d r right there (sym is ∙ was)
+right_device s dev fitted d (Some r) false false right there was is =
+    right_same s dev fitted d r right there (sym is ∙ was)
+
+-- of all lines the timer's alone goes by the time
+pub later_lines :
+    (s : Space) (old now mtime : ℕ) (up up' : Bool) (lines : Lines) → up ≡ timer_up s.timer old →
+    lines ≡ lines_of s old → up' ≡ timer_up s.timer now → up' ≡ up → mtime ≡ mtime_of s.timer now →
+    record { mip = lines.mip; mtime = mtime } ≡ lines_of s now
+unfolding lines_of
+later_lines s old now mtime up up' lines was read is same time =
+    let mip : lines.mip ≡ mip_of s (timer_up s.timer now) =
+    ap {A = Lines} (λ l. l.mip) read ∙ ap (mip_of s) (sym was ∙ sym same ∙ is) in
+    rw (mip, time) refl
 
 -- what sampling leaves
 pub sampled_is :

@@ -38,11 +38,12 @@ context_up (Some c) context = nat_lt context c.contexts && output c.sources c.st
 abbrev pub device_up : Space → ℕ → Bool
 device_up s dev = dev_line (device_at s dev).state
 
-abbrev pub is_up : Space → ℕ → WireFrom → Bool
-is_up s t Soft = software_up s.timer
-is_up s t TimerLine = timer_up s.timer t
-is_up s t (Context context) = context_up s.controller context
-is_up s t (Dev dev) = device_up s dev
+-- whether the line is up where a wire begins, if that of the timer interrupt is up or not: it alone goes by the time
+abbrev pub is_up : Space → Bool → WireFrom → Bool
+is_up s timer Soft = software_up s.timer
+is_up s timer TimerLine = timer
+is_up s timer (Context context) = context_up s.controller context
+is_up s timer (Dev dev) = device_up s dev
 
 -- ---- what the controller samples
 
@@ -78,18 +79,19 @@ abbrev pub ends_at_pin : ℕ → WirePin → Bool
 ends_at_pin n (Cpu pin) = pin == n
 ends_at_pin n (Source source) = false
 
-abbrev pub brings_pin_up : Space → ℕ → ℕ → Wire → Bool
-brings_pin_up s t pin wire = ends_at_pin pin wire.pin && is_up s t wire.from
+abbrev pub brings_pin_up : Space → Bool → ℕ → Wire → Bool
+brings_pin_up s timer pin wire = ends_at_pin pin wire.pin && is_up s timer wire.from
 
-abbrev pub pin_up : Space → ℕ → ℕ → Bool
-pin_up s t pin = list_any (brings_pin_up s t pin) s.plan.wires
+abbrev pub pin_up : Space → Bool → ℕ → Bool
+pin_up s timer pin = list_any (brings_pin_up s timer pin) s.plan.wires
 
 -- a pin that is up is pending in mip, at the bit of its number
-abbrev pub pending : Space → ℕ → ℕ → ℕ
-pending s t pin = if pin_up s t pin then 2 ^ pin else 0
+abbrev pub pending : Space → Bool → ℕ → ℕ
+pending s timer pin = if pin_up s timer pin then 2 ^ pin else 0
 
-unfoldable pub mip_of : Space → ℕ → ℕ
-mip_of s t = pending s t software_interrupt + pending s t timer_interrupt + pending s t external_interrupt
+unfoldable pub mip_of : Space → Bool → ℕ
+mip_of s timer =
+    pending s timer software_interrupt + pending s timer timer_interrupt + pending s timer external_interrupt
 
 -- the time that the processor reads: the timer's, and 0 where there is none
 abbrev pub mtime_of : Option Timer → ℕ → ℕ
@@ -97,4 +99,4 @@ mtime_of None t = 0
 mtime_of (Some timer) t = mtime timer t
 
 unfoldable pub lines_of : Space → ℕ → Lines
-lines_of s t = record { mip = mip_of s t; mtime = mtime_of s.timer t }
+lines_of s t = record { mip = mip_of s (timer_up s.timer t); mtime = mtime_of s.timer t }

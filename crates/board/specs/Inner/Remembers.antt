@@ -1,7 +1,7 @@
 -- What is remembered of the lines of a board.
-use Rattle.std.specs.Prelude.{◌≡◌, ◌==◌, ◌||◌, not, length, is_some, Bool, Option, None, Some}
+use Rattle.std.specs.Prelude.{◌≡◌, ◌==◌, ◌||◌, not, length, is_some, Bool, true, false, Option, None, Some}
 use Rattle.sys_bus.specs.declared.plan.BoardPlan.{BoardPlan}
-use Rattle.board.specs.Lines.{sampled, lines_of}
+use Rattle.board.specs.Lines.{sampled, timer_up, lines_of}
 use Rattle.board.specs.Space.{Space}
 use Rattle.board.specs.declared.remembered.Remembered.{Remembered}
 
@@ -12,4 +12,10 @@ is_wired plan = is_some plan.frequency || is_some plan.plic || not (length plan.
 -- what is remembered is what sampling and reading the lines would give
 abbrev pub IsRight : Space → Option Remembered → Type 0
 IsRight s None = Unit {0}
-IsRight s (Some r) = (sampled s ≡ s) × (lines_of s r.at.0 ≡ r.lines)
+IsRight s (Some r) = (sampled s ≡ s) × (r.timer ≡ timer_up s.timer r.at.0) × (r.lines ≡ lines_of s r.at.0)
+
+-- what is still remembered after the line of a device was up or not before and after something
+abbrev pub still : Option Remembered → Bool → Bool → Option Remembered
+still r true true = r
+still r false false = r
+still r _ _ = None

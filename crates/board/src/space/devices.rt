@@ -7,6 +7,7 @@ ghost use Rattle.board.specs.Space.{device_store};
 ghost use Rattle.board.specs.New.{reset_device, reset_space};
 
 use super::Space;
+use crate::remembered::still;
 use dev_core::{DevState, Device, Effect, Payload, Taken};
 
 /// The register at a place of a device whose registers begin 1 or 4 bytes apart.
@@ -38,8 +39,13 @@ impl<D: Device> Space<D> {
         ensures fits { result < 256 ^ width }
     {
         let register = self.register_of(dev, at);
-        self.remembered = None;
-        self.devices[usize::from(dev)].load(register, width)
+        let known = self.remembered.is_some();
+        let device = &mut self.devices[usize::from(dev)];
+        let before = device.line_if(known);
+        let value = device.load(register, width);
+        let after = device.line_if(known);
+        self.remembered = still(self.remembered, before, after);
+        value
     }
 
     pub fn store_device(&mut self, dev: u8, at: u32, width: u8, value: u32) -> Effect
@@ -49,8 +55,13 @@ impl<D: Device> Space<D> {
             with_state self.old dev (device_store self.old dev at width value).after }
     {
         let register = self.register_of(dev, at);
-        self.remembered = None;
-        self.devices[usize::from(dev)].store(register, width, value)
+        let known = self.remembered.is_some();
+        let device = &mut self.devices[usize::from(dev)];
+        let before = device.line_if(known);
+        let effect = device.store(register, width, value);
+        let after = device.line_if(known);
+        self.remembered = still(self.remembered, before, after);
+        effect
     }
 
     /// Hands a device what another one sent.

@@ -76,31 +76,31 @@ impl<D: Device> Space<D> {
         }
     }
 
-    /// Whether the line is up where a wire begins.
-    fn is_up(&self, now: Micros, from: WireFrom) -> bool
-        ensures { result ≡ is_up self.now now.0 from }
+    /// Whether the line is up where a wire begins, if that of the timer interrupt is up or not.
+    fn is_up(&self, timer: bool, from: WireFrom) -> bool
+        ensures { result ≡ is_up self.now timer from }
     {
         match from {
             WireFrom::Soft => self.is_software_up(),
-            WireFrom::Timer => self.is_timer_up(now),
+            WireFrom::Timer => timer,
             WireFrom::Context(context) => self.is_context_up(context),
             WireFrom::Dev(dev) => self.is_device_up(dev),
         }
     }
 
-    fn is_pin_up(&self, now: Micros, pin: u8) -> bool
-        ensures { result ≡ pin_up self.now now.0 pin }
+    fn is_pin_up(&self, timer: bool, pin: u8) -> bool
+        ensures { result ≡ pin_up self.now timer pin }
     {
         let wires = self.plan.wires.items();
-        wires.iter().any(|wire| ends_at_pin(pin, wire.pin) && self.is_up(now, wire.from))
+        wires.iter().any(|wire| ends_at_pin(pin, wire.pin) && self.is_up(timer, wire.from))
     }
 
-    fn pending(&self, now: Micros, pin: u8) -> u32
+    fn pending(&self, timer: bool, pin: u8) -> u32
         requires { pin < 32 }
-        ensures value { result ≡ pending self.now now.0 pin }
+        ensures value { result ≡ pending self.now timer pin }
         ensures most { result ≤ 2 ^ pin }
     {
-        if self.is_pin_up(now, pin) {
+        if self.is_pin_up(timer, pin) {
             1 << pin
         } else {
             0
@@ -108,10 +108,10 @@ impl<D: Device> Space<D> {
     }
 
     #[tactic(auto, unfolding(crate::specs::Lines::mip_of))]
-    fn mip(&self, now: Micros) -> u32
-        ensures { result ≡ mip_of self.now now.0 }
+    fn mip(&self, timer: bool) -> u32
+        ensures { result ≡ mip_of self.now timer }
     {
-        self.pending(now, SOFTWARE) + self.pending(now, TIMER) + self.pending(now, EXTERNAL)
+        self.pending(timer, SOFTWARE) + self.pending(timer, TIMER) + self.pending(timer, EXTERNAL)
     }
 
     fn mtime(&self, now: Micros) -> u64
@@ -171,7 +171,7 @@ impl<D: Device> Space<D> {
         ensures { result ≡ lines_of self.now now.0 }
     {
         Lines {
-            mip: self.mip(now),
+            mip: self.mip(self.is_timer_up(now)),
             mtime: self.mtime(now),
         }
     }
@@ -182,25 +182,54 @@ impl<D: Device> Space<D> {
         ensures lines { result ≡ lines_of self.new now.0 }
     {
         self.sample_sources();
+        let timer = self.is_timer_up(now);
         let lines = self.lines_at(now);
-        self.remembered = Some(Remembered { at: now, lines });
+        self.remembered = Some(Remembered {
+            at: now,
+            timer,
+            lines,
+        });
         lines
     }
 
-    /// The lines, where nothing has changed since they were read in this microsecond. Then to
-    /// sample again would change nothing.
+    /// The lines, where they are known without sampling: then to sample would change nothing.
     #[inline]
-    pub fn settled_lines(&self, now: Micros) -> Option<Lines>
-        ensures settled { IfSome result (λ lines. sampled self.now ≡ self.now) }
-        ensures lines { IfSome result (λ lines. lines ≡ lines_of self.now now.0) }
+    pub fn settled_lines(&mut self, now: Micros) -> Option<Lines>
+        ensures settled { IfSome result (λ lines. sampled self.old ≡ self.old) }
+        ensures lines { IfSome result (λ lines. lines ≡ lines_of self.old now.0) }
+        ensures same { self.new ≡ self.old }
     {
         if !self.wired {
             return Some(Lines { mip: 0, mtime: 0 });
         }
         let remembered = self.remembered?;
-        if remembered.at != now {
+        if remembered.at == now {
+            return Some(remembered.lines);
+        }
+        self.lines_later(now)
+    }
+
+    /// The same in another microsecond than that of which they were remembered: they are known
+    /// where the line of the timer interrupt is as it was.
+    fn lines_later(&mut self, now: Micros) -> Option<Lines>
+        ensures settled { IfSome result (λ lines. sampled self.old ≡ self.old) }
+        ensures lines { IfSome result (λ lines. lines ≡ lines_of self.old now.0) }
+        ensures same { self.new ≡ self.old }
+    {
+        let remembered = self.remembered?;
+        let timer = self.is_timer_up(now);
+        if timer != remembered.timer {
             return None;
         }
-        Some(remembered.lines)
+        let lines = Lines {
+            mip: remembered.lines.mip,
+            mtime: self.mtime(now),
+        };
+        self.remembered = Some(Remembered {
+            at: now,
+            timer,
+            lines,
+        });
+        Some(lines)
     }
 }

@@ -1,4 +1,3 @@
-use Rattle.std.proofs.Common.{sym}
 use Rattle.board.proofs.space.Space.sample.Goals as goal
 
 pub invariant_of-self : goal.invariant_of-self
@@ -8,7 +7,8 @@ invariant_of-self g c = (
   c.self.invariant.2,
   (
     rw (← c.self.view_is) at c.sample_sources.ensures.settled,
-    rw (← c.self.view_is) at (sym c.lines_at-lines.ensures),
+    rw (← c.self.view_is) at c.is_timer_up-timer.ensures,
+    rw (← c.self.view_is) at c.lines_at-lines.ensures,
   ),
 )
 
