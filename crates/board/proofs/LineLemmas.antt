@@ -1,7 +1,8 @@
 -- What interrupt lines depend on, and what a second sample changes.
 use Rattle.std.proofs.Common.{◌≡◌, ℕ, false, List, [], length, Option, Some, None, is_some, refl, ap, ◌∙◌}
 use Rattle.std.proofs.Common.{◌^◌, ◌<◌, ◌==◌, ◌||◌, ◌∷◌, inl, inr, not, arith}
-use Rattle.std.specs.Prelude.{option_map, slice_index_or}
+use Rattle.std.proofs.Common.{Bool, true, false, ◌&&◌, sym}
+use Rattle.std.specs.Prelude.{option_map, slice_index_or, slice_set}
 use Rattle.std.specs.List.{list_any}
 use Rattle.std.proofs.Math.Path.{fun_ext}
 use Rattle.std.proofs.lemmas.Bool.{cases_eq}
@@ -90,8 +91,10 @@ same_line :
     dev_line fitted.state ≡ dev_line (slice_index_or s.devices dev d).state →
     device_up (with_device s dev fitted) k ≡ device_up s k
 same_line s dev fitted d k there same = elim (cases_eq k dev) [
-  | inl is ↦ ?
-  | inr other ↦ ?
+  | inl is ↦
+      rw is (rw (get_or-set_same s.devices dev fitted _ there) (same ∙ ap (λ f. dev_line f.state)
+      (get_or_default s.devices dev d _ there)))
+  | inr other ↦ ap (λ f. dev_line f.state) (get_or-set_other s.devices dev k fitted _ other)
 ]
 
 same_wire :
@@ -136,17 +139,25 @@ right_same s dev fitted d r right there same = (
 )
 
 pub right_device :
-    (s : Space) (dev : ℕ) (fitted d : Fitted) (r : Option Remembered) (before after : Bool) → IsRight s r →
-    dev < length s.devices → before ≡ (is_some r && dev_line (slice_index_or s.devices dev d).state) →
-    after ≡ (is_some r && dev_line fitted.state) → IsRight (with_device s dev fitted) (still r before after)
-right_device s dev fitted d None true true right there was is = tt
-right_device s dev fitted d None false false right there was is = tt
-right_device s dev fitted d r true false right there was is = tt
-right_device s dev fitted d r false true right there was is = tt
-right_device s dev fitted d (Some r) true true right there was is =
-    right_same s dev fitted d r right there (sym is ∙ was)
-right_device s dev fitted d (Some r) false false right there was is =
-    right_same s dev fitted d r right there (sym is ∙ was)
+    (s : Space) (dev : ℕ) (old new d : Fitted) (r : Option Remembered) (known before after : Bool) → IsRight s r →
+    dev < length s.devices → old ≡ slice_index_or s.devices dev d → known ≡ is_some r →
+    before ≡ (known && dev_line old.state) → after ≡ (known && dev_line new.state) →
+    IsRight (with_device s dev new) (still r before after)
+right_device s dev old new d r known before after right there at asked was is =
+    by_lines r before after right
+    (was ∙ rw (asked, at) refl)
+    (is ∙ rw asked refl)
+  where
+    by_lines :
+        (r : Option Remembered) (before after : Bool) → IsRight s r →
+        before ≡ (is_some r && dev_line (slice_index_or s.devices dev d).state) →
+        after ≡ (is_some r && dev_line new.state) → IsRight (with_device s dev new) (still r before after)
+    by_lines None true true right was is = tt
+    by_lines None false false right was is = tt
+    by_lines r true false right was is = tt
+    by_lines r false true right was is = tt
+    by_lines (Some r) true true right was is = right_same s dev new d r right there (sym is ∙ was)
+    by_lines (Some r) false false right was is = right_same s dev new d r right there (sym is ∙ was)
 
 -- of all lines the timer's alone goes by the time
 pub later_lines :
@@ -158,6 +169,17 @@ later_lines s old now mtime up up' lines was read is same time =
     let mip : lines.mip ≡ mip_of s (timer_up s.timer now) =
     ap {A = Lines} (λ l. l.mip) read ∙ ap (mip_of s) (sym was ∙ sym same ∙ is) in
     rw (mip, time) refl
+
+pub right_later :
+    (s : Space) (o : Option Remembered) (r : Remembered) (now mtime : ℕ) (up : Bool) → IsRight s o → o ≡ Some r →
+    up ≡ timer_up s.timer now → up ≡ r.timer → mtime ≡ mtime_of s.timer now →
+    (sampled s ≡ s) × (record { mip = r.lines.mip; mtime = mtime } ≡ lines_of s now)
+right_later s None r now mtime up right is timer same time = absurd (cc)
+right_later s (Some q) r now mtime up right is timer same time =
+    let kept : q ≡ r = cc in
+    let was : r.timer ≡ timer_up s.timer r.at.0 = rw kept at right.1 in
+    let read : r.lines ≡ lines_of s r.at.0 = rw kept at right.2 in
+    (right.0, later_lines s r.at.0 now mtime r.timer up r.lines was read timer same time)
 
 -- what sampling leaves
 pub sampled_is :

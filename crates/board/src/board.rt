@@ -304,6 +304,9 @@ impl<D: Device> Board<D> {
         ensures left { self.new ≡ record self.old { entries = [] } }
     {
         let none = Vec::new(*self.wires.entries.allocator());
+        if self.wires.entries.is_empty() {
+            return none;
+        }
         mem::replace(&mut self.wires.entries, none)
     }
 

@@ -1,7 +1,7 @@
 //! All that the loads and stores of a board's processor reach: memories, a timer, an interrupt
 //! controller and devices.
-ghost use Rattle.std.specs.Prelude.{◌≡◌, ◌≤◌, ◌+◌, ◌<◌, ◌^◌, length, map, option_map, All, IsTrue, IfOk, IfErr, OnOk};
-ghost use Rattle.std.specs.Prelude.{OnErr};
+ghost use Rattle.std.specs.Prelude.{◌≡◌, ◌≤◌, ◌+◌, ◌<◌, ◌^◌, length, map, option_map, All, IsTrue, IfOk, IfErr, IfSome};
+ghost use Rattle.std.specs.Prelude.{OnOk, OnErr};
 ghost use Rattle.rv_exec.specs.Access.{IsAccess, IsWidth};
 ghost use Rattle.page_ram.specs.Access.{IsInOnePage, IsRamSize};
 ghost use Rattle.page_ram.specs.Bytes.{zeros, value_at, put_value};
@@ -10,7 +10,7 @@ ghost use Rattle.sys_bus.specs.Plan.{IsValid};
 ghost use Rattle.board.specs.Space.{memory_at, with_memory, target_at};
 ghost use Rattle.board.specs.Wires.{word_in};
 ghost use Rattle.board.specs.New.{first_states, hidden, new_space, new_timer, new_controller};
-ghost use Rattle.board.specs.Inner.Fit.{IsFit, LiesIn, IsInPage};
+ghost use Rattle.board.specs.Inner.Fit.{IsFit, LiesIn, IsInPage, HoldsAccesses};
 ghost use Rattle.board.specs.Inner.Remembers.{is_wired};
 
 mod devices;
@@ -28,7 +28,7 @@ use plic::Plic;
 use std::alloc::Global;
 use std::collections::VecDeque;
 use std::marker::Model;
-use sys_bus::{BoardPlan, PlicSize, Regions, Target};
+use sys_bus::{BoardPlan, Place, PlicSize, Regions, Target};
 
 /// The memories and devices of a board, in the order of its plan, and its timer and interrupt
 /// controller.
@@ -41,8 +41,6 @@ pub struct Space<D: Device> {
     timer: Option<Clint>,
     controller: Option<Plic>,
     devices: Vec<Fitted<D>>,
-    /// The region of the last fetch, in which the next one is sought first.
-    near: usize,
     /// Whether there is a line that may be up.
     wired: bool,
     /// The lines, as long as nothing was touched since that they depend on.
@@ -151,7 +149,6 @@ impl<D: Device> Space<D> {
             timer: timer_of(plan.frequency),
             controller: controller_of(plan.plic),
             devices,
-            near: 0,
             wired: is_wired(&plan),
             remembered: None,
             plan,
@@ -166,40 +163,70 @@ impl<D: Device> Space<D> {
     }
 
     /// The word at an address, where a memory holds all four bytes.
-    #[inline]
+    #[inline(always)]
     pub fn fetch(&mut self, at: u32) -> Option<u32>
         ensures value { result ≡ word_in self.old at }
         ensures same { self.new ≡ self.old }
     {
-        match self.find_near(at) {
+        match self.regions.near_code(at) {
+            Some(place) => Some(self.load_memory(place.part, place.at, 4)),
+            None => self.fetch_anew(at),
+        }
+    }
+
+    /// The same, by a search of all regions.
+    #[cold]
+    #[inline(never)]
+    fn fetch_anew(&mut self, at: u32) -> Option<u32>
+        ensures value { result ≡ word_in self.old at }
+        ensures same { self.new ≡ self.old }
+    {
+        match self.find_code(at) {
             Target::Ram { part, at } => Some(self.load_memory(part, at, 4)),
             _ => None,
         }
     }
 
-    /// What a word belongs to. It is sought first where the last one was.
-    #[inline]
-    fn find_near(&mut self, at: u32) -> Target
+    /// What the word of a fetch belongs to.
+    fn find_code(&mut self, at: u32) -> Target
         ensures target { result ≡ target_at self.old at 4 }
         ensures lies { LiesIn self.old 4 result }
         ensures same { self.new ≡ self.old }
     {
-        self.regions.find_near(&mut self.near, at, 4)
+        self.regions.find_code(at)
+    }
+
+    /// The place of an address in the memory of the last load or store. `None` says nothing.
+    #[inline(always)]
+    pub fn near_data(&self, at: u32) -> Option<Place>
+        ensures { IfSome result (HoldsAccesses self.now at) }
+    {
+        aligned_numbers_lie_in_one_page();
+        self.regions.near_data(at)
+    }
+
+    /// What a load or a store belongs to, by a search of all regions.
+    pub fn find_data(&mut self, at: u32, width: u8) -> Target
+        requires { IsAccess at width }
+        ensures target { result ≡ target_at self.old at width }
+        ensures lies { LiesIn self.old width result }
+        ensures page { IsInPage width result }
+        ensures same { self.new ≡ self.old }
+    {
+        aligned_numbers_lie_in_one_page();
+        self.regions.find_data(at, width)
     }
 
     /// What an access belongs to.
-    #[inline]
     pub fn find(&self, at: u32, width: u8) -> Target
         requires { IsAccess at width }
         ensures target { result ≡ target_at self.now at width }
         ensures lies { LiesIn self.now width result }
-        ensures page { IsInPage width result }
     {
-        aligned_numbers_lie_in_one_page();
         self.regions.find(at, width)
     }
 
-    #[inline]
+    #[inline(always)]
     pub fn load_memory(&self, part: u8, at: u32, width: u8) -> u32
         requires width { IsWidth width }
         requires part { part < length self.now.memories }
@@ -210,7 +237,7 @@ impl<D: Device> Space<D> {
         self.memories[usize::from(part)].load(at, width)
     }
 
-    #[inline]
+    #[inline(always)]
     pub fn store_memory(&mut self, part: u8, at: u32, width: u8, value: u32) -> Result<(), NoMemory>
         requires width { IsWidth width }
         requires part { part < length self.old.memories }

@@ -1,7 +1,7 @@
 //! What the processor is wired to in a slot, and what the board makes by it.
-ghost use Rattle.std.specs.Prelude.{◌≡◌, ◌^◌, ◌%◌, ◌<◌, ◌≤◌, ◌+◌, length, OnOk, OnErr};
+ghost use Rattle.std.specs.Prelude.{◌≡◌, ◌^◌, ◌%◌, ◌<◌, ◌≤◌, ◌+◌, length, IfOk, OnOk, OnErr};
 ghost use Rattle.page_ram.specs.Access.{IsInOnePage};
-ghost use Rattle.rv_exec.specs.Access.{IsWidth};
+ghost use Rattle.rv_exec.specs.Access.{IsAccess, IsWidth};
 ghost use Rattle.sys_bus.specs.declared.region.Target.TheVariants.{Ram, Dev};
 ghost use Rattle.board.specs.Space.{memory_at};
 ghost use Rattle.board.specs.Wires.{fetched, answer, loaded, stored, stored_to, sent, entered, note_if, post_of};
@@ -65,28 +65,6 @@ impl<D: Device> Wires<D> {
         Ok(())
     }
 
-    /// A device sends: a post, and an entry where the device is shown.
-    #[tactic(auto, unfolding(crate::specs::Wires::sent))]
-    #[cold]
-    #[inline(never)]
-    fn send(&mut self, dev: u8, payload: &Payload) -> Result<(), OutOfMemory>
-        requires { dev < length self.old.space.devices }
-        ensures ok { OnOk result (self.new ≡ sent self.old dev payload.now) }
-        ensures err { OnErr result (self.new ≡ self.old) }
-    {
-        let post = self.post_of(dev, payload);
-        if self.entries.reserve(1).is_err() || self.posts.push_back(post).is_err() {
-            return Err(OutOfMemory);
-        }
-        self.numbers.count_post();
-        if let Some(note) = note_if(self.space.is_shown(dev), dev, payload) {
-            let entry = self.entry_of(note);
-            self.entries.push_reserved(entry);
-            self.numbers.count_entry();
-        }
-        Ok(())
-    }
-
     fn post_of(&self, dev: u8, payload: &Payload) -> Post
         ensures { result ≡ post_of self.now dev payload.now }
     {
@@ -120,8 +98,10 @@ impl<D: Device> Wires<D> {
         }
     }
 
-    /// Stores in a device, and does what it makes the device do. After an `Err` the device is as
+    /// Stores in a device, and does what it makes the device do. There is room for what the device
+    /// may send before it is asked, so that nothing is to be undone. After an `Err` the device is as
     /// before.
+    #[tactic(auto, unfolding(crate::specs::Wires::sent))]
     fn store_in_device(
         &mut self,
         dev: u8,
@@ -133,16 +113,69 @@ impl<D: Device> Wires<D> {
         ensures ok { OnOk result (self.new ≡ stored_to self.old at width value (Dev dev at)) }
         ensures err { OnErr result (self.new ≡ self.old) }
     {
-        let before = self.space.state(dev);
-        match self.space.store_device(dev, at, width, value) {
-            Effect::Quiet => Ok(()),
-            Effect::Send(payload) => {
-                let Ok(()) = self.send(dev, &payload) else {
-                    self.space.put_back(dev, &before);
+        if self.posts.reserve(1).is_err() || self.entries.reserve(1).is_err() {
+            return Err(OutOfMemory);
+        }
+        if let Effect::Send(payload) = self.space.store_device(dev, at, width, value) {
+            let post = self.post_of(dev, &payload);
+            self.posts.push_back_reserved(post);
+            self.numbers.count_post();
+            if let Some(note) = note_if(self.space.is_shown(dev), dev, &payload) {
+                let entry = self.entry_of(note);
+                self.entries.push_reserved(entry);
+                self.numbers.count_entry();
+            }
+        }
+        Ok(())
+    }
+
+    /// A load that is not known to lie in a memory.
+    #[inline(never)]
+    #[tactic(auto, unfolding(crate::specs::Wires::loaded))]
+    fn load_anew(&mut self, at: u32, width: u8) -> Result<u32, OutOfMemory>
+        requires { IsAccess at width }
+        ensures answer { IfOk result (λ value. value ≡ answer self.old at width) }
+        ensures fits { IfOk result (λ value. value < 256 ^ width) }
+        ensures ok { OnOk result (self.new ≡ loaded self.old at width) }
+        ensures err { OnErr result (self.new ≡ self.old) }
+    {
+        match self.space.find_data(at, width) {
+            Target::Ram { part, at } => Ok(self.space.load_memory(part, at, width)),
+            Target::Dev { dev, at } => Ok(self.space.load_device(dev, at, width)),
+            Target::Clint { at } => Ok(self.space.load_timer(self.at, at, width)),
+            Target::Plic { at } => Ok(self.space.load_controller(at, width)),
+            Target::Nothing => {
+                self.enter(What::Read { width, at })?;
+                Ok(0)
+            }
+        }
+    }
+
+    /// A store that is not known to lie in a memory.
+    #[inline(never)]
+    #[tactic(auto, unfolding(crate::specs::Wires::stored))]
+    fn store_anew(&mut self, at: u32, width: u8, value: u32) -> Result<(), OutOfMemory>
+        requires { IsAccess at width }
+        ensures ok { OnOk result (self.new ≡ stored self.old at width value) }
+        ensures err { OnErr result (self.new ≡ self.old) }
+    {
+        match self.space.find_data(at, width) {
+            Target::Ram { part, at } => {
+                let Ok(()) = self.space.store_memory(part, at, width, value) else {
                     return Err(OutOfMemory);
                 };
                 Ok(())
             }
+            Target::Dev { dev, at } => self.store_in_device(dev, at, width, value),
+            Target::Clint { at } => {
+                self.space.store_timer(self.at, at, width, value);
+                Ok(())
+            }
+            Target::Plic { at } => {
+                self.space.store_controller(at, width, value);
+                Ok(())
+            }
+            Target::Nothing => self.enter(What::Write { width, at, value }),
         }
     }
 }
@@ -170,43 +203,31 @@ impl<D: Device> Bus for Wires<D> {
 
     ghost stored = { stored };
 
+    #[inline(always)]
     fn fetch(&mut self, at: u32) -> Option<u32> {
         self.space.fetch(at)
     }
 
+    #[inline(always)]
     #[tactic(auto, unfolding(crate::specs::Wires::loaded))]
     fn load(&mut self, at: u32, width: u8) -> Result<u32, OutOfMemory> {
-        match self.space.find(at, width) {
-            Target::Ram { part, at } => Ok(self.space.load_memory(part, at, width)),
-            Target::Dev { dev, at } => Ok(self.space.load_device(dev, at, width)),
-            Target::Clint { at } => Ok(self.space.load_timer(self.at, at, width)),
-            Target::Plic { at } => Ok(self.space.load_controller(at, width)),
-            Target::Nothing => {
-                self.enter(What::Read { width, at })?;
-                Ok(0)
-            }
+        match self.space.near_data(at) {
+            Some(place) => Ok(self.space.load_memory(place.part, place.at, width)),
+            None => self.load_anew(at, width),
         }
     }
 
+    #[inline(always)]
     #[tactic(auto, unfolding(crate::specs::Wires::stored))]
     fn store(&mut self, at: u32, width: u8, value: u32) -> Result<(), OutOfMemory> {
-        match self.space.find(at, width) {
-            Target::Ram { part, at } => {
-                let Ok(()) = self.space.store_memory(part, at, width, value) else {
+        match self.space.near_data(at) {
+            Some(place) => {
+                let Ok(()) = self.space.store_memory(place.part, place.at, width, value) else {
                     return Err(OutOfMemory);
                 };
                 Ok(())
             }
-            Target::Dev { dev, at } => self.store_in_device(dev, at, width, value),
-            Target::Clint { at } => {
-                self.space.store_timer(self.at, at, width, value);
-                Ok(())
-            }
-            Target::Plic { at } => {
-                self.space.store_controller(at, width, value);
-                Ok(())
-            }
-            Target::Nothing => self.enter(What::Write { width, at, value }),
+            None => self.store_anew(at, width, value),
         }
     }
 }

@@ -8,7 +8,7 @@ ghost use Rattle.repl_read.specs.Inner.Turns.{turn};
 use std::alloc::{AllocError, Global};
 
 /// What a sign stands in.
-#[derive(Clone, Copy, PartialEq, Eq, Debug)]
+#[derive(Clone, Copy)]
 pub(crate) enum Inside {
     Nothing,
     /// A string.

@@ -7,7 +7,7 @@ use crate::tokens::Token;
 use std::alloc::{AllocError, Global};
 
 /// A sign at which a line is cut.
-#[derive(Clone, Copy, PartialEq, Eq, Debug)]
+#[derive(Clone, Copy)]
 pub(crate) enum Mark {
     Colon,
     Semicolon,

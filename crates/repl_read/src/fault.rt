@@ -46,14 +46,14 @@ pub enum PlatFault {
 }
 
 /// What is wrong with a line of a text.
-#[derive(Clone, Copy, PartialEq, Eq, Debug)]
+#[derive(Clone, Copy)]
 pub(crate) enum ReadCause {
     Form,
     Feature,
 }
 
 /// Why a part of a text is not read.
-#[derive(Clone, Copy, PartialEq, Eq, Debug)]
+#[derive(Clone, Copy)]
 pub(crate) enum Fault {
     Cause(ReadCause),
     /// Memory was wanting.

@@ -17,7 +17,7 @@ use lab_num::Rows;
 use std::alloc::Global;
 
 /// Where a line stands.
-#[derive(Clone, Copy, PartialEq, Eq, Debug)]
+#[derive(Clone, Copy, PartialEq)]
 pub(crate) enum Stand {
     /// Behind no head to which items may come.
     Apart,
@@ -28,7 +28,7 @@ pub(crate) enum Stand {
 }
 
 /// What a line says, and where the next one stands.
-#[derive(Drop, Debug)]
+#[derive(Drop)]
 pub(crate) struct Said {
     pub(crate) head: Option<Head>,
     pub(crate) items: Rows<ItemWhat>,
@@ -36,7 +36,7 @@ pub(crate) struct Said {
 }
 
 /// The items of a line between braces, and whether the braces end on it.
-#[derive(Drop, Debug)]
+#[derive(Drop)]
 struct Listed {
     items: Rows<ItemWhat>,
     ended: bool,

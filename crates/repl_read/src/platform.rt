@@ -13,7 +13,7 @@ use lab_num::Rows;
 use std::alloc::Global;
 
 /// An entry to which items may still come.
-#[derive(Drop, Debug)]
+#[derive(Drop)]
 struct Begun {
     line: u32,
     head: Head,

@@ -10,7 +10,7 @@ use lab_num::{NoMemory, Rows, Text};
 use std::alloc::{AllocError, Global};
 
 /// A word, a string or a sign.
-#[derive(Drop, Debug)]
+#[derive(Drop)]
 pub(crate) enum Token {
     /// A run of letters, digits, `_` and dots.
     Word(Text),
@@ -38,7 +38,7 @@ pub(crate) enum Token {
 }
 
 /// A line: whether it begins with a blank, and its tokens.
-#[derive(Drop, Debug)]
+#[derive(Drop)]
 pub(crate) struct TokenLine {
     pub(crate) indented: bool,
     pub(crate) tokens: Rows<Token>,
@@ -77,7 +77,7 @@ fn sign_of(b: u8) -> Token
 }
 
 /// One token, or none for a blank, and the place in the line where it ends.
-#[derive(Drop, Debug)]
+#[derive(Drop)]
 struct Step {
     token: Option<Token>,
     end: usize,

@@ -78,3 +78,18 @@ sole_found {X} p (y ∷ ys) (suc i) x few there passes =
       | true ↦ λ h. absurd (omega (arith, h, more))
       | false ↦ λ h. sole_found p ys i x h there passes
     ] few
+
+-- what all items pass, each of them does
+pub passes_at : {X : Type 0} (p : X → Bool) (xs : List X) (i : ℕ) (x : X) →
+    list_all p xs ≡ true → slice_get xs i ≡ Some x → p x ≡ true
+passes_at p [] i x all there = absurd (cc)
+passes_at p (y ∷ ys) zero x all there =
+    elim (p y) as (λ b. p y ≡ b → (b && list_all p ys) ≡ true → p x ≡ true) [
+      | true ↦ λ is rest. rw (← same_Some _ _ there) is
+      | false ↦ λ is never. absurd (cc)
+    ] refl all
+passes_at p (y ∷ ys) (suc i) x all there =
+    elim (p y) as (λ b. (b && list_all p ys) ≡ true → p x ≡ true) [
+      | true ↦ λ rest. passes_at p ys i x rest there
+      | false ↦ λ never. absurd (cc)
+    ] all

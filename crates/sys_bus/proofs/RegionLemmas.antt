@@ -1,14 +1,19 @@
 -- Which regions hold an access.
-use Rattle.std.proofs.Common.{slice_get, find, Option, Some, None, ap, refl, ◌∙◌, ◌≡◌, ℕ, ◌+◌, ◌-◌, ◌<◌, ◌≤◌, Bool}
-use Rattle.std.proofs.Common.{true, false, List, length, filter, nat_le, IsTrue, inl, inr, arith, rules}
+use Rattle.std.proofs.Common.{slice_get, find, Option, Some, None, ap, refl, ◌∙◌, ◌≡◌, ℕ, ◌+◌, ◌-◌, ◌<◌, ◌≤◌}
+use Rattle.std.proofs.Common.{true, List, length, filter, nat_le, IsTrue, IfSome, inl, inr, arith, rules, ◌^◌}
 use Rattle.std.proofs.lemmas.Bool.Decides.{nat_tests}
+use Rattle.std.proofs.lemmas.Option.{slice_get_within, get_or_from_slice_get}
 use Rattle.sys_bus.specs.declared.region.Region.{Region}
 use Rattle.sys_bus.specs.declared.region.RegionKind.{RegionKind}
 use Rattle.sys_bus.specs.declared.region.RegionKind.TheVariants.{Ram, Clint, Plic, Dev}
 use Rattle.sys_bus.specs.declared.region.Target.TheVariants as to
 use Rattle.sys_bus.specs.Region.{holds, overlaps, count_of_overlaps, are_apart, target, target_by, target_if, target_of}
-use Rattle.sys_bus.specs.Region.{room_if, room_of, further}
-use Rattle.sys_bus.proofs.CountLemmas.{filtered_within_count, some_passes, sole_found, found_passes}
+use Rattle.sys_bus.specs.Region.{room_if, room_of, further, end_of, are_addressed, IsWithin, LiesIn}
+use Rattle.sys_bus.specs.declared.near.Near.{Near}
+use Rattle.sys_bus.specs.declared.near.Place.{Place}
+use Rattle.sys_bus.specs.Inner.Near.{IsNear, IsNearPlace}
+use Rattle.sys_bus.specs.Place.{IsPlace}
+use Rattle.sys_bus.proofs.CountLemmas.{filtered_within_count, some_passes, sole_found, found_passes, passes_at}
 
 -- two regions that hold an access overlap
 both_hold : (at width : ℕ) (a b : Region) →
@@ -61,3 +66,58 @@ belong_together regions at i apart within =
           near_holds regions (at + i) 1 there.1.0 region (omega arith) apart there.1.1 held
           ∙ further_by region.base at i region.kind low
     ] refl within
+
+-- a target lies in its region
+within_target : (regions : List Region) (at width : ℕ) → IsWithin regions width (target_of regions at width)
+within_target regions at width =
+    elim (find (holds at width) regions) as (λ found. find (holds at width) regions ≡ found →
+    IsWithin regions width (target_if at found)) [
+      | None ↦ λ is. tt
+      | Some region ↦ λ is.
+          let there = found_passes (holds at width) regions region is in
+          let fits : at - region.base + width ≤ region.size = grind (arith, nat_tests, there.0) in
+          let inside = slice_get_within regions there.1.0 region there.1.1 in
+          let read = get_or_from_slice_get regions there.1.0 region region there.1.1 in
+          by_kind region.kind (at - region.base) (there.1.0, region, inside, read, (refl, fits))
+    ] refl
+  where
+    by_kind :
+        (kind : RegionKind) (place : ℕ) → LiesIn regions width kind place →
+        IsWithin regions width (target_by place kind)
+    by_kind (Ram part) place lies = lies
+    by_kind Clint place lies = lies
+    by_kind Plic place lies = lies
+    by_kind (Dev dev) place lies = lies
+
+-- all bytes of a region that is found have addresses
+pub found_addressed :
+    (regions : List Region) (at width : ℕ) (region : Region) → IsTrue (are_addressed regions) →
+    find (holds at width) regions ≡ Some region → end_of region ≤ 2 ^ 32
+found_addressed regions at width region addressed found =
+    let there = found_passes (holds at width) regions region found in
+    let all : are_addressed regions ≡ true = search rules in
+    let passes = passes_at (λ r. nat_le (end_of r) (2 ^ 32)) regions there.1.0 region all there.1.1 in
+    grind (arith, nat_tests, passes)
+
+-- an access of a memory that is kept belongs to it
+pub near_place :
+    (regions : List Region) (near : Near) (at : ℕ) (place : Option Place) →
+    IsNear regions near → IfSome place (IsNearPlace near at) → IfSome place (IsPlace regions at)
+near_place regions near at None kept found = tt
+near_place regions near at (Some place) kept found = λ width wide.
+    let target : target_of regions at width ≡ to.Ram place.part place.at =
+    rw (found.part, ← found.address) (kept place.at width found.starts wide) in
+    (target, rw target at (within_target regions at width))
+
+-- a region that was found is kept
+pub near_found :
+    (regions : List Region) (at width part : ℕ) (region : Region) (near : Near) →
+    IsTrue (are_apart regions) → find (holds at width) regions ≡ Some region → region.kind ≡ Ram part →
+    near.base ≡ region.base → near.starts ≡ region.size - 3 → near.part ≡ part → IsNear regions near
+near_found regions at width part region near apart found kind base starts part_is = λ i w below wide.
+    let there = found_passes (holds at width) regions region found in
+    let few : (0 < w) × (w ≤ 4) = grind (arith, wide) in
+    let held : holds (near.base + i) w region ≡ true = grind (arith, nat_tests, base, starts, below, few) in
+    let offset : near.base + i - region.base ≡ i = omega (arith, base) in
+    near_holds regions (near.base + i) w there.1.0 region few.0 apart there.1.1 held
+    ∙ rw (kind, offset, part_is) refl

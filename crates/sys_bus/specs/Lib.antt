@@ -6,3 +6,4 @@ pub mod Limits
 pub mod Wire
 pub mod Plan
 pub mod Inner
+pub mod Place

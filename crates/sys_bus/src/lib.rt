@@ -3,12 +3,14 @@
 
 mod limits;
 mod name;
+mod near;
 mod part;
 mod plan;
 mod region;
 mod regions;
 mod wire;
 
+pub use near::Place;
 pub use plan::{BoardPlan, Named, NamedWhat, PlicSize};
 pub use region::{Region, RegionKind, Target};
 pub use regions::{Regions, accesses_belong_to_one_region, bytes_of_a_region_belong_together};

@@ -1,9 +1,11 @@
 //! The regions of a board.
-ghost use Rattle.std.specs.Prelude.{◌≡◌, ℕ, ◌+◌, ◌<◌, ◌≤◌, List, length, filter, IsTrue};
+ghost use Rattle.std.specs.Prelude.{◌≡◌, ℕ, ◌+◌, ◌<◌, ◌≤◌, List, length, filter, find, IsTrue, IfSome};
 ghost use Rattle.sys_bus.specs.declared.region.Region.{Region};
 ghost use Rattle.sys_bus.specs.Region.{holds, overlaps, count_of_overlaps, are_apart, are_addressed, target_of};
-ghost use Rattle.sys_bus.specs.Region.{room_of, step_of, further, IsWithin, IsWidth};
+ghost use Rattle.sys_bus.specs.Region.{target_if, room_of, step_of, further, IsWithin, IsWidth};
+ghost use Rattle.sys_bus.specs.Place.{IsPlace};
 
+use crate::near::{Near, Place};
 use crate::region::{Region, RegionKind, Target, is_same_part};
 use std::marker::Model;
 
@@ -36,18 +38,27 @@ pub(crate) fn are_addressed(regions: &[Region]) -> bool
 #[derive(Drop)]
 pub struct Regions {
     list: Vec<Region>,
+    /// The memory of the last fetch.
+    of_code: Near,
+    /// The memory of the last load or store.
+    of_data: Near,
 }
 
 impl Model for Regions {
     ghost use Rattle.std.specs.Prelude.{List, IsTrue};
     ghost use Rattle.sys_bus.specs.declared.region.Region.{Region};
-    ghost use Rattle.sys_bus.specs.Region.{are_apart};
+    ghost use Rattle.sys_bus.specs.Region.{are_apart, are_addressed};
+    ghost use Rattle.sys_bus.specs.Inner.Near.{IsNear};
 
     ghost Value = { List Region };
 
     ghost view = { λ r. r.list.items };
 
-    ghost invariant = { λ r. IsTrue (are_apart r.list.items) };
+    ghost invariant = { λ r.
+        IsTrue (are_apart r.list.items)
+        × IsTrue (are_addressed r.list.items)
+        × IsNear r.list.items r.of_code
+        × IsNear r.list.items r.of_data };
 }
 
 impl Regions {
@@ -56,48 +67,86 @@ impl Regions {
         requires addressed { IsTrue (are_addressed list.items) }
         ensures { result ≡ list.items }
     {
-        Regions { list }
+        Regions {
+            list,
+            of_code: Near::none(),
+            of_data: Near::none(),
+        }
+    }
+
+    /// The region that holds an access of `width` bytes, if one does.
+    fn holder(&self, at: u32, width: u8) -> Option<Region>
+        requires { IsWidth width }
+        ensures region { result ≡ find (holds at width) self.now }
+        ensures base { IfSome result (λ region. region.base ≤ at) }
+        ensures within { IsWithin self.now width (target_if at result) }
+    {
+        for region in &self.list {
+            if region.holds(at, width) {
+                return Some(*region);
+            }
+        }
+        None
     }
 
     /// What an access of `width` bytes belongs to: the one region that holds them all, or nothing.
-    #[inline]
     pub fn find(&self, at: u32, width: u8) -> Target
         requires { IsWidth width }
         ensures target { result ≡ target_of self.now at width }
         ensures within { IsWithin self.now width result }
     {
-        let mut near = 0;
-        self.find_near(&mut near, at, width)
-    }
-
-    /// What an access of `width` bytes belongs to, as `find` says, where the region of number
-    /// `near` is tried first. Afterwards `near` is the number of the region that was found, if one
-    /// was; any number is right to begin with.
-    #[inline]
-    pub fn find_near(&self, near: &mut usize, at: u32, width: u8) -> Target
-        requires { IsWidth width }
-        ensures target { result ≡ target_of self.now at width }
-        ensures within { IsWithin self.now width result }
-    {
-        match self.list.get(*near) {
-            Some(region) if region.holds(at, width) => region.target(at),
-            _ => self.find_anew(near, at, width),
+        match self.holder(at, width) {
+            Some(region) => region.target(at),
+            None => Target::Nothing,
         }
     }
 
-    /// What an access belongs to, by a search of all regions.
-    fn find_anew(&self, near: &mut usize, at: u32, width: u8) -> Target
-        requires { IsWidth width }
-        ensures target { result ≡ target_of self.now at width }
-        ensures within { IsWithin self.now width result }
+    /// The place of an address in the memory of the last fetch that was sought by `find_code`.
+    /// `None` says nothing: `find_code` is to be asked.
+    #[inline(always)]
+    pub fn near_code(&self, at: u32) -> Option<Place>
+        ensures { IfSome result (IsPlace self.now at) }
     {
-        for (i, region) in self.list.iter().enumerate() {
-            if region.holds(at, width) {
-                *near = i;
-                return region.target(at);
-            }
+        self.of_code.place(at)
+    }
+
+    /// The same for loads and stores, which `find_data` seeks.
+    #[inline(always)]
+    pub fn near_data(&self, at: u32) -> Option<Place>
+        ensures { IfSome result (IsPlace self.now at) }
+    {
+        self.of_data.place(at)
+    }
+
+    /// What the word of a fetch belongs to. `near_code` knows a memory from then on.
+    pub fn find_code(&mut self, at: u32) -> Target
+        ensures target { result ≡ target_of self.old at 4 }
+        ensures within { IsWithin self.old 4 result }
+        ensures same { self.new ≡ self.old }
+    {
+        let Some(region) = self.holder(at, 4) else {
+            return Target::Nothing;
+        };
+        if let RegionKind::Ram(part) = region.kind {
+            self.of_code = Near::of(&region, part);
         }
-        Target::Nothing
+        region.target(at)
+    }
+
+    /// What a load or a store of `width` bytes belongs to. `near_data` knows a memory from then on.
+    pub fn find_data(&mut self, at: u32, width: u8) -> Target
+        requires { IsWidth width }
+        ensures target { result ≡ target_of self.old at width }
+        ensures within { IsWithin self.old width result }
+        ensures same { self.new ≡ self.old }
+    {
+        let Some(region) = self.holder(at, width) else {
+            return Target::Nothing;
+        };
+        if let RegionKind::Ram(part) = region.kind {
+            self.of_data = Near::of(&region, part);
+        }
+        region.target(at)
     }
 
     /// How many bytes lie from an address to the end of the region that holds it. 0 where none does.

@@ -410,15 +410,46 @@ const ACCESSES: [(u32, u8, Target); 17] = [
     (0x0000_0000, 1, Target::Nothing),
 ];
 
+/// Addresses, and their places in the memory of the usual board once it was found: those from which
+/// four bytes of it lie.
+const PLACES: [(u32, Option<Place>); 6] = [
+    (0x7FFF_FFFF, None),
+    (0x8000_0000, Some(Place { part: 0, at: 0 })),
+    (
+        0x8000_FFFC,
+        Some(Place {
+            part: 0,
+            at: 0xFFFC,
+        }),
+    ),
+    (0x8000_FFFD, None),
+    (0x8001_0000, None),
+    (0x1000_0000, None),
+];
+
 #[test]
 fn an_access_belongs_to_the_region_that_holds_it_whole(rt: HostRuntime) -> Result<(), Fail> {
     let list = USUAL_REGIONS.to_vec(rt.alloc())?;
     assert!(rt; are_apart(&list));
     assert!(rt; are_addressed(&list));
-    let regions = Regions::new(list);
+    let mut regions = Regions::new(list);
     for (at, width, target) in ACCESSES {
         assert!(rt; width == 1 || width == 2 || width == 4);
         assert_eq!(rt; regions.find(at, width), target, "{width} bytes at {at:#x}");
+        assert_eq!(rt;
+            regions.find_data(at, width),
+            target,
+            "{width} bytes at {at:#x}"
+        );
+    }
+    assert_eq!(rt; regions.near_code(0x8000_0000), None);
+    assert_eq!(rt;
+        regions.find_code(0x8000_0010),
+        Target::Ram { part: 0, at: 0x10 }
+    );
+    for (at, place) in PLACES {
+        assert_eq!(rt; regions.near_code(at), place, "{at:#x}");
+        assert_eq!(rt; regions.near_data(at), place, "{at:#x}");
     }
     Ok(())
 }

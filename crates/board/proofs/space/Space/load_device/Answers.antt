@@ -1,4 +1,4 @@
-use Rattle.std.proofs.Common.{◌∙◌, ap}
+use Rattle.std.proofs.Common.{◌∙◌, ap, rules}
 use Rattle.dev_core.specs.Device.{kind_of}
 use Rattle.board.proofs.FitLemmas.{fit_device}
 use Rattle.board.proofs.LineLemmas.{right_device}
@@ -11,5 +11,8 @@ invariant_of-self g c = (
       (c.load-value.ensures.kind ∙ ap (λ f. kind_of f.state) c.index_mut-device.ensures.value)
       c.load-value.ensures.valid,
   c.self.invariant.2,
-  ?,
+  rw c.still-self-inside.ensures
+      (right_device _ c.from.result _ c.load-value.new.self _ _ c.is_some-known.result c.line_if-before.result
+      c.line_if-after.result c.self.invariant.3 (search rules) c.index_mut-device.ensures.value
+      c.is_some-known.ensures c.line_if-before.ensures c.line_if-after.ensures),
 )

@@ -1,0 +1,13 @@
+use Rattle.std.proofs.Common.{subst, rules}
+use Rattle.sys_bus.specs.declared.region.Target.TheVariants.{Ram}
+use Rattle.board.specs.Space.{Space}
+use Rattle.board.specs.Inner.Fit.{LiesIn}
+use Rattle.board.proofs.FitLemmas.{word_lies}
+use Rattle.board.proofs.space.Space.fetch.Goals as goal
+
+pub load_memory-requires : goal.load_memory-requires
+load_memory-requires g c =
+    let lies : LiesIn c.args.self.now 4 (Ram c.in-Some.place.part c.in-Some.place.at) =
+    subst (λ (s : Space). LiesIn s 4 (Ram c.in-Some.place.part c.in-Some.place.at)) c.self.view_is
+    (word_lies _ _ c.args.at c.in-Some.place c.self.invariant.1 c.self.invariant.0 c.in-Some.ensures) in
+    record { width = search rules; part = lies.0; lies = lies.1 }
