@@ -83,7 +83,8 @@ reset v = record v { core = record initial { halted = v.core.halted }; space = r
 abbrev pub size_of : Controller → PlicSize
 size_of c = record { sources = c.sources; contexts = c.contexts }
 
--- two boards that differ in nothing but in what their processors, timers, interrupt controllers and devices have come to
+-- two boards that differ in nothing but in what their processors, timers, interrupt controllers and devices have come
+-- to
 pub record IsSameKept (v w : View) : Type 0 where
   pub numbers : v.numbers ≡ w.numbers
   pub halted : v.core.halted ≡ w.core.halted

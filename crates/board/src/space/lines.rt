@@ -2,7 +2,8 @@
 ghost use Rattle.std.specs.Prelude.{◌≡◌, ◌<◌, ◌≤◌, ◌^◌, ◌==◌, ◌||◌, ℕ, IfSome};
 ghost use Rattle.plic.specs.Sources.{has};
 ghost use Rattle.board.specs.Lines.{software_up, timer_up, context_up, device_up, is_up, pin_up, pending, mip_of};
-ghost use Rattle.board.specs.Lines.{mtime_of, lines_of, ends_at_pin, is_from_device, brings_source_up, sources_up, sampled};
+ghost use Rattle.board.specs.Lines.{mtime_of, lines_of, ends_at_pin, is_from_device, brings_source_up};
+ghost use Rattle.board.specs.Lines.{sources_up, sampled};
 
 use super::Space;
 use super::interrupts::sample;
@@ -211,6 +212,7 @@ impl<D: Device> Space<D> {
 
     /// The same in another microsecond than that of which they were remembered: they are known
     /// where the line of the timer interrupt is as it was.
+    #[inline(never)]
     fn lines_later(&mut self, now: Micros) -> Option<Lines>
         ensures settled { IfSome result (λ lines. sampled self.old ≡ self.old) }
         ensures lines { IfSome result (λ lines. lines ≡ lines_of self.old now.0) }

@@ -1,4 +1,4 @@
-use Rattle.std.proofs.Common.{◌≡◌, ◌∙◌, ap, sym, rules}
+use Rattle.std.proofs.Common.{◌∙◌, ap, sym, rules}
 use Rattle.board.specs.Lines.{timer_up, mtime_of}
 use Rattle.board.proofs.LineLemmas.{right_later}
 use Rattle.board.proofs.space.Space.lines_later.Goals as goal
