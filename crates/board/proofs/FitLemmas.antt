@@ -2,7 +2,7 @@
 use Rattle.std.proofs.Common.{◌≡◌, ℕ, zero, suc, ◌+◌, ◌-◌, ◌%◌, ◌^◌, ◌≤◌, ◌<◌, ◌==◌, Bool, true, false, ◌&&◌, List, []}
 use Rattle.std.proofs.Common.{◌∷◌, length, map, All, slice_get, slice_index, Option, Some, None, ◌⊎◌, inl, inr, nat_le}
 use Rattle.std.proofs.Common.{nat_lt, refl, sym, ap, ◌∙◌, arith, rules}
-use Rattle.std.specs.Prelude.{slice_index_or, find}
+use Rattle.std.specs.Prelude.{slice_index_or, find, option_map}
 use Rattle.std.specs.List.{list_all, range_with_len}
 use Rattle.std.proofs.lemmas.Bool.Decides.{nat_tests}
 use Rattle.std.proofs.lemmas.List.{length-map, length-replicate}
@@ -12,10 +12,13 @@ use Rattle.dev_core.specs.declared.state.DevState.{DevState}
 use Rattle.dev_core.specs.declared.state.DevState.TheVariants as state
 use Rattle.dev_core.specs.declared.kind.Kind.{Kind}
 use Rattle.dev_core.specs.declared.kind.Kind.TheVariants.{Uart, Can, Finisher}
+use Rattle.clint.specs.Clint.{Timer}
 use Rattle.page_ram.specs.Access.{IsInOnePage, IsRamSize}
+use Rattle.plic.specs.State.{Controller}
 use Rattle.page_ram.specs.Bytes.{zeros}
 use Rattle.rv_exec.specs.Access.{IsAccess, IsWidth}
 use Rattle.sys_bus.specs.declared.plan.BoardPlan.{BoardPlan}
+use Rattle.sys_bus.specs.declared.plan.PlicSize.{PlicSize}
 use Rattle.sys_bus.specs.declared.region.Region.{Region}
 use Rattle.sys_bus.specs.declared.region.RegionKind.{RegionKind}
 use Rattle.sys_bus.specs.declared.region.RegionKind.TheVariants as kind
@@ -28,7 +31,8 @@ use Rattle.sys_bus.specs.Limits.{is_range, is_step, device_in, are_few_memories}
 use Rattle.sys_bus.specs.Plan.{IsValid}
 use Rattle.std.proofs.Math.Seq.{map-set_same}
 use Rattle.board.specs.Changes.{in_memory, is_memory}
-use Rattle.board.specs.New.{first_state, hidden, new_space, reset_device}
+use Rattle.board.specs.New.{first_state, hidden, new_space, reset_device, new_timer, new_controller, size_of}
+use Rattle.board.specs.New.{reset_timer, reset_controller}
 use Rattle.board.specs.Space.{Space, Fitted, memory_at, with_memory, with_device}
 use Rattle.board.specs.Inner.Fit.{IsFit, LiesIn, IsInPage, HoldsAccesses}
 use Rattle.sys_bus.specs.declared.near.Place.{Place}
@@ -216,6 +220,8 @@ pub fit_memory :
 fit_memory s part bytes d fit same = record {
   plan = fit.plan;
   sizes = map-set_same length s.memories part bytes d same ∙ fit.sizes;
+  timer = fit.timer;
+  controller = fit.controller;
   kinds = fit.kinds;
   states = fit.states;
 }
@@ -227,8 +233,35 @@ pub fit_device :
 fit_device s dev fitted d fit same valid = record {
   plan = fit.plan;
   sizes = fit.sizes;
+  timer = fit.timer;
+  controller = fit.controller;
   kinds = map-set_same (λ f. kind_of f.state) s.devices dev fitted d same ∙ fit.kinds;
   states = All-set (λ f. IsValidState f.state) s.devices dev fitted fit.states valid;
+}
+
+-- a timer or an interrupt controller has changed, but for its frequency or its size
+pub fit_timer :
+    (s : Space) (timer : Option Timer) → IsFit s →
+    option_map (λ c. c.frequency) timer ≡ option_map (λ c. c.frequency) s.timer → IsFit (record s { timer = timer })
+fit_timer s timer fit kept = record {
+  plan = fit.plan;
+  sizes = fit.sizes;
+  timer = kept ∙ fit.timer;
+  controller = fit.controller;
+  kinds = fit.kinds;
+  states = fit.states;
+}
+
+pub fit_controller :
+    (s : Space) (controller : Option Controller) → IsFit s →
+    option_map size_of controller ≡ option_map size_of s.controller → IsFit (record s { controller = controller })
+fit_controller s controller fit kept = record {
+  plan = fit.plan;
+  sizes = fit.sizes;
+  timer = fit.timer;
+  controller = kept ∙ fit.controller;
+  kinds = fit.kinds;
+  states = fit.states;
 }
 
 -- reset states are valid
@@ -247,6 +280,8 @@ pub fit_reset : (s : Space) → IsFit s → IsFit (record s { devices = map rese
 fit_reset s fit = record {
   plan = fit.plan;
   sizes = fit.sizes;
+  timer = fit.timer;
+  controller = fit.controller;
   kinds = kinds s.devices ∙ fit.kinds;
   states = states s.devices;
 }
@@ -270,6 +305,8 @@ pub fit_new : (plan : BoardPlan) → IsValid plan → IsFit (new_space plan)
 fit_new plan valid = record {
   plan = valid;
   sizes = sizes plan.memories;
+  timer = timer plan.frequency;
+  controller = controller plan.plic;
   kinds = kinds plan.kinds;
   states = states plan.kinds;
 }
@@ -277,6 +314,14 @@ fit_new plan valid = record {
     sizes : (ns : List ℕ) → map length (map zeros ns) ≡ ns
     sizes [] = refl
     sizes (n ∷ ns) = rw (length-replicate {A = ℕ} n 0, sizes ns) refl
+
+    timer : (frequency : Option ℕ) → option_map (λ c. c.frequency) (option_map new_timer frequency) ≡ frequency
+    timer None = refl
+    timer (Some frequency) = refl
+
+    controller : (size : Option PlicSize) → option_map size_of (option_map new_controller size) ≡ size
+    controller None = refl
+    controller (Some size) = refl
 
     kind : (k : Kind) → kind_of (first_state k) ≡ k
     kind Uart = refl
@@ -316,6 +361,23 @@ same_resets (x ∷ xs) (y ∷ ys) kinds shown =
     let seen : x.shown ≡ y.shown = cc in
     let shown' : map (λ f. f.shown) xs ≡ map (λ f. f.shown) ys = cc in
     rw (same_reset x.state y.state kind, seen, same_resets xs ys kinds' shown') refl
+
+-- nor does one of a timer or of an interrupt controller depend on what it has come to
+pub same_timers :
+    (a b : Option Timer) → option_map (λ c. c.frequency) a ≡ option_map (λ c. c.frequency) b →
+    option_map reset_timer a ≡ option_map reset_timer b
+same_timers None None same = refl
+same_timers (Some a) (Some b) same = ap (option_map new_timer) same
+same_timers None (Some b) same = absurd (cc)
+same_timers (Some a) None same = absurd (cc)
+
+pub same_controllers :
+    (a b : Option Controller) → option_map size_of a ≡ option_map size_of b →
+    option_map reset_controller a ≡ option_map reset_controller b
+same_controllers None None same = refl
+same_controllers (Some a) (Some b) same = ap (option_map new_controller) same
+same_controllers None (Some b) same = absurd (cc)
+same_controllers (Some a) None same = absurd (cc)
 
 -- from an address to the end of its memory
 pub room_fits :

@@ -18,12 +18,13 @@ use Rattle.dev_core.specs.declared.post.What.{What}
 use Rattle.dev_core.specs.declared.post.What.TheVariants as what
 use Rattle.sys_bus.specs.declared.region.Target.{Target}
 use Rattle.sys_bus.specs.declared.region.Target.TheVariants.{Ram, Clint, Plic, Dev, Nothing}
-use Rattle.board.specs.Space.{device_at, target_at, device_store, after_load, after_store, lines_of}
+use Rattle.board.specs.Lines.{sampled, lines_of}
+use Rattle.board.specs.Space.{device_at, target_at, device_store, after_load, after_store}
 use Rattle.board.specs.Numbers.{Numbers}
 use Rattle.board.specs.Wires.{note_if, sent, acted, posted, entered, entered_if, reading, loaded, stored, stored_to}
 use Rattle.board.specs.Wires.{fetched, answer}
 use Rattle.board.specs.View.{View, State, quiet, wires_of, state_of, after}
-use Rattle.board.specs.Slot.{slot, awake, asleep, woken, cycle, carried_out, instruction}
+use Rattle.board.specs.Slot.{slot, running, sampling, awake, asleep, woken, cycle, carried_out, instruction}
 use Rattle.board.specs.Stretch.{stretch}
 use Rattle.board.specs.Numbered.{AreNumbered, IsNumbered}
 
@@ -107,12 +108,14 @@ numbered_stored :
     (v : View) (t at width value : ℕ) (target : Target) → HasRoom v.numbers 1 →
     IsNumbered v.numbers 1 (state_of v.core (stored_to (wires_of v t) at width value target))
 numbered_stored v t at width value (Ram part offset) room =
-    numbered_none (record v { space = after_store v.space width value (Ram part offset) }) 1
+    numbered_none (record v { space = after_store v.space t width value (Ram part offset) }) 1
 numbered_stored v t at width value (Dev dev offset) room =
-    numbered_acted (record v { space = after_store v.space width value (Dev dev offset) }) t dev
+    numbered_acted (record v { space = after_store v.space t width value (Dev dev offset) }) t dev
     (device_store v.space dev offset width value).answer room
-numbered_stored v t at width value (Clint offset) room = numbered_none v 1
-numbered_stored v t at width value (Plic offset) room = numbered_none v 1
+numbered_stored v t at width value (Clint offset) room =
+    numbered_none (record v { space = after_store v.space t width value (Clint offset) }) 1
+numbered_stored v t at width value (Plic offset) room =
+    numbered_none (record v { space = after_store v.space t width value (Plic offset) }) 1
 numbered_stored v t at width value Nothing room = numbered_entered v t (what.Write width at value) room
 
 -- an effect was carried out
@@ -147,16 +150,23 @@ numbered_asleep v t lines room = by_ready (is_ready v.core lines.mip)
     by_ready true = numbered_awake (woken v) t lines room
     by_ready false = numbered_none (record v { core = ticked v.core }) 1
 
+numbered_running :
+    (v : View) (t : ℕ) (lines : Lines) → HasRoom v.numbers 1 → IsNumbered v.numbers 1 (running v t lines)
+numbered_running v t lines room = by_waiting v.core.waiting
+  where
+    by_waiting : (waiting : Bool) → IsNumbered v.numbers 1 (if waiting then asleep v t lines else awake v t lines)
+    by_waiting true = numbered_asleep v t lines room
+    by_waiting false = numbered_awake v t lines room
+
 numbered_slot : (v : View) (t : ℕ) → HasRoom v.numbers 1 → IsNumbered v.numbers 1 (slot v t)
 unfolding slot
-numbered_slot v t room = by_tests v.core.halted v.core.waiting
+numbered_slot v t room = by_halted v.core.halted
   where
-    by_tests :
-        (halted waiting : Bool) → let lines = lines_of v.space t in
-        IsNumbered v.numbers 1 (if halted then quiet v else if waiting then asleep v t lines else awake v t lines)
-    by_tests true waiting = numbered_none v 1
-    by_tests false true = numbered_asleep v t (lines_of v.space t) room
-    by_tests false false = numbered_awake v t (lines_of v.space t) room
+    by_halted :
+        (halted : Bool) →
+        IsNumbered v.numbers 1 (if halted then quiet v else running (sampling v) t (lines_of (sampled v.space) t))
+    by_halted true = numbered_none v 1
+    by_halted false = numbered_running (sampling v) t (lines_of (sampled v.space) t) room
 
 -- keys that come after others go on with the numbers
 AreNumbered-append :

@@ -10,11 +10,12 @@ use Rattle.dev_core.specs.declared.payload.Effect.TheVariants.{Quiet, Send}
 use Rattle.dev_core.specs.declared.post.What.{What}
 use Rattle.sys_bus.specs.declared.region.Target.{Target}
 use Rattle.sys_bus.specs.declared.region.Target.TheVariants.{Ram, Clint, Plic, Dev, Nothing}
-use Rattle.board.specs.Space.{Space, device_at, target_at, device_store, after_load, after_store, lines_of}
+use Rattle.board.specs.Lines.{sampled, lines_of}
+use Rattle.board.specs.Space.{Space, device_at, target_at, device_store, after_load, after_store}
 use Rattle.board.specs.Wires.{Wires, posted, entered_if, note_if, sent, acted, reading, fetched, loaded, stored}
 use Rattle.board.specs.Wires.{stored_to}
 use Rattle.board.specs.View.{View, quiet, wires_of}
-use Rattle.board.specs.Slot.{slot, awake, asleep, woken, cycle, instruction}
+use Rattle.board.specs.Slot.{slot, running, sampling, awake, asleep, woken, cycle, instruction}
 use Rattle.board.specs.Stretch.{stretch}
 
 plan-entered_if : (w : Wires) (note : Option What) → (entered_if w note).space.plan ≡ w.space.plan
@@ -39,7 +40,7 @@ plan-stored_to :
     (stored_to w at width value target).space.plan ≡ w.space.plan
 plan-stored_to w at width value (Ram part offset) = refl
 plan-stored_to w at width value (Dev dev offset) =
-    plan-acted (record w { space = after_store w.space width value (Dev dev offset) }) dev
+    plan-acted (record w { space = after_store w.space w.at width value (Dev dev offset) }) dev
     (device_store w.space dev offset width value).answer
 plan-stored_to w at width value (Clint offset) = refl
 plan-stored_to w at width value (Plic offset) = refl
@@ -73,17 +74,24 @@ plan-asleep v t lines = by_ready (is_ready v.core lines.mip)
     by_ready true = plan-awake (woken v) t lines
     by_ready false = refl
 
-plan-slot : (v : View) (t : ℕ) → (slot v t).view.space.plan ≡ v.space.plan
-unfolding slot
-plan-slot v t = by_tests v.core.halted v.core.waiting
+plan-running : (v : View) (t : ℕ) (lines : Lines) → (running v t lines).view.space.plan ≡ v.space.plan
+plan-running v t lines = by_waiting v.core.waiting
   where
-    by_tests :
-        (halted waiting : Bool) → let lines = lines_of v.space t in
-        (if halted then quiet v else if waiting then asleep v t lines else awake v t lines).view.space.plan
+    by_waiting :
+        (waiting : Bool) → (if waiting then asleep v t lines else awake v t lines).view.space.plan ≡ v.space.plan
+    by_waiting true = plan-asleep v t lines
+    by_waiting false = plan-awake v t lines
+
+plan-slot : (v : View) (t : ℕ) → (slot v t).view.space.plan ≡ v.space.plan
+unfolding slot sampled
+plan-slot v t = by_halted v.core.halted
+  where
+    by_halted :
+        (halted : Bool) →
+        (if halted then quiet v else running (sampling v) t (lines_of (sampled v.space) t)).view.space.plan
         ≡ v.space.plan
-    by_tests true waiting = refl
-    by_tests false true = plan-asleep v t (lines_of v.space t)
-    by_tests false false = plan-awake v t (lines_of v.space t)
+    by_halted true = refl
+    by_halted false = plan-running (sampling v) t (lines_of (sampled v.space) t)
 
 pub plan-stretch : (v : View) (from a n : ℕ) → (stretch v from a n).view.space.plan ≡ v.space.plan
 unfolding stretch

@@ -13,12 +13,13 @@ use Rattle.dev_core.specs.declared.post.What.{What}
 use Rattle.dev_core.specs.declared.post.What.TheVariants as what
 use Rattle.sys_bus.specs.declared.region.Target.{Target}
 use Rattle.sys_bus.specs.declared.region.Target.TheVariants.{Ram, Clint, Plic, Dev, Nothing}
-use Rattle.board.specs.Space.{device_at, target_at, device_store, after_load, after_store, lines_of}
+use Rattle.board.specs.Lines.{sampled, lines_of}
+use Rattle.board.specs.Space.{device_at, target_at, device_store, after_load, after_store}
 use Rattle.board.specs.Wires.{Wires, posted, entered_if, note_if, sent, acted, reading, fetched, answer, loaded, stored}
 use Rattle.board.specs.Wires.{stored_to}
 use Rattle.rv_exec.specs.Effect.{Effect, Done, Load, Store, effect_of_fetch, core_after, bus_after}
 use Rattle.board.specs.View.{View, State, quiet, wires_of, state_of, after}
-use Rattle.board.specs.Slot.{slot, awake, asleep, woken, cycle, carried_out, instruction}
+use Rattle.board.specs.Slot.{slot, running, sampling, awake, asleep, woken, cycle, carried_out, instruction}
 
 -- wires by which nothing was made yet
 abbrev pub emptied : Wires → Wires
@@ -67,12 +68,14 @@ stored-emptied w at width value = by_target (target_at w.space at width)
     by_target :
         (target : Target) → stored_to w at width value target ≡ behind w (stored_to (emptied w) at width value target)
     by_target (Ram part offset) =
-        behind-emptied (record w { space = after_store w.space width value (Ram part offset) })
+        behind-emptied (record w { space = after_store w.space w.at width value (Ram part offset) })
     by_target (Dev dev offset) =
-        acted-emptied (record w { space = after_store w.space width value (Dev dev offset) }) dev
+        acted-emptied (record w { space = after_store w.space w.at width value (Dev dev offset) }) dev
         (device_store w.space dev offset width value).answer
-    by_target (Clint offset) = behind-emptied w
-    by_target (Plic offset) = behind-emptied w
+    by_target (Clint offset) =
+        behind-emptied (record w { space = after_store w.space w.at width value (Clint offset) })
+    by_target (Plic offset) =
+        behind-emptied (record w { space = after_store w.space w.at width value (Plic offset) })
     by_target Nothing = entered_if-emptied w (Some (what.Write width at value))
 
 -- an effect
@@ -127,7 +130,7 @@ speed-stored_to :
     (stored_to w at width value target).numbers.speed ≡ w.numbers.speed
 speed-stored_to w at width value (Ram part offset) = refl
 speed-stored_to w at width value (Dev dev offset) =
-    speed-acted (record w { space = after_store w.space width value (Dev dev offset) }) dev
+    speed-acted (record w { space = after_store w.space w.at width value (Dev dev offset) }) dev
     (device_store w.space dev offset width value).answer
 speed-stored_to w at width value (Clint offset) = refl
 speed-stored_to w at width value (Plic offset) = refl
@@ -161,14 +164,22 @@ speed-asleep v t lines = by_ready (is_ready v.core lines.mip)
     by_ready true = speed-awake (woken v) t lines
     by_ready false = refl
 
+speed-running : (v : View) (t : ℕ) (lines : Lines) → (running v t lines).view.numbers.speed ≡ v.numbers.speed
+speed-running v t lines = by_waiting v.core.waiting
+  where
+    by_waiting :
+        (waiting : Bool) →
+        (if waiting then asleep v t lines else awake v t lines).view.numbers.speed ≡ v.numbers.speed
+    by_waiting true = speed-asleep v t lines
+    by_waiting false = speed-awake v t lines
+
 pub speed-slot : (v : View) (t : ℕ) → (slot v t).view.numbers.speed ≡ v.numbers.speed
 unfolding slot
-speed-slot v t = by_tests v.core.halted v.core.waiting
+speed-slot v t = by_halted v.core.halted
   where
-    by_tests :
-        (halted waiting : Bool) → let lines = lines_of v.space t in
-        (if halted then quiet v else if waiting then asleep v t lines else awake v t lines).view.numbers.speed
+    by_halted :
+        (halted : Bool) →
+        (if halted then quiet v else running (sampling v) t (lines_of (sampled v.space) t)).view.numbers.speed
         ≡ v.numbers.speed
-    by_tests true waiting = refl
-    by_tests false true = speed-asleep v t (lines_of v.space t)
-    by_tests false false = speed-awake v t (lines_of v.space t)
+    by_halted true = refl
+    by_halted false = speed-running (sampling v) t (lines_of (sampled v.space) t)

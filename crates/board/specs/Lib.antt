@@ -1,11 +1,12 @@
 pub mod Numbers
 pub mod Space
+pub mod Lines
 pub mod Wires
 pub mod View
 pub mod Slot
 pub mod Stretch
 pub mod Numbered
 pub mod New
-pub mod Early
+pub mod NoCans
 pub mod Changes
 pub mod Inner

@@ -1,5 +1,6 @@
 -- A board at lab time 0, and one that was reset.
-use Rattle.std.specs.Prelude.{◌≡◌, ℕ, false, List, map}
+use Rattle.std.specs.Prelude.{◌≡◌, ℕ, false, List, map, option_map}
+use Rattle.clint.specs.Clint.{Timer, clint_reset}
 use Rattle.dev_core.specs.declared.kind.Kind.{Kind}
 use Rattle.dev_core.specs.declared.kind.Kind.TheVariants as kind
 use Rattle.dev_core.specs.declared.state.DevState.{DevState}
@@ -8,8 +9,10 @@ use Rattle.dev_core.specs.Can.{can_reset}
 use Rattle.dev_core.specs.Device.{dev_reset, kind_of}
 use Rattle.dev_core.specs.Uart.{uart_reset}
 use Rattle.page_ram.specs.Bytes.{zeros}
+use Rattle.plic.specs.State.{Controller, plic_reset}
 use Rattle.rv_hart.specs.Core.{initial}
 use Rattle.sys_bus.specs.declared.plan.BoardPlan.{BoardPlan}
+use Rattle.sys_bus.specs.declared.plan.PlicSize.{PlicSize}
 use Rattle.board.specs.Numbers.{Numbers}
 use Rattle.board.specs.Space.{Space, Fitted}
 use Rattle.board.specs.View.{View}
@@ -27,11 +30,21 @@ first_states plan = map first_state plan.kinds
 abbrev pub hidden : DevState → Fitted
 hidden state = record { state = state; shown = false }
 
--- what a new board of a plan reaches: memories of 0, and devices in their reset states, none of them shown
+-- a timer of a frequency, and an interrupt controller of a size, in their reset states
+abbrev pub new_timer : ℕ → Timer
+new_timer frequency = record { frequency = frequency; state = clint_reset }
+
+abbrev pub new_controller : PlicSize → Controller
+new_controller size = record { sources = size.sources; contexts = size.contexts; state = plic_reset }
+
+-- what a new board of a plan reaches: memories of 0, and the timer, the interrupt controller and the devices in their
+-- reset states, no device shown
 abbrev pub new_space : BoardPlan → Space
 new_space plan = record {
   plan = plan;
   memories = map zeros plan.memories;
+  timer = option_map new_timer plan.frequency;
+  controller = option_map new_controller plan.plic;
   devices = map hidden (first_states plan);
 }
 
@@ -47,19 +60,37 @@ new_board number plan =
 abbrev pub reset_device : Fitted → Fitted
 reset_device fitted = record fitted { state = dev_reset fitted.state }
 
--- a board after a reset: its processor and its devices are in their first states, and all else is as before, the
--- halted processor too
-abbrev pub reset : View → View
-reset v = record v {
-  core = record initial { halted = v.core.halted };
-  space = record v.space { devices = map reset_device v.space.devices };
+-- a timer and an interrupt controller after a reset, which keep their frequency and their size
+abbrev pub reset_timer : Timer → Timer
+reset_timer timer = record timer { state = clint_reset }
+
+abbrev pub reset_controller : Controller → Controller
+reset_controller c = record c { state = plic_reset }
+
+abbrev pub reset_space : Space → Space
+reset_space s = record s {
+  timer = option_map reset_timer s.timer;
+  controller = option_map reset_controller s.controller;
+  devices = map reset_device s.devices;
 }
 
--- two boards that differ in nothing but in what their processors and devices have come to
+-- a board after a reset: its processor, its timer, its interrupt controller and its devices are in their first states,
+-- and all else is as before, the halted processor too
+abbrev pub reset : View → View
+reset v = record v { core = record initial { halted = v.core.halted }; space = reset_space v.space }
+
+-- what a reset keeps of an interrupt controller
+abbrev pub size_of : Controller → PlicSize
+size_of c = record { sources = c.sources; contexts = c.contexts }
+
+-- two boards that differ in nothing but in what their processors, timers, interrupt controllers and devices have come
+-- to
 pub record IsSameKept (v w : View) : Type 0 where
   pub numbers : v.numbers ≡ w.numbers
   pub halted : v.core.halted ≡ w.core.halted
   pub plan : v.space.plan ≡ w.space.plan
   pub memories : v.space.memories ≡ w.space.memories
+  pub timer : option_map (λ c. c.frequency) v.space.timer ≡ option_map (λ c. c.frequency) w.space.timer
+  pub controller : option_map size_of v.space.controller ≡ option_map size_of w.space.controller
   pub kinds : map (λ f. kind_of f.state) v.space.devices ≡ map (λ f. kind_of f.state) w.space.devices
   pub shown : map (λ f. f.shown) v.space.devices ≡ map (λ f. f.shown) w.space.devices

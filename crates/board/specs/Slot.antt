@@ -5,7 +5,7 @@ use Rattle.rv_hart.specs.declared.csr.Lines.{Lines}
 use Rattle.rv_hart.specs.Core.{Core, ticked}
 use Rattle.rv_hart.specs.Trap.{chosen, interrupt, is_ready}
 use Rattle.rv_exec.specs.Effect.{Effect, effect_of_fetch, core_after, bus_after}
-use Rattle.board.specs.Space.{lines_of}
+use Rattle.board.specs.Lines.{sampled, lines_of}
 use Rattle.board.specs.Wires.{Wires, fetched, answer, loaded, stored}
 use Rattle.board.specs.View.{View, State, quiet, wires_of, state_of}
 
@@ -35,12 +35,19 @@ abbrev pub asleep : View → ℕ → Lines → State
 asleep v t lines =
     if is_ready v.core lines.mip then awake (woken v) t lines else cycle v v.core
 
--- The steps of a slot at a microsecond, in their order. A halted processor's slot changes nothing. No interrupt
--- controller samples its sources yet. The lines are read. A processor that waits goes on waiting, or waits no more. An
--- interrupt is entered, or one instruction is done.
+-- a board whose interrupt controller has sampled its sources
+abbrev pub sampling : View → View
+sampling v = record v { space = sampled v.space }
+
+-- The steps of a slot at a microsecond, in their order:
+-- 1. a halted processor's slot changes nothing;
+-- 2. the interrupt controller samples its sources;
+-- 3. the lines are read;
+-- 4. a processor that waits goes on waiting, or waits no more;
+-- 5. an interrupt is entered,
+-- 6. or else one instruction is done.
+abbrev pub running : View → ℕ → Lines → State
+running v t lines = if v.core.waiting then asleep v t lines else awake v t lines
+
 unfoldable pub slot : View → ℕ → State
-slot v t =
-    let lines = lines_of v.space t in
-    if v.core.halted then quiet v
-    else if v.core.waiting then asleep v t lines
-    else awake v t lines
+slot v t = if v.core.halted then quiet v else running (sampling v) t (lines_of (sampled v.space) t)

@@ -1,6 +1,8 @@
--- All that the loads and stores of a board's processor reach: memories and devices, each in its region of addresses.
+-- All that the loads and stores of a board's processor reach: memories, a timer, an interrupt controller and devices,
+-- each in its region of addresses.
 use Rattle.std.specs.Prelude.{ℕ, ◌/◌, ◌%◌, ◌^◌, ◌==◌, Bool, false, if◌then◌else◌, List, [], slice_index_or, slice_set}
 use Rattle.std.specs.Prelude.{Option, None, Some}
+use Rattle.clint.specs.Clint.{Timer, clint_load, clint_stored}
 use Rattle.dev_core.specs.declared.payload.Effect.{Effect}
 use Rattle.dev_core.specs.declared.payload.Effect.TheVariants.{Quiet}
 use Rattle.dev_core.specs.declared.state.DevState.{DevState}
@@ -8,7 +10,8 @@ use Rattle.dev_core.specs.declared.state.DevState.TheVariants.{Finisher}
 use Rattle.dev_core.specs.Answered.{Answered, unchanged}
 use Rattle.dev_core.specs.Device.{dev_load, dev_store}
 use Rattle.page_ram.specs.Bytes.{value_at, put_value}
-use Rattle.rv_hart.specs.declared.csr.Lines.{Lines}
+use Rattle.plic.specs.Registers.{plic_load, plic_loaded, plic_stored}
+use Rattle.plic.specs.State.{Controller}
 use Rattle.sys_bus.specs.declared.plan.BoardPlan.{BoardPlan}
 use Rattle.sys_bus.specs.declared.region.Target.{Target}
 use Rattle.sys_bus.specs.declared.region.Target.TheVariants.{Ram, Clint, Plic, Dev, Nothing}
@@ -19,10 +22,13 @@ pub record Fitted : Type 0 where
   pub state : DevState
   pub shown : Bool
 
--- the plan of a board, the bytes of its memories, and its devices, both in the plan's order
+-- the plan of a board, the bytes of its memories, its timer and its interrupt controller where it has them, and its
+-- devices; memories and devices are in the plan's order
 pub record Space : Type 0 where
   pub plan : BoardPlan
   pub memories : List (List ℕ)
+  pub timer : Option Timer
+  pub controller : Option Controller
   pub devices : List Fitted
 
 -- the memory of a number
@@ -73,30 +79,47 @@ register_store state width value (Some reg) = dev_store state reg width value
 abbrev pub device_store : Space → ℕ → ℕ → ℕ → ℕ → Answered Effect DevState
 device_store s dev at width value = register_store (device_at s dev).state width value (register_of s dev at)
 
--- What a load of so many bytes answers that belong to a target, and the space after it. Nothing stands for a timer or
--- an interrupt controller yet.
-abbrev pub load_answer : Space → ℕ → Target → ℕ
-load_answer s width (Ram part at) = value_at (memory_at s part) at width
-load_answer s width (Dev dev at) = (device_load s dev at width).answer
-load_answer s width (Clint at) = 0
-load_answer s width (Plic at) = 0
-load_answer s width Nothing = 0
+-- What a load of a timer gives at a microsecond, and the timer after a store; a board without one has no region for it.
+abbrev pub timer_load : Option Timer → ℕ → ℕ → ℕ → ℕ
+timer_load None t at width = 0
+timer_load (Some c) t at width = clint_load c at width t
+
+abbrev pub timer_stored : Option Timer → ℕ → ℕ → ℕ → ℕ → Option Timer
+timer_stored None t at width value = None
+timer_stored (Some c) t at width value = Some (record c { state = clint_stored c at width value t })
+
+-- the same of an interrupt controller, which a load may change
+abbrev pub controller_load : Option Controller → ℕ → ℕ → ℕ
+controller_load None at width = 0
+controller_load (Some c) at width = plic_load c at width
+
+abbrev pub controller_loaded : Option Controller → ℕ → ℕ → Option Controller
+controller_loaded None at width = None
+controller_loaded (Some c) at width = Some (record c { state = plic_loaded c at width })
+
+abbrev pub controller_stored : Option Controller → ℕ → ℕ → ℕ → Option Controller
+controller_stored None at width value = None
+controller_stored (Some c) at width value = Some (record c { state = plic_stored c at width value })
+
+-- what a load of so many bytes answers at a microsecond that belong to a target, and the space after it
+abbrev pub load_answer : Space → ℕ → ℕ → Target → ℕ
+load_answer s t width (Ram part at) = value_at (memory_at s part) at width
+load_answer s t width (Dev dev at) = (device_load s dev at width).answer
+load_answer s t width (Clint at) = timer_load s.timer t at width
+load_answer s t width (Plic at) = controller_load s.controller at width
+load_answer s t width Nothing = 0
 
 abbrev pub after_load : Space → ℕ → Target → Space
 after_load s width (Ram part at) = s
 after_load s width (Dev dev at) = with_state s dev (device_load s dev at width).after
 after_load s width (Clint at) = s
-after_load s width (Plic at) = s
+after_load s width (Plic at) = record s { controller = controller_loaded s.controller at width }
 after_load s width Nothing = s
 
--- the space after a store of so many bytes of a value that belong to a target, and what a device does by it
-abbrev pub after_store : Space → ℕ → ℕ → Target → Space
-after_store s width value (Ram part at) = with_memory s part (put_value (memory_at s part) at width value)
-after_store s width value (Dev dev at) = with_state s dev (device_store s dev at width value).after
-after_store s width value (Clint at) = s
-after_store s width value (Plic at) = s
-after_store s width value Nothing = s
-
--- what the interrupt lines and the timer show in a microsecond: nothing is wired to the processor's pins yet
-abbrev pub lines_of : Space → ℕ → Lines
-lines_of s t = record { mip = 0; mtime = 0 }
+-- the space after a store at a microsecond of so many bytes of a value that belong to a target
+abbrev pub after_store : Space → ℕ → ℕ → ℕ → Target → Space
+after_store s t width value (Ram part at) = with_memory s part (put_value (memory_at s part) at width value)
+after_store s t width value (Dev dev at) = with_state s dev (device_store s dev at width value).after
+after_store s t width value (Clint at) = record s { timer = timer_stored s.timer t at width value }
+after_store s t width value (Plic at) = record s { controller = controller_stored s.controller at width value }
+after_store s t width value Nothing = s

@@ -85,7 +85,7 @@ fetched w at = word_in w.space at
 
 -- what a load answers
 abbrev pub answer : Wires → ℕ → ℕ → ℕ
-answer w at width = load_answer w.space width (target_at w.space at width)
+answer w at width = load_answer w.space w.at width (target_at w.space at width)
 
 -- what a load changes; one that reaches nothing is noted
 abbrev pub reading : ℕ → ℕ → Target → Option What
@@ -104,12 +104,15 @@ loaded w at width = loaded_from w at width (target_at w.space at width)
 
 -- what a store changes; one that reaches nothing is noted
 abbrev pub stored_to : Wires → ℕ → ℕ → ℕ → Target → Wires
-stored_to w at width value (Ram part offset) = record w { space = after_store w.space width value (Ram part offset) }
+stored_to w at width value (Ram part offset) =
+    record w { space = after_store w.space w.at width value (Ram part offset) }
 stored_to w at width value (Dev dev offset) =
-    acted (record w { space = after_store w.space width value (Dev dev offset) })
+    acted (record w { space = after_store w.space w.at width value (Dev dev offset) })
     dev (device_store w.space dev offset width value).answer
-stored_to w at width value (Clint offset) = w
-stored_to w at width value (Plic offset) = w
+stored_to w at width value (Clint offset) =
+    record w { space = after_store w.space w.at width value (Clint offset) }
+stored_to w at width value (Plic offset) =
+    record w { space = after_store w.space w.at width value (Plic offset) }
 stored_to w at width value Nothing = entered w (what.Write width at value)
 
 unfoldable pub stored : Wires → ℕ → ℕ → ℕ → Wires

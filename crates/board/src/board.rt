@@ -1,12 +1,13 @@
 //! The board: its slots, and what they make.
 ghost use Rattle.std.specs.Prelude.{◌≡◌, ◌≢◌, ℕ, ◌+◌, ◌/◌, ◌%◌, ◌<◌, ◌≤◌, ◌^◌, [], true, length, drop, map, All};
-ghost use Rattle.std.specs.Prelude.{slice_get, slice_index_or, OnOk, OnErr, IfOk, IfErr, IsTrue};
+ghost use Rattle.std.specs.Prelude.{slice_get, slice_index_or, option_map, OnOk, OnErr, IfOk, IfErr, IsTrue};
 
 use crate::numbers::Numbers;
 use crate::space::Space;
 use crate::wires::Wires;
 use dev_core::{Device, Entry, Payload, Post, Taken};
 use lab_num::{BoardNo, Micros, NoMemory};
+use plic::PlicState;
 use rv_exec::step;
 use rv_hart::{Hart, Lines};
 use std::alloc::Global;
@@ -55,13 +56,15 @@ impl<D: Device> Board<D> {
     ghost use Rattle.dev_core.specs.Device.{kind_of, IsValid as IsValidState};
     ghost use Rattle.dev_core.specs.declared.kind.Kind.TheVariants.{Finisher};
     ghost use Rattle.sys_bus.specs.Plan.{IsValid};
-    ghost use Rattle.board.specs.Early.{IsEarly};
+    ghost use Rattle.board.specs.NoCans.{HasNoCans};
     ghost use Rattle.board.specs.New.{first_states, new_board, reset};
     ghost use Rattle.board.specs.Changes.{with_pc, with_halted, with_speed, with_shown, may_be_shown, with_bytes};
     ghost use Rattle.board.specs.Changes.{WritesPrefix, holds_each, word_held, taken_by, handed};
     ghost use Rattle.board.specs.Space.{device_at};
     ghost use Rattle.board.specs.View.{quiet, after};
-    ghost use Rattle.board.specs.Slot.{slot, awake, asleep};
+    ghost use Rattle.board.specs.Inner.Fit.{IsStateOf, with_controller};
+    ghost use Rattle.board.specs.Lines.{sampled, lines_of};
+    ghost use Rattle.board.specs.Slot.{slot, running, sampling, awake, asleep};
     ghost use Rattle.page_ram.specs.Bytes.{zeros};
     ghost use Rattle.rv_hart.specs.Core.{reg};
     ghost use Rattle.board.specs.Stretch.{IsTurn};
@@ -76,7 +79,7 @@ impl<D: Device> Board<D> {
         devices: Vec<D>,
     ) -> Result<Board<D>, Vec<D>>
         requires plan { IsValid plan }
-        requires early { IsEarly plan }
+        requires cans { HasNoCans plan }
         requires devices { map D.meaning devices.items ≡ first_states plan }
         ensures state { IfOk result (λ board. board ≡ quiet (new_board number.0 plan)) }
         ensures back { IfErr result (λ back. back.items ≡ devices.items) }
@@ -171,7 +174,60 @@ impl<D: Device> Board<D> {
         if self.hart.halted() {
             return Ok(());
         }
-        let lines = self.wires.space.lines(at);
+        match self.wires.space.settled_lines(at) {
+            Some(lines) => self.run(at, lines),
+            None => self.sample_and_run(at),
+        }
+    }
+
+    /// The state of the interrupt controller, where there is one.
+    fn controller_state(&self) -> Option<PlicState>
+        ensures value { result ≡ option_map (λ c. c.state) self.now.view.space.controller }
+        ensures valid { IsStateOf self.now.view.space.controller result }
+    {
+        self.wires.space.controller_state()
+    }
+
+    /// The interrupt controller samples its sources, and the lines are read.
+    fn sample(&mut self, at: Micros) -> Lines
+        ensures after { self.new ≡ record self.old { view = sampling self.old.view } }
+        ensures lines { result ≡ lines_of (sampled self.old.view.space) at.0 }
+    {
+        self.wires.space.sample(at)
+    }
+
+    /// Puts the interrupt controller back into a state that it had.
+    fn put_controller(&mut self, state: &Option<PlicState>)
+        requires { IsStateOf self.old.view.space.controller state.now }
+        ensures { self.new ≡ record self.old { view = with_controller self.old.view state.now } }
+    {
+        self.wires.space.put_controller(state);
+    }
+
+    /// The rest of a slot in which the interrupt controller has to sample. After an `Err` the
+    /// board is as before, the controller too.
+    #[cold]
+    #[inline(never)]
+    fn sample_and_run(&mut self, at: Micros) -> Result<(), NoMemory>
+        ensures ok { OnOk result (self.new ≡ after self.old
+            (running (sampling self.old.view) at.0 (lines_of (sampled self.old.view.space) at.0))) }
+        ensures err { OnErr result (self.new ≡ self.old) }
+    {
+        let before = self.controller_state();
+        let lines = self.sample(at);
+        let Ok(()) = self.run(at, lines) else {
+            self.put_controller(&before);
+            return Err(NoMemory);
+        };
+        Ok(())
+    }
+
+    /// The rest of a slot whose lines are these. After an `Err` the board is as before.
+    #[inline]
+    fn run(&mut self, at: Micros, lines: Lines) -> Result<(), NoMemory>
+        ensures ok { OnOk result (self.new ≡ after self.old (running self.old.view at.0 lines)) }
+        ensures err { OnErr result (self.new ≡ self.old) }
+    {
         if self.hart.waiting() {
             return self.wait(at, lines);
         }
@@ -299,9 +355,9 @@ impl<D: Device> Board<D> {
         self.wires.space.zero(at, count);
     }
 
-    /// Brings the processor and the devices into their first states, with the pc at 0. Memories,
-    /// speed, whether the processor is halted, which devices are shown, and the counts of posts and
-    /// entries stay.
+    /// Brings the processor, the timer, the interrupt controller and the devices into their first
+    /// states, with the pc at 0. Memories, speed, whether the processor is halted, which devices are
+    /// shown, and the counts of posts and entries stay.
     pub fn reset(&mut self)
         ensures { self.new ≡ record self.old { view = reset self.old.view } }
     {
@@ -360,6 +416,14 @@ impl<D: Device> Board<D> {
         ensures { result ≡ self.now.view.numbers.entered }
     {
         self.wires.numbers.entered
+    }
+
+    /// How many cycles the processor has counted, by its CSR mcycle.
+    #[cfg(test)]
+    pub fn cycles(&self) -> u64
+        ensures { result ≡ self.now.view.core.mcycle }
+    {
+        self.hart.state().mcycle
     }
 
     /// How many instructions the processor has retired, by its CSR minstret.

@@ -1,7 +1,7 @@
 //! A device of a board.
-ghost use Rattle.std.specs.Prelude.{◌≡◌, ◌^◌, ◌%◌, ◌<◌, true};
+ghost use Rattle.std.specs.Prelude.{◌≡◌, ◌^◌, ◌%◌, ◌<◌, ◌&&◌, true};
 ghost use Rattle.rv_exec.specs.Access.{IsWidth};
-ghost use Rattle.dev_core.specs.Device.{dev_take, dev_reset, kind_of, IsValid};
+ghost use Rattle.dev_core.specs.Device.{dev_line, dev_take, dev_reset, kind_of, IsValid};
 ghost use Rattle.board.specs.Space.{register_load, register_store};
 ghost use Rattle.board.specs.New.{hidden, reset_device};
 
@@ -105,6 +105,20 @@ impl<D: Device> Fitted<D> {
         ensures valid { IsValid self.new.state }
     {
         self.device.reset();
+    }
+
+    /// Whether the interrupt line is up.
+    pub fn line(&self) -> bool
+        ensures { result ≡ dev_line self.now.state }
+    {
+        self.device.line()
+    }
+
+    /// The same where it is asked for, and else false.
+    pub fn line_if(&self, asked: bool) -> bool
+        ensures { result ≡ (asked && dev_line self.now.state) }
+    {
+        asked && self.device.line()
     }
 }
 

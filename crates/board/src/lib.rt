@@ -7,12 +7,13 @@ mod fitted;
 mod laws;
 mod numbers;
 mod plan;
+mod remembered;
 mod space;
 mod wires;
 
 pub use board::{Board, SlotAt, Turn};
 pub use laws::{resets_agree, stretches_join, stretches_keep_plans, stretches_number, turns_join};
-pub use plan::is_early;
+pub use plan::has_no_cans;
 
 #[cfg(test)]
 mod tests;

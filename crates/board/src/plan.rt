@@ -2,7 +2,7 @@
 ghost use Rattle.std.specs.Prelude.{◌≡◌, ◌↔◌, IsTrue};
 ghost use Rattle.sys_bus.specs.Limits.{count_of};
 ghost use Rattle.dev_core.specs.declared.kind.Kind.TheVariants.{Can};
-ghost use Rattle.board.specs.Early.{IsEarly};
+ghost use Rattle.board.specs.NoCans.{HasNoCans};
 
 use dev_core::Kind;
 use sys_bus::BoardPlan;
@@ -17,13 +17,9 @@ fn count_of_cans(kinds: &[Kind]) -> usize
         .count()
 }
 
-/// Whether a board can be made by the valid plan already: it has no timer, no interrupt controller,
-/// no wire and no CAN controller.
-pub fn is_early(plan: &BoardPlan) -> bool
-    ensures { IsTrue result ↔ IsEarly plan.now }
+/// Whether a board can be made by the valid plan already: it has no CAN controller.
+pub fn has_no_cans(plan: &BoardPlan) -> bool
+    ensures { IsTrue result ↔ HasNoCans plan.now }
 {
-    plan.frequency.is_none()
-        && plan.plic.is_none()
-        && plan.wires.items().is_empty()
-        && count_of_cans(plan.kinds.items()) == 0
+    count_of_cans(plan.kinds.items()) == 0
 }

@@ -1,55 +1,77 @@
-//! All that the loads and stores of a board's processor reach: memories and devices.
-ghost use Rattle.std.specs.Prelude.{◌≡◌, ◌≤◌, ◌+◌, ◌<◌, ◌^◌, length, map, All, IfOk, IfErr, IfSome, OnOk, OnErr};
+//! All that the loads and stores of a board's processor reach: memories, a timer, an interrupt
+//! controller and devices.
+ghost use Rattle.std.specs.Prelude.{◌≡◌, ◌≤◌, ◌+◌, ◌<◌, ◌^◌, length, map, option_map, All, IsTrue, IfOk, IfErr, IfSome};
+ghost use Rattle.std.specs.Prelude.{OnOk, OnErr};
 ghost use Rattle.rv_exec.specs.Access.{IsAccess, IsWidth};
 ghost use Rattle.page_ram.specs.Access.{IsInOnePage, IsRamSize};
 ghost use Rattle.page_ram.specs.Bytes.{zeros, value_at, put_value};
+ghost use Rattle.sys_bus.specs.Limits.{is_frequency, is_plic_size};
 ghost use Rattle.sys_bus.specs.Plan.{IsValid};
-ghost use Rattle.board.specs.Space.{memory_at, with_memory, target_at, lines_of};
+ghost use Rattle.board.specs.Space.{memory_at, with_memory, target_at};
 ghost use Rattle.board.specs.Wires.{word_in};
-ghost use Rattle.board.specs.New.{first_states, hidden, new_space};
+ghost use Rattle.board.specs.New.{first_states, hidden, new_space, new_timer, new_controller};
 ghost use Rattle.board.specs.Inner.Fit.{IsFit, LiesIn, IsInPage, HoldsAccesses};
+ghost use Rattle.board.specs.Inner.Remembers.{is_wired};
 
 mod devices;
+mod interrupts;
+mod lines;
 mod memories;
 
 use crate::fitted::Fitted;
+use crate::remembered::Remembered;
+use clint::Clint;
 use dev_core::Device;
-use lab_num::{Micros, NoMemory};
+use lab_num::NoMemory;
 use page_ram::{PageRam, aligned_numbers_lie_in_one_page};
-use rv_hart::Lines;
+use plic::Plic;
 use std::alloc::Global;
 use std::collections::VecDeque;
 use std::marker::Model;
-use sys_bus::{BoardPlan, Place, Regions, Target};
+use sys_bus::{BoardPlan, Place, PlicSize, Regions, Target};
 
-/// The memories and devices of a board, in the order of its plan.
+/// The memories and devices of a board, in the order of its plan, and its timer and interrupt
+/// controller.
 #[derive(Drop)]
 pub struct Space<D: Device> {
     plan: BoardPlan,
     /// The plan's.
     regions: Regions,
     memories: Vec<PageRam>,
+    timer: Option<Clint>,
+    controller: Option<Plic>,
     devices: Vec<Fitted<D>>,
+    /// Whether there is a line that may be up.
+    wired: bool,
+    /// The lines, as long as nothing was touched since that they depend on.
+    remembered: Option<Remembered>,
 }
 
 impl<D: Device> Model for Space<D> {
     ghost use Rattle.std.specs.Prelude.{◌≡◌};
     ghost use Rattle.board.specs.Space.{Space as Seen};
     ghost use Rattle.board.specs.Inner.Fit.{IsFit};
+    ghost use Rattle.board.specs.Inner.Remembers.{is_wired, IsRight};
 
     ghost Value = { Seen };
 
     ghost view = { λ s. record {
       plan = s.plan;
       memories = s.memories.items;
+      timer = s.timer;
+      controller = s.controller;
       devices = s.devices.items;
     } };
 
-    ghost invariant = { λ s. (s.regions ≡ s.plan.regions) × IsFit (record {
-      plan = s.plan;
-      memories = s.memories.items;
-      devices = s.devices.items;
-    }) };
+    ghost invariant = { λ s.
+        let seen : Seen = record {
+          plan = s.plan;
+          memories = s.memories.items;
+          timer = s.timer;
+          controller = s.controller;
+          devices = s.devices.items;
+        } in
+        (s.regions ≡ s.plan.regions) × IsFit seen × (s.wired ≡ is_wired s.plan) × IsRight seen s.remembered };
 }
 
 /// Memories of these sizes, with 0 in each byte.
@@ -81,6 +103,30 @@ fn fit_all<D: Device>(alloc: Global, devices: Vec<D>) -> Result<Vec<Fitted<D>>, 
     Ok(fitted)
 }
 
+/// The timer of a plan, in its reset state.
+fn timer_of(frequency: Option<u32>) -> Option<Clint>
+    requires { IsTrue (is_frequency frequency) }
+    ensures { result ≡ option_map new_timer frequency }
+{
+    Some(Clint::new(frequency?))
+}
+
+/// The interrupt controller of a plan, in its reset state.
+fn controller_of(size: Option<PlicSize>) -> Option<Plic>
+    requires { IsTrue (is_plic_size size) }
+    ensures { result ≡ option_map new_controller size }
+{
+    let size = size?;
+    Some(Plic::new(size.sources, size.contexts))
+}
+
+/// Whether a board of the plan has a line that may be up.
+fn is_wired(plan: &BoardPlan) -> bool
+    ensures { result ≡ is_wired plan.now }
+{
+    plan.frequency.is_some() || plan.plic.is_some() || !plan.wires.items().is_empty()
+}
+
 impl<D: Device> Space<D> {
     /// What a new board of the plan reaches. `Err` is for want of memory alone, and gives the
     /// devices back in their order.
@@ -98,10 +144,14 @@ impl<D: Device> Space<D> {
         };
         let devices = fit_all(alloc, devices)?;
         Ok(Space {
-            plan,
             regions: Regions::new(regions),
             memories,
+            timer: timer_of(plan.frequency),
+            controller: controller_of(plan.plic),
             devices,
+            wired: is_wired(&plan),
+            remembered: None,
+            plan,
         })
     }
 
@@ -110,14 +160,6 @@ impl<D: Device> Space<D> {
         ensures fit { IsFit self.now }
     {
         &self.plan
-    }
-
-    /// What the interrupt lines and the timer show in a microsecond: nothing is wired to the
-    /// processor's pins yet.
-    pub fn lines(&self, at: Micros) -> Lines
-        ensures { result ≡ lines_of self.now at.0 }
-    {
-        Lines { mip: 0, mtime: 0 }
     }
 
     /// The word at an address, where a memory holds all four bytes.

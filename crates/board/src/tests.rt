@@ -4,9 +4,10 @@ ghost use Rattle.dev_core.specs.declared.kind.Kind.TheVariants.{Uart as uart};
 ghost use Rattle.board.specs.New.{first_state};
 
 mod counted;
+mod interrupts;
 mod programs;
 
-use crate::{Board, SlotAt, Turn, is_early};
+use crate::{Board, SlotAt, Turn, has_no_cans};
 use dev_core::{Device, Entry, Finish, Kind, Payload, Post, Taken, What};
 use lab_num::{BoardNo, Key, Member, Micros, NoMemory, PostNo, Rows, Text};
 use std::alloc::Global;
@@ -42,8 +43,8 @@ enum Step {
     Speed(u32),
     /// Of the grant that begins at a microsecond, from a slot on, so many.
     Run(u64, u64, u64),
-    /// A byte arrives at the UART.
-    Arrive(u8, Taken),
+    /// A byte arrives at a device.
+    Arrive(u8, u8, Taken),
     /// The oldest post has this microsecond and number, is this byte of the UART, and is dropped.
     Sent(u64, u64, u8),
     /// The same of the end of a test, with this code.
@@ -61,6 +62,7 @@ enum Step {
     Register(u8, u32),
     At(u32),
     Retired(u64),
+    Cycles(u64),
     Holds(u32, u32, bool),
     Word(u32, Option<u32>),
 }
@@ -134,7 +136,7 @@ fn start<D: Device>(
     requires second { D.meaning devices.1 ≡ first_state second }
 {
     assert!(rt; plan.is_valid());
-    assert!(rt; is_early(&plan));
+    assert!(rt; has_no_cans(&plan));
     let mut list = Vec::new(alloc);
     if list.push(devices.0).is_err() || list.push(devices.1).is_err() {
         return Err(Fail::from(NoMemory));
@@ -192,10 +194,10 @@ fn entered<D: Device>(rt: &impl Abort, board: &mut Board<D>, key: Key, what: Wha
     assert_eq!(rt; board.take_entries().as_slice(), made.as_slice());
 }
 
-/// A byte arrives at the UART.
-fn arrive<D: Device>(rt: &impl Abort, board: &mut Board<D>, byte: u8, taken: Taken) {
-    assert!(rt; !board.plan().kinds.items().is_empty());
-    assert_eq!(rt; board.deliver(UART, &Payload::Byte(byte)), taken);
+/// A byte arrives at a device.
+fn arrive<D: Device>(rt: &impl Abort, board: &mut Board<D>, dev: u8, byte: u8, taken: Taken) {
+    assert!(rt; usize::from(dev) < board.plan().kinds.items().len());
+    assert_eq!(rt; board.deliver(dev, &Payload::Byte(byte)), taken);
 }
 
 fn show<D: Device>(rt: &impl Abort, board: &mut Board<D>) {
@@ -240,7 +242,7 @@ fn look<D: Device>(rt: &impl Abort, board: &mut Board<D>, step: Step) {
     match step {
         Step::Shown(dev, shown) => assert_eq!(rt; is_shown(rt, board, dev), shown),
         Step::Run(from, first, n) => run(rt, board, from, first, n),
-        Step::Arrive(byte, taken) => arrive(rt, board, byte, taken),
+        Step::Arrive(dev, byte, taken) => arrive(rt, board, dev, byte, taken),
         Step::Sent(at, number, byte) => sent(rt, board, key(at, number), UART, Payload::Byte(byte)),
         Step::Failed(at, number, code) => {
             let finish = Payload::Finish(Finish::Fail(code));
@@ -272,6 +274,7 @@ fn look<D: Device>(rt: &impl Abort, board: &mut Board<D>, step: Step) {
         }
         Step::At(pc) => assert_eq!(rt; board.pc(), pc),
         Step::Retired(n) => assert_eq!(rt; board.retired(), n),
+        Step::Cycles(n) => assert_eq!(rt; board.cycles(), n),
         Step::Holds(at, count, held) => assert_eq!(rt; board.holds(at, count), held),
         Step::Word(at, word) => assert_eq!(rt; board.load_word(at), word),
         _ => {}

@@ -142,7 +142,8 @@ impl<D: Device> Wires<D> {
         match self.space.find_data(at, width) {
             Target::Ram { part, at } => Ok(self.space.load_memory(part, at, width)),
             Target::Dev { dev, at } => Ok(self.space.load_device(dev, at, width)),
-            Target::Clint { .. } | Target::Plic { .. } => Ok(0),
+            Target::Clint { at } => Ok(self.space.load_timer(self.at, at, width)),
+            Target::Plic { at } => Ok(self.space.load_controller(at, width)),
             Target::Nothing => {
                 self.enter(What::Read { width, at })?;
                 Ok(0)
@@ -166,7 +167,14 @@ impl<D: Device> Wires<D> {
                 Ok(())
             }
             Target::Dev { dev, at } => self.store_in_device(dev, at, width, value),
-            Target::Clint { .. } | Target::Plic { .. } => Ok(()),
+            Target::Clint { at } => {
+                self.space.store_timer(self.at, at, width, value);
+                Ok(())
+            }
+            Target::Plic { at } => {
+                self.space.store_controller(at, width, value);
+                Ok(())
+            }
             Target::Nothing => self.enter(What::Write { width, at, value }),
         }
     }

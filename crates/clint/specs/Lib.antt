@@ -1,3 +1,4 @@
 -- What the contracts of the CLINT and of the crates above it cite.
 pub mod Clint
+pub mod Laws
 pub mod Mtime

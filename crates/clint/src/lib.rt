@@ -5,10 +5,12 @@
 mod clint;
 mod counter;
 mod halves;
+mod laws;
 mod registers;
 mod state;
 
 pub use clint::Clint;
+pub use laws::timer_lines_change_at_most_twice;
 pub use state::ClintState;
 
 #[cfg(test)]

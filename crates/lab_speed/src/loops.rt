@@ -63,3 +63,10 @@ pub const LOOPS: [(&str, &str); 7] = [
             lbu x9, 0(x1)\nlbu x10, 4(x1)\njal x0, loop\n",
     ),
 ];
+
+/// What stands before a loop on a wired board: the handler of the timer interrupt, which sets the
+/// next one, and what turns it on.
+pub const INTERRUPTS: &str = "jal x0, begin\naddi x28, x28, 100\nsw x28, 0(x29)\nmret\n\
+    begin: lui x30, 0x80000\naddi x30, x30, 4\ncsrrw x0, 0x305, x30\nlui x29, 0x2004\n\
+    addi x28, x0, 100\nsw x28, 0(x29)\nsw x0, 4(x29)\naddi x30, x0, 128\n\
+    csrrw x0, 0x304, x30\ncsrrsi x0, 0x300, 8\n";

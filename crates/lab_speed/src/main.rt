@@ -1,5 +1,6 @@
 //! How fast a board runs: `lab_speed LOOP SLOTS` runs a board over a loop of instructions for so many
-//! slots, and prints the loop's name, the slots and minstret.
+//! slots, and prints the loop's name, the slots and minstret. With the word `wired` the board has a
+//! timer, an interrupt controller and wires, and the timer interrupts the loop each 100 microseconds.
 #![tactic(auto)]
 
 ghost use Rattle.std.specs.Prelude.{◌≡◌};
@@ -12,8 +13,8 @@ mod platform;
 use board::{Board, SlotAt};
 use dev_core::Device;
 use lab_num::{BoardNo, Micros};
-use loops::LOOPS;
-use platform::usual_board;
+use loops::{INTERRUPTS, LOOPS};
+use platform::board_of;
 use rv_asm::assemble;
 use std::alloc::Global;
 use std::process::ExitCode;
@@ -24,7 +25,7 @@ use uart_16550::Uart;
 
 /// How the program is called.
 const USAGE: &str =
-    "lab_speed LOOP SLOTS, where LOOP is jumps, additions, products, memory, branches, csr or uart";
+    "lab_speed LOOP SLOTS [wired], where LOOP is jumps, additions, products, memory, branches, csr or uart";
 
 /// Where the memory begins.
 const START: u32 = 0x8000_0000;
@@ -38,6 +39,7 @@ struct Task {
     name: &'static str,
     text: &'static str,
     slots: u64,
+    wired: bool,
 }
 
 /// What the words ask for.
@@ -45,11 +47,27 @@ fn asked<R: Env + AllocGlobal>(rt: &R) -> Option<Task> {
     let mut words = env::args(rt).ok()?.skip(1);
     let name = words.next()?;
     let slots = words.next()?.parse::<u64>().ok()?;
+    let wired = match words.next() {
+        Some(word) if word.as_str() == "wired" => true,
+        Some(_) => return None,
+        None => false,
+    };
     if words.next().is_some() {
         return None;
     }
     let (name, text) = LOOPS.into_iter().find(|l| l.0 == name.as_str())?;
-    Some(Task { name, text, slots })
+    Some(Task {
+        name,
+        text,
+        slots,
+        wired,
+    })
+}
+
+/// The text of a task's program.
+fn text_of(alloc: Global, task: Task) -> Option<String> {
+    let begin = if task.wired { INTERRUPTS } else { "" };
+    format!(in alloc; "{begin}{}", task.text).ok()
 }
 
 /// The words of a text as bytes.
@@ -96,8 +114,9 @@ fn run<D: Device>(alloc: Global, task: Task, uart: D, finisher: D) -> Option<u64
     requires uart { D.meaning uart ≡ first_state Kind.Uart }
     requires finisher { D.meaning finisher ≡ first_state Kind.Finisher }
 {
-    let program = program_of(alloc, task.text)?;
-    let mut board = usual_board(alloc, uart, finisher)?;
+    let text = text_of(alloc, task)?;
+    let program = program_of(alloc, text.as_str())?;
+    let mut board = board_of(alloc, task.wired, uart, finisher)?;
     load(&mut board, &program)?;
     retired_in(&mut board, task.slots)
 }

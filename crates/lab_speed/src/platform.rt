@@ -3,23 +3,50 @@ ghost use Rattle.std.specs.Prelude.{◌≡◌, ◌∷◌, [], IfSome};
 ghost use Rattle.dev_core.specs.declared.kind.Kind.TheVariants.{Uart, Finisher};
 ghost use Rattle.board.specs.New.{first_state};
 
-use board::{Board, is_early};
+use board::{Board, has_no_cans};
 use dev_core::{Device, Kind};
 use lab_num::{BoardNo, Rows, Text};
 use std::alloc::Global;
-use sys_bus::{BoardPlan, Named, NamedWhat, Region, RegionKind};
+use sys_bus::{BoardPlan, Named, NamedWhat, PlicSize, Region, RegionKind, Wire, WireFrom, WirePin};
 
 /// The parts of the board in order, with their names and regions: 64 KiB of memory, a UART and a
-/// finisher.
-const PARTS: [(&str, RegionKind, u32, u32); 3] = [
+/// finisher, and those that a wired board has besides.
+const PARTS: [(&str, RegionKind, u32, u32); 5] = [
     ("ram", RegionKind::Ram(0), 0x8000_0000, 0x1_0000),
     ("uart", RegionKind::Dev(0), 0x1000_0000, 0x100),
     ("fin", RegionKind::Dev(1), 0x0010_0000, 0x1000),
+    ("clint", RegionKind::Clint, 0x0200_0000, 0x1_0000),
+    ("plic", RegionKind::Plic, 0x0C00_0000, 0x0400_0000),
 ];
 
-fn names(alloc: Global) -> Option<Vec<Named>> {
+/// The wires of a wired board.
+const WIRES: [Wire; 4] = [
+    Wire {
+        from: WireFrom::Soft,
+        pin: WirePin::Cpu(3),
+    },
+    Wire {
+        from: WireFrom::Timer,
+        pin: WirePin::Cpu(7),
+    },
+    Wire {
+        from: WireFrom::Context(0),
+        pin: WirePin::Cpu(11),
+    },
+    Wire {
+        from: WireFrom::Dev(0),
+        pin: WirePin::Source(10),
+    },
+];
+
+/// How many of the parts a board has.
+fn count_of_parts(wired: bool) -> usize {
+    if wired { PARTS.len() } else { 3 }
+}
+
+fn names(alloc: Global, wired: bool) -> Option<Vec<Named>> {
     let mut names = Vec::new(alloc);
-    for (name, kind, _, _) in PARTS {
+    for (name, kind, _, _) in PARTS.into_iter().take(count_of_parts(wired)) {
         let what = NamedWhat::Part(kind);
         let name = Text::of(alloc, name).ok()?;
         names.push(Named { name, what }).ok()?;
@@ -30,9 +57,9 @@ fn names(alloc: Global) -> Option<Vec<Named>> {
     Some(names)
 }
 
-fn regions(alloc: Global) -> Option<Vec<Region>> {
+fn regions(alloc: Global, wired: bool) -> Option<Vec<Region>> {
     let mut regions = Vec::new(alloc);
-    for (_, kind, base, size) in PARTS {
+    for (_, kind, base, size) in PARTS.into_iter().take(count_of_parts(wired)) {
         let step = 1;
         let region = Region {
             base,
@@ -45,33 +72,44 @@ fn regions(alloc: Global) -> Option<Vec<Region>> {
     Some(regions)
 }
 
-/// The plan of the board, which takes one instruction a microsecond.
-fn plan(alloc: Global) -> Option<BoardPlan>
+fn wires(alloc: Global, wired: bool) -> Option<Vec<Wire>> {
+    let mut wires = Vec::new(alloc);
+    if wired {
+        wires.extend(WIRES).ok()?;
+    }
+    Some(wires)
+}
+
+/// The plan of the board, which takes 25 instructions a microsecond.
+fn plan(alloc: Global, wired: bool) -> Option<BoardPlan>
     ensures { IfSome result (λ plan. plan.kinds ≡ Uart ∷ Finisher ∷ []) }
 {
     Some(BoardPlan {
-        names: Rows::of(names(alloc)?),
-        regions: Rows::of(regions(alloc)?),
+        names: Rows::of(names(alloc, wired)?),
+        regions: Rows::of(regions(alloc, wired)?),
         memories: Rows::of(vec![in alloc; 0x1_0000].ok()?),
         kinds: Rows::of(vec![in alloc; Kind::Uart, Kind::Finisher].ok()?),
-        frequency: None,
-        plic: None,
-        wires: Rows::of(Vec::new(alloc)),
-        speed: 1,
+        frequency: wired.then_some(1_000_000),
+        plic: wired.then_some(PlicSize {
+            sources: 31,
+            contexts: 1,
+        }),
+        wires: Rows::of(wires(alloc, wired)?),
+        speed: 25,
         cpu: Text::of(alloc, "cpu").ok()?,
     })
 }
 
-/// A new board with these devices.
-pub fn usual_board<D: Device>(alloc: Global, uart: D, finisher: D) -> Option<Board<D>>
+/// A new board with these devices, which may have a timer, an interrupt controller and wires.
+pub fn board_of<D: Device>(alloc: Global, wired: bool, uart: D, finisher: D) -> Option<Board<D>>
     requires uart { D.meaning uart ≡ first_state Uart }
     requires finisher { D.meaning finisher ≡ first_state Finisher }
 {
-    let plan = plan(alloc)?;
+    let plan = plan(alloc, wired)?;
     let mut devices = Vec::new(alloc);
     devices.push(uart).ok()?;
     devices.push(finisher).ok()?;
-    if !plan.is_valid() || !is_early(&plan) {
+    if !plan.is_valid() || !has_no_cans(&plan) {
         return None;
     }
     Board::new(alloc, BoardNo(0), plan, devices).ok()

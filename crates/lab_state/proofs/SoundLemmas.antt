@@ -14,7 +14,7 @@ use Rattle.std.proofs.lemmas.Option.{slice_get-get_or, same_Some}
 use Rattle.lab_num.specs.declared.key.Member.{Member}
 use Rattle.dev_core.specs.declared.kind.Kind.{Kind}
 use Rattle.dev_core.specs.declared.kind.Kind.TheVariants.{Uart, Can, Finisher}
-use Rattle.board.specs.Early.{IsEarly}
+use Rattle.board.specs.NoCans.{HasNoCans}
 use Rattle.board.specs.New.{new_board}
 use Rattle.board.specs.Numbers.{Numbers}
 use Rattle.board.specs.View.{View}
@@ -273,8 +273,8 @@ module _ {lab : Lab} {spares : Spares} (i : ℕ) (plan : BoardPlan) (sound : IsS
       let after : one_if o ≡ 1 = rw some refl in
       omega (arith, sum_by-set one_if os i o d long)
 
-  pub has-for : IsEarly plan → HasFor spares plan.kinds
-  has-for early = each
+  pub has-for : HasNoCans plan → HasFor spares plan.kinds
+  has-for cans = each
     where
       few : count_of_plans (outlines lab.boards) < 16
       few =
@@ -291,7 +291,7 @@ module _ {lab : Lab} {spares : Spares} (i : ℕ) (plan : BoardPlan) (sound : IsS
 
       each : HasFor spares plan.kinds
       each Uart = omega (arith, (small plan valid).uarts, sound.enough.uarts, few)
-      each Can = omega (arith, early.cans)
+      each Can = omega (arith, cans)
       each Finisher = omega (arith, (small plan valid).finishers, sound.enough.finishers, few)
 
   pub sound-fit :

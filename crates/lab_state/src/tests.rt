@@ -6,7 +6,7 @@ mod chip;
 mod steps;
 
 use crate::Lab;
-use board::is_early;
+use board::has_no_cans;
 use cases::{CHANGES, PROGRAMS, READ_AND_REFUSED};
 use chip::{Counts, stock};
 use dev_core::{Device, Kind, Stock};

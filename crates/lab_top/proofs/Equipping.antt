@@ -9,7 +9,7 @@ use Rattle.dev_core.specs.declared.kind.Kind.TheVariants.{Uart}
 use Rattle.sys_bus.specs.declared.plan.BoardPlan.{BoardPlan}
 use Rattle.sys_bus.specs.Plan.{IsValid}
 use Rattle.board.specs.Changes.{holds_each, may_be_shown}
-use Rattle.board.specs.Early.{IsEarly}
+use Rattle.board.specs.NoCans.{HasNoCans}
 use Rattle.board.specs.New.{new_board, new_space}
 use Rattle.board.specs.View.{View}
 use Rattle.lab_state.specs.Board.{Board}
@@ -57,9 +57,9 @@ usual_valid = record {
   wires = refl;
 }
 
-pub usual_early : IsEarly usual_plan
+pub usual_cans : HasNoCans usual_plan
 unfolding usual_plan
-usual_early = record { timer = refl; controller = refl; wires = refl; cans = refl }
+usual_cans = refl
 
 pub holds_send_a : holds_each (new_space usual_plan) start 16 ≡ true
 unfolding usual_plan

@@ -1,18 +1,24 @@
 -- What the space of a board keeps, and where an access lies in it.
-use Rattle.std.specs.Prelude.{◌≡◌, ℕ, ◌+◌, ◌≤◌, ◌<◌, length, map, All}
+use Rattle.std.specs.Prelude.{◌≡◌, ℕ, ◌+◌, ◌≤◌, ◌<◌, length, map, All, Option, None, Some, option_map}
 use Rattle.dev_core.specs.Device.{kind_of, IsValid as IsValidState}
 use Rattle.page_ram.specs.Access.{IsInOnePage}
+use Rattle.plic.specs.declared.state.PlicState.{PlicState}
+use Rattle.plic.specs.State.{Controller, IsPlicState}
 use Rattle.rv_exec.specs.Access.{IsAccess}
 use Rattle.sys_bus.specs.declared.near.Place.{Place}
 use Rattle.sys_bus.specs.declared.region.Target.{Target}
 use Rattle.sys_bus.specs.declared.region.Target.TheVariants.{Ram, Clint, Plic, Dev, Nothing}
 use Rattle.sys_bus.specs.Plan.{IsValid}
+use Rattle.board.specs.New.{size_of}
 use Rattle.board.specs.Space.{Space, memory_at, target_at}
+use Rattle.board.specs.View.{View}
 
--- memories and devices are those of the plan
+-- memories, timer, interrupt controller and devices are those of the plan
 pub record IsFit (s : Space) : Type 0 where
   pub plan : IsValid s.plan
   pub sizes : map length s.memories ≡ s.plan.memories
+  pub timer : option_map (λ c. c.frequency) s.timer ≡ s.plan.frequency
+  pub controller : option_map size_of s.controller ≡ s.plan.plic
   pub kinds : map (λ f. kind_of f.state) s.devices ≡ s.plan.kinds
   pub states : All (λ f. IsValidState f.state) s.devices
 
@@ -41,3 +47,18 @@ pub record HoldsAccess (s : Space) (at : ℕ) (place : Place) (width : ℕ) : Ty
 
 abbrev pub HoldsAccesses : Space → ℕ → Place → Type 0
 HoldsAccesses s at place = (width : ℕ) → IsAccess at width → HoldsAccess s at place width
+
+-- a state that an interrupt controller can have, where there is one, and the controller in it
+abbrev pub IsStateOf : Option Controller → Option PlicState → Type 0
+IsStateOf (Some c) (Some state) = IsPlicState c.sources c.contexts state
+IsStateOf (Some c) None = Unit {0}
+IsStateOf None state = Unit {0}
+
+abbrev pub in_state : Option Controller → Option PlicState → Option Controller
+in_state (Some c) (Some state) = Some (record c { state = state })
+in_state (Some c) None = Some c
+in_state None state = None
+
+abbrev pub with_controller : View → Option PlicState → View
+with_controller v state =
+    record v { space = record v.space { controller = in_state v.space.controller state } }

@@ -4,9 +4,10 @@ ghost use Rattle.dev_core.specs.Device.{dev_take, kind_of, IsValid};
 ghost use Rattle.rv_exec.specs.Access.{IsWidth};
 ghost use Rattle.board.specs.Space.{device_at, with_device, with_state, register_at, register_of, device_load};
 ghost use Rattle.board.specs.Space.{device_store};
-ghost use Rattle.board.specs.New.{reset_device};
+ghost use Rattle.board.specs.New.{reset_device, reset_space};
 
 use super::Space;
+use crate::remembered::still;
 use dev_core::{Device, Effect, Payload, Taken};
 
 /// The register at a place of a device whose registers begin 1 or 4 bytes apart.
@@ -38,7 +39,13 @@ impl<D: Device> Space<D> {
         ensures fits { result < 256 ^ width }
     {
         let register = self.register_of(dev, at);
-        self.devices[usize::from(dev)].load(register, width)
+        let known = self.remembered.is_some();
+        let device = &mut self.devices[usize::from(dev)];
+        let before = device.line_if(known);
+        let value = device.load(register, width);
+        let after = device.line_if(known);
+        self.remembered = still(self.remembered, before, after);
+        value
     }
 
     pub fn store_device(&mut self, dev: u8, at: u32, width: u8, value: u32) -> Effect
@@ -48,7 +55,13 @@ impl<D: Device> Space<D> {
             with_state self.old dev (device_store self.old dev at width value).after }
     {
         let register = self.register_of(dev, at);
-        self.devices[usize::from(dev)].store(register, width, value)
+        let known = self.remembered.is_some();
+        let device = &mut self.devices[usize::from(dev)];
+        let before = device.line_if(known);
+        let effect = device.store(register, width, value);
+        let after = device.line_if(known);
+        self.remembered = still(self.remembered, before, after);
+        effect
     }
 
     /// Hands a device what another one sent.
@@ -58,6 +71,7 @@ impl<D: Device> Space<D> {
         ensures after { self.new ≡
             with_state self.old dev (dev_take (device_at self.old dev).state payload.now).after }
     {
+        self.remembered = None;
         self.devices[usize::from(dev)].take(payload)
     }
 
@@ -74,16 +88,26 @@ impl<D: Device> Space<D> {
         ensures { self.new ≡
             with_device self.old dev (record (device_at self.old dev) { shown = true }) }
     {
+        self.remembered = None;
         self.devices[usize::from(dev)].show();
     }
 
     /// Brings each device into its reset state. Those that are shown stay so.
     #[tactic(auto, using(std::proofs::lemmas::List::Edits::map_over_more))]
-    pub fn reset(&mut self)
+    fn reset_devices(&mut self)
         ensures { self.new ≡ record self.old { devices = map reset_device self.old.devices } }
     {
+        self.remembered = None;
         for device in self.devices.iter_mut() {
             device.reset();
         }
+    }
+
+    /// Brings all but the memories into their reset states.
+    pub fn reset(&mut self)
+        ensures { self.new ≡ reset_space self.old }
+    {
+        self.reset_interrupts();
+        self.reset_devices();
     }
 }

@@ -60,12 +60,12 @@ const ECHOING: [Step; 12] = [
     Run(0, 0, 100),
     NoneSent,
     At(BASE + 4),
-    Arrive(66, Taken::Kept),
+    Arrive(UART, 66, Taken::Kept),
     Run(100, 0, 100),
     Sent(104, 0, 66),
     NoneSent,
     At(BASE + 8),
-    Arrive(67, Taken::Kept),
+    Arrive(UART, 67, Taken::Kept),
     Run(200, 0, 100),
     Sent(206, 1, 67),
     NoneSent,
@@ -82,14 +82,14 @@ const READ_STATUS: [u32; 5] = [
 
 /// Data ready and overrun, then data ready alone, then nothing.
 const OVERRUN: [Step; 8] = [
-    Arrive(66, Taken::Kept),
-    Arrive(67, Taken::Overrun),
+    Arrive(UART, 66, Taken::Kept),
+    Arrive(UART, 67, Taken::Overrun),
     Run(0, 0, 5),
     Register(6, 0x63),
     Register(7, 0x61),
     Register(8, 67),
     Register(9, 0x60),
-    Arrive(68, Taken::Kept),
+    Arrive(UART, 68, Taken::Kept),
 ];
 
 /// lui x5, 0x80001; lui x6, 0x11223; addi x6, x6, 0x344; sw x6, 0(x5); sh x6, 6(x5); sb x6, 9(x5);

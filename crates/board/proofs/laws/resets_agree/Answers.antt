@@ -1,7 +1,15 @@
 use Rattle.std.proofs.Common.{refl}
-use Rattle.board.proofs.FitLemmas.{same_resets}
+use Rattle.board.proofs.FitLemmas.{same_resets, same_timers, same_controllers}
 use Rattle.board.proofs.laws.resets_agree.Goals as goal
 
 pub returns : goal.returns
 returns c = λ v w same.
-    rw (same.numbers, same.halted, same.plan, same.memories, same_resets _ _ same.kinds same.shown) refl
+    rw (
+      same.numbers,
+      same.halted,
+      same.plan,
+      same.memories,
+      same_timers _ _ same.timer,
+      same_controllers _ _ same.controller,
+      same_resets _ _ same.kinds same.shown,
+    ) refl

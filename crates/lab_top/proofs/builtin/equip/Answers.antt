@@ -3,15 +3,15 @@ use Rattle.std.specs.Prelude.{is_some, slice_get, option_and_then, IsTrue}
 use Rattle.std.proofs.lemmas.Result.{on_ok_weaker}
 use Rattle.board.specs.Changes.{holds_each, may_be_shown}
 use Rattle.lab_top.specs.Builtin.{start}
-use Rattle.lab_top.proofs.Equipping.{usual_valid, usual_early, usual_device, usual_uart, usual_kind, view-changed}
+use Rattle.lab_top.proofs.Equipping.{usual_valid, usual_cans, usual_device, usual_uart, usual_kind, view-changed}
 use Rattle.lab_top.proofs.Equipping.{view-fitted, view-connected, of_view}
 use Rattle.lab_top.proofs.builtin.equip.Goals as goal
 
 pub fit-requires-clause-plan : goal.fit-requires-clause-plan
 fit-requires-clause-plan g c = rw c.in_ok-plan.ensures usual_valid
 
-pub fit-requires-clause-early : goal.fit-requires-clause-early
-fit-requires-clause-early g c = rw c.in_ok-plan.ensures usual_early
+pub fit-requires-clause-cans : goal.fit-requires-clause-cans
+fit-requires-clause-cans g c = rw c.in_ok-plan.ensures usual_cans
 
 pub show-requires-clause-has_plan : goal.show-requires-clause-has_plan
 show-requires-clause-has_plan g c =

@@ -2,6 +2,7 @@ use Rattle.std.proofs.Common.{◌∙◌, ap, arith, length, take}
 use Rattle.std.proofs.lemmas.List.{length-take}
 use Rattle.board.proofs.FitLemmas.{fit_memory}
 use Rattle.board.proofs.CopyLemmas.{put_piece, put_front, on_err}
+use Rattle.board.proofs.LineLemmas.{right_memories}
 use Rattle.board.proofs.space.Space.copy_piece.Goals as goal
 
 pub invariant_of-self : goal.invariant_of-self
@@ -9,6 +10,8 @@ invariant_of-self g c = (
   c.self.invariant.0,
   fit_memory _ c.from.result c.copy_in.new.self _ c.self.invariant.1
       (c.copy_in.ensures.size ∙ ap length c.index_mut.ensures.value),
+  c.self.invariant.2,
+  right_memories _ _ _ c.self.invariant.3,
 )
 
 pub returns-in_err-copy_in-clause-err : goal.returns-in_err-copy_in-clause-err
@@ -27,6 +30,8 @@ invariant_of-self-2 g c = (
   c.self.invariant.0,
   fit_memory _ c.from.result c.copy_in.new.self _ c.self.invariant.1
       (c.copy_in.ensures.size ∙ ap length c.index_mut.ensures.value),
+  c.self.invariant.2,
+  right_memories _ _ _ c.self.invariant.3,
 )
 
 pub returns-clause-ok : goal.returns-clause-ok

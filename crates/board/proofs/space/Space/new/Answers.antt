@@ -11,5 +11,9 @@ pub invariant_of-result : goal.invariant_of-result
 invariant_of-result g c =
     let regions = c.new.ensures ∙ ((c.in-Ok.ensures {u = tt}).items ∙ c.items.ensures) in
     let memories = (c.in-Ok-memories_of.ensures {u = tt}) ∙ ap (λ sizes. map zeros sizes) c.items-2.ensures in
-    let devices = (c.in_ok-devices.ensures {u = tt}).ok ∙ ap (λ states. map hidden states) c.requires.devices in
-    (regions, rw (memories, devices) (fit_new c.args.plan c.requires.plan))
+    let devices = (c.in_ok-devices.ensures {u = tt}).ok ∙ ap (λ states. map hidden states) c.requires.devices in (
+      regions,
+      rw (memories, c.timer_of.ensures, c.controller_of.ensures, devices) (fit_new c.args.plan c.requires.plan),
+      c.is_wired.ensures,
+      tt,
+    )

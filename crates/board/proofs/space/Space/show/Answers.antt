@@ -8,4 +8,6 @@ invariant_of-self g c = (
   c.self.invariant.0,
   fit_device _ c.from.result c.show.new.self _ c.self.invariant.1
       (c.show.ensures.kind ∙ ap (λ f. kind_of f.state) c.index_mut.ensures.value) c.show.ensures.valid,
+  c.self.invariant.2,
+  tt,
 )

@@ -3,6 +3,7 @@ use Rattle.std.proofs.lemmas.List.{length-replicate}
 use Rattle.page_ram.specs.Bytes.{zeros}
 use Rattle.board.proofs.FitLemmas.{fit_memory}
 use Rattle.board.proofs.CopyLemmas.{put_piece}
+use Rattle.board.proofs.LineLemmas.{right_memories}
 use Rattle.board.proofs.space.Space.zero_piece.Goals as goal
 
 pub invariant_of-self : goal.invariant_of-self
@@ -10,6 +11,8 @@ invariant_of-self g c = (
   c.self.invariant.0,
   fit_memory _ c.from.result c.zero.new.self _ c.self.invariant.1
       (c.zero.ensures.size ∙ ap length c.index_mut.ensures.value),
+  c.self.invariant.2,
+  right_memories _ _ _ c.self.invariant.3,
 )
 
 pub returns-clause-after : goal.returns-clause-after

@@ -14,7 +14,7 @@ take-requires g c =
     let below : c.args.board.0 < length c.self.inside.boards.items =
     omega (arith, ap (λ s. length s.lab.boards) c.self.view_is, c.requires.exists) in
     rw c.items.ensures
-    (has-for c.args.board.0 c.args.plan (c.self.invariant unspent) below none c.requires.plan c.requires.early)
+    (has-for c.args.board.0 c.args.plan (c.self.invariant unspent) below none c.requires.plan c.requires.cans)
 
 pub invariant_of-self-in-Ok : goal.invariant_of-self-in-Ok
 invariant_of-self-in-Ok g c h =

@@ -1,6 +1,6 @@
 use Rattle.std.proofs.Common.{◌≡◌, ◌++◌, map, take, drop}
 use Rattle.board.specs.New.{reset_device}
-use Rattle.board.proofs.space.Space.reset.Given as goal
+use Rattle.board.proofs.space.Space.reset_devices.Given as goal
 
 -- The devices so far are reset.
 abbrev pub invariant-loop-device : goal.invariant-loop-device

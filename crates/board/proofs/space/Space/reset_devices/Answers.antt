@@ -4,7 +4,7 @@ use Rattle.std.proofs.lemmas.List.{append-nil, take_all, take-append-le}
 use Rattle.std.proofs.lemmas.List.Edits.{map_over_more}
 use Rattle.board.specs.New.{reset_device}
 use Rattle.board.proofs.FitLemmas.{fit_reset}
-use Rattle.board.proofs.space.Space.reset.Goals as goal
+use Rattle.board.proofs.space.Space.reset_devices.Goals as goal
 
 pub loop-device-preserved : goal.loop-device-preserved
 loop-device-preserved g c =
@@ -22,4 +22,4 @@ invariant_of-self g c =
     (drop (length c.loop-device.device-items) c.self.inside.devices.items) (search rules)
     ∙ take_all c.self.inside.devices.len c.loop-device.device-items (search rules)
     ∙ items ∙ ap (map reset_device) c.deref_mut-device-items.ensures.value in
-    (c.self.invariant.0, rw all (fit_reset _ c.self.invariant.1))
+    (c.self.invariant.0, rw all (fit_reset _ c.self.invariant.1), c.self.invariant.2, tt)

@@ -1,0 +1,22 @@
+//! What a board remembers of its interrupt lines.
+ghost use Rattle.std.specs.Prelude.{◌≡◌};
+ghost use Rattle.board.specs.Inner.Remembers.{still};
+
+use lab_num::Micros;
+use rv_hart::Lines;
+
+/// What the lines were in a microsecond, after the interrupt controller had sampled its sources.
+#[derive(Clone, Copy, PartialEq, Eq, Debug)]
+pub struct Remembered {
+    pub at: Micros,
+    /// Whether the line of the timer interrupt was up.
+    pub timer: bool,
+    pub lines: Lines,
+}
+
+/// What is still remembered after the line of a device was up or not before and after something.
+pub fn still(remembered: Option<Remembered>, before: bool, after: bool) -> Option<Remembered>
+    ensures { result ≡ still remembered before after }
+{
+    if before == after { remembered } else { None }
+}

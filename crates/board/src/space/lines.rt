@@ -1,0 +1,237 @@
+//! The interrupt lines of a board: what its controller samples, and what its processor sees.
+ghost use Rattle.std.specs.Prelude.{◌≡◌, ◌<◌, ◌≤◌, ◌^◌, ◌==◌, ◌||◌, ℕ, IfSome};
+ghost use Rattle.plic.specs.Sources.{has};
+ghost use Rattle.board.specs.Lines.{software_up, timer_up, context_up, device_up, is_up, pin_up, pending, mip_of};
+ghost use Rattle.board.specs.Lines.{mtime_of, lines_of, ends_at_pin, is_from_device, brings_source_up};
+ghost use Rattle.board.specs.Lines.{sources_up, sampled};
+
+use super::Space;
+use super::interrupts::sample;
+use crate::remembered::Remembered;
+use dev_core::Device;
+use lab_num::Micros;
+use plic::{second_samples_change_nothing, sets_have_what_passes};
+use rv_hart::Lines;
+use sys_bus::{Wire, WireFrom, WirePin};
+
+/// The bits of the software, the timer and the external interrupt of machine mode in `mip`.
+const SOFTWARE: u8 = 3;
+
+const TIMER: u8 = 7;
+
+const EXTERNAL: u8 = 11;
+
+/// The set of sources with one more. There are none from 128 on.
+fn with_source(set: u128, source: u8) -> u128
+    ensures { (s : ℕ) → s < 128 → has result s ≡ (has set s || (source == s)) }
+{
+    if source < 128 { set | 1 << source } else { set }
+}
+
+/// Whether a wire ends at a pin of the processor.
+fn ends_at_pin(number: u8, pin: WirePin) -> bool
+    ensures { result ≡ ends_at_pin number pin }
+{
+    match pin {
+        WirePin::Cpu(pin) => pin == number,
+        WirePin::Source(_) => false,
+    }
+}
+
+impl<D: Device> Space<D> {
+    fn is_device_up(&self, dev: u8) -> bool
+        ensures { result ≡ device_up self.now dev }
+    {
+        match self.devices.get(usize::from(dev)) {
+            Some(device) => device.line(),
+            None => false,
+        }
+    }
+
+    fn is_context_up(&self, context: u8) -> bool
+        ensures { result ≡ context_up self.now.controller context }
+    {
+        match (&self.controller, self.plan.plic) {
+            (Some(controller), Some(size)) => {
+                context < size.contexts && controller.output(context)
+            }
+            _ => false,
+        }
+    }
+
+    fn is_software_up(&self) -> bool
+        ensures { result ≡ software_up self.now.timer }
+    {
+        match &self.timer {
+            Some(timer) => timer.software(),
+            None => false,
+        }
+    }
+
+    fn is_timer_up(&self, now: Micros) -> bool
+        ensures { result ≡ timer_up self.now.timer now.0 }
+    {
+        match &self.timer {
+            Some(timer) => timer.timer(now),
+            None => false,
+        }
+    }
+
+    /// Whether the line is up where a wire begins, if that of the timer interrupt is up or not.
+    fn is_up(&self, timer: bool, from: WireFrom) -> bool
+        ensures { result ≡ is_up self.now timer from }
+    {
+        match from {
+            WireFrom::Soft => self.is_software_up(),
+            WireFrom::Timer => timer,
+            WireFrom::Context(context) => self.is_context_up(context),
+            WireFrom::Dev(dev) => self.is_device_up(dev),
+        }
+    }
+
+    fn is_pin_up(&self, timer: bool, pin: u8) -> bool
+        ensures { result ≡ pin_up self.now timer pin }
+    {
+        let wires = self.plan.wires.items();
+        wires.iter().any(|wire| ends_at_pin(pin, wire.pin) && self.is_up(timer, wire.from))
+    }
+
+    fn pending(&self, timer: bool, pin: u8) -> u32
+        requires { pin < 32 }
+        ensures value { result ≡ pending self.now timer pin }
+        ensures most { result ≤ 2 ^ pin }
+    {
+        if self.is_pin_up(timer, pin) {
+            1 << pin
+        } else {
+            0
+        }
+    }
+
+    #[tactic(auto, unfolding(crate::specs::Lines::mip_of))]
+    fn mip(&self, timer: bool) -> u32
+        ensures { result ≡ mip_of self.now timer }
+    {
+        self.pending(timer, SOFTWARE) + self.pending(timer, TIMER) + self.pending(timer, EXTERNAL)
+    }
+
+    fn mtime(&self, now: Micros) -> u64
+        ensures { result ≡ mtime_of self.now.timer now.0 }
+    {
+        match &self.timer {
+            Some(timer) => timer.mtime(now),
+            None => 0,
+        }
+    }
+
+    fn is_from_device(&self, from: WireFrom) -> bool
+        ensures { result ≡ is_from_device self.now from }
+    {
+        match from {
+            WireFrom::Dev(dev) => self.is_device_up(dev),
+            _ => false,
+        }
+    }
+
+    /// The set with the source that a wire brings up, if it does.
+    fn with_wire(&self, set: u128, wire: &Wire) -> u128
+        ensures { (s : ℕ) → s < 128 → has result s ≡ (has set s || brings_source_up self.now s wire.now) }
+    {
+        match wire.pin {
+            WirePin::Source(source) if self.is_from_device(wire.from) => with_source(set, source),
+            _ => set,
+        }
+    }
+
+    /// The sources of the interrupt controller whose lines are up.
+    fn sources_up(&self) -> u128
+        ensures { result ≡ sources_up self.now }
+    {
+        sets_have_what_passes();
+        let wires = self.plan.wires.items();
+        let mut set = 0;
+        for wire in wires {
+            set = self.with_wire(set, wire);
+        }
+        set
+    }
+
+    /// The interrupt controller samples its sources. To sample them again changes nothing.
+    fn sample_sources(&mut self)
+        ensures after { self.new ≡ sampled self.old }
+        ensures settled { sampled self.new ≡ self.new }
+    {
+        second_samples_change_nothing();
+        let sources = self.sources_up();
+        self.remembered = None;
+        sample(&mut self.controller, sources);
+    }
+
+    #[tactic(auto, unfolding(crate::specs::Lines::lines_of))]
+    pub fn lines_at(&self, now: Micros) -> Lines
+        ensures { result ≡ lines_of self.now now.0 }
+    {
+        Lines {
+            mip: self.mip(self.is_timer_up(now)),
+            mtime: self.mtime(now),
+        }
+    }
+
+    /// Samples and reads the lines, and remembers them.
+    pub fn sample(&mut self, now: Micros) -> Lines
+        ensures space { self.new ≡ sampled self.old }
+        ensures lines { result ≡ lines_of self.new now.0 }
+    {
+        self.sample_sources();
+        let timer = self.is_timer_up(now);
+        let lines = self.lines_at(now);
+        self.remembered = Some(Remembered {
+            at: now,
+            timer,
+            lines,
+        });
+        lines
+    }
+
+    /// The lines, where they are known without sampling: then to sample would change nothing.
+    #[inline]
+    pub fn settled_lines(&mut self, now: Micros) -> Option<Lines>
+        ensures settled { IfSome result (λ lines. sampled self.old ≡ self.old) }
+        ensures lines { IfSome result (λ lines. lines ≡ lines_of self.old now.0) }
+        ensures same { self.new ≡ self.old }
+    {
+        if !self.wired {
+            return Some(Lines { mip: 0, mtime: 0 });
+        }
+        let remembered = self.remembered?;
+        if remembered.at == now {
+            return Some(remembered.lines);
+        }
+        self.lines_later(now)
+    }
+
+    /// The same in another microsecond than that of which they were remembered: they are known
+    /// where the line of the timer interrupt is as it was.
+    #[inline(never)]
+    fn lines_later(&mut self, now: Micros) -> Option<Lines>
+        ensures settled { IfSome result (λ lines. sampled self.old ≡ self.old) }
+        ensures lines { IfSome result (λ lines. lines ≡ lines_of self.old now.0) }
+        ensures same { self.new ≡ self.old }
+    {
+        let remembered = self.remembered?;
+        let timer = self.is_timer_up(now);
+        if timer != remembered.timer {
+            return None;
+        }
+        let lines = Lines {
+            mip: remembered.lines.mip,
+            mtime: self.mtime(now),
+        };
+        self.remembered = Some(Remembered {
+            at: now,
+            timer,
+            lines,
+        });
+        Some(lines)
+    }
+}
