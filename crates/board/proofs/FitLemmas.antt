@@ -5,7 +5,7 @@ use Rattle.std.proofs.Common.{nat_lt, refl, sym, ap, ◌∙◌, arith, rules}
 use Rattle.std.specs.Prelude.{slice_index_or, find, option_map}
 use Rattle.std.specs.List.{list_all, range_with_len}
 use Rattle.std.proofs.lemmas.Bool.Decides.{nat_tests}
-use Rattle.std.proofs.lemmas.List.{length-map, length-replicate}
+use Rattle.std.proofs.lemmas.List.{length-map, length-replicate, get_or-set_same, set-get_or}
 use Rattle.std.proofs.lemmas.Option.{slice_get_within, get_or_from_slice_get}
 use Rattle.dev_core.specs.Device.{kind_of, dev_reset, IsValid as IsValidState}
 use Rattle.dev_core.specs.declared.state.DevState.{DevState}
@@ -33,13 +33,13 @@ use Rattle.std.proofs.Math.Seq.{map-set_same}
 use Rattle.board.specs.Changes.{in_memory, is_memory}
 use Rattle.board.specs.New.{first_state, hidden, new_space, reset_device, new_timer, new_controller, size_of}
 use Rattle.board.specs.New.{reset_timer, reset_controller}
-use Rattle.board.specs.Space.{Space, Fitted, memory_at, with_memory, with_device}
+use Rattle.board.specs.Space.{Space, Fitted, memory_at, with_memory, device_at, with_device, with_state}
 use Rattle.board.specs.Inner.Fit.{IsFit, LiesIn, IsInPage, HoldsAccesses}
 use Rattle.sys_bus.specs.declared.near.Place.{Place}
 use Rattle.sys_bus.specs.Place.{IsPlace}
 use Rattle.std.specs.Option.{IfSome}
 use Rattle.board.proofs.ListLemmas.{any_at, passes_at, All-by_place, All-set, counted_at, found_passes}
-use Rattle.board.proofs.ListLemmas.{within_sum, range_passes}
+use Rattle.board.proofs.ListLemmas.{within_sum, range_passes, set_set}
 
 -- the bytes of a memory of the plan
 memory-size :
@@ -416,6 +416,18 @@ room_fits s at part place fit is =
     by_kind region kind.Clint k_is same held parted sized = absurd (cc)
     by_kind region kind.Plic k_is same held parted sized = absurd (cc)
     by_kind region (kind.Dev i) k_is same held parted sized = absurd (cc)
+
+-- a device that was put back into the state in which it was
+pub put_back_same :
+    (s : Space) (dev : ℕ) (state : DevState) → dev < length s.devices →
+    with_state (with_state s dev state) dev (device_at s dev).state ≡ s
+put_back_same s dev state there =
+    let changed : Fitted = record (device_at s dev) { state = state } in
+    let seen : device_at (with_device s dev changed) dev ≡ changed =
+    get_or-set_same s.devices dev changed _ there in
+    ap (λ f. with_device (with_device s dev changed) dev (record f { state = (device_at s dev).state })) seen
+    ∙ ap (λ devices. record s { devices = devices })
+    (set_set s.devices dev changed (device_at s dev) ∙ set-get_or s.devices dev _)
 
 -- bytes of memories have addresses of 32 bits
 pub memory_below : (s : Space) (at : ℕ) → IsFit s → in_memory s at ≡ true → at < 2 ^ 32

@@ -85,6 +85,12 @@ impl<D: Device> Board<D> {
         ensures back { IfErr result (λ back. back.items ≡ devices.items) }
     {
         let speed = plan.speed;
+        let Ok(posts) = VecDeque::with_capacity(alloc, 1) else {
+            return Err(devices);
+        };
+        let Ok(entries) = Vec::with_capacity(alloc, 1) else {
+            return Err(devices);
+        };
         let space = Space::new(alloc, plan, devices)?;
         Ok(Board {
             hart: Hart::new(),
@@ -97,8 +103,8 @@ impl<D: Device> Board<D> {
                 },
                 space,
                 at: Micros(0),
-                posts: VecDeque::new(alloc),
-                entries: Vec::new(alloc),
+                posts,
+                entries,
             },
         })
     }

@@ -5,7 +5,7 @@ ghost use Rattle.dev_core.specs.Device.{dev_line, dev_take, dev_reset, kind_of, 
 ghost use Rattle.board.specs.Space.{register_load, register_store};
 ghost use Rattle.board.specs.New.{hidden, reset_device};
 
-use dev_core::{Device, Effect, Payload, Taken};
+use dev_core::{DevState, Device, Effect, Payload, Taken};
 use std::marker::Model;
 
 /// A device of a board, and whether it is shown.
@@ -105,6 +105,24 @@ impl<D: Device> Fitted<D> {
         ensures valid { IsValid self.new.state }
     {
         self.device.reset();
+    }
+
+    pub fn state(&self) -> DevState
+        ensures value { result ≡ self.now.state }
+        ensures valid { IsValid result }
+    {
+        self.device.state()
+    }
+
+    /// Puts the device back into a state that it had.
+    pub fn put_back(&mut self, state: &DevState)
+        requires kind { kind_of state.now ≡ kind_of self.old.state }
+        requires valid { IsValid state.now }
+        ensures after { self.new ≡ record self.old { state = state.now } }
+        ensures kind { kind_of self.new.state ≡ kind_of self.old.state }
+        ensures valid { IsValid self.new.state }
+    {
+        let _put = self.device.put(state);
     }
 
     /// Whether the interrupt line is up.

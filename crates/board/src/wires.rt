@@ -1,5 +1,7 @@
 //! What the processor is wired to in a slot, and what the board makes by it.
-ghost use Rattle.std.specs.Prelude.{◌≡◌, ◌^◌, ◌%◌, ◌<◌, ◌≤◌, ◌+◌, length, IfOk, OnOk, OnErr};
+ghost use Rattle.std.specs.Prelude.{◌≡◌, ◌↔◌, ◌^◌, ◌%◌, ◌<◌, ◌≤◌, ◌+◌, length, IfOk, OnOk, OnErr, IsTrue};
+ghost use Rattle.std.specs.Vec.{vec_len, vec_capacity};
+ghost use Rattle.std.specs.VecDeque.{deque_len, deque_capacity};
 ghost use Rattle.page_ram.specs.Access.{IsInOnePage};
 ghost use Rattle.rv_exec.specs.Access.{IsAccess, IsWidth};
 ghost use Rattle.sys_bus.specs.declared.region.Target.TheVariants.{Ram, Dev};
@@ -98,8 +100,7 @@ impl<D: Device> Wires<D> {
         }
     }
 
-    /// Stores in a device, and does what it makes the device do. There is room for what the device
-    /// may send before it is asked, so that nothing is to be undone. After an `Err` the device is as
+    /// Stores in a device, and does what it makes the device do. After an `Err` the device is as
     /// before.
     #[tactic(auto, unfolding(crate::specs::Wires::sent))]
     fn store_in_device(
@@ -113,8 +114,8 @@ impl<D: Device> Wires<D> {
         ensures ok { OnOk result (self.new ≡ stored_to self.old at width value (Dev dev at)) }
         ensures err { OnErr result (self.new ≡ self.old) }
     {
-        if self.posts.reserve(1).is_err() || self.entries.reserve(1).is_err() {
-            return Err(OutOfMemory);
+        if !has_room(&self.posts, &self.entries) {
+            return self.store_without_room(dev, at, width, value);
         }
         if let Effect::Send(payload) = self.space.store_device(dev, at, width, value) {
             let post = self.post_of(dev, &payload);
@@ -125,6 +126,54 @@ impl<D: Device> Wires<D> {
                 self.entries.push_reserved(entry);
                 self.numbers.count_entry();
             }
+        }
+        Ok(())
+    }
+
+    /// The same where there is no room for all that the device may send. Its state is kept, since
+    /// room is made only once it is known to send.
+    #[cold]
+    #[inline(never)]
+    fn store_without_room(
+        &mut self,
+        dev: u8,
+        at: u32,
+        width: u8,
+        value: u32,
+    ) -> Result<(), OutOfMemory>
+        requires { dev < length self.old.space.devices }
+        ensures ok { OnOk result (self.new ≡ stored_to self.old at width value (Dev dev at)) }
+        ensures err { OnErr result (self.new ≡ self.old) }
+    {
+        let before = self.space.state(dev);
+        match self.space.store_device(dev, at, width, value) {
+            Effect::Quiet => Ok(()),
+            Effect::Send(payload) => {
+                let Ok(()) = self.send(dev, &payload) else {
+                    self.space.put_back(dev, &before);
+                    return Err(OutOfMemory);
+                };
+                Ok(())
+            }
+        }
+    }
+
+    /// A device sends, where there may be no room: a post, and an entry where the device is shown.
+    #[tactic(auto, unfolding(crate::specs::Wires::sent))]
+    fn send(&mut self, dev: u8, payload: &Payload) -> Result<(), OutOfMemory>
+        requires { dev < length self.old.space.devices }
+        ensures ok { OnOk result (self.new ≡ sent self.old dev payload.now) }
+        ensures err { OnErr result (self.new ≡ self.old) }
+    {
+        let post = self.post_of(dev, payload);
+        if self.entries.reserve(1).is_err() || self.posts.push_back(post).is_err() {
+            return Err(OutOfMemory);
+        }
+        self.numbers.count_post();
+        if let Some(note) = note_if(self.space.is_shown(dev), dev, payload) {
+            let entry = self.entry_of(note);
+            self.entries.push_reserved(entry);
+            self.numbers.count_entry();
         }
         Ok(())
     }
@@ -178,6 +227,14 @@ impl<D: Device> Wires<D> {
             Target::Nothing => self.enter(What::Write { width, at, value }),
         }
     }
+}
+
+/// Whether there is room for one more post and one more entry.
+fn has_room(posts: &VecDeque<Post>, entries: &Vec<Entry>) -> bool
+    ensures { IsTrue result ↔ ((deque_len posts.now < deque_capacity posts.now)
+        × (vec_len entries.now < vec_capacity entries.now)) }
+{
+    posts.len() < posts.capacity() && entries.len() < entries.capacity()
 }
 
 /// What the log notes of a payload that a device sends which is shown or not.

@@ -8,7 +8,7 @@ ghost use Rattle.board.specs.New.{reset_device, reset_space};
 
 use super::Space;
 use crate::remembered::still;
-use dev_core::{Device, Effect, Payload, Taken};
+use dev_core::{DevState, Device, Effect, Payload, Taken};
 
 /// The register at a place of a device whose registers begin 1 or 4 bytes apart.
 fn register_at(step: u8, at: u32) -> Option<u32>
@@ -90,6 +90,25 @@ impl<D: Device> Space<D> {
     {
         self.remembered = None;
         self.devices[usize::from(dev)].show();
+    }
+
+    pub fn state(&self, dev: u8) -> DevState
+        requires { dev < length self.now.devices }
+        ensures value { result ≡ (device_at self.now dev).state }
+        ensures valid { IsValid result }
+    {
+        self.devices[usize::from(dev)].state()
+    }
+
+    /// Puts a device back into a state that it had.
+    pub fn put_back(&mut self, dev: u8, state: &DevState)
+        requires dev { dev < length self.old.devices }
+        requires kind { kind_of state.now ≡ kind_of (device_at self.old dev).state }
+        requires valid { IsValid state.now }
+        ensures { self.new ≡ with_state self.old dev state.now }
+    {
+        self.remembered = None;
+        self.devices[usize::from(dev)].put_back(state);
     }
 
     /// Brings each device into its reset state. Those that are shown stay so.

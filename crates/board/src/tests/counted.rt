@@ -3,8 +3,8 @@ ghost use Rattle.std.specs.Prelude.{◌≡◌};
 ghost use Rattle.dev_core.specs.declared.kind.Kind.TheVariants.{Uart as uart};
 ghost use Rattle.board.specs.New.{first_state};
 
-use super::Step::Run;
-use super::{plan, play_on};
+use super::Step::{Go, Made, Run};
+use super::{BASE, plan, play_on};
 use dev_core::{DevState, Device, Effect, Kind, Payload, Taken};
 use std::cell::Cell;
 use std::test::Fail;
@@ -78,6 +78,7 @@ const ACCESSES: [u32; 6] = [
     0x0063_8023,
 ];
 
+// the second round finds no room for a post
 #[test]
 fn a_board_calls_a_device_once_for_each_load_and_store(rt: HostRuntime) -> Result<(), Fail> {
     let counts = [Cell::new(0), Cell::new(0), Cell::new(0), Cell::new(0)];
@@ -92,11 +93,11 @@ fn a_board_calls_a_device_once_for_each_load_and_store(rt: HostRuntime) -> Resul
         Kind::Uart,
         (first, second),
         &ACCESSES,
-        &[Run(0, 0, 6)],
+        &[Run(0, 0, 6), Go(BASE), Run(6, 0, 6), Made(2, 0)],
     )?;
-    assert_eq!(rt; counts[0].get(), 2);
-    assert_eq!(rt; counts[1].get(), 1);
+    assert_eq!(rt; counts[0].get(), 4);
+    assert_eq!(rt; counts[1].get(), 2);
     assert_eq!(rt; counts[2].get(), 0);
-    assert_eq!(rt; counts[3].get(), 1);
+    assert_eq!(rt; counts[3].get(), 2);
     Ok(())
 }
