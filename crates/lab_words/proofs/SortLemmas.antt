@@ -1,12 +1,14 @@
 -- What clap's lexer says of a word, by its sort.
-use Rattle.std.proofs.Common.{◌≡◌, ◌∙◌, ℕ, Bool, true, false, List, [], ◌∷◌, Some, None, refl, ap, sym, cond, nat_eq, ◌++◌, arith}
+use Rattle.std.proofs.Common.{◌≡◌, ◌∙◌, ℕ, Bool, true, false, List, [], ◌∷◌, Some, None, refl, ap, sym, cond, nat_eq}
+use Rattle.std.proofs.Common.{◌++◌, arith}
 use Rattle.std.specs.Prelude.{slice_get}
 use Rattle.std.specs.Str.{IsUtf8, bytes_eq, chars}
 use Rattle.std.proofs.lemmas.Bool.{eqb-true, true≢false}
 use Rattle.std.proofs.lemmas.Str.{IsUtf8-past_char, encode_ascii, encodes-chars}
 use lib.Utf8.{encode, encodes}
 use Rattle.clap.specs.Lexer.{long_of, short_of}
-use Rattle.lab_words.specs.Grammar.{Sort, Text, after_dash, after_two_dashes, sort_of, end_of_options, option, stray, plain}
+use Rattle.lab_words.specs.Grammar.{Sort, Text, after_dash, after_two_dashes, sort_of, end_of_options, option, stray}
+use Rattle.lab_words.specs.Grammar.{plain}
 
 abbrev pub dashes : Text
 dashes = 45 ∷ 45 ∷ []
@@ -18,11 +20,13 @@ SortFacts word stray = (bytes_eq word dashes ≡ false) × (long_of word ≡ Non
     × (short_of word ≡ Some (x ∷ rest)) × (word ≡ 45 ∷ x ∷ rest)
 SortFacts word plain = (bytes_eq word dashes ≡ false) × (long_of word ≡ None) × (short_of word ≡ None)
 
-by_third : (a b : ℕ) (rest : Text) → nat_eq a 45 ≡ true → nat_eq b 45 ≡ true → SortFacts (a ∷ b ∷ rest) (after_two_dashes rest)
+by_third : (a b : ℕ) (rest : Text) → nat_eq a 45 ≡ true → nat_eq b 45 ≡ true
+    → SortFacts (a ∷ b ∷ rest) (after_two_dashes rest)
 by_third a b [] e d = rw (e, d) refl
 by_third a b (c ∷ rest) e d = (rw (e, d) refl, rw (e, d) refl)
 
-by_second : (a b : ℕ) (rest : Text) (t : Bool) → nat_eq a 45 ≡ true → nat_eq b 45 ≡ t → SortFacts (a ∷ b ∷ rest) (cond t (after_two_dashes rest) stray)
+by_second : (a b : ℕ) (rest : Text) (t : Bool) → nat_eq a 45 ≡ true → nat_eq b 45 ≡ t
+    → SortFacts (a ∷ b ∷ rest) (cond t (after_two_dashes rest) stray)
 by_second a b rest true e d = by_third a b rest e d
 by_second a b rest false e d =
     (rw (e, d) refl, rw (e, d) refl, b, rest, rw (e, d) refl, ap (λ (x : ℕ). x ∷ b ∷ rest) (eqb-true a 45 e))

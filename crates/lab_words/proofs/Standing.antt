@@ -1,7 +1,8 @@
 -- Where clap's walk over the words stands, by where our reading stands.
 use Rattle.std.proofs.Common.{◌≡◌, ◌+◌, ◌⊎◌, ℕ, Bool, true, false, List, [], ◌∷◌, Option, Some, None, is_some, min}
 use Rattle.clap.specs.Lexer.{usize_max}
-use Rattle.clap.specs.Walk.{Held, Row, Rule, Waiting, Walk, arg_by_id, arg_by_index, arg_by_long, arg_by_short, idle, settled_rows}
+use Rattle.clap.specs.Walk.{Held, Row, Rule, Waiting, Walk, arg_by_id, arg_by_index, arg_by_long, arg_by_short, idle}
+use Rattle.clap.specs.Walk.{settled_rows}
 use Rattle.clap.specs.Walk.{option as option_waits}
 use Rattle.clap.specs.Simple.{Shape, new_rule}
 use Rattle.clap.specs.Kinds.{Kinds}
@@ -80,7 +81,8 @@ Stands s f r w = StandsAt s f r.place r w
 -- the walk holds a fault that each next word, and the end, will find
 abbrev pub IsDoomed : Shape → Walk → Type 0
 IsDoomed s w = (rows : List Row) × (pending : Option (Text × List Text)) × (position : ℕ) × (left : List Text)
-    × ((w ≡ stand rows pending idle position false) ⊎ ((waiting : Waiting) × (w ≡ stand rows pending waiting position true)))
+    × ((w ≡ stand rows pending idle position false) ⊎
+    ((waiting : Waiting) × (w ≡ stand rows pending waiting position true)))
     × PlainAt s.rules position left × Faulty (settle s rows pending)
 
 -- what a word comes to: k are the faults of its turn, and w the walk behind it

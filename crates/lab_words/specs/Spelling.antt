@@ -1,5 +1,6 @@
 -- Command lines by their parts.
-use Rattle.std.specs.Prelude.{◌≡◌, Bool, ◌&&◌, not, true, List, [], ◌∷◌, ◌++◌, Option, Some, option_and_then, option_map}
+use Rattle.std.specs.Prelude.{◌≡◌, Bool, ◌&&◌, not, true, List, [], ◌∷◌, ◌++◌, Option, Some, option_and_then}
+use Rattle.std.specs.Prelude.{option_map}
 use Rattle.std.specs.List.{list_all}
 use Rattle.std.specs.Str.{byte}
 use Rattle.lab_words.specs.Grammar.{Form, Reading, Text, give, give_plain, is_among, is_dash, start_of, texts_from}

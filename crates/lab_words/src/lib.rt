@@ -13,6 +13,5 @@ pub use read::read_words;
 pub use request::{Request, UsageCause, WordsFault};
 pub use usage::usage_line;
 
-
 #[cfg(test)]
 mod tests;

@@ -1,5 +1,5 @@
 //! From the words to the request.
-ghost use Rattle.std.specs.Prelude.{IfOk, map};
+ghost use Rattle.std.specs.Prelude.{◌≡◌, IfOk, map};
 ghost use Rattle.std.specs.String.{string_bytes};
 ghost use Rattle.lab_words.specs.Inner.Commands.{text_behind};
 ghost use Rattle.lab_words.specs.Requests.{check_of, check_words, gen_of, gen_words, request_of, run_of, run_words};

@@ -12,9 +12,15 @@ pub enum Request {
         until: Micros,
     },
     /// `check SCRIPT`: take the commands of a script, without running a board.
-    Check { script: Text },
+    Check {
+        script: Text,
+    },
     /// `gen SEED BOARDS [--workers N]`: run the laboratory that is made from the seed.
-    Gen { seed: u64, boards: u8, workers: u8 },
+    Gen {
+        seed: u64,
+        boards: u8,
+        workers: u8,
+    },
 }
 
 /// Why the words are refused.

@@ -19,17 +19,21 @@ fn words_of(alloc: Global, line: &str) -> Result<Vec<String>, Fail> {
 fn answer(alloc: Global, line: &str) -> Result<String, Fail> {
     let words = words_of(alloc, line)?;
     let text = match read_words(alloc, &words) {
-        Ok(Request::Run {
-            script,
-            workers,
-            until,
-        }) => format!(in alloc; "run [{}] {workers} {}", script.as_str(), until.0)?,
+        Ok(
+            Request::Run {
+                script,
+                workers,
+                until,
+            },
+        ) => format!(in alloc; "run [{}] {workers} {}", script.as_str(), until.0)?,
         Ok(Request::Check { script }) => format!(in alloc; "check [{}]", script.as_str())?,
-        Ok(Request::Gen {
-            seed,
-            boards,
-            workers,
-        }) => format!(in alloc; "gen {seed} {boards} {workers}")?,
+        Ok(
+            Request::Gen {
+                seed,
+                boards,
+                workers,
+            },
+        ) => format!(in alloc; "gen {seed} {boards} {workers}")?,
         Err(WordsFault::Usage(cause)) => format!(in alloc; "{cause:?}")?,
         Err(WordsFault::Memory) => format!(in alloc; "memory")?,
     };
@@ -134,7 +138,10 @@ fn each_line_asks_for_its_request_or_is_refused(rt: HostRuntime) -> Result<(), F
         // `gen` takes a seed of 64 bits, 1 to 16 boards and one option.
         ("gen|0|1", "gen 0 1 1"),
         ("gen|7|16|--workers|2", "gen 7 16 2"),
-        ("gen|--workers=8|18446744073709551615|16", "gen 18446744073709551615 16 8"),
+        (
+            "gen|--workers=8|18446744073709551615|16",
+            "gen 18446744073709551615 16 8",
+        ),
         ("gen|--|7|3", "gen 7 3 1"),
         ("gen|18446744073709551616|1", "Value"),
         ("gen|99999999999999999999|1", "Value"),
@@ -151,8 +158,8 @@ fn each_line_asks_for_its_request_or_is_refused(rt: HostRuntime) -> Result<(), F
     ] {
         assert_eq!(rt; answer(alloc, line)?.as_str(), expected, "{line}");
     }
-    assert_eq!(
-        rt; usage_line(),
+    assert_eq!(rt;
+        usage_line(),
         "usage: lab run SCRIPT [--workers N] [--until TIME] | check SCRIPT | gen SEED BOARDS [--workers N]\n"
     );
     Ok(())

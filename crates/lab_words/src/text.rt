@@ -1,5 +1,5 @@
 //! The texts of numbers and times.
-ghost use Rattle.std.specs.Prelude.{◌≡◌, IfOk, true};
+ghost use Rattle.std.specs.Prelude.{◌≡◌, ◌≤◌, ◌^◌, IfOk, true};
 ghost use Rattle.std.specs.Char.{is_ascii_digit};
 ghost use Rattle.std.specs.List.{list_all};
 ghost use Rattle.lab_words.specs.Inner.Commands.{text_behind};
@@ -108,9 +108,11 @@ pub fn seed(text: &str) -> Result<u64, UsageCause>
     }
 }
 
-/// The time up to which a script's boards run.
+/// The time up to which a script's boards run, which is one second if it is not given.
+#[tactic(auto, using(crate::proofs::TextLemmas::time_is_short))]
 pub fn until(text: Option<&str>) -> Result<Micros, UsageCause>
-    ensures { result ≡ requests.until_of (text_behind text.entry) }
+    ensures value { result ≡ requests.until_of (text_behind text.entry) }
+    ensures within { IfOk result (λ time. time.0 ≤ 10 ^ 10) }
 {
     match text {
         Some(text) => match read_time(text) {

@@ -7,4 +7,5 @@ use Rattle.lab_words.proofs.command.check_texts.Goals as goal
 
 pub returns-in-Ok : goal.returns-in-Ok
 returns-in-Ok c =
-    gives_texts _ check_app check_form check_has c.in-Ok.ensures refl c.args.words.now c.matches_of.result c.matches_of.ensures
+    gives_texts _ check_app check_form check_has c.in-Ok.ensures refl c.args.words.now c.matches_of.result
+    c.matches_of.ensures

@@ -12,4 +12,5 @@ returns c =
     let bare_is : app_of c.disable_help_flag.result ≡ bare (codes "gen") = search rules in
     let first_is = c.in_ok-arg.ensures.shape (search rules) ∙ ap₂ with_rule bare_is workers_is in
     let second_is = c.in_ok-arg-2.ensures.shape (search rules) ∙ ap₂ with_rule first_is seed_is in
-    IfOk-weaker c.arg-3.result _ _ (λ made adds. adds.shape (search rules) ∙ ap₂ with_rule second_is boards_is) c.arg-3.ensures
+    IfOk-weaker c.arg-3.result _ _ (λ made adds. adds.shape (search rules)
+    ∙ ap₂ with_rule second_is boards_is) c.arg-3.ensures
