@@ -8,7 +8,7 @@ mod request;
 mod text;
 mod usage;
 
-pub use laws::parts_are_read;
+pub use laws::lines_are_read;
 pub use read::read_words;
 pub use request::{Request, UsageCause, WordsFault};
 pub use usage::usage_line;
