@@ -140,7 +140,7 @@ module _ where
       let below = found text e in
       let at = get_or text (position_or_len is_equals text) 0 in
       let is : at
-          ≡ 61 = eqb-true at 61 (not-false (is_equals at) (prefix_len_stops (λ b. not (is_equals b)) text 0 below)) in
+      ≡ 61 = eqb-true at 61 (not-false (is_equals at) (prefix_len_stops (λ b. not (is_equals b)) text 0 below)) in
       split_at_first is_equals text 0 below
       ∙ ap (λ (b : ℕ). before_first is_equals text ++ b ∷ after_first is_equals text) is
 
@@ -238,7 +238,7 @@ module _ (form : Form) where
   rests_any text words left given out stray spelt later e = absurd (none-some out e)
   rests_any text words left given out plain spelt later e =
       more_parts (word text) words (text ∷ words) spelt refl (λ line. refl)
-          (rests_plain text words left given out later e)
+      (rests_plain text words left given out later e)
   rests_any text words left given out (option name value) spelt later e =
       go (is_among name form.option_names) refl e
     where
@@ -266,9 +266,13 @@ module _ (form : Form) where
       → option_and_then (λ n. texts_from form n words)
       (take_text name sort text (reading (text_of_option name) left given)) ≡ Some out
       → IsRest (text_of_option name) (text ∷ words)
-  rests_text name text words left given out plain spelt later e =
-      (text, words, refl, spelt,
-      later anything left (given ++ (name, text) ∷ []) out (after_given (is_given name given) _ words out e))
+  rests_text name text words left given out plain spelt later e = (
+    text,
+    words,
+    refl,
+    spelt,
+    later anything left (given ++ (name, text) ∷ []) out (after_given (is_given name given) _ words out e),
+  )
   rests_text name text words left given out end_of_options spelt later e = absurd (none-some out e)
   rests_text name text words left given out (option other value) spelt later e = absurd (none-some out e)
   rests_text name text words left given out stray spelt later e = absurd (none-some out e)
