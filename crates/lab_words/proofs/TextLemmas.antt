@@ -1,13 +1,13 @@
 -- The texts of numbers and times.
-use Rattle.std.proofs.Common.{◌≡◌, ◌∙◌, ◌<◌, ◌≤◌, ◌^◌, ◌==◌, ◌&&◌, ℕ, Bool, true, false, not, List, length, [], ◌∷◌}
+use Rattle.std.proofs.Common.{◌≡◌, ◌∙◌, ◌<◌, ◌≤◌, ◌^◌, ◌==◌, ◌&&◌, ℕ, Bool, true, false, not, length, [], ◌∷◌}
 use Rattle.std.proofs.Common.{ap, rules, arith, ◌+◌, ◌*◌}
-use Rattle.std.proofs.Common.{Option, Some, None, IfOk, Result, Ok, Err, refl, sym, subst, nat_le, nat_lt, cond, ⊎_elim}
+use Rattle.std.proofs.Common.{Option, Some, None, IfOk, Result, Ok, Err, refl, sym, nat_le, nat_lt, cond, ⊎_elim}
 use Rattle.std.specs.Prelude.{is_some, option_and_then}
 use Rattle.std.specs.Char.{is_ascii_digit}
 use Rattle.std.specs.List.{list_all, position_or_len, before_first, after_first}
 use Rattle.std.specs.Option.{option_map}
 use Rattle.std.specs.Str.Parse.{ParsesUnsigned, digits_value}
-use Rattle.std.proofs.lemmas.Bool.{and_parts, and_right, cases_lt, cond-false, eqb-true, false≢true, leb-true, lt-leb}
+use Rattle.std.proofs.lemmas.Bool.{and_parts, and_right, cases_lt, cond-false, eqb-true, leb-true, lt-leb}
 use Rattle.std.proofs.lemmas.List.Sums.{take_while-cons}
 use Rattle.std.proofs.lemmas.Str.Parse.{IsNumeralModel, numerals_by_value, parse_digits}
 use Rattle.lab_num.specs.Time.{clock_of, cut, digits, fraction_of, micros_of, sum_of, time_of, with_cut, within_limit}
@@ -16,7 +16,7 @@ use Rattle.lab_num.specs.declared.time.TimeFault.{TimeFault}
 use Rattle.lab_num.specs.declared.time.TimeFault.TheVariants.{Limit}
 use Rattle.lab_words.specs.declared.request.UsageCause.TheVariants.{Value}
 use Rattle.lab_words.specs.Grammar.{Text, is_dash}
-use Rattle.lab_words.specs.Requests.{has_form_if_given, has_number_form, has_time_form, is_option_text, number_of}
+use Rattle.lab_words.specs.Requests.{has_number_form, has_time_form, is_option_text, number_of}
 
 -- ---- numbers
 
