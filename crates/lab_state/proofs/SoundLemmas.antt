@@ -3,9 +3,12 @@ use Rattle.std.proofs.Common.{◌≡◌, ◌∙◌, sym, ap, refl, Bool, true, f
 use Rattle.std.proofs.Common.{List, [], ◌∷◌, ◌++◌, subst}
 use Rattle.std.proofs.Common.{length, map, set, get_or, slice_get, Option, Some, None, add-zero, zero-add, arith}
 use Rattle.std.specs.Prelude.{is_some, option_and_then}
+use Rattle.std.specs.List.{All}
 use Rattle.std.specs.Option.{option_map, ForSome}
+use Rattle.std.specs.Str.{bytes_eq}
 use Rattle.std.proofs.Math.ListN.{get_or-map}
 use Rattle.std.proofs.Math.Seq.{map-set_same}
+use Rattle.std.proofs.lemmas.Bool.{or_parts}
 use Rattle.std.proofs.lemmas.Bool.Decides.{nat_tests}
 use Rattle.std.proofs.lemmas.List.{map-append, map-set, length-map, length-set, length_push}
 use Rattle.std.proofs.lemmas.List.Elements.{All-nil, All-weaker, All-push}
@@ -30,7 +33,8 @@ use Rattle.lab_state.specs.One.{view_at, view_of, kind_at, with_member}
 use Rattle.lab_state.specs.Inner.Spares.{Spares, full, HasFor, HasRoomFor, AreTaken}
 use Rattle.lab_state.specs.Inner.Standing.{Outline, outline, outlines, number_of, IsStanding, AreStanding, IsKept}
 use Rattle.lab_state.specs.Inner.Standing.{kind_of_outline, kind_in, AreMembers, AreDevices, count_of_plans, IsSound}
-use Rattle.lab_state.proofs.ListLemmas.{set-change, map-change, each-weaker, found-push, found-set, one_name_more}
+use Rattle.lab_state.proofs.ListLemmas.{set-change, map-change, each-weaker, found-push, found-set}
+use Rattle.lab_state.proofs.ListLemmas.{none_has, board_more, hub_more}
 
 -- ---- other boards of the same outlines
 
@@ -52,8 +56,7 @@ sound-same {lab = lab} others later same standing within sound =
       few_boards = rw long sound.few_boards;
       standing = standing;
       devices = rw same sound.devices;
-      board_names = rw names sound.board_names;
-      hub_names = sound.hub_names;
+      names = rw names sound.names;
       enough = rw same sound.enough;
       times = record {
         time = within;
@@ -106,8 +109,11 @@ sound-new = record {
   few_boards = omega arith;
   standing = tt;
   devices = tt;
-  board_names = λ i j d before within. absurd (omega arith);
-  hub_names = λ i j d before within. absurd (omega arith);
+  names = record {
+    boards_differ = λ i j d before within. absurd (omega arith);
+    hubs_differ = λ i j d before within. absurd (omega arith);
+    apart = All-nil _;
+  };
   enough = record { few = λ kind. omega arith; uarts = omega arith; finishers = omega arith };
   times = record { time = omega arith; least_quantum = omega arith; most_quantum = omega arith };
 }
@@ -133,9 +139,14 @@ devices-kept before after keeps hubs all =
 abbrev one_if : Outline → ℕ
 one_if o = cond (is_some o.kinds) 1 0
 
-neither : (a b : Bool) → (a || b) ≡ false → (a ≡ false) × (b ≡ false)
-neither true b is = absurd (cc)
-neither false b is = (refl, is)
+-- a name that is not taken
+unnamed :
+    (lab : Lab) (name : List ℕ) → is_taken lab name ≡ false →
+    All (λ other. bytes_eq other name ≡ false) (map (λ board. board.name) lab.boards)
+    × All (λ other. bytes_eq other name ≡ false) (map (λ hub. hub.name) lab.hubs)
+unnamed lab name free =
+    let no = or_parts _ _ free in
+    (none_has (λ board. board.name) lab.boards name no.0, none_has (λ hub. hub.name) lab.hubs name no.1)
 
 -- a laboratory with a name more
 pub sound-push :
@@ -155,10 +166,8 @@ sound-push {lab = lab} name sound room free =
           rw pushed
           (devices-kept os (os ++ o ∷ [])
           (λ m kind. found-push (kind_of_outline m.dev) os (o ∷ []) m.board.0 kind refl) lab.hubs sound.devices);
-      board_names =
-          rw map-append
-          (one_name_more (λ (board : Board). board.name) lab.boards name (neither _ _ free).0 sound.board_names);
-      hub_names = sound.hub_names;
+      names =
+          rw map-append (board_more name (unnamed lab name free).0 (unnamed lab name free).1 sound.names);
       enough = rw (pushed, plans) sound.enough;
       times = sound.times;
     }
@@ -173,10 +182,8 @@ sound-hub {lab = lab} hub sound none free = record {
   few_boards = sound.few_boards;
   standing = sound.standing;
   devices = hubs-push lab.hubs sound.devices;
-  board_names = sound.board_names;
-  hub_names =
-      rw map-append
-      (one_name_more (λ (hub : Hub). hub.name) lab.hubs hub.name (neither _ _ free).1 sound.hub_names);
+  names =
+      rw map-append (hub_more hub.name (unnamed lab hub.name free).0 (unnamed lab hub.name free).1 sound.names);
   enough = sound.enough;
   times = sound.times;
 }
@@ -197,8 +204,7 @@ sound-member {lab = lab} n m sound kind = record {
   few_boards = sound.few_boards;
   standing = sound.standing;
   devices = member-change lab.hubs n kind sound.devices;
-  board_names = sound.board_names;
-  hub_names = rw (map-change (λ (hub : Hub). hub.name) (with_member m) (λ hub. refl) lab.hubs n) sound.hub_names;
+  names = rw (map-change (λ (hub : Hub). hub.name) (with_member m) (λ hub. refl) lab.hubs n) sound.names;
   enough = sound.enough;
   times = sound.times;
 }
@@ -322,10 +328,9 @@ module _ {lab : Lab} {spares : Spares} (i : ℕ) (plan : BoardPlan) (sound : IsS
             (λ m kind at. found-set (kind_of_outline m.dev) os i m.board.0 o kind
             (ap (option_and_then (λ kinds. slice_get kinds m.dev)) (bare_at lab.boards i none)) at)
             lab.hubs sound.devices);
-        board_names =
+        names =
             rw (map-set_same (λ (board : Board). board.name) lab.boards i new old (ap (λ (b : Board). b.name) is))
-            sound.board_names;
-        hub_names = sound.hub_names;
+            sound.names;
         enough = record {
           few = λ kind. omega (arith, taken kind, sound.enough.few kind);
           uarts = omega (arith, taken Uart, is_small.uarts, plans, sound.enough.uarts);
@@ -361,8 +366,7 @@ sound-back left back kinds sound taken given = record {
   few_boards = sound.few_boards;
   standing = sound.standing;
   devices = sound.devices;
-  board_names = sound.board_names;
-  hub_names = sound.hub_names;
+  names = sound.names;
   enough = record {
     few = λ kind. omega (arith, taken kind, given kind, sound.enough.few kind);
     uarts = omega (arith, taken Uart, given Uart, sound.enough.uarts);
