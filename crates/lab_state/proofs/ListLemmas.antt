@@ -1,11 +1,13 @@
 -- Lists: a change of one place, maps, and names.
 use Rattle.std.proofs.Common.{◌≡◌, ◌∙◌, sym, ap, refl, Bool, false, not, cond, ℕ, zero, suc, ◌+◌, ◌<◌, ◌≤◌, List, []}
 use Rattle.std.proofs.Common.{◌∷◌, ◌++◌, length, map, set, get_or, take, drop, slice_get, Option, Some, None, arith}
-use Rattle.std.specs.Prelude.{is_some, nat_lt}
+use Rattle.std.specs.Prelude.{is_some}
 use Rattle.std.specs.List.{flat_map, All, AllByRecursion, position, position_or_len}
 use Rattle.std.specs.Option.{option_map}
 use Rattle.std.specs.Str.{bytes_eq}
 use Rattle.std.proofs.lemmas.Bool.Decides.{nat_tests}
+use Rattle.std.proofs.lemmas.Grind.{common_steps}
+use Rattle.std.proofs.lemmas.Simd.{map-map}
 use Rattle.std.proofs.lemmas.List.{take_more, length-map, flat_map_more}
 use Rattle.std.proofs.lemmas.List.Elements.{All-map, All-push}
 use Rattle.std.proofs.lemmas.List.Quantifiers.{all_pairs_push}
@@ -35,8 +37,7 @@ map-change g F same (x ∷ xs) (suc i) = ap (λ ys. g x ∷ ys) (map-change g F 
 
 pub map-map_same :
     {A B : Type 0} (g : A → B) (F : A → A) → ((x : A) → g (F x) ≡ g x) → (xs : List A) → map g (map F xs) ≡ map g xs
-map-map_same g F same [] = refl
-map-map_same g F same (x ∷ xs) = λ i. same x i ∷ map-map_same g F same xs i
+map-map_same g F same xs = map-map g F xs ∙ (λ i. map (λ x. same x i) xs)
 
 -- ---- items
 
@@ -67,10 +68,7 @@ module _ {A B : Type 0} (look : Option A → Option B) where
 pub not_yet :
     {A : Type 0} (F : A → A) (xs : List A) (i : ℕ) (d : A) →
     get_or (map F (take i xs) ++ drop i xs) i d ≡ get_or xs i d
-not_yet F [] zero d = refl
-not_yet F [] (suc i) d = refl
-not_yet F (x ∷ xs) zero d = refl
-not_yet F (x ∷ xs) (suc i) d = not_yet F xs i d
+not_yet F xs i d = grind (arith, common_steps)
 
 -- what one item more makes comes last
 pub one_more :

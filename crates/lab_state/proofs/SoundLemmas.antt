@@ -10,10 +10,12 @@ use Rattle.std.proofs.Math.ListN.{get_or-map}
 use Rattle.std.proofs.Math.Seq.{map-set_same}
 use Rattle.std.proofs.lemmas.Bool.{or_parts}
 use Rattle.std.proofs.lemmas.Bool.Decides.{nat_tests}
+use Rattle.std.proofs.lemmas.Grind.{common_steps}
+use Rattle.std.proofs.lemmas.Simd.{map-map}
 use Rattle.std.proofs.lemmas.List.{map-append, map-set, length-map, length-set, length_push}
 use Rattle.std.proofs.lemmas.List.Elements.{All-nil, All-weaker, All-push}
 use Rattle.std.proofs.lemmas.List.Sums.{sum_by_push, sum_by-set, count_by-le-length}
-use Rattle.std.proofs.lemmas.Option.{slice_get-get_or, same_Some}
+use Rattle.std.proofs.lemmas.Option.{slice_get-get_or, slice_get-map, same_Some}
 use Rattle.lab_num.specs.declared.key.Member.{Member}
 use Rattle.dev_core.specs.declared.kind.Kind.{Kind}
 use Rattle.dev_core.specs.declared.kind.Kind.TheVariants.{Uart, Can, Finisher}
@@ -38,22 +40,18 @@ use Rattle.lab_state.proofs.ListLemmas.{none_has, board_more, hub_more}
 
 -- ---- other boards of the same outlines
 
-names-outlines : (boards : List Board) → map (λ o. o.name) (outlines boards) ≡ map (λ board. board.name) boards
-names-outlines [] = refl
-names-outlines (x ∷ xs) = ap (λ names. x.name ∷ names) (names-outlines xs)
-
 -- some time later
 pub sound-same :
     {lab : Lab} {spares : Spares} (others : List Board) (later : ℕ) → outlines others ≡ outlines lab.boards →
     AreStanding (1000 * later) 0 (map number_of others) → later ≤ 10000000000 → IsSound lab spares →
     IsSound (record lab { boards = others; now = later }) spares
 sound-same {lab = lab} others later same standing within sound =
-    let long : length others ≡ length lab.boards =
-    sym (length-map others outline) ∙ ap length same ∙ length-map lab.boards outline in
     let names : map (λ board. board.name) others ≡ map (λ board. board.name) lab.boards =
-    sym (names-outlines others) ∙ ap (map (λ (o : Outline). o.name)) same ∙ names-outlines lab.boards in
+    sym (map-map (λ (o : Outline). o.name) outline others) ∙ ap (map (λ (o : Outline). o.name)) same
+    ∙ map-map (λ (o : Outline). o.name) outline lab.boards in
     record {
-      few_boards = rw long sound.few_boards;
+      few_boards =
+          omega (arith, ap length same, length-map others outline, length-map lab.boards outline, sound.few_boards);
       standing = standing;
       devices = rw same sound.devices;
       names = rw names sound.names;
@@ -221,23 +219,8 @@ sound-member {lab = lab} n m sound kind = record {
     member-change (hub ∷ hubs) (suc n) kind all = (all.0, member-change hubs n kind all.1)
 
 -- the kind of a device, by boards and by outlines
-kind_of_view :
-    (dev : ℕ) (o : Option View) →
-    option_and_then (λ kinds. slice_get kinds dev) (option_map (λ v. v.space.plan.kinds) o)
-    ≡ option_and_then (λ v. slice_get v.space.plan.kinds dev) o
-kind_of_view dev None = refl
-kind_of_view dev (Some v) = refl
-
-kind_of_board :
-    (boards : List Board) (b dev : ℕ) →
-    kind_of_outline dev (slice_get (outlines boards) b)
-    ≡ option_and_then (λ v. slice_get v.space.plan.kinds dev) (view_at boards b)
-kind_of_board [] b dev = refl
-kind_of_board (x ∷ xs) zero dev = kind_of_view dev x.view
-kind_of_board (x ∷ xs) (suc b) dev = kind_of_board xs b dev
-
 pub kind-outlines : (boards : List Board) (m : Member) → kind_in (outlines boards) m ≡ kind_at boards m
-kind-outlines boards m = kind_of_board boards m.board.0 m.dev
+kind-outlines boards m = grind (arith, common_steps, slice_get-map outline boards m.board.0)
 
 -- ---- a board by its plan
 
@@ -259,12 +242,21 @@ small plan valid = record {
 bare_at :
     (boards : List Board) (i : ℕ) → view_at boards i ≡ None →
     option_and_then (λ (o : Outline). o.kinds) (slice_get (outlines boards) i) ≡ None
-bare_at [] i none = refl
-bare_at (x ∷ xs) zero none = ap (option_map (λ (v : View). v.space.plan.kinds)) none
-bare_at (x ∷ xs) (suc i) none = bare_at xs i none
+bare_at boards i none = grind (arith, common_steps, slice_get-map outline boards i)
 
-module _ {lab : Lab} {spares : Spares} (i : ℕ) (plan : BoardPlan) (sound : IsSound lab spares)
-    (below : i < length lab.boards) (none : view_at lab.boards i ≡ None) (valid : IsValid plan) where
+-- a board that was asked for its plan
+none_of : (o : Option View) → is_some o ≡ false → o ≡ None
+none_of o is = grind (arith, common_steps)
+
+module _ {lab now : Lab} {spares : Spares} {planned : Bool} (i : ℕ) (plan : BoardPlan) (sound : IsSound lab spares)
+    (same : lab ≡ now) (exists : i < length now.boards) (asked : planned ≡ is_some (view_of now i))
+    (unplanned : planned ≡ false) (valid : IsValid plan) where
+  below : i < length lab.boards
+  below = rw same exists
+
+  none : view_at lab.boards i ≡ None
+  none = none_of _ (rw same (sym asked ∙ unplanned))
+
   one_plan_more :
       (o : Outline) → is_some o.kinds ≡ true →
       count_of_plans (set (outlines lab.boards) i o) ≡ count_of_plans (outlines lab.boards) + 1
@@ -338,17 +330,6 @@ module _ {lab : Lab} {spares : Spares} (i : ℕ) (plan : BoardPlan) (sound : IsS
         };
         times = sound.times;
       }
-
--- a board that was asked for its plan
-none_of : (o : Option View) → is_some o ≡ false → o ≡ None
-none_of None is = refl
-none_of (Some v) is = absurd (cc)
-
-pub not_planned :
-    {boards : List Board} (s : Seen) (b : ℕ) {planned : Bool} → boards ≡ s.lab.boards →
-    planned ≡ is_some (view_of s.lab b) → planned ≡ false → view_at boards b ≡ None
-not_planned s b seen asked unplanned =
-    none_of _ (ap (λ boards. is_some (view_at boards b)) seen ∙ sym asked ∙ unplanned)
 
 -- ---- devices that are given back
 
