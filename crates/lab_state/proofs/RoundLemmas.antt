@@ -58,14 +58,9 @@ module _ {X : Type 0} (g : Board → X)
       map g (fold (to_route at hubs) h posts).boards ≡ map g h.boards
   map-routes at hubs h [] = refl
   map-routes at hubs h (post ∷ posts) =
-      map-routes at hubs (to_route at hubs h post) posts ∙ by_kind (is_finish post)
-    where
-      by_kind :
-          (finish : Bool) →
-          map g (if finish then h else fold (to_member at post.payload) h (route hubs post.from)).boards
-          ≡ map g h.boards
-      by_kind true = refl
-      by_kind false = map-members at post.payload h (route hubs post.from)
+      let one : map g (to_route at hubs h post).boards ≡ map g h.boards =
+      grind (arith, map-members at post.payload h (route hubs post.from)) in
+      map-routes at hubs (to_route at hubs h post) posts ∙ one
 
 handed-outline :
     (dev : ℕ) (payload : Payload) (board : Board) →
@@ -157,9 +152,7 @@ module _ (law : Numbering) (from q : ℕ) (within : from + q ≤ 10000000000) wh
       (b : ℕ) (o : Option View) → ForSome (option_map (λ v. v.numbers) o) (IsStanding (1000 * from) b) →
       ForSome (option_map (λ v. v.numbers) (option_map (λ v. (granted from (from + q) v).view) o))
       (IsStanding (1000 * (from + q)) b)
-  standing_one b None is = λ n at. absurd (cc)
-  standing_one b (Some v) is =
-      λ n at. subst (IsStanding (1000 * (from + q)) b) (same_Some _ _ at) (standing_run b v (is v.numbers refl))
+  standing_one b o is = grind (arith, common_steps, standing_run b)
 
   standing_stepped :
       (b : ℕ) (boards : List Board) → AreStanding (1000 * from) b (map number_of boards) →
