@@ -144,7 +144,10 @@ unnamed :
     × All (λ other. bytes_eq other name ≡ false) (map (λ hub. hub.name) lab.hubs)
 unnamed lab name free =
     let no = or_parts _ _ free in
-    (none_has (λ board. board.name) lab.boards name no.0, none_has (λ hub. hub.name) lab.hubs name no.1)
+    (
+      none_has (λ (board : Board). board.name) lab.boards name no.0,
+      none_has (λ (hub : Hub). hub.name) lab.hubs name no.1,
+    )
 
 -- a laboratory with a name more
 pub sound-push :
@@ -255,7 +258,7 @@ module _ {lab now : Lab} {spares : Spares} {planned : Bool} (i : ℕ) (plan : Bo
   below = rw same exists
 
   none : view_at lab.boards i ≡ None
-  none = none_of _ (rw same (sym asked ∙ unplanned))
+  none = none_of (view_at lab.boards i) (rw same (sym asked ∙ unplanned))
 
   one_plan_more :
       (o : Outline) → is_some o.kinds ≡ true →
