@@ -3,7 +3,8 @@ use Rattle.std.proofs.Common.{◌≡◌, ◌∙◌, sym, ap, refl, false, true, 
 use Rattle.std.proofs.Common.{get_or, Option, Some, None, subst, arith}
 use Rattle.std.specs.Prelude.{IsSome, option_and_then}
 use Rattle.std.specs.Option.{option_map, ForSome}
-use Rattle.std.proofs.lemmas.Option.{slice_get-get_or, same_Some}
+use Rattle.std.proofs.lemmas.Grind.{common_steps}
+use Rattle.std.proofs.lemmas.Option.{slice_get-get_or, slice_get_past, same_Some}
 use Rattle.sys_bus.specs.declared.region.Target.{Target}
 use Rattle.sys_bus.specs.declared.region.Target.TheVariants.{Ram, Clint, Plic, Dev, Nothing}
 use Rattle.page_ram.specs.Bytes.{zeros}
@@ -82,14 +83,10 @@ view-stands :
     (most b : ℕ) (c : Change) (o : Option View) → ForSome o (MayChange c) →
     ForSome (option_map (λ v. v.numbers) o) (IsStanding most b) →
     ForSome (option_map (λ v. v.numbers) (option_map (changed_by c) o)) (IsStanding most b)
-view-stands most b c None may is = λ n at. absurd (cc)
-view-stands most b c (Some v) may is =
-    λ n at. subst (IsStanding most b) (same_Some _ _ at) (change-stands most b c v (may v refl) (is v.numbers refl))
+view-stands most b c o may is = grind (arith, common_steps, change-stands most b c)
 
 within : (boards : List Board) (i : ℕ) → IsSome (view_at boards i) → i < length boards
-within [] i is = let no : false ≡ true = is in absurd (cc)
-within (x ∷ xs) zero is = omega arith
-within (x ∷ xs) (suc i) is = omega (arith, within xs i is)
+within boards i is = grind (arith, slice_get_past boards i)
 
 -- a board of a laboratory that has a plan is changed
 pub change-kept :

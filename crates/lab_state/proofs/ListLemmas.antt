@@ -1,19 +1,21 @@
 -- Lists: a change of one place, maps, and names.
 use Rattle.std.proofs.Common.{◌≡◌, ◌∙◌, sym, ap, refl, Bool, false, not, cond, ℕ, zero, suc, ◌+◌, ◌<◌, ◌≤◌, List, []}
 use Rattle.std.proofs.Common.{◌∷◌, ◌++◌, length, map, set, get_or, take, drop, slice_get, Option, Some, None, arith}
-use Rattle.std.specs.Prelude.{is_some, nat_lt}
-use Rattle.std.specs.List.{flat_map, AllByRecursion, position, position_or_len}
+use Rattle.std.specs.Prelude.{is_some}
+use Rattle.std.specs.List.{flat_map, All, AllByRecursion, position, position_or_len}
 use Rattle.std.specs.Option.{option_map}
 use Rattle.std.specs.Str.{bytes_eq}
 use Rattle.std.proofs.lemmas.Bool.Decides.{nat_tests}
+use Rattle.std.proofs.lemmas.Grind.{common_steps}
+use Rattle.std.proofs.lemmas.Simd.{map-map}
 use Rattle.std.proofs.lemmas.List.{take_more, length-map, flat_map_more}
-use Rattle.std.proofs.lemmas.List.Elements.{All-map}
+use Rattle.std.proofs.lemmas.List.Elements.{All-map, All-push}
 use Rattle.std.proofs.lemmas.List.Quantifiers.{all_pairs_push}
 use Rattle.std.proofs.lemmas.List.Sums.{fails_before_first, position_or_len_is}
 use Rattle.std.proofs.lemmas.Option.{slice_get-map, slice_get_within, get_or_from_slice_get}
 use Rattle.std.proofs.lemmas.Cmp.{nat_list_eq_equiv}
 use Rattle.lab_state.specs.Change.{change_at}
-use Rattle.lab_state.specs.Inner.Standing.{NamesDiffer}
+use Rattle.lab_state.specs.Inner.Standing.{NamesDiffer, AreNames}
 
 -- ---- a change of one place
 
@@ -35,8 +37,7 @@ map-change g F same (x ∷ xs) (suc i) = ap (λ ys. g x ∷ ys) (map-change g F 
 
 pub map-map_same :
     {A B : Type 0} (g : A → B) (F : A → A) → ((x : A) → g (F x) ≡ g x) → (xs : List A) → map g (map F xs) ≡ map g xs
-map-map_same g F same [] = refl
-map-map_same g F same (x ∷ xs) = λ i. same x i ∷ map-map_same g F same xs i
+map-map_same g F same xs = map-map g F xs ∙ (λ i. map (λ x. same x i) xs)
 
 -- ---- items
 
@@ -67,10 +68,7 @@ module _ {A B : Type 0} (look : Option A → Option B) where
 pub not_yet :
     {A : Type 0} (F : A → A) (xs : List A) (i : ℕ) (d : A) →
     get_or (map F (take i xs) ++ drop i xs) i d ≡ get_or xs i d
-not_yet F [] zero d = refl
-not_yet F [] (suc i) d = refl
-not_yet F (x ∷ xs) zero d = refl
-not_yet F (x ∷ xs) (suc i) d = not_yet F xs i d
+not_yet F xs i d = grind (arith, common_steps)
 
 -- what one item more makes comes last
 pub one_more :
@@ -93,22 +91,43 @@ pub position-map :
     {A B : Type 0} (f : A → B) (p : B → Bool) (xs : List A) → position p (map f xs) ≡ position (λ x. p (f x)) xs
 position-map f p xs = rw (position_or_len-map f p xs, length-map xs f) refl
 
-past : (n len : ℕ) → is_some (cond (nat_lt n len) (Some n) None) ≡ false → len ≤ n
-past n len none = grind (arith, nat_tests)
+-- a board or a hub more, whose name no board and no hub has
+module _ {boards hubs : List (List ℕ)} (name : List ℕ) (no_board : All (λ board. bytes_eq board name ≡ false) boards)
+    (no_hub : All (λ hub. bytes_eq hub name ≡ false) hubs) (are : AreNames boards hubs) where
+  pub board_more : AreNames (boards ++ name ∷ []) hubs
+  board_more = record {
+    boards_differ = all_pairs_push (λ a b. bytes_eq a b ≡ false) boards name are.boards_differ no_board;
+    hubs_differ = are.hubs_differ;
+    apart = All-push (λ board. All (λ hub. bytes_eq hub board ≡ false) hubs) boards name are.apart no_hub;
+  }
 
-inside : (n len i : ℕ) → n ≡ i → i < len → cond (nat_lt n len) (Some n) None ≡ Some i
-inside n len i is below = grind (arith, nat_tests)
+  pub hub_more : AreNames boards (hubs ++ name ∷ [])
+  hub_more = record {
+    boards_differ = are.boards_differ;
+    hubs_differ = all_pairs_push (λ a b. bytes_eq a b ≡ false) hubs name are.hubs_differ no_hub;
+    apart = λ k d below.
+        All-push (λ hub. bytes_eq hub (get_or boards k d) ≡ false) hubs name (are.apart k d below)
+        (nat_list_eq_equiv.symm name (get_or boards k d) ∙ no_board k d below);
+  }
 
 module _ {A : Type 0} (f : A → List ℕ) (xs : List A) where
-  -- a name that is not found is one more that differs from all others
-  pub one_name_more :
-      (name : List ℕ) → is_some (position (λ x. bytes_eq (f x) name) xs) ≡ false → NamesDiffer (map f xs) →
-      NamesDiffer (map f xs ++ name ∷ [])
-  one_name_more name none differ =
-      let no = past (position_or_len (λ x. bytes_eq (f x) name) xs) (length xs) none in
-      all_pairs_push (λ a b. bytes_eq a b ≡ false) (map f xs) name differ
-      (All-map (λ y. bytes_eq y name ≡ false) f xs
-      (λ k d below. fails_before_first (λ x. bytes_eq (f x) name) xs k d (omega arith)))
+  -- a name that is not found differs from all names
+  pub none_has :
+      (name : List ℕ) → is_some (position (λ x. bytes_eq (f x) name) xs) ≡ false →
+      All (λ y. bytes_eq y name ≡ false) (map f xs)
+  none_has name none =
+      let past : length xs ≤ position_or_len (λ x. bytes_eq (f x) name) xs = grind (arith, nat_tests, none) in
+      All-map (λ y. bytes_eq y name ≡ false) f xs
+      (λ k d below. fails_before_first (λ x. bytes_eq (f x) name) xs k d (omega arith))
+
+  -- and one that differs from all names is not found
+  not_found :
+      (name : List ℕ) → All (λ y. bytes_eq y name ≡ false) (map f xs) → position (λ x. bytes_eq (f x) name) xs ≡ None
+  not_found name none =
+      let all = position_or_len_is (λ y. bytes_eq y name) (map f xs) (length (map f xs)) [] (omega arith)
+      (λ k before. none k [] before) (λ within. absurd (omega arith)) in
+      let out : position (λ y. bytes_eq y name) (map f xs) ≡ None = grind (arith, nat_tests, all) in
+      sym (position-map f (λ y. bytes_eq y name) xs) ∙ out
 
   -- names that differ are found where they stand
   pub named_at :
@@ -118,8 +137,17 @@ module _ {A : Type 0} (f : A → List ℕ) (xs : List A) where
       let at : slice_get (map f xs) i ≡ Some name = slice_get-map f xs i ∙ sym is in
       let below = slice_get_within (map f xs) i name at in
       let here = get_or_from_slice_get (map f xs) i name name at in
-      sym (position-map f (λ y. bytes_eq y name) xs)
-      ∙ inside (position_or_len (λ y. bytes_eq y name) (map f xs)) (length (map f xs)) i
-      (position_or_len_is (λ y. bytes_eq y name) (map f xs) i name (omega arith)
-      (λ k before. rw here at (differ k i name before below)) (λ within. rw here (nat_list_eq_equiv.refl name)))
-      below
+      let first = position_or_len_is (λ y. bytes_eq y name) (map f xs) i name (omega arith)
+      (λ k before. rw here at (differ k i name before below)) (λ within. rw here (nat_list_eq_equiv.refl name)) in
+      let found : position (λ y. bytes_eq y name) (map f xs) ≡ Some i = grind (arith, nat_tests, first, below) in
+      sym (position-map f (λ y. bytes_eq y name) xs) ∙ found
+
+-- the name of a board is not found among the hubs
+pub no_hub :
+    {A B : Type 0} (f : A → List ℕ) (boards : List A) (g : B → List ℕ) (hubs : List B) (i : ℕ) (name : List ℕ) →
+    AreNames (map f boards) (map g hubs) → Some name ≡ option_map f (slice_get boards i) →
+    position (λ hub. bytes_eq (g hub) name) hubs ≡ None
+no_hub f boards g hubs i name are is =
+    let at : slice_get (map f boards) i ≡ Some name = slice_get-map f boards i ∙ sym is in
+    let here = get_or_from_slice_get (map f boards) i name name at in
+    not_found g hubs name (rw here at (are.apart i name (slice_get_within (map f boards) i name at)))

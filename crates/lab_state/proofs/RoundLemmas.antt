@@ -5,7 +5,8 @@ use Rattle.std.proofs.Common.{Option, Some, None, take, drop, subst, add-zero, a
 use Rattle.std.specs.Prelude.{if◌then◌else◌, IsSome, is_none, option_and_then}
 use Rattle.std.proofs.lemmas.List.{map-append}
 use Rattle.std.proofs.lemmas.List.Elements.{All-nil, All-filter, All-weaker}
-use Rattle.std.proofs.lemmas.Option.{same_Some}
+use Rattle.std.proofs.lemmas.Grind.{common_steps}
+use Rattle.std.proofs.lemmas.Option.{same_Some, slice_get_past, slice_get-map, slice_get-get_or}
 use Rattle.std.proofs.Math.Nat.{mul-le-mul_left}
 use Rattle.std.proofs.Math.Seq.{take-append_seam}
 use Rattle.std.specs.List.{flat_map, All, position}
@@ -57,14 +58,9 @@ module _ {X : Type 0} (g : Board → X)
       map g (fold (to_route at hubs) h posts).boards ≡ map g h.boards
   map-routes at hubs h [] = refl
   map-routes at hubs h (post ∷ posts) =
-      map-routes at hubs (to_route at hubs h post) posts ∙ by_kind (is_finish post)
-    where
-      by_kind :
-          (finish : Bool) →
-          map g (if finish then h else fold (to_member at post.payload) h (route hubs post.from)).boards
-          ≡ map g h.boards
-      by_kind true = refl
-      by_kind false = map-members at post.payload h (route hubs post.from)
+      let one : map g (to_route at hubs h post).boards ≡ map g h.boards =
+      grind (arith, map-members at post.payload h (route hubs post.from)) in
+      map-routes at hubs (to_route at hubs h post) posts ∙ one
 
 handed-outline :
     (dev : ℕ) (payload : Payload) (board : Board) →
@@ -77,41 +73,24 @@ pub outlines-routes :
 outlines-routes at hubs boards posts =
     map-routes outline handed-outline at (members_of hubs) (record { boards = boards; notes = [] }) posts
 
--- a member that a loop has not come to is a device of the boards as they are by then
-pub still_device :
-    {boards : List Board} (h : Handed) (at : ℕ) (payload : Payload) (done to : List Member) (i : ℕ) (d : Member) →
-    boards ≡ (fold (to_member at payload) h done).boards → All (IsDevice (outlines h.boards)) to → i < length to →
-    IsDevice (outlines boards) (get_or to i d)
-still_device h at payload done to i d is all below =
-    rw (ap outlines is ∙ map-members outline handed-outline at payload h done) (all i d below)
-
--- and can be handed something
-some-within : {A : Type 0} (xs : List A) (i : ℕ) → IsSome (slice_get xs i) → i < length xs
-some-within [] i is = let no : false ≡ true = is in absurd (cc)
-some-within (x ∷ xs) zero is = omega arith
-some-within (x ∷ xs) (suc i) is = omega (arith, some-within xs i is)
-
-by_view :
-    (dev : ℕ) (o : Option View) →
-    IsSome (option_and_then (λ kinds. slice_get kinds dev) (option_map (λ v. v.space.plan.kinds) o)) →
-    ForSome o (λ v. dev < length v.space.plan.kinds)
-by_view dev None is = λ v at. absurd (cc)
-by_view dev (Some v) is =
-    λ w at. subst (λ (v : View). dev < length v.space.plan.kinds) (same_Some _ _ at)
-    (some-within v.space.plan.kinds dev is)
-
+-- a device of a board can be handed something
 can_take :
     (boards : List Board) (b dev : ℕ) (d : Board) → IsSome (kind_of_outline dev (slice_get (outlines boards) b)) →
     (b < length boards) × ForSome (get_or boards b d).view (λ v. dev < length v.space.plan.kinds)
-can_take [] b dev d is = let no : false ≡ true = is in absurd (cc)
-can_take (x ∷ xs) zero dev d is = (omega arith, by_view dev x.view is)
-can_take (x ∷ xs) (suc b) dev d is =
-    let rest = can_take xs b dev d is in (omega (arith, rest.0), rest.1)
+can_take boards b dev d is =
+    grind (arith, common_steps, slice_get-map outline boards b, slice_get_past boards b, slice_get-get_or boards b d,
+    slice_get_past)
 
+-- and so can a member that a loop has not come to, whose board is as it is by then
 pub deliverable :
-    (boards : List Board) (m : Member) (d : Board) → IsDevice (outlines boards) m →
-    (m.board.0 < length boards) × ForSome (get_or boards m.board.0 d).view (λ v. m.dev < length v.space.plan.kinds)
-deliverable boards m d is = can_take boards m.board.0 m.dev d is
+    {boards : List Board} (h : Handed) (at : ℕ) (payload : Payload) (to : List Member) (i : ℕ) (m : Member) (d : Board) →
+    boards ≡ (fold (to_member at payload) h (take i to)).boards → All (IsDevice (outlines h.boards)) to →
+    i < length to →
+    ((get_or to i m).board.0 < length boards)
+    × ForSome (get_or boards (get_or to i m).board.0 d).view (λ v. (get_or to i m).dev < length v.space.plan.kinds)
+deliverable {boards = boards} h at payload to i m d is all below =
+    can_take boards (get_or to i m).board.0 (get_or to i m).dev d
+    (rw (ap outlines is ∙ map-members outline handed-outline at payload h (take i to)) (all i m below))
 
 -- the members that a device's posts go to are devices of boards
 pub route_devices :
@@ -173,9 +152,7 @@ module _ (law : Numbering) (from q : ℕ) (within : from + q ≤ 10000000000) wh
       (b : ℕ) (o : Option View) → ForSome (option_map (λ v. v.numbers) o) (IsStanding (1000 * from) b) →
       ForSome (option_map (λ v. v.numbers) (option_map (λ v. (granted from (from + q) v).view) o))
       (IsStanding (1000 * (from + q)) b)
-  standing_one b None is = λ n at. absurd (cc)
-  standing_one b (Some v) is =
-      λ n at. subst (IsStanding (1000 * (from + q)) b) (same_Some _ _ at) (standing_run b v (is v.numbers refl))
+  standing_one b o is = grind (arith, common_steps, standing_run b)
 
   standing_stepped :
       (b : ℕ) (boards : List Board) → AreStanding (1000 * from) b (map number_of boards) →
@@ -267,8 +244,7 @@ sound-round law plans {lab = lab} q within sound =
 
 -- every board has a plan after a round if it had one before
 is_none-map : {A : Type 0} (f : A → A) (o : Option A) → is_none (option_map f o) ≡ is_none o
-is_none-map f None = refl
-is_none-map f (Some x) = refl
+is_none-map f o = grind (arith, common_steps)
 
 pub plans-round : (lab : Lab) (q : ℕ) → HaveAllPlans lab → HaveAllPlans (round lab q).lab
 unfolding round_by boundary

@@ -23,8 +23,7 @@ use Rattle.lab_state.specs.Run.{Play, rest_of, lengths, followed_by, go_on, stil
 on_quantum :
     (paused : Bool) (run more : Rounded) → more.lab.quantum ≡ run.lab.quantum →
     (if paused then run else followed_by run more).lab.quantum ≡ run.lab.quantum
-on_quantum true run more is = refl
-on_quantum false run more is = is
+on_quantum paused run more is = grind (arith, is)
 
 -- rounds leave the quantum
 same_quantum : (run : Rounded) (qs : List ℕ) → (fold (go_on round) run qs).lab.quantum ≡ run.lab.quantum

@@ -3,14 +3,19 @@ use Rattle.std.proofs.Common.{◌≡◌, ◌∙◌, sym, ap, refl, Bool, true, f
 use Rattle.std.proofs.Common.{List, [], ◌∷◌, ◌++◌, subst}
 use Rattle.std.proofs.Common.{length, map, set, get_or, slice_get, Option, Some, None, add-zero, zero-add, arith}
 use Rattle.std.specs.Prelude.{is_some, option_and_then}
+use Rattle.std.specs.List.{All}
 use Rattle.std.specs.Option.{option_map, ForSome}
+use Rattle.std.specs.Str.{bytes_eq}
 use Rattle.std.proofs.Math.ListN.{get_or-map}
 use Rattle.std.proofs.Math.Seq.{map-set_same}
+use Rattle.std.proofs.lemmas.Bool.{or_parts}
 use Rattle.std.proofs.lemmas.Bool.Decides.{nat_tests}
+use Rattle.std.proofs.lemmas.Grind.{common_steps}
+use Rattle.std.proofs.lemmas.Simd.{map-map}
 use Rattle.std.proofs.lemmas.List.{map-append, map-set, length-map, length-set, length_push}
 use Rattle.std.proofs.lemmas.List.Elements.{All-nil, All-weaker, All-push}
 use Rattle.std.proofs.lemmas.List.Sums.{sum_by_push, sum_by-set, count_by-le-length}
-use Rattle.std.proofs.lemmas.Option.{slice_get-get_or, same_Some}
+use Rattle.std.proofs.lemmas.Option.{slice_get-get_or, slice_get-map, same_Some}
 use Rattle.lab_num.specs.declared.key.Member.{Member}
 use Rattle.dev_core.specs.declared.kind.Kind.{Kind}
 use Rattle.dev_core.specs.declared.kind.Kind.TheVariants.{Uart, Can, Finisher}
@@ -30,13 +35,10 @@ use Rattle.lab_state.specs.One.{view_at, view_of, kind_at, with_member}
 use Rattle.lab_state.specs.Inner.Spares.{Spares, full, HasFor, HasRoomFor, AreTaken}
 use Rattle.lab_state.specs.Inner.Standing.{Outline, outline, outlines, number_of, IsStanding, AreStanding, IsKept}
 use Rattle.lab_state.specs.Inner.Standing.{kind_of_outline, kind_in, AreMembers, AreDevices, count_of_plans, IsSound}
-use Rattle.lab_state.proofs.ListLemmas.{set-change, map-change, each-weaker, found-push, found-set, one_name_more}
+use Rattle.lab_state.proofs.ListLemmas.{set-change, map-change, each-weaker, found-push, found-set}
+use Rattle.lab_state.proofs.ListLemmas.{none_has, board_more, hub_more}
 
 -- ---- other boards of the same outlines
-
-names-outlines : (boards : List Board) → map (λ o. o.name) (outlines boards) ≡ map (λ board. board.name) boards
-names-outlines [] = refl
-names-outlines (x ∷ xs) = ap (λ names. x.name ∷ names) (names-outlines xs)
 
 -- some time later
 pub sound-same :
@@ -44,16 +46,15 @@ pub sound-same :
     AreStanding (1000 * later) 0 (map number_of others) → later ≤ 10000000000 → IsSound lab spares →
     IsSound (record lab { boards = others; now = later }) spares
 sound-same {lab = lab} others later same standing within sound =
-    let long : length others ≡ length lab.boards =
-    sym (length-map others outline) ∙ ap length same ∙ length-map lab.boards outline in
     let names : map (λ board. board.name) others ≡ map (λ board. board.name) lab.boards =
-    sym (names-outlines others) ∙ ap (map (λ (o : Outline). o.name)) same ∙ names-outlines lab.boards in
+    sym (map-map (λ (o : Outline). o.name) outline others) ∙ ap (map (λ (o : Outline). o.name)) same
+    ∙ map-map (λ (o : Outline). o.name) outline lab.boards in
     record {
-      few_boards = rw long sound.few_boards;
+      few_boards =
+          omega (arith, ap length same, length-map others outline, length-map lab.boards outline, sound.few_boards);
       standing = standing;
       devices = rw same sound.devices;
-      board_names = rw names sound.board_names;
-      hub_names = sound.hub_names;
+      names = rw names sound.names;
       enough = rw same sound.enough;
       times = record {
         time = within;
@@ -106,8 +107,11 @@ sound-new = record {
   few_boards = omega arith;
   standing = tt;
   devices = tt;
-  board_names = λ i j d before within. absurd (omega arith);
-  hub_names = λ i j d before within. absurd (omega arith);
+  names = record {
+    boards_differ = λ i j d before within. absurd (omega arith);
+    hubs_differ = λ i j d before within. absurd (omega arith);
+    apart = All-nil _;
+  };
   enough = record { few = λ kind. omega arith; uarts = omega arith; finishers = omega arith };
   times = record { time = omega arith; least_quantum = omega arith; most_quantum = omega arith };
 }
@@ -133,9 +137,17 @@ devices-kept before after keeps hubs all =
 abbrev one_if : Outline → ℕ
 one_if o = cond (is_some o.kinds) 1 0
 
-neither : (a b : Bool) → (a || b) ≡ false → (a ≡ false) × (b ≡ false)
-neither true b is = absurd (cc)
-neither false b is = (refl, is)
+-- a name that is not taken
+unnamed :
+    (lab : Lab) (name : List ℕ) → is_taken lab name ≡ false →
+    All (λ other. bytes_eq other name ≡ false) (map (λ board. board.name) lab.boards)
+    × All (λ other. bytes_eq other name ≡ false) (map (λ hub. hub.name) lab.hubs)
+unnamed lab name free =
+    let no = or_parts _ _ free in
+    (
+      none_has (λ (board : Board). board.name) lab.boards name no.0,
+      none_has (λ (hub : Hub). hub.name) lab.hubs name no.1,
+    )
 
 -- a laboratory with a name more
 pub sound-push :
@@ -155,10 +167,8 @@ sound-push {lab = lab} name sound room free =
           rw pushed
           (devices-kept os (os ++ o ∷ [])
           (λ m kind. found-push (kind_of_outline m.dev) os (o ∷ []) m.board.0 kind refl) lab.hubs sound.devices);
-      board_names =
-          rw map-append
-          (one_name_more (λ (board : Board). board.name) lab.boards name (neither _ _ free).0 sound.board_names);
-      hub_names = sound.hub_names;
+      names =
+          rw map-append (board_more name (unnamed lab name free).0 (unnamed lab name free).1 sound.names);
       enough = rw (pushed, plans) sound.enough;
       times = sound.times;
     }
@@ -173,10 +183,8 @@ sound-hub {lab = lab} hub sound none free = record {
   few_boards = sound.few_boards;
   standing = sound.standing;
   devices = hubs-push lab.hubs sound.devices;
-  board_names = sound.board_names;
-  hub_names =
-      rw map-append
-      (one_name_more (λ (hub : Hub). hub.name) lab.hubs hub.name (neither _ _ free).1 sound.hub_names);
+  names =
+      rw map-append (hub_more hub.name (unnamed lab hub.name free).0 (unnamed lab hub.name free).1 sound.names);
   enough = sound.enough;
   times = sound.times;
 }
@@ -197,8 +205,7 @@ sound-member {lab = lab} n m sound kind = record {
   few_boards = sound.few_boards;
   standing = sound.standing;
   devices = member-change lab.hubs n kind sound.devices;
-  board_names = sound.board_names;
-  hub_names = rw (map-change (λ (hub : Hub). hub.name) (with_member m) (λ hub. refl) lab.hubs n) sound.hub_names;
+  names = rw (map-change (λ (hub : Hub). hub.name) (with_member m) (λ hub. refl) lab.hubs n) sound.names;
   enough = sound.enough;
   times = sound.times;
 }
@@ -215,23 +222,8 @@ sound-member {lab = lab} n m sound kind = record {
     member-change (hub ∷ hubs) (suc n) kind all = (all.0, member-change hubs n kind all.1)
 
 -- the kind of a device, by boards and by outlines
-kind_of_view :
-    (dev : ℕ) (o : Option View) →
-    option_and_then (λ kinds. slice_get kinds dev) (option_map (λ v. v.space.plan.kinds) o)
-    ≡ option_and_then (λ v. slice_get v.space.plan.kinds dev) o
-kind_of_view dev None = refl
-kind_of_view dev (Some v) = refl
-
-kind_of_board :
-    (boards : List Board) (b dev : ℕ) →
-    kind_of_outline dev (slice_get (outlines boards) b)
-    ≡ option_and_then (λ v. slice_get v.space.plan.kinds dev) (view_at boards b)
-kind_of_board [] b dev = refl
-kind_of_board (x ∷ xs) zero dev = kind_of_view dev x.view
-kind_of_board (x ∷ xs) (suc b) dev = kind_of_board xs b dev
-
 pub kind-outlines : (boards : List Board) (m : Member) → kind_in (outlines boards) m ≡ kind_at boards m
-kind-outlines boards m = kind_of_board boards m.board.0 m.dev
+kind-outlines boards m = grind (arith, common_steps, slice_get-map outline boards m.board.0)
 
 -- ---- a board by its plan
 
@@ -253,12 +245,21 @@ small plan valid = record {
 bare_at :
     (boards : List Board) (i : ℕ) → view_at boards i ≡ None →
     option_and_then (λ (o : Outline). o.kinds) (slice_get (outlines boards) i) ≡ None
-bare_at [] i none = refl
-bare_at (x ∷ xs) zero none = ap (option_map (λ (v : View). v.space.plan.kinds)) none
-bare_at (x ∷ xs) (suc i) none = bare_at xs i none
+bare_at boards i none = grind (arith, common_steps, slice_get-map outline boards i)
 
-module _ {lab : Lab} {spares : Spares} (i : ℕ) (plan : BoardPlan) (sound : IsSound lab spares)
-    (below : i < length lab.boards) (none : view_at lab.boards i ≡ None) (valid : IsValid plan) where
+-- a board that was asked for its plan
+none_of : (o : Option View) → is_some o ≡ false → o ≡ None
+none_of o is = grind (arith, common_steps)
+
+module _ {lab now : Lab} {spares : Spares} {planned : Bool} (i : ℕ) (plan : BoardPlan) (sound : IsSound lab spares)
+    (same : lab ≡ now) (exists : i < length now.boards) (asked : planned ≡ is_some (view_of now i))
+    (unplanned : planned ≡ false) (valid : IsValid plan) where
+  below : i < length lab.boards
+  below = rw same exists
+
+  none : view_at lab.boards i ≡ None
+  none = none_of (view_at lab.boards i) (rw same (sym asked ∙ unplanned))
+
   one_plan_more :
       (o : Outline) → is_some o.kinds ≡ true →
       count_of_plans (set (outlines lab.boards) i o) ≡ count_of_plans (outlines lab.boards) + 1
@@ -322,10 +323,9 @@ module _ {lab : Lab} {spares : Spares} (i : ℕ) (plan : BoardPlan) (sound : IsS
             (λ m kind at. found-set (kind_of_outline m.dev) os i m.board.0 o kind
             (ap (option_and_then (λ kinds. slice_get kinds m.dev)) (bare_at lab.boards i none)) at)
             lab.hubs sound.devices);
-        board_names =
+        names =
             rw (map-set_same (λ (board : Board). board.name) lab.boards i new old (ap (λ (b : Board). b.name) is))
-            sound.board_names;
-        hub_names = sound.hub_names;
+            sound.names;
         enough = record {
           few = λ kind. omega (arith, taken kind, sound.enough.few kind);
           uarts = omega (arith, taken Uart, is_small.uarts, plans, sound.enough.uarts);
@@ -333,17 +333,6 @@ module _ {lab : Lab} {spares : Spares} (i : ℕ) (plan : BoardPlan) (sound : IsS
         };
         times = sound.times;
       }
-
--- a board that was asked for its plan
-none_of : (o : Option View) → is_some o ≡ false → o ≡ None
-none_of None is = refl
-none_of (Some v) is = absurd (cc)
-
-pub not_planned :
-    {boards : List Board} (s : Seen) (b : ℕ) {planned : Bool} → boards ≡ s.lab.boards →
-    planned ≡ is_some (view_of s.lab b) → planned ≡ false → view_at boards b ≡ None
-not_planned s b seen asked unplanned =
-    none_of _ (ap (λ boards. is_some (view_at boards b)) seen ∙ sym asked ∙ unplanned)
 
 -- ---- devices that are given back
 
@@ -361,8 +350,7 @@ sound-back left back kinds sound taken given = record {
   few_boards = sound.few_boards;
   standing = sound.standing;
   devices = sound.devices;
-  board_names = sound.board_names;
-  hub_names = sound.hub_names;
+  names = sound.names;
   enough = record {
     few = λ kind. omega (arith, taken kind, given kind, sound.enough.few kind);
     uarts = omega (arith, taken Uart, given Uart, sound.enough.uarts);

@@ -104,13 +104,14 @@ impl<D: Device> Lab<D> {
         }
     }
 
-    /// The name of a board, which no other board has.
+    /// The name of a board, which no other board and no hub has.
     pub fn board_name(&self, b: BoardNo) -> &Text
         requires unspent { self.now.spent ≡ false }
         requires exists { b.0 < length self.now.lab.boards }
         ensures value { Some result.now
             ≡ option_map (λ board. board.name) (slice_get self.now.lab.boards b.0) }
         ensures found { names_spec.board_named self.now.lab result.now ≡ Some b.0 }
+        ensures no_hub { names_spec.hub_named self.now.lab result.now ≡ None }
     {
         self.boards[b.0 as usize].name()
     }

@@ -66,6 +66,12 @@ AreDevices boards hubs = AllByRecursion (AreMembers boards) hubs
 abbrev pub NamesDiffer : List (List ℕ) → Type 0
 NamesDiffer names = AllPairs (λ a b. bytes_eq a b ≡ false) names
 
+-- no two boards, no two hubs, and no board and hub of one name
+pub record AreNames (boards hubs : List (List ℕ)) : Type 0 where
+  pub boards_differ : NamesDiffer boards
+  pub hubs_differ : NamesDiffer hubs
+  pub apart : All (λ board. All (λ hub. bytes_eq hub board ≡ false) hubs) boards
+
 -- a time and a quantum that a laboratory may have
 pub record AreTimes (now quantum : ℕ) : Type 0 where
   pub time : now ≤ 10000000000
@@ -83,13 +89,12 @@ pub record IsEnough (spares : Spares) (plans : ℕ) : Type 0 where
   pub finishers : 16 ≤ spares.finishers + plans
 
 -- at most 16 boards under numbers of their own, of which no two have made two things under one number; hubs that
--- connect devices of these boards; no two boards and no two hubs of one name; devices for the boards that have no plan
--- yet
+-- connect devices of these boards; no name that two of the boards and hubs have; devices for the boards that have no
+-- plan yet
 pub record IsSound (lab : Lab) (spares : Spares) : Type 0 where
   pub few_boards : length lab.boards ≤ 16
   pub standing : AreStanding (1000 * lab.now) 0 (map number_of lab.boards)
   pub devices : AreDevices (outlines lab.boards) lab.hubs
-  pub board_names : NamesDiffer (map (λ board. board.name) lab.boards)
-  pub hub_names : NamesDiffer (map (λ hub. hub.name) lab.hubs)
+  pub names : AreNames (map (λ board. board.name) lab.boards) (map (λ hub. hub.name) lab.hubs)
   pub enough : IsEnough spares (count_of_plans (outlines lab.boards))
   pub times : AreTimes lab.now lab.quantum

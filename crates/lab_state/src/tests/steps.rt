@@ -1,10 +1,10 @@
 //! What is done with a laboratory, and what is seen of it.
-ghost use Rattle.std.specs.Prelude.{◌≡◌, false, IsSome};
-ghost use Rattle.lab_state.specs.One.{view_of};
+ghost use Rattle.std.specs.Prelude.{◌≡◌, ◌+◌, ◌<◌, ◌≤◌, true, false, IsSome, OnErr};
+ghost use Rattle.lab_state.specs.One.{view_of, HaveAllPlans};
 
 use super::cases::Program;
 use super::{HUB, START, device, plan};
-use crate::{ConnectFault, FitFault, Lab, RoundLog, RunFault};
+use crate::{ConnectFault, FitFault, Lab, LabFault, RoundLog, RunFault};
 use board::has_no_cans;
 use dev_core::{Device, Finish, Kind, What};
 use lab_num::{BoardNo, Key, Member, Micros, PostNo, is_name};
@@ -217,11 +217,25 @@ fn build<D: Device>(
     Ok(())
 }
 
+/// A round, which is asked for once more where the first found no memory.
+fn round_again<D: Device>(lab: &mut Lab<D>, q: u64) -> Result<RoundLog, LabFault>
+    requires some { 0 < q }
+    requires plans { lab.old.spent ≡ false → HaveAllPlans lab.old.lab }
+    requires within { lab.old.spent ≡ false → lab.old.lab.now + q ≤ 10000000000 }
+    ensures spent { lab.old.spent ≡ true → result ≡ Err LabFault.Memory }
+    ensures err { OnErr result (lab.new.spent ≡ true) }
+{
+    match lab.round(q) {
+        Ok(log) => Ok(log),
+        Err(_) => lab.round(q),
+    }
+}
+
 fn round<D: Device>(rt: &impl Abort, lab: &mut Lab<D>, q: u64) -> Result<RoundLog, Fail> {
     assert!(rt; !lab.is_spent());
     assert!(rt; lab.first_without_plan().is_none());
     assert!(rt; 0 < q && q < 1000 && lab.now().0 < 1_000_000);
-    Ok(lab.round(q)?)
+    Ok(round_again(lab, q)?)
 }
 
 /// Runs the laboratory.

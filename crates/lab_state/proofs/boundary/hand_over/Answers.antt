@@ -1,5 +1,5 @@
 -- One device more was handed the payload.
-use Rattle.std.proofs.Common.{◌≡◌, ◌∙◌, sym, ap, ◌++◌, get_or, take}
+use Rattle.std.proofs.Common.{◌≡◌, ◌∙◌, sym, ap, ◌++◌, get_or}
 use Rattle.std.specs.Prelude.{option_and_then}
 use Rattle.std.specs.Option.{option_map, option_to_list}
 use Rattle.std.proofs.lemmas.List.Sums.{fold_more}
@@ -10,7 +10,7 @@ use Rattle.lab_state.specs.Board.{Board}
 use Rattle.lab_state.specs.Boundary.{Handed, note_item, note_by, to_member}
 use Rattle.lab_state.specs.One.{with_view}
 use Rattle.lab_state.proofs.ListLemmas.{set-change}
-use Rattle.lab_state.proofs.RoundLemmas.{still_device, deliverable}
+use Rattle.lab_state.proofs.RoundLemmas.{deliverable}
 use Rattle.lab_state.proofs.boundary.hand_over.Goals as goal
 
 abbrev nobody : Member
@@ -18,23 +18,19 @@ nobody = record { board = record { 0 = 0 }; dev = 0 }
 
 pub deliver-note-requires : goal.deliver-note-requires
 deliver-note-requires g c =
-    let i = c.loop-member.member-index in
-    let m = get_or c.args.to.now i nobody in
     let start : Handed = record { boards = c.args.boards.now; notes = c.args.notes.now.items } in
-    let is =
-    still_device start c.args.at.0 c.args.payload.now (take i c.args.to.now) c.args.to.now i nobody
-    (ap (λ (h : Handed). h.boards) c.loop-member.invariant) c.requires c.loop-member-test.true in
-    (deliverable c.loop-member.boards m c.index-boards-member.result is).1
+    (deliverable start c.args.at.0 c.args.payload.now c.args.to.now c.loop-member.member-index nobody
+    c.index-boards-member.result (ap (λ (h : Handed). h.boards) c.loop-member.invariant) c.requires
+    c.loop-member-test.true).1
 
 pub loop-member-preserved : goal.loop-member-preserved
 loop-member-preserved g c =
     let i = c.loop-member.member-index in
     let m = get_or c.args.to.now i nobody in
     let start : Handed = record { boards = c.args.boards.now; notes = c.args.notes.now.items } in
-    let is =
-    still_device start c.args.at.0 c.args.payload.now (take i c.args.to.now) c.args.to.now i nobody
+    let can =
+    deliverable start c.args.at.0 c.args.payload.now c.args.to.now i nobody c.index-boards-member.result
     (ap (λ (h : Handed). h.boards) c.loop-member.invariant) c.requires c.loop-member-test.true in
-    let can = deliverable c.loop-member.boards m c.index-boards-member.result is in
     let found = slice_get-get_or c.loop-member.boards m.board.0 c.index-boards-member.result can.0 in
     let now : Handed = record { boards = c.loop-member.boards; notes = c.loop-member.notes.items } in
     let b = m.board.0 in

@@ -1,12 +1,13 @@
 -- No post is left.
-use Rattle.std.proofs.Common.{◌≡◌, ◌∙◌, sym, ap, List, [], ◌∷◌, ◌++◌, None, slice_get}
+use Rattle.std.proofs.Common.{◌≡◌, ◌∙◌, sym, ap, List, [], ◌++◌, None, slice_get, arith}
+use Rattle.std.proofs.lemmas.Grind.{common_steps}
 use Rattle.std.proofs.lemmas.List.{append-nil}
+use Rattle.std.proofs.lemmas.Option.{slice_get_cases}
 use Rattle.dev_core.specs.declared.post.Post.{Post}
 use Rattle.lab_state.proofs.named_board.take_posts.Goals as goal
 
 none_left : (posts : List Post) → None ≡ slice_get posts 0 → posts ≡ []
-none_left [] is = λ i. []
-none_left (post ∷ posts) is = absurd (cc)
+none_left posts is = grind (arith, common_steps, slice_get_cases posts 0)
 
 pub returns-clause-board : goal.returns-clause-board
 returns-clause-board g c =

@@ -1,5 +1,6 @@
 -- The hubs have the names in their order.
 use Rattle.std.proofs.Common.{◌≡◌, ◌∙◌, sym, ap, ◌<◌, List, length, slice_get, Option, Some, None, refl, arith}
+use Rattle.std.proofs.lemmas.Grind.{common_steps}
 use Rattle.std.proofs.lemmas.Option.{slice_get-map, slice_get_read}
 use Rattle.std.specs.Option.{option_map}
 use Rattle.lab_state.specs.declared.hub_list.HubName.{HubName}
@@ -10,8 +11,7 @@ use Rattle.lab_state.proofs.hub_list.HubList.head.Goals as goal
 part :
     {X : Type 0} (q : HubName → X) (o : Option Hub) →
     option_map q (option_map name_of o) ≡ option_map (λ hub. q (name_of hub)) o
-part q None = refl
-part q (Some hub) = refl
+part q o = grind (arith, common_steps)
 
 -- what stands under the number of a hub
 at :

@@ -2,29 +2,21 @@
 use Rattle.std.proofs.Common.{◌≡◌, ◌∙◌, ap, false, ◌<◌, length, Some, arith}
 use Rattle.board.specs.New.{new_board}
 use Rattle.board.specs.View.{State}
-use Rattle.lab_state.proofs.SoundLemmas.{not_planned, seen_set, has-for, sound-fit, room-for, sound-back}
+use Rattle.lab_state.proofs.SoundLemmas.{seen_set, has-for, sound-fit, room-for, sound-back}
 use Rattle.lab_state.proofs.lab.Lab.fit.Goals as goal
 
 pub take-requires : goal.take-requires
 take-requires g c =
     let unspent : c.self.inside.spent ≡ false = ap (λ s. s.spent) c.self.view_is ∙ c.requires.unspent in
-    let none =
-    not_planned c.args.self.now c.args.board.0 (ap (λ s. s.lab.boards) c.self.view_is) c.has_plan.ensures
-    c.if-has_plan.false in
-    let below : c.args.board.0 < length c.self.inside.boards.items =
-    omega (arith, ap (λ s. length s.lab.boards) c.self.view_is, c.requires.exists) in
     rw c.items.ensures
-    (has-for c.args.board.0 c.args.plan (c.self.invariant unspent) below none c.requires.plan c.requires.cans)
+    (has-for c.args.board.0 c.args.plan (c.self.invariant unspent) (ap (λ s. s.lab) c.self.view_is) c.requires.exists
+    c.has_plan.ensures c.if-has_plan.false c.requires.plan c.requires.cans)
 
 pub invariant_of-self-in-Ok : goal.invariant_of-self-in-Ok
 invariant_of-self-in-Ok g c h =
-    let none =
-    not_planned c.args.self.now c.args.board.0 (ap (λ s. s.lab.boards) c.self.view_is) c.has_plan.ensures
-    c.if-has_plan.false in
-    let below : c.args.board.0 < length c.self.inside.boards.items =
-    omega (arith, ap (λ s. length s.lab.boards) c.self.view_is, c.requires.exists) in
     rw (c.fit.ensures, c.in-Ok.ensures.state)
-    (sound-fit c.args.board.0 c.args.plan (c.self.invariant h) below none c.requires.plan c.take.new.self
+    (sound-fit c.args.board.0 c.args.plan (c.self.invariant h) (ap (λ s. s.lab) c.self.view_is) c.requires.exists
+    c.has_plan.ensures c.if-has_plan.false c.requires.plan c.take.new.self
     c.index_mut.ensures.value (rw c.items.ensures at c.in_ok-devices.ensures.left))
 
 pub returns-in-Ok-clause-ok : goal.returns-in-Ok-clause-ok

@@ -9,4 +9,4 @@ returns-clause-found g c =
     let unspent : c.self.inside.spent ≡ false = ap (λ s. s.spent) c.self.view_is ∙ c.requires.unspent in
     rw (← c.self.view_is)
     (named_at (λ (hub : Hub). hub.name) c.self.inside.hubs c.args.n c.head.result.now.name
-    (c.self.invariant unspent).hub_names c.head.ensures.name)
+    (c.self.invariant unspent).names.hubs_differ c.head.ensures.name)
