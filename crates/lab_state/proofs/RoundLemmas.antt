@@ -78,8 +78,14 @@ can_take :
     (boards : List Board) (b dev : ℕ) (d : Board) → IsSome (kind_of_outline dev (slice_get (outlines boards) b)) →
     (b < length boards) × ForSome (get_or boards b d).view (λ v. dev < length v.space.plan.kinds)
 can_take boards b dev d is =
-    grind (arith, common_steps, slice_get-map outline boards b, slice_get_past boards b, slice_get-get_or boards b d,
-    slice_get_past)
+    grind (
+      arith,
+      common_steps,
+      slice_get-map outline boards b,
+      slice_get_past boards b,
+      slice_get-get_or boards b d,
+      slice_get_past,
+    )
 
 -- and so can a member that a loop has not come to, whose board is as it is by then
 pub deliverable :

@@ -143,8 +143,7 @@ unnamed :
     All (λ other. bytes_eq other name ≡ false) (map (λ board. board.name) lab.boards)
     × All (λ other. bytes_eq other name ≡ false) (map (λ hub. hub.name) lab.hubs)
 unnamed lab name free =
-    let no = or_parts _ _ free in
-    (
+    let no = or_parts _ _ free in (
       none_has (λ (board : Board). board.name) lab.boards name no.0,
       none_has (λ (hub : Hub). hub.name) lab.hubs name no.1,
     )
