@@ -722,25 +722,39 @@ fn joined(alloc: Global, front: &str, behind: &str) -> Result<String, AllocError
 }
 
 #[test]
-fn platforms_are_built_or_refused(rt: HostRuntime) -> Result<(), Fail> {
-    let alloc = rt.alloc();
+fn whole_platforms_are_built(rt: HostRuntime) -> Result<(), Fail> {
     for (text, expected) in WHOLE {
-        let made = building(alloc, text)?;
+        let made = building(rt.alloc(), text)?;
         assert_eq!(rt; made.as_str(), expected);
     }
+    Ok(())
+}
+
+#[test]
+fn platforms_are_refused_for_their_first_fault(rt: HostRuntime) -> Result<(), Fail> {
     for (lines, expected) in BESIDE {
-        let text = joined(alloc, SMALL, lines)?;
-        let made = outcome(alloc, text.as_str())?;
+        let text = joined(rt.alloc(), SMALL, lines)?;
+        let made = outcome(rt.alloc(), text.as_str())?;
         assert_eq!(rt; made.as_str(), expected, "{lines}");
     }
+    Ok(())
+}
+
+#[test]
+fn wires_lead_as_they_are_written(rt: HostRuntime) -> Result<(), Fail> {
     for (lines, expected) in WIRES {
-        let text = joined(alloc, FULL, lines)?;
-        let made = wiring(alloc, text.as_str())?;
+        let text = joined(rt.alloc(), FULL, lines)?;
+        let made = wiring(rt.alloc(), text.as_str())?;
         assert_eq!(rt; made.as_str().trim_end(), expected, "{lines}");
     }
+    Ok(())
+}
+
+#[test]
+fn platforms_without_their_parts_are_refused(rt: HostRuntime) -> Result<(), Fail> {
     for (text, expected) in BARE {
-        let made = outcome(alloc, text)?;
-        assert_eq!(rt; made.as_str(), expected, "{text}");
+        let made = outcome(rt.alloc(), text)?;
+        assert_eq!(rt; made.as_str(), expected);
     }
     Ok(())
 }
