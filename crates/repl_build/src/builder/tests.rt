@@ -4,6 +4,7 @@ use dev_core::Kind;
 use repl_read::{PlatCause, read_platform};
 use std::alloc::AllocError;
 use std::fmt::Write;
+use std::process::Abort;
 use std::test::Fail;
 use sys_bus::{Named, NamedWhat, Region, RegionKind, Wire, WireFrom, WirePin};
 
@@ -186,7 +187,7 @@ cpu:
 ";
 
 /// Each row: a text, and what is built of it.
-const WHOLE: [(&str, &str); 2] = [
+static WHOLE: [(&str, &str); 2] = [
     (
         ONE_BOARD,
         "ram=ram0 uart=dev0 fin=dev1 cpu=cpu ram0@80000000+10000/1 dev0@10000000+100/1 \
@@ -214,8 +215,8 @@ fin: Miscellaneous.SiFiveTest @ sysbus 0x1000
 u: UART.NS16550 @ sysbus 0x100
 ";
 
-/// Each row: lines behind those of a memory and a processor, and the first fault.
-const BESIDE: [(&str, &str); 146] = [
+/// Lines behind those of a memory and a processor, and their first fault: names, types and attributes.
+static NAMES_AND_TYPES: [(&str, &str); 30] = [
     ("", "accepted"),
     ("ram: UART.NS16550 @ sysbus 0x100\n", "P7 2:3"),
     ("cpu: CPU.RiscV32 @ sysbus\n", "P7 2:3"),
@@ -261,6 +262,10 @@ const BESIDE: [(&str, &str); 146] = [
         "P4 2:3",
     ),
     ("ram:\n b: 1\nu: UART.NS16550 { a: 1 }\n", "P4 2:4"),
+];
+
+/// Lines behind those of a memory and a processor, and their first fault: what is missing, and the values of processors and memories.
+static MISSING_AND_VALUES: [(&str, &str); 40] = [
     ("u: UART.NS16550\n", "P6 2:3"),
     ("u: UART.NS16550 @ sysbus\n", "P6 2:3"),
     (
@@ -361,6 +366,10 @@ const BESIDE: [(&str, &str); 146] = [
         "m: Memory.MappedMemory @ sysbus <0x1000, +0x800>\n size: 0x2000\n",
         "P5 2:3",
     ),
+];
+
+/// Lines behind those of a memory and a processor, and their first fault: the values of timers, interrupt controllers and devices.
+static DEVICE_VALUES: [(&str, &str); 34] = [
     (
         "l: IRQControllers.CoreLevelInterruptor @ sysbus 0x2000000 { frequency: 0 }\n",
         "P5 2:3",
@@ -497,6 +506,10 @@ numberOfSources: 1 }\n",
     ),
     ("cpu: { hartId: 1 }\ncpu: { hartId: 0 }\n", "accepted"),
     ("cpu: { hartId: 0 }\ncpu: { hartId: 1 }\n", "P5 2:4"),
+];
+
+/// Lines behind those of a memory and a processor, and their first fault: processors that are not built, counts, places and names that are meant.
+static COUNTS_AND_PLACES: [(&str, &str); 42] = [
     ("cpu: { cpuType: \"rv32im_zicsr\" }\n", "accepted"),
     ("cpu: { cpuType: \"rv32im_zicsr_zifencei\" }\n", "accepted"),
     ("cpu: { cpuType: \"rv64gc\" }\n", "P12 2:3"),
@@ -638,7 +651,7 @@ v: UART.NS16550 @ sysbus 0x200 { -> u@3 }\n",
 ];
 
 /// Each row: lines behind those of a whole board, and its wires or the first fault.
-const WIRES: [(&str, &str); 36] = [
+static WIRES: [(&str, &str); 36] = [
     ("clint: { 0 -> cpu@3 }\n", "soft>pin3"),
     ("clint: { 1 -> cpu@11 }\n", "timer>pin11"),
     ("clint: { -> cpu@7 }\n", "soft>pin7"),
@@ -684,7 +697,7 @@ const WIRES: [(&str, &str); 36] = [
 ];
 
 /// Each row: a text, and its first fault.
-const BARE: [(&str, &str); 8] = [
+static BARE: [(&str, &str); 8] = [
     ("", "P11 0:0"),
     (
         "ram: Memory.MappedMemory @ sysbus <0, +0x1000>\n",
@@ -721,6 +734,14 @@ fn joined(alloc: Global, front: &str, behind: &str) -> Result<String, AllocError
     Ok(text)
 }
 
+/// Lines behind those of a memory and a processor are refused for this fault, or accepted.
+fn assert_outcome(rt: &impl Abort, alloc: Global, lines: &str, expected: &str) -> Result<(), Fail> {
+    let text = joined(alloc, SMALL, lines)?;
+    let made = outcome(alloc, text.as_str())?;
+    assert_eq!(rt; made.as_str(), expected, "{lines}");
+    Ok(())
+}
+
 #[test]
 fn whole_platforms_are_built(rt: HostRuntime) -> Result<(), Fail> {
     for (text, expected) in WHOLE {
@@ -731,11 +752,33 @@ fn whole_platforms_are_built(rt: HostRuntime) -> Result<(), Fail> {
 }
 
 #[test]
-fn platforms_are_refused_for_their_first_fault(rt: HostRuntime) -> Result<(), Fail> {
-    for (lines, expected) in BESIDE {
-        let text = joined(rt.alloc(), SMALL, lines)?;
-        let made = outcome(rt.alloc(), text.as_str())?;
-        assert_eq!(rt; made.as_str(), expected, "{lines}");
+fn names_types_and_attributes_are_judged(rt: HostRuntime) -> Result<(), Fail> {
+    for (lines, expected) in NAMES_AND_TYPES {
+        assert_outcome(&rt, rt.alloc(), lines, expected)?;
+    }
+    Ok(())
+}
+
+#[test]
+fn what_is_missing_and_values_are_judged(rt: HostRuntime) -> Result<(), Fail> {
+    for (lines, expected) in MISSING_AND_VALUES {
+        assert_outcome(&rt, rt.alloc(), lines, expected)?;
+    }
+    Ok(())
+}
+
+#[test]
+fn values_of_devices_are_judged(rt: HostRuntime) -> Result<(), Fail> {
+    for (lines, expected) in DEVICE_VALUES {
+        assert_outcome(&rt, rt.alloc(), lines, expected)?;
+    }
+    Ok(())
+}
+
+#[test]
+fn counts_and_places_are_judged(rt: HostRuntime) -> Result<(), Fail> {
+    for (lines, expected) in COUNTS_AND_PLACES {
+        assert_outcome(&rt, rt.alloc(), lines, expected)?;
     }
     Ok(())
 }
