@@ -1,11 +1,12 @@
 -- What clap says of our three commands is what our reading says.
-use Rattle.std.proofs.Common.{◌≡◌, ◌∙◌, ◌&&◌, ◌||◌, Bool, true, false, not, List, [], ◌∷◌, map, Option, Some, None}
+use Rattle.std.proofs.Common.{ℕ, ◌≡◌, ◌∙◌, ◌&&◌, ◌||◌, Bool, true, false, not, List, [], ◌∷◌, map, Option, Some, None}
 use Rattle.std.proofs.Common.{refl, ap, ap₂, sym, subst, fold, cond}
 use Rattle.std.specs.Prelude.{codes, option_and_then}
 use Rattle.std.specs.Str.{bytes_eq}
 use Rattle.std.proofs.lemmas.Bool.{or_right, true≢false}
 use Rattle.std.proofs.lemmas.Slice.Eq.{bytes_eq-Decides}
-use Rattle.clap.specs.Walk.{Row, Rule, arg_by_id, arg_by_long, has_row, nothing_held, rows_after, settled, walk_from}
+use Rattle.clap.specs.Walk.{Row, Rule, arg_by_id, arg_by_long, arg_by_short, has_row, nothing_held, rows_after}
+use Rattle.clap.specs.Walk.{settled, walk_from}
 use Rattle.clap.specs.Walk.{Walk, with_default}
 use Rattle.clap.specs.Simple.{App, Shape, argument_words, built, label_of, matches_of}
 use Rattle.clap.specs.Takes.{is_given as row_given}
@@ -18,7 +19,7 @@ use Rattle.lab_words.specs.Grammar.{Form, Text, check_form, gen_form, is_among, 
 use Rattle.lab_words.specs.Grammar.{start_of, texts_of}
 use Rattle.lab_words.specs.Inner.Commands.{check_app, gen_app, run_app}
 use Rattle.lab_words.proofs.RowLemmas.{rows_of_texts}
-use Rattle.lab_words.proofs.Standing.{Fits, Stands, option_rule, plain_rule}
+use Rattle.lab_words.proofs.Standing.{Fits, PlainAt, Stands, option_rule, plain_rule}
 use Rattle.lab_words.proofs.TurnLemmas.{left_fails, some_kind}
 use Rattle.lab_words.proofs.AgreeLemmas.{Agrees, AreUtf8, agree, end_walk, grouped, rest_fault, rest_rows}
 
@@ -41,42 +42,51 @@ abbrev pub options_then : List Text → List Rule → List Rule
 options_then [] more = more
 options_then (name ∷ names) more = option_rule name ∷ options_then names more
 
--- a name that equals the first is it, and another is among the rest
-by_name : (P : Text → Type 0) (first name : Text) → bytes_eq first name ≡ true → P first → P name
-by_name P first name same p = subst P ((bytes_eq-Decides first name).0 same) p
+-- a look-up that goes by the names of options
+module _ (look_up : List Rule → Text → Option Rule)
+    (finds : (first name : Text) (rules : List Rule) → bytes_eq first name ≡ true
+    → look_up (option_rule first ∷ rules) name ≡ Some (option_rule first))
+    (passes : (first name : Text) (rules : List Rule) → bytes_eq first name ≡ false
+    → look_up (option_rule first ∷ rules) name ≡ look_up rules name) (more : List Rule) (name : Text) where
+  finds_known : (names : List Text) → is_among name names ≡ true
+      → look_up (options_then names more) name ≡ Some (option_rule name)
+  finds_known [] known = absurd (true≢false (sym known))
+  finds_known (first ∷ names) known = go (bytes_eq first name) refl (finds_known names)
+    where
+      go : (b : Bool) → bytes_eq first name ≡ b
+          → (is_among name names ≡ true → look_up (options_then names more) name ≡ Some (option_rule name))
+          → look_up (options_then (first ∷ names) more) name ≡ Some (option_rule name)
+      go true same later =
+          finds first name _ same ∙ ap (λ n. Some (option_rule n)) ((bytes_eq-Decides first name).0 same)
+      go false other later = passes first name _ other ∙ later (rw other at known)
 
-long_known : (names : List Text) (more : List Rule) (name : Text) → is_among name names ≡ true
-    → arg_by_long (options_then names more) name ≡ Some (option_rule name)
-long_known [] more name known = absurd (true≢false (sym known))
-long_known (first ∷ names) more name known = go (bytes_eq first name) refl (long_known names more name)
-  where
-    go : (b : Bool) → bytes_eq first name ≡ b
-        → (is_among name names ≡ true → arg_by_long (options_then names more) name ≡ Some (option_rule name))
-        → arg_by_long (options_then (first ∷ names) more) name ≡ Some (option_rule name)
-    go true same later = rw same (by_name (λ n. Some (option_rule first) ≡ Some (option_rule n)) first name same refl)
-    go false other later = rw other (later (rw other at known))
+  finds_none : (names : List Text) → look_up more name ≡ None → is_among name names ≡ false
+      → look_up (options_then names more) name ≡ None
+  finds_none [] none unknown = none
+  finds_none (first ∷ names) none unknown = go (bytes_eq first name) refl (finds_none names none)
+    where
+      go : (b : Bool) → bytes_eq first name ≡ b
+          → (is_among name names ≡ false → look_up (options_then names more) name ≡ None)
+          → look_up (options_then (first ∷ names) more) name ≡ None
+      go true same later = absurd (true≢false (sym (ap (λ b. b || is_among name names) same) ∙ unknown))
+      go false other later = passes first name _ other ∙ later (rw other at unknown)
 
-id_known : (names : List Text) (more : List Rule) (name : Text) → is_among name names ≡ true
-    → arg_by_id (options_then names more) name ≡ Some (option_rule name)
-id_known [] more name known = absurd (true≢false (sym known))
-id_known (first ∷ names) more name known = go (bytes_eq first name) refl (id_known names more name)
-  where
-    go : (b : Bool) → bytes_eq first name ≡ b
-        → (is_among name names ≡ true → arg_by_id (options_then names more) name ≡ Some (option_rule name))
-        → arg_by_id (options_then (first ∷ names) more) name ≡ Some (option_rule name)
-    go true same later = rw same (by_name (λ n. Some (option_rule first) ≡ Some (option_rule n)) first name same refl)
-    go false other later = rw other (later (rw other at known))
-
-long_unknown : (names : List Text) (more : List Rule) (name : Text) → arg_by_long more name ≡ None
-    → is_among name names ≡ false → arg_by_long (options_then names more) name ≡ None
-long_unknown [] more name none unknown = none
-long_unknown (first ∷ names) more name none unknown = go (bytes_eq first name) refl (long_unknown names more name none)
-  where
-    go : (b : Bool) → bytes_eq first name ≡ b
-        → (is_among name names ≡ false → arg_by_long (options_then names more) name ≡ None)
-        → arg_by_long (options_then (first ∷ names) more) name ≡ None
-    go true same later = absurd (true≢false (sym (ap (λ b. b || is_among name names) same) ∙ unknown))
-    go false other later = rw other (later (rw other at unknown))
+-- a command with these options, and no others
+fits_of : (f : Form) (more : List Rule) (s : Shape) → s.rules ≡ options_then f.option_names more
+    → s.args_override_self ≡ false → ((x : ℕ) → arg_by_short s.rules x ≡ None)
+    → ((name : Text) → arg_by_long more name ≡ None) → PlainAt s.rules 1 f.plain_names → Fits s f
+fits_of f more s rules once no_short none positions = record {
+  once = once;
+  no_short = no_short;
+  known = λ name known. ap (λ rs. arg_by_long rs name) rules ∙ finds_known arg_by_long
+      (λ first n rest same. rw same refl) (λ first n rest other. rw other refl) more name f.option_names known;
+  known_id = λ name known. ap (λ rs. arg_by_id rs name) rules ∙ finds_known arg_by_id
+      (λ first n rest same. rw same refl) (λ first n rest other. rw other refl) more name f.option_names known;
+  unknown = λ name unknown. ap (λ rs. arg_by_long rs name) rules ∙ finds_none arg_by_long
+      (λ first n rest same. rw same refl) (λ first n rest other. rw other refl) more name f.option_names (none name)
+      unknown;
+  positions = positions;
+}
 
 -- ---- what is wanted is given
 
@@ -104,16 +114,15 @@ two_wanted false b = refl
 
 -- ---- the three commands
 
+abbrev script : List Rule
+script = plain_rule (codes "SCRIPT") 1 ∷ []
+
+abbrev seed_and_boards : List Rule
+seed_and_boards = plain_rule (codes "SEED") 1 ∷ plain_rule (codes "BOARDS") 2 ∷ []
+
 pub check_has : HasForm check_app check_form
 check_has = record {
-  fits = record {
-    once = refl;
-    no_short = λ x. refl;
-    known = λ name. long_known [] (plain_rule (codes "SCRIPT") 1 ∷ []) name;
-    known_id = λ name. id_known [] (plain_rule (codes "SCRIPT") 1 ∷ []) name;
-    unknown = λ name. long_unknown [] (plain_rule (codes "SCRIPT") 1 ∷ []) name refl;
-    positions = (refl, refl, refl);
-  };
+  fits = fits_of check_form script (built check_app).top refl refl (λ x. refl) (λ name. refl) (refl, refl, refl);
   leaf = refl;
   all_words = refl;
   no_defaults = (refl, tt);
@@ -123,14 +132,7 @@ check_has = record {
 
 pub run_has : HasForm run_app run_form
 run_has = record {
-  fits = record {
-    once = refl;
-    no_short = λ x. refl;
-    known = λ name. long_known run_form.option_names (plain_rule (codes "SCRIPT") 1 ∷ []) name;
-    known_id = λ name. id_known run_form.option_names (plain_rule (codes "SCRIPT") 1 ∷ []) name;
-    unknown = λ name. long_unknown run_form.option_names (plain_rule (codes "SCRIPT") 1 ∷ []) name refl;
-    positions = (refl, refl, refl);
-  };
+  fits = fits_of run_form script (built run_app).top refl refl (λ x. refl) (λ name. refl) (refl, refl, refl);
   leaf = refl;
   all_words = refl;
   no_defaults = (refl, (refl, (refl, tt)));
@@ -140,17 +142,8 @@ run_has = record {
 
 pub gen_has : HasForm gen_app gen_form
 gen_has = record {
-  fits = record {
-    once = refl;
-    no_short = λ x. refl;
-    known = λ name. long_known gen_form.option_names
-        (plain_rule (codes "SEED") 1 ∷ plain_rule (codes "BOARDS") 2 ∷ []) name;
-    known_id =
-        λ name. id_known gen_form.option_names (plain_rule (codes "SEED") 1 ∷ plain_rule (codes "BOARDS") 2 ∷ []) name;
-    unknown = λ name. long_unknown gen_form.option_names
-        (plain_rule (codes "SEED") 1 ∷ plain_rule (codes "BOARDS") 2 ∷ []) name refl;
-    positions = (refl, refl, (refl, refl, refl));
-  };
+  fits = fits_of gen_form seed_and_boards (built gen_app).top refl refl (λ x. refl) (λ name. refl)
+      (refl, refl, (refl, refl, refl));
   leaf = refl;
   all_words = refl;
   no_defaults = (refl, (refl, (refl, tt)));
@@ -189,57 +182,55 @@ first_walk = walk_from nothing_held
 first_stands : (s : Shape) (f : Form) → Fits s f → Stands s f (start_of f) first_walk
 first_stands s f fits = ([], None, 1, refl, fits.positions, (refl, refl))
 
-with_wants : (a : App) (f : Form) → HasForm a f → (k : Kinds) (rows : List Row) (o : Option (List (Text × Text)))
-    → Agrees k rows o
-    → Agrees (or_else k (check_fault (built a).top rows false)) rows
-    (option_and_then (λ given. cond (is_complete f given) (Some given) None) o)
-with_wants a f has k rows None fails = left_fails k _ fails
-with_wants a f has k rows (Some given) agrees = go (is_complete f given) refl
-  where
-    checks : or_else k (check_fault (built a).top rows false)
-        ≡ cond (is_complete f given) [] (kind.MissingRequiredArgument ∷ [])
-    checks = ap₂ (λ x rs. or_else x (check_fault (built a).top rs false)) agrees.0 agrees.1 ∙ has.wants given
+module _ (a : App) (f : Form) (has : HasForm a f) where
+  with_wants : (k : Kinds) (rows : List Row) (o : Option (List (Text × Text))) → Agrees k rows o
+      → Agrees (or_else k (check_fault (built a).top rows false)) rows
+      (option_and_then (λ given. cond (is_complete f given) (Some given) None) o)
+  with_wants k rows None fails = left_fails k _ fails
+  with_wants k rows (Some given) agrees = go (is_complete f given) refl
+    where
+      checks : or_else k (check_fault (built a).top rows false)
+          ≡ cond (is_complete f given) [] (kind.MissingRequiredArgument ∷ [])
+      checks =
+          ap₂ (λ x rs. or_else x (check_fault (built a).top rs false)) agrees.0 agrees.1 ∙ has.wants given
 
-    go : (b : Bool) → is_complete f given ≡ b
-        → Agrees (or_else k (check_fault (built a).top rows false)) rows (cond b (Some given) None)
-    go true all = (checks ∙ ap (λ b. cond b [] (kind.MissingRequiredArgument ∷ [])) all, agrees.1)
-    go false some =
-        λ e. some_kind kind.MissingRequiredArgument []
-        (sym (ap (λ b. cond b [] (kind.MissingRequiredArgument ∷ [])) some) ∙ sym checks ∙ e)
+      go : (b : Bool) → is_complete f given ≡ b
+          → Agrees (or_else k (check_fault (built a).top rows false)) rows (cond b (Some given) None)
+      go true all = (checks ∙ ap (λ b. cond b [] (kind.MissingRequiredArgument ∷ [])) all, agrees.1)
+      go false some =
+          λ e. some_kind kind.MissingRequiredArgument []
+          (sym (ap (λ b. cond b [] (kind.MissingRequiredArgument ∷ [])) some) ∙ sym checks ∙ e)
 
-all_words : (a : App) (f : Form) → HasForm a f → (words : List Text) → argument_words a words ≡ words
-all_words a f has words = rw has.all_words refl
+  all_words : (words : List Text) → argument_words a words ≡ words
+  all_words words = rw has.all_words refl
 
-rows_are : (a : App) (f : Form) → HasForm a f → (words : List Text)
-    → matches_of a words ≡ rest_rows (built a).top first_walk words
-rows_are a f has words =
-    ap₂ (λ (subs : List Shape) ws. rows_after (built a).top.rules (map label_of subs) ws) has.leaf
-    (all_words a f has words)
-    ∙ no_default_rows (built a).top.rules _ has.no_defaults
+  rows_are : (words : List Text) → matches_of a words ≡ rest_rows (built a).top first_walk words
+  rows_are words =
+      ap₂ (λ (subs : List Shape) ws. rows_after (built a).top.rules (map label_of subs) ws) has.leaf (all_words words)
+      ∙ no_default_rows (built a).top.rules _ has.no_defaults
 
-faults_are : (a : App) (f : Form) → HasForm a f → (words : List Text)
-    → fault_of a words
-    ≡ or_else (rest_fault (built a).top first_walk words)
-    (check_fault (built a).top (rest_rows (built a).top first_walk words) false)
-faults_are a f has words =
-    let s = (built a).top in
-    let end = (end_walk s first_walk words).held in
-    ap (built_fault (built a) nothing_held) (all_words a f has words)
-    ∙ leaf_fault (built a) nothing_held words has.leaf
-    ∙ ap₂ (λ d rows. or_else (walk_fault s [] first_walk words)
-    (or_else (settle_fault s.rules s.args_override_self end) (or_else d (check_fault s rows false))))
-    (no_default_faults s.rules (settled s.rules end).rows has.no_defaults)
-    (no_default_rows s.rules (settled s.rules end).rows has.no_defaults)
-    ∙ sym (grouped (walk_fault s [] first_walk words) _ _)
+  -- the faults behind the walk over the words
+  abbrev checked : List Text → Kinds
+  checked words =
+      or_else (rest_fault (built a).top first_walk words)
+      (check_fault (built a).top (rest_rows (built a).top first_walk words) false)
 
-pub takes_form : (a : App) (f : Form) → HasForm a f → (words : List Text) → AreUtf8 words
-    → Agrees (fault_of a words) (matches_of a words) (texts_of f words)
-takes_form a f has words utf8 =
-    let ours =
-    agree (built a).top f has.fits words utf8 (start_of f) first_walk (first_stands (built a).top f has.fits) in
-    let both = with_wants a f has _ _ _ ours in
-    subst (λ k. Agrees k (matches_of a words) (texts_of f words)) (sym (faults_are a f has words))
-    (subst (λ rows. Agrees
-    (or_else (rest_fault (built a).top first_walk words)
-    (check_fault (built a).top (rest_rows (built a).top first_walk words) false)) rows (texts_of f words))
-    (sym (rows_are a f has words)) both)
+  faults_are : (words : List Text) → fault_of a words ≡ checked words
+  faults_are words =
+      let s = (built a).top in
+      let end = (end_walk s first_walk words).held in
+      ap (built_fault (built a) nothing_held) (all_words words)
+      ∙ leaf_fault (built a) nothing_held words has.leaf
+      ∙ ap₂ (λ d rows. or_else (walk_fault s [] first_walk words)
+      (or_else (settle_fault s.rules s.args_override_self end) (or_else d (check_fault s rows false))))
+      (no_default_faults s.rules (settled s.rules end).rows has.no_defaults)
+      (no_default_rows s.rules (settled s.rules end).rows has.no_defaults)
+      ∙ sym (grouped (walk_fault s [] first_walk words) _ _)
+
+  pub takes_form : (words : List Text) → AreUtf8 words
+      → Agrees (fault_of a words) (matches_of a words) (texts_of f words)
+  takes_form words utf8 =
+      let ours =
+      agree (built a).top f has.fits words utf8 (start_of f) first_walk (first_stands (built a).top f has.fits) in
+      subst (λ k. Agrees k (matches_of a words) (texts_of f words)) (sym (faults_are words))
+      (subst (λ rows. Agrees (checked words) rows (texts_of f words)) (sym (rows_are words)) (with_wants _ _ _ ours))

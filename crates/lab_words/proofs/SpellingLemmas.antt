@@ -122,36 +122,36 @@ module _ (form : Form) where
 
 -- ---- the words of no line are refused
 
--- the text before the first `=` and the text behind it
-module _ where
-  found : (text : Text) → list_any is_equals text ≡ true → position_or_len is_equals text < length text
-  found [] e = absurd (false≢true e)
-  found (b ∷ rest) e = go (is_equals b) (found rest) e
-    where
-      go : (t : Bool) → (list_any is_equals rest ≡ true → position_or_len is_equals rest < length rest)
-          → (t || list_any is_equals rest) ≡ true
-          → cond (not t) (1 + position_or_len is_equals rest) 0 < length (b ∷ rest)
-      go true later is = omega arith
-      go false later is = let below = later is in omega arith
+-- the first `=`, the text before it and the text behind it
 
-  splits : (text : Text) → list_any is_equals text ≡ true
-      → text ≡ before_first is_equals text ++ 61 ∷ after_first is_equals text
-  splits text e =
-      let below = found text e in
-      let at = get_or text (position_or_len is_equals text) 0 in
-      let is : at
-      ≡ 61 = eqb-true at 61 (not-false (is_equals at) (prefix_len_stops (λ b. not (is_equals b)) text 0 below)) in
-      split_at_first is_equals text 0 below
-      ∙ ap (λ (b : ℕ). before_first is_equals text ++ b ∷ after_first is_equals text) is
+found : (text : Text) → list_any is_equals text ≡ true → position_or_len is_equals text < length text
+found [] e = absurd (false≢true e)
+found (b ∷ rest) e = go (is_equals b) (found rest) e
+  where
+    go : (t : Bool) → (list_any is_equals rest ≡ true → position_or_len is_equals rest < length rest)
+        → (t || list_any is_equals rest) ≡ true
+        → cond (not t) (1 + position_or_len is_equals rest) 0 < length (b ∷ rest)
+    go true later is = omega arith
+    go false later is = let below = later is in omega arith
 
-  whole : (text : Text) → list_any is_equals text ≡ false → before_first is_equals text ≡ text
-  whole [] e = refl
-  whole (b ∷ rest) e = take_while-cons (λ c. not (is_equals c)) b rest ∙ go (is_equals b) (whole rest) e
-    where
-      go : (t : Bool) → (list_any is_equals rest ≡ false → before_first is_equals rest ≡ rest)
-          → (t || list_any is_equals rest) ≡ false → cond (not t) (b ∷ before_first is_equals rest) [] ≡ b ∷ rest
-      go true later is = absurd (true≢false is)
-      go false later is = ap (λ l. b ∷ l) (later is)
+splits : (text : Text) → list_any is_equals text ≡ true
+    → text ≡ before_first is_equals text ++ 61 ∷ after_first is_equals text
+splits text e =
+    let below = found text e in
+    let at = get_or text (position_or_len is_equals text) 0 in
+    let stops = prefix_len_stops (λ b. not (is_equals b)) text 0 below in
+    let is : at ≡ 61 = eqb-true at 61 (not-false (is_equals at) stops) in
+    split_at_first is_equals text 0 below
+    ∙ ap (λ (b : ℕ). before_first is_equals text ++ b ∷ after_first is_equals text) is
+
+whole : (text : Text) → list_any is_equals text ≡ false → before_first is_equals text ≡ text
+whole [] e = refl
+whole (b ∷ rest) e = take_while-cons (λ c. not (is_equals c)) b rest ∙ go (is_equals b) (whole rest) e
+  where
+    go : (t : Bool) → (list_any is_equals rest ≡ false → before_first is_equals rest ≡ rest)
+        → (t || list_any is_equals rest) ≡ false → cond (not t) (b ∷ before_first is_equals rest) [] ≡ b ∷ rest
+    go true later is = absurd (true≢false is)
+    go false later is = ap (λ l. b ∷ l) (later is)
 
 -- how a word of this sort is spelled
 abbrev IsSpelled : Text → Sort → Type 0
@@ -165,9 +165,6 @@ spelled_option : (a b : ℕ) (rest : Text) → a ≡ 45 → b ≡ 45 → IsSpell
 spelled_option a b [] first second = ap₂ (λ x y. x ∷ y ∷ []) first second
 spelled_option a b (c ∷ rest) first second = go (list_any is_equals (c ∷ rest)) refl
   where
-    text : Text
-    text = c ∷ rest
-
     go : (t : Bool) → list_any is_equals (c ∷ rest) ≡ t → IsSpelled (a ∷ b ∷ c ∷ rest)
         (option (before_first is_equals (c ∷ rest)) (cond t (Some (after_first is_equals (c ∷ rest))) None))
     go true some =
