@@ -1,6 +1,6 @@
 -- What the bytes of a file say of what it is.
-use Rattle.std.proofs.Common.{◌≡◌, ◌∷◌, ◌+◌, ◌<◌, ◌≤◌, ◌==◌, ◌∙◌, ℕ, List, [], length, take, count_by, Bool, true, false}
-use Rattle.std.proofs.Common.{Result, Ok, Err, Option, None, Some, refl, ap, arith}
+use Rattle.std.proofs.Common.{◌≡◌, ◌∷◌, ◌+◌, ◌≤◌, ◌==◌, ℕ, List, [], length, take, count_by, Bool, true, false}
+use Rattle.std.proofs.Common.{Result, Option, Some, refl, ap, arith}
 use Rattle.std.specs.Str.{IsUtf8, is_utf8}
 use Rattle.std.specs.Str.Lossy.{utf8_valid_len}
 use Rattle.std.proofs.lemmas.Str.{is_utf8-from_IsUtf8, IsUtf8-from_is_utf8}

@@ -1,13 +1,12 @@
 -- How a loading goes on, entry by entry.
 use Rattle.std.proofs.Common.{◌≡◌, ◌∷◌, ◌++◌, ◌∙◌, ℕ, List, [], length, Result, Ok, Err, Option, refl, sym, ap, subst}
 use Rattle.std.proofs.Common.{append_assoc, append-nil, length-append}
-use Rattle.lab_io.specs.Known.{grown}
 use Rattle.repl_read.specs.declared.entry.Entry.{Entry}
 use Rattle.repl_files.specs.declared.fault.LoadFault.{LoadFault}
 use Rattle.repl_files.specs.declared.fault.LoadFault.TheVariants.{At, TooLarge, Unread, Memory}
 use Rattle.repl_files.specs.declared.load.Loaded.{Loaded}
 use Rattle.repl_files.specs.Loaded.{IsStopped}
-use Rattle.repl_files.specs.Loading.{Gives, Loading, Outcome, Joined, Refused, Oversized, Absent, go_on, one, in_order, stopped}
+use Rattle.repl_files.specs.Loading.{Gives, Loading, Outcome, Joined, Refused, Oversized, Absent, go_on, one, in_order}
 use Rattle.repl_files.specs.Inner.Course.{Adds, IsCourse}
 use Rattle.repl_files.proofs.Grown.{grown-append, grown-nil, up_to_more, some_more, up_to_behind, some_behind}
 

@@ -1,18 +1,18 @@
 -- What holds of every loading, by its parts.
 use Rattle.std.proofs.Common.{◌≡◌, ◌∷◌, ◌++◌, ◌+◌, ◌-◌, ◌<◌, ◌≤◌, ◌∙◌, ℕ, zero, suc, nat_le, nat_lt, if◌then◌else◌, Bool, true, false}
-use Rattle.std.proofs.Common.{List, [], length, Result, Ok, Err, Option, None, Some, IsSome, IsNone, refl, sym, ap, subst, append_assoc}
+use Rattle.std.proofs.Common.{List, [], length, Result, Ok, Err, Option, None, Some, IsSome, IsNone, refl, sym, ap, append_assoc}
 use Rattle.std.proofs.Common.{length-append, append-nil, arith}
 use Rattle.std.specs.List.{slice_get, All}
+use Rattle.std.specs.Str.{is_utf8}
 use Rattle.std.specs.FinMap.{get}
 use Rattle.std.proofs.lemmas.Bool.Decides.{nat_tests}
 use Rattle.std.proofs.lemmas.List.Elements.{All-nil, All-cons, All-append}
 use Rattle.lab_io.specs.Held.{Held}
 use Rattle.repl_read.specs.declared.entry.Entry.{Entry}
-use Rattle.repl_read.specs.Platform.{LineFault}
-use Rattle.repl_files.specs.declared.fault.FileCause.{FileCause}
+use Rattle.repl_read.specs.Platform.{LineFault, platform}
 use Rattle.repl_files.specs.declared.fault.FileCause.TheVariants.{Depth, Size, Utf8}
-use Rattle.repl_files.specs.Content.{Content, Missing, Large, Faulty, Readable, text_content, content_of}
-use Rattle.repl_files.specs.Laws.{AllHeld, LastAbsent, EndsBy, IsFrom, AllFrom}
+use Rattle.repl_files.specs.Content.{Content, Missing, Large, Faulty, Readable, bad_line, text_content, content_of}
+use Rattle.repl_files.specs.Laws.{IsHeld, AllHeld, EndsBy, IsFrom, AllFrom}
 use Rattle.repl_files.specs.Loading.{Gives, Use, Loading, Outcome, Joined, Refused, Oversized, Absent, stopped, refused_at, joined, go_on, used_file, one_by, one, in_order, file_read, used, load}
 
 -- these names stand in a whole list behind so many others
@@ -64,7 +64,7 @@ some_by false false read line bytes = refl
 held_by : (there : Option (List ℕ)) → HeldBy (content_of there) there
 unfolding HeldBy
 held_by None = refl
-held_by (Some bytes) = some_by _ _ _ _ bytes
+held_by (Some bytes) = some_by (nat_lt 16777216 (length bytes)) (is_utf8 bytes) (platform bytes) (bad_line bytes) bytes
 
 module _ (held : Held) where
   -- What holds of a loading behind so many names: the whole loading has at most 64 names, and ends as it says; and its
@@ -74,25 +74,25 @@ module _ (held : Held) where
     ends : EndsBy held loading.names loading.outcome
     from : (all : List (List ℕ)) → Named all → Within all count loading.names → AllFrom held all loading.outcome
 
-  AreLawful : Gives → Type 0
+  abbrev AreLawful : Gives → Type 0
   AreLawful gives = (count : ℕ) (at : Use) → count ≤ 64 → IsLawful (λ all. Unit {0}) count (gives count at)
 
   ends_joined : (names more : List (List ℕ)) (entries : List Entry) (outcome : Outcome) →
       AllHeld held names → EndsBy held more outcome → EndsBy held (names ++ more) (joined entries outcome)
-  ends_joined names more entries (Joined later) there ends = All-append _ names more there ends
-  ends_joined names more entries (Refused fault) there ends = All-append _ names more there ends
-  ends_joined names more entries Oversized there ends = All-append _ names more there ends
+  ends_joined names more entries (Joined later) there ends = All-append (IsHeld held) names more there ends
+  ends_joined names more entries (Refused fault) there ends = All-append (IsHeld held) names more there ends
+  ends_joined names more entries Oversized there ends = All-append (IsHeld held) names more there ends
   ends_joined names more entries Absent there ends = record {
     earlier = names ++ ends.earlier;
     name = ends.name;
     all = ap (λ rest. names ++ rest) ends.all ∙ sym (append_assoc names ends.earlier (ends.name ∷ []));
-    there = All-append _ names ends.earlier there ends.there;
+    there = All-append (IsHeld held) names ends.earlier there ends.there;
     absent = ends.absent;
   }
 
   from_joined : (all : List (List ℕ)) (entries : List Entry) (outcome : Outcome) →
       All (IsFrom held all) entries → AllFrom held all outcome → AllFrom held all (joined entries outcome)
-  from_joined all entries (Joined later) is from = All-append _ entries later is from
+  from_joined all entries (Joined later) is from = All-append (IsFrom held all) entries later is from
   from_joined all entries (Refused fault) is from = tt
   from_joined all entries Oversized is from = tt
   from_joined all entries Absent is from = tt
@@ -116,8 +116,8 @@ module _ (held : Held) where
     lawful_none : (count : ℕ) → count ≤ 64 → IsLawful Named count (stopped [] (Joined []))
     lawful_none count few = record {
       few = omega arith;
-      ends = All-nil _;
-      from = λ all named is. All-nil _;
+      ends = All-nil (IsHeld held);
+      from = λ all named is. All-nil (IsFrom held all);
     }
 
   module _ (gives : Gives) (lawful : AreLawful gives) where
@@ -131,10 +131,10 @@ module _ (held : Held) where
       unfolding Numbered
       lawful_one earlier entry later count None content kept few = record {
         few = omega arith;
-        ends = All-nil _;
+        ends = All-nil (IsHeld held);
         from = λ all named is.
-            All-cons _ (record entry { file = number }) []
-            (record { name = file; earlier = earlier; was = entry; later = later; at = named; content = content; same = refl; kept = kept }) (All-nil _);
+            All-cons (IsFrom held all) (record entry { file = number }) []
+            (record { name = file; earlier = earlier; was = entry; later = later; at = named; content = content; same = refl; kept = kept }) (All-nil (IsFrom held all));
       }
       lawful_one earlier entry later count (Some name) content kept few =
           let given = lawful count (record { file = file; line = entry.line; name = name }) few in
@@ -156,20 +156,20 @@ module _ (held : Held) where
       lawful_file : (name : List ℕ) (count : ℕ) (content : Content) →
           content_of (get held name) ≡ content → HeldBy content (get held name) → count < 64 →
           IsLawful (λ all. Unit {0}) count (file_read gives large name count content)
-      unfolding HeldBy
+      unfolding HeldBy Numbered
       lawful_file name count Missing is there few = record {
         few = omega arith;
-        ends = record { earlier = []; name = name; all = refl; there = All-nil _; absent = there };
+        ends = record { earlier = []; name = name; all = refl; there = All-nil (IsHeld held); absent = there };
         from = λ all named within. tt;
       }
       lawful_file name count Large is there few = record {
         few = omega arith;
-        ends = ends (name ∷ []) (All-cons _ name [] there (All-nil _));
+        ends = ends (name ∷ []) (All-cons (IsHeld held) name [] there (All-nil (IsHeld held)));
         from = λ all named within. from all;
       }
       lawful_file name count (Faulty line cause) is there few = record {
         few = omega arith;
-        ends = All-cons _ name [] there (All-nil _);
+        ends = All-cons (IsHeld held) name [] there (All-nil (IsHeld held));
         from = λ all named within. tt;
       }
       lawful_file name count (Readable entries) is there few =
@@ -178,8 +178,8 @@ module _ (held : Held) where
           let both = lawful_on (Numbered name count) count (name ∷ []) (Joined []) rest
           (record {
             few = omega arith;
-            ends = All-cons _ name [] there (All-nil _);
-            from = λ all named within. All-nil _;
+            ends = All-cons (IsHeld held) name [] there (All-nil (IsHeld held));
+            from = λ all named within. All-nil (IsFrom held all);
           })
           (lawful_in_order name count [] entries (count + 1) is one_more) in
           record {
@@ -189,7 +189,7 @@ module _ (held : Held) where
           }
 
   lawful_refused : (count : ℕ) (at : Use) → count ≤ 64 → IsLawful (λ all. Unit {0}) count (stopped [] (refused_at at Depth))
-  lawful_refused count at few = record { few = omega arith; ends = All-nil _; from = λ all named is. tt }
+  lawful_refused count at few = record { few = omega arith; ends = All-nil (IsHeld held); from = λ all named is. tt }
 
   lawful_if : (room count : ℕ) (at : Use) (b : Bool) → nat_le 64 count ≡ b → AreLawful (used room held) → count ≤ 64 →
       IsLawful (λ all. Unit {0}) count

@@ -6,13 +6,11 @@ use Rattle.std.proofs.lemmas.Bool.Decides.{nat_tests}
 use Rattle.lab_io.specs.Known.{grown}
 use Rattle.lab_io.specs.Held.{Held}
 use Rattle.repl_read.specs.declared.entry.Entry.{Entry}
-use Rattle.repl_files.specs.declared.fault.FileCause.{FileCause}
 use Rattle.repl_files.specs.declared.fault.FileCause.TheVariants.{Depth, Size}
 use Rattle.repl_files.specs.declared.fault.FileFault.{FileFault}
 use Rattle.repl_files.specs.declared.fault.LoadFault.{LoadFault}
 use Rattle.repl_files.specs.declared.fault.LoadFault.TheVariants.{At, TooLarge, Unread, Memory}
 use Rattle.repl_files.specs.declared.load.Loaded.{Loaded}
-use Rattle.repl_files.specs.Asked.{AsksSome}
 use Rattle.repl_files.specs.Content.{Content, Missing, Large, Faulty, Readable, content_of}
 use Rattle.repl_files.specs.Loaded.{IsStopped, IsLoaded, IsCut}
 use Rattle.repl_files.specs.Loading.{Gives, Use, Loading, Outcome, Joined, Refused, Oversized, Absent, in_order, stopped, refused_at, file_read, used}

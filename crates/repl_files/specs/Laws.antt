@@ -1,14 +1,18 @@
 -- What holds of every loading.
-use Rattle.std.specs.Prelude.{◌≡◌, ℕ, List, [], ◌∷◌, ◌++◌, All, Some, IsSome, IsNone, slice_get}
+use Rattle.std.specs.Prelude.{◌≡◌, ℕ, List, [], ◌∷◌, ◌++◌, All, None, Some, IsSome, IsNone, slice_get}
 use Rattle.std.specs.FinMap.{get}
 use Rattle.lab_io.specs.Held.{Held}
 use Rattle.repl_read.specs.declared.entry.Entry.{Entry}
 use Rattle.repl_files.specs.Content.{Readable, content_of}
 use Rattle.repl_files.specs.Loading.{Outcome, Joined, Refused, Oversized, Absent, used_file}
 
+-- a name holds something
+abbrev pub IsHeld : Held → List ℕ → Type 0
+IsHeld held name = IsSome (get held name)
+
 -- each of these names holds something
 abbrev pub AllHeld : Held → List (List ℕ) → Type 0
-AllHeld held names = All (λ name. IsSome (get held name)) names
+AllHeld held names = All (IsHeld held) names
 
 -- the last of these names holds nothing, and each before it something
 pub record LastAbsent (held : Held) (names : List (List ℕ)) : Type 0 where
@@ -34,7 +38,7 @@ pub record IsFrom (held : Held) (names : List (List ℕ)) (entry : Entry) : Type
   pub at : slice_get names entry.file ≡ Some name
   pub content : content_of (get held name) ≡ Readable (earlier ++ was ∷ later)
   pub same : entry ≡ record was { file = entry.file }
-  pub kept : IsNone (used_file was.head)
+  pub kept : used_file was.head ≡ None
 
 -- each entry that was joined
 abbrev pub AllFrom : Held → List (List ℕ) → Outcome → Type 0

@@ -164,9 +164,7 @@ fn join_entry<F: Files>(
     ensures faults { F.faults files.old ≤ F.faults files.new }
 {
     match &entry.head {
-        Head::Using(name) => {
-            join_file(alloc, files, room, file, entry.line, name.as_str(), all)
-        }
+        Head::Using(name) => { join_file(alloc, files, room, file, entry.line, name.as_str(), all) }
         Head::Typed { .. } | Head::Update { .. } => keep(number, entry, all),
     }
 }

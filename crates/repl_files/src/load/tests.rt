@@ -68,7 +68,10 @@ static FILES: [(&str, &[u8]); 21] = [
     ("mark", b"\xef\xbb\xbfa: T"),
     ("large_below", b"a: T\nusing \"large\""),
     ("form_and_large", b"using \"large\"\n?"),
-    ("absent_and_large", b"using \"leaf\"\nusing \"absent\"\nusing \"large\""),
+    (
+        "absent_and_large",
+        b"using \"leaf\"\nusing \"absent\"\nusing \"large\"",
+    ),
     ("many_below", b"using \"63\"\nb: T\nusing \"leaf\""),
 ];
 
@@ -91,9 +94,9 @@ fn library(alloc: Global) -> Result<MemFiles, AllocError> {
     }
     put_many(alloc, &mut files)?;
     let mut bytes = Vec::new(alloc);
-    bytes.resize(16_777_216, b' ')?;
+    bytes.resize(16_777_216, 0xff)?;
     files.put("full", &bytes)?;
-    bytes.push(b' ')?;
+    bytes.push(0xff)?;
     files.put("large", &bytes)?;
     Ok(files)
 }
@@ -136,8 +139,8 @@ static ROWS: [(u8, &str, &str); 34] = [
     (0, "63", "64 files"),
     (0, "64", "64:64 Depth"),
     (0, "many_below", "63:63 Depth"),
-    // sizes
-    (0, "full", "1 files"),
+    // sizes, of which the first is allowed
+    (0, "full", "full:1 Utf8"),
     (0, "large", "too large"),
     (0, "large_below", "large_below:2 Size"),
     (0, "form_and_large", "form_and_large:2 Platform(Form)"),
@@ -148,7 +151,10 @@ fn files_are_loaded_in_the_order_of_their_texts(rt: HostRuntime) -> Result<(), F
     let alloc = rt.alloc();
     let mut files = library(alloc)?;
     for (bodies, name, expected) in ROWS {
-        assert_eq!(rt; loading(alloc, &mut files, bodies, name)?.as_str(), expected);
+        assert_eq!(rt;
+            loading(alloc, &mut files, bodies, name)?.as_str(),
+            expected
+        );
     }
     Ok(())
 }

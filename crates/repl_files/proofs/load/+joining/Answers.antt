@@ -1,8 +1,7 @@
-use Rattle.std.proofs.Common.{◌≡◌, ◌∷◌, ◌∙◌, ◌<◌, ◌≤◌, ◌-◌, List, [], length, Ok, Err, refl, sym, ap, inl, inr, arith}
+use Rattle.std.proofs.Common.{◌≡◌, ◌∷◌, ◌∙◌, ◌<◌, ◌-◌, length, Ok, Err, refl, sym, ap, inl, inr, arith}
 use Rattle.std.specs.FinMap.{get}
 use Rattle.std.specs.Vec.Iter.{into_iter_items}
 use Rattle.std.proofs.lemmas.List.{nil_from_length}
-use Rattle.repl_read.specs.declared.entry.Entry.{Entry}
 use Rattle.repl_files.specs.declared.fault.FileCause.TheVariants.{Size}
 use Rattle.repl_files.specs.Content.{content_of}
 use Rattle.repl_files.specs.Loading.{Use, used, refused_at}

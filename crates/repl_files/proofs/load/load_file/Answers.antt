@@ -1,4 +1,4 @@
-use Rattle.std.proofs.Common.{◌≡◌, ◌∙◌, length, Ok, Err, refl, sym, ap}
+use Rattle.std.proofs.Common.{◌∙◌, length, Ok, Err, sym, ap}
 use Rattle.std.specs.FinMap.{get}
 use Rattle.repl_files.specs.declared.load.Loaded.{Loaded}
 use Rattle.repl_files.specs.Content.{content_of}
