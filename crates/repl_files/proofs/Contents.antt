@@ -13,6 +13,7 @@ use Rattle.repl_files.specs.declared.fault.LoadFault.{LoadFault}
 use Rattle.repl_files.specs.declared.fault.LoadFault.TheVariants.{At, TooLarge, Unread, Memory}
 use Rattle.repl_files.specs.declared.content.Opened.{Opened}
 use Rattle.repl_files.specs.declared.content.Opened.TheVariants as opened_by
+use Rattle.repl_files.specs.Asked.{Log}
 use Rattle.repl_files.specs.Content.{Content, Faulty, content_of, text_content, bad_line}
 use Rattle.repl_files.specs.Inner.Course.{IsFaultAt, IsFaulty, IsContent, IsOpened}
 use Rattle.repl_files.proofs.Grown.{asks_all}
@@ -35,14 +36,15 @@ content_not_utf8 bytes at line small not place is = rw (no_utf8 bytes _ refl not
 
 -- a fault of the file was told, or memory was wanting
 pub told_faulty : (content : Content) (name : List ℕ) (line : ℕ) (cause : FileCause) (told : LoadFault) →
-    content ≡ Faulty line cause → IsFaultAt (record { file = name; line = line; cause = cause }) told → IsFaulty content name told
+    content ≡ Faulty line cause → IsFaultAt (record { file = name; line = line; cause = cause }) told →
+    IsFaulty content name told
 told_faulty content name line cause (At fault) is so = (rw so is, ap (λ fault. fault.file) so)
 told_faulty content name line cause TooLarge is so = absurd so
 told_faulty content name line cause Unread is so = absurd so
 told_faulty content name line cause Memory is so = tt
 
 -- a file was read, and is what was told of it
-pub opened_content : (there : Option (List ℕ)) (bytes name : List ℕ) (opened : Opened) (log log' : Option (List (List ℕ))) →
+pub opened_content : (there : Option (List ℕ)) (bytes name : List ℕ) (opened : Opened) (log log' : Log) →
     there ≡ Some bytes → log' ≡ grown log (name ∷ []) → IsContent (content_of (Some bytes)) name opened →
     IsOpened (content_of there) name opened log log'
 opened_content there bytes name (opened_by.Entries entries) log log' is asked so = rw is (so, asked)

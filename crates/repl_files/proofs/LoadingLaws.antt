@@ -1,6 +1,7 @@
 -- What holds of every loading, by its parts.
-use Rattle.std.proofs.Common.{◌≡◌, ◌∷◌, ◌++◌, ◌+◌, ◌-◌, ◌<◌, ◌≤◌, ◌∙◌, ℕ, zero, suc, nat_le, nat_lt, if◌then◌else◌, Bool, true, false}
-use Rattle.std.proofs.Common.{List, [], length, Result, Ok, Err, Option, None, Some, IsSome, IsNone, refl, sym, ap, append_assoc}
+use Rattle.std.proofs.Common.{◌≡◌, ◌∷◌, ◌++◌, ◌+◌, ◌-◌, ◌<◌, ◌≤◌, ◌∙◌, ℕ, zero, suc, nat_le, nat_lt, if◌then◌else◌}
+use Rattle.std.proofs.Common.{Bool, true, false, List, [], length, Result, Ok, Err, Option, None, Some, IsSome, IsNone}
+use Rattle.std.proofs.Common.{refl, sym, ap, append_assoc}
 use Rattle.std.proofs.Common.{length-append, append-nil, arith}
 use Rattle.std.specs.List.{slice_get, All}
 use Rattle.std.specs.Str.{is_utf8}
@@ -13,7 +14,8 @@ use Rattle.repl_read.specs.Platform.{LineFault, platform}
 use Rattle.repl_files.specs.declared.fault.FileCause.TheVariants.{Depth, Size, Utf8}
 use Rattle.repl_files.specs.Content.{Content, Missing, Large, Faulty, Readable, bad_line, text_content, content_of}
 use Rattle.repl_files.specs.Laws.{IsHeld, AllHeld, EndsBy, IsFrom, AllFrom}
-use Rattle.repl_files.specs.Loading.{Gives, Use, Loading, Outcome, Joined, Refused, Oversized, Absent, stopped, refused_at, joined, go_on, used_file, one_by, one, in_order, file_read, used, load}
+use Rattle.repl_files.specs.Loading.{Gives, Use, Loading, Outcome, Joined, Refused, Oversized, Absent, stopped}
+use Rattle.repl_files.specs.Loading.{refused_at, joined, go_on, used_file, one_by, one, in_order, file_read, used, load}
 
 -- these names stand in a whole list behind so many others
 record Within (all : List (List ℕ)) (count : ℕ) (names : List (List ℕ)) : Type 0 where
@@ -22,7 +24,8 @@ record Within (all : List (List ℕ)) (count : ℕ) (names : List (List ℕ)) : 
   whole : all ≡ before ++ (names ++ behind)
   counted : length before ≡ count
 
-within_front : (all : List (List ℕ)) (count : ℕ) (names more : List (List ℕ)) → Within all count (names ++ more) → Within all count names
+within_front : (all : List (List ℕ)) (count : ℕ) (names more : List (List ℕ)) →
+    Within all count (names ++ more) → Within all count names
 within_front all count names more is = record {
   before = is.before;
   behind = more ++ is.behind;
@@ -43,7 +46,8 @@ at_front : (before rest : List (List ℕ)) (name : List ℕ) → slice_get (befo
 at_front [] rest name = refl
 at_front (x ∷ before) rest name = at_front before rest name
 
-first_at : (all : List (List ℕ)) (count : ℕ) (name : List ℕ) (more : List (List ℕ)) → Within all count (name ∷ more) → slice_get all count ≡ Some name
+first_at : (all : List (List ℕ)) (count : ℕ) (name : List ℕ) (more : List (List ℕ)) →
+    Within all count (name ∷ more) → slice_get all count ≡ Some name
 first_at all count name more is = rw (is.whole, ← is.counted) (at_front is.before (more ++ is.behind) name)
 
 -- what a name holds, by what it is to a loading
@@ -134,7 +138,17 @@ module _ (held : Held) where
         ends = All-nil (IsHeld held);
         from = λ all named is.
             All-cons (IsFrom held all) (record entry { file = number }) []
-            (record { name = file; earlier = earlier; was = entry; later = later; at = named; content = content; same = refl; kept = kept }) (All-nil (IsFrom held all));
+            (record {
+              name = file;
+              earlier = earlier;
+              was = entry;
+              later = later;
+              at = named;
+              content = content;
+              same = refl;
+              kept = kept;
+            })
+            (All-nil (IsFrom held all));
       }
       lawful_one earlier entry later count (Some name) content kept few =
           let given = lawful count (record { file = file; line = entry.line; name = name }) few in
@@ -147,7 +161,8 @@ module _ (held : Held) where
       lawful_in_order earlier (entry ∷ entries) count content few =
           let first = one gives file number count entry in
           let is = lawful_one earlier entry entries count (used_file entry.head) content refl few in
-          lawful_on Numbered count first.names first.outcome (in_order gives file number (count + length first.names) entries) is
+          lawful_on Numbered count first.names first.outcome
+          (in_order gives file number (count + length first.names) entries) is
           (lawful_in_order (earlier ++ entry ∷ []) entries (count + length first.names)
           (content ∙ ap Readable (sym (append_assoc earlier (entry ∷ []) entries))) is.few)
 
@@ -188,12 +203,14 @@ module _ (held : Held) where
             from = λ all named within. both.from all (first_at all count name rest.names within) within;
           }
 
-  lawful_refused : (count : ℕ) (at : Use) → count ≤ 64 → IsLawful (λ all. Unit {0}) count (stopped [] (refused_at at Depth))
+  lawful_refused : (count : ℕ) (at : Use) → count ≤ 64 →
+      IsLawful (λ all. Unit {0}) count (stopped [] (refused_at at Depth))
   lawful_refused count at few = record { few = omega arith; ends = All-nil (IsHeld held); from = λ all named is. tt }
 
   lawful_if : (room count : ℕ) (at : Use) (b : Bool) → nat_le 64 count ≡ b → AreLawful (used room held) → count ≤ 64 →
       IsLawful (λ all. Unit {0}) count
-      (if b then stopped [] (refused_at at Depth) else file_read (used room held) (refused_at at Size) at.name count (content_of (get held at.name)))
+      (if b then stopped [] (refused_at at Depth)
+      else file_read (used room held) (refused_at at Size) at.name count (content_of (get held at.name)))
   lawful_if room count at true many lawful few = lawful_refused count at few
   lawful_if room count at false many lawful few =
       let less : count < 64 = grind (arith, nat_tests) in
@@ -214,10 +231,13 @@ module _ (held : Held) where
   pub load_few : (bodies : ℕ) (name : List ℕ) → length (load held bodies name).names ≤ 64
   load_few bodies name = let most = (lawful_load bodies name).few in omega (arith, most)
 
-  pub load_ends : (bodies : ℕ) (name : List ℕ) → EndsBy held (load held bodies name).names (load held bodies name).outcome
+  pub load_ends : (bodies : ℕ) (name : List ℕ) →
+      EndsBy held (load held bodies name).names (load held bodies name).outcome
   load_ends bodies name = (lawful_load bodies name).ends
 
-  pub load_from : (bodies : ℕ) (name : List ℕ) → AllFrom held (load held bodies name).names (load held bodies name).outcome
+  pub load_from : (bodies : ℕ) (name : List ℕ) →
+      AllFrom held (load held bodies name).names (load held bodies name).outcome
   load_from bodies name =
       let names = (load held bodies name).names in
-      (lawful_load bodies name).from names tt (record { before = []; behind = []; whole = sym (append-nil names); counted = refl })
+      (lawful_load bodies name).from names tt
+      (record { before = []; behind = []; whole = sym (append-nil names); counted = refl })

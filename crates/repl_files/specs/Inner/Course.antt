@@ -8,7 +8,7 @@ use Rattle.repl_files.specs.declared.fault.FileFault.{FileFault}
 use Rattle.repl_files.specs.declared.fault.LoadFault.{LoadFault}
 use Rattle.repl_files.specs.declared.fault.LoadFault.TheVariants.{At, TooLarge, Unread, Memory}
 use Rattle.repl_files.specs.declared.load.Loaded.{Loaded}
-use Rattle.repl_files.specs.Asked.{AsksSome}
+use Rattle.repl_files.specs.Asked.{Log, AsksSome}
 use Rattle.repl_files.specs.Content.{Content, Large, Faulty, Readable}
 use Rattle.repl_files.specs.Loaded.{IsStopped}
 use Rattle.repl_files.specs.Loading.{Joined, Loading}
@@ -38,7 +38,7 @@ IsContent content name opened_by.TooLarge = ⊥
 IsContent content name (opened_by.Stopped fault) = IsFaulty content name fault
 
 -- a file was read and is faulty as was told, or the read was cut short
-abbrev pub IsStoppedAt : Content → List ℕ → LoadFault → Option (List (List ℕ)) → Option (List (List ℕ)) → Type 0
+abbrev pub IsStoppedAt : Content → List ℕ → LoadFault → Log → Log → Type 0
 IsStoppedAt content name (At fault) log log' =
     (content ≡ Faulty fault.line fault.cause) × (fault.file ≡ name) × (log' ≡ grown log (name ∷ []))
 IsStoppedAt content name TooLarge log log' = ⊥
@@ -46,14 +46,14 @@ IsStoppedAt content name Unread log log' = log' ≡ grown log (name ∷ [])
 IsStoppedAt content name Memory log log' = AsksSome (name ∷ []) log log'
 
 -- a file was read as what it is, or the read was cut short
-abbrev pub IsOpened : Content → List ℕ → Opened → Option (List (List ℕ)) → Option (List (List ℕ)) → Type 0
+abbrev pub IsOpened : Content → List ℕ → Opened → Log → Log → Type 0
 IsOpened content name (opened_by.Entries entries) log log' =
     (content ≡ Readable entries.items) × (log' ≡ grown log (name ∷ []))
 IsOpened content name opened_by.TooLarge log log' = (content ≡ Large) × (log' ≡ grown log (name ∷ []))
 IsOpened content name (opened_by.Stopped fault) log log' = IsStoppedAt content name fault log log'
 
 -- the entries of a loading have been joined to those before
-pub record Adds (loading : Loading) (old new : Loaded) (log log' : Option (List (List ℕ))) : Type 0 where
+pub record Adds (loading : Loading) (old new : Loaded) (log log' : Log) : Type 0 where
   pub added : List Entry
   pub outcome : loading.outcome ≡ Joined added
   pub entries : new.entries.items ≡ old.entries.items ++ added
@@ -61,7 +61,6 @@ pub record Adds (loading : Loading) (old new : Loaded) (log log' : Option (List 
   pub asked : log' ≡ grown log loading.names
 
 -- a loading has gone on as it says, up to where it was cut short, if it was
-abbrev pub IsCourse :
-    Loading → Result (Unit {0}) LoadFault → Loaded → Loaded → Option (List (List ℕ)) → Option (List (List ℕ)) → Type 0
+abbrev pub IsCourse : Loading → Result (Unit {0}) LoadFault → Loaded → Loaded → Log → Log → Type 0
 IsCourse loading (Ok done) old new log log' = Adds loading old new log log'
 IsCourse loading (Err fault) old new log log' = IsStopped loading fault log log'

@@ -12,7 +12,8 @@ pub returns-in-Err-At : goal.returns-in-Err-At
 returns-in-Err-At c =
     let read = rw c.in-Err-At.field-0-is at c.in-Err-At.ensures in
     told_faulty _ _ c.in-Err-At.line (Platform c.in-Err-At.cause) c.fault_at.result
-    (content_text _ _ (Err (c.in-Err-At.line, c.in-Err-At.cause)) c.requires c.in-Ok.ensures.cases.0 c.in-Ok.ensures.cases.1 read.1)
+    (content_text _ _ (Err (c.in-Err-At.line, c.in-Err-At.cause)) c.requires
+    c.in-Ok.ensures.cases.0 c.in-Ok.ensures.cases.1 read.1)
     c.fault_at.ensures
 
 pub returns-in-Err : goal.returns-in-Err

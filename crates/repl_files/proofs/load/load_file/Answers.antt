@@ -11,9 +11,10 @@ returns-in-Ok-clause-loaded g c = λ held is.
     let opened = c.in-Entries.ensures.opened held is in
     let old : Loaded = record { names = c.new.result; entries = c.new-2.result } in
     loaded_whole (loaded held c.args.room c.args.name.now) old c.join_entries.new.all
-    (g.F.Files.asked c.args.files.now) (g.F.Files.asked c.join_entries.new.files) c.new.ensures.items c.new-2.ensures.items
-    (file_goes (used c.args.room held) Oversized c.args.name.now 0 (content_of (get held c.args.name.now)) c.in-Entries.entries.items (Ok tt)
-    old c.note.new.all c.join_entries.new.all
+    (g.F.Files.asked c.args.files.now) (g.F.Files.asked c.join_entries.new.files)
+    c.new.ensures.items c.new-2.ensures.items
+    (file_goes (used c.args.room held) Oversized c.args.name.now 0 (content_of (get held c.args.name.now))
+    c.in-Entries.entries.items (Ok tt) old c.note.new.all c.join_entries.new.all
     (g.F.Files.asked c.args.files.now) (g.F.Files.asked c.open.new.files) (g.F.Files.asked c.join_entries.new.files)
     opened.0 (sym (ap length c.new.ensures.items)) c.in_default.ensures.names c.in_default.ensures.entries opened.1
     (c.in-Ok.ensures.course held (c.open.ensures.held ∙ is)))
@@ -22,8 +23,8 @@ pub returns-in-Err-join_entries-clause-loaded : goal.returns-in-Err-join_entries
 returns-in-Err-join_entries-clause-loaded g c = λ held is.
     let opened = c.in-Entries.ensures.opened held is in
     let old : Loaded = record { names = c.new.result; entries = c.new-2.result } in
-    file_goes (used c.args.room held) Oversized c.args.name.now 0 (content_of (get held c.args.name.now)) c.in-Entries.entries.items
-    (Err c.in-Err-join_entries.fault) old c.note.new.all c.join_entries.new.all
+    file_goes (used c.args.room held) Oversized c.args.name.now 0 (content_of (get held c.args.name.now))
+    c.in-Entries.entries.items (Err c.in-Err-join_entries.fault) old c.note.new.all c.join_entries.new.all
     (g.F.Files.asked c.args.files.now) (g.F.Files.asked c.open.new.files) (g.F.Files.asked c.join_entries.new.files)
     opened.0 (sym (ap length c.new.ensures.items)) c.in_default.ensures.names c.in_default.ensures.entries opened.1
     (c.in-Err-join_entries.ensures.course held (c.open.ensures.held ∙ is))
@@ -36,5 +37,6 @@ returns-in-TooLarge-clause-loaded g c = λ held is.
 
 pub returns-in-Stopped-clause-loaded : goal.returns-in-Stopped-clause-loaded
 returns-in-Stopped-clause-loaded g c = λ held is.
-    file_stopped (used c.args.room held) Oversized c.args.name.now 0 (content_of (get held c.args.name.now)) c.in-Stopped.fault
-    (g.F.Files.asked c.args.files.now) (g.F.Files.asked c.open.new.files) (c.in-Stopped.ensures.opened held is)
+    file_stopped (used c.args.room held) Oversized c.args.name.now 0 (content_of (get held c.args.name.now))
+    c.in-Stopped.fault (g.F.Files.asked c.args.files.now) (g.F.Files.asked c.open.new.files)
+    (c.in-Stopped.ensures.opened held is)
