@@ -4,8 +4,8 @@ use Rattle.std.specs.Prelude.{Some}
 use Rattle.std.specs.FinMap.{get}
 use Rattle.lab_io.specs.Held.{Held}
 use Rattle.repl_read.specs.declared.entry.Entry.{Entry}
-use Rattle.repl_read.specs.declared.entry.Head.TheVariants as head
-use Rattle.repl_read.specs.declared.entry.Head as entry_head
+use Rattle.repl_read.specs.declared.entry.Head.{Head}
+use Rattle.repl_read.specs.declared.entry.Head.TheVariants.{Using, Typed, Update}
 use Rattle.repl_files.specs.declared.fault.FileCause.{FileCause}
 use Rattle.repl_files.specs.declared.fault.FileCause.TheVariants.{Depth, Size}
 use Rattle.repl_files.specs.declared.fault.FileFault.{FileFault}
@@ -56,10 +56,10 @@ go_on names Oversized rest = stopped names Oversized
 go_on names Absent rest = stopped names Absent
 
 -- the file that a head names, if it is a `using` head
-abbrev pub used_file : entry_head.Head → Option (List ℕ)
-used_file (head.Using name) = Some name
-used_file (head.Typed name kind place) = None
-used_file (head.Update name) = None
+abbrev pub used_file : Head → Option (List ℕ)
+used_file (Using name) = Some name
+used_file (Typed name kind place) = None
+used_file (Update name) = None
 
 -- an entry is kept with the number of its file, and a `using` head gives way to the entries of the file that it names
 abbrev pub one_by : Gives → List ℕ → ℕ → ℕ → Entry → Option (List ℕ) → Loading
