@@ -1,5 +1,5 @@
 -- What a call has answered of a loading.
-use Rattle.std.specs.Prelude.{◌≡◌, ℕ, List, Option, Result, Ok, Err}
+use Rattle.std.specs.Prelude.{◌≡◌, Result, Ok, Err}
 use Rattle.lab_io.specs.Known.{grown}
 use Rattle.repl_files.specs.declared.fault.LoadFault.{LoadFault}
 use Rattle.repl_files.specs.declared.fault.LoadFault.TheVariants.{At, TooLarge, Unread, Memory}
