@@ -1,0 +1,6 @@
+-- Lemmas of repl_files.
+pub mod Contents
+pub mod Courses
+pub mod Grown
+pub mod LoadingLaws
+pub mod Uses
