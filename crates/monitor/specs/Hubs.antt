@@ -42,7 +42,7 @@ connect s dev hub = do
   on ← equipped s
   what ← entry on dev
   there ← require (is_some (hub_named s.lab hub)) cause.Name
-  m ← speaker s on what
+  m ← speaker s on.number what
   same ← require (agree (kind_named s.lab hub) (kind_at s.lab.boards m)) cause.Kind
   free ← require (not (is_connected (members_of s.lab.hubs) m)) cause.Connected
   Ok (leaves (record s { lab = connected_to s.lab (hub_named s.lab hub) m }))
@@ -52,5 +52,5 @@ abbrev pub show : State → List ℕ → Result Done ScriptCause
 show s dev = do
   on ← equipped s
   what ← entry on dev
-  m ← speaker s on what
+  m ← speaker s on.number what
   Ok (leaves (with_board s on (λ v. with_shown v m.dev)))

@@ -78,7 +78,6 @@ abbrev pub speaks : State → Member → Bool
 speaks s m = option_map_or is_shown_kind (kind_at s.lab.boards m) false
 
 -- S8: what a word names is a UART or a CAN controller
-abbrev pub speaker : State → Equipped → NamedWhat → Result Member ScriptCause
-speaker s on (Part (Dev dev)) =
-    if speaks s (member on.number dev) then Ok (member on.number dev) else Err Kind
-speaker s on _ = Err Kind
+abbrev pub speaker : State → ℕ → NamedWhat → Result Member ScriptCause
+speaker s b (Part (Dev dev)) = if speaks s (member b dev) then Ok (member b dev) else Err Kind
+speaker s b _ = Err Kind

@@ -1,4 +1,19 @@
 //! Commands that make, select, equip and reset boards.
+ghost use Rattle.std.specs.Prelude.{◌≡◌, ◌≤◌, ◌<◌, [], length, slice_index_or, false, Err, None, IfOk, IsTrue};
+ghost use Rattle.std.specs.Option.{ForSome, option_map};
+ghost use Rattle.std.specs.List.{list_all};
+ghost use Rattle.board.specs.NoCans.{HasNoCans};
+ghost use Rattle.lab_io.specs.Known.{Rose};
+ghost use Rattle.lab_num.specs.Name.{is_name};
+ghost use Rattle.lab_state.specs.One.{view_of};
+ghost use Rattle.repl_read.specs.Entries.{is_entry};
+ghost use Rattle.sys_bus.specs.Plan.{IsValid};
+ghost use Rattle.monitor.specs.Boards as boards;
+ghost use Rattle.monitor.specs.State.{Place};
+ghost use Rattle.monitor.specs.Inner.Ruling as ruling;
+ghost use Rattle.monitor.specs.Inner.Ruling.{IsCarried, IsFileStop, IsFitted, IsPlan, IsRuled};
+ghost use Rattle.monitor.specs.Inner.Ruling.{Leaves, Told};
+
 use crate::fault::{Cause, ScriptFault};
 use crate::monitor::Monitor;
 use crate::stop::Stop;
@@ -30,7 +45,11 @@ impl From<AddFault> for Stop {
 
 impl<D: Device> Monitor<D> {
     /// Makes a board and selects it. Without a name it is named by its number.
-    pub(crate) fn create(&mut self, name: Option<Text>) -> Result<Vec<u8>, Stop> {
+    pub(crate) fn create(&mut self, name: Option<Text>) -> Result<Vec<u8>, Stop>
+        requires unspent { self.old.spent ≡ false }
+        requires is_name { ForSome name (λ text. IsTrue (is_name text)) }
+        ensures { IsRuled (boards.create self.old.state name) result self.old self.new }
+    {
         match name {
             Some(name) => self.create_as(name.as_str()),
             None => {
@@ -42,14 +61,21 @@ impl<D: Device> Monitor<D> {
     }
 
     /// Makes a board of this name and selects it.
-    fn create_as(&mut self, name: &str) -> Result<Vec<u8>, Stop> {
+    fn create_as(&mut self, name: &str) -> Result<Vec<u8>, Stop>
+        requires unspent { self.old.spent ≡ false }
+        requires is_name { IsTrue (is_name name.now) }
+        ensures { IsRuled (boards.create_as self.old.state name.now) result self.old self.new }
+    {
         let b = self.lab.add_board(name)?;
         self.selected = Some(b);
         Ok(Vec::new(self.alloc))
     }
 
     /// The board of this name, and else the board of this number.
-    fn board_of(&self, name: &str) -> Option<BoardNo> {
+    fn board_of(&self, name: &str) -> Option<BoardNo>
+        requires { self.now.spent ≡ false }
+        ensures { option_map (λ b. b.0) result ≡ boards.board_of self.now.state.lab name.now }
+    {
         if let Some(b) = self.lab.find_board(name) {
             return Some(b);
         }
@@ -62,7 +88,10 @@ impl<D: Device> Monitor<D> {
     }
 
     /// Selects a board.
-    pub(crate) fn select(&mut self, name: &str) -> Result<Vec<u8>, Stop> {
+    pub(crate) fn select(&mut self, name: &str) -> Result<Vec<u8>, Stop>
+        requires unspent { self.old.spent ≡ false }
+        ensures { IsRuled (boards.select self.old.state name.now) result self.old self.new }
+    {
         let Some(b) = self.board_of(name) else {
             return Err(Stop::Line(ScriptCause::Board));
         };
@@ -71,7 +100,10 @@ impl<D: Device> Monitor<D> {
     }
 
     /// Resets the selected board.
-    pub(crate) fn reset_board(&mut self) -> Result<Vec<u8>, Stop> {
+    pub(crate) fn reset_board(&mut self) -> Result<Vec<u8>, Stop>
+        requires unspent { self.old.spent ≡ false }
+        ensures { IsRuled (boards.reset_board self.old.state) result self.old self.new }
+    {
         let b = self.equipped()?;
         self.lab.reset(b);
         Ok(Vec::new(self.alloc))
@@ -82,7 +114,15 @@ impl<D: Device> Monitor<D> {
         &mut self,
         files: &mut F,
         path: &str,
-    ) -> Result<Vec<u8>, Stop> {
+    ) -> Result<Vec<u8>, Stop>
+        requires unspent { self.old.spent ≡ false }
+        ensures carried { (place : Place) → Told (F.held files.old) (λ held.
+            IsCarried (boards.load_platform held self.old.state place path.now) place result self.new.state (F.asked files.old) (F.asked files.new)) }
+        ensures leaves { Leaves result self.old self.new }
+        ensures unread { result ≡ Err Stop.Unread → Rose (F.faults files.old) (F.faults files.new) }
+        ensures held { F.held files.new ≡ F.held files.old }
+        ensures faults { F.faults files.old ≤ F.faults files.new }
+    {
         let b = self.bare()?;
         let loaded = match load_platform(self.alloc, files, self.flow.depth(), path) {
             Ok(loaded) => loaded,
@@ -93,7 +133,14 @@ impl<D: Device> Monitor<D> {
     }
 
     /// Makes a board by its plan.
-    fn fit(&mut self, b: BoardNo, plan: BoardPlan) -> Result<Vec<u8>, Stop> {
+    fn fit(&mut self, b: BoardNo, plan: BoardPlan) -> Result<Vec<u8>, Stop>
+        requires unspent { self.old.spent ≡ false }
+        requires exists { b.0 < length self.old.state.lab.boards }
+        requires bare { view_of self.old.state.lab b.0 ≡ None }
+        requires plan { IsValid plan }
+        requires cans { HasNoCans plan }
+        ensures { IsFitted b.0 plan result self.old self.new }
+    {
         match self.lab.fit(b, plan) {
             Ok(()) => Ok(Vec::new(self.alloc)),
             Err(FitFault::Has) => Err(Stop::Line(ScriptCause::Platform)),
@@ -103,7 +150,9 @@ impl<D: Device> Monitor<D> {
 }
 
 /// The cause of a fault of a platform's files.
-fn cause_of(cause: FileCause) -> Cause {
+fn cause_of(cause: FileCause) -> Cause
+    ensures { result ≡ boards.cause_of cause }
+{
     match cause {
         FileCause::Depth => Cause::Script(ScriptCause::Depth),
         FileCause::Utf8 => Cause::Script(ScriptCause::Utf8),
@@ -113,7 +162,9 @@ fn cause_of(cause: FileCause) -> Cause {
 }
 
 /// Why a script stops where a platform's files are not loaded.
-fn load_stop(fault: LoadFault) -> Stop {
+fn load_stop(fault: LoadFault) -> Stop
+    ensures { result ≡ ruling.load_stop fault }
+{
     match fault {
         LoadFault::At(FileFault { file, line, cause }) => Stop::File(ScriptFault {
             file,
@@ -127,7 +178,12 @@ fn load_stop(fault: LoadFault) -> Stop {
 }
 
 /// The plan that loaded entries describe.
-fn plan_of(alloc: Global, loaded: Loaded) -> Result<BoardPlan, Stop> {
+fn plan_of(alloc: Global, loaded: Loaded) -> Result<BoardPlan, Stop>
+    requires { IsTrue (list_all is_entry loaded.entries.items) }
+    ensures plan { IsPlan loaded result }
+    ensures valid { IfOk result IsValid }
+    ensures cans { IfOk result HasNoCans }
+{
     let Loaded { names, entries } = loaded;
     match build(alloc, entries) {
         Ok(plan) => Ok(plan),
@@ -139,7 +195,11 @@ fn plan_of(alloc: Global, loaded: Loaded) -> Result<BoardPlan, Stop> {
 }
 
 /// A fault of an entry, in the file of this number.
-fn plat_stop(alloc: Global, names: &[Text], file: u32, line: u32, cause: PlatCause) -> Stop {
+fn plat_stop(alloc: Global, names: &[Text], file: u32, line: u32, cause: PlatCause) -> Stop
+    ensures { IsFileStop
+        (record { file = slice_index_or names.now file []; line = line; cause = Cause.Plat cause })
+        result }
+{
     let name = match names.get(file as usize) {
         Some(name) => name.as_str(),
         None => "",

@@ -1,4 +1,12 @@
 //! Each command is carried out.
+ghost use Rattle.std.specs.Prelude.{◌≡◌, ◌≢◌, ◌≤◌, ℕ, List, Option, false, Err};
+ghost use Rattle.lab_io.specs.Held.{Held};
+ghost use Rattle.lab_io.specs.Known.{Rose};
+ghost use Rattle.lab_state.specs.Run.{run};
+ghost use Rattle.monitor.specs.Command.{carried};
+ghost use Rattle.monitor.specs.State.{Place};
+ghost use Rattle.monitor.specs.Inner.Ruling.{IsAlone, IsCarried, IsWithin, Leaves, Told};
+
 use crate::monitor::Monitor;
 use crate::stop::Stop;
 use dev_core::Device;
@@ -28,7 +36,17 @@ impl<D: Device> Monitor<D> {
         &mut self,
         files: &mut F,
         command: Command,
-    ) -> Result<Vec<u8>, Stop> {
+    ) -> Result<Vec<u8>, Stop>
+        requires unspent { self.old.spent ≡ false }
+        requires goes_on { self.old.state.flow.ended ≡ false }
+        requires within { IsWithin command }
+        ensures carried { (place : Place) → Told (F.held files.old) (λ held.
+            IsCarried (carried run held self.old.state place command) place result self.new.state (F.asked files.old) (F.asked files.new)) }
+        ensures leaves { Leaves result self.old self.new }
+        ensures unread { result ≡ Err Stop.Unread → Rose (F.faults files.old) (F.faults files.new) }
+        ensures held { F.held files.new ≡ F.held files.old }
+        ensures faults { F.faults files.old ≤ F.faults files.new }
+    {
         match command {
             Command::LoadPlatform { path } => self.load_platform(files, path.as_str()),
             Command::LoadBinary { path, at } => self.load_binary(files, path.as_str(), at),
@@ -40,7 +58,17 @@ impl<D: Device> Monitor<D> {
 
     /// Carries out a command that reads no file. Images of ELF and HEX and hubs of CAN controllers
     /// are not built.
-    fn carry_out_alone(&mut self, command: Command) -> Result<Vec<u8>, Stop> {
+    fn carry_out_alone(&mut self, command: Command) -> Result<Vec<u8>, Stop>
+        requires unspent { self.old.spent ≡ false }
+        requires goes_on { self.old.state.flow.ended ≡ false }
+        requires within { IsWithin command }
+        requires alone { IsAlone command }
+        ensures carried { (held : Held) (place : Place) (log : Option (List (List ℕ))) →
+            IsCarried (carried run held self.old.state place command) place
+            result self.new.state log log }
+        ensures leaves { Leaves result self.old self.new }
+        ensures unread { result ≢ Err Stop.Unread }
+    {
         match command {
             Command::Create { name } => self.create(name),
             Command::Select { name } => self.select(name.as_str()),

@@ -1,4 +1,10 @@
 //! Commands that make hubs, connect devices to them and show what devices send.
+ghost use Rattle.std.specs.Prelude.{◌≡◌, false, is_some, IsTrue};
+ghost use Rattle.lab_num.specs.Name.{is_name};
+ghost use Rattle.lab_state.specs.Names.{hub_named};
+ghost use Rattle.monitor.specs.Hubs as hubs;
+ghost use Rattle.monitor.specs.Inner.Ruling.{IsRuled};
+
 use crate::monitor::Monitor;
 use crate::stop::Stop;
 use dev_core::Device;
@@ -40,7 +46,11 @@ impl From<ConnectFault> for Stop {
 
 impl<D: Device> Monitor<D> {
     /// Makes a hub of UARTs.
-    pub(crate) fn uart_hub(&mut self, name: &str) -> Result<Vec<u8>, Stop> {
+    pub(crate) fn uart_hub(&mut self, name: &str) -> Result<Vec<u8>, Stop>
+        requires unspent { self.old.spent ≡ false }
+        requires is_name { IsTrue (is_name name.now) }
+        ensures { IsRuled (hubs.uart_hub self.old.state name.now) result self.old self.new }
+    {
         if self.lab.hubs() >= MOST_HUBS {
             return Err(Stop::Memory);
         }
@@ -49,7 +59,10 @@ impl<D: Device> Monitor<D> {
     }
 
     /// Whether there is a hub of this name.
-    fn has_hub(&self, name: &str) -> bool {
+    fn has_hub(&self, name: &str) -> bool
+        requires { self.now.spent ≡ false }
+        ensures { result ≡ is_some (hub_named self.now.state.lab name.now) }
+    {
         for n in 0..self.lab.hubs() {
             if self.lab.hub_name(n).as_str() == name {
                 return true;
@@ -59,7 +72,10 @@ impl<D: Device> Monitor<D> {
     }
 
     /// Puts a device of the selected board into a hub.
-    pub(crate) fn connect(&mut self, dev: &str, hub: &str) -> Result<Vec<u8>, Stop> {
+    pub(crate) fn connect(&mut self, dev: &str, hub: &str) -> Result<Vec<u8>, Stop>
+        requires unspent { self.old.spent ≡ false }
+        ensures { IsRuled (hubs.connect self.old.state dev.now hub.now) result self.old self.new }
+    {
         let b = self.equipped()?;
         let what = self.entry(b, dev)?;
         if !self.has_hub(hub) {
@@ -71,7 +87,10 @@ impl<D: Device> Monitor<D> {
     }
 
     /// Shows what a device of the selected board sends.
-    pub(crate) fn show(&mut self, dev: &str) -> Result<Vec<u8>, Stop> {
+    pub(crate) fn show(&mut self, dev: &str) -> Result<Vec<u8>, Stop>
+        requires unspent { self.old.spent ≡ false }
+        ensures { IsRuled (hubs.show self.old.state dev.now) result self.old self.new }
+    {
         let b = self.equipped()?;
         let what = self.entry(b, dev)?;
         let member = self.speaker(b, what)?;

@@ -1,15 +1,17 @@
 //! A script and the laboratory that its commands work on.
-ghost use Rattle.std.specs.Prelude.{◌≡◌, ◌≤◌, ◌^◌, length, map, false, IfOk, IfSome};
+ghost use Rattle.std.specs.Prelude.{◌≡◌, ◌≤◌, ◌^◌, length, map, true, false, Err, IfOk, IfSome};
 ghost use Rattle.std.specs.String.{string_bytes};
 ghost use Rattle.dev_core.specs.Stock.{IsFull};
 ghost use Rattle.lab_io.specs.Known.{Rose};
 ghost use Rattle.lab_state.specs.Names.{names};
 ghost use Rattle.lab_state.specs.Run.{run};
 ghost use Rattle.log_text.specs.Log.{rest};
-ghost use Rattle.monitor.specs.Command.{did};
-ghost use Rattle.monitor.specs.State.{started};
+ghost use Rattle.resc_read.specs.Line.{line_of};
+ghost use Rattle.monitor.specs.Command.{did, done_by};
+ghost use Rattle.monitor.specs.State.{Place, started};
 ghost use Rattle.monitor.specs.Step.{going, IsStep, IsNext, IsCut, has_ended};
 ghost use Rattle.monitor.specs.Answer.{Misses};
+ghost use Rattle.monitor.specs.Inner.Ruling.{IsAfterLine, IsCarried, Leaves, Told, step_of};
 
 use crate::fault::{Cause, ScriptFault};
 use crate::setting::Setting;
@@ -20,7 +22,7 @@ use lab_io::Files;
 use lab_num::{BoardNo, Micros, NoMemory, Text};
 use lab_state::Lab;
 use log_text::Lines;
-use resc_read::{LineFault, read_line};
+use resc_read::read_line;
 use resc_vars::{Flow, Next, ScriptCause};
 use std::alloc::Global;
 use std::marker::Model;
@@ -119,18 +121,7 @@ impl<D: Device> Monitor<D> {
         ensures held { F.held files.new ≡ F.held files.old }
         ensures faults { F.faults files.old ≤ F.faults files.new }
     {
-        let step = self.take_next(files);
-        if !matches!(&step, Step::Text(_)) {
-            self.ended = true;
-        }
-        step
-    }
-
-    /// Takes the next line of the script.
-    fn take_next<F: Files>(&mut self, files: &mut F) -> Step
-        requires goes_on { self.old.ended ≡ false }
-        requires unspent { self.old.spent ≡ false }
-    {
+        self.ended = true;
         match self.flow.next() {
             Next::Line { file, line, text } => self.take_line(files, file, line, text.as_str()),
             Next::End => Step::End,
@@ -139,23 +130,42 @@ impl<D: Device> Monitor<D> {
         }
     }
 
-    /// Does what a line asks for.
+    /// Does what a line asks for. The script goes on where it says something.
     fn take_line<F: Files>(&mut self, files: &mut F, file: Text, line: u32, text: &str) -> Step
-        requires goes_on { self.old.ended ≡ false }
+        requires goes_on { self.old.state.flow.ended ≡ false }
         requires unspent { self.old.spent ≡ false }
+        requires waits { self.old.ended ≡ true }
+        ensures step { Told (F.held files.old) (λ held. IsStep
+            (done_by run held self.old.state (record { file = file; number = line }) (line_of text.now))
+            result self.new.state (F.asked files.old) (F.asked files.new)) }
+        ensures next { IsAfterLine result self.old self.new }
+        ensures unread { result ≡ Step.Unread → Rose (F.faults files.old) (F.faults files.new) }
+        ensures held { F.held files.new ≡ F.held files.old }
+        ensures faults { F.faults files.old ≤ F.faults files.new }
     {
-        let done = match read_line(self.alloc, text) {
-            Ok(command) => self.carry_out(files, command),
-            Err(fault) => Err(Stop::from(fault)),
-        };
-        match done {
-            Ok(text) => Step::Text(text),
-            Err(Stop::Quit) => Step::End,
-            Err(Stop::Line(cause)) => fault_at(file, line, cause),
-            Err(Stop::File(fault)) => Step::Fault(fault),
-            Err(Stop::Unread) => Step::Unread,
-            Err(Stop::Memory) => Step::Memory,
+        match self.carry_out_line(files, text) {
+            Ok(text) => {
+                self.ended = false;
+                Step::Text(text)
+            }
+            Err(stop) => stopped(file, line, stop),
         }
+    }
+
+    /// Carries out the command of a line.
+    fn carry_out_line<F: Files>(&mut self, files: &mut F, text: &str) -> Result<Vec<u8>, Stop>
+        requires goes_on { self.old.state.flow.ended ≡ false }
+        requires unspent { self.old.spent ≡ false }
+        ensures carried { (place : Place) → Told (F.held files.old) (λ held. IsCarried
+            (done_by run held self.old.state place (line_of text.now)) place
+            result self.new.state (F.asked files.old) (F.asked files.new)) }
+        ensures leaves { Leaves result self.old self.new }
+        ensures unread { result ≡ Err Stop.Unread → Rose (F.faults files.old) (F.faults files.new) }
+        ensures held { F.held files.new ≡ F.held files.old }
+        ensures faults { F.faults files.old ≤ F.faults files.new }
+    {
+        let command = read_line(self.alloc, text)?;
+        self.carry_out(files, command)
     }
 
     /// What is printed of the lines that are open where the script ends. None is open afterwards.
@@ -172,11 +182,25 @@ impl<D: Device> Monitor<D> {
 
 /// A line is refused.
 fn fault_at(file: Text, line: u32, cause: ScriptCause) -> Step
-    ensures { result ≡ Step.Fault (record { file = file; line = line; cause = Cause.Script cause }) }
+    ensures { result
+        ≡ Step.Fault (record { file = file; line = line; cause = Cause.Script cause }) }
 {
     Step::Fault(ScriptFault {
         file,
         line,
         cause: Cause::Script(cause),
     })
+}
+
+/// What a step answers at a line behind which the script does not go on.
+fn stopped(file: Text, line: u32, stop: Stop) -> Step
+    ensures { result ≡ step_of (record { file = file; number = line }) stop }
+{
+    match stop {
+        Stop::Quit => Step::End,
+        Stop::Line(cause) => fault_at(file, line, cause),
+        Stop::File(fault) => Step::Fault(fault),
+        Stop::Unread => Step::Unread,
+        Stop::Memory => Step::Memory,
+    }
 }

@@ -1,4 +1,9 @@
 //! Commands that run the laboratory.
+ghost use Rattle.std.specs.Prelude.{◌≡◌, ◌≤◌, false};
+ghost use Rattle.lab_state.specs.Run.{run};
+ghost use Rattle.monitor.specs.Runs as runs;
+ghost use Rattle.monitor.specs.Inner.Ruling.{IsRuled};
+
 use crate::monitor::Monitor;
 use crate::stop::Stop;
 use dev_core::Device;
@@ -10,13 +15,24 @@ const LAST: u64 = 10_000_000_000;
 
 impl<D: Device> Monitor<D> {
     /// Sets the quantum of the runs to come.
-    pub(crate) fn quantum(&mut self, length: Micros) -> Vec<u8> {
+    pub(crate) fn quantum(&mut self, length: Micros) -> Vec<u8>
+        requires unspent { self.old.spent ≡ false }
+        requires least { 1 ≤ length.0 }
+        requires most { length.0 ≤ 1000000 }
+        ensures done { runs.quantum self.old.state length.0
+            ≡ record { text = result.items; state = self.new.state } }
+        ensures unspent { self.new.spent ≡ false }
+        ensures ended { self.new.ended ≡ self.old.ended }
+    {
         self.lab.set_quantum(length.0);
         Vec::new(self.alloc)
     }
 
     /// Runs the laboratory, and prints its log.
-    pub(crate) fn run_for(&mut self, length: Micros) -> Result<Vec<u8>, Stop> {
+    pub(crate) fn run_for(&mut self, length: Micros) -> Result<Vec<u8>, Stop>
+        requires unspent { self.old.spent ≡ false }
+        ensures { IsRuled (runs.run_for run self.old.state length.0) result self.old self.new }
+    {
         if self.lab.first_without_plan().is_some() {
             return Err(Stop::Line(ScriptCause::Platform));
         }
@@ -34,7 +50,10 @@ impl<D: Device> Monitor<D> {
     }
 
     /// Runs to the time of the setting, if that is still to come.
-    pub(crate) fn start(&mut self) -> Result<Vec<u8>, Stop> {
+    pub(crate) fn start(&mut self) -> Result<Vec<u8>, Stop>
+        requires unspent { self.old.spent ≡ false }
+        ensures { IsRuled (runs.start run self.old.state) result self.old self.new }
+    {
         let length = self.until.0.saturating_sub(self.lab.now().0);
         self.run_for(Micros(length))
     }
