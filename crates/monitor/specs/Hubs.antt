@@ -1,8 +1,9 @@
 -- Commands that make hubs, connect devices to them and show what devices send.
-use Rattle.std.specs.Prelude.{ℕ, Bool, true, false, not, is_some, List, [], ◌∷◌, ◌++◌, Option, None, Some, Result, Ok}
+use Rattle.std.specs.Prelude.{ℕ, Bool, false, not, is_some, List, [], ◌∷◌, ◌++◌, Option, None, Some, Result, Ok}
 use Rattle.lab_num.specs.Route.{is_connected}
 use Rattle.dev_core.specs.declared.kind.Kind.{Kind}
 use Rattle.dev_core.specs.declared.kind.Kind.TheVariants as kind
+use Rattle.sys_bus.specs.Limits.{is_kind}
 use Rattle.board.specs.Changes.{with_shown}
 use Rattle.lab_state.specs.Hub.{members_of}
 use Rattle.lab_state.specs.Lab.{Lab}
@@ -25,15 +26,9 @@ uart_hub s name = do
   free ← require (not (is_taken s.lab name)) cause.Taken
   Ok (leaves (record s { lab = with_uart_hub s.lab name }))
 
-abbrev pub is_same_kind : Kind → Kind → Bool
-is_same_kind kind.Uart kind.Uart = true
-is_same_kind kind.Can kind.Can = true
-is_same_kind kind.Finisher kind.Finisher = true
-is_same_kind _ _ = false
-
 -- whether both are there and the same
 abbrev pub agree : Option Kind → Option Kind → Bool
-agree (Some a) (Some b) = is_same_kind a b
+agree (Some a) (Some b) = is_kind a b
 agree _ _ = false
 
 -- connector Connect dev hub
