@@ -1,3 +1,4 @@
 pub mod Within
 pub mod Ruled
 pub mod Plans
+pub mod Steps

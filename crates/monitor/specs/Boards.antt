@@ -1,5 +1,5 @@
 -- Commands that make, select, equip and reset boards.
-use Rattle.std.specs.Prelude.{ℕ, nat_lt, not, if◌then◌else◌, List, [], ◌∷◌, ◌++◌, length, slice_index_or, codes}
+use Rattle.std.specs.Prelude.{ℕ, nat_lt, not, List, [], ◌∷◌, ◌++◌, length, slice_index_or, codes}
 use Rattle.std.specs.Prelude.{Option, None, Some, option_and_then, Result, Ok, Err}
 use Rattle.std.specs.Fmt.{decimal}
 use Rattle.std.specs.Option.{ok_or, option_or}
@@ -24,7 +24,7 @@ use Rattle.monitor.specs.declared.fault.Cause.TheVariants.{Script, Plat}
 use Rattle.monitor.specs.declared.fault.ScriptFault.{ScriptFault}
 use Rattle.monitor.specs.Answer.{Answer, Goes, Faults, Misses, Did, Done, leaves, refused}
 use Rattle.monitor.specs.Refusal.{◌>>=◌, require}
-use Rattle.monitor.specs.Selected.{bare, equipped, with_board}
+use Rattle.monitor.specs.Selected.{bare, equipped, if_board, with_board}
 use Rattle.monitor.specs.State.{State, Place}
 
 -- the name of a board that is made: without a name, `machine-` and its number
@@ -46,10 +46,6 @@ create_as s name = do
 -- mach create [name]
 abbrev pub create : State → Option (List ℕ) → Result Done ScriptCause
 create s name = create_as s (board_name s.lab name)
-
--- a number, where a board has it
-abbrev pub if_board : Lab → ℕ → Option ℕ
-if_board lab b = if nat_lt b (length lab.boards) then Some b else None
 
 -- the board of this name, and else the board of this number
 abbrev pub board_of : Lab → List ℕ → Option ℕ

@@ -1,5 +1,5 @@
 -- The selected board, and what stands on it under a name.
-use Rattle.std.specs.Prelude.{ℕ, nat_eq, Bool, false, is_none, if◌then◌else◌, List, length, drop, find, codes}
+use Rattle.std.specs.Prelude.{ℕ, nat_eq, nat_lt, option_and_then, Bool, false, is_none, if◌then◌else◌, List, length, drop, find, codes}
 use Rattle.std.specs.Prelude.{Option, None, Some, Result, Ok, Err}
 use Rattle.std.specs.List.{starts_with}
 use Rattle.std.specs.Option.{ok_or, option_map, option_map_or}
@@ -12,6 +12,7 @@ use Rattle.sys_bus.specs.declared.region.RegionKind.TheVariants.{Dev}
 use Rattle.sys_bus.specs.Name.{is_processor}
 use Rattle.board.specs.Changes.{is_shown_kind}
 use Rattle.board.specs.View.{View}
+use Rattle.lab_state.specs.Lab.{Lab}
 use Rattle.lab_state.specs.One.{changed, kind_at, view_of}
 use Rattle.resc_vars.specs.declared.cause.ScriptCause.{ScriptCause}
 use Rattle.resc_vars.specs.declared.cause.ScriptCause.TheVariants.{NoBoard, Platform, Name, Kind}
@@ -23,9 +24,13 @@ pub record Equipped : Type 0 where
   pub number : ℕ
   pub view : View
 
--- S4: there is a selected board
+-- a number, where a board has it
+abbrev pub if_board : Lab → ℕ → Option ℕ
+if_board lab b = if nat_lt b (length lab.boards) then Some b else None
+
+-- S4: the board that was selected
 abbrev pub selected : State → Result ℕ ScriptCause
-selected s = ok_or s.selected NoBoard
+selected s = ok_or (option_and_then (if_board s.lab) s.selected) NoBoard
 
 -- S4, S15: the selected board, which has no platform yet
 abbrev pub bare : State → Result ℕ ScriptCause

@@ -41,8 +41,8 @@ pub struct Monitor<D: Device> {
 }
 
 impl<D: Device> Model for Monitor<D> {
-    ghost use Rattle.std.specs.Prelude.{◌≡◌, ◌<◌, false, length};
-    ghost use Rattle.std.specs.Option.{option_map, ForSome};
+    ghost use Rattle.std.specs.Prelude.{◌≡◌, false};
+    ghost use Rattle.std.specs.Option.{option_map};
     ghost use Rattle.monitor.specs.Step.{Running};
 
     ghost Value = { Running };
@@ -60,8 +60,7 @@ impl<D: Device> Model for Monitor<D> {
       ended = m.ended;
     } };
 
-    ghost invariant = { λ m. (m.ended ≡ false → m.flow.ended ≡ false)
-        × ForSome m.selected (λ b. b.0 < length m.lab.lab.boards) };
+    ghost invariant = { λ m. m.ended ≡ false → m.flow.ended ≡ false };
 }
 
 impl<D: Device> Monitor<D> {

@@ -26,13 +26,14 @@ fn find_entry<'a>(plan: &'a BoardPlan, name: &str) -> Option<&'a Named>
 impl<D: Device> Monitor<D> {
     /// The selected board.
     fn selected(&self) -> Result<BoardNo, ScriptCause>
+        requires { self.now.spent ≡ false }
         ensures ok { IfOk result (λ b. selected.selected self.now.state ≡ Ok b.0) }
         ensures exists { IfOk result (λ b. b.0 < length self.now.state.lab.boards) }
         ensures err { IfErr result (λ cause. selected.selected self.now.state ≡ Err cause) }
     {
         match self.selected {
-            Some(b) => Ok(b),
-            None => Err(ScriptCause::NoBoard),
+            Some(b) if b.0 < self.lab.boards() => Ok(b),
+            _ => Err(ScriptCause::NoBoard),
         }
     }
 
