@@ -1,6 +1,6 @@
 //! Commands that make, select, equip and reset boards.
-ghost use Rattle.std.specs.Prelude.{◌≡◌, ◌≤◌, ◌<◌, [], length, slice_index_or, false, Err, None, IfOk, IsTrue};
-ghost use Rattle.std.specs.Option.{ForSome, option_map};
+ghost use Rattle.std.specs.Prelude.{◌≡◌, ◌≤◌, ◌<◌, [], length, slice_index_or, false, Err, None, IfOk, IfSome, IsTrue};
+ghost use Rattle.std.specs.Option.{option_map};
 ghost use Rattle.std.specs.List.{list_all};
 ghost use Rattle.board.specs.NoCans.{HasNoCans};
 ghost use Rattle.lab_io.specs.Known.{Rose};
@@ -47,7 +47,7 @@ impl<D: Device> Monitor<D> {
     /// Makes a board and selects it. Without a name it is named by its number.
     pub(crate) fn create(&mut self, name: Option<Text>) -> Result<Vec<u8>, Stop>
         requires unspent { self.old.spent ≡ false }
-        requires is_name { ForSome name (λ text. IsTrue (is_name text)) }
+        requires is_name { IfSome name (λ text. IsTrue (is_name text)) }
         ensures { IsRuled (boards.create self.old.state name) result self.old self.new }
     {
         match name {

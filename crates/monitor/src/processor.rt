@@ -1,5 +1,5 @@
 //! Commands to the processor of the selected board: each prints a value, or sets it.
-ghost use Rattle.std.specs.Prelude.{◌≡◌, ◌≤◌, false, IsSome, Some};
+ghost use Rattle.std.specs.Prelude.{◌≡◌, ◌≤◌, false, IfSome, IsSome, Some};
 ghost use Rattle.std.specs.Option.{ForSome};
 ghost use Rattle.lab_state.specs.One.{view_of};
 ghost use Rattle.monitor.specs.Processor as processor;
@@ -61,7 +61,7 @@ impl<D: Device> Monitor<D> {
     /// Prints or sets the instructions in a microsecond.
     pub(crate) fn mips(&mut self, cpu: &str, value: Option<u32>) -> Result<Vec<u8>, Stop>
         requires unspent { self.old.spent ≡ false }
-        requires within { ForSome value (λ n. (1 ≤ n) × (n ≤ 1000)) }
+        requires within { IfSome value (λ n. (1 ≤ n) × (n ≤ 1000)) }
         ensures { IsRuled (processor.mips self.old.state cpu.now value) result self.old self.new }
     {
         let b = self.processor(cpu)?;

@@ -1,6 +1,6 @@
 -- What the part of a step that carries out a command has done.
 use Rattle.std.specs.Prelude.{◌≡◌, ℕ, ◌<◌, ◌≤◌, true, false, List, [], ◌∷◌, length, Option, Some, Result, Ok, Err, Vec, String}
-use Rattle.std.specs.Prelude.{IsSome, IsSomeAnd, IsTrue, string_bytes}
+use Rattle.std.specs.Prelude.{IfSome, IsSome, IsSomeAnd, IsTrue, string_bytes}
 use Rattle.std.specs.Option.{ForSome}
 use Rattle.std.specs.Str.{is_utf8}
 use Rattle.lab_num.specs.declared.key.Member.{Member}
@@ -204,9 +204,9 @@ IsAfterLine step.Memory old new = new.ended ≡ true
 
 -- names that a script's commands give are well formed, and numbers are within their limits
 abbrev pub IsWithin : Command → Type 0
-IsWithin (command.Create name) = ForSome name (λ text. IsTrue (is_name text))
+IsWithin (command.Create name) = IfSome name (λ text. IsTrue (is_name text))
 IsWithin (command.UartHub name) = IsTrue (is_name name)
-IsWithin (command.Mips cpu value) = ForSome value (λ n. (1 ≤ n) × (n ≤ 1000))
+IsWithin (command.Mips cpu value) = IfSome value (λ n. (1 ≤ n) × (n ≤ 1000))
 IsWithin (command.Quantum length) = (1 ≤ length.0) × (length.0 ≤ 1000000)
 IsWithin _ = Unit {0}
 
