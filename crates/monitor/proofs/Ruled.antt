@@ -62,7 +62,8 @@ too_large :
 too_large place None use_ is = absurd is
 too_large place (Some bytes) use_ is = tested (nat_lt 16777216 (length bytes)) refl
   where
-    tested : (b : Bool) → nat_lt 16777216 (length bytes) ≡ b → cond b (refused place Size) (use_ bytes) ≡ refused place Size
+    tested : (b : Bool) → nat_lt 16777216 (length bytes) ≡ b →
+        cond b (refused place Size) (use_ bytes) ≡ refused place Size
     tested true over = refl
     tested false over = absurd (grind (arith, nat_tests, over, is))
 

@@ -12,13 +12,13 @@ use Rattle.resc_read.specs.declared.command.Command.TheVariants as command
 use Rattle.resc_read.specs.declared.command.LineFault.{LineFault}
 use Rattle.resc_read.specs.declared.command.LineFault.TheVariants.{Unknown, Arguments, Time}
 use Rattle.resc_read.specs.Words as of_text
-use Rattle.resc_read.specs.Arguments.{◌>>=◌, none, one, optional, two, processor, name, entry, path, variable, number, truth}
-use Rattle.resc_read.specs.Arguments.{speed, time, quantum}
+use Rattle.resc_read.specs.Arguments.{◌>>=◌, none, one, optional, two, processor, name, entry, path, variable, number}
+use Rattle.resc_read.specs.Arguments.{truth, speed, time, quantum}
 use Rattle.resc_read.specs.Line.{command_of, is_definition, line_of}
 use Rattle.resc_read.specs.Sorts.{if_name, name_of, text_of}
 use Rattle.resc_read.specs.Table.{Row, begins, by_rows, opening_len, word_at, processor_rows, word_rows, machine_rows}
-use Rattle.resc_read.specs.Table.{memory_rows, emulation_rows, by_all_rows, by_word_rows, by_machine_rows, by_memory_rows}
-use Rattle.resc_read.specs.Table.{by_emulation_rows}
+use Rattle.resc_read.specs.Table.{memory_rows, emulation_rows, by_all_rows, by_word_rows, by_machine_rows}
+use Rattle.resc_read.specs.Table.{by_memory_rows, by_emulation_rows}
 use Rattle.monitor.specs.Inner.Ruling.{IsWithin}
 
 abbrev IsGood : Result Command LineFault → Type 0
@@ -115,7 +115,8 @@ speed_is : (read : Result ℕ LineFault) (n : ℕ) →
 speed_is (Err fault) n is = cc is
 speed_is (Ok m) n is = tested (nat_le 1 m && nat_le m 1000) refl is
   where
-    tested : (b : Bool) → (nat_le 1 m && nat_le m 1000) ≡ b → cond {A = Result ℕ LineFault} b (Ok m) (Err Arguments) ≡ Ok n →
+    tested : (b : Bool) → (nat_le 1 m && nat_le m 1000) ≡ b →
+        cond {A = Result ℕ LineFault} b (Ok m) (Err Arguments) ≡ Ok n →
         (1 ≤ n) × (n ≤ 1000)
     tested true within is = grind (arith, nat_tests, within, is)
     tested false within is = cc is
@@ -134,52 +135,80 @@ quantum_is (Ok m) q is = tested (nat_le 1 m.0 && nat_le m.0 (10 ^ 6)) refl is
 emulation_good : (line : List (List ℕ)) → IsGood (by_emulation_rows line)
 unfolding by_emulation_rows
 emulation_good line =
-    good_rows emulation_rows line (Err Unknown)
-    ((λ _ line. good_one quantum command.Quantum line (λ word x is. quantum_is (time word) x is)),
-    ((λ _ line. good_one time command.RunFor line (λ word x is. tt)),
-    ((λ _ line. good_one name command.UartHub line (λ word x is. name_is (text_of word) x is)),
-    ((λ _ line. good_two entry name command.Connect line (λ x y. tt)),
-    ((λ _ line. good_none command.UsingSysbus line tt), tt)))))
+    good_rows emulation_rows line (Err Unknown) (
+      (λ _ line. good_one quantum command.Quantum line (λ word x is. quantum_is (time word) x is)),
+      (
+        (λ _ line. good_one time command.RunFor line (λ word x is. tt)),
+        (
+          (λ _ line. good_one name command.UartHub line (λ word x is. name_is (text_of word) x is)),
+          (
+            (λ _ line. good_two entry name command.Connect line (λ x y. tt)),
+            ((λ _ line. good_none command.UsingSysbus line tt), tt),
+          ),
+        ),
+      ),
+    )
     tt
 
 memory_good : (line : List (List ℕ)) → IsGood (by_memory_rows line)
 unfolding by_memory_rows
 memory_good line =
-    good_rows memory_rows line (by_emulation_rows line)
-    ((λ _ line. good_two path number command.LoadBinary line (λ x y. tt)),
-    ((λ _ line. good_one number command.ReadWord line (λ word x is. tt)),
-    ((λ _ line. good_two number number command.WriteWord line (λ x y. tt)), tt)))
+    good_rows memory_rows line (by_emulation_rows line) (
+      (λ _ line. good_two path number command.LoadBinary line (λ x y. tt)),
+      (
+        (λ _ line. good_one number command.ReadWord line (λ word x is. tt)),
+        ((λ _ line. good_two number number command.WriteWord line (λ x y. tt)), tt),
+      ),
+    )
     (emulation_good line)
 
 machine_good : (line : List (List ℕ)) → IsGood (by_machine_rows line)
 unfolding by_machine_rows
 machine_good line =
-    good_rows machine_rows line (by_memory_rows line)
-    ((λ _ line. good_optional name command.Create line tt (λ word x is. name_is (text_of word) x is)),
-    ((λ _ line. good_one name command.Select line (λ word x is. tt)),
-    ((λ _ line. good_one path command.LoadPlatform line (λ word x is. tt)),
-    ((λ _ line. good_none command.Reset line tt), tt))))
+    good_rows machine_rows line (by_memory_rows line) (
+      (λ _ line. good_optional name command.Create line tt (λ word x is. name_is (text_of word) x is)),
+      (
+        (λ _ line. good_one name command.Select line (λ word x is. tt)),
+        (
+          (λ _ line. good_one path command.LoadPlatform line (λ word x is. tt)),
+          ((λ _ line. good_none command.Reset line tt), tt),
+        ),
+      ),
+    )
     (memory_good line)
 
 word_good : (line : List (List ℕ)) → IsGood (by_word_rows line)
 unfolding by_word_rows
 word_good line =
-    good_rows word_rows line (by_machine_rows line)
-    ((λ _ line. good_one entry command.Show line (λ word x is. tt)),
-    ((λ _ line. good_one path command.Include line (λ word x is. tt)),
-    ((λ _ line. good_one variable command.RunMacro line (λ word x is. tt)),
-    ((λ _ line. good_none command.Pause line tt),
-    ((λ _ line. good_none command.Start line tt),
-    ((λ _ line. good_none command.Quit line tt), tt))))))
+    good_rows word_rows line (by_machine_rows line) (
+      (λ _ line. good_one entry command.Show line (λ word x is. tt)),
+      (
+        (λ _ line. good_one path command.Include line (λ word x is. tt)),
+        (
+          (λ _ line. good_one variable command.RunMacro line (λ word x is. tt)),
+          (
+            (λ _ line. good_none command.Pause line tt),
+            (
+              (λ _ line. good_none command.Start line tt),
+              ((λ _ line. good_none command.Quit line tt), tt),
+            ),
+          ),
+        ),
+      ),
+    )
     (machine_good line)
 
 all_good : (line : List (List ℕ)) → IsGood (by_all_rows line)
 unfolding by_all_rows
 all_good line =
-    good_rows processor_rows line (by_word_rows line)
-    ((λ cpu line. good_processor number command.Pc cpu line (λ name. tt) (λ name word x is. tt)),
-    ((λ cpu line. good_processor truth command.Halted cpu line (λ name. tt) (λ name word x is. tt)),
-    ((λ cpu line. good_processor speed command.Mips cpu line (λ name. tt) (λ name word x is. speed_is (number word) x is)), tt)))
+    good_rows processor_rows line (by_word_rows line) (
+      (λ cpu line. good_processor number command.Pc cpu line (λ name. tt) (λ name word x is. tt)),
+      (
+        (λ cpu line. good_processor truth command.Halted cpu line (λ name. tt) (λ name word x is. tt)),
+        ((λ cpu line. good_processor speed command.Mips cpu line (λ name. tt)
+        (λ name word x is. speed_is (number word) x is)), tt),
+      ),
+    )
     (word_good line)
 
 command_good : (line : List (List ℕ)) → IsGood (command_of line)

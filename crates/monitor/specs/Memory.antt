@@ -45,4 +45,5 @@ write_bytes s on at bytes = do
 -- sysbus LoadBinary @path at
 abbrev pub load_binary : Held → State → Place → List ℕ → ℕ → Did
 load_binary held s place path at =
-    reads place path (equipped s) (λ on. with_file place (get held path) (λ bytes. answer_at place (write_bytes s on at bytes)))
+    reads place path (equipped s) (λ on.
+    with_file place (get held path) (λ bytes. answer_at place (write_bytes s on at bytes)))

@@ -1,6 +1,6 @@
 -- The selected board, and what stands on it under a name.
-use Rattle.std.specs.Prelude.{ℕ, nat_eq, nat_lt, option_and_then, Bool, false, is_none, if◌then◌else◌, List, length, drop, find, codes}
-use Rattle.std.specs.Prelude.{Option, None, Some, Result, Ok, Err}
+use Rattle.std.specs.Prelude.{ℕ, nat_eq, nat_lt, Bool, false, is_none, if◌then◌else◌, List, length, drop, find, codes}
+use Rattle.std.specs.Prelude.{Option, None, Some, option_and_then, Result, Ok, Err}
 use Rattle.std.specs.List.{starts_with}
 use Rattle.std.specs.Option.{ok_or, option_map, option_map_or}
 use Rattle.std.specs.Str.{bytes_eq}

@@ -117,7 +117,8 @@ impl<D: Device> Monitor<D> {
     ) -> Result<Vec<u8>, Stop>
         requires unspent { self.old.spent ≡ false }
         ensures carried { (place : Place) → Told (F.held files.old) (λ held.
-            IsCarried (boards.load_platform held self.old.state place path.now) place result self.new.state (F.asked files.old) (F.asked files.new)) }
+            IsCarried (boards.load_platform held self.old.state place path.now) place
+            result self.new.state (F.asked files.old) (F.asked files.new)) }
         ensures leaves { Leaves result self.old self.new }
         ensures unread { result ≡ Err Stop.Unread → Rose (F.faults files.old) (F.faults files.new) }
         ensures held { F.held files.new ≡ F.held files.old }

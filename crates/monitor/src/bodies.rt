@@ -31,7 +31,8 @@ impl<D: Device> Monitor<D> {
         requires unspent { self.old.spent ≡ false }
         requires goes_on { self.old.state.flow.ended ≡ false }
         ensures carried { (place : Place) → Told (F.held files.old) (λ held.
-            IsCarried (bodies.include held self.old.state place path.now) place result self.new.state (F.asked files.old) (F.asked files.new)) }
+            IsCarried (bodies.include held self.old.state place path.now) place
+            result self.new.state (F.asked files.old) (F.asked files.new)) }
         ensures leaves { Leaves result self.old self.new }
         ensures unread { result ≡ Err Stop.Unread → Rose (F.faults files.old) (F.faults files.new) }
         ensures held { F.held files.new ≡ F.held files.old }

@@ -41,7 +41,8 @@ impl<D: Device> Monitor<D> {
         requires goes_on { self.old.state.flow.ended ≡ false }
         requires within { IsWithin command }
         ensures carried { (place : Place) → Told (F.held files.old) (λ held.
-            IsCarried (carried run held self.old.state place command) place result self.new.state (F.asked files.old) (F.asked files.new)) }
+            IsCarried (carried run held self.old.state place command) place
+            result self.new.state (F.asked files.old) (F.asked files.new)) }
         ensures leaves { Leaves result self.old self.new }
         ensures unread { result ≡ Err Stop.Unread → Rose (F.faults files.old) (F.faults files.new) }
         ensures held { F.held files.new ≡ F.held files.old }
