@@ -12,7 +12,7 @@ use lab_state::{ConnectFault, HubNameFault};
 use resc_vars::ScriptCause;
 
 /// The most hubs that a laboratory has. No memory holds as many.
-const MOST_HUBS: u32 = u32::MAX - 1;
+const MOST_HUBS: u32 = u32::MAX;
 
 impl From<HubNameFault> for Stop {
     ghost use Rattle.std.specs.Prelude.{◌≡◌};
