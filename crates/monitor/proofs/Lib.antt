@@ -1,4 +1,3 @@
 pub mod Within
 pub mod Ruled
-pub mod Plans
 pub mod Steps
