@@ -1,6 +1,7 @@
 //! The board: its slots, and what they make.
 ghost use Rattle.std.specs.Prelude.{◌≡◌, ◌≢◌, ℕ, ◌+◌, ◌/◌, ◌%◌, ◌<◌, ◌≤◌, ◌^◌, [], true, length, drop, map, All};
 ghost use Rattle.std.specs.Prelude.{slice_get, slice_index_or, option_map, OnOk, OnErr, IfOk, IfErr, IsTrue};
+ghost use Rattle.rv_hart.specs.Trap.{chosen};
 
 use crate::numbers::Numbers;
 use crate::space::Space;
@@ -64,7 +65,9 @@ impl<D: Device> Board<D> {
     ghost use Rattle.board.specs.View.{quiet, after};
     ghost use Rattle.board.specs.Inner.Fit.{IsStateOf, with_controller};
     ghost use Rattle.board.specs.Lines.{sampled, lines_of};
-    ghost use Rattle.board.specs.Slot.{slot, running, sampling, awake, asleep};
+    ghost use Rattle.board.specs.Slot.{slot, running, sampling, awake, asleep, cycle};
+    ghost use Rattle.board.specs.Inner.Remembers.{is_wired};
+    ghost use Rattle.rv_hart.specs.Trap.{interrupt};
     ghost use Rattle.page_ram.specs.Bytes.{zeros};
     ghost use Rattle.rv_hart.specs.Core.{reg};
     ghost use Rattle.board.specs.Stretch.{IsTurn};
@@ -155,11 +158,26 @@ impl<D: Device> Board<D> {
         if self.halted() {
             return Turn::Used(n);
         }
+        // two loops, so that a board without wires asks in no slot for its lines
+        if self.wires.space.is_wired() {
+            self.slots(true, at, n)
+        } else {
+            self.slots(false, at, n)
+        }
+    }
+
+    /// The next `n` slots of a board that is wired or not.
+    #[inline(always)]
+    fn slots(&mut self, wired: bool, at: SlotAt, n: u64) -> Turn
+        requires time { at.from.0 + (at.first + n) / self.old.view.numbers.speed ≤ 10000000000 }
+        requires wired { wired ≡ is_wired self.old.view.space.plan }
+        ensures { IsTurn self.old at.from.0 at.first n result self.new }
+    {
         let speed = u64::from(self.speed());
         let mut micros = at.first / speed;
         let mut within = at.first % speed;
         for i in 0..n {
-            let Ok(()) = self.slot(Micros(at.from.0 + micros)) else {
+            let Ok(()) = self.slot(wired, Micros(at.from.0 + micros)) else {
                 return Turn::Starved(i);
             };
             within += 1;
@@ -171,14 +189,21 @@ impl<D: Device> Board<D> {
         Turn::Used(n)
     }
 
-    /// One slot, in this microsecond. After an `Err` the board is as before.
+    /// One slot, in this microsecond, of a board that is wired or not. After an `Err` the board is
+    /// as before.
     #[tactic(auto, unfolding(crate::specs::Slot::slot))]
-    fn slot(&mut self, at: Micros) -> Result<(), NoMemory>
+    #[inline(always)]
+    fn slot(&mut self, wired: bool, at: Micros) -> Result<(), NoMemory>
+        requires { wired ≡ is_wired self.old.view.space.plan }
         ensures ok { OnOk result (self.new ≡ after self.old (slot self.old.view at.0)) }
         ensures err { OnErr result (self.new ≡ self.old) }
     {
         if self.hart.halted() {
             return Ok(());
+        }
+        if !wired {
+            let lines = self.wires.space.no_lines();
+            return self.run(at, lines);
         }
         match self.wires.space.settled_lines(at) {
             Some(lines) => self.run(at, lines),
@@ -229,7 +254,7 @@ impl<D: Device> Board<D> {
     }
 
     /// The rest of a slot whose lines are these. After an `Err` the board is as before.
-    #[inline]
+    #[inline(always)]
     fn run(&mut self, at: Micros, lines: Lines) -> Result<(), NoMemory>
         ensures ok { OnOk result (self.new ≡ after self.old (running self.old.view at.0 lines)) }
         ensures err { OnErr result (self.new ≡ self.old) }
@@ -243,6 +268,7 @@ impl<D: Device> Board<D> {
     /// A slot of a processor that waits: it goes on waiting, or is woken. After an `Err` the board
     /// is as before.
     #[cold]
+    #[inline(never)]
     fn wait(&mut self, at: Micros, lines: Lines) -> Result<(), NoMemory>
         requires { self.old.view.core.waiting ≡ true }
         ensures ok { OnOk result (self.new ≡ after self.old (asleep self.old.view at.0 lines)) }
@@ -263,13 +289,13 @@ impl<D: Device> Board<D> {
     /// Enters the interrupt that is taken now, or else does one instruction. After an `Err` the
     /// board is as before.
     #[tactic(auto, unfolding(crate::specs::Slot::awake))]
+    #[inline(always)]
     fn act(&mut self, at: Micros, lines: Lines) -> Result<(), NoMemory>
         ensures ok { OnOk result (self.new ≡ after self.old (awake self.old.view at.0 lines)) }
         ensures err { OnErr result (self.new ≡ self.old) }
     {
-        if let Some(n) = self.hart.pending(lines.mip) {
-            self.hart.enter_interrupt(n);
-            self.hart.tick();
+        if let Some(n) = taken(&self.hart, lines.mip) {
+            self.interrupt(n);
             return Ok(());
         }
         self.wires.begin_slot(at);
@@ -277,6 +303,16 @@ impl<D: Device> Board<D> {
             return Err(NoMemory);
         };
         Ok(())
+    }
+
+    /// A slot in which an interrupt is entered.
+    #[cold]
+    #[inline(never)]
+    fn interrupt(&mut self, n: u8)
+        ensures { self.new ≡ after self.old (cycle self.old.view (interrupt self.old.view.core n)) }
+    {
+        self.hart.enter_interrupt(n);
+        self.hart.tick();
     }
 
     /// Hands a device what another board has sent.
@@ -448,5 +484,18 @@ impl<D: Device> Board<D> {
             return None;
         }
         self.wires.space.word(at)
+    }
+}
+
+/// The interrupt that is taken now, of those whose lines are set in `mip`. In most slots none is
+/// ready, and then none is sought.
+#[inline(always)]
+fn taken(hart: &Hart, mip: u32) -> Option<u8>
+    ensures { result ≡ chosen hart.now mip }
+{
+    if hart.is_ready(mip) {
+        hart.pending(mip)
+    } else {
+        None
     }
 }

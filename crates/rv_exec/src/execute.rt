@@ -147,6 +147,7 @@ fn execute<B: Bus>(
 
 /// Fetches, decodes and does the instruction at the hart's pc, or enters the trap of its exception.
 #[tactic(auto, unfolding(crate::specs::Effect::effect, crate::specs::Effect::effect_of_fetch))]
+#[inline(always)]
 fn fetch_and_execute<B: Bus>(hart: &mut Hart, bus: &mut B, lines: Lines) -> Result<(), NoMemory>
     ensures core { let effect = effect_of_fetch hart.old (B.fetched bus.old hart.old.pc) lines in
         OnOk result (hart.new ≡ core_after B.answer bus.old effect) }
@@ -175,6 +176,7 @@ fn fetch_and_execute<B: Bus>(hart: &mut Hart, bus: &mut B, lines: Lines) -> Resu
 /// taken, and a hart that waits or is halted does the instruction too.
 ///
 /// `NoMemory` comes only where the bus refuses the load or the store of the instruction.
+#[inline(always)]
 pub fn step<B: Bus>(hart: &mut Hart, bus: &mut B, lines: Lines) -> Result<(), NoMemory>
     ensures core { let effect = effect_of_fetch hart.old (B.fetched bus.old hart.old.pc) lines in
         OnOk result (hart.new ≡ core_after B.answer bus.old effect) }

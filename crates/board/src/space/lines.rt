@@ -1,9 +1,10 @@
 //! The interrupt lines of a board: what its controller samples, and what its processor sees.
-ghost use Rattle.std.specs.Prelude.{◌≡◌, ◌<◌, ◌≤◌, ◌^◌, ◌==◌, ◌||◌, ℕ, IfSome};
+ghost use Rattle.std.specs.Prelude.{◌≡◌, ◌<◌, ◌≤◌, ◌^◌, ◌==◌, ◌||◌, ℕ, false, IfSome};
 ghost use Rattle.plic.specs.Sources.{has};
 ghost use Rattle.board.specs.Lines.{software_up, timer_up, context_up, device_up, is_up, pin_up, pending, mip_of};
 ghost use Rattle.board.specs.Lines.{mtime_of, lines_of, ends_at_pin, is_from_device, brings_source_up};
 ghost use Rattle.board.specs.Lines.{sources_up, sampled};
+ghost use Rattle.board.specs.Inner.Remembers.{is_wired};
 
 use super::Space;
 use super::interrupts::sample;
@@ -193,25 +194,44 @@ impl<D: Device> Space<D> {
         lines
     }
 
-    /// The lines, where they are known without sampling: then to sample would change nothing.
+    /// Whether there is a line that may be up.
     #[inline]
+    pub fn is_wired(&self) -> bool
+        ensures { result ≡ is_wired self.now.plan }
+    {
+        self.wired
+    }
+
+    /// The lines of a board that has none, at any time: to sample would change nothing.
+    #[inline(always)]
+    pub fn no_lines(&self) -> Lines
+        requires { is_wired self.now.plan ≡ false }
+        ensures settled { sampled self.now ≡ self.now }
+        ensures lines { (t : ℕ) → result ≡ lines_of self.now t }
+    {
+        // a plan that is asked for is the one of the parts
+        let _plan = self.plan();
+        Lines { mip: 0, mtime: 0 }
+    }
+
+    /// The lines, where they are known without sampling: then to sample would change nothing.
+    #[inline(always)]
     pub fn settled_lines(&mut self, now: Micros) -> Option<Lines>
         ensures settled { IfSome result (λ lines. sampled self.old ≡ self.old) }
         ensures lines { IfSome result (λ lines. lines ≡ lines_of self.old now.0) }
         ensures same { self.new ≡ self.old }
     {
-        if !self.wired {
-            return Some(Lines { mip: 0, mtime: 0 });
-        }
         let remembered = self.remembered?;
         if remembered.at == now {
             return Some(remembered.lines);
         }
-        self.lines_later(now)
+        // taken apart, so that no tag is tested in the same microsecond
+        Some(self.lines_later(now)?)
     }
 
     /// The same in another microsecond than that of which they were remembered: they are known
     /// where the line of the timer interrupt is as it was.
+    #[cold]
     #[inline(never)]
     fn lines_later(&mut self, now: Micros) -> Option<Lines>
         ensures settled { IfSome result (λ lines. sampled self.old ≡ self.old) }

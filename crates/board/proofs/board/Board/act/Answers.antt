@@ -12,4 +12,4 @@ returns-clause-ok g c =
     let ok = c.in-Ok.ensures {u = tt} in
     rw (← c.self.view_is)
     (awake-instruction c.self.inside.hart c.step.new.hart c.self.inside.wires c.begin_slot.new.self c.step.new.bus
-    c.args.at.0 c.args.lines (sym c.pending.ensures.value ∙ c.in_default.is) c.begin_slot.ensures ok.core ok.bus)
+    c.args.at.0 c.args.lines (sym c.taken.ensures ∙ c.in_default.is) c.begin_slot.ensures ok.core ok.bus)

@@ -1,7 +1,7 @@
 use Rattle.std.proofs.Common.{◌≡◌, ◌+◌, ◌*◌, ◌<◌}
 use Rattle.board.specs.View.{after}
 use Rattle.board.specs.Stretch.{stretch}
-use Rattle.board.proofs.board.Board.turn.Given as goal
+use Rattle.board.proofs.board.Board.slots.Given as goal
 
 -- The board is as after the slots so far, and the next one lies in this microsecond.
 abbrev pub invariant-loop-i : goal.invariant-loop-i
