@@ -1,6 +1,8 @@
 -- The frames of a CAN bus (CAN 2.0A): a data frame, or a remote frame, which asks for data and carries none.
 use Rattle.std.specs.Prelude.{◌≡◌, ℕ, ◌+◌, ◌-◌, ◌<◌, ◌≤◌, Bool, true, false, if◌then◌else◌, List, ◌++◌, length, drop}
-use Rattle.std.specs.Prelude.{replicate}
+use Rattle.std.specs.Prelude.{replicate, ◌==◌, ◌&&◌, nat_eq}
+use Rattle.std.specs.Bool.{beq}
+use Rattle.std.specs.Cmp.Lexicographic.{pointwise}
 
 -- a frame as contracts see it
 pub record FrameData : Type 0 where
@@ -36,3 +38,7 @@ remote_frame id len = record { id = id; remote = true; len = len; bytes = replic
 -- how many bytes a frame takes in the receive FIFO of the SJA1000: two for identifier, kind and length, and its data
 abbrev pub held_size : FrameData → ℕ
 held_size frame = 2 + carried frame
+
+-- whether two frames are one
+abbrev pub same_frame : FrameData → FrameData → Bool
+same_frame a b = a.id == b.id && beq a.remote b.remote && a.len == b.len && pointwise nat_eq a.bytes b.bytes

@@ -2,6 +2,8 @@
 pub mod Answered
 pub mod Bit
 pub mod Can
+pub mod CanBits
+pub mod CanFrame
 pub mod Device
 pub mod Finisher
 pub mod Frame

@@ -1,11 +1,11 @@
 //! Up to thirty-two frames in a row of fixed size.
-ghost use Rattle.std.specs.Prelude.{◌≡◌, ◌≤◌, ◌<◌, [], ◌∷◌, ◌++◌, length};
+ghost use Rattle.std.specs.Prelude.{◌≡◌, ◌≤◌, ◌<◌, [], ◌∷◌, ◌++◌, length, drop, slice_get};
 
 use crate::frame::Frame;
 use std::marker::Model;
 
 /// Up to thirty-two frames, which contracts see as their list.
-#[derive(Clone, Copy, PartialEq, Eq, Debug)]
+#[derive(Clone, Copy, Debug)]
 pub struct FrameRow {
     frames: [Frame; 32],
     count: usize,
@@ -67,4 +67,36 @@ impl FrameRow {
         self.frames[self.count] = frame;
         self.count += 1;
     }
+
+    /// Takes the first frame out, if there is one.
+    pub fn pop_first(&mut self) -> Option<Frame>
+        ensures first { result ≡ slice_get self.old 0 }
+        ensures rest { self.new ≡ drop 1 self.old }
+    {
+        let (&first, rest) = self.items().split_first()?;
+        *self = FrameRow::of(rest);
+        Some(first)
+    }
+}
+
+impl PartialEq for FrameRow {
+    ghost use Rattle.std.specs.Cmp.{partial_equiv_from_equiv};
+    ghost use Rattle.std.specs.Cmp.Lexicographic.{pointwise, lists_equiv};
+    ghost use Rattle.dev_core.specs.Frame.{same_frame};
+    ghost use Rattle.dev_core.specs.Inner.SameFrame.{same_frame_equiv};
+
+    ghost eq = { pointwise same_frame };
+
+    ghost laws = { partial_equiv_from_equiv (lists_equiv same_frame_equiv) };
+
+    fn eq(&self, other: &FrameRow) -> bool {
+        self.items() == other.items()
+    }
+}
+
+impl Eq for FrameRow {
+    ghost use Rattle.std.specs.Cmp.Lexicographic.{lists_equiv};
+    ghost use Rattle.dev_core.specs.Inner.SameFrame.{same_frame_equiv};
+
+    ghost laws = { lists_equiv same_frame_equiv };
 }

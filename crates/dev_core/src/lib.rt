@@ -2,6 +2,7 @@
 //! and the trait by which a board uses them.
 #![tactic(auto)]
 
+mod bit;
 mod byte_row;
 mod can_state;
 mod device;
@@ -14,6 +15,7 @@ mod state;
 mod stock;
 mod uart_state;
 
+pub use bit::is_set;
 pub use byte_row::ByteRow;
 pub use can_state::CanState;
 pub use device::Device;

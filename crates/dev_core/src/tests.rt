@@ -43,9 +43,14 @@ fn a_row_keeps_its_items_in_order(rt: HostRuntime) {
         assert_eq!(rt; row.pop_first(), None);
     }
     let frames = [data_frame(1, 1), data_frame(2, 0), data_frame(1, 1)];
-    let row = FrameRow::of(&frames);
+    let mut row = FrameRow::of(&frames);
     assert_eq!(rt; row.items(), frames.as_slice());
     assert!(rt; row == row && row != FrameRow::new());
+    assert!(rt; row != FrameRow::of(&[frames[0], frames[1], data_frame(1, 2)]));
+    for frame in frames {
+        assert_eq!(rt; row.pop_first(), Some(frame));
+    }
+    assert!(rt; row == FrameRow::new() && row.pop_first().is_none());
 }
 
 /// A reset UART, but for interrupt enable, modem control, FIFOs, trigger level and received bytes.
