@@ -1,0 +1,3 @@
+-- Lemmas of elf_load.
+mod PartLemmas
+mod LawLemmas
