@@ -43,8 +43,11 @@ sound_facts file header is =
     (leb-true _ _ first.0, leb-true _ _ first.1, leb-true _ _ both.1)
 
 sound_stands : (file header : List ℕ) → is_sound file header ≡ true → StandsIn file (part_of file header)
-sound_stands file header is = (take (p_offset header) file, drop (p_filesz header) (drop (p_offset header) file),
-    rw (take-append-drop (p_filesz header) (drop (p_offset header) file), take-append-drop) refl)
+sound_stands file header is = (
+  take (p_offset header) file,
+  drop (p_filesz header) (drop (p_offset header) file),
+  rw (take-append-drop (p_filesz header) (drop (p_offset header) file), take-append-drop) refl,
+)
 
 sound_ends : (file header : List ℕ) → is_sound file header ≡ true → EndsInMemory (part_of file header)
 sound_ends file header is =

@@ -15,13 +15,16 @@ use lab_num::Rows;
 use std::alloc::Global;
 
 const HEADER_SIZE: usize = 52;
+
 const PROGRAM_HEADER_SIZE: usize = 32;
 
 /// The class of files with 32-bit addresses.
 const CLASS_32: u8 = 1;
 /// The encoding of numbers with the lowest byte first.
 const LITTLE_ENDIAN: u8 = 1;
+
 const EXECUTABLE: u16 = 2;
+
 const RISC_V: u16 = 243;
 /// The type of segments that are loaded.
 const LOADED: u32 = 1;

@@ -19,6 +19,7 @@ loop-n-preserved c =
     one_more c.args.file.now c.loop-n.parts.items c.loop-n.n c.half-count.result c.program_header-header.result.now
     (Ok c.in_ok-part.field-0) (omega arith) c.program_header-header.ensures.bytes c.in_ok-part.ensures in
     elim c.match-branch-2.branch [
-      in-Some+in_ok-push w ↦
-        rw (w.parts-is, w.in_ok-push.ensures.items) (sym (rw w.in-Some.is at step) ∙ c.loop-n.invariant)
-    | in_default w ↦ rw w.parts-is (sym (rw w.in_default.is at step) ∙ c.loop-n.invariant) ]
+      | in-Some+in_ok-push w ↦
+          rw (w.parts-is, w.in_ok-push.ensures.items) (sym (rw w.in-Some.is at step) ∙ c.loop-n.invariant)
+      | in_default w ↦ rw w.parts-is (sym (rw w.in_default.is at step) ∙ c.loop-n.invariant)
+    ]
