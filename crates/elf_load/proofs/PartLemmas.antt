@@ -1,6 +1,6 @@
 -- Program headers read one by one.
-use Rattle.std.proofs.Common.{◌≡◌, ◌∷◌, ◌++◌, ◌∙◌, ◌+◌, ◌-◌, ◌<◌, ℕ, suc, List, [], map, if◌then◌else◌, Bool, true, false, not}
-use Rattle.std.proofs.Common.{Result, Ok, Err, Option, Some, None, refl, ap, sym, Vec, Global, append_assoc, append-nil, arith}
+use Rattle.std.proofs.Common.{◌≡◌, ◌∷◌, ◌∙◌, ◌+◌, ◌-◌, ◌<◌, ℕ, suc, List, map, if◌then◌else◌, Bool, true, false}
+use Rattle.std.proofs.Common.{Result, Ok, Err, Option, Some, None, refl, ap, sym, Vec, Global, append_assoc, arith}
 use Rattle.std.specs.List.{range_with_len}
 use Rattle.elf_load.specs.declared.image.ElfFault.{ElfFault}
 use Rattle.elf_load.specs.declared.image.ElfFault.TheVariants.{Short, NotElf, Class, Order, Machine, FileType, Headers}

@@ -1,5 +1,5 @@
 -- The map from addresses to bytes that the parts of an image make.
-use Rattle.std.specs.Prelude.{ℕ, ◌-◌, nat_lt, if◌then◌else◌, List, [], ◌∷◌, ◌++◌, replicate, Option, Some, None}
+use Rattle.std.specs.Prelude.{ℕ, ◌-◌, nat_lt, if◌then◌else◌, List, [], ◌∷◌, ◌++◌, replicate, Option, None}
 use Rattle.std.specs.Option.{option_or}
 use Rattle.std.specs.List.{slice_get}
 use Rattle.elf_load.specs.declared.image.Part.{Part}

@@ -56,10 +56,21 @@ fn shown(alloc: Global, image: &Image) -> Result<String, Fail> {
     Ok(text)
 }
 
+/// The fault of a file, if it has one.
+fn fault_of(alloc: Global, file: &[u8]) -> Result<Option<ElfFault>, Fail> {
+    match read_elf(alloc, file) {
+        Err(fault) if fault != ElfFault::Memory => Ok(Some(fault)),
+        answer => {
+            answer?;
+            Ok(None)
+        }
+    }
+}
+
 /// The fault of the file with other words at some places, if it has one.
 fn fault_with(alloc: Global, words: Words) -> Result<Option<ElfFault>, Fail> {
     let file = file_with(alloc, words)?;
-    Ok(read_elf(alloc, &file).err())
+    fault_of(alloc, &file)
 }
 
 #[test]
@@ -164,7 +175,7 @@ fn a_file_cut_short_is_refused_by_its_first_test(rt: HostRuntime) -> Result<(), 
             148..=163 => Some(ElfFault::Segment),
             _ => None,
         };
-        assert_eq!(rt; read_elf(rt.alloc(), &file[..n]).err(), expected);
+        assert_eq!(rt; fault_of(rt.alloc(), &file[..n])?, expected);
     }
     Ok(())
 }

@@ -1,13 +1,14 @@
-// A library with one function.
+//! Intel HEX files, read as images.
 #![tactic(auto)]
 
-ghost use Rattle.std.specs.Prelude.{◌≡◌};
-ghost use Rattle.ihex_load.specs.Echo.{echo_of};
+mod fault;
+mod laws;
+mod lines;
+mod load;
+mod record;
+#[cfg(test)]
+mod tests;
 
-// The `ensures` clause is the contract: what `echo` returns is `echo_of` of its argument, a definition
-// in `specs/Echo.antt`, which a caller's clause can cite too.
-pub fn echo(x: usize) -> usize
-    ensures { result ≡ echo_of x }
-{
-    x
-}
+pub use fault::HexFault;
+pub use laws::{addresses_wrap, lines_after_the_end_have_no_meaning};
+pub use load::read_hex;

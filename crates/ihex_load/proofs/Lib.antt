@@ -1,0 +1,4 @@
+-- Lemmas of ihex_load.
+mod LineLemmas
+mod CourseLemmas
+mod LawLemmas
