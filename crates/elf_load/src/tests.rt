@@ -1,6 +1,5 @@
 //! Files, and the images or faults that they give.
 use crate::{ElfFault, Image, read_elf};
-use byteorder::{ByteOrder, LittleEndian};
 use std::alloc::Global;
 use std::test::Fail;
 
@@ -34,14 +33,27 @@ const TRIMMED: [(usize, u32); 18] = [
     (156, 0x0C0B_0A09),
 ];
 
+/// The word at a place: that of `words`, or of `TRIMMED`.
+fn word_at(words: Words, at: usize) -> u32 {
+    let mut found = 0;
+    for (place, word) in TRIMMED {
+        if place == at {
+            found = word;
+        }
+    }
+    for (place, word) in words {
+        if place == at {
+            found = word;
+        }
+    }
+    found
+}
+
 /// The file of `TRIMMED` with other words at some places.
 fn file_with(alloc: Global, words: Words) -> Result<Vec<u8>, Fail> {
-    let mut file = vec![in alloc; 0_u8; 164]?;
-    for (at, word) in TRIMMED {
-        LittleEndian::write_u32(&mut file[at..], word);
-    }
-    for (at, word) in words {
-        LittleEndian::write_u32(&mut file[at..], word);
+    let mut file = Vec::new(alloc);
+    for i in 0..41 {
+        file.extend_from_slice(&word_at(words, 4 * i).to_le_bytes())?;
     }
     Ok(file)
 }

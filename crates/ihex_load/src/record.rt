@@ -138,6 +138,7 @@ fn read_digits(alloc: Global, digits: &[u8]) -> Result<Record, HexFault>
 }
 
 /// What a line says, or its first fault.
+#[tactic(auto, unfolding(crate::specs::Record::line_of))]
 pub(crate) fn read_line(alloc: Global, line: &[u8]) -> Result<Record, HexFault>
     ensures { Gives (λ record_. record_) (records.line_of line.now) result }
 {
