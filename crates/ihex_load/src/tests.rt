@@ -8,7 +8,7 @@ use std::test::Fail;
 fn shown(alloc: Global, image: &Image) -> Result<String, Fail> {
     let mut text = String::new(alloc);
     for part in image.parts.items() {
-        let line = format!(in alloc; "{:x}{:x?} ", part.at, part.bytes.items())?;
+        let line = format!(in alloc; "{:x}{:?} ", part.at, part.bytes.items())?;
         text.push_str(&line)?;
     }
     Ok(text)
@@ -93,7 +93,7 @@ fn records_set_bases_and_give_data(rt: HostRuntime) -> Result<(), Fail> {
         (":020000040800F2\n:0100100001EE", "0[7] 8000010[1] "),
         (":02000004FFFFFC\n:01FFFF000100", "0[7] ffffffff[1] "),
         (
-            ":02000004FFFFFC\n:03FFFF000102\u{30}3F9",
+            ":02000004FFFFFC\n:03FFFF00010203F9",
             "0[7] ffffffff[1] 0[2, 3] ",
         ),
         (":02000004FFFFFC\n:02FFFE000102FE", "0[7] fffffffe[1, 2] "),
@@ -112,17 +112,17 @@ fn records_set_bases_and_give_data(rt: HostRuntime) -> Result<(), Fail> {
         (":02001000010203EA", "Length"),
         (
             ":020010000102EB\n:020011000A0BD8",
-            "0[7] 10[1, 2] 11[a, b] ",
+            "0[7] 10[1, 2] 11[10, 11] ",
         ),
         (
             ":020011000a0bd8\n:020010000102eb",
-            "0[7] 11[a, b] 10[1, 2] ",
+            "0[7] 11[10, 11] 10[1, 2] ",
         ),
         (":00000001FF\n:02001000010203EA", "0[7] "),
         (":00000001FF\nnothing", "0[7] "),
         (
             ":020010000102EB\r\n\r\n \r\n:020011000A0BD8\r",
-            "0[7] 10[1, 2] 11[a, b] ",
+            "0[7] 10[1, 2] 11[10, 11] ",
         ),
         (":00000001FF\r\n:0G", "0[7] "),
     ] {
@@ -144,7 +144,7 @@ fn a_file_ends_by_its_record(rt: HostRuntime) -> Result<(), Fail> {
         (":00123401B9", ""),
         (
             ":0200000480007A\n:10000000B702001013031004238062006F00000089\n:00000001FF\n",
-            "80000000[b7, 2, 0, 10, 13, 3, 10, 4, 23, 80, 62, 0, 6f, 0, 0, 0] ",
+            "80000000[183, 2, 0, 16, 19, 3, 16, 4, 35, 128, 98, 0, 111, 0, 0, 0] ",
         ),
         (
             ":0200000480007A\n:10000000B702001013031004238062006F00000088\n:00000001FF\n",
