@@ -1,10 +1,10 @@
 -- A file that is read line by line.
-use Rattle.std.proofs.Common.{◌≡◌, ◌∷◌, ◌++◌, ◌∙◌, ◌+◌, ◌%◌, ℕ, List, [], map, Result, Ok, Err, refl, ap, sym, append_assoc, append-nil}
+use Rattle.std.proofs.Common.{◌≡◌, ◌∷◌, ◌+◌, ◌%◌, ℕ, List, Result, Ok, Err, refl, ap, sym, append_assoc, append-nil}
 use Rattle.elf_load.specs.declared.image.Part.{Part}
 use Rattle.ihex_load.specs.declared.fault.HexFault.{HexFault}
 use Rattle.ihex_load.specs.declared.record.Record.{Record}
 use Rattle.ihex_load.specs.declared.record.Record.TheVariants.{Nothing, Data, EndOfFile, Base}
-use Rattle.ihex_load.specs.Record.{◌>>=◌, line_of}
+use Rattle.ihex_load.specs.Record.{line_of}
 use Rattle.ihex_load.specs.Image.{records, placed, parts_of, space_size}
 use Rattle.ihex_load.specs.Inner.Course.{told_from, told_behind}
 

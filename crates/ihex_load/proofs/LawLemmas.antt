@@ -1,16 +1,14 @@
 -- Lines behind the end, and addresses that wrap.
-use Rattle.std.proofs.Common.{◌≡◌, ◌∷◌, ◌++◌, ◌∙◌, ◌+◌, ◌-◌, ◌%◌, ◌<◌, ◌≤◌, ℕ, List, [], length, Result, Ok, Err, Some, refl, ap, sym}
+use Rattle.std.proofs.Common.{◌≡◌, ◌∷◌, ◌++◌, ◌∙◌, ◌+◌, ◌-◌, ◌%◌, ◌<◌, ◌≤◌, ℕ, List, [], length, Ok, Some, refl, ap}
 use Rattle.std.proofs.Common.{slice_index, take, drop, append-nil, nat_le, nat_lt, inl, inr, ◌⊎◌, Bool, true, false, None, arith}
 use Rattle.std.proofs.Math.Nat.{mod-eq_of_lt}
 use Rattle.std.proofs.lemmas.Bool.{leb-true, leb-false, le-ltb, cases_lt}
 use Rattle.std.proofs.lemmas.List.{length-take, length-drop, get_or-take, get_or-drop}
 use Rattle.std.proofs.lemmas.Option.{slice_get-get_or, slice_get_past}
 use Rattle.elf_load.specs.Map.{byte_in, byte_at}
-use Rattle.ihex_load.specs.declared.fault.HexFault.{HexFault}
-use Rattle.ihex_load.specs.declared.record.Record.{Record}
 use Rattle.ihex_load.specs.declared.record.Record.TheVariants.{EndOfFile}
-use Rattle.ihex_load.specs.Record.{◌>>=◌, line_of}
-use Rattle.ihex_load.specs.Image.{is_end, part, records, placed, parts_of, image_of, space_size}
+use Rattle.ihex_load.specs.Record.{line_of}
+use Rattle.ihex_load.specs.Image.{part, records, placed, image_of, space_size}
 use Rattle.ihex_load.specs.Laws.{AgreeToTheEnd}
 
 ended : (before after others : List (List ℕ)) (end : List ℕ) → line_of end ≡ Ok EndOfFile →

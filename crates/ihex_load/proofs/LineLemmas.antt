@@ -1,6 +1,6 @@
 -- The first line of a text.
-use Rattle.std.proofs.Common.{◌≡◌, ◌∷◌, ◌<◌, ◌+◌, ◌==◌, ◌∙◌, ℕ, List, [], length, take, drop, Bool, true, false, Option, Some, None}
-use Rattle.std.proofs.Common.{if◌then◌else◌, nat_lt, not, arith, ◌≤◌, refl, ap, sym}
+use Rattle.std.proofs.Common.{◌≡◌, ◌∷◌, ◌<◌, ◌+◌, ◌==◌, ◌∙◌, ℕ, List, [], length, take, drop, Bool, true, false, Some, None}
+use Rattle.std.proofs.Common.{if◌then◌else◌, nat_lt, not, arith, ◌≤◌, refl, ap}
 use Rattle.std.specs.List.{All, slice_split, onto_first, position, position_or_len}
 use Rattle.std.specs.Str.Lines.{lines, lines_of_parts, strip_carriage_return}
 use Rattle.std.proofs.lemmas.Bool.{ltb-true, ltb-false, not-true}

@@ -1,5 +1,5 @@
 -- The first line, by where the first line feed stands.
-use Rattle.std.proofs.Common.{◌≡◌, ◌∙◌, ◌+◌, ◌-◌, Some, None, sym, length, drop, arith}
+use Rattle.std.proofs.Common.{◌≡◌, ◌∙◌, ◌+◌, ◌-◌, Some, sym, length, drop, arith}
 use Rattle.std.specs.List.{position}
 use Rattle.std.proofs.lemmas.List.{take_all, length-drop}
 use Rattle.ihex_load.proofs.LineLemmas.{feed, line_before, last_line}
