@@ -1,5 +1,6 @@
 -- What holds of each accepted file.
-use Rattle.std.proofs.Common.{◌≡◌, ◌∷◌, ◌++◌, ◌+◌, ◌^◌, ◌≤◌, ℕ, List, [], map, length, take, drop, Bool, ◌&&◌, true, false, not, nat_le}
+use Rattle.std.proofs.Common.{◌≡◌, ◌∷◌, ◌++◌, ◌+◌, ◌^◌, ◌≤◌, ℕ, List, [], map, length, take, drop, Bool, ◌&&◌, true}
+use Rattle.std.proofs.Common.{false, not, nat_le}
 use Rattle.std.proofs.Common.{Ok, Option, Some, None, refl, ap, sym, arith}
 use Rattle.std.specs.List.{list_any, All, AllByRecursion}
 use Rattle.std.proofs.lemmas.Bool.{and_parts, or_parts, leb-true}

@@ -3,12 +3,11 @@ use Rattle.std.proofs.Common.{◌≡◌, ◌∷◌, ◌∙◌, ◌+◌, ◌-◌,
 use Rattle.std.proofs.Common.{Result, Ok, Err, Option, Some, None, refl, ap, sym, Vec, Global, append_assoc, arith}
 use Rattle.std.specs.List.{range_with_len}
 use Rattle.elf_load.specs.declared.image.ElfFault.{ElfFault}
-use Rattle.elf_load.specs.declared.image.ElfFault.TheVariants.{Short, NotElf, Class, Order, Machine, FileType, Headers}
-use Rattle.elf_load.specs.declared.image.ElfFault.TheVariants.{Segment, Memory}
+use Rattle.elf_load.specs.declared.image.ElfFault.TheVariants.{Short, NotElf, Class, Order, Machine, FileType}
+use Rattle.elf_load.specs.declared.image.ElfFault.TheVariants.{Headers, Segment, Memory}
 use Rattle.elf_load.specs.declared.image.Part.{Part}
-use Rattle.elf_load.specs.Header.{e_entry}
 use Rattle.elf_load.specs.Segment.{program_header, is_loaded, is_sound, part_of, loaded}
-use Rattle.elf_load.specs.Image.{image_of, first_of, tests, unless, has_wrong_segment, IsReadAs}
+use Rattle.elf_load.specs.Image.{sound_image, image_of, first_of, tests, unless, has_wrong_segment, IsReadAs}
 use Rattle.elf_load.specs.Inner.Parts.{Gives, part_told, parts_told, told_from, told_behind}
 
 from_more : (n count : ℕ) → n < count → range_with_len n (count - n) ≡ n ∷ range_with_len (n + 1) (count - (n + 1))
@@ -35,14 +34,22 @@ pub part_fault :
     (meant : Result (List Part) ElfFault) → n < count → header ≡ program_header file n →
     Gives {X = Option Part} (λ part. part) (part_told file header) (Err fault) →
     told_from file parts n count ≡ meant → Gives {X = Vec Part Global} (λ parts. parts.items) meant (Err fault)
-part_fault file parts n count header Short meant more same is all = sym all ∙ one_more file parts n count _ _ more same is
-part_fault file parts n count header NotElf meant more same is all = sym all ∙ one_more file parts n count _ _ more same is
-part_fault file parts n count header Class meant more same is all = sym all ∙ one_more file parts n count _ _ more same is
-part_fault file parts n count header Order meant more same is all = sym all ∙ one_more file parts n count _ _ more same is
-part_fault file parts n count header Machine meant more same is all = sym all ∙ one_more file parts n count _ _ more same is
-part_fault file parts n count header FileType meant more same is all = sym all ∙ one_more file parts n count _ _ more same is
-part_fault file parts n count header Headers meant more same is all = sym all ∙ one_more file parts n count _ _ more same is
-part_fault file parts n count header Segment meant more same is all = sym all ∙ one_more file parts n count _ _ more same is
+part_fault file parts n count header Short meant more same is all =
+    sym all ∙ one_more file parts n count _ _ more same is
+part_fault file parts n count header NotElf meant more same is all =
+    sym all ∙ one_more file parts n count _ _ more same is
+part_fault file parts n count header Class meant more same is all =
+    sym all ∙ one_more file parts n count _ _ more same is
+part_fault file parts n count header Order meant more same is all =
+    sym all ∙ one_more file parts n count _ _ more same is
+part_fault file parts n count header Machine meant more same is all =
+    sym all ∙ one_more file parts n count _ _ more same is
+part_fault file parts n count header FileType meant more same is all =
+    sym all ∙ one_more file parts n count _ _ more same is
+part_fault file parts n count header Headers meant more same is all =
+    sym all ∙ one_more file parts n count _ _ more same is
+part_fault file parts n count header Segment meant more same is all =
+    sym all ∙ one_more file parts n count _ _ more same is
 part_fault file parts n count header Memory meant more same is all = tt
 
 segments_fault :
@@ -52,8 +59,7 @@ segments_fault :
 segments_fault file fault true is rest told =
     let refused : first_of (tests file) ≡ Some Segment = rest ∙ rw is refl in
     let same : Err Segment ≡ Err fault = rw is at told in
-    let all : image_of file ≡ Err Segment =
-    ap (λ found. unless found (record { entry = Some (e_entry file); parts = map (part_of file) (loaded file) })) refused in
+    let all : image_of file ≡ Err Segment = ap (λ found. unless found (sound_image file)) refused in
     let which : Segment ≡ fault = cc in
     all ∙ ap Err which
 segments_fault file fault false is rest told =

@@ -1,11 +1,12 @@
 -- The image of an ELF file, or its first fault.
-use Rattle.std.specs.Prelude.{◌≡◌, ℕ, ◌+◌, ◌*◌, ◌==◌, ◌&&◌, ◌||◌, not, nat_eq, nat_lt, Bool, if◌then◌else◌, List, [], ◌∷◌}
+use Rattle.std.specs.Prelude.{◌≡◌, ℕ, ◌+◌, ◌*◌, ◌==◌, ◌&&◌, ◌||◌, not, nat_eq, nat_lt, Bool, if◌then◌else◌, List}
+use Rattle.std.specs.Prelude.{[], ◌∷◌}
 use Rattle.std.specs.Prelude.{length, map, Option, Some, None, Result, Ok, Err}
 use Rattle.std.specs.List.{list_any, starts_with}
 use Rattle.elf_load.specs.declared.image.Image.{Image}
 use Rattle.elf_load.specs.declared.image.ElfFault.{ElfFault}
-use Rattle.elf_load.specs.declared.image.ElfFault.TheVariants.{Short, NotElf, Class, Order, Machine, FileType, Headers}
-use Rattle.elf_load.specs.declared.image.ElfFault.TheVariants.{Segment, Memory}
+use Rattle.elf_load.specs.declared.image.ElfFault.TheVariants.{Short, NotElf, Class, Order, Machine, FileType}
+use Rattle.elf_load.specs.declared.image.ElfFault.TheVariants.{Headers, Segment, Memory}
 use Rattle.elf_load.specs.Header.{header_size, elf_magic, e_class, elfclass32, e_data, elfdata2lsb, e_type, et_exec}
 use Rattle.elf_load.specs.Header.{e_machine, em_riscv, e_entry, e_phoff, e_phentsize, e_phnum}
 use Rattle.elf_load.specs.Segment.{program_header_size, loaded, is_sound, part_of}
@@ -44,11 +45,13 @@ abbrev pub unless : Option ElfFault → Image → Result Image ElfFault
 unless None image = Ok image
 unless (Some fault) image = Err fault
 
--- the image of a file: a part for each segment that is loaded, in the order of their headers
+-- what a file without fault gives: a part for each segment that is loaded, in the order of their headers
+abbrev pub sound_image : List ℕ → Image
+sound_image file = record { entry = Some (e_entry file); parts = map (part_of file) (loaded file) }
+
+-- the image of a file, or its first fault
 abbrev pub image_of : List ℕ → Result Image ElfFault
-image_of file =
-    unless (first_of (tests file))
-    (record { entry = Some (e_entry file); parts = map (part_of file) (loaded file) })
+image_of file = unless (first_of (tests file)) (sound_image file)
 
 -- a file is read as it is defined, unless memory was wanting
 abbrev pub IsReadAs : Result Image ElfFault → Result Image ElfFault → Type 0

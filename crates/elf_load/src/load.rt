@@ -14,19 +14,48 @@ use crate::image::{ElfFault, Image, Part};
 use lab_num::Rows;
 use std::alloc::Global;
 
+// The header of a file: its size, and the places of its fields.
 const HEADER_SIZE: usize = 52;
 
-const PROGRAM_HEADER_SIZE: usize = 32;
+const CLASS: usize = 4;
 
-/// The class of files with 32-bit addresses.
+const ORDER: usize = 5;
+
+const FILE_TYPE: usize = 16;
+
+const MACHINE: usize = 18;
+
+const ENTRY: usize = 24;
+
+const HEADERS_OFFSET: usize = 28;
+
+const HEADER_LENGTH: usize = 42;
+
+const HEADERS_COUNT: usize = 44;
+
+// A program header: its size, and the places of its fields.
+const PROGRAM_HEADER_SIZE: u16 = 32;
+
+const SEGMENT_TYPE: usize = 0;
+
+const OFFSET: usize = 4;
+
+const PHYSICAL_ADDRESS: usize = 12;
+
+const FILE_SIZE: usize = 16;
+
+const MEMORY_SIZE: usize = 20;
+
+// What the fields of an accepted file hold.
 const CLASS_32: u8 = 1;
-/// The encoding of numbers with the lowest byte first.
+
 const LITTLE_ENDIAN: u8 = 1;
 
 const EXECUTABLE: u16 = 2;
 
 const RISC_V: u16 = 243;
-/// The type of segments that are loaded.
+
+/// The type of the segments that are loaded.
 const LOADED: u32 = 1;
 
 /// Whether the program headers are of another size or pass the end of the file.
@@ -34,12 +63,13 @@ fn has_wrong_headers(file: &[u8]) -> bool
     requires { header_size ≤ length file.now }
     ensures { result ≡ images.has_wrong_headers file.now }
 {
-    let count = half(file, 44);
+    let count = half(file, HEADERS_COUNT);
     if count == 0 {
         return false;
     }
-    let end = u64::from(word(file, 28)) + u64::from(count) * 32;
-    half(file, 42) != 32 || end > file.len() as u64
+    let end = u64::from(word(file, HEADERS_OFFSET))
+        + u64::from(count) * u64::from(PROGRAM_HEADER_SIZE);
+    half(file, HEADER_LENGTH) != PROGRAM_HEADER_SIZE || end > file.len() as u64
 }
 
 /// The first fault of a file that can be seen without its segments.
@@ -54,13 +84,13 @@ fn check_header(file: &[u8]) -> Result<(), ElfFault>
         Err(ElfFault::Short)
     } else if !file.starts_with(b"\x7fELF") {
         Err(ElfFault::NotElf)
-    } else if file[4] != CLASS_32 {
+    } else if file[CLASS] != CLASS_32 {
         Err(ElfFault::Class)
-    } else if file[5] != LITTLE_ENDIAN {
+    } else if file[ORDER] != LITTLE_ENDIAN {
         Err(ElfFault::Order)
-    } else if half(file, 18) != RISC_V {
+    } else if half(file, MACHINE) != RISC_V {
         Err(ElfFault::Machine)
-    } else if half(file, 16) != EXECUTABLE {
+    } else if half(file, FILE_TYPE) != EXECUTABLE {
         Err(ElfFault::FileType)
     } else if has_wrong_headers(file) {
         Err(ElfFault::Headers)
@@ -75,10 +105,10 @@ fn is_sound(file: &[u8], header: &[u8]) -> bool
     requires { program_header_size ≤ length header.now }
     ensures { result ≡ segments.is_sound file.now header.now }
 {
-    let file_size = word(header, 16);
-    let memory_size = word(header, 20);
-    let file_end = u64::from(word(header, 4)) + u64::from(file_size);
-    let memory_end = u64::from(word(header, 12)) + u64::from(memory_size);
+    let file_size = word(header, FILE_SIZE);
+    let memory_size = word(header, MEMORY_SIZE);
+    let file_end = u64::from(word(header, OFFSET)) + u64::from(file_size);
+    let memory_end = u64::from(word(header, PHYSICAL_ADDRESS)) + u64::from(memory_size);
     file_end <= file.len() as u64 && file_size <= memory_size && memory_end <= 1 << 32
 }
 
@@ -88,13 +118,13 @@ fn segment(alloc: Global, file: &[u8], header: &[u8]) -> Result<Part, ElfFault>
     requires sound { segments.is_sound file.now header.now ≡ true }
     ensures { Gives (λ part. part) (Ok (segments.part_of file.now header.now)) result }
 {
-    let offset = word(header, 4) as usize;
-    let file_size = word(header, 16);
+    let offset = word(header, OFFSET) as usize;
+    let file_size = word(header, FILE_SIZE);
     let bytes = Vec::from_slice(alloc, &file[offset..offset + file_size as usize])?;
     Ok(Part {
-        at: word(header, 12),
+        at: word(header, PHYSICAL_ADDRESS),
         bytes: Rows::of(bytes),
-        zeros: word(header, 20) - file_size,
+        zeros: word(header, MEMORY_SIZE) - file_size,
     })
 }
 
@@ -103,7 +133,7 @@ fn part_of(alloc: Global, file: &[u8], header: &[u8]) -> Result<Option<Part>, El
     requires { program_header_size ≤ length header.now }
     ensures { Gives (λ part. part) (part_told file.now header.now) result }
 {
-    if word(header, 0) != LOADED {
+    if word(header, SEGMENT_TYPE) != LOADED {
         return Ok(None);
     }
     if !is_sound(file, header) {
@@ -120,8 +150,9 @@ fn program_header(file: &[u8], n: u16) -> &[u8]
     ensures bytes { result.now ≡ program_header file.now n }
     ensures size { length result.now ≡ program_header_size }
 {
-    let start = word(file, 28) as usize + usize::from(n) * PROGRAM_HEADER_SIZE;
-    &file[start..start + PROGRAM_HEADER_SIZE]
+    let start = word(file, HEADERS_OFFSET) as usize
+        + usize::from(n) * usize::from(PROGRAM_HEADER_SIZE);
+    &file[start..start + usize::from(PROGRAM_HEADER_SIZE)]
 }
 
 /// The parts of the segments that are loaded.
@@ -131,7 +162,7 @@ fn parts_of(alloc: Global, file: &[u8]) -> Result<Vec<Part>, ElfFault>
     ensures { Gives (λ parts. parts.items) (parts_told file.now) result }
 {
     let mut parts = Vec::new(alloc);
-    let count = half(file, 44);
+    let count = half(file, HEADERS_COUNT);
     for n in 0..count {
         let header = program_header(file, n);
         if let Some(part) = part_of(alloc, file, header)? {
@@ -153,7 +184,7 @@ pub fn read_elf(alloc: Global, file: &[u8]) -> Result<Image, ElfFault>
     check_header(file)?;
     let parts = parts_of(alloc, file)?;
     Ok(Image {
-        entry: Some(word(file, 24)),
+        entry: Some(word(file, ENTRY)),
         parts: Rows::of(parts),
     })
 }

@@ -1,6 +1,7 @@
 -- Lines behind the end, and addresses that wrap.
 use Rattle.std.proofs.Common.{◌≡◌, ◌∷◌, ◌++◌, ◌∙◌, ◌+◌, ◌-◌, ◌%◌, ◌<◌, ◌≤◌, ℕ, List, [], length, Ok, Some, refl, ap}
-use Rattle.std.proofs.Common.{slice_index, take, drop, append-nil, nat_le, nat_lt, inl, inr, ◌⊎◌, Bool, true, false, None, arith}
+use Rattle.std.proofs.Common.{slice_index, take, drop, append-nil, nat_le, nat_lt, inl, inr, ◌⊎◌, Bool, true, false}
+use Rattle.std.proofs.Common.{None, arith}
 use Rattle.std.proofs.Math.Nat.{mod-eq_of_lt}
 use Rattle.std.proofs.lemmas.Bool.{leb-true, leb-false, le-ltb, cases_lt}
 use Rattle.std.proofs.lemmas.List.{length-take, length-drop, get_or-take, get_or-drop}

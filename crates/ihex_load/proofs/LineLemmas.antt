@@ -1,5 +1,6 @@
 -- The first line of a text.
-use Rattle.std.proofs.Common.{◌≡◌, ◌∷◌, ◌<◌, ◌+◌, ◌==◌, ◌∙◌, ℕ, List, [], length, take, drop, Bool, true, false, Some, None}
+use Rattle.std.proofs.Common.{◌≡◌, ◌∷◌, ◌<◌, ◌+◌, ◌==◌, ◌∙◌, ℕ, List, [], length, take, drop, Bool, true, false}
+use Rattle.std.proofs.Common.{Some, None}
 use Rattle.std.proofs.Common.{if◌then◌else◌, nat_lt, not, arith, ◌≤◌, refl, ap}
 use Rattle.std.specs.List.{All, slice_split, onto_first, position, position_or_len}
 use Rattle.std.specs.Str.Lines.{lines, lines_of_parts, strip_carriage_return}
@@ -26,7 +27,8 @@ some_part [] = ([], [], refl)
 some_part (x ∷ text) = first_part (feed x) x (slice_split feed text)
 
 -- the line before a part that stands behind a line feed
-before_part : (line text : List ℕ) → lines_of_parts (line ∷ slice_split feed text) ≡ strip_carriage_return line ∷ lines text
+before_part : (line text : List ℕ) →
+    lines_of_parts (line ∷ slice_split feed text) ≡ strip_carriage_return line ∷ lines text
 before_part line text = let (first, others, is) = some_part text in rw is refl
 
 line_before_at : (text : List ℕ) → position_or_len feed text < length text →

@@ -1,5 +1,6 @@
 -- What a line of a file says (Intel, Hexadecimal Object File Format Specification, revision A, 1988).
-use Rattle.std.specs.Prelude.{ℕ, ◌+◌, ◌*◌, ◌%◌, ◌==◌, ◌||◌, not, nat_eq, nat_lt, Bool, true, if◌then◌else◌, List, length, take, drop}
+use Rattle.std.specs.Prelude.{ℕ, ◌+◌, ◌*◌, ◌%◌, ◌==◌, ◌||◌, not, nat_eq, nat_lt, Bool, true, if◌then◌else◌, List}
+use Rattle.std.specs.Prelude.{length, take, drop}
 use Rattle.std.specs.Prelude.{codes, slice_index, Option, Some, None, Result, Ok, Err}
 use Rattle.std.specs.List.{list_all, starts_with, sum}
 use Rattle.std.specs.Str.{byte}

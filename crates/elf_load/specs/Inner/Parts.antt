@@ -1,5 +1,6 @@
 -- The parts of a file as they are read one by one.
-use Rattle.std.specs.Prelude.{◌≡◌, ℕ, ◌+◌, ◌-◌, ◌++◌, ◌∷◌, [], not, if◌then◌else◌, List, map, Option, Some, None, Result, Ok, Err}
+use Rattle.std.specs.Prelude.{◌≡◌, ℕ, ◌+◌, ◌-◌, ◌++◌, ◌∷◌, [], not, if◌then◌else◌, List, map, Option, Some, None}
+use Rattle.std.specs.Prelude.{Result, Ok, Err}
 use Rattle.std.specs.List.{filter, list_any, range_with_len}
 use Rattle.elf_load.specs.declared.image.ElfFault.{ElfFault}
 use Rattle.elf_load.specs.declared.image.ElfFault.TheVariants.{Segment, Memory}
@@ -16,7 +17,9 @@ Gives view meant (Err fault) = meant ≡ Err fault
 -- the part of one header, if its segment is loaded
 abbrev pub part_told : List ℕ → List ℕ → Result (Option Part) ElfFault
 part_told file header =
-    if is_loaded header then (if is_sound file header then Ok (Some (part_of file header)) else Err Segment) else Ok None
+    if not (is_loaded header) then Ok None
+    else if not (is_sound file header) then Err Segment
+    else Ok (Some (part_of file header))
 
 -- the parts of all headers, where each segment is sound
 abbrev pub parts_told : List ℕ → Result (List Part) ElfFault
