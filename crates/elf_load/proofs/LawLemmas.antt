@@ -27,6 +27,7 @@ not_refused (Some fault) given image is = absurd (cc)
 -- an accepted file has sound segments, which are its parts
 accepted : (file : List ℕ) (image : Image) → image_of file ≡ Ok image →
     (has_wrong_segment file ≡ false) × (map (part_of file) (loaded file) ≡ image.parts)
+unfolding image_of
 accepted file image is =
     let both = not_refused _ _ image is in
     let none = all_false (tests file) both.0 in

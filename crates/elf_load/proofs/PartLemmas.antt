@@ -56,6 +56,7 @@ segments_fault :
     (file : List ℕ) (fault : ElfFault) (wrong : Bool) → has_wrong_segment file ≡ wrong →
     first_of (tests file) ≡ (if has_wrong_segment file then Some Segment else None) →
     parts_told file ≡ Err fault → image_of file ≡ Err fault
+unfolding image_of
 segments_fault file fault true is rest told =
     let refused : first_of (tests file) ≡ Some Segment = rest ∙ rw is refl in
     let same : Err Segment ≡ Err fault = rw is at told in

@@ -1,5 +1,5 @@
 -- The header of an ELF file (System V ABI, chapter 4, "ELF Header"): what is read of Elf32_Ehdr.
-use Rattle.std.specs.Prelude.{ℕ, List, [], ◌∷◌, take, slice_index}
+use Rattle.std.specs.Prelude.{ℕ, List, [], ◌∷◌, slice_index}
 use Rattle.elf_load.specs.Fields.{half, word}
 
 -- the bytes of a header
@@ -7,9 +7,6 @@ abbrev pub header_size : ℕ
 header_size = 52
 
 -- e_ident: the magic number
-abbrev pub e_magic : List ℕ → List ℕ
-e_magic file = take 4 file
-
 abbrev pub elf_magic : List ℕ
 elf_magic = 0x7F ∷ 0x45 ∷ 0x4C ∷ 0x46 ∷ []
 

@@ -50,7 +50,7 @@ abbrev pub sound_image : List ℕ → Image
 sound_image file = record { entry = Some (e_entry file); parts = map (part_of file) (loaded file) }
 
 -- the image of a file, or its first fault
-abbrev pub image_of : List ℕ → Result Image ElfFault
+unfoldable pub image_of : List ℕ → Result Image ElfFault
 image_of file = unless (first_of (tests file)) (sound_image file)
 
 -- a file is read as it is defined, unless memory was wanting

@@ -178,6 +178,7 @@ fn parts_of(alloc: Global, file: &[u8]) -> Result<Vec<Part>, ElfFault>
 /// headers, sections and other fields have no meaning.
 ///
 /// Each fault other than `Memory` is the first that the file has, in the order of `ElfFault`.
+#[tactic(auto, unfolding(crate::specs::Image::image_of))]
 pub fn read_elf(alloc: Global, file: &[u8]) -> Result<Image, ElfFault>
     ensures read { IsReadAs (image_of file.now) result }
 {

@@ -18,6 +18,7 @@ ended [] after others end is = rw is refl
 ended (line ∷ before) after others end is = rw (ended before after others end is) refl
 
 pub same_image : (file other : List ℕ) → AgreeToTheEnd file other → image_of file ≡ image_of other
+unfolding image_of
 same_image file other (before, end, after, others, is, lines_file, lines_other) =
     rw (lines_file, lines_other, ended before after others end is) refl
 

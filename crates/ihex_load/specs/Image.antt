@@ -45,7 +45,7 @@ parts_of base (Base address ∷ later) = parts_of address later
 parts_of base (other ∷ later) = parts_of base later
 
 -- the image of a file, which has no entry
-abbrev pub image_of : List ℕ → Result Image HexFault
+unfoldable pub image_of : List ℕ → Result Image HexFault
 image_of file = do
   all ← records (lines file)
   Ok (record { entry = None; parts = parts_of 0 all })

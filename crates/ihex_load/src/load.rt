@@ -74,6 +74,7 @@ fn parts_of(alloc: Global, file: &[u8]) -> Result<Vec<Part>, HexFault>
 ///
 /// Each fault other than `Memory` is that of the first line that has one; `NoEnd` is told where no
 /// line has one and none is of type 01.
+#[tactic(auto, unfolding(crate::specs::Image::image_of))]
 pub fn read_hex(alloc: Global, file: &[u8]) -> Result<Image, HexFault>
     ensures read { IsReadAs (image_of file.now) result }
 {
