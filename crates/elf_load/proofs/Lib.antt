@@ -1,3 +1,4 @@
 -- Lemmas of elf_load.
 mod PartLemmas
 mod LawLemmas
+mod Examples

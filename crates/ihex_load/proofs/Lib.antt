@@ -2,3 +2,4 @@
 mod LineLemmas
 mod CourseLemmas
 mod LawLemmas
+mod Examples
