@@ -1,0 +1,4 @@
+-- Lemmas of elf_load.
+mod PartLemmas
+mod LawLemmas
+mod Examples

@@ -1,0 +1,3 @@
+-- What serves private contracts and proofs alone.
+pub mod Gives
+pub mod Course
