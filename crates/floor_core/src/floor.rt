@@ -33,7 +33,8 @@ impl<J: Job> Floor<J> {
     /// The floor as a round begins: each board is at home and has used nothing.
     pub fn begin(alloc: Global, jobs: Vec<J>) -> Result<Floor<J>, NoMemory>
         requires { length jobs.items ≤ 16 }
-        ensures { IfOk result (λ floor. floor ≡ begun (map J.meaning jobs.items)) }
+        ensures floor { IfOk result (λ floor. floor ≡ begun (map J.meaning jobs.items)) }
+        ensures boards { IfOk result (λ floor. length floor.boards ≡ length jobs.items) }
     {
         let mut desks = Vec::with_capacity(alloc, jobs.len())?;
         for job in jobs {
@@ -114,7 +115,8 @@ impl<J: Job> Floor<J> {
     /// The worker takes the board for a turn of so many slots.
     fn claim(&mut self, worker: u8, board: BoardNo, slots: u64) -> Result<(), NoMemory>
         requires { IsSomeAnd (slice_get self.old.boards board.0) (MayClaim slots) }
-        ensures { OnOk result (self.new ≡ happened J.state_after self.old (Event.Claim worker board slots)) }
+        ensures claimed { OnOk result (self.new ≡ happened J.state_after self.old (Event.Claim worker board slots)) }
+        ensures boards { length self.new.boards ≡ length self.old.boards }
     {
         self.desks[usize::from(board.0)].claim(worker, slots)
     }
@@ -122,7 +124,8 @@ impl<J: Job> Floor<J> {
     /// The worker sends the board's oldest unsent post.
     fn post(&mut self, worker: u8, board: BoardNo) -> Result<(), NoMemory>
         requires { IsSomeAnd (slice_get self.old.boards board.0) (MayPost worker) }
-        ensures { OnOk result (self.new ≡ happened J.state_after self.old (Event.Post worker board)) }
+        ensures posted { OnOk result (self.new ≡ happened J.state_after self.old (Event.Post worker board)) }
+        ensures boards { length self.new.boards ≡ length self.old.boards }
     {
         let desk = &mut self.desks[usize::from(board.0)];
         match desk.next_post() {
@@ -138,7 +141,8 @@ impl<J: Job> Floor<J> {
     /// The worker brings the board home.
     fn report(&mut self, worker: u8, board: BoardNo)
         requires { IsSomeAnd (slice_get self.old.boards board.0) (MayReport worker) }
-        ensures { self.new ≡ happened J.state_after self.old (Event.Report worker board) }
+        ensures reported { self.new ≡ happened J.state_after self.old (Event.Report worker board) }
+        ensures boards { length self.new.boards ≡ length self.old.boards }
     {
         self.desks[usize::from(board.0)].report();
     }
@@ -146,7 +150,8 @@ impl<J: Job> Floor<J> {
     /// Lets the event happen.
     fn happen(&mut self, e: &Event) -> Result<(), NoMemory>
         requires { IsLegal self.old e.now }
-        ensures { OnOk result (self.new ≡ happened J.state_after self.old e.now) }
+        ensures happened { OnOk result (self.new ≡ happened J.state_after self.old e.now) }
+        ensures boards { length self.new.boards ≡ length self.old.boards }
     {
         match *e {
             Event::Claim {
@@ -169,7 +174,8 @@ impl<J: Job> Floor<J> {
     /// Lets the events happen in their order, up to the first that is not legal, or up to one at
     /// which memory runs out: the floor is ended then, and nothing more is said of it.
     pub fn run_events(&mut self, events: &[Event]) -> Ran
-        ensures { ComesTo J.state_after self.old events.now result self.new }
+        ensures ran { ComesTo J.state_after self.old events.now result self.new }
+        ensures boards { length self.new.boards ≡ length self.old.boards }
     {
         for (i, event) in events.iter().enumerate() {
             if !self.legal(event) {

@@ -12,3 +12,8 @@ pub use event::{Event, Mailed, Ran};
 pub use floor::Floor;
 pub use job::{Job, Turn};
 pub use laws::floor_laws;
+
+#[cfg(test)]
+mod tests;
+#[cfg(test)]
+mod toy;

@@ -4,8 +4,8 @@ use Rattle.floor_core.specs.Events.{MayClaim, claimed}
 use Rattle.floor_core.proofs.BoardLemmas.{placed, within}
 use Rattle.floor_core.proofs.floor.Floor.claim.Goals as goal
 
-pub returns : goal.returns
-returns g c =
+pub returns-clause-claimed : goal.returns-clause-claimed
+returns-clause-claimed g c =
     rw (← c.self.view_is)
     (on_ok_weaker c.claim.result
     (λ is. let boards =

@@ -3,8 +3,8 @@ use Rattle.floor_core.specs.Events.{MayReport, at_home}
 use Rattle.floor_core.proofs.BoardLemmas.{placed, within}
 use Rattle.floor_core.proofs.floor.Floor.report.Goals as goal
 
-pub returns : goal.returns
-returns g c =
+pub returns-clause-reported : goal.returns-clause-reported
+returns-clause-reported g c =
     rw (← c.self.view_is)
     (let boards =
     placed at_home c.self.inside.desks.items c.self.inside.desks.items
