@@ -1,7 +1,7 @@
 -- One item of a list, by its place.
-use Rattle.std.proofs.Common.{◌≡◌, ◌≢◌, ◌⊎◌, ◌↔◌, ℕ, zero, suc, ◌<◌, ◌+◌, List, [], ◌∷◌, ◌++◌, length, get_or, drop, take}
-use Rattle.std.proofs.Common.{refl, sym, ◌∙◌, ap, subst, inl, inr, arith, Option, Some, None, IsSomeAnd, slice_get, slice_set, set}
-use Rattle.std.proofs.lemmas.Option.{slice_get_read, slice_get_within}
+use Rattle.std.proofs.Common.{◌≡◌, ◌≢◌, ◌⊎◌, ◌↔◌, ℕ, zero, suc, ◌<◌, List, [], ◌∷◌, length, get_or, drop}
+use Rattle.std.proofs.Common.{refl, sym, ◌∙◌, ap, subst, inl, inr, arith, Option, Some, None, IsSomeAnd, slice_get, set}
+use Rattle.std.proofs.lemmas.Option.{slice_get_read}
 use Rattle.floor_core.specs.Events.{changed}
 
 -- what is said of an item that may be there is said of the item that was read
@@ -84,4 +84,3 @@ first_none (x ∷ xs) is = absurd (cc)
 pub first_some : {A : Type 0} (xs : List A) (x : A) → slice_get xs 0 ≡ Some x → xs ≢ []
 first_some [] x is = absurd (cc)
 first_some (y ∷ xs) x is = λ h. cc
-

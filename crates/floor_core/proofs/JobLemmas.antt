@@ -1,10 +1,10 @@
 -- Turns of a job, one after another.
-use Rattle.std.proofs.Common.{◌≡◌, ◌∙◌, ℕ, ◌+◌, ◌≤◌, List, [], ◌∷◌, ◌++◌, length, take, drop, refl, sym, ap, arith, Option}
-use Rattle.std.proofs.Common.{append_assoc, length-drop, drop-drop, take-add, slice_get, Some}
+use Rattle.std.proofs.Common.{◌≡◌, ◌∙◌, ℕ, ◌+◌, ◌≤◌, List, [], ◌∷◌, ◌++◌, length, take, drop, sym, ap, arith, Option}
+use Rattle.std.proofs.Common.{append_assoc, length-drop, drop-drop, take-add}
 use Rattle.std.proofs.lemmas.List.Elements.{filter_map-append}
 use Rattle.dev_core.specs.declared.post.Post.{Post}
-use Rattle.floor_core.specs.Job.{Job, left, posts, made, aside, after, Adds}
-use Rattle.floor_core.specs.Floor.{Board, fresh}
+use Rattle.floor_core.specs.Job.{Job, left, posts, made, Adds}
+use Rattle.floor_core.specs.Floor.{Board}
 use Rattle.floor_core.specs.Events.{claimed, relieved, at_home}
 use Rattle.floor_core.specs.Sound.{IsSound}
 

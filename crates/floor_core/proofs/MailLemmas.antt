@@ -1,6 +1,6 @@
 -- The mail of two orders of events has one listing.
-use Rattle.std.proofs.Common.{◌≡◌, ◌≢◌, ◌⊎◌, ◌∙◌, ℕ, zero, suc, ◌+◌, ◌<◌, ◌≤◌, List, [], ◌∷◌, ◌++◌, length, map, inl, inr}
-use Rattle.std.proofs.Common.{refl, sym, ap, subst, arith, Bool, true, false, ◌==◌, cond, All, Option, Some, slice_get, eqb, eq-eqb, ne_eqb}
+use Rattle.std.proofs.Common.{◌≡◌, ◌≢◌, ◌∙◌, ℕ, zero, suc, ◌+◌, ◌<◌, ◌≤◌, List, [], ◌∷◌, ◌++◌, length, map, inl, inr}
+use Rattle.std.proofs.Common.{refl, sym, ap, subst, arith, Bool, true, false, cond, All, Option, Some, slice_get, eq-eqb, ne_eqb}
 use Rattle.std.proofs.Common.{Ordering, Less, Equal, Greater, nat_cmp, is_eq, nat_lt}
 use Rattle.std.specs.Ordering.{ordering_then, eq_by_cmp}
 use Rattle.std.specs.List.{IsDistinct, AllByRecursion}
@@ -19,7 +19,7 @@ use Rattle.dev_core.specs.declared.post.Post.{Post}
 use Rattle.dev_core.specs.Post.{post_key}
 use Rattle.floor_core.specs.declared.event.Mailed.{Mailed}
 use Rattle.floor_core.specs.Floor.{Floor, posted_by}
-use Rattle.floor_core.specs.Job.{Job, left, made}
+use Rattle.floor_core.specs.Job.{Job}
 use Rattle.floor_core.specs.Result.{IsOver, IsNumbered, AreNumbered, mailed}
 
 -- ---- the mail is what the boards posted, in another order
@@ -49,20 +49,20 @@ unfolding gathered
 gathered_step zero m ms below = absurd (omega arith)
 gathered_step (suc n) m ms below =
     elim (cases_eq m.by.0 n) [
-      inl is ↦
-        let here = posted_here n m ms is in
-        let past = gathered_past n m ms (omega arith) in
-        let moved =
-        IsPermutation-sym (gathered n ms ++ m.post ∷ posted_by n ms) (m.post ∷ (gathered n ms ++ posted_by n ms))
-        (IsPermutation-middle (gathered n ms) m.post (posted_by n ms)) in
-        subst (λ (l : List Post). IsPermutation (m.post ∷ (gathered n ms ++ posted_by n ms)) l)
-        (λ k. sym past k ++ sym here k) moved
-    | inr apart ↦
-        let rest = posted_there n m ms apart in
-        let step = gathered_step n m ms (omega arith) in
-        subst (λ (l : List Post). IsPermutation (m.post ∷ (gathered n ms ++ posted_by n ms)) (gathered n (m ∷ ms) ++ l))
-        (sym rest)
-        (IsPermutation-append_left (posted_by n ms) (m.post ∷ gathered n ms) (gathered n (m ∷ ms)) step)
+      | inl is ↦
+          let here = posted_here n m ms is in
+          let past = gathered_past n m ms (omega arith) in
+          let moved =
+          IsPermutation-sym (gathered n ms ++ m.post ∷ posted_by n ms) (m.post ∷ (gathered n ms ++ posted_by n ms))
+          (IsPermutation-middle (gathered n ms) m.post (posted_by n ms)) in
+          subst (λ (l : List Post). IsPermutation (m.post ∷ (gathered n ms ++ posted_by n ms)) l)
+          (λ k. sym past k ++ sym here k) moved
+      | inr apart ↦
+          let rest = posted_there n m ms apart in
+          let step = gathered_step n m ms (omega arith) in
+          subst (λ (l : List Post). IsPermutation (m.post ∷ (gathered n ms ++ posted_by n ms)) (gathered n (m ∷ ms) ++ l))
+          (sym rest)
+          (IsPermutation-append_left (posted_by n ms) (m.post ∷ gathered n ms) (gathered n (m ∷ ms)) step)
     ]
 
 gathered_none : (n : ℕ) → gathered n [] ≡ []
@@ -164,8 +164,8 @@ unfolding IsDistinct
 differ_append n [] ys below here first second = second
 differ_append n (x ∷ xs) ys below here first second = (
   subst (λ (l : List Key). AllByRecursion (λ y. eq_by_cmp key_cmp x.key y ≡ false) l) (sym (map-append post_key xs ys))
-  (all_append (λ y. eq_by_cmp key_cmp x.key y ≡ false) (map post_key xs) (map post_key ys) first.0
-  (below_board n x.key ys below.0 here)),
+      (all_append (λ y. eq_by_cmp key_cmp x.key y ≡ false) (map post_key xs) (map post_key ys) first.0
+      (below_board n x.key ys below.0 here)),
   differ_append n xs ys below.1 here first.1 second,
 )
 

@@ -1,18 +1,15 @@
 -- What holds of a floor after any legal events, and after those that end the round.
-use Rattle.std.proofs.Common.{◌≡◌, ◌≢◌, ◌⊎◌, ◌∙◌, ℕ, zero, suc, ◌+◌, ◌<◌, ◌≤◌, List, [], ◌∷◌, ◌++◌, length, map, take, drop}
-use Rattle.std.proofs.Common.{refl, sym, ap, subst, arith, true, false, All, Option, Some, None, get_or, slice_get, append-nil, IsSomeAnd}
-use Rattle.std.proofs.Common.{take_all, drop_of_length-le}
-use Rattle.std.proofs.lemmas.List.Elements.{All-nil, All-push, All-append, All-get_or, All-head, All-tail}
-use Rattle.std.proofs.lemmas.Option.{slice_get-get_or, slice_get_within}
-use Rattle.lab_num.specs.declared.number.BoardNo.{BoardNo}
+use Rattle.std.proofs.Common.{◌≡◌, ◌∙◌, ℕ, zero, suc, ◌+◌, ◌<◌, ◌≤◌, List, [], ◌∷◌, ◌++◌, length, map}
+use Rattle.std.proofs.Common.{refl, sym, ap, subst, arith, true, false, All, Option, Some, slice_get, append-nil}
+use Rattle.std.proofs.lemmas.List.Elements.{All-nil, All-push, All-head, All-tail}
 use Rattle.dev_core.specs.declared.post.Post as post
 use Rattle.floor_core.specs.declared.event.Event.{Event}
 use Rattle.floor_core.specs.declared.event.Event.TheVariants.{Claim, Post, Report, Close}
 use Rattle.floor_core.specs.declared.event.Mailed.{Mailed}
-use Rattle.floor_core.specs.Events.{IsLegal, MayPost, IsDone, changed, oldest, happened}
+use Rattle.floor_core.specs.Events.{IsLegal, MayPost, IsDone, happened}
 use Rattle.floor_core.specs.Floor.{Board, Floor, begun, posted_by}
-use Rattle.floor_core.specs.Job.{Job, left, posts, made, aside, after, Adds, Rests}
-use Rattle.floor_core.specs.Result.{IsOver, finished, jobs}
+use Rattle.floor_core.specs.Job.{Job, left, made, aside, after, Adds, Rests}
+use Rattle.floor_core.specs.Result.{IsOver, finished}
 use Rattle.floor_core.specs.Run.{IsRun}
 use Rattle.floor_core.specs.Sound.{IsSound, Sound}
 use Rattle.floor_core.proofs.BoardLemmas.{some_and, first_of, within}
@@ -127,7 +124,7 @@ module _ {S : Type 0} (state_after : S → List (Option post.Post) → ℕ → S
       let job : b.job ≡ aside b.job = λ k. record { state = b.job.state; coming = b.job.coming; unsent = is.2 k } in (
         job ∙ (s.job ∙ ap (λ (n : ℕ). aside (after state_after start n)) all),
         sym (append-nil mailed) ∙
-        (ap (λ (l : List post.Post). mailed ++ l) (sym is.2) ∙ (s.posts ∙ ap (λ (n : ℕ). made start n) all)),
+            (ap (λ (l : List post.Post). mailed ++ l) (sym is.2) ∙ (s.posts ∙ ap (λ (n : ℕ). made start n) all)),
       )
 
   there_too : {A B : Type 0} (xs : List A) (ys : List B) (i : ℕ) (y : B) →

@@ -1,19 +1,18 @@
 -- A floor is sound at every moment.
-use Rattle.std.proofs.Common.{◌≡◌, ◌≢◌, ◌⊎◌, ◌∙◌, ℕ, suc, ◌+◌, ◌<◌, ◌≤◌, List, [], ◌∷◌, ◌++◌, length, map, filter, take, drop}
-use Rattle.std.proofs.Common.{refl, sym, ap, subst, inl, inr, arith, cond, true, false, ◌==◌, All, Option, Some, None}
-use Rattle.std.proofs.Common.{slice_get, option_map, option_and_then, option_to_list, IsSomeAnd, append-nil, append_assoc, eq-eqb, ne_eqb}
+use Rattle.std.proofs.Common.{◌≡◌, ◌≢◌, ◌∙◌, ℕ, ◌≤◌, List, [], ◌∷◌, ◌++◌, length, map, filter, drop}
+use Rattle.std.proofs.Common.{refl, sym, ap, subst, inl, inr, arith, ◌==◌, Option, Some}
+use Rattle.std.proofs.Common.{slice_get, option_map, option_and_then, option_to_list, append-nil, eq-eqb, ne_eqb}
 use Rattle.std.proofs.lemmas.List.{map-append, length-map}
-use Rattle.std.proofs.lemmas.List.Elements.{filter-append, All-nil, All-push, All-append}
-use Rattle.std.proofs.lemmas.Option.{slice_get-map, slice_get_within}
+use Rattle.std.proofs.lemmas.List.Elements.{filter-append}
+use Rattle.std.proofs.lemmas.Option.{slice_get-map}
 use Rattle.lab_num.specs.declared.number.BoardNo.{BoardNo}
 use Rattle.dev_core.specs.declared.post.Post as post
 use Rattle.floor_core.specs.declared.event.Event.{Event}
 use Rattle.floor_core.specs.declared.event.Event.TheVariants.{Claim, Post, Report, Close}
 use Rattle.floor_core.specs.declared.event.Mailed.{Mailed}
-use Rattle.floor_core.specs.Events.{IsLegal, MayClaim, MayPost, MayReport, IsDone, changed, claimed, relieved, at_home, oldest, happened}
+use Rattle.floor_core.specs.Events.{IsLegal, MayClaim, MayPost, changed, claimed, relieved, at_home, oldest, happened}
 use Rattle.floor_core.specs.Floor.{Board, Floor, fresh, begun, posted_by}
-use Rattle.floor_core.specs.Job.{Job, left, posts, made, aside, after, Adds, Rests}
-use Rattle.floor_core.specs.Run.{IsRun}
+use Rattle.floor_core.specs.Job.{Job, left, Adds, Rests}
 use Rattle.floor_core.specs.Sound.{IsSound, Sound}
 use Rattle.floor_core.proofs.BoardLemmas.{some_and, changed_get, length-changed, first_of}
 use Rattle.floor_core.proofs.JobLemmas.{sound_claimed, sound_relieved, sound_at_home}
@@ -70,15 +69,15 @@ module _ {S : Type 0} (state_after : S → List (Option post.Post) → ℕ → S
     boards = ap (λ (l : List (Board S)). length l) boards ∙ (length-changed step f.boards k ∙ s.boards);
     each = λ i start b is there.
         elim (changed_get step f.boards k i b (ap (λ (l : List (Board S)). slice_get l i) (sym boards) ∙ there)) [
-          inl h ↦
-            let old : slice_get f.boards k ≡ Some h.1 = ap (λ (j : ℕ). slice_get f.boards j) (sym h.0) ∙ h.2 in
-            let mine : slice_get starts k ≡ Some start = ap (λ (j : ℕ). slice_get starts j) (sym h.0) ∙ is in
-            let after_it : IsSound state_after start (step h.1) (posted_by k g.mail) =
-            this start h.1 old (s.each k start h.1 mine old) in
-            subst (λ (j : ℕ). IsSound state_after start b (posted_by j g.mail)) (sym h.0)
-            (subst (λ (c : Board S). IsSound state_after start c (posted_by k g.mail)) (sym h.3) after_it)
-        | inr h ↦
-            subst (λ (l : List post.Post). IsSound state_after start b l) (sym (others i h.0)) (s.each i start b is h.1)
+          | inl h ↦
+              let old : slice_get f.boards k ≡ Some h.1 = ap (λ (j : ℕ). slice_get f.boards j) (sym h.0) ∙ h.2 in
+              let mine : slice_get starts k ≡ Some start = ap (λ (j : ℕ). slice_get starts j) (sym h.0) ∙ is in
+              let after_it : IsSound state_after start (step h.1) (posted_by k g.mail) =
+              this start h.1 old (s.each k start h.1 mine old) in
+              subst (λ (j : ℕ). IsSound state_after start b (posted_by j g.mail)) (sym h.0)
+              (subst (λ (c : Board S). IsSound state_after start c (posted_by k g.mail)) (sym h.3) after_it)
+          | inr h ↦
+              subst (λ (l : List post.Post). IsSound state_after start b l) (sym (others i h.0)) (s.each i start b is h.1)
         ];
   }
 

@@ -7,7 +7,7 @@ use Rattle.floor_core.specs.declared.event.Event.{Event}
 use Rattle.floor_core.specs.declared.event.Event.TheVariants.{Claim, Post, Report, Close}
 use Rattle.floor_core.specs.declared.event.Mailed.{Mailed}
 use Rattle.floor_core.specs.Floor.{Board, Floor}
-use Rattle.floor_core.specs.Job.{Job, left, after}
+use Rattle.floor_core.specs.Job.{left, after}
 
 -- what an event asks of its board
 abbrev pub MayClaim : {S : Type 0} → ℕ → Board S → Type 0

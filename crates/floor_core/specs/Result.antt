@@ -1,7 +1,7 @@
 -- What a round comes to, whatever the order of its events.
 use Rattle.std.specs.Prelude.{◌≡◌, ℕ, ◌+◌, List, [], ◌∷◌, map, Option, Some, slice_get}
 use Rattle.dev_core.specs.declared.post.Post.{Post}
-use Rattle.floor_core.specs.Floor.{Board, Floor, posted_by}
+use Rattle.floor_core.specs.Floor.{Floor, posted_by}
 use Rattle.floor_core.specs.Job.{Job, left, made, aside, after}
 
 -- the jobs of a floor, by number

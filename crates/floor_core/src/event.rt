@@ -12,9 +12,15 @@ pub enum Event {
         slots: u64,
     },
     /// The worker that has the board puts the board's oldest unsent post into the mail.
-    Post { worker: u8, board: BoardNo },
+    Post {
+        worker: u8,
+        board: BoardNo,
+    },
     /// The worker that has the board, all of whose posts are sent, brings it home.
-    Report { worker: u8, board: BoardNo },
+    Report {
+        worker: u8,
+        board: BoardNo,
+    },
     /// All boards are at home, paid up and without unsent posts, and the round ends.
     Close,
 }

@@ -1,5 +1,5 @@
 //! A job of the tests: a list with a post or none for each slot.
-ghost use Rattle.std.specs.Prelude.{◌≡◌, ◌+◌, ◌<◌, ◌++◌, [], ◌∷◌, take, drop, vec_len, OnOk, OnErr, IfOk};
+ghost use Rattle.std.specs.Prelude.{◌≡◌, ◌+◌, ◌<◌, ◌≤◌, ◌++◌, take, drop, vec_len, OnOk, OnErr, option_to_list};
 ghost use Rattle.floor_core.specs.Job.{posts};
 
 use crate::{Job, Turn};
@@ -16,7 +16,17 @@ pub struct Toy {
     at: usize,
     unsent: Vec<Post>,
     sent: Vec<Post>,
-    ghost in_range: { at ≤ vec_len slots },
+}
+
+/// Puts a post, if there is one, behind the others.
+fn add(posts: &mut Vec<Post>, next: Option<Post>) -> Result<(), NoMemory>
+    ensures added { OnOk result (posts.new.items ≡ posts.old.items ++ option_to_list next) }
+    ensures same { OnErr result (posts.new.items ≡ posts.old.items) }
+{
+    if let Some(post) = next {
+        posts.extend_from_slice(&[post])?;
+    }
+    Ok(())
 }
 
 impl Toy {
@@ -29,6 +39,14 @@ impl Toy {
         }
     }
 
+    /// What the next slot makes.
+    fn coming(&self) -> Option<Post>
+        requires { self.now.at < vec_len self.now.slots }
+        ensures { option_to_list result ≡ posts (take 1 (drop self.now.at self.now.slots.items)) }
+    {
+        self.slots[self.at]
+    }
+
     /// Takes one slot.
     fn slot(&mut self) -> Result<(), NoMemory>
         requires { self.old.at < vec_len self.old.slots }
@@ -39,9 +57,8 @@ impl Toy {
             self.old.unsent.items ++ posts (take 1 (drop self.old.at self.old.slots.items))) }
         ensures same { OnErr result ((self.new.at ≡ self.old.at) × (self.new.unsent.items ≡ self.old.unsent.items)) }
     {
-        if let Some(post) = self.slots[self.at] {
-            self.unsent.push(post)?;
-        }
+        let next = self.coming();
+        add(&mut self.unsent, next)?;
         self.at += 1;
         Ok(())
     }
@@ -60,7 +77,7 @@ impl Job for Toy {
     ghost state_after = { λ at _ n. at + n };
 
     fn left(&self) -> u64 {
-        (self.slots.len() - self.at) as u64
+        self.slots.len().saturating_sub(self.at) as u64
     }
 
     fn turn(&mut self, limit: u64) -> Turn {

@@ -1,4 +1,4 @@
-use Rattle.std.proofs.Common.{ap, sym, refl}
+use Rattle.std.proofs.Common.{refl}
 use Rattle.std.proofs.lemmas.Result.{on_ok_weaker}
 use Rattle.floor_core.specs.Events.{MayClaim, claimed}
 use Rattle.floor_core.proofs.BoardLemmas.{placed, within}

@@ -1,27 +1,8 @@
--- The laws of floors, at the type of the jobs.
 use Rattle.std.proofs.Common.{◌∙◌, sym}
 use Rattle.dev_core.specs.Post.{post_key}
 use Rattle.floor_core.proofs.MailLemmas.{same_listing}
 use Rattle.floor_core.proofs.ResultLemmas.{kept, over}
-use Rattle.floor_core.proofs.ResultLemmas as result
-use Rattle.floor_core.proofs.SoundLemmas.{sound_begun, sound_kept}
-use Rattle.floor_core.proofs.laws.floor_laws.Goals as goal
-
-pub returns-clause-begun : goal.returns-clause-begun
-returns-clause-begun g c =
-    let laws = g.met.J.Job g.world.𝓛 g.world.𝓜 g.world.𝓡 ((λ s x. x), (λ x. x), (λ x. x), λ x. x) in
-    λ starts. sound_begun g.J.Job.state_after laws.rests starts
-
-pub returns-clause-kept : goal.returns-clause-kept
-returns-clause-kept g c =
-    let laws = g.met.J.Job g.world.𝓛 g.world.𝓜 g.world.𝓡 ((λ s x. x), (λ x. x), (λ x. x), λ x. x) in
-    λ starts f e sound legal. sound_kept g.J.Job.state_after laws.adds starts f e sound legal
-
-pub returns-clause-paid : goal.returns-clause-paid
-returns-clause-paid g c =
-    let laws = g.met.J.Job g.world.𝓛 g.world.𝓜 g.world.𝓡 ((λ s x. x), (λ x. x), (λ x. x), λ x. x) in
-    λ starts events f run i start b is there.
-    result.paid g.J.Job.state_after starts f (kept g.J.Job.state_after laws.adds laws.rests starts events f run) i start b is there
+use Rattle.floor_core.proofs.laws.orders_agree.Goals as goal
 
 pub returns-clause-over : goal.returns-clause-over
 returns-clause-over g c =
@@ -29,16 +10,17 @@ returns-clause-over g c =
     λ starts events f run ended.
     over g.J.Job.state_after starts f (kept g.J.Job.state_after laws.adds laws.rests starts events f run) ended
 
-pub returns-clause-same_jobs : goal.returns-clause-same_jobs
-returns-clause-same_jobs g c =
+pub returns-clause-jobs : goal.returns-clause-jobs
+returns-clause-jobs g c =
     let laws = g.met.J.Job g.world.𝓛 g.world.𝓜 g.world.𝓡 ((λ s x. x), (λ x. x), (λ x. x), λ x. x) in
     λ starts one other f h run ended run_too ended_too.
     let first = over g.J.Job.state_after starts f (kept g.J.Job.state_after laws.adds laws.rests starts one f run) ended in
-    let second = over g.J.Job.state_after starts h (kept g.J.Job.state_after laws.adds laws.rests starts other h run_too) ended_too in
+    let second =
+    over g.J.Job.state_after starts h (kept g.J.Job.state_after laws.adds laws.rests starts other h run_too) ended_too in
     first.jobs ∙ sym second.jobs
 
-pub returns-clause-same_mail : goal.returns-clause-same_mail
-returns-clause-same_mail g c =
+pub returns-clause-mail : goal.returns-clause-mail
+returns-clause-mail g c =
     let laws = g.met.J.Job g.world.𝓛 g.world.𝓜 g.world.𝓡 ((λ s x. x), (λ x. x), (λ x. x), λ x. x) in
     λ starts one other f h run ended run_too ended_too numbered.
     let first = kept g.J.Job.state_after laws.adds laws.rests starts one f run in
