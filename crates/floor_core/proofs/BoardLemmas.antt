@@ -37,7 +37,8 @@ pub placed :
     bs ≡ items → i ≡ k → k < length bs → x ≡ get_or items i x → y ≡ step x → set items i y ≡ changed step bs k
 placed step bs items k i x y same place below read is =
     ap (λ z. set items i z) is ∙
-    (sym (changed_set step items i x (subst (λ (l : List _). i < length l) same (subst (λ (j : ℕ). j < length bs) (sym place) below)) read) ∙
+    (sym (changed_set step items i x (subst (λ (l : List _). i < length l) same (subst (λ (j : ℕ). j < length bs)
+    (sym place) below)) read) ∙
     (λ j. changed step (sym same j) (place j)))
 
 -- what was read at a place is there
@@ -70,7 +71,14 @@ changed_get step (x ∷ xs) zero zero y is = inl (refl, x, refl, sym (unsome (st
 changed_get step (x ∷ xs) zero (suc i) y is = inr ((λ h. omega arith), is)
 changed_get step (x ∷ xs) (suc k) zero y is = inr ((λ h. omega arith), is)
 changed_get step (x ∷ xs) (suc k) (suc i) y is =
-    elim (changed_get step xs k i y is) [ inl h ↦ inl (ap suc h.0, h.1, h.2, h.3) | inr h ↦ inr ((λ e. h.0 (omega arith)), h.1) ]
+    elim (changed_get step xs k i y is) [
+      | inl h ↦ inl (ap suc h.0, h.1, h.2, h.3)
+      | inr h ↦ inr (
+        (λ e. h.0 (omega
+            arith)),
+        h.1,
+      )
+    ]
 
 -- the first of some items
 pub first_of : {A : Type 0} (xs : List A) → xs ≢ [] → (x : A) × (xs ≡ x ∷ drop 1 xs)

@@ -24,8 +24,16 @@ module _ {S : Type 0} (state_after : S → List (Option Post) → ℕ → S) whe
       let state : b.job.state ≡ state_after start.state start.coming b.used = ap (λ (j : Job S). j.state) s.job in
       let coming : b.job.coming ≡ drop b.used start.coming = ap (λ (j : Job S). j.coming) s.job in
       let room : b.used + slots ≤ length start.coming =
-      omega (arith, s.paid, enough, ap (λ (l : List (Option Post)). length l) coming, length-drop b.used start.coming) in
-      let state_is : state_after b.job.state b.job.coming slots ≡ state_after start.state start.coming (b.used + slots) =
+      omega (
+        arith,
+        s.paid,
+        enough,
+        ap (λ (l : List (Option Post)). length l) coming,
+        length-drop b.used
+            start.coming,
+      ) in
+      let state_is : state_after b.job.state b.job.coming slots ≡ state_after start.state start.coming (b.used +
+      slots) =
       (λ k. state_after (state k) (coming k) slots) ∙ adds start.state start.coming b.used slots room in
       let coming_is : drop slots b.job.coming ≡ drop (b.used + slots) start.coming =
       ap (λ (l : List (Option Post)). drop slots l) coming ∙ drop-drop slots b.used start.coming in
@@ -46,7 +54,8 @@ module _ {S : Type 0} (state_after : S → List (Option Post) → ℕ → S) whe
     job = s.job;
     paid = s.paid;
     posts =
-        append_assoc mailed (p ∷ []) (drop 1 b.job.unsent) ∙ (ap (λ (l : List Post). mailed ++ l) (sym first) ∙ s.posts);
+        append_assoc mailed (p ∷ []) (drop 1 b.job.unsent) ∙ (ap (λ (l : List Post). mailed ++ l) (sym first) ∙
+        s.posts);
   }
 
   pub sound_at_home :

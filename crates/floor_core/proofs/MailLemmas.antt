@@ -1,6 +1,7 @@
 -- The mail of two orders of events has one listing.
 use Rattle.std.proofs.Common.{◌≡◌, ◌≢◌, ◌∙◌, ℕ, zero, suc, ◌+◌, ◌<◌, ◌≤◌, List, [], ◌∷◌, ◌++◌, length, map, inl, inr}
-use Rattle.std.proofs.Common.{refl, sym, ap, subst, arith, Bool, true, false, cond, All, Option, Some, slice_get, eq-eqb, ne_eqb}
+use Rattle.std.proofs.Common.{refl, sym, ap, subst, arith, Bool, true, false, cond, All, Option, Some, slice_get}
+use Rattle.std.proofs.Common.{eq-eqb, ne_eqb}
 use Rattle.std.proofs.Common.{Ordering, Less, Equal, Greater, nat_cmp, is_eq, nat_lt}
 use Rattle.std.specs.Ordering.{ordering_then, eq_by_cmp}
 use Rattle.std.specs.List.{IsDistinct, AllByRecursion}
@@ -9,7 +10,8 @@ use Rattle.std.specs.Cmp.{IsTotalOrder, eq_by_cmp_equiv}
 use Rattle.std.proofs.lemmas.Bool.{cases_eq}
 use Rattle.std.proofs.lemmas.List.{map-append}
 use Rattle.std.proofs.lemmas.List.Elements.{All-head, All-tail}
-use Rattle.std.proofs.lemmas.List.Sorted.{IsPermutation-refl, IsPermutation-sym, IsPermutation-cons, IsPermutation-trans}
+use Rattle.std.proofs.lemmas.List.Sorted.{IsPermutation-refl, IsPermutation-sym, IsPermutation-cons}
+use Rattle.std.proofs.lemmas.List.Sorted.{IsPermutation-trans}
 use Rattle.std.proofs.lemmas.List.Sorted.{IsPermutation-map, IsPermutation-middle, IsPermutation-append_left}
 use Rattle.std.proofs.lemmas.Map.Keys.{IsDistinct-IsPermutation}
 use Rattle.lab_num.specs.declared.key.Key.{Key}
@@ -60,7 +62,8 @@ gathered_step (suc n) m ms below =
       | inr apart ↦
           let rest = posted_there n m ms apart in
           let step = gathered_step n m ms (omega arith) in
-          subst (λ (l : List Post). IsPermutation (m.post ∷ (gathered n ms ++ posted_by n ms)) (gathered n (m ∷ ms) ++ l))
+          subst (λ (l : List Post). IsPermutation (m.post ∷ (gathered n ms ++ posted_by n ms)) (gathered n (m ∷ ms)
+          ++ l))
           (sym rest)
           (IsPermutation-append_left (posted_by n ms) (m.post ∷ gathered n ms) (gathered n (m ∷ ms)) step)
     ]
@@ -112,13 +115,16 @@ nat_apart a b apart = rw (ne_eqb a b apart) (less_or_greater (nat_lt a b))
 
 boards_apart : (a b : Key) → a.board.0 ≢ b.board.0 → eq_by_cmp key_cmp a b ≡ false
 boards_apart a b apart =
-    is_eq_then_last (nat_cmp a.at.0 b.at.0) (ordering_then (nat_cmp a.board.0 b.board.0) (nat_cmp a.number.0 b.number.0))
+    is_eq_then_last (nat_cmp a.at.0 b.at.0) (ordering_then (nat_cmp a.board.0 b.board.0) (nat_cmp a.number.0
+    b.number.0))
     (is_eq_then (nat_cmp a.board.0 b.board.0) (nat_cmp a.number.0 b.number.0) (nat_apart a.board.0 b.board.0 apart))
 
 numbers_apart : (a b : Key) → a.number.0 ≢ b.number.0 → eq_by_cmp key_cmp a b ≡ false
 numbers_apart a b apart =
-    is_eq_then_last (nat_cmp a.at.0 b.at.0) (ordering_then (nat_cmp a.board.0 b.board.0) (nat_cmp a.number.0 b.number.0))
-    (is_eq_then_last (nat_cmp a.board.0 b.board.0) (nat_cmp a.number.0 b.number.0) (nat_apart a.number.0 b.number.0 apart))
+    is_eq_then_last (nat_cmp a.at.0 b.at.0) (ordering_then (nat_cmp a.board.0 b.board.0) (nat_cmp a.number.0
+    b.number.0))
+    (is_eq_then_last (nat_cmp a.board.0 b.board.0) (nat_cmp a.number.0 b.number.0) (nat_apart a.number.0 b.number.0
+    apart))
 
 -- a key differs from those of later posts
 numbered_later :
@@ -140,7 +146,8 @@ numbered_boards board first [] are = tt
 numbered_boards board first (p ∷ ps) are = (are.0, numbered_boards board (first + 1) ps are.2)
 
 all_append :
-    {A : Type 0} (P : A → Type 0) (xs ys : List A) → AllByRecursion P xs → AllByRecursion P ys → AllByRecursion P (xs ++ ys)
+    {A : Type 0} (P : A → Type 0) (xs ys : List A) → AllByRecursion P xs → AllByRecursion P ys →
+    AllByRecursion P (xs ++ ys)
 all_append P [] ys first second = second
 all_append P (x ∷ xs) ys first second = (first.0, all_append P xs ys first.1 second)
 
@@ -158,7 +165,8 @@ below_board n key (y ∷ ys) below all =
     (boards_apart key y.key (λ h. omega (arith, all.0)), below_board n key ys below all.1)
 
 differ_append :
-    (n : ℕ) (xs ys : List Post) → AllByRecursion (λ p. p.key.board.0 < n) xs → AllByRecursion (λ p. p.key.board.0 ≡ n) ys →
+    (n : ℕ) (xs ys : List Post) → AllByRecursion (λ p. p.key.board.0 < n) xs →
+    AllByRecursion (λ p. p.key.board.0 ≡ n) ys →
     KeysDiffer post_key xs → KeysDiffer post_key ys → KeysDiffer post_key (xs ++ ys)
 unfolding IsDistinct
 differ_append n [] ys below here first second = second
@@ -173,7 +181,8 @@ differ_append n (x ∷ xs) ys below here first second = (
 abbrev Numbered : ℕ → List Mailed → Type 0
 Numbered n mail = (i : ℕ) → i < n → (first : ℕ) × AreNumbered i first (posted_by i mail)
 
-gathered_boards : (n : ℕ) (mail : List Mailed) → Numbered n mail → AllByRecursion (λ p. p.key.board.0 < n) (gathered n mail)
+gathered_boards : (n : ℕ) (mail : List Mailed) → Numbered n mail →
+    AllByRecursion (λ p. p.key.board.0 < n) (gathered n mail)
 unfolding gathered
 gathered_boards zero mail each = tt
 gathered_boards (suc n) mail each =
@@ -216,7 +225,8 @@ same_listing total is_listing only {S} state_after starts f g members over membe
     let n = length starts in
     let same : gathered n f.mail ≡ gathered n g.mail =
     same_gathered n f.mail g.mail
-    (λ i below. let start = item_at starts i below in over.posts i start.0 start.1 ∙ sym (over_too.posts i start.0 start.1)) in
+    (λ i below. let start = item_at starts i below in over.posts i start.0 start.1 ∙
+    sym (over_too.posts i start.0 start.1)) in
     let each : Numbered n g.mail =
     λ i below.
     let start = item_at starts i below in

@@ -143,8 +143,10 @@ module _ {S : Type 0} (state_after : S → List (Option post.Post) → ℕ → S
         jobs =
             same_map (λ b. b.job) (finished state_after) f.boards starts k.sound.boards
             (λ i b start there is.
-            (done start b (posted_by i f.mail) (k.sound.each i start b is there) (All-there IsDone f.boards i b all there)).0);
+            (done start b (posted_by i f.mail) (k.sound.each i start b is there) (All-there IsDone f.boards i b all
+            there)).0);
         posts = λ i start is.
             let b = there_too f.boards starts i start k.sound.boards is in
-            (done start b.0 (posted_by i f.mail) (k.sound.each i start b.0 is b.1) (All-there IsDone f.boards i b.0 all b.1)).1;
+            (done start b.0 (posted_by i f.mail) (k.sound.each i start b.0 is b.1) (All-there IsDone f.boards i b.0
+            all b.1)).1;
       }

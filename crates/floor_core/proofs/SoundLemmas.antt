@@ -35,7 +35,8 @@ pub oldest_is :
     slice_get f.boards board.0 ≡ Some b → slice_get b.job.unsent 0 ≡ Some p →
     oldest f board ≡ record { by = board; post = p } ∷ []
 oldest_is {S} f board b p is first =
-    let mail : Option post.Post → List Mailed = λ o. option_to_list (option_map (λ p. record { by = board; post = p }) o) in
+    let mail : Option post.Post →
+    List Mailed = λ o. option_to_list (option_map (λ p. record { by = board; post = p }) o) in
     ap (λ (o : Option (Board S)). mail (option_and_then (λ b. slice_get b.job.unsent 0) o)) is ∙ ap mail first
 
 module _ {S : Type 0} (state_after : S → List (Option post.Post) → ℕ → S) where
@@ -62,7 +63,8 @@ module _ {S : Type 0} (state_after : S → List (Option post.Post) → ℕ → S
       (starts : List (Job S)) (f g : Floor S) (k : ℕ) (step : Board S → Board S) → Sound state_after starts f →
       g.boards ≡ changed step f.boards k →
       ((i : ℕ) → i ≢ k → posted_by i g.mail ≡ posted_by i f.mail) →
-      ((start : Job S) (b : Board S) → slice_get f.boards k ≡ Some b → IsSound state_after start b (posted_by k f.mail) →
+      ((start : Job S) (b : Board S) → slice_get f.boards k ≡ Some b →
+      IsSound state_after start b (posted_by k f.mail) →
       IsSound state_after start (step b) (posted_by k g.mail)) →
       Sound state_after starts g
   sound_changed starts f g k step s boards others this = record {
@@ -77,7 +79,8 @@ module _ {S : Type 0} (state_after : S → List (Option post.Post) → ℕ → S
               subst (λ (j : ℕ). IsSound state_after start b (posted_by j g.mail)) (sym h.0)
               (subst (λ (c : Board S). IsSound state_after start c (posted_by k g.mail)) (sym h.3) after_it)
           | inr h ↦
-              subst (λ (l : List post.Post). IsSound state_after start b l) (sym (others i h.0)) (s.each i start b is h.1)
+              subst (λ (l : List post.Post). IsSound state_after start b l) (sym (others i h.0)) (s.each i start b
+              is h.1)
         ];
   }
 
@@ -86,7 +89,8 @@ module _ {S : Type 0} (state_after : S → List (Option post.Post) → ℕ → S
       Adds state_after → (starts : List (Job S)) (f : Floor S) (e : Event) →
       Sound state_after starts f → IsLegal f e → Sound state_after starts (happened state_after f e)
   sound_kept adds starts f (Claim worker board slots) s legal =
-      sound_changed starts f (happened state_after f (Claim worker board slots)) board.0 (claimed state_after worker slots) s
+      sound_changed starts f (happened state_after f (Claim worker board slots)) board.0 (claimed state_after worker
+      slots) s
       refl
       (λ i apart. refl)
       (λ start b is sound.
@@ -98,7 +102,8 @@ module _ {S : Type 0} (state_after : S → List (Option post.Post) → ℕ → S
       let may = some_and (MayPost worker) (slice_get f.boards board.0) legal.1 in
       let first = first_of may.0.job.unsent may.2.1 in
       let m : Mailed = record { by = board; post = first.0 } in
-      let sent : oldest f board ≡ m ∷ [] = oldest_is f board may.0 first.0 may.1 (ap (λ (l : List post.Post). slice_get l 0) first.1) in
+      let sent : oldest f board ≡ m ∷ [] =
+      oldest_is f board may.0 first.0 may.1 (ap (λ (l : List post.Post). slice_get l 0) first.1) in
       sound_changed starts f (happened state_after f (Post worker board)) board.0 relieved s
       refl
       (λ i apart.

@@ -17,7 +17,8 @@ abbrev pub finished : {S : Type 0} → (S → List (Option Post) → ℕ → S) 
 finished state_after start = aside (after state_after start (left start))
 
 -- each job is finished, and in the mail are all the posts that it had and made, in their order
-pub record IsOver {S : Type 0} (state_after : S → List (Option Post) → ℕ → S) (starts : List (Job S)) (f : Floor S) : Type 0 where
+pub record IsOver {S : Type 0} (state_after : S → List (Option Post) → ℕ →
+    S) (starts : List (Job S)) (f : Floor S) : Type 0 where
   pub jobs : jobs f ≡ map (finished state_after) starts
   pub posts : (i : ℕ) (start : Job S) → slice_get starts i ≡ Some start → posted_by i f.mail ≡ made start (left start)
 

@@ -41,7 +41,8 @@ pub trait Job: Send + Drop {
 
     /// Takes the next slots, at most `limit`. `Starved` is for want of memory alone.
     fn turn(&mut self, limit: u64) -> Turn
-        ensures turn { IsTurn state_after (meaning self.old) (min limit (left (meaning self.old))) result (meaning self.new) }
+        ensures turn { IsTurn state_after (meaning self.old)
+            (min limit (left (meaning self.old))) result (meaning self.new) }
         ensures sent { sent self.new ≡ sent self.old };
 
     /// The oldest unsent post.
@@ -59,7 +60,9 @@ pub trait Job: Send + Drop {
     /// Sends the unsent posts, oldest first, and says whether all are sent. It answers false for
     /// want of memory alone: then those that are not sent stay, in their order. It may wait.
     fn send_out<R: Threads + Wait + Copy + Send + Sync>(&mut self, rt: &R) -> bool
-        ensures front { (front : List Post) × ((meaning self.old).unsent ≡ front ++ (meaning self.new).unsent) × (sent self.new ≡ sent self.old ++ front) }
+        ensures front { (front : List Post) ×
+            ((meaning self.old).unsent ≡ front ++ (meaning self.new).unsent) ×
+            (sent self.new ≡ sent self.old ++ front) }
         ensures all { IsTrue result → (meaning self.new).unsent ≡ [] }
         ensures rest { aside (meaning self.new) ≡ aside (meaning self.old) };
 

@@ -22,22 +22,39 @@ fn post(board: u8, at: u64, number: u64) -> Post {
     }
 }
 
-/// What a worker does with a board: `c` claims it for so many slots, `p` posts, `r` reports; `e` closes the floor.
-type Deed = (char, u8, u8, u64);
+/// A hexadecimal digit, or 0 where there is none.
+fn digit(word: &[u8], place: usize) -> u8 {
+    match word.get(place) {
+        Some(d @ b'0'..=b'9') => *d - b'0',
+        Some(d @ b'a'..=b'f') => *d - b'a' + 10,
+        _ => 0,
+    }
+}
 
-fn event(deed: Deed) -> Event {
-    let (kind, worker, board, slots) = deed;
-    let board = BoardNo(board);
-    match kind {
-        'c' => Event::Claim {
+/// An event: `c` claims, `p` posts, `r` reports, each with the digits of the worker, of the board
+/// and, for a claim, of the slots; `e` closes.
+fn event(word: &[u8]) -> Event {
+    let worker = digit(word, 1);
+    let board = BoardNo(digit(word, 2));
+    let slots = u64::from(digit(word, 3));
+    match word.first() {
+        Some(b'c') => Event::Claim {
             worker,
             board,
             slots,
         },
-        'p' => Event::Post { worker, board },
-        'r' => Event::Report { worker, board },
+        Some(b'p') => Event::Post { worker, board },
+        Some(b'r') => Event::Report { worker, board },
         _ => Event::Close,
     }
+}
+
+fn events_of(alloc: Global, text: &str) -> Result<Vec<Event>, NoMemory> {
+    let mut events = Vec::new(alloc);
+    for word in text.split(' ') {
+        events.push(event(word.as_bytes()))?;
+    }
+    Ok(events)
 }
 
 /// Two boards of ten slots: the first makes one post in its last slot, the second makes none.
@@ -51,124 +68,57 @@ fn two_boards(alloc: Global) -> Result<Floor<Toy>, NoMemory>
     Floor::begin(alloc, vec![in alloc; first, second]?)
 }
 
-const STOPS: [(&[Deed], Ran, bool); 16] = [
-    (&[('c', 0, 1, 10), ('c', 1, 1, 1)], Ran::Stopped(1), false),
-    (
-        &[('c', 0, 1, 9), ('r', 0, 1, 0), ('c', 1, 1, 1)],
-        Ran::All,
-        false,
-    ),
-    (
-        &[('c', 0, 1, 9), ('r', 0, 1, 0), ('c', 1, 1, 2)],
-        Ran::Stopped(2),
-        false,
-    ),
-    (&[('c', 0, 1, 11)], Ran::Stopped(0), false),
-    (&[('c', 0, 1, 0)], Ran::Stopped(0), false),
-    (&[('c', 0, 2, 1)], Ran::Stopped(0), false),
-    (&[('c', 0, 0, 10), ('r', 0, 0, 0)], Ran::Stopped(1), false),
-    (&[('c', 0, 0, 9), ('r', 0, 0, 0)], Ran::All, false),
-    (&[('c', 0, 0, 10), ('p', 1, 0, 0)], Ran::Stopped(1), false),
-    (
-        &[('c', 0, 0, 10), ('p', 0, 0, 0), ('p', 0, 0, 0)],
-        Ran::Stopped(2),
-        false,
-    ),
-    (
-        &[('c', 0, 0, 10), ('p', 0, 0, 0), ('r', 1, 0, 0)],
-        Ran::Stopped(2),
-        false,
-    ),
-    (
-        &[
-            ('c', 0, 0, 10),
-            ('p', 0, 0, 0),
-            ('r', 0, 0, 0),
-            ('c', 1, 0, 1),
-        ],
-        Ran::Stopped(3),
-        false,
-    ),
-    (&[('e', 0, 0, 0)], Ran::Stopped(0), false),
-    (
-        &[
-            ('c', 0, 0, 10),
-            ('p', 0, 0, 0),
-            ('r', 0, 0, 0),
-            ('c', 1, 1, 10),
-            ('e', 0, 0, 0),
-        ],
-        Ran::Stopped(4),
-        false,
-    ),
-    (
-        &[
-            ('c', 0, 0, 10),
-            ('c', 1, 1, 10),
-            ('p', 0, 0, 0),
-            ('r', 0, 0, 0),
-            ('r', 1, 1, 0),
-            ('e', 0, 0, 0),
-        ],
-        Ran::All,
-        true,
-    ),
-    (
-        &[
-            ('c', 0, 0, 10),
-            ('c', 1, 1, 10),
-            ('p', 0, 0, 0),
-            ('r', 0, 0, 0),
-            ('r', 1, 1, 0),
-            ('e', 0, 0, 0),
-            ('e', 0, 0, 0),
-        ],
-        Ran::Stopped(6),
-        true,
-    ),
+/// Events, what becomes of them, and whether the floor is ended then.
+const STOPS: [(&str, Ran, bool); 16] = [
+    ("c01a c111", Ran::Stopped(1), false),
+    ("c019 r01 c111", Ran::All, false),
+    ("c019 r01 c112", Ran::Stopped(2), false),
+    ("c01b", Ran::Stopped(0), false),
+    ("c010", Ran::Stopped(0), false),
+    ("c021", Ran::Stopped(0), false),
+    ("c00a r00", Ran::Stopped(1), false),
+    ("c009 r00", Ran::All, false),
+    ("c00a p10", Ran::Stopped(1), false),
+    ("c00a p00 p00", Ran::Stopped(2), false),
+    ("c00a p00 r10", Ran::Stopped(2), false),
+    ("c00a p00 r00 c101", Ran::Stopped(3), false),
+    ("e", Ran::Stopped(0), false),
+    ("c00a p00 r00 c11a e", Ran::Stopped(4), false),
+    ("c00a c11a p00 r00 r11 e", Ran::All, true),
+    ("c00a c11a p00 r00 r11 e e", Ran::Stopped(6), true),
 ];
 
 #[test]
 fn a_list_stops_at_its_first_event_that_is_not_legal(rt: HostRuntime) -> Result<(), Fail> {
     let alloc = rt.alloc();
-    for (deeds, expected, ended) in STOPS {
-        let mut events = Vec::new(alloc);
-        for deed in deeds {
-            events.push(event(*deed))?;
-        }
+    for (text, expected, ended) in STOPS {
         let mut floor = two_boards(alloc)?;
-        assert_eq!(rt; floor.run_events(&events), expected, "{deeds:?}");
-        assert_eq!(rt; floor.is_ended(), ended, "{deeds:?}");
+        assert_eq!(rt;
+            floor.run_events(&events_of(alloc, text)?),
+            expected,
+            "{text}"
+        );
+        assert_eq!(rt; floor.is_ended(), ended, "{text}");
     }
     Ok(())
 }
 
 /// What the workers do with each of three boards, in order.
-const SCRIPTS: [&[Deed]; 3] = [
-    &[
-        ('c', 0, 0, 2),
-        ('p', 0, 0, 0),
-        ('p', 0, 0, 0),
-        ('r', 0, 0, 0),
-    ],
-    &[('c', 1, 1, 2), ('p', 1, 1, 0), ('r', 1, 1, 0)],
-    &[('c', 0, 2, 3), ('r', 0, 2, 0)],
-];
+const SCRIPTS: [&str; 3] = ["c002 p00 p00 r00", "c112 p11 r11", "c023 r02"];
 
-/// The events of all boards, each taken from the board that the next ternary digit of `code` names, and a close; or
-/// nothing where a board is named more often than it has events.
+/// The words of all scripts, each taken from the script that the next ternary digit of `code` names, and a close; or
+/// nothing where a script is named more often than it has words.
 fn order(alloc: Global, code: u32) -> Result<Option<Vec<Event>>, NoMemory> {
-    let mut taken = [0_usize; 3];
+    let mut scripts = SCRIPTS.map(|script| script.split(' '));
     let mut rest = code;
     let mut events = Vec::new(alloc);
     for _ in 0..9 {
         let board = (rest % 3) as usize;
         rest /= 3;
-        let Some(deed) = SCRIPTS[board].get(taken[board]) else {
+        let Some(word) = scripts[board].next() else {
             return Ok(None);
         };
-        events.push(event(*deed))?;
-        taken[board] = taken[board].saturating_add(1);
+        events.push(event(word.as_bytes()))?;
     }
     events.push(Event::Close)?;
     Ok(Some(events))

@@ -55,7 +55,8 @@ impl Toy {
         ensures at { OnOk result (self.new.at ≡ self.old.at + 1) }
         ensures unsent { OnOk result (self.new.unsent.items ≡
             self.old.unsent.items ++ posts (take 1 (drop self.old.at self.old.slots.items))) }
-        ensures same { OnErr result ((self.new.at ≡ self.old.at) × (self.new.unsent.items ≡ self.old.unsent.items)) }
+        ensures same { OnErr result
+            ((self.new.at ≡ self.old.at) × (self.new.unsent.items ≡ self.old.unsent.items)) }
     {
         let next = self.coming();
         add(&mut self.unsent, next)?;

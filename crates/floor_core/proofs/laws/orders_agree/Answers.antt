@@ -14,9 +14,11 @@ pub returns-clause-jobs : goal.returns-clause-jobs
 returns-clause-jobs g c =
     let laws = g.met.J.Job g.world.𝓛 g.world.𝓜 g.world.𝓡 ((λ s x. x), (λ x. x), (λ x. x), λ x. x) in
     λ starts one other f h run ended run_too ended_too.
-    let first = over g.J.Job.state_after starts f (kept g.J.Job.state_after laws.adds laws.rests starts one f run) ended in
+    let first = over g.J.Job.state_after starts f (kept g.J.Job.state_after laws.adds laws.rests starts one f run)
+    ended in
     let second =
-    over g.J.Job.state_after starts h (kept g.J.Job.state_after laws.adds laws.rests starts other h run_too) ended_too in
+    over g.J.Job.state_after starts h (kept g.J.Job.state_after laws.adds laws.rests starts other h run_too)
+    ended_too in
     first.jobs ∙ sym second.jobs
 
 pub returns-clause-mail : goal.returns-clause-mail

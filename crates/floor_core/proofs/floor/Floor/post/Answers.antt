@@ -31,5 +31,6 @@ returns-in-None-clause-posted g c =
     let x = c.index_mut-desk.result.now in
     let legal = rw (← c.self.view_is) at c.requires in
     let below = within (MayPost c.args.worker) items k legal in
-    let may = said_of (MayPost c.args.worker) items k c.from.result x c.from.ensures below c.index_mut-desk.ensures.value legal in
+    let may = said_of (MayPost c.args.worker) items k c.from.result x c.from.ensures below
+    c.index_mut-desk.ensures.value legal in
     absurd (may.1 (first_none x.job.unsent (sym c.in-None.ensures)))

@@ -13,7 +13,8 @@ more old mid new slots slots' i at at' is same place step =
     let j : Job ℕ = record { state = 0; coming = drop at slots; unsent = old } in
     step ∙
     ((λ k. is k ++ posts (take 1 (drop (place k) (same k)))) ∙
-    ((λ k. old ++ posts (take i (drop at slots)) ++ posts (take 1 (sym (drop-drop i at slots) k))) ∙ sym (made_more j i 1)))
+    ((λ k. old ++ posts (take i (drop at slots)) ++ posts (take 1 (sym (drop-drop i at slots) k))) ∙
+    sym (made_more j i 1)))
 
 pub loop-i-preserved : goal.loop-i-preserved
 loop-i-preserved c =
