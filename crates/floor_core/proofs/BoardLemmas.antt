@@ -1,0 +1,94 @@
+-- One item of a list, by its place.
+use Rattle.std.proofs.Common.{◌≡◌, ◌≢◌, ◌⊎◌, ◌↔◌, ℕ, zero, suc, ◌<◌, List, [], ◌∷◌, length, get_or, drop}
+use Rattle.std.proofs.Common.{refl, sym, ◌∙◌, ap, subst, inl, inr, arith, Option, Some, None, IsSomeAnd, slice_get, set}
+use Rattle.std.proofs.lemmas.Option.{slice_get_read}
+use Rattle.floor_core.specs.Events.{changed}
+
+-- what is said of an item that may be there is said of the item that was read
+pub there :
+    {A : Type 0} (P : A → Type 0) (xs : List A) (i : ℕ) (x : A) →
+    i < length xs → x ≡ get_or xs i x → IsSomeAnd (slice_get xs i) P ↔ P x
+there P xs i x below read = rw (slice_get_read xs (length xs) i x refl below read) ((λ h. h), (λ h. h))
+
+-- an item of which something is said is there
+pub some_and : {A : Type 0} (P : A → Type 0) (o : Option A) → IsSomeAnd o P → (x : A) × (o ≡ Some x) × P x
+some_and P None h = absurd h
+some_and P (Some x) h = (x, refl, h)
+
+pub and_some : {A : Type 0} (P : A → Type 0) (o : Option A) (x : A) → o ≡ Some x → P x → IsSomeAnd o P
+and_some P o x is h = subst (λ p. IsSomeAnd p P) (sym is) h
+
+pub within : {A : Type 0} (P : A → Type 0) (xs : List A) (i : ℕ) → IsSomeAnd (slice_get xs i) P → i < length xs
+within P [] i h = absurd h
+within P (x ∷ xs) zero h = omega arith
+within P (x ∷ xs) (suc i) h = let rest = within P xs i h in omega arith
+
+-- to write the changed item is to change it
+pub changed_set :
+    {A : Type 0} (step : A → A) (xs : List A) (i : ℕ) (x : A) →
+    i < length xs → x ≡ get_or xs i x → changed step xs i ≡ set xs i (step x)
+changed_set step [] i x below read = refl
+changed_set step (y ∷ xs) zero x below read = ap (λ z. step z ∷ xs) (sym read)
+changed_set step (y ∷ xs) (suc i) x below read = ap (λ zs. y ∷ zs) (changed_set step xs i x (omega arith) read)
+
+-- to write it where the list is known by another name, as is the place
+pub placed :
+    {A : Type 0} (step : A → A) (bs items : List A) (k i : ℕ) (x y : A) →
+    bs ≡ items → i ≡ k → k < length bs → x ≡ get_or items i x → y ≡ step x → set items i y ≡ changed step bs k
+placed step bs items k i x y same place below read is =
+    ap (λ z. set items i z) is ∙
+    (sym (changed_set step items i x (subst (λ (l : List _). i < length l) same (subst (λ (j : ℕ). j < length bs)
+    (sym place) below)) read) ∙
+    (λ j. changed step (sym same j) (place j)))
+
+-- what was read at a place is there
+pub read_at :
+    {A : Type 0} (items : List A) (k i : ℕ) (x : A) →
+    i ≡ k → k < length items → x ≡ get_or items i x → slice_get items k ≡ Some x
+read_at items k i x place below read =
+    slice_get_read items (length items) k x refl below (subst (λ j. x ≡ get_or items j x) place read)
+
+pub said_of :
+    {A : Type 0} (P : A → Type 0) (items : List A) (k i : ℕ) (x : A) →
+    i ≡ k → k < length items → x ≡ get_or items i x → IsSomeAnd (slice_get items k) P → P x
+said_of P items k i x place below read said = subst (λ o. IsSomeAnd o P) (read_at items k i x place below read) said
+
+pub length-changed :
+    {A : Type 0} (step : A → A) (xs : List A) (i : ℕ) → length (changed step xs i) ≡ length xs
+length-changed step [] i = refl
+length-changed step (x ∷ xs) zero = refl
+length-changed step (x ∷ xs) (suc i) = ap suc (length-changed step xs i)
+
+unsome : {A : Type 0} (x y : A) → Some x ≡ Some y → x ≡ y
+unsome x y is = cc
+
+-- after a change an item is the changed one, or one that was there
+pub changed_get :
+    {A : Type 0} (step : A → A) (xs : List A) (k i : ℕ) (y : A) → slice_get (changed step xs k) i ≡ Some y →
+    ((i ≡ k) × (x : A) × (slice_get xs i ≡ Some x) × (y ≡ step x)) ⊎ ((i ≢ k) × (slice_get xs i ≡ Some y))
+changed_get step [] k i y is = absurd (cc)
+changed_get step (x ∷ xs) zero zero y is = inl (refl, x, refl, sym (unsome (step x) y is))
+changed_get step (x ∷ xs) zero (suc i) y is = inr ((λ h. omega arith), is)
+changed_get step (x ∷ xs) (suc k) zero y is = inr ((λ h. omega arith), is)
+changed_get step (x ∷ xs) (suc k) (suc i) y is =
+    elim (changed_get step xs k i y is) [
+      | inl h ↦ inl (ap suc h.0, h.1, h.2, h.3)
+      | inr h ↦ inr (
+        (λ e. h.0 (omega
+            arith)),
+        h.1,
+      )
+    ]
+
+-- the first of some items
+pub first_of : {A : Type 0} (xs : List A) → xs ≢ [] → (x : A) × (xs ≡ x ∷ drop 1 xs)
+first_of [] some = absurd (some refl)
+first_of (x ∷ xs) some = (x, refl)
+
+pub first_none : {A : Type 0} (xs : List A) → slice_get xs 0 ≡ None → xs ≡ []
+first_none [] is = refl
+first_none (x ∷ xs) is = absurd (cc)
+
+pub first_some : {A : Type 0} (xs : List A) (x : A) → slice_get xs 0 ≡ Some x → xs ≢ []
+first_some [] x is = absurd (cc)
+first_some (y ∷ xs) x is = λ h. cc
