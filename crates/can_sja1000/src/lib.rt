@@ -7,12 +7,12 @@ mod buffers;
 mod can;
 mod filter;
 mod interrupts;
-// mod laws;
+mod laws;
 mod receiver;
 mod registers;
 
 pub use can::Can;
-// pub use laws::{acceptance_laws, carrying_laws, state_laws};
+pub use laws::{acceptance_laws, carrying_laws, state_laws};
 
-// cfg
-// mod tests;
+#[cfg(test)]
+mod tests;
