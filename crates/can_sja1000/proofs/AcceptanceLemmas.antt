@@ -50,7 +50,7 @@ refused_alike c d f g mode code mask upper is =
     sym mode i
     || not
     (list_all (λ n. is_set (sym mask i) n || bit_at (sym upper i) n == bit_at (sym code i) n)
-     (0 ∷ 1 ∷ 2 ∷ 3 ∷ 4 ∷ 5 ∷ 6 ∷ 7 ∷ [])) in
+    (0 ∷ 1 ∷ 2 ∷ 3 ∷ 4 ∷ 5 ∷ 6 ∷ 7 ∷ [])) in
     where_refused d g (same ∙ refused_where c f is)
 
 -- a frame that is kept is held at the end

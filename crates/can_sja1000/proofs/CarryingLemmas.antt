@@ -59,7 +59,7 @@ load_received c place below = rw (receive_at place below) (in_mode (is_reset_mod
   where
     in_mode : (b : Bool) →
         (cond b (receive_register place).resetting (receive_register place).operating).value c
-            ≡ slice_index (option_map_or frame_bytes (slice_get c.received 0) []) place
+        ≡ slice_index (option_map_or frame_bytes (slice_get c.received 0) []) place
     in_mode true = refl
     in_mode false = refl
 
@@ -97,7 +97,7 @@ length-said bytes ten = length-take-le (length_of bytes) (drop 2 bytes) (omega (
 data_back :
     (bytes : List ℕ) (k : ℕ) → k < length (said bytes) → length (said bytes) ≡ length_of bytes →
     slice_index (take (length (said bytes)) (said bytes ++ replicate (8 - length (said bytes)) 0)) k
-        ≡ slice_index bytes (2 + k)
+    ≡ slice_index bytes (2 + k)
 data_back bytes k within size =
     let low : k < length_of bytes = omega (arith, within, size) in
     get_or-take (length (said bytes)) (said bytes ++ replicate (8 - length (said bytes)) 0) k 0 within

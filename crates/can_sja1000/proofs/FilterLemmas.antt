@@ -82,6 +82,6 @@ accepted_by_bits id code mask small low fits =
     let e = λ (n : ℕ) (below : n < 8). agree_at id code mask n fits below in
     sym
     ((λ i.
-      e 0 (lit< tt) i && (e 1 (lit< tt) i && (e 2 (lit< tt) i && (e 3 (lit< tt) i && (e 4 (lit< tt) i
-      && (e 5 (lit< tt) i && (e 6 (lit< tt) i && (e 7 (lit< tt) i && true))))))))
-     ∙ all_zero (apart id code mask) (omega (arith, and_le_r (bit_xor id code) (bit_not w8 mask))))
+    e 0 (lit< tt) i && (e 1 (lit< tt) i && (e 2 (lit< tt) i && (e 3 (lit< tt) i && (e 4 (lit< tt) i
+    && (e 5 (lit< tt) i && (e 6 (lit< tt) i && (e 7 (lit< tt) i && true))))))))
+    ∙ all_zero (apart id code mask) (omega (arith, and_le_r (bit_xor id code) (bit_not w8 mask))))

@@ -64,12 +64,14 @@ still : (c : CanState) (byte : ℕ) → IsCanState c → IsCanState c × IsCanSt
 still c byte v = (v, v)
 
 clock_keeps : (c : CanState) (byte : ℕ) → IsCanState c → IsCanState c × IsCanState (clock_stored c byte)
-clock_keeps c byte v =
-    (v, record {
-      control = v.control;
-      divider = divider_clock_replaced c.divider byte;
-      received = v.received;
-    })
+clock_keeps c byte v = (
+  v,
+  record {
+    control = v.control;
+    divider = divider_clock_replaced c.divider byte;
+    received = v.received;
+  },
+)
 
 divider_keeps : (c : CanState) (byte : ℕ) → IsCanState c → IsCanState c × IsCanState (cdr_stored c byte)
 divider_keeps c byte v =
@@ -117,7 +119,7 @@ at_keeps c address = in_mode (is_reset_mode c)
     both =
         one_of (is_among_ten 10 address) _ _ (transmit_keeps (address - 10))
         (one_of (is_among_ten 20 address) _ _ (λ c byte v. (v, v), λ c byte v. (v, v))
-         (found (λ r. r.address == address) single_registers each_keeps))
+        (found (λ r. r.address == address) single_registers each_keeps))
 
     in_mode : (b : Bool) → Keeps (cond b (can_register_at address).resetting (can_register_at address).operating)
     in_mode true = both.1
@@ -140,8 +142,8 @@ receive_keeps c frame v =
     by : (refused fits : Bool) → (fits ≡ true → sum_by held_size c.received + held_size frame ≤ 64) →
         IsCanState
         (if refused then unchanged Refused c
-         else if fits then record { answer = Kept; after = frame_kept c frame }
-         else record { answer = Overrun; after = frame_lost c }).after
+        else if fits then record { answer = Kept; after = frame_kept c frame }
+        else record { answer = Overrun; after = frame_lost c }).after
     by true fits room = v
     by false true room =
         record {

@@ -51,10 +51,10 @@ pub fn carrying_laws()
     ensures written { (c : CanState) (place value : ℕ) →
         is_reset_mode c ≡ false → place < 10 →
         (can_store c (10 + place) value).after
-            ≡ record c { transmit = slice_set c.transmit place (value % 2 ^ 8) } }
+        ≡ record c { transmit = slice_set c.transmit place (value % 2 ^ 8) } }
     ensures read { (c d : CanState) (frame : FrameData) (place : ℕ) →
         IsWritten c.transmit → (can_store c 1 1).answer ≡ Send (Frame frame) →
         d.received ≡ [] → (can_take d (Frame frame)).answer ≡ Kept → place < held_size frame →
         (can_load (can_take d (Frame frame)).after (20 + place)).answer
-            ≡ slice_index c.transmit place }
+        ≡ slice_index c.transmit place }
 {}

@@ -103,7 +103,11 @@ fn the_transmit_buffer_says_a_frame(rt: HostRuntime) {
         } else {
             data_frame(id, len)
         };
-        assert_eq!(rt; store(&mut can, 1, 1), Effect::Send(Payload::Frame(frame)), "{lower:x}");
+        assert_eq!(rt;
+            store(&mut can, 1, 1),
+            Effect::Send(Payload::Frame(frame)),
+            "{lower:x}"
+        );
         let mut receiver = Can::new();
         assert!(rt; receiver.put(&DevState::Can(open(0))));
         assert_eq!(rt; take(&mut receiver, frame), Taken::Kept);
@@ -111,7 +115,11 @@ fn the_transmit_buffer_says_a_frame(rt: HostRuntime) {
         let read = u32::from(lower & 0xF0) + (len.min(8) as u32);
         assert_eq!(rt; load(&mut receiver, 21), read, "{lower:x}");
         for place in 0..8 {
-            let carried = if !remote && (place as usize) < len { 1 + place } else { 0 };
+            let carried = if !remote && (place as usize) < len {
+                1 + place
+            } else {
+                0
+            };
             assert_eq!(rt; load(&mut receiver, 22 + place), carried, "{lower:x}");
         }
     }
@@ -190,22 +198,121 @@ fn interrupts_and_status_change_at_their_moments(rt: HostRuntime) {
 const TAKEN: [(u8, u8, u8, usize, bool, u16, usize, Taken, u32, u32); 18] = [
     (0x00, 0x20, 0x00, 0, false, 0x100, 8, Taken::Kept, 0, 0x0D),
     (0x00, 0x20, 0x00, 0, false, 0x107, 8, Taken::Kept, 0, 0x0D),
-    (0x00, 0x20, 0x00, 0, false, 0x108, 8, Taken::Refused, 0, 0x0C),
+    (
+        0x00,
+        0x20,
+        0x00,
+        0,
+        false,
+        0x108,
+        8,
+        Taken::Refused,
+        0,
+        0x0C,
+    ),
     (0x00, 0x20, 0x01, 0, false, 0x108, 8, Taken::Kept, 0, 0x0D),
-    (0x00, 0x20, 0xFE, 0, false, 0x108, 8, Taken::Refused, 0, 0x0C),
-    (0x00, 0x20, 0x7F, 0, false, 0x500, 8, Taken::Refused, 0, 0x0C),
+    (
+        0x00,
+        0x20,
+        0xFE,
+        0,
+        false,
+        0x108,
+        8,
+        Taken::Refused,
+        0,
+        0x0C,
+    ),
+    (
+        0x00,
+        0x20,
+        0x7F,
+        0,
+        false,
+        0x500,
+        8,
+        Taken::Refused,
+        0,
+        0x0C,
+    ),
     (0x00, 0x20, 0x80, 0, false, 0x500, 8, Taken::Kept, 0, 0x0D),
     (0x00, 0x00, 0xFF, 0, false, 0x7FF, 0, Taken::Kept, 0, 0x0D),
-    (0x1F, 0x00, 0xFF, 0, false, 0x000, 0, Taken::Refused, 0, 0x0C),
+    (
+        0x1F,
+        0x00,
+        0xFF,
+        0,
+        false,
+        0x000,
+        0,
+        Taken::Refused,
+        0,
+        0x0C,
+    ),
     (0x02, 0x00, 0xFF, 0, false, 0x000, 0, Taken::Kept, 1, 0x0D),
     (0x1E, 0x00, 0xFF, 54, false, 0x000, 8, Taken::Kept, 1, 0x0D),
     (0x1E, 0x00, 0xFF, 56, false, 0x000, 6, Taken::Kept, 1, 0x0D),
-    (0x1E, 0x00, 0xFF, 56, false, 0x000, 7, Taken::Overrun, 8, 0x0F),
-    (0x0E, 0x00, 0xFF, 56, false, 0x000, 7, Taken::Overrun, 0, 0x0F),
-    (0x1E, 0x00, 0xFF, 56, true, 0x000, 7, Taken::Overrun, 0, 0x0F),
+    (
+        0x1E,
+        0x00,
+        0xFF,
+        56,
+        false,
+        0x000,
+        7,
+        Taken::Overrun,
+        8,
+        0x0F,
+    ),
+    (
+        0x0E,
+        0x00,
+        0xFF,
+        56,
+        false,
+        0x000,
+        7,
+        Taken::Overrun,
+        0,
+        0x0F,
+    ),
+    (
+        0x1E,
+        0x00,
+        0xFF,
+        56,
+        true,
+        0x000,
+        7,
+        Taken::Overrun,
+        0,
+        0x0F,
+    ),
     (0x1E, 0x00, 0xFF, 56, true, 0x000, 6, Taken::Kept, 1, 0x0F),
-    (0x1E, 0x00, 0xFF, 64, false, 0x000, 0, Taken::Overrun, 8, 0x0F),
-    (0x1E, 0x55, 0x00, 64, false, 0x000, 0, Taken::Refused, 0, 0x0D),
+    (
+        0x1E,
+        0x00,
+        0xFF,
+        64,
+        false,
+        0x000,
+        0,
+        Taken::Overrun,
+        8,
+        0x0F,
+    ),
+    (
+        0x1E,
+        0x55,
+        0x00,
+        64,
+        false,
+        0x000,
+        0,
+        Taken::Refused,
+        0,
+        0x0D,
+    ),
 ];
 
 /// A row with so many bytes of frames.
@@ -229,7 +336,11 @@ fn a_frame_is_taken_by_filter_and_room(rt: HostRuntime) {
         state.dos = dos;
         let mut can = Can::new();
         assert!(rt; can.put(&DevState::Can(state)));
-        assert_eq!(rt; take(&mut can, data_frame(id, len)), taken, "{code:x} {mask:x} {id:x}");
+        assert_eq!(rt;
+            take(&mut can, data_frame(id, len)),
+            taken,
+            "{code:x} {mask:x} {id:x}"
+        );
         assert_eq!(rt; load(&mut can, 3), ir, "{control:x} {held}");
         assert_eq!(rt; load(&mut can, 2), sr, "{control:x} {held}");
     }
@@ -260,7 +371,11 @@ fn can_fifo(rt: HostRuntime) -> Result<(), Fail> {
     let mut boxed: Box<dyn Device + Send> = Box::new(rt.alloc(), Can::new())?;
     fill(&rt, &mut boxed);
     let before = boxed.state();
-    for state in [DevState::Finisher, DevState::Uart(UartState::reset()), DevState::Can(overfull())] {
+    for state in [
+        DevState::Finisher,
+        DevState::Uart(UartState::reset()),
+        DevState::Can(overfull()),
+    ] {
         assert!(rt; !boxed.put(&state));
         assert_eq!(rt; boxed.state(), before);
     }

@@ -8,8 +8,8 @@ returns-then-is_set-clause-valid c = record {
   control = c.requires.control;
   divider = c.requires.divider;
   received =
-    rw c.pop_first-released.ensures.rest
-    (omega (arith, held-drop_first c.args.can.now.received, c.requires.received));
+      rw c.pop_first-released.ensures.rest
+      (omega (arith, held-drop_first c.args.can.now.received, c.requires.received));
 }
 
 pub returns-else-is_more_held-clause-valid : goal.returns-else-is_more_held-clause-valid
@@ -17,6 +17,6 @@ returns-else-is_more_held-clause-valid c = record {
   control = c.requires.control;
   divider = c.requires.divider;
   received =
-    rw c.pop_first-released.ensures.rest
-    (omega (arith, held-drop_first c.args.can.now.received, c.requires.received));
+      rw c.pop_first-released.ensures.rest
+      (omega (arith, held-drop_first c.args.can.now.received, c.requires.received));
 }
