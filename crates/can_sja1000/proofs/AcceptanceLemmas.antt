@@ -1,5 +1,6 @@
 -- Which frames a controller refuses.
-use Rattle.std.proofs.Common.{◌≡◌, ◌∙◌, ℕ, ◌/◌, ◌^◌, ◌==◌, ◌||◌, not, nat_le, ◌+◌, Bool, true, false, if◌then◌else◌, List, []}
+use Rattle.std.proofs.Common.{◌≡◌, ◌∙◌, ◌/◌, ◌^◌, ◌==◌, ◌||◌, not, nat_le, ◌+◌, Bool, true, false, if◌then◌else◌}
+use Rattle.std.proofs.Common.{[]}
 use Rattle.std.proofs.Common.{◌∷◌, refl, sym, sum_by}
 use Rattle.std.specs.Int.{bit_at}
 use Rattle.std.specs.List.{list_all}
@@ -22,12 +23,16 @@ abbrev is_refused : CanState → FrameData → Bool
 is_refused c frame = is_reset_mode c || not (is_accepted c.code c.mask frame.id)
 
 -- the answer tells whether it is refused
-told : (c : CanState) (f : FrameData) (refused fits : Bool) → (received_by c f refused fits).answer ≡ Refused → refused ≡ true
+told :
+    (c : CanState) (f : FrameData) (refused fits : Bool) →
+    (received_by c f refused fits).answer ≡ Refused → refused ≡ true
 told c f true fits is = refl
 told c f false true is = cc
 told c f false false is = cc
 
-answered : (c : CanState) (f : FrameData) (refused fits : Bool) → refused ≡ true → (received_by c f refused fits).answer ≡ Refused
+answered :
+    (c : CanState) (f : FrameData) (refused fits : Bool) →
+    refused ≡ true → (received_by c f refused fits).answer ≡ Refused
 answered c f true fits is = refl
 answered c f false fits is = cc
 

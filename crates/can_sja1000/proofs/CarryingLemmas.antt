@@ -1,17 +1,19 @@
 -- The bytes of a frame, from one controller's transmit buffer to another's receive buffer.
 use Rattle.std.proofs.Common.{◌≡◌, ◌∙◌, ℕ, zero, suc, ◌+◌, ◌-◌, ◌*◌, ◌/◌, ◌%◌, ◌^◌, ◌<◌, ◌≤◌, ◌==◌, ◌&&◌, not, min}
-use Rattle.std.proofs.Common.{nat_le, nat_lt, Bool, true, false, if◌then◌else◌, cond, List, [], ◌∷◌, ◌++◌, length, take, drop}
-use Rattle.std.proofs.Common.{replicate, slice_index, slice_set, slice_get, get_or, refl, sym, ap, subst, arith, All, le-leb, lt-ltb}
-use Rattle.std.proofs.Common.{ltb-false, eqb-true}
+use Rattle.std.proofs.Common.{nat_le, nat_lt, Bool, true, false, if◌then◌else◌, cond, List, [], ◌∷◌, ◌++◌, length}
+use Rattle.std.proofs.Common.{take, drop}
+use Rattle.std.proofs.Common.{replicate, slice_index, slice_set, slice_get, refl, sym, ap, subst, arith}
+use Rattle.std.proofs.Common.{le-leb, lt-ltb}
+use Rattle.std.proofs.Common.{eqb-true}
 use Rattle.std.specs.Option.{option_map_or}
-use Rattle.std.proofs.lemmas.List.{get_or-take, get_or-drop, get_or_append_left, length-take, length-take-le, length-drop}
+use Rattle.std.proofs.lemmas.List.{get_or-take, get_or-drop, get_or_append_left, length-take, length-take-le}
+use Rattle.std.proofs.lemmas.List.{length-drop}
 use Rattle.dev_core.specs.declared.can_state.CanState.{CanState}
-use Rattle.dev_core.specs.declared.payload.Effect.{Effect}
 use Rattle.dev_core.specs.declared.payload.Effect.TheVariants.{Quiet, Send}
 use Rattle.dev_core.specs.declared.payload.Payload.TheVariants.{Frame}
 use Rattle.dev_core.specs.declared.payload.Taken.TheVariants.{Kept}
 use Rattle.dev_core.specs.Bit.{is_set, flag}
-use Rattle.dev_core.specs.Can.{access_at, can_load, can_receive, can_register_at, can_store, can_store_byte, frame_kept}
+use Rattle.dev_core.specs.Can.{can_load, can_receive, can_register_at, can_store, can_store_byte}
 use Rattle.dev_core.specs.Can.{is_among_ten, is_reset_mode, receive_register, transmit_register}
 use Rattle.dev_core.specs.CanBits.{rtr}
 use Rattle.dev_core.specs.CanFrame.{frame_bytes, frame_of, identifier_of, length_of}

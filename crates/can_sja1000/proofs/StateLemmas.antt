@@ -1,6 +1,8 @@
 -- Each call leaves a valid state.
-use Rattle.std.proofs.Common.{◌≡◌, ℕ, zero, suc, ◌+◌, ◌≤◌, ◌%◌, ◌^◌, Bool, true, false, cond, List, [], ◌∷◌, ◌++◌, fold, find}
-use Rattle.std.proofs.Common.{◌-◌, ◌||◌, ◌==◌, not, if◌then◌else◌, unwrap_or, sum_by, Some, nat_le, All, arith, refl, leb-true}
+use Rattle.std.proofs.Common.{◌≡◌, ℕ, zero, suc, ◌+◌, ◌≤◌, ◌%◌, ◌^◌, Bool, true, false, cond, List, [], ◌∷◌}
+use Rattle.std.proofs.Common.{find}
+use Rattle.std.proofs.Common.{◌-◌, ◌||◌, ◌==◌, not, if◌then◌else◌, unwrap_or, sum_by, Some, nat_le, All, arith, refl}
+use Rattle.std.proofs.Common.{leb-true}
 use Rattle.dev_core.specs.declared.payload.Taken.TheVariants.{Kept, Refused, Overrun}
 use Rattle.dev_core.specs.Answered.{unchanged}
 use Rattle.dev_core.specs.CanBits.{tr, rrb, cdo}
@@ -8,13 +10,13 @@ use Rattle.dev_core.specs.Can.{overrun_cleared}
 use Rattle.std.proofs.lemmas.List.Elements.{All-head, All-tail}
 use Rattle.std.proofs.lemmas.List.Sums.{sum_by_push}
 use Rattle.dev_core.specs.declared.can_state.CanState.{CanState}
-use Rattle.dev_core.specs.declared.payload.Payload.{Payload}
 use Rattle.dev_core.specs.declared.payload.Payload.TheVariants.{Byte, Frame, Finish}
 use Rattle.dev_core.specs.Bit.{is_set}
 use Rattle.dev_core.specs.Can.{Access, CanRegister, IsCanState, access_at, buffer_released, can_load, can_receive}
-use Rattle.dev_core.specs.Can.{can_register_at, can_store, can_store_byte, can_take, cdr_stored, clock_stored, commanded}
+use Rattle.dev_core.specs.Can.{can_register_at, can_store, can_store_byte, cdr_stored, clock_stored}
+use Rattle.dev_core.specs.Can.{commanded}
 use Rattle.dev_core.specs.Can.{cmr_stored, cr_stored, entered_by, frame_kept, frame_lost, is_accepted, is_among_ten}
-use Rattle.dev_core.specs.Can.{is_reset_mode, no_can_register, receive_register, single_registers, transmit_register}
+use Rattle.dev_core.specs.Can.{is_reset_mode, no_can_register, single_registers, transmit_register}
 use Rattle.dev_core.specs.Frame.{FrameData, held_size}
 use Rattle.can_sja1000.specs.Calls.{Call, after_call, after_calls, loads, stores, takes}
 use Rattle.can_sja1000.proofs.DividerLemmas.{divider_clock_replaced, divider_replaced}
@@ -31,7 +33,9 @@ closed_keeps : Keeps no_can_register.operating
 closed_keeps c byte v = (v, v)
 
 -- the same control, divider and frames
-plain : (c d : CanState) → IsCanState c → d.control ≡ c.control → d.divider ≡ c.divider → d.received ≡ c.received → IsCanState d
+plain :
+    (c d : CanState) → IsCanState c → d.control ≡ c.control → d.divider ≡ c.divider → d.received ≡ c.received →
+    IsCanState d
 plain c d v a b e = record { control = rw a v.control; divider = rw b v.divider; received = rw e v.received }
 
 -- one of two valid states is valid
@@ -95,12 +99,16 @@ each_keeps (suc (suc (suc (suc (suc (suc (suc (suc (suc zero))))))))) d within =
 each_keeps (suc (suc (suc (suc (suc (suc (suc (suc (suc (suc k)))))))))) d within = absurd (omega (arith, within))
 
 -- and so the one that is found
-found : (p : CanRegister → Bool) (rs : List CanRegister) → All KeepsBoth rs → KeepsBoth (unwrap_or (find p rs) no_can_register)
+found :
+    (p : CanRegister → Bool) (rs : List CanRegister) → All KeepsBoth rs →
+    KeepsBoth (unwrap_or (find p rs) no_can_register)
 found p [] all = (closed_keeps, closed_keeps)
 found p (r ∷ rs) all =
     pick (p r) (All-head KeepsBoth r rs all) (found p rs (All-tail KeepsBoth r rs all))
   where
-    pick : (b : Bool) → KeepsBoth r → KeepsBoth (unwrap_or (find p rs) no_can_register) → KeepsBoth (unwrap_or (cond b (Some r) (find p rs)) no_can_register)
+    pick :
+        (b : Bool) → KeepsBoth r → KeepsBoth (unwrap_or (find p rs) no_can_register) →
+        KeepsBoth (unwrap_or (cond b (Some r) (find p rs)) no_can_register)
     pick true here later = here
     pick false here later = later
 

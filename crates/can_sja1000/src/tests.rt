@@ -1,5 +1,6 @@
 //! Tables of the SJA1000 in BasicCAN mode, through the calls of a device.
 use crate::Can;
+use dev_core::Taken::{Kept, Overrun, Refused};
 use dev_core::{CanState, DevState, Device, Effect, Frame, FrameRow, Payload, Taken, UartState};
 use std::process::Abort;
 use std::test::Fail;
@@ -110,7 +111,7 @@ fn the_transmit_buffer_says_a_frame(rt: HostRuntime) {
         );
         let mut receiver = Can::new();
         assert!(rt; receiver.put(&DevState::Can(open(0))));
-        assert_eq!(rt; take(&mut receiver, frame), Taken::Kept);
+        assert_eq!(rt; take(&mut receiver, frame), Kept);
         assert_eq!(rt; load(&mut receiver, 20), u32::from(upper));
         let read = u32::from(lower & 0xF0) + (len.min(8) as u32);
         assert_eq!(rt; load(&mut receiver, 21), read, "{lower:x}");
@@ -182,9 +183,7 @@ fn interrupts_and_status_change_at_their_moments(rt: HostRuntime) {
         assert_eq!(rt; load(&mut can, 3), 0);
         assert!(rt; !can.line());
         assert_eq!(rt; load(&mut can, 2), sr, "{control:x} {value:x}");
-        let mut left = held_after;
-        while left > 0 {
-            left -= 1;
+        for _ in 0..held_after {
             assert_eq!(rt; load(&mut can, 21), 0x20);
             let _ = store(&mut can, 0, 0);
             let _ = store(&mut can, 1, 4);
@@ -196,123 +195,24 @@ fn interrupts_and_status_change_at_their_moments(rt: HostRuntime) {
 /// Control, code and mask, bytes held before, whether one was lost before, and the frame; then the
 /// answer, IR and SR.
 const TAKEN: [(u8, u8, u8, usize, bool, u16, usize, Taken, u32, u32); 18] = [
-    (0x00, 0x20, 0x00, 0, false, 0x100, 8, Taken::Kept, 0, 0x0D),
-    (0x00, 0x20, 0x00, 0, false, 0x107, 8, Taken::Kept, 0, 0x0D),
-    (
-        0x00,
-        0x20,
-        0x00,
-        0,
-        false,
-        0x108,
-        8,
-        Taken::Refused,
-        0,
-        0x0C,
-    ),
-    (0x00, 0x20, 0x01, 0, false, 0x108, 8, Taken::Kept, 0, 0x0D),
-    (
-        0x00,
-        0x20,
-        0xFE,
-        0,
-        false,
-        0x108,
-        8,
-        Taken::Refused,
-        0,
-        0x0C,
-    ),
-    (
-        0x00,
-        0x20,
-        0x7F,
-        0,
-        false,
-        0x500,
-        8,
-        Taken::Refused,
-        0,
-        0x0C,
-    ),
-    (0x00, 0x20, 0x80, 0, false, 0x500, 8, Taken::Kept, 0, 0x0D),
-    (0x00, 0x00, 0xFF, 0, false, 0x7FF, 0, Taken::Kept, 0, 0x0D),
-    (
-        0x1F,
-        0x00,
-        0xFF,
-        0,
-        false,
-        0x000,
-        0,
-        Taken::Refused,
-        0,
-        0x0C,
-    ),
-    (0x02, 0x00, 0xFF, 0, false, 0x000, 0, Taken::Kept, 1, 0x0D),
-    (0x1E, 0x00, 0xFF, 54, false, 0x000, 8, Taken::Kept, 1, 0x0D),
-    (0x1E, 0x00, 0xFF, 56, false, 0x000, 6, Taken::Kept, 1, 0x0D),
-    (
-        0x1E,
-        0x00,
-        0xFF,
-        56,
-        false,
-        0x000,
-        7,
-        Taken::Overrun,
-        8,
-        0x0F,
-    ),
-    (
-        0x0E,
-        0x00,
-        0xFF,
-        56,
-        false,
-        0x000,
-        7,
-        Taken::Overrun,
-        0,
-        0x0F,
-    ),
-    (
-        0x1E,
-        0x00,
-        0xFF,
-        56,
-        true,
-        0x000,
-        7,
-        Taken::Overrun,
-        0,
-        0x0F,
-    ),
-    (0x1E, 0x00, 0xFF, 56, true, 0x000, 6, Taken::Kept, 1, 0x0F),
-    (
-        0x1E,
-        0x00,
-        0xFF,
-        64,
-        false,
-        0x000,
-        0,
-        Taken::Overrun,
-        8,
-        0x0F,
-    ),
-    (
-        0x1E,
-        0x55,
-        0x00,
-        64,
-        false,
-        0x000,
-        0,
-        Taken::Refused,
-        0,
-        0x0D,
-    ),
+    (0x00, 0x20, 0x00, 0, false, 0x100, 8, Kept, 0, 0x0D),
+    (0x00, 0x20, 0x00, 0, false, 0x107, 8, Kept, 0, 0x0D),
+    (0x00, 0x20, 0x00, 0, false, 0x108, 8, Refused, 0, 0x0C),
+    (0x00, 0x20, 0x01, 0, false, 0x108, 8, Kept, 0, 0x0D),
+    (0x00, 0x20, 0xFE, 0, false, 0x108, 8, Refused, 0, 0x0C),
+    (0x00, 0x20, 0x7F, 0, false, 0x500, 8, Refused, 0, 0x0C),
+    (0x00, 0x20, 0x80, 0, false, 0x500, 8, Kept, 0, 0x0D),
+    (0x00, 0x00, 0xFF, 0, false, 0x7FF, 0, Kept, 0, 0x0D),
+    (0x1F, 0x00, 0xFF, 0, false, 0x000, 0, Refused, 0, 0x0C),
+    (0x02, 0x00, 0xFF, 0, false, 0x000, 0, Kept, 1, 0x0D),
+    (0x1E, 0x00, 0xFF, 54, false, 0x000, 8, Kept, 1, 0x0D),
+    (0x1E, 0x00, 0xFF, 56, false, 0x000, 6, Kept, 1, 0x0D),
+    (0x1E, 0x00, 0xFF, 56, false, 0x000, 7, Overrun, 8, 0x0F),
+    (0x0E, 0x00, 0xFF, 56, false, 0x000, 7, Overrun, 0, 0x0F),
+    (0x1E, 0x00, 0xFF, 56, true, 0x000, 7, Overrun, 0, 0x0F),
+    (0x1E, 0x00, 0xFF, 56, true, 0x000, 6, Kept, 1, 0x0F),
+    (0x1E, 0x00, 0xFF, 64, false, 0x000, 0, Overrun, 8, 0x0F),
+    (0x1E, 0x55, 0x00, 64, false, 0x000, 0, Refused, 0, 0x0D),
 ];
 
 /// A row with so many bytes of frames.
@@ -350,16 +250,16 @@ fn a_frame_is_taken_by_filter_and_room(rt: HostRuntime) {
 fn fill<D: Device>(rt: &impl Abort, can: &mut D) {
     let _ = store(can, 4, 0x20);
     let _ = store(can, 0, 0);
-    assert_eq!(rt; take(can, data_frame(0x100, 8)), Taken::Kept);
-    assert_eq!(rt; take(can, data_frame(0x108, 8)), Taken::Refused);
+    assert_eq!(rt; take(can, data_frame(0x100, 8)), Kept);
+    assert_eq!(rt; take(can, data_frame(0x108, 8)), Refused);
     let _ = store(can, 0, 1);
     let _ = store(can, 5, 0xFF);
     let _ = store(can, 0, 0);
     for _ in 0..6 {
-        assert_eq!(rt; take(can, data_frame(0x123, 8)), Taken::Kept);
+        assert_eq!(rt; take(can, data_frame(0x123, 8)), Kept);
     }
-    assert_eq!(rt; take(can, data_frame(0x123, 8)), Taken::Overrun);
-    for taken in [Taken::Kept, Taken::Kept, Taken::Overrun] {
+    assert_eq!(rt; take(can, data_frame(0x123, 8)), Overrun);
+    for taken in [Kept, Kept, Overrun] {
         assert_eq!(rt; take(can, Frame::new_remote(0x123, 8)), taken);
     }
     assert_eq!(rt; load(can, 2), 0x0F);
@@ -379,7 +279,7 @@ fn can_fifo(rt: HostRuntime) -> Result<(), Fail> {
         assert!(rt; !boxed.put(&state));
         assert_eq!(rt; boxed.state(), before);
     }
-    assert_eq!(rt; boxed.take(&Payload::Byte(1)), Taken::Refused);
+    assert_eq!(rt; boxed.take(&Payload::Byte(1)), Refused);
     assert_eq!(rt; boxed.state(), before);
     boxed.reset();
     assert_eq!(rt; boxed.state(), DevState::Can(CanState::reset()));

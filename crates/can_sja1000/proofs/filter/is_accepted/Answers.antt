@@ -1,4 +1,4 @@
-use Rattle.std.proofs.Common.{ℕ, ◌/◌, ◌<◌, ◌^◌, arith}
+use Rattle.std.proofs.Common.{◌/◌, arith}
 use Rattle.can_sja1000.proofs.FilterLemmas.{accepted_by_bits}
 use Rattle.can_sja1000.proofs.filter.is_accepted.Goals as goal
 

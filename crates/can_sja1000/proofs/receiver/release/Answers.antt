@@ -1,5 +1,4 @@
-use Rattle.std.proofs.Common.{◌≤◌, sum_by, arith, subst, sym}
-use Rattle.dev_core.specs.Frame.{held_size}
+use Rattle.std.proofs.Common.{arith}
 use Rattle.can_sja1000.proofs.HeldLemmas.{held-drop_first}
 use Rattle.can_sja1000.proofs.receiver.release.Goals as goal
 
