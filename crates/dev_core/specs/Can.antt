@@ -1,7 +1,8 @@
 -- The CAN controller, by the SJA1000 data sheet, BasicCAN mode: its states, registers, interrupts and receiver. A frame
 -- is sent at once, so the transmit buffer is always free; there is no arbitration, bus error or sleep mode. The moments
 -- at which interrupts and the overrun status are set and cleared are this project's own.
-use Rattle.std.specs.Prelude.{◌≡◌, ℕ, ◌+◌, ◌-◌, ◌*◌, ◌/◌, ◌%◌, ◌^◌, ◌≤◌, ◌==◌, ◌&&◌, ◌||◌, not, nat_lt, nat_le, Bool, true}
+use Rattle.std.specs.Prelude.{◌≡◌, ℕ, ◌+◌, ◌-◌, ◌*◌, ◌/◌, ◌%◌, ◌^◌, ◌≤◌, ◌==◌, ◌&&◌, ◌||◌, not, nat_lt, nat_le, Bool}
+use Rattle.std.specs.Prelude.{true}
 use Rattle.std.specs.Prelude.{false, if◌then◌else◌, List, [], ◌∷◌, ◌++◌, length, drop, find, slice_index, slice_set}
 use Rattle.std.specs.Prelude.{slice_get, unwrap_or, replicate, bit_and, bit_or, sum_by}
 use Rattle.std.specs.Int.{bit_at}

@@ -1,0 +1,2 @@
+-- What the laws of CAN controllers cite.
+pub mod Calls
