@@ -201,11 +201,7 @@ impl<D: Device> Board<D> {
         if self.hart.halted() {
             return Ok(());
         }
-        if !wired {
-            let lines = self.wires.space.no_lines();
-            return self.run(at, lines);
-        }
-        match self.wires.space.settled_lines(at) {
+        match self.wires.space.known_lines(wired, at) {
             Some(lines) => self.run(at, lines),
             None => self.sample_and_run(at),
         }
@@ -246,7 +242,7 @@ impl<D: Device> Board<D> {
     {
         let before = self.controller_state();
         let lines = self.sample(at);
-        let Ok(()) = self.run(at, lines) else {
+        let Ok(()) = self.run_apart(at, lines) else {
             self.put_controller(&before);
             return Err(NoMemory);
         };
@@ -265,6 +261,17 @@ impl<D: Device> Board<D> {
         self.act(at, lines)
     }
 
+    /// The same, where it is not to be inlined.
+    fn run_apart(&mut self, at: Micros, lines: Lines) -> Result<(), NoMemory>
+        ensures ok { OnOk result (self.new ≡ after self.old (running self.old.view at.0 lines)) }
+        ensures err { OnErr result (self.new ≡ self.old) }
+    {
+        if self.hart.waiting() {
+            return self.wait(at, lines);
+        }
+        self.act_apart(at, lines)
+    }
+
     /// A slot of a processor that waits: it goes on waiting, or is woken. After an `Err` the board
     /// is as before.
     #[cold]
@@ -279,11 +286,21 @@ impl<D: Device> Board<D> {
             return Ok(());
         }
         self.hart.set_waiting(false);
-        let Ok(()) = self.act(at, lines) else {
+        let Ok(()) = self.act_apart(at, lines) else {
             self.hart.set_waiting(true);
             return Err(NoMemory);
         };
         Ok(())
+    }
+
+    /// `act`, where it is not to be inlined.
+    #[cold]
+    #[inline(never)]
+    fn act_apart(&mut self, at: Micros, lines: Lines) -> Result<(), NoMemory>
+        ensures ok { OnOk result (self.new ≡ after self.old (awake self.old.view at.0 lines)) }
+        ensures err { OnErr result (self.new ≡ self.old) }
+    {
+        self.act(at, lines)
     }
 
     /// Enters the interrupt that is taken now, or else does one instruction. After an `Err` the
