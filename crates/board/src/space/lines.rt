@@ -247,8 +247,6 @@ impl<D: Device> Space<D> {
 
     /// The same in another microsecond than that of which they were remembered: they are known
     /// where the line of the timer interrupt is as it was.
-    #[cold]
-    #[inline(never)]
     fn lines_later(&mut self, now: Micros) -> Option<Lines>
         ensures settled { IfSome result (λ lines. sampled self.old ≡ self.old) }
         ensures lines { IfSome result (λ lines. lines ≡ lines_of self.old now.0) }
