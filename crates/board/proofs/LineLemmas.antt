@@ -139,25 +139,27 @@ right_same s dev fitted d r right there same = (
 )
 
 pub right_device :
-    (s : Space) (dev : ℕ) (old new d : Fitted) (r : Option Remembered) (known before after : Bool) → IsRight s r →
-    dev < length s.devices → old ≡ slice_index_or s.devices dev d → known ≡ is_some r →
-    before ≡ (known && dev_line old.state) → after ≡ (known && dev_line new.state) →
-    IsRight (with_device s dev new) (still r before after)
-right_device s dev old new d r known before after right there at asked was is =
-    by_lines r before after right
-    (was ∙ rw (asked, at) refl)
-    (is ∙ rw asked refl)
+    (s : Space) (dev : ℕ) (old new d : Fitted) (r : Option Remembered) (before after : Bool) → IsRight s r →
+    dev < length s.devices → old ≡ slice_index_or s.devices dev d → before ≡ dev_line old.state →
+    after ≡ dev_line new.state → IsRight (with_device s dev new) (still r before after)
+right_device s dev old new d r before after right there at was is =
+    by_lines r before after right (was ∙ rw at refl) is
   where
     by_lines :
         (r : Option Remembered) (before after : Bool) → IsRight s r →
-        before ≡ (is_some r && dev_line (slice_index_or s.devices dev d).state) →
-        after ≡ (is_some r && dev_line new.state) → IsRight (with_device s dev new) (still r before after)
+        before ≡ dev_line (slice_index_or s.devices dev d).state → after ≡ dev_line new.state →
+        IsRight (with_device s dev new) (still r before after)
     by_lines None true true right was is = tt
     by_lines None false false right was is = tt
     by_lines r true false right was is = tt
     by_lines r false true right was is = tt
     by_lines (Some r) true true right was is = right_same s dev new d r right there (sym is ∙ was)
     by_lines (Some r) false false right was is = right_same s dev new d r right there (sym is ∙ was)
+
+-- nothing that is remembered is right anywhere
+pub right_unknown : (s : Space) (r : Option Remembered) (known : Bool) → known ≡ is_some r → known ≡ false → IsRight s r
+right_unknown s None known is unknown = tt
+right_unknown s (Some r) known is unknown = absurd (cc)
 
 -- of all lines the timer's alone goes by the time
 pub later_lines :

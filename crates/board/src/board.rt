@@ -17,6 +17,14 @@ use std::marker::Model;
 use std::mem;
 use sys_bus::BoardPlan;
 
+/// The copies of the interpreter, of which each is called from one place, so that it is inlined
+/// there: those in the two loops of a turn, and one for slots that sample or wait.
+const UNWIRED: u8 = 0;
+
+const WIRED: u8 = 1;
+
+const APART: u8 = 2;
+
 /// Where a turn begins: slot `first` of the grant that begins at microsecond `from`.
 #[derive(Clone, Copy, PartialEq, Eq, Debug)]
 pub struct SlotAt {
@@ -160,15 +168,14 @@ impl<D: Device> Board<D> {
         }
         // two loops, so that a board without wires asks in no slot for its lines
         if self.wires.space.is_wired() {
-            self.slots(true, at, n)
+            self.slots::<WIRED>(true, at, n)
         } else {
-            self.slots(false, at, n)
+            self.slots::<UNWIRED>(false, at, n)
         }
     }
 
     /// The next `n` slots of a board that is wired or not.
-    #[inline(always)]
-    fn slots(&mut self, wired: bool, at: SlotAt, n: u64) -> Turn
+    fn slots<const COPY: u8>(&mut self, wired: bool, at: SlotAt, n: u64) -> Turn
         requires time { at.from.0 + (at.first + n) / self.old.view.numbers.speed ≤ 10000000000 }
         requires wired { wired ≡ is_wired self.old.view.space.plan }
         ensures { IsTurn self.old at.from.0 at.first n result self.new }
@@ -177,7 +184,7 @@ impl<D: Device> Board<D> {
         let mut micros = at.first / speed;
         let mut within = at.first % speed;
         for i in 0..n {
-            let Ok(()) = self.slot(wired, Micros(at.from.0 + micros)) else {
+            let Ok(()) = self.slot::<COPY>(wired, Micros(at.from.0 + micros)) else {
                 return Turn::Starved(i);
             };
             within += 1;
@@ -192,8 +199,7 @@ impl<D: Device> Board<D> {
     /// One slot, in this microsecond, of a board that is wired or not. After an `Err` the board is
     /// as before.
     #[tactic(auto, unfolding(crate::specs::Slot::slot))]
-    #[inline(always)]
-    fn slot(&mut self, wired: bool, at: Micros) -> Result<(), NoMemory>
+    fn slot<const COPY: u8>(&mut self, wired: bool, at: Micros) -> Result<(), NoMemory>
         requires { wired ≡ is_wired self.old.view.space.plan }
         ensures ok { OnOk result (self.new ≡ after self.old (slot self.old.view at.0)) }
         ensures err { OnErr result (self.new ≡ self.old) }
@@ -201,12 +207,8 @@ impl<D: Device> Board<D> {
         if self.hart.halted() {
             return Ok(());
         }
-        if !wired {
-            let lines = self.wires.space.no_lines();
-            return self.run(at, lines);
-        }
-        match self.wires.space.settled_lines(at) {
-            Some(lines) => self.run(at, lines),
+        match self.wires.space.known_lines(wired, at) {
+            Some(lines) => self.run::<COPY>(at, lines),
             None => self.sample_and_run(at),
         }
     }
@@ -246,7 +248,7 @@ impl<D: Device> Board<D> {
     {
         let before = self.controller_state();
         let lines = self.sample(at);
-        let Ok(()) = self.run(at, lines) else {
+        let Ok(()) = self.run::<APART>(at, lines) else {
             self.put_controller(&before);
             return Err(NoMemory);
         };
@@ -254,15 +256,14 @@ impl<D: Device> Board<D> {
     }
 
     /// The rest of a slot whose lines are these. After an `Err` the board is as before.
-    #[inline(always)]
-    fn run(&mut self, at: Micros, lines: Lines) -> Result<(), NoMemory>
+    fn run<const COPY: u8>(&mut self, at: Micros, lines: Lines) -> Result<(), NoMemory>
         ensures ok { OnOk result (self.new ≡ after self.old (running self.old.view at.0 lines)) }
         ensures err { OnErr result (self.new ≡ self.old) }
     {
         if self.hart.waiting() {
             return self.wait(at, lines);
         }
-        self.act(at, lines)
+        self.act::<COPY>(at, lines)
     }
 
     /// A slot of a processor that waits: it goes on waiting, or is woken. After an `Err` the board
@@ -279,7 +280,7 @@ impl<D: Device> Board<D> {
             return Ok(());
         }
         self.hart.set_waiting(false);
-        let Ok(()) = self.act(at, lines) else {
+        let Ok(()) = self.act::<APART>(at, lines) else {
             self.hart.set_waiting(true);
             return Err(NoMemory);
         };
@@ -289,8 +290,7 @@ impl<D: Device> Board<D> {
     /// Enters the interrupt that is taken now, or else does one instruction. After an `Err` the
     /// board is as before.
     #[tactic(auto, unfolding(crate::specs::Slot::awake))]
-    #[inline(always)]
-    fn act(&mut self, at: Micros, lines: Lines) -> Result<(), NoMemory>
+    fn act<const COPY: u8>(&mut self, at: Micros, lines: Lines) -> Result<(), NoMemory>
         ensures ok { OnOk result (self.new ≡ after self.old (awake self.old.view at.0 lines)) }
         ensures err { OnErr result (self.new ≡ self.old) }
     {

@@ -1,5 +1,5 @@
 //! A device of a board.
-ghost use Rattle.std.specs.Prelude.{◌≡◌, ◌^◌, ◌%◌, ◌<◌, ◌&&◌, true};
+ghost use Rattle.std.specs.Prelude.{◌≡◌, ◌^◌, ◌%◌, ◌<◌, true};
 ghost use Rattle.rv_exec.specs.Access.{IsWidth};
 ghost use Rattle.dev_core.specs.Device.{dev_line, dev_take, dev_reset, kind_of, IsValid};
 ghost use Rattle.board.specs.Space.{register_load, register_store};
@@ -13,17 +13,20 @@ use std::marker::Model;
 pub struct Fitted<D: Device> {
     device: D,
     shown: bool,
+    /// Whether the interrupt line is up, as long as nothing was done to the device since it was asked.
+    up: Option<bool>,
 }
 
 impl<D: Device> Model for Fitted<D> {
-    ghost use Rattle.dev_core.specs.Device.{IsValid};
+    ghost use Rattle.dev_core.specs.Device.{IsValid, dev_line};
     ghost use Rattle.board.specs.Space.{Fitted as Seen};
+    ghost use Rattle.board.specs.Inner.Remembers.{IsLine};
 
     ghost Value = { Seen };
 
     ghost view = { λ f. record { state = D.meaning f.device; shown = f.shown } };
 
-    ghost invariant = { λ f. IsValid (D.meaning f.device) };
+    ghost invariant = { λ f. IsValid (D.meaning f.device) × IsLine f.up (dev_line (D.meaning f.device)) };
 }
 
 impl<D: Device> Fitted<D> {
@@ -36,6 +39,7 @@ impl<D: Device> Fitted<D> {
         Fitted {
             device,
             shown: false,
+            up: None,
         }
     }
 
@@ -65,6 +69,7 @@ impl<D: Device> Fitted<D> {
         ensures kind { kind_of self.new.state ≡ kind_of self.old.state }
         ensures valid { IsValid self.new.state }
     {
+        self.up = None;
         match register {
             Some(register) => lowest_bytes(self.device.load(register, width), width),
             None => 0,
@@ -80,6 +85,7 @@ impl<D: Device> Fitted<D> {
         ensures kind { kind_of self.new.state ≡ kind_of self.old.state }
         ensures valid { IsValid self.new.state }
     {
+        self.up = None;
         match register {
             Some(register) => self.device.store(register, width, value),
             None => Effect::Quiet,
@@ -95,6 +101,7 @@ impl<D: Device> Fitted<D> {
         ensures kind { kind_of self.new.state ≡ kind_of self.old.state }
         ensures valid { IsValid self.new.state }
     {
+        self.up = None;
         self.device.take(payload)
     }
 
@@ -104,6 +111,7 @@ impl<D: Device> Fitted<D> {
         ensures kind { kind_of self.new.state ≡ kind_of self.old.state }
         ensures valid { IsValid self.new.state }
     {
+        self.up = None;
         self.device.reset();
     }
 
@@ -122,6 +130,7 @@ impl<D: Device> Fitted<D> {
         ensures kind { kind_of self.new.state ≡ kind_of self.old.state }
         ensures valid { IsValid self.new.state }
     {
+        self.up = None;
         let _put = self.device.put(state);
     }
 
@@ -132,11 +141,17 @@ impl<D: Device> Fitted<D> {
         self.device.line()
     }
 
-    /// The same where it is asked for, and else false.
-    pub fn line_if(&self, asked: bool) -> bool
-        ensures { result ≡ (asked && dev_line self.now.state) }
+    /// The same. The device is asked once, until something is done to it.
+    pub fn line_now(&mut self) -> bool
+        ensures line { result ≡ dev_line self.old.state }
+        ensures same { self.new ≡ self.old }
     {
-        asked && self.device.line()
+        if let Some(up) = self.up {
+            return up;
+        }
+        let up = self.device.line();
+        self.up = Some(up);
+        up
     }
 }
 

@@ -14,9 +14,12 @@ pub struct Remembered {
     pub lines: Lines,
 }
 
-/// What is still remembered after the line of a device was up or not before and after something.
-pub fn still(remembered: Option<Remembered>, before: bool, after: bool) -> Option<Remembered>
-    ensures { result ≡ still remembered before after }
+/// Forgets what is remembered, where the line of a device was up or not before something and is not
+/// so after it.
+pub fn forget_if_changed(remembered: &mut Option<Remembered>, before: bool, after: bool)
+    ensures { remembered.new ≡ still remembered.old before after }
 {
-    if before == after { remembered } else { None }
+    if before != after {
+        *remembered = None;
+    }
 }

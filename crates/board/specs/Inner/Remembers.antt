@@ -19,3 +19,8 @@ abbrev pub still : Option Remembered → Bool → Bool → Option Remembered
 still r true true = r
 still r false false = r
 still r _ _ = None
+
+-- what is remembered of the line of a device is right
+abbrev pub IsLine : Option Bool → Bool → Type 0
+IsLine None line = Unit {0}
+IsLine (Some up) line = up ≡ line

@@ -7,7 +7,7 @@ ghost use Rattle.board.specs.Space.{device_store};
 ghost use Rattle.board.specs.New.{reset_device, reset_space};
 
 use super::Space;
-use crate::remembered::still;
+use crate::remembered::forget_if_changed;
 use dev_core::{DevState, Device, Effect, Payload, Taken};
 
 /// The register at a place of a device whose registers begin 1 or 4 bytes apart.
@@ -41,10 +41,13 @@ impl<D: Device> Space<D> {
         let register = self.register_of(dev, at);
         let known = self.remembered.is_some();
         let device = &mut self.devices[usize::from(dev)];
-        let before = device.line_if(known);
+        if !known {
+            return device.load(register, width);
+        }
+        let before = device.line_now();
         let value = device.load(register, width);
-        let after = device.line_if(known);
-        self.remembered = still(self.remembered, before, after);
+        let after = device.line_now();
+        forget_if_changed(&mut self.remembered, before, after);
         value
     }
 
@@ -57,10 +60,13 @@ impl<D: Device> Space<D> {
         let register = self.register_of(dev, at);
         let known = self.remembered.is_some();
         let device = &mut self.devices[usize::from(dev)];
-        let before = device.line_if(known);
+        if !known {
+            return device.store(register, width, value);
+        }
+        let before = device.line_now();
         let effect = device.store(register, width, value);
-        let after = device.line_if(known);
-        self.remembered = still(self.remembered, before, after);
+        let after = device.line_now();
+        forget_if_changed(&mut self.remembered, before, after);
         effect
     }
 

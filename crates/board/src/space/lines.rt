@@ -204,7 +204,7 @@ impl<D: Device> Space<D> {
 
     /// The lines of a board that has none, at any time: to sample would change nothing.
     #[inline(always)]
-    pub fn no_lines(&self) -> Lines
+    fn no_lines(&self) -> Lines
         requires { is_wired self.now.plan ≡ false }
         ensures settled { sampled self.now ≡ self.now }
         ensures lines { (t : ℕ) → result ≡ lines_of self.now t }
@@ -214,9 +214,25 @@ impl<D: Device> Space<D> {
         Lines { mip: 0, mtime: 0 }
     }
 
-    /// The lines, where they are known without sampling: then to sample would change nothing.
+    /// The lines, where they are known without sampling: then to sample would change nothing. Those
+    /// of a board that is not wired always are.
     #[inline(always)]
-    pub fn settled_lines(&mut self, now: Micros) -> Option<Lines>
+    pub fn known_lines(&mut self, wired: bool, now: Micros) -> Option<Lines>
+        requires { wired ≡ is_wired self.old.plan }
+        ensures settled { IfSome result (λ lines. sampled self.old ≡ self.old) }
+        ensures lines { IfSome result (λ lines. lines ≡ lines_of self.old now.0) }
+        ensures same { self.new ≡ self.old }
+    {
+        if wired {
+            self.settled_lines(now)
+        } else {
+            Some(self.no_lines())
+        }
+    }
+
+    /// The same of a wired board.
+    #[inline(always)]
+    fn settled_lines(&mut self, now: Micros) -> Option<Lines>
         ensures settled { IfSome result (λ lines. sampled self.old ≡ self.old) }
         ensures lines { IfSome result (λ lines. lines ≡ lines_of self.old now.0) }
         ensures same { self.new ≡ self.old }
@@ -231,8 +247,6 @@ impl<D: Device> Space<D> {
 
     /// The same in another microsecond than that of which they were remembered: they are known
     /// where the line of the timer interrupt is as it was.
-    #[cold]
-    #[inline(never)]
     fn lines_later(&mut self, now: Micros) -> Option<Lines>
         ensures settled { IfSome result (λ lines. sampled self.old ≡ self.old) }
         ensures lines { IfSome result (λ lines. lines ≡ lines_of self.old now.0) }
