@@ -2,5 +2,4 @@ pub mod Within
 pub mod Ruled
 pub mod Steps
 pub mod Counts
-pub mod Places
 pub mod MachineNames
