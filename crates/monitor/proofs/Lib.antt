@@ -1,0 +1,4 @@
+pub mod Within
+pub mod Ruled
+pub mod Steps
+pub mod MachineNames
