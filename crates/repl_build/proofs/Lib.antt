@@ -16,4 +16,3 @@ pub mod ValidLemmas
 pub mod WhatLemmas
 pub mod WireLemmas
 pub mod WireValid
-pub mod NoCans
