@@ -3,3 +3,6 @@ pub mod Ruled
 pub mod Steps
 pub mod MachineNames
 pub mod BoardLemmas
+pub mod Entered
+pub mod Equipping
+pub mod Texts
