@@ -3,3 +3,4 @@ pub mod Ruled
 pub mod Steps
 pub mod MachineNames
 pub mod BoardLemmas
+pub mod MemoryLemmas

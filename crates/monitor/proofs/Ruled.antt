@@ -1,6 +1,6 @@
 -- How a command is carried out that is ruled as its definition says.
 use Rattle.std.proofs.Common.{◌≡◌, ◌∙◌, ℕ, ◌<◌, ◌≤◌, List, [], ◌∷◌, length, Option, Some, None, Result, Ok, Err, Vec}
-use Rattle.std.proofs.Common.{refl, sym, ap, absurd, nat_lt, true, false, Bool, cond, append-nil, arith}
+use Rattle.std.proofs.Common.{refl, sym, ap, nat_lt, true, false, Bool, cond, append-nil, arith}
 use Rattle.std.specs.Prelude.{IfSome, IsSomeAnd}
 use Rattle.std.specs.Global.{Global}
 use Rattle.std.proofs.lemmas.Bool.Decides.{nat_tests}
