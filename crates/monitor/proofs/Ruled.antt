@@ -69,6 +69,16 @@ ruled_leaves ruling (Err (File fault)) old new is = absurd is
 ruled_leaves ruling (Err Unread) old new is = absurd is
 ruled_leaves ruling (Err Memory) old new is = is
 
+pub ruled_read :
+    (ruling : Result Done ScriptCause) (result : Result (Vec ℕ Global) Stop) (old new : Running) →
+    IsRuled ruling result old new → result ≡ Err Unread → ⊥
+ruled_read ruling (Ok text) old new is same = cc same
+ruled_read ruling (Err Quit) old new is same = cc same
+ruled_read ruling (Err (Line cause)) old new is same = cc same
+ruled_read ruling (Err (File fault)) old new is same = cc same
+ruled_read ruling (Err Unread) old new is same = is
+ruled_read ruling (Err Memory) old new is same = cc same
+
 too_large :
     (place : Place) (content : Option (List ℕ)) (use_ : List ℕ → Answer) →
     IsSomeAnd content (λ bytes. 16777216 < length bytes) → with_file place content use_ ≡ refused place Size
