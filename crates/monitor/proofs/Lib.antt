@@ -1,8 +1,9 @@
-pub mod Within
-pub mod Ruled
-pub mod Steps
-pub mod MachineNames
 pub mod BoardLemmas
 pub mod Entered
 pub mod Equipping
+pub mod MachineNames
+pub mod MemoryLemmas
+pub mod Ruled
+pub mod Steps
 pub mod Texts
+pub mod Within
