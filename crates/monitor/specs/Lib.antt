@@ -1,0 +1,14 @@
+pub mod State
+pub mod Fault
+pub mod Answer
+pub mod Refusal
+pub mod Selected
+pub mod Boards
+pub mod Memory
+pub mod Processor
+pub mod Hubs
+pub mod Bodies
+pub mod Runs
+pub mod Command
+pub mod Step
+pub mod Inner

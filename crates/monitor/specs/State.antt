@@ -1,0 +1,37 @@
+-- A monitor between two commands.
+use Rattle.std.specs.Prelude.{ℕ, Bool, List, [], Option, None}
+use Rattle.lab_state.specs.Lab.{Lab}
+use Rattle.log_text.specs.declared.line.OpenLine.{OpenLine}
+use Rattle.resc_vars.specs.Bodies.{begun, source_of}
+use Rattle.resc_vars.specs.Script as script
+use Rattle.monitor.specs.declared.setting.Setting.{Setting}
+
+-- the script with its open bodies, variables and macros; the laboratory; the number of the selected board; the open
+-- lines of the log; the microsecond to which `start` runs; and whether each run has length 0
+pub record State : Type 0 where
+  pub flow : script.State
+  pub lab : Lab
+  pub selected : Option ℕ
+  pub lines : List OpenLine
+  pub until : ℕ
+  pub dry : Bool
+
+-- where a line stands: its file, and its number from 1 on
+pub record Place : Type 0 where
+  pub file : List ℕ
+  pub number : ℕ
+
+-- a laboratory in which nothing was made
+abbrev pub empty_lab : Lab
+empty_lab = record { boards = []; hubs = []; now = 0; quantum = 100 }
+
+-- a monitor before the first line of a script
+abbrev pub started : List ℕ → List ℕ → Setting → State
+started file text setting = record {
+  flow = begun (source_of file text);
+  lab = empty_lab;
+  selected = None;
+  lines = [];
+  until = setting.until.0;
+  dry = setting.dry;
+}

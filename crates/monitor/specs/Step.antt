@@ -1,0 +1,61 @@
+-- What one step of a monitor has done.
+use Rattle.std.specs.Prelude.{◌≡◌, ℕ, ◌<◌, ◌≤◌, Bool, true, false, List, Option, IfSome}
+use Rattle.lab_io.specs.Known.{grown}
+use Rattle.repl_files.specs.Asked.{AsksSome, AsksUpTo}
+use Rattle.resc_vars.specs.Script.{next_of}
+use Rattle.monitor.specs.declared.step.Step.{Step}
+use Rattle.monitor.specs.declared.step.Step.TheVariants.{Text, End, Fault, Unread, Memory}
+use Rattle.monitor.specs.Answer.{Goes, Ends, Faults, Did}
+use Rattle.monitor.specs.State.{State}
+
+-- a monitor, whether its laboratory is spent, and whether its script has ended
+pub record Running : Type 0 where
+  pub state : State
+  pub spent : Bool
+  pub ended : Bool
+
+-- a monitor that may go on from this state
+abbrev pub going : State → Running
+going s = record { state = s; spent = false; ended = false }
+
+-- a step has done what a command does and has asked for the names that it reads, or was cut short
+abbrev pub IsStep : Did → Step → State → Option (List (List ℕ)) → Option (List (List ℕ)) → Type 0
+IsStep did (Text text) after log log' = (did.answer ≡ Goes text.items after) × (log' ≡ grown log did.names)
+IsStep did End after log log' = (did.answer ≡ Ends) × (log' ≡ grown log did.names)
+IsStep did (Fault fault) after log log' = (did.answer ≡ Faults fault) × (log' ≡ grown log did.names)
+IsStep did Unread after log log' = AsksUpTo did.names log log'
+IsStep did Memory after log log' = AsksSome did.names log log'
+
+-- a step was cut short
+abbrev pub IsCut : Step → Type 0
+IsCut (Text text) = ⊥
+IsCut End = ⊥
+IsCut (Fault fault) = ⊥
+IsCut Unread = Unit {0}
+IsCut Memory = Unit {0}
+
+-- The laboratory, the selected board and the open lines of the log are as they were. Bodies, variables and macros are
+-- as the line found them that was taken, if one was. The script has ended.
+pub record IsOver (old new : Running) : Type 0 where
+  pub lab : new.state.lab ≡ old.state.lab
+  pub selected : new.state.selected ≡ old.state.selected
+  pub lines : new.state.lines ≡ old.state.lines
+  pub flow : IfSome (next_of old.state.flow).1 (λ flow. new.state.flow ≡ flow)
+  pub spent : new.spent ≡ false
+  pub ended : new.ended ≡ true
+
+-- a step that says something leaves a monitor that may go on, and no other does
+abbrev pub IsNext : Step → Running → Running → Type 0
+IsNext (Text text) old new = (new.spent ≡ false) × (new.ended ≡ false)
+IsNext End old new = IsOver old new
+IsNext (Fault fault) old new = IsOver old new
+IsNext Unread old new = IsOver old new
+IsNext Memory old new = new.ended ≡ true
+
+-- a step that says something has taken a command or more, and 100,000 are taken at most
+abbrev pub IsCounted : Step → State → State → Type 0
+IsCounted (Text text) old new = (old.flow.kept.taken < new.flow.kept.taken) × (new.flow.kept.taken ≤ 100000)
+IsCounted End old new = Unit {0}
+IsCounted (Fault fault) old new = Unit {0}
+IsCounted Unread old new = Unit {0}
+IsCounted Memory old new = Unit {0}

@@ -1,0 +1,74 @@
+//! Faults of scripts and of the files that they name.
+ghost use Rattle.std.specs.Prelude.{◌≡◌};
+ghost use Rattle.monitor.specs.Fault.{plat_cause_text};
+
+use lab_num::Text;
+use repl_read::PlatCause;
+use resc_vars::ScriptCause;
+use std::fmt;
+
+/// Why a run is refused at a place in a file.
+#[derive(Clone, Copy, PartialEq, Eq, Debug)]
+pub enum Cause {
+    /// S1 to S19: by a line of a script, or as a file that is too large or no text.
+    Script(ScriptCause),
+    /// P1 to P12: by what stands in a platform file.
+    Plat(PlatCause),
+}
+
+/// The code and the text of a fault of a platform.
+fn plat_text(cause: PlatCause) -> &'static str
+    ensures { result.now ≡ plat_cause_text cause }
+{
+    match cause {
+        PlatCause::Form => "P1 form",
+        PlatCause::Feature => "P2 feature",
+        PlatCause::TypeName => "P3 type",
+        PlatCause::Attribute => "P4 attribute",
+        PlatCause::Value => "P5 value",
+        PlatCause::Missing => "P6 missing",
+        PlatCause::Twice => "P7 twice",
+        PlatCause::Reference => "P8 reference",
+        PlatCause::Overlap => "P9 overlap",
+        PlatCause::Line => "P10 line",
+        PlatCause::Count => "P11 count",
+        PlatCause::Core => "P12 core",
+    }
+}
+
+impl fmt::Display for Cause {
+    ghost use Rattle.std.specs.Prelude.{Some};
+    ghost use Rattle.monitor.specs.Fault.{cause_text};
+
+    ghost output = { λ cause. Some (cause_text cause) };
+
+    fn fmt<W: fmt::Write>(&self, f: &mut fmt::Formatter<W>) -> fmt::Result {
+        let text = match self {
+            Cause::Script(cause) => cause.text(),
+            Cause::Plat(cause) => plat_text(*cause),
+        };
+        write!(f, "{text}")
+    }
+}
+
+/// A fault, and where it is: the file's name and the line, counted from 1, or 0 for a whole file.
+#[derive(Drop, Debug)]
+pub struct ScriptFault {
+    pub file: Text,
+    pub line: u32,
+    pub cause: Cause,
+}
+
+impl fmt::Display for ScriptFault {
+    ghost use Rattle.std.specs.Prelude.{Some};
+    ghost use Rattle.monitor.specs.Fault.{fault_text};
+
+    ghost output = { λ fault. Some (fault_text fault) };
+
+    fn fmt<W: fmt::Write>(&self, f: &mut fmt::Formatter<W>) -> fmt::Result {
+        let file = self.file.as_str();
+        let line = self.line;
+        let cause = self.cause;
+        write!(f, "error: {file}:{line}: {cause}")
+    }
+}

@@ -1,0 +1,86 @@
+//! Commands that make hubs, connect devices to them and show what devices send.
+ghost use Rattle.std.specs.Prelude.{◌≡◌, false, IsTrue};
+ghost use Rattle.lab_num.specs.Name.{is_name};
+ghost use Rattle.monitor.specs.Hubs as hubs;
+ghost use Rattle.monitor.specs.Inner.Ruling.{IsRuled};
+
+use crate::monitor::Monitor;
+use crate::stop::Stop;
+use dev_core::Device;
+use lab_state::{ConnectFault, HubNameFault};
+use resc_vars::ScriptCause;
+
+/// The most hubs that a laboratory has. No memory holds as many.
+const MOST_HUBS: u32 = u32::MAX;
+
+impl From<HubNameFault> for Stop {
+    ghost use Rattle.std.specs.Prelude.{◌≡◌};
+    ghost use Rattle.monitor.specs.Inner.Ruling.{hub_stop};
+
+    ghost from_gives = { λ fault stop. stop ≡ hub_stop fault };
+
+    fn from(fault: HubNameFault) -> Stop {
+        match fault {
+            HubNameFault::Taken => Stop::Line(ScriptCause::Taken),
+            HubNameFault::Memory => Stop::Memory,
+        }
+    }
+}
+
+impl From<ConnectFault> for Stop {
+    ghost use Rattle.std.specs.Prelude.{◌≡◌};
+    ghost use Rattle.monitor.specs.Inner.Ruling.{connect_stop};
+
+    ghost from_gives = { λ fault stop. stop ≡ connect_stop fault };
+
+    fn from(fault: ConnectFault) -> Stop {
+        match fault {
+            ConnectFault::Name => Stop::Line(ScriptCause::Name),
+            ConnectFault::Kind => Stop::Line(ScriptCause::Kind),
+            ConnectFault::Already => Stop::Line(ScriptCause::Connected),
+            ConnectFault::Memory => Stop::Memory,
+        }
+    }
+}
+
+impl<D: Device> Monitor<D> {
+    /// Makes a hub of UARTs.
+    pub(crate) fn uart_hub(&mut self, name: &str) -> Result<Vec<u8>, Stop>
+        requires unspent { self.old.spent ≡ false }
+        requires is_name { IsTrue (is_name name.now) }
+        ensures { IsRuled (hubs.uart_hub self.old.state name.now) result self.old self.new }
+    {
+        if self.lab.hubs() >= MOST_HUBS {
+            return Err(Stop::Memory);
+        }
+        self.lab.create_uart_hub(name)?;
+        Ok(Vec::new(self.alloc))
+    }
+
+    /// Puts a device of the selected board into a hub.
+    pub(crate) fn connect(&mut self, dev: &str, hub: &str) -> Result<Vec<u8>, Stop>
+        requires unspent { self.old.spent ≡ false }
+        ensures { IsRuled (hubs.connect self.old.state dev.now hub.now) result self.old self.new }
+    {
+        let b = self.equipped()?;
+        let what = self.entry(b, dev)?;
+        if self.lab.find_hub(hub).is_none() {
+            return Err(Stop::Line(ScriptCause::Name));
+        }
+        let member = self.speaker(b, what)?;
+        self.lab.connect(member, hub)?;
+        Ok(Vec::new(self.alloc))
+    }
+
+    /// Shows what a device of the selected board sends.
+    pub(crate) fn show(&mut self, dev: &str) -> Result<Vec<u8>, Stop>
+        requires unspent { self.old.spent ≡ false }
+        ensures { IsRuled (hubs.show self.old.state dev.now) result self.old self.new }
+    {
+        let b = self.equipped()?;
+        let what = self.entry(b, dev)?;
+        let member = self.speaker(b, what)?;
+        self.lab.show(member);
+        Ok(Vec::new(self.alloc))
+    }
+}

@@ -1,0 +1,211 @@
+//! A script and the laboratory that its commands work on.
+ghost use Rattle.std.specs.Prelude.{◌≡◌, ◌≤◌, ◌^◌, [], length, map, true, false, Err, IfOk, IfSome};
+ghost use Rattle.std.specs.Prelude.{OnOk, OnErr};
+ghost use Rattle.std.specs.String.{string_bytes};
+ghost use Rattle.dev_core.specs.Stock.{IsFull};
+ghost use Rattle.lab_io.specs.Known.{Rose};
+ghost use Rattle.lab_state.specs.Names.{names};
+ghost use Rattle.lab_state.specs.Run.{run};
+ghost use Rattle.log_text.specs.Log.{rest};
+ghost use Rattle.resc_read.specs.Line.{line_of};
+ghost use Rattle.monitor.specs.Command.{did, done_by};
+ghost use Rattle.monitor.specs.State.{Place, started};
+ghost use Rattle.monitor.specs.Step.{going, IsStep, IsNext, IsCut, IsCounted};
+ghost use Rattle.monitor.specs.Answer.{Misses};
+ghost use Rattle.monitor.specs.Inner.Ruling.{IsAfterLine, IsCarried, Leaves, Told, step_of};
+
+use crate::fault::{Cause, ScriptFault};
+use crate::setting::Setting;
+use crate::step::Step;
+use crate::stop::Stop;
+use dev_core::{Device, Stock};
+use lab_io::Files;
+use lab_num::{BoardNo, Micros, NoMemory, Text};
+use lab_state::Lab;
+use log_text::Lines;
+use resc_read::read_line;
+use resc_vars::{Flow, Next, ScriptCause};
+use std::alloc::Global;
+use std::marker::Model;
+
+/// A script, between two of its commands, and the laboratory that they work on.
+#[derive(Drop)]
+pub struct Monitor<D: Device> {
+    pub(crate) alloc: Global,
+    pub(crate) flow: Flow,
+    pub(crate) lab: Lab<D>,
+    pub(crate) selected: Option<BoardNo>,
+    pub(crate) lines: Lines,
+    pub(crate) until: Micros,
+    pub(crate) dry: bool,
+    pub(crate) ended: bool,
+}
+
+impl<D: Device> Model for Monitor<D> {
+    ghost use Rattle.std.specs.Prelude.{◌≡◌, false};
+    ghost use Rattle.std.specs.Option.{option_map};
+    ghost use Rattle.monitor.specs.Step.{Running};
+
+    ghost Value = { Running };
+
+    ghost view = { λ m. record {
+      state = record {
+        flow = m.flow;
+        lab = m.lab.lab;
+        selected = option_map (λ b. b.0) m.selected;
+        lines = m.lines;
+        until = m.until.0;
+        dry = m.dry;
+      };
+      spent = m.lab.spent;
+      ended = m.ended;
+    } };
+
+    ghost invariant = { λ m. m.ended ≡ false → m.flow.ended ≡ false };
+}
+
+impl<D: Device> Monitor<D> {
+    /// A monitor before the first line of a script with this text, in a file of this name, and an
+    /// empty laboratory at time 0. Boards are made of the devices of the stock.
+    pub fn new(
+        alloc: Global,
+        script: &str,
+        text: String,
+        stock: Stock<D>,
+        setting: Setting,
+    ) -> Result<Monitor<D>, NoMemory>
+        requires full { IsFull (map D.meaning stock.uarts.items) (map D.meaning stock.cans.items)
+            (map D.meaning stock.finishers.items) }
+        requires size { length (string_bytes text) ≤ 2 ^ 24 }
+        requires some_worker { 1 ≤ setting.workers }
+        requires few_workers { setting.workers ≤ 8 }
+        ensures { IfOk result (λ monitor.
+            monitor ≡ going (started script.now (string_bytes text) setting)) }
+    {
+        let flow = Flow::new(alloc, script, text)?;
+        let lab = Lab::new(alloc, stock)?;
+        Ok(Monitor {
+            alloc,
+            flow,
+            lab,
+            selected: None,
+            lines: Lines::new(alloc),
+            until: setting.until,
+            dry: setting.dry,
+            ended: false,
+        })
+    }
+
+    /// Carries out the next command of the script. Files that it names are read from `files`. Any
+    /// answer but `Text` ends the script.
+    pub fn step<F: Files>(&mut self, files: &mut F) -> Step
+        requires goes_on { self.old.ended ≡ false }
+        requires unspent { self.old.spent ≡ false }
+
+        // It has done what its definition says and has asked for just its names, or was cut short by
+        // a read or for want of memory, and has asked for the first of them.
+        ensures step { IfSome (F.held files.old) (λ held.
+            IsStep (did run held self.old.state) result self.new.state
+            (F.asked files.old) (F.asked files.new)) }
+
+        // Where a name holds nothing, it is cut short.
+        ensures absent { IfSome (F.held files.old) (λ held.
+            (did run held self.old.state).answer ≡ Misses → IsCut result) }
+
+        // Any answer but a text ends it. Of these, all but want of memory leave the laboratory, what is
+        // open of its log, the variables and the macros as they were, and none of them spends it.
+        ensures next { IsNext result self.old self.new }
+
+        // A step that says something takes a command or more, of 100,000.
+        ensures counted { IsCounted result self.old.state self.new.state }
+
+        // Only a fault that was counted makes it unread.
+        ensures unread { result ≡ Step.Unread → Rose (F.faults files.old) (F.faults files.new) }
+        ensures held { F.held files.new ≡ F.held files.old }
+        ensures faults { F.faults files.old ≤ F.faults files.new }
+    {
+        self.ended = true;
+        match self.flow.next() {
+            Next::Line { file, line, text } => self.take_line(files, file, line, text.as_str()),
+            Next::End => Step::End,
+            Next::Fault { file, line, cause } => fault_at(file, line, cause),
+            Next::Memory => Step::Memory,
+        }
+    }
+
+    /// Does what a line asks for. The script goes on where it says something.
+    fn take_line<F: Files>(&mut self, files: &mut F, file: Text, line: u32, text: &str) -> Step
+        requires goes_on { self.old.state.flow.ended ≡ false }
+        requires unspent { self.old.spent ≡ false }
+        requires waits { self.old.ended ≡ true }
+        ensures step { Told (F.held files.old) (λ held. IsStep
+            (done_by run held self.old.state (record { file = file; number = line }) (line_of text.now))
+            result self.new.state (F.asked files.old) (F.asked files.new)) }
+        ensures next { IsAfterLine result self.old self.new }
+        ensures unread { result ≡ Step.Unread → Rose (F.faults files.old) (F.faults files.new) }
+        ensures held { F.held files.new ≡ F.held files.old }
+        ensures faults { F.faults files.old ≤ F.faults files.new }
+    {
+        match self.carry_out_line(files, text) {
+            Ok(text) => {
+                self.ended = false;
+                Step::Text(text)
+            }
+            Err(stop) => stopped(file, line, stop),
+        }
+    }
+
+    /// Carries out the command of a line.
+    fn carry_out_line<F: Files>(&mut self, files: &mut F, text: &str) -> Result<Vec<u8>, Stop>
+        requires goes_on { self.old.state.flow.ended ≡ false }
+        requires unspent { self.old.spent ≡ false }
+        ensures carried { (place : Place) → Told (F.held files.old) (λ held. IsCarried
+            (done_by run held self.old.state place (line_of text.now)) place
+            result self.new.state (F.asked files.old) (F.asked files.new)) }
+        ensures leaves { Leaves result self.old self.new }
+        ensures unread { result ≡ Err Stop.Unread → Rose (F.faults files.old) (F.faults files.new) }
+        ensures held { F.held files.new ≡ F.held files.old }
+        ensures faults { F.faults files.old ≤ F.faults files.new }
+    {
+        let command = read_line(self.alloc, text)?;
+        self.carry_out(files, command)
+    }
+
+    /// What is printed of the lines that are open where the script ends. None is open afterwards.
+    pub fn rest(&mut self) -> Result<Vec<u8>, NoMemory>
+        requires { self.old.spent ≡ false }
+        ensures text { IfOk result (λ text. text.items
+            ≡ rest (names self.old.state.lab) self.old.state.lines) }
+        ensures ok { OnOk result (self.new
+            ≡ record self.old { state = record self.old.state { lines = [] } }) }
+        ensures err { OnErr result (self.new ≡ self.old) }
+    {
+        let names = self.lab.names()?;
+        self.lines.rest(&names)
+    }
+}
+
+/// A line is refused.
+fn fault_at(file: Text, line: u32, cause: ScriptCause) -> Step
+    ensures { result
+        ≡ Step.Fault (record { file = file; line = line; cause = Cause.Script cause }) }
+{
+    Step::Fault(ScriptFault {
+        file,
+        line,
+        cause: Cause::Script(cause),
+    })
+}
+
+/// What a step answers at a line behind which the script does not go on.
+fn stopped(file: Text, line: u32, stop: Stop) -> Step
+    ensures { result ≡ step_of (record { file = file; number = line }) stop }
+{
+    match stop {
+        Stop::Quit => Step::End,
+        Stop::Line(cause) => fault_at(file, line, cause),
+        Stop::File(fault) => Step::Fault(fault),
+        Stop::Unread => Step::Unread,
+        Stop::Memory => Step::Memory,
+    }
+}

@@ -1,0 +1,80 @@
+//! Commands to the processor of the selected board: each prints a value, or sets it.
+ghost use Rattle.std.specs.Prelude.{◌≡◌, ◌≤◌, false, IfSome, IsSome, Some};
+ghost use Rattle.std.specs.Option.{ForSome};
+ghost use Rattle.lab_state.specs.One.{view_of};
+ghost use Rattle.monitor.specs.Processor as processor;
+ghost use Rattle.monitor.specs.Inner.Ruling.{IsRuled};
+
+use crate::memory::word_line;
+use crate::monitor::Monitor;
+use crate::stop::Stop;
+use dev_core::Device;
+use lab_num::BoardNo;
+use resc_vars::ScriptCause;
+
+impl<D: Device> Monitor<D> {
+    /// Prints or sets the address of the next instruction.
+    pub(crate) fn pc(&mut self, cpu: &str, value: Option<u32>) -> Result<Vec<u8>, Stop>
+        requires unspent { self.old.spent ≡ false }
+        ensures { IsRuled (processor.pc self.old.state cpu.now value) result self.old self.new }
+    {
+        let b = self.processor(cpu)?;
+        match value {
+            None => word_line(self.alloc, self.lab.board(b).pc()),
+            Some(value) => self.set_pc(b, value),
+        }
+    }
+
+    fn set_pc(&mut self, b: BoardNo, value: u32) -> Result<Vec<u8>, Stop>
+        requires unspent { self.old.spent ≡ false }
+        requires has_plan { IsSome (view_of self.old.state.lab b.0) }
+        ensures { ForSome (view_of self.old.state.lab b.0) (λ v.
+            IsRuled (processor.pc_on self.old.state (record { number = b.0; view = v }) (Some value))
+            result self.old self.new) }
+    {
+        if value % 4 != 0 {
+            return Err(Stop::Line(ScriptCause::Address));
+        }
+        self.lab.set_pc(b, value);
+        Ok(Vec::new(self.alloc))
+    }
+
+    /// Prints or sets whether the processor is halted.
+    pub(crate) fn halted(&mut self, cpu: &str, value: Option<bool>) -> Result<Vec<u8>, Stop>
+        requires unspent { self.old.spent ≡ false }
+        ensures { IsRuled (processor.halted self.old.state cpu.now value) result self.old self.new }
+    {
+        let b = self.processor(cpu)?;
+        match value {
+            None => {
+                let halted = self.lab.board(b).halted();
+                let line = format!(in self.alloc; "{halted}\n")?;
+                Ok(line.into_bytes())
+            }
+            Some(value) => {
+                self.lab.set_halted(b, value);
+                Ok(Vec::new(self.alloc))
+            }
+        }
+    }
+
+    /// Prints or sets the instructions in a microsecond.
+    pub(crate) fn mips(&mut self, cpu: &str, value: Option<u32>) -> Result<Vec<u8>, Stop>
+        requires unspent { self.old.spent ≡ false }
+        requires within { IfSome value (λ n. (1 ≤ n) × (n ≤ 1000)) }
+        ensures { IsRuled (processor.mips self.old.state cpu.now value) result self.old self.new }
+    {
+        let b = self.processor(cpu)?;
+        match value {
+            None => {
+                let speed = self.lab.board(b).speed();
+                let line = format!(in self.alloc; "{speed}\n")?;
+                Ok(line.into_bytes())
+            }
+            Some(value) => {
+                self.lab.set_speed(b, value);
+                Ok(Vec::new(self.alloc))
+            }
+        }
+    }
+}

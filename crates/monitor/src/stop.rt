@@ -1,0 +1,81 @@
+//! Why a script does not go on behind a command.
+ghost use Rattle.std.specs.Prelude.{◌≡◌};
+
+use crate::fault::ScriptFault;
+use lab_num::NoMemory;
+use resc_vars::{FlowFault, ScriptCause};
+use std::alloc::{AllocError, AllocFailed};
+
+/// Why a script does not go on behind a command.
+#[derive(Drop, Debug)]
+pub(crate) enum Stop {
+    /// The command ends it.
+    Quit,
+    /// The line is refused.
+    Line(ScriptCause),
+    /// The line is refused for what stands at a place of a file that it names.
+    File(ScriptFault),
+    /// A read failed, and the files counted it.
+    Unread,
+    /// Memory ran out.
+    Memory,
+}
+
+impl From<ScriptCause> for Stop {
+    ghost use Rattle.std.specs.Prelude.{◌≡◌};
+    ghost use Rattle.monitor.specs.declared.stop.Stop.TheVariants.{Line};
+
+    ghost from_gives = { λ cause stop. stop ≡ Line cause };
+
+    fn from(cause: ScriptCause) -> Stop {
+        Stop::Line(cause)
+    }
+}
+
+impl From<NoMemory> for Stop {
+    ghost use Rattle.std.specs.Prelude.{◌≡◌};
+    ghost use Rattle.monitor.specs.declared.stop.Stop.TheVariants.{Memory};
+
+    ghost from_gives = { λ _ stop. stop ≡ Memory };
+
+    fn from(_error: NoMemory) -> Stop {
+        Stop::Memory
+    }
+}
+
+impl From<AllocError> for Stop {
+    ghost use Rattle.std.specs.Prelude.{◌≡◌};
+    ghost use Rattle.monitor.specs.declared.stop.Stop.TheVariants.{Memory};
+
+    ghost from_gives = { λ _ stop. stop ≡ Memory };
+
+    fn from(_error: AllocError) -> Stop {
+        Stop::Memory
+    }
+}
+
+impl<T: Drop> From<AllocFailed<T>> for Stop {
+    ghost use Rattle.std.specs.Prelude.{◌≡◌};
+    ghost use Rattle.monitor.specs.declared.stop.Stop.TheVariants.{Memory};
+
+    ghost from_gives = { λ _ stop. stop ≡ Memory };
+
+    fn from(_error: AllocFailed<T>) -> Stop {
+        Stop::Memory
+    }
+}
+
+impl From<FlowFault> for Stop {
+    ghost use Rattle.std.specs.Prelude.{◌≡◌};
+    ghost use Rattle.monitor.specs.Inner.Ruling.{flow_stop};
+
+    ghost from_gives = { λ fault stop. stop ≡ flow_stop fault };
+
+    fn from(fault: FlowFault) -> Stop {
+        match fault {
+            FlowFault::Depth => Stop::Line(ScriptCause::Depth),
+            FlowFault::Variable => Stop::Line(ScriptCause::Variable),
+            FlowFault::Memory => Stop::Memory,
+        }
+    }
+}
