@@ -1,0 +1,9 @@
+//! Tests of the whole program, over files and an output in memory.
+#![tactic(auto)]
+
+#[cfg(test)]
+mod bench;
+#[cfg(test)]
+mod programs;
+#[cfg(test)]
+mod rows;
