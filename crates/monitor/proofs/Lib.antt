@@ -1,3 +1,5 @@
 pub mod Within
 pub mod Ruled
 pub mod Steps
+pub mod Counts
+pub mod MachineNames

@@ -1,11 +1,15 @@
 -- How a command is carried out that is ruled as its definition says.
 use Rattle.std.proofs.Common.{◌≡◌, ◌∙◌, ℕ, ◌<◌, ◌≤◌, List, [], ◌∷◌, length, Option, Some, None, Result, Ok, Err, Vec}
 use Rattle.std.proofs.Common.{refl, sym, ap, absurd, nat_lt, true, false, Bool, cond, append-nil, arith}
-use Rattle.std.specs.Prelude.{IsSomeAnd}
+use Rattle.std.specs.Prelude.{IfSome, IsSomeAnd}
 use Rattle.std.specs.Global.{Global}
 use Rattle.std.proofs.lemmas.Bool.Decides.{nat_tests}
+use Rattle.lab_io.specs.Held.{Held}
 use Rattle.lab_io.specs.Known.{grown}
+use Rattle.lab_state.specs.Run.{Play}
 use Rattle.repl_files.specs.Asked.{AsksSome, AsksUpTo}
+use Rattle.resc_read.specs.declared.command.Command.{Command}
+use Rattle.resc_read.specs.declared.command.Command.TheVariants as command
 use Rattle.resc_vars.specs.declared.cause.ScriptCause.{ScriptCause}
 use Rattle.resc_vars.specs.declared.cause.ScriptCause.TheVariants.{Size}
 use Rattle.monitor.specs.declared.step.Step.{Step}
@@ -13,9 +17,18 @@ use Rattle.monitor.specs.declared.step.Step.TheVariants as step
 use Rattle.monitor.specs.declared.stop.Stop.{Stop}
 use Rattle.monitor.specs.declared.stop.Stop.TheVariants.{Quit, Line, File, Unread, Memory}
 use Rattle.monitor.specs.Answer.{Answer, Misses, Did, Done, answer_at, refused, unread, with_file}
+use Rattle.monitor.specs.Command.{carried, ruled}
 use Rattle.monitor.specs.State.{State, Place}
 use Rattle.monitor.specs.Step.{Running, IsStep, IsCut}
-use Rattle.monitor.specs.Inner.Ruling.{IsCarried, IsFile, IsRuled, Leaves, step_of}
+use Rattle.monitor.specs.Inner.Ruling.{IsCarried, IsFile, IsRuled, Leaves, Told, step_of}
+
+-- what holds if a value is told holds of the value that is told, and the other way round
+pub told : {A : Type 0} {o : Option A} (P : A → Type 0) → IfSome o P → Told o P
+told P fact x is = rw is at fact
+
+pub if_told : {A : Type 0} (o : Option A) (P : A → Type 0) → Told o P → IfSome o P
+if_told None P holds = tt
+if_told (Some x) P holds = holds x refl
 
 -- where no name was asked for, what was asked for stays
 pub grown_by_none : (log : Option (List (List ℕ))) → log ≡ grown log []
@@ -110,3 +123,16 @@ absent_is_cut did step.End after log log' is misses = cc (is.0, misses)
 absent_is_cut did (step.Fault fault) after log log' is misses = cc (is.0, misses)
 absent_is_cut did step.Unread after log log' is misses = tt
 absent_is_cut did step.Memory after log log' is misses = tt
+
+-- a command that reads no file and does not end the script
+pub carried_alone :
+    (play : Play) (held : Held) (s : State) (place : Place) (c : Command) →
+    ((path : List ℕ) → c ≡ command.LoadPlatform path → ⊥) →
+    ((path : List ℕ) (at : ℕ) → c ≡ command.LoadBinary path at → ⊥) →
+    ((path : List ℕ) → c ≡ command.Include path → ⊥) → (c ≡ command.Quit → ⊥) →
+    carried play held s place c ≡ unread place (ruled play s c)
+carried_alone play held s place (command.LoadPlatform path) platform binary file quit = absurd (platform path refl)
+carried_alone play held s place (command.LoadBinary path at) platform binary file quit = absurd (binary path at refl)
+carried_alone play held s place (command.Include path) platform binary file quit = absurd (file path refl)
+carried_alone play held s place command.Quit platform binary file quit = absurd (quit refl)
+carried_alone play held s place _ platform binary file quit = refl

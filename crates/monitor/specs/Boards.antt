@@ -1,5 +1,5 @@
 -- Commands that make, select, equip and reset boards.
-use Rattle.std.specs.Prelude.{ℕ, nat_lt, not, List, [], ◌∷◌, ◌++◌, length, slice_index_or, codes}
+use Rattle.std.specs.Prelude.{ℕ, ◌==◌, not, List, [], ◌∷◌, ◌++◌, length, slice_index_or, codes}
 use Rattle.std.specs.Prelude.{Option, None, Some, option_and_then, Result, Ok, Err}
 use Rattle.std.specs.Fmt.{decimal}
 use Rattle.std.specs.Option.{ok_or, option_or}
@@ -40,7 +40,7 @@ with_new_board lab name = record lab { boards = lab.boards ++ record { name = na
 abbrev pub create_as : State → List ℕ → Result Done ScriptCause
 create_as s name = do
   free ← require (not (is_taken s.lab name)) Taken
-  room ← require (nat_lt (length s.lab.boards) 16) Boards
+  room ← require (not (length s.lab.boards == 16)) Boards
   Ok (leaves (record s { lab = with_new_board s.lab name; selected = Some (length s.lab.boards) }))
 
 -- mach create [name]

@@ -26,33 +26,35 @@ use Rattle.monitor.specs.State.{State, Place}
 abbrev pub without_files : Answer → Did
 without_files answer = record { names = []; answer = answer }
 
+-- what a command comes to that reads no file and does not end the script; one of another kind is unknown here
+abbrev pub ruled : Play → State → Command → Result Done ScriptCause
+ruled play s (command.Create name) = create s name
+ruled play s (command.Select name) = select s name
+ruled play s command.Reset = reset_board s
+ruled play s (command.ReadWord at) = read_word s at
+ruled play s (command.WriteWord at value) = write_word s at value
+ruled play s (command.Pc cpu value) = pc s cpu value
+ruled play s (command.Halted cpu value) = halted s cpu value
+ruled play s (command.Mips cpu value) = mips s cpu value
+ruled play s (command.Quantum length) = Ok (quantum s length.0)
+ruled play s (command.RunFor length) = run_for play s length.0
+ruled play s (command.UartHub name) = uart_hub s name
+ruled play s (command.Connect dev hub) = connect s dev hub
+ruled play s (command.Show dev) = show s dev
+ruled play s (command.RunMacro name) = run_macro s name
+ruled play s command.UsingSysbus = Ok (leaves s)
+ruled play s command.Pause = Ok (leaves s)
+ruled play s command.Start = start play s
+ruled play s _ = Err Unknown
+
 -- What a command does. Images of ELF and HEX and hubs of CAN controllers are not built: no line asks for them, and they
 -- are answered as unknown commands.
 abbrev pub carried : Play → Held → State → Place → Command → Did
-carried play held s place (command.Create name) = unread place (create s name)
-carried play held s place (command.Select name) = unread place (select s name)
 carried play held s place (command.LoadPlatform path) = load_platform held s place path
-carried play held s place command.Reset = unread place (reset_board s)
-carried play held s place (command.LoadElf path) = unread place (Err Unknown)
 carried play held s place (command.LoadBinary path at) = load_binary held s place path at
-carried play held s place (command.LoadHex path) = unread place (Err Unknown)
-carried play held s place (command.ReadWord at) = unread place (read_word s at)
-carried play held s place (command.WriteWord at value) = unread place (write_word s at value)
-carried play held s place (command.Pc cpu value) = unread place (pc s cpu value)
-carried play held s place (command.Halted cpu value) = unread place (halted s cpu value)
-carried play held s place (command.Mips cpu value) = unread place (mips s cpu value)
-carried play held s place (command.Quantum length) = unread place (Ok (quantum s length.0))
-carried play held s place (command.RunFor length) = unread place (run_for play s length.0)
-carried play held s place (command.UartHub name) = unread place (uart_hub s name)
-carried play held s place (command.CanHub name) = unread place (Err Unknown)
-carried play held s place (command.Connect dev hub) = unread place (connect s dev hub)
-carried play held s place (command.Show dev) = unread place (show s dev)
 carried play held s place (command.Include path) = include held s place path
-carried play held s place (command.RunMacro name) = unread place (run_macro s name)
-carried play held s place command.UsingSysbus = unread place (Ok (leaves s))
-carried play held s place command.Pause = unread place (Ok (leaves s))
-carried play held s place command.Start = unread place (start play s)
 carried play held s place command.Quit = without_files Ends
+carried play held s place command = unread place (ruled play s command)
 
 -- the cause of a line that is no command; want of memory is none of a definition
 abbrev pub line_cause : LineFault → ScriptCause

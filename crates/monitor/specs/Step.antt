@@ -1,7 +1,8 @@
 -- What one step of a monitor has done.
-use Rattle.std.specs.Prelude.{◌≡◌, ℕ, Bool, true, false, List, Option}
+use Rattle.std.specs.Prelude.{◌≡◌, ℕ, ◌<◌, ◌≤◌, Bool, true, false, List, Option, IfSome}
 use Rattle.lab_io.specs.Known.{grown}
 use Rattle.repl_files.specs.Asked.{AsksSome, AsksUpTo}
+use Rattle.resc_vars.specs.Script.{next_of}
 use Rattle.monitor.specs.declared.step.Step.{Step}
 use Rattle.monitor.specs.declared.step.Step.TheVariants.{Text, End, Fault, Unread, Memory}
 use Rattle.monitor.specs.Answer.{Goes, Ends, Faults, Did}
@@ -33,11 +34,13 @@ IsCut (Fault fault) = ⊥
 IsCut Unread = Unit {0}
 IsCut Memory = Unit {0}
 
--- the laboratory, the selected board and the open lines of the log are as they were, and the script has ended
+-- The laboratory, the selected board and the open lines of the log are as they were. Bodies, variables and macros are
+-- as the line found them that was taken, if one was. The script has ended.
 pub record IsOver (old new : Running) : Type 0 where
   pub lab : new.state.lab ≡ old.state.lab
   pub selected : new.state.selected ≡ old.state.selected
   pub lines : new.state.lines ≡ old.state.lines
+  pub flow : IfSome (next_of old.state.flow).1 (λ flow. new.state.flow ≡ flow)
   pub spent : new.spent ≡ false
   pub ended : new.ended ≡ true
 
@@ -48,3 +51,11 @@ IsNext End old new = IsOver old new
 IsNext (Fault fault) old new = IsOver old new
 IsNext Unread old new = IsOver old new
 IsNext Memory old new = new.ended ≡ true
+
+-- a step that says something has taken a command or more, and 100,000 are taken at most
+abbrev pub IsCounted : Step → State → State → Type 0
+IsCounted (Text text) old new = (old.flow.kept.taken < new.flow.kept.taken) × (new.flow.kept.taken ≤ 100000)
+IsCounted End old new = Unit {0}
+IsCounted (Fault fault) old new = Unit {0}
+IsCounted Unread old new = Unit {0}
+IsCounted Memory old new = Unit {0}

@@ -1,11 +1,10 @@
 //! Each command is carried out.
-ghost use Rattle.std.specs.Prelude.{◌≡◌, ◌≢◌, ◌≤◌, ℕ, List, Option, false, Err};
-ghost use Rattle.lab_io.specs.Held.{Held};
+ghost use Rattle.std.specs.Prelude.{◌≡◌, ◌≤◌, false, Err};
 ghost use Rattle.lab_io.specs.Known.{Rose};
 ghost use Rattle.lab_state.specs.Run.{run};
-ghost use Rattle.monitor.specs.Command.{carried};
+ghost use Rattle.monitor.specs.Command.{carried, ruled};
 ghost use Rattle.monitor.specs.State.{Place};
-ghost use Rattle.monitor.specs.Inner.Ruling.{IsAlone, IsCarried, IsWithin, Leaves, Told};
+ghost use Rattle.monitor.specs.Inner.Ruling.{IsCarried, IsRuled, IsWithin, Leaves, Told};
 
 use crate::monitor::Monitor;
 use crate::stop::Stop;
@@ -63,12 +62,7 @@ impl<D: Device> Monitor<D> {
         requires unspent { self.old.spent ≡ false }
         requires goes_on { self.old.state.flow.ended ≡ false }
         requires within { IsWithin command }
-        requires alone { IsAlone command }
-        ensures carried { (held : Held) (place : Place) (log : Option (List (List ℕ))) →
-            IsCarried (carried run held self.old.state place command) place
-            result self.new.state log log }
-        ensures leaves { Leaves result self.old self.new }
-        ensures unread { result ≢ Err Stop.Unread }
+        ensures { IsRuled (ruled run self.old.state command) result self.old self.new }
     {
         match command {
             Command::Create { name } => self.create(name),
@@ -87,7 +81,13 @@ impl<D: Device> Monitor<D> {
             Command::RunMacro { name } => self.run_macro(name.as_str()),
             Command::Start => self.start(),
             Command::UsingSysbus | Command::Pause => Ok(Vec::new(self.alloc)),
-            _ => Err(Stop::Line(ScriptCause::Unknown)),
+            Command::LoadPlatform { .. }
+            | Command::LoadElf { .. }
+            | Command::LoadBinary { .. }
+            | Command::LoadHex { .. }
+            | Command::CanHub { .. }
+            | Command::Include { .. }
+            | Command::Quit => Err(Stop::Line(ScriptCause::Unknown)),
         }
     }
 }

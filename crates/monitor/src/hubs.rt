@@ -1,7 +1,6 @@
 //! Commands that make hubs, connect devices to them and show what devices send.
-ghost use Rattle.std.specs.Prelude.{◌≡◌, false, is_some, IsTrue};
+ghost use Rattle.std.specs.Prelude.{◌≡◌, false, IsTrue};
 ghost use Rattle.lab_num.specs.Name.{is_name};
-ghost use Rattle.lab_state.specs.Names.{hub_named};
 ghost use Rattle.monitor.specs.Hubs as hubs;
 ghost use Rattle.monitor.specs.Inner.Ruling.{IsRuled};
 
@@ -58,19 +57,6 @@ impl<D: Device> Monitor<D> {
         Ok(Vec::new(self.alloc))
     }
 
-    /// Whether there is a hub of this name.
-    fn has_hub(&self, name: &str) -> bool
-        requires { self.now.spent ≡ false }
-        ensures { result ≡ is_some (hub_named self.now.state.lab name.now) }
-    {
-        for n in 0..self.lab.hubs() {
-            if self.lab.hub_name(n).as_str() == name {
-                return true;
-            }
-        }
-        false
-    }
-
     /// Puts a device of the selected board into a hub.
     pub(crate) fn connect(&mut self, dev: &str, hub: &str) -> Result<Vec<u8>, Stop>
         requires unspent { self.old.spent ≡ false }
@@ -78,7 +64,7 @@ impl<D: Device> Monitor<D> {
     {
         let b = self.equipped()?;
         let what = self.entry(b, dev)?;
-        if !self.has_hub(hub) {
+        if self.lab.find_hub(hub).is_none() {
             return Err(Stop::Line(ScriptCause::Name));
         }
         let member = self.speaker(b, what)?;

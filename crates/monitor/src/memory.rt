@@ -13,6 +13,7 @@ use crate::stop::Stop;
 use dev_core::Device;
 use lab_io::Files;
 use lab_num::BoardNo;
+use log_text::Word;
 use resc_vars::ScriptCause;
 use std::alloc::Global;
 
@@ -21,7 +22,8 @@ pub(crate) fn word_line(alloc: Global, word: u32) -> Result<Vec<u8>, Stop>
     ensures ok { IfOk result (λ line. line.items ≡ memory.word_line word) }
     ensures err { IfErr result (λ stop. stop ≡ Stop.Memory) }
 {
-    let line = format!(in alloc; "0x{word:08x}\n")?;
+    let word = Word(word);
+    let line = format!(in alloc; "{word}\n")?;
     Ok(line.into_bytes())
 }
 

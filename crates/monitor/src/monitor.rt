@@ -1,5 +1,6 @@
 //! A script and the laboratory that its commands work on.
-ghost use Rattle.std.specs.Prelude.{◌≡◌, ◌≤◌, ◌^◌, length, map, true, false, Err, IfOk, IfSome};
+ghost use Rattle.std.specs.Prelude.{◌≡◌, ◌≤◌, ◌^◌, [], length, map, true, false, Err, IfOk, IfSome};
+ghost use Rattle.std.specs.Prelude.{OnOk, OnErr};
 ghost use Rattle.std.specs.String.{string_bytes};
 ghost use Rattle.dev_core.specs.Stock.{IsFull};
 ghost use Rattle.lab_io.specs.Known.{Rose};
@@ -9,7 +10,7 @@ ghost use Rattle.log_text.specs.Log.{rest};
 ghost use Rattle.resc_read.specs.Line.{line_of};
 ghost use Rattle.monitor.specs.Command.{did, done_by};
 ghost use Rattle.monitor.specs.State.{Place, started};
-ghost use Rattle.monitor.specs.Step.{going, IsStep, IsNext, IsCut, has_ended};
+ghost use Rattle.monitor.specs.Step.{going, IsStep, IsNext, IsCut, IsCounted};
 ghost use Rattle.monitor.specs.Answer.{Misses};
 ghost use Rattle.monitor.specs.Inner.Ruling.{IsAfterLine, IsCarried, Leaves, Told, step_of};
 
@@ -111,9 +112,12 @@ impl<D: Device> Monitor<D> {
         ensures absent { IfSome (F.held files.old) (λ held.
             (did run held self.old.state).answer ≡ Misses → IsCut result) }
 
-        // Any answer but a text ends it. A refusal leaves the laboratory and what is open of its log
-        // as they were, and nothing but want of memory spends the laboratory.
+        // Any answer but a text ends it. Of these, all but want of memory leave the laboratory, what is
+        // open of its log, the variables and the macros as they were, and none of them spends it.
         ensures next { IsNext result self.old self.new }
+
+        // A step that says something takes a command or more, of 100,000.
+        ensures counted { IsCounted result self.old.state self.new.state }
 
         // Only a fault that was counted makes it unread.
         ensures unread { result ≡ Step.Unread → Rose (F.faults files.old) (F.faults files.new) }
@@ -168,11 +172,13 @@ impl<D: Device> Monitor<D> {
     }
 
     /// What is printed of the lines that are open where the script ends. None is open afterwards.
-    /// A refused call changes nothing.
     pub fn rest(&mut self) -> Result<Vec<u8>, NoMemory>
         requires { self.old.spent ≡ false }
-        ensures { IfOk result (λ text. text.items
+        ensures text { IfOk result (λ text. text.items
             ≡ rest (names self.old.state.lab) self.old.state.lines) }
+        ensures ok { OnOk result (self.new
+            ≡ record self.old { state = record self.old.state { lines = [] } }) }
+        ensures err { OnErr result (self.new ≡ self.old) }
     {
         let names = self.lab.names()?;
         self.lines.rest(&names)

@@ -1,5 +1,5 @@
 //! Files that commands name, read whole.
-ghost use Rattle.std.specs.Prelude.{◌≡◌, ◌==◌, ◌+◌, ◌≤◌, length, take, count_by, Err, IfOk, IfErr};
+ghost use Rattle.std.specs.Prelude.{◌≡◌, ◌≤◌, length, Err, IfOk, IfErr};
 ghost use Rattle.std.specs.FinMap.{get};
 ghost use Rattle.lab_io.specs.Known.{Rose};
 ghost use Rattle.monitor.specs.Inner.Ruling.{IsFile, IsFileError, IsText, Told};
@@ -8,6 +8,7 @@ use crate::fault::{Cause, ScriptFault};
 use crate::stop::Stop;
 use lab_io::{Files, ReadAnswer};
 use lab_num::Text;
+use repl_files::line_at;
 use resc_vars::ScriptCause;
 use std::alloc::Global;
 use std::str;
@@ -51,13 +52,4 @@ pub(crate) fn text_of(alloc: Global, name: &str, bytes: &[u8]) -> Result<String,
             }))
         }
     }
-}
-
-/// The line of the byte at this place.
-fn line_at(bytes: &[u8], at: usize) -> u32
-    requires few { length bytes.now ≤ 16777216 }
-    requires inside { at ≤ length bytes.now }
-    ensures { result ≡ count_by (λ byte. byte == 10) (take at bytes.now) + 1 }
-{
-    bytes[..at].iter().filter(|byte| **byte == b'\n').count() as u32 + 1
 }

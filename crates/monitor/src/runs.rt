@@ -2,7 +2,7 @@
 ghost use Rattle.std.specs.Prelude.{◌≡◌, ◌≤◌, false};
 ghost use Rattle.lab_state.specs.Run.{run};
 ghost use Rattle.monitor.specs.Runs as runs;
-ghost use Rattle.monitor.specs.Inner.Ruling.{IsRuled};
+ghost use Rattle.monitor.specs.Inner.Ruling.{IsOnward, IsRuled};
 
 use crate::monitor::Monitor;
 use crate::stop::Stop;
@@ -21,8 +21,7 @@ impl<D: Device> Monitor<D> {
         requires most { length.0 ≤ 1000000 }
         ensures done { runs.quantum self.old.state length.0
             ≡ record { text = result.items; state = self.new.state } }
-        ensures unspent { self.new.spent ≡ false }
-        ensures ended { self.new.ended ≡ self.old.ended }
+        ensures onward { IsOnward self.old self.new }
     {
         self.lab.set_quantum(length.0);
         Vec::new(self.alloc)

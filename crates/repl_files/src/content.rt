@@ -3,11 +3,11 @@ ghost use Rattle.std.specs.Prelude.{◌≡◌, ◌+◌, ◌==◌, ◌≤◌, len
 ghost use Rattle.std.specs.FinMap as map;
 ghost use Rattle.lab_io.specs.Known.{Rose};
 ghost use Rattle.repl_files.specs.Content.{content_of};
-ghost use Rattle.repl_files.specs.Inner.Course.{Told, IsContent, IsOpened};
+ghost use Rattle.repl_files.specs.Inner.Course.{Told, AreRead, IsContent, IsOpened};
 
 use crate::fault::{FileCause, LoadFault, fault_at};
 use lab_io::{Files, ReadAnswer};
-use repl_read::{Entry, PlatFault, read_platform};
+use repl_read::{Entry, PlatFault, platform_laws, read_platform};
 use std::alloc::Global;
 use std::str;
 
@@ -30,6 +30,7 @@ pub(crate) fn open<F: Files>(alloc: Global, files: &mut F, name: &str) -> Opened
     ensures opened { Told (F.held files.old) (λ held.
         IsOpened (content_of (map.get held name.now)) name.now result
         (F.asked files.old) (F.asked files.new)) }
+    ensures read { AreRead result }
     ensures unread { result ≡ Opened.Stopped LoadFault.Unread →
         Rose (F.faults files.old) (F.faults files.new) }
     ensures held { F.held files.new ≡ F.held files.old }
@@ -47,8 +48,10 @@ pub(crate) fn open<F: Files>(alloc: Global, files: &mut F, name: &str) -> Opened
 /// What the bytes of the file of this name are.
 fn opened_as(alloc: Global, name: &str, bytes: &[u8]) -> Opened
     requires { length bytes.now ≤ 16777216 }
-    ensures { IsContent (content_of (Some bytes.now)) name.now result }
+    ensures content { IsContent (content_of (Some bytes.now)) name.now result }
+    ensures read { AreRead result }
 {
+    platform_laws();
     match str::from_utf8(bytes) {
         Ok(text) => match read_platform(alloc, text) {
             Ok(entries) => Opened::Entries(entries),

@@ -1,6 +1,8 @@
 //! Loading the platform file that a command names, with all that its `using` lines name.
-ghost use Rattle.std.specs.Prelude.{◌≡◌, ◌≤◌, ◌<◌, ◌++◌, ◌∷◌, [], length, Err, IfSome, IfErr, OnOk};
+ghost use Rattle.std.specs.Prelude.{◌≡◌, ◌≤◌, ◌<◌, ◌++◌, ◌∷◌, [], length, Err, IfSome, IfOk, IfErr, OnOk, IsTrue};
+ghost use Rattle.std.specs.List.{list_all};
 ghost use Rattle.lab_io.specs.Known.{Rose};
+ghost use Rattle.repl_read.specs.Entries.{is_entry};
 ghost use Rattle.repl_files.specs.Loading.{Absent, load, loaded, used, one, in_order};
 ghost use Rattle.repl_files.specs.Loaded.{IsLoaded, IsCut};
 ghost use Rattle.repl_files.specs.Inner.Course.{Told, IsCourse};
@@ -56,6 +58,9 @@ pub fn load_platform<F: Files>(
     ensures absent { IfSome (F.held files.old) (λ held.
         (load held bodies name.now).outcome ≡ Absent → IsCut result) }
 
+    // Each entry has its form, whatever the files hold.
+    ensures entries { IfOk result (λ loaded. IsTrue (list_all is_entry loaded.entries.items)) }
+
     // Only a fault that was counted makes it unread.
     ensures unread { result ≡ Err LoadFault.Unread → Rose (F.faults files.old) (F.faults files.new) }
     ensures held { F.held files.new ≡ F.held files.old }
@@ -76,6 +81,7 @@ fn load_beside<F: Files>(
         IsLoaded (load held bodies name.now) result (F.asked files.old) (F.asked files.new)) }
     ensures absent { Told (F.held files.old) (λ held.
         (load held bodies name.now).outcome ≡ Absent → IsCut result) }
+    ensures entries { IfOk result (λ loaded. IsTrue (list_all is_entry loaded.entries.items)) }
     ensures unread { result ≡ Err LoadFault.Unread → Rose (F.faults files.old) (F.faults files.new) }
     ensures held { F.held files.new ≡ F.held files.old }
     ensures faults { F.faults files.old ≤ F.faults files.new }
@@ -92,6 +98,7 @@ fn load_file<F: Files>(
 ) -> Result<Loaded, LoadFault>
     ensures loaded { Told (F.held files.old) (λ held.
         IsLoaded (loaded held room name.now) result (F.asked files.old) (F.asked files.new)) }
+    ensures entries { IfOk result (λ loaded. IsTrue (list_all is_entry loaded.entries.items)) }
     ensures unread { result ≡ Err LoadFault.Unread → Rose (F.faults files.old) (F.faults files.new) }
     ensures held { F.held files.new ≡ F.held files.old }
     ensures faults { F.faults files.old ≤ F.faults files.new }
@@ -126,11 +133,14 @@ fn join_entries<F: Files>(
     entries: Vec<Entry>,
     all: &mut Loaded,
 ) -> Result<(), LoadFault>
-    requires { length all.old.names.items ≤ 64 }
+    requires few { length all.old.names.items ≤ 64 }
+    requires good { IsTrue (list_all is_entry all.old.entries.items) }
+    requires coming { IsTrue (list_all is_entry entries.items) }
     ensures course { Told (F.held files.old) (λ held.
         IsCourse (in_order (used room held) file.now number (length all.old.names.items) entries.items)
         result all.old all.new (F.asked files.old) (F.asked files.new)) }
     ensures few { length all.new.names.items ≤ 64 }
+    ensures good { OnOk result (IsTrue (list_all is_entry all.new.entries.items)) }
     ensures unread { result ≡ Err LoadFault.Unread → Rose (F.faults files.old) (F.faults files.new) }
     ensures held { F.held files.new ≡ F.held files.old }
     ensures faults { F.faults files.old ≤ F.faults files.new }
@@ -154,11 +164,14 @@ fn join_entry<F: Files>(
     entry: Entry,
     all: &mut Loaded,
 ) -> Result<(), LoadFault>
-    requires { length all.old.names.items ≤ 64 }
+    requires few { length all.old.names.items ≤ 64 }
+    requires good { IsTrue (list_all is_entry all.old.entries.items) }
+    requires coming { IsTrue (is_entry entry) }
     ensures course { Told (F.held files.old) (λ held.
         IsCourse (one (used room held) file.now number (length all.old.names.items) entry)
         result all.old all.new (F.asked files.old) (F.asked files.new)) }
     ensures few { length all.new.names.items ≤ 64 }
+    ensures good { OnOk result (IsTrue (list_all is_entry all.new.entries.items)) }
     ensures unread { result ≡ Err LoadFault.Unread → Rose (F.faults files.old) (F.faults files.new) }
     ensures held { F.held files.new ≡ F.held files.old }
     ensures faults { F.faults files.old ≤ F.faults files.new }
@@ -180,12 +193,14 @@ fn join_file<F: Files>(
     name: &str,
     all: &mut Loaded,
 ) -> Result<(), LoadFault>
-    requires { length all.old.names.items ≤ 64 }
+    requires few { length all.old.names.items ≤ 64 }
+    requires good { IsTrue (list_all is_entry all.old.entries.items) }
     ensures course { Told (F.held files.old) (λ held.
         IsCourse (used room held (length all.old.names.items)
         (record { file = file.now; line = line; name = name.now }))
         result all.old all.new (F.asked files.old) (F.asked files.new)) }
     ensures few { length all.new.names.items ≤ 64 }
+    ensures good { OnOk result (IsTrue (list_all is_entry all.new.entries.items)) }
     ensures unread { result ≡ Err LoadFault.Unread → Rose (F.faults files.old) (F.faults files.new) }
     ensures held { F.held files.new ≡ F.held files.old }
     ensures faults { F.faults files.old ≤ F.faults files.new }

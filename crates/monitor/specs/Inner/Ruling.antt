@@ -155,6 +155,7 @@ pub record IsOnward (old new : Running) : Type 0 where
   pub spent : new.spent ≡ false
   pub ended : new.ended ≡ old.ended
   pub flow : new.state.flow.ended ≡ old.state.flow.ended
+  pub kept : new.state.flow.kept ≡ old.state.flow.kept
 
 -- a command that reads no file was carried out or refused as it is ruled, or memory ran out
 abbrev pub IsRuled : Result Done ScriptCause → Result (Vec ℕ Global) Stop → Running → Running → Type 0
@@ -196,7 +197,8 @@ step_of place Memory = step.Memory
 
 -- a line that says something lets the script go on, and no other does
 abbrev pub IsAfterLine : Step → Running → Running → Type 0
-IsAfterLine (step.Text text) old new = (new.spent ≡ false) × (new.ended ≡ false)
+IsAfterLine (step.Text text) old new =
+    (new.spent ≡ false) × (new.ended ≡ false) × (new.state.flow.kept ≡ old.state.flow.kept)
 IsAfterLine step.End old new = new ≡ old
 IsAfterLine (step.Fault fault) old new = new ≡ old
 IsAfterLine step.Unread old new = new ≡ old
@@ -209,14 +211,6 @@ IsWithin (command.UartHub name) = IsTrue (is_name name)
 IsWithin (command.Mips cpu value) = IfSome value (λ n. (1 ≤ n) × (n ≤ 1000))
 IsWithin (command.Quantum length) = (1 ≤ length.0) × (length.0 ≤ 1000000)
 IsWithin _ = Unit {0}
-
--- a command reads no file and does not end the script
-abbrev pub IsAlone : Command → Type 0
-IsAlone (command.LoadPlatform path) = ⊥
-IsAlone (command.LoadBinary path at) = ⊥
-IsAlone (command.Include path) = ⊥
-IsAlone command.Quit = ⊥
-IsAlone _ = Unit {0}
 
 -- this holds of the value, where one is told
 abbrev pub Told : {A : Type 0} → Option A → (A → Type 0) → Type 0

@@ -1,7 +1,9 @@
 -- How far a loading has gone along its definition.
-use Rattle.std.specs.Prelude.{◌≡◌, ℕ, List, [], ◌∷◌, ◌++◌, Option, Some, Result, Ok, Err}
+use Rattle.std.specs.Prelude.{◌≡◌, ℕ, IsTrue, List, [], ◌∷◌, ◌++◌, Option, Some, Result, Ok, Err}
+use Rattle.std.specs.List.{list_all}
 use Rattle.lab_io.specs.Known.{grown}
 use Rattle.repl_read.specs.declared.entry.Entry.{Entry}
+use Rattle.repl_read.specs.Entries.{is_entry}
 use Rattle.repl_files.specs.declared.content.Opened.{Opened}
 use Rattle.repl_files.specs.declared.content.Opened.TheVariants as opened_by
 use Rattle.repl_files.specs.declared.fault.FileFault.{FileFault}
@@ -51,6 +53,12 @@ IsOpened content name (opened_by.Entries entries) log log' =
     (content ≡ Readable entries.items) × (log' ≡ grown log (name ∷ []))
 IsOpened content name opened_by.TooLarge log log' = (content ≡ Large) × (log' ≡ grown log (name ∷ []))
 IsOpened content name (opened_by.Stopped fault) log log' = IsStoppedAt content name fault log log'
+
+-- the entries that a file was opened as have their form
+abbrev pub AreRead : Opened → Type 0
+AreRead (opened_by.Entries entries) = IsTrue (list_all is_entry entries.items)
+AreRead opened_by.TooLarge = Unit {0}
+AreRead (opened_by.Stopped fault) = Unit {0}
 
 -- the entries of a loading have been joined to those before
 pub record Adds (loading : Loading) (old new : Loaded) (log log' : Log) : Type 0 where

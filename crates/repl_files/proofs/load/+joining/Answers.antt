@@ -1,6 +1,7 @@
 use Rattle.std.proofs.Common.{◌≡◌, ◌∷◌, ◌∙◌, ◌<◌, ◌-◌, length, Ok, Err, refl, sym, ap, inl, inr, arith}
 use Rattle.std.specs.FinMap.{get}
 use Rattle.std.specs.Vec.Iter.{into_iter_items}
+use Rattle.std.proofs.lemmas.Bool.{and_parts}
 use Rattle.std.proofs.lemmas.List.{nil_from_length}
 use Rattle.repl_files.specs.declared.fault.FileCause.TheVariants.{Size}
 use Rattle.repl_files.specs.Content.{content_of}
@@ -38,6 +39,8 @@ join_entries-loop-entry-preserved g t c =
           let short = ap length steps in
           omega arith;
       few = c.join_entry.ensures.few;
+      good = c.in_default.ensures.good;
+      coming = (and_parts _ _ (rw steps at at.invariant.coming)).1;
       held = c.join_entry.ensures.held ∙ at.invariant.held;
       faults = omega (arith, c.join_entry.ensures.faults, at.invariant.faults);
     }

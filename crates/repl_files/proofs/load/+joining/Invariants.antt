@@ -1,5 +1,8 @@
 use Rattle.std.proofs.Common.{◌≡◌, ◌≤◌, ◌+◌, ◌*◌, length, Result}
+use Rattle.std.specs.Bool.{IsTrue}
+use Rattle.std.specs.List.{list_all}
 use Rattle.std.specs.Vec.Iter.{into_iter_items, into_iter_len}
+use Rattle.repl_read.specs.Entries.{is_entry}
 use Rattle.repl_files.specs.declared.fault.LoadFault.{LoadFault}
 use Rattle.repl_files.specs.declared.load.Loaded.{Loaded}
 use Rattle.repl_files.specs.Asked.{Log}
@@ -29,6 +32,8 @@ invariant-join_entries-loop-entry g l = record {
       result l.fn.all new (g.F.Files.asked l.fn.files) log);
   left : into_iter_len l.entry-iterator ≡ length (into_iter_items l.entry-iterator);
   few : length l.all.names.items ≤ 64;
+  good : IsTrue (list_all is_entry l.all.entries.items);
+  coming : IsTrue (list_all is_entry (into_iter_items l.entry-iterator));
   held : g.F.Files.held l.files ≡ g.F.Files.held l.fn.files;
   faults : g.F.Files.faults l.fn.files ≤ g.F.Files.faults l.files;
 }
