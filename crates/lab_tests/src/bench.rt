@@ -25,7 +25,7 @@ fn stock(alloc: Global) -> Result<Stock<Box<dyn Device + Send>>, NoMemory> {
     })
 }
 
-/// The words of a line, which stand between blanks.
+/// The words of a line, with one blank between them. An empty line has none.
 fn words_of(alloc: Global, line: &str) -> Result<Vec<String>, NoMemory> {
     let mut words = Vec::new(alloc);
     if line.is_empty() {
@@ -35,11 +35,6 @@ fn words_of(alloc: Global, line: &str) -> Result<Vec<String>, NoMemory> {
         words.push(String::from_str(alloc, word)?)?;
     }
     Ok(words)
-}
-
-/// An output that takes at most so many bytes at once.
-pub fn sink(alloc: Global, most: usize) -> MemSink {
-    MemSink::new(alloc, most.max(1))
 }
 
 /// A run for the words of a line: how it ends.
@@ -57,18 +52,31 @@ pub fn run(
     Ok(run_lab(alloc, &words, files, out, stock))
 }
 
-/// A run for these words ends with this number, when it has written this.
-pub fn assert_run(
-    rt: &(impl Abort + AllocGlobal),
+/// A run for the words of a line ends with this number, and has written this.
+pub fn assert_run<R: Abort + AllocGlobal>(
+    rt: &R,
     line: &str,
     mut files: MemFiles,
     number: u8,
     written: &str,
 ) -> Result<(), NoMemory> {
     let alloc = rt.alloc();
-    let mut out = sink(alloc, 4096);
+    let mut out = MemSink::new(alloc, 4096);
     let status = run(alloc, line, &mut files, &mut out)?;
-    assert_eq!(rt; out.bytes(), written.as_bytes());
+    assert_eq!(rt; String::from_utf8_lossy(alloc, out.bytes())?.as_str(), written);
     assert_eq!(rt; status.number(), number);
     Ok(())
+}
+
+/// The run of a script over these files, in which `start` runs to microsecond 200, ends with this
+/// number, and has written this.
+pub fn assert_script<R: Abort + AllocGlobal>(
+    rt: &R,
+    mut files: MemFiles,
+    script: &str,
+    number: u8,
+    written: &str,
+) -> Result<(), NoMemory> {
+    files.put("s.resc", script.as_bytes())?;
+    assert_run(rt, "run --until 0.0002 s.resc", files, number, written)
 }

@@ -4,6 +4,14 @@
 #[cfg(test)]
 mod bench;
 #[cfg(test)]
+mod limits;
+#[cfg(test)]
+mod outside;
+#[cfg(test)]
+mod platforms;
+#[cfg(test)]
 mod programs;
+#[cfg(test)]
+mod refusals;
 #[cfg(test)]
 mod rows;

@@ -1,5 +1,5 @@
 //! The file of a script, read whole.
-ghost use Rattle.std.specs.Prelude.{◌≡◌, ◌≢◌, ◌==◌, ◌+◌, ◌≤◌, length, take, count_by};
+ghost use Rattle.std.specs.Prelude.{◌≡◌, ◌≢◌, ◌≤◌, length};
 ghost use Rattle.std.specs.FinMap.{get};
 ghost use Rattle.lab_io.specs.Known.{Rose};
 ghost use Rattle.lab_top.specs.Content.{bytes_content, content_of};
@@ -9,6 +9,7 @@ ghost use Rattle.lab_top.specs.Inner.Opened.{IsContent, IsOpened, IsRefused, IsS
 use lab_io::{Files, ReadAnswer};
 use lab_num::Text;
 use monitor::{Cause, ScriptFault};
+use repl_files::line_at;
 use resc_vars::ScriptCause;
 use std::alloc::Global;
 use std::str;
@@ -80,13 +81,4 @@ fn refused(alloc: Global, name: &str, line: u32, cause: ScriptCause) -> Opened
         }),
         Err(_) => Opened::Memory,
     }
-}
-
-/// The line of the byte at this place.
-fn line_at(bytes: &[u8], at: usize) -> u32
-    requires few { length bytes.now ≤ 16777216 }
-    requires inside { at ≤ length bytes.now }
-    ensures { result ≡ count_by (λ byte. byte == 10) (take at bytes.now) + 1 }
-{
-    bytes[..at].iter().filter(|byte| **byte == b'\n').count() as u32 + 1
 }
