@@ -1,6 +1,6 @@
 //! The hubs of a laboratory.
 ghost use Rattle.std.specs.Prelude.{◌≡◌, ◌+◌, ◌^◌, ◌<◌, ◌↔◌, ◌++◌, ◌∷◌, [], length, position, slice_get, Some, IsTrue};
-ghost use Rattle.std.specs.Prelude.{OnOk, OnErr, IfOk};
+ghost use Rattle.std.specs.Prelude.{OnOk, OnErr, IfOk, IfSome};
 ghost use Rattle.std.specs.Option.{option_map};
 ghost use Rattle.std.specs.Str.{bytes_eq};
 ghost use Rattle.lab_num.specs.Route.{StandOnce, is_connected};
@@ -90,7 +90,8 @@ impl HubList {
 
     /// The number of the first hub of this name.
     pub fn find(&self, name: &str) -> Option<usize>
-        ensures { result ≡ position (λ hub. bytes_eq hub.name name.now) self.now }
+        ensures number { result ≡ position (λ hub. bytes_eq hub.name name.now) self.now }
+        ensures few { IfSome result (λ n. n < 2 ^ 32) }
     {
         number_of(&self.names, name)
     }

@@ -1,6 +1,6 @@
 //! The hubs of a laboratory.
 ghost use Rattle.std.specs.Prelude.{◌≡◌, ◌+◌, ◌^◌, ◌<◌, ◌↔◌, ◌≢◌, ◌++◌, ◌∷◌, [], length, false, Some, None, slice_get};
-ghost use Rattle.std.specs.Prelude.{IsSome, IsTrue, OnOk, OnErr};
+ghost use Rattle.std.specs.Prelude.{IfSome, IsSome, IsTrue, OnOk, OnErr};
 ghost use Rattle.std.specs.Option.{option_map};
 ghost use Rattle.lab_num.specs.Name as name_spec;
 ghost use Rattle.lab_num.specs.Route.{StandOnce, is_connected};
@@ -23,9 +23,21 @@ fn is_same(a: Kind, b: Kind) -> bool
 impl<D: Device> Lab<D> {
     /// The number of the hub of this name.
     pub(crate) fn hub_named(&self, name: &str) -> Option<usize>
-        ensures { result ≡ names_spec.hub_named self.now.lab name.now }
+        ensures number { result ≡ names_spec.hub_named self.now.lab name.now }
+        ensures few { IfSome result (λ n. n < 2 ^ 32) }
     {
         self.hubs.find(name)
+    }
+
+    /// The number of the hub that has a name. None exactly where no hub has it.
+    pub fn find_hub(&self, name: &str) -> Option<u32>
+        requires { self.now.spent ≡ false }
+        ensures { result ≡ names_spec.hub_named self.now.lab name.now }
+    {
+        match self.hub_named(name) {
+            Some(n) => Some(n as u32),
+            None => None,
+        }
     }
 
     /// Creates a hub that connects UARTs, without members.

@@ -46,27 +46,10 @@ fn boards_are_made_by_platform_files(rt: HostRuntime) -> Result<(), Fail> {
     Ok(())
 }
 
-/// The lines of a platform with this line as its 16th.
-fn with_line_16(alloc: Global, line: &str) -> Result<String, NoMemory> {
-    let mut text = String::new(alloc);
-    let mut number = 1_u32;
-    for old in WIRED.lines() {
-        if number == 16 {
-            text.push_str(line)?;
-            text.push_str("\n")?;
-        }
-        number = number.saturating_add(1);
-        text.push_str(old)?;
-        text.push_str("\n")?;
-    }
-    Ok(text)
-}
-
 #[test]
 fn a_platform_is_refused_at_its_file_and_line(rt: HostRuntime) -> Result<(), Fail> {
-    let overlap = with_line_16(
-        rt.alloc(),
-        "rom: Memory.MappedMemory @ sysbus <0x8000F000, +0x1000>",
+    let overlap = format!(in rt.alloc();
+        "{WIRED}rom: Memory.MappedMemory @ sysbus <0x8000F000, +0x1000>\n"
     )?;
     let core = USUAL.replace(rt.alloc(), "rv32im", "rv32imac")?;
     let init = USUAL.replace(rt.alloc(), "cpuType: \"rv32im\"", "init:")?;

@@ -108,7 +108,7 @@ fn lines_that_are_no_commands_are_refused(rt: HostRuntime) -> Result<(), Fail> {
         ("$a=1\n", "$a?=$b", "S3 variable"),
         ("$a=1\n", "$b=$A", "S3 variable"),
         ("$r=runMacro\n", "$r $m", "S3 variable"),
-        ("$m=macro\n", "$m x", "S1 unknown command"),
+        ("$m=macro\n", "$m x", "S2 arguments"),
         ("$m=\"$n\"\n$n=pause\n", "$m", "S1 unknown command"),
     ];
     for (before, line, text) in rows {

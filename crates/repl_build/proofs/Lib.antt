@@ -16,3 +16,4 @@ pub mod ValidLemmas
 pub mod WhatLemmas
 pub mod WireLemmas
 pub mod WireValid
+pub mod NoCans

@@ -67,8 +67,8 @@ fn opened_as(alloc: Global, name: &str, bytes: &[u8]) -> Opened
     }
 }
 
-/// The line of the byte at this place.
-fn line_at(bytes: &[u8], at: usize) -> u32
+/// The line of the byte at this place, counted from 1: how many line feeds come before it, and one.
+pub fn line_at(bytes: &[u8], at: usize) -> u32
     requires few { length bytes.now ≤ 16777216 }
     requires inside { at ≤ length bytes.now }
     ensures { result ≡ count_by (λ byte. byte == 10) (take at bytes.now) + 1 }

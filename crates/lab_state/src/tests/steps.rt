@@ -314,6 +314,7 @@ fn assert_members<D: Device>(rt: &impl Abort, lab: &Lab<D>, count: u8) {
     assert!(rt; !lab.is_spent());
     assert!(rt; 0 < lab.hubs());
     assert!(rt; lab.hub_name(0).as_str() == HUB);
+    assert_eq!(rt; lab.find_hub(HUB), Some(0));
     assert_eq!(rt; lab.hub_kind(0), Kind::Uart);
     let members = lab.hub_members(0);
     assert_eq!(rt; members.len(), usize::from(count));

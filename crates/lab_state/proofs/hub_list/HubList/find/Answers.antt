@@ -7,8 +7,8 @@ use Rattle.lab_state.specs.Inner.Hubs.{name_of}
 use Rattle.lab_state.proofs.ListLemmas.{position-map}
 use Rattle.lab_state.proofs.hub_list.HubList.find.Goals as goal
 
-pub returns : goal.returns
-returns c =
+pub returns-clause-number : goal.returns-clause-number
+returns-clause-number c =
     let named : HubName → Bool = λ n. bytes_eq n.name c.args.name.now in
     rw (← c.self.view_is)
     (c.number_of.ensures ∙ ap (position named) (c.deref.ensures.value ∙ sym c.self.invariant.0.names_are)
