@@ -1,5 +1,4 @@
 pub mod Within
 pub mod Ruled
 pub mod Steps
-pub mod Counts
 pub mod MachineNames

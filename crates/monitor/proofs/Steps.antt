@@ -8,7 +8,7 @@ use Rattle.resc_vars.specs.declared.answer.Next.{Next}
 use Rattle.resc_vars.specs.declared.answer.Next.TheVariants as next
 use Rattle.resc_vars.specs.declared.cause.ScriptCause.{ScriptCause}
 use Rattle.resc_vars.specs.Script as script
-use Rattle.resc_vars.specs.Script.{next_of, Says}
+use Rattle.resc_vars.specs.Script.{next_of, Says, TakesCommands}
 use Rattle.monitor.specs.declared.step.Step.{Step}
 use Rattle.monitor.specs.declared.step.Step.TheVariants as step
 use Rattle.monitor.specs.declared.fault.Cause.TheVariants.{Script}
@@ -17,7 +17,6 @@ use Rattle.monitor.specs.Command.{did, done_by, without_files}
 use Rattle.monitor.specs.State.{State, Place}
 use Rattle.monitor.specs.Step.{Running, IsStep, IsNext, IsCounted}
 use Rattle.monitor.specs.Inner.Ruling.{IsAfterLine}
-use Rattle.monitor.proofs.Counts.{line_counts}
 use Rattle.monitor.proofs.Ruled.{grown_by_none}
 
 pub line_is :
@@ -62,11 +61,10 @@ line_next step.Memory old mid new file n line says lab selected lines spent ende
 -- and how many commands were taken then
 pub line_counted :
     (answered : Step) (old mid new : Running) (file : List ℕ) (n : ℕ) (text : List ℕ) →
-    Says (next.Line file n text) mid.state.flow (next_of old.state.flow) → IsAfterLine answered mid new →
+    TakesCommands (next.Line file n text) old.state.flow mid.state.flow → IsAfterLine answered mid new →
     IsCounted answered old.state new.state
-line_counted (step.Text text) old mid new file n line says is =
-    rw is.2 (line_counts old.state.flow mid.state.flow file n line says)
-line_counted step.End old mid new file n line says is = tt
-line_counted (step.Fault fault) old mid new file n line says is = tt
-line_counted step.Unread old mid new file n line says is = tt
-line_counted step.Memory old mid new file n line says is = tt
+line_counted (step.Text text) old mid new file n line takes is = rw is.2 takes
+line_counted step.End old mid new file n line takes is = tt
+line_counted (step.Fault fault) old mid new file n line takes is = tt
+line_counted step.Unread old mid new file n line takes is = tt
+line_counted step.Memory old mid new file n line takes is = tt

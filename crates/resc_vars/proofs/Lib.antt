@@ -3,3 +3,4 @@ mod FlowLemmas
 mod LengthLemmas
 mod ReturnLemmas
 mod VariableLemmas
+pub mod Counts

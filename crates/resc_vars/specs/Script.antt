@@ -1,7 +1,6 @@
 -- The open bodies of a script, and its next line.
-use Rattle.std.specs.Prelude.{◌≡◌, ℕ, ◌+◌, nat_eq, nat_lt, Bool, true, false, if◌then◌else◌, List, [], ◌∷◌, Option}
-use Rattle.std.specs.Prelude.{Some}
-use Rattle.std.specs.Prelude.{None}
+use Rattle.std.specs.Prelude.{◌≡◌, ℕ, ◌+◌, ◌<◌, ◌≤◌, nat_eq, nat_lt, Bool, true, false, if◌then◌else◌, List, [], ◌∷◌}
+use Rattle.std.specs.Prelude.{Option, Some, None}
 use Rattle.std.specs.Option.{option_map}
 use Rattle.std.specs.Cmp.Lexicographic.{pointwise}
 use Rattle.indexmap.specs.IndexMap.{insert_entry}
@@ -121,3 +120,11 @@ is_line (next.Line file n text) = true
 is_line next.End = false
 is_line (next.Fault file n cause) = false
 is_line next.Memory = false
+
+-- a line takes a command or more, assignments and macros on the way to it among them, and 100,000 are taken at most
+abbrev pub TakesCommands : Next → State → State → Type 0
+TakesCommands (next.Line file n text) before after =
+    (before.kept.taken < after.kept.taken) × (after.kept.taken ≤ command_limit)
+TakesCommands next.End before after = Unit {0}
+TakesCommands (next.Fault file n cause) before after = Unit {0}
+TakesCommands next.Memory before after = Unit {0}

@@ -3,6 +3,7 @@ ghost use Rattle.std.specs.Prelude.{◌≡◌, ◌<◌, ◌≤◌, ◌^◌, not,
 ghost use Rattle.std.specs.String.{string_bytes};
 ghost use Rattle.resc_vars.specs.declared.item.Item.TheVariants as items;
 ghost use Rattle.resc_vars.specs.Script.{command_limit, given, defined, next_of, Says, is_line};
+ghost use Rattle.resc_vars.specs.Script.{TakesCommands};
 ghost use Rattle.resc_vars.specs.Bodies.{begun, source_of, enter, run_of, Leaves};
 ghost use Rattle.resc_vars.specs.Inner.Steps.{Takes, Closes, IsFault, Sets};
 ghost use Rattle.resc_vars.specs.Inner.Steps.{next_with, with_counted, Acts, IsSameBodies};
@@ -89,9 +90,11 @@ impl Flow {
     /// `Fault` is answered, for the line that it names, with `Unclosed` for a macro whose body does
     /// not end; with `Commands` where 100,000 commands, assignments and macros were taken before;
     /// and with `Variable` for a variable that is unset.
+    #[tactic(auto, using(crate::proofs::Counts::says_counts))]
     pub fn next(&mut self) -> Next
         requires { self.old.ended ≡ false }
         ensures says { Says result self.new (next_of self.old) }
+        ensures commands { TakesCommands result self.old self.new }
         ensures ended { self.new.ended ≡ not (is_line result) }
     {
         let next = self.advance();

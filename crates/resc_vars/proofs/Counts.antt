@@ -1,14 +1,16 @@
 -- How many commands a script has taken where it comes to a line.
-use Rattle.std.proofs.Common.{◌≡◌, ℕ, ◌+◌, ◌<◌, ◌≤◌, nat_lt, Bool, true, false, cond, List, [], ◌∷◌, Option, None, Some, refl, arith, subst}
+use Rattle.std.proofs.Common.{◌≡◌, ℕ, ◌+◌, ◌<◌, ◌≤◌, nat_lt, Bool, true, false, cond, List, [], ◌∷◌}
+use Rattle.std.proofs.Common.{Option, None, Some, refl, arith, subst}
 use Rattle.std.specs.Prelude.{IfSome}
 use Rattle.std.specs.Option.{option_map}
 use Rattle.std.proofs.lemmas.Bool.Decides.{nat_tests}
+use Rattle.resc_vars.specs.declared.answer.Next.{Next}
 use Rattle.resc_vars.specs.declared.answer.Next.TheVariants as next
 use Rattle.resc_vars.specs.declared.cause.ScriptCause.TheVariants as causes
 use Rattle.resc_vars.specs.declared.item.Item.{Item}
 use Rattle.resc_vars.specs.declared.item.Item.TheVariants.{Command, Malformed, Assign, Define, Unclosed}
-use Rattle.resc_vars.specs.Script.{Open, Kept, State, Outcome, command_limit, fault, counted, given, assigned, defined, onward}
-use Rattle.resc_vars.specs.Script.{within_limit, state_of, in_body, in_bodies, next_of, Says}
+use Rattle.resc_vars.specs.Script.{Open, Kept, State, Outcome, command_limit, fault, counted, given, defined, onward}
+use Rattle.resc_vars.specs.Script.{within_limit, state_of, in_body, in_bodies, next_of, Says, TakesCommands}
 use Rattle.resc_vars.specs.Variables.{command_text, stands_for, with_value}
 
 -- where a line comes, more than so many commands were taken, and at most 100,000
@@ -18,7 +20,8 @@ Counts n said = IfSome said.1 (λ after. (n < after.kept.taken) × (after.kept.t
 limited :
     (n : ℕ) (file : List ℕ) (at : ℕ) (kept : Kept) (outcome : Outcome) →
     (kept.taken < 100000 → Counts n outcome) → Counts n (within_limit file at kept outcome)
-limited n file at kept outcome counts = tested (nat_lt kept.taken command_limit) (λ less. counts (grind (arith, nat_tests, less)))
+limited n file at kept outcome counts =
+    tested (nat_lt kept.taken command_limit) (λ less. counts (grind (arith, nat_tests, less)))
   where
     tested :
         (b : Bool) → (b ≡ true → Counts n outcome) → Counts n (cond b outcome (fault file at causes.Commands))
@@ -68,10 +71,12 @@ bodies_counts n [] kept least = tt
 bodies_counts n (body ∷ outer) kept least =
     body_counts n body.file body.items outer kept (in_bodies outer) least (λ k more. bodies_counts n outer k more)
 
--- a line takes a command or more, of 100,000
-pub line_counts :
-    (s after : State) (file : List ℕ) (n : ℕ) (text : List ℕ) → Says (next.Line file n text) after (next_of s) →
-    (s.kept.taken < after.kept.taken) × (after.kept.taken ≤ 100000)
-line_counts s after file n text is =
+-- what is answered for the next line
+pub says_counts :
+    (answer : Next) (s after : State) → Says answer after (next_of s) → TakesCommands answer s after
+says_counts (next.Line file n text) s after is =
     let C : Outcome → Type 0 = Counts s.kept.taken in
     subst C is (bodies_counts s.kept.taken (s.current ∷ s.outer) s.kept (omega arith))
+says_counts next.End s after is = tt
+says_counts (next.Fault file n cause) s after is = tt
+says_counts next.Memory s after is = tt
