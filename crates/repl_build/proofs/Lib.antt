@@ -17,4 +17,3 @@ pub mod ValidLemmas
 pub mod WhatLemmas
 pub mod WireLemmas
 pub mod WireValid
-pub mod NoCans
