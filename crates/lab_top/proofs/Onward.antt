@@ -1,5 +1,5 @@
 -- One step of a run, in its transcript and in its course.
-use Rattle.std.proofs.Common.{◌≡◌, ℕ, suc, List, [], Option, Vec, refl}
+use Rattle.std.proofs.Common.{◌≡◌, ℕ, suc, ◌+◌, ◌-◌, ◌≤◌, List, [], Option, Vec, refl, arith}
 use Rattle.std.specs.Global.{Global}
 use Rattle.lab_io.specs.Held.{Held}
 use Rattle.lab_io.specs.Known.{grown}
@@ -135,3 +135,16 @@ pub step_memory :
 step_memory more held s next out log log' step =
     rw (from_suc more held s)
     (memory_in (from more run held) s (did run held s).names (did run held s).answer out log log' step)
+
+-- in a turn within the limit a command is left
+pub at_turn : (turn : ℕ) (held : Held) (s : State) → turn ≤ 100000 →
+    from (100001 - turn) run held s ≡ from (suc (100000 - turn)) run held s
+at_turn turn held s within =
+    let count : 100001 - turn ≡ suc (100000 - turn) = omega arith in
+    rw count refl
+
+pub next_turn : (turn : ℕ) (held : Held) (s : State) →
+    from (100001 - (turn + 1)) run held s ≡ from (100000 - turn) run held s
+next_turn turn held s =
+    let count : 100001 - (turn + 1) ≡ 100000 - turn = omega arith in
+    rw count refl

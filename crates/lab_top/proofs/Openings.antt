@@ -1,6 +1,6 @@
 -- The course of a run, from the words and the read of its script on.
 use Rattle.std.proofs.Common.{◌≡◌, ℕ, ◌<◌, ◌≤◌, ◌==◌, ◌+◌, ◌^◌, Bool, true, false, List, [], ◌∷◌, length, take, count_by}
-use Rattle.std.proofs.Common.{Option, Some, IfSome, sym, refl, append-nil, arith}
+use Rattle.std.proofs.Common.{Option, Some, Result, Ok, Err, IfSome, sym, refl, append-nil, arith}
 use Rattle.std.proofs.lemmas.Bool.Decides.{nat_tests}
 use Rattle.std.proofs.lemmas.Str.{is_utf8-from_IsUtf8, IsUtf8-from_is_utf8}
 use Rattle.std.specs.FinMap.{get}
@@ -9,23 +9,32 @@ use Rattle.std.specs.Str.Lossy.{utf8_valid_len}
 use Rattle.lab_io.specs.Known.{grown}
 use Rattle.lab_io.specs.Held.{Held}
 use Rattle.lab_state.specs.Run.{run}
+use Rattle.lab_words.specs.declared.request.Request.{Request}
 use Rattle.lab_words.specs.declared.request.UsageCause.{UsageCause}
+use Rattle.lab_words.specs.declared.request.WordsFault.{WordsFault}
+use Rattle.lab_words.specs.declared.request.WordsFault.TheVariants as words_fault
+use Rattle.lab_words.specs.Requests.{IsReadAs}
+use Rattle.lab_words.specs.Usage.{usage_line}
 use Rattle.repl_files.specs.Asked.{AsksSome}
 use Rattle.repl_files.specs.Content.{bad_line}
+use Rattle.resc_vars.specs.declared.cause.ScriptCause.{ScriptCause}
 use Rattle.resc_vars.specs.declared.cause.ScriptCause.TheVariants.{Size, Utf8}
 use Rattle.monitor.specs.declared.fault.ScriptFault.{ScriptFault}
 use Rattle.monitor.specs.declared.setting.Setting.{Setting}
 use Rattle.monitor.specs.Answer.{fault_at}
-use Rattle.monitor.specs.State.{started}
+use Rattle.monitor.specs.State.{Place, started}
 use Rattle.lab_top.specs.declared.script.Opened.{Opened}
 use Rattle.lab_top.specs.declared.script.Opened.TheVariants as opened_by
 use Rattle.lab_top.specs.declared.status.Status.{Status}
 use Rattle.lab_top.specs.declared.status.Status.TheVariants as end_by
 use Rattle.lab_top.specs.Content.{Content, Readable, Faulty, bytes_content, content_of, whole, bad_place}
-use Rattle.lab_top.specs.Request.{Refused, request_of}
+use Rattle.lab_top.specs.Headline.{OnRefused, WritesUsage}
+use Rattle.lab_top.specs.Request as asked_by
+use Rattle.lab_top.specs.Request.{Refused, by_reading, request_of}
 use Rattle.lab_top.specs.Transcript.{Usage, Script, ended, rest_of, begun, run_of, transcript}
 use Rattle.lab_top.specs.Inner.Course.{Told, Course, IsEnd}
 use Rattle.lab_top.specs.Inner.Opened.{IsContent, IsOpened, IsRefused}
+use Rattle.lab_top.specs.Inner.Words.{IsAsked}
 use Rattle.lab_top.proofs.Pieces.{grown-nil}
 use Rattle.lab_top.proofs.Courses.{course_after, course_ended, course_memory, course_stopped, course_unread}
 
@@ -52,6 +61,14 @@ content_bad file bytes at line small not place is = rw (no_utf8 bytes _ refl not
 content_large : (file bytes : List ℕ) → 16777216 < length bytes →
     bytes_content file bytes ≡ Faulty (fault_at (whole file) Size)
 content_large file bytes large = grind (arith, nat_tests)
+
+-- a file was refused so, or memory ran out
+pub refused_content : (is : Content) (place : Place) (cause : ScriptCause) (opened : Opened) →
+    is ≡ Faulty (fault_at place cause) → IsRefused place cause opened → IsContent is opened
+refused_content is place cause (opened_by.Text text) so refused = absurd refused
+refused_content is place cause (opened_by.Refused fault) so refused = rw refused so
+refused_content is place cause opened_by.Unread so refused = absurd refused
+refused_content is place cause opened_by.Memory so refused = tt
 
 -- ---- how a file was opened
 
@@ -108,6 +125,27 @@ pub opening_memory :
     AsksSome (script ∷ []) log log' → Course (run_of run held script setting) end_by.Memory out out log log'
 opening_memory held script setting out log log' asks =
     course_memory (script ∷ []) [] (begun run held script setting (content_of script (get held script))) out log log' asks
+
+-- ---- the words
+
+-- the words could not be read as they are, and that was told
+pub asked_not : (meant : Result Request UsageCause) (fault : WordsFault) → IsReadAs meant (Err fault) →
+    IsAsked (by_reading meant) (Err fault)
+asked_not meant (words_fault.Usage cause) is = rw is refl
+asked_not meant words_fault.Memory is = tt
+
+-- memory ran out before the words were read
+pub unread_words : (asked : asked_by.Request) (out : Option (List ℕ)) (log : Option (List (List ℕ))) →
+    OnRefused asked (WritesUsage end_by.Memory out out log log)
+unread_words (asked_by.Refused cause) out log = record {
+  bytes = [];
+  unwritten = usage_line;
+  all_bytes = refl;
+  written = sym (grown-nil out);
+  whole = tt;
+  asked = refl;
+}
+unread_words (asked_by.Run script setting) out log = tt
 
 -- the words were refused
 pub words_refused :

@@ -1,5 +1,5 @@
 -- What the words ask for.
-use Rattle.std.specs.Prelude.{ℕ, if◌then◌else◌, List, [], ◌∷◌, codes, Result, Ok, Err}
+use Rattle.std.specs.Prelude.{ℕ, Bool, true, false, if◌then◌else◌, List, [], ◌∷◌, codes, Result, Ok, Err}
 use Rattle.std.specs.Str.{bytes_eq}
 use Rattle.lab_words.specs.declared.request.Request.TheVariants as words
 use Rattle.lab_words.specs.declared.request.Request as read
@@ -25,8 +25,11 @@ by_reading (Ok (words.Check script)) = Run script checking
 by_reading (Ok (words.Gen seed boards workers)) = Refused Command
 by_reading (Err cause) = Refused cause
 
--- `gen` is refused whatever stands behind it
+-- whether the first word is `gen`
+abbrev pub generates : List (List ℕ) → Bool
+generates [] = false
+generates (command ∷ words) = bytes_eq command (codes "gen")
+
+-- what the words ask for; `gen` is refused whatever stands behind it
 abbrev pub request_of : List (List ℕ) → Request
-request_of [] = Refused Command
-request_of (command ∷ words) =
-    if bytes_eq command (codes "gen") then Refused Command else by_reading (requests.request_of (command ∷ words))
+request_of words = if generates words then Refused Command else by_reading (requests.request_of words)

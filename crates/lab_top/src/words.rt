@@ -1,6 +1,7 @@
 //! What the words ask for: a script, and how it is run.
-ghost use Rattle.std.specs.Prelude.{◌≡◌, ◌≤◌, IfOk, map, string_bytes};
-ghost use Rattle.lab_top.specs.Request.{request_of};
+ghost use Rattle.std.specs.Prelude.{◌≡◌, ◌≤◌, IfOk, Ok, map, string_bytes};
+ghost use Rattle.lab_words.specs.Requests.{IsWithin};
+ghost use Rattle.lab_top.specs.Request.{by_reading, generates, request_of};
 ghost use Rattle.lab_top.specs.Inner.Words.{IsAsked};
 
 use lab_num::{Micros, Text};
@@ -21,9 +22,7 @@ pub(crate) fn read_request(alloc: Global, words: &[String]) -> Result<ScriptRun,
     ensures some_worker { IfOk result (λ run. 1 ≤ run.setting.workers) }
     ensures few_workers { IfOk result (λ run. run.setting.workers ≤ 8) }
 {
-    if let [command, ..] = words
-        && command.as_str() == "gen"
-    {
+    if generates(words) {
         return Err(WordsFault::Usage(UsageCause::Command));
     }
     match read_words(alloc, words) {
@@ -32,30 +31,44 @@ pub(crate) fn read_request(alloc: Global, words: &[String]) -> Result<ScriptRun,
     }
 }
 
+/// Whether the words ask for a generated laboratory.
+fn generates(words: &[String]) -> bool
+    ensures { result ≡ generates (map string_bytes words.now) }
+{
+    match words {
+        [] => false,
+        [command, ..] => command.as_str() == "gen",
+    }
+}
+
 /// The script of a request.
-fn script_run(request: Request) -> Result<ScriptRun, WordsFault> {
-    let (script, setting) = match request {
+fn script_run(request: Request) -> Result<ScriptRun, WordsFault>
+    requires { IsWithin request }
+    ensures read { IsAsked (by_reading (Ok request)) result }
+    ensures some_worker { IfOk result (λ run. 1 ≤ run.setting.workers) }
+    ensures few_workers { IfOk result (λ run. run.setting.workers ≤ 8) }
+{
+    match request {
         Request::Run {
             script,
             workers,
             until,
-        } => (
+        } => Ok(ScriptRun {
             script,
-            Setting {
+            setting: Setting {
                 workers,
                 until,
                 dry: false,
             },
-        ),
-        Request::Check { script } => (
+        }),
+        Request::Check { script } => Ok(ScriptRun {
             script,
-            Setting {
+            setting: Setting {
                 workers: 1,
                 until: Micros(0),
                 dry: true,
             },
-        ),
-        Request::Gen { .. } => return Err(WordsFault::Usage(UsageCause::Command)),
-    };
-    Ok(ScriptRun { script, setting })
+        }),
+        Request::Gen { .. } => Err(WordsFault::Usage(UsageCause::Command)),
+    }
 }
