@@ -23,6 +23,16 @@ fn find_entry<'a>(plan: &'a BoardPlan, name: &str) -> Option<&'a Named>
         .find(|named| named.name.as_str() == name)
 }
 
+/// The name of an entry in a word, of which one prefix `sysbus.` is taken off.
+fn entry_name(word: &str) -> &str
+    ensures { result.now ≡ selected.entry_name word.now }
+{
+    match word.strip_prefix("sysbus.") {
+        Some(name) => name,
+        None => word,
+    }
+}
+
 impl<D: Device> Monitor<D> {
     /// The selected board.
     fn selected(&self) -> Result<BoardNo, ScriptCause>
@@ -73,8 +83,7 @@ impl<D: Device> Monitor<D> {
         ensures { ForSome (view_of self.now.state.lab b.0) (λ v.
             result ≡ selected.entry (record { number = b.0; view = v }) word.now) }
     {
-        let name = word.strip_prefix("sysbus.").unwrap_or(word);
-        match find_entry(self.lab.board(b).plan(), name) {
+        match find_entry(self.lab.board(b).plan(), entry_name(word)) {
             Some(named) => Ok(named.what),
             None => Err(ScriptCause::Name),
         }
