@@ -63,7 +63,10 @@ pub fn assert_run<R: Abort + AllocGlobal>(
     let alloc = rt.alloc();
     let mut out = MemSink::new(alloc, 4096);
     let status = run(alloc, line, &mut files, &mut out)?;
-    assert_eq!(rt; String::from_utf8_lossy(alloc, out.bytes())?.as_str(), written);
+    assert_eq!(rt;
+        String::from_utf8_lossy(alloc, out.bytes())?.as_str(),
+        written
+    );
     assert_eq!(rt; status.number(), number);
     Ok(())
 }

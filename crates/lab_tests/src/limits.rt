@@ -49,12 +49,19 @@ fn a_script_takes_100_000_commands_at_most(rt: HostRuntime) -> Result<(), Fail> 
 
 #[test]
 fn there_are_16_boards_at_most(rt: HostRuntime) -> Result<(), Fail> {
-    let board = "mach create\nmachine LoadPlatformDescription @p.repl\nsysbus LoadBinary @a.bin 0x80000000\n\
+    let board =
+        "mach create\nmachine LoadPlatformDescription @p.repl\nsysbus LoadBinary @a.bin 0x80000000\n\
 cpu PC 0x80000000\nshowAnalyzer uart\nsysbus ReadDoubleWord 0x80000000\n";
     let words = repeated(rt.alloc(), "0x100002b7\n", 16, "")?;
     let written = format!(in rt.alloc(); "{words}error: s.resc:99: S13 boards\n")?;
     let script = repeated(rt.alloc(), board, 16, "\n\nmach create\n")?;
-    assert_script(&rt, files(rt.alloc())?, script.as_str(), 3, written.as_str())?;
+    assert_script(
+        &rt,
+        files(rt.alloc())?,
+        script.as_str(),
+        3,
+        written.as_str(),
+    )?;
     let taken = repeated(rt.alloc(), "mach create\n", 16, "mach create machine-3\n")?;
     let fault = "error: s.resc:17: S6 taken\n";
     assert_script(&rt, files(rt.alloc())?, taken.as_str(), 3, fault)?;
@@ -68,12 +75,24 @@ fn chain(alloc: Global, last: u32, script: &str, platform: &str) -> Result<MemFi
     for number in 1..last {
         let next = number.saturating_add(1);
         let name = format!(in alloc; "{number}.resc")?;
-        files.put(name.as_str(), format!(in alloc; "\ninclude @{next}.resc\n")?.as_bytes())?;
+        files.put(
+            name.as_str(),
+            format!(in alloc; "\ninclude @{next}.resc\n")?.as_bytes(),
+        )?;
         let name = format!(in alloc; "{number}.repl")?;
-        files.put(name.as_str(), format!(in alloc; "using \"{next}.repl\"\n")?.as_bytes())?;
+        files.put(
+            name.as_str(),
+            format!(in alloc; "using \"{next}.repl\"\n")?.as_bytes(),
+        )?;
     }
-    files.put(format!(in alloc; "{last}.resc")?.as_str(), script.as_bytes())?;
-    files.put(format!(in alloc; "{last}.repl")?.as_str(), platform.as_bytes())?;
+    files.put(
+        format!(in alloc; "{last}.resc")?.as_str(),
+        script.as_bytes(),
+    )?;
+    files.put(
+        format!(in alloc; "{last}.repl")?.as_str(),
+        platform.as_bytes(),
+    )?;
     Ok(files)
 }
 
@@ -111,14 +130,16 @@ fn eight_bodies_are_open_beside_the_script_at_most(rt: HostRuntime) -> Result<()
 fn a_command_reads_64_platform_files_at_most(rt: HostRuntime) -> Result<(), Fail> {
     let script = "mach create m\nmachine LoadPlatformDescription @all.repl\n";
     // How many `using` lines of an empty file stand before that of the platform.
-    let rows = [
-        (62, 0, ""),
-        (63, 3, "error: all.repl:64: S11 depth\n"),
-    ];
+    let rows = [(62, 0, ""), (63, 3, "error: all.repl:64: S11 depth\n")];
     for (count, number, written) in rows {
         let mut files = files(rt.alloc())?;
         files.put("none.repl", b"")?;
-        let all = repeated(rt.alloc(), "using \"none.repl\"\n", count, "using \"p.repl\"\n")?;
+        let all = repeated(
+            rt.alloc(),
+            "using \"none.repl\"\n",
+            count,
+            "using \"p.repl\"\n",
+        )?;
         files.put("all.repl", all.as_bytes())?;
         assert_script(&rt, files, script, number, written)?;
     }
@@ -137,9 +158,24 @@ fn a_file_has_16_mib_at_most(rt: HostRuntime) -> Result<(), Fail> {
         (16_777_216, None, 0, ""),
         (16_777_217, None, 3, "error: s.resc:0: S19 size\n"),
         (16_777_216, Some("include @large\n"), 0, ""),
-        (16_777_217, Some("\ninclude @large\n"), 3, "error: s.resc:2: S19 size\n"),
-        (16_777_216, Some(image.as_str()), 3, "error: s.resc:3: S16 address\n"),
-        (16_777_217, Some(image.as_str()), 3, "error: s.resc:3: S19 size\n"),
+        (
+            16_777_217,
+            Some("\ninclude @large\n"),
+            3,
+            "error: s.resc:2: S19 size\n",
+        ),
+        (
+            16_777_216,
+            Some(image.as_str()),
+            3,
+            "error: s.resc:3: S16 address\n",
+        ),
+        (
+            16_777_217,
+            Some(image.as_str()),
+            3,
+            "error: s.resc:3: S19 size\n",
+        ),
         (16_777_217, Some(used), 3, "error: use.repl:2: S19 size\n"),
         (16_777_217, Some(large), 3, "error: s.resc:2: S19 size\n"),
     ];

@@ -60,7 +60,8 @@ sysbus LoadBinary @hole.bin 0x80000000\ncpu PC 0x80000000\nshowAnalyzer sysbus.u
 emulation RunFor \"0.000004\"\ncpu PC\n";
 
 /// A script with several bodies, and a macro.
-const BODIES: &str = "$name?=\"m0\"\nmacro go\n\"\"\"\ninclude @load.resc\nstart\n\"\"\"\nmach create $name\n\
+const BODIES: &str =
+    "$name?=\"m0\"\nmacro go\n\"\"\"\ninclude @load.resc\nstart\n\"\"\"\nmach create $name\n\
 machine LoadPlatformDescription @using.repl\nrunMacro $go\ncpu PC\n";
 
 /// The files, of which `s.resc` is this script.
@@ -81,10 +82,24 @@ fn scripts_are_checked_without_a_run(rt: HostRuntime) -> Result<(), Fail> {
         ("check s.resc", LETTER, 0, ""),
         ("check -- s.resc", HOLE, 0, "0x80000000\n"),
         ("run -- s.resc", LETTER, 0, "[0.000002] m0/uart: A\n"),
-        ("check s.resc", "emulation RunFor 10000\nstart\nemulation RunFor 1\nfoo", 3,
-            "error: s.resc:4: S1 unknown command\n"),
-        ("check s.resc", "mach create\nstart\n", 3, "error: s.resc:2: S15 platform\n"),
-        ("check s.resc", "sysbus LoadBinary @none 0", 3, "error: s.resc:1: S4 no board\n"),
+        (
+            "check s.resc",
+            "emulation RunFor 10000\nstart\nemulation RunFor 1\nfoo",
+            3,
+            "error: s.resc:4: S1 unknown command\n",
+        ),
+        (
+            "check s.resc",
+            "mach create\nstart\n",
+            3,
+            "error: s.resc:2: S15 platform\n",
+        ),
+        (
+            "check s.resc",
+            "sysbus LoadBinary @none 0",
+            3,
+            "error: s.resc:1: S4 no board\n",
+        ),
         ("check none", "", 4, ""),
         ("run none", "", 4, ""),
     ];
@@ -113,7 +128,11 @@ fn assert_unread<R: Abort + AllocGlobal>(
         let mut out = MemSink::new(alloc, 4096);
         let status = run(alloc, "run s.resc --until 0.000003", &mut files, &mut out)?;
         assert_eq!(rt; status.number(), 4, "{call}");
-        assert_eq!(rt; out.bytes(), whole.as_bytes().get(..*count).unwrap_or(b"?"), "{call}");
+        assert_eq!(rt;
+            out.bytes(),
+            whole.as_bytes().get(..*count).unwrap_or(b"?"),
+            "{call}"
+        );
     }
     let mut files = files_with(alloc, script)?;
     files.fail_at(before.len() as u64)?;
@@ -177,7 +196,10 @@ fn bytes_of<'a>(alloc: Global, text: &'a str) -> Result<Vec<&'a str>, NoMemory> 
 #[test]
 fn a_failed_write_cuts_a_run_short(rt: HostRuntime) -> Result<(), Fail> {
     let hole = "[0.000001] m0/sysbus: read 4 at 0x90000000\n0x00000000\n";
-    let lines = ["[0.000001] m0/sysbus: read 4 at 0x90000000\n", "0x00000000\n"];
+    let lines = [
+        "[0.000001] m0/sysbus: read 4 at 0x90000000\n",
+        "0x00000000\n",
+    ];
     assert_unwritten(&rt, HOLE, hole, 4096, &lines)?;
     assert_unwritten(&rt, HOLE, hole, 1, &bytes_of(rt.alloc(), hole)?)?;
     let bodies = "0x80000000\n0x8000000c\n[0.000002] m0/uart: A\n";

@@ -43,13 +43,26 @@ pub const SEND_C: &[u32] = &[0x1000_02B7, 0x0430_0313, 0x0062_8023, 0x0000_006F]
 
 /// Waits for one byte, sends it, and then runs in place.
 pub const ECHO: &[u32] = &[
-    0x1000_02B7, 0x0052_C303, 0x0013_7313, 0xFE03_0CE3, 0x0002_C383, 0x0072_8023, 0x0000_006F,
+    0x1000_02B7,
+    0x0052_C303,
+    0x0013_7313,
+    0xFE03_0CE3,
+    0x0002_C383,
+    0x0072_8023,
+    0x0000_006F,
 ];
 
 /// Sends each byte that arrives, with the FIFOs on.
 pub const ECHO_ALL: &[u32] = &[
-    0x1000_02B7, 0x0010_0313, 0x0062_8123, 0x0052_C303, 0x0013_7313, 0xFE03_0CE3, 0x0002_C383,
-    0x0072_8023, 0xFEDF_F06F,
+    0x1000_02B7,
+    0x0010_0313,
+    0x0062_8123,
+    0x0052_C303,
+    0x0013_7313,
+    0xFE03_0CE3,
+    0x0002_C383,
+    0x0072_8023,
+    0xFEDF_F06F,
 ];
 
 /// `lui x5, 0x90000`, `lw x5, 0(x5)`, `jalr x0, 0(x5)`: reads where nothing is, and jumps to 0.

@@ -129,18 +129,34 @@ fn lines_about_boards_are_refused(rt: HostRuntime) -> Result<(), Fail> {
         ("", "mach set m0", "S5 board"),
         ("mach create\n", "mach set 1", "S5 board"),
         ("mach create\n", "mach set 99999999999", "S5 board"),
-        ("mach create 7\nmach set 0\nmach set 7\n", "mach set m7", "S5 board"),
+        (
+            "mach create 7\nmach set 0\nmach set 7\n",
+            "mach set m7",
+            "S5 board",
+        ),
         ("mach create a\n", "mach create \"a\"", "S6 taken"),
         ("mach create machine-1\n", "mach create", "S6 taken"),
         ("mach create a\n", "emulation CreateUARTHub a", "S6 taken"),
         ("emulation CreateUARTHub h\n", "mach create h", "S6 taken"),
         ("mach create a\n", "machine Reset", "S15 platform"),
         ("mach create a\n", "cpu PC 3", "S15 platform"),
-        ("mach create a\n", "sysbus LoadBinary @none 1", "S15 platform"),
-        ("mach create a\n", "connector Connect uart hub", "S15 platform"),
+        (
+            "mach create a\n",
+            "sysbus LoadBinary @none 1",
+            "S15 platform",
+        ),
+        (
+            "mach create a\n",
+            "connector Connect uart hub",
+            "S15 platform",
+        ),
         ("mach create a\n", "emulation RunFor 10000", "S15 platform"),
         ("mach create a\n", "start", "S15 platform"),
-        (BOARD, "machine LoadPlatformDescription @none", "S15 platform"),
+        (
+            BOARD,
+            "machine LoadPlatformDescription @none",
+            "S15 platform",
+        ),
         (BOARD, "x PC", "S7 name"),
         (BOARD, "showAnalyzer sysbus.sysbus.uart", "S7 name"),
         (BOARD, "connector Connect fin hub", "S7 name"),
@@ -152,13 +168,22 @@ fn lines_about_boards_are_refused(rt: HostRuntime) -> Result<(), Fail> {
         (JOINED, "connector Connect fin hub", "S8 kind"),
         (JOINED, "connector Connect sysbus.uart hub", "S9 connected"),
         (JOINED, "connector Connect \"uart\" \"hub\"", "S9 connected"),
-        ("emulation CreateUARTHub b\n", "emulation CreateUARTHub b", "S6 taken"),
+        (
+            "emulation CreateUARTHub b\n",
+            "emulation CreateUARTHub b",
+            "S6 taken",
+        ),
     ];
     for (before, line, text) in rows {
         assert_refused(&rt, before, line, text)?;
     }
     let two_hubs = format!(in rt.alloc(); "{JOINED}emulation CreateUARTHub other\n")?;
-    assert_refused(&rt, two_hubs.as_str(), "connector Connect uart other", "S9 connected")?;
+    assert_refused(
+        &rt,
+        two_hubs.as_str(),
+        "connector Connect uart other",
+        "S9 connected",
+    )?;
     Ok(())
 }
 
@@ -192,14 +217,23 @@ fn lines_about_times_and_places_are_refused(rt: HostRuntime) -> Result<(), Fail>
         (BOARD, "sysbus LoadBinary @a.bin 0xFFFFFFFF", "S16 address"),
         (BOARD, "cpu PC 0x80000002", "S16 address"),
         ("", "macro m", "S17 unclosed"),
-        ("macro m\n\"\"\"\nfoo\n\"\"\"\n", "macro m \"\"\"", "S17 unclosed"),
+        (
+            "macro m\n\"\"\"\nfoo\n\"\"\"\n",
+            "macro m \"\"\"",
+            "S17 unclosed",
+        ),
     ];
     for (before, line, text) in rows {
         if text == "S17 unclosed" {
             let script = format!(in rt.alloc(); "{before}pause\n{line}")?;
             let number = line_behind(before).saturating_add(1);
             let fault = format!(in rt.alloc(); "s.resc:{number}: {text}")?;
-            assert_fault(&rt, more_files(rt.alloc())?, script.as_str(), fault.as_str())?;
+            assert_fault(
+                &rt,
+                more_files(rt.alloc())?,
+                script.as_str(),
+                fault.as_str(),
+            )?;
         } else {
             assert_refused(&rt, before, line, text)?;
         }
@@ -251,7 +285,10 @@ fn a_script_that_is_no_text_is_refused_at_its_first_bad_byte(rt: HostRuntime) ->
         (b"pause\npause \xFF\n", "error: s.resc:2: S18 not utf-8\n"),
         (b"foo\n\n\xE2\x82", "error: s.resc:3: S18 not utf-8\n"),
         (b"foo\n\xE2\x82\n\xFF", "error: s.resc:2: S18 not utf-8\n"),
-        (b"# \xE2\x82\xAC\nfoo\n", "error: s.resc:2: S1 unknown command\n"),
+        (
+            b"# \xE2\x82\xAC\nfoo\n",
+            "error: s.resc:2: S1 unknown command\n",
+        ),
     ];
     for (bytes, written) in rows {
         let mut files = files(rt.alloc())?;

@@ -152,7 +152,11 @@ showAnalyzer sysbus.uart
 emulation RunFor \"0.0002\"
 ";
     let script = format!(in rt.alloc(); "{EQUIP}{rest}")?;
-    for line in ["run s.resc", "run --workers 2 s.resc", "run s.resc --workers=8"] {
+    for line in [
+        "run s.resc",
+        "run --workers 2 s.resc",
+        "run s.resc --workers=8",
+    ] {
         let mut files = files(rt.alloc())?;
         files.put("s.resc", script.as_bytes())?;
         assert_run(&rt, line, files, 0, "[0.000118] m3/uart: ABC\n")?;

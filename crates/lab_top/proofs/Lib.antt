@@ -1,3 +1,4 @@
+pub mod Settings
 pub mod Pieces
 pub mod Courses
 pub mod Onward

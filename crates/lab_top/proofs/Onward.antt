@@ -89,8 +89,10 @@ pub step_faults :
     IsEnd (left new) (Script fault) status out out' →
     Course (from (suc more) run held old.state) status out out' log log'
 step_faults more held old new fault status out out' log log' step over end =
-    rw (from_suc more held old.state,
-    onward_faults (from more run held) old.state (did run held old.state) fault step.0)
+    rw (
+      from_suc more held old.state,
+      onward_faults (from more run held) old.state (did run held old.state) fault step.0,
+    )
     (course_stopped (did run held old.state).names (left old) (Script fault) status out out' log log' step.1
     (rw (left_over old new over) at end))
 

@@ -7,6 +7,6 @@ mod script;
 mod status;
 mod words;
 
-pub use laws::transcripts_agree;
+pub use laws::{checks_run_nothing, returns_agree, transcripts_agree, workers_agree};
 pub use run::run_lab;
 pub use status::Status;
