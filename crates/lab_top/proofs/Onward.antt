@@ -17,7 +17,7 @@ use Rattle.monitor.specs.State.{State}
 use Rattle.monitor.specs.Step.{Running, IsStep, IsOver}
 use Rattle.lab_top.specs.declared.status.Status.{Status}
 use Rattle.lab_top.specs.declared.status.Status.TheVariants as end_by
-use Rattle.lab_top.specs.Transcript.{Outcome, Transcript, Done, Script, Absent, after, ended, stopped, onward, from}
+use Rattle.lab_top.specs.Transcript.{Transcript, Done, Script, Absent, after, ended, stopped, onward, from}
 use Rattle.lab_top.specs.Headline.{refusal}
 use Rattle.lab_top.specs.Inner.Course.{Course, IsEnd}
 use Rattle.lab_top.proofs.Courses.{course_after, course_cut, course_memory, course_stopped, course_unread}

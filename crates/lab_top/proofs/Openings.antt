@@ -1,6 +1,6 @@
 -- The course of a run, from the words and the read of its script on.
-use Rattle.std.proofs.Common.{◌≡◌, ℕ, ◌<◌, ◌≤◌, ◌==◌, ◌+◌, ◌^◌, Bool, true, false, List, [], ◌∷◌, length, take, count_by}
-use Rattle.std.proofs.Common.{Option, Some, Result, Ok, Err, IfSome, sym, refl, append-nil, arith}
+use Rattle.std.proofs.Common.{◌≡◌, ℕ, ◌<◌, ◌≤◌, ◌==◌, ◌+◌, Bool, true, false, List, [], ◌∷◌, length, take, count_by}
+use Rattle.std.proofs.Common.{Option, Some, Result, Err, IfSome, sym, refl, append-nil, arith}
 use Rattle.std.proofs.lemmas.Bool.Decides.{nat_tests}
 use Rattle.std.proofs.lemmas.Str.{is_utf8-from_IsUtf8, IsUtf8-from_is_utf8}
 use Rattle.std.specs.FinMap.{get}
@@ -27,11 +27,11 @@ use Rattle.lab_top.specs.declared.script.Opened.{Opened}
 use Rattle.lab_top.specs.declared.script.Opened.TheVariants as opened_by
 use Rattle.lab_top.specs.declared.status.Status.{Status}
 use Rattle.lab_top.specs.declared.status.Status.TheVariants as end_by
-use Rattle.lab_top.specs.Content.{Content, Readable, Faulty, bytes_content, content_of, whole, bad_place}
+use Rattle.lab_top.specs.Content.{Content, Readable, Faulty, bytes_content, content_of, whole}
 use Rattle.lab_top.specs.Headline.{OnRefused, WritesUsage}
 use Rattle.lab_top.specs.Request as asked_by
 use Rattle.lab_top.specs.Request.{Refused, by_reading, request_of}
-use Rattle.lab_top.specs.Transcript.{Usage, Script, ended, rest_of, begun, run_of, transcript}
+use Rattle.lab_top.specs.Transcript.{Usage, Script, rest_of, begun, run_of, transcript}
 use Rattle.lab_top.specs.Inner.Course.{Told, Course, IsEnd}
 use Rattle.lab_top.specs.Inner.Opened.{IsContent, IsOpened, IsRefused}
 use Rattle.lab_top.specs.Inner.Words.{IsAsked}
