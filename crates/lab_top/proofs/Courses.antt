@@ -8,6 +8,7 @@ use Rattle.lab_io.specs.declared.sink.WriteFault.{WriteFault}
 use Rattle.lab_io.specs.declared.sink.WriteFault.TheVariants as write_fault
 use Rattle.lab_top.specs.declared.status.Status.{Status}
 use Rattle.lab_top.specs.declared.status.Status.TheVariants as end_by
+use Rattle.repl_files.specs.Asked.{AsksSome, AsksUpTo}
 use Rattle.lab_top.specs.Transcript.{Outcome, Read, Transcript, after, ended, read_now, read_later, last_line}
 use Rattle.lab_top.specs.Inner.Course.{Course, IsLastAt, IsEnd}
 use Rattle.lab_top.specs.Headline.{final, refusal, names_read}
@@ -57,28 +58,50 @@ course_after names text rest status out mid out' log between log' wrote asked co
   unread = λ is. rw length-append (last_after _ _ _ _ (course.unread is));
 }
 
--- a first read failed
+-- a read of these failed
 pub course_unread :
-    (name : List ℕ) (rest : Transcript) (out : Option (List ℕ)) (log log' : Option (List (List ℕ))) →
-    log' ≡ grown log (name ∷ []) → Course (after (name ∷ []) [] rest) end_by.Unread out out log log'
-course_unread name rest out log log' asked = record {
+    (names : List (List ℕ)) (text : List ℕ) (rest : Transcript) (out : Option (List ℕ)) (log log' : Option (List (List ℕ))) →
+    AsksUpTo names log log' → Course (after names text rest) end_by.Unread out out log log'
+course_unread names text rest out log log' asks = record {
   bytes = [];
-  unwritten = rest.bytes;
-  passed = read_now name ∷ [];
-  coming = map (read_later 0) rest.reads;
+  unwritten = text ++ rest.bytes;
+  passed = map read_now (asks.earlier ++ asks.name ∷ []);
+  coming = map read_now asks.coming ++ map (read_later (length text)) rest.reads;
   all_bytes = refl;
-  all_reads = refl;
+  all_reads = rw asks.all (simp (map-append, append_assoc));
   written = sym (grown-nil out);
-  asked = asked;
+  asked = rw (asks.asked, names_read-now) refl;
   ended = tt;
-  unread = λ _. record { earlier = []; last = read_now name; all = refl; before = refl };
+  unread = λ _. record {
+    earlier = map read_now asks.earlier;
+    last = read_now asks.name;
+    all = map-append _ _ _;
+    before = refl;
+  };
 }
 
--- a first read found no memory
+-- a read of these found no memory, or what comes after them did
 pub course_memory :
+    (names : List (List ℕ)) (text : List ℕ) (rest : Transcript) (out : Option (List ℕ)) (log log' : Option (List (List ℕ))) →
+    AsksSome names log log' → Course (after names text rest) end_by.Memory out out log log'
+course_memory names text rest out log log' asks = record {
+  bytes = [];
+  unwritten = text ++ rest.bytes;
+  passed = map read_now asks.passed;
+  coming = map read_now asks.coming ++ map (read_later (length text)) rest.reads;
+  all_bytes = refl;
+  all_reads = rw (asks.all, map-append, append_assoc) refl;
+  written = sym (grown-nil out);
+  asked = rw (asks.asked, names_read-now) refl;
+  ended = tt;
+  unread = λ is. cc;
+}
+
+-- memory ran out before anything was read or written
+pub course_none :
     (all : Transcript) (out : Option (List ℕ)) (log : Option (List (List ℕ))) →
     Course all end_by.Memory out out log log
-course_memory all out log = record {
+course_none all out log = record {
   bytes = [];
   unwritten = all.bytes;
   passed = [];
@@ -91,12 +114,30 @@ course_memory all out log = record {
   unread = λ is. cc;
 }
 
--- the last text and the last line were written, or a part of them
+-- these names were read, and then the last text and the last line were written, or a part of them
+pub course_stopped :
+    (names : List (List ℕ)) (text : List ℕ) (outcome : Outcome) (status : Status) (out out' : Option (List ℕ))
+    (log log' : Option (List (List ℕ))) →
+    log' ≡ grown log names → IsEnd text outcome status out out' →
+    Course (after names text (ended outcome)) status out out' log log'
+course_stopped names text outcome status out out' log log' asked end = record {
+  bytes = end.bytes;
+  unwritten = end.unwritten;
+  passed = map read_now names;
+  coming = [];
+  all_bytes = end.all;
+  all_reads = refl;
+  written = end.grows;
+  asked = rw (asked, names_read-now) refl;
+  ended = end.ended;
+  unread = λ is. absurd (end.never is);
+}
+
+-- the last line was written, or a part of it
 pub course_ended :
-    (text : List ℕ) (outcome : Outcome) (status : Status) (out out' : Option (List ℕ))
-    (log : Option (List (List ℕ))) →
-    IsEnd text outcome status out out' → Course (after [] text (ended outcome)) status out out' log log
-course_ended text outcome status out out' log end = record {
+    (outcome : Outcome) (status : Status) (out out' : Option (List ℕ)) (log : Option (List (List ℕ))) →
+    IsEnd [] outcome status out out' → Course (ended outcome) status out out' log log
+course_ended outcome status out out' log end = record {
   bytes = end.bytes;
   unwritten = end.unwritten;
   passed = [];
@@ -143,46 +184,21 @@ end_after text outcome status out mid out' wrote end = record {
   never = end.never;
 }
 
--- a part of a text was written, and no more
+-- these names were read and a part of a text was written, and no more
 pub course_cut :
-    (text : List ℕ) (rest : Transcript) (fault : WriteFault) (out out' : Option (List ℕ))
-    (log : Option (List (List ℕ))) →
-    IsPartWritten out text out' → Course (after [] text rest) (refusal fault) out out' log log
-course_cut text rest fault out out' log part = record {
+    (names : List (List ℕ)) (text : List ℕ) (rest : Transcript) (fault : WriteFault) (out out' : Option (List ℕ))
+    (log log' : Option (List (List ℕ))) →
+    IsPartWritten out text out' → log' ≡ grown log names →
+    Course (after names text rest) (refusal fault) out out' log log'
+course_cut names text rest fault out out' log log' part asked = record {
   bytes = take part.count text;
   unwritten = drop part.count text ++ rest.bytes;
-  passed = [];
+  passed = map read_now names;
   coming = map (read_later (length text)) rest.reads;
   all_bytes = rw (← append_assoc, take-append-drop part.count text) refl;
   all_reads = refl;
   written = part.written;
-  asked = sym (grown-nil log);
+  asked = rw (asked, names_read-now) refl;
   ended = rw (cut_by fault) tt;
   unread = λ is. absurd (not_unread fault is);
 }
-
--- a text was written whole, and then the rest went by its course
-pub course_says :
-    (text : List ℕ) {all : Transcript} (rest : Transcript) {status : Status} {out : Option (List ℕ)}
-    (mid : Option (List ℕ))
-    {out' : Option (List ℕ)} {log : Option (List (List ℕ))} →
-    all ≡ after [] text rest → mid ≡ grown out text → Course rest status mid out' log log →
-    Course all status out out' log log
-course_says text {all} rest {status} {out} mid {out'} {log} is wrote course =
-    rw is (course_after [] text rest status out mid out' log log log wrote (sym (grown-nil log)) course)
-
--- a run stopped, and its last text and its last line were written, or a part of them
-pub course_stops :
-    (text : List ℕ) {all : Transcript} (outcome : Outcome) {status : Status} {out out' : Option (List ℕ)}
-    {log : Option (List (List ℕ))} →
-    all ≡ after [] text (ended outcome) → IsEnd text outcome status out out' → Course all status out out' log log
-course_stops text {all} outcome {status} {out} {out'} {log} is end =
-    rw is (course_ended text outcome status out out' log end)
-
--- a text was written in part, and no more
-pub course_breaks :
-    (text : List ℕ) {all : Transcript} (rest : Transcript) (fault : WriteFault) {out out' : Option (List ℕ)}
-    {log : Option (List (List ℕ))} →
-    all ≡ after [] text rest → IsPartWritten out text out' → Course all (refusal fault) out out' log log
-course_breaks text {all} rest fault {out} {out'} {log} is part =
-    rw is (course_cut text rest fault out out' log part)

@@ -1,8 +1,5 @@
-pub mod Lines
-pub mod RunLemmas
-pub mod ScriptLemmas
+pub mod Settings
 pub mod Pieces
 pub mod Courses
 pub mod Onward
 pub mod Openings
-pub mod Equipping

@@ -1,202 +1,152 @@
--- One step of a run, in its transcript.
-use Rattle.std.proofs.Common.{◌≡◌, ℕ, zero, suc, ◌+◌, ◌-◌, ◌<◌, ◌≤◌, Bool, List, [], ◌∷◌, Option, None, Some, refl}
-use Rattle.std.proofs.Common.{arith}
+-- One step of a run, in its transcript and in its course.
+use Rattle.std.proofs.Common.{◌≡◌, ℕ, suc, ◌+◌, ◌-◌, ◌≤◌, List, [], Option, Vec, refl, arith}
+use Rattle.std.specs.Global.{Global}
 use Rattle.lab_io.specs.Held.{Held}
-use Rattle.lab_state.specs.Lab.{Lab}
+use Rattle.lab_io.specs.Known.{grown}
+use Rattle.lab_io.specs.Sink.{IsPartWritten}
+use Rattle.lab_io.specs.declared.sink.WriteFault.{WriteFault}
+use Rattle.lab_state.specs.Names.{names as names_of}
 use Rattle.lab_state.specs.Run.{run}
-use Rattle.lab_top.specs.declared.fault.ScriptCause.TheVariants.{Commands}
-use Rattle.lab_top.specs.declared.fault.ScriptFault.{ScriptFault}
-use Rattle.lab_top.specs.declared.step.Step.{Step}
-use Rattle.lab_top.specs.declared.step.Step.TheVariants.{Text, End, Fault, Memory}
-use Rattle.lab_top.specs.declared.body.TakenLine.{TakenLine}
-use Rattle.lab_top.specs.Script.{command_of}
-use Rattle.lab_top.specs.Bodies.{Body, NextLine, next_line}
-use Rattle.log_text.specs.declared.line.OpenLine.{OpenLine}
-use Rattle.lab_top.specs.State.{State}
-use Rattle.lab_top.specs.Command.{Answer, Did, Goes, Faults, Misses, did, answer_to, past, fault_at}
-use Rattle.lab_top.specs.Transcript.{Transcript, Done, Script, Absent, after, ended, stopped, from, rest_of}
-use Rattle.lab_top.specs.Inner.Session.{IsAnswer, IsStep, TakesLine, Running}
+use Rattle.log_text.specs.Log.{rest}
+use Rattle.repl_files.specs.Asked.{AsksSome, AsksUpTo}
+use Rattle.monitor.specs.declared.fault.ScriptFault.{ScriptFault}
+use Rattle.monitor.specs.declared.step.Step.TheVariants.{Text, End, Fault, Unread, Memory}
+use Rattle.monitor.specs.Answer.{Answer, Goes, Ends, Faults, Misses, Did}
+use Rattle.monitor.specs.Command.{did}
+use Rattle.monitor.specs.State.{State}
+use Rattle.monitor.specs.Step.{Running, IsStep, IsOver}
+use Rattle.lab_top.specs.declared.status.Status.{Status}
+use Rattle.lab_top.specs.declared.status.Status.TheVariants as end_by
+use Rattle.lab_top.specs.Transcript.{Transcript, Done, Script, Absent, after, ended, stopped, onward, from}
+use Rattle.lab_top.specs.Headline.{refusal}
+use Rattle.lab_top.specs.Inner.Course.{Course, IsEnd}
+use Rattle.lab_top.proofs.Courses.{course_after, course_cut, course_memory, course_stopped, course_unread}
 
--- how a run goes on after a command
-onward : ℕ → Held → State → Did → Transcript
-onward more held s done =
-    elim done.answer [
-      | Goes text next ↦ after done.names text (from more run held next)
-      | Faults fault ↦ stopped done.names s (Script fault)
-      | Misses ↦ after done.names [] (ended Absent)
-    ]
+from_suc : (more : ℕ) (held : Held) (s : State) →
+    from (suc more) run held s ≡ onward (from more run held) s (did run held s)
+unfolding from
+from_suc more held s = refl
 
--- how a run goes on with its next line, where a command may be taken
-with_more : ℕ → Held → State → Option NextLine → Transcript
-with_more more held s line =
-    elim line [
-      | None ↦ stopped [] s Done
-      | Some line ↦ onward more held s (did run held s line)
-    ]
+onward_goes :
+    (further : State → Transcript) (s : State) (done : Did) (text : List ℕ) (next : State) →
+    done.answer ≡ Goes text next → onward further s done ≡ after done.names text (further next)
+onward_goes further s done text next is = rw is refl
 
--- and where none may
-with_none : State → Option NextLine → Transcript
-with_none s line =
-    elim line [
-      | None ↦ stopped [] s Done
-      | Some line ↦ stopped [] s (Script (fault_at line.place Commands))
-    ]
+onward_ends : (further : State → Transcript) (s : State) (done : Did) → done.answer ≡ Ends →
+    onward further s done ≡ stopped done.names s Done
+onward_ends further s done is = rw is refl
 
-from_more : (more : ℕ) (held : Held) (s : State) →
-    from (suc more) run held s ≡ with_more more held s (next_line s.bodies)
-unfolding from with_more onward
-from_more more held s = refl
+onward_faults : (further : State → Transcript) (s : State) (done : Did) (fault : ScriptFault) →
+    done.answer ≡ Faults fault → onward further s done ≡ stopped done.names s (Script fault)
+onward_faults further s done fault is = rw is refl
 
-from_none : (held : Held) (s : State) → from zero run held s ≡ with_none s (next_line s.bodies)
-unfolding from with_none
-from_none held s = refl
+-- a command has printed a text, which was written whole, and then the rest went by its course
+pub step_says :
+    (more : ℕ) (held : Held) (s next : State) (text : Vec ℕ Global) (status : Status)
+    (out mid out' : Option (List ℕ)) (log between log' : Option (List (List ℕ))) →
+    IsStep (did run held s) (Text text) next log between → mid ≡ grown out text.items →
+    Course (from more run held next) status mid out' between log' →
+    Course (from (suc more) run held s) status out out' log log'
+step_says more held s next text status out mid out' log between log' step wrote course =
+    rw (from_suc more held s, onward_goes (from more run held) s (did run held s) text.items next step.0)
+    (course_after (did run held s).names text.items (from more run held next) status out mid out' log between log' wrote
+    step.1 course)
 
-with_more-end : (more : ℕ) (held : Held) (s : State) → with_more more held s None ≡ stopped [] s Done
-unfolding with_more
-with_more-end more held s = refl
+-- a part of it was written
+pub step_cut :
+    (more : ℕ) (held : Held) (s next : State) (text : Vec ℕ Global) (fault : WriteFault)
+    (out out' : Option (List ℕ)) (log log' : Option (List (List ℕ))) →
+    IsStep (did run held s) (Text text) next log log' → IsPartWritten out text.items out' →
+    Course (from (suc more) run held s) (refusal fault) out out' log log'
+step_cut more held s next text fault out out' log log' step part =
+    rw (from_suc more held s, onward_goes (from more run held) s (did run held s) text.items next step.0)
+    (course_cut (did run held s).names text.items (from more run held next) fault out out' log log' part step.1)
 
-with_none-end : (s : State) → with_none s None ≡ stopped [] s Done
-unfolding with_none
-with_none-end s = refl
+-- what is printed where a script is over
+abbrev pub left : Running → List ℕ
+left m = rest (names_of m.state.lab) m.state.lines
 
-with_none-line : (s : State) (line : NextLine) →
-    with_none s (Some line) ≡ stopped [] s (Script (fault_at line.place Commands))
-unfolding with_none
-with_none-line s line = refl
+left_over : (old new : Running) → IsOver old new → left new ≡ left old
+left_over old new over = rw (over.lab, over.lines) refl
 
--- a line whose command is answered so
-answered : (answer : Answer) → Did
-answered answer = record { names = []; answer = answer }
-
-with_more-line :
-    (more : ℕ) (held : Held) (s : State) (line : NextLine) →
-    with_more more held s (Some line) ≡ onward more held s
-    (answered (answer_to run (past s line) line.place (command_of line.text)))
-unfolding with_more answered did
-with_more-line more held s line = refl
-
-onward-goes :
-    (more : ℕ) (held : Held) (s next : State) (text : List ℕ) →
-    onward more held s (answered (Goes text next)) ≡ after [] text (from more run held next)
-unfolding onward answered
-onward-goes more held s next text = refl
-
-onward-faults :
-    (more : ℕ) (held : Held) (s : State) (fault : ScriptFault) →
-    onward more held s (answered (Faults fault)) ≡ stopped [] s (Script fault)
-unfolding onward answered
-onward-faults more held s fault = refl
-
-from_end : (left : ℕ) (held : Held) (s : State) → next_line s.bodies ≡ None → from left run held s ≡ stopped [] s Done
-from_end zero held s none = rw (from_none held s, none) (with_none-end s)
-from_end (suc more) held s none = rw (from_more more held s, none) (with_more-end more held s)
-
--- the only open body has this line next
-abbrev line_at : Body → List ℕ → List (List ℕ) → NextLine
-line_at body line lines = record {
-  text = line;
-  place = record { file = body.file; number = body.number };
-  bodies = record body { number = body.number + 1; lines = lines } ∷ [];
-}
-
-next_is : (body : Body) (line : List ℕ) (lines : List (List ℕ)) → body.lines ≡ line ∷ lines →
-    next_line (body ∷ []) ≡ Some (line_at body line lines)
-next_is body line lines is = rw is refl
-
-next_is_none : (body : Body) → body.lines ≡ [] → next_line (body ∷ []) ≡ None
-next_is_none body none = rw none refl
-
--- a run whose only open body is this
-abbrev pub in_body : Body → ℕ → Lab → List OpenLine → State
-in_body body taken lab lines = record { bodies = body ∷ []; taken = taken; lab = lab; lines = lines }
-
--- no line is left
+-- the script has ended
 pub step_ends :
-    (held : Held) (body left : Body) (taken : ℕ) (lab : Lab) (lines : List OpenLine) → body.lines ≡ [] →
-    rest_of run held (in_body body taken lab lines) ≡ stopped [] (in_body left taken lab lines) Done
-step_ends held body left taken lab lines none =
-    from_end (100000 - taken) held (in_body body taken lab lines) (next_is_none body none)
+    (more : ℕ) (held : Held) (old new : Running) (status : Status) (out out' : Option (List ℕ))
+    (log log' : Option (List (List ℕ))) →
+    IsStep (did run held old.state) End new.state log log' → IsOver old new →
+    IsEnd (left new) Done status out out' →
+    Course (from (suc more) run held old.state) status out out' log log'
+step_ends more held old new status out out' log log' step over end =
+    rw (from_suc more held old.state, onward_ends (from more run held) old.state (did run held old.state) step.0)
+    (course_stopped (did run held old.state).names (left old) Done status out out' log log' step.1
+    (rw (left_over old new over) at end))
 
-refused_line :
-    (held : Held) (s : State) (line : NextLine) → next_line s.bodies ≡ Some line → 100000 ≤ s.taken →
-    rest_of run held s ≡ stopped [] s (Script (fault_at line.place Commands))
-refused_line held s line is many =
-    let none : 100000 - s.taken ≡ 0 = omega arith in
-    rw (none, from_none held s, is) (with_none-line s line)
+-- a line was refused
+pub step_faults :
+    (more : ℕ) (held : Held) (old new : Running) (fault : ScriptFault) (status : Status) (out out' : Option (List ℕ))
+    (log log' : Option (List (List ℕ))) →
+    IsStep (did run held old.state) (Fault fault) new.state log log' → IsOver old new →
+    IsEnd (left new) (Script fault) status out out' →
+    Course (from (suc more) run held old.state) status out out' log log'
+step_faults more held old new fault status out out' log log' step over end =
+    rw (
+      from_suc more held old.state,
+      onward_faults (from more run held) old.state (did run held old.state) fault step.0,
+    )
+    (course_stopped (did run held old.state).names (left old) (Script fault) status out out' log log' step.1
+    (rw (left_over old new over) at end))
 
-not_goes : (fault : ScriptFault) (text : List ℕ) (s : State) → Faults fault ≡ Goes text s → ⊥
-not_goes fault text s is = cc
+unread_in :
+    (further : State → Transcript) (s : State) (names : List (List ℕ)) (answer : Answer) (out : Option (List ℕ))
+    (log log' : Option (List (List ℕ))) →
+    AsksUpTo names log log' →
+    Course (onward further s (record { names = names; answer = answer })) end_by.Unread out out log log'
+unread_in further s names (Goes text next) out log log' asks = course_unread names text (further next) out log log' asks
+unread_in further s names Ends out log log' asks =
+    course_unread names (rest (names_of s.lab) s.lines) (ended Done) out log log' asks
+unread_in further s names (Faults fault) out log log' asks =
+    course_unread names (rest (names_of s.lab) s.lines) (ended (Script fault)) out log log' asks
+unread_in further s names Misses out log log' asks = course_unread names [] (ended Absent) out log log' asks
 
-one_fault : (a b : ScriptFault) → Faults a ≡ Faults b → a ≡ b
-one_fault a b is = cc
+-- a read failed
+pub step_unread :
+    (more : ℕ) (held : Held) (s next : State) (out : Option (List ℕ)) (log log' : Option (List (List ℕ))) →
+    IsStep (did run held s) Unread next log log' →
+    Course (from (suc more) run held s) end_by.Unread out out log log'
+step_unread more held s next out log log' step =
+    rw (from_suc more held s)
+    (unread_in (from more run held) s (did run held s).names (did run held s).answer out log log' step)
 
--- a line after the last command that may be taken is refused
-pub step_refuses :
-    (held : Held) (body left : Body) (line : TakenLine) (taken : ℕ) (lab : Lab) (lines : List OpenLine) (step : Step)
-    (old new : Running) →
-    TakesLine body line left → 100000 ≤ taken →
-    IsAnswer (Faults (fault_at (record { file = left.file; number = line.number }) Commands)) step old new →
-    IsStep held step (in_body body taken lab lines) (in_body left taken lab lines)
-step_refuses held body left line taken lab lines (Text text) old new takes many answer =
-    absurd (not_goes _ _ _ answer.0)
-step_refuses held body left line taken lab lines End old new takes many answer = absurd answer
-step_refuses held body left line taken lab lines (Fault fault) old new takes many answer =
-    let same : fault_at (record { file = body.file; number = body.number }) Commands ≡ fault =
-    one_fault _ _ (rw (takes.rest, takes.number) at answer.0) in
-    rw (← same) (refused_line held (in_body body taken lab lines) (line_at body takes.line takes.lines)
-    (next_is body takes.line takes.lines takes.all) many)
-step_refuses held body left line taken lab lines Memory old new takes many answer = tt
+memory_in :
+    (further : State → Transcript) (s : State) (names : List (List ℕ)) (answer : Answer) (out : Option (List ℕ))
+    (log log' : Option (List (List ℕ))) →
+    AsksSome names log log' →
+    Course (onward further s (record { names = names; answer = answer })) end_by.Memory out out log log'
+memory_in further s names (Goes text next) out log log' asks = course_memory names text (further next) out log log' asks
+memory_in further s names Ends out log log' asks =
+    course_memory names (rest (names_of s.lab) s.lines) (ended Done) out log log' asks
+memory_in further s names (Faults fault) out log log' asks =
+    course_memory names (rest (names_of s.lab) s.lines) (ended (Script fault)) out log log' asks
+memory_in further s names Misses out log log' asks = course_memory names [] (ended Absent) out log log' asks
 
-one_more : (held : Held) (s : State) (line : NextLine) → next_line s.bodies ≡ Some line → s.taken < 100000 →
-    rest_of run held s ≡ onward (99999 - s.taken) held s
-    (answered (answer_to run (past s line) line.place (command_of line.text)))
-one_more held s line is few =
-    let count : 100000 - s.taken ≡ suc (99999 - s.taken) = omega arith in
-    rw (count, from_more (99999 - s.taken) held s, is) (with_more-line (99999 - s.taken) held s line)
+-- memory ran out
+pub step_memory :
+    (more : ℕ) (held : Held) (s next : State) (out : Option (List ℕ)) (log log' : Option (List (List ℕ))) →
+    IsStep (did run held s) Memory next log log' →
+    Course (from (suc more) run held s) end_by.Memory out out log log'
+step_memory more held s next out log log' step =
+    rw (from_suc more held s)
+    (memory_in (from more run held) s (did run held s).names (did run held s).answer out log log' step)
 
--- a command prints something, and the run goes on
-command_says :
-    (held : Held) (s next : State) (line : NextLine) (text : List ℕ) →
-    next_line s.bodies ≡ Some line → s.taken < 100000 → next.taken ≡ s.taken + 1 →
-    answer_to run (past s line) line.place (command_of line.text) ≡ Goes text next →
-    rest_of run held s ≡ after [] text (rest_of run held next)
-command_says held s next line text is few taken answer =
-    let count : 99999 - s.taken ≡ 100000 - next.taken = omega arith in
-    rw (one_more held s line is few, answer, onward-goes (99999 - s.taken) held s next text, count) refl
+-- in a turn within the limit a command is left
+pub at_turn : (turn : ℕ) (held : Held) (s : State) → turn ≤ 100000 →
+    from (100001 - turn) run held s ≡ from (suc (100000 - turn)) run held s
+at_turn turn held s within =
+    let count : 100001 - turn ≡ suc (100000 - turn) = omega arith in
+    rw count refl
 
--- a command is refused
-command_faults :
-    (held : Held) (s : State) (line : NextLine) (fault : ScriptFault) →
-    next_line s.bodies ≡ Some line → s.taken < 100000 →
-    answer_to run (past s line) line.place (command_of line.text) ≡ Faults fault →
-    rest_of run held s ≡ stopped [] s (Script fault)
-command_faults held s line fault is few answer =
-    rw (one_more held s line is few, answer, onward-faults (99999 - s.taken) held s fault) refl
-
-answered_line :
-    (held : Held) (s : State) (line : NextLine) (spent : Bool) (step : Step) (new : Running) →
-    next_line s.bodies ≡ Some line → s.taken < 100000 →
-    IsAnswer (answer_to run (past s line) line.place (command_of line.text)) step
-    (record { state = past s line; spent = spent }) new →
-    IsStep held step s new.state
-answered_line held s line spent (Text text) new is few answer =
-    command_says held s new.state line _ is few answer.1 answer.0
-answered_line held s line spent End new is few answer = absurd answer
-answered_line held s line spent (Fault fault) new is few answer =
-    rw answer.1 (command_faults held s line fault is few answer.0)
-answered_line held s line spent Memory new is few answer = tt
-
--- the command of a line has been answered
-pub step_answers :
-    (held : Held) (body left : Body) (line : TakenLine) (taken : ℕ) (lab : Lab) (lines : List OpenLine) (spent : Bool)
-    (step : Step)
-    (new : Running) →
-    TakesLine body line left → taken < 100000 →
-    IsAnswer (answer_to run (in_body left (taken + 1) lab lines) (record { file = left.file; number = line.number })
-    line.command)
-    step (record { state = in_body left (taken + 1) lab lines; spent = spent }) new →
-    IsStep held step (in_body body taken lab lines) new.state
-step_answers held body left line taken lab lines spent step new takes few answer =
-    answered_line held (in_body body taken lab lines) (line_at body takes.line takes.lines) spent step new
-    (next_is body takes.line takes.lines takes.all) few
-    (rw (takes.rest, takes.number, takes.command) at answer)
+pub next_turn : (turn : ℕ) (held : Held) (s : State) →
+    from (100001 - (turn + 1)) run held s ≡ from (100000 - turn) run held s
+next_turn turn held s =
+    let count : 100001 - (turn + 1) ≡ 100000 - turn = omega arith in
+    rw count refl

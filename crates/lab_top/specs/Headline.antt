@@ -7,7 +7,9 @@ use Rattle.lab_io.specs.declared.sink.WriteFault.{WriteFault}
 use Rattle.lab_io.specs.declared.sink.WriteFault.TheVariants as write_fault
 use Rattle.lab_top.specs.declared.status.Status.{Status}
 use Rattle.lab_top.specs.declared.status.Status.TheVariants.{Done, Memory, Usage, Script, Unread, Unwritten}
-use Rattle.lab_top.specs.Transcript.{Outcome, Read, Transcript, Request, Refused, Run, usage_line}
+use Rattle.lab_words.specs.Usage.{usage_line}
+use Rattle.lab_top.specs.Request.{Request, Refused, Run}
+use Rattle.lab_top.specs.Transcript.{Outcome, Read, Transcript}
 use Rattle.lab_top.specs.Transcript as run
 
 -- the number with which the program ends
@@ -90,7 +92,7 @@ IsNoUsage Unwritten = Unit {0}
 -- words that are refused end in the refusal, if nothing cuts that short, and others do not
 abbrev pub IsUsageBy : Request → Status → Type 0
 IsUsageBy (Refused cause) status = IfSome (final status) (λ outcome. outcome ≡ run.Usage cause)
-IsUsageBy (Run file) status = IsNoUsage status
+IsUsageBy (Run script setting) status = IsNoUsage status
 
 -- the usage line was written, or a front of it where that was cut short, and no name was asked for
 pub record WritesUsage (status : Status) (out out' : Option (List ℕ)) (log log' : Option (List (List ℕ))) : Type 0 where
@@ -104,4 +106,4 @@ pub record WritesUsage (status : Status) (out out' : Option (List ℕ)) (log log
 -- this holds where words are refused
 abbrev pub OnRefused : Request → Type 0 → Type 0
 OnRefused (Refused cause) P = P
-OnRefused (Run file) P = Unit {0}
+OnRefused (Run script setting) P = Unit {0}

@@ -1,4 +1,4 @@
 -- What serves private contracts and proofs alone.
 pub mod Course
-pub mod Session
-pub mod Equipped
+pub mod Words
+pub mod Opened

@@ -1,9 +1,5 @@
-pub mod Script
-pub mod Bodies
-pub mod Fault
-pub mod State
-pub mod Command
-pub mod Builtin
+pub mod Request
+pub mod Content
 pub mod Transcript
 pub mod Headline
 pub mod Inner

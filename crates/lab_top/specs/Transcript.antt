@@ -1,24 +1,20 @@
 -- All that the program writes and reads, for any words and files.
-use Rattle.std.specs.Prelude.{ℕ, zero, suc, ◌+◌, ◌-◌, nat_eq, nat_lt, if◌then◌else◌, List, [], ◌∷◌, ◌++◌, length, map}
-use Rattle.std.specs.Prelude.{codes, Option, None, Some}
-use Rattle.std.specs.List.{starts_with}
-use Rattle.std.specs.Str.{bytes_eq}
+use Rattle.std.specs.Prelude.{ℕ, zero, suc, ◌+◌, List, [], ◌∷◌, ◌++◌, length, map, codes}
 use Rattle.std.specs.FinMap.{get}
 use Rattle.lab_io.specs.Held.{Held}
-use Rattle.lab_state.specs.Lab.{Lab}
-use Rattle.lab_state.specs.Run.{Play, run}
-use Rattle.lab_top.specs.declared.status.UsageCause.{UsageCause}
-use Rattle.lab_top.specs.declared.status.UsageCause.TheVariants.{Command, Words}
-use Rattle.lab_top.specs.declared.fault.ScriptCause.TheVariants.{Commands, Size}
-use Rattle.lab_top.specs.declared.fault.ScriptFault.{ScriptFault}
-use Rattle.lab_top.specs.Fault.{fault_text}
-use Rattle.lab_top.specs.Script.{lines_of}
-use Rattle.lab_top.specs.Bodies.{Place, next_line}
 use Rattle.lab_state.specs.Names.{names as names_of}
+use Rattle.lab_state.specs.Run.{Play, run}
 use Rattle.log_text.specs.Log.{rest}
-use Rattle.lab_top.specs.State.{State}
-use Rattle.lab_top.specs.Command.{Goes, Faults, Misses, did, fault_at}
-use Rattle.lab_top.specs.Builtin.{built_in}
+use Rattle.lab_words.specs.Usage.{usage_line}
+use Rattle.lab_words.specs.declared.request.UsageCause.{UsageCause}
+use Rattle.monitor.specs.declared.fault.ScriptFault.{ScriptFault}
+use Rattle.monitor.specs.declared.setting.Setting.{Setting}
+use Rattle.monitor.specs.Answer.{Did, Goes, Ends, Faults, Misses}
+use Rattle.monitor.specs.Command.{did}
+use Rattle.monitor.specs.Fault.{fault_text}
+use Rattle.monitor.specs.State.{State, started}
+use Rattle.lab_top.specs.Content.{Content, Missing, Faulty, Readable, content_of}
+use Rattle.lab_top.specs.Request.{Request, Refused, Run, request_of}
 
 -- How a run ends that nothing from outside cuts short. It ends as absent where a name that it reads holds nothing.
 pub data Outcome : Type 0 where
@@ -37,9 +33,6 @@ pub record Transcript : Type 0 where
   pub bytes : List ℕ
   pub outcome : Outcome
   pub reads : List Read
-
-abbrev pub usage_line : List ℕ
-usage_line = codes "usage: lab run SCRIPT [--workers N] [--until TIME] | check SCRIPT | gen SEED BOARDS [--workers N]\n"
 
 -- the last line of a run
 abbrev pub last_line : Outcome → List ℕ
@@ -66,75 +59,43 @@ after names written rest = record {
   reads = map read_now names ++ map (read_later (length written)) rest.reads;
 }
 
--- what the words ask for
-pub data Request : Type 0 where
-  Refused : UsageCause → Request
-  Run : List ℕ → Request
-
--- the words after `run` are one script, whose name does not begin with `-`
-abbrev pub script_of : List (List ℕ) → Request
-script_of (script ∷ []) = if starts_with nat_eq script (codes "-") then Refused Words else Run script
-script_of _ = Refused Words
-
-abbrev pub request_of : List (List ℕ) → Request
-request_of [] = Refused Command
-request_of (command ∷ words) = if bytes_eq command (codes "run") then script_of words else Refused Command
-
 -- a run that stops here, when these names have been read, first prints its open lines
 abbrev pub stopped : List (List ℕ) → State → Outcome → Transcript
 stopped names s outcome = after names (rest (names_of s.lab) s.lines) (ended outcome)
 
--- What is left of a run, in which so many commands may still be taken, where files hold this and a laboratory plays a
--- run so. A line after the last of them is refused.
+-- how a run goes on with a command that does this
+abbrev pub onward : (State → Transcript) → State → Did → Transcript
+onward further s done =
+    elim done.answer [
+      | Goes text next ↦ after done.names text (further next)
+      | Ends ↦ stopped done.names s Done
+      | Faults fault ↦ stopped done.names s (Script fault)
+      | Misses ↦ after done.names [] (ended Absent)
+    ]
+
+-- what so many commands of a run write and read, where files hold this and a laboratory plays a run so
 unfoldable pub from : ℕ → Play → Held → State → Transcript
-from zero play held s =
-    elim (next_line s.bodies) [
-      | None ↦ stopped [] s Done
-      | Some line ↦ stopped [] s (Script (fault_at line.place Commands))
-    ]
-from (suc more) play held s =
-    elim (next_line s.bodies) [
-      | None ↦ stopped [] s Done
-      | Some line ↦
-          elim (did play held s line).answer [
-            | Goes text next ↦ after (did play held s line).names text (from more play held next)
-            | Faults fault ↦ stopped (did play held s line).names s (Script fault)
-            | Misses ↦ after (did play held s line).names [] (ended Absent)
-          ]
-    ]
+from zero play held s = ended Absent
+from (suc more) play held s = onward (from more play held) s (did play held s)
 
--- what is left of a run: 100,000 commands are taken at most
+-- What is left of a run. 100,000 commands are taken at most, and what comes next ends it.
 abbrev pub rest_of : Play → Held → State → Transcript
-rest_of play held s = from (100000 - s.taken) play held s
+rest_of play held s = from 100001 play held s
 
--- a run of a laboratory at the first line of its script
-abbrev pub started : Lab → List ℕ → List ℕ → State
-started lab script bytes = record {
-  bodies = record { file = script; number = 1; lines = lines_of bytes } ∷ [];
-  taken = 0;
-  lab = lab;
-  lines = [];
-}
-
--- a file as a whole, where a fault of it stands
-abbrev pub whole : List ℕ → Place
-whole file = record { file = file; number = 0 }
-
--- how a run goes on with what its script holds
-abbrev pub begun : Play → Held → List ℕ → Option (List ℕ) → Transcript
-begun play held script None = ended Absent
-begun play held script (Some bytes) =
-    if nat_lt 16777216 (length bytes) then ended (Script (fault_at (whole script) Size))
-    else rest_of play held (started built_in script bytes)
+-- how a run goes on with what the file of its script is
+abbrev pub begun : Play → Held → List ℕ → Setting → Content → Transcript
+begun play held script setting Missing = ended Absent
+begun play held script setting (Faulty fault) = ended (Script fault)
+begun play held script setting (Readable text) = rest_of play held (started script text setting)
 
 -- all that the run of a script writes and reads
-abbrev pub run_of : Play → Held → List ℕ → Transcript
-run_of play held script = after (script ∷ []) [] (begun play held script (get held script))
+abbrev pub run_of : Play → Held → List ℕ → Setting → Transcript
+run_of play held script setting = after (script ∷ []) [] (begun play held script setting (content_of script (get held script)))
 
 -- all that a request writes and reads
 abbrev pub answered : Play → Held → Request → Transcript
 answered play held (Refused cause) = ended (Usage cause)
-answered play held (Run script) = run_of play held script
+answered play held (Run script setting) = run_of play held script setting
 
 -- all that the program writes and reads, for these words and files, where a laboratory plays a run so
 abbrev pub transcript_by : Play → List (List ℕ) → Held → Transcript

@@ -1,10 +1,20 @@
-//! A law of the transcript. It is the contract of a function that does nothing.
-ghost use Rattle.std.specs.Prelude.{◌≡◌, ℕ, List};
+//! Laws of the transcript. Each is the contract of a function that does nothing when it runs.
+ghost use Rattle.std.specs.Prelude.{◌≡◌, ℕ, true, List, Ok};
+ghost use Rattle.std.specs.List.{list_all};
 ghost use Rattle.lab_io.specs.Held.{Held};
+ghost use Rattle.lab_state.specs.Run.{run};
 ghost use Rattle.lab_state.specs.Turns.{Cut, IsWhole, run_in_turns};
-ghost use Rattle.lab_top.specs.Transcript.{transcript, transcript_by};
+ghost use Rattle.resc_vars.specs.Laws.{is_no_return, with_returns};
+ghost use Rattle.monitor.specs.declared.setting.Setting.{Setting};
+ghost use Rattle.monitor.specs.Answer.{Done, leaves};
+ghost use Rattle.monitor.specs.Runs.{run_for};
+ghost use Rattle.monitor.specs.State.{State};
+ghost use Rattle.lab_top.specs.Content.{Readable};
+ghost use Rattle.lab_top.specs.Request.{Run, request_of};
+ghost use Rattle.lab_top.specs.Transcript.{begun, transcript, transcript_by};
 
 use lab_state::turns_agree;
+use resc_vars::return_law;
 
 /// However the boards take the slots of their grants in turns, the program writes the same bytes,
 /// ends in the same way and reads the same files.
@@ -14,3 +24,29 @@ pub fn transcripts_agree()
 {
     turns_agree();
 }
+
+/// Words that ask for the same run by another number of workers make the program write the same
+/// bytes, end in the same way and read the same files.
+pub fn workers_agree()
+    ensures { (words others : List (List ℕ)) (script : List ℕ) (setting : Setting) (workers : ℕ) (held : Held) →
+        request_of words ≡ Run script setting →
+        request_of others ≡ Run script (record setting { workers = workers }) →
+        transcript others held ≡ transcript words held }
+{}
+
+/// A script without carriage returns goes on as it does with one before each line feed.
+pub fn returns_agree()
+    ensures { (held : Held) (script text : List ℕ) (setting : Setting) →
+        list_all is_no_return text ≡ true →
+        begun run held script setting (Readable (with_returns text))
+        ≡ begun run held script setting (Readable text) }
+{
+    return_law();
+}
+
+/// Where each run has length 0, a command that runs the boards prints nothing and leaves all as it
+/// was, or is refused.
+pub fn checks_run_nothing()
+    ensures { (s : State) (length : ℕ) (done : Done) → s.dry ≡ true →
+        run_for run s length ≡ Ok done → done ≡ leaves s }
+{}

@@ -1,20 +1,12 @@
 //! The whole program: what the command words ask for, from the script's bytes to the log's.
 #![tactic(auto)]
 
-mod body;
-mod builtin;
-mod fault;
 mod laws;
 mod run;
 mod script;
-mod session;
 mod status;
-mod step;
+mod words;
 
-pub use fault::{Cause, ScriptCause, ScriptFault};
-pub use laws::transcripts_agree;
+pub use laws::{checks_run_nothing, returns_agree, transcripts_agree, workers_agree};
 pub use run::run_lab;
-pub use status::{Status, UsageCause};
-
-#[cfg(test)]
-mod tests;
+pub use status::Status;

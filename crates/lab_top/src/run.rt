@@ -1,36 +1,29 @@
 //! The whole program, from the command words to the status.
-ghost use Rattle.std.specs.Prelude.{◌≡◌, ◌≢◌, ◌≤◌, [], false, length, IfSome, MatchResult, map, string_bytes, Option};
-ghost use Rattle.std.specs.Prelude.{List, ℕ};
-ghost use Rattle.lab_io.specs.Held.{Held};
-ghost use Rattle.lab_io.specs.Known.{Rose};
-ghost use Rattle.lab_state.specs.Run.{run};
+ghost use Rattle.std.specs.Prelude.{◌≡◌, ◌≢◌, ◌≤◌, ◌^◌, [], false, length, IfSome, map, string_bytes};
 ghost use Rattle.dev_core.specs.Stock.{IsFull};
+ghost use Rattle.lab_io.specs.Known.{Rose};
 ghost use Rattle.lab_state.specs.Names.{names};
+ghost use Rattle.lab_state.specs.Run.{run};
 ghost use Rattle.log_text.specs.Log.{rest};
-ghost use Rattle.lab_top.specs.Builtin.{built_in};
-ghost use Rattle.lab_top.specs.Command.{fault_at};
-ghost use Rattle.lab_top.specs.Transcript.{transcript, run_of, request_of, rest_of, started, whole, Run, Refused};
+ghost use Rattle.monitor.specs.State.{started};
+ghost use Rattle.lab_top.specs.Request.{request_of};
+ghost use Rattle.lab_top.specs.Transcript.{transcript, run_of, rest_of};
 ghost use Rattle.lab_top.specs.Transcript.{Script, Usage, Done};
 ghost use Rattle.lab_top.specs.Headline.{IsWhole, WritesPart, WritesUsage, AsksPart, IsCounted, HasAll, IsUncut};
 ghost use Rattle.lab_top.specs.Headline.{IsUsageBy, IsNoUsage, OnRefused, final};
 ghost use Rattle.lab_top.specs.Inner.Course.{Told, Course, IsEnd};
 
-use crate::builtin;
-use crate::fault::{Cause, ScriptCause, ScriptFault};
-use crate::session::Session;
-use crate::status::{Status, UsageCause};
-use crate::step::Step;
+use crate::script::{Opened, open};
+use crate::status::Status;
+use crate::words::{ScriptRun, read_request};
 use dev_core::{Device, Stock};
-use lab_io::{Files, ReadAnswer, Sink, write_whole};
-use lab_num::Text;
+use lab_io::{Files, Sink, write_whole};
+use lab_words::{UsageCause, WordsFault, usage_line};
+use monitor::{Monitor, ScriptFault, Setting, Step};
 use std::alloc::Global;
 
-/// The line that says how the program is called.
-const USAGE: &str =
-    "usage: lab run SCRIPT [--workers N] [--until TIME] | check SCRIPT | gen SEED BOARDS [--workers N]\n";
-
-/// The most bytes of one file.
-const MOST_BYTES: usize = 16_777_216;
+/// How many lines a run takes at most: 100,000 commands, and one line that ends it.
+const MOST_STEPS: u32 = 100_001;
 
 /// Runs the program for its command words, reading from `files` and writing to `out`.
 pub fn run_lab<D: Device, F: Files, K: Sink>(
@@ -107,31 +100,11 @@ fn run_words<D: Device, F: Files, K: Sink>(
     ensures read_faults { F.faults files.old ≤ F.faults files.new }
     ensures write_faults { K.faults out.old ≤ K.faults out.new }
 {
-    match script_of(words) {
-        Ok(script) => run_file(alloc, script, files, out, stock),
-        Err(cause) => refuse_words(cause, out),
+    match read_request(alloc, words) {
+        Ok(request) => run_file(alloc, request, files, out, stock),
+        Err(WordsFault::Usage(cause)) => refuse_words(cause, out),
+        Err(WordsFault::Memory) => Status::Memory,
     }
-}
-
-/// The script that the words ask for.
-fn script_of(words: &[String]) -> Result<&str, UsageCause>
-    ensures { MatchResult result
-        (λ script. request_of (map string_bytes words.now) ≡ Run script.now)
-        (λ cause. request_of (map string_bytes words.now) ≡ Refused cause) }
-{
-    let Some((command, rest)) = words.split_first() else {
-        return Err(UsageCause::Command);
-    };
-    if command.as_str() != "run" {
-        return Err(UsageCause::Command);
-    }
-    let [script] = rest else {
-        return Err(UsageCause::Words);
-    };
-    if script.as_bytes().starts_with(b"-") {
-        return Err(UsageCause::Words);
-    }
-    Ok(script.as_str())
 }
 
 /// Writes the line that says how the program is called.
@@ -141,7 +114,7 @@ fn refuse_words<K: Sink>(cause: UsageCause, out: &mut K) -> Status
     ensures unwritten { result ≡ Status.Unwritten → Rose (K.faults out.old) (K.faults out.new) }
     ensures faults { K.faults out.old ≤ K.faults out.new }
 {
-    match write_whole(out, USAGE.as_bytes()) {
+    match write_whole(out, usage_line().as_bytes()) {
         Ok(()) => Status::Usage(cause),
         Err(fault) => Status::from(fault),
     }
@@ -150,15 +123,17 @@ fn refuse_words<K: Sink>(cause: UsageCause, out: &mut K) -> Status
 /// Reads a script and runs it.
 fn run_file<D: Device, F: Files, K: Sink>(
     alloc: Global,
-    script: &str,
+    request: ScriptRun,
     files: &mut F,
     out: &mut K,
     stock: Stock<D>,
 ) -> Status
-    requires { IsFull (map D.meaning stock.uarts.items) (map D.meaning stock.cans.items)
+    requires full { IsFull (map D.meaning stock.uarts.items) (map D.meaning stock.cans.items)
         (map D.meaning stock.finishers.items) }
+    requires some_worker { 1 ≤ request.setting.workers }
+    requires few_workers { request.setting.workers ≤ 8 }
     ensures course { Told (F.held files.old) (λ held.
-        Course (run_of run held script.now) result
+        Course (run_of run held request.script request.setting) result
         (K.written out.old) (K.written out.new) (F.asked files.old) (F.asked files.new)) }
     ensures usage { IsNoUsage result }
     ensures unread { result ≡ Status.Unread → Rose (F.faults files.old) (F.faults files.new) }
@@ -167,81 +142,94 @@ fn run_file<D: Device, F: Files, K: Sink>(
     ensures read_faults { F.faults files.old ≤ F.faults files.new }
     ensures write_faults { K.faults out.old ≤ K.faults out.new }
 {
-    let mut bytes = Vec::new(alloc);
-    match files.read(script, MOST_BYTES, &mut bytes) {
-        ReadAnswer::Done => run_script(alloc, script, bytes, out, stock),
-        ReadAnswer::TooLarge => refuse_file(alloc, script, out),
-        ReadAnswer::Failed => Status::Unread,
-        ReadAnswer::Memory => Status::Memory,
+    let ScriptRun { script, setting } = request;
+    match open(alloc, files, script.as_str()) {
+        Opened::Text(text) => run_script(alloc, script.as_str(), text, setting, files, out, stock),
+        Opened::Refused(fault) => tell(alloc, fault, out),
+        Opened::Unread => Status::Unread,
+        Opened::Memory => Status::Memory,
     }
 }
 
-/// Runs the built-in laboratory by a script.
-fn run_script<D: Device, K: Sink>(
+/// Runs a script with this text, in a laboratory without boards.
+fn run_script<D: Device, F: Files, K: Sink>(
     alloc: Global,
     script: &str,
-    bytes: Vec<u8>,
+    text: String,
+    setting: Setting,
+    files: &mut F,
     out: &mut K,
     stock: Stock<D>,
 ) -> Status
-    requires short { length bytes.items ≤ 16777216 }
     requires full { IsFull (map D.meaning stock.uarts.items) (map D.meaning stock.cans.items)
         (map D.meaning stock.finishers.items) }
-    ensures course { (held : Held) (log : Option (List (List ℕ))) →
-        Course (rest_of run held (started built_in script.now bytes.items)) result
-        (K.written out.old) (K.written out.new) log log }
+    requires short { length (string_bytes text) ≤ 2 ^ 24 }
+    requires some_worker { 1 ≤ setting.workers }
+    requires few_workers { setting.workers ≤ 8 }
+    ensures course { Told (F.held files.old) (λ held.
+        Course (rest_of run held (started script.now (string_bytes text) setting)) result
+        (K.written out.old) (K.written out.new) (F.asked files.old) (F.asked files.new)) }
     ensures usage { IsNoUsage result }
-    ensures never { result ≢ Status.Unread }
+    ensures unread { result ≡ Status.Unread → Rose (F.faults files.old) (F.faults files.new) }
     ensures unwritten { result ≡ Status.Unwritten → Rose (K.faults out.old) (K.faults out.new) }
-    ensures faults { K.faults out.old ≤ K.faults out.new }
+    ensures held { F.held files.new ≡ F.held files.old }
+    ensures read_faults { F.faults files.old ≤ F.faults files.new }
+    ensures write_faults { K.faults out.old ≤ K.faults out.new }
 {
-    let Ok(lab) = builtin::lab(alloc, stock) else {
+    let Ok(mut monitor) = Monitor::new(alloc, script, text, stock, setting) else {
         return Status::Memory;
     };
-    let Ok(script) = Text::of(alloc, script) else {
-        return Status::Memory;
-    };
-    let mut session = Session::new(alloc, lab, script, bytes);
-    take_commands(alloc, &mut session, out)
+    take_commands(alloc, &mut monitor, files, out)
 }
 
 /// Takes the commands of a script to its end or the first fault, and writes what each prints before
 /// the next is taken.
-fn take_commands<D: Device, K: Sink>(alloc: Global, session: &mut Session<D>, out: &mut K) -> Status
-    requires { session.old.spent ≡ false }
-    ensures course { (held : Held) (log : Option (List (List ℕ))) →
-        Course (rest_of run held session.old.state) result
-        (K.written out.old) (K.written out.new) log log }
+fn take_commands<D: Device, F: Files, K: Sink>(
+    alloc: Global,
+    monitor: &mut Monitor<D>,
+    files: &mut F,
+    out: &mut K,
+) -> Status
+    requires goes_on { monitor.old.ended ≡ false }
+    requires unspent { monitor.old.spent ≡ false }
+    requires few { monitor.old.state.flow.kept.taken ≤ 100000 }
+    ensures course { Told (F.held files.old) (λ held.
+        Course (rest_of run held monitor.old.state) result
+        (K.written out.old) (K.written out.new) (F.asked files.old) (F.asked files.new)) }
     ensures usage { IsNoUsage result }
-    ensures never { result ≢ Status.Unread }
+    ensures unread { result ≡ Status.Unread → Rose (F.faults files.old) (F.faults files.new) }
     ensures unwritten { result ≡ Status.Unwritten → Rose (K.faults out.old) (K.faults out.new) }
-    ensures faults { K.faults out.old ≤ K.faults out.new }
+    ensures held { F.held files.new ≡ F.held files.old }
+    ensures read_faults { F.faults files.old ≤ F.faults files.new }
+    ensures write_faults { K.faults out.old ≤ K.faults out.new }
 {
-    'commands: loop {
-        match session.step() {
+    'commands: for _turn in 0..MOST_STEPS {
+        match monitor.step(files) {
             Step::Text(text) => {
                 if let Err(fault) = write_whole(out, &text) {
                     return Status::from(fault);
                 }
             }
-            Step::End => return stop(session, out),
-            Step::Fault(fault) => return stop_at(alloc, session, fault, out),
+            Step::End => return stop(monitor, out),
+            Step::Fault(fault) => return stop_at(alloc, monitor, fault, out),
+            Step::Unread => return Status::Unread,
             Step::Memory => return Status::Memory,
         }
     }
+    unreachable!()
 }
 
 /// Writes what is left of the lines where a script has ended.
-fn stop<D: Device, K: Sink>(session: &mut Session<D>, out: &mut K) -> Status
-    requires { session.old.spent ≡ false }
-    ensures course { IsEnd (rest (names session.old.state.lab) session.old.state.lines) Done
+fn stop<D: Device, K: Sink>(monitor: &mut Monitor<D>, out: &mut K) -> Status
+    requires { monitor.old.spent ≡ false }
+    ensures course { IsEnd (rest (names monitor.old.state.lab) monitor.old.state.lines) Done
         result (K.written out.old) (K.written out.new) }
     ensures usage { IsNoUsage result }
     ensures never { result ≢ Status.Unread }
     ensures unwritten { result ≡ Status.Unwritten → Rose (K.faults out.old) (K.faults out.new) }
     ensures faults { K.faults out.old ≤ K.faults out.new }
 {
-    let Ok(text) = session.rest() else {
+    let Ok(text) = monitor.rest() else {
         return Status::Memory;
     };
     match write_whole(out, &text) {
@@ -253,44 +241,24 @@ fn stop<D: Device, K: Sink>(session: &mut Session<D>, out: &mut K) -> Status
 /// Writes what is left of the lines where a line of a script is refused, and then says so.
 fn stop_at<D: Device, K: Sink>(
     alloc: Global,
-    session: &mut Session<D>,
+    monitor: &mut Monitor<D>,
     fault: ScriptFault,
     out: &mut K,
 ) -> Status
-    requires { session.old.spent ≡ false }
-    ensures course { IsEnd (rest (names session.old.state.lab) session.old.state.lines)
+    requires { monitor.old.spent ≡ false }
+    ensures course { IsEnd (rest (names monitor.old.state.lab) monitor.old.state.lines)
         (Script fault) result (K.written out.old) (K.written out.new) }
     ensures usage { IsNoUsage result }
     ensures never { result ≢ Status.Unread }
     ensures unwritten { result ≡ Status.Unwritten → Rose (K.faults out.old) (K.faults out.new) }
     ensures faults { K.faults out.old ≤ K.faults out.new }
 {
-    let Ok(text) = session.rest() else {
+    let Ok(text) = monitor.rest() else {
         return Status::Memory;
     };
     if let Err(fault) = write_whole(out, &text) {
         return Status::from(fault);
     }
-    tell(alloc, fault, out)
-}
-
-/// Says that a script has too many bytes.
-fn refuse_file<K: Sink>(alloc: Global, script: &str, out: &mut K) -> Status
-    ensures course { IsEnd [] (Script (fault_at (whole script.now) ScriptCause.Size)) result
-        (K.written out.old) (K.written out.new) }
-    ensures usage { IsNoUsage result }
-    ensures never { result ≢ Status.Unread }
-    ensures unwritten { result ≡ Status.Unwritten → Rose (K.faults out.old) (K.faults out.new) }
-    ensures faults { K.faults out.old ≤ K.faults out.new }
-{
-    let Ok(file) = Text::of(alloc, script) else {
-        return Status::Memory;
-    };
-    let fault = ScriptFault {
-        file,
-        line: 0,
-        cause: Cause::Script(ScriptCause::Size),
-    };
     tell(alloc, fault, out)
 }
 
@@ -310,6 +278,3 @@ fn tell<K: Sink>(alloc: Global, fault: ScriptFault, out: &mut K) -> Status
         Err(fault) => Status::from(fault),
     }
 }
-
-#[cfg(test)]
-mod tests;

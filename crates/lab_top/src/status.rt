@@ -1,15 +1,7 @@
 //! How a run of the program ends.
-use crate::fault::ScriptFault;
 use lab_io::WriteFault;
-
-/// Why the command words are refused.
-#[derive(Clone, Copy, PartialEq, Eq, Debug)]
-pub enum UsageCause {
-    /// There is no word, or the first is not `run`.
-    Command,
-    /// What follows `run` is not one name of a script that does not begin with `-`.
-    Words,
-}
+use lab_words::UsageCause;
+use monitor::ScriptFault;
 
 /// How a run of the program ends.
 #[derive(Drop, Debug)]

@@ -1,23 +1,22 @@
-use Rattle.std.proofs.Common.{refl}
-use Rattle.lab_top.proofs.Pieces.{grown-nil}
-use Rattle.lab_top.proofs.Courses.{course_memory}
-use Rattle.lab_top.proofs.Openings.{told, opening_runs, opening_large, opening_unread}
+use Rattle.std.proofs.Common.{◌∙◌}
+use Rattle.lab_top.proofs.Openings.{opening_goes, opening_faults, opening_unread, opening_memory}
 use Rattle.lab_top.proofs.run.run_file.Goals as goal
 
-pub returns-in-Done-clause-course : goal.returns-in-Done-clause-course
-returns-in-Done-clause-course g c = λ held is.
-    let there = told _ c.in-Done.ensures.bytes.1 held is in
-    opening_runs held _ _ _ _ _ _ _ there c.in-Done.ensures.bytes.0 c.in-Done.ensures.asked
-    (c.run_script.ensures.course held (g.F.Files.asked c.read.new.self))
+pub returns-in-Text-clause-course : goal.returns-in-Text-clause-course
+returns-in-Text-clause-course g c = λ held is.
+    let opened = rw c.as_str.ensures at (c.in-Text.ensures.opened held is) in
+    let course = rw c.as_str-in-Text.ensures at (c.run_script.ensures.course held (c.open.ensures.held ∙ is)) in
+    opening_goes held _ _ c.args.request.setting _ _ _ _ _ _ opened.0 opened.1 course
 
-pub returns-in-TooLarge-clause-course : goal.returns-in-TooLarge-clause-course
-returns-in-TooLarge-clause-course g c = λ held is.
-    opening_large held _ _ _ _ _ _ _ refl (told _ c.in-TooLarge.ensures.bytes.1 held is) c.in-TooLarge.ensures.asked
-    c.refuse_file.ensures.course
+pub returns-in-Refused-clause-course : goal.returns-in-Refused-clause-course
+returns-in-Refused-clause-course g c = λ held is.
+    let opened = rw c.as_str.ensures at (c.in-Refused.ensures.opened held is) in
+    opening_faults held _ c.args.request.setting _ _ _ _ _ _ opened.0 opened.1 c.tell.ensures.course
 
-pub returns-in-Failed-clause-course : goal.returns-in-Failed-clause-course
-returns-in-Failed-clause-course g c = λ held is. opening_unread held _ _ _ _ c.in-Failed.ensures.asked
+pub returns-in-Unread-clause-course : goal.returns-in-Unread-clause-course
+returns-in-Unread-clause-course g c = λ held is.
+    opening_unread held _ c.args.request.setting _ _ _ (rw c.as_str.ensures at (c.in-Unread.ensures.opened held is))
 
 pub returns-in-Memory-clause-course : goal.returns-in-Memory-clause-course
 returns-in-Memory-clause-course g c = λ held is.
-    rw (c.in-Memory.ensures.asked, grown-nil (g.F.Files.asked c.args.files.now)) (course_memory _ _ _)
+    opening_memory held _ c.args.request.setting _ _ _ (rw c.as_str.ensures at (c.in-Memory.ensures.opened held is))

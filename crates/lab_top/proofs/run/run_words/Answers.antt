@@ -1,8 +1,16 @@
 use Rattle.std.proofs.Common.{map, string_bytes}
-use Rattle.lab_top.proofs.Openings.{words_refused}
+use Rattle.lab_top.proofs.Courses.{course_none}
+use Rattle.lab_top.proofs.Openings.{unread_words, words_refused}
 use Rattle.lab_top.proofs.run.run_words.Goals as goal
 
-pub returns-in-Err-clause-course : goal.returns-in-Err-clause-course
-returns-in-Err-clause-course g c =
-    λ held is. words_refused held (map string_bytes c.args.words.now) c.in-Err.cause _ _ _ _ c.in-Err.ensures
-    c.refuse_words.ensures.course
+pub returns-in-Err-Usage-clause-course : goal.returns-in-Err-Usage-clause-course
+returns-in-Err-Usage-clause-course g c =
+    λ held is. words_refused held (map string_bytes c.args.words.now) c.in-Err-Usage.cause _ _ _ _
+    (rw c.in-Err-Usage.field-0-is at c.in-Err-Usage.ensures.read)
+    (rw c.in-Err-Usage.field-0-is at c.refuse_words.ensures.course)
+
+pub returns-clause-course : goal.returns-clause-course
+returns-clause-course g c = λ held is. course_none _ _ _
+
+pub returns-clause-refused : goal.returns-clause-refused
+returns-clause-refused g c = unread_words _ _ _

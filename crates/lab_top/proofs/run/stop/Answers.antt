@@ -4,5 +4,5 @@ use Rattle.lab_top.proofs.run.stop.Goals as goal
 
 pub returns-clause-course : goal.returns-clause-course
 returns-clause-course g c =
-    rw c.from.ensures (end_cut _ _ _ _ _ (rw (append-nil, ← c.in-Ok.ensures, ← c.deref.ensures.value)
+    rw c.from.ensures (end_cut _ _ _ _ _ (rw (append-nil, ← c.in-Ok.ensures.text, ← c.deref.ensures.value)
     c.in-Err.ensures.part))

@@ -1,20 +1,24 @@
 use Rattle.std.proofs.Common.{◌≡◌, ℕ, ◌-◌, ◌≤◌, List, Option, false}
-use Rattle.lab_io.specs.Held.{Held}
 use Rattle.lab_state.specs.Run.{run}
 use Rattle.lab_top.specs.declared.status.Status.{Status}
-use Rattle.lab_top.specs.Transcript.{rest_of}
-use Rattle.lab_top.specs.Inner.Course.{Course}
+use Rattle.lab_top.specs.Transcript.{from, rest_of}
+use Rattle.lab_top.specs.Inner.Course.{Told, Course}
 use Rattle.lab_top.proofs.run.take_commands.Given as goal
 
--- The course of what is left of the run is the course of the whole.
+-- The course of what is left of the run is the course of the whole. Each turn takes a command or more.
 abbrev pub invariant-commands : goal.invariant-commands
 invariant-commands g l = record {
-  course : (held : Held) (status : Status) (out : Option (List ℕ)) (log : Option (List (List ℕ))) →
-      Course (rest_of run held l.session.state) status (g.K.Sink.written l.out) out log log →
-      Course (rest_of run held l.fn.session.state) status (g.K.Sink.written l.fn.out) out log log;
-  unspent : l.session.spent ≡ false;
-  faults : g.K.Sink.faults l.fn.out ≤ g.K.Sink.faults l.out;
+  course : Told (g.F.Files.held l.fn.files) (λ held.
+      (status : Status) (out : Option (List ℕ)) (log : Option (List (List ℕ))) →
+      Course (from (100001 - l._turn) run held l.monitor.state) status
+      (g.K.Sink.written l.out) out (g.F.Files.asked l.files) log →
+      Course (rest_of run held l.fn.monitor.state) status
+      (g.K.Sink.written l.fn.out) out (g.F.Files.asked l.fn.files) log);
+  goes_on : l.monitor.ended ≡ false;
+  unspent : l.monitor.spent ≡ false;
+  counted : l._turn ≤ l.monitor.state.flow.kept.taken;
+  few : l.monitor.state.flow.kept.taken ≤ 100000;
+  held : g.F.Files.held l.files ≡ g.F.Files.held l.fn.files;
+  read_faults : g.F.Files.faults l.fn.files ≤ g.F.Files.faults l.files;
+  write_faults : g.K.Sink.faults l.fn.out ≤ g.K.Sink.faults l.out;
 }
-
-abbrev pub decreases-commands : goal.decreases-commands
-decreases-commands g l = 100000 - l.session.state.taken

@@ -1,0 +1,85 @@
+//! Runs of the program over files and an output in memory.
+use dev_core::{Device, Stock};
+use lab_io::{MemFiles, MemSink};
+use lab_num::NoMemory;
+use lab_top::{Status, run_lab};
+use std::alloc::Global;
+use std::process::Abort;
+use test_finisher::Finisher;
+use uart_16550::Uart;
+
+/// The devices of a laboratory.
+fn stock(alloc: Global) -> Result<Stock<Box<dyn Device + Send>>, NoMemory> {
+    let mut uarts: Vec<Box<dyn Device + Send>> = Vec::new(alloc);
+    for _ in 0..64 {
+        uarts.push(Box::new(alloc, Uart::new())?)?;
+    }
+    let mut finishers: Vec<Box<dyn Device + Send>> = Vec::new(alloc);
+    for _ in 0..16 {
+        finishers.push(Box::new(alloc, Finisher::new())?)?;
+    }
+    Ok(Stock {
+        uarts,
+        cans: Vec::new(alloc),
+        finishers,
+    })
+}
+
+/// The words of a line, with one blank between them. An empty line has none.
+fn words_of(alloc: Global, line: &str) -> Result<Vec<String>, NoMemory> {
+    let mut words = Vec::new(alloc);
+    if line.is_empty() {
+        return Ok(words);
+    }
+    for word in line.split(' ') {
+        words.push(String::from_str(alloc, word)?)?;
+    }
+    Ok(words)
+}
+
+/// A run for the words of a line: how it ends.
+pub fn run(
+    alloc: Global,
+    line: &str,
+    files: &mut MemFiles,
+    out: &mut MemSink,
+) -> Result<Status, NoMemory> {
+    let words = words_of(alloc, line)?;
+    let stock = stock(alloc)?;
+    if !stock.is_full() {
+        return Err(NoMemory);
+    }
+    Ok(run_lab(alloc, &words, files, out, stock))
+}
+
+/// A run for the words of a line ends with this number, and has written this.
+pub fn assert_run<R: Abort + AllocGlobal>(
+    rt: &R,
+    line: &str,
+    mut files: MemFiles,
+    number: u8,
+    written: &str,
+) -> Result<(), NoMemory> {
+    let alloc = rt.alloc();
+    let mut out = MemSink::new(alloc, 4096);
+    let status = run(alloc, line, &mut files, &mut out)?;
+    assert_eq!(rt;
+        String::from_utf8_lossy(alloc, out.bytes())?.as_str(),
+        written
+    );
+    assert_eq!(rt; status.number(), number);
+    Ok(())
+}
+
+/// The run of a script over these files, in which `start` runs to microsecond 200, ends with this
+/// number, and has written this.
+pub fn assert_script<R: Abort + AllocGlobal>(
+    rt: &R,
+    mut files: MemFiles,
+    script: &str,
+    number: u8,
+    written: &str,
+) -> Result<(), NoMemory> {
+    files.put("s.resc", script.as_bytes())?;
+    assert_run(rt, "run --until 0.0002 s.resc", files, number, written)
+}

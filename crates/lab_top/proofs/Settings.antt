@@ -1,0 +1,84 @@
+-- What the setting of a run is to its transcript.
+use Rattle.std.proofs.Common.{◌≡◌, ◌∙◌, ℕ, ◌+◌, ◌^◌, nat_le, List, [], Bool, true, false, None, Result, Ok, refl, sym, ap}
+use Rattle.std.specs.Prelude.{is_none}
+use Rattle.std.proofs.Math.Nat.{zero-div, zero-mod}
+use Rattle.lab_io.specs.Held.{Held}
+use Rattle.lab_state.specs.Lab.{Lab}
+use Rattle.lab_state.specs.One.{first_without}
+use Rattle.lab_state.specs.Run.{Play, run, run_by, still}
+use Rattle.monitor.specs.declared.setting.Setting.{Setting}
+use Rattle.resc_vars.specs.declared.cause.ScriptCause.{ScriptCause}
+use Rattle.resc_vars.specs.declared.cause.ScriptCause.TheVariants.{LabTime, Platform}
+use Rattle.resc_vars.specs.declared.item.Source.{Source}
+use Rattle.resc_vars.specs.Bodies as flow
+use Rattle.resc_vars.specs.Bodies.{source_of}
+use Rattle.monitor.specs.Answer.{Done, leaves}
+use Rattle.monitor.specs.Refusal.{◌>>=◌, require}
+use Rattle.monitor.specs.Runs.{has_run, length_of, run_for}
+use Rattle.monitor.specs.State.{State, empty_lab, started}
+use Rattle.lab_top.specs.Content.{Content, Missing, Faulty, Readable}
+use Rattle.lab_top.specs.Transcript.{begun, rest_of}
+
+-- the number of workers does not matter
+pub begun_workers : (play : Play) (held : Held) (script : List ℕ) (setting : Setting) (workers : ℕ) (content : Content) →
+    begun play held script (record setting { workers = workers }) content ≡ begun play held script setting content
+begun_workers play held script setting workers Missing = refl
+begun_workers play held script setting workers (Faulty fault) = refl
+begun_workers play held script setting workers (Readable text) = refl
+
+-- a run of length 0 has no round
+run_none : (lab : Lab) → run lab 0 ≡ still lab
+unfolding run_by
+run_none lab = rw (zero-div lab.quantum, zero-mod lab.quantum) refl
+
+-- what two tests let pass
+passed : {A : Type 0} (a b : Bool) (x y : A) →
+    (do
+      one ← require a Platform
+      two ← require b LabTime
+      Ok x) ≡ Ok y → y ≡ x
+passed true true x y is = cc
+passed true false x y is = cc
+passed false b x y is = cc
+
+no_length : (s : State) (length : ℕ) → s.dry ≡ true → length_of s length ≡ 0
+no_length s length dry = rw dry refl
+
+-- a run of this length, where another was asked for
+abbrev pub ran_for : State → ℕ → ℕ → Result Done ScriptCause
+ran_for s asked length = do
+  plans ← require (is_none (first_without s.lab.boards)) Platform
+  time ← require (nat_le (s.lab.now + asked) (10 ^ 10)) LabTime
+  Ok (has_run s (run s.lab length))
+
+ran_none : (s : State) → has_run s (run s.lab 0) ≡ leaves s
+ran_none s = rw (run_none s.lab) refl
+
+pub runs_nothing : (s : State) (length : ℕ) (done : Done) → s.dry ≡ true → run_for run s length ≡ Ok done →
+    done ≡ leaves s
+runs_nothing s length done dry is =
+    passed _ _ _ done (sym (ap (ran_for s length) (no_length s length dry)) ∙ is) ∙ ran_none s
+
+-- a monitor before the first line of a script with these lines
+started_with : Source → Setting → State
+started_with source setting = record {
+  flow = flow.begun source;
+  lab = empty_lab;
+  selected = None;
+  lines = [];
+  until = setting.until.0;
+  dry = setting.dry;
+}
+
+started_as : (script text : List ℕ) (setting : Setting) →
+    started script text setting ≡ started_with (source_of script text) setting
+unfolding started_with
+started_as script text setting = refl
+
+-- scripts with the same lines go on in the same way
+pub begun_lines : (held : Held) (script text other : List ℕ) (setting : Setting) →
+    source_of script other ≡ source_of script text →
+    begun run held script setting (Readable other) ≡ begun run held script setting (Readable text)
+begun_lines held script text other setting same =
+    ap (rest_of run held) (started_as script other setting ∙ ap (λ source. started_with source setting) same
+    ∙ sym (started_as script text setting))

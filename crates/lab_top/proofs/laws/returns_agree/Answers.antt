@@ -1,0 +1,7 @@
+use Rattle.resc_vars.specs.Laws.{with_returns}
+use Rattle.lab_top.proofs.Settings.{begun_lines}
+use Rattle.lab_top.proofs.laws.returns_agree.Goals as goal
+
+pub returns : goal.returns
+returns c = λ held script text setting none.
+    begun_lines held script text (with_returns text) setting (c.return_law.ensures script text none)

@@ -1,7 +1,0 @@
-use Rattle.std.proofs.Common.{◌∙◌}
-use Rattle.lab_top.proofs.ScriptLemmas.{command_of-quantum}
-use Rattle.lab_top.proofs.script.command_of.Goals as goal
-
-pub returns-in-Some-rest_after-clause-value : goal.returns-in-Some-rest_after-clause-value
-returns-in-Some-rest_after-clause-value c =
-    c.quantum.ensures.value ∙ command_of-quantum _ _ c.in_default.ensures c.in-Some-rest_after.ensures

@@ -1,0 +1,39 @@
+-- How the file of a script was opened.
+use Rattle.std.specs.Prelude.{◌≡◌, ℕ, ◌≤◌, ◌^◌, List, [], ◌∷◌, length, Option, string_bytes}
+use Rattle.lab_io.specs.Known.{grown}
+use Rattle.repl_files.specs.Asked.{AsksSome}
+use Rattle.monitor.specs.Answer.{fault_at}
+use Rattle.monitor.specs.State.{Place}
+use Rattle.resc_vars.specs.declared.cause.ScriptCause.{ScriptCause}
+use Rattle.lab_top.specs.declared.script.Opened.{Opened}
+use Rattle.lab_top.specs.declared.script.Opened.TheVariants.{Text, Refused, Unread, Memory}
+use Rattle.lab_top.specs.Content as content
+
+-- a file was read as what it is, or memory ran out
+abbrev pub IsContent : content.Content → Opened → Type 0
+IsContent is (Text text) = is ≡ content.Readable (string_bytes text)
+IsContent is (Refused fault) = is ≡ content.Faulty fault
+IsContent is Unread = ⊥
+IsContent is Memory = Unit {0}
+
+-- a file is refused at this place for this cause, or memory ran out
+abbrev pub IsRefused : Place → ScriptCause → Opened → Type 0
+IsRefused place cause (Text text) = ⊥
+IsRefused place cause (Refused fault) = fault ≡ fault_at place cause
+IsRefused place cause Unread = ⊥
+IsRefused place cause Memory = Unit {0}
+
+-- a file of this name was opened as what it is, or its read was cut short
+abbrev pub IsOpened :
+    content.Content → List ℕ → Opened → Option (List (List ℕ)) → Option (List (List ℕ)) → Type 0
+IsOpened is name (Text text) log log' = (is ≡ content.Readable (string_bytes text)) × (log' ≡ grown log (name ∷ []))
+IsOpened is name (Refused fault) log log' = (is ≡ content.Faulty fault) × (log' ≡ grown log (name ∷ []))
+IsOpened is name Unread log log' = log' ≡ grown log (name ∷ [])
+IsOpened is name Memory log log' = AsksSome (name ∷ []) log log'
+
+-- a text is no longer than a file may be
+abbrev pub IsShort : Opened → Type 0
+IsShort (Text text) = length (string_bytes text) ≤ 2 ^ 24
+IsShort (Refused fault) = Unit {0}
+IsShort Unread = Unit {0}
+IsShort Memory = Unit {0}
