@@ -51,6 +51,7 @@ impl<D: Device> Space<D> {
         value
     }
 
+    #[inline(always)]
     pub fn store_device(&mut self, dev: u8, at: u32, width: u8, value: u32) -> Effect
         requires { dev < length self.old.devices }
         ensures answer { result ≡ (device_store self.old dev at width value).answer }
