@@ -3,7 +3,6 @@ ghost use Rattle.std.specs.Prelude.{◌≡◌, ◌+◌, ◌^◌, ◌<◌, ◌↔
 ghost use Rattle.std.specs.Prelude.{slice_index_or};
 ghost use Rattle.lab_num.specs.Route.{StandOnce, is_connected, connected};
 ghost use Rattle.lab_num.specs.Route as routes;
-ghost use Rattle.uart_hub.specs.declared.hubs.HubFault.TheVariants.{Already};
 
 use lab_num::{Member, NoMemory};
 use std::alloc::Global;
@@ -64,7 +63,7 @@ impl CanHubs {
     pub fn connect(&mut self, hub: u32, member: Member) -> Result<(), HubFault>
         requires { hub < length self.old }
         ensures ok { OnOk result (self.new ≡ connected self.old hub member) }
-        ensures already { (result ≡ Err Already) ↔ IsTrue (is_connected self.old member) }
+        ensures already { (result ≡ Err HubFault.Already) ↔ IsTrue (is_connected self.old member) }
         ensures err { OnErr result (self.new ≡ self.old) }
     {
         self.hubs.connect(hub, member)
@@ -119,7 +118,10 @@ mod tests {
             assert_eq!(rt; hubs.connect(hub, member), answer, "{member:?} at {hub}");
         }
         assert!(rt; hubs.len() > 0);
-        assert_eq!(rt; hubs.members(0), [can(1, 0), can(0, 2), can(2, 1)].as_slice());
+        assert_eq!(rt;
+            hubs.members(0),
+            [can(1, 0), can(0, 2), can(2, 1)].as_slice()
+        );
         for (from, others) in [
             (can(0, 2), [can(1, 0), can(2, 1)].as_slice()),
             (can(2, 0), [].as_slice()),

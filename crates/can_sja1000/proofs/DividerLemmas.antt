@@ -17,4 +17,4 @@ divider_clock_replaced divider byte =
     and_or_apart 144 (bit_and divider 104) (bit_and byte 7) (masked byte 7 refl) ∙ masked divider 104 refl
 
 -- after a store in either mode
-pub ruleset divider_stores = (divider_replaced, divider_clock_replaced)
+pub ruleset dividers = (divider_replaced, divider_clock_replaced)

@@ -143,7 +143,7 @@ impl Can {
         }
     }
 
-    #[tactic(auto, using(crate::proofs::DividerLemmas::divider_stores), unfolding(dev_core::specs::Can::can_store_byte))]
+    #[tactic(auto, using(crate::proofs::DividerLemmas::dividers), unfolding(dev_core::specs::Can::can_store_byte))]
     fn store_byte(&mut self, reg: u32, byte: u8) -> Effect
         ensures answer { result ≡ (can_store_byte self.old reg byte).answer }
         ensures after { self.new ≡ (can_store_byte self.old reg byte).after }

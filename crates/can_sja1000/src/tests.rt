@@ -266,7 +266,7 @@ fn fill<D: Device>(rt: &impl Abort, can: &mut D) {
 }
 
 #[test]
-fn can_fifo(rt: HostRuntime) -> Result<(), Fail> {
+fn the_receive_fifo_holds_64_bytes(rt: HostRuntime) -> Result<(), Fail> {
     fill(&rt, &mut Can::new());
     let mut boxed: Box<dyn Device + Send> = Box::new(rt.alloc(), Can::new())?;
     fill(&rt, &mut boxed);
