@@ -119,6 +119,73 @@ fn the_time_is_that_of_the_slowest_member(rt: HostRuntime) {
     }
 }
 
+/// What the first member reports of some slots, the second of some and the first of some more; and
+/// the time before the last and after it.
+type Pieces = (Report, Report, Micros, Report, Micros);
+
+/// A grant of which the first member uses some slots, then the second, then the first again: what
+/// it comes to, and whether it is done.
+fn in_pieces(speeds: (u32, u32), micros: u64, slots: (u64, u64, u64)) -> Option<(Pieces, bool)> {
+    let mut source = pair(speeds)?;
+    source.grant(micros.min(10_000_000_000));
+    let first = play(&mut source, BoardNo(0), slots.0);
+    let second = play(&mut source, BoardNo(1), slots.1);
+    let before = source.elapsed();
+    let third = play(&mut source, BoardNo(0), slots.2);
+    let pieces = (first, second, before, third, source.elapsed());
+    Some((pieces, source.is_done()))
+}
+
+type PiecesRow = (
+    (u32, u32),
+    u64,
+    (u64, u64, u64),
+    (Report, Report, u64, Report, u64),
+);
+
+/// The speeds, the length of the grant, the slots, and what they come to. It is done where both
+/// members' last reports say so.
+const PIECES: [PiecesRow; 3] = [
+    (
+        (1, 3),
+        10,
+        (4, 30, 6),
+        (Report::Break, Report::Continue, 4, Report::Continue, 10),
+    ),
+    (
+        (3, 1),
+        10,
+        (27, 10, 2),
+        (Report::Break, Report::Continue, 9, Report::Break, 9),
+    ),
+    (
+        (1, 1_000),
+        10_000_000_000,
+        (9_999_999_999, 10_000_000_000_000, 1),
+        (
+            Report::Break,
+            Report::Continue,
+            9_999_999_999,
+            Report::Continue,
+            10_000_000_000,
+        ),
+    ),
+];
+
+#[test]
+fn a_member_goes_on_where_it_left_off(rt: HostRuntime) {
+    for (speeds, micros, slots, expected) in PIECES {
+        let (first, second, before, third, after) = expected;
+        let done = second == Report::Continue && third == Report::Continue;
+        let pieces = (first, second, Micros(before), third, Micros(after));
+        assert_eq!(rt;
+            in_pieces(speeds, micros, slots),
+            Some((pieces, done)),
+            "{micros}"
+        );
+    }
+}
+
 #[test]
 fn without_members_a_grant_is_done_at_once(rt: HostRuntime) {
     for micros in [0, 1, 250, 10_000_000_000_u64] {
