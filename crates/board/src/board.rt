@@ -460,14 +460,6 @@ impl<D: Device> Board<D> {
         self.wires.numbers.entered
     }
 
-    /// How many cycles the processor has counted, by its CSR mcycle.
-    #[cfg(test)]
-    pub fn cycles(&self) -> u64
-        ensures { result ≡ self.now.view.core.mcycle }
-    {
-        self.hart.state().mcycle
-    }
-
     /// How many instructions the processor has retired, by its CSR minstret.
     pub fn retired(&self) -> u64
         ensures { result ≡ self.now.view.core.minstret }

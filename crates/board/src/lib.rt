@@ -14,6 +14,3 @@ mod wires;
 pub use board::{Board, SlotAt, Turn};
 pub use laws::{resets_agree, stretches_join, stretches_keep_plans, stretches_number, turns_join};
 pub use plan::has_no_cans;
-
-#[cfg(test)]
-mod tests;

@@ -12,6 +12,3 @@ pub use laws::lines_are_read;
 pub use read::read_words;
 pub use request::{Request, UsageCause, WordsFault};
 pub use usage::usage_line;
-
-#[cfg(test)]
-mod tests;

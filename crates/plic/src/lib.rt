@@ -15,6 +15,3 @@ pub use laws::{
 };
 pub use plic::Plic;
 pub use state::PlicState;
-
-#[cfg(test)]
-mod tests;

@@ -6,8 +6,6 @@ mod command;
 mod laws;
 mod read;
 mod sorts;
-#[cfg(test)]
-mod tests;
 mod variable;
 mod words;
 

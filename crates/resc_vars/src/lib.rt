@@ -10,8 +10,6 @@ mod form;
 mod item;
 mod laws;
 mod name;
-#[cfg(test)]
-mod tests;
 mod variables;
 
 pub use answer::{FlowFault, Next};

@@ -132,6 +132,3 @@ pub fn assemble(alloc: Global, text: &str) -> Result<Vec<u32>, AsmFault>
     };
     words_of(alloc, &labels, &lines)
 }
-
-#[cfg(test)]
-mod tests;

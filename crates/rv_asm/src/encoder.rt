@@ -217,6 +217,3 @@ pub fn is_valid(i: &Instr) -> bool
     valid_fits();
     fits(i) && is_meant(word_of(i), i)
 }
-
-#[cfg(test)]
-mod tests;

@@ -10,6 +10,3 @@ mod execute;
 
 pub use bus::{Bus, NoMemory};
 pub use execute::step;
-
-#[cfg(test)]
-mod tests;

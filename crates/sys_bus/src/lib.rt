@@ -15,6 +15,3 @@ pub use plan::{BoardPlan, Named, NamedWhat, PlicSize};
 pub use region::{Region, RegionKind, Target};
 pub use regions::{Regions, accesses_belong_to_one_region, bytes_of_a_region_belong_together};
 pub use wire::{Wire, WireFrom, WirePin};
-
-#[cfg(test)]
-mod tests;

@@ -1,109 +1,16 @@
 //! Plans of two boards and of boards that are nearly right, and accesses at the ends of regions.
-use super::*;
-use crate::regions::{are_addressed, are_apart};
 use dev_core::Kind;
 use lab_num::{NoMemory, Rows, Text};
+use sample_boards::{
+    MEMORIES, SMALL_KINDS, SMALL_NAMES, SMALL_REGIONS, USUAL_REGIONS, names_of, small_board,
+    usual_board,
+};
 use std::alloc::Global;
 use std::test::Fail;
-
-const RAM: Region = Region {
-    base: 0x8000_0000,
-    size: 0x1_0000,
-    kind: RegionKind::Ram(0),
-    step: 1,
+use sys_bus::{
+    BoardPlan, NamedWhat, Place, PlicSize, Region, RegionKind, Regions, Target, Wire, WireFrom,
+    WirePin,
 };
-
-const UART: Region = Region {
-    base: 0x1000_0000,
-    size: 0x100,
-    kind: RegionKind::Dev(0),
-    step: 1,
-};
-
-const FINISHER: Region = Region {
-    base: 0x10_0000,
-    size: 0x1000,
-    kind: RegionKind::Dev(1),
-    step: 1,
-};
-
-const CLINT: Region = Region {
-    base: 0x200_0000,
-    size: 0x1_0000,
-    kind: RegionKind::Clint,
-    step: 1,
-};
-
-const PLIC: Region = Region {
-    base: 0xC00_0000,
-    size: 0x400_0000,
-    kind: RegionKind::Plic,
-    step: 1,
-};
-
-const SMALL_NAMES: [(&str, NamedWhat); 4] = [
-    ("ram", NamedWhat::Part(RegionKind::Ram(0))),
-    ("uart", NamedWhat::Part(RegionKind::Dev(0))),
-    ("fin", NamedWhat::Part(RegionKind::Dev(1))),
-    ("cpu", NamedWhat::Cpu),
-];
-
-const SMALL_REGIONS: [Region; 3] = [RAM, UART, FINISHER];
-
-const SMALL_KINDS: [Kind; 2] = [Kind::Uart, Kind::Finisher];
-
-const MEMORIES: [u32; 1] = [0x1_0000];
-
-const USUAL_NAMES: [(&str, NamedWhat); 5] = [
-    ("ram", NamedWhat::Part(RegionKind::Ram(0))),
-    ("clint", NamedWhat::Part(RegionKind::Clint)),
-    ("plic", NamedWhat::Part(RegionKind::Plic)),
-    ("uart", NamedWhat::Part(RegionKind::Dev(0))),
-    ("cpu", NamedWhat::Cpu),
-];
-
-const USUAL_REGIONS: [Region; 4] = [RAM, CLINT, PLIC, UART];
-
-const USUAL_KINDS: [Kind; 1] = [Kind::Uart];
-
-fn names_of(alloc: Global, names: &[(&str, NamedWhat)]) -> Result<Vec<Named>, NoMemory> {
-    let mut list = Vec::new(alloc);
-    for &(name, what) in names {
-        let name = Text::of(alloc, name)?;
-        list.push(Named { name, what })?;
-    }
-    Ok(list)
-}
-
-/// A board with a memory, a UART and a finisher.
-fn small(alloc: Global) -> Result<BoardPlan, NoMemory> {
-    Ok(BoardPlan {
-        names: Rows::of(names_of(alloc, &SMALL_NAMES)?),
-        regions: Rows::of(SMALL_REGIONS.to_vec(alloc)?),
-        memories: Rows::of(MEMORIES.to_vec(alloc)?),
-        kinds: Rows::of(SMALL_KINDS.to_vec(alloc)?),
-        frequency: None,
-        plic: None,
-        wires: Rows::of(Vec::new(alloc)),
-        speed: 1,
-        cpu: Text::of(alloc, "cpu")?,
-    })
-}
-
-/// A board with a memory, a timer, an interrupt controller and a UART.
-fn usual(alloc: Global) -> Result<BoardPlan, NoMemory> {
-    Ok(BoardPlan {
-        names: Rows::of(names_of(alloc, &USUAL_NAMES)?),
-        regions: Rows::of(USUAL_REGIONS.to_vec(alloc)?),
-        memories: Rows::of(MEMORIES.to_vec(alloc)?),
-        kinds: Rows::of(USUAL_KINDS.to_vec(alloc)?),
-        frequency: Some(1_000_000),
-        plic: plic(31, 1),
-        wires: Rows::of(Vec::new(alloc)),
-        speed: 25,
-        cpu: Text::of(alloc, "cpu")?,
-    })
-}
 
 /// Each row: how many names, regions, memories and devices of the small board there are.
 const COUNTS: [(usize, usize, usize, usize, bool); 5] = [
@@ -160,8 +67,8 @@ fn is_counted(
     memories: usize,
     kinds: usize,
 ) -> Result<bool, NoMemory> {
-    let mut plan = small(alloc)?;
-    plan.names = Rows::of(names_of(alloc, &SMALL_NAMES[..names.min(4)])?);
+    let mut plan = small_board(alloc)?;
+    plan.names = names_of(alloc, &SMALL_NAMES[..names.min(4)])?;
     plan.regions = Rows::of(SMALL_REGIONS[..regions.min(3)].to_vec(alloc)?);
     plan.memories = Rows::of(MEMORIES[..memories.min(1)].to_vec(alloc)?);
     plan.kinds = Rows::of(SMALL_KINDS[..kinds.min(2)].to_vec(alloc)?);
@@ -177,8 +84,8 @@ fn is_named(
 ) -> Result<bool, NoMemory> {
     let mut names = SMALL_NAMES;
     names[i % 4] = (name, what);
-    let mut plan = small(alloc)?;
-    plan.names = Rows::of(names_of(alloc, &names)?);
+    let mut plan = small_board(alloc)?;
+    plan.names = names_of(alloc, &names)?;
     plan.cpu = Text::of(alloc, cpu)?;
     Ok(plan.is_valid())
 }
@@ -244,7 +151,7 @@ fn is_small_range(
 ) -> Result<bool, NoMemory> {
     let mut regions = SMALL_REGIONS;
     regions[i % 3] = with_range(regions[i % 3], range.0, range.1, range.2);
-    let mut plan = small(alloc)?;
+    let mut plan = small_board(alloc)?;
     plan.regions = Rows::of(regions.to_vec(alloc)?);
     plan.memories = Rows::of([memory].to_vec(alloc)?);
     Ok(plan.is_valid())
@@ -253,7 +160,7 @@ fn is_small_range(
 fn is_usual_range(alloc: Global, i: usize, base: u32, size: u32) -> Result<bool, NoMemory> {
     let mut regions = USUAL_REGIONS;
     regions[i % 4] = with_range(regions[i % 4], base, size, 1);
-    let mut plan = usual(alloc)?;
+    let mut plan = usual_board(alloc)?;
     plan.regions = Rows::of(regions.to_vec(alloc)?);
     Ok(plan.is_valid())
 }
@@ -325,7 +232,7 @@ fn has_numbers(
     contexts: u8,
     speed: u32,
 ) -> Result<bool, NoMemory> {
-    let mut plan = usual(alloc)?;
+    let mut plan = usual_board(alloc)?;
     plan.frequency = frequency;
     plan.plic = plic(sources, contexts);
     plan.speed = speed;
@@ -344,7 +251,7 @@ fn has_wire(
 }
 
 fn has_kinds(alloc: Global, first: Kind, second: Kind) -> Result<bool, NoMemory> {
-    let mut plan = small(alloc)?;
+    let mut plan = small_board(alloc)?;
     plan.kinds = Rows::of([first, second].to_vec(alloc)?);
     Ok(plan.is_valid())
 }
@@ -367,9 +274,9 @@ fn numbers_and_kinds_are_those_that_may_be(rt: HostRuntime) -> Result<(), Fail> 
 fn wires_are_those_that_may_be(rt: HostRuntime) -> Result<(), Fail> {
     let alloc = rt.alloc();
     for (from, pin, on_usual, on_small) in WIRES {
-        let is_valid = has_wire(alloc, usual(alloc)?, from, pin)?;
+        let is_valid = has_wire(alloc, usual_board(alloc)?, from, pin)?;
         assert_eq!(rt; is_valid, on_usual);
-        let is_valid = has_wire(alloc, small(alloc)?, from, pin)?;
+        let is_valid = has_wire(alloc, small_board(alloc)?, from, pin)?;
         assert_eq!(rt; is_valid, on_small);
     }
     Ok(())
@@ -429,10 +336,9 @@ const PLACES: [(u32, Option<Place>); 6] = [
 
 #[test]
 fn an_access_belongs_to_the_region_that_holds_it_whole(rt: HostRuntime) -> Result<(), Fail> {
-    let list = USUAL_REGIONS.to_vec(rt.alloc())?;
-    assert!(rt; are_apart(&list));
-    assert!(rt; are_addressed(&list));
-    let mut regions = Regions::new(list);
+    let usual = usual_board(rt.alloc())?;
+    assert!(rt; usual.is_valid());
+    let mut regions = Regions::new(usual.regions.into_items());
     for (at, width, target) in ACCESSES {
         assert!(rt; width == 1 || width == 2 || width == 4);
         assert_eq!(rt; regions.find(at, width), target, "{width} bytes at {at:#x}");

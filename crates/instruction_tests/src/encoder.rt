@@ -1,5 +1,6 @@
 //! Words from an assembler.
-use super::*;
+use rv_asm::{encode, is_valid};
+use rv_decode::decode;
 use std::test::Fail;
 
 #[test]

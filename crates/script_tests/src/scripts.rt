@@ -3,9 +3,9 @@ ghost use Rattle.std.specs.Prelude.{◌≡◌, ◌≤◌, ◌^◌, false, true, 
 ghost use Rattle.std.specs.String.{string_bytes};
 ghost use Rattle.resc_vars.specs.Script.{is_line};
 
-use crate::{Flow, FlowFault, Next};
 use lab_num::Text;
 use resc_read::{Command, LineFault, read_line};
+use resc_vars::{Flow, FlowFault, Next};
 use std::alloc::Global;
 use std::test::Fail;
 
@@ -109,10 +109,7 @@ fn course(alloc: Global, script: &str, file: &str) -> Result<String, Fail> {
     Ok(said)
 }
 
-#[test]
-fn scripts_give_their_lines_in_order(rt: HostRuntime) -> Result<(), Fail> {
-    let alloc = rt.alloc();
-    let usual = ":name: One board
+const USUAL: &str = ":name: One board
 using sysbus
 $name?=\"m0\"
 $bin?=@a.bin
@@ -125,139 +122,149 @@ macro reset
 runMacro $reset
 start
 ";
-    for (script, file, expected) in [
-        (
-            usual,
-            "",
-            "s:2 using sysbus|s:5 mach create \"m0\"|s:11 runMacro $reset|\
-             s:8     sysbus LoadBinary @a.bin 0x80000000|s:9     cpu PC 0x80000000|s:12 start|end",
-        ),
-        // Bodies.
-        ("", "", "end"),
-        ("pause\r\nstart\r", "", "s:1 pause|s:2 start\r|end"),
-        (" \n\t# x\n: y\n\n pause", "", "s:5  pause|end"),
-        (
-            "$a=1\ninclude @f\npause $a",
-            "quit\n$a=2",
-            "s:2 include @f|f:1 quit|s:3 pause 2|end",
-        ),
-        (
-            "include @f\nrunMacro $m",
-            "macro m\"\"\"\npause\n\"\"\"",
-            "s:1 include @f|s:2 runMacro $m|f:2 pause|end",
-        ),
-        (
-            "include @f",
-            "quit\nmacro m\n\"\"\"",
-            "s:1 include @f|f:1 quit|f:2: S17 unclosed",
-        ),
-        ("include @f", "pause $x", "s:1 include @f|f:1: S3 variable"),
-        (
-            "macro m\n\"\"\"\nrunMacro $m\n\"\"\"\nrunMacro $m",
-            "",
-            "s:5 runMacro $m|s:3 runMacro $m|s:3 runMacro $m|s:3 runMacro $m|s:3 runMacro $m|\
-             s:3 runMacro $m|s:3 runMacro $m|s:3 runMacro $m|s:3 runMacro $m|depth",
-        ),
-        (
-            "include @f",
-            "include @f",
-            "s:1 include @f|f:1 include @f|f:1 include @f|f:1 include @f|f:1 include @f|\
-             f:1 include @f|f:1 include @f|f:1 include @f|f:1 include @f|depth",
-        ),
-        // Macros.
-        (
-            "macro m\"\"\" \npause\n \"\"\"\t\nrunMacro $m",
-            "",
-            "s:4 runMacro $m|s:2 pause|end",
-        ),
-        (
-            "macro m \"\"\"\npause\n\"\"\"\nmacro m \"\"\"\nquit\n\"\"\"\nrunMacro $m",
-            "",
-            "s:7 runMacro $m|s:5 quit|end",
-        ),
-        (
-            "macro m\n\"\"\"\n\"\"\"\nrunMacro $m",
-            "",
-            "s:4 runMacro $m|end",
-        ),
-        ("macro m\npause", "", "s:1 macro m|s:2 pause|end"),
-        (
-            "macro m\n\n\"\"\"\n\"\"\"",
-            "",
-            "s:1 macro m|s:3 \"\"\"|s:4 \"\"\"|end",
-        ),
-        ("macro m", "", "s:1: S17 unclosed"),
-        (
-            "pause\nmacro m\n\"\"\"\npause",
-            "",
-            "s:1 pause|s:2: S17 unclosed",
-        ),
-        (
-            "macro m\n\"\"\"\nmacro n\n\"\"\"\n\"\"\"\nrunMacro $m",
-            "",
-            "s:5 \"\"\"|s:6 runMacro $m|s:3: S17 unclosed",
-        ),
-        ("runMacro $m", "", "s:1 runMacro $m|no macro"),
-        ("$m=1\nrunMacro  $m", "", "s:2 runMacro  $m|no macro"),
-        ("runMacro $m extra", "", "s:1 runMacro $m extra|end"),
-        ("$x=1\n runMacro $m\t$x", "", "s:2  runMacro $m\t1|end"),
-        ("runMacro $m $x", "", "s:1: S3 variable"),
-        ("$r=runMacro\n$m=1\n$r $m", "", "s:3 runMacro 1|end"),
-        ("runMacro $1", "", "s:1 runMacro $1|end"),
-        // Variables.
-        ("$a=1\n$a?=2\nmach set $a", "", "s:3 mach set 1|end"),
-        ("$a=1\n$a=2\nmach set $a", "", "s:3 mach set 2|end"),
-        ("$a?=2\nmach\tset   $a ", "", "s:2 mach\tset   2 |end"),
-        ("$a=1\n$a?=$b", "", "s:2: S3 variable"),
-        (
-            "$a=1\n$b=$a\nfoo $b \"$b\" x$b",
-            "",
-            "s:3 foo 1 \"$b\" x$b|end",
-        ),
-        (
-            "$a \t= \"a b\"\n$b =@f\n$c?= $a\nfoo $a $b $c",
-            "",
-            "s:4 foo \"a b\" @f \"a b\"|end",
-        ),
-        ("$x==3\npause $x", "", "s:2 pause =3|end"),
-        ("pause \"$x\n$_9", "", "s:1 pause \"$x|s:2: S3 variable"),
-        ("foo $unset \"bar", "", "s:1: S3 variable"),
-        ("$x ? = 3", "", "s:1: S3 variable"),
-        ("foo $ $1 $a-b", "", "s:1 foo $ $1 $a-b|end"),
-    ] {
+
+/// Each row: a script, a file that it includes, and what they give.
+static SCRIPTS: [(&str, &str, &str); 36] = [
+    (
+        USUAL,
+        "",
+        "s:2 using sysbus|s:5 mach create \"m0\"|s:11 runMacro $reset|\
+         s:8     sysbus LoadBinary @a.bin 0x80000000|s:9     cpu PC 0x80000000|s:12 start|end",
+    ),
+    // Bodies.
+    ("", "", "end"),
+    ("pause\r\nstart\r", "", "s:1 pause|s:2 start\r|end"),
+    (" \n\t# x\n: y\n\n pause", "", "s:5  pause|end"),
+    (
+        "$a=1\ninclude @f\npause $a",
+        "quit\n$a=2",
+        "s:2 include @f|f:1 quit|s:3 pause 2|end",
+    ),
+    (
+        "include @f\nrunMacro $m",
+        "macro m\"\"\"\npause\n\"\"\"",
+        "s:1 include @f|s:2 runMacro $m|f:2 pause|end",
+    ),
+    (
+        "include @f",
+        "quit\nmacro m\n\"\"\"",
+        "s:1 include @f|f:1 quit|f:2: S17 unclosed",
+    ),
+    ("include @f", "pause $x", "s:1 include @f|f:1: S3 variable"),
+    (
+        "macro m\n\"\"\"\nrunMacro $m\n\"\"\"\nrunMacro $m",
+        "",
+        "s:5 runMacro $m|s:3 runMacro $m|s:3 runMacro $m|s:3 runMacro $m|s:3 runMacro $m|\
+         s:3 runMacro $m|s:3 runMacro $m|s:3 runMacro $m|s:3 runMacro $m|depth",
+    ),
+    (
+        "include @f",
+        "include @f",
+        "s:1 include @f|f:1 include @f|f:1 include @f|f:1 include @f|f:1 include @f|\
+         f:1 include @f|f:1 include @f|f:1 include @f|f:1 include @f|depth",
+    ),
+    // Macros.
+    (
+        "macro m\"\"\" \npause\n \"\"\"\t\nrunMacro $m",
+        "",
+        "s:4 runMacro $m|s:2 pause|end",
+    ),
+    (
+        "macro m \"\"\"\npause\n\"\"\"\nmacro m \"\"\"\nquit\n\"\"\"\nrunMacro $m",
+        "",
+        "s:7 runMacro $m|s:5 quit|end",
+    ),
+    (
+        "macro m\n\"\"\"\n\"\"\"\nrunMacro $m",
+        "",
+        "s:4 runMacro $m|end",
+    ),
+    ("macro m\npause", "", "s:1 macro m|s:2 pause|end"),
+    (
+        "macro m\n\n\"\"\"\n\"\"\"",
+        "",
+        "s:1 macro m|s:3 \"\"\"|s:4 \"\"\"|end",
+    ),
+    ("macro m", "", "s:1: S17 unclosed"),
+    (
+        "pause\nmacro m\n\"\"\"\npause",
+        "",
+        "s:1 pause|s:2: S17 unclosed",
+    ),
+    (
+        "macro m\n\"\"\"\nmacro n\n\"\"\"\n\"\"\"\nrunMacro $m",
+        "",
+        "s:5 \"\"\"|s:6 runMacro $m|s:3: S17 unclosed",
+    ),
+    ("runMacro $m", "", "s:1 runMacro $m|no macro"),
+    ("$m=1\nrunMacro  $m", "", "s:2 runMacro  $m|no macro"),
+    ("runMacro $m extra", "", "s:1 runMacro $m extra|end"),
+    ("$x=1\n runMacro $m\t$x", "", "s:2  runMacro $m\t1|end"),
+    ("runMacro $m $x", "", "s:1: S3 variable"),
+    ("$r=runMacro\n$m=1\n$r $m", "", "s:3 runMacro 1|end"),
+    ("runMacro $1", "", "s:1 runMacro $1|end"),
+    // Variables.
+    ("$a=1\n$a?=2\nmach set $a", "", "s:3 mach set 1|end"),
+    ("$a=1\n$a=2\nmach set $a", "", "s:3 mach set 2|end"),
+    ("$a?=2\nmach\tset   $a ", "", "s:2 mach\tset   2 |end"),
+    ("$a=1\n$a?=$b", "", "s:2: S3 variable"),
+    (
+        "$a=1\n$b=$a\nfoo $b \"$b\" x$b",
+        "",
+        "s:3 foo 1 \"$b\" x$b|end",
+    ),
+    (
+        "$a \t= \"a b\"\n$b =@f\n$c?= $a\nfoo $a $b $c",
+        "",
+        "s:4 foo \"a b\" @f \"a b\"|end",
+    ),
+    ("$x==3\npause $x", "", "s:2 pause =3|end"),
+    ("pause \"$x\n$_9", "", "s:1 pause \"$x|s:2: S3 variable"),
+    ("foo $unset \"bar", "", "s:1: S3 variable"),
+    ("$x ? = 3", "", "s:1: S3 variable"),
+    ("foo $ $1 $a-b", "", "s:1 foo $ $1 $a-b|end"),
+];
+
+#[test]
+fn scripts_give_their_lines_in_order(rt: HostRuntime) -> Result<(), Fail> {
+    let alloc = rt.alloc();
+    for (script, file, expected) in SCRIPTS {
         assert_eq!(rt; course(alloc, script, file)?.as_str(), expected);
     }
     Ok(())
 }
 
+/// Each row: a line that is no definition, and its fault.
+static DEFINITIONS: [(&str, LineFault); 23] = [
+    ("macro", LineFault::Arguments),
+    ("macro $x", LineFault::Arguments),
+    ("macro \"\"\"", LineFault::Arguments),
+    ("macro a b", LineFault::Arguments),
+    ("macro a\"\"\"\"", LineFault::Arguments),
+    ("macro 1a \"\"\"", LineFault::Arguments),
+    ("macro a PC", LineFault::Arguments),
+    ("$x=", LineFault::Arguments),
+    ("$x = ", LineFault::Arguments),
+    ("$x == 3", LineFault::Arguments),
+    ("$x=1 2", LineFault::Arguments),
+    ("$x=$nope 2", LineFault::Arguments),
+    ("$x=\"a", LineFault::Arguments),
+    ("$x=a\"b\"", LineFault::Arguments),
+    ("$x=@", LineFault::Arguments),
+    ("$x?=@http://y", LineFault::Arguments),
+    ("$x=@https://y", LineFault::Arguments),
+    ("macro\"\"\"", LineFault::Unknown),
+    ("$1x=3", LineFault::Unknown),
+    ("$=3", LineFault::Unknown),
+    ("$a-b=3", LineFault::Unknown),
+    ("$a$b=3", LineFault::Unknown),
+    ("$x??=3", LineFault::Unknown),
+];
+
 #[test]
 fn definitions_of_another_form_are_wrong_commands(rt: HostRuntime) -> Result<(), Fail> {
     let alloc = rt.alloc();
-    for (line, cause) in [
-        ("macro", LineFault::Arguments),
-        ("macro $x", LineFault::Arguments),
-        ("macro \"\"\"", LineFault::Arguments),
-        ("macro a b", LineFault::Arguments),
-        ("macro a\"\"\"\"", LineFault::Arguments),
-        ("macro 1a \"\"\"", LineFault::Arguments),
-        ("macro a PC", LineFault::Arguments),
-        ("$x=", LineFault::Arguments),
-        ("$x = ", LineFault::Arguments),
-        ("$x == 3", LineFault::Arguments),
-        ("$x=1 2", LineFault::Arguments),
-        ("$x=$nope 2", LineFault::Arguments),
-        ("$x=\"a", LineFault::Arguments),
-        ("$x=a\"b\"", LineFault::Arguments),
-        ("$x=@", LineFault::Arguments),
-        ("$x?=@http://y", LineFault::Arguments),
-        ("$x=@https://y", LineFault::Arguments),
-        ("macro\"\"\"", LineFault::Unknown),
-        ("$1x=3", LineFault::Unknown),
-        ("$=3", LineFault::Unknown),
-        ("$a-b=3", LineFault::Unknown),
-        ("$a$b=3", LineFault::Unknown),
-        ("$x??=3", LineFault::Unknown),
-    ] {
+    for (line, cause) in DEFINITIONS {
         let expected = format!(in alloc; "s:1 {line}|s:2 pause|end")?;
         let script = format!(in alloc; "{line}\npause")?;
         assert_eq!(rt;

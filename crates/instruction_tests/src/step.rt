@@ -1,6 +1,6 @@
 //! Rows from the manuals, run through `step` on a small memory.
-use super::*;
 use memory::Memory;
+use rv_exec::{NoMemory, step};
 use rv_hart::{Hart, HartState, Lines};
 use std::process::Abort;
 

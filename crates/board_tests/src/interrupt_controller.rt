@@ -1,7 +1,7 @@
 //! Tables of the PLIC, through its calls and its registers.
 ghost use Rattle.std.specs.Prelude.{◌<◌};
 
-use crate::{Plic, PlicState};
+use plic::{Plic, PlicState};
 
 #[test]
 fn a_claimed_source_is_claimed_again_once_it_is_completed(rt: HostRuntime) {

@@ -2,22 +2,24 @@
 ghost use Rattle.std.specs.Prelude.{◌≡◌, ◌∷◌, [], IfOk};
 ghost use Rattle.dev_core.specs.declared.kind.Kind.TheVariants.{Uart as uart};
 
-use super::Step::{Arrive, At, Cycles, Go, NoneSent, Register, Reset, Retired, Run, Sent, Speed};
-use super::{BASE, SECOND, Step, UART, named, play_on, region};
+use super::Step::{Arrive, At, Go, NoneSent, Register, Reset, Retired, Run, Sent, Speed};
+use super::{BASE, SECOND, Step, UART, play_on, region};
 use dev_core::{Device, Kind, Taken};
-use lab_num::{Rows, Text};
+use lab_num::Rows;
+use sample_boards::{USUAL_REGIONS, names_of, usual_board};
 use std::alloc::Global;
 use std::test::Fail;
-use sys_bus::{BoardPlan, NamedWhat, PlicSize, RegionKind, Wire, WireFrom, WirePin};
+use sys_bus::{BoardPlan, NamedWhat, RegionKind, Wire, WireFrom, WirePin};
 use uart_16550::Uart;
 
-/// The parts of the board that is usual, and a second UART: name, kind, base and size.
-const PARTS: [(&str, RegionKind, u32, u32); 5] = [
-    ("ram", RegionKind::Ram(0), BASE, 0x1_0000),
-    ("clint", RegionKind::Clint, 0x0200_0000, 0x1_0000),
-    ("plic", RegionKind::Plic, 0x0C00_0000, 0x0400_0000),
-    ("uart", RegionKind::Dev(UART), 0x1000_0000, 0x100),
-    ("other", RegionKind::Dev(SECOND), 0x1000_1000, 0x100),
+/// The names of the usual board, and a second UART.
+const NAMES: [(&str, NamedWhat); 6] = [
+    ("ram", NamedWhat::Part(RegionKind::Ram(0))),
+    ("clint", NamedWhat::Part(RegionKind::Clint)),
+    ("plic", NamedWhat::Part(RegionKind::Plic)),
+    ("uart", NamedWhat::Part(RegionKind::Dev(UART))),
+    ("other", NamedWhat::Part(RegionKind::Dev(SECOND))),
+    ("cpu", NamedWhat::Cpu),
 ];
 
 /// The usual wires.
@@ -60,36 +62,23 @@ const DIRECT: [Wire; 4] = [
     },
 ];
 
-/// The plan of the board, with a timer of a megahertz and 31 sources.
+/// The usual board with a second UART and these wires.
 fn plan(alloc: Global, wires: &[Wire]) -> Result<BoardPlan, Fail>
     ensures { IfOk result (λ plan. plan.kinds ≡ uart ∷ uart ∷ []) }
 {
-    let mut names = Vec::new(alloc);
-    let mut regions = Vec::new(alloc);
-    for (name, kind, base, size) in PARTS {
-        names.push(named(alloc, name, NamedWhat::Part(kind))?)?;
-        regions.push(region(base, size, kind, 1))?;
-    }
-    names.push(named(alloc, "cpu", NamedWhat::Cpu)?)?;
-    Ok(BoardPlan {
-        names: Rows::of(names),
-        regions: Rows::of(regions),
-        memories: Rows::of(vec![in alloc; 0x1_0000]?),
-        kinds: Rows::of(vec![in alloc; Kind::Uart, Kind::Uart]?),
-        frequency: Some(1_000_000),
-        plic: Some(PlicSize {
-            sources: 31,
-            contexts: 1,
-        }),
-        wires: Rows::of(Vec::from_slice(alloc, wires)?),
-        speed: 25,
-        cpu: Text::of(alloc, "cpu")?,
-    })
+    let mut regions = USUAL_REGIONS.to_vec(alloc)?;
+    regions.push(region(0x1000_1000, 0x100, RegionKind::Dev(SECOND), 1))?;
+    let mut plan = usual_board(alloc)?;
+    plan.names = names_of(alloc, &NAMES)?;
+    plan.regions = Rows::of(regions);
+    plan.kinds = Rows::of(vec![in alloc; Kind::Uart, Kind::Uart]?);
+    plan.wires = Rows::of(Vec::from_slice(alloc, wires)?);
+    Ok(plan)
 }
 
 /// lui x6, 0x2004; addi x7, x0, 50; sw x7, 0(x6); sw x0, 4(x6); addi x5, x0, 128;
-/// csrrw x0, mie, x5; wfi; jal x0, 0
-const WAIT: [u32; 8] = [
+/// csrrw x0, mie, x5; wfi; csrrs x6, mcycle, x0; jal x0, 0
+const WAIT: [u32; 9] = [
     0x0200_4337,
     0x0320_0393,
     0x0073_2023,
@@ -97,11 +86,12 @@ const WAIT: [u32; 8] = [
     0x0800_0293,
     0x3042_9073,
     0x1050_0073,
+    0xB000_2373,
     0x0000_006F,
 ];
 
 /// The same with 99 in mtimecmp.
-const WAIT_99: [u32; 8] = [
+const WAIT_99: [u32; 9] = [
     0x0200_4337,
     0x0630_0393,
     0x0073_2023,
@@ -109,11 +99,12 @@ const WAIT_99: [u32; 8] = [
     0x0800_0293,
     0x3042_9073,
     0x1050_0073,
+    0xB000_2373,
     0x0000_006F,
 ];
 
 /// The same with 0.
-const WAIT_0: [u32; 8] = [
+const WAIT_0: [u32; 9] = [
     0x0200_4337,
     0x0000_0393,
     0x0073_2023,
@@ -121,11 +112,12 @@ const WAIT_0: [u32; 8] = [
     0x0800_0293,
     0x3042_9073,
     0x1050_0073,
+    0xB000_2373,
     0x0000_006F,
 ];
 
 /// The same with the high half of mtimecmp as it was.
-const WAIT_LONG: [u32; 8] = [
+const WAIT_LONG: [u32; 9] = [
     0x0200_4337,
     0x0320_0393,
     0x0073_2023,
@@ -133,12 +125,13 @@ const WAIT_LONG: [u32; 8] = [
     0x0800_0293,
     0x3042_9073,
     0x1050_0073,
+    0xB000_2373,
     0x0000_006F,
 ];
 
 /// The wait begins in slot 6 and ends in the first slot of microsecond 50. No interrupt is taken,
-/// since MIE is 0.
-const UNTIL_50: [Step; 9] = [
+/// since MIE is 0. The cycles of the wait are counted.
+const UNTIL_50: [Step; 10] = [
     Speed(2),
     Run(0, 0, 6),
     Retired(6),
@@ -147,7 +140,8 @@ const UNTIL_50: [Step; 9] = [
     At(BASE + 28),
     Run(0, 100, 1),
     Retired(8),
-    At(BASE + 28),
+    At(BASE + 32),
+    Register(6, 100),
 ];
 
 const UNTIL_99: [Step; 5] = [
@@ -160,7 +154,7 @@ const UNTIL_99: [Step; 5] = [
 
 const AT_ONCE: [Step; 5] = [Speed(2), Run(0, 0, 7), Retired(7), Run(0, 7, 1), Retired(8)];
 
-const FOR_EVER: [Step; 4] = [Speed(2), Run(0, 0, 200), Retired(7), Cycles(200)];
+const FOR_EVER: [Step; 3] = [Speed(2), Run(0, 0, 200), Retired(7)];
 
 /// Of three that are pending the external interrupt is taken first, then the software one, then the
 /// timer's. The handler turns off what it was called for, and writes the causes into x10.

@@ -7,13 +7,14 @@ mod counted;
 mod interrupts;
 mod programs;
 
-use crate::{Board, SlotAt, Turn, has_no_cans};
+use board::{Board, SlotAt, Turn, has_no_cans};
 use dev_core::{Device, Entry, Finish, Kind, Payload, Post, Taken, What};
 use lab_num::{BoardNo, Key, Member, Micros, NoMemory, PostNo, Rows, Text};
+use sample_boards::names_of;
 use std::alloc::Global;
 use std::process::Abort;
 use std::test::Fail;
-use sys_bus::{BoardPlan, Named, NamedWhat, Region, RegionKind};
+use sys_bus::{BoardPlan, NamedWhat, Region, RegionKind};
 
 const BASE: u32 = 0x8000_0000;
 
@@ -62,7 +63,6 @@ enum Step {
     Register(u8, u32),
     At(u32),
     Retired(u64),
-    Cycles(u64),
     Holds(u32, u32, bool),
     Word(u32, Option<u32>),
 }
@@ -76,28 +76,14 @@ fn region(base: u32, size: u32, kind: RegionKind, step: u8) -> Region {
     }
 }
 
-fn named(alloc: Global, name: &str, what: NamedWhat) -> Result<Named, NoMemory> {
-    Ok(Named {
-        name: Text::of(alloc, name)?,
-        what,
-    })
-}
-
 /// The names of the parts of a board.
-fn names(alloc: Global) -> Result<Rows<Named>, Fail> {
-    let parts = [
-        ("ram", NamedWhat::Part(RegionKind::Ram(0))),
-        ("high", NamedWhat::Part(RegionKind::Ram(1))),
-        ("uart", NamedWhat::Part(RegionKind::Dev(UART))),
-        ("other", NamedWhat::Part(RegionKind::Dev(SECOND))),
-        ("cpu", NamedWhat::Cpu),
-    ];
-    let mut names = Vec::new(alloc);
-    for (name, what) in parts {
-        names.push(named(alloc, name, what)?)?;
-    }
-    Ok(Rows::of(names))
-}
+const NAMES: [(&str, NamedWhat); 5] = [
+    ("ram", NamedWhat::Part(RegionKind::Ram(0))),
+    ("high", NamedWhat::Part(RegionKind::Ram(1))),
+    ("uart", NamedWhat::Part(RegionKind::Dev(UART))),
+    ("other", NamedWhat::Part(RegionKind::Dev(SECOND))),
+    ("cpu", NamedWhat::Cpu),
+];
 
 /// Memories of 64 KiB and of 4 KiB after it, a UART whose registers are `step` bytes apart, and a
 /// second device.
@@ -111,7 +97,7 @@ fn plan(alloc: Global, step: u8, second: Kind) -> Result<BoardPlan, Fail>
         region(0x0010_0000, 0x1000, RegionKind::Dev(SECOND), 1),
     ];
     Ok(BoardPlan {
-        names: names(alloc)?,
+        names: names_of(alloc, &NAMES)?,
         regions: Rows::of(Vec::from_slice(alloc, &regions)?),
         memories: Rows::of(vec![in alloc; 0x1_0000, 0x1000]?),
         kinds: Rows::of(vec![in alloc; Kind::Uart, second]?),
@@ -274,7 +260,6 @@ fn look<D: Device>(rt: &impl Abort, board: &mut Board<D>, step: Step) {
         }
         Step::At(pc) => assert_eq!(rt; board.pc(), pc),
         Step::Retired(n) => assert_eq!(rt; board.retired(), n),
-        Step::Cycles(n) => assert_eq!(rt; board.cycles(), n),
         Step::Holds(at, count, held) => assert_eq!(rt; board.holds(at, count), held),
         Step::Word(at, word) => assert_eq!(rt; board.load_word(at), word),
         _ => {}

@@ -1,8 +1,8 @@
 //! Texts with the words that another assembler gives, and faulty lines with their causes.
 ghost use Rattle.std.specs.Prelude.{◌≤◌, length};
 
-use super::*;
-use crate::fault::AsmCause;
+use rv_asm::{AsmCause, AsmFault, assemble};
+use std::alloc::Global;
 use std::test::Fail;
 
 #[test]

@@ -1,0 +1,9 @@
+//! Tests of boards, of their plans and of the interrupt controller.
+#![tactic(auto)]
+
+#[cfg(test)]
+mod boards;
+#[cfg(test)]
+mod interrupt_controller;
+#[cfg(test)]
+mod plans;

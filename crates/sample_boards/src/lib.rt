@@ -1,0 +1,11 @@
+//! Boards for the tests of other crates: plans, and a UART that counts its calls.
+#![tactic(auto)]
+
+mod counted;
+mod plans;
+
+pub use counted::CountedUart;
+pub use plans::{
+    MEMORIES, SMALL_KINDS, SMALL_NAMES, SMALL_REGIONS, USUAL_REGIONS, names_of, small_board,
+    usual_board,
+};

@@ -1,0 +1,109 @@
+//! Plans of two boards, and their parts.
+use dev_core::Kind;
+use lab_num::{NoMemory, Rows, Text};
+use std::alloc::Global;
+use sys_bus::{BoardPlan, Named, NamedWhat, PlicSize, Region, RegionKind};
+
+pub const RAM: Region = Region {
+    base: 0x8000_0000,
+    size: 0x1_0000,
+    kind: RegionKind::Ram(0),
+    step: 1,
+};
+
+pub const UART: Region = Region {
+    base: 0x1000_0000,
+    size: 0x100,
+    kind: RegionKind::Dev(0),
+    step: 1,
+};
+
+pub const FINISHER: Region = Region {
+    base: 0x10_0000,
+    size: 0x1000,
+    kind: RegionKind::Dev(1),
+    step: 1,
+};
+
+pub const CLINT: Region = Region {
+    base: 0x200_0000,
+    size: 0x1_0000,
+    kind: RegionKind::Clint,
+    step: 1,
+};
+
+pub const PLIC: Region = Region {
+    base: 0xC00_0000,
+    size: 0x400_0000,
+    kind: RegionKind::Plic,
+    step: 1,
+};
+
+pub const SMALL_NAMES: [(&str, NamedWhat); 4] = [
+    ("ram", NamedWhat::Part(RegionKind::Ram(0))),
+    ("uart", NamedWhat::Part(RegionKind::Dev(0))),
+    ("fin", NamedWhat::Part(RegionKind::Dev(1))),
+    ("cpu", NamedWhat::Cpu),
+];
+
+pub const SMALL_REGIONS: [Region; 3] = [RAM, UART, FINISHER];
+
+pub const SMALL_KINDS: [Kind; 2] = [Kind::Uart, Kind::Finisher];
+
+pub const MEMORIES: [u32; 1] = [0x1_0000];
+
+pub const USUAL_NAMES: [(&str, NamedWhat); 5] = [
+    ("ram", NamedWhat::Part(RegionKind::Ram(0))),
+    ("clint", NamedWhat::Part(RegionKind::Clint)),
+    ("plic", NamedWhat::Part(RegionKind::Plic)),
+    ("uart", NamedWhat::Part(RegionKind::Dev(0))),
+    ("cpu", NamedWhat::Cpu),
+];
+
+pub const USUAL_REGIONS: [Region; 4] = [RAM, CLINT, PLIC, UART];
+
+pub const USUAL_KINDS: [Kind; 1] = [Kind::Uart];
+
+/// The names of the parts of a board.
+pub fn names_of(alloc: Global, names: &[(&str, NamedWhat)]) -> Result<Rows<Named>, NoMemory> {
+    let mut list = Vec::new(alloc);
+    for &(name, what) in names {
+        let name = Text::of(alloc, name)?;
+        list.push(Named { name, what })?;
+    }
+    Ok(Rows::of(list))
+}
+
+/// A board with a memory of 64 KiB, a UART and a finisher, at one instruction a microsecond.
+pub fn small_board(alloc: Global) -> Result<BoardPlan, NoMemory> {
+    Ok(BoardPlan {
+        names: names_of(alloc, &SMALL_NAMES)?,
+        regions: Rows::of(SMALL_REGIONS.to_vec(alloc)?),
+        memories: Rows::of(MEMORIES.to_vec(alloc)?),
+        kinds: Rows::of(SMALL_KINDS.to_vec(alloc)?),
+        frequency: None,
+        plic: None,
+        wires: Rows::of(Vec::new(alloc)),
+        speed: 1,
+        cpu: Text::of(alloc, "cpu")?,
+    })
+}
+
+/// A board with the same memory, a timer of a megahertz, an interrupt controller of 31 sources and a
+/// UART, without wires.
+pub fn usual_board(alloc: Global) -> Result<BoardPlan, NoMemory> {
+    Ok(BoardPlan {
+        names: names_of(alloc, &USUAL_NAMES)?,
+        regions: Rows::of(USUAL_REGIONS.to_vec(alloc)?),
+        memories: Rows::of(MEMORIES.to_vec(alloc)?),
+        kinds: Rows::of(USUAL_KINDS.to_vec(alloc)?),
+        frequency: Some(1_000_000),
+        plic: Some(PlicSize {
+            sources: 31,
+            contexts: 1,
+        }),
+        wires: Rows::of(Vec::new(alloc)),
+        speed: 25,
+        cpu: Text::of(alloc, "cpu")?,
+    })
+}
