@@ -65,8 +65,17 @@ fn ending(alloc: Global, step: &Step) -> Result<String, NoMemory> {
 
 /// All that a script prints, and how it ends.
 fn run(alloc: Global, setting: Setting, script: &str) -> Result<String, NoMemory> {
+    run_on(alloc, setting, script, stock(alloc)?)
+}
+
+/// All that a script prints on boards of these devices, and how it ends.
+fn run_on<D: Device>(
+    alloc: Global,
+    setting: Setting,
+    script: &str,
+    stock: Stock<D>,
+) -> Result<String, NoMemory> {
     let mut files = files(alloc)?;
-    let stock = stock(alloc)?;
     if !stock.is_full() || script.len() > 1000 {
         return Err(NoMemory);
     }
