@@ -1,16 +1,16 @@
 -- Facts of boards as commands meet them.
-use Rattle.std.proofs.Common.{◌≡◌, ℕ, List, [], Option, Some, Result, Ok, false, refl, find}
-use Rattle.std.specs.Option.{ok_or, option_map}
+use Rattle.std.proofs.Common.{◌≡◌, ℕ, List, [], Option, Some, Result, Ok, Bool, true, false, refl, find}
+use Rattle.std.specs.Option.{ForSome, ok_or, option_map}
 use Rattle.std.specs.Str.{bytes_eq}
 use Rattle.sys_bus.specs.declared.plan.BoardPlan.{BoardPlan}
 use Rattle.sys_bus.specs.declared.plan.Named.{Named}
 use Rattle.board.specs.View.{View}
-use Rattle.lab_state.specs.One.{changed}
+use Rattle.lab_state.specs.One.{changed, view_of}
 use Rattle.resc_vars.specs.declared.cause.ScriptCause.{ScriptCause}
 use Rattle.resc_vars.specs.declared.cause.ScriptCause.TheVariants.{Name}
 use Rattle.monitor.specs.Answer.{leaves}
 use Rattle.monitor.specs.Inner.Ruling.{IsBoard, IsOnward}
-use Rattle.monitor.specs.Refusal.{◌>>=◌}
+use Rattle.monitor.specs.Refusal.{◌>>=◌, require}
 use Rattle.monitor.specs.Selected.{Equipped, entry, entry_name, with_board}
 use Rattle.monitor.specs.Step.{Running}
 
@@ -33,3 +33,16 @@ pub changed_rules :
     × IsOnward old new
 changed_rules old new meant b f text unspent is same none =
     rw (same, none, is.on) (refl, record { spent = unspent; ended = refl; flow = refl; kept = refl })
+
+-- a command has changed the selected board, of which it asks something
+pub tested_rules :
+    (old new : Running) (meant : Result Equipped ScriptCause) (b : ℕ) (test : View → Bool) (cause : ScriptCause)
+    (f : View → View) (text : List ℕ) → old.spent ≡ false → IsBoard old.state meant b →
+    ForSome (view_of old.state.lab b) (λ v. test v ≡ true) →
+    new ≡ record old { state = record old.state { lab = changed old.state.lab b f } } → text ≡ [] →
+    ((meant >>= λ on. require (test on.view) cause >>= λ is. Ok (leaves (with_board old.state on f)))
+    ≡ Ok (record { text = text; state = new.state }))
+    × IsOnward old new
+tested_rules old new meant b test cause f text unspent is passes same none =
+    rw (same, none, is.on, passes is.view is.seen)
+    (refl, record { spent = unspent; ended = refl; flow = refl; kept = refl })

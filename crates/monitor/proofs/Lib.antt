@@ -1,5 +1,9 @@
-pub mod Within
+pub mod BoardLemmas
+pub mod Entered
+pub mod Equipping
+pub mod MachineNames
+pub mod MemoryLemmas
 pub mod Ruled
 pub mod Steps
-pub mod MachineNames
-pub mod BoardLemmas
+pub mod Texts
+pub mod Within

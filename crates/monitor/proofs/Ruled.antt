@@ -1,6 +1,6 @@
 -- How a command is carried out that is ruled as its definition says.
 use Rattle.std.proofs.Common.{◌≡◌, ◌∙◌, ℕ, ◌<◌, ◌≤◌, List, [], ◌∷◌, length, Option, Some, None, Result, Ok, Err, Vec}
-use Rattle.std.proofs.Common.{refl, sym, ap, absurd, nat_lt, true, false, Bool, cond, append-nil, arith}
+use Rattle.std.proofs.Common.{refl, sym, ap, nat_lt, true, false, Bool, cond, append-nil, arith}
 use Rattle.std.specs.Prelude.{IfSome, IsSomeAnd}
 use Rattle.std.specs.Global.{Global}
 use Rattle.std.proofs.lemmas.Bool.Decides.{nat_tests}
@@ -68,6 +68,16 @@ ruled_leaves ruling (Err (Line cause)) old new is = is.1
 ruled_leaves ruling (Err (File fault)) old new is = absurd is
 ruled_leaves ruling (Err Unread) old new is = absurd is
 ruled_leaves ruling (Err Memory) old new is = is
+
+pub ruled_read :
+    (ruling : Result Done ScriptCause) (result : Result (Vec ℕ Global) Stop) (old new : Running) →
+    IsRuled ruling result old new → result ≡ Err Unread → ⊥
+ruled_read ruling (Ok text) old new is same = cc same
+ruled_read ruling (Err Quit) old new is same = cc same
+ruled_read ruling (Err (Line cause)) old new is same = cc same
+ruled_read ruling (Err (File fault)) old new is same = cc same
+ruled_read ruling (Err Unread) old new is same = is
+ruled_read ruling (Err Memory) old new is same = cc same
 
 too_large :
     (place : Place) (content : Option (List ℕ)) (use_ : List ℕ → Answer) →

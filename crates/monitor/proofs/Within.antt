@@ -205,8 +205,11 @@ all_good line =
       (λ cpu line. good_processor number command.Pc cpu line (λ name. tt) (λ name word x is. tt)),
       (
         (λ cpu line. good_processor truth command.Halted cpu line (λ name. tt) (λ name word x is. tt)),
-        ((λ cpu line. good_processor speed command.Mips cpu line (λ name. tt)
-        (λ name word x is. speed_is (number word) x is)), tt),
+        (
+          (λ cpu line. good_processor speed command.Mips cpu line (λ name. tt)
+              (λ name word x is. speed_is (number word) x is)),
+          tt,
+        ),
       ),
     )
     (word_good line)

@@ -1,0 +1,70 @@
+-- What comes of a body that a command enters.
+use Rattle.std.proofs.Common.{◌≡◌, ◌∙◌, ℕ, ◌<◌, ◌≤◌, nat_lt, Bool, true, false, cond, List, [], ◌∷◌, length, Option, None, Some}
+use Rattle.std.proofs.Common.{Result, Ok, Err, Vec, String, string_bytes, refl, sym, ap, append-nil, arith}
+use Rattle.std.specs.FinMap.{get}
+use Rattle.std.specs.Global.{Global}
+use Rattle.std.specs.Str.{is_utf8}
+use Rattle.std.proofs.lemmas.Bool.Decides.{nat_tests}
+use Rattle.lab_io.specs.Held.{Held}
+use Rattle.lab_io.specs.Known.{grown}
+use Rattle.resc_vars.specs.declared.answer.FlowFault.{FlowFault}
+use Rattle.resc_vars.specs.declared.answer.FlowFault.TheVariants as flow_fault
+use Rattle.resc_vars.specs.declared.cause.ScriptCause.TheVariants.{Depth}
+use Rattle.resc_vars.specs.Bodies.{Leaves, enter, source_of, depth_limit}
+use Rattle.resc_vars.specs.Script as script
+use Rattle.monitor.specs.declared.stop.Stop.{Stop}
+use Rattle.monitor.specs.declared.stop.Stop.TheVariants.{Quit, Line, File, Unread, Memory}
+use Rattle.monitor.specs.Answer.{Goes, Did, answer_at, with_file}
+use Rattle.monitor.specs.Bodies.{entered, include, include_bytes}
+use Rattle.monitor.specs.State.{State, Place}
+use Rattle.monitor.specs.Step.{Running}
+use Rattle.monitor.specs.Inner.Ruling.{IsCarried, IsRuled, IsText, flow_stop}
+use Rattle.monitor.proofs.Ruled.{fits, grown_by_none}
+
+-- fewer than 8 bodies are open
+pub include_reads :
+    (held : Held) (s : State) (place : Place) (path : List ℕ) → length s.flow.outer < 8 →
+    include held s place path
+    ≡ record { names = path ∷ []; answer = with_file place (get held path) (include_bytes s place path) }
+include_reads held s place path room =
+    let yes : nat_lt (length s.flow.outer) depth_limit ≡ true = grind (arith, nat_tests) in rw yes refl
+
+-- a file that was read is no text
+pub text_stops :
+    (did : Did) (s after : State) (place : Place) (path bytes : List ℕ) (stop : Stop)
+    (log log' : Option (List (List ℕ))) →
+    did.names ≡ path ∷ [] → did.answer ≡ include_bytes s place path bytes → log' ≡ grown log (path ∷ []) →
+    IsText path bytes (Err stop) → IsCarried did place (Err stop) after log log'
+text_stops did s after place path bytes Quit log log' names answer asked is = absurd is
+text_stops did s after place path bytes (Line cause) log log' names answer asked is = absurd is
+text_stops did s after place path bytes (File fault) log log' names answer asked is =
+    (answer ∙ rw (is.0, is.1) refl, rw names asked)
+text_stops did s after place path bytes Unread log log' names answer asked is = absurd is
+text_stops did s after place path bytes Memory log log' names answer asked is =
+    record { passed = path ∷ []; coming = []; all = names; asked = asked }
+
+-- a file that was read is this text
+pub text_goes :
+    (s : State) (place : Place) (path bytes : List ℕ) (text : String Global) → IsText path bytes (Ok text) →
+    include_bytes s place path bytes
+    ≡ answer_at place (entered s (enter s.flow (source_of path (string_bytes text))))
+text_goes s place path bytes text is = rw (is.0, is.1) refl
+
+-- a file was read, is a text and is entered
+pub include_goes :
+    (held : Held) (s : State) (place : Place) (path bytes : List ℕ) (text : String Global) (flow : script.State)
+    (printed : List ℕ) (log log' : Option (List (List ℕ))) →
+    length s.flow.outer < 8 → get held path ≡ Some bytes → length bytes ≤ 16777216 → log' ≡ grown log (path ∷ []) →
+    IsText path bytes (Ok text) → enter s.flow (source_of path (string_bytes text)) ≡ Ok flow → printed ≡ [] →
+    ((include held s place path).answer ≡ Goes printed (record s { flow = flow }))
+    × (log' ≡ grown log (include held s place path).names)
+include_goes held s place path bytes text flow printed log log' room there few asked is goes none =
+    let reads = include_reads held s place path room in (
+      ap (λ (d : Did). d.answer) reads
+          ∙ ap (λ content. with_file place content (include_bytes s place path)) there
+          ∙ fits place bytes (include_bytes s place path) few
+          ∙ text_goes s place path bytes text is
+          ∙ ap (λ said. answer_at place (entered s said)) goes
+          ∙ ap (λ printed. Goes printed (record s { flow = flow })) (sym none),
+      asked ∙ ap (λ (d : Did). grown log d.names) (sym reads),
+    )

@@ -1,0 +1,36 @@
+use Rattle.std.proofs.lemmas.Result.{err_from_is_err_and}
+use Rattle.monitor.specs.Memory.{write_bytes}
+use Rattle.monitor.proofs.MemoryLemmas.{binary_goes, binary_stops, never_unread}
+use Rattle.monitor.proofs.Ruled.{ruled_leaves}
+use Rattle.monitor.proofs.monitor.Monitor.load_binary.Goals as goal
+
+pub returns-in_err-bytes-clause-carried : goal.returns-in_err-bytes-clause-carried
+returns-in_err-bytes-clause-carried g c = λ place held told.
+    let exit = err_from_is_err_and c.from_residual-in_err-bytes.result c.from_residual-in_err-bytes.ensures.1 in
+    rw (exit.1, exit.2)
+    (binary_stops held c.args.self.now.state place c.args.path.now c.args.at c.in_ok-b.b.0 c.in_err-bytes.field-0.0
+    c.args.self.now.state (g.F.Files.asked c.args.files.now) (g.F.Files.asked c.read_file.new.files)
+    c.in_ok-b.ensures.ok (c.in_err-bytes.ensures.read held told))
+
+pub returns-clause-carried : goal.returns-clause-carried
+returns-clause-carried g c = λ place held told.
+    let read = c.in_ok-bytes.ensures.read held told in
+    binary_goes held c.args.self.now.state place c.args.path.now c.args.at c.in_ok-b.b.0 c.deref.result.now
+    c.write_bytes.result c.args.self.now c.write_bytes.new.self
+    (g.F.Files.asked c.args.files.now) (g.F.Files.asked c.read_file.new.files)
+    c.in_ok-b.ensures.ok (rw c.deref.ensures.value read.0) (rw c.deref.ensures.value c.in_ok-bytes.ensures.few) read.1
+    c.write_bytes.ensures
+
+pub returns-clause-leaves : goal.returns-clause-leaves
+returns-clause-leaves g c =
+    let on = c.in_ok-b.ensures.ok in
+    ruled_leaves
+    (write_bytes c.args.self.now.state (record { number = c.in_ok-b.b.0; view = on.view }) c.args.at c.deref.result.now)
+    c.write_bytes.result c.args.self.now c.write_bytes.new.self (c.write_bytes.ensures on.view on.seen)
+
+pub returns-clause-unread : goal.returns-clause-unread
+returns-clause-unread g c = λ unread.
+    let on = c.in_ok-b.ensures.ok in
+    absurd (never_unread
+    (write_bytes c.args.self.now.state (record { number = c.in_ok-b.b.0; view = on.view }) c.args.at c.deref.result.now)
+    c.write_bytes.result c.args.self.now c.write_bytes.new.self (c.write_bytes.ensures on.view on.seen) unread)
