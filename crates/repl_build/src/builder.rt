@@ -52,6 +52,3 @@ pub fn build(alloc: Global, entries: Vec<Entry>) -> Result<BoardPlan, PlatFault>
 {
     plan_or_fault(alloc, &entries)
 }
-
-#[cfg(test)]
-mod tests;

@@ -246,6 +246,3 @@ fn keep(number: u32, entry: Entry, all: &mut Loaded) -> Result<(), LoadFault>
     })?;
     Ok(())
 }
-
-#[cfg(test)]
-mod tests;

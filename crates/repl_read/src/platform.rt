@@ -170,6 +170,3 @@ pub fn read_platform(alloc: Global, text: &str) -> Result<Vec<Entry>, PlatFault>
     let lines = token_lines(alloc, text.as_str())?;
     entries_of(alloc, &lines)
 }
-
-#[cfg(test)]
-mod tests;

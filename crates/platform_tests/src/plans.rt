@@ -1,12 +1,13 @@
 //! Platform texts and what is built of them.
-use super::*;
+use crate::samples::{ONE_BOARD, USUAL_BOARD};
 use dev_core::Kind;
-use repl_read::{PlatCause, read_platform};
-use std::alloc::AllocError;
+use repl_build::build;
+use repl_read::{PlatCause, PlatFault, read_platform};
+use std::alloc::{AllocError, Global};
 use std::fmt::Write;
 use std::process::Abort;
 use std::test::Fail;
-use sys_bus::{Named, NamedWhat, Region, RegionKind, Wire, WireFrom, WirePin};
+use sys_bus::{BoardPlan, Named, NamedWhat, Region, RegionKind, Wire, WireFrom, WirePin};
 
 fn show_part(out: &mut String, part: RegionKind) -> Result<(), AllocError> {
     match part {
@@ -157,34 +158,6 @@ fn wiring(alloc: Global, text: &str) -> Result<String, AllocError> {
     }
     Ok(out)
 }
-
-const ONE_BOARD: &str = "\
-ram: Memory.MappedMemory @ sysbus 0x80000000
-    size: 0x10000
-uart: UART.NS16550 @ sysbus 0x10000000
-fin: Miscellaneous.SiFiveTest @ sysbus 0x100000
-cpu: CPU.RiscV32 @ sysbus
-    cpuType: \"rv32im\"
-    PerformanceInMips: 1
-";
-
-const USUAL_BOARD: &str = "\
-// a usual board
-ram: Memory.MappedMemory @ sysbus 0x80000000 { size: 0x10000 }
-clint: IRQControllers.CoreLevelInterruptor @ sysbus 0x2000000
-    frequency: 1000000
-    [0,1] -> cpu@[3,7]
-plic: IRQControllers.PlatformLevelInterruptController @ sysbus 0xC000000
-    numberOfSources: 31
-    0 -> cpu@11
-uart: UART.NS16550 @ sysbus <0x10000000, +0x100>
-    -> plic@10
-cpu: CPU.RiscV32 @ sysbus
-    cpuType: \"rv32im\"
-    timeProvider: clint
-cpu:
-    PerformanceInMips: 25
-";
 
 /// Each row: a text, and what is built of it.
 static WHOLE: [(&str, &str); 2] = [
@@ -734,70 +707,71 @@ fn joined(alloc: Global, front: &str, behind: &str) -> Result<String, AllocError
     Ok(text)
 }
 
-/// Lines behind those of a memory and a processor are refused for this fault, or accepted.
-fn assert_outcome(rt: &impl Abort, alloc: Global, lines: &str, expected: &str) -> Result<(), Fail> {
-    let text = joined(alloc, SMALL, lines)?;
-    let made = outcome(alloc, text.as_str())?;
-    assert_eq!(rt; made.as_str(), expected, "{lines}");
-    Ok(())
-}
-
-#[test]
-fn whole_platforms_are_built(rt: HostRuntime) -> Result<(), Fail> {
-    for (text, expected) in WHOLE {
-        let made = building(rt.alloc(), text)?;
+/// What is built of each row's text is what stands beside it.
+fn assert_plans(rt: &impl Abort, alloc: Global, rows: &[(&str, &str)]) -> Result<(), Fail> {
+    for &(text, expected) in rows {
+        let made = building(alloc, text)?;
         assert_eq!(rt; made.as_str(), expected);
     }
     Ok(())
 }
 
-#[test]
-fn names_types_and_attributes_are_judged(rt: HostRuntime) -> Result<(), Fail> {
-    for (lines, expected) in NAMES_AND_TYPES {
-        assert_outcome(&rt, rt.alloc(), lines, expected)?;
+/// Each row's lines, behind those of a board, are refused for the fault beside them, or accepted.
+fn assert_outcomes(
+    rt: &impl Abort,
+    alloc: Global,
+    board: &str,
+    rows: &[(&str, &str)],
+) -> Result<(), Fail> {
+    for &(lines, expected) in rows {
+        let text = joined(alloc, board, lines)?;
+        let made = outcome(alloc, text.as_str())?;
+        assert_eq!(rt; made.as_str(), expected, "{lines}");
     }
     Ok(())
 }
 
-#[test]
-fn what_is_missing_and_values_are_judged(rt: HostRuntime) -> Result<(), Fail> {
-    for (lines, expected) in MISSING_AND_VALUES {
-        assert_outcome(&rt, rt.alloc(), lines, expected)?;
-    }
-    Ok(())
-}
-
-#[test]
-fn values_of_devices_are_judged(rt: HostRuntime) -> Result<(), Fail> {
-    for (lines, expected) in DEVICE_VALUES {
-        assert_outcome(&rt, rt.alloc(), lines, expected)?;
-    }
-    Ok(())
-}
-
-#[test]
-fn counts_and_places_are_judged(rt: HostRuntime) -> Result<(), Fail> {
-    for (lines, expected) in COUNTS_AND_PLACES {
-        assert_outcome(&rt, rt.alloc(), lines, expected)?;
-    }
-    Ok(())
-}
-
-#[test]
-fn wires_lead_as_they_are_written(rt: HostRuntime) -> Result<(), Fail> {
-    for (lines, expected) in WIRES {
-        let text = joined(rt.alloc(), FULL, lines)?;
-        let made = wiring(rt.alloc(), text.as_str())?;
+/// Each row's lines, behind those of a whole board, make the wires beside them, or are refused.
+fn assert_wires(rt: &impl Abort, alloc: Global, rows: &[(&str, &str)]) -> Result<(), Fail> {
+    for &(lines, expected) in rows {
+        let text = joined(alloc, FULL, lines)?;
+        let made = wiring(alloc, text.as_str())?;
         assert_eq!(rt; made.as_str().trim_end(), expected, "{lines}");
     }
     Ok(())
 }
 
 #[test]
+fn whole_platforms_are_built(rt: HostRuntime) -> Result<(), Fail> {
+    assert_plans(&rt, rt.alloc(), &WHOLE)
+}
+
+#[test]
+fn names_types_and_attributes_are_judged(rt: HostRuntime) -> Result<(), Fail> {
+    assert_outcomes(&rt, rt.alloc(), SMALL, &NAMES_AND_TYPES)
+}
+
+#[test]
+fn what_is_missing_and_values_are_judged(rt: HostRuntime) -> Result<(), Fail> {
+    assert_outcomes(&rt, rt.alloc(), SMALL, &MISSING_AND_VALUES)
+}
+
+#[test]
+fn values_of_devices_are_judged(rt: HostRuntime) -> Result<(), Fail> {
+    assert_outcomes(&rt, rt.alloc(), SMALL, &DEVICE_VALUES)
+}
+
+#[test]
+fn counts_and_places_are_judged(rt: HostRuntime) -> Result<(), Fail> {
+    assert_outcomes(&rt, rt.alloc(), SMALL, &COUNTS_AND_PLACES)
+}
+
+#[test]
+fn wires_lead_as_they_are_written(rt: HostRuntime) -> Result<(), Fail> {
+    assert_wires(&rt, rt.alloc(), &WIRES)
+}
+
+#[test]
 fn platforms_without_their_parts_are_refused(rt: HostRuntime) -> Result<(), Fail> {
-    for (text, expected) in BARE {
-        let made = outcome(rt.alloc(), text)?;
-        assert_eq!(rt; made.as_str(), expected);
-    }
-    Ok(())
+    assert_outcomes(&rt, rt.alloc(), "", &BARE)
 }

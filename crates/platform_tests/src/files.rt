@@ -1,8 +1,7 @@
 //! Files in memory, and what is loaded of them.
-use super::*;
-use crate::fault::FileFault;
 use lab_io::MemFiles;
-use std::alloc::AllocError;
+use repl_files::{FileFault, LoadFault, Loaded, load_platform};
+use std::alloc::{AllocError, Global};
 use std::fmt::Write;
 use std::test::Fail;
 
@@ -87,11 +86,17 @@ fn put_many(alloc: Global, files: &mut MemFiles) -> Result<(), AllocError> {
     Ok(())
 }
 
-fn library(alloc: Global) -> Result<MemFiles, AllocError> {
-    let mut files = MemFiles::new(alloc);
-    for (name, text) in FILES {
+/// Puts these files.
+fn put_all(files: &mut MemFiles, rows: &[(&str, &[u8])]) -> Result<(), AllocError> {
+    for &(name, text) in rows {
         files.put(name, text)?;
     }
+    Ok(())
+}
+
+fn library(alloc: Global) -> Result<MemFiles, AllocError> {
+    let mut files = MemFiles::new(alloc);
+    put_all(&mut files, &FILES)?;
     put_many(alloc, &mut files)?;
     let mut bytes = Vec::new(alloc);
     bytes.resize(16_777_216, 0xff)?;
@@ -150,7 +155,7 @@ static ROWS: [(u8, &str, &str); 34] = [
 fn files_are_loaded_in_the_order_of_their_texts(rt: HostRuntime) -> Result<(), Fail> {
     let alloc = rt.alloc();
     let mut files = library(alloc)?;
-    for (bodies, name, expected) in ROWS {
+    for &(bodies, name, expected) in &ROWS {
         assert_eq!(rt;
             loading(alloc, &mut files, bodies, name)?.as_str(),
             expected
@@ -159,25 +164,26 @@ fn files_are_loaded_in_the_order_of_their_texts(rt: HostRuntime) -> Result<(), F
     Ok(())
 }
 
+/// Each row: the call of the files that fails, a file, and what is loaded of it.
+static FAILURES: [(u64, &str, &str); 10] = [
+    (0, "leaf", "unread"),
+    (0, "deep", "unread"),
+    (1, "deep", "unread"),
+    (2, "deep", "unread"),
+    (3, "deep", "unread"),
+    (2, "absent_and_large", "unread"),
+    (1, "form_below", "unread"),
+    (2, "form_below", "form:2 Platform(Form)"),
+    (1, "form_behind", "form_behind:2 Platform(Form)"),
+    (4, "pair", "2 files, 0 pair:1, 1 leaf:2, 0 pair:3"),
+];
+
 #[test]
 fn a_read_that_fails_ends_the_loading(rt: HostRuntime) -> Result<(), Fail> {
     let alloc = rt.alloc();
-    for (call, name, expected) in [
-        (0, "leaf", "unread"),
-        (0, "deep", "unread"),
-        (1, "deep", "unread"),
-        (2, "deep", "unread"),
-        (3, "deep", "unread"),
-        (2, "absent_and_large", "unread"),
-        (1, "form_below", "unread"),
-        (2, "form_below", "form:2 Platform(Form)"),
-        (1, "form_behind", "form_behind:2 Platform(Form)"),
-        (4, "pair", "2 files, 0 pair:1, 1 leaf:2, 0 pair:3"),
-    ] {
+    for &(call, name, expected) in &FAILURES {
         let mut files = MemFiles::new(alloc);
-        for (name, text) in FILES {
-            files.put(name, text)?;
-        }
+        put_all(&mut files, &FILES)?;
         files.fail_at(call)?;
         assert_eq!(rt; loading(alloc, &mut files, 0, name)?.as_str(), expected);
     }

@@ -1,9 +1,11 @@
 //! Texts and what is read of them, from the forms of the format.
-use super::*;
-use crate::entry::{Ends, Place, Value};
-use crate::fault::PlatCause;
+use crate::samples::{ONE_BOARD, USUAL_BOARD};
+use repl_read::{
+    Ends, Entry, Head, Item, ItemWhat, Place, PlatCause, PlatFault, Value, read_platform,
+};
 use std::alloc::{AllocError, Global};
 use std::fmt::Write;
+use std::process::Abort;
 use std::test::Fail;
 
 fn show_place(out: &mut String, at: Place) -> Result<(), AllocError> {
@@ -110,33 +112,13 @@ fn reading(alloc: Global, text: &str) -> Result<String, AllocError> {
     Ok(out)
 }
 
-const ONE_BOARD: &str = "\
-ram: Memory.MappedMemory @ sysbus 0x80000000
-    size: 0x10000
-uart: UART.NS16550 @ sysbus 0x10000000
-fin: Miscellaneous.SiFiveTest @ sysbus 0x100000
-cpu: CPU.RiscV32 @ sysbus
-    cpuType: \"rv32im\"
-    PerformanceInMips: 1
-";
-
-const USUAL_BOARD: &str = "\
-// a usual board
-ram: Memory.MappedMemory @ sysbus 0x80000000 { size: 0x10000 }
-clint: IRQControllers.CoreLevelInterruptor @ sysbus 0x2000000
-    frequency: 1000000
-    [0,1] -> cpu@[3,7]
-plic: IRQControllers.PlatformLevelInterruptController @ sysbus 0xC000000
-    numberOfSources: 31
-    0 -> cpu@11
-uart: UART.NS16550 @ sysbus <0x10000000, +0x100>
-    -> plic@10
-cpu: CPU.RiscV32 @ sysbus
-    cpuType: \"rv32im\"
-    timeProvider: clint
-cpu:
-    PerformanceInMips: 25
-";
+/// What is read of each row's text is what stands beside it.
+fn assert_readings(rt: &impl Abort, alloc: Global, rows: &[(&str, &str)]) -> Result<(), Fail> {
+    for &(text, expected) in rows {
+        assert_eq!(rt; reading(alloc, text)?.as_str(), expected);
+    }
+    Ok(())
+}
 
 static BOARDS: [(&str, &str); 34] = [
     (
@@ -238,10 +220,7 @@ static BOARDS: [(&str, &str); 34] = [
 
 #[test]
 fn boards_are_read_as_their_entries(rt: HostRuntime) -> Result<(), Fail> {
-    for (text, expected) in BOARDS {
-        assert_eq!(rt; reading(rt.alloc(), text)?.as_str(), expected);
-    }
-    Ok(())
+    assert_readings(&rt, rt.alloc(), &BOARDS)
 }
 
 static FORMS: [(&str, &str); 77] = [
@@ -332,10 +311,7 @@ static FORMS: [(&str, &str); 77] = [
 
 #[test]
 fn other_forms_are_faults_at_their_lines(rt: HostRuntime) -> Result<(), Fail> {
-    for (text, expected) in FORMS {
-        assert_eq!(rt; reading(rt.alloc(), text)?.as_str(), expected);
-    }
-    Ok(())
+    assert_readings(&rt, rt.alloc(), &FORMS)
 }
 
 static FEATURES: [(&str, &str); 29] = [
@@ -374,8 +350,5 @@ static FEATURES: [(&str, &str); 29] = [
 
 #[test]
 fn features_left_out_come_first_on_their_lines(rt: HostRuntime) -> Result<(), Fail> {
-    for (text, expected) in FEATURES {
-        assert_eq!(rt; reading(rt.alloc(), text)?.as_str(), expected);
-    }
-    Ok(())
+    assert_readings(&rt, rt.alloc(), &FEATURES)
 }
