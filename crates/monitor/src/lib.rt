@@ -20,6 +20,3 @@ pub use fault::{Cause, ScriptFault};
 pub use monitor::Monitor;
 pub use setting::Setting;
 pub use step::Step;
-
-#[cfg(test)]
-mod tests;
