@@ -71,7 +71,9 @@ machine_rows =
 -- commands for memory
 abbrev pub memory_rows : List Row
 memory_rows =
+    row (Two (codes "sysbus") (codes "LoadELF")) (one path commands.LoadElf) ∷
     row (Two (codes "sysbus") (codes "LoadBinary")) (two path number commands.LoadBinary) ∷
+    row (Two (codes "sysbus") (codes "LoadHEX")) (one path commands.LoadHex) ∷
     row (Two (codes "sysbus") (codes "ReadDoubleWord")) (one number commands.ReadWord) ∷
     row (Two (codes "sysbus") (codes "WriteDoubleWord")) (two number number commands.WriteWord) ∷
     []
