@@ -10,7 +10,7 @@ fn answer(alloc: Global, line: &str) -> Result<String, Fail> {
 }
 
 /// Each row: a line, and the command that it asks for.
-static COMMANDS: [(&str, &str); 66] = [
+static COMMANDS: [(&str, &str); 69] = [
     ("mach create", "Ok(Create { name: None })"),
     (
         "mach create m0",
@@ -53,6 +53,18 @@ static COMMANDS: [(&str, &str); 66] = [
     (
         "sysbus LoadBinary @f 4096",
         "Ok(LoadBinary { path: Text { text: \"f\" }, at: 4096 })",
+    ),
+    (
+        "sysbus LoadELF @dir/f.elf",
+        "Ok(LoadElf { path: Text { text: \"dir/f.elf\" } })",
+    ),
+    (
+        "sysbus LoadHEX @f",
+        "Ok(LoadHex { path: Text { text: \"f\" } })",
+    ),
+    (
+        "sysbus\tLoadHEX  @0x4",
+        "Ok(LoadHex { path: Text { text: \"0x4\" } })",
     ),
     ("sysbus ReadDoubleWord 0", "Ok(ReadWord { at: 0 })"),
     (
@@ -283,8 +295,8 @@ static UNKNOWN: [&str; 37] = [
     "pause\u{c}",
     "pause\r",
     "pause\u{a0}",
-    "sysbus LoadELF @f",
-    "sysbus LoadHEX @f",
+    "sysbus LoadElf @f",
+    "sysbus LoadHex @f",
     "emulation CreateCANHub \"n\"",
 ];
 
@@ -297,7 +309,7 @@ fn first_words_that_are_no_command_come_before_all_else(rt: HostRuntime) {
 }
 
 /// Lines about boards, memory and processors with a wrong number, sort or range of words.
-static BOARDS: [&str; 54] = [
+static BOARDS: [&str; 59] = [
     "mach create \"x",
     "mach create \"x y",
     "mach create a b",
@@ -325,6 +337,11 @@ static BOARDS: [&str; 54] = [
     "sysbus LoadBinary @f 4294967296",
     "sysbus LoadBinary @f 0 0",
     "sysbus LoadBinary f 0",
+    "sysbus LoadELF",
+    "sysbus LoadELF f",
+    "sysbus LoadELF @f 0",
+    "sysbus LoadHEX \"f\"",
+    "sysbus LoadHEX @f 0x80000000",
     "sysbus ReadDoubleWord",
     "sysbus ReadDoubleWord \"0x0\"",
     "sysbus ReadDoubleWord 0X1",
