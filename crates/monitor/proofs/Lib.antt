@@ -1,6 +1,7 @@
 pub mod BoardLemmas
 pub mod Entered
 pub mod Equipping
+pub mod ImageLemmas
 pub mod MachineNames
 pub mod MemoryLemmas
 pub mod Ruled

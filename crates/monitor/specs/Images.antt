@@ -1,8 +1,8 @@
 -- Commands that load images.
-use Rattle.std.specs.Prelude.{◌≡◌, ℕ, ◌+◌, ◌%◌, ◌^◌, ◌<◌, ◌==◌, ◌&&◌, nat_le, nat_lt, Bool, true, List, [], ◌∷◌, length}
+use Rattle.std.specs.Prelude.{◌≡◌, ℕ, ◌+◌, ◌%◌, ◌^◌, ◌<◌, ◌==◌, ◌&&◌, nat_le, nat_lt, Bool, true, List, length}
 use Rattle.std.specs.Prelude.{Option, None, Some, Result, Ok, Err}
 use Rattle.std.specs.FinMap.{get}
-use Rattle.std.specs.List.{list_all, slice_get}
+use Rattle.std.specs.List.{fold, list_all, slice_get}
 use Rattle.elf_load.specs.declared.image.Image.{Image}
 use Rattle.elf_load.specs.declared.image.Part.{Part}
 use Rattle.elf_load.specs.Image as elf
@@ -44,8 +44,7 @@ with_part v part = with_bytes v part.at (contents part)
 
 -- a board with the parts of an image in its memories, one after another
 abbrev pub with_parts : View → List Part → View
-with_parts v [] = v
-with_parts v (part ∷ later) = with_parts (with_part v part) later
+with_parts v parts = fold with_part v parts
 
 -- a board that goes on at the entry, if there is one
 abbrev pub with_entry : View → Option ℕ → View
