@@ -102,8 +102,8 @@ static TWO: [u32; 32] = [
 /// A word at a place of a file.
 type Word = (usize, u32);
 
-/// Changes nothing.
-const SAME: Word = (0, 0x464C_457F);
+/// Changes nothing: no word stands at this place.
+const SAME: Word = (1, 0);
 
 /// The bytes of a file's words, of which two are other ones.
 fn file_of(

@@ -6,4 +6,14 @@ mod bench;
 #[cfg(test)]
 mod images;
 #[cfg(test)]
+mod limits;
+#[cfg(test)]
+mod outside;
+#[cfg(test)]
+mod platforms;
+#[cfg(test)]
 mod programs;
+#[cfg(test)]
+mod refusals;
+#[cfg(test)]
+mod rows;

@@ -44,3 +44,14 @@ returns-then-begins-5 c =
       sym c.begins-else-begins-4.ensures ∙ c.if-begins-5.true,
       sym c.words_from-after.ensures,
     ) c.write_word.ensures
+
+pub returns-else-begins-5 : goal.returns-else-begins-5
+unfolding by_memory_rows
+returns-else-begins-5 c =
+    rw (
+      sym c.begins.ensures ∙ c.if-begins.false,
+      sym c.begins-else-begins.ensures ∙ c.if-begins-2.false,
+      sym c.begins-else-begins-2.ensures ∙ c.if-begins-3.false,
+      sym c.begins-else-begins-3.ensures ∙ c.if-begins-4.false,
+      sym c.begins-else-begins-4.ensures ∙ c.if-begins-5.false,
+    ) c.by_emulation_words.ensures
