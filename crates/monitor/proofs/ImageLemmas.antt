@@ -2,6 +2,7 @@
 use Rattle.std.proofs.Common.{◌≡◌, ◌∙◌, ℕ, zero, suc, ◌+◌, ◌<◌, ◌≤◌, ◌^◌, ◌&&◌, nat_lt, nat_le, Bool, true, false, List, [], ◌∷◌}
 use Rattle.std.proofs.Common.{◌++◌, length, take, get_or, replicate, Option, None, Some, Result, Ok, Err, Vec, refl, sym, ap}
 use Rattle.std.proofs.Common.{append-nil, subst, arith}
+use Rattle.std.specs.Prelude.{IsSome}
 use Rattle.std.specs.FinMap.{get}
 use Rattle.std.specs.Global.{Global}
 use Rattle.std.specs.List.{fold, list_all, range_with_len}
@@ -35,7 +36,7 @@ use Rattle.monitor.specs.declared.stop.Stop.{Stop}
 use Rattle.monitor.specs.declared.stop.Stop.TheVariants.{Quit, Line, File, Content, Unread, Memory}
 use Rattle.monitor.specs.Answer.{Answer, Faults, answer_at, reads, told_at, with_file}
 use Rattle.monitor.specs.Images.{holds_part, load_file, load_image, load_read, size, with_part, with_parts}
-use Rattle.monitor.specs.Inner.Ruling.{IsBoard, IsCarried, IsFile, IsImage, IsRuled}
+use Rattle.monitor.specs.Inner.Ruling.{IsBoard, IsCarried, IsChanged, IsFile, IsImage, IsRuled}
 use Rattle.monitor.specs.Selected.{Equipped, equipped}
 use Rattle.monitor.specs.State.{State, Place}
 use Rattle.monitor.specs.Step.{Running}
@@ -183,15 +184,73 @@ pub view_of_changed :
     (lab : Lab) (b : ℕ) (f : View → View) → view_of (changed lab b f) b ≡ option_map f (view_of lab b)
 view_of_changed lab b f = view_at_changed lab.boards b f
 
+-- a board that is changed to what it is
+change_none : {A : Type 0} (xs : List A) (i : ℕ) (f : A → A) → ((x : A) → f x ≡ x) → change_at xs i f ≡ xs
+change_none [] i f same = refl
+change_none (x ∷ xs) zero f same = ap (λ y. y ∷ xs) (same x)
+change_none (x ∷ xs) (suc i) f same = ap (λ ys. x ∷ ys) (change_none xs i f same)
+
+map_none : {A : Type 0} (x : Option A) (f : A → A) → ((a : A) → f a ≡ a) → option_map f x ≡ x
+map_none None f same = refl
+map_none (Some a) f same = ap Some (same a)
+
+pub unchanged :
+    (b : ℕ) (f : View → View) (old : Running) → ((v : View) → f v ≡ v) → IsChanged b f old old
+unchanged b f old same =
+    ap (λ boards. record old { state = record old.state { lab = record old.state.lab { boards = boards } } })
+    (sym (change_none old.state.lab.boards b (with_view f)
+    (λ board. ap (λ view. record board { view = view }) (map_none board.view f same))))
+
+-- a board is changed behind a change
+pub changed_more :
+    (b : ℕ) (f g h : View → View) (old mid new : Running) → ((v : View) → g (f v) ≡ h v) →
+    IsChanged b f old mid → IsChanged b g mid new → IsChanged b h old new
+changed_more b f g h old mid new same first second =
+    second
+    ∙ ap (λ (r : Running). record r { state = record r.state { lab = changed r.state.lab b g } }) first
+    ∙ ap (λ lab. record old { state = record old.state { lab = lab } }) (changed_twice old.state.lab b f g h same)
+
+some_map : {A : Type 0} (x : Option A) (f : A → A) → IsSome x → IsSome (option_map f x)
+some_map None f is = is
+some_map (Some a) f is = is
+
+-- the board that was changed has its platform
+pub still_equipped :
+    (b : ℕ) (f : View → View) (old new : Running) → IsChanged b f old new → IsSome (view_of old.state.lab b) →
+    IsSome (view_of new.state.lab b)
+still_equipped b f old new is some =
+    rw (is, view_of_changed old.state.lab b f) (some_map (view_of old.state.lab b) f some)
+
+for_some_map :
+    {A : Type 0} (x : Option A) (f : A → A) (P : A → Type 0) → ForSome x (λ a. P (f a)) → ForSome (option_map f x) P
+for_some_map None f P each = λ a is. absurd (cc)
+for_some_map (Some a) f P each = λ changed is. let same : f a ≡ changed = cc in subst P same (each a refl)
+
+-- what holds of the board after a change
+pub for_changed :
+    (b : ℕ) (f : View → View) (old new : Running) (P : View → Type 0) → IsChanged b f old new →
+    ForSome (view_of old.state.lab b) (λ v. P (f v)) → ForSome (view_of new.state.lab b) P
+for_changed b f old new P is each =
+    rw (is, view_of_changed old.state.lab b f) (for_some_map (view_of old.state.lab b) f P each)
+
+-- of items that all pass each does
+pub each_of_all :
+    {A : Type 0} (p : A → Bool) (xs : List A) (i : ℕ) (d : A) → list_all p xs ≡ true → i < length xs →
+    p (get_or xs i d) ≡ true
+each_of_all p [] i d all within = absurd (omega (arith, within))
+each_of_all p (x ∷ xs) zero d all within = (and_parts (p x) (list_all p xs) all).0
+each_of_all p (x ∷ xs) (suc i) d all within =
+    each_of_all p xs i d (and_parts (p x) (list_all p xs) all).1 (omega (arith, within))
+
 -- bytes that are copied leave the plan, and so what holds a byte
-plan_put : (s : Space) (byte : ℕ) (target : Target) → (put_in s byte target).plan ≡ s.plan
+pub plan_put : (s : Space) (byte : ℕ) (target : Target) → (put_in s byte target).plan ≡ s.plan
 plan_put s byte (Ram part at) = refl
 plan_put s byte (Dev dev at) = refl
 plan_put s byte (Clint at) = refl
 plan_put s byte (Plic at) = refl
 plan_put s byte Nothing = refl
 
-plan_copied : (s : Space) (at : ℕ) (bytes : List ℕ) → (copied s at bytes).plan ≡ s.plan
+pub plan_copied : (s : Space) (at : ℕ) (bytes : List ℕ) → (copied s at bytes).plan ≡ s.plan
 plan_copied s at [] = refl
 plan_copied s at (byte ∷ bytes) =
     plan_copied (put_byte s at byte) (at + 1) bytes ∙ plan_put s byte (target_at s at 1)

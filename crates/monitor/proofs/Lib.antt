@@ -3,6 +3,7 @@ pub mod Entered
 pub mod Equipping
 pub mod ImageLemmas
 pub mod MachineNames
+pub mod MapLemmas
 pub mod MemoryLemmas
 pub mod Ruled
 pub mod Steps

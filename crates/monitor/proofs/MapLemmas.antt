@@ -1,8 +1,8 @@
 -- To load the parts of an image is to load their map.
-use Rattle.std.proofs.Common.{◌≡◌, ◌∙◌, ℕ, zero, suc, ◌+◌, ◌-◌, ◌<◌, ◌≤◌, ◌==◌, ◌&&◌, nat_lt, nat_le, Bool, true, false, cond}
+use Rattle.std.proofs.Common.{◌≡◌, ◌∙◌, ℕ, zero, suc, ◌+◌, ◌-◌, ◌^◌, ◌<◌, ◌==◌, ◌&&◌, nat_lt, nat_le, Bool, true, false, cond}
 use Rattle.std.proofs.Common.{List, [], ◌∷◌, length, take, drop, slice_get, Option, None, Some, refl, sym, ap, subst, arith}
 use Rattle.std.specs.Prelude.{if◌then◌else◌, slice_index_or, slice_set}
-use Rattle.std.specs.List.{fold, list_all, range_with_len}
+use Rattle.std.specs.List.{list_all, range_with_len}
 use Rattle.std.specs.Option.{option_or}
 use Rattle.std.proofs.lemmas.Bool.{and_parts}
 use Rattle.std.proofs.lemmas.Bool.Decides.{nat_tests}
@@ -14,6 +14,7 @@ use Rattle.page_ram.specs.Bytes.{put_bytes}
 use Rattle.sys_bus.specs.declared.region.Target.{Target}
 use Rattle.sys_bus.specs.declared.region.Target.TheVariants.{Ram, Clint, Plic, Dev, Nothing}
 use Rattle.board.specs.Changes.{copied, holds_each, in_memory, is_memory, put_byte, put_in}
+use Rattle.sys_bus.specs.Region.{target_of}
 use Rattle.board.specs.Space.{Space, memory_at, target_at, with_memory}
 use Rattle.board.specs.View.{View}
 use Rattle.monitor.specs.Images.{StandApart, byte_held, byte_of, holds_part, size, with_part, with_parts}
@@ -133,27 +134,186 @@ one_same s at x part i apart is =
     ∙ same_byte s part i x (apart.part at part i is) (apart.held at part i is)
 
 -- a space in which one byte was put stands apart too
-still_apart : (s : Space) (part i x at : ℕ) → StandApart s → target_at s at 1 ≡ Ram part i →
-    StandApart (put_at s part i x)
+still_apart :
+    (s : Space) (part i x at : ℕ) → StandApart s → target_at s at 1 ≡ Ram part i → StandApart (put_at s part i x)
 still_apart s part i x at apart is = record {
   apart = apart.apart;
   part = λ a q j there.
       rw (length_set s.memories part (put_bytes (memory_at s part) i (x ∷ []))) (apart.part a q j there);
-  held = λ a q j there. by_part (part == q) refl q j (apart.held a q j there);
+  held = λ a q j there. sized q j (apart.held a q j there) (part == q) refl;
 }
   where
-    by_part : (b : Bool) → {q0 : ℕ} → (part == q0) ≡ b → (q j : ℕ) → j < length (memory_at s q) →
+    sized : (q j : ℕ) → j < length (memory_at s q) → (b : Bool) → (part == q) ≡ b →
         j < length (memory_at (put_at s part i x) q)
-    by_part b same q j below = tested (part == q) refl
-      where
-        tested : (b : Bool) → (part == q) ≡ b → j < length (memory_at (put_at s part i x) q)
-        tested true equal =
-            let part_is : part ≡ q = grind (arith, nat_tests, equal) in
-            let size : length (memory_at (put_at s part i x) part) ≡ length (memory_at s part) =
-            ap length (memory_same s part i x (apart.part at part i is))
-            ∙ length_put (memory_at s part) i x (apart.held at part i is) in
-            subst (λ n. j < length (memory_at (put_at s part i x) n)) part_is
-            (subst (λ n. j < n) (sym size) (subst (λ n. j < length (memory_at s n)) (sym part_is) below))
-        tested false differ =
-            subst (λ m. j < length m)
-            (sym (memory_other s part q i x (λ same. grind (arith, nat_tests, differ, same)))) below
+    sized q j below true equal =
+        let same : part ≡ q = grind (arith, nat_tests, equal) in
+        let size : length (memory_at (put_at s part i x) part) ≡ length (memory_at s part) =
+        ap length (memory_same s part i x (apart.part at part i is))
+        ∙ length_put (memory_at s part) i x (apart.held at part i is) in
+        subst (λ n. j < length (memory_at (put_at s part i x) n)) same
+        (subst (λ n. j < n) (sym size) (subst (λ n. j < length (memory_at s n)) (sym same) below))
+    sized q j below false differ =
+        subst (λ m. j < length m)
+        (sym (memory_other s part q i x (λ same. grind (arith, nat_tests, differ, same)))) below
+
+-- one byte is put, and each other one stays
+one_byte :
+    (s : Space) (at x a : ℕ) → StandApart s → in_memory s at ≡ true →
+    byte_of (put_byte s at x) (target_at s a 1) ≡ cond (a == at) (Some x) (byte_of s (target_at s a 1))
+one_byte s at x a apart held =
+    let place = place_of (target_at s at 1) held in
+    let put = put_is s at x place.0 place.1.0 place.1.1 in
+    rw put (tested place.0 place.1.0 place.1.1 (a == at) refl)
+  where
+    tested : (part i : ℕ) → target_at s at 1 ≡ Ram part i → (b : Bool) → (a == at) ≡ b →
+        byte_of (put_at s part i x) (target_at s a 1) ≡ cond b (Some x) (byte_of s (target_at s a 1))
+    tested part i is true same =
+        let here : a ≡ at = grind (arith, nat_tests, same) in rw here (one_same s at x part i apart is)
+    tested part i is false differ =
+        by_target s at x a part i (target_at s a 1) apart is refl
+        (λ same. grind (arith, nat_tests, differ, same))
+
+-- the byte that bytes from an address on give another address
+abbrev byte_from : ℕ → List ℕ → ℕ → Option ℕ
+byte_from at bytes a = if nat_lt a at then None else slice_get bytes (a - at)
+
+from_next :
+    (at x a : ℕ) (xs : List ℕ) (before : Option ℕ) →
+    option_or (byte_from (at + 1) xs a) (cond (a == at) (Some x) before)
+    ≡ option_or (byte_from at (x ∷ xs) a) before
+from_next at x a xs before = below (nat_lt a at) refl
+  where
+    above : a ≡ at + suc (a - at - 1) → option_or (slice_get xs (a - (at + 1))) before
+        ≡ option_or (slice_get (x ∷ xs) (a - at)) before
+    above is =
+        let left : a - at ≡ suc (a - (at + 1)) = omega (arith, is) in rw left refl
+    here : nat_lt a at ≡ false → (b : Bool) → (a == at) ≡ b →
+        option_or (byte_from (at + 1) xs a) (cond b (Some x) before)
+        ≡ option_or (byte_from at (x ∷ xs) a) before
+    here no true same =
+        let first : nat_lt a (at + 1) ≡ true = grind (arith, nat_tests, same) in
+        let none : a - at ≡ 0 = grind (arith, nat_tests, same) in
+        rw (first, no, none) refl
+    here no false differ =
+        let past : nat_lt a (at + 1) ≡ false = grind (arith, nat_tests, no, differ) in
+        rw (past, no) (above (grind (arith, nat_tests, no, differ)))
+    below : (b : Bool) → nat_lt a at ≡ b →
+        option_or (byte_from (at + 1) xs a) (cond (a == at) (Some x) before)
+        ≡ option_or (byte_from at (x ∷ xs) a) before
+    below true is =
+        let first : nat_lt a (at + 1) ≡ true = grind (arith, nat_tests, is) in
+        let differ : (a == at) ≡ false = grind (arith, nat_tests, is) in
+        rw (is, first, differ) refl
+    below false is = here is (a == at) refl
+
+-- bytes are put, and each other one stays
+bytes_held :
+    (bytes : List ℕ) (s : Space) (at a : ℕ) → StandApart s → holds_each s at (length bytes) ≡ true →
+    byte_of (copied s at bytes) (target_at s a 1) ≡ option_or (byte_from at bytes a) (byte_of s (target_at s a 1))
+bytes_held [] s at a apart held = none (nat_lt a at)
+  where
+    none : (b : Bool) → byte_of s (target_at s a 1)
+        ≡ option_or (cond b None (slice_get {A = ℕ} [] (a - at))) (byte_of s (target_at s a 1))
+    none true = refl
+    none false = refl
+bytes_held (x ∷ xs) s at a apart held =
+    let both = and_parts (in_memory s at) (holds_each s (at + 1) (length xs)) held in
+    let place = place_of (target_at s at 1) both.0 in
+    let put = put_is s at x place.0 place.1.0 place.1.1 in
+    let next = subst StandApart (sym put) (still_apart s place.0 place.1.0 x at apart place.1.1) in
+    let plan = plan_put s x (target_at s at 1) in
+    let there : holds_each (put_byte s at x) (at + 1) (length xs) ≡ true =
+    ap (λ plan. list_all (λ b. is_memory (target_of plan.regions b 1)) (range_with_len (at + 1) (length xs))) plan
+    ∙ both.1 in
+    let target : target_at (put_byte s at x) a 1 ≡ target_at s a 1 = ap (λ plan. target_of plan.regions a 1) plan in
+    ap (byte_of (copied (put_byte s at x) (at + 1) xs)) (sym target)
+    ∙ bytes_held xs (put_byte s at x) (at + 1) a next there
+    ∙ ap (option_or (byte_from (at + 1) xs a))
+    (ap (byte_of (put_byte s at x)) target ∙ one_byte s at x a apart both.0)
+    ∙ from_next at x a xs (byte_of s (target_at s a 1))
+
+or_or : (x y z : Option ℕ) → option_or x (option_or y z) ≡ option_or (option_or x y) z
+or_or None y z = refl
+or_or (Some n) y z = refl
+
+-- a space in which bytes were put stands apart too
+apart_copied :
+    (bytes : List ℕ) (s : Space) (at : ℕ) → StandApart s → holds_each s at (length bytes) ≡ true →
+    StandApart (copied s at bytes)
+apart_copied [] s at apart held = apart
+apart_copied (x ∷ xs) s at apart held =
+    let both = and_parts (in_memory s at) (holds_each s (at + 1) (length xs)) held in
+    let place = place_of (target_at s at 1) both.0 in
+    let put = put_is s at x place.0 place.1.0 place.1.1 in
+    let next = subst StandApart (sym put) (still_apart s place.0 place.1.0 x at apart place.1.1) in
+    let there : holds_each (put_byte s at x) (at + 1) (length xs) ≡ true =
+    ap (λ plan. list_all (λ b. is_memory (target_of plan.regions b 1)) (range_with_len (at + 1) (length xs)))
+    (plan_put s x (target_at s at 1))
+    ∙ both.1 in
+    apart_copied xs (put_byte s at x) (at + 1) next there
+
+-- a part has so many bytes
+contents_size : (part : Part) → length (contents part) ≡ size part
+contents_size part = length-append part.bytes _ ∙ ap (λ n. length part.bytes + n) (length-replicate part.zeros 0)
+
+has_places : (v : View) (part : Part) → holds_part v part ≡ true →
+    holds_each v.space part.at (length (contents part)) ≡ true
+has_places v part is =
+    let few = nat_lt (size part) (2 ^ 32) in
+    let below = nat_le (part.at + size part) (2 ^ 32) in
+    rw (contents_size part) ((and_parts (few && below) (holds_each v.space part.at (size part)) is).1)
+
+part_held :
+    (v : View) (part : Part) (a : ℕ) → StandApart v.space → holds_part v part ≡ true →
+    byte_held (with_part v part) a ≡ option_or (byte_in part a) (byte_held v a)
+part_held v part a apart is =
+    let plan = plan_copied v.space part.at (contents part) in
+    ap (λ plan. byte_of (copied v.space part.at (contents part)) (target_of plan.regions a 1)) plan
+    ∙ bytes_held (contents part) v.space part.at a apart (has_places v part is)
+
+all_same :
+    {A : Type 0} (p q : A → Bool) (xs : List A) → ((x : A) → q x ≡ p x) → list_all p xs ≡ true → list_all q xs ≡ true
+all_same p q [] same all = refl
+all_same p q (x ∷ xs) same all =
+    let both = and_parts (p x) (list_all p xs) all in rw (same x, both.0) (all_same p q xs same both.1)
+
+pub parts_held :
+    (parts : List Part) (v : View) (a : ℕ) → StandApart v.space → list_all (holds_part v) parts ≡ true →
+    byte_held (with_parts v parts) a ≡ option_or (byte_at parts a) (byte_held v a)
+parts_held [] v a apart all = refl
+parts_held (part ∷ later) v a apart all =
+    let both = and_parts (holds_part v part) (list_all (holds_part v) later) all in
+    let next = apart_copied (contents part) v.space part.at apart (has_places v part both.0) in
+    let still = all_same (holds_part v) (holds_part (with_part v part)) later (part_still v part) both.1 in
+    parts_held later (with_part v part) a next still
+    ∙ ap (option_or (byte_at later a)) (part_held v part a apart both.0)
+    ∙ or_or (byte_at later a) (byte_in part a) (byte_held v a)
+
+-- only memories change
+only_put :
+    (s : Space) (byte : ℕ) (t : Target) → put_in s byte t ≡ record s { memories = (put_in s byte t).memories }
+only_put s byte (Ram part at) = refl
+only_put s byte (Dev dev at) = refl
+only_put s byte (Clint at) = refl
+only_put s byte (Plic at) = refl
+only_put s byte Nothing = refl
+
+only_copied :
+    (bytes : List ℕ) (s : Space) (at : ℕ) →
+    copied s at bytes ≡ record s { memories = (copied s at bytes).memories }
+only_copied [] s at = refl
+only_copied (x ∷ xs) s at =
+    only_copied xs (put_byte s at x) (at + 1)
+    ∙ ap (λ (t : Space). record t { memories = (copied (put_byte s at x) (at + 1) xs).memories })
+    (only_put s x (target_at s at 1))
+
+pub only_memories :
+    (parts : List Part) (v : View) →
+    with_parts v parts ≡ record v { space = record v.space { memories = (with_parts v parts).space.memories } }
+only_memories [] v = refl
+only_memories (part ∷ later) v =
+    only_memories later (with_part v part)
+    ∙ ap (λ (t : Space). record v {
+      space = record t { memories = (with_parts (with_part v part) later).space.memories };
+    })
+    (only_copied (contents part) v.space part.at)
