@@ -35,8 +35,9 @@ use Rattle.monitor.specs.declared.fault.Cause.{Cause}
 use Rattle.monitor.specs.declared.stop.Stop.{Stop}
 use Rattle.monitor.specs.declared.stop.Stop.TheVariants.{Quit, Line, File, Content, Unread, Memory}
 use Rattle.monitor.specs.Answer.{Answer, Faults, answer_at, reads, told_at, with_file}
-use Rattle.monitor.specs.Images.{holds_part, load_file, load_image, load_read, size, with_part, with_parts}
-use Rattle.monitor.specs.Inner.Ruling.{IsBoard, IsCarried, IsChanged, IsFile, IsImage, IsRuled}
+use Rattle.monitor.specs.Images.{holds_part, is_entry, load_file, load_image, load_read, size, with_entry, with_part}
+use Rattle.monitor.specs.Images.{with_parts}
+use Rattle.monitor.specs.Inner.Ruling.{IsBoard, IsCarried, IsChanged, IsFile, IsImage, IsOnward, IsRuled}
 use Rattle.monitor.specs.Selected.{Equipped, equipped}
 use Rattle.monitor.specs.State.{State, Place}
 use Rattle.monitor.specs.Step.{Running}
@@ -210,6 +211,26 @@ changed_more b f g h old mid new same first second =
     ∙ ap (λ (r : Running). record r { state = record r.state { lab = changed r.state.lab b g } }) first
     ∙ ap (λ lab. record old { state = record old.state { lab = lab } }) (changed_twice old.state.lab b f g h same)
 
+change_same :
+    {A : Type 0} (xs : List A) (i : ℕ) (f g : A → A) → ((x : A) → f x ≡ g x) → change_at xs i f ≡ change_at xs i g
+change_same [] i f g same = refl
+change_same (x ∷ xs) zero f g same = ap (λ y. y ∷ xs) (same x)
+change_same (x ∷ xs) (suc i) f g same = ap (λ ys. x ∷ ys) (change_same xs i f g same)
+
+map_same : {A : Type 0} (x : Option A) (f g : A → A) → ((a : A) → f a ≡ g a) → option_map f x ≡ option_map g x
+map_same None f g same = refl
+map_same (Some a) f g same = ap Some (same a)
+
+-- the same change in other words
+pub changed_same :
+    (b : ℕ) (f g : View → View) (old new : Running) → ((v : View) → f v ≡ g v) → IsChanged b f old new →
+    IsChanged b g old new
+changed_same b f g old new same is =
+    is
+    ∙ ap (λ boards. record old { state = record old.state { lab = record old.state.lab { boards = boards } } })
+    (change_same old.state.lab.boards b (with_view f) (with_view g)
+    (λ board. ap (λ view. record board { view = view }) (map_same board.view f g same)))
+
 some_map : {A : Type 0} (x : Option A) (f : A → A) → IsSome x → IsSome (option_map f x)
 some_map None f is = is
 some_map (Some a) f is = is
@@ -325,3 +346,13 @@ pub parts_still :
     (parts : List Part) (v : View) (other : Part) → holds_part (with_parts v parts) other ≡ holds_part v other
 parts_still [] v other = refl
 parts_still (part ∷ parts) v other = parts_still parts (with_part v part) other ∙ part_still v part other
+
+-- an image that has its places was loaded
+pub image_rules :
+    (old new : Running) (b : ℕ) (view : View) (image : Image) (text : List ℕ) → old.spent ≡ false →
+    (list_all (holds_part view) image.parts && is_entry image.entry) ≡ true →
+    IsChanged b (λ v. with_entry (with_parts v image.parts) image.entry) old new → text ≡ [] →
+    (load_image old.state (record { number = b; view = view }) image ≡ Ok (record { text = text; state = new.state }))
+    × IsOnward old new
+image_rules old new b view image text unspent passes same none =
+    rw (same, none, passes) (refl, record { spent = unspent; ended = refl; flow = refl; kept = refl })
