@@ -106,12 +106,7 @@ type Word = (usize, u32);
 const SAME: Word = (1, 0);
 
 /// The bytes of a file's words, of which two are other ones.
-fn file_of(
-    alloc: Global,
-    words: &[u32],
-    first: Word,
-    second: Word,
-) -> Result<Vec<u8>, NoMemory> {
+fn file_of(alloc: Global, words: &[u32], first: Word, second: Word) -> Result<Vec<u8>, NoMemory> {
     let mut bytes = Vec::new(alloc);
     for word in words {
         let mut given = *word;
@@ -203,13 +198,7 @@ sysbus ReadDoubleWord 0x80000008\n",
 fn assert_loaded<R: Abort + AllocGlobal>(rt: &R, rows: &[(&str, &str)]) -> Result<(), NoMemory> {
     for (lines, written) in rows {
         let script = format!(in rt.alloc(); "{BOARD}{lines}")?;
-        assert_script(
-            rt,
-            image_files(rt.alloc())?,
-            script.as_str(),
-            0,
-            written,
-        )?;
+        assert_script(rt, image_files(rt.alloc())?, script.as_str(), 0, written)?;
     }
     Ok(())
 }
@@ -311,7 +300,11 @@ static PLACES: [(Word, Word, Option<&str>); 16] = [
     ((ENTRY, 0x8000_0001), (TYPE, 0), None),
     ((ADDRESS, 0x8000_FFEC), SAME, Some("0x80000000")),
     ((ADDRESS, 0x8000_FFED), SAME, None),
-    ((ADDRESS, 0x8000_FFF0), (MEMORY_SIZE, 16), Some("0x80000000")),
+    (
+        (ADDRESS, 0x8000_FFF0),
+        (MEMORY_SIZE, 16),
+        Some("0x80000000"),
+    ),
     ((ADDRESS, 0x8000_FFF1), (MEMORY_SIZE, 16), None),
     ((ADDRESS, 0x7FFF_FFFF), SAME, None),
     ((ADDRESS, 0x1000_0000), SAME, None),

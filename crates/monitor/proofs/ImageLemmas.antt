@@ -111,12 +111,11 @@ refused_on :
 refused_on image_of cause held s place path on bytes Quit after log log' there few asked is = absurd is
 refused_on image_of cause held s place path on bytes (Line told) after log log' there few asked is = absurd is
 refused_on image_of cause held s place path on bytes (File told) after log log' there few asked is = absurd is
-refused_on image_of cause held s place path on bytes (Content told) after log log' there few asked is =
-    (
-      read_answer image_of cause held s place path on bytes (Err is.0) there few is.1
-          ∙ ap (λ told. Faults (told_at place told)) (sym is.2),
-      asked,
-    )
+refused_on image_of cause held s place path on bytes (Content told) after log log' there few asked is = (
+  read_answer image_of cause held s place path on bytes (Err is.0) there few is.1
+      ∙ ap (λ told. Faults (told_at place told)) (sym is.2),
+  asked,
+)
 refused_on image_of cause held s place path on bytes Unread after log log' there few asked is = absurd is
 refused_on image_of cause held s place path on bytes Memory after log log' there few asked is =
     record { passed = path ∷ []; coming = []; all = refl; asked = asked }

@@ -97,6 +97,7 @@ other_byte s part i x q j there within differ = by_part (part == q) refl
         rw (← same)
         (ap (λ m. slice_get m j) (memory_same s part i x there)
         ∙ get_put_other (memory_at s part) i j x within (λ place. grind (arith, nat_tests, is, place)))
+
     by_part : (b : Bool) → (part == q) ≡ b → byte_of (put_at s part i x) (Ram q j) ≡ byte_of s (Ram q j)
     by_part true is = by_place (grind (arith, nat_tests, is)) (i == j) refl
     by_part false is =
@@ -187,6 +188,7 @@ from_next at x a xs before = below (nat_lt a at) refl
         ≡ option_or (slice_get (x ∷ xs) (a - at)) before
     above is =
         let left : a - at ≡ suc (a - (at + 1)) = omega (arith, is) in rw left refl
+
     here : nat_lt a at ≡ false → (b : Bool) → (a == at) ≡ b →
         option_or (byte_from (at + 1) xs a) (cond b (Some x) before)
         ≡ option_or (byte_from at (x ∷ xs) a) before
@@ -197,6 +199,7 @@ from_next at x a xs before = below (nat_lt a at) refl
     here no false differ =
         let past : nat_lt a (at + 1) ≡ false = grind (arith, nat_tests, no, differ) in
         rw (past, no) (above (grind (arith, nat_tests, no, differ)))
+
     below : (b : Bool) → nat_lt a at ≡ b →
         option_or (byte_from (at + 1) xs a) (cond (a == at) (Some x) before)
         ≡ option_or (byte_from at (x ∷ xs) a) before
