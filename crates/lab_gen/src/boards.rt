@@ -19,6 +19,7 @@ const START: u32 = 0x8000_0000;
 const HUB: &str = "hub";
 
 /// Puts a program at the start of a board's memory, which is to begin with it.
+#[tactic(auto, using(crate::proofs::Boards::holds_there, crate::proofs::Boards::changed_has))]
 fn load<D: Device>(lab: &mut Lab<D>, b: BoardNo, program: &[u8]) -> Result<(), NoMemory>
     requires unspent { lab.old.spent ≡ false }
     requires has_plan { IsSome (view_of lab.old.lab b.0) }
@@ -41,6 +42,7 @@ fn load<D: Device>(lab: &mut Lab<D>, b: BoardNo, program: &[u8]) -> Result<(), N
 
 /// Adds the board of this number, which is that of the boards so far, and puts it at the end of the
 /// hub.
+#[tactic(auto, using(crate::proofs::Boards::board_name, crate::proofs::Boards::has_uart))]
 fn add_board<D: Device>(
     alloc: Global,
     lab: &mut Lab<D>,

@@ -1,7 +1,7 @@
 //! The program of a board.
 ghost use Rattle.std.specs.Prelude.{◌≡◌, ◌<◌, ◌≤◌, ◌^◌, [], ◌++◌, IfOk, OnOk, length, string_bytes};
 ghost use Rattle.std.specs.List.{flat_map};
-ghost use Rattle.lab_gen.specs.Firmware as firmware;
+ghost use Rattle.lab_gen.specs.Firmware as spec;
 
 use lab_num::NoMemory;
 use rv_asm::assemble;
@@ -20,7 +20,7 @@ const TAIL: &str = "lui x21, 0x196\naddi x21, x21, 0x60D\nlui x22, 0x3C6EF\n\
 
 /// The number that register x20 of a board starts with.
 fn start_of(seed: u64, board: u8) -> u32
-    ensures { result ≡ firmware.start_of seed board }
+    ensures { result ≡ spec.start_of seed board }
 {
     let low = (seed % 0x1_0000_0000) as u32;
     low ^ u32::from(board).wrapping_mul(2_654_435_769)
@@ -28,14 +28,14 @@ fn start_of(seed: u64, board: u8) -> u32
 
 /// The upper 20 bits that `lui` gives x20, so that `addi` can add the rest as a signed number.
 fn upper_of(start: u32) -> u32
-    ensures { result ≡ firmware.upper_of start }
+    ensures { result ≡ spec.upper_of start }
 {
     ((u64::from(start) + 0x800) / 0x1000 % 0x10_0000) as u32
 }
 
 /// What `addi` adds to it, from -2048 to 2047, as it is written.
 fn rest_text(alloc: Global, start: u32) -> Result<String, NoMemory>
-    ensures { IfOk result (λ text. string_bytes text ≡ firmware.rest_text start) }
+    ensures { IfOk result (λ text. string_bytes text ≡ spec.rest_text start) }
 {
     let rest = start % 0x1000;
     if rest < 0x800 {
@@ -46,8 +46,9 @@ fn rest_text(alloc: Global, start: u32) -> Result<String, NoMemory>
 }
 
 /// The program as a text for the assembler.
+#[tactic(auto, unfolding(crate::specs::Firmware::text_of))]
 fn text_of(alloc: Global, start: u32) -> Result<String, NoMemory>
-    ensures text { IfOk result (λ text. string_bytes text ≡ firmware.text_of start) }
+    ensures text { IfOk result (λ text. string_bytes text ≡ spec.text_of start) }
     ensures short { IfOk result (λ text. length (string_bytes text) ≤ 2 ^ 24) }
 {
     let upper = upper_of(start);
@@ -57,7 +58,7 @@ fn text_of(alloc: Global, start: u32) -> Result<String, NoMemory>
 
 /// Words as bytes, the lowest byte of each first.
 fn bytes_of(alloc: Global, words: &[u32]) -> Result<Vec<u8>, NoMemory>
-    ensures { IfOk result (λ bytes. bytes.items ≡ flat_map firmware.word_bytes words.now) }
+    ensures { IfOk result (λ bytes. bytes.items ≡ flat_map spec.word_bytes words.now) }
 {
     let mut bytes = Vec::new(alloc);
     for word in words {
@@ -67,8 +68,9 @@ fn bytes_of(alloc: Global, words: &[u32]) -> Result<Vec<u8>, NoMemory>
 }
 
 /// The program of a board, as the bytes of its words.
+#[tactic(auto, using(crate::proofs::Texts::assembled))]
 pub(crate) fn program(alloc: Global, seed: u64, board: u8) -> Result<Vec<u8>, NoMemory>
-    ensures { IfOk result (λ bytes. bytes.items ≡ firmware.program seed board) }
+    ensures { IfOk result (λ bytes. bytes.items ≡ spec.program seed board) }
 {
     let text = text_of(alloc, start_of(seed, board))?;
     let Ok(words) = assemble(alloc, text.as_str()) else {

@@ -1,6 +1,6 @@
 //! The plan of every board.
 ghost use Rattle.std.specs.Prelude.{◌≡◌, IfOk};
-ghost use Rattle.lab_gen.specs.Plan as plan;
+ghost use Rattle.lab_gen.specs.Plan as plan_spec;
 
 use dev_core::Kind;
 use lab_num::{NoMemory, Rows, Text};
@@ -40,7 +40,7 @@ fn named(alloc: Global, name: &str, what: NamedWhat) -> Result<Named, NoMemory>
 
 /// The names of the parts.
 fn names(alloc: Global) -> Result<Rows<Named>, NoMemory>
-    ensures { IfOk result (λ names. names ≡ plan.plan.names) }
+    ensures { IfOk result (λ names. names ≡ plan_spec.plan.names) }
 {
     let [ram, uart, cpu] = NAMES;
     let ram = named(alloc, ram.0, ram.1)?;
@@ -51,7 +51,7 @@ fn names(alloc: Global) -> Result<Rows<Named>, NoMemory>
 
 /// The plan of every board: a memory of 64 KiB, a UART, and 10 instructions a microsecond.
 pub(crate) fn plan(alloc: Global) -> Result<BoardPlan, NoMemory>
-    ensures { IfOk result (λ made. made ≡ plan.plan) }
+    ensures { IfOk result (λ made. made ≡ plan_spec.plan) }
 {
     Ok(BoardPlan {
         names: names(alloc)?,

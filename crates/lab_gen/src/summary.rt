@@ -1,6 +1,6 @@
 //! The summary of a laboratory.
 ghost use Rattle.std.specs.Prelude.{◌≡◌, ◌<◌, ◌++◌, false, length, IfOk, OnOk, slice_index_or, string_bytes};
-ghost use Rattle.lab_gen.specs.Summary as summary;
+ghost use Rattle.lab_gen.specs.Summary as summary_spec;
 
 use dev_core::Device;
 use lab_num::{BoardNo, NoMemory};
@@ -17,9 +17,9 @@ fn print_board<D: Device>(lab: &Lab<D>, b: BoardNo, text: &mut String) -> Result
     requires unspent { lab.now.spent ≡ false }
     requires exists { b.0 < length lab.now.lab.boards }
     ensures posts { IfOk result (λ posts. posts
-        ≡ summary.posts_of (slice_index_or lab.now.lab.boards b.0 summary.no_board)) }
+        ≡ summary_spec.posts_of (slice_index_or lab.now.lab.boards b.0 summary_spec.no_board)) }
     ensures text { OnOk result (string_bytes text.new ≡ string_bytes text.old
-        ++ summary.line_of (slice_index_or lab.now.lab.boards b.0 summary.no_board)) }
+        ++ summary_spec.line_of (slice_index_or lab.now.lab.boards b.0 summary_spec.no_board)) }
 {
     if !lab.has_plan(b) {
         return Ok(0);
@@ -36,7 +36,7 @@ fn print_board<D: Device>(lab: &Lab<D>, b: BoardNo, text: &mut String) -> Result
 /// The summary of a laboratory: a line for each board, and one for all.
 pub(crate) fn summary<D: Device>(alloc: Global, lab: &Lab<D>) -> Result<Vec<u8>, NoMemory>
     requires { lab.now.spent ≡ false }
-    ensures { IfOk result (λ bytes. bytes.items ≡ summary.summary lab.now.lab) }
+    ensures { IfOk result (λ bytes. bytes.items ≡ summary_spec.summary lab.now.lab) }
 {
     let mut text = String::new(alloc);
     let mut total: u128 = 0;
