@@ -4,8 +4,8 @@
 
 mod boards;
 mod firmware;
-mod generate;
+mod generated;
 mod plan;
 mod summary;
 
-pub use generate::generate;
+pub use generated::generate;

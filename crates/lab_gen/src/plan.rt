@@ -7,13 +7,6 @@ use lab_num::{NoMemory, Rows, Text};
 use std::alloc::Global;
 use sys_bus::{BoardPlan, Named, NamedWhat, Region, RegionKind};
 
-/// The names of the parts, and what each is.
-const NAMES: [(&str, NamedWhat); 3] = [
-    ("ram", NamedWhat::Part(RegionKind::Ram(0))),
-    ("uart", NamedWhat::Part(RegionKind::Dev(0))),
-    ("cpu", NamedWhat::Cpu),
-];
-
 /// Where the memory and the UART stand.
 const REGIONS: [Region; 2] = [
     Region {
@@ -42,10 +35,9 @@ fn named(alloc: Global, name: &str, what: NamedWhat) -> Result<Named, NoMemory>
 fn names(alloc: Global) -> Result<Rows<Named>, NoMemory>
     ensures { IfOk result (λ names. names ≡ plan_spec.plan.names) }
 {
-    let [ram, uart, cpu] = NAMES;
-    let ram = named(alloc, ram.0, ram.1)?;
-    let uart = named(alloc, uart.0, uart.1)?;
-    let cpu = named(alloc, cpu.0, cpu.1)?;
+    let ram = named(alloc, "ram", NamedWhat::Part(RegionKind::Ram(0)))?;
+    let uart = named(alloc, "uart", NamedWhat::Part(RegionKind::Dev(0)))?;
+    let cpu = named(alloc, "cpu", NamedWhat::Cpu)?;
     Ok(Rows::of(vec![in alloc; ram, uart, cpu]?))
 }
 
