@@ -11,6 +11,3 @@ mod number;
 pub use laws::{lines_are_whole, prints_join};
 pub use line::OpenLine;
 pub use lines::Lines;
-
-#[cfg(test)]
-mod tests;

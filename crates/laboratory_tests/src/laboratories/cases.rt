@@ -6,7 +6,7 @@ use super::steps::Step::{
     Speed, Zero,
 };
 use super::{HUB, START};
-use crate::ConnectFault;
+use lab_state::ConnectFault;
 use std::alloc::Global;
 use std::test::Fail;
 

@@ -5,17 +5,15 @@ mod cases;
 mod chip;
 mod steps;
 
-use crate::Lab;
-use board::has_no_cans;
 use cases::{CHANGES, PROGRAMS, READ_AND_REFUSED};
 use chip::{Counts, stock};
-use dev_core::{Device, Kind, Stock};
-use lab_num::{BoardNo, Member, Rows, Text, is_name};
+use dev_core::{Device, Stock};
+use lab_num::{BoardNo, Member, is_name};
+use lab_state::Lab;
 use std::alloc::Global;
 use std::process::Abort;
 use std::test::Fail;
 use steps::{Step, play};
-use sys_bus::{BoardPlan, Named, NamedWhat, Region, RegionKind};
 
 /// Where a board's memory begins.
 const START: u32 = 0x8000_0000;
@@ -28,51 +26,6 @@ fn device(board: BoardNo, dev: u8) -> Member
     ensures dev { result.dev ≡ dev }
 {
     Member { board, dev }
-}
-
-fn region(base: u32, size: u32, kind: RegionKind) -> Region {
-    Region {
-        base,
-        size,
-        kind,
-        step: 1,
-    }
-}
-
-/// The names of the parts of a board.
-fn names(alloc: Global) -> Result<Rows<Named>, Fail> {
-    let parts = [
-        ("ram", NamedWhat::Part(RegionKind::Ram(0))),
-        ("uart", NamedWhat::Part(RegionKind::Dev(0))),
-        ("fin", NamedWhat::Part(RegionKind::Dev(1))),
-        ("cpu", NamedWhat::Cpu),
-    ];
-    let mut names = Vec::new(alloc);
-    for (name, what) in parts {
-        let name = Text::of(alloc, name)?;
-        names.push(Named { name, what })?;
-    }
-    Ok(Rows::of(names))
-}
-
-/// A memory of 64 KiB, a UART and a finisher, at one instruction a microsecond.
-fn plan(alloc: Global) -> Result<BoardPlan, Fail> {
-    let regions = [
-        region(START, 0x1_0000, RegionKind::Ram(0)),
-        region(0x1000_0000, 0x100, RegionKind::Dev(0)),
-        region(0x0010_0000, 0x1000, RegionKind::Dev(1)),
-    ];
-    Ok(BoardPlan {
-        names: names(alloc)?,
-        regions: Rows::of(Vec::from_slice(alloc, &regions)?),
-        memories: Rows::of(vec![in alloc; 0x1_0000]?),
-        kinds: Rows::of(vec![in alloc; Kind::Uart, Kind::Finisher]?),
-        frequency: None,
-        plic: None,
-        wires: Rows::of(Vec::new(alloc)),
-        speed: 1,
-        cpu: Text::of(alloc, "cpu")?,
-    })
 }
 
 /// A laboratory with one hub and no board.

@@ -3,12 +3,13 @@ ghost use Rattle.std.specs.Prelude.{◌≡◌, ◌+◌, ◌<◌, ◌≤◌, true
 ghost use Rattle.lab_state.specs.One.{view_of, HaveAllPlans};
 
 use super::cases::Program;
-use super::{HUB, START, device, plan};
-use crate::{ConnectFault, FitFault, Lab, LabFault, RoundLog, RunFault};
+use super::{HUB, START, device};
 use board::has_no_cans;
 use dev_core::{Device, Finish, Kind, What};
 use lab_num::{BoardNo, Key, Member, Micros, PostNo, is_name};
+use lab_state::{ConnectFault, FitFault, Lab, LabFault, RoundLog, RunFault};
 use log_merge::{BoardNames, LogItem, Member0, Note};
+use sample_boards::small_board;
 use std::alloc::Global;
 use std::process::Abort;
 use std::test::Fail;
@@ -86,7 +87,7 @@ fn fit<D: Device>(
     b: BoardNo,
     fault: Option<FitFault>,
 ) -> Result<(), Fail> {
-    let plan = plan(alloc)?;
+    let plan = small_board(alloc)?;
     assert!(rt; plan.is_valid());
     assert!(rt; has_no_cans(&plan));
     assert!(rt; !lab.is_spent());

@@ -1,8 +1,8 @@
 //! What items print, and which lists are open lines.
-use crate::*;
 use dev_core::{Finish, Frame, What};
 use lab_num::{BoardNo, Member, Micros, Rows, Text};
 use log_merge::{BoardNames, LogItem, Member0, Names, Note};
+use log_text::{Lines, OpenLine};
 use std::alloc::Global;
 use std::test::Fail;
 

@@ -1,0 +1,7 @@
+//! Tests of laboratories and of the text of their logs.
+#![tactic(auto)]
+
+#[cfg(test)]
+mod laboratories;
+#[cfg(test)]
+mod logs;
