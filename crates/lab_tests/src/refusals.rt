@@ -216,27 +216,9 @@ fn lines_about_times_and_places_are_refused(rt: HostRuntime) -> Result<(), Fail>
         (BOARD, "sysbus LoadBinary @a.bin 0x8000FFF1", "S16 address"),
         (BOARD, "sysbus LoadBinary @a.bin 0xFFFFFFFF", "S16 address"),
         (BOARD, "cpu PC 0x80000002", "S16 address"),
-        ("", "macro m", "S17 unclosed"),
-        (
-            "macro m\n\"\"\"\nfoo\n\"\"\"\n",
-            "macro m \"\"\"",
-            "S17 unclosed",
-        ),
     ];
     for (before, line, text) in rows {
-        if text == "S17 unclosed" {
-            let script = format!(in rt.alloc(); "{before}pause\n{line}")?;
-            let number = line_behind(before).saturating_add(1);
-            let fault = format!(in rt.alloc(); "s.resc:{number}: {text}")?;
-            assert_fault(
-                &rt,
-                more_files(rt.alloc())?,
-                script.as_str(),
-                fault.as_str(),
-            )?;
-        } else {
-            assert_refused(&rt, before, line, text)?;
-        }
+        assert_refused(&rt, before, line, text)?;
     }
     Ok(())
 }
@@ -258,6 +240,11 @@ fn bodies_and_their_files_are_refused(rt: HostRuntime) -> Result<(), Fail> {
             "s.resc:4: S17 unclosed",
         ),
         ("include @open.resc", "open.resc:2: S17 unclosed"),
+        ("pause\nmacro m", "s.resc:2: S17 unclosed"),
+        (
+            "macro m\n\"\"\"\nfoo\n\"\"\"\n\nmacro m \"\"\"\npause",
+            "s.resc:6: S17 unclosed",
+        ),
         ("include @bad.resc", "bad.resc:2: S18 not utf-8"),
         (
             "macro m\n\"\"\"\ninclude @bad.resc\n\"\"\"\nrunMacro $m",
