@@ -1,6 +1,6 @@
 -- The course of a run, from the words and the read of its script on.
 use Rattle.std.proofs.Common.{◌≡◌, ℕ, ◌<◌, ◌≤◌, ◌==◌, ◌+◌, Bool, true, false, List, [], ◌∷◌, length, take, count_by}
-use Rattle.std.proofs.Common.{Option, Some, Result, Err, IfSome, sym, refl, append-nil, arith}
+use Rattle.std.proofs.Common.{Option, Result, Err, IfSome, sym, refl, arith}
 use Rattle.std.proofs.lemmas.Bool.Decides.{nat_tests}
 use Rattle.std.proofs.lemmas.Str.{is_utf8-from_IsUtf8, IsUtf8-from_is_utf8}
 use Rattle.std.specs.FinMap.{get}
@@ -33,7 +33,7 @@ use Rattle.lab_top.specs.Request as asked_by
 use Rattle.lab_top.specs.Request.{Refused, by_reading, request_of}
 use Rattle.lab_top.specs.Transcript.{Usage, Script, rest_of, begun, run_of, transcript}
 use Rattle.lab_top.specs.Inner.Course.{Told, Course, IsEnd}
-use Rattle.lab_top.specs.Inner.Opened.{IsContent, IsOpened, IsRefused}
+use Rattle.lab_top.specs.Inner.Opened.{IsContent, IsRefused}
 use Rattle.lab_top.specs.Inner.Words.{IsAsked}
 use Rattle.lab_top.proofs.Pieces.{grown-nil}
 use Rattle.lab_top.proofs.Courses.{course_after, course_ended, course_memory, course_stopped, course_unread}
@@ -70,25 +70,6 @@ refused_content is place cause (opened_by.Refused fault) so refused = rw refused
 refused_content is place cause opened_by.Unread so refused = absurd refused
 refused_content is place cause opened_by.Memory so refused = tt
 
--- ---- how a file was opened
-
-pub asks_all : (names : List (List ℕ)) (log log' : Option (List (List ℕ))) → log' ≡ grown log names →
-    AsksSome names log log'
-asks_all names log log' asked = record { passed = names; coming = []; all = sym (append-nil names); asked = asked }
-
-asks_none : (names : List (List ℕ)) (log log' : Option (List (List ℕ))) → log' ≡ log → AsksSome names log log'
-asks_none names log log' same =
-    record { passed = []; coming = names; all = refl; asked = rw same (sym (grown-nil log)) }
-
--- a file was read, and is what was told of it
-pub opened_content : (there : Option (List ℕ)) (bytes name : List ℕ) (opened : Opened) (log log' : Option (List (List ℕ))) →
-    there ≡ Some bytes → log' ≡ grown log (name ∷ []) → IsContent (bytes_content name bytes) opened →
-    IsOpened (content_of name there) name opened log log'
-opened_content there bytes name (opened_by.Text text) log log' is asked so = rw is (so, asked)
-opened_content there bytes name (opened_by.Refused fault) log log' is asked so = rw is (so, asked)
-opened_content there bytes name opened_by.Unread log log' is asked so = absurd so
-opened_content there bytes name opened_by.Memory log log' is asked so = asks_all (name ∷ []) log log' asked
-
 -- ---- the run of a script
 
 -- a script was opened, and its commands went by their course
@@ -99,8 +80,8 @@ pub opening_goes :
     Course (rest_of run held (started script text setting)) status out out' between log' →
     Course (run_of run held script setting) status out out' log log'
 opening_goes held script text setting status out out' log between log' is asked course =
-    rw is (course_after (script ∷ []) [] (rest_of run held (started script text setting)) status out out out' log between
-    log' (sym (grown-nil out)) asked course)
+    rw is (course_after (script ∷ []) [] (rest_of run held (started script text setting)) status out out out'
+    log between log' (sym (grown-nil out)) asked course)
 
 -- a script is refused before its first line
 pub opening_faults :
@@ -124,7 +105,8 @@ pub opening_memory :
     (held : Held) (script : List ℕ) (setting : Setting) (out : Option (List ℕ)) (log log' : Option (List (List ℕ))) →
     AsksSome (script ∷ []) log log' → Course (run_of run held script setting) end_by.Memory out out log log'
 opening_memory held script setting out log log' asks =
-    course_memory (script ∷ []) [] (begun run held script setting (content_of script (get held script))) out log log' asks
+    course_memory (script ∷ []) [] (begun run held script setting (content_of script (get held script))) out
+    log log' asks
 
 -- ---- the words
 

@@ -90,7 +90,8 @@ begun play held script setting (Readable text) = rest_of play held (started scri
 
 -- all that the run of a script writes and reads
 abbrev pub run_of : Play → Held → List ℕ → Setting → Transcript
-run_of play held script setting = after (script ∷ []) [] (begun play held script setting (content_of script (get held script)))
+run_of play held script setting =
+    after (script ∷ []) [] (begun play held script setting (content_of script (get held script)))
 
 -- all that a request writes and reads
 abbrev pub answered : Play → Held → Request → Transcript
