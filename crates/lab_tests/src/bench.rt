@@ -8,23 +8,6 @@ use std::process::Abort;
 use test_finisher::Finisher;
 use uart_16550::Uart;
 
-/// The devices of a laboratory.
-fn stock(alloc: Global) -> Result<Stock<Box<dyn Device + Send>>, NoMemory> {
-    let mut uarts: Vec<Box<dyn Device + Send>> = Vec::new(alloc);
-    for _ in 0..64 {
-        uarts.push(Box::new(alloc, Uart::new())?)?;
-    }
-    let mut finishers: Vec<Box<dyn Device + Send>> = Vec::new(alloc);
-    for _ in 0..16 {
-        finishers.push(Box::new(alloc, Finisher::new())?)?;
-    }
-    Ok(Stock {
-        uarts,
-        cans: Vec::new(alloc),
-        finishers,
-    })
-}
-
 /// The words of a line, with one blank between them. An empty line has none.
 fn words_of(alloc: Global, line: &str) -> Result<Vec<String>, NoMemory> {
     let mut words = Vec::new(alloc);
@@ -37,7 +20,7 @@ fn words_of(alloc: Global, line: &str) -> Result<Vec<String>, NoMemory> {
     Ok(words)
 }
 
-/// A run for the words of a line: how it ends.
+/// A run for the words of a line, on devices enough for every laboratory: how it ends.
 pub fn run(
     alloc: Global,
     line: &str,
@@ -45,7 +28,19 @@ pub fn run(
     out: &mut MemSink,
 ) -> Result<Status, NoMemory> {
     let words = words_of(alloc, line)?;
-    let stock = stock(alloc)?;
+    let mut uarts: Vec<Box<dyn Device + Send>> = Vec::new(alloc);
+    for _ in 0..64 {
+        uarts.push(Box::new(alloc, Uart::new())?)?;
+    }
+    let mut finishers: Vec<Box<dyn Device + Send>> = Vec::new(alloc);
+    for _ in 0..16 {
+        finishers.push(Box::new(alloc, Finisher::new())?)?;
+    }
+    let stock = Stock {
+        uarts,
+        cans: Vec::new(alloc),
+        finishers,
+    };
     if !stock.is_full() {
         return Err(NoMemory);
     }
