@@ -1,4 +1,5 @@
-# Waits by `wfi`, and prints the time at each interrupt of the timer; the fourth ends the test. An exception is `fail 1`.
+# Waits by `wfi`, and prints the time at each interrupt of the timer; the fourth ends the test by `pass`, and an
+# exception by `fail 1`.
         .equ UART, 0x10000000
         .equ MTIMECMP, 0x02004000
         .equ FINISHER, 0x100000
