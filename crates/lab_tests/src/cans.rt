@@ -329,17 +329,11 @@ mach set m1\nmachine Reset\nemulation RunFor 0.0001\n",
     ),
 ];
 
-/// Each row: what follows a CAN hub `bus`, a UART hub `wire` and a board `m0` in five lines of a
+/// Each row: what follows a CAN hub `bus`, a UART hub `wire` and a board `m0` in four lines of a
 /// script, and how it is refused.
 static FAULTS: [(&str, &str); 15] = [
-    (
-        "connector Connect uart bus\n",
-        "error: s.resc:5: S8 kind\n",
-    ),
-    (
-        "connector Connect can wire\n",
-        "error: s.resc:5: S8 kind\n",
-    ),
+    ("connector Connect uart bus\n", "error: s.resc:5: S8 kind\n"),
+    ("connector Connect can wire\n", "error: s.resc:5: S8 kind\n"),
     (
         "connector Connect can bus\nconnector Connect sysbus.can \"bus\"\n",
         "error: s.resc:6: S9 connected\n",
@@ -352,18 +346,9 @@ static FAULTS: [(&str, &str); 15] = [
         "connector Connect can bus\nconnector Connect can wire\n",
         "error: s.resc:6: S8 kind\n",
     ),
-    (
-        "connector Connect ram bus\n",
-        "error: s.resc:5: S8 kind\n",
-    ),
-    (
-        "connector Connect can none\n",
-        "error: s.resc:5: S7 name\n",
-    ),
-    (
-        "connector Connect cans bus\n",
-        "error: s.resc:5: S7 name\n",
-    ),
+    ("connector Connect ram bus\n", "error: s.resc:5: S8 kind\n"),
+    ("connector Connect can none\n", "error: s.resc:5: S7 name\n"),
+    ("connector Connect cans bus\n", "error: s.resc:5: S7 name\n"),
     (
         "emulation CreateCANHub bus\n",
         "error: s.resc:5: S6 taken\n",
@@ -376,10 +361,7 @@ static FAULTS: [(&str, &str); 15] = [
         "emulation CreateUARTHub bus\n",
         "error: s.resc:5: S6 taken\n",
     ),
-    (
-        "emulation CreateCANHub m0\n",
-        "error: s.resc:5: S6 taken\n",
-    ),
+    ("emulation CreateCANHub m0\n", "error: s.resc:5: S6 taken\n"),
     ("mach create bus\n", "error: s.resc:5: S6 taken\n"),
     (
         "emulation CreateCANHub a.b\n",
@@ -425,9 +407,7 @@ const MORE: &str = "mach create\nrunMacro $join\nshowAnalyzer can3\n";
 #[test]
 fn full_boards_fill_the_laboratory(rt: HostRuntime) -> Result<(), Fail> {
     let alloc = rt.alloc();
-    let mut script = format!(in alloc;
-        "$platform=@full.repl\n$can=can3\n{JOIN}$bin=@m1.bin\n"
-    )?;
+    let mut script = format!(in alloc; "$platform=@full.repl\n$can=can3\n{JOIN}$bin=@m1.bin\n")?;
     let mut log = String::from_str(alloc, "[0.000040] machine-15/can3: tx 123 data 3 0a0b0c\n")?;
     for number in 0..15 {
         script.push_str(MORE)?;
