@@ -48,6 +48,8 @@ cpu: CPU.RiscV32 @ sysbus
 const JOIN: &str = "\
 $platform?=@c.repl
 $can?=sysbus.can
+$first?=@sends.bin
+$second?=@listens.bin
 macro join
 \"\"\"
     machine LoadPlatformDescription $platform
@@ -58,12 +60,12 @@ macro join
 emulation CreateCANHub \"bus\"
 ";
 
-/// Boards `m0` and `m1` on the bus, the second selected.
+/// Boards `m0` and `m1` on the bus with the programs `$first` and `$second`, the second selected.
 const PAIR: &str = "\
-$bin=@m0.bin
+$bin=$first
 mach create m0
 runMacro $join
-$bin=@m1.bin
+$bin=$second
 mach create m1
 runMacro $join
 ";
@@ -93,19 +95,8 @@ fn program(alloc: Global, stores: &[Store]) -> Result<Vec<u8>, NoMemory> {
     bytes_of(alloc, &words)
 }
 
-/// The platforms, and the programs `m0.bin` and `m1.bin`.
-fn pair_files(alloc: Global, first: &[u8], second: &[u8]) -> Result<MemFiles, NoMemory> {
-    let mut files = files(alloc)?;
-    files.put("c.repl", BOARD.as_bytes())?;
-    files.put("w.repl", WIRED_BOARD.as_bytes())?;
-    files.put("full.repl", FULL_BOARD.as_bytes())?;
-    files.put("m0.bin", first)?;
-    files.put("m1.bin", second)?;
-    Ok(files)
-}
-
 /// Sends the frame 123 with the bytes 0a, 0b and 0c in slot 40.
-static SENDS: [Store; 7] = [
+const SENDS: &[Store] = &[
     (4, 0, 0),
     (30, 10, 0x24),
     (32, 11, 0x63),
@@ -115,11 +106,20 @@ static SENDS: [Store; 7] = [
     (40, 1, 1),
 ];
 
-/// Goes to operating mode, where all identifiers are accepted.
-static LISTENS: [Store; 2] = [(2, 5, 0xFF), (4, 0, 0)];
+/// Sends the frame 123 with `A` and a line feed in slot 40, and with `B` in slot 140.
+const SENDS_TWICE: &[Store] = &[
+    (4, 0, 0),
+    (30, 10, 0x24),
+    (32, 11, 0x62),
+    (34, 12, 0x41),
+    (36, 13, 0x0A),
+    (40, 1, 1),
+    (138, 12, 0x42),
+    (140, 1, 1),
+];
 
-/// Sends eight frames of eight bytes, and a remote frame.
-static FLOODS: [Store; 13] = [
+/// Sends eight frames with a length code of 15, and a remote frame.
+const FLOODS: &[Store] = &[
     (4, 0, 0),
     (30, 10, 0x24),
     (32, 11, 0x6F),
@@ -134,6 +134,46 @@ static FLOODS: [Store; 13] = [
     (60, 11, 0x71),
     (62, 1, 1),
 ];
+
+/// The platforms and programs by their names.
+fn can_files(alloc: Global) -> Result<MemFiles, NoMemory> {
+    let mut files = files(alloc)?;
+    files.put("c.repl", BOARD.as_bytes())?;
+    files.put("w.repl", WIRED_BOARD.as_bytes())?;
+    files.put("full.repl", FULL_BOARD.as_bytes())?;
+    files.put("on_frame.bin", &bytes_of(alloc, ON_FRAME)?)?;
+    let programs: [(&str, &[Store]); 12] = [
+        ("sends.bin", SENDS),
+        ("twice.bin", SENDS_TWICE),
+        ("floods.bin", FLOODS),
+        // Goes to operating mode, where all identifiers are accepted.
+        ("listens.bin", &[(2, 5, 0xFF), (4, 0, 0)]),
+        // Stays in reset mode.
+        ("reset.bin", &[(2, 5, 0xFF), (30, 10, 0x24), (40, 1, 1)]),
+        // Accepts 128 to 12f, and, with a bit of the mask, 120 to 127 too.
+        ("other.bin", &[(2, 4, 0x25), (4, 0, 0)]),
+        ("masked.bin", &[(2, 4, 0x25), (4, 5, 0x01), (6, 0, 0)]),
+        (
+            "asks.bin",
+            &[(4, 0, 0), (30, 10, 0xFF), (32, 11, 0xF8), (40, 1, 1)],
+        ),
+        // Sends in the last slot of a round, and in the first of the next.
+        ("last.bin", &[(4, 0, 0), (99, 1, 1)]),
+        ("next.bin", &[(4, 0, 0), (100, 1, 1)]),
+        (
+            "both7.bin",
+            &[(2, 5, 0xFF), (4, 0, 0), (30, 11, 0xE0), (40, 1, 1)],
+        ),
+        (
+            "both400.bin",
+            &[(2, 5, 0xFF), (4, 0, 0), (30, 10, 0x80), (40, 1, 1)],
+        ),
+    ];
+    for (name, stores) in programs {
+        files.put(name, &program(alloc, stores)?)?;
+    }
+    Ok(files)
+}
 
 /// Six frames of eight bytes take 60 bytes, and a seventh has no room; a remote frame takes 2.
 const FLOOD_LOG: &str = "\
@@ -157,78 +197,75 @@ const FLOOD_LOG: &str = "\
 [0.000100] m1/can: rx 123 remote 1
 ";
 
-/// Each row: what `m0` stores, what `m1` stores, and the log of 200 microseconds with both shown.
-static BUSES: [(&[Store], &[Store], &str); 10] = [
+/// Each row: the programs of `m0` and of `m1`, and the log of 200 microseconds with both shown.
+static BUSES: [(&str, &str, &str); 9] = [
     (
-        &SENDS,
-        &LISTENS,
+        "sends",
+        "listens",
         "[0.000040] m0/can: tx 123 data 3 0a0b0c\n[0.000100] m1/can: rx 123 data 3 0a0b0c\n",
     ),
     (
-        &[(4, 0, 0), (30, 10, 0xFF), (32, 11, 0xF8), (40, 1, 1)],
-        &LISTENS,
+        "asks",
+        "listens",
         "[0.000040] m0/can: tx 7ff remote 8\n[0.000100] m1/can: rx 7ff remote 8\n",
     ),
-    // The last slot of a round, and the first of the next.
     (
-        &[(4, 0, 0), (99, 1, 1)],
-        &LISTENS,
+        "last",
+        "listens",
         "[0.000099] m0/can: tx 000 data 0\n[0.000100] m1/can: rx 000 data 0\n",
     ),
     (
-        &[(4, 0, 0), (100, 1, 1)],
-        &LISTENS,
+        "next",
+        "listens",
         "[0.000100] m0/can: tx 000 data 0\n[0.000200] m1/can: rx 000 data 0\n",
     ),
-    // In reset mode nothing is sent and nothing is taken.
-    (&[(30, 10, 0x24), (40, 1, 1)], &LISTENS, ""),
+    ("reset", "listens", ""),
     (
-        &SENDS,
-        &[(2, 5, 0xFF)],
-        "[0.000040] m0/can: tx 123 data 3 0a0b0c\n",
-    ),
-    // The upper eight bits of 123 are 24. A bit of the mask that is 1 is not looked at.
-    (
-        &SENDS,
-        &[(2, 4, 0x25), (4, 0, 0)],
+        "sends",
+        "reset",
         "[0.000040] m0/can: tx 123 data 3 0a0b0c\n",
     ),
     (
-        &SENDS,
-        &[(2, 4, 0x25), (4, 5, 0x01), (6, 0, 0)],
+        "sends",
+        "other",
+        "[0.000040] m0/can: tx 123 data 3 0a0b0c\n",
+    ),
+    (
+        "sends",
+        "masked",
         "[0.000040] m0/can: tx 123 data 3 0a0b0c\n[0.000100] m1/can: rx 123 data 3 0a0b0c\n",
     ),
     // Neither is handed its own frame.
     (
-        &[(2, 5, 0xFF), (4, 0, 0), (30, 11, 0xE0), (40, 1, 1)],
-        &[(2, 5, 0xFF), (4, 0, 0), (30, 10, 0x80), (40, 1, 1)],
+        "both7",
+        "both400",
         "[0.000040] m0/can: tx 007 data 0\n[0.000040] m1/can: tx 400 data 0\n\
 [0.000100] m1/can: rx 007 data 0\n[0.000100] m0/can: rx 400 data 0\n",
     ),
-    (&FLOODS, &LISTENS, FLOOD_LOG),
 ];
 
 /// The frames of the rows' programs are logged as the rows say.
 fn assert_buses<R: Abort + AllocGlobal>(
     rt: &R,
-    rows: &[(&[Store], &[Store], &str)],
+    rows: &[(&str, &str, &str)],
 ) -> Result<(), NoMemory> {
     let alloc = rt.alloc();
     let rest = "showAnalyzer sysbus.can\nmach set m0\nshowAnalyzer can\nstart\n";
-    let script = format!(in alloc; "{JOIN}{PAIR}{rest}")?;
     for (first, second, log) in rows {
-        let files = pair_files(alloc, &program(alloc, first)?, &program(alloc, second)?)?;
-        assert_script(rt, files, script.as_str(), 0, log)?;
+        let script = format!(in alloc;
+            "$first=@{first}.bin\n$second=@{second}.bin\n{JOIN}{PAIR}{rest}"
+        )?;
+        assert_script(rt, can_files(alloc)?, script.as_str(), 0, log)?;
     }
     Ok(())
 }
 
-/// The program `w.bin`, as GNU's assembler encodes it: source 3 of the interrupt controller gets
+/// A program as GNU's assembler encodes it: source 3 of the interrupt controller gets
 /// priority 1 and is enabled, external interrupts are taken, all identifiers are accepted with
 /// receive interrupts on, and the processor waits. At an interrupt the source is claimed, IR is
 /// read, the UART sends two bytes of the frame's data, and the frame is released and the source
 /// completed.
-static ON_FRAME: [u32; 32] = [
+const ON_FRAME: &[u32] = &[
     0x1000_12B7, // lui x5, 0x10001
     0x1000_0637, // lui x12, 0x10000
     0x0C00_03B7, // lui x7, 0xC000
@@ -263,33 +300,24 @@ static ON_FRAME: [u32; 32] = [
     0x3020_0073, // mret
 ];
 
-/// Sends the frame 123 with `A` and a line feed in slot 40, and with `B` in slot 140.
-static SENDS_TWICE: [Store; 8] = [
-    (4, 0, 0),
-    (30, 10, 0x24),
-    (32, 11, 0x62),
-    (34, 12, 0x41),
-    (36, 13, 0x0A),
-    (40, 1, 1),
-    (138, 12, 0x42),
-    (140, 1, 1),
-];
-
 #[test]
 fn frames_cross_a_bus_where_a_round_ends(rt: HostRuntime) -> Result<(), Fail> {
     assert_buses(&rt, &BUSES)?;
-    // The interrupt is entered in the first slot of a round, and the line feed is sent six later.
+    assert_buses(&rt, &[("floods", "listens", FLOOD_LOG)])?;
+    Ok(())
+}
+
+/// The interrupt is entered in the first slot of a round, and the line feed is sent six slots later.
+#[test]
+fn a_frame_interrupts_through_the_controller(rt: HostRuntime) -> Result<(), Fail> {
     let alloc = rt.alloc();
     let rest = "showAnalyzer can\nshowAnalyzer uart\nemulation RunFor 0.0003\n";
-    let script = format!(in alloc; "$platform=@w.repl\n{JOIN}{PAIR}{rest}")?;
-    let files = pair_files(
-        alloc,
-        &program(alloc, &SENDS_TWICE)?,
-        &bytes_of(alloc, &ON_FRAME)?,
+    let script = format!(in alloc;
+        "$platform=@w.repl\n$first=@twice.bin\n$second=@on_frame.bin\n{JOIN}{PAIR}{rest}"
     )?;
     let log = "[0.000100] m1/can: rx 123 data 2 410a\n[0.000106] m1/uart: A\n\
 [0.000200] m1/can: rx 123 data 2 420a\n[0.000206] m1/uart: B\n";
-    assert_script(&rt, files, script.as_str(), 0, log)?;
+    assert_script(&rt, can_files(alloc)?, script.as_str(), 0, log)?;
     Ok(())
 }
 
@@ -383,8 +411,7 @@ fn assert_rows<R: Abort + AllocGlobal>(
     let alloc = rt.alloc();
     for (rest, written) in rows {
         let script = format!(in alloc; "{text}{rest}")?;
-        let files = pair_files(alloc, &program(alloc, &SENDS)?, &program(alloc, &LISTENS)?)?;
-        assert_script(rt, files, script.as_str(), number, written)?;
+        assert_script(rt, can_files(alloc)?, script.as_str(), number, written)?;
     }
     Ok(())
 }
@@ -407,18 +434,17 @@ const MORE: &str = "mach create\nrunMacro $join\nshowAnalyzer can3\n";
 #[test]
 fn full_boards_fill_the_laboratory(rt: HostRuntime) -> Result<(), Fail> {
     let alloc = rt.alloc();
-    let mut script = format!(in alloc; "$platform=@full.repl\n$can=can3\n{JOIN}$bin=@m1.bin\n")?;
+    let mut script = format!(in alloc; "$platform=@full.repl\n$can=can3\n{JOIN}$bin=$second\n")?;
     let mut log = String::from_str(alloc, "[0.000040] machine-15/can3: tx 123 data 3 0a0b0c\n")?;
     for number in 0..15 {
         script.push_str(MORE)?;
         let line = format!(in alloc; "[0.000100] machine-{number}/can3: rx 123 data 3 0a0b0c\n")?;
         log.push_str(line.as_str())?;
     }
-    script.push_str("$bin=@m0.bin\n")?;
+    script.push_str("$bin=$first\n")?;
     script.push_str(MORE)?;
     script.push_str("start\nmach create\n")?;
-    log.push_str("error: s.resc:64: S13 boards\n")?;
-    let files = pair_files(alloc, &program(alloc, &SENDS)?, &program(alloc, &LISTENS)?)?;
-    assert_script(&rt, files, script.as_str(), 3, log.as_str())?;
+    log.push_str("error: s.resc:66: S13 boards\n")?;
+    assert_script(&rt, can_files(alloc)?, script.as_str(), 3, log.as_str())?;
     Ok(())
 }
