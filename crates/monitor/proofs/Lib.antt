@@ -1,7 +1,9 @@
 pub mod BoardLemmas
 pub mod Entered
 pub mod Equipping
+pub mod ImageLemmas
 pub mod MachineNames
+pub mod MapLemmas
 pub mod MemoryLemmas
 pub mod Ruled
 pub mod Steps
