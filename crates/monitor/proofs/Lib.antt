@@ -5,6 +5,7 @@ pub mod ImageLemmas
 pub mod MachineNames
 pub mod MapLemmas
 pub mod MemoryLemmas
+pub mod PlaceLemmas
 pub mod Ruled
 pub mod Steps
 pub mod Texts

@@ -17,7 +17,8 @@ use Rattle.board.specs.Changes.{copied, holds_each, in_memory, is_memory, put_by
 use Rattle.sys_bus.specs.Region.{target_of}
 use Rattle.board.specs.Space.{Space, memory_at, target_at, with_memory}
 use Rattle.board.specs.View.{View}
-use Rattle.monitor.specs.Images.{StandApart, byte_held, byte_of, holds_part, size, with_part, with_parts}
+use Rattle.monitor.specs.Inner.Places.{StandApart}
+use Rattle.monitor.specs.Images.{byte_held, byte_of, holds_part, size, with_part, with_parts}
 use Rattle.monitor.proofs.ImageLemmas.{part_still, plan_copied, plan_put}
 
 -- one item of a list

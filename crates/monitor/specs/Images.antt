@@ -1,5 +1,5 @@
 -- Commands that load images.
-use Rattle.std.specs.Prelude.{◌≡◌, ℕ, ◌+◌, ◌%◌, ◌^◌, ◌<◌, ◌==◌, ◌&&◌, nat_le, nat_lt, Bool, true, List, length}
+use Rattle.std.specs.Prelude.{ℕ, ◌+◌, ◌%◌, ◌^◌, ◌==◌, ◌&&◌, nat_le, nat_lt, Bool, true, List, length}
 use Rattle.std.specs.Prelude.{Option, None, Some, Result, Ok, Err}
 use Rattle.std.specs.FinMap.{get}
 use Rattle.std.specs.List.{fold, list_all, slice_get}
@@ -85,9 +85,3 @@ byte_of s Nothing = None
 
 abbrev pub byte_held : View → ℕ → Option ℕ
 byte_held v address = byte_of v.space (target_at v.space address 1)
-
--- no two addresses are of one byte of memory, and each memory has the bytes of its addresses
-pub record StandApart (s : Space) : Type 0 where
-  pub apart : (a b part at : ℕ) → target_at s a 1 ≡ Ram part at → target_at s b 1 ≡ Ram part at → a ≡ b
-  pub part : (a part at : ℕ) → target_at s a 1 ≡ Ram part at → part < length s.memories
-  pub held : (a part at : ℕ) → target_at s a 1 ≡ Ram part at → at < length (memory_at s part)
