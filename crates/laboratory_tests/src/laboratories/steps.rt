@@ -3,27 +3,45 @@ ghost use Rattle.std.specs.Prelude.{◌≡◌, ◌+◌, ◌<◌, ◌≤◌, true
 ghost use Rattle.lab_state.specs.One.{view_of, HaveAllPlans};
 
 use super::cases::Program;
-use super::{HUB, START, device, plan};
-use crate::{ConnectFault, FitFault, Lab, LabFault, RoundLog, RunFault};
-use dev_core::{Device, Finish, Kind, What};
+use super::plans::full_board;
+use super::{BUS, HUB, START, device};
+use dev_core::{Device, Finish, Frame, Kind, What};
 use lab_num::{BoardNo, Key, Member, Micros, PostNo, is_name};
+use lab_state::{AddFault, ConnectFault, FitFault, Lab, LabFault, RoundLog, RunFault};
 use log_merge::{BoardNames, LogItem, Member0, Note};
+use sample_boards::small_board;
 use std::alloc::Global;
 use std::process::Abort;
 use std::test::Fail;
+use sys_bus::BoardPlan;
 
-const NAMES: [&str; 4] = ["m0", "m1", "m2", "m3"];
+const NAMES: [&str; 16] = [
+    "m0", "m1", "m2", "m3", "m4", "m5", "m6", "m7", "m8", "m9", "m10", "m11", "m12", "m13", "m14",
+    "m15",
+];
+
+/// The first CAN controller of a full board.
+const CAN: u8 = 4;
 
 /// One step. Boards are named by their numbers.
 #[derive(Clone, Copy)]
 pub enum Step {
     /// A board of this name, without a plan.
     Add(&'static str),
-    /// It is made by the plan.
+    /// It is made a small board.
     Fit(u8),
-    /// Boards m0, m1 and so on by the plan, which run these programs and whose UARTs are on the hub.
-    /// Those from this number on are shown.
+    /// It is made a full board.
+    FitFull(u8),
+    /// Small boards m0, m1 and so on, which run these programs and whose UARTs are on the hub. Those
+    /// from this number on are shown.
     Boards(&'static [Program], u8),
+    /// Full boards, which run these programs and whose first CAN controllers are on the bus. The first
+    /// UARTs and CAN controllers of those from this number on are shown.
+    CanBoards(&'static [Program], u8),
+    /// Sixteen full boards.
+    Sixteen,
+    /// A board more is refused.
+    BoardsFull,
     Halt(u8, bool),
     Speed(u8, u32),
     Zero(u8, u32, u32),
@@ -41,6 +59,12 @@ pub enum Step {
     Read(u64, u8, u8, u32),
     /// The same: its finisher asked for a pause with a pass.
     Passed(u64, u8),
+    /// The same: the frame that its CAN controller sent.
+    FrameSent(u64, u8),
+    /// The next items: the frame that came to its CAN controller, so many times.
+    Received(u64, u8, usize),
+    /// The same: the frame that was lost there.
+    Lost(u64, u8, usize),
     /// No item is left.
     NoMore,
     /// The pause of the last run is the post of this microsecond, board and number.
@@ -80,17 +104,15 @@ fn add<D: Device>(rt: &impl Abort, lab: &mut Lab<D>, name: &str) -> Result<Board
 
 fn fit<D: Device>(
     rt: &impl Abort,
-    alloc: Global,
     lab: &mut Lab<D>,
     b: BoardNo,
+    plan: BoardPlan,
     fault: Option<FitFault>,
-) -> Result<(), Fail> {
-    let plan = plan(alloc)?;
+) {
     assert!(rt; plan.is_valid());
     assert!(rt; !lab.is_spent());
     assert!(rt; b.0 < lab.boards());
     assert!(rt; lab.fit(b, plan).err() == fault);
-    Ok(())
 }
 
 fn connect<D: Device>(
@@ -133,10 +155,16 @@ fn load<D: Device>(
     Ok(())
 }
 
-fn show<D: Device>(rt: &impl Abort, lab: &mut Lab<D>, b: BoardNo) {
+fn show_uart<D: Device>(rt: &impl Abort, lab: &mut Lab<D>, b: BoardNo) {
     assert_planned(rt, lab, b);
     assert!(rt; matches!(lab.board(b).plan().kinds.items().first(), Some(Kind::Uart)));
     lab.show(device(b, 0));
+}
+
+fn show_can<D: Device>(rt: &impl Abort, lab: &mut Lab<D>, b: BoardNo) {
+    assert_planned(rt, lab, b);
+    assert!(rt; matches!(lab.board(b).plan().kinds.items().get(4), Some(Kind::Can)));
+    lab.show(device(b, CAN));
 }
 
 /// Changes a board.
@@ -175,7 +203,7 @@ fn change<D: Device>(rt: &impl Abort, lab: &mut Lab<D>, step: Step) {
     }
 }
 
-/// Adds boards that run these programs, and shows those from `first_shown` on.
+/// Adds small boards that run these programs, and shows those from `first_shown` on.
 fn add_all<D: Device>(
     rt: &impl Abort,
     alloc: Global,
@@ -185,14 +213,51 @@ fn add_all<D: Device>(
 ) -> Result<(), Fail> {
     for (name, program) in NAMES.into_iter().zip(programs) {
         let b = add(rt, lab, name)?;
-        fit(rt, alloc, lab, b, None)?;
+        fit(rt, lab, b, small_board(alloc)?, None);
         connect(rt, lab, device(b, 0), HUB, None);
         load(rt, alloc, lab, b, *program)?;
         if first_shown <= b.0 {
-            show(rt, lab, b);
+            show_uart(rt, lab, b);
         }
     }
     Ok(())
+}
+
+/// The same with full boards and their first CAN controllers.
+fn add_full<D: Device>(
+    rt: &impl Abort,
+    alloc: Global,
+    lab: &mut Lab<D>,
+    programs: &[Program],
+    first_shown: u8,
+) -> Result<(), Fail> {
+    for (name, program) in NAMES.into_iter().zip(programs) {
+        let b = add(rt, lab, name)?;
+        fit(rt, lab, b, full_board(alloc)?, None);
+        connect(rt, lab, device(b, CAN), BUS, None);
+        load(rt, alloc, lab, b, *program)?;
+        if first_shown <= b.0 {
+            show_uart(rt, lab, b);
+            show_can(rt, lab, b);
+        }
+    }
+    Ok(())
+}
+
+/// Adds sixteen full boards.
+fn add_sixteen<D: Device>(rt: &impl Abort, alloc: Global, lab: &mut Lab<D>) -> Result<(), Fail> {
+    for name in NAMES {
+        let b = add(rt, lab, name)?;
+        fit(rt, lab, b, full_board(alloc)?, None);
+    }
+    Ok(())
+}
+
+/// A board more is refused.
+fn assert_full<D: Device>(rt: &impl Abort, lab: &mut Lab<D>) {
+    assert!(rt; !lab.is_spent());
+    assert!(rt; is_name("more"));
+    assert!(rt; lab.add_board("more") == Err(AddFault::Boards));
 }
 
 /// Adds boards, gives them plans, and puts devices on hubs.
@@ -206,9 +271,19 @@ fn build<D: Device>(
         Step::Add(name) => {
             let _b = add(rt, lab, name)?;
         }
-        Step::Fit(b) => fit(rt, alloc, lab, BoardNo(b), None)?,
-        Step::HasPlan(b) => fit(rt, alloc, lab, BoardNo(b), Some(FitFault::Has))?,
+        Step::Fit(b) => fit(rt, lab, BoardNo(b), small_board(alloc)?, None),
+        Step::FitFull(b) => fit(rt, lab, BoardNo(b), full_board(alloc)?, None),
+        Step::HasPlan(b) => fit(
+            rt,
+            lab,
+            BoardNo(b),
+            small_board(alloc)?,
+            Some(FitFault::Has),
+        ),
         Step::Boards(programs, first_shown) => add_all(rt, alloc, lab, programs, first_shown)?,
+        Step::CanBoards(programs, first_shown) => add_full(rt, alloc, lab, programs, first_shown)?,
+        Step::Sixteen => add_sixteen(rt, alloc, lab)?,
+        Step::BoardsFull => assert_full(rt, lab),
         Step::Connect(b, dev, hub, fault) => connect(rt, lab, device(BoardNo(b), dev), hub, fault),
         _ => {}
     }
@@ -267,6 +342,43 @@ fn of_slot(at: u64, board: u8, what: What) -> LogItem {
     LogItem::Slot(slot, what)
 }
 
+/// The frame that the programs send.
+fn frame() -> Frame {
+    Frame::new(0x123, b"A")
+}
+
+/// The next items of the log are so many notes of a board's CAN controller.
+fn assert_notes(rt: &impl Abort, log: &mut Log, at: u64, board: u8, note: Note, times: usize) {
+    let item = LogItem::Note {
+        at: Micros(at),
+        member: device(BoardNo(board), CAN),
+        note,
+    };
+    for _ in 0..times {
+        assert_next(rt, log, item);
+    }
+}
+
+/// Looks at what the last run logged of frames.
+fn look_at_frames(rt: &impl Abort, log: &mut Log, step: Step) {
+    match step {
+        Step::FrameSent(at, board) => {
+            let sent = What::Sent {
+                dev: CAN,
+                frame: frame(),
+            };
+            assert_next(rt, log, of_slot(at, board, sent));
+        }
+        Step::Received(at, board, times) => {
+            assert_notes(rt, log, at, board, Note::Received(frame()), times);
+        }
+        Step::Lost(at, board, times) => {
+            assert_notes(rt, log, at, board, Note::Lost(frame()), times);
+        }
+        _ => {}
+    }
+}
+
 /// Looks at what the last run logged.
 fn look(rt: &impl Abort, log: &mut Log, step: Step) {
     match step {
@@ -314,6 +426,8 @@ fn assert_members<D: Device>(rt: &impl Abort, lab: &Lab<D>, count: u8) {
     assert!(rt; lab.hub_name(0).as_str() == HUB);
     assert_eq!(rt; lab.find_hub(HUB), Some(0));
     assert_eq!(rt; lab.hub_kind(0), Kind::Uart);
+    assert!(rt; 1 < lab.hubs());
+    assert_eq!(rt; lab.hub_kind(1), Kind::Can);
     let members = lab.hub_members(0);
     assert_eq!(rt; members.len(), usize::from(count));
     for (member, b) in members.iter().zip(0..count) {
@@ -396,6 +510,7 @@ pub fn play<D: Device>(
         change(rt, &mut lab, *step);
         run(rt, &mut lab, &mut log, *step)?;
         look(rt, &mut log, *step);
+        look_at_frames(rt, &mut log, *step);
         read(rt, &mut lab, *step)?;
     }
     Ok(())

@@ -5,19 +5,19 @@ use super::steps::Step::{
     NotPaused, Now, Overrun, Passed, Paused, Pc, Quantum, Read, Reset, Retired, Round, Run, Sent,
     Speed, Zero,
 };
-use super::{HUB, START};
-use crate::ConnectFault;
+use super::{HUB, START, frames};
+use lab_state::ConnectFault;
 use std::alloc::Global;
 use std::test::Fail;
 
 /// lui x5, 0x10000: the address of the UART
-const LUI: u32 = 0x1000_02B7;
+pub const LUI: u32 = 0x1000_02B7;
 
 /// addi x0, x0, 0: does nothing
 const NOP: u32 = 0x0000_0013;
 
 /// jal x0, 0: goes round in one place
-const STAY: u32 = 0x0000_006F;
+pub const STAY: u32 = 0x0000_006F;
 
 /// addi x6, x0, 65: the letter `A`. A letter more is this much more.
 const LETTER_A: u32 = 0x0410_0313;
@@ -90,6 +90,8 @@ pub enum Program {
     Send(u32, usize),
     /// Ends a test in this slot, after these instructions.
     Finish(&'static [u32], usize),
+    /// Sends the frame so many times from slot 11 on, and takes the frames of all others.
+    Frames(usize),
 }
 
 /// Instructions of which the one before the last stands in this slot.
@@ -111,6 +113,7 @@ impl Program {
                 with_last(alloc, &[LUI, letter], SEND, slot)
             }
             Program::Finish(first, slot) => with_last(alloc, first, FINISH, slot),
+            Program::Frames(times) => frames::sender(alloc, times),
         }
     }
 
@@ -322,7 +325,7 @@ pub const READ_AND_REFUSED: [Step; 19] = [
     Fit(1),
     Connect(1, 0, HUB, None),
     Quantum(7),
-    Count(2, 1),
+    Count(2, 2),
     Named(0, "m0"),
     Named(1, "m1"),
     Members(2),

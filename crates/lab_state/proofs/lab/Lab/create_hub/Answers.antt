@@ -1,10 +1,9 @@
 -- A hub more, under a name of its own.
 use Rattle.std.proofs.Common.{◌≡◌, ◌∙◌, sym, ap, refl, false, []}
-use Rattle.dev_core.specs.declared.kind.Kind.TheVariants.{Uart}
 use Rattle.lab_state.specs.Lab.{Seen}
 use Rattle.lab_state.specs.Names.{is_taken}
 use Rattle.lab_state.proofs.SoundLemmas.{sound-hub}
-use Rattle.lab_state.proofs.lab.Lab.create_uart_hub.Goals as goal
+use Rattle.lab_state.proofs.lab.Lab.create_hub.Goals as goal
 
 pub invariant_of-self-2 : goal.invariant_of-self-2
 invariant_of-self-2 g c h =
@@ -12,5 +11,5 @@ invariant_of-self-2 g c h =
     let free =
     ap (λ (s : Seen). is_taken s.lab c.in_ok-text.text) c.self.view_is
     ∙ ap (is_taken c.args.self.now.lab) c.in_ok-text.ensures ∙ sym c.is_taken.ensures ∙ c.if-is_taken.false in
-    rw c.in_ok-create_uart_hub.ensures.ok
-    (sound-hub (record { name = c.in_ok-text.text; kind = Uart; members = [] }) (c.self.invariant unspent) refl free)
+    rw c.in_ok-create.ensures.ok
+    (sound-hub (record { name = c.in_ok-text.text; kind = c.args.kind; members = [] }) (c.self.invariant unspent) refl free)

@@ -1,33 +1,33 @@
 //! The devices of the boards.
 use can_sja1000::Can;
 use dev_core::{DevState, Device, Effect, Kind, Payload, Stock, Taken};
+use sample_boards::CountedUart;
 use std::alloc::Global;
 use std::cell::Cell;
 use std::test::Fail;
 use test_finisher::Finisher;
-use uart_16550::Uart;
 
-/// A UART, with a count of the stores that it was handed, a CAN controller, or a finisher.
+/// A UART that counts, a CAN controller, or a finisher.
 #[derive(Drop)]
 pub enum Chip<'a> {
-    Uart(Uart, &'a Cell<u32>),
+    Uart(CountedUart<'a>),
     Can(Can),
     Finisher(Finisher),
 }
 
 impl<'a> Device for Chip<'a> {
     ghost use Rattle.dev_core.specs.declared.state.DevState.TheVariants as state;
-    ghost use Rattle.lab_state.specs.declared.tests.chip.Chip.TheVariants.{Uart, Can, Finisher};
+    ghost use Rattle.laboratory_tests.specs.declared.laboratories.chip.Chip.TheVariants.{Uart, Can, Finisher};
 
     ghost meaning = { elim [
-      | Uart uart stores ↦ state.Uart uart
+      | Uart uart ↦ ⟦<CountedUart<'a> as Device>⟧.meaning uart
       | Can can ↦ state.Can can
       | Finisher finisher ↦ state.Finisher
     ] };
 
     fn kind(&self) -> Kind {
         match self {
-            Chip::Uart(uart, _) => uart.kind(),
+            Chip::Uart(uart) => uart.kind(),
             Chip::Can(can) => can.kind(),
             Chip::Finisher(finisher) => finisher.kind(),
         }
@@ -35,7 +35,7 @@ impl<'a> Device for Chip<'a> {
 
     fn load(&mut self, reg: u32, width: u8) -> u32 {
         match self {
-            Chip::Uart(uart, _) => uart.load(reg, width),
+            Chip::Uart(uart) => uart.load(reg, width),
             Chip::Can(can) => can.load(reg, width),
             Chip::Finisher(finisher) => finisher.load(reg, width),
         }
@@ -43,10 +43,7 @@ impl<'a> Device for Chip<'a> {
 
     fn store(&mut self, reg: u32, width: u8, value: u32) -> Effect {
         match self {
-            Chip::Uart(uart, stores) => {
-                stores.set(stores.get().wrapping_add(1));
-                uart.store(reg, width, value)
-            }
+            Chip::Uart(uart) => uart.store(reg, width, value),
             Chip::Can(can) => can.store(reg, width, value),
             Chip::Finisher(finisher) => finisher.store(reg, width, value),
         }
@@ -54,7 +51,7 @@ impl<'a> Device for Chip<'a> {
 
     fn take(&mut self, payload: &Payload) -> Taken {
         match self {
-            Chip::Uart(uart, _) => uart.take(payload),
+            Chip::Uart(uart) => uart.take(payload),
             Chip::Can(can) => can.take(payload),
             Chip::Finisher(finisher) => finisher.take(payload),
         }
@@ -62,7 +59,7 @@ impl<'a> Device for Chip<'a> {
 
     fn line(&self) -> bool {
         match self {
-            Chip::Uart(uart, _) => uart.line(),
+            Chip::Uart(uart) => uart.line(),
             Chip::Can(can) => can.line(),
             Chip::Finisher(finisher) => finisher.line(),
         }
@@ -70,7 +67,7 @@ impl<'a> Device for Chip<'a> {
 
     fn reset(&mut self) {
         match self {
-            Chip::Uart(uart, _) => uart.reset(),
+            Chip::Uart(uart) => uart.reset(),
             Chip::Can(can) => can.reset(),
             Chip::Finisher(finisher) => finisher.reset(),
         }
@@ -78,7 +75,7 @@ impl<'a> Device for Chip<'a> {
 
     fn state(&self) -> DevState {
         match self {
-            Chip::Uart(uart, _) => uart.state(),
+            Chip::Uart(uart) => uart.state(),
             Chip::Can(can) => can.state(),
             Chip::Finisher(finisher) => finisher.state(),
         }
@@ -86,16 +83,18 @@ impl<'a> Device for Chip<'a> {
 
     fn put(&mut self, state: &DevState) -> bool {
         match self {
-            Chip::Uart(uart, _) => uart.put(state),
+            Chip::Uart(uart) => uart.put(state),
             Chip::Can(can) => can.put(state),
             Chip::Finisher(finisher) => finisher.put(state),
         }
     }
 }
 
-/// How many stores the first UART of a stock, the second and all others were handed.
+/// How many stores the first UART of a stock, the second and all others were handed, and how many
+/// loads all of them.
 #[derive(Drop)]
 pub struct Counts {
+    pub loads: Cell<u32>,
     pub first: Cell<u32>,
     pub second: Cell<u32>,
     pub others: Cell<u32>,
@@ -104,6 +103,7 @@ pub struct Counts {
 impl Counts {
     pub fn new() -> Counts {
         Counts {
+            loads: Cell::new(0),
             first: Cell::new(0),
             second: Cell::new(0),
             others: Cell::new(0),
@@ -120,7 +120,7 @@ pub fn stock(alloc: Global, counts: &Counts) -> Result<Stock<Chip<'_>>, Fail> {
             1 => &counts.second,
             _ => &counts.others,
         };
-        uarts.push(Chip::Uart(Uart::new(), stores))?;
+        uarts.push(Chip::Uart(CountedUart::new(&counts.loads, stores)))?;
     }
     let mut cans = Vec::new(alloc);
     for _ in 0..64 {
