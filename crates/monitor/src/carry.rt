@@ -58,7 +58,7 @@ impl<D: Device> Monitor<D> {
         }
     }
 
-    /// Carries out a command that reads no file. Hubs of CAN controllers are not built.
+    /// Carries out a command that reads no file and does not end the script.
     fn carry_out_alone(&mut self, command: Command) -> Result<Vec<u8>, Stop>
         requires unspent { self.old.spent ≡ false }
         requires goes_on { self.old.state.flow.ended ≡ false }
@@ -77,6 +77,7 @@ impl<D: Device> Monitor<D> {
             Command::Quantum { length } => Ok(self.quantum(length)),
             Command::RunFor { length } => self.run_for(length),
             Command::UartHub { name } => self.uart_hub(name.as_str()),
+            Command::CanHub { name } => self.can_hub(name.as_str()),
             Command::Connect { dev, hub } => self.connect(dev.as_str(), hub.as_str()),
             Command::Show { dev } => self.show(dev.as_str()),
             Command::RunMacro { name } => self.run_macro(name.as_str()),
@@ -86,7 +87,6 @@ impl<D: Device> Monitor<D> {
             | Command::LoadElf { .. }
             | Command::LoadBinary { .. }
             | Command::LoadHex { .. }
-            | Command::CanHub { .. }
             | Command::Include { .. }
             | Command::Quit => Err(Stop::Line(ScriptCause::Unknown)),
         }
