@@ -85,7 +85,7 @@ fn lines_that_are_no_commands_are_refused(rt: HostRuntime) -> Result<(), Fail> {
         ("", "$1x=3", "S1 unknown command"),
         ("", "sysbus LoadELF @a.bin 0", "S2 arguments"),
         ("", "sysbus LoadHEX a.bin", "S2 arguments"),
-        ("", "emulation CreateCANHub h", "S1 unknown command"),
+        ("", "emulation CreateCANHub a.b", "S2 arguments"),
         ("", "mach Create a", "S1 unknown command"),
         ("", "pause # x", "S2 arguments"),
         ("", "mach create \"x", "S2 arguments"),
