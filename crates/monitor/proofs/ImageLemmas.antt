@@ -10,15 +10,9 @@ use Rattle.std.specs.Option.{ForSome, option_map}
 use Rattle.std.proofs.lemmas.Bool.{and_parts}
 use Rattle.std.proofs.lemmas.Bool.Decides.{nat_tests}
 use Rattle.std.proofs.lemmas.List.Sums.{fold_more}
-use Rattle.elf_load.specs.declared.image.ElfFault.{ElfFault}
-use Rattle.elf_load.specs.declared.image.ElfFault.TheVariants as elf_fault
 use Rattle.elf_load.specs.declared.image.Image.{Image}
 use Rattle.elf_load.specs.declared.image.Part.{Part}
-use Rattle.elf_load.specs.Image as elf
 use Rattle.elf_load.specs.Map.{contents}
-use Rattle.ihex_load.specs.declared.fault.HexFault.{HexFault}
-use Rattle.ihex_load.specs.declared.fault.HexFault.TheVariants as hex_fault
-use Rattle.ihex_load.specs.Image as hex
 use Rattle.lab_io.specs.Held.{Held}
 use Rattle.lab_io.specs.Known.{grown}
 use Rattle.sys_bus.specs.declared.region.Target.{Target}
@@ -42,30 +36,6 @@ use Rattle.monitor.specs.Selected.{Equipped, equipped}
 use Rattle.monitor.specs.State.{State, Place}
 use Rattle.monitor.specs.Step.{Running}
 use Rattle.monitor.proofs.Ruled.{file_stops, fits, ruled_answer}
-
--- a file has the fault that its reader tells, unless memory was wanting
-pub elf_told :
-    (meant : Result Image ElfFault) (fault : ElfFault) → elf.IsReadAs meant (Err fault) →
-    (fault ≡ elf_fault.Memory → ⊥) → meant ≡ Err fault
-elf_told meant elf_fault.Short is not = is
-elf_told meant elf_fault.NotElf is not = is
-elf_told meant elf_fault.Class is not = is
-elf_told meant elf_fault.Order is not = is
-elf_told meant elf_fault.Machine is not = is
-elf_told meant elf_fault.FileType is not = is
-elf_told meant elf_fault.Headers is not = is
-elf_told meant elf_fault.Segment is not = is
-elf_told meant elf_fault.Memory is not = absurd (not refl)
-
-pub hex_told :
-    (meant : Result Image HexFault) (fault : HexFault) → hex.IsReadAs meant (Err fault) →
-    (fault ≡ hex_fault.Memory → ⊥) → meant ≡ Err fault
-hex_told meant hex_fault.Form is not = is
-hex_told meant hex_fault.Sum is not = is
-hex_told meant hex_fault.NoEnd is not = is
-hex_told meant hex_fault.Kind is not = is
-hex_told meant hex_fault.Length is not = is
-hex_told meant hex_fault.Memory is not = absurd (not refl)
 
 -- how a board goes on with the bytes of a file
 abbrev use_bytes :

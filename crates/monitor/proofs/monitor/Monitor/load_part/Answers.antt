@@ -42,9 +42,9 @@ zero-requires-clause-holds g c =
     (λ v. holds_each v.space (part.at + length c.items-bytes.result.now) part.zeros ≡ true)
     (ap (λ seen. seen.lab) c.in_ok-copy_in.ensures.ok)
     (λ v seen.
-        let there : view_of c.args.self.now.state.lab c.args.b.0 ≡ Some v = rw (← c.self.view_is) seen in
-        still_held v.space part.at c.items-bytes.result.now (part.at + length c.items-bytes.result.now) part.zeros
-        ∙ rw c.items-bytes.ensures (part_pieces v part (c.requires.holds v there)).3)
+    let there : view_of c.args.self.now.state.lab c.args.b.0 ≡ Some v = rw (← c.self.view_is) seen in
+    still_held v.space part.at c.items-bytes.result.now (part.at + length c.items-bytes.result.now) part.zeros
+    ∙ rw c.items-bytes.ensures (part_pieces v part (c.requires.holds v there)).3)
 
 pub returns-clause-ok : goal.returns-clause-ok
 returns-clause-ok g c =

@@ -22,9 +22,9 @@ load_part-requires-clause-holds g c =
     for_changed c.args.self.now.state.lab c.loop-part.self.state.lab c.args.b.0 (λ v. with_parts v (take i parts))
     (λ v. holds_part v part ≡ true) (ap (λ running. running.state.lab) c.loop-part.invariant)
     (λ v seen.
-        parts_still (take i parts) v part
-        ∙ subst (λ item. holds_part v item ≡ true) (sym c.part-item.is)
-        (each_of_all (holds_part v) parts i part (c.requires.holds v seen) inside))
+    parts_still (take i parts) v part
+    ∙ subst (λ item. holds_part v item ≡ true) (sym c.part-item.is)
+    (each_of_all (holds_part v) parts i part (c.requires.holds v seen) inside))
 
 pub loop-part-preserved : goal.loop-part-preserved
 loop-part-preserved g c =
