@@ -658,10 +658,7 @@ static CANS: [(&str, &str); 22] = [
         "c: CAN.SJA1000 @ sysbus 0x100 { wideRegisters: true }\n",
         "P4 2:3",
     ),
-    (
-        "c: CAN.SJA1000 @ sysbus 0x102\n frequency: 1\n",
-        "P4 2:4",
-    ),
+    ("c: CAN.SJA1000 @ sysbus 0x102\n frequency: 1\n", "P4 2:4"),
     ("c: CAN.SJA1000 @ sysbus 0x100\nc: X\n", "P7 2:4"),
     (
         "c: CAN.SJA1000 @ sysbus 0x100\nd: CAN.SJA1000 @ sysbus 0x1FC\n",
@@ -776,10 +773,7 @@ static CAN_WIRES: [(&str, &str); 14] = [
         "c: CAN.SJA1000 @ sysbus 0x2000 { IRQ -> plic@0 }\n",
         "P10 2:7",
     ),
-    (
-        "c: CAN.SJA1000 @ sysbus 0x2000 { -> plic@32 }\n",
-        "P10 2:7",
-    ),
+    ("c: CAN.SJA1000 @ sysbus 0x2000 { -> plic@32 }\n", "P10 2:7"),
     (
         "c: CAN.SJA1000 @ sysbus 0x2000 { IRQ -> cpu@4 }\n",
         "P10 2:7",

@@ -82,7 +82,12 @@ fn frame(id: u16, bytes: &[u8]) -> Frame {
 }
 
 fn show<D: Device>(rt: &impl Abort, board: &mut Board<D>, dev: u8) {
-    assert!(rt; matches!(board.plan().kinds.items().get(usize::from(dev)), Some(Kind::Can)));
+    assert!(rt;
+        matches!(
+            board.plan().kinds.items().get(usize::from(dev)),
+            Some(Kind::Can)
+        )
+    );
     board.show(dev);
 }
 
