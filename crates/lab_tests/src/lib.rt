@@ -4,6 +4,8 @@
 #[cfg(test)]
 mod bench;
 #[cfg(test)]
+mod cans;
+#[cfg(test)]
 mod images;
 #[cfg(test)]
 mod limits;
