@@ -1,0 +1,2 @@
+-- Lemmas of parcel.
+pub mod SlotLemmas
