@@ -95,7 +95,11 @@ fn boards_are_jobs_of_a_floor(rt: HostRuntime) -> Result<(), Fail> {
         let mut floor = two_boards(&rt, alloc)?;
         let events = events_of(alloc, text)?;
         assert_eq!(rt; floor.run_events(&events), *ran, "{text}");
-        assert_eq!(rt; mailed(alloc, &floor)?.as_slice(), posts_of(alloc, boards)?.as_slice(), "{text}");
+        assert_eq!(rt;
+            mailed(alloc, &floor)?.as_slice(),
+            posts_of(alloc, boards)?.as_slice(),
+            "{text}"
+        );
     }
     Ok(())
 }
@@ -111,11 +115,19 @@ fn boards_come_to_the_same_in_each_order(rt: HostRuntime) -> Result<(), Fail> {
     let alloc = rt.alloc();
     for text in &ORDERS {
         let mut floor = two_boards(&rt, alloc)?;
-        assert_eq!(rt; floor.run_events(&events_of(alloc, text)?), Ran::All, "{text}");
+        assert_eq!(rt;
+            floor.run_events(&events_of(alloc, text)?),
+            Ran::All,
+            "{text}"
+        );
         assert!(rt; floor.is_ended());
         let mut posts = mailed(alloc, &floor)?;
         posts.sort_by_key(|post| post.key)?;
-        assert_eq!(rt; posts.as_slice(), posts_of(alloc, &[0, 1])?.as_slice(), "{text}");
+        assert_eq!(rt;
+            posts.as_slice(),
+            posts_of(alloc, &[0, 1])?.as_slice(),
+            "{text}"
+        );
         for number in 0..2 {
             let job = floor.job(BoardNo(number));
             assert_eq!(rt; job.left(), 0);

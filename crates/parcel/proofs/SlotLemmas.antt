@@ -1,14 +1,14 @@
 -- Slots of a board one after another, as those of a job.
-use Rattle.std.proofs.Common.{◌≡◌, ◌∙◌, ℕ, zero, suc, ◌+◌, ◌-◌, ◌<◌, ◌≤◌, ◌^◌, List, [], ◌∷◌, ◌++◌, length, take, drop}
-use Rattle.std.proofs.Common.{refl, sym, ap, subst, arith, Option, Some, None, slice_get, option_to_list}
-use Rattle.std.proofs.Common.{append_assoc, append-nil, add-zero, add-one}
+use Rattle.std.proofs.Common.{◌≡◌, ◌∙◌, ℕ, zero, suc, ◌+◌, ◌-◌, ◌<◌, ◌≤◌}
+use Rattle.std.proofs.Common.{◌^◌, List, [], ◌∷◌, ◌++◌, length, take, drop}
+use Rattle.std.proofs.Common.{refl, sym, ap, arith, Option, Some, None, slice_get, option_to_list}
+use Rattle.std.proofs.Common.{append_assoc, append-nil, add-zero}
 use Rattle.dev_core.specs.declared.post.Post.{Post}
 use Rattle.board.specs.View.{View, State, quiet, after}
 use Rattle.board.specs.Stretch.{stretch}
-use Rattle.board.specs.Numbers.{Numbers}
 use Rattle.board.specs.Numbered.{IsNumbered}
 use Rattle.floor_core.specs.Job as job
-use Rattle.floor_core.specs.Job.{Job, posts}
+use Rattle.floor_core.specs.Job.{posts}
 use Rattle.time_handle.specs.Grant.{Grant, left}
 use Rattle.parcel.specs.Slots.{spent, stepped, next, slots_to_come, moved, moved_by, job_of, unposted, state_after}
 
