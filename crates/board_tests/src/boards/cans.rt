@@ -67,8 +67,10 @@ fn plan(alloc: Global) -> Result<BoardPlan, NoMemory>
     Ok(plan)
 }
 
-fn start(rt: &impl Abort, alloc: Global) -> Result<Board<Can>, Fail> {
-    let plan = plan(alloc)?;
+/// A board of a plan with four controllers.
+fn start(rt: &impl Abort, alloc: Global, plan: BoardPlan) -> Result<Board<Can>, Fail>
+    requires kinds { plan.kinds ≡ can ∷ can ∷ can ∷ can ∷ [] }
+{
     assert!(rt; plan.is_valid());
     let cans = vec![in alloc; Can::new(), Can::new(), Can::new(), Can::new()]?;
     match Board::new(alloc, BOARD, plan, cans) {
@@ -299,7 +301,7 @@ fn can_controllers_send_and_receive(rt: HostRuntime) -> Result<(), Fail> {
         (&PIN, &ON_PIN),
     ];
     for (words, steps) in rows {
-        let board = start(&rt, rt.alloc())?;
+        let board = start(&rt, rt.alloc(), plan(rt.alloc())?)?;
         play(&rt, board, words, steps)?;
     }
     Ok(())
