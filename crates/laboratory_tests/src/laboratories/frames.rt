@@ -69,8 +69,8 @@ const TO_OTHERS: [Step; 8] = [
     CanBoards(&[Program::Frames(1), TAKES_ALL, TAKES_ALL], 0),
     Run(100),
     FrameSent(11, 0),
-    Received(100, 1, 1),
-    Received(100, 2, 1),
+    Received(100, 1),
+    Received(100, 2),
     NoMore,
     Run(100),
     NoMore,
@@ -82,25 +82,46 @@ const TWO_SENDERS: [Step; 6] = [
     Run(100),
     FrameSent(11, 0),
     FrameSent(11, 1),
-    Received(100, 1, 1),
-    Received(100, 0, 1),
+    Received(100, 1),
+    Received(100, 0),
 ];
 
 /// A program reads what has come.
 const READ_FRAME: [Step; 5] = [
     CanBoards(&[Program::Frames(1), Program::Of(&BYTE_OF_FRAME)], 1),
     Run(200),
-    Received(100, 1, 1),
+    Received(100, 1),
     Sent(105, 1, b'A'),
     NoMore,
 ];
 
 /// A frame of one byte takes three of the 64 bytes: 21 are kept.
-const LOST: [Step; 5] = [
+const LOST: [Step; 26] = [
     CanBoards(&[Program::Frames(23), TAKES_ALL], 1),
     Run(100),
-    Received(100, 1, 21),
-    Lost(100, 1, 2),
+    Received(100, 1),
+    Received(100, 1),
+    Received(100, 1),
+    Received(100, 1),
+    Received(100, 1),
+    Received(100, 1),
+    Received(100, 1),
+    Received(100, 1),
+    Received(100, 1),
+    Received(100, 1),
+    Received(100, 1),
+    Received(100, 1),
+    Received(100, 1),
+    Received(100, 1),
+    Received(100, 1),
+    Received(100, 1),
+    Received(100, 1),
+    Received(100, 1),
+    Received(100, 1),
+    Received(100, 1),
+    Received(100, 1),
+    Lost(100, 1),
+    Lost(100, 1),
     NoMore,
 ];
 

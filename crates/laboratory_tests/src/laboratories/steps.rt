@@ -61,10 +61,10 @@ pub enum Step {
     Passed(u64, u8),
     /// The same: the frame that its CAN controller sent.
     FrameSent(u64, u8),
-    /// The next items: the frame that came to its CAN controller, so many times.
-    Received(u64, u8, usize),
+    /// The same: the frame that came to its CAN controller.
+    Received(u64, u8),
     /// The same: the frame that was lost there.
-    Lost(u64, u8, usize),
+    Lost(u64, u8),
     /// No item is left.
     NoMore,
     /// The pause of the last run is the post of this microsecond, board and number.
@@ -347,15 +347,12 @@ fn frame() -> Frame {
     Frame::new(0x123, b"A")
 }
 
-/// The next items of the log are so many notes of a board's CAN controller.
-fn assert_notes(rt: &impl Abort, log: &mut Log, at: u64, board: u8, note: Note, times: usize) {
-    let item = LogItem::Note {
+/// The item for what a board's CAN controller noted at the end of a round.
+fn of_can(at: u64, board: u8, note: Note) -> LogItem {
+    LogItem::Note {
         at: Micros(at),
         member: device(BoardNo(board), CAN),
         note,
-    };
-    for _ in 0..times {
-        assert_next(rt, log, item);
     }
 }
 
@@ -369,11 +366,11 @@ fn look_at_frames(rt: &impl Abort, log: &mut Log, step: Step) {
             };
             assert_next(rt, log, of_slot(at, board, sent));
         }
-        Step::Received(at, board, times) => {
-            assert_notes(rt, log, at, board, Note::Received(frame()), times);
+        Step::Received(at, board) => {
+            assert_next(rt, log, of_can(at, board, Note::Received(frame())));
         }
-        Step::Lost(at, board, times) => {
-            assert_notes(rt, log, at, board, Note::Lost(frame()), times);
+        Step::Lost(at, board) => {
+            assert_next(rt, log, of_can(at, board, Note::Lost(frame())));
         }
         _ => {}
     }
