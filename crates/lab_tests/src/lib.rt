@@ -4,6 +4,8 @@
 #[cfg(test)]
 mod bench;
 #[cfg(test)]
+mod generated;
+#[cfg(test)]
 mod limits;
 #[cfg(test)]
 mod outside;

@@ -1,0 +1,3 @@
+pub mod MoreBoards
+pub mod Plans
+pub mod Texts

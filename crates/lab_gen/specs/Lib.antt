@@ -1,0 +1,5 @@
+-- What contracts of lab_gen cite.
+pub mod Firmware
+pub mod Plan
+pub mod Generated
+pub mod Summary
