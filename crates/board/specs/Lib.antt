@@ -7,6 +7,5 @@ pub mod Slot
 pub mod Stretch
 pub mod Numbered
 pub mod New
-pub mod NoCans
 pub mod Changes
 pub mod Inner

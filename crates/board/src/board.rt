@@ -65,7 +65,6 @@ impl<D: Device> Board<D> {
     ghost use Rattle.dev_core.specs.Device.{kind_of, IsValid as IsValidState};
     ghost use Rattle.dev_core.specs.declared.kind.Kind.TheVariants.{Finisher};
     ghost use Rattle.sys_bus.specs.Plan.{IsValid};
-    ghost use Rattle.board.specs.NoCans.{HasNoCans};
     ghost use Rattle.board.specs.New.{first_states, new_board, reset};
     ghost use Rattle.board.specs.Changes.{with_pc, with_halted, with_speed, with_shown, may_be_shown, with_bytes};
     ghost use Rattle.board.specs.Changes.{WritesPrefix, holds_each, word_held, taken_by, handed};
@@ -90,7 +89,6 @@ impl<D: Device> Board<D> {
         devices: Vec<D>,
     ) -> Result<Board<D>, Vec<D>>
         requires plan { IsValid plan }
-        requires cans { HasNoCans plan }
         requires devices { map D.meaning devices.items ≡ first_states plan }
         ensures state { IfOk result (λ board. board ≡ quiet (new_board number.0 plan)) }
         ensures back { IfErr result (λ back. back.items ≡ devices.items) }

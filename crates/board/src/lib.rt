@@ -6,11 +6,9 @@ mod board;
 mod fitted;
 mod laws;
 mod numbers;
-mod plan;
 mod remembered;
 mod space;
 mod wires;
 
 pub use board::{Board, SlotAt, Turn};
 pub use laws::{resets_agree, stretches_join, stretches_keep_plans, stretches_number, turns_join};
-pub use plan::has_no_cans;

@@ -7,7 +7,7 @@ mod counted;
 mod interrupts;
 mod programs;
 
-use board::{Board, SlotAt, Turn, has_no_cans};
+use board::{Board, SlotAt, Turn};
 use dev_core::{Device, Entry, Finish, Kind, Payload, Post, Taken, What};
 use lab_num::{BoardNo, Key, Member, Micros, NoMemory, PostNo, Rows, Text};
 use sample_boards::names_of;
@@ -122,7 +122,6 @@ fn start<D: Device>(
     requires second { D.meaning devices.1 ≡ first_state second }
 {
     assert!(rt; plan.is_valid());
-    assert!(rt; has_no_cans(&plan));
     let mut list = Vec::new(alloc);
     if list.push(devices.0).is_err() || list.push(devices.1).is_err() {
         return Err(Fail::from(NoMemory));

@@ -125,10 +125,10 @@ const COURSE: [(Act, u32); 40] = [
 #[test]
 fn a_gateway_hands_on_one_request_until_it_is_completed(rt: HostRuntime) {
     let mut plic = Plic::new(127, 15);
-    for source in ENDS {
+    for &source in &ENDS {
         let _ = carry_out(&mut plic, Act::Store(4 * (source % 128), 1));
     }
-    for (step, answer) in COURSE {
+    for &(step, answer) in &COURSE {
         assert_eq!(rt; carry_out(&mut plic, step), answer);
     }
 }
@@ -172,7 +172,7 @@ const REGISTERS: [(u32, u8, u32); 32] = [
 
 #[test]
 fn a_register_keeps_the_bits_that_are_there(rt: HostRuntime) {
-    for (at, width, read) in REGISTERS {
+    for &(at, width, read) in &REGISTERS {
         let mut plic = Plic::new(40, 2);
         plic.store(at, width, 0xFFFF_FFFF);
         assert_eq!(rt; (at, width, plic.load(at, 4)), (at, width, read));
@@ -205,7 +205,7 @@ const STATES: [(u128, u128, [u8; 3], [u128; 2], [u8; 2], bool); 17] = [
 
 #[test]
 fn put_refuses_what_is_absent(rt: HostRuntime) {
-    for (pending, shut, [none, last, past], enables, thresholds, valid) in STATES {
+    for &(pending, shut, [none, last, past], enables, thresholds, valid) in &STATES {
         let mut state = PlicState::reset();
         state.pending = pending;
         state.shut = shut;

@@ -93,11 +93,11 @@ fn is_named(
 #[test]
 fn each_part_has_one_name_and_one_region(rt: HostRuntime) -> Result<(), Fail> {
     let alloc = rt.alloc();
-    for (names, regions, memories, kinds, valid) in COUNTS {
+    for &(names, regions, memories, kinds, valid) in &COUNTS {
         let is_valid = is_counted(alloc, names, regions, memories, kinds)?;
         assert_eq!(rt; is_valid, valid);
     }
-    for (i, name, what, cpu, valid) in NAMES {
+    for &(i, name, what, cpu, valid) in &NAMES {
         let is_valid = is_named(alloc, i, name, what, cpu)?;
         assert_eq!(rt; is_valid, valid, "{i}: {name}");
     }
@@ -168,11 +168,11 @@ fn is_usual_range(alloc: Global, i: usize, base: u32, size: u32) -> Result<bool,
 #[test]
 fn regions_lie_apart_within_their_limits(rt: HostRuntime) -> Result<(), Fail> {
     let alloc = rt.alloc();
-    for (i, base, size, step, memory, valid) in SMALL_RANGES {
+    for &(i, base, size, step, memory, valid) in &SMALL_RANGES {
         let is_valid = is_small_range(alloc, i, (base, size, step), memory)?;
         assert_eq!(rt; is_valid, valid, "{i}: {base:#x}, {size:#x}");
     }
-    for (i, base, size, valid) in USUAL_RANGES {
+    for &(i, base, size, valid) in &USUAL_RANGES {
         let is_valid = is_usual_range(alloc, i, base, size)?;
         assert_eq!(rt; is_valid, valid, "{i}: {base:#x}, {size:#x}");
     }
@@ -259,11 +259,11 @@ fn has_kinds(alloc: Global, first: Kind, second: Kind) -> Result<bool, NoMemory>
 #[test]
 fn numbers_and_kinds_are_those_that_may_be(rt: HostRuntime) -> Result<(), Fail> {
     let alloc = rt.alloc();
-    for (frequency, sources, contexts, speed, valid) in NUMBERS {
+    for &(frequency, sources, contexts, speed, valid) in &NUMBERS {
         let is_valid = has_numbers(alloc, frequency, sources, contexts, speed)?;
         assert_eq!(rt; is_valid, valid);
     }
-    for (first, second, valid) in KINDS {
+    for &(first, second, valid) in &KINDS {
         let is_valid = has_kinds(alloc, first, second)?;
         assert_eq!(rt; is_valid, valid);
     }
@@ -273,7 +273,7 @@ fn numbers_and_kinds_are_those_that_may_be(rt: HostRuntime) -> Result<(), Fail> 
 #[test]
 fn wires_are_those_that_may_be(rt: HostRuntime) -> Result<(), Fail> {
     let alloc = rt.alloc();
-    for (from, pin, on_usual, on_small) in WIRES {
+    for &(from, pin, on_usual, on_small) in &WIRES {
         let is_valid = has_wire(alloc, usual_board(alloc)?, from, pin)?;
         assert_eq!(rt; is_valid, on_usual);
         let is_valid = has_wire(alloc, small_board(alloc)?, from, pin)?;
@@ -339,7 +339,7 @@ fn an_access_belongs_to_the_region_that_holds_it_whole(rt: HostRuntime) -> Resul
     let usual = usual_board(rt.alloc())?;
     assert!(rt; usual.is_valid());
     let mut regions = Regions::new(usual.regions.into_items());
-    for (at, width, target) in ACCESSES {
+    for &(at, width, target) in &ACCESSES {
         assert!(rt; width == 1 || width == 2 || width == 4);
         assert_eq!(rt; regions.find(at, width), target, "{width} bytes at {at:#x}");
         assert_eq!(rt;
@@ -353,7 +353,7 @@ fn an_access_belongs_to_the_region_that_holds_it_whole(rt: HostRuntime) -> Resul
         regions.find_code(0x8000_0010),
         Target::Ram { part: 0, at: 0x10 }
     );
-    for (at, place) in PLACES {
+    for &(at, place) in &PLACES {
         assert_eq!(rt; regions.near_code(at), place, "{at:#x}");
         assert_eq!(rt; regions.near_data(at), place, "{at:#x}");
     }

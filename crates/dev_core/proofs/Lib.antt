@@ -1,3 +1,4 @@
 -- Lemmas of dev_core.
+mod SameLemmas
 mod RowLemmas
 mod StockLemmas

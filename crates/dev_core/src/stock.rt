@@ -2,7 +2,9 @@
 ghost use Rattle.std.specs.Prelude.{◌≡◌, ◌↔◌, IsTrue, map, replicate, All};
 ghost use Rattle.dev_core.specs.Stock.{IsFull};
 ghost use Rattle.dev_core.specs.Uart.{uart_reset};
+ghost use Rattle.dev_core.specs.Can.{can_reset};
 
+use crate::can_state::CanState;
 use crate::device::Device;
 use crate::state::DevState;
 use crate::uart_state::UartState;
@@ -25,6 +27,16 @@ fn is_reset_uart(state: &DevState) -> bool
     }
 }
 
+/// Whether this is the reset state of a CAN controller.
+fn is_reset_can(state: &DevState) -> bool
+    ensures { IsTrue result ↔ (state.now ≡ DevState.Can can_reset) }
+{
+    match state {
+        DevState::Can(can) => *can == CanState::reset(),
+        _ => false,
+    }
+}
+
 /// Whether this is the state of a finisher.
 fn is_finisher(state: &DevState) -> bool
     ensures { IsTrue result ↔ (state.now ≡ DevState.Finisher) }
@@ -37,6 +49,13 @@ fn are_reset_uarts<D: Device>(devices: &[D]) -> bool
     ensures { IsTrue result ↔ All (λ d. D.meaning d ≡ DevState.Uart uart_reset) devices.now }
 {
     devices.iter().all(|device| is_reset_uart(&device.state()))
+}
+
+/// Whether each device is a CAN controller in its reset state.
+fn are_reset_cans<D: Device>(devices: &[D]) -> bool
+    ensures { IsTrue result ↔ All (λ d. D.meaning d ≡ DevState.Can can_reset) devices.now }
+{
+    devices.iter().all(|device| is_reset_can(&device.state()))
 }
 
 /// Whether each device is a finisher.
@@ -54,6 +73,14 @@ fn are_so_many_uarts<D: Device>(devices: &[D], count: usize) -> bool
     devices.len() == count && are_reset_uarts(devices)
 }
 
+/// Whether there are so many CAN controllers, each in its reset state.
+fn are_so_many_cans<D: Device>(devices: &[D], count: usize) -> bool
+    ensures { IsTrue result ↔
+        (map D.meaning devices.now ≡ replicate count (DevState.Can can_reset)) }
+{
+    devices.len() == count && are_reset_cans(devices)
+}
+
 /// Whether there are so many finishers.
 fn are_so_many_finishers<D: Device>(devices: &[D], count: usize) -> bool
     ensures { IsTrue result ↔ (map D.meaning devices.now ≡ replicate count DevState.Finisher) }
@@ -62,13 +89,13 @@ fn are_so_many_finishers<D: Device>(devices: &[D], count: usize) -> bool
 }
 
 impl<D: Device> Stock<D> {
-    /// Whether there are 64 UARTs, 16 finishers and no CAN controller, each in its reset state.
+    /// Whether there are 64 UARTs, 64 CAN controllers and 16 finishers, each in its reset state.
     pub fn is_full(&self) -> bool
         ensures { IsTrue result ↔ IsFull (map D.meaning self.now.uarts.items)
             (map D.meaning self.now.cans.items) (map D.meaning self.now.finishers.items) }
     {
         are_so_many_uarts(self.uarts.as_slice(), 64)
-            && self.cans.is_empty()
+            && are_so_many_cans(self.cans.as_slice(), 64)
             && are_so_many_finishers(self.finishers.as_slice(), 16)
     }
 }

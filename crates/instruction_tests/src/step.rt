@@ -214,7 +214,7 @@ const INSTRUCTIONS: [(u32, u32, u32, u32, u32); 83] = [
 
 #[test]
 fn instructions_give_their_words_and_go_on(rt: HostRuntime) {
-    for (word, a, b, x3, pc) in INSTRUCTIONS {
+    for &(word, a, b, x3, pc) in &INSTRUCTIONS {
         let state = hart_with(a, b);
         let found = after(&rt, state, word);
         assert!(rt; found == retired(state, x3, pc), "{word:x}: {found:?}");
@@ -319,7 +319,7 @@ const MULTIPLY: [(u32, [[u32; 5]; 5]); 8] = [
 
 #[test]
 fn products_and_quotients_at_their_edges(rt: HostRuntime) {
-    for (word, rows) in MULTIPLY {
+    for &(word, rows) in &MULTIPLY {
         for (a, row) in EDGES.into_iter().zip(rows) {
             for (b, value) in EDGES.into_iter().zip(row) {
                 let found = after(&rt, hart_with(a, b), word);
@@ -346,7 +346,7 @@ const STORES: [(u32, u32); 5] = [
 
 #[test]
 fn stores_write_their_bytes_alone(rt: HostRuntime) {
-    for (word, value) in STORES {
+    for &(word, value) in &STORES {
         let state = hart_with(4, 0x1234_ABCD);
         let (found, memory) = run(&rt, state, word);
         let mut wanted = memory_with(word);
@@ -403,7 +403,7 @@ const EXCEPTIONS: [(u32, u32, u32, u32, u32); 21] = [
 
 #[test]
 fn exceptions_trap_and_do_not_retire(rt: HostRuntime) {
-    for (pc, word, a, cause, value) in EXCEPTIONS {
+    for &(pc, word, a, cause, value) in &EXCEPTIONS {
         let state = HartState {
             pc,
             on: true,
@@ -541,7 +541,7 @@ const ACCESSES: [(u32, u32, u32, u64, u64); 22] = [
 
 #[test]
 fn csrs_change_and_counters_rise_unless_they_are_written(rt: HostRuntime) {
-    for (word, x3, mscratch, mcycle, minstret) in ACCESSES {
+    for &(word, x3, mscratch, mcycle, minstret) in &ACCESSES {
         let state = HartState {
             mscratch: 0xF0F0_0012,
             mcycle: 0x5_0000_0007,
@@ -594,7 +594,7 @@ const REFUSED: [(u32, Result<(), NoMemory>); 4] = [
 
 #[test]
 fn a_refused_access_changes_nothing(rt: HostRuntime) {
-    for (word, answer) in REFUSED {
+    for &(word, answer) in &REFUSED {
         let mut hart = Hart::new();
         hart.set_register(1, 4);
         hart.set_pc(0x20);

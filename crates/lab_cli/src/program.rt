@@ -3,6 +3,7 @@ ghost use Rattle.std.specs.Prelude.{◌≡◌};
 ghost use Rattle.std.specs.Process.{exit_status};
 ghost use Rattle.lab_top.specs.Headline.{number_of};
 
+use can_sja1000::Can;
 use dev_core::{Device, Stock};
 use lab_io::{DiskFiles, OutSink};
 use lab_top::{Status, run_lab};
@@ -14,8 +15,10 @@ use std::{env, io};
 use test_finisher::Finisher;
 use uart_16550::Uart;
 
-/// Four UARTs and a finisher for each of 16 boards.
+/// Four UARTs, four CAN controllers and a finisher for each of 16 boards.
 const UARTS: usize = 64;
+
+const CANS: usize = 64;
 
 const FINISHERS: usize = 16;
 
@@ -71,13 +74,17 @@ fn run_on_boxes<R: Files + Print + AllocGlobal>(
     for _ in 0..UARTS {
         uarts.push(Box::new(alloc, Uart::new())?)?;
     }
+    let mut cans: Vec<Box<dyn Device + Send>> = Vec::new(alloc);
+    for _ in 0..CANS {
+        cans.push(Box::new(alloc, Can::new())?)?;
+    }
     let mut finishers: Vec<Box<dyn Device + Send>> = Vec::new(alloc);
     for _ in 0..FINISHERS {
         finishers.push(Box::new(alloc, Finisher::new())?)?;
     }
     let stock = Stock {
         uarts,
-        cans: Vec::new(alloc),
+        cans,
         finishers,
     };
     if !stock.is_full() {

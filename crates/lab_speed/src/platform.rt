@@ -3,7 +3,7 @@ ghost use Rattle.std.specs.Prelude.{◌≡◌, ◌∷◌, [], IfSome};
 ghost use Rattle.dev_core.specs.declared.kind.Kind.TheVariants.{Uart, Finisher};
 ghost use Rattle.board.specs.New.{first_state};
 
-use board::{Board, has_no_cans};
+use board::Board;
 use dev_core::{Device, Kind};
 use lab_num::{BoardNo, Rows, Text};
 use std::alloc::Global;
@@ -109,7 +109,7 @@ pub fn board_of<D: Device>(alloc: Global, wired: bool, uart: D, finisher: D) -> 
     let mut devices = Vec::new(alloc);
     devices.push(uart).ok()?;
     devices.push(finisher).ok()?;
-    if !plan.is_valid() || !has_no_cans(&plan) {
+    if !plan.is_valid() {
         return None;
     }
     Board::new(alloc, BoardNo(0), plan, devices).ok()

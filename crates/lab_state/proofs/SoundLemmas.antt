@@ -19,7 +19,6 @@ use Rattle.std.proofs.lemmas.Option.{slice_get-get_or, slice_get-map, same_Some}
 use Rattle.lab_num.specs.declared.key.Member.{Member}
 use Rattle.dev_core.specs.declared.kind.Kind.{Kind}
 use Rattle.dev_core.specs.declared.kind.Kind.TheVariants.{Uart, Can, Finisher}
-use Rattle.board.specs.NoCans.{HasNoCans}
 use Rattle.board.specs.New.{new_board}
 use Rattle.board.specs.Numbers.{Numbers}
 use Rattle.board.specs.View.{View}
@@ -112,7 +111,12 @@ sound-new = record {
     hubs_differ = λ i j d before within. absurd (omega arith);
     apart = All-nil _;
   };
-  enough = record { few = λ kind. omega arith; uarts = omega arith; finishers = omega arith };
+  enough = record {
+    few = λ kind. omega arith;
+    uarts = omega arith;
+    cans = omega arith;
+    finishers = omega arith;
+  };
   times = record { time = omega arith; least_quantum = omega arith; most_quantum = omega arith };
 }
 
@@ -229,6 +233,7 @@ kind-outlines boards m = grind (arith, common_steps, slice_get-map outline board
 -- a plan has few devices, and a speed that a board may have
 record IsSmall (plan : BoardPlan) : Type 0 where
   uarts : count_of plan.kinds Uart ≤ 4
+  cans : count_of plan.kinds Can ≤ 4
   finishers : count_of plan.kinds Finisher ≤ 1
   least : 1 ≤ plan.speed
   most : plan.speed ≤ 1000
@@ -236,6 +241,7 @@ record IsSmall (plan : BoardPlan) : Type 0 where
 small : (plan : BoardPlan) → IsValid plan → IsSmall plan
 small plan valid = record {
   uarts = grind (arith, nat_tests, valid.few_devices);
+  cans = grind (arith, nat_tests, valid.few_devices);
   finishers = grind (arith, nat_tests, valid.few_devices);
   least = grind (arith, nat_tests, valid.speed);
   most = grind (arith, nat_tests, valid.speed);
@@ -273,8 +279,8 @@ module _ {lab now : Lab} {spares : Spares} {planned : Bool} (i : ℕ) (plan : Bo
       let after : one_if o ≡ 1 = rw some refl in
       omega (arith, sum_by-set one_if os i o d long)
 
-  pub has-for : HasNoCans plan → HasFor spares plan.kinds
-  has-for cans = each
+  pub has-for : HasFor spares plan.kinds
+  has-for = each
     where
       few : count_of_plans (outlines lab.boards) < 16
       few =
@@ -291,7 +297,7 @@ module _ {lab now : Lab} {spares : Spares} {planned : Bool} (i : ℕ) (plan : Bo
 
       each : HasFor spares plan.kinds
       each Uart = omega (arith, (small plan valid).uarts, sound.enough.uarts, few)
-      each Can = omega (arith, cans)
+      each Can = omega (arith, (small plan valid).cans, sound.enough.cans, few)
       each Finisher = omega (arith, (small plan valid).finishers, sound.enough.finishers, few)
 
   pub sound-fit :
@@ -328,6 +334,7 @@ module _ {lab now : Lab} {spares : Spares} {planned : Bool} (i : ℕ) (plan : Bo
         enough = record {
           few = λ kind. omega (arith, taken kind, sound.enough.few kind);
           uarts = omega (arith, taken Uart, is_small.uarts, plans, sound.enough.uarts);
+          cans = omega (arith, taken Can, is_small.cans, plans, sound.enough.cans);
           finishers = omega (arith, taken Finisher, is_small.finishers, plans, sound.enough.finishers);
         };
         times = sound.times;
@@ -353,6 +360,7 @@ sound-back left back kinds sound taken given = record {
   enough = record {
     few = λ kind. omega (arith, taken kind, given kind, sound.enough.few kind);
     uarts = omega (arith, taken Uart, given Uart, sound.enough.uarts);
+    cans = omega (arith, taken Can, given Can, sound.enough.cans);
     finishers = omega (arith, taken Finisher, given Finisher, sound.enough.finishers);
   };
   times = sound.times;

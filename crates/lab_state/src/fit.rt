@@ -1,7 +1,6 @@
 //! Boards are made by their plans.
 ghost use Rattle.std.specs.Prelude.{◌≡◌, ◌<◌, ◌↔◌, length, false, IsSome, OnOk, OnErr};
 ghost use Rattle.sys_bus.specs.Plan.{IsValid};
-ghost use Rattle.board.specs.NoCans.{HasNoCans};
 ghost use Rattle.board.specs.New.{new_board};
 ghost use Rattle.lab_state.specs.One.{view_of, fitted};
 
@@ -19,7 +18,6 @@ impl<D: Device> Lab<D> {
         requires unspent { self.old.spent ≡ false }
         requires exists { board.0 < length self.old.lab.boards }
         requires plan { IsValid plan }
-        requires cans { HasNoCans plan }
         ensures ok { OnOk result (self.new ≡ record self.old {
           lab = fitted self.old.lab board.0 (new_board board.0 plan);
         }) }

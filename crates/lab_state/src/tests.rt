@@ -6,7 +6,6 @@ mod chip;
 mod steps;
 
 use crate::Lab;
-use board::has_no_cans;
 use cases::{CHANGES, PROGRAMS, READ_AND_REFUSED};
 use chip::{Counts, stock};
 use dev_core::{Device, Kind, Stock};

@@ -1,4 +1,5 @@
 //! Runs of the program over files and an output in memory.
+use can_sja1000::Can;
 use dev_core::{Device, Stock};
 use lab_io::{MemFiles, MemSink};
 use lab_num::NoMemory;
@@ -32,13 +33,17 @@ pub fn run(
     for _ in 0..64 {
         uarts.push(Box::new(alloc, Uart::new())?)?;
     }
+    let mut cans: Vec<Box<dyn Device + Send>> = Vec::new(alloc);
+    for _ in 0..64 {
+        cans.push(Box::new(alloc, Can::new())?)?;
+    }
     let mut finishers: Vec<Box<dyn Device + Send>> = Vec::new(alloc);
     for _ in 0..16 {
         finishers.push(Box::new(alloc, Finisher::new())?)?;
     }
     let stock = Stock {
         uarts,
-        cans: Vec::new(alloc),
+        cans,
         finishers,
     };
     if !stock.is_full() {

@@ -40,7 +40,7 @@ fn a_script_takes_100_000_commands_at_most(rt: HostRuntime) -> Result<(), Fail> 
             "error: s.resc:100001: S17 unclosed\n",
         ),
     ];
-    for (lines, last, number, written) in rows {
+    for &(lines, last, number, written) in &rows {
         let script = repeated(rt.alloc(), lines, 25_000, last)?;
         assert_script(&rt, files(rt.alloc())?, script.as_str(), number, written)?;
     }
@@ -106,7 +106,7 @@ fn eight_bodies_are_open_beside_the_script_at_most(rt: HostRuntime) -> Result<()
         (9, "foo", "error: 8.resc:2: S11 depth\n", 3),
         (1, equip, "0x00000000\n", 0),
     ];
-    for (last, script, written, number) in rows {
+    for &(last, script, written, number) in &rows {
         let mut files = chain(rt.alloc(), last, script, "")?;
         if last == 1 {
             files.put("2.repl", b"using \"p.repl\"\n")?;
@@ -119,7 +119,7 @@ fn eight_bodies_are_open_beside_the_script_at_most(rt: HostRuntime) -> Result<()
         (9, deep, "", 0),
         (10, deep, "error: 9.repl:1: S11 depth\n", 3),
     ];
-    for (last, script, written, number) in rows {
+    for &(last, script, written, number) in &rows {
         let files = chain(rt.alloc(), last, "", platform)?;
         assert_script(&rt, files, script, number, written)?;
     }
@@ -131,7 +131,7 @@ fn a_command_reads_64_platform_files_at_most(rt: HostRuntime) -> Result<(), Fail
     let script = "mach create m\nmachine LoadPlatformDescription @all.repl\n";
     // How many `using` lines of an empty file stand before that of the platform.
     let rows = [(62, 0, ""), (63, 3, "error: all.repl:64: S11 depth\n")];
-    for (count, number, written) in rows {
+    for &(count, number, written) in &rows {
         let mut files = files(rt.alloc())?;
         files.put("none.repl", b"")?;
         let all = repeated(
@@ -179,7 +179,7 @@ fn a_file_has_16_mib_at_most(rt: HostRuntime) -> Result<(), Fail> {
         (16_777_217, Some(used), 3, "error: use.repl:2: S19 size\n"),
         (16_777_217, Some(large), 3, "error: s.resc:2: S19 size\n"),
     ];
-    for (length, script, number, written) in rows {
+    for &(length, script, number, written) in &rows {
         let mut bytes = Vec::new(rt.alloc());
         bytes.resize(length, b'#')?;
         let mut files = files(rt.alloc())?;

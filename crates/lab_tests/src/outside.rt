@@ -45,7 +45,7 @@ fn other_words_are_answered_by_the_usage_line(rt: HostRuntime) -> Result<(), Fai
         ("gen 7 16 --workers 9", UsageCause::Value),
         ("gen 18446744073709551616 1", UsageCause::Value),
     ];
-    for (line, cause) in rows {
+    for &(line, cause) in &rows {
         let mut files = files(rt.alloc())?;
         let mut out = MemSink::new(rt.alloc(), 4096);
         let status = run(rt.alloc(), line, &mut files, &mut out)?;
@@ -110,7 +110,7 @@ fn scripts_are_checked_without_a_run(rt: HostRuntime) -> Result<(), Fail> {
         ("check none", "", 4, ""),
         ("run none", "", 4, ""),
     ];
-    for (line, script, number, written) in rows {
+    for &(line, script, number, written) in &rows {
         assert_run(&rt, line, files_with(rt.alloc(), script)?, number, written)?;
     }
     let mut files = MemFiles::new(rt.alloc());

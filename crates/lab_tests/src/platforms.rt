@@ -52,7 +52,7 @@ fn boards_are_made_by_platform_files(rt: HostRuntime) -> Result<(), Fail> {
         ),
     ];
     let script = script(rt.alloc(), read)?;
-    for (platform, written) in rows {
+    for &(platform, written) in &rows {
         let files = files_with(rt.alloc(), platform)?;
         assert_script(&rt, files, script.as_str(), 0, written)?;
     }
@@ -116,7 +116,7 @@ fn a_platform_is_refused_at_its_file_and_line(rt: HostRuntime) -> Result<(), Fai
         ("\nusing \"x.repl\"\n", "x.repl:2: S11 depth"),
     ];
     let script = script(rt.alloc(), "foo")?;
-    for (platform, fault) in rows {
+    for &(platform, fault) in &rows {
         let files = files_with(rt.alloc(), platform)?;
         let written = format!(in rt.alloc(); "error: {fault}\n")?;
         assert_script(&rt, files, script.as_str(), 3, written.as_str())?;

@@ -127,7 +127,7 @@ pub fn files(alloc: Global) -> Result<MemFiles, NoMemory> {
         ("echoall.bin", ECHO_ALL),
         ("hole.bin", HOLE),
     ];
-    for (name, words) in programs {
+    for &(name, words) in &programs {
         files.put(name, &bytes_of(alloc, words)?)?;
     }
     files.put("send99.bin", &send_later(alloc, 97)?)?;

@@ -111,7 +111,7 @@ fn lines_that_are_no_commands_are_refused(rt: HostRuntime) -> Result<(), Fail> {
         ("$m=macro\n", "$m x", "S2 arguments"),
         ("$m=\"$n\"\n$n=pause\n", "$m", "S1 unknown command"),
     ];
-    for (before, line, text) in rows {
+    for &(before, line, text) in &rows {
         assert_refused(&rt, before, line, text)?;
     }
     Ok(())
@@ -174,7 +174,7 @@ fn lines_about_boards_are_refused(rt: HostRuntime) -> Result<(), Fail> {
             "S6 taken",
         ),
     ];
-    for (before, line, text) in rows {
+    for &(before, line, text) in &rows {
         assert_refused(&rt, before, line, text)?;
     }
     let two_hubs = format!(in rt.alloc(); "{JOINED}emulation CreateUARTHub other\n")?;
@@ -217,7 +217,7 @@ fn lines_about_times_and_places_are_refused(rt: HostRuntime) -> Result<(), Fail>
         (BOARD, "sysbus LoadBinary @a.bin 0xFFFFFFFF", "S16 address"),
         (BOARD, "cpu PC 0x80000002", "S16 address"),
     ];
-    for (before, line, text) in rows {
+    for &(before, line, text) in &rows {
         assert_refused(&rt, before, line, text)?;
     }
     Ok(())
@@ -259,7 +259,7 @@ fn bodies_and_their_files_are_refused(rt: HostRuntime) -> Result<(), Fail> {
             "s.resc:3: S4 no board",
         ),
     ];
-    for (script, fault) in rows {
+    for &(script, fault) in &rows {
         assert_fault(&rt, more_files(rt.alloc())?, script, fault)?;
     }
     Ok(())
@@ -277,7 +277,7 @@ fn a_script_that_is_no_text_is_refused_at_its_first_bad_byte(rt: HostRuntime) ->
             "error: s.resc:2: S1 unknown command\n",
         ),
     ];
-    for (bytes, written) in rows {
+    for &(bytes, written) in &rows {
         let mut files = files(rt.alloc())?;
         files.put("s.resc", bytes)?;
         crate::bench::assert_run(&rt, "run s.resc", files, 3, written)?;

@@ -71,7 +71,7 @@ fn one_board_prints_by_its_lab_time(rt: HostRuntime) -> Result<(), Fail> {
             "[0.000002] m0/uart: \n1\n",
         ),
     ];
-    for (program, rest, number, written) in rows {
+    for &(program, rest, number, written) in &rows {
         let script = on_one_board(rt.alloc(), program, rest)?;
         assert_script(&rt, files(rt.alloc())?, script.as_str(), number, written)?;
     }
@@ -120,7 +120,7 @@ emulation RunFor \"0.0003\"
             "[0.000100] m0/uart: A\n[0.000206] m1/uart: A\n",
         ),
     ];
-    for (program, log) in rows {
+    for &(program, log) in &rows {
         let script = format!(in rt.alloc(); "{EQUIP}$bin=@{program}\n{two}")?;
         assert_script(&rt, files(rt.alloc())?, script.as_str(), 0, log)?;
     }
@@ -191,7 +191,7 @@ emulation SetGlobalQuantum \"0.000011\"\nstart\nstart\nstart\n",
             "[0.000100] pause m1/fin: pass\n[0.000111] pause m1/fin: pass\n[0.000122] pause m0/fin: fail 7\n",
         ),
     ];
-    for (rest, log) in rows {
+    for &(rest, log) in &rows {
         let script = format!(in rt.alloc(); "{EQUIP}{boards}{rest}")?;
         assert_script(&rt, files(rt.alloc())?, script.as_str(), 0, log)?;
     }
@@ -226,7 +226,7 @@ fn a_usual_script_runs_to_its_time(rt: HostRuntime) -> Result<(), Fail> {
         ("run s.resc", letter),
         ("check s.resc", ""),
     ];
-    for (line, log) in rows {
+    for &(line, log) in &rows {
         let mut files = files(rt.alloc())?;
         files.put("s.resc", USUAL_SCRIPT.as_bytes())?;
         assert_run(&rt, line, files, 0, log)?;

@@ -2,7 +2,6 @@
 ghost use Rattle.std.specs.Prelude.{◌≡◌, ◌≤◌, ◌<◌, [], length, slice_index_or, false, Err, None, IfOk, IfSome, IsTrue};
 ghost use Rattle.std.specs.Option.{option_map};
 ghost use Rattle.std.specs.List.{list_all};
-ghost use Rattle.board.specs.NoCans.{HasNoCans};
 ghost use Rattle.lab_io.specs.Known.{Rose};
 ghost use Rattle.lab_num.specs.Name.{is_name};
 ghost use Rattle.lab_state.specs.One.{view_of};
@@ -139,7 +138,6 @@ impl<D: Device> Monitor<D> {
         requires exists { b.0 < length self.old.state.lab.boards }
         requires bare { view_of self.old.state.lab b.0 ≡ None }
         requires plan { IsValid plan }
-        requires cans { HasNoCans plan }
         ensures { IsFitted b.0 plan result self.old self.new }
     {
         match self.lab.fit(b, plan) {
@@ -183,7 +181,6 @@ fn plan_of(alloc: Global, loaded: Loaded) -> Result<BoardPlan, Stop>
     requires { IsTrue (list_all is_entry loaded.entries.items) }
     ensures plan { IsPlan loaded result }
     ensures valid { IfOk result IsValid }
-    ensures cans { IfOk result HasNoCans }
 {
     let Loaded { names, entries } = loaded;
     match build(alloc, entries) {

@@ -1,6 +1,7 @@
 //! Lines, and the commands that they ask for or the faults that they have.
 use resc_read::{LineFault, read_line};
 use std::alloc::Global;
+use std::process::Abort;
 use std::test::Fail;
 
 /// The answer to a line, as it prints.
@@ -241,10 +242,17 @@ static COMMANDS: [(&str, &str); 66] = [
 #[test]
 fn each_command_is_read_in_each_of_its_forms(rt: HostRuntime) -> Result<(), Fail> {
     let alloc = rt.alloc();
-    for (line, expected) in COMMANDS {
+    for &(line, expected) in &COMMANDS {
         assert_eq!(rt; answer(alloc, line)?.as_str(), expected, "{line}");
     }
     Ok(())
+}
+
+/// Each of these lines is refused for this fault.
+fn assert_faults(rt: &impl Abort, alloc: Global, fault: LineFault, lines: &[&str]) {
+    for &line in lines {
+        assert!(rt; read_line(alloc, line) == Err(fault), "{line}");
+    }
 }
 
 /// Lines that begin with no command.
@@ -290,10 +298,7 @@ static UNKNOWN: [&str; 37] = [
 
 #[test]
 fn first_words_that_are_no_command_come_before_all_else(rt: HostRuntime) {
-    let alloc = rt.alloc();
-    for line in UNKNOWN {
-        assert!(rt; read_line(alloc, line) == Err(LineFault::Unknown), "{line}");
-    }
+    assert_faults(&rt, rt.alloc(), LineFault::Unknown, &UNKNOWN);
 }
 
 /// Lines about boards, memory and processors with a wrong number, sort or range of words.
@@ -356,13 +361,7 @@ static BOARDS: [&str; 54] = [
 
 #[test]
 fn words_of_boards_memory_and_processors_have_their_number_sort_and_range(rt: HostRuntime) {
-    let alloc = rt.alloc();
-    for line in BOARDS {
-        assert!(rt;
-            read_line(alloc, line) == Err(LineFault::Arguments),
-            "{line}"
-        );
-    }
+    assert_faults(&rt, rt.alloc(), LineFault::Arguments, &BOARDS);
 }
 
 /// Lines of other commands with a wrong number or sort of words.
@@ -429,13 +428,7 @@ static OTHERS: [&str; 58] = [
 
 #[test]
 fn words_of_other_commands_have_their_number_and_sort(rt: HostRuntime) {
-    let alloc = rt.alloc();
-    for line in OTHERS {
-        assert!(rt;
-            read_line(alloc, line) == Err(LineFault::Arguments),
-            "{line}"
-        );
-    }
+    assert_faults(&rt, rt.alloc(), LineFault::Arguments, &OTHERS);
 }
 
 /// Lines with a time that is none, or that is out of range.
@@ -459,8 +452,5 @@ static TIMES: [&str; 15] = [
 
 #[test]
 fn a_time_comes_after_number_and_sort(rt: HostRuntime) {
-    let alloc = rt.alloc();
-    for line in TIMES {
-        assert!(rt; read_line(alloc, line) == Err(LineFault::Time), "{line}");
-    }
+    assert_faults(&rt, rt.alloc(), LineFault::Time, &TIMES);
 }

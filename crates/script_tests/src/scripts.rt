@@ -228,7 +228,7 @@ static SCRIPTS: [(&str, &str, &str); 36] = [
 #[test]
 fn scripts_give_their_lines_in_order(rt: HostRuntime) -> Result<(), Fail> {
     let alloc = rt.alloc();
-    for (script, file, expected) in SCRIPTS {
+    for &(script, file, expected) in &SCRIPTS {
         assert_eq!(rt; course(alloc, script, file)?.as_str(), expected);
     }
     Ok(())
@@ -264,7 +264,7 @@ static DEFINITIONS: [(&str, LineFault); 23] = [
 #[test]
 fn definitions_of_another_form_are_wrong_commands(rt: HostRuntime) -> Result<(), Fail> {
     let alloc = rt.alloc();
-    for (line, cause) in DEFINITIONS {
+    for &(line, cause) in &DEFINITIONS {
         let expected = format!(in alloc; "s:1 {line}|s:2 pause|end")?;
         let script = format!(in alloc; "{line}\npause")?;
         assert_eq!(rt;

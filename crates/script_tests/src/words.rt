@@ -1,6 +1,7 @@
 //! Command lines and what they ask for.
 use lab_words::{Request, WordsFault, read_words};
 use std::alloc::Global;
+use std::process::Abort;
 use std::test::Fail;
 
 /// The words of a line, with `|` between them. An empty line has none.
@@ -38,6 +39,14 @@ fn answer(alloc: Global, line: &str) -> Result<String, Fail> {
         Err(WordsFault::Memory) => format!(in alloc; "memory")?,
     };
     Ok(text)
+}
+
+/// Each row's words ask for what stands beside them.
+fn assert_answers(rt: &impl Abort, alloc: Global, rows: &[(&str, &str)]) -> Result<(), Fail> {
+    for &(line, expected) in rows {
+        assert_eq!(rt; answer(alloc, line)?.as_str(), expected, "{line}");
+    }
+    Ok(())
 }
 
 /// Each row: words, and what they ask for.
@@ -86,11 +95,7 @@ static OPTIONS: [(&str, &str); 40] = [
 
 #[test]
 fn options_stand_anywhere_and_once_and_have_their_text(rt: HostRuntime) -> Result<(), Fail> {
-    let alloc = rt.alloc();
-    for (line, expected) in OPTIONS {
-        assert_eq!(rt; answer(alloc, line)?.as_str(), expected, "{line}");
-    }
-    Ok(())
+    assert_answers(&rt, rt.alloc(), &OPTIONS)
 }
 
 /// Each row: words, and what they ask for.
@@ -140,9 +145,5 @@ static COMMANDS: [(&str, &str); 38] = [
 
 #[test]
 fn commands_numbers_and_times_are_told_from_others(rt: HostRuntime) -> Result<(), Fail> {
-    let alloc = rt.alloc();
-    for (line, expected) in COMMANDS {
-        assert_eq!(rt; answer(alloc, line)?.as_str(), expected, "{line}");
-    }
-    Ok(())
+    assert_answers(&rt, rt.alloc(), &COMMANDS)
 }

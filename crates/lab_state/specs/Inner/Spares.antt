@@ -27,7 +27,7 @@ AreTaken all left kinds = (kind : Kind) → left_of left kind + count_of kinds k
 
 -- how many there are in a full stock
 abbrev pub full : Spares
-full = record { uarts = 64; cans = 0; finishers = 16 }
+full = record { uarts = 64; cans = 64; finishers = 16 }
 
 -- the kinds of devices in these states
 abbrev pub kinds_of : List DevState → List Kind

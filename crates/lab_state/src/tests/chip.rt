@@ -1,4 +1,5 @@
 //! The devices of the boards.
+use can_sja1000::Can;
 use dev_core::{DevState, Device, Effect, Kind, Payload, Stock, Taken};
 use std::alloc::Global;
 use std::cell::Cell;
@@ -6,22 +7,28 @@ use std::test::Fail;
 use test_finisher::Finisher;
 use uart_16550::Uart;
 
-/// A UART, with a count of the stores that it was handed, or a finisher.
+/// A UART, with a count of the stores that it was handed, a CAN controller, or a finisher.
 #[derive(Drop)]
 pub enum Chip<'a> {
     Uart(Uart, &'a Cell<u32>),
+    Can(Can),
     Finisher(Finisher),
 }
 
 impl<'a> Device for Chip<'a> {
     ghost use Rattle.dev_core.specs.declared.state.DevState.TheVariants as state;
-    ghost use Rattle.lab_state.specs.declared.tests.chip.Chip.TheVariants.{Uart, Finisher};
+    ghost use Rattle.lab_state.specs.declared.tests.chip.Chip.TheVariants.{Uart, Can, Finisher};
 
-    ghost meaning = { elim [ Uart uart stores ↦ state.Uart uart | Finisher finisher ↦ state.Finisher ] };
+    ghost meaning = { elim [
+      | Uart uart stores ↦ state.Uart uart
+      | Can can ↦ state.Can can
+      | Finisher finisher ↦ state.Finisher
+    ] };
 
     fn kind(&self) -> Kind {
         match self {
             Chip::Uart(uart, _) => uart.kind(),
+            Chip::Can(can) => can.kind(),
             Chip::Finisher(finisher) => finisher.kind(),
         }
     }
@@ -29,6 +36,7 @@ impl<'a> Device for Chip<'a> {
     fn load(&mut self, reg: u32, width: u8) -> u32 {
         match self {
             Chip::Uart(uart, _) => uart.load(reg, width),
+            Chip::Can(can) => can.load(reg, width),
             Chip::Finisher(finisher) => finisher.load(reg, width),
         }
     }
@@ -39,6 +47,7 @@ impl<'a> Device for Chip<'a> {
                 stores.set(stores.get().wrapping_add(1));
                 uart.store(reg, width, value)
             }
+            Chip::Can(can) => can.store(reg, width, value),
             Chip::Finisher(finisher) => finisher.store(reg, width, value),
         }
     }
@@ -46,6 +55,7 @@ impl<'a> Device for Chip<'a> {
     fn take(&mut self, payload: &Payload) -> Taken {
         match self {
             Chip::Uart(uart, _) => uart.take(payload),
+            Chip::Can(can) => can.take(payload),
             Chip::Finisher(finisher) => finisher.take(payload),
         }
     }
@@ -53,6 +63,7 @@ impl<'a> Device for Chip<'a> {
     fn line(&self) -> bool {
         match self {
             Chip::Uart(uart, _) => uart.line(),
+            Chip::Can(can) => can.line(),
             Chip::Finisher(finisher) => finisher.line(),
         }
     }
@@ -60,6 +71,7 @@ impl<'a> Device for Chip<'a> {
     fn reset(&mut self) {
         match self {
             Chip::Uart(uart, _) => uart.reset(),
+            Chip::Can(can) => can.reset(),
             Chip::Finisher(finisher) => finisher.reset(),
         }
     }
@@ -67,6 +79,7 @@ impl<'a> Device for Chip<'a> {
     fn state(&self) -> DevState {
         match self {
             Chip::Uart(uart, _) => uart.state(),
+            Chip::Can(can) => can.state(),
             Chip::Finisher(finisher) => finisher.state(),
         }
     }
@@ -74,6 +87,7 @@ impl<'a> Device for Chip<'a> {
     fn put(&mut self, state: &DevState) -> bool {
         match self {
             Chip::Uart(uart, _) => uart.put(state),
+            Chip::Can(can) => can.put(state),
             Chip::Finisher(finisher) => finisher.put(state),
         }
     }
@@ -108,13 +122,17 @@ pub fn stock(alloc: Global, counts: &Counts) -> Result<Stock<Chip<'_>>, Fail> {
         };
         uarts.push(Chip::Uart(Uart::new(), stores))?;
     }
+    let mut cans = Vec::new(alloc);
+    for _ in 0..64 {
+        cans.push(Chip::Can(Can::new()))?;
+    }
     let mut finishers = Vec::new(alloc);
     for _ in 0..16 {
         finishers.push(Chip::Finisher(Finisher::new()))?;
     }
     Ok(Stock {
         uarts,
-        cans: Vec::new(alloc),
+        cans,
         finishers,
     })
 }

@@ -5,7 +5,6 @@ ghost use Rattle.lab_state.specs.One.{view_of, HaveAllPlans};
 use super::cases::Program;
 use super::{HUB, START, device, plan};
 use crate::{ConnectFault, FitFault, Lab, LabFault, RoundLog, RunFault};
-use board::has_no_cans;
 use dev_core::{Device, Finish, Kind, What};
 use lab_num::{BoardNo, Key, Member, Micros, PostNo, is_name};
 use log_merge::{BoardNames, LogItem, Member0, Note};
@@ -88,7 +87,6 @@ fn fit<D: Device>(
 ) -> Result<(), Fail> {
     let plan = plan(alloc)?;
     assert!(rt; plan.is_valid());
-    assert!(rt; has_no_cans(&plan));
     assert!(rt; !lab.is_spent());
     assert!(rt; b.0 < lab.boards());
     assert!(rt; lab.fit(b, plan).err() == fault);

@@ -10,7 +10,7 @@ take-requires g c =
     let unspent : c.self.inside.spent ≡ false = ap (λ s. s.spent) c.self.view_is ∙ c.requires.unspent in
     rw c.items.ensures
     (has-for c.args.board.0 c.args.plan (c.self.invariant unspent) (ap (λ s. s.lab) c.self.view_is) c.requires.exists
-    c.has_plan.ensures c.if-has_plan.false c.requires.plan c.requires.cans)
+    c.has_plan.ensures c.if-has_plan.false c.requires.plan)
 
 pub invariant_of-self-in-Ok : goal.invariant_of-self-in-Ok
 invariant_of-self-in-Ok g c h =

@@ -9,11 +9,12 @@ invariant_of-result g c =
     let cans = rw (← c.from-2.ensures.0) at c.requires.1 in
     let finishers = rw (← c.from-3.ensures.0) at c.requires.2 in
     let uarts_long = seen_long g.D.Device.meaning 64 c.from.result.items _ uarts in
+    let cans_long = seen_long g.D.Device.meaning 64 c.from-2.result.items _ cans in
     let finishers_long = seen_long g.D.Device.meaning 16 c.from-3.result.items _ finishers in (
       seen_as g.D.Device.meaning 64 c.from.result.items _ uarts,
-      seen_as g.D.Device.meaning 0 c.from-2.result.items _ cans,
+      seen_as g.D.Device.meaning 64 c.from-2.result.items _ cans,
       seen_as g.D.Device.meaning 16 c.from-3.result.items _ finishers,
       omega (arith, uarts_long),
-      omega arith,
+      omega (arith, cans_long),
       omega (arith, finishers_long),
     )
