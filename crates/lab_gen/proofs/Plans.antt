@@ -1,7 +1,6 @@
 -- The plan of the boards is one that boards can be made by.
 use Rattle.std.proofs.Common.{refl}
 use Rattle.sys_bus.specs.Plan.{IsValid}
-use Rattle.board.specs.NoCans.{HasNoCans}
 use Rattle.lab_gen.specs.Plan.{plan}
 
 pub plan_valid : IsValid plan
@@ -25,6 +24,3 @@ plan_valid = record {
   addressed = refl;
   wires = refl;
 }
-
-pub plan_no_cans : HasNoCans plan
-plan_no_cans = refl

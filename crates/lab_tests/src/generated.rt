@@ -37,20 +37,21 @@ const ALONE: &str = "m0 posts 7688 retired 1000000 sum 0x00000000\ntotal 7688\n"
 
 const ALONE_LAST: &str = "m0 posts 7689 retired 1000000 sum 0x00000000\ntotal 7689\n";
 
+/// Words, and what they write. A seed counts by its lowest 32 bits, and the number of workers does not
+/// count.
+static ROWS: [(&str, &str); 6] = [
+    ("gen 0 1", ALONE),
+    ("gen 4294967295 1 --workers 8", ALONE_LAST),
+    ("gen 18446744073709551615 01", ALONE_LAST),
+    ("gen 7 2", TWO),
+    ("gen --workers=8 4294967303 2", TWO),
+    ("gen 7 16", SIXTEEN),
+];
+
 #[test]
 fn a_laboratory_is_generated_and_summed_up(rt: HostRuntime) -> Result<(), Fail> {
-    // A seed counts by its lowest 32 bits, and the number of workers does not count.
-    let rows = [
-        ("gen 0 1", ALONE),
-        ("gen 4294967295 1 --workers 8", ALONE_LAST),
-        ("gen 18446744073709551615 01", ALONE_LAST),
-        ("gen 7 2", TWO),
-        ("gen --workers=8 4294967303 2", TWO),
-        ("gen 7 16", SIXTEEN),
-    ];
-    for (words, written) in &rows {
-        let files = MemFiles::new(rt.alloc());
-        assert_run(&rt, words, files, 0, written)?;
+    for &(words, written) in &ROWS {
+        assert_run(&rt, words, MemFiles::new(rt.alloc()), 0, written)?;
     }
     Ok(())
 }
