@@ -2,6 +2,7 @@
 use Rattle.std.proofs.Common.{◌≡◌, ◌∙◌, ℕ, zero, suc, ◌+◌, ◌<◌, ◌^◌, ◌/◌, ◌%◌, List, [], ◌∷◌, ◌++◌, length, map, codes}
 use Rattle.std.proofs.Common.{Option, Some, None, slice_get, true, refl, sym, ap, arith, zero-add}
 use Rattle.std.specs.Prelude.{IsTrue, IsSome}
+use Rattle.std.proofs.Common.{false, length-append}
 use Rattle.std.specs.Fmt.{decimal}
 use Rattle.std.specs.List.{list_all, range_with_len}
 use Rattle.std.specs.Option.{option_map, ForSome}
@@ -16,11 +17,14 @@ use Rattle.board.specs.New.{new_board}
 use Rattle.board.specs.View.{View}
 use Rattle.lab_state.specs.Board.{Board}
 use Rattle.lab_state.specs.Change.{change_at}
-use Rattle.lab_state.specs.Lab.{Lab}
-use Rattle.lab_state.specs.One.{view_at, with_view, changed, connected, fitted, kind_at}
+use Rattle.lab_state.specs.Lab.{Lab, Seen}
+use Rattle.lab_state.specs.Names.{hub_named}
+use Rattle.lab_state.specs.One.{view_at, view_of, with_view, changed, connected, fitted, kind_at}
 use Rattle.lab_gen.specs.Firmware.{program}
 use Rattle.lab_gen.specs.Generated.{board, generated, uart_of}
 use Rattle.lab_gen.specs.Plan.{plan}
+use Rattle.lab_gen.specs.Inner.Steps.{bare, IsWith}
+use Rattle.lab_gen.proofs.Texts.{program_length}
 
 -- ---- names
 
@@ -71,23 +75,10 @@ pub changed_has :
     IsSome (view_at (change_at boards b (with_view f)) b)
 changed_has boards b f is = rw (view_changed boards b f) (still_some (view_at boards b) f is)
 
--- a board that holds so many bytes
-pub holds_there :
-    (o : Option View) (v : View) (at count : ℕ) → Some v ≡ o → IsTrue (holds_each v.space at count) →
-    ForSome o (λ v. IsTrue (holds_each v.space at count))
-holds_there o v at count is holds = rw (sym is) holds
-
 -- ---- a board more
 
 abbrev boards_of : ℕ → ℕ → List Board
 boards_of seed n = map (board seed) (range_with_len 0 n)
-
--- the board of this number before it has a plan
-abbrev bare : ℕ → Board
-bare n = record { name = codes "m" ++ decimal n; view = None }
-
-abbrev with_bare : ℕ → ℕ → Lab
-with_bare seed n = record (generated seed n) { boards = boards_of seed n ++ bare n ∷ [] }
 
 -- it gets its plan, its program and its pc
 abbrev equip : ℕ → Board → Board
@@ -99,38 +90,83 @@ load seed n v = with_bytes v 0x80000000 (program seed n)
 abbrev begin : View → View
 begin v = with_pc v 0x80000000
 
-more_boards :
-    (seed n : ℕ) →
-    change_at (change_at (change_at (boards_of seed n ++ bare n ∷ []) n (equip n)) n (with_view (load seed n))) n
-    (with_view begin)
-    ≡ boards_of seed (n + 1)
-more_boards seed n =
-    let few = length-map-range_with_len (board seed) 0 n in
-    ap (λ l. change_at (change_at l n (with_view (load seed n))) n (with_view begin))
-    (change_last (boards_of seed n) n (bare n) (equip n) few)
-    ∙ ap (λ l. change_at l n (with_view begin))
-    (change_last (boards_of seed n) n (equip n (bare n)) (with_view (load seed n)) few)
-    ∙ change_last (boards_of seed n) n (with_view (load seed n) (equip n (bare n))) (with_view begin) few
-    ∙ sym (map-range_with_len_more (board seed) 0 n n (zero-add n))
-
 more_members :
     (n : ℕ) → map uart_of (range_with_len 0 n) ++ uart_of n ∷ [] ≡ map uart_of (range_with_len 0 (n + 1))
 more_members n = sym (map-range_with_len_more uart_of 0 n n (zero-add n))
 
--- and its UART comes at the end of the hub
-pub board_added :
-    (seed n : ℕ) →
-    connected (changed (changed (fitted (with_bare seed n) n (new_board n plan)) n (load seed n)) n begin) 0 (uart_of n)
-    ≡ generated seed (n + 1)
-board_added seed n = λ i. record {
-  boards = more_boards seed n i;
-  hubs = record { name = codes "hub"; kind = Uart; members = more_members n i } ∷ [];
-  now = 0;
-  quantum = 100;
-}
+-- ---- the steps
 
--- the board has a UART then
-pub has_uart : (seed n : ℕ) → IsSome (kind_at (boards_of seed n ++ board seed n ∷ []) (uart_of n))
-has_uart seed n =
+-- the laboratory without the board has as many as its number says
+pub count_is :
+    (seed n : ℕ) (s : Seen) → s ≡ record { lab = generated seed n; spent = false } → length s.lab.boards ≡ n
+count_is seed n s is = rw is (length-map-range_with_len (board seed) 0 n)
+
+-- the new board is the last
+pub last_exists :
+    (seed n : ℕ) (more : Board) (s : Seen) → IsWith seed n more s → n < length s.lab.boards
+last_exists seed n more s is =
+    rw (is, length-append) (omega (arith, length-map-range_with_len (board seed) 0 n))
+
+last_view : (seed n : ℕ) (more : Board) → view_at (boards_of seed n ++ more ∷ []) n ≡ more.view
+last_view seed n more =
+    ap (view_at (boards_of seed n ++ more ∷ [])) (sym (length-map-range_with_len (board seed) 0 n))
+    ∙ view_last (boards_of seed n) more
+
+-- the new board gets its plan
+pub fitted_last :
+    (seed n : ℕ) (s s' : Seen) → IsWith seed n (bare n) s →
+    s' ≡ record s { lab = fitted s.lab n (new_board n plan) } → IsWith seed n (equip n (bare n)) s'
+fitted_last seed n s s' is so =
+    rw (so, is)
+    (ap (λ l. record { lab = record (generated seed n) { boards = l }; spent = false })
+    (change_last (boards_of seed n) n (bare n) (equip n) (length-map-range_with_len (board seed) 0 n)))
+
+pub fitted_has : (seed n : ℕ) (s : Seen) → IsWith seed n (equip n (bare n)) s → IsSome (view_of s.lab n)
+fitted_has seed n s is = rw (is, last_view seed n (equip n (bare n))) tt
+
+pub fitted_holds :
+    (seed n : ℕ) (s : Seen) (bytes : List ℕ) → IsWith seed n (equip n (bare n)) s → bytes ≡ program seed n →
+    ForSome (view_of s.lab n) (λ v. IsTrue (holds_each v.space 0x80000000 (length bytes)))
+fitted_holds seed n s bytes is are =
+    rw (is, are, last_view seed n (equip n (bare n)), program_length seed n) tt
+
+-- it gets its program
+pub loaded_last :
+    (seed n : ℕ) (s s' : Seen) (bytes : List ℕ) → IsWith seed n (equip n (bare n)) s → bytes ≡ program seed n →
+    s' ≡ record s {
+      lab = changed (changed s.lab n (λ v. with_bytes v 0x80000000 bytes)) n (λ v. with_pc v 0x80000000);
+    } →
+    IsWith seed n (board seed n) s'
+loaded_last seed n s s' bytes is are so =
     let few = length-map-range_with_len (board seed) 0 n in
-    rw (ap (view_at (boards_of seed n ++ board seed n ∷ [])) (sym few) ∙ view_last (boards_of seed n) (board seed n)) tt
+    rw (so, is, are)
+    (ap (λ l. record { lab = record (generated seed n) { boards = l }; spent = false })
+    (ap (λ l. change_at l n (with_view begin))
+    (change_last (boards_of seed n) n (equip n (bare n)) (with_view (load seed n)) few)
+    ∙ change_last (boards_of seed n) n (with_view (load seed n) (equip n (bare n))) (with_view begin) few))
+
+-- it has a UART then
+pub last_has_uart :
+    (seed n : ℕ) (s : Seen) → IsWith seed n (board seed n) s → IsSome (kind_at s.lab.boards (uart_of n))
+last_has_uart seed n s is = rw (is, last_view seed n (board seed n)) tt
+
+pub first_hub :
+    (seed n : ℕ) (s : Seen) → IsWith seed n (board seed n) s → hub_named s.lab (codes "hub") ≡ Some 0
+first_hub seed n s is = rw is refl
+
+-- which comes at the end of the hub
+pub joined_last :
+    (seed n : ℕ) (s s' : Seen) → IsWith seed n (board seed n) s →
+    s' ≡ record s { lab = connected s.lab 0 (uart_of n) } →
+    s' ≡ record { lab = generated seed (n + 1); spent = false }
+joined_last seed n s s' is so =
+    rw (so, is)
+    (λ i. record {
+      lab = record {
+        boards = sym (map-range_with_len_more (board seed) 0 n n (zero-add n)) i;
+        hubs = record { name = codes "hub"; kind = Uart; members = more_members n i } ∷ [];
+        now = 0;
+        quantum = 100;
+      };
+      spent = false;
+    })

@@ -12,7 +12,7 @@ use Rattle.rv_asm.specs.Operands as operands
 use Rattle.rv_asm.specs.Program.{given, is_fault, lines_of}
 use Rattle.rv_asm.specs.Texts.{trimmed}
 use Rattle.rv_decode.specs.Table.{row_of}
-use Rattle.lab_gen.specs.Firmware.{head, tail, upper_word, rest_word, word_of, words, words_of}
+use Rattle.lab_gen.specs.Firmware.{head, tail, program, upper_word, rest_word, word_of, words, words_of}
 
 -- ---- words
 
@@ -41,5 +41,10 @@ tail_assembles = refl
 
 pub joined :
     (start upper rest : ℕ) → upper_word start ≡ Some upper → rest_word start ≡ Some rest →
-    words start ≡ words_of head ++ upper ∷ rest ∷ words_of tail
+    words start ≡ words_of head ++ ((upper ∷ []) ++ ((rest ∷ []) ++ words_of tail))
 joined start upper rest upper_is rest_is = rw (upper_is, rest_is) refl
+
+-- it has 23 words
+pub program_length : (seed board : ℕ) → length (program seed board) ≡ 92
+unfolding program words_of head tail encoded row_of op_named target_of branch_word jump_word mnemonic_in operands_in plain_word labelled_word line_word gives_word operand_and register_and place_of registers_word immediate_word load_word store_word operands.upper_word two_registers_and trimmed
+program_length seed board = refl

@@ -3,3 +3,4 @@ pub mod Firmware
 pub mod Plan
 pub mod Generated
 pub mod Summary
+pub mod Inner

@@ -15,7 +15,7 @@ abbrev pub no_board : Board
 no_board = record { name = []; view = None }
 
 -- how many posts a board has made, which is none without a plan
-abbrev pub posts_of : Board → ℕ
+unfoldable pub posts_of : Board → ℕ
 posts_of board = option_map_or (λ v. v.numbers.posted) board.view 0
 
 -- the line of a board: its posts, the instructions that it has retired, and its sum of bytes, which is in x18
@@ -28,7 +28,7 @@ line_by name v =
     ++ codes "\n"
 
 -- a board without a plan has no line
-abbrev pub line_of : Board → List ℕ
+unfoldable pub line_of : Board → List ℕ
 line_of board = option_map_or (line_by board.name) board.view []
 
 -- the lines of all boards, and the posts of all together

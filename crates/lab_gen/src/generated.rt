@@ -28,8 +28,8 @@ pub fn generate<D: Device>(
     ensures { IfOk result (λ bytes. bytes.items ≡ summary_of run seed boards) }
 {
     let mut lab = laboratory(alloc, seed, boards, stock)?;
-    if lab.run_for(LENGTH).is_err() {
+    let Ok(_log) = lab.run_for(LENGTH) else {
         return Err(NoMemory);
-    }
+    };
     summary(alloc, &lab)
 }

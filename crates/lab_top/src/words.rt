@@ -33,14 +33,14 @@ pub(crate) fn read_request(alloc: Global, words: &[String]) -> Result<Asked, Wor
     ensures range { IfOk result (λ asked. IsInRange asked) }
 {
     match read_words(alloc, words) {
-        Ok(request) => Ok(asked(request)),
+        Ok(request) => Ok(asked_by(request)),
         Err(fault) => Err(fault),
     }
 }
 
 /// What is to be done for a request. The number of workers is that of a script's setting, and none of
 /// a generated laboratory's.
-fn asked(request: Request) -> Asked
+fn asked_by(request: Request) -> Asked
     requires { IsWithin request }
     ensures read { IsAsked (by_reading (Ok request)) (Ok result) }
     ensures range { IsInRange result }

@@ -1,3 +1,4 @@
+use Rattle.std.proofs.Common.{rules}
 use Rattle.lab_gen.specs.Firmware.{head}
 use Rattle.lab_gen.proofs.Texts.{head_assembles}
 use Rattle.lab_gen.proofs.firmware.head.Goals as goal

@@ -1,3 +1,4 @@
+use Rattle.std.proofs.Common.{rules}
 use Rattle.lab_gen.specs.Firmware.{tail}
 use Rattle.lab_gen.proofs.Texts.{tail_assembles}
 use Rattle.lab_gen.proofs.firmware.tail.Goals as goal
