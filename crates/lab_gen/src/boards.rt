@@ -26,11 +26,7 @@ const HUB: &str = "hub";
 
 /// Adds a board without a plan, under the name of its number.
 #[tactic(auto, using(crate::proofs::MoreBoards::board_name))]
-fn add_bare<D: Device>(
-    alloc: Global,
-    lab: &mut Lab<D>,
-    number: u8,
-) -> Result<BoardNo, NoMemory>
+fn add_bare<D: Device>(alloc: Global, lab: &mut Lab<D>, number: u8) -> Result<BoardNo, NoMemory>
     requires unspent { lab.old.spent ≡ false }
     requires count { length lab.old.lab.boards ≡ number }
     ensures number { IfOk result (λ board. board.0 ≡ number) }
@@ -93,12 +89,7 @@ fn join<D: Device>(lab: &mut Lab<D>, board: BoardNo) -> Result<(), NoMemory>
 }
 
 /// Gives the last board, of this number, its plan and its program.
-fn equip<D: Device>(
-    alloc: Global,
-    lab: &mut Lab<D>,
-    seed: u64,
-    b: BoardNo,
-) -> Result<(), NoMemory>
+fn equip<D: Device>(alloc: Global, lab: &mut Lab<D>, seed: u64, b: BoardNo) -> Result<(), NoMemory>
     requires { IsWith seed b.0 (bare b.0) lab.old }
     ensures { OnOk result (IsWith seed b.0 (board seed b.0) lab.new) }
 {

@@ -13,11 +13,7 @@ use std::alloc::Global;
 const SUM: u8 = 18;
 
 /// Writes the line of a board of this name that has a plan, and answers how many posts it has made.
-fn print_line<D: Device>(
-    text: &mut String,
-    name: &str,
-    board: &Board<D>,
-) -> Result<u64, NoMemory>
+fn print_line<D: Device>(text: &mut String, name: &str, board: &Board<D>) -> Result<u64, NoMemory>
     ensures posts { IfOk result (λ posts. posts ≡ board.now.view.numbers.posted) }
     ensures text { OnOk result (string_bytes text.new ≡ string_bytes text.old
         ++ summary_spec.line_by name.now board.now.view) }
@@ -31,12 +27,7 @@ fn print_line<D: Device>(
 
 /// Writes the line of a board, and answers how many posts it has made. A board without a plan has no
 /// line and has made none.
-#[tactic(auto, using(
-    crate::proofs::Told::bare_posts,
-    crate::proofs::Told::bare_line,
-    crate::proofs::Told::plan_posts,
-    crate::proofs::Told::plan_line
-))]
+#[tactic(auto, using(crate::proofs::Told::bare_posts, crate::proofs::Told::bare_line, crate::proofs::Told::plan_posts, crate::proofs::Told::plan_line))]
 fn print_board<D: Device>(lab: &Lab<D>, b: BoardNo, text: &mut String) -> Result<u64, NoMemory>
     requires unspent { lab.now.spent ≡ false }
     requires exists { b.0 < length lab.now.lab.boards }

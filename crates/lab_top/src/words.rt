@@ -21,10 +21,7 @@ pub(crate) struct ScriptRun {
 pub(crate) enum Asked {
     Script(ScriptRun),
     /// The laboratory of a seed.
-    Generated {
-        seed: u64,
-        boards: u8,
-    },
+    Generated { seed: u64, boards: u8 },
 }
 
 /// What the words ask for.
