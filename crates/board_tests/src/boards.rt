@@ -3,6 +3,7 @@ ghost use Rattle.std.specs.Prelude.{◌≡◌, ◌∷◌, [], IfOk};
 ghost use Rattle.dev_core.specs.declared.kind.Kind.TheVariants.{Uart as uart};
 ghost use Rattle.board.specs.New.{first_state};
 
+mod cans;
 mod counted;
 mod interrupts;
 mod programs;
@@ -65,6 +66,15 @@ enum Step {
     Retired(u64),
     Holds(u32, u32, bool),
     Word(u32, Option<u32>),
+    /// The CAN controller is shown.
+    ShowCan(u8),
+    /// A data frame with this identifier and these bytes is handed to a device.
+    Handed(u8, u16, &'static [u8], Taken),
+    /// The oldest post has this microsecond and number, is this data frame of a device, and is
+    /// dropped.
+    FrameSent(u64, u64, u8, u16, &'static [u8]),
+    /// The entries since the last look are one of this microsecond and number: a frame of a device.
+    FrameEntered(u64, u64, u8, u16, &'static [u8]),
 }
 
 fn region(base: u32, size: u32, kind: RegionKind, step: u8) -> Region {
@@ -280,6 +290,7 @@ fn play<D: Device>(
     for step in steps {
         change(rt, &mut board, *step)?;
         look(rt, &mut board, *step);
+        cans::exchange(rt, &mut board, *step);
     }
     Ok(())
 }

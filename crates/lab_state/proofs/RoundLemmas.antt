@@ -1,12 +1,12 @@
 -- The steps of a round, and what they keep.
 use Rattle.std.proofs.Common.{◌≡◌, ◌∙◌, sym, ap, refl, Bool, true, false, cond, not, ℕ, zero, suc, ◌+◌, ◌-◌, ◌*◌, ◌^◌}
 use Rattle.std.proofs.Common.{◌<◌, ◌≤◌, List, [], ◌∷◌, ◌++◌, length, map, fold, find, unwrap_or, get_or, slice_get}
-use Rattle.std.proofs.Common.{Option, Some, None, take, drop, subst, add-zero, arith}
-use Rattle.std.specs.Prelude.{if◌then◌else◌, IsSome, is_none, option_and_then}
+use Rattle.std.proofs.Common.{Option, Some, None, take, drop, add-zero, arith}
+use Rattle.std.specs.Prelude.{IsSome, is_none}
 use Rattle.std.proofs.lemmas.List.{map-append}
 use Rattle.std.proofs.lemmas.List.Elements.{All-nil, All-filter, All-weaker}
 use Rattle.std.proofs.lemmas.Grind.{common_steps}
-use Rattle.std.proofs.lemmas.Option.{same_Some, slice_get_past, slice_get-map, slice_get-get_or}
+use Rattle.std.proofs.lemmas.Option.{slice_get_past, slice_get-map, slice_get-get_or}
 use Rattle.std.proofs.Math.Nat.{mul-le-mul_left}
 use Rattle.std.proofs.Math.Seq.{take-append_seam}
 use Rattle.std.specs.List.{flat_map, All, position}
@@ -25,7 +25,7 @@ use Rattle.board.specs.Stretch.{stretch}
 use Rattle.board.specs.Numbered.{IsNumbered, AreNumbered}
 use Rattle.board.specs.Changes.{handed}
 use Rattle.lab_state.specs.Board.{Board}
-use Rattle.lab_state.specs.Boundary.{Handed, to_member, to_route, to_routes, is_finish, boundary}
+use Rattle.lab_state.specs.Boundary.{Handed, to_member, to_route, to_routes, boundary}
 use Rattle.lab_state.specs.Hub.{Hub, members_of}
 use Rattle.lab_state.specs.Lab.{Lab}
 use Rattle.lab_state.specs.One.{with_view, HaveAllPlans}

@@ -22,11 +22,12 @@ pub struct HubName {
     pub kind: Kind,
 }
 
-/// The hubs in order of creation. The members of those that connect UARTs stand apart.
+/// The hubs of all kinds in order of creation. `UartHubs` keeps members of any kind: no device is in
+/// two of these hubs, and each route is within one.
 #[derive(Drop)]
 pub struct HubList {
     names: Vec<HubName>,
-    uarts: UartHubs,
+    members: UartHubs,
 }
 
 impl Model for HubList {
@@ -36,11 +37,11 @@ impl Model for HubList {
 
     ghost Value = { List Hub };
 
-    ghost view = { λ h. hubs_of h.names.items h.uarts };
+    ghost view = { λ h. hubs_of h.names.items h.members };
 
     ghost invariant = { λ h.
-        AreParts h.names.items h.uarts (hubs_of h.names.items h.uarts)
-        × (length h.uarts < 2 ^ 32) };
+        AreParts h.names.items h.members (hubs_of h.names.items h.members)
+        × (length h.members < 2 ^ 32) };
 }
 
 /// The number of the first of these that has the name.
@@ -53,17 +54,17 @@ fn number_of(hubs: &[HubName], name: &str) -> Option<usize>
 /// Puts a name at the end of the names and makes a hub, or neither.
 fn create_both(
     names: &mut Vec<HubName>,
-    uarts: &mut UartHubs,
+    members: &mut UartHubs,
     name: HubName,
 ) -> Result<(), NoMemory>
-    requires { length uarts.old + 1 < 2 ^ 32 }
+    requires { length members.old + 1 < 2 ^ 32 }
     ensures name { OnOk result (names.new.items ≡ names.old.items ++ name ∷ []) }
-    ensures hub { OnOk result (uarts.new ≡ uarts.old ++ [] ∷ []) }
+    ensures hub { OnOk result (members.new ≡ members.old ++ [] ∷ []) }
     ensures no_name { OnErr result (names.new.items ≡ names.old.items) }
-    ensures no_hub { OnErr result (uarts.new ≡ uarts.old) }
+    ensures no_hub { OnErr result (members.new ≡ members.old) }
 {
     names.push(name)?;
-    if uarts.create().is_err() {
+    if members.create().is_err() {
         let _ = names.pop();
         return Err(NoMemory);
     }
@@ -71,14 +72,12 @@ fn create_both(
 }
 
 impl HubList {
-    ghost use Rattle.dev_core.specs.declared.kind.Kind.TheVariants.{Uart};
-
     pub fn new(alloc: Global) -> HubList
         ensures { result ≡ [] }
     {
         HubList {
             names: Vec::new(alloc),
-            uarts: UartHubs::new(alloc),
+            members: UartHubs::new(alloc),
         }
     }
 
@@ -113,21 +112,18 @@ impl HubList {
         ensures value { Some result.now ≡ option_map (λ hub. hub.members) (slice_get self.now n) }
         ensures once { StandOnce (members_of self.now) }
     {
-        self.uarts.members(n)
+        self.members.members(n)
     }
 
-    /// Creates a hub that connects UARTs, without members.
-    pub fn create_uart_hub(&mut self, name: Text) -> Result<(), NoMemory>
+    /// Creates a hub that connects devices of this kind, without members.
+    pub fn create(&mut self, name: Text, kind: Kind) -> Result<(), NoMemory>
         requires { length self.old + 1 < 2 ^ 32 }
         ensures ok { OnOk result (self.new
-            ≡ self.old ++ record { name = name; kind = Uart; members = [] } ∷ []) }
+            ≡ self.old ++ record { name = name; kind = kind; members = [] } ∷ []) }
         ensures err { OnErr result (self.new ≡ self.old) }
     {
-        let hub = HubName {
-            name,
-            kind: Kind::Uart,
-        };
-        create_both(&mut self.names, &mut self.uarts, hub)?;
+        let hub = HubName { name, kind };
+        create_both(&mut self.names, &mut self.members, hub)?;
         Ok(())
     }
 
@@ -139,13 +135,13 @@ impl HubList {
             ↔ IsTrue (is_connected (members_of self.old) member) }
         ensures err { OnErr result (self.new ≡ self.old) }
     {
-        self.uarts.connect(n as u32, member)
+        self.members.connect(n as u32, member)
     }
 
     /// The other members of the hub of `from`, in order of connection.
     pub fn route(&self, from: Member) -> Result<Vec<Member>, NoMemory>
         ensures { IfOk result (λ list. list.items ≡ routes.route (members_of self.now) from) }
     {
-        self.uarts.route(from)
+        self.members.route(from)
     }
 }

@@ -4,7 +4,7 @@ ghost use Rattle.std.specs.Prelude.{IfSome, IsSome, IsTrue, OnOk, OnErr};
 ghost use Rattle.std.specs.Option.{option_map};
 ghost use Rattle.lab_num.specs.Name as name_spec;
 ghost use Rattle.lab_num.specs.Route.{StandOnce, is_connected};
-ghost use Rattle.dev_core.specs.declared.kind.Kind.TheVariants.{Uart};
+ghost use Rattle.dev_core.specs.declared.kind.Kind.TheVariants.{Uart, Can};
 ghost use Rattle.lab_state.specs.Hub.{members_of};
 ghost use Rattle.lab_state.specs.Names as names_spec;
 ghost use Rattle.lab_state.specs.One.{kind_at};
@@ -40,6 +40,29 @@ impl<D: Device> Lab<D> {
         }
     }
 
+    /// Creates a hub that connects devices of this kind, without members.
+    fn create_hub(&mut self, name: &str, kind: Kind) -> Result<(), HubNameFault>
+        requires unspent { self.old.spent ≡ false }
+        requires is_name { IsTrue (name_spec.is_name name.now) }
+        requires room { length self.old.lab.hubs + 1 < 2 ^ 32 }
+        ensures ok { OnOk result (self.new ≡ record self.old {
+          lab = record self.old.lab {
+            hubs = self.old.lab.hubs
+                ++ record { name = name.now; kind = kind; members = [] } ∷ [];
+          };
+        }) }
+        ensures taken { (result ≡ Err HubNameFault.Taken)
+            ↔ IsTrue (names_spec.is_taken self.old.lab name.now) }
+        ensures err { OnErr result (self.new ≡ self.old) }
+    {
+        if self.is_taken(name) {
+            return Err(HubNameFault::Taken);
+        }
+        let text = Text::of(self.alloc, name)?;
+        self.hubs.create(text, kind)?;
+        Ok(())
+    }
+
     /// Creates a hub that connects UARTs, without members.
     pub fn create_uart_hub(&mut self, name: &str) -> Result<(), HubNameFault>
         requires unspent { self.old.spent ≡ false }
@@ -55,12 +78,25 @@ impl<D: Device> Lab<D> {
             ↔ IsTrue (names_spec.is_taken self.old.lab name.now) }
         ensures err { OnErr result (self.new ≡ self.old) }
     {
-        if self.is_taken(name) {
-            return Err(HubNameFault::Taken);
-        }
-        let text = Text::of(self.alloc, name)?;
-        self.hubs.create_uart_hub(text)?;
-        Ok(())
+        self.create_hub(name, Kind::Uart)
+    }
+
+    /// Creates a hub that connects CAN controllers, without members.
+    pub fn create_can_hub(&mut self, name: &str) -> Result<(), HubNameFault>
+        requires unspent { self.old.spent ≡ false }
+        requires is_name { IsTrue (name_spec.is_name name.now) }
+        requires room { length self.old.lab.hubs + 1 < 2 ^ 32 }
+        ensures ok { OnOk result (self.new ≡ record self.old {
+          lab = record self.old.lab {
+            hubs = self.old.lab.hubs
+                ++ record { name = name.now; kind = Can; members = [] } ∷ [];
+          };
+        }) }
+        ensures taken { (result ≡ Err HubNameFault.Taken)
+            ↔ IsTrue (names_spec.is_taken self.old.lab name.now) }
+        ensures err { OnErr result (self.new ≡ self.old) }
+    {
+        self.create_hub(name, Kind::Can)
     }
 
     /// Puts a device of a board that has a plan at the end of the hub of this name.

@@ -21,6 +21,3 @@ pub use faults::{AddFault, ConnectFault, FitFault, HubNameFault, LabFault, RunFa
 pub use lab::Lab;
 pub use laws::{boundaries_agree, runs_end, runs_join, turns_agree};
 pub use round::RoundLog;
-
-#[cfg(test)]
-mod tests;

@@ -4,7 +4,11 @@
 #[cfg(test)]
 mod bench;
 #[cfg(test)]
+mod cans;
+#[cfg(test)]
 mod generated;
+#[cfg(test)]
+mod images;
 #[cfg(test)]
 mod limits;
 #[cfg(test)]

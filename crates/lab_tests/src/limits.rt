@@ -152,6 +152,8 @@ fn a_file_has_16_mib_at_most(rt: HostRuntime) -> Result<(), Fail> {
     // the run ends.
     let board = "mach create m\nmachine LoadPlatformDescription @p.repl\n";
     let image = format!(in rt.alloc(); "{board}sysbus LoadBinary @large 0x80000000\n")?;
+    let elf = format!(in rt.alloc(); "{board}sysbus LoadELF @large\n")?;
+    let hex = format!(in rt.alloc(); "{board}sysbus LoadHEX @large\n")?;
     let used = "mach create m\nmachine LoadPlatformDescription @use.repl\n";
     let large = "mach create m\nmachine LoadPlatformDescription @large\n";
     let rows = [
@@ -173,6 +175,24 @@ fn a_file_has_16_mib_at_most(rt: HostRuntime) -> Result<(), Fail> {
         (
             16_777_217,
             Some(image.as_str()),
+            3,
+            "error: s.resc:3: S19 size\n",
+        ),
+        (
+            16_777_216,
+            Some(elf.as_str()),
+            3,
+            "error: s.resc:3: E2 not elf\n",
+        ),
+        (
+            16_777_217,
+            Some(elf.as_str()),
+            3,
+            "error: s.resc:3: S19 size\n",
+        ),
+        (
+            16_777_217,
+            Some(hex.as_str()),
             3,
             "error: s.resc:3: S19 size\n",
         ),

@@ -107,6 +107,18 @@ fn scripts_are_checked_without_a_run(rt: HostRuntime) -> Result<(), Fail> {
             3,
             "error: s.resc:1: S4 no board\n",
         ),
+        (
+            "check s.resc",
+            "mach create\nmachine LoadPlatformDescription @p.repl\nsysbus LoadELF @none\nfoo",
+            4,
+            "",
+        ),
+        (
+            "run s.resc",
+            "mach create\nmachine LoadPlatformDescription @p.repl\nsysbus LoadHEX @none\nfoo",
+            4,
+            "",
+        ),
         ("check none", "", 4, ""),
         ("run none", "", 4, ""),
     ];

@@ -6,7 +6,7 @@ use Rattle.std.proofs.lemmas.Bool.Decides.{nat_tests}
 use Rattle.log_text.specs.Log.{escaped}
 use Rattle.log_text.specs.Number.{filled}
 
--- what `{n:06}`, `{n:08x}` and `{n:02x}` write of a number's digits
+-- what `{n:06}`, `{n:08x}`, `{n:03x}` and `{n:02x}` write of a number's digits
 pub filled_six :
     (shown : List ℕ) → padded_integral (format_spec 32 0 4 6 (2 ^ 64 - 1)) false [] shown ≡ filled 6 shown
 unfolding padded_integral char_count
@@ -16,6 +16,11 @@ pub filled_eight :
     (shown : List ℕ) → padded_integral (format_spec 32 0 4 8 (2 ^ 64 - 1)) false [] shown ≡ filled 8 shown
 unfolding padded_integral char_count
 filled_eight shown = simp (sub-zero, append-nil)
+
+pub filled_three :
+    (shown : List ℕ) → padded_integral (format_spec 32 0 4 3 (2 ^ 64 - 1)) false [] shown ≡ filled 3 shown
+unfolding padded_integral char_count
+filled_three shown = simp (sub-zero, append-nil)
 
 pub filled_two :
     (shown : List ℕ) → padded_integral (format_spec 32 0 4 2 (2 ^ 64 - 1)) false [] shown ≡ filled 2 shown

@@ -1,6 +1,6 @@
 -- The log has whole lines of printable bytes.
 use Rattle.std.proofs.Common.{◌≡◌, ℕ, zero, suc, ◌-◌, ◌/◌, ◌%◌, ◌<◌, ◌≤◌, ◌==◌, ◌&&◌, nat_le, Bool, true, false, List}
-use Rattle.std.proofs.Common.{[], ◌∷◌, ◌++◌, length, get_or, replicate, codes, refl, sym, inl, inr, append-nil, arith}
+use Rattle.std.proofs.Common.{[], ◌∷◌, ◌++◌, length, get_or, replicate, take, codes, refl, sym, inl, inr, append-nil, arith}
 use Rattle.std.specs.Fmt.{decimal, digit_glyph, digits, digits_onto}
 use Rattle.std.specs.List.{flat_map, list_all}
 use Rattle.std.proofs.lemmas.Bool.{cases_Bool, and_from, and_parts}
@@ -12,16 +12,19 @@ use Rattle.lab_num.specs.declared.number.Micros.{Micros}
 use Rattle.dev_core.specs.declared.payload.Finish.{Finish}
 use Rattle.dev_core.specs.declared.payload.Finish.TheVariants.{Pass, Fail}
 use Rattle.dev_core.specs.declared.post.What.TheVariants.{Byte, Sent, Read, Write}
+use Rattle.dev_core.specs.Frame.{FrameData, carried}
 use Rattle.log_merge.specs.declared.item.LogItem.{LogItem}
 use Rattle.log_merge.specs.declared.item.LogItem.TheVariants.{Slot, Note, Pause}
+use Rattle.log_merge.specs.declared.item.Note as note
 use Rattle.log_merge.specs.declared.item.Note.TheVariants.{Overrun, Received, Lost}
 use Rattle.log_merge.specs.declared.names.Names.{Names}
 use Rattle.log_text.specs.declared.line.OpenLine.{OpenLine}
+use Rattle.log_text.specs.Frame.{data_text, frame_text, kind_text, pairs}
 use Rattle.log_text.specs.Line.{gathered, is_ending, own}
-use Rattle.log_text.specs.Log.{device_of, ended_by, escaped, finish_text, log_line, opened, printed, rest, text}
-use Rattle.log_text.specs.Log.{uart_line}
+use Rattle.log_text.specs.Log.{device_of, ended_by, escaped, finish_text, frame_line, log_line, noted, opened, printed}
+use Rattle.log_text.specs.Log.{rest, text, uart_line}
 use Rattle.log_text.specs.Names.{board_name, device_name, names_of_board, place_name}
-use Rattle.log_text.specs.Number.{filled, hexadecimal, seconds, word}
+use Rattle.log_text.specs.Number.{filled, hexadecimal, identifier, seconds, word}
 use Rattle.log_text.specs.Printable.{AreLines, are_board_names, are_printable_names, is_printable}
 use Rattle.log_text.proofs.Parts.{list_all-both}
 
@@ -80,6 +83,37 @@ seconds_printable at =
     both (decimal (at.0 / 1000000) ++ codes ".") (filled 6 (decimal (at.0 % 1000000)))
     (both (decimal (at.0 / 1000000)) (codes ".") (decimal_printable (at.0 / 1000000)) refl)
     (filled_printable 6 (decimal (at.0 % 1000000)) (decimal_printable (at.0 % 1000000)))
+
+-- ---- frames
+
+identifier_printable : (n : ℕ) → is_printable (identifier n) ≡ true
+unfolding identifier
+identifier_printable n = hexadecimal_printable 3 n
+
+kind_printable : (remote : Bool) → is_printable (kind_text remote) ≡ true
+kind_printable true = refl
+kind_printable false = refl
+
+pairs_printable : (bytes : List ℕ) → is_printable (pairs bytes) ≡ true
+pairs_printable [] = refl
+pairs_printable (byte ∷ bytes) =
+    both (hexadecimal 2 byte) (pairs bytes) (hexadecimal_printable 2 byte) (pairs_printable bytes)
+
+data_printable : (bytes : List ℕ) → is_printable (data_text bytes) ≡ true
+data_printable [] = refl
+data_printable (byte ∷ bytes) = both (codes " ") (pairs (byte ∷ bytes)) refl (pairs_printable (byte ∷ bytes))
+
+frame_printable : (frame : FrameData) → is_printable (frame_text frame) ≡ true
+unfolding frame_text
+frame_printable frame =
+    let id = identifier frame.id ++ codes " " in
+    let kind = id ++ kind_text frame.remote ++ codes " " in
+    let id_is = both (identifier frame.id) (codes " ") (identifier_printable frame.id) refl in
+    let kind_is = both (id ++ kind_text frame.remote) (codes " ")
+    (both id (kind_text frame.remote) id_is (kind_printable frame.remote)) refl in
+    both (kind ++ decimal frame.len) (data_text (take (carried frame) frame.bytes))
+    (both kind (decimal frame.len) kind_is (decimal_printable frame.len))
+    (data_printable (take (carried frame) frame.bytes))
 
 -- ---- names
 
@@ -211,9 +245,27 @@ module _ (names : Names) (are : are_printable_names names ≡ true) where
       (both (codes "pause ") (place_name names m) refl (place_printable names are m)) refl)
       (finish_printable finish)
 
+  frame_is_whole :
+      (at : Micros) (m : Member) (word : List ℕ) (frame : FrameData) → is_printable word ≡ true →
+      AreLines (frame_line names at m word frame)
+  frame_is_whole at m word frame is =
+      let place = place_name names m ++ codes ": " in
+      let place_is = both (place_name names m) (codes ": ") (place_printable names are m) refl in
+      log_line_is_one at (place ++ word ++ codes " " ++ frame_text frame)
+      (both (place ++ word ++ codes " ") (frame_text frame)
+      (both (place ++ word) (codes " ") (both place word place_is is) refl) (frame_printable frame))
+
+  noted_is_whole : (at : Micros) (m : Member) (said : note.Note) → AreLines (noted names at m said)
+  noted_is_whole at m Overrun =
+      log_line_is_one at (place_name names m ++ codes ": overrun")
+      (both (place_name names m) (codes ": overrun") (place_printable names are m) refl)
+  noted_is_whole at m (Received frame) = frame_is_whole at m (codes "rx") frame refl
+  noted_is_whole at m (Lost frame) = frame_is_whole at m (codes "lost") frame refl
+
   printed_is_whole : (lines : List OpenLine) (item : LogItem) → AreLines (printed names lines item)
   printed_is_whole lines (Slot from (Byte dev byte)) = ended_is_whole (own (device_of from dev) lines) from.at byte
-  printed_is_whole lines (Slot from (Sent dev frame)) = no_lines
+  printed_is_whole lines (Slot from (Sent dev frame)) =
+      frame_is_whole from.at (device_of from dev) (codes "tx") frame refl
   printed_is_whole lines (Slot from (Read width at)) =
       log_line_is_one from.at
       (board_name names from.board ++ codes "/sysbus: read " ++ decimal width ++ codes " at " ++ word at)
@@ -221,11 +273,7 @@ module _ (names : Names) (are : are_printable_names names ≡ true) where
   printed_is_whole lines (Slot from (Write width at value)) =
       log_line_is_one from.at (board_name names from.board ++ codes "/sysbus: write " ++ decimal width ++ codes " at "
       ++ word at ++ codes " value " ++ word value) (write_printable from.board width at value)
-  printed_is_whole lines (Note at m Overrun) =
-      log_line_is_one at (place_name names m ++ codes ": overrun")
-      (both (place_name names m) (codes ": overrun") (place_printable names are m) refl)
-  printed_is_whole lines (Note at m (Received frame)) = no_lines
-  printed_is_whole lines (Note at m (Lost frame)) = no_lines
+  printed_is_whole lines (Note at m said) = noted_is_whole at m said
   printed_is_whole lines (Pause at m finish) =
       log_line_is_one at (codes "pause " ++ place_name names m ++ codes ": " ++ finish_text finish)
       (pause_printable m finish)

@@ -1,4 +1,5 @@
 -- What contracts of log_text cite.
+pub mod Frame
 pub mod Inner
 pub mod Line
 pub mod Log

@@ -8,12 +8,15 @@ use Rattle.lab_num.specs.declared.number.Micros.{Micros}
 use Rattle.dev_core.specs.declared.payload.Finish.{Finish}
 use Rattle.dev_core.specs.declared.payload.Finish.TheVariants.{Pass, Fail}
 use Rattle.dev_core.specs.declared.post.What.TheVariants.{Byte, Sent, Read, Write}
+use Rattle.dev_core.specs.Frame.{FrameData}
 use Rattle.log_merge.specs.declared.item.LogItem.{LogItem}
 use Rattle.log_merge.specs.declared.item.LogItem.TheVariants.{Slot, Note, Pause}
 use Rattle.log_merge.specs.declared.item.Member0.{Member0}
+use Rattle.log_merge.specs.declared.item.Note as note
 use Rattle.log_merge.specs.declared.item.Note.TheVariants.{Overrun, Received, Lost}
 use Rattle.log_merge.specs.declared.names.Names.{Names}
 use Rattle.log_text.specs.declared.line.OpenLine.{OpenLine}
+use Rattle.log_text.specs.Frame.{frame_text}
 use Rattle.log_text.specs.Line.{gathered, is_ending, own, with_byte}
 use Rattle.log_text.specs.Names.{board_name, place_name}
 use Rattle.log_text.specs.Number.{hexadecimal, seconds, word}
@@ -49,18 +52,28 @@ finish_text (Fail code) = codes "fail " ++ decimal code
 abbrev pub device_of : Member0 → ℕ → Member
 device_of from dev = record { board = from.board; dev = dev }
 
--- what each item prints. Frames print nothing yet: their lines come with the boards that send them.
+-- the line of a frame: a word for what became of it at a device, and the frame
+abbrev pub frame_line : Names → Micros → Member → List ℕ → FrameData → List ℕ
+frame_line names at m word frame =
+    log_line at (place_name names m ++ codes ": " ++ word ++ codes " " ++ frame_text frame)
+
+-- the line of what a boundary noted of a device
+abbrev pub noted : Names → Micros → Member → note.Note → List ℕ
+noted names at m Overrun = log_line at (place_name names m ++ codes ": overrun")
+noted names at m (Received frame) = frame_line names at m (codes "rx") frame
+noted names at m (Lost frame) = frame_line names at m (codes "lost") frame
+
+-- what each item prints
 abbrev pub printed : Names → List OpenLine → LogItem → List ℕ
 printed names lines (Slot from (Byte dev byte)) = ended_by names (own (device_of from dev) lines) from.at byte
-printed names lines (Slot from (Sent dev frame)) = []
+printed names lines (Slot from (Sent dev frame)) =
+    frame_line names from.at (device_of from dev) (codes "tx") frame
 printed names lines (Slot from (Read width at)) =
     log_line from.at (board_name names from.board ++ codes "/sysbus: read " ++ decimal width ++ codes " at " ++ word at)
 printed names lines (Slot from (Write width at value)) =
     log_line from.at (board_name names from.board ++ codes "/sysbus: write " ++ decimal width
     ++ codes " at " ++ word at ++ codes " value " ++ word value)
-printed names lines (Note at m Overrun) = log_line at (place_name names m ++ codes ": overrun")
-printed names lines (Note at m (Received frame)) = []
-printed names lines (Note at m (Lost frame)) = []
+printed names lines (Note at m said) = noted names at m said
 printed names lines (Pause at m finish) =
     log_line at (codes "pause " ++ place_name names m ++ codes ": " ++ finish_text finish)
 
@@ -70,7 +83,7 @@ opened lines (Slot from (Byte dev byte)) = with_byte lines (device_of from dev) 
 opened lines (Slot from (Sent dev frame)) = lines
 opened lines (Slot from (Read width at)) = lines
 opened lines (Slot from (Write width at value)) = lines
-opened lines (Note at m note) = lines
+opened lines (Note at m said) = lines
 opened lines (Pause at m finish) = lines
 
 -- what items print one after another, and the lines that are open then

@@ -18,3 +18,7 @@ hexadecimal least n = filled least (digits 16 false n)
 -- `0x` and eight lower-case hexadecimal digits
 unfoldable pub word : ℕ → List ℕ
 word n = codes "0x" ++ hexadecimal 8 n
+
+-- an identifier of a CAN frame as three lower-case hexadecimal digits
+unfoldable pub identifier : ℕ → List ℕ
+identifier n = hexadecimal 3 n

@@ -1,15 +1,16 @@
-//! The lines of items that come alone: of bus errors, overruns and pauses.
+//! The lines of items that come alone: of bus errors, frames, overruns and pauses.
 ghost use Rattle.std.specs.Prelude.{◌≡◌, ◌++◌, ◌∷◌, OnOk, IsTrue, string_bytes, codes};
 ghost use Rattle.std.specs.Fmt.{decimal};
 ghost use Rattle.log_text.specs.Log as log_spec;
 ghost use Rattle.log_text.specs.Names as names_spec;
 ghost use Rattle.log_text.specs.Number as number_spec;
 
+use crate::frame::write_frame;
 use crate::names::{board_name, device_name};
 use crate::number::{Seconds, Word};
-use dev_core::Finish;
+use dev_core::{Finish, Frame};
 use lab_num::{Member, Micros, NoMemory};
-use log_merge::{Member0, Names};
+use log_merge::{Member0, Names, Note};
 
 /// Writes the line of a load of `width` bytes that reached nothing.
 pub fn print_read(
@@ -55,8 +56,47 @@ pub fn print_write(
     Ok(())
 }
 
+/// Writes the line of a frame, with a word for what became of it at a device.
+pub fn print_frame(
+    at: Micros,
+    member: Member,
+    word: &str,
+    frame: &Frame,
+    names: &Names,
+    text: &mut String,
+) -> Result<(), NoMemory>
+    ensures { OnOk result (string_bytes text.new ≡ string_bytes text.old
+        ++ log_spec.frame_line names.now at member word.now frame.now) }
+{
+    let at = Seconds(at);
+    let board = board_name(names, member.board);
+    let device = device_name(names, member);
+    write!(text, "[{at}] {board}/{device}: {word} ")?;
+    write_frame(frame, text)?;
+    text.push('\n')?;
+    Ok(())
+}
+
+/// Writes the line of what a boundary noted of a device.
+pub fn print_note(
+    at: Micros,
+    member: Member,
+    note: Note,
+    names: &Names,
+    text: &mut String,
+) -> Result<(), NoMemory>
+    ensures { OnOk result (string_bytes text.new ≡ string_bytes text.old
+        ++ log_spec.noted names.now at member note) }
+{
+    match note {
+        Note::Overrun => print_overrun(at, member, names, text),
+        Note::Received(frame) => print_frame(at, member, "rx", &frame, names, text),
+        Note::Lost(frame) => print_frame(at, member, "lost", &frame, names, text),
+    }
+}
+
 /// Writes the line of a byte that took the place of one that was not read.
-pub fn print_overrun(
+fn print_overrun(
     at: Micros,
     member: Member,
     names: &Names,

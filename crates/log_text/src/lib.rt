@@ -1,6 +1,7 @@
 //! The bytes of the log.
 #![tactic(auto)]
 
+mod frame;
 mod item;
 mod laws;
 mod line;

@@ -6,11 +6,11 @@ ghost use Rattle.log_text.specs.Line as line_spec;
 ghost use Rattle.log_text.specs.Log as log_spec;
 ghost use Rattle.log_text.specs.Inner.Place as place_spec;
 
-use crate::item::{print_overrun, print_pause, print_read, print_write};
+use crate::item::{print_frame, print_note, print_pause, print_read, print_write};
 use crate::line::{OpenLine, blank, gathered, is_ending, is_unended, print};
 use dev_core::What;
 use lab_num::{Member, Micros, NoMemory};
-use log_merge::{LogItem, Member0, Names, Note};
+use log_merge::{LogItem, Member0, Names};
 use std::alloc::Global;
 use std::marker::Model;
 
@@ -123,25 +123,20 @@ impl Lines {
                 let member = device_of(*from, *dev);
                 self.take_byte(names, member, from.at, *value, text)
             }
+            LogItem::Slot(from, What::Sent { dev, frame }) => {
+                let member = device_of(*from, *dev);
+                print_frame(from.at, member, "tx", frame, names, text)
+            }
             LogItem::Slot(from, What::Read { width, at }) => {
                 print_read(*from, *width, *at, names, text)
             }
             LogItem::Slot(from, What::Write { width, at, value }) => {
                 print_write(*from, *width, *at, *value, names, text)
             }
-            LogItem::Note {
-                at,
-                member,
-                note: Note::Overrun,
-            } => print_overrun(*at, *member, names, text),
+            LogItem::Note { at, member, note } => print_note(*at, *member, *note, names, text),
             LogItem::Pause { at, member, finish } => {
                 print_pause(*at, *member, *finish, names, text)
             }
-            LogItem::Slot(_, What::Sent { .. })
-            | LogItem::Note {
-                note: Note::Received(_) | Note::Lost(_),
-                ..
-            } => Ok(()),
         }
     }
 

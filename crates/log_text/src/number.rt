@@ -35,3 +35,20 @@ impl fmt::Display for Word {
         write!(f, "0x{number:08x}")
     }
 }
+
+/// The identifier of a frame, shown as three lower-case hexadecimal digits.
+#[derive(Drop)]
+pub struct Identifier(pub u16);
+
+impl fmt::Display for Identifier {
+    ghost use Rattle.std.specs.Prelude.{Some};
+    ghost use Rattle.log_text.specs.Number.{identifier};
+
+    ghost output = { λ number. Some (identifier number.0) };
+
+    #[tactic(auto, using(crate::proofs::Digits::filled_three), unfolding(crate::specs::Number::identifier))]
+    fn fmt<W: fmt::Write>(&self, f: &mut fmt::Formatter<W>) -> fmt::Result {
+        let number = self.0;
+        write!(f, "{number:03x}")
+    }
+}

@@ -127,7 +127,6 @@ fn each_other_item_is_one_line(rt: HostRuntime) -> Result<(), Fail> {
         dev: 1,
     };
     let at = Micros(200);
-    let frame = Frame::new(0x123, &[]);
     let note = |note| LogItem::Note { at, member, note };
     let read = |width| LogItem::Slot(
         slot,
@@ -147,9 +146,6 @@ fn each_other_item_is_one_line(rt: HostRuntime) -> Result<(), Fail> {
     let pause = |finish| LogItem::Pause { at, member, finish };
     let rows = [
         (note(Note::Overrun), "[0.000200] m1/fin: overrun\n"),
-        (note(Note::Received(frame)), ""),
-        (note(Note::Lost(frame)), ""),
-        (LogItem::Slot(slot, What::Sent { dev: 0, frame }), ""),
         (read(1), "[0.000104] m1/sysbus: read 1 at 0x90000000\n"),
         (read(2), "[0.000104] m1/sysbus: read 2 at 0x90000000\n"),
         (read(4), "[0.000104] m1/sysbus: read 4 at 0x90000000\n"),
@@ -174,6 +170,57 @@ fn each_other_item_is_one_line(rt: HostRuntime) -> Result<(), Fail> {
     for (item, line) in rows {
         let (text, rest) = printed(rt.alloc(), &[item])?;
         assert_eq!(rt; text.as_str(), line);
+        assert_eq!(rt; rest.as_str(), "");
+    }
+    Ok(())
+}
+
+/// Frames: an identifier, the length that a remote frame asks for, the bytes of a data frame, and
+/// how the log shows the frame.
+static FRAMES: [(u16, Option<u8>, &[u8], &str); 7] = [
+    (0x123, None, &[0x0A, 0x0B, 0x0C], "123 data 3 0a0b0c"),
+    (0x000, None, &[], "000 data 0"),
+    (
+        0x7FF,
+        None,
+        &[0xFF, 0x00, 0x01, 0x20, 0x7E, 0x80, 0xA0, 0x0A],
+        "7ff data 8 ff0001207e80a00a",
+    ),
+    (0x00A, None, &[0x00], "00a data 1 00"),
+    (0x123, Some(8), &[], "123 remote 8"),
+    (0x0F0, Some(0), &[], "0f0 remote 0"),
+    (0x000, Some(3), &[], "000 remote 3"),
+];
+
+fn frame(id: u16, asked: Option<u8>, bytes: &[u8]) -> Frame {
+    let id = id % 2048;
+    match asked {
+        Some(len) => Frame::new_remote(id, len.min(8)),
+        None => Frame::new(id, &bytes[..bytes.len().min(8)]),
+    }
+}
+
+#[test]
+fn a_frame_is_one_line_by_what_became_of_it(rt: HostRuntime) -> Result<(), Fail> {
+    let slot = Member0 {
+        at: Micros(104),
+        board: BoardNo(0),
+    };
+    let member = Member {
+        board: BoardNo(1),
+        dev: 1,
+    };
+    let at = Micros(200);
+    for &(id, asked, bytes, shown) in &FRAMES {
+        let frame = frame(id, asked, bytes);
+        let note = |note| LogItem::Note { at, member, note };
+        let sent = LogItem::Slot(slot, What::Sent { dev: 0, frame });
+        let items = [sent, note(Note::Received(frame)), note(Note::Lost(frame))];
+        let lines = format!(in rt.alloc();
+            "[0.000104] m0/uart: tx {shown}\n[0.000200] m1/fin: rx {shown}\n[0.000200] m1/fin: lost {shown}\n"
+        )?;
+        let (text, rest) = printed(rt.alloc(), &items)?;
+        assert_eq!(rt; text.as_str(), lines.as_str());
         assert_eq!(rt; rest.as_str(), "");
     }
     Ok(())

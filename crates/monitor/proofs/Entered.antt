@@ -13,7 +13,7 @@ use Rattle.resc_vars.specs.declared.cause.ScriptCause.TheVariants.{Depth}
 use Rattle.resc_vars.specs.Bodies.{Leaves, enter, source_of, depth_limit}
 use Rattle.resc_vars.specs.Script as script
 use Rattle.monitor.specs.declared.stop.Stop.{Stop}
-use Rattle.monitor.specs.declared.stop.Stop.TheVariants.{Quit, Line, File, Unread, Memory}
+use Rattle.monitor.specs.declared.stop.Stop.TheVariants.{Quit, Line, File, Content, Unread, Memory}
 use Rattle.monitor.specs.Answer.{Goes, Did, answer_at, with_file}
 use Rattle.monitor.specs.Bodies.{entered, include, include_bytes}
 use Rattle.monitor.specs.State.{State, Place}
@@ -39,6 +39,7 @@ text_stops did s after place path bytes Quit log log' names answer asked is = ab
 text_stops did s after place path bytes (Line cause) log log' names answer asked is = absurd is
 text_stops did s after place path bytes (File fault) log log' names answer asked is =
     (answer ∙ rw (is.0, is.1) refl, rw names asked)
+text_stops did s after place path bytes (Content cause) log log' names answer asked is = absurd is
 text_stops did s after place path bytes Unread log log' names answer asked is = absurd is
 text_stops did s after place path bytes Memory log log' names answer asked is =
     record { passed = path ∷ []; coming = []; all = names; asked = asked }

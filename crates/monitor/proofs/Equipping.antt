@@ -10,7 +10,7 @@ use Rattle.repl_files.specs.Loading.{Loading, load}
 use Rattle.repl_build.specs.Plan.{built}
 use Rattle.resc_vars.specs.declared.cause.ScriptCause.{ScriptCause}
 use Rattle.monitor.specs.declared.stop.Stop.{Stop}
-use Rattle.monitor.specs.declared.stop.Stop.TheVariants.{Quit, Line, File, Unread, Memory}
+use Rattle.monitor.specs.declared.stop.Stop.TheVariants.{Quit, Line, File, Content, Unread, Memory}
 use Rattle.monitor.specs.Boards.{equip, equip_loaded, load_onto, load_platform}
 use Rattle.monitor.specs.Selected.{bare}
 use Rattle.monitor.specs.State.{State, Place}
@@ -40,6 +40,7 @@ plan_stops s after place b loading all Quit log log' is plan = absurd plan
 plan_stops s after place b loading all (Line cause) log log' is plan = absurd plan
 plan_stops s after place b loading all (File fault) log log' is plan =
     (loaded_answer s place b loading all log log' is ∙ plan s b, is.2)
+plan_stops s after place b loading all (Content cause) log log' is plan = absurd plan
 plan_stops s after place b loading all Unread log log' is plan = absurd plan
 plan_stops s after place b loading all Memory log log' is plan =
     record { passed = loading.names; coming = []; all = sym (append-nil loading.names); asked = is.2 }
@@ -55,6 +56,7 @@ plan_goes place b loading all plan (Ok text) old new log log' is built fitted =
 plan_goes place b loading all plan (Err Quit) old new log log' is built fitted = absurd fitted
 plan_goes place b loading all plan (Err (Line cause)) old new log log' is built fitted = absurd fitted
 plan_goes place b loading all plan (Err (File fault)) old new log log' is built fitted = absurd fitted
+plan_goes place b loading all plan (Err (Content cause)) old new log log' is built fitted = absurd fitted
 plan_goes place b loading all plan (Err Unread) old new log log' is built fitted = absurd fitted
 plan_goes place b loading all plan (Err Memory) old new log log' is built fitted =
     record { passed = loading.names; coming = []; all = sym (append-nil loading.names); asked = is.2 }

@@ -1,8 +1,11 @@
 pub mod BoardLemmas
 pub mod Entered
 pub mod Equipping
+pub mod ImageLemmas
 pub mod MachineNames
+pub mod MapLemmas
 pub mod MemoryLemmas
+pub mod PlaceLemmas
 pub mod Ruled
 pub mod Steps
 pub mod Texts

@@ -15,7 +15,7 @@ use Rattle.resc_vars.specs.declared.cause.ScriptCause.TheVariants.{Size}
 use Rattle.monitor.specs.declared.step.Step.{Step}
 use Rattle.monitor.specs.declared.step.Step.TheVariants as step
 use Rattle.monitor.specs.declared.stop.Stop.{Stop}
-use Rattle.monitor.specs.declared.stop.Stop.TheVariants.{Quit, Line, File, Unread, Memory}
+use Rattle.monitor.specs.declared.stop.Stop.TheVariants.{Quit, Line, File, Content, Unread, Memory}
 use Rattle.monitor.specs.Answer.{Answer, Misses, Did, Done, answer_at, refused, unread, with_file}
 use Rattle.monitor.specs.Command.{carried, ruled}
 use Rattle.monitor.specs.State.{State, Place}
@@ -47,6 +47,7 @@ ruled_answer did place ruling (Err Quit) old new log log' answer asked is = absu
 ruled_answer did place ruling (Err (Line cause)) old new log log' answer asked is =
     (answer ∙ ap (answer_at place) is.0, asked)
 ruled_answer did place ruling (Err (File fault)) old new log log' answer asked is = absurd is
+ruled_answer did place ruling (Err (Content cause)) old new log log' answer asked is = absurd is
 ruled_answer did place ruling (Err Unread) old new log log' answer asked is = absurd is
 ruled_answer did place ruling (Err Memory) old new log log' answer asked is =
     record { passed = did.names; coming = []; all = sym (append-nil did.names); asked = asked }
@@ -66,6 +67,7 @@ ruled_leaves ruling (Ok text) old new is = is.1
 ruled_leaves ruling (Err Quit) old new is = absurd is
 ruled_leaves ruling (Err (Line cause)) old new is = is.1
 ruled_leaves ruling (Err (File fault)) old new is = absurd is
+ruled_leaves ruling (Err (Content cause)) old new is = absurd is
 ruled_leaves ruling (Err Unread) old new is = absurd is
 ruled_leaves ruling (Err Memory) old new is = is
 
@@ -76,6 +78,7 @@ ruled_read ruling (Ok text) old new is same = cc same
 ruled_read ruling (Err Quit) old new is same = cc same
 ruled_read ruling (Err (Line cause)) old new is same = cc same
 ruled_read ruling (Err (File fault)) old new is same = cc same
+ruled_read ruling (Err (Content cause)) old new is same = cc same
 ruled_read ruling (Err Unread) old new is same = is
 ruled_read ruling (Err Memory) old new is same = cc same
 
@@ -110,6 +113,7 @@ file_stops did place name content use_ Quit after log log' names answer is = abs
 file_stops did place name content use_ (Line cause) after log log' names answer is =
     (answer ∙ too_large place content use_ is.1 ∙ ap (refused place) (sym is.0), rw names is.2)
 file_stops did place name content use_ (File fault) after log log' names answer is = absurd is
+file_stops did place name content use_ (Content cause) after log log' names answer is = absurd is
 file_stops did place name content use_ Unread after log log' names answer is =
     record { earlier = []; name = name; coming = []; all = names; asked = is }
 file_stops did place name content use_ Memory after log log' names answer is = rw names is
@@ -121,6 +125,7 @@ pub stop_is_step :
 stop_is_step did place Quit after log log' is = is
 stop_is_step did place (Line cause) after log log' is = is
 stop_is_step did place (File fault) after log log' is = is
+stop_is_step did place (Content cause) after log log' is = is
 stop_is_step did place Unread after log log' is = is
 stop_is_step did place Memory after log log' is = is
 
@@ -139,10 +144,13 @@ pub carried_alone :
     (play : Play) (held : Held) (s : State) (place : Place) (c : Command) →
     ((path : List ℕ) → c ≡ command.LoadPlatform path → ⊥) →
     ((path : List ℕ) (at : ℕ) → c ≡ command.LoadBinary path at → ⊥) →
+    ((path : List ℕ) → c ≡ command.LoadElf path → ⊥) → ((path : List ℕ) → c ≡ command.LoadHex path → ⊥) →
     ((path : List ℕ) → c ≡ command.Include path → ⊥) → (c ≡ command.Quit → ⊥) →
     carried play held s place c ≡ unread place (ruled play s c)
-carried_alone play held s place (command.LoadPlatform path) platform binary file quit = absurd (platform path refl)
-carried_alone play held s place (command.LoadBinary path at) platform binary file quit = absurd (binary path at refl)
-carried_alone play held s place (command.Include path) platform binary file quit = absurd (file path refl)
-carried_alone play held s place command.Quit platform binary file quit = absurd (quit refl)
-carried_alone play held s place _ platform binary file quit = refl
+carried_alone play held s place (command.LoadPlatform path) platform binary elf hex file quit = absurd (platform path refl)
+carried_alone play held s place (command.LoadBinary path at) platform binary elf hex file quit = absurd (binary path at refl)
+carried_alone play held s place (command.LoadElf path) platform binary elf hex file quit = absurd (elf path refl)
+carried_alone play held s place (command.LoadHex path) platform binary elf hex file quit = absurd (hex path refl)
+carried_alone play held s place (command.Include path) platform binary elf hex file quit = absurd (file path refl)
+carried_alone play held s place command.Quit platform binary elf hex file quit = absurd (quit refl)
+carried_alone play held s place _ platform binary elf hex file quit = refl

@@ -142,8 +142,11 @@ emulation_good line =
         (
           (λ _ line. good_one name command.UartHub line (λ word x is. name_is (text_of word) x is)),
           (
-            (λ _ line. good_two entry name command.Connect line (λ x y. tt)),
-            ((λ _ line. good_none command.UsingSysbus line tt), tt),
+            (λ _ line. good_one name command.CanHub line (λ word x is. name_is (text_of word) x is)),
+            (
+              (λ _ line. good_two entry name command.Connect line (λ x y. tt)),
+              ((λ _ line. good_none command.UsingSysbus line tt), tt),
+            ),
           ),
         ),
       ),
@@ -154,10 +157,16 @@ memory_good : (line : List (List ℕ)) → IsGood (by_memory_rows line)
 unfolding by_memory_rows
 memory_good line =
     good_rows memory_rows line (by_emulation_rows line) (
-      (λ _ line. good_two path number command.LoadBinary line (λ x y. tt)),
+      (λ _ line. good_one path command.LoadElf line (λ word x is. tt)),
       (
-        (λ _ line. good_one number command.ReadWord line (λ word x is. tt)),
-        ((λ _ line. good_two number number command.WriteWord line (λ x y. tt)), tt),
+        (λ _ line. good_two path number command.LoadBinary line (λ x y. tt)),
+        (
+          (λ _ line. good_one path command.LoadHex line (λ word x is. tt)),
+          (
+            (λ _ line. good_one number command.ReadWord line (λ word x is. tt)),
+            ((λ _ line. good_two number number command.WriteWord line (λ x y. tt)), tt),
+          ),
+        ),
       ),
     )
     (emulation_good line)

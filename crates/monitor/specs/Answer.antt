@@ -33,9 +33,13 @@ says s text = record { text = text; state = s }
 abbrev pub leaves : State → Done
 leaves s = record { text = []; state = s }
 
+-- a fault that is told at a line
+abbrev pub told_at : Place → Cause → ScriptFault
+told_at place cause = record { file = place.file; line = place.number; cause = cause }
+
 -- a fault of a line
 abbrev pub fault_at : Place → ScriptCause → ScriptFault
-fault_at place cause = record { file = place.file; line = place.number; cause = Script cause }
+fault_at place cause = told_at place (Script cause)
 
 -- a line is refused
 abbrev pub refused : Place → ScriptCause → Answer

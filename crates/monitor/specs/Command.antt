@@ -16,7 +16,8 @@ use Rattle.resc_vars.specs.Script.{next_of}
 use Rattle.monitor.specs.Answer.{Answer, Ends, Faults, Misses, Did, Done, leaves, fault_at, unread}
 use Rattle.monitor.specs.Bodies.{include, run_macro}
 use Rattle.monitor.specs.Boards.{create, select, load_platform, reset_board}
-use Rattle.monitor.specs.Hubs.{uart_hub, connect, show}
+use Rattle.monitor.specs.Hubs.{uart_hub, can_hub, connect, show}
+use Rattle.monitor.specs.Images.{load_elf, load_hex}
 use Rattle.monitor.specs.Memory.{load_binary, read_word, write_word}
 use Rattle.monitor.specs.Processor.{pc, halted, mips}
 use Rattle.monitor.specs.Runs.{quantum, run_for, start}
@@ -39,6 +40,7 @@ ruled play s (command.Mips cpu value) = mips s cpu value
 ruled play s (command.Quantum length) = Ok (quantum s length.0)
 ruled play s (command.RunFor length) = run_for play s length.0
 ruled play s (command.UartHub name) = uart_hub s name
+ruled play s (command.CanHub name) = can_hub s name
 ruled play s (command.Connect dev hub) = connect s dev hub
 ruled play s (command.Show dev) = show s dev
 ruled play s (command.RunMacro name) = run_macro s name
@@ -47,11 +49,12 @@ ruled play s command.Pause = Ok (leaves s)
 ruled play s command.Start = start play s
 ruled play s _ = Err Unknown
 
--- What a command does. Images of ELF and HEX and hubs of CAN controllers are not built: no line asks for them, and they
--- are answered as unknown commands.
+-- what a command does
 abbrev pub carried : Play → Held → State → Place → Command → Did
 carried play held s place (command.LoadPlatform path) = load_platform held s place path
+carried play held s place (command.LoadElf path) = load_elf held s place path
 carried play held s place (command.LoadBinary path at) = load_binary held s place path at
+carried play held s place (command.LoadHex path) = load_hex held s place path
 carried play held s place (command.Include path) = include held s place path
 carried play held s place command.Quit = without_files Ends
 carried play held s place command = unread place (ruled play s command)

@@ -1,2 +1,3 @@
 -- What serves private contracts and proofs alone.
+pub mod Places
 pub mod Ruling

@@ -5,6 +5,7 @@ pub mod Refusal
 pub mod Selected
 pub mod Boards
 pub mod Memory
+pub mod Images
 pub mod Processor
 pub mod Hubs
 pub mod Bodies

@@ -2,7 +2,7 @@
 --   where the line is taken: unclosed S17, commands S12, variable S3
 --   where it is read: unknown command S1, arguments S2, time S10
 --   here: no board S4, board S5, taken S6, boards S13, platform S15, name S7, kind S8, connected S9, depth S11,
---   lab time S14, size S19, not UTF-8 S18, what stands in a platform file, address S16
+--   lab time S14, size S19, not UTF-8 S18, what stands in a platform file or an image, address S16
 use Rattle.std.specs.Prelude.{Bool, if◌then◌else◌, Result, Ok, Err}
 use Rattle.resc_vars.specs.declared.cause.ScriptCause.{ScriptCause}
 

@@ -49,15 +49,16 @@ impl<D: Device> Monitor<D> {
     {
         match command {
             Command::LoadPlatform { path } => self.load_platform(files, path.as_str()),
+            Command::LoadElf { path } => self.load_elf(files, path.as_str()),
             Command::LoadBinary { path, at } => self.load_binary(files, path.as_str(), at),
+            Command::LoadHex { path } => self.load_hex(files, path.as_str()),
             Command::Include { path } => self.include(files, path.as_str()),
             Command::Quit => Err(Stop::Quit),
             other => self.carry_out_alone(other),
         }
     }
 
-    /// Carries out a command that reads no file. Images of ELF and HEX and hubs of CAN controllers
-    /// are not built.
+    /// Carries out a command that reads no file and does not end the script.
     fn carry_out_alone(&mut self, command: Command) -> Result<Vec<u8>, Stop>
         requires unspent { self.old.spent ≡ false }
         requires goes_on { self.old.state.flow.ended ≡ false }
@@ -76,6 +77,7 @@ impl<D: Device> Monitor<D> {
             Command::Quantum { length } => Ok(self.quantum(length)),
             Command::RunFor { length } => self.run_for(length),
             Command::UartHub { name } => self.uart_hub(name.as_str()),
+            Command::CanHub { name } => self.can_hub(name.as_str()),
             Command::Connect { dev, hub } => self.connect(dev.as_str(), hub.as_str()),
             Command::Show { dev } => self.show(dev.as_str()),
             Command::RunMacro { name } => self.run_macro(name.as_str()),
@@ -85,7 +87,6 @@ impl<D: Device> Monitor<D> {
             | Command::LoadElf { .. }
             | Command::LoadBinary { .. }
             | Command::LoadHex { .. }
-            | Command::CanHub { .. }
             | Command::Include { .. }
             | Command::Quit => Err(Stop::Line(ScriptCause::Unknown)),
         }

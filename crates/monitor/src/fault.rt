@@ -1,7 +1,9 @@
 //! Faults of scripts and of the files that they name.
 ghost use Rattle.std.specs.Prelude.{◌≡◌};
-ghost use Rattle.monitor.specs.Fault.{plat_cause_text};
+ghost use Rattle.monitor.specs.Fault.{plat_cause_text, elf_cause_text, hex_cause_text};
 
+use elf_load::ElfFault;
+use ihex_load::HexFault;
 use lab_num::Text;
 use repl_read::PlatCause;
 use resc_vars::ScriptCause;
@@ -14,6 +16,10 @@ pub enum Cause {
     Script(ScriptCause),
     /// P1 to P12: by what stands in a platform file.
     Plat(PlatCause),
+    /// E1 to E8: by an ELF file.
+    Elf(ElfFault),
+    /// H1 to H5: by an Intel HEX file.
+    Hex(HexFault),
 }
 
 /// The code and the text of a fault of a platform.
@@ -36,6 +42,37 @@ fn plat_text(cause: PlatCause) -> &'static str
     }
 }
 
+/// The code and the text of a fault of an ELF file. Want of memory is none, and has no text.
+fn elf_text(fault: ElfFault) -> &'static str
+    ensures { result.now ≡ elf_cause_text fault }
+{
+    match fault {
+        ElfFault::Short => "E1 short",
+        ElfFault::NotElf => "E2 not elf",
+        ElfFault::Class => "E3 class",
+        ElfFault::Order => "E4 order",
+        ElfFault::Machine => "E5 machine",
+        ElfFault::FileType => "E6 type",
+        ElfFault::Headers => "E7 headers",
+        ElfFault::Segment => "E8 segment",
+        ElfFault::Memory => "",
+    }
+}
+
+/// The code and the text of a fault of an Intel HEX file. Want of memory is none, and has no text.
+fn hex_text(fault: HexFault) -> &'static str
+    ensures { result.now ≡ hex_cause_text fault }
+{
+    match fault {
+        HexFault::Form => "H1 form",
+        HexFault::Sum => "H2 sum",
+        HexFault::NoEnd => "H3 no end",
+        HexFault::Kind => "H4 kind",
+        HexFault::Length => "H5 length",
+        HexFault::Memory => "",
+    }
+}
+
 impl fmt::Display for Cause {
     ghost use Rattle.std.specs.Prelude.{Some};
     ghost use Rattle.monitor.specs.Fault.{cause_text};
@@ -46,6 +83,8 @@ impl fmt::Display for Cause {
         let text = match self {
             Cause::Script(cause) => cause.text(),
             Cause::Plat(cause) => plat_text(*cause),
+            Cause::Elf(fault) => elf_text(*fault),
+            Cause::Hex(fault) => hex_text(*fault),
         };
         write!(f, "{text}")
     }

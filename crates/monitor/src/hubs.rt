@@ -57,6 +57,19 @@ impl<D: Device> Monitor<D> {
         Ok(Vec::new(self.alloc))
     }
 
+    /// Makes a hub of CAN controllers.
+    pub(crate) fn can_hub(&mut self, name: &str) -> Result<Vec<u8>, Stop>
+        requires unspent { self.old.spent ≡ false }
+        requires is_name { IsTrue (is_name name.now) }
+        ensures { IsRuled (hubs.can_hub self.old.state name.now) result self.old self.new }
+    {
+        if self.lab.hubs() >= MOST_HUBS {
+            return Err(Stop::Memory);
+        }
+        self.lab.create_can_hub(name)?;
+        Ok(Vec::new(self.alloc))
+    }
+
     /// Puts a device of the selected board into a hub.
     pub(crate) fn connect(&mut self, dev: &str, hub: &str) -> Result<Vec<u8>, Stop>
         requires unspent { self.old.spent ≡ false }

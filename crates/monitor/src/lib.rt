@@ -6,6 +6,8 @@ mod bodies;
 mod carry;
 mod fault;
 mod hubs;
+mod images;
+mod laws;
 mod memory;
 mod monitor;
 mod processor;
@@ -17,6 +19,7 @@ mod step;
 mod stop;
 
 pub use fault::{Cause, ScriptFault};
+pub use laws::an_image_is_loaded_as_its_map;
 pub use monitor::Monitor;
 pub use setting::Setting;
 pub use step::Step;

@@ -24,7 +24,7 @@ use lab_num::{BoardNo, Micros, NoMemory, Text};
 use lab_state::Lab;
 use log_text::Lines;
 use resc_read::read_line;
-use resc_vars::{Flow, Next, ScriptCause};
+use resc_vars::{Flow, Next};
 use std::alloc::Global;
 use std::marker::Model;
 
@@ -128,7 +128,7 @@ impl<D: Device> Monitor<D> {
         match self.flow.next() {
             Next::Line { file, line, text } => self.take_line(files, file, line, text.as_str()),
             Next::End => Step::End,
-            Next::Fault { file, line, cause } => fault_at(file, line, cause),
+            Next::Fault { file, line, cause } => fault_at(file, line, Cause::Script(cause)),
             Next::Memory => Step::Memory,
         }
     }
@@ -186,15 +186,10 @@ impl<D: Device> Monitor<D> {
 }
 
 /// A line is refused.
-fn fault_at(file: Text, line: u32, cause: ScriptCause) -> Step
-    ensures { result
-        ≡ Step.Fault (record { file = file; line = line; cause = Cause.Script cause }) }
+fn fault_at(file: Text, line: u32, cause: Cause) -> Step
+    ensures { result ≡ Step.Fault (record { file = file; line = line; cause = cause }) }
 {
-    Step::Fault(ScriptFault {
-        file,
-        line,
-        cause: Cause::Script(cause),
-    })
+    Step::Fault(ScriptFault { file, line, cause })
 }
 
 /// What a step answers at a line behind which the script does not go on.
@@ -203,8 +198,9 @@ fn stopped(file: Text, line: u32, stop: Stop) -> Step
 {
     match stop {
         Stop::Quit => Step::End,
-        Stop::Line(cause) => fault_at(file, line, cause),
+        Stop::Line(cause) => fault_at(file, line, Cause::Script(cause)),
         Stop::File(fault) => Step::Fault(fault),
+        Stop::Content(cause) => fault_at(file, line, cause),
         Stop::Unread => Step::Unread,
         Stop::Memory => Step::Memory,
     }

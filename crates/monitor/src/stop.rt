@@ -1,7 +1,7 @@
 //! Why a script does not go on behind a command.
 ghost use Rattle.std.specs.Prelude.{◌≡◌};
 
-use crate::fault::ScriptFault;
+use crate::fault::{Cause, ScriptFault};
 use lab_num::NoMemory;
 use resc_vars::{FlowFault, ScriptCause};
 use std::alloc::{AllocError, AllocFailed};
@@ -15,6 +15,8 @@ pub(crate) enum Stop {
     Line(ScriptCause),
     /// The line is refused for what stands at a place of a file that it names.
     File(ScriptFault),
+    /// The line is refused for what stands in the image that it names.
+    Content(Cause),
     /// A read failed, and the files counted it.
     Unread,
     /// Memory ran out.

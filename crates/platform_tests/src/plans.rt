@@ -159,8 +159,21 @@ fn wiring(alloc: Global, text: &str) -> Result<String, AllocError> {
     Ok(out)
 }
 
+/// A board with two CAN controllers, of which the first has a line.
+const CAN_BOARD: &str = "\
+ram: Memory.MappedMemory @ sysbus 0x80000000 { size: 0x10000 }
+plic: IRQControllers.PlatformLevelInterruptController @ sysbus 0xC000000
+    numberOfSources: 31
+    0 -> cpu@11
+can: CAN.SJA1000 @ sysbus 0x10010000
+    IRQ -> plic@5
+uart: UART.NS16550 @ sysbus 0x10000000
+spare: CAN.SJA1000 @ sysbus <0x10020000, +0x20>
+cpu: CPU.RiscV32 @ sysbus { cpuType: \"rv32im\" }
+";
+
 /// Each row: a text, and what is built of it.
-static WHOLE: [(&str, &str); 2] = [
+static WHOLE: [(&str, &str); 3] = [
     (
         ONE_BOARD,
         "ram=ram0 uart=dev0 fin=dev1 cpu=cpu ram0@80000000+10000/1 dev0@10000000+100/1 \
@@ -171,6 +184,12 @@ dev1@100000+1000/1 10000 uart finisher speed1 cpu=cpu",
         "ram=ram0 clint=clint plic=plic uart=dev0 cpu=cpu ram0@80000000+10000/1 \
 clint@2000000+10000/1 plic@c000000+4000000/1 dev0@10000000+100/1 10000 uart soft>pin3 timer>pin7 \
 context0>pin11 dev0>source10 1000000Hz 31x1 speed25 cpu=cpu",
+    ),
+    (
+        CAN_BOARD,
+        "ram=ram0 plic=plic can=dev0 uart=dev1 spare=dev2 cpu=cpu ram0@80000000+10000/1 \
+plic@c000000+4000000/1 dev0@10010000+100/1 dev1@10000000+100/1 dev2@10020000+20/1 10000 can uart can \
+context0>pin11 dev0>source5 31x1 speed100 cpu=cpu",
     ),
 ];
 
@@ -214,7 +233,7 @@ static NAMES_AND_TYPES: [(&str, &str); 30] = [
     ("u: UART.NS16551 @ sysbus 0x100\n", "P3 2:3"),
     ("u: uart.ns16550 @ sysbus 0x100\n", "P3 2:3"),
     ("u: UART @ sysbus 0x100\n", "P3 2:3"),
-    ("u: CAN.SJA1000 @ sysbus 0x100\n", "P3 2:3"),
+    ("u: CAN.SJA1001 @ sysbus 0x100\n", "P3 2:3"),
     ("u: CPU.RiscV64 @ sysbus\n", "P3 2:3"),
     ("u: X { a: 1 }\n", "P3 2:3"),
     ("u: UART.NS16550 { a: 1 }\nv: X\n", "P3 2:4"),
@@ -623,6 +642,60 @@ v: UART.NS16550 @ sysbus 0x200 { -> u@3 }\n",
     ),
 ];
 
+/// Lines behind those of a memory and a processor, and their first fault: CAN controllers.
+static CANS: [(&str, &str); 22] = [
+    ("c: CAN.SJA1000 @ sysbus 0x100\n", "accepted"),
+    ("c: CAN.SJA1000 @ sysbus <0x100, +0x100>\n", "accepted"),
+    ("c: CAN.SJA1000 @ sysbus <0x100, +32>\n", "accepted"),
+    ("c: CAN.SJA1000 @ sysbus <0x100, +28>\n", "P5 2:3"),
+    ("c: CAN.SJA1000 @ sysbus <0x100, +34>\n", "P5 2:3"),
+    ("c: CAN.SJA1000 @ sysbus 0x102\n", "P5 2:3"),
+    ("c: CAN.SJA1000\n", "P6 2:3"),
+    ("c: CAN.SJA1000 @ sysbus\n", "P6 2:3"),
+    ("c: CAN.sja1000 @ sysbus 0x100\n", "P3 2:3"),
+    ("c: SJA1000 @ sysbus 0x100\n", "P3 2:3"),
+    (
+        "c: CAN.SJA1000 @ sysbus 0x100 { wideRegisters: true }\n",
+        "P4 2:3",
+    ),
+    ("c: CAN.SJA1000 @ sysbus 0x102\n frequency: 1\n", "P4 2:4"),
+    ("c: CAN.SJA1000 @ sysbus 0x100\nc: X\n", "P7 2:4"),
+    (
+        "c: CAN.SJA1000 @ sysbus 0x100\nd: CAN.SJA1000 @ sysbus 0x1FC\n",
+        "P9 2:4",
+    ),
+    (
+        "c: CAN.SJA1000 @ sysbus 0x100\nd: CAN.SJA1000 @ sysbus 0x200\n",
+        "accepted",
+    ),
+    ("c: CAN.SJA1000 @ sysbus 0xFFFFFF00\n", "accepted"),
+    ("c: CAN.SJA1000 @ sysbus 0xFFFFFF04\n", "P9 2:3"),
+    ("c: CAN.SJA1000 @ sysbus 0x80000100\n", "P9 2:3"),
+    (
+        "c0: CAN.SJA1000 @ sysbus 256\nc1: CAN.SJA1000 @ sysbus 512\n\
+c2: CAN.SJA1000 @ sysbus 768\nc3: CAN.SJA1000 @ sysbus 1024\n",
+        "accepted",
+    ),
+    (
+        "c0: CAN.SJA1000 @ sysbus 256\nc1: CAN.SJA1000 @ sysbus 512\n\
+c2: CAN.SJA1000 @ sysbus 768\nc3: CAN.SJA1000 @ sysbus 1024\n\
+c4: CAN.SJA1000 @ sysbus 1280\n",
+        "P11 2:7",
+    ),
+    (
+        "c0: CAN.SJA1000 @ sysbus 256\nc1: CAN.SJA1000 @ sysbus 512\n\
+c2: CAN.SJA1000 @ sysbus 768\nc3: CAN.SJA1000 @ sysbus 1024\n\
+u0: UART.NS16550 @ sysbus 1280\nu1: UART.NS16550 @ sysbus 1536\n\
+u2: UART.NS16550 @ sysbus 1792\nu3: UART.NS16550 @ sysbus 2048\n\
+f: Miscellaneous.SiFiveTest @ sysbus 0x1000\n",
+        "accepted",
+    ),
+    (
+        "u: UART.NS16550 @ sysbus 0x100 { -> c@1 }\nc: CAN.SJA1000 @ sysbus 0x200\n",
+        "P8 2:3",
+    ),
+];
+
 /// Each row: lines behind those of a whole board, and its wires or the first fault.
 static WIRES: [(&str, &str); 36] = [
     ("clint: { 0 -> cpu@3 }\n", "soft>pin3"),
@@ -667,6 +740,54 @@ static WIRES: [(&str, &str); 36] = [
     ("cpu: { -> cpu@3 }\n", "P10 2:7"),
     ("u:\n -> cpu@3\n -> cpu@4\n -> cpu@5\n", "P10 2:9"),
     ("u: { -> cpu@4 }\nclint: { 0 -> cpu@4 }\n", "P10 2:8"),
+];
+
+/// The same of a CAN controller.
+static CAN_WIRES: [(&str, &str); 14] = [
+    ("c: CAN.SJA1000 @ sysbus 0x2000 { -> cpu@3 }\n", "dev2>pin3"),
+    (
+        "c: CAN.SJA1000 @ sysbus 0x2000 { 0 -> cpu@7 }\n",
+        "dev2>pin7",
+    ),
+    (
+        "c: CAN.SJA1000 @ sysbus 0x2000 { IRQ -> cpu@11 }\n",
+        "dev2>pin11",
+    ),
+    (
+        "c: CAN.SJA1000 @ sysbus 0x2000 { IRQ -> plic@31 }\n",
+        "dev2>source31",
+    ),
+    (
+        "c: CAN.SJA1000 @ sysbus 0x2000 { [0,0] -> plic@[1,2] }\n",
+        "dev2>source1 dev2>source2",
+    ),
+    (
+        "c: CAN.SJA1000 @ sysbus 0x2000 { IRQ -> plic@5 }\nu: { -> plic@5 }\n",
+        "dev1>source5 dev2>source5",
+    ),
+    (
+        "c: CAN.SJA1000 @ sysbus 0x2000 { 1 -> plic@1 }\n",
+        "P10 2:7",
+    ),
+    (
+        "c: CAN.SJA1000 @ sysbus 0x2000 { IRQ -> plic@0 }\n",
+        "P10 2:7",
+    ),
+    ("c: CAN.SJA1000 @ sysbus 0x2000 { -> plic@32 }\n", "P10 2:7"),
+    (
+        "c: CAN.SJA1000 @ sysbus 0x2000 { IRQ -> cpu@4 }\n",
+        "P10 2:7",
+    ),
+    (
+        "c: CAN.SJA1000 @ sysbus 0x2000 { IRQ -> cpu@[3,7] }\n",
+        "P10 2:7",
+    ),
+    (
+        "c: CAN.SJA1000 @ sysbus 0x2000 { [0-1] -> cpu@[3,7] }\n",
+        "P10 2:7",
+    ),
+    ("c: CAN.SJA1000 @ sysbus 0x2000 { -> u@3 }\n", "P8 2:7"),
+    ("c: CAN.SJA1000 @ sysbus 0x2000 { -> c@3 }\n", "P8 2:7"),
 ];
 
 /// Each row: a text, and its first fault.
@@ -764,6 +885,12 @@ fn values_of_devices_are_judged(rt: HostRuntime) -> Result<(), Fail> {
 #[test]
 fn counts_and_places_are_judged(rt: HostRuntime) -> Result<(), Fail> {
     assert_outcomes(&rt, rt.alloc(), SMALL, &COUNTS_AND_PLACES)
+}
+
+#[test]
+fn can_controllers_are_judged(rt: HostRuntime) -> Result<(), Fail> {
+    assert_outcomes(&rt, rt.alloc(), SMALL, &CANS)?;
+    assert_wires(&rt, rt.alloc(), &CAN_WIRES)
 }
 
 #[test]

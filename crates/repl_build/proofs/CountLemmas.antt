@@ -8,7 +8,7 @@ use Rattle.std.proofs.lemmas.List.Sums.{sum_by_push}
 use Rattle.repl_build.specs.declared.merge.Peripheral.{Peripheral}
 use Rattle.repl_build.specs.declared.rules.Rule.TheVariants.{Counts}
 use Rattle.repl_build.specs.declared.types.PeripheralType.{PeripheralType}
-use Rattle.repl_build.specs.declared.types.PeripheralType.TheVariants.{Memory, Uart, Finisher}
+use Rattle.repl_build.specs.declared.types.PeripheralType.TheVariants.{Memory, Uart, Can, Finisher}
 use Rattle.repl_build.specs.Counts.{most_of, count_of, are_as_many_as_may_be, passes_memory, is_one_too_many}
 use Rattle.repl_build.specs.First.{first_fault}
 use Rattle.repl_build.specs.Numbers.{AreFew}
@@ -61,5 +61,6 @@ pub are_few : (all : List Peripheral) → broken Counts all ≡ None → AreFew 
 are_few all none =
     let memories = few_of all Memory none in
     let uarts = few_of all Uart none in
+    let cans = few_of all Can none in
     let finishers = few_of all Finisher none in
-    (omega (arith, memories), omega (arith, uarts, finishers))
+    (omega (arith, memories), omega (arith, uarts, cans, finishers))

@@ -2,7 +2,6 @@
 pub mod CountLemmas
 pub mod ListLemmas
 pub mod NameLemmas
-pub mod NoCans
 pub mod NoneLemmas
 pub mod NumberLemmas
 pub mod PartCounts

@@ -26,7 +26,7 @@ use Rattle.sys_bus.specs.Part.{is_part, names_part, has_no_others, has_region}
 use Rattle.sys_bus.specs.Region.{same_part}
 use Rattle.repl_build.specs.declared.merge.Peripheral.{Peripheral}
 use Rattle.repl_build.specs.declared.types.PeripheralType.{PeripheralType}
-use Rattle.repl_build.specs.declared.types.PeripheralType.TheVariants.{Cpu, Memory, Clint, Plic, Uart, Finisher}
+use Rattle.repl_build.specs.declared.types.PeripheralType.TheVariants.{Cpu, Memory, Clint, Plic, Uart, Can, Finisher}
 use Rattle.repl_build.specs.Counts.{count_of, has_type}
 use Rattle.repl_build.specs.First.{first_fault}
 use Rattle.repl_build.specs.Merge.{peripheral_by, peripheral_of, merged}
@@ -73,11 +73,12 @@ device_before :
     is_device p.kind ≡ true → devices_of before < devices_of all
 device_before all before p ps whole is =
     let uarts = count_append (λ q. is_type Uart q.kind) before (p ∷ ps) in
+    let cans = count_append (λ q. is_type Can q.kind) before (p ∷ ps) in
     let finishers = count_append (λ q. is_type Finisher q.kind) before (p ∷ ps) in
     let three = device_cons p ps in
     let one : cond {A = ℕ} (is_device p.kind) 1 0 ≡ 1 = rw is refl in
     let same = ap devices_of whole in
-    omega (arith, one, uarts, finishers, three, same)
+    omega (arith, one, uarts, cans, finishers, three, same)
 
 in_parts :
     (t : Option PeripheralType) (before : List Peripheral) (k : RegionKind) (m d : ℕ) →
@@ -90,6 +91,7 @@ in_parts (Some Memory) before k m d is memory device = rw (same_part_of _ _ is) 
 in_parts (Some Clint) before k m d is memory device = rw (same_part_of _ _ is) refl
 in_parts (Some Plic) before k m d is memory device = rw (same_part_of _ _ is) refl
 in_parts (Some Uart) before k m d is memory device = rw (same_part_of _ _ is) (below _ _ (device refl))
+in_parts (Some Can) before k m d is memory device = rw (same_part_of _ _ is) (below _ _ (device refl))
 in_parts (Some Finisher) before k m d is memory device = rw (same_part_of _ _ is) (below _ _ (device refl))
 
 part_one :
@@ -134,6 +136,7 @@ clint_region (Some Memory) p before = refl
 clint_region (Some Clint) p before = refl
 clint_region (Some Plic) p before = refl
 clint_region (Some Uart) p before = refl
+clint_region (Some Can) p before = refl
 clint_region (Some Finisher) p before = refl
 
 pub clint_there : (before xs : List Peripheral) → has_region (each region_of before xs) part.Clint ≡ has_type Clint xs
@@ -151,6 +154,7 @@ plic_region (Some Memory) p before = refl
 plic_region (Some Clint) p before = refl
 plic_region (Some Plic) p before = refl
 plic_region (Some Uart) p before = refl
+plic_region (Some Can) p before = refl
 plic_region (Some Finisher) p before = refl
 
 pub plic_there : (before xs : List Peripheral) → has_region (each region_of before xs) part.Plic ≡ has_type Plic xs
@@ -178,6 +182,7 @@ processor_one (Some Memory) name before = refl
 processor_one (Some Clint) name before = refl
 processor_one (Some Plic) name before = refl
 processor_one (Some Uart) name before = refl
+processor_one (Some Can) name before = refl
 processor_one (Some Finisher) name before = refl
 
 processors : (before xs : List Peripheral) → count_of_processors (each name_of before xs) ≡ count_of xs Cpu
@@ -225,6 +230,7 @@ named_one (Some Memory) name cpu before same = refl
 named_one (Some Clint) name cpu before same = refl
 named_one (Some Plic) name cpu before same = refl
 named_one (Some Uart) name cpu before same = refl
+named_one (Some Can) name cpu before same = refl
 named_one (Some Finisher) name cpu before same = refl
 
 named : (cpu : List ℕ) (before xs : List Peripheral) → AreNamed cpu xs →

@@ -11,7 +11,7 @@ use Rattle.sys_bus.specs.Part.{names_of, regions_of}
 use Rattle.sys_bus.specs.Region.{same_part}
 use Rattle.repl_build.specs.declared.merge.Peripheral.{Peripheral}
 use Rattle.repl_build.specs.declared.types.PeripheralType.{PeripheralType}
-use Rattle.repl_build.specs.declared.types.PeripheralType.TheVariants.{Cpu, Memory, Clint, Plic, Uart, Finisher}
+use Rattle.repl_build.specs.declared.types.PeripheralType.TheVariants.{Cpu, Memory, Clint, Plic, Uart, Can, Finisher}
 use Rattle.repl_build.specs.Counts.{count_of}
 use Rattle.repl_build.specs.Numbers.{devices_of, what_of}
 use Rattle.repl_build.specs.Plan.{each, name_by, name_of, region_by, region_of}
@@ -132,6 +132,7 @@ memory_hit before (Some Memory) i = refl
 memory_hit before (Some Clint) i = refl
 memory_hit before (Some Plic) i = refl
 memory_hit before (Some Uart) i = refl
+memory_hit before (Some Can) i = refl
 memory_hit before (Some Finisher) i = refl
 
 pub memories_numbered : IsNumbering (λ ps. count_of ps Memory) part.Ram (is_type Memory)
@@ -150,6 +151,7 @@ is_device (Some Memory) = false
 is_device (Some Clint) = false
 is_device (Some Plic) = false
 is_device (Some Uart) = true
+is_device (Some Can) = true
 is_device (Some Finisher) = true
 
 device_hit :
@@ -161,26 +163,30 @@ device_hit before (Some Memory) i = refl
 device_hit before (Some Clint) i = refl
 device_hit before (Some Plic) i = refl
 device_hit before (Some Uart) i = refl
+device_hit before (Some Can) i = refl
 device_hit before (Some Finisher) i = refl
 
-pub either : (o : Option PeripheralType) (a b : ℕ) →
-    (a + (if is_type Uart o then 1 else 0)) + (b + (if is_type Finisher o then 1 else 0))
-    ≡ (a + b) + (if is_device o then 1 else 0)
-either None a b = omega arith
-either (Some Cpu) a b = omega arith
-either (Some Memory) a b = omega arith
-either (Some Clint) a b = omega arith
-either (Some Plic) a b = omega arith
-either (Some Uart) a b = omega arith
-either (Some Finisher) a b = omega arith
+pub either : (o : Option PeripheralType) (a b c : ℕ) →
+    (a + (if is_type Uart o then 1 else 0)) + (b + (if is_type Can o then 1 else 0))
+    + (c + (if is_type Finisher o then 1 else 0))
+    ≡ (a + b + c) + (if is_device o then 1 else 0)
+either None a b c = omega arith
+either (Some Cpu) a b c = omega arith
+either (Some Memory) a b c = omega arith
+either (Some Clint) a b c = omega arith
+either (Some Plic) a b c = omega arith
+either (Some Uart) a b c = omega arith
+either (Some Can) a b c = omega arith
+either (Some Finisher) a b c = omega arith
 
 device_push : (before : List Peripheral) (p : Peripheral) →
     devices_of (before ++ p ∷ []) ≡ devices_of before + (if is_device p.kind then 1 else 0)
 device_push before p =
     let uart = count_push (λ q. is_type Uart q.kind) before p in
+    let can = count_push (λ q. is_type Can q.kind) before p in
     let finisher = count_push (λ q. is_type Finisher q.kind) before p in
-    let sum = either p.kind (count_of before Uart) (count_of before Finisher) in
-    omega (arith, uart, finisher, sum)
+    let sum = either p.kind (count_of before Uart) (count_of before Can) (count_of before Finisher) in
+    omega (arith, uart, can, finisher, sum)
 
 pub devices_numbered : IsNumbering devices_of part.Dev is_device
 devices_numbered = record { empty = refl; push = device_push; numbered = device_hit }
@@ -193,6 +199,7 @@ clint_hit before (Some Memory) = refl
 clint_hit before (Some Clint) = refl
 clint_hit before (Some Plic) = refl
 clint_hit before (Some Uart) = refl
+clint_hit before (Some Can) = refl
 clint_hit before (Some Finisher) = refl
 
 plic_hit : (before : List Peripheral) (o : Option PeripheralType) →
@@ -203,6 +210,7 @@ plic_hit before (Some Memory) = refl
 plic_hit before (Some Clint) = refl
 plic_hit before (Some Plic) = refl
 plic_hit before (Some Uart) = refl
+plic_hit before (Some Can) = refl
 plic_hit before (Some Finisher) = refl
 
 pub clint_hits : (before xs : List Peripheral) → hits part.Clint before xs ≡ count_of xs Clint

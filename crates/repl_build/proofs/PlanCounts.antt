@@ -17,7 +17,7 @@ use Rattle.sys_bus.specs.Limits as limit
 use Rattle.sys_bus.specs.Part.{names_of, regions_of, has_one_each, has_at_most_one_each, has_parts}
 use Rattle.repl_build.specs.declared.merge.Peripheral.{Peripheral}
 use Rattle.repl_build.specs.declared.types.PeripheralType.{PeripheralType}
-use Rattle.repl_build.specs.declared.types.PeripheralType.TheVariants.{Cpu, Memory, Clint, Plic, Uart, Finisher}
+use Rattle.repl_build.specs.declared.types.PeripheralType.TheVariants.{Cpu, Memory, Clint, Plic, Uart, Can, Finisher}
 use Rattle.repl_build.specs.Counts.{count_of, bytes_of, has_type}
 use Rattle.repl_build.specs.Numbers.{devices_of}
 use Rattle.repl_build.specs.Places.{size_of}
@@ -101,6 +101,7 @@ uart_kind (Some Memory) kinds = omega arith
 uart_kind (Some Clint) kinds = omega arith
 uart_kind (Some Plic) kinds = omega arith
 uart_kind (Some Uart) kinds = count_cons (limit.is_kind device.Uart) device.Uart kinds
+uart_kind (Some Can) kinds = count_cons (limit.is_kind device.Uart) device.Can kinds
 uart_kind (Some Finisher) kinds = count_cons (limit.is_kind device.Uart) device.Finisher kinds
 
 finisher_kind : (t : Option PeripheralType) (kinds : List Kind) →
@@ -112,17 +113,19 @@ finisher_kind (Some Memory) kinds = omega arith
 finisher_kind (Some Clint) kinds = omega arith
 finisher_kind (Some Plic) kinds = omega arith
 finisher_kind (Some Uart) kinds = count_cons (limit.is_kind device.Finisher) device.Uart kinds
+finisher_kind (Some Can) kinds = count_cons (limit.is_kind device.Finisher) device.Can kinds
 finisher_kind (Some Finisher) kinds = count_cons (limit.is_kind device.Finisher) device.Finisher kinds
 
 can_kind : (t : Option PeripheralType) (kinds : List Kind) →
     limit.count_of (cons_option (kind_by t) kinds) device.Can ≡ cond {A = ℕ}
-    (false) 1 0 + limit.count_of kinds device.Can
+    (is_type Can t) 1 0 + limit.count_of kinds device.Can
 can_kind None kinds = omega arith
 can_kind (Some Cpu) kinds = omega arith
 can_kind (Some Memory) kinds = omega arith
 can_kind (Some Clint) kinds = omega arith
 can_kind (Some Plic) kinds = omega arith
 can_kind (Some Uart) kinds = count_cons (limit.is_kind device.Can) device.Uart kinds
+can_kind (Some Can) kinds = count_cons (limit.is_kind device.Can) device.Can kinds
 can_kind (Some Finisher) kinds = count_cons (limit.is_kind device.Can) device.Finisher kinds
 
 pub uarts_count : (all : List Peripheral) → limit.count_of (kinds_of all) device.Uart ≡ count_of all Uart
@@ -141,12 +144,13 @@ finishers_count (p ∷ ps) =
     let sum = count_cons (λ q. is_type Finisher q.kind) p ps in
     omega (arith, rest, one, sum)
 
-pub cans_count : (all : List Peripheral) → limit.count_of (kinds_of all) device.Can ≡ 0
+pub cans_count : (all : List Peripheral) → limit.count_of (kinds_of all) device.Can ≡ count_of all Can
 cans_count [] = refl
 cans_count (p ∷ ps) =
     let rest = cans_count ps in
     let one = can_kind p.kind (kinds_of ps) in
-    omega (arith, rest, one)
+    let sum = count_cons (λ q. is_type Can q.kind) p ps in
+    omega (arith, rest, one, sum)
 
 device_length : (t : Option PeripheralType) (kinds : List Kind) →
     length (cons_option (kind_by t) kinds) ≡ cond {A = ℕ} (is_device t) 1 0 + length kinds
@@ -156,6 +160,7 @@ device_length (Some Memory) kinds = omega arith
 device_length (Some Clint) kinds = omega arith
 device_length (Some Plic) kinds = omega arith
 device_length (Some Uart) kinds = omega arith
+device_length (Some Can) kinds = omega arith
 device_length (Some Finisher) kinds = omega arith
 
 pub devices_count : (all : List Peripheral) → length (kinds_of all) ≡ devices_of all

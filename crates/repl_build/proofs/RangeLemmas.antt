@@ -15,7 +15,7 @@ use Rattle.sys_bus.specs.Limits.{least_device_size, is_range, are_ranges}
 use Rattle.repl_build.specs.declared.merge.Peripheral.{Peripheral}
 use Rattle.repl_build.specs.declared.merge.PlacedItem.{PlacedItem}
 use Rattle.repl_build.specs.declared.types.PeripheralType.{PeripheralType}
-use Rattle.repl_build.specs.declared.types.PeripheralType.TheVariants.{Cpu, Memory, Clint, Plic, Uart, Finisher}
+use Rattle.repl_build.specs.declared.types.PeripheralType.TheVariants.{Cpu, Memory, Clint, Plic, Uart, Can, Finisher}
 use Rattle.repl_build.specs.Attributes.{is_memory_size, number_of, is_set, has_attribute, item_of}
 use Rattle.repl_build.specs.Numbers.{devices_of, what_of}
 use Rattle.repl_build.specs.Places.{is_registered, has_range, has_required, step_of, least_of, is_unit, is_place}
@@ -85,6 +85,14 @@ placed (Some Uart) (Range base size) items before part is memory registered good
     record { base = second.0; unit = second.1; least = first.1 }
 placed (Some Uart) (Address base) items before part is memory registered good =
     record { base = good; unit = refl; least = wide (is_set (codes "wideRegisters") items) }
+placed (Some Can) Absent items before part is memory registered good = absurd (cc)
+placed (Some Can) Bus items before part is memory registered good = absurd (cc)
+placed (Some Can) (Range base size) items before part is memory registered good =
+    let first = and_true ((base % REGION_UNIT == 0) && is_unit (Some Can) size) _ good in
+    let second = and_true (base % REGION_UNIT == 0) (is_unit (Some Can) size) first.0 in
+    record { base = second.0; unit = second.1; least = first.1 }
+placed (Some Can) (Address base) items before part is memory registered good =
+    record { base = good; unit = refl; least = refl }
 placed (Some Finisher) Absent items before part is memory registered good = absurd (cc)
 placed (Some Finisher) Bus items before part is memory registered good = absurd (cc)
 placed (Some Finisher) (Range base size) items before part is memory registered good =
@@ -117,6 +125,10 @@ range_of (Some Clint) at items before part kinds is found good =
 range_of (Some Plic) at items before part kinds is found good =
     rw (same_part_of _ _ is) (all_three _ _ _ good.base good.unit good.least)
 range_of (Some Uart) at items before part kinds is found good =
+    let same = same_part_of _ _ is in
+    let kind = found refl in
+    rw (same, kind) (all_three _ _ _ good.base good.unit good.least)
+range_of (Some Can) at items before part kinds is found good =
     let same = same_part_of _ _ is in
     let kind = found refl in
     rw (same, kind) (all_three _ _ _ good.base good.unit good.least)

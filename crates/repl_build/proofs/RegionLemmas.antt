@@ -18,7 +18,7 @@ use Rattle.sys_bus.specs.declared.plan.NamedWhat.TheVariants as what
 use Rattle.sys_bus.specs.Region.{overlaps, end_of, count_of_overlaps, are_apart, are_addressed}
 use Rattle.repl_build.specs.declared.merge.Peripheral.{Peripheral}
 use Rattle.repl_build.specs.declared.types.PeripheralType.{PeripheralType}
-use Rattle.repl_build.specs.declared.types.PeripheralType.TheVariants.{Cpu, Memory, Clint, Plic, Uart, Finisher}
+use Rattle.repl_build.specs.declared.types.PeripheralType.TheVariants.{Cpu, Memory, Clint, Plic, Uart, Can, Finisher}
 use Rattle.repl_build.specs.Attributes.{is_set}
 use Rattle.repl_build.specs.Counts.{count_of}
 use Rattle.repl_build.specs.Numbers.{what_of}
@@ -78,6 +78,7 @@ size_one (Some Memory) p before ps part kind is =
 size_one (Some Clint) p before ps part kind is = rw (same_part_of _ _ is) refl
 size_one (Some Plic) p before ps part kind is = rw (same_part_of _ _ is) refl
 size_one (Some Uart) p before ps part kind is = rw (same_part_of _ _ is) refl
+size_one (Some Can) p before ps part kind is = rw (same_part_of _ _ is) refl
 size_one (Some Finisher) p before ps part kind is = rw (same_part_of _ _ is) refl
 
 sized_one :
@@ -112,6 +113,10 @@ step_one (Some Uart) p before ps part kind is =
     elim (is_set (codes "wideRegisters") p.items) as
     (λ b. is_step (Some device.Uart) (cond {A = ℕ} b 4 1) ≡ true) [ true ↦ refl | false ↦ refl ] in
     rw same (rw at steps)
+step_one (Some Can) p before ps part kind is =
+    let same = same_part_of _ _ is in
+    let at = kind_at before p ps (ap is_device kind) ∙ ap kind_by kind in
+    rw same (rw at refl)
 step_one (Some Finisher) p before ps part kind is =
     let same = same_part_of _ _ is in
     let at = kind_at before p ps (ap is_device kind) ∙ ap kind_by kind in

@@ -14,7 +14,7 @@ use Rattle.sys_bus.specs.declared.wire.Wire.{Wire}
 use Rattle.sys_bus.specs.Limits as limit
 use Rattle.sys_bus.specs.Plan.{IsValid}
 use Rattle.repl_build.specs.declared.merge.Peripheral.{Peripheral}
-use Rattle.repl_build.specs.declared.types.PeripheralType.TheVariants.{Cpu, Memory, Clint, Plic, Uart, Finisher}
+use Rattle.repl_build.specs.declared.types.PeripheralType.TheVariants.{Cpu, Memory, Clint, Plic, Uart, Can, Finisher}
 use Rattle.repl_build.specs.Counts.{count_of, has_type}
 use Rattle.repl_build.specs.Merge.{merged}
 use Rattle.repl_build.specs.Names.{repeated, untyped}
@@ -61,10 +61,11 @@ plic_good all (Some p) keeps found =
 devices_few : (all : List Peripheral) → Keeps all → limit.are_few_devices (kinds_of all) ≡ true
 devices_few all keeps =
     let uarts = few_of all Uart keeps.counts in
+    let cans = few_of all Can keeps.counts in
     let finishers = few_of all Finisher keeps.counts in
     both_true _ _
     (both_true _ _ (at_most (limit.count_of (kinds_of all) device.Uart) 4 (omega (arith, uarts, uarts_count all)))
-    (at_most (limit.count_of (kinds_of all) device.Can) 4 (omega (arith, cans_count all))))
+    (at_most (limit.count_of (kinds_of all) device.Can) 4 (omega (arith, cans, cans_count all))))
     (at_most (limit.count_of (kinds_of all) device.Finisher) 1 (omega (arith, finishers, finishers_count all)))
 
 memories_few : (all : List Peripheral) → Keeps all → has_type Memory all ≡ true →

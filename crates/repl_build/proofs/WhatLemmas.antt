@@ -9,7 +9,7 @@ use Rattle.sys_bus.specs.declared.plan.NamedWhat.TheVariants as what
 use Rattle.sys_bus.specs.declared.region.RegionKind.{RegionKind}
 use Rattle.repl_build.specs.declared.merge.Peripheral.{Peripheral}
 use Rattle.repl_build.specs.declared.types.PeripheralType.{PeripheralType}
-use Rattle.repl_build.specs.declared.types.PeripheralType.TheVariants.{Cpu, Memory, Clint, Plic, Uart, Finisher}
+use Rattle.repl_build.specs.declared.types.PeripheralType.TheVariants.{Cpu, Memory, Clint, Plic, Uart, Can, Finisher}
 use Rattle.repl_build.specs.Counts.{count_of}
 use Rattle.repl_build.specs.Numbers.{devices_of}
 use Rattle.repl_build.specs.Places.{size_of}
@@ -46,9 +46,10 @@ pub device_cons : (q : Peripheral) (qs : List Peripheral) →
     devices_of (q ∷ qs) ≡ (if is_device q.kind then 1 else 0) + devices_of qs
 device_cons q qs =
     let uart = count_cons (λ r. is_type Uart r.kind) q qs in
+    let can = count_cons (λ r. is_type Can r.kind) q qs in
     let finisher = count_cons (λ r. is_type Finisher r.kind) q qs in
-    let sum = either q.kind (count_of qs Uart) (count_of qs Finisher) in
-    omega (arith, uart, finisher, sum)
+    let sum = either q.kind (count_of qs Uart) (count_of qs Can) (count_of qs Finisher) in
+    omega (arith, uart, can, finisher, sum)
 
 kind_next :
     (t : Option PeripheralType) (kinds : List Kind) (n m : ℕ) (k : Option Kind) →
@@ -59,6 +60,7 @@ kind_next (Some Memory) kinds n m k next is = let same : n ≡ m = omega (arith,
 kind_next (Some Clint) kinds n m k next is = let same : n ≡ m = omega (arith, next) in rw same is
 kind_next (Some Plic) kinds n m k next is = let same : n ≡ m = omega (arith, next) in rw same is
 kind_next (Some Uart) kinds n m k next is = let same : n ≡ suc m = omega (arith, next) in rw same is
+kind_next (Some Can) kinds n m k next is = let same : n ≡ suc m = omega (arith, next) in rw same is
 kind_next (Some Finisher) kinds n m k next is = let same : n ≡ suc m = omega (arith, next) in rw same is
 
 kind_first : (t : Option PeripheralType) (kinds : List Kind) → is_device t ≡ true →
@@ -69,6 +71,7 @@ kind_first (Some Memory) kinds is = absurd (cc)
 kind_first (Some Clint) kinds is = absurd (cc)
 kind_first (Some Plic) kinds is = absurd (cc)
 kind_first (Some Uart) kinds is = refl
+kind_first (Some Can) kinds is = refl
 kind_first (Some Finisher) kinds is = refl
 
 -- the device with the number of devices before it

@@ -19,7 +19,7 @@ use Rattle.sys_bus.specs.Wire.{is_context, has_line, kind_has_line, is_from, may
 use Rattle.repl_build.specs.declared.merge.Peripheral.{Peripheral}
 use Rattle.repl_build.specs.declared.merge.PlacedItem.{PlacedItem}
 use Rattle.repl_build.specs.declared.types.PeripheralType.{PeripheralType}
-use Rattle.repl_build.specs.declared.types.PeripheralType.TheVariants.{Cpu, Memory, Clint, Plic, Uart, Finisher}
+use Rattle.repl_build.specs.declared.types.PeripheralType.TheVariants.{Cpu, Memory, Clint, Plic, Uart, Can, Finisher}
 use Rattle.repl_build.specs.Counts.{has_type}
 use Rattle.repl_build.specs.First.{◌>>=◌}
 use Rattle.repl_build.specs.Numbers.{devices_of}
@@ -175,6 +175,13 @@ lines_by (Some Uart) kinds regions plic dev clint device line from is =
     elim (line == 0) as (λ b. cond {A = Option WireFrom} b (Some (Dev dev)) None ≡ Some from →
     is_from kinds regions plic from ≡ true) [
       | true ↦ λ is. rw (← same_some _ _ is) uart
+      | false ↦ λ is. absurd (cc)
+    ] is
+lines_by (Some Can) kinds regions plic dev clint device line from is =
+    let can : has_line kinds dev ≡ true = ap kind_has_line (device refl) in
+    elim (line == 0) as (λ b. cond {A = Option WireFrom} b (Some (Dev dev)) None ≡ Some from →
+    is_from kinds regions plic from ≡ true) [
+      | true ↦ λ is. rw (← same_some _ _ is) can
       | false ↦ λ is. absurd (cc)
     ] is
 lines_by (Some Finisher) kinds regions plic dev clint device line from is = absurd (cc)

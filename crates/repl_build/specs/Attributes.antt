@@ -54,6 +54,7 @@ sort_of (Some kind.Memory) key = memory_sort key
 sort_of (Some kind.Clint) key = clint_sort key
 sort_of (Some kind.Plic) key = plic_sort key
 sort_of (Some kind.Uart) key = uart_sort key
+sort_of (Some kind.Can) key = None
 sort_of (Some kind.Finisher) key = None
 sort_of None key = None
 

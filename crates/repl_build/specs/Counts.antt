@@ -3,10 +3,10 @@ use Rattle.std.specs.Prelude.{ℕ, ◌+◌, nat_le, nat_lt, Bool, false, not, �
 use Rattle.std.specs.Prelude.{count_by}
 use Rattle.std.specs.Prelude.{if◌then◌else◌}
 use Rattle.std.specs.List.{list_any, sum_by}
-use Rattle.sys_bus.specs.declared.limits.TheConstants.{MOST_MEMORIES, MOST_MEMORY, MOST_UARTS, MOST_FINISHERS}
+use Rattle.sys_bus.specs.declared.limits.TheConstants.{MOST_MEMORIES, MOST_MEMORY, MOST_UARTS, MOST_CANS, MOST_FINISHERS}
 use Rattle.repl_build.specs.declared.merge.Peripheral.{Peripheral}
 use Rattle.repl_build.specs.declared.types.PeripheralType.{PeripheralType}
-use Rattle.repl_build.specs.declared.types.PeripheralType.TheVariants.{Cpu, Memory, Clint, Plic, Uart, Finisher}
+use Rattle.repl_build.specs.declared.types.PeripheralType.TheVariants.{Cpu, Memory, Clint, Plic, Uart, Can, Finisher}
 use Rattle.repl_build.specs.Places.{size_of}
 use Rattle.repl_build.specs.Types.{is_type}
 
@@ -16,6 +16,7 @@ most_of Memory = MOST_MEMORIES
 most_of Clint = 1
 most_of Plic = 1
 most_of Uart = MOST_UARTS
+most_of Can = MOST_CANS
 most_of Finisher = MOST_FINISHERS
 
 abbrev pub count_of : List Peripheral → PeripheralType → ℕ

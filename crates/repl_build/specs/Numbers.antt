@@ -5,12 +5,12 @@ use Rattle.sys_bus.specs.declared.plan.NamedWhat.TheVariants as what
 use Rattle.sys_bus.specs.declared.region.RegionKind.TheVariants as part
 use Rattle.repl_build.specs.declared.merge.Peripheral.{Peripheral}
 use Rattle.repl_build.specs.declared.types.PeripheralType.{PeripheralType}
-use Rattle.repl_build.specs.declared.types.PeripheralType.TheVariants.{Cpu, Memory, Clint, Plic, Uart, Finisher}
+use Rattle.repl_build.specs.declared.types.PeripheralType.TheVariants.{Cpu, Memory, Clint, Plic, Uart, Can, Finisher}
 use Rattle.repl_build.specs.Counts.{count_of}
 
 -- how many devices there are
 abbrev pub devices_of : List Peripheral → ℕ
-devices_of peripherals = count_of peripherals Uart + count_of peripherals Finisher
+devices_of peripherals = count_of peripherals Uart + count_of peripherals Can + count_of peripherals Finisher
 
 -- memories and devices are numbered in the order of the entries
 abbrev pub what_of : List Peripheral → Option PeripheralType → Option NamedWhat
@@ -19,6 +19,7 @@ what_of before (Some Memory) = Some (what.Part (part.Ram (count_of before Memory
 what_of before (Some Clint) = Some (what.Part part.Clint)
 what_of before (Some Plic) = Some (what.Part part.Plic)
 what_of before (Some Uart) = Some (what.Part (part.Dev (devices_of before)))
+what_of before (Some Can) = Some (what.Part (part.Dev (devices_of before)))
 what_of before (Some Finisher) = Some (what.Part (part.Dev (devices_of before)))
 what_of before None = None
 

@@ -11,7 +11,7 @@ use Rattle.sys_bus.specs.Limits.{least_device_size}
 use Rattle.repl_build.specs.declared.merge.Peripheral.{Peripheral}
 use Rattle.repl_build.specs.declared.merge.PlacedItem.{PlacedItem}
 use Rattle.repl_build.specs.declared.types.PeripheralType.{PeripheralType}
-use Rattle.repl_build.specs.declared.types.PeripheralType.TheVariants.{Cpu, Memory, Clint, Plic, Uart, Finisher}
+use Rattle.repl_build.specs.declared.types.PeripheralType.TheVariants.{Cpu, Memory, Clint, Plic, Uart, Can, Finisher}
 use Rattle.repl_build.specs.Attributes.{has_attribute, number_of, is_set}
 
 -- a processor is registered without an address, and all else with one
@@ -33,6 +33,7 @@ has_required (Some Memory) at items = has_range at || has_attribute (codes "size
 has_required (Some Clint) at items = has_attribute (codes "frequency") items
 has_required (Some Plic) at items = has_attribute (codes "numberOfSources") items
 has_required (Some Uart) at items = true
+has_required (Some Can) at items = true
 has_required (Some Finisher) at items = true
 has_required None at items = true
 
@@ -52,6 +53,7 @@ least_of (Some Memory) step = PAGE_SIZE
 least_of (Some Clint) step = LEAST_CLINT
 least_of (Some Plic) step = LEAST_PLIC
 least_of (Some Uart) step = least_device_size device.Uart step
+least_of (Some Can) step = least_device_size device.Can step
 least_of (Some Finisher) step = least_device_size device.Finisher step
 least_of None step = 0
 
@@ -77,6 +79,7 @@ usual_size (Some Memory) items = number_of (codes "size") 0 items
 usual_size (Some Clint) items = 0x1_0000
 usual_size (Some Plic) items = 0x400_0000
 usual_size (Some Uart) items = 0x100
+usual_size (Some Can) items = 0x100
 usual_size (Some Finisher) items = 0x1000
 usual_size None items = 0
 

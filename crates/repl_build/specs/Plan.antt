@@ -58,6 +58,7 @@ memories_of all = map size_of (filter (λ p. is_type kind.Memory p.kind) all)
 
 abbrev pub kind_by : Option PeripheralType → Option Kind
 kind_by (Some kind.Uart) = Some device.Uart
+kind_by (Some kind.Can) = Some device.Can
 kind_by (Some kind.Finisher) = Some device.Finisher
 kind_by _ = None
 

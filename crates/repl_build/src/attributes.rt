@@ -100,7 +100,7 @@ fn sort_of(kind: Option<PeripheralType>, key: &str) -> Option<Sort>
         Some(PeripheralType::Clint) => clint_sort(key),
         Some(PeripheralType::Plic) => plic_sort(key),
         Some(PeripheralType::Uart) => uart_sort(key),
-        Some(PeripheralType::Finisher) | None => None,
+        Some(PeripheralType::Can | PeripheralType::Finisher) | None => None,
     }
 }
 

@@ -1,9 +1,7 @@
 //! From entries to the plan.
-ghost use Rattle.std.specs.Prelude.{◌≡◌, IfOk, IsTrue};
+ghost use Rattle.std.specs.Prelude.{IfOk, IsTrue};
 ghost use Rattle.std.specs.List.{list_all};
 ghost use Rattle.repl_read.specs.Entries.{is_entry};
-ghost use Rattle.dev_core.specs.declared.kind.Kind.TheVariants.{Can};
-ghost use Rattle.sys_bus.specs.Limits.{count_of};
 ghost use Rattle.sys_bus.specs.Plan.{IsValid};
 ghost use Rattle.repl_build.specs.Plan.{Builds};
 
@@ -48,7 +46,6 @@ fn plan_or_fault(alloc: Global, entries: &[Entry]) -> Result<BoardPlan, PlatFaul
 pub fn build(alloc: Global, entries: Vec<Entry>) -> Result<BoardPlan, PlatFault>
     ensures builds { Builds entries.items result }
     ensures valid { IsTrue (list_all is_entry entries.items) → IfOk result IsValid }
-    ensures cans { IfOk result (λ plan. count_of plan.kinds Can ≡ 0) }
 {
     plan_or_fault(alloc, &entries)
 }

@@ -20,6 +20,7 @@ fn most_of(kind: PeripheralType) -> usize
         PeripheralType::Clint => 1,
         PeripheralType::Plic => 1,
         PeripheralType::Uart => 4,
+        PeripheralType::Can => 4,
         PeripheralType::Finisher => 1,
     }
 }

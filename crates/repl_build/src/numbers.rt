@@ -16,8 +16,9 @@ pub(crate) fn device_number(all: &[Peripheral], i: usize) -> u8
 {
     let before = &all[..i];
     let uarts = count_of(before, PeripheralType::Uart);
+    let cans = count_of(before, PeripheralType::Can);
     let finishers = count_of(before, PeripheralType::Finisher);
-    (uarts + finishers) as u8
+    (uarts + cans + finishers) as u8
 }
 
 /// The number of the memory at `i`, if a memory is there: how many are before it.
@@ -44,7 +45,9 @@ pub(crate) fn what_of(
         PeripheralType::Memory => RegionKind::Ram(memory_number(all, i)),
         PeripheralType::Clint => RegionKind::Clint,
         PeripheralType::Plic => RegionKind::Plic,
-        PeripheralType::Uart | PeripheralType::Finisher => RegionKind::Dev(device_number(all, i)),
+        PeripheralType::Uart | PeripheralType::Can | PeripheralType::Finisher => {
+            RegionKind::Dev(device_number(all, i))
+        }
     };
     Some(NamedWhat::Part(part))
 }

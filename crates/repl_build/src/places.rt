@@ -39,7 +39,7 @@ fn has_required(kind: Option<PeripheralType>, at: Place, items: &[PlacedItem]) -
         Some(PeripheralType::Memory) => has_range(at) || has_attribute("size", items),
         Some(PeripheralType::Clint) => has_attribute("frequency", items),
         Some(PeripheralType::Plic) => has_attribute("numberOfSources", items),
-        Some(PeripheralType::Uart | PeripheralType::Finisher) | None => true,
+        Some(PeripheralType::Uart | PeripheralType::Can | PeripheralType::Finisher) | None => true,
     }
 }
 
@@ -70,6 +70,7 @@ fn least_of(kind: Option<PeripheralType>, step: u8) -> u32
         Some(PeripheralType::Clint) => 0xC000,
         Some(PeripheralType::Plic) => 0x21_0000,
         Some(PeripheralType::Uart) => { if step == 4 { 32 } else { 8 } }
+        Some(PeripheralType::Can) => 32,
         Some(PeripheralType::Finisher) => 4,
         Some(PeripheralType::Cpu) | None => 0,
     }
@@ -111,7 +112,7 @@ fn usual_size(kind: Option<PeripheralType>, items: &[PlacedItem]) -> u32
         Some(PeripheralType::Memory) => number_of("size", 0, items),
         Some(PeripheralType::Clint) => 0x1_0000,
         Some(PeripheralType::Plic) => 0x400_0000,
-        Some(PeripheralType::Uart) => 0x100,
+        Some(PeripheralType::Uart | PeripheralType::Can) => 0x100,
         Some(PeripheralType::Finisher) => 0x1000,
         Some(PeripheralType::Cpu) | None => 0,
     }

@@ -80,6 +80,7 @@ fn kind_by(kind: Option<PeripheralType>) -> Option<Kind>
 {
     match kind {
         Some(PeripheralType::Uart) => Some(Kind::Uart),
+        Some(PeripheralType::Can) => Some(Kind::Can),
         Some(PeripheralType::Finisher) => Some(Kind::Finisher),
         _ => None,
     }

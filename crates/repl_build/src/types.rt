@@ -10,6 +10,7 @@ pub(crate) enum PeripheralType {
     Clint,
     Plic,
     Uart,
+    Can,
     Finisher,
 }
 
@@ -23,6 +24,7 @@ pub(crate) fn type_of(name: &str) -> Option<PeripheralType>
         "IRQControllers.CoreLevelInterruptor" => Some(PeripheralType::Clint),
         "IRQControllers.PlatformLevelInterruptController" => Some(PeripheralType::Plic),
         "UART.NS16550" => Some(PeripheralType::Uart),
+        "CAN.SJA1000" => Some(PeripheralType::Can),
         "Miscellaneous.SiFiveTest" => Some(PeripheralType::Finisher),
         _ => None,
     }
@@ -38,6 +40,7 @@ pub(crate) fn is_type(kind: PeripheralType, other: Option<PeripheralType>) -> bo
         (PeripheralType::Clint, Some(PeripheralType::Clint)) => true,
         (PeripheralType::Plic, Some(PeripheralType::Plic)) => true,
         (PeripheralType::Uart, Some(PeripheralType::Uart)) => true,
+        (PeripheralType::Can, Some(PeripheralType::Can)) => true,
         (PeripheralType::Finisher, Some(PeripheralType::Finisher)) => true,
         _ => false,
     }

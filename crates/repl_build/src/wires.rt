@@ -90,7 +90,7 @@ fn line_of(
         (Some(PeripheralType::Clint), 0) => Some(WireFrom::Soft),
         (Some(PeripheralType::Clint), 1) => Some(WireFrom::Timer),
         (Some(PeripheralType::Plic), _) if is_context(plic, line) => Some(WireFrom::Context(line)),
-        (Some(PeripheralType::Uart), 0) => Some(WireFrom::Dev(dev)),
+        (Some(PeripheralType::Uart | PeripheralType::Can), 0) => Some(WireFrom::Dev(dev)),
         _ => None,
     }
 }
@@ -171,12 +171,12 @@ fn wired(
     Ok(Some(Rows::of(wires)))
 }
 
-/// Whether a device may have such an end: `IRQ` is the one line of a UART.
+/// Whether a device may have such an end: `IRQ` is the one line of a UART or a CAN controller.
 fn has_ends(kind: Option<PeripheralType>, ends: &Ends) -> bool
     ensures { result ≡ wires_spec.has_ends kind ends.now }
 {
     match ends {
-        Ends::Irq => is_type(PeripheralType::Uart, kind),
+        Ends::Irq => is_type(PeripheralType::Uart, kind) || is_type(PeripheralType::Can, kind),
         _ => true,
     }
 }

@@ -71,7 +71,9 @@ machine_rows =
 -- commands for memory
 abbrev pub memory_rows : List Row
 memory_rows =
+    row (Two (codes "sysbus") (codes "LoadELF")) (one path commands.LoadElf) ∷
     row (Two (codes "sysbus") (codes "LoadBinary")) (two path number commands.LoadBinary) ∷
+    row (Two (codes "sysbus") (codes "LoadHEX")) (one path commands.LoadHex) ∷
     row (Two (codes "sysbus") (codes "ReadDoubleWord")) (one number commands.ReadWord) ∷
     row (Two (codes "sysbus") (codes "WriteDoubleWord")) (two number number commands.WriteWord) ∷
     []
@@ -82,6 +84,7 @@ emulation_rows =
     row (Two (codes "emulation") (codes "SetGlobalQuantum")) (one quantum commands.Quantum) ∷
     row (Two (codes "emulation") (codes "RunFor")) (one time commands.RunFor) ∷
     row (Two (codes "emulation") (codes "CreateUARTHub")) (one name commands.UartHub) ∷
+    row (Two (codes "emulation") (codes "CreateCANHub")) (one name commands.CanHub) ∷
     row (Two (codes "connector") (codes "Connect")) (two entry name commands.Connect) ∷
     row (Two (codes "using") (codes "sysbus")) (none commands.UsingSysbus) ∷
     []

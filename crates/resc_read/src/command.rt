@@ -14,11 +14,11 @@ pub enum Command {
     LoadPlatform { path: Text },
     /// `machine Reset`: reset the board.
     Reset,
-    /// `sysbus LoadELF @path`: load an image and begin at its entry. No line asks for it yet.
+    /// `sysbus LoadELF @path`: load an ELF image and begin at its entry.
     LoadElf { path: Text },
     /// `sysbus LoadBinary @path at`: load bytes from an address on.
     LoadBinary { path: Text, at: u32 },
-    /// `sysbus LoadHEX @path`: load an image. No line asks for it yet.
+    /// `sysbus LoadHEX @path`: load an Intel HEX image.
     LoadHex { path: Text },
     /// `sysbus ReadDoubleWord at`: print a word of memory.
     ReadWord { at: u32 },
@@ -36,7 +36,7 @@ pub enum Command {
     RunFor { length: Micros },
     /// `emulation CreateUARTHub name`: make a hub of UARTs.
     UartHub { name: Text },
-    /// `emulation CreateCANHub name`: make a hub of CAN controllers. No line asks for it yet.
+    /// `emulation CreateCANHub name`: make a hub of CAN controllers.
     CanHub { name: Text },
     /// `connector Connect dev hub`: put a device into a hub.
     Connect { dev: Text, hub: Text },

@@ -104,6 +104,26 @@ fn load_binary(alloc: Global, words: &[&str]) -> Result<Command, LineFault>
     })
 }
 
+fn load_elf(alloc: Global, words: &[&str]) -> Result<Command, LineFault>
+    ensures { IsReadAs
+        (arguments.one arguments.path commands.LoadElf (map (λ w. w.now) words.now)) result }
+{
+    let path = path(one_word(words)?)?;
+    Ok(Command::LoadElf {
+        path: Text::of(alloc, path)?,
+    })
+}
+
+fn load_hex(alloc: Global, words: &[&str]) -> Result<Command, LineFault>
+    ensures { IsReadAs
+        (arguments.one arguments.path commands.LoadHex (map (λ w. w.now) words.now)) result }
+{
+    let path = path(one_word(words)?)?;
+    Ok(Command::LoadHex {
+        path: Text::of(alloc, path)?,
+    })
+}
+
 fn read_word(words: &[&str]) -> Result<Command, LineFault>
     ensures { IsReadAs
         (arguments.one arguments.number commands.ReadWord (map (λ w. w.now) words.now)) result }
@@ -145,6 +165,16 @@ fn uart_hub(alloc: Global, words: &[&str]) -> Result<Command, LineFault>
 {
     let name = name(one_word(words)?)?;
     Ok(Command::UartHub {
+        name: Text::of(alloc, name)?,
+    })
+}
+
+fn can_hub(alloc: Global, words: &[&str]) -> Result<Command, LineFault>
+    ensures { IsReadAs
+        (arguments.one arguments.name commands.CanHub (map (λ w. w.now) words.now)) result }
+{
+    let name = name(one_word(words)?)?;
+    Ok(Command::CanHub {
         name: Text::of(alloc, name)?,
     })
 }
@@ -244,6 +274,8 @@ fn by_emulation_words(alloc: Global, words: &[&str]) -> Result<Command, LineFaul
         run_for(after)
     } else if begins(words, "emulation", "CreateUARTHub") {
         uart_hub(alloc, after)
+    } else if begins(words, "emulation", "CreateCANHub") {
+        can_hub(alloc, after)
     } else if begins(words, "connector", "Connect") {
         connect(alloc, after)
     } else if begins(words, "using", "sysbus") {
@@ -259,8 +291,12 @@ fn by_memory_words(alloc: Global, words: &[&str]) -> Result<Command, LineFault>
     ensures { IsReadAs (table.by_memory_rows (map (λ w. w.now) words.now)) result }
 {
     let after = words_from(words, 2);
-    if begins(words, "sysbus", "LoadBinary") {
+    if begins(words, "sysbus", "LoadELF") {
+        load_elf(alloc, after)
+    } else if begins(words, "sysbus", "LoadBinary") {
         load_binary(alloc, after)
+    } else if begins(words, "sysbus", "LoadHEX") {
+        load_hex(alloc, after)
     } else if begins(words, "sysbus", "ReadDoubleWord") {
         read_word(after)
     } else if begins(words, "sysbus", "WriteDoubleWord") {

@@ -11,7 +11,7 @@ fn answer(alloc: Global, line: &str) -> Result<String, Fail> {
 }
 
 /// Each row: a line, and the command that it asks for.
-static COMMANDS: [(&str, &str); 66] = [
+static COMMANDS: [(&str, &str); 71] = [
     ("mach create", "Ok(Create { name: None })"),
     (
         "mach create m0",
@@ -54,6 +54,18 @@ static COMMANDS: [(&str, &str); 66] = [
     (
         "sysbus LoadBinary @f 4096",
         "Ok(LoadBinary { path: Text { text: \"f\" }, at: 4096 })",
+    ),
+    (
+        "sysbus LoadELF @dir/f.elf",
+        "Ok(LoadElf { path: Text { text: \"dir/f.elf\" } })",
+    ),
+    (
+        "sysbus LoadHEX @f",
+        "Ok(LoadHex { path: Text { text: \"f\" } })",
+    ),
+    (
+        "sysbus\tLoadHEX  @0x4",
+        "Ok(LoadHex { path: Text { text: \"0x4\" } })",
     ),
     ("sysbus ReadDoubleWord 0", "Ok(ReadWord { at: 0 })"),
     (
@@ -182,6 +194,14 @@ static COMMANDS: [(&str, &str); 66] = [
         "Ok(UartHub { name: Text { text: \"h\" } })",
     ),
     (
+        "emulation CreateCANHub \"bus\"",
+        "Ok(CanHub { name: Text { text: \"bus\" } })",
+    ),
+    (
+        "emulation  CreateCANHub bus_1-a",
+        "Ok(CanHub { name: Text { text: \"bus_1-a\" } })",
+    ),
+    (
         "connector Connect uart hub",
         "Ok(Connect { dev: Text { text: \"uart\" }, hub: Text { text: \"hub\" } })",
     ),
@@ -291,9 +311,9 @@ static UNKNOWN: [&str; 37] = [
     "pause\u{c}",
     "pause\r",
     "pause\u{a0}",
-    "sysbus LoadELF @f",
-    "sysbus LoadHEX @f",
-    "emulation CreateCANHub \"n\"",
+    "sysbus LoadElf @f",
+    "sysbus LoadHex @f",
+    "emulation CreateCanHub \"n\"",
 ];
 
 #[test]
@@ -302,7 +322,7 @@ fn first_words_that_are_no_command_come_before_all_else(rt: HostRuntime) {
 }
 
 /// Lines about boards, memory and processors with a wrong number, sort or range of words.
-static BOARDS: [&str; 54] = [
+static BOARDS: [&str; 59] = [
     "mach create \"x",
     "mach create \"x y",
     "mach create a b",
@@ -330,6 +350,11 @@ static BOARDS: [&str; 54] = [
     "sysbus LoadBinary @f 4294967296",
     "sysbus LoadBinary @f 0 0",
     "sysbus LoadBinary f 0",
+    "sysbus LoadELF",
+    "sysbus LoadELF f",
+    "sysbus LoadELF @f 0",
+    "sysbus LoadHEX \"f\"",
+    "sysbus LoadHEX @f 0x80000000",
     "sysbus ReadDoubleWord",
     "sysbus ReadDoubleWord \"0x0\"",
     "sysbus ReadDoubleWord 0X1",
@@ -365,7 +390,7 @@ fn words_of_boards_memory_and_processors_have_their_number_sort_and_range(rt: Ho
 }
 
 /// Lines of other commands with a wrong number or sort of words.
-static OTHERS: [&str; 58] = [
+static OTHERS: [&str; 61] = [
     "emulation SetGlobalQuantum",
     "emulation SetGlobalQuantum @",
     "emulation SetGlobalQuantum abc x",
@@ -378,6 +403,9 @@ static OTHERS: [&str; 58] = [
     "emulation CreateUARTHub",
     "emulation CreateUARTHub a.b",
     "emulation CreateUARTHub @n",
+    "emulation CreateCANHub",
+    "emulation CreateCANHub a.b",
+    "emulation CreateCANHub a b",
     "connector Connect uart",
     "connector Connect uart a!b",
     "connector Connect @uart hub",

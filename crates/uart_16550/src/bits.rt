@@ -1,6 +1,4 @@
 //! The named bits of the registers (PC16550D data sheet, section 8).
-ghost use Rattle.std.specs.Prelude.{◌≡◌, ◌<◌};
-ghost use Rattle.dev_core.specs.Bit.{is_set};
 
 /// IER: enables the received data interrupts.
 pub const ERBFI: u32 = 0;
@@ -25,11 +23,3 @@ pub const TRANSMITTER_EMPTY: u8 = 1 << 5 | 1 << 6;
 
 /// MSR: CTS, DSR and DCD, the modem is there and ready.
 pub const MODEM_READY: u8 = 1 << 4 | 1 << 5 | 1 << 7;
-
-/// Whether a bit is 1.
-pub fn is_set(byte: u8, bit: u32) -> bool
-    requires { bit < 8 }
-    ensures { result ≡ is_set byte bit }
-{
-    (byte >> bit) & 1 == 1
-}

@@ -2,8 +2,8 @@
 ghost use Rattle.std.specs.Prelude.{◌≡◌, ◌≤◌};
 ghost use Rattle.dev_core.specs.Uart.{cause, iir, uart_line};
 
-use crate::bits::{ELSI, ERBFI, ETBEI, is_set};
-use dev_core::UartState;
+use crate::bits::{ELSI, ERBFI, ETBEI};
+use dev_core::{UartState, is_set};
 
 pub const NO_INTERRUPT: u8 = 0x01;
 

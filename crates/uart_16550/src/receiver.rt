@@ -12,8 +12,8 @@ ghost use Rattle.dev_core.specs.Uart.{
   uart_receive,
 };
 
-use crate::bits::{FIFO_ENABLE, RECEIVER_RESET, TRANSMITTER_EMPTY, is_set};
-use dev_core::{ByteRow, Taken, UartState};
+use crate::bits::{FIFO_ENABLE, RECEIVER_RESET, TRANSMITTER_EMPTY};
+use dev_core::{ByteRow, Taken, UartState, is_set};
 
 /// The trigger level that bits 7 and 6 of the FIFO control register choose.
 fn trigger_level(choice: u8) -> u8

@@ -14,11 +14,11 @@ ghost use Rattle.dev_core.specs.Uart.{
   uart_store_byte,
 };
 
-use crate::bits::{DLAB, ETBEI, MODEM_READY, is_set};
+use crate::bits::{DLAB, ETBEI, MODEM_READY};
 use crate::interrupts::{THR_EMPTY, cause, identification, is_pending};
 use crate::receiver::{line_status, load_data, receive, store_control};
 use crate::registers::*;
-use dev_core::{DevState, Device, Effect, Kind, Payload, Taken, UartState};
+use dev_core::{DevState, Device, Effect, Kind, Payload, Taken, UartState, is_set};
 use std::marker::Model;
 
 /// A UART, which contracts see as its state.

@@ -9,7 +9,9 @@ use Rattle.board.specs.Changes.{may_be_shown}
 use Rattle.board.specs.View.{View}
 use Rattle.lab_state.specs.Lab.{Lab}
 use Rattle.board.specs.New.{new_board}
-use Rattle.lab_state.specs.One.{fitted, kind_at, view_of}
+use Rattle.lab_state.specs.One.{changed, fitted, kind_at, view_of}
+use Rattle.elf_load.specs.declared.image.Image.{Image}
+use Rattle.monitor.specs.declared.fault.Cause.{Cause}
 use Rattle.monitor.specs.declared.fault.ScriptFault.{ScriptFault}
 use Rattle.repl_build.specs.Plan.{built}
 use Rattle.repl_files.specs.declared.fault.LoadFault.{LoadFault}
@@ -35,8 +37,8 @@ use Rattle.resc_vars.specs.declared.answer.FlowFault.TheVariants as flow_fault
 use Rattle.resc_vars.specs.declared.cause.ScriptCause.{ScriptCause}
 use Rattle.resc_vars.specs.declared.cause.ScriptCause.TheVariants as script_cause
 use Rattle.monitor.specs.declared.stop.Stop.{Stop}
-use Rattle.monitor.specs.declared.stop.Stop.TheVariants.{Quit, Line, File, Unread, Memory}
-use Rattle.monitor.specs.Answer.{Goes, Ends, Faults, Did, Done, fault_at}
+use Rattle.monitor.specs.declared.stop.Stop.TheVariants.{Quit, Line, File, Content, Unread, Memory}
+use Rattle.monitor.specs.Answer.{Goes, Ends, Faults, Did, Done, fault_at, told_at}
 use Rattle.monitor.specs.State.{State, Place}
 use Rattle.resc_read.specs.declared.command.Command.{Command}
 use Rattle.resc_read.specs.declared.command.Command.TheVariants as command
@@ -93,6 +95,7 @@ IsFile held name (Err Quit) log log' = ⊥
 IsFile held name (Err (Line cause)) log log' =
     (cause ≡ script_cause.Size) × IsSomeAnd held (λ bytes. 16777216 < length bytes) × (log' ≡ grown log (name ∷ []))
 IsFile held name (Err (File fault)) log log' = ⊥
+IsFile held name (Err (Content cause)) log log' = ⊥
 IsFile held name (Err Unread) log log' = log' ≡ grown log (name ∷ [])
 IsFile held name (Err Memory) log log' = AsksSome (name ∷ []) log log'
 
@@ -101,6 +104,7 @@ abbrev pub IsFileError : Stop → Type 0
 IsFileError Quit = ⊥
 IsFileError (Line cause) = cause ≡ script_cause.Size
 IsFileError (File fault) = ⊥
+IsFileError (Content cause) = ⊥
 IsFileError Unread = Unit {0}
 IsFileError Memory = Unit {0}
 
@@ -111,6 +115,7 @@ IsText name bytes (Err Quit) = ⊥
 IsText name bytes (Err (Line cause)) = ⊥
 IsText name bytes (Err (File fault)) =
     (is_utf8 bytes ≡ false) × (fault ≡ record { file = name; line = bad_line bytes; cause = Script script_cause.Utf8 })
+IsText name bytes (Err (Content cause)) = ⊥
 IsText name bytes (Err Unread) = ⊥
 IsText name bytes (Err Memory) = Unit {0}
 
@@ -121,6 +126,20 @@ load_stop load_fault.TooLarge = Line script_cause.Size
 load_stop load_fault.Unread = Unread
 load_stop load_fault.Memory = Memory
 
+-- a file was read as the image that its bytes mean, or is refused for their fault, or memory ran out
+abbrev pub IsImage : {F : Type 0} → (F → Cause) → Result Image F → Result Image Stop → Type 0
+IsImage told meant (Ok image) = meant ≡ Ok image
+IsImage told meant (Err Quit) = ⊥
+IsImage told meant (Err (Line cause)) = ⊥
+IsImage told meant (Err (File fault)) = ⊥
+IsImage {F} told meant (Err (Content cause)) = (fault : F) × (meant ≡ Err fault) × (cause ≡ told fault)
+IsImage told meant (Err Unread) = ⊥
+IsImage told meant (Err Memory) = Unit {0}
+
+-- a board was changed, and nothing else
+abbrev pub IsChanged : ℕ → (View → View) → Running → Running → Type 0
+IsChanged b f old new = new ≡ record old { state = record old.state { lab = changed old.state.lab b f } }
+
 -- a plan was built of entries, or is refused in the file that the fault names, or memory ran out
 abbrev pub IsPlan : Loaded → Result BoardPlan Stop → Type 0
 IsPlan loaded (Ok plan) = built loaded.entries.items ≡ Ok plan
@@ -128,6 +147,7 @@ IsPlan loaded (Err Quit) = ⊥
 IsPlan loaded (Err (Line cause)) = ⊥
 IsPlan loaded (Err (File fault)) =
     (s : State) (b : ℕ) → equip s b loaded.names.items (built loaded.entries.items) ≡ Faults fault
+IsPlan loaded (Err (Content cause)) = ⊥
 IsPlan loaded (Err Unread) = ⊥
 IsPlan loaded (Err Memory) = Unit {0}
 
@@ -136,6 +156,7 @@ abbrev pub IsFileStop : ScriptFault → Stop → Type 0
 IsFileStop fault Quit = ⊥
 IsFileStop fault (Line cause) = ⊥
 IsFileStop fault (File told) = told ≡ fault
+IsFileStop fault (Content cause) = ⊥
 IsFileStop fault Unread = ⊥
 IsFileStop fault Memory = Unit {0}
 
@@ -147,6 +168,7 @@ IsFitted b plan (Ok text) old new =
 IsFitted b plan (Err Quit) old new = ⊥
 IsFitted b plan (Err (Line cause)) old new = ⊥
 IsFitted b plan (Err (File fault)) old new = ⊥
+IsFitted b plan (Err (Content cause)) old new = ⊥
 IsFitted b plan (Err Unread) old new = ⊥
 IsFitted b plan (Err Memory) old new = new ≡ old
 
@@ -164,6 +186,7 @@ IsRuled ruling (Ok text) old new =
 IsRuled ruling (Err Quit) old new = ⊥
 IsRuled ruling (Err (Line cause)) old new = (ruling ≡ Err cause) × (new ≡ old)
 IsRuled ruling (Err (File fault)) old new = ⊥
+IsRuled ruling (Err (Content cause)) old new = ⊥
 IsRuled ruling (Err Unread) old new = ⊥
 IsRuled ruling (Err Memory) old new = new.ended ≡ old.ended
 
@@ -175,6 +198,8 @@ IsCarried did place (Err Quit) after log log' = (did.answer ≡ Ends) × (log' �
 IsCarried did place (Err (Line cause)) after log log' =
     (did.answer ≡ Faults (fault_at place cause)) × (log' ≡ grown log did.names)
 IsCarried did place (Err (File fault)) after log log' = (did.answer ≡ Faults fault) × (log' ≡ grown log did.names)
+IsCarried did place (Err (Content cause)) after log log' =
+    (did.answer ≡ Faults (told_at place cause)) × (log' ≡ grown log did.names)
 IsCarried did place (Err Unread) after log log' = AsksUpTo did.names log log'
 IsCarried did place (Err Memory) after log log' = AsksSome did.names log log'
 
@@ -184,6 +209,7 @@ Leaves (Ok text) old new = IsOnward old new
 Leaves (Err Quit) old new = new ≡ old
 Leaves (Err (Line cause)) old new = new ≡ old
 Leaves (Err (File fault)) old new = new ≡ old
+Leaves (Err (Content cause)) old new = new ≡ old
 Leaves (Err Unread) old new = new ≡ old
 Leaves (Err Memory) old new = new.ended ≡ old.ended
 
@@ -192,6 +218,7 @@ abbrev pub step_of : Place → Stop → Step
 step_of place Quit = step.End
 step_of place (Line cause) = step.Fault (fault_at place cause)
 step_of place (File fault) = step.Fault fault
+step_of place (Content cause) = step.Fault (told_at place cause)
 step_of place Unread = step.Unread
 step_of place Memory = step.Memory
 
@@ -208,6 +235,7 @@ IsAfterLine step.Memory old new = new.ended ≡ true
 abbrev pub IsWithin : Command → Type 0
 IsWithin (command.Create name) = IfSome name (λ text. IsTrue (is_name text))
 IsWithin (command.UartHub name) = IsTrue (is_name name)
+IsWithin (command.CanHub name) = IsTrue (is_name name)
 IsWithin (command.Mips cpu value) = IfSome value (λ n. (1 ≤ n) × (n ≤ 1000))
 IsWithin (command.Quantum length) = (1 ≤ length.0) × (length.0 ≤ 1000000)
 IsWithin _ = Unit {0}

@@ -1,7 +1,6 @@
 -- What is given is valid.
 use Rattle.std.proofs.Common.{subst}
 use Rattle.repl_build.specs.Plan.{Builds}
-use Rattle.repl_build.proofs.NoCans.{given_no_cans}
 use Rattle.repl_build.proofs.ValidLemmas.{given_valid}
 use Rattle.repl_build.proofs.builder.build.Goals as goal
 
@@ -10,9 +9,3 @@ returns-clause-valid c =
     let builds = subst (λ entries. Builds entries c.plan_or_fault.result) c.deref.ensures.value
     c.plan_or_fault.ensures in
     given_valid c.args.entries.items c.plan_or_fault.result builds
-
-pub returns-clause-cans : goal.returns-clause-cans
-returns-clause-cans c =
-    let builds = subst (λ entries. Builds entries c.plan_or_fault.result) c.deref.ensures.value
-    c.plan_or_fault.ensures in
-    given_no_cans c.args.entries.items c.plan_or_fault.result builds

@@ -22,7 +22,7 @@ returns-then-begins-4 c =
       sym c.begins-else-begins-2.ensures ∙ c.if-begins-3.false,
       sym c.begins-else-begins-3.ensures ∙ c.if-begins-4.true,
       sym c.words_from-after.ensures,
-    ) c.connect.ensures
+    ) c.can_hub.ensures
 
 pub returns-then-begins-5 : goal.returns-then-begins-5
 unfolding by_emulation_rows
@@ -33,5 +33,18 @@ returns-then-begins-5 c =
       sym c.begins-else-begins-2.ensures ∙ c.if-begins-3.false,
       sym c.begins-else-begins-3.ensures ∙ c.if-begins-4.false,
       sym c.begins-else-begins-4.ensures ∙ c.if-begins-5.true,
+      sym c.words_from-after.ensures,
+    ) c.connect.ensures
+
+pub returns-then-begins-6 : goal.returns-then-begins-6
+unfolding by_emulation_rows
+returns-then-begins-6 c =
+    rw (
+      sym c.begins.ensures ∙ c.if-begins.false,
+      sym c.begins-else-begins.ensures ∙ c.if-begins-2.false,
+      sym c.begins-else-begins-2.ensures ∙ c.if-begins-3.false,
+      sym c.begins-else-begins-3.ensures ∙ c.if-begins-4.false,
+      sym c.begins-else-begins-4.ensures ∙ c.if-begins-5.false,
+      sym c.begins-else-begins-5.ensures ∙ c.if-begins-6.true,
       sym c.words_from-after.ensures,
     ) c.alone.ensures

@@ -10,7 +10,7 @@ returns-then-begins-2 c =
       sym c.begins.ensures ∙ c.if-begins.false,
       sym c.begins-else-begins.ensures ∙ c.if-begins-2.true,
       sym c.words_from-after.ensures,
-    ) c.read_word.ensures
+    ) c.load_binary.ensures
 
 pub returns-then-begins-3 : goal.returns-then-begins-3
 unfolding by_memory_rows
@@ -20,4 +20,38 @@ returns-then-begins-3 c =
       sym c.begins-else-begins.ensures ∙ c.if-begins-2.false,
       sym c.begins-else-begins-2.ensures ∙ c.if-begins-3.true,
       sym c.words_from-after.ensures,
+    ) c.load_hex.ensures
+
+pub returns-then-begins-4 : goal.returns-then-begins-4
+unfolding by_memory_rows
+returns-then-begins-4 c =
+    rw (
+      sym c.begins.ensures ∙ c.if-begins.false,
+      sym c.begins-else-begins.ensures ∙ c.if-begins-2.false,
+      sym c.begins-else-begins-2.ensures ∙ c.if-begins-3.false,
+      sym c.begins-else-begins-3.ensures ∙ c.if-begins-4.true,
+      sym c.words_from-after.ensures,
+    ) c.read_word.ensures
+
+pub returns-then-begins-5 : goal.returns-then-begins-5
+unfolding by_memory_rows
+returns-then-begins-5 c =
+    rw (
+      sym c.begins.ensures ∙ c.if-begins.false,
+      sym c.begins-else-begins.ensures ∙ c.if-begins-2.false,
+      sym c.begins-else-begins-2.ensures ∙ c.if-begins-3.false,
+      sym c.begins-else-begins-3.ensures ∙ c.if-begins-4.false,
+      sym c.begins-else-begins-4.ensures ∙ c.if-begins-5.true,
+      sym c.words_from-after.ensures,
     ) c.write_word.ensures
+
+pub returns-else-begins-5 : goal.returns-else-begins-5
+unfolding by_memory_rows
+returns-else-begins-5 c =
+    rw (
+      sym c.begins.ensures ∙ c.if-begins.false,
+      sym c.begins-else-begins.ensures ∙ c.if-begins-2.false,
+      sym c.begins-else-begins-2.ensures ∙ c.if-begins-3.false,
+      sym c.begins-else-begins-3.ensures ∙ c.if-begins-4.false,
+      sym c.begins-else-begins-4.ensures ∙ c.if-begins-5.false,
+    ) c.by_emulation_words.ensures

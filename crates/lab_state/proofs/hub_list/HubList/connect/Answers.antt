@@ -11,7 +11,7 @@ use Rattle.lab_state.proofs.hub_list.HubList.connect.Goals as goal
 pub invariant_of-self : goal.invariant_of-self
 invariant_of-self c =
     let are = c.self.invariant.0 in
-    let long : length c.connect.new.self ≡ length c.self.inside.uarts = grind (arith, common_steps) in (
+    let long : length c.connect.new.self ≡ length c.self.inside.members = grind (arith, common_steps) in (
       parts _ _ (omega (arith, long, are.names_long, are.members_long)),
       omega (arith, long, c.self.invariant.1),
     )
@@ -21,7 +21,7 @@ returns-clause-ok c =
     let are = c.self.invariant.0 in
     on_ok_weaker c.connect.result
     (λ made. ap (hubs_of c.self.inside.names.items) made
-    ∙ hubs-connected c.self.inside.names.items c.self.inside.uarts c.args.n c.args.member
+    ∙ hubs-connected c.self.inside.names.items c.self.inside.members c.args.n c.args.member
     (sym are.names_long ∙ are.members_long)
     ∙ ap (λ hubs. change_at hubs c.args.n (with_member c.args.member)) c.self.view_is)
     c.connect.ensures.ok

@@ -8,7 +8,7 @@ use Rattle.lab_state.proofs.hub_list.HubList.members.Goals as goal
 pub returns-clause-value : goal.returns-clause-value
 returns-clause-value c =
     let are = rw c.self.view_is at c.self.invariant.0 in
-    let below : c.args.n < length c.self.inside.uarts = omega (arith, are.members_long) in
-    ap Some c.members.ensures.value ∙ sym (slice_get-get_or c.self.inside.uarts c.args.n [] below)
+    let below : c.args.n < length c.self.inside.members = omega (arith, are.members_long) in
+    ap Some c.members.ensures.value ∙ sym (slice_get-get_or c.self.inside.members c.args.n [] below)
     ∙ ap (λ (members : List (List Member)). slice_get members c.args.n) (sym are.members_are)
     ∙ slice_get-map (λ (hub : Hub). hub.members) c.args.self.now c.args.n

@@ -1,5 +1,5 @@
 -- There are devices for the plan, and they are there again where it is refused.
-use Rattle.std.proofs.Common.{◌≡◌, ◌∙◌, ap, false, ◌<◌, length, Some, arith}
+use Rattle.std.proofs.Common.{◌≡◌, ◌∙◌, ap, false, Some}
 use Rattle.board.specs.New.{new_board}
 use Rattle.board.specs.View.{State}
 use Rattle.lab_state.proofs.SoundLemmas.{seen_set, has-for, sound-fit, room-for, sound-back}

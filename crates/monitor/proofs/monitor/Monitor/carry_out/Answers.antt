@@ -15,7 +15,7 @@ returns-in_default g c =
     record {
       carried = λ place held told.
           rw (carried_alone run held s place c.args.command c.in_default.not-LoadPlatform c.in_default.not-LoadBinary
-          c.in_default.not-Include c.in_default.not-Quit)
+          c.in_default.not-LoadElf c.in_default.not-LoadHex c.in_default.not-Include c.in_default.not-Quit)
           (ruled_is_carried (ruled run s c.args.command) place c.carry_out_alone.result c.args.self.now
           c.carry_out_alone.new.self (g.F.Files.asked c.args.files.now) is);
       leaves = ruled_leaves (ruled run s c.args.command) c.carry_out_alone.result c.args.self.now

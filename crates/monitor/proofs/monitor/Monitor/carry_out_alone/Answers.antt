@@ -5,3 +5,6 @@ returns-in-Select g c = rw (c.in-Select.is, ← c.as_str.ensures) c.select.ensur
 
 pub returns-in-UartHub : goal.returns-in-UartHub
 returns-in-UartHub g c = rw (c.in-UartHub.is, ← c.as_str-in-UartHub.ensures) c.uart_hub.ensures
+
+pub returns-in-CanHub : goal.returns-in-CanHub
+returns-in-CanHub g c = rw (c.in-CanHub.is, ← c.as_str-in-CanHub.ensures) c.can_hub.ensures

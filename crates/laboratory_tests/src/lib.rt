@@ -1,0 +1,5 @@
+//! Tests of laboratories.
+#![tactic(auto)]
+
+#[cfg(test)]
+mod laboratories;

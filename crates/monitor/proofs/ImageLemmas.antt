@@ -1,0 +1,343 @@
+-- Images that commands load.
+use Rattle.std.proofs.Common.{◌≡◌, ◌∙◌, ℕ, zero, suc, ◌+◌, ◌<◌, ◌≤◌, ◌^◌, ◌&&◌, nat_lt, nat_le, Bool, true, false, List, [], ◌∷◌}
+use Rattle.std.proofs.Common.{◌++◌, length, take, get_or, replicate, Option, None, Some, Result, Ok, Err, Vec, refl, sym, ap}
+use Rattle.std.proofs.Common.{append-nil, subst, arith}
+use Rattle.std.specs.Prelude.{IsSome}
+use Rattle.std.specs.FinMap.{get}
+use Rattle.std.specs.Global.{Global}
+use Rattle.std.specs.List.{fold, list_all, range_with_len}
+use Rattle.std.specs.Option.{ForSome, option_map}
+use Rattle.std.proofs.lemmas.Bool.{and_parts}
+use Rattle.std.proofs.lemmas.Bool.Decides.{nat_tests}
+use Rattle.std.proofs.lemmas.List.Sums.{fold_more}
+use Rattle.elf_load.specs.declared.image.Image.{Image}
+use Rattle.elf_load.specs.declared.image.Part.{Part}
+use Rattle.elf_load.specs.Map.{contents}
+use Rattle.lab_io.specs.Held.{Held}
+use Rattle.lab_io.specs.Known.{grown}
+use Rattle.sys_bus.specs.declared.region.Target.{Target}
+use Rattle.sys_bus.specs.declared.region.Target.TheVariants.{Ram, Clint, Plic, Dev, Nothing}
+use Rattle.sys_bus.specs.Region.{target_of}
+use Rattle.board.specs.Changes.{copied, holds_each, in_memory, is_memory, put_byte, put_in, with_bytes}
+use Rattle.board.specs.Space.{Space, target_at}
+use Rattle.board.specs.View.{View}
+use Rattle.lab_state.specs.Board.{Board}
+use Rattle.lab_state.specs.Change.{change_at}
+use Rattle.lab_state.specs.Lab.{Lab}
+use Rattle.lab_state.specs.One.{changed, view_at, view_of, with_view}
+use Rattle.monitor.specs.declared.fault.Cause.{Cause}
+use Rattle.monitor.specs.declared.stop.Stop.{Stop}
+use Rattle.monitor.specs.declared.stop.Stop.TheVariants.{Quit, Line, File, Content, Unread, Memory}
+use Rattle.monitor.specs.Answer.{Answer, Faults, answer_at, reads, told_at, with_file}
+use Rattle.monitor.specs.Images.{holds_part, is_entry, load_file, load_image, load_read, size, with_entry, with_part}
+use Rattle.monitor.specs.Images.{with_parts}
+use Rattle.monitor.specs.Inner.Ruling.{IsBoard, IsCarried, IsChanged, IsFile, IsImage, IsOnward, IsRuled}
+use Rattle.monitor.specs.Selected.{Equipped, equipped}
+use Rattle.monitor.specs.State.{State, Place}
+use Rattle.monitor.specs.Step.{Running}
+use Rattle.monitor.proofs.Ruled.{file_stops, fits, ruled_answer}
+
+-- how a board goes on with the bytes of a file
+abbrev use_bytes :
+    {F : Type 0} → (List ℕ → Result Image F) → (F → Cause) → State → Place → Equipped → List ℕ → Answer
+use_bytes image_of cause s place on bytes = load_read cause s place on (image_of bytes)
+
+abbrev use_on :
+    {F : Type 0} → (List ℕ → Result Image F) → (F → Cause) → Held → State → Place → List ℕ → Equipped → Answer
+use_on image_of cause held s place path on = with_file place (get held path) (use_bytes image_of cause s place on)
+
+-- the file was not read in full
+pub image_stops :
+    {F : Type 0} (image_of : List ℕ → Result Image F) (cause : F → Cause) (held : Held) (s : State) (place : Place)
+    (path : List ℕ) (b : ℕ) (stop : Stop) (after : State) (log log' : Option (List (List ℕ))) →
+    IsBoard s (equipped s) b → IsFile (get held path) path (Err stop) log log' →
+    IsCarried (load_file image_of cause held s place path) place (Err stop) after log log'
+image_stops image_of cause held s place path b stop after log log' is file =
+    let on : Equipped = record { number = b; view = is.view } in
+    let use_ = use_on image_of cause held s place path in
+    subst (λ meant. IsCarried (reads place path meant use_) place (Err stop) after log log') (sym is.on)
+    (file_stops (reads place path (Ok on) use_) place path (get held path) (use_bytes image_of cause s place on) stop
+    after log log' refl refl file)
+
+-- what is answered to a file that was read in full
+read_answer :
+    {F : Type 0} (image_of : List ℕ → Result Image F) (cause : F → Cause) (held : Held) (s : State) (place : Place)
+    (path : List ℕ) (on : Equipped) (bytes : List ℕ) (meant : Result Image F) →
+    get held path ≡ Some bytes → length bytes ≤ 16777216 → image_of bytes ≡ meant →
+    use_on image_of cause held s place path on ≡ load_read cause s place on meant
+read_answer image_of cause held s place path on bytes meant there few is =
+    ap (λ content. with_file place content (use_bytes image_of cause s place on)) there
+    ∙ fits place bytes (use_bytes image_of cause s place on) few
+    ∙ ap (load_read cause s place on) is
+
+-- the file was read, and is refused for what stands in it
+refused_on :
+    {F : Type 0} (image_of : List ℕ → Result Image F) (cause : F → Cause) (held : Held) (s : State) (place : Place)
+    (path : List ℕ) (on : Equipped) (bytes : List ℕ) (stop : Stop) (after : State)
+    (log log' : Option (List (List ℕ))) →
+    get held path ≡ Some bytes → length bytes ≤ 16777216 → log' ≡ grown log (path ∷ []) →
+    IsImage cause (image_of bytes) (Err stop) →
+    IsCarried (reads place path (Ok on) (use_on image_of cause held s place path)) place (Err stop) after log log'
+refused_on image_of cause held s place path on bytes Quit after log log' there few asked is = absurd is
+refused_on image_of cause held s place path on bytes (Line told) after log log' there few asked is = absurd is
+refused_on image_of cause held s place path on bytes (File told) after log log' there few asked is = absurd is
+refused_on image_of cause held s place path on bytes (Content told) after log log' there few asked is = (
+  read_answer image_of cause held s place path on bytes (Err is.0) there few is.1
+      ∙ ap (λ told. Faults (told_at place told)) (sym is.2),
+  asked,
+)
+refused_on image_of cause held s place path on bytes Unread after log log' there few asked is = absurd is
+refused_on image_of cause held s place path on bytes Memory after log log' there few asked is =
+    record { passed = path ∷ []; coming = []; all = refl; asked = asked }
+
+pub image_refused :
+    {F : Type 0} (image_of : List ℕ → Result Image F) (cause : F → Cause) (held : Held) (s : State) (place : Place)
+    (path : List ℕ) (b : ℕ) (bytes : List ℕ) (stop : Stop) (after : State) (log log' : Option (List (List ℕ))) →
+    IsBoard s (equipped s) b → get held path ≡ Some bytes → length bytes ≤ 16777216 → log' ≡ grown log (path ∷ []) →
+    IsImage cause (image_of bytes) (Err stop) →
+    IsCarried (load_file image_of cause held s place path) place (Err stop) after log log'
+image_refused image_of cause held s place path b bytes stop after log log' is there few asked image =
+    let on : Equipped = record { number = b; view = is.view } in
+    let use_ = use_on image_of cause held s place path in
+    subst (λ meant. IsCarried (reads place path meant use_) place (Err stop) after log log') (sym is.on)
+    (refused_on image_of cause held s place path on bytes stop after log log' there few asked image)
+
+-- the file was read as an image, and that is loaded, or not
+pub image_goes :
+    {F : Type 0} (image_of : List ℕ → Result Image F) (cause : F → Cause) (held : Held) (s : State) (place : Place)
+    (path : List ℕ) (b : ℕ) (bytes : List ℕ) (image : Image) (result : Result (Vec ℕ Global) Stop) (old new : Running)
+    (log log' : Option (List (List ℕ))) →
+    IsBoard s (equipped s) b → get held path ≡ Some bytes → length bytes ≤ 16777216 → log' ≡ grown log (path ∷ []) →
+    image_of bytes ≡ Ok image →
+    ForSome (view_of s.lab b) (λ v. IsRuled (load_image s (record { number = b; view = v }) image) result old new) →
+    IsCarried (load_file image_of cause held s place path) place result new.state log log'
+image_goes image_of cause held s place path b bytes image result old new log log' is there few asked meant ruled =
+    let on : Equipped = record { number = b; view = is.view } in
+    let use_ = use_on image_of cause held s place path in
+    subst (λ meant. IsCarried (reads place path meant use_) place result new.state log log') (sym is.on)
+    (ruled_answer (reads place path (Ok on) use_) place (load_image s on image) result old new log log'
+    (read_answer image_of cause held s place path on bytes (Ok image) there few meant) asked
+    (ruled is.view is.seen))
+
+-- a place of a list that is changed twice
+change_twice :
+    {A : Type 0} (xs : List A) (i : ℕ) (f g h : A → A) → ((x : A) → g (f x) ≡ h x) →
+    change_at (change_at xs i f) i g ≡ change_at xs i h
+change_twice [] i f g h same = refl
+change_twice (x ∷ xs) zero f g h same = ap (λ y. y ∷ xs) (same x)
+change_twice (x ∷ xs) (suc i) f g h same = ap (λ ys. x ∷ ys) (change_twice xs i f g h same)
+
+map_twice :
+    {A : Type 0} (x : Option A) (f g h : A → A) → ((a : A) → g (f a) ≡ h a) →
+    option_map g (option_map f x) ≡ option_map h x
+map_twice None f g h same = refl
+map_twice (Some a) f g h same = ap Some (same a)
+
+-- a board that is changed twice
+pub changed_twice :
+    (lab : Lab) (b : ℕ) (f g h : View → View) → ((v : View) → g (f v) ≡ h v) →
+    changed (changed lab b f) b g ≡ changed lab b h
+changed_twice lab b f g h same =
+    ap (λ boards. record lab { boards = boards })
+    (change_twice lab.boards b (with_view f) (with_view g) (with_view h)
+    (λ board. ap (λ view. record board { view = view }) (map_twice board.view f g h same)))
+
+view_at_changed :
+    (boards : List Board) (b : ℕ) (f : View → View) →
+    view_at (change_at boards b (with_view f)) b ≡ option_map f (view_at boards b)
+view_at_changed [] b f = refl
+view_at_changed (board ∷ boards) zero f = refl
+view_at_changed (board ∷ boards) (suc b) f = view_at_changed boards b f
+
+-- what stands under the number of a board that was changed
+pub view_of_changed :
+    (lab : Lab) (b : ℕ) (f : View → View) → view_of (changed lab b f) b ≡ option_map f (view_of lab b)
+view_of_changed lab b f = view_at_changed lab.boards b f
+
+-- a board that is changed to what it is
+change_none : {A : Type 0} (xs : List A) (i : ℕ) (f : A → A) → ((x : A) → f x ≡ x) → change_at xs i f ≡ xs
+change_none [] i f same = refl
+change_none (x ∷ xs) zero f same = ap (λ y. y ∷ xs) (same x)
+change_none (x ∷ xs) (suc i) f same = ap (λ ys. x ∷ ys) (change_none xs i f same)
+
+map_none : {A : Type 0} (x : Option A) (f : A → A) → ((a : A) → f a ≡ a) → option_map f x ≡ x
+map_none None f same = refl
+map_none (Some a) f same = ap Some (same a)
+
+pub unchanged :
+    (b : ℕ) (f : View → View) (old : Running) → ((v : View) → f v ≡ v) → IsChanged b f old old
+unchanged b f old same =
+    ap (λ boards. record old { state = record old.state { lab = record old.state.lab { boards = boards } } })
+    (sym (change_none old.state.lab.boards b (with_view f)
+    (λ board. ap (λ view. record board { view = view }) (map_none board.view f same))))
+
+-- a board is changed behind a change
+pub changed_more :
+    (b : ℕ) (f g h : View → View) (old mid new : Running) → ((v : View) → g (f v) ≡ h v) →
+    IsChanged b f old mid → IsChanged b g mid new → IsChanged b h old new
+changed_more b f g h old mid new same first second =
+    second
+    ∙ ap (λ (r : Running). record r { state = record r.state { lab = changed r.state.lab b g } }) first
+    ∙ ap (λ lab. record old { state = record old.state { lab = lab } }) (changed_twice old.state.lab b f g h same)
+
+change_same :
+    {A : Type 0} (xs : List A) (i : ℕ) (f g : A → A) → ((x : A) → f x ≡ g x) → change_at xs i f ≡ change_at xs i g
+change_same [] i f g same = refl
+change_same (x ∷ xs) zero f g same = ap (λ y. y ∷ xs) (same x)
+change_same (x ∷ xs) (suc i) f g same = ap (λ ys. x ∷ ys) (change_same xs i f g same)
+
+map_same : {A : Type 0} (x : Option A) (f g : A → A) → ((a : A) → f a ≡ g a) → option_map f x ≡ option_map g x
+map_same None f g same = refl
+map_same (Some a) f g same = ap Some (same a)
+
+-- the same change in other words
+pub changed_same :
+    (b : ℕ) (f g : View → View) (old new : Running) → ((v : View) → f v ≡ g v) → IsChanged b f old new →
+    IsChanged b g old new
+changed_same b f g old new same is =
+    is
+    ∙ ap (λ boards. record old { state = record old.state { lab = record old.state.lab { boards = boards } } })
+    (change_same old.state.lab.boards b (with_view f) (with_view g)
+    (λ board. ap (λ view. record board { view = view }) (map_same board.view f g same)))
+
+some_map : {A : Type 0} (x : Option A) (f : A → A) → IsSome x → IsSome (option_map f x)
+some_map None f is = is
+some_map (Some a) f is = is
+
+-- the board that was changed has its platform
+pub some_changed :
+    (lab new : Lab) (b : ℕ) (f : View → View) → new ≡ changed lab b f → IsSome (view_of lab b) →
+    IsSome (view_of new b)
+some_changed lab new b f is some = rw (is, view_of_changed lab b f) (some_map (view_of lab b) f some)
+
+for_some_map :
+    {A : Type 0} (x : Option A) (f : A → A) (P : A → Type 0) → ForSome x (λ a. P (f a)) → ForSome (option_map f x) P
+for_some_map None f P each = λ a is. absurd (cc)
+for_some_map (Some a) f P each = λ changed is. let same : f a ≡ changed = cc in subst P same (each a refl)
+
+-- what holds of the board after a change
+pub for_changed :
+    (lab new : Lab) (b : ℕ) (f : View → View) (P : View → Type 0) → new ≡ changed lab b f →
+    ForSome (view_of lab b) (λ v. P (f v)) → ForSome (view_of new b) P
+for_changed lab new b f P is each =
+    rw (is, view_of_changed lab b f) (for_some_map (view_of lab b) f P each)
+
+-- a board goes on where it is
+pub no_entry : (entry : Option ℕ) (v : View) → ((pc : ℕ) → entry ≡ Some pc → ⊥) → with_entry v entry ≡ v
+no_entry None v none = refl
+no_entry (Some pc) v none = absurd (none pc refl)
+
+-- of items that all pass each does
+pub each_of_all :
+    {A : Type 0} (p : A → Bool) (xs : List A) (i : ℕ) (d : A) → list_all p xs ≡ true → i < length xs →
+    p (get_or xs i d) ≡ true
+each_of_all p [] i d all within = absurd (omega (arith, within))
+each_of_all p (x ∷ xs) zero d all within = (and_parts (p x) (list_all p xs) all).0
+each_of_all p (x ∷ xs) (suc i) d all within =
+    each_of_all p xs i d (and_parts (p x) (list_all p xs) all).1 (omega (arith, within))
+
+-- bytes that are copied leave the plan, and so what holds a byte
+pub plan_put : (s : Space) (byte : ℕ) (target : Target) → (put_in s byte target).plan ≡ s.plan
+plan_put s byte (Ram part at) = refl
+plan_put s byte (Dev dev at) = refl
+plan_put s byte (Clint at) = refl
+plan_put s byte (Plic at) = refl
+plan_put s byte Nothing = refl
+
+pub plan_copied : (s : Space) (at : ℕ) (bytes : List ℕ) → (copied s at bytes).plan ≡ s.plan
+plan_copied s at [] = refl
+plan_copied s at (byte ∷ bytes) =
+    plan_copied (put_byte s at byte) (at + 1) bytes ∙ plan_put s byte (target_at s at 1)
+
+pub still_held :
+    (s : Space) (from : ℕ) (bytes : List ℕ) (at count : ℕ) →
+    holds_each (copied s from bytes) at count ≡ holds_each s at count
+still_held s from bytes at count =
+    ap (λ plan. list_all (λ a. is_memory (target_of plan.regions a 1)) (range_with_len at count))
+    (plan_copied s from bytes)
+
+-- bytes, and others behind them
+pub copied_behind :
+    (s : Space) (at : ℕ) (xs ys : List ℕ) → copied s at (xs ++ ys) ≡ copied (copied s at xs) (at + length xs) ys
+copied_behind s at [] ys = let same : at + 0 ≡ at = omega arith in rw same refl
+copied_behind s at (x ∷ xs) ys =
+    let same : at + suc (length xs) ≡ at + 1 + length xs = omega arith in
+    rw same (copied_behind (put_byte s at x) (at + 1) xs ys)
+
+-- a range of addresses in two pieces
+pub held_pieces :
+    (p : ℕ → Bool) (at m n : ℕ) → list_all p (range_with_len at (m + n)) ≡ true →
+    (list_all p (range_with_len at m) ≡ true) × (list_all p (range_with_len (at + m) n) ≡ true)
+held_pieces p at zero n all =
+    let same : at + 0 ≡ at = omega arith in
+    let none : 0 + n ≡ n = omega arith in
+    (refl, rw same (subst (λ m. list_all p (range_with_len at m) ≡ true) none all))
+held_pieces p at (suc m) n all =
+    let longer : suc m + n ≡ suc (m + n) = omega arith in
+    let both = and_parts (p at) (list_all p (range_with_len (at + 1) (m + n)))
+    (subst (λ k. list_all p (range_with_len at k) ≡ true) longer all) in
+    let rest = held_pieces p (at + 1) m n both.1 in
+    let same : at + suc m ≡ at + 1 + m = omega arith in
+    (rw (both.0, rest.0) refl, rw same rest.1)
+
+-- a part that has its places: its bytes, and its zeros behind them
+pub part_pieces :
+    (v : View) (part : Part) → holds_part v part ≡ true →
+    (size part < 2 ^ 32) × (part.at + size part ≤ 2 ^ 32)
+    × (holds_each v.space part.at (length part.bytes) ≡ true)
+    × (holds_each v.space (part.at + length part.bytes) part.zeros ≡ true)
+part_pieces v part is =
+    let few = nat_lt (size part) (2 ^ 32) in
+    let below = nat_le (part.at + size part) (2 ^ 32) in
+    let both = and_parts (few && below) (holds_each v.space part.at (size part)) is in
+    let numbers = and_parts few below both.0 in
+    let pieces = held_pieces (in_memory v.space) part.at (length part.bytes) part.zeros both.1 in
+    (grind (arith, nat_tests, numbers.0), grind (arith, nat_tests, numbers.1), pieces.0, pieces.1)
+
+-- the addresses of a part that has its places are below 2^32
+pub part_numbers :
+    (view : Option View) (part : Part) → IsSome view → ForSome view (λ v. holds_part v part ≡ true) →
+    (size part < 2 ^ 32) × (part.at + size part ≤ 2 ^ 32)
+part_numbers None part some holds = cc some
+part_numbers (Some v) part some holds = let pieces = part_pieces v part (holds v refl) in (pieces.0, pieces.1)
+
+-- a part is its bytes with its zeros behind them
+pub part_of_pieces :
+    (v : View) (part : Part) →
+    with_bytes (with_bytes v part.at part.bytes) (part.at + length part.bytes) (replicate part.zeros 0)
+    ≡ with_part v part
+part_of_pieces v part =
+    ap (λ space. record v { space = space }) (sym (copied_behind v.space part.at part.bytes (replicate part.zeros 0)))
+
+pub part_without_zeros :
+    (v : View) (part : Part) → part.zeros ≡ 0 → with_bytes v part.at part.bytes ≡ with_part v part
+part_without_zeros v part none =
+    ap (with_bytes v part.at) (sym (append-nil part.bytes) ∙ ap (λ n. part.bytes ++ replicate n 0) (sym none))
+
+-- a part is loaded behind others
+pub parts_more :
+    (v : View) (parts : List Part) (i : ℕ) (part : Part) → i < length parts →
+    with_part (with_parts v (take i parts)) (get_or parts i part) ≡ with_parts v (take (i + 1) parts)
+parts_more v parts i part within = sym (fold_more with_part v parts i part within)
+
+-- parts leave what holds a byte
+pub part_still :
+    (v : View) (part other : Part) → holds_part (with_part v part) other ≡ holds_part v other
+part_still v part other =
+    ap (λ held. nat_lt (size other) (2 ^ 32) && nat_le (other.at + size other) (2 ^ 32) && held)
+    (still_held v.space part.at (contents part) other.at (size other))
+
+pub parts_still :
+    (parts : List Part) (v : View) (other : Part) → holds_part (with_parts v parts) other ≡ holds_part v other
+parts_still [] v other = refl
+parts_still (part ∷ parts) v other = parts_still parts (with_part v part) other ∙ part_still v part other
+
+-- an image that has its places was loaded
+pub image_rules :
+    (old new : Running) (b : ℕ) (view : View) (image : Image) (text : List ℕ) → old.spent ≡ false →
+    (list_all (holds_part view) image.parts && is_entry image.entry) ≡ true →
+    IsChanged b (λ v. with_entry (with_parts v image.parts) image.entry) old new → text ≡ [] →
+    (load_image old.state (record { number = b; view = view }) image ≡ Ok (record { text = text; state = new.state }))
+    × IsOnward old new
+image_rules old new b view image text unspent passes same none =
+    rw (same, none, passes) (refl, record { spent = unspent; ended = refl; flow = refl; kept = refl })

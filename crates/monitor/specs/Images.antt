@@ -1,0 +1,87 @@
+-- Commands that load images.
+use Rattle.std.specs.Prelude.{ℕ, ◌+◌, ◌%◌, ◌^◌, ◌==◌, ◌&&◌, nat_le, nat_lt, Bool, true, List, length}
+use Rattle.std.specs.Prelude.{Option, None, Some, Result, Ok, Err}
+use Rattle.std.specs.FinMap.{get}
+use Rattle.std.specs.List.{fold, list_all, slice_get}
+use Rattle.elf_load.specs.declared.image.Image.{Image}
+use Rattle.elf_load.specs.declared.image.Part.{Part}
+use Rattle.elf_load.specs.Image as elf
+use Rattle.elf_load.specs.Map.{contents}
+use Rattle.ihex_load.specs.Image as hex
+use Rattle.lab_io.specs.Held.{Held}
+use Rattle.sys_bus.specs.declared.region.Target.{Target}
+use Rattle.sys_bus.specs.declared.region.Target.TheVariants.{Ram, Clint, Plic, Dev, Nothing}
+use Rattle.board.specs.Changes.{holds_each, with_bytes, with_pc}
+use Rattle.board.specs.Space.{Space, memory_at, target_at}
+use Rattle.board.specs.View.{View}
+use Rattle.resc_vars.specs.declared.cause.ScriptCause.{ScriptCause}
+use Rattle.resc_vars.specs.declared.cause.ScriptCause.TheVariants.{Address}
+use Rattle.monitor.specs.declared.fault.Cause.{Cause}
+use Rattle.monitor.specs.declared.fault.Cause.TheVariants.{Elf, Hex}
+use Rattle.monitor.specs.Answer.{Answer, Faults, Did, Done, leaves, told_at, answer_at, reads, with_file}
+use Rattle.monitor.specs.Refusal.{◌>>=◌, require}
+use Rattle.monitor.specs.Selected.{Equipped, equipped, with_board}
+use Rattle.monitor.specs.State.{State, Place}
+
+-- how many bytes a part gives, its zeros among them
+abbrev pub size : Part → ℕ
+size part = length part.bytes + part.zeros
+
+-- Each byte of a part has its place in a memory. A part with as many bytes as there are addresses, or one that passes
+-- the last address, has a byte that no memory has.
+abbrev pub holds_part : View → Part → Bool
+holds_part v part =
+    nat_lt (size part) (2 ^ 32) && nat_le (part.at + size part) (2 ^ 32) && holds_each v.space part.at (size part)
+
+-- execution may begin at the entry, if there is one
+abbrev pub is_entry : Option ℕ → Bool
+is_entry None = true
+is_entry (Some pc) = pc % 4 == 0
+
+-- a board with the bytes and the zeros of a part in its memories
+abbrev pub with_part : View → Part → View
+with_part v part = with_bytes v part.at (contents part)
+
+-- a board with the parts of an image in its memories, one after another
+abbrev pub with_parts : View → List Part → View
+with_parts v parts = fold with_part v parts
+
+-- a board that goes on at the entry, if there is one
+abbrev pub with_entry : View → Option ℕ → View
+with_entry v None = v
+with_entry v (Some pc) = with_pc v pc
+
+-- an image is loaded, unless a byte, a zero or the entry is refused; then nothing is
+abbrev pub load_image : State → Equipped → Image → Result Done ScriptCause
+load_image s on image = do
+  fits ← require (list_all (holds_part on.view) image.parts && is_entry image.entry) Address
+  Ok (leaves (with_board s on (λ v. with_entry (with_parts v image.parts) image.entry)))
+
+-- the image of a file is loaded, or its fault is told at the line
+abbrev pub load_read : {F : Type 0} → (F → Cause) → State → Place → Equipped → Result Image F → Answer
+load_read cause s place on (Ok image) = answer_at place (load_image s on image)
+load_read cause s place on (Err fault) = Faults (told_at place (cause fault))
+
+abbrev pub load_file : {F : Type 0} → (List ℕ → Result Image F) → (F → Cause) → Held → State → Place → List ℕ → Did
+load_file image_of cause held s place path =
+    reads place path (equipped s) (λ on.
+    with_file place (get held path) (λ bytes. load_read cause s place on (image_of bytes)))
+
+-- sysbus LoadELF @path
+abbrev pub load_elf : Held → State → Place → List ℕ → Did
+load_elf held s place path = load_file elf.image_of (λ fault. Elf fault) held s place path
+
+-- sysbus LoadHEX @path: such an image has no entry, and the address of the next instruction stays
+abbrev pub load_hex : Held → State → Place → List ℕ → Did
+load_hex held s place path = load_file hex.image_of (λ fault. Hex fault) held s place path
+
+-- the byte of memory at an address, if a memory has it
+abbrev pub byte_of : Space → Target → Option ℕ
+byte_of s (Ram part at) = slice_get (memory_at s part) at
+byte_of s (Dev dev at) = None
+byte_of s (Clint at) = None
+byte_of s (Plic at) = None
+byte_of s Nothing = None
+
+abbrev pub byte_held : View → ℕ → Option ℕ
+byte_held v address = byte_of v.space (target_at v.space address 1)

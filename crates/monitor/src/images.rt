@@ -1,0 +1,185 @@
+//! Commands that load images.
+ghost use Rattle.std.specs.Prelude.{◌≡◌, ◌≤◌, false, Err, IfErr, IsSome, IsTrue, OnOk};
+ghost use Rattle.std.specs.List.{list_all};
+ghost use Rattle.std.specs.Option.{ForSome};
+ghost use Rattle.elf_load.specs.Image as elf;
+ghost use Rattle.ihex_load.specs.Image as hex;
+ghost use Rattle.lab_io.specs.Known.{Rose};
+ghost use Rattle.lab_state.specs.One.{view_of};
+ghost use Rattle.monitor.specs.Images as images;
+ghost use Rattle.monitor.specs.State.{Place};
+ghost use Rattle.monitor.specs.Inner.Ruling.{IsCarried, IsChanged, IsImage, IsRuled, Leaves, Told};
+
+use crate::fault::Cause;
+use crate::monitor::Monitor;
+use crate::read::read_file;
+use crate::stop::Stop;
+use dev_core::Device;
+use elf_load::{ElfFault, Image, Part, read_elf};
+use ihex_load::{HexFault, read_hex};
+use lab_io::Files;
+use lab_num::BoardNo;
+use resc_vars::ScriptCause;
+use std::alloc::Global;
+
+/// The image of an ELF file.
+fn elf_image(alloc: Global, file: &[u8]) -> Result<Image, Stop>
+    ensures { IsImage (λ fault. Cause.Elf fault) (elf.image_of file.now) result }
+{
+    match read_elf(alloc, file) {
+        Ok(image) => Ok(image),
+        Err(ElfFault::Memory) => Err(Stop::Memory),
+        Err(fault) => Err(Stop::Content(Cause::Elf(fault))),
+    }
+}
+
+/// The image of an Intel HEX file.
+fn hex_image(alloc: Global, file: &[u8]) -> Result<Image, Stop>
+    ensures { IsImage (λ fault. Cause.Hex fault) (hex.image_of file.now) result }
+{
+    match read_hex(alloc, file) {
+        Ok(image) => Ok(image),
+        Err(HexFault::Memory) => Err(Stop::Memory),
+        Err(fault) => Err(Stop::Content(Cause::Hex(fault))),
+    }
+}
+
+/// Whether execution may begin at an image's entry.
+fn is_entry(entry: Option<u32>) -> bool
+    ensures { result ≡ images.is_entry entry }
+{
+    match entry {
+        None => true,
+        Some(pc) => pc % 4 == 0,
+    }
+}
+
+impl<D: Device> Monitor<D> {
+    /// Whether each byte and each zero of a part has its place in a memory.
+    fn holds_part(&self, b: BoardNo, part: &Part) -> bool
+        requires unspent { self.now.spent ≡ false }
+        requires has_plan { IsSome (view_of self.now.state.lab b.0) }
+        ensures { ForSome (view_of self.now.state.lab b.0) (λ v.
+            result ≡ images.holds_part v part.now) }
+    {
+        let size = part.bytes.items().len() as u64 + u64::from(part.zeros);
+        if size > u64::from(u32::MAX) || u64::from(part.at) + size > 1 << 32 {
+            return false;
+        }
+        self.lab.board(b).holds(part.at, size as u32)
+    }
+
+    /// Whether each byte and each zero of some parts has its place in a memory.
+    fn holds_parts(&self, b: BoardNo, parts: &[Part]) -> bool
+        requires unspent { self.now.spent ≡ false }
+        requires has_plan { IsSome (view_of self.now.state.lab b.0) }
+        ensures { ForSome (view_of self.now.state.lab b.0) (λ v.
+            result ≡ list_all (images.holds_part v) parts.now) }
+    {
+        for part in parts {
+            if !self.holds_part(b, part) {
+                return false;
+            }
+        }
+        true
+    }
+
+    /// Loads the bytes and the zeros of a part. After an `Err` some of the bytes are loaded.
+    fn load_part(&mut self, b: BoardNo, part: &Part) -> Result<(), Stop>
+        requires unspent { self.old.spent ≡ false }
+        requires has_plan { IsSome (view_of self.old.state.lab b.0) }
+        requires holds { ForSome (view_of self.old.state.lab b.0) (λ v.
+            IsTrue (images.holds_part v part.now)) }
+        ensures ok { OnOk result
+            (IsChanged b.0 (λ v. images.with_part v part.now) self.old self.new) }
+        ensures err { IfErr result (λ stop. stop ≡ Stop.Memory) }
+        ensures ended { self.new.ended ≡ self.old.ended }
+    {
+        let bytes = part.bytes.items();
+        self.lab.copy_in(b, part.at, bytes)?;
+        if part.zeros > 0 {
+            self.lab.zero(b, part.at + bytes.len() as u32, part.zeros);
+        }
+        Ok(())
+    }
+
+    /// Loads parts one after another. After an `Err` some of their bytes are loaded.
+    fn load_parts(&mut self, b: BoardNo, parts: &[Part]) -> Result<(), Stop>
+        requires unspent { self.old.spent ≡ false }
+        requires has_plan { IsSome (view_of self.old.state.lab b.0) }
+        requires holds { ForSome (view_of self.old.state.lab b.0) (λ v.
+            IsTrue (list_all (images.holds_part v) parts.now)) }
+        ensures ok { OnOk result
+            (IsChanged b.0 (λ v. images.with_parts v parts.now) self.old self.new) }
+        ensures err { IfErr result (λ stop. stop ≡ Stop.Memory) }
+        ensures ended { self.new.ended ≡ self.old.ended }
+    {
+        for part in parts {
+            self.load_part(b, part)?;
+        }
+        Ok(())
+    }
+
+    /// Goes on at the entry of an image, if it has one.
+    fn set_entry(&mut self, b: BoardNo, entry: Option<u32>)
+        requires unspent { self.old.spent ≡ false }
+        requires has_plan { IsSome (view_of self.old.state.lab b.0) }
+        requires is_entry { IsTrue (images.is_entry entry) }
+        ensures { IsChanged b.0 (λ v. images.with_entry v entry) self.old self.new }
+    {
+        if let Some(pc) = entry {
+            self.lab.set_pc(b, pc);
+        }
+    }
+
+    /// Loads an image, and goes on at its entry if it has one.
+    fn load_image(&mut self, b: BoardNo, image: &Image) -> Result<Vec<u8>, Stop>
+        requires unspent { self.old.spent ≡ false }
+        requires has_plan { IsSome (view_of self.old.state.lab b.0) }
+        ensures { ForSome (view_of self.old.state.lab b.0) (λ v. IsRuled
+            (images.load_image self.old.state (record { number = b.0; view = v }) image.now)
+            result self.old self.new) }
+    {
+        let parts = image.parts.items();
+        if !self.holds_parts(b, parts) || !is_entry(image.entry) {
+            return Err(Stop::Line(ScriptCause::Address));
+        }
+        self.load_parts(b, parts)?;
+        self.set_entry(b, image.entry);
+        Ok(Vec::new(self.alloc))
+    }
+
+    /// Loads an ELF file.
+    pub(crate) fn load_elf<F: Files>(&mut self, files: &mut F, path: &str) -> Result<Vec<u8>, Stop>
+        requires unspent { self.old.spent ≡ false }
+        ensures carried { (place : Place) → Told (F.held files.old) (λ held.
+            IsCarried (images.load_elf held self.old.state place path.now) place
+            result self.new.state (F.asked files.old) (F.asked files.new)) }
+        ensures leaves { Leaves result self.old self.new }
+        ensures unread { result ≡ Err Stop.Unread → Rose (F.faults files.old) (F.faults files.new) }
+        ensures held { F.held files.new ≡ F.held files.old }
+        ensures faults { F.faults files.old ≤ F.faults files.new }
+    {
+        let b = self.equipped()?;
+        let bytes = read_file(self.alloc, files, path)?;
+        let image = elf_image(self.alloc, &bytes)?;
+        self.load_image(b, &image)
+    }
+
+    /// Loads an Intel HEX file.
+    pub(crate) fn load_hex<F: Files>(&mut self, files: &mut F, path: &str) -> Result<Vec<u8>, Stop>
+        requires unspent { self.old.spent ≡ false }
+        ensures carried { (place : Place) → Told (F.held files.old) (λ held.
+            IsCarried (images.load_hex held self.old.state place path.now) place
+            result self.new.state (F.asked files.old) (F.asked files.new)) }
+        ensures leaves { Leaves result self.old self.new }
+        ensures unread { result ≡ Err Stop.Unread → Rose (F.faults files.old) (F.faults files.new) }
+        ensures held { F.held files.new ≡ F.held files.old }
+        ensures faults { F.faults files.old ≤ F.faults files.new }
+    {
+        let b = self.equipped()?;
+        let bytes = read_file(self.alloc, files, path)?;
+        let image = hex_image(self.alloc, &bytes)?;
+        self.load_image(b, &image)
+    }
+}

@@ -1,0 +1,3 @@
+-- Lemmas of parcel.
+pub mod SlotLemmas
+pub mod TurnLemmas

@@ -1,0 +1,4 @@
+-- What contracts of parcel and of the crates above cite.
+pub mod Inner
+pub mod Parcel
+pub mod Slots
