@@ -1,7 +1,7 @@
 -- A board more in a generated laboratory.
 use Rattle.std.proofs.Common.{◌≡◌, ◌∙◌, ℕ, zero, suc, ◌+◌, ◌<◌, ◌^◌, ◌/◌, ◌%◌, List, [], ◌∷◌, ◌++◌, length, map, codes}
-use Rattle.std.proofs.Common.{Option, Some, None, slice_get, true, refl, sym, ap, arith, zero-add}
-use Rattle.std.specs.Prelude.{IsTrue, IsSome}
+use Rattle.std.proofs.Common.{Option, Some, None, slice_get, true, refl, sym, ap, subst, arith, zero-add}
+use Rattle.std.specs.Prelude.{IsTrue, IsSome, is_some}
 use Rattle.std.proofs.Common.{false, length-append}
 use Rattle.std.specs.Fmt.{decimal}
 use Rattle.std.specs.List.{list_all, range_with_len}
@@ -12,8 +12,11 @@ use Rattle.std.proofs.lemmas.List.Folds.{list_all-append}
 use Rattle.std.proofs.lemmas.List.FromFn.{length-map-range_with_len, map-range_with_len_more}
 use Rattle.lab_num.specs.Name.{is_name, is_name_byte}
 use Rattle.dev_core.specs.declared.kind.Kind.TheVariants.{Uart}
-use Rattle.board.specs.Changes.{holds_each, with_bytes, with_pc}
-use Rattle.board.specs.New.{new_board}
+use Rattle.sys_bus.specs.declared.region.Target.{Target}
+use Rattle.sys_bus.specs.declared.region.Target.TheVariants.{Ram, Clint, Plic, Dev, Nothing}
+use Rattle.board.specs.Changes.{copied, holds_each, put_byte, put_in, with_bytes, with_pc}
+use Rattle.board.specs.New.{new_board, new_space}
+use Rattle.board.specs.Space.{Space, target_at}
 use Rattle.board.specs.View.{View}
 use Rattle.lab_state.specs.Board.{Board}
 use Rattle.lab_state.specs.Change.{change_at}
@@ -67,13 +70,29 @@ view_changed (board ∷ boards) zero f = refl
 view_changed (board ∷ boards) (suc b) f = view_changed boards b f
 
 still_some : (o : Option View) (f : View → View) → IsSome o → IsSome (option_map f o)
-still_some (Some v) f is = tt
-still_some None f is = absurd is
+still_some (Some v) f is = refl
+still_some None f is = absurd (cc)
 
 pub changed_has :
     (boards : List Board) (b : ℕ) (f : View → View) → IsSome (view_at boards b) →
     IsSome (view_at (change_at boards b (with_view f)) b)
 changed_has boards b f is = rw (view_changed boards b f) (still_some (view_at boards b) f is)
+
+for_some : {A : Type 0} (a : A) (P : A → Type 0) → P a → ForSome (Some a) P
+for_some a P holds = λ other is. let same : a ≡ other = cc in subst P same holds
+
+-- bytes that are copied leave the plan
+plan_put : (s : Space) (byte : ℕ) (target : Target) → (put_in s byte target).plan ≡ s.plan
+plan_put s byte (Ram part at) = refl
+plan_put s byte (Dev dev at) = refl
+plan_put s byte (Clint at) = refl
+plan_put s byte (Plic at) = refl
+plan_put s byte Nothing = refl
+
+plan_copied : (s : Space) (at : ℕ) (bytes : List ℕ) → (copied s at bytes).plan ≡ s.plan
+plan_copied s at [] = refl
+plan_copied s at (byte ∷ bytes) =
+    plan_copied (put_byte s at byte) (at + 1) bytes ∙ plan_put s byte (target_at s at 1)
 
 -- ---- a board more
 
@@ -122,13 +141,14 @@ fitted_last seed n s s' is so =
     (change_last (boards_of seed n) n (bare n) (equip n) (length-map-range_with_len (board seed) 0 n)))
 
 pub fitted_has : (seed n : ℕ) (s : Seen) → IsWith seed n (equip n (bare n)) s → IsSome (view_of s.lab n)
-fitted_has seed n s is = rw (is, last_view seed n (equip n (bare n))) tt
+fitted_has seed n s is = rw (is, last_view seed n (equip n (bare n))) refl
 
 pub fitted_holds :
     (seed n : ℕ) (s : Seen) (bytes : List ℕ) → IsWith seed n (equip n (bare n)) s → bytes ≡ program seed n →
     ForSome (view_of s.lab n) (λ v. IsTrue (holds_each v.space 0x80000000 (length bytes)))
 fitted_holds seed n s bytes is are =
-    rw (is, are, last_view seed n (equip n (bare n)), program_length seed n) tt
+    rw (is, are, last_view seed n (equip n (bare n)), program_length seed n)
+    (for_some (new_board n plan) (λ v. holds_each v.space 0x80000000 92 ≡ true) refl)
 
 -- it gets its program
 pub loaded_last :
@@ -148,7 +168,9 @@ loaded_last seed n s s' bytes is are so =
 -- it has a UART then
 pub last_has_uart :
     (seed n : ℕ) (s : Seen) → IsWith seed n (board seed n) s → IsSome (kind_at s.lab.boards (uart_of n))
-last_has_uart seed n s is = rw (is, last_view seed n (board seed n)) tt
+last_has_uart seed n s is =
+    rw (is, last_view seed n (board seed n))
+    (ap (λ plan. is_some (slice_get plan.kinds 0)) (plan_copied (new_space plan) 0x80000000 (program seed n)))
 
 pub first_hub :
     (seed n : ℕ) (s : Seen) → IsWith seed n (board seed n) s → hub_named s.lab (codes "hub") ≡ Some 0

@@ -30,21 +30,27 @@ assembled text words is = rw is (each_word words)
 -- ---- the two texts
 
 pub head_assembles : find (λ line. is_fault line.1) (given (lines_of head)) ≡ None
-unfolding head encoded row_of op_named target_of branch_word jump_word mnemonic_in operands_in plain_word labelled_word line_word gives_word operand_and register_and place_of registers_word immediate_word load_word store_word operands.upper_word two_registers_and trimmed
+unfolding head encoded row_of op_named target_of branch_word jump_word mnemonic_in operands_in plain_word
+    labelled_word line_word gives_word operand_and register_and place_of registers_word immediate_word load_word
+    store_word operands.upper_word two_registers_and trimmed
 head_assembles = refl
 
 pub tail_assembles : find (λ line. is_fault line.1) (given (lines_of tail)) ≡ None
-unfolding tail encoded row_of op_named target_of branch_word jump_word mnemonic_in operands_in plain_word labelled_word line_word gives_word operand_and register_and place_of registers_word immediate_word load_word store_word operands.upper_word two_registers_and trimmed
+unfolding tail encoded row_of op_named target_of branch_word jump_word mnemonic_in operands_in plain_word
+    labelled_word line_word gives_word operand_and register_and place_of registers_word immediate_word load_word
+    store_word operands.upper_word two_registers_and trimmed
 tail_assembles = refl
 
 -- ---- the whole program
 
 pub joined :
     (start upper rest : ℕ) → upper_word start ≡ Some upper → rest_word start ≡ Some rest →
-    words start ≡ words_of head ++ ((upper ∷ []) ++ ((rest ∷ []) ++ words_of tail))
+    words start ≡ words_of head ++ (upper ∷ []) ++ (rest ∷ []) ++ words_of tail
 joined start upper rest upper_is rest_is = rw (upper_is, rest_is) refl
 
 -- it has 23 words
 pub program_length : (seed board : ℕ) → length (program seed board) ≡ 92
-unfolding program words_of head tail encoded row_of op_named target_of branch_word jump_word mnemonic_in operands_in plain_word labelled_word line_word gives_word operand_and register_and place_of registers_word immediate_word load_word store_word operands.upper_word two_registers_and trimmed
+unfolding program words_of head tail encoded row_of op_named target_of branch_word jump_word mnemonic_in operands_in
+    plain_word labelled_word line_word gives_word operand_and register_and place_of registers_word immediate_word
+    load_word store_word operands.upper_word two_registers_and trimmed
 program_length seed board = refl

@@ -1,3 +1,4 @@
+use Rattle.std.proofs.Common.{refl}
 use Rattle.lab_gen.proofs.MoreBoards.{count_is, last_has_uart, first_hub, joined_last}
 use Rattle.lab_gen.proofs.boards.add_board.Goals as goal
 

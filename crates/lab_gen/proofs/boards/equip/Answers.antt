@@ -1,3 +1,4 @@
+use Rattle.std.proofs.Common.{◌∙◌}
 use Rattle.lab_gen.proofs.MoreBoards.{last_exists, fitted_last, fitted_has, fitted_holds, loaded_last}
 use Rattle.lab_gen.proofs.boards.equip.Goals as goal
 
@@ -15,4 +16,4 @@ load-requires-clause-holds g c =
 pub returns : goal.returns
 returns g c =
     loaded_last _ _ _ _ _ (fitted_last _ _ _ _ c.requires c.in_ok-fit_plan.ensures)
-    (rw c.deref.ensures.value c.in_ok-bytes.ensures) c.in_ok-load.ensures
+    (c.deref.ensures.value ∙ c.in_ok-bytes.ensures) c.in_ok-load.ensures
