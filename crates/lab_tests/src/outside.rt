@@ -23,8 +23,6 @@ fn other_words_are_answered_by_the_usage_line(rt: HostRuntime) -> Result<(), Fai
         ("s.resc", UsageCause::Command),
         ("help", UsageCause::Command),
         ("--help", UsageCause::Command),
-        ("gen", UsageCause::Command),
-        ("gen 7 16", UsageCause::Command),
         ("run", UsageCause::Words),
         ("run -h", UsageCause::Words),
         ("run s.resc t.resc", UsageCause::Words),
@@ -37,6 +35,15 @@ fn other_words_are_answered_by_the_usage_line(rt: HostRuntime) -> Result<(), Fai
         ("run s.resc --until 10001", UsageCause::Value),
         ("check", UsageCause::Words),
         ("check s.resc --until 1", UsageCause::Words),
+        ("gen", UsageCause::Words),
+        ("gen 7", UsageCause::Words),
+        ("gen 7 16 1", UsageCause::Words),
+        ("gen -7 16", UsageCause::Words),
+        ("gen 7 16 --until 1", UsageCause::Words),
+        ("gen 7 0", UsageCause::Value),
+        ("gen 7 17", UsageCause::Value),
+        ("gen 7 16 --workers 9", UsageCause::Value),
+        ("gen 18446744073709551616 1", UsageCause::Value),
     ];
     for &(line, cause) in &rows {
         let mut files = files(rt.alloc())?;

@@ -30,8 +30,9 @@ use Rattle.lab_top.specs.declared.status.Status.TheVariants as end_by
 use Rattle.lab_top.specs.Content.{Content, Readable, Faulty, bytes_content, content_of, whole}
 use Rattle.lab_top.specs.Headline.{OnRefused, WritesUsage}
 use Rattle.lab_top.specs.Request as asked_by
-use Rattle.lab_top.specs.Request.{Refused, by_reading, request_of}
-use Rattle.lab_top.specs.Transcript.{Usage, Script, rest_of, begun, run_of, transcript}
+use Rattle.lab_top.specs.Request.{Refused, Gen, by_reading, request_of}
+use Rattle.lab_gen.specs.Summary.{summary_of}
+use Rattle.lab_top.specs.Transcript.{Done, Usage, Script, rest_of, begun, run_of, transcript}
 use Rattle.lab_top.specs.Inner.Course.{Told, Course, IsEnd}
 use Rattle.lab_top.specs.Inner.Opened.{IsContent, IsOpened, IsRefused}
 use Rattle.lab_top.specs.Inner.Words.{IsAsked}
@@ -146,6 +147,7 @@ unread_words (asked_by.Refused cause) out log = record {
   asked = refl;
 }
 unread_words (asked_by.Run script setting) out log = tt
+unread_words (asked_by.Gen seed boards) out log = tt
 
 -- the words were refused
 pub words_refused :
@@ -155,3 +157,13 @@ pub words_refused :
     Course (transcript words held) status out out' log log
 words_refused held words cause status out out' log is end =
     rw (is, transcript) (course_ended (Usage cause) status out out' log end)
+
+-- a generated laboratory was run and its summary written, or a part of it
+pub words_generated :
+    (held : Held) (words : List (List ℕ)) (seed boards : ℕ) (status : Status) (out out' : Option (List ℕ))
+    (log : Option (List (List ℕ))) →
+    request_of words ≡ Gen seed boards → IsEnd (summary_of run seed boards) Done status out out' →
+    Course (transcript words held) status out out' log log
+words_generated held words seed boards status out out' log is end =
+    rw (is, transcript)
+    (course_stopped [] (summary_of run seed boards) Done status out out' log log (sym (grown-nil log)) end)

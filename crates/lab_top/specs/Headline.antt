@@ -8,7 +8,7 @@ use Rattle.lab_io.specs.declared.sink.WriteFault.TheVariants as write_fault
 use Rattle.lab_top.specs.declared.status.Status.{Status}
 use Rattle.lab_top.specs.declared.status.Status.TheVariants.{Done, Memory, Usage, Script, Unread, Unwritten}
 use Rattle.lab_words.specs.Usage.{usage_line}
-use Rattle.lab_top.specs.Request.{Request, Refused, Run}
+use Rattle.lab_top.specs.Request.{Request, Refused, Run, Gen}
 use Rattle.lab_top.specs.Transcript.{Outcome, Read, Transcript}
 use Rattle.lab_top.specs.Transcript as run
 
@@ -93,6 +93,7 @@ IsNoUsage Unwritten = Unit {0}
 abbrev pub IsUsageBy : Request → Status → Type 0
 IsUsageBy (Refused cause) status = IfSome (final status) (λ outcome. outcome ≡ run.Usage cause)
 IsUsageBy (Run script setting) status = IsNoUsage status
+IsUsageBy (Gen seed boards) status = IsNoUsage status
 
 -- the usage line was written, or a front of it where that was cut short, and no name was asked for
 pub record WritesUsage (status : Status) (out out' : Option (List ℕ)) (log log' : Option (List (List ℕ))) : Type 0 where
@@ -107,3 +108,4 @@ pub record WritesUsage (status : Status) (out out' : Option (List ℕ)) (log log
 abbrev pub OnRefused : Request → Type 0 → Type 0
 OnRefused (Refused cause) P = P
 OnRefused (Run script setting) P = Unit {0}
+OnRefused (Gen seed boards) P = Unit {0}

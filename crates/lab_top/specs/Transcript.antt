@@ -1,6 +1,7 @@
 -- All that the program writes and reads, for any words and files.
 use Rattle.std.specs.Prelude.{ℕ, zero, suc, ◌+◌, List, [], ◌∷◌, ◌++◌, length, map, codes}
 use Rattle.std.specs.FinMap.{get}
+use Rattle.lab_gen.specs.Summary.{summary_of}
 use Rattle.lab_io.specs.Held.{Held}
 use Rattle.lab_state.specs.Names.{names as names_of}
 use Rattle.lab_state.specs.Run.{Play, run}
@@ -14,7 +15,7 @@ use Rattle.monitor.specs.Command.{did}
 use Rattle.monitor.specs.Fault.{fault_text}
 use Rattle.monitor.specs.State.{State, started}
 use Rattle.lab_top.specs.Content.{Content, Missing, Faulty, Readable, content_of}
-use Rattle.lab_top.specs.Request.{Request, Refused, Run, request_of}
+use Rattle.lab_top.specs.Request.{Request, Refused, Run, Gen, request_of}
 
 -- How a run ends that nothing from outside cuts short. It ends as absent where a name that it reads holds nothing.
 pub data Outcome : Type 0 where
@@ -92,10 +93,15 @@ begun play held script setting (Readable text) = rest_of play held (started scri
 abbrev pub run_of : Play → Held → List ℕ → Setting → Transcript
 run_of play held script setting = after (script ∷ []) [] (begun play held script setting (content_of script (get held script)))
 
+-- all that the run of a generated laboratory writes: its summary. It reads nothing.
+abbrev pub gen_of : Play → ℕ → ℕ → Transcript
+gen_of play seed boards = after [] (summary_of play seed boards) (ended Done)
+
 -- all that a request writes and reads
 abbrev pub answered : Play → Held → Request → Transcript
 answered play held (Refused cause) = ended (Usage cause)
 answered play held (Run script setting) = run_of play held script setting
+answered play held (Gen seed boards) = gen_of play seed boards
 
 -- all that the program writes and reads, for these words and files, where a laboratory plays a run so
 abbrev pub transcript_by : Play → List (List ℕ) → Held → Transcript

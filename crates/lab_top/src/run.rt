@@ -1,6 +1,7 @@
 //! The whole program, from the command words to the status.
 ghost use Rattle.std.specs.Prelude.{◌≡◌, ◌≢◌, ◌≤◌, ◌^◌, [], false, length, IfSome, map, string_bytes};
 ghost use Rattle.dev_core.specs.Stock.{IsFull};
+ghost use Rattle.lab_gen.specs.Summary.{summary_of};
 ghost use Rattle.lab_io.specs.Known.{Rose};
 ghost use Rattle.lab_state.specs.Names.{names};
 ghost use Rattle.lab_state.specs.Run.{run};
@@ -15,8 +16,9 @@ ghost use Rattle.lab_top.specs.Inner.Course.{Told, Course, IsEnd};
 
 use crate::script::{Opened, open};
 use crate::status::Status;
-use crate::words::{ScriptRun, read_request};
+use crate::words::{Asked, ScriptRun, read_request};
 use dev_core::{Device, Stock};
+use lab_gen::generate;
 use lab_io::{Files, Sink, write_whole};
 use lab_words::{UsageCause, WordsFault, usage_line};
 use monitor::{Monitor, ScriptFault, Setting, Step};
@@ -101,7 +103,8 @@ fn run_words<D: Device, F: Files, K: Sink>(
     ensures write_faults { K.faults out.old ≤ K.faults out.new }
 {
     match read_request(alloc, words) {
-        Ok(request) => run_file(alloc, request, files, out, stock),
+        Ok(Asked::Script(request)) => run_file(alloc, request, files, out, stock),
+        Ok(Asked::Generated { seed, boards }) => run_generated(alloc, seed, boards, out, stock),
         Err(WordsFault::Usage(cause)) => refuse_words(cause, out),
         Err(WordsFault::Memory) => Status::Memory,
     }
@@ -116,6 +119,34 @@ fn refuse_words<K: Sink>(cause: UsageCause, out: &mut K) -> Status
 {
     match write_whole(out, usage_line().as_bytes()) {
         Ok(()) => Status::Usage(cause),
+        Err(fault) => Status::from(fault),
+    }
+}
+
+/// Runs the laboratory of a seed and writes its summary.
+fn run_generated<D: Device, K: Sink>(
+    alloc: Global,
+    seed: u64,
+    boards: u8,
+    out: &mut K,
+    stock: Stock<D>,
+) -> Status
+    requires some { 1 ≤ boards }
+    requires few { boards ≤ 16 }
+    requires full { IsFull (map D.meaning stock.uarts.items) (map D.meaning stock.cans.items)
+        (map D.meaning stock.finishers.items) }
+    ensures course { IsEnd (summary_of run seed boards) Done
+        result (K.written out.old) (K.written out.new) }
+    ensures usage { IsNoUsage result }
+    ensures never { result ≢ Status.Unread }
+    ensures unwritten { result ≡ Status.Unwritten → Rose (K.faults out.old) (K.faults out.new) }
+    ensures faults { K.faults out.old ≤ K.faults out.new }
+{
+    let Ok(text) = generate(alloc, seed, boards, stock) else {
+        return Status::Memory;
+    };
+    match write_whole(out, &text) {
+        Ok(()) => Status::Done,
         Err(fault) => Status::from(fault),
     }
 }

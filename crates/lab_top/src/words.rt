@@ -1,11 +1,11 @@
-//! What the words ask for: a script, and how it is run.
-ghost use Rattle.std.specs.Prelude.{◌≡◌, ◌≤◌, IfOk, Ok, map, string_bytes};
+//! What the words ask for: a script and how it is run, or a generated laboratory.
+ghost use Rattle.std.specs.Prelude.{◌≡◌, IfOk, Ok, map, string_bytes};
 ghost use Rattle.lab_words.specs.Requests.{IsWithin};
-ghost use Rattle.lab_top.specs.Request.{by_reading, generates, request_of};
-ghost use Rattle.lab_top.specs.Inner.Words.{IsAsked};
+ghost use Rattle.lab_top.specs.Request.{by_reading, request_of};
+ghost use Rattle.lab_top.specs.Inner.Words.{IsAsked, IsInRange};
 
 use lab_num::{Micros, Text};
-use lab_words::{Request, UsageCause, WordsFault, read_words};
+use lab_words::{Request, WordsFault, read_words};
 use monitor::Setting;
 use std::alloc::Global;
 
@@ -16,44 +16,38 @@ pub(crate) struct ScriptRun {
     pub setting: Setting,
 }
 
-/// The script that the words ask for. No laboratory is generated yet.
-pub(crate) fn read_request(alloc: Global, words: &[String]) -> Result<ScriptRun, WordsFault>
+/// What the words ask for.
+#[derive(Drop)]
+pub(crate) enum Asked {
+    Script(ScriptRun),
+    /// The laboratory of a seed.
+    Generated { seed: u64, boards: u8 },
+}
+
+/// What the words ask for.
+pub(crate) fn read_request(alloc: Global, words: &[String]) -> Result<Asked, WordsFault>
     ensures read { IsAsked (request_of (map string_bytes words.now)) result }
-    ensures some_worker { IfOk result (λ run. 1 ≤ run.setting.workers) }
-    ensures few_workers { IfOk result (λ run. run.setting.workers ≤ 8) }
+    ensures range { IfOk result (λ asked. IsInRange asked) }
 {
-    if generates(words) {
-        return Err(WordsFault::Usage(UsageCause::Command));
-    }
     match read_words(alloc, words) {
-        Ok(request) => script_run(request),
+        Ok(request) => Ok(asked_by(request)),
         Err(fault) => Err(fault),
     }
 }
 
-/// Whether the words ask for a generated laboratory.
-fn generates(words: &[String]) -> bool
-    ensures { result ≡ generates (map string_bytes words.now) }
-{
-    match words {
-        [] => false,
-        [command, ..] => command.as_str() == "gen",
-    }
-}
-
-/// The script of a request.
-fn script_run(request: Request) -> Result<ScriptRun, WordsFault>
+/// What is to be done for a request. The number of workers is that of a script's setting, and none of
+/// a generated laboratory's.
+fn asked_by(request: Request) -> Asked
     requires { IsWithin request }
-    ensures read { IsAsked (by_reading (Ok request)) result }
-    ensures some_worker { IfOk result (λ run. 1 ≤ run.setting.workers) }
-    ensures few_workers { IfOk result (λ run. run.setting.workers ≤ 8) }
+    ensures read { IsAsked (by_reading (Ok request)) (Ok result) }
+    ensures range { IsInRange result }
 {
     match request {
         Request::Run {
             script,
             workers,
             until,
-        } => Ok(ScriptRun {
+        } => Asked::Script(ScriptRun {
             script,
             setting: Setting {
                 workers,
@@ -61,7 +55,7 @@ fn script_run(request: Request) -> Result<ScriptRun, WordsFault>
                 dry: false,
             },
         }),
-        Request::Check { script } => Ok(ScriptRun {
+        Request::Check { script } => Asked::Script(ScriptRun {
             script,
             setting: Setting {
                 workers: 1,
@@ -69,6 +63,6 @@ fn script_run(request: Request) -> Result<ScriptRun, WordsFault>
                 dry: true,
             },
         }),
-        Request::Gen { .. } => Err(WordsFault::Usage(UsageCause::Command)),
+        Request::Gen { seed, boards, .. } => Asked::Generated { seed, boards },
     }
 }

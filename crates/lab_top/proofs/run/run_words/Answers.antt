@@ -1,6 +1,6 @@
 use Rattle.std.proofs.Common.{map, string_bytes}
 use Rattle.lab_top.proofs.Courses.{course_none}
-use Rattle.lab_top.proofs.Openings.{unread_words, words_refused}
+use Rattle.lab_top.proofs.Openings.{unread_words, words_generated, words_refused}
 use Rattle.lab_top.proofs.run.run_words.Goals as goal
 
 pub returns-in-Err-Usage-clause-course : goal.returns-in-Err-Usage-clause-course
@@ -14,3 +14,8 @@ returns-clause-course g c = λ held is. course_none _ _ _
 
 pub returns-clause-refused : goal.returns-clause-refused
 returns-clause-refused g c = unread_words _ _ _
+
+pub returns-in-Ok-Generated-clause-course : goal.returns-in-Ok-Generated-clause-course
+returns-in-Ok-Generated-clause-course g c =
+    λ held is. words_generated held (map string_bytes c.args.words.now) c.in-Ok-Generated.seed c.in-Ok-Generated.boards
+    _ _ _ _ (rw c.in-Ok-Generated.field-0-is at c.in-Ok-Generated.ensures.read) c.run_generated.ensures.course

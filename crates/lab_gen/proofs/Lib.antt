@@ -1,0 +1,4 @@
+pub mod MoreBoards
+pub mod Plans
+pub mod Texts
+pub mod Told

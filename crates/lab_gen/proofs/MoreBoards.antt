@@ -1,0 +1,194 @@
+-- A board more in a generated laboratory.
+use Rattle.std.proofs.Common.{◌≡◌, ◌∙◌, ℕ, zero, suc, ◌+◌, ◌<◌, ◌^◌, ◌/◌, ◌%◌, List, [], ◌∷◌, ◌++◌, length, map, codes}
+use Rattle.std.proofs.Common.{Option, Some, None, slice_get, true, refl, sym, ap, subst, arith, zero-add}
+use Rattle.std.specs.Prelude.{IsTrue, IsSome, is_some}
+use Rattle.std.proofs.Common.{false, length-append}
+use Rattle.std.specs.Fmt.{decimal}
+use Rattle.std.specs.List.{list_all, range_with_len}
+use Rattle.std.specs.Option.{option_map, ForSome}
+use Rattle.std.proofs.lemmas.Bool.Decides.{nat_tests}
+use Rattle.std.proofs.lemmas.Fmt.{decimal_by_steps}
+use Rattle.std.proofs.lemmas.List.Folds.{list_all-append}
+use Rattle.std.proofs.lemmas.List.FromFn.{length-map-range_with_len, map-range_with_len_more}
+use Rattle.lab_num.specs.Name.{is_name, is_name_byte}
+use Rattle.dev_core.specs.declared.kind.Kind.TheVariants.{Uart}
+use Rattle.sys_bus.specs.declared.region.Target.{Target}
+use Rattle.sys_bus.specs.declared.region.Target.TheVariants.{Ram, Clint, Plic, Dev, Nothing}
+use Rattle.board.specs.Changes.{copied, holds_each, put_byte, put_in, with_bytes, with_pc}
+use Rattle.board.specs.New.{new_board, new_space}
+use Rattle.board.specs.Space.{Space, target_at}
+use Rattle.board.specs.View.{View}
+use Rattle.lab_state.specs.Board.{Board}
+use Rattle.lab_state.specs.Change.{change_at}
+use Rattle.lab_state.specs.Lab.{Lab, Seen}
+use Rattle.lab_state.specs.Names.{hub_named}
+use Rattle.lab_state.specs.One.{view_at, view_of, with_view, changed, connected, fitted, kind_at}
+use Rattle.lab_gen.specs.Firmware.{program}
+use Rattle.lab_gen.specs.Generated.{board, generated, uart_of}
+use Rattle.lab_gen.specs.Plan.{plan}
+use Rattle.lab_gen.specs.Inner.Steps.{bare, IsWith}
+use Rattle.lab_gen.proofs.Texts.{program_length}
+
+-- ---- names
+
+digit_is : (d : ℕ) → d < 10 → is_name_byte (48 + d) ≡ true
+digit_is d small = grind (arith, nat_tests)
+
+digits_are : (n : ℕ) → n < 2 ^ 64 → list_all is_name_byte (decimal n) ≡ true
+digits_are =
+    decimal_by_steps (λ n ds. list_all is_name_byte ds ≡ true) (λ n small. rw (digit_is n small) refl)
+    (λ n ds large is. rw (list_all-append is_name_byte ds, is, digit_is (n % 10) (omega arith)) refl)
+
+-- `m` and a number
+pub board_name : (n : ℕ) → n < 2 ^ 64 → is_name (codes "m" ++ decimal n) ≡ true
+board_name n small = rw (digits_are n small) (grind (arith, nat_tests))
+
+-- ---- the last of a list
+
+changed_last :
+    {A : Type 0} (xs : List A) (x : A) (f : A → A) → change_at (xs ++ x ∷ []) (length xs) f ≡ xs ++ f x ∷ []
+changed_last [] x f = refl
+changed_last (y ∷ ys) x f = ap (λ l. y ∷ l) (changed_last ys x f)
+
+pub change_last :
+    {A : Type 0} (xs : List A) (i : ℕ) (x : A) (f : A → A) → length xs ≡ i →
+    change_at (xs ++ x ∷ []) i f ≡ xs ++ f x ∷ []
+change_last xs i x f is = rw (sym is) (changed_last xs x f)
+
+pub view_last : (xs : List Board) (x : Board) → view_at (xs ++ x ∷ []) (length xs) ≡ x.view
+view_last [] x = refl
+view_last (y ∷ ys) x = view_last ys x
+
+-- ---- one board
+
+-- what stands under the name of a board that was changed
+pub view_changed :
+    (boards : List Board) (b : ℕ) (f : View → View) →
+    view_at (change_at boards b (with_view f)) b ≡ option_map f (view_at boards b)
+view_changed [] b f = refl
+view_changed (board ∷ boards) zero f = refl
+view_changed (board ∷ boards) (suc b) f = view_changed boards b f
+
+still_some : (o : Option View) (f : View → View) → IsSome o → IsSome (option_map f o)
+still_some (Some v) f is = refl
+still_some None f is = absurd (cc)
+
+pub changed_has :
+    (boards : List Board) (b : ℕ) (f : View → View) → IsSome (view_at boards b) →
+    IsSome (view_at (change_at boards b (with_view f)) b)
+changed_has boards b f is = rw (view_changed boards b f) (still_some (view_at boards b) f is)
+
+for_some : {A : Type 0} (a : A) (P : A → Type 0) → P a → ForSome (Some a) P
+for_some a P holds = λ other is. let same : a ≡ other = cc in subst P same holds
+
+-- bytes that are copied leave the plan
+plan_put : (s : Space) (byte : ℕ) (target : Target) → (put_in s byte target).plan ≡ s.plan
+plan_put s byte (Ram part at) = refl
+plan_put s byte (Dev dev at) = refl
+plan_put s byte (Clint at) = refl
+plan_put s byte (Plic at) = refl
+plan_put s byte Nothing = refl
+
+plan_copied : (s : Space) (at : ℕ) (bytes : List ℕ) → (copied s at bytes).plan ≡ s.plan
+plan_copied s at [] = refl
+plan_copied s at (byte ∷ bytes) =
+    plan_copied (put_byte s at byte) (at + 1) bytes ∙ plan_put s byte (target_at s at 1)
+
+-- ---- a board more
+
+abbrev boards_of : ℕ → ℕ → List Board
+boards_of seed n = map (board seed) (range_with_len 0 n)
+
+-- it gets its plan, its program and its pc
+abbrev equip : ℕ → Board → Board
+equip n b = record b { view = Some (new_board n plan) }
+
+abbrev load : ℕ → ℕ → View → View
+load seed n v = with_bytes v 0x80000000 (program seed n)
+
+abbrev begin : View → View
+begin v = with_pc v 0x80000000
+
+more_members :
+    (n : ℕ) → map uart_of (range_with_len 0 n) ++ uart_of n ∷ [] ≡ map uart_of (range_with_len 0 (n + 1))
+more_members n = sym (map-range_with_len_more uart_of 0 n n (zero-add n))
+
+-- ---- the steps
+
+-- the laboratory without the board has as many as its number says
+pub count_is :
+    (seed n : ℕ) (s : Seen) → s ≡ record { lab = generated seed n; spent = false } → length s.lab.boards ≡ n
+count_is seed n s is = rw is (length-map-range_with_len (board seed) 0 n)
+
+-- the new board is the last
+pub last_exists :
+    (seed n : ℕ) (more : Board) (s : Seen) → IsWith seed n more s → n < length s.lab.boards
+last_exists seed n more s is =
+    rw (is, length-append) (omega (arith, length-map-range_with_len (board seed) 0 n))
+
+last_view : (seed n : ℕ) (more : Board) → view_at (boards_of seed n ++ more ∷ []) n ≡ more.view
+last_view seed n more =
+    ap (view_at (boards_of seed n ++ more ∷ [])) (sym (length-map-range_with_len (board seed) 0 n))
+    ∙ view_last (boards_of seed n) more
+
+-- the new board gets its plan
+pub fitted_last :
+    (seed n : ℕ) (s s' : Seen) → IsWith seed n (bare n) s →
+    s' ≡ record s { lab = fitted s.lab n (new_board n plan) } → IsWith seed n (equip n (bare n)) s'
+fitted_last seed n s s' is so =
+    rw (so, is)
+    (ap (λ l. record { lab = record (generated seed n) { boards = l }; spent = false })
+    (change_last (boards_of seed n) n (bare n) (equip n) (length-map-range_with_len (board seed) 0 n)))
+
+pub fitted_has : (seed n : ℕ) (s : Seen) → IsWith seed n (equip n (bare n)) s → IsSome (view_of s.lab n)
+fitted_has seed n s is = rw (is, last_view seed n (equip n (bare n))) refl
+
+pub fitted_holds :
+    (seed n : ℕ) (s : Seen) (bytes : List ℕ) → IsWith seed n (equip n (bare n)) s → bytes ≡ program seed n →
+    ForSome (view_of s.lab n) (λ v. IsTrue (holds_each v.space 0x80000000 (length bytes)))
+fitted_holds seed n s bytes is are =
+    rw (is, are, last_view seed n (equip n (bare n)), program_length seed n)
+    (for_some (new_board n plan) (λ v. holds_each v.space 0x80000000 92 ≡ true) refl)
+
+-- it gets its program
+pub loaded_last :
+    (seed n : ℕ) (s s' : Seen) (bytes : List ℕ) → IsWith seed n (equip n (bare n)) s → bytes ≡ program seed n →
+    s' ≡ record s {
+      lab = changed (changed s.lab n (λ v. with_bytes v 0x80000000 bytes)) n (λ v. with_pc v 0x80000000);
+    } →
+    IsWith seed n (board seed n) s'
+loaded_last seed n s s' bytes is are so =
+    let few = length-map-range_with_len (board seed) 0 n in
+    rw (so, is, are)
+    (ap (λ l. record { lab = record (generated seed n) { boards = l }; spent = false })
+    (ap (λ l. change_at l n (with_view begin))
+    (change_last (boards_of seed n) n (equip n (bare n)) (with_view (load seed n)) few)
+    ∙ change_last (boards_of seed n) n (with_view (load seed n) (equip n (bare n))) (with_view begin) few))
+
+-- it has a UART then
+pub last_has_uart :
+    (seed n : ℕ) (s : Seen) → IsWith seed n (board seed n) s → IsSome (kind_at s.lab.boards (uart_of n))
+last_has_uart seed n s is =
+    rw (is, last_view seed n (board seed n))
+    (ap (λ plan. is_some (slice_get plan.kinds 0)) (plan_copied (new_space plan) 0x80000000 (program seed n)))
+
+pub first_hub :
+    (seed n : ℕ) (s : Seen) → IsWith seed n (board seed n) s → hub_named s.lab (codes "hub") ≡ Some 0
+first_hub seed n s is = rw is refl
+
+-- which comes at the end of the hub
+pub joined_last :
+    (seed n : ℕ) (s s' : Seen) → IsWith seed n (board seed n) s →
+    s' ≡ record s { lab = connected s.lab 0 (uart_of n) } →
+    s' ≡ record { lab = generated seed (n + 1); spent = false }
+joined_last seed n s s' is so =
+    rw (so, is)
+    (λ i. record {
+      lab = record {
+        boards = sym (map-range_with_len_more (board seed) 0 n n (zero-add n)) i;
+        hubs = record { name = codes "hub"; kind = Uart; members = more_members n i } ∷ [];
+        now = 0;
+        quantum = 100;
+      };
+      spent = false;
+    })

@@ -1,0 +1,26 @@
+-- The plan of the boards is one that boards can be made by.
+use Rattle.std.proofs.Common.{refl}
+use Rattle.sys_bus.specs.Plan.{IsValid}
+use Rattle.lab_gen.specs.Plan.{plan}
+
+pub plan_valid : IsValid plan
+plan_valid = record {
+  are_names = refl;
+  names_differ = refl;
+  processor = refl;
+  parts = refl;
+  no_others = refl;
+  timer = refl;
+  controller = refl;
+  memory_sizes = refl;
+  steps = refl;
+  few_devices = refl;
+  few_memories = refl;
+  speed = refl;
+  frequency = refl;
+  plic = refl;
+  ranges = refl;
+  apart = refl;
+  addressed = refl;
+  wires = refl;
+}

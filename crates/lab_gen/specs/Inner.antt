@@ -1,0 +1,2 @@
+-- What serves private contracts of lab_gen.
+pub mod Steps

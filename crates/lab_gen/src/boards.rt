@@ -1,0 +1,139 @@
+//! The laboratory is made: its hub, and then a board after another.
+ghost use Rattle.std.specs.Prelude.{◌≡◌, ◌+◌, ◌<◌, ◌≤◌, ◌∷◌, ◌++◌, [], false, map, Some, IsSome, IsTrue, IfOk, OnOk};
+ghost use Rattle.std.specs.Prelude.{codes, length};
+ghost use Rattle.std.specs.Option.{ForSome};
+ghost use Rattle.dev_core.specs.Stock.{IsFull};
+ghost use Rattle.lab_state.specs.Names.{hub_named};
+ghost use Rattle.lab_state.specs.One.{view_of, kind_at, changed, connected, fitted};
+ghost use Rattle.board.specs.Changes.{with_pc, with_bytes, holds_each};
+ghost use Rattle.board.specs.New.{new_board};
+ghost use Rattle.lab_gen.specs.Generated.{board, IsGenerated, uart_of};
+ghost use Rattle.lab_gen.specs.Plan as plan_spec;
+ghost use Rattle.lab_gen.specs.Inner.Steps.{bare, IsWith};
+
+use crate::firmware::program;
+use crate::plan::plan;
+use dev_core::{Device, Stock};
+use lab_num::{BoardNo, Member, NoMemory};
+use lab_state::Lab;
+use std::alloc::Global;
+
+/// Where the memory of a board begins, and its program.
+const START: u32 = 0x8000_0000;
+
+/// The name of the hub that connects all boards.
+const HUB: &str = "hub";
+
+/// Adds a board without a plan, under the name of its number.
+#[tactic(auto, using(crate::proofs::MoreBoards::board_name))]
+fn add_bare<D: Device>(alloc: Global, lab: &mut Lab<D>, number: u8) -> Result<BoardNo, NoMemory>
+    requires unspent { lab.old.spent ≡ false }
+    requires count { length lab.old.lab.boards ≡ number }
+    ensures number { IfOk result (λ board. board.0 ≡ number) }
+    ensures ok { OnOk result (lab.new ≡ record lab.old {
+      lab = record lab.old.lab { boards = lab.old.lab.boards ++ bare number ∷ [] };
+    }) }
+{
+    let name = format!(in alloc; "m{number}")?;
+    let Ok(board) = lab.add_board(name.as_str()) else {
+        return Err(NoMemory);
+    };
+    Ok(board)
+}
+
+/// Makes a board by the plan of all boards.
+fn fit_plan<D: Device>(alloc: Global, lab: &mut Lab<D>, b: BoardNo) -> Result<(), NoMemory>
+    requires unspent { lab.old.spent ≡ false }
+    requires exists { b.0 < length lab.old.lab.boards }
+    ensures { OnOk result (lab.new ≡ record lab.old {
+      lab = fitted lab.old.lab b.0 (new_board b.0 plan_spec.plan);
+    }) }
+{
+    let made = plan(alloc)?;
+    if lab.fit(b, made).is_err() {
+        return Err(NoMemory);
+    }
+    Ok(())
+}
+
+/// Puts a program at the start of a board's memory, which is to begin with it.
+fn load<D: Device>(lab: &mut Lab<D>, b: BoardNo, program: &[u8]) -> Result<(), NoMemory>
+    requires unspent { lab.old.spent ≡ false }
+    requires has_plan { IsSome (view_of lab.old.lab b.0) }
+    requires holds { ForSome (view_of lab.old.lab b.0) (λ v.
+        IsTrue (holds_each v.space 0x80000000 (length program.now))) }
+    ensures { OnOk result (lab.new ≡ record lab.old {
+      lab = changed
+          (changed lab.old.lab b.0 (λ v. with_bytes v 0x80000000 program.now))
+          b.0 (λ v. with_pc v 0x80000000);
+    }) }
+{
+    lab.copy_in(b, START, program)?;
+    lab.set_pc(b, START);
+    Ok(())
+}
+
+/// Puts the UART of a board at the end of the hub, which is the first.
+fn join<D: Device>(lab: &mut Lab<D>, board: BoardNo) -> Result<(), NoMemory>
+    requires unspent { lab.old.spent ≡ false }
+    requires hub { hub_named lab.old.lab (codes "hub") ≡ Some 0 }
+    requires device { IsSome (kind_at lab.old.lab.boards (uart_of board.0)) }
+    ensures { OnOk result (lab.new ≡ record lab.old {
+      lab = connected lab.old.lab 0 (uart_of board.0);
+    }) }
+{
+    if lab.connect(Member { board, dev: 0 }, HUB).is_err() {
+        return Err(NoMemory);
+    }
+    Ok(())
+}
+
+/// Gives the last board, of this number, its plan and its program.
+fn equip<D: Device>(alloc: Global, lab: &mut Lab<D>, seed: u64, b: BoardNo) -> Result<(), NoMemory>
+    requires { IsWith seed b.0 (bare b.0) lab.old }
+    ensures { OnOk result (IsWith seed b.0 (board seed b.0) lab.new) }
+{
+    let bytes = program(alloc, seed, b.0)?;
+    fit_plan(alloc, lab, b)?;
+    load(lab, b, &bytes)?;
+    Ok(())
+}
+
+/// Adds the board of this number, which is that of the boards so far, and puts it at the end of the
+/// hub.
+fn add_board<D: Device>(
+    alloc: Global,
+    lab: &mut Lab<D>,
+    seed: u64,
+    number: u8,
+) -> Result<(), NoMemory>
+    requires { IsGenerated seed number lab.old }
+    ensures { OnOk result (IsGenerated seed (number + 1) lab.new) }
+{
+    let b = add_bare(alloc, lab, number)?;
+    equip(alloc, lab, seed, b)?;
+    join(lab, b)?;
+    Ok(())
+}
+
+/// The laboratory of this seed with so many boards, at time 0.
+pub(crate) fn laboratory<D: Device>(
+    alloc: Global,
+    seed: u64,
+    boards: u8,
+    stock: Stock<D>,
+) -> Result<Lab<D>, NoMemory>
+    requires few { boards ≤ 16 }
+    requires full { IsFull (map D.meaning stock.uarts.items) (map D.meaning stock.cans.items)
+        (map D.meaning stock.finishers.items) }
+    ensures { IfOk result (λ lab. IsGenerated seed boards lab) }
+{
+    let mut lab = Lab::new(alloc, stock)?;
+    if lab.create_uart_hub(HUB).is_err() {
+        return Err(NoMemory);
+    }
+    for number in 0..boards {
+        add_board(alloc, &mut lab, seed, number)?;
+    }
+    Ok(lab)
+}

@@ -1,0 +1,35 @@
+//! The generated laboratory, run.
+ghost use Rattle.std.specs.Prelude.{◌≡◌, ◌≤◌, IfOk, map};
+ghost use Rattle.dev_core.specs.Stock.{IsFull};
+ghost use Rattle.lab_state.specs.Run.{run};
+ghost use Rattle.lab_gen.specs.Summary.{summary_of};
+
+use crate::boards::laboratory;
+use crate::summary::summary;
+use dev_core::{Device, Stock};
+use lab_num::{Micros, NoMemory};
+use std::alloc::Global;
+
+/// How long the laboratory is run.
+const LENGTH: Micros = Micros(100_000);
+
+/// Makes the laboratory of a seed, of 1 to 16 boards, runs it for 100,000 microseconds, and answers the
+/// bytes of its summary: a line for each board and one for all, each with its line feed.
+pub fn generate<D: Device>(
+    alloc: Global,
+    seed: u64,
+    boards: u8,
+    stock: Stock<D>,
+) -> Result<Vec<u8>, NoMemory>
+    requires some { 1 ≤ boards }
+    requires few { boards ≤ 16 }
+    requires full { IsFull (map D.meaning stock.uarts.items) (map D.meaning stock.cans.items)
+        (map D.meaning stock.finishers.items) }
+    ensures { IfOk result (λ bytes. bytes.items ≡ summary_of run seed boards) }
+{
+    let mut lab = laboratory(alloc, seed, boards, stock)?;
+    let Ok(_log) = lab.run_for(LENGTH) else {
+        return Err(NoMemory);
+    };
+    summary(alloc, &lab)
+}
