@@ -1,5 +1,5 @@
 -- A board more in a generated laboratory.
-use Rattle.std.proofs.Common.{◌≡◌, ◌∙◌, ℕ, zero, suc, ◌+◌, ◌<◌, ◌^◌, ◌/◌, ◌%◌, List, [], ◌∷◌, ◌++◌, length, map, codes}
+use Rattle.std.proofs.Common.{◌≡◌, ◌∙◌, ℕ, zero, suc, ◌+◌, ◌<◌, ◌^◌, ◌%◌, List, [], ◌∷◌, ◌++◌, length, map, codes}
 use Rattle.std.proofs.Common.{Option, Some, None, slice_get, true, refl, sym, ap, subst, arith, zero-add}
 use Rattle.std.specs.Prelude.{IsTrue, IsSome, is_some}
 use Rattle.std.proofs.Common.{false, length-append}
@@ -20,7 +20,7 @@ use Rattle.board.specs.Space.{Space, target_at}
 use Rattle.board.specs.View.{View}
 use Rattle.lab_state.specs.Board.{Board}
 use Rattle.lab_state.specs.Change.{change_at}
-use Rattle.lab_state.specs.Lab.{Lab, Seen}
+use Rattle.lab_state.specs.Lab.{Seen}
 use Rattle.lab_state.specs.Names.{hub_named}
 use Rattle.lab_state.specs.One.{view_at, view_of, with_view, changed, connected, fitted, kind_at}
 use Rattle.lab_gen.specs.Firmware.{program}

@@ -1,5 +1,5 @@
 -- The plan of every generated board.
-use Rattle.std.specs.Prelude.{ℕ, List, [], ◌∷◌, codes, None}
+use Rattle.std.specs.Prelude.{List, [], ◌∷◌, codes, None}
 use Rattle.dev_core.specs.declared.kind.Kind.TheVariants.{Uart}
 use Rattle.sys_bus.specs.declared.plan.BoardPlan.{BoardPlan}
 use Rattle.sys_bus.specs.declared.plan.Named.{Named}
