@@ -37,5 +37,5 @@ summary lab =
     flat_map line_of lab.boards ++ codes "total " ++ decimal (sum (map posts_of lab.boards)) ++ codes "\n"
 
 -- the summary of the generated laboratory after 100,000 microseconds, where a laboratory plays a run so
-abbrev pub summary_of : Play → ℕ → ℕ → List ℕ
+unfoldable pub summary_of : Play → ℕ → ℕ → List ℕ
 summary_of play seed boards = summary (play (generated seed boards) 100000).lab

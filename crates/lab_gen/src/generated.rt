@@ -15,6 +15,7 @@ const LENGTH: Micros = Micros(100_000);
 
 /// Makes the laboratory of a seed, of 1 to 16 boards, runs it for 100,000 microseconds, and answers the
 /// bytes of its summary: a line for each board and one for all, each with its line feed.
+#[tactic(auto, unfolding(crate::specs::Summary::summary_of))]
 pub fn generate<D: Device>(
     alloc: Global,
     seed: u64,
