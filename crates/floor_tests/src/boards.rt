@@ -58,7 +58,8 @@ pub fn parcel(rt: &impl Abort, alloc: Global, number: BoardNo) -> Result<Parcel<
 }
 
 /// What the board sends: the third slot lies in microsecond 8.
-pub fn post(board: BoardNo) -> Post {
+pub fn post(board: u8) -> Post {
+    let board = BoardNo(board);
     Post {
         key: Key {
             at: Micros(8),
