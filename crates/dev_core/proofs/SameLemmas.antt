@@ -23,7 +23,8 @@ frame_decides a b =
     (Decides-and _ _ (Decides-and _ _ (Decides-and _ _ ids remotes) lens) bytes)
 
 pub frames_decide :
-    (xs ys : List FrameData) → (pointwise same_frame xs ys ≡ true → xs ≡ ys) × (xs ≡ ys → pointwise same_frame xs ys ≡ true)
+    (xs ys : List FrameData) →
+    (pointwise same_frame xs ys ≡ true → xs ≡ ys) × (xs ≡ ys → pointwise same_frame xs ys ≡ true)
 frames_decide = pointwise_decides frame_decides
 
 -- the fields of two states of a CAN controller, compared one after another
@@ -59,7 +60,10 @@ can_decides a b =
       ti = e.1.1.1.1.1.1.1.1.1.1.1.0 i;
       doi = e.1.1.1.1.1.1.1.1.1.1.1.1 i;
     })
-    (λ e. (ap (λ c. c.control) e, (ap (λ c. c.code) e, (ap (λ c. c.mask) e, (ap (λ c. c.timing0) e, (ap (λ c. c.timing1) e, (ap (λ c. c.output) e, (ap (λ c. c.divider) e, (ap (λ c. c.transmit) e, (ap (λ c. c.received) e, (ap (λ c. c.dos) e, (ap (λ c. c.ri) e, (ap (λ c. c.ti) e, ap (λ c. c.doi) e)))))))))))))
+    (λ e. (ap (λ c. c.control) e, (ap (λ c. c.code) e, (ap (λ c. c.mask) e, (ap (λ c. c.timing0) e,
+    (ap (λ c. c.timing1) e, (ap (λ c. c.output) e, (ap (λ c. c.divider) e, (ap (λ c. c.transmit) e,
+    (ap (λ c. c.received) e, (ap (λ c. c.dos) e, (ap (λ c. c.ri) e, (ap (λ c. c.ti) e,
+    ap (λ c. c.doi) e)))))))))))))
     (Decides-and _ _ (Decides-eqb a.control b.control)
     (Decides-and _ _ (Decides-eqb a.code b.code)
     (Decides-and _ _ (Decides-eqb a.mask b.mask)

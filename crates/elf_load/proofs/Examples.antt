@@ -15,7 +15,8 @@ lowest_first = refl
 -- a header alone, for a machine, without program headers, whose entry is 0x80000000
 unfoldable header_for : ℕ → List ℕ
 header_for machine =
-    0x7F ∷ 0x45 ∷ 0x4C ∷ 0x46 ∷ 1 ∷ 1 ∷ 1 ∷ replicate 9 0 ++ (2 ∷ 0 ∷ machine ∷ 0 ∷ replicate 7 0 ++ (0x80 ∷ replicate 24 0))
+    0x7F ∷ 0x45 ∷ 0x4C ∷ 0x46 ∷ 1 ∷ 1 ∷ 1
+    ∷ replicate 9 0 ++ (2 ∷ 0 ∷ machine ∷ 0 ∷ replicate 7 0 ++ (0x80 ∷ replicate 24 0))
 
 no_part : image_of (header_for 243) ≡ Ok (record { entry = Some 0x80000000; parts = [] })
 unfolding image_of half word header_for

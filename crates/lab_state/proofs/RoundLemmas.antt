@@ -89,7 +89,8 @@ can_take boards b dev d is =
 
 -- and so can a member that a loop has not come to, whose board is as it is by then
 pub deliverable :
-    {boards : List Board} (h : Handed) (at : ℕ) (payload : Payload) (to : List Member) (i : ℕ) (m : Member) (d : Board) →
+    {boards : List Board} (h : Handed) (at : ℕ) (payload : Payload) (to : List Member) (i : ℕ) (m : Member)
+    (d : Board) →
     boards ≡ (fold (to_member at payload) h (take i to)).boards → All (IsDevice (outlines h.boards)) to →
     i < length to →
     ((get_or to i m).board.0 < length boards)

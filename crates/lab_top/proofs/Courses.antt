@@ -60,7 +60,8 @@ course_after names text rest status out mid out' log between log' wrote asked co
 
 -- a read of these failed
 pub course_unread :
-    (names : List (List ℕ)) (text : List ℕ) (rest : Transcript) (out : Option (List ℕ)) (log log' : Option (List (List ℕ))) →
+    (names : List (List ℕ)) (text : List ℕ) (rest : Transcript) (out : Option (List ℕ))
+    (log log' : Option (List (List ℕ))) →
     AsksUpTo names log log' → Course (after names text rest) end_by.Unread out out log log'
 course_unread names text rest out log log' asks = record {
   bytes = [];
@@ -82,7 +83,8 @@ course_unread names text rest out log log' asks = record {
 
 -- a read of these found no memory, or what comes after them did
 pub course_memory :
-    (names : List (List ℕ)) (text : List ℕ) (rest : Transcript) (out : Option (List ℕ)) (log log' : Option (List (List ℕ))) →
+    (names : List (List ℕ)) (text : List ℕ) (rest : Transcript) (out : Option (List ℕ))
+    (log log' : Option (List (List ℕ))) →
     AsksSome names log log' → Course (after names text rest) end_by.Memory out out log log'
 course_memory names text rest out log log' asks = record {
   bytes = [];

@@ -82,7 +82,8 @@ asks_none names log log' same =
     record { passed = []; coming = names; all = refl; asked = rw same (sym (grown-nil log)) }
 
 -- a file was read, and is what was told of it
-pub opened_content : (there : Option (List ℕ)) (bytes name : List ℕ) (opened : Opened) (log log' : Option (List (List ℕ))) →
+pub opened_content :
+    (there : Option (List ℕ)) (bytes name : List ℕ) (opened : Opened) (log log' : Option (List (List ℕ))) →
     there ≡ Some bytes → log' ≡ grown log (name ∷ []) → IsContent (bytes_content name bytes) opened →
     IsOpened (content_of name there) name opened log log'
 opened_content there bytes name (opened_by.Text text) log log' is asked so = rw is (so, asked)
@@ -100,8 +101,8 @@ pub opening_goes :
     Course (rest_of run held (started script text setting)) status out out' between log' →
     Course (run_of run held script setting) status out out' log log'
 opening_goes held script text setting status out out' log between log' is asked course =
-    rw is (course_after (script ∷ []) [] (rest_of run held (started script text setting)) status out out out' log between
-    log' (sym (grown-nil out)) asked course)
+    rw is (course_after (script ∷ []) [] (rest_of run held (started script text setting)) status out out out' log
+    between log' (sym (grown-nil out)) asked course)
 
 -- a script is refused before its first line
 pub opening_faults :
@@ -125,7 +126,8 @@ pub opening_memory :
     (held : Held) (script : List ℕ) (setting : Setting) (out : Option (List ℕ)) (log log' : Option (List (List ℕ))) →
     AsksSome (script ∷ []) log log' → Course (run_of run held script setting) end_by.Memory out out log log'
 opening_memory held script setting out log log' asks =
-    course_memory (script ∷ []) [] (begun run held script setting (content_of script (get held script))) out log log' asks
+    course_memory (script ∷ []) [] (begun run held script setting (content_of script (get held script))) out log log'
+    asks
 
 -- ---- the words
 

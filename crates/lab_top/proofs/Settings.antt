@@ -1,5 +1,6 @@
 -- What the setting of a run is to its transcript.
-use Rattle.std.proofs.Common.{◌≡◌, ◌∙◌, ℕ, ◌+◌, ◌^◌, nat_le, List, [], Bool, true, false, None, Result, Ok, refl, sym, ap}
+use Rattle.std.proofs.Common.{◌≡◌, ◌∙◌, ℕ, ◌+◌, ◌^◌, nat_le, List, [], Bool, true, false}
+use Rattle.std.proofs.Common.{None, Result, Ok, refl, sym, ap}
 use Rattle.std.specs.Prelude.{is_none}
 use Rattle.std.proofs.Math.Nat.{zero-div, zero-mod}
 use Rattle.lab_io.specs.Held.{Held}
@@ -20,7 +21,8 @@ use Rattle.lab_top.specs.Content.{Content, Missing, Faulty, Readable}
 use Rattle.lab_top.specs.Transcript.{begun, rest_of}
 
 -- the number of workers does not matter
-pub begun_workers : (play : Play) (held : Held) (script : List ℕ) (setting : Setting) (workers : ℕ) (content : Content) →
+pub begun_workers :
+    (play : Play) (held : Held) (script : List ℕ) (setting : Setting) (workers : ℕ) (content : Content) →
     begun play held script (record setting { workers = workers }) content ≡ begun play held script setting content
 begun_workers play held script setting workers Missing = refl
 begun_workers play held script setting workers (Faulty fault) = refl

@@ -91,7 +91,8 @@ begun play held script setting (Readable text) = rest_of play held (started scri
 
 -- all that the run of a script writes and reads
 abbrev pub run_of : Play → Held → List ℕ → Setting → Transcript
-run_of play held script setting = after (script ∷ []) [] (begun play held script setting (content_of script (get held script)))
+run_of play held script setting =
+    after (script ∷ []) [] (begun play held script setting (content_of script (get held script)))
 
 -- all that the run of a generated laboratory writes: its summary. It reads nothing.
 abbrev pub gen_of : Play → ℕ → ℕ → Transcript

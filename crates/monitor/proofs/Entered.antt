@@ -1,5 +1,6 @@
 -- What comes of a body that a command enters.
-use Rattle.std.proofs.Common.{◌≡◌, ◌∙◌, ℕ, ◌<◌, ◌≤◌, nat_lt, Bool, true, false, cond, List, [], ◌∷◌, length, Option, None, Some}
+use Rattle.std.proofs.Common.{◌≡◌, ◌∙◌, ℕ, ◌<◌, ◌≤◌, nat_lt, Bool, true, false, cond, List}
+use Rattle.std.proofs.Common.{[], ◌∷◌, length, Option, None, Some}
 use Rattle.std.proofs.Common.{Result, Ok, Err, Vec, String, string_bytes, refl, sym, ap, append-nil, arith}
 use Rattle.std.specs.FinMap.{get}
 use Rattle.std.specs.Global.{Global}

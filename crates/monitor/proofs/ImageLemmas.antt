@@ -1,6 +1,8 @@
 -- Images that commands load.
-use Rattle.std.proofs.Common.{◌≡◌, ◌∙◌, ℕ, zero, suc, ◌+◌, ◌<◌, ◌≤◌, ◌^◌, ◌&&◌, nat_lt, nat_le, Bool, true, false, List, [], ◌∷◌}
-use Rattle.std.proofs.Common.{◌++◌, length, take, get_or, replicate, Option, None, Some, Result, Ok, Err, Vec, refl, sym, ap}
+use Rattle.std.proofs.Common.{◌≡◌, ◌∙◌, ℕ, zero, suc, ◌+◌, ◌<◌, ◌≤◌, ◌^◌, ◌&&◌, nat_lt, nat_le}
+use Rattle.std.proofs.Common.{Bool, true, false, List, [], ◌∷◌}
+use Rattle.std.proofs.Common.{◌++◌, length, take, get_or, replicate, Option, None, Some, Result, Ok}
+use Rattle.std.proofs.Common.{Err, Vec, refl, sym, ap}
 use Rattle.std.proofs.Common.{append-nil, subst, arith}
 use Rattle.std.specs.Prelude.{IsSome}
 use Rattle.std.specs.FinMap.{get}

@@ -1,5 +1,6 @@
 -- In a valid plan each byte of a memory has one address.
-use Rattle.std.proofs.Common.{◌≡◌, ◌∙◌, ℕ, zero, suc, ◌+◌, ◌-◌, ◌<◌, ◌≤◌, ◌==◌, ◌&&◌, nat_lt, nat_le, Bool, true, false, cond}
+use Rattle.std.proofs.Common.{◌≡◌, ◌∙◌, ℕ, zero, suc, ◌+◌, ◌-◌, ◌<◌, ◌≤◌, ◌==◌, ◌&&◌}
+use Rattle.std.proofs.Common.{nat_lt, nat_le, Bool, true, false, cond}
 use Rattle.std.proofs.Common.{List, [], ◌∷◌, length, map, find, Option, None, Some, refl, sym, ap, subst, arith}
 use Rattle.std.specs.Prelude.{count_by, slice_index, slice_index_or}
 use Rattle.std.specs.List.{list_all, range_with_len}
@@ -112,7 +113,9 @@ found_by regions a part at (Some region) is there = by_kind region.kind refl the
     by_kind Plic same there = cc there
     by_kind (Dev i) same there = cc there
 
-all_at : (p : ℕ → Bool) (from count i : ℕ) → list_all p (range_with_len from count) ≡ true → i < count → p (from + i) ≡ true
+all_at :
+    (p : ℕ → Bool) (from count i : ℕ) → list_all p (range_with_len from count) ≡ true → i < count →
+    p (from + i) ≡ true
 all_at p from zero i all within = absurd (omega (arith, within))
 all_at p from (suc count) zero all within =
     let same : from + 0 ≡ from = omega arith in rw same (and_parts (p from) _ all).0
@@ -146,7 +149,8 @@ module _ (s : Space) (valid : IsValid s.plan) (sizes : map length s.memories ≡
   one_region : (part : ℕ) → part < length s.plan.memories → regions_of s.plan.regions (Ram part) ≤ 1
   one_region part within =
       let all = (and_parts _ _ (and_parts _ _ (and_parts _ _ valid.parts).0).0).0 in
-      let each = all_at (λ i. has_one_each s.plan.names s.plan.regions (Ram i)) 0 (length s.plan.memories) part all within in
+      let each =
+      all_at (λ i. has_one_each s.plan.names s.plan.regions (Ram i)) 0 (length s.plan.memories) part all within in
       let same : 0 + part ≡ part = omega arith in
       let one : (regions_of s.plan.regions (Ram part) == 1) ≡ true =
       (and_parts (names_of s.plan.names (Ram part) == 1) (regions_of s.plan.regions (Ram part) == 1)

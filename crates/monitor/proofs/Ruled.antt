@@ -147,8 +147,10 @@ pub carried_alone :
     ((path : List ℕ) → c ≡ command.LoadElf path → ⊥) → ((path : List ℕ) → c ≡ command.LoadHex path → ⊥) →
     ((path : List ℕ) → c ≡ command.Include path → ⊥) → (c ≡ command.Quit → ⊥) →
     carried play held s place c ≡ unread place (ruled play s c)
-carried_alone play held s place (command.LoadPlatform path) platform binary elf hex file quit = absurd (platform path refl)
-carried_alone play held s place (command.LoadBinary path at) platform binary elf hex file quit = absurd (binary path at refl)
+carried_alone play held s place (command.LoadPlatform path) platform binary elf hex file quit =
+    absurd (platform path refl)
+carried_alone play held s place (command.LoadBinary path at) platform binary elf hex file quit =
+    absurd (binary path at refl)
 carried_alone play held s place (command.LoadElf path) platform binary elf hex file quit = absurd (elf path refl)
 carried_alone play held s place (command.LoadHex path) platform binary elf hex file quit = absurd (hex path refl)
 carried_alone play held s place (command.Include path) platform binary elf hex file quit = absurd (file path refl)

@@ -256,7 +256,8 @@ static NAMES_AND_TYPES: [(&str, &str); 30] = [
     ("ram:\n b: 1\nu: UART.NS16550 { a: 1 }\n", "P4 2:4"),
 ];
 
-/// Lines behind those of a memory and a processor, and their first fault: what is missing, and the values of processors and memories.
+/// Lines behind those of a memory and a processor, and their first fault: what is missing, and the values of
+/// processors and memories.
 static MISSING_AND_VALUES: [(&str, &str); 40] = [
     ("u: UART.NS16550\n", "P6 2:3"),
     ("u: UART.NS16550 @ sysbus\n", "P6 2:3"),
@@ -360,7 +361,8 @@ static MISSING_AND_VALUES: [(&str, &str); 40] = [
     ),
 ];
 
-/// Lines behind those of a memory and a processor, and their first fault: the values of timers, interrupt controllers and devices.
+/// Lines behind those of a memory and a processor, and their first fault: the values of timers, interrupt
+/// controllers and devices.
 static DEVICE_VALUES: [(&str, &str); 34] = [
     (
         "l: IRQControllers.CoreLevelInterruptor @ sysbus 0x2000000 { frequency: 0 }\n",
@@ -500,7 +502,8 @@ numberOfSources: 1 }\n",
     ("cpu: { hartId: 0 }\ncpu: { hartId: 1 }\n", "P5 2:4"),
 ];
 
-/// Lines behind those of a memory and a processor, and their first fault: processors that are not built, counts, places and names that are meant.
+/// Lines behind those of a memory and a processor, and their first fault: processors that are not built, counts,
+/// places and names that are meant.
 static COUNTS_AND_PLACES: [(&str, &str); 42] = [
     ("cpu: { cpuType: \"rv32im_zicsr\" }\n", "accepted"),
     ("cpu: { cpuType: \"rv32im_zicsr_zifencei\" }\n", "accepted"),

@@ -3,7 +3,8 @@ use Rattle.std.specs.Prelude.{ℕ, ◌+◌, nat_le, nat_lt, Bool, false, not, �
 use Rattle.std.specs.Prelude.{count_by}
 use Rattle.std.specs.Prelude.{if◌then◌else◌}
 use Rattle.std.specs.List.{list_any, sum_by}
-use Rattle.sys_bus.specs.declared.limits.TheConstants.{MOST_MEMORIES, MOST_MEMORY, MOST_UARTS, MOST_CANS, MOST_FINISHERS}
+use Rattle.sys_bus.specs.declared.limits.TheConstants.{MOST_MEMORIES, MOST_MEMORY, MOST_UARTS}
+use Rattle.sys_bus.specs.declared.limits.TheConstants.{MOST_CANS, MOST_FINISHERS}
 use Rattle.repl_build.specs.declared.merge.Peripheral.{Peripheral}
 use Rattle.repl_build.specs.declared.types.PeripheralType.{PeripheralType}
 use Rattle.repl_build.specs.declared.types.PeripheralType.TheVariants.{Cpu, Memory, Clint, Plic, Uart, Can, Finisher}

@@ -21,7 +21,8 @@ invariant_of-self-2 g c =
     let kept = c.line_now-after.ensures.same in (
       c.self.invariant.0,
       fit_device _ c.from.result c.line_now-after.new.self _ c.self.invariant.1
-          (ap {A = Fitted} (λ f. kind_of f.state) kept ∙ c.store-effect.ensures.kind ∙ ap {A = Fitted} (λ f. kind_of f.state) device)
+          (ap {A = Fitted} (λ f. kind_of f.state) kept ∙ c.store-effect.ensures.kind
+          ∙ ap {A = Fitted} (λ f. kind_of f.state) device)
           (rw kept c.store-effect.ensures.valid),
       c.self.invariant.2,
       rw c.forget_if_changed.ensures

@@ -15,7 +15,8 @@ returns-clause-found g c =
     omega (arith, ap (λ s. length s.lab.boards) c.self.view_is, c.requires.exists) in
     let at = slice_get_read boards _ c.args.b.0 c.index.result.now (λ i. length boards) below c.index.ensures in
     rw (← c.self.view_is)
-    (named_at (λ (board : Board). board.name) boards c.args.b.0 c.name.result.now (c.self.invariant unspent).names.boards_differ
+    (named_at (λ (board : Board). board.name) boards c.args.b.0 c.name.result.now
+    (c.self.invariant unspent).names.boards_differ
     (ap Some c.name.ensures ∙ ap (option_map (λ (board : Board). board.name)) (sym at)))
 
 pub returns-clause-no_hub : goal.returns-clause-no_hub

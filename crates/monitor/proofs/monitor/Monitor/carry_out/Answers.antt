@@ -21,7 +21,8 @@ returns-in_default g c =
       leaves = ruled_leaves (ruled run s c.args.command) c.carry_out_alone.result c.args.self.now
           c.carry_out_alone.new.self is;
       unread = λ same. absurd
-          (ruled_read (ruled run s c.args.command) c.carry_out_alone.result c.args.self.now c.carry_out_alone.new.self is same);
+          (ruled_read (ruled run s c.args.command) c.carry_out_alone.result c.args.self.now c.carry_out_alone.new.self
+          is same);
       held = refl;
       faults = omega arith;
     }

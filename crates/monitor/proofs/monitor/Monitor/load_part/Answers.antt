@@ -6,7 +6,8 @@ use Rattle.board.specs.Changes.{holds_each, with_bytes}
 use Rattle.board.specs.View.{View}
 use Rattle.lab_state.specs.One.{changed, view_of}
 use Rattle.monitor.specs.Images.{with_part}
-use Rattle.monitor.proofs.ImageLemmas.{changed_more, changed_same, for_changed, part_numbers, part_of_pieces, part_pieces}
+use Rattle.monitor.proofs.ImageLemmas.{changed_more, changed_same, for_changed, part_numbers}
+use Rattle.monitor.proofs.ImageLemmas.{part_of_pieces, part_pieces}
 use Rattle.monitor.proofs.ImageLemmas.{part_without_zeros, some_changed, still_held}
 use Rattle.monitor.proofs.monitor.Monitor.load_part.Goals as goal
 use Rattle.monitor.proofs.monitor.Monitor.load_part.Goals.{then-part-gt0, else-part-gt0}

@@ -6,4 +6,5 @@ use Rattle.parcel.proofs.parcel.ParcelJob.left.Goals as goal
 pub returns : goal.returns
 returns g c =
     rw (← c.self.view_is)
-    (c.left.ensures.value ∙ sym (length-coming c.self.inside.board.view c.self.inside.handle (left c.self.inside.handle)))
+    (c.left.ensures.value
+    ∙ sym (length-coming c.self.inside.board.view c.self.inside.handle (left c.self.inside.handle)))
