@@ -1,5 +1,5 @@
 -- Frames, rows of them and states of a CAN controller compare as equal exactly where they are one.
-use Rattle.std.proofs.Common.{◌≡◌, ap, arith, Bool, true, List}
+use Rattle.std.proofs.Common.{◌≡◌, ap, arith, refl, Bool, true, List}
 use Rattle.std.specs.Bool.{Decides, beq}
 use Rattle.std.specs.Prelude.{◌&&◌, nat_eq}
 use Rattle.std.specs.Cmp.Lexicographic.{pointwise, pointwise_decides, bytes_decides}
@@ -60,10 +60,7 @@ can_decides a b =
       ti = e.1.1.1.1.1.1.1.1.1.1.1.0 i;
       doi = e.1.1.1.1.1.1.1.1.1.1.1.1 i;
     })
-    (λ e. (ap (λ c. c.control) e, (ap (λ c. c.code) e, (ap (λ c. c.mask) e, (ap (λ c. c.timing0) e,
-    (ap (λ c. c.timing1) e, (ap (λ c. c.output) e, (ap (λ c. c.divider) e, (ap (λ c. c.transmit) e,
-    (ap (λ c. c.received) e, (ap (λ c. c.dos) e, (ap (λ c. c.ri) e, (ap (λ c. c.ti) e,
-    ap (λ c. c.doi) e)))))))))))))
+    (λ e. rw e (refl, (refl, (refl, (refl, (refl, (refl, (refl, (refl, (refl, (refl, (refl, (refl, refl)))))))))))))
     (Decides-and _ _ (Decides-eqb a.control b.control)
     (Decides-and _ _ (Decides-eqb a.code b.code)
     (Decides-and _ _ (Decides-eqb a.mask b.mask)

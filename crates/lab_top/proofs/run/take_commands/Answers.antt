@@ -11,8 +11,10 @@ returns-in-Err-clause-course g c = λ held is.
     let step = told _ c.in-Text.ensures.step held (now.invariant.held ∙ is) in
     now.invariant.course held is c.from.result (g.K.Sink.written c.write_whole.new.out)
     (g.F.Files.asked c.step.new.files)
-    (rw (at_turn now._turn held now.monitor.state (omega (arith, now.invariant.counted, now.invariant.few)),
-    c.from.ensures)
+    (rw (
+      at_turn now._turn held now.monitor.state (omega (arith, now.invariant.counted, now.invariant.few)),
+      c.from.ensures,
+    )
     (step_cut (100000 - now._turn) held now.monitor.state c.step.new.self.state c.in-Text.text c.in-Err.fault _ _ _ _
     step (rw (← c.deref.ensures.value) c.in-Err.ensures.part)))
 

@@ -4,9 +4,10 @@ use Rattle.monitor.proofs.Texts.{no_text}
 use Rattle.monitor.proofs.read.text_of.Goals as goal
 
 pub returns-in_ok-from_str-in-Ok : goal.returns-in_ok-from_str-in-Ok
-returns-in_ok-from_str-in-Ok c =
-    (is_utf8-from_IsUtf8 c.args.bytes.now c.in-Ok.ensures.cases.1,
-    c.in_ok-from_str-in-Ok.ensures.ok ∙ c.in-Ok.ensures.cases.0)
+returns-in_ok-from_str-in-Ok c = (
+  is_utf8-from_IsUtf8 c.args.bytes.now c.in-Ok.ensures.cases.1,
+  c.in_ok-from_str-in-Ok.ensures.ok ∙ c.in-Ok.ensures.cases.0,
+)
 
 pub returns-in_ok-file-in-Err : goal.returns-in_ok-file-in-Err
 returns-in_ok-file-in-Err c =
