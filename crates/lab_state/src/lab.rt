@@ -31,7 +31,6 @@ impl<D: Device> Model for Lab<D> {
     ghost use Rattle.std.specs.Prelude.{◌≡◌, false};
     ghost use Rattle.lab_state.specs.Lab.{Seen};
     ghost use Rattle.lab_state.specs.Inner.Standing.{IsSound};
-    ghost use Rattle.lab_state.specs.Inner.Time.{IsTimed};
 
     ghost Value = { Seen };
 
@@ -45,7 +44,7 @@ impl<D: Device> Model for Lab<D> {
       spent = l.spent;
     } };
 
-    ghost invariant = { λ l. l.spent ≡ false → (IsSound
+    ghost invariant = { λ l. l.spent ≡ false → IsSound
         (record {
           boards = l.boards.items;
           hubs = l.hubs;
@@ -53,7 +52,7 @@ impl<D: Device> Model for Lab<D> {
           quantum = l.quantum;
         })
         l.spares
-        × IsTimed l.source l.boards.items) };
+        l.source };
 }
 
 impl<D: Device> Lab<D> {

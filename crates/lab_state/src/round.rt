@@ -105,10 +105,8 @@ fn take_slots<D: Device>(
     requires within { from.0 + q ≤ 10000000000 }
     requires standing { AreStanding (1000 * from.0) 0 (map number_of boards.old) }
     requires few { length boards.old ≤ 16 }
-    requires now { source.old.end ≡ from.0 }
-    requires timed { IsTimed source.old boards.old }
-    ensures now { OnOk result (source.new.end ≡ from.0 + q) }
-    ensures timed { OnOk result (IsTimed source.new boards.old) }
+    requires timed { IsTimed source.old from.0 boards.old }
+    ensures timed { OnOk result (IsTimed source.new (from.0 + q) boards.old) }
     ensures boards { OnOk result (boards.new
         ≡ map (stepped (granted from.0 (from.0 + q))) boards.old) }
     ensures posts { IfOk result (λ slots. slots.posts.items
@@ -148,10 +146,9 @@ fn play<D: Device>(
     requires within { source.old.end + q ≤ 10000000000 }
     requires standing { AreStanding (1000 * source.old.end) 0 (map number_of boards.old) }
     requires few { length boards.old ≤ 16 }
-    requires timed { IsTimed source.old boards.old }
+    requires timed { IsTimed source.old source.old.end boards.old }
     requires devices { AreDevices (outlines boards.old) hubs.now }
-    ensures now { OnOk result (source.new.end ≡ source.old.end + q) }
-    ensures timed { OnOk result (IsTimed source.new boards.new) }
+    ensures timed { OnOk result (IsTimed source.new (source.old.end + q) boards.old) }
     ensures played { IfOk result (λ log. ◌≡◌ {A = Played}
         (record { boards = boards.new; items = log.lines; paused = log.paused })
         (played source.old.end q hubs.now boards.old)) }

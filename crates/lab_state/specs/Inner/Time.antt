@@ -2,7 +2,7 @@
 use Rattle.std.specs.Prelude.{◌≡◌, ◌≤◌, ℕ, false, List, map}
 use Rattle.std.specs.Option.{option_map_or}
 use Rattle.time_handle.specs.Grant.{Grant, fresh, paid_by}
-use Rattle.time_source.specs.Tree.{Tree, with_speed}
+use Rattle.time_source.specs.Tree.{Tree, elapsed, with_speed}
 use Rattle.lab_state.specs.declared.change.Change.{Change}
 use Rattle.lab_state.specs.declared.change.Change.TheVariants as change
 use Rattle.lab_state.specs.Board.{Board}
@@ -11,9 +11,10 @@ use Rattle.lab_state.specs.Board.{Board}
 abbrev pub speed_of : Board → ℕ
 speed_of board = option_map_or (λ v. v.numbers.speed) board.view 1
 
--- no grant is open, and the members have the boards' speeds
-pub record IsTimed (source : Tree) (boards : List Board) : Type 0 where
+-- no grant is open, the time that has passed is this, and the members have the boards' speeds
+pub record IsTimed (source : Tree) (now : ℕ) (boards : List Board) : Type 0 where
   pub closed : source.is_open ≡ false
+  pub time : elapsed source ≡ now
   pub speeds : map (λ g. g.speed) source.handles ≡ map speed_of boards
 
 -- the part of a board in the grant of a round, and the same when its slots are used
