@@ -110,35 +110,41 @@ module _ {source : Tree} {now : ℕ} {boards : List Board} (timed : IsTimed sour
 -- the part of the member that comes next
 pub part_at :
     (boards : List Board) {now : List Board} {all handles : List Grant} (part : Board → Grant) (spend : Grant → Grant)
-    (step : Board → Board) (i : ℕ) {board : Board} {g : Grant} →
+    (step : Board → Board) (i : ℕ) (d : Board) {g : Grant} →
     all ≡ map part boards → handles ≡ map spend (take i all) ++ drop i all →
-    now ≡ map step (take i boards) ++ drop i boards → board ≡ get_or now i board → i < length boards →
-    slice_get handles i ≡ Some g → g ≡ part board
-part_at boards {all = all} {handles = handles} part spend step i {board = board} {g = g} all_are so_far boards_are is below
-    at =
-    let here : board ≡ get_or boards i board =
-    is ∙ ap (λ bs. get_or bs i board) boards_are ∙ not_yet step boards i board in
-    let found : slice_get (map part boards) i ≡ Some (part board) =
-    slice_get-map part boards i ∙ ap (option_map part) (slice_get-get_or boards i board below ∙ ap Some (sym here)) in
+    now ≡ map step (take i boards) ++ drop i boards → i < length boards → slice_get handles i ≡ Some g →
+    g ≡ part (get_or now i d)
+part_at boards {all = all} {handles = handles} part spend step i d {g = g} all_are so_far boards_are below at =
+    let here = ap (λ bs. get_or bs i d) boards_are ∙ not_yet step boards i d in
+    let found : slice_get (map part boards) i ≡ Some (part (get_or boards i d)) =
+    slice_get-map part boards i ∙ ap (option_map part) (slice_get-get_or boards i d below) in
     sym (get_or_from_slice_get handles i g g at) ∙ ap (λ gs. get_or gs i g) so_far ∙ not_yet spend all i g
-    ∙ ap (λ gs. get_or gs i g) all_are ∙ get_or_from_slice_get (map part boards) i (part board) g found
+    ∙ ap (λ gs. get_or gs i g) all_are
+    ∙ get_or_from_slice_get (map part boards) i (part (get_or boards i d)) g found ∙ ap part (sym here)
 
 -- a source whose members so far have used their parts
-module _ (first : Tree) {source : Tree} (i : ℕ)
+module _ (first : Tree) {source : Tree} (boards : List Board) (part : Board → Grant) (i : ℕ)
+    (parts_are : first.handles ≡ map part boards) (below : i < length boards)
     (so_far : source ≡ record first { handles = map used_up (take i first.handles) ++ drop i first.handles }) where
-  pub members_stay : length source.handles ≡ length first.handles
-  members_stay = grind (arith, common_steps, ap (λ (t : Tree). length t.handles) so_far)
+  within : i < length first.handles
+  within = omega (arith, ap length parts_are, length-map boards part)
+
+  pub next_within : i < length source.handles
+  next_within =
+      let stay : length source.handles ≡ length first.handles =
+      grind (arith, common_steps, ap (λ (t : Tree). length t.handles) so_far) in
+      omega (arith, within)
 
   -- and the next one too
   pub used_next :
-      {next : Tree} {old used : Grant} → i < length first.handles → slice_get source.handles i ≡ Some old →
-      used ≡ used_up old → next ≡ record source { handles = slice_set source.handles i used } →
+      {next : Tree} {old used : Grant} → slice_get source.handles i ≡ Some old → used ≡ used_up old →
+      next ≡ record source { handles = slice_set source.handles i used } →
       next ≡ record first { handles = map used_up (take (i + 1) first.handles) ++ drop (i + 1) first.handles }
-  used_next {old = old} {used = used} below at used_is placed =
+  used_next {old = old} {used = used} at used_is placed =
       placed ∙ ap (λ (t : Tree). record t { handles = slice_set source.handles i used }) so_far
       ∙ ap (λ handles. record first { handles = handles })
       (ap (slice_set source.handles i) used_is
-      ∙ map_over_more used_up first.handles source.handles i old below (ap (λ (t : Tree). t.handles) so_far)
+      ∙ map_over_more used_up first.handles source.handles i old within (ap (λ (t : Tree). t.handles) so_far)
       (sym (get_or_from_slice_get source.handles i old old at)))
 
 -- a member whose part is used up is later than before

@@ -13,14 +13,14 @@ invariant-loop-n g l = record {
       ≡ record l.fn.source { handles = map used_up (take l.n l.fn.source.handles) ++ drop l.n l.fn.source.handles };
   boards :
       l.boards
-      ≡ map (stepped (granted l.from.0 (l.from.0 + l.q))) (take l.n l.fn.boards)
+      ≡ map (stepped (granted l.fn.from.0 (l.fn.from.0 + l.fn.q))) (take l.n l.fn.boards)
       ++ drop l.n l.fn.boards;
   posts :
       l.made.posts.items
       ≡ l.fn.made.posts.items
-      ++ flat_map (posts_made (granted l.from.0 (l.from.0 + l.q))) (take l.n l.fn.boards);
+      ++ flat_map (posts_made (granted l.fn.from.0 (l.fn.from.0 + l.fn.q))) (take l.n l.fn.boards);
   entries :
       all_entries l.made.entries.items
       ≡ all_entries l.fn.made.entries.items
-      ++ flat_map (entries_made (granted l.from.0 (l.from.0 + l.q))) (take l.n l.fn.boards);
+      ++ flat_map (entries_made (granted l.fn.from.0 (l.fn.from.0 + l.fn.q))) (take l.n l.fn.boards);
 }
