@@ -1,7 +1,7 @@
 -- The steps of a round, and what they keep.
 use Rattle.std.proofs.Common.{◌≡◌, ◌∙◌, sym, ap, refl, Bool, true, false, cond, not, ℕ, zero, suc, ◌+◌, ◌-◌, ◌*◌, ◌^◌}
 use Rattle.std.proofs.Common.{◌<◌, ◌≤◌, List, [], ◌∷◌, ◌++◌, length, map, fold, find, unwrap_or, get_or, slice_get}
-use Rattle.std.proofs.Common.{Option, Some, None, take, drop, add-zero, arith}
+use Rattle.std.proofs.Common.{Option, Some, None, take, drop, subst, add-zero, arith}
 use Rattle.std.specs.Prelude.{IsSome, is_none}
 use Rattle.std.proofs.lemmas.List.{map-append}
 use Rattle.std.proofs.lemmas.List.Elements.{All-nil, All-filter, All-weaker}
@@ -40,7 +40,7 @@ use Rattle.lab_state.proofs.ListLemmas.{map-change, map-map_same, not_yet, posit
 use Rattle.lab_state.proofs.KeyLemmas.{Ascend, none_ascend, board_ascends, ascend_any}
 use Rattle.lab_state.proofs.SoundLemmas.{sound-same}
 use Rattle.lab_state.proofs.ChangeLemmas.{same_part, same_speed, outline-view}
-use Rattle.lab_state.proofs.TimeLemmas.{timed-others}
+use Rattle.lab_state.proofs.TimeLemmas.{end_is, timed-others}
 
 -- ---- what handing over keeps
 
@@ -252,27 +252,28 @@ outlines-stepped law from to boards =
     map-map_same outline (stepped (granted from to))
     (outline-view (λ v. (granted from to v).view) (λ v. law v from 0 _)) boards
 
--- a laboratory after a round
+-- a laboratory after a round, at the time of its source
 pub sound-round :
     Numbering → PlanKeeping → {lab : Lab} {spares : Spares} {source next : Tree} (q : ℕ) →
     lab.now + q ≤ 10000000000 → IsTimed next (lab.now + q) lab.boards → IsSound lab spares source →
-    IsSound (record lab { boards = (played lab.now q lab.hubs lab.boards).boards; now = lab.now + q }) spares next
+    IsSound (record lab { boards = (played lab.now q lab.hubs lab.boards).boards; now = next.end }) spares next
 unfolding boundary
-sound-round law plans {lab = lab} q within timed sound =
+sound-round law plans {lab = lab} {spares = spares} {next = next} q within timed sound =
     let grant = granted lab.now (lab.now + q) in
     let posts = listing post_key (flat_map (posts_made grant) lab.boards) in
-    sound-same (played lab.now q lab.hubs lab.boards).boards (lab.now + q)
+    let boards = (played lab.now q lab.hubs lab.boards).boards in
+    let start : Handed = record { boards = map (stepped grant) lab.boards; notes = [] } in
+    let numbers = map-routes number_of
+    (λ dev payload board. same_part (λ v. v.numbers) (λ v. handed v dev payload) (λ v. refl) board.view) (lab.now + q)
+    (members_of lab.hubs) start posts in
+    let speeds = map-routes speed_of (λ dev payload. same_speed (λ v. handed v dev payload) (λ v. refl)) (lab.now + q)
+    (members_of lab.hubs) start posts in
+    subst (λ (now : ℕ). IsSound (record lab { boards = boards; now = now }) spares next) (sym (end_is timed))
+    (sound-same boards (lab.now + q)
     (outlines-routes (lab.now + q) lab.hubs (map (stepped grant) lab.boards) posts
     ∙ outlines-stepped plans lab.now (lab.now + q) lab.boards)
-    (rw (map-routes number_of (λ dev payload board. same_part (λ v. v.numbers) (λ v. handed v dev payload) (λ v. refl)
-    board.view) (lab.now + q) (members_of lab.hubs)
-    (record { boards = map (stepped grant) lab.boards; notes = [] }) posts)
-    (standing_stepped law lab.now q within 0 lab.boards sound.standing)) within
-    (timed-others timed
-    (map-routes speed_of (λ dev payload. same_speed (λ v. handed v dev payload) (λ v. refl)) (lab.now + q)
-    (members_of lab.hubs) (record { boards = map (stepped grant) lab.boards; notes = [] }) posts
-    ∙ speeds_stepped law lab.now q within 0 lab.boards sound.standing))
-    sound
+    (rw numbers (standing_stepped law lab.now q within 0 lab.boards sound.standing)) within
+    (timed-others timed (speeds ∙ speeds_stepped law lab.now q within 0 lab.boards sound.standing)) sound)
 
 -- every board has a plan after a round if it had one before
 is_none-map : {A : Type 0} (f : A → A) (o : Option A) → is_none (option_map f o) ≡ is_none o

@@ -7,8 +7,8 @@ use Rattle.lab_state.proofs.RoundLemmas.{given_back, sound-round, plans-round, r
 use Rattle.lab_state.proofs.TimeLemmas.{end_is}
 use Rattle.lab_state.proofs.lab.Lab.round.Goals as goal
 
-pub invariant_of-self-2 : goal.invariant_of-self-2
-invariant_of-self-2 g c h =
+pub invariant_of-self : goal.invariant_of-self
+invariant_of-self g c h =
     let now : c.self.inside.source.end ≡ c.args.self.now.lab.now = ap (λ s. s.lab.now) c.self.view_is in
     let within : c.self.inside.source.end + c.args.q ≤ 10000000000 =
     omega (arith, now, c.requires.within (sym (ap (λ s. s.spent) c.self.view_is) ∙ c.if-self.false)) in
@@ -18,7 +18,6 @@ invariant_of-self-2 g c h =
       given_back c.play.new.boards c.self.inside.boards.items c.self.inside.boards.len
           (omega (arith, c.deref_mut.ensures.len)),
       ap (λ (p : Played). p.boards) made,
-      end_is timed,
     )
     (sound-round c.stretches_number.ensures c.stretches_keep_plans.ensures c.args.q within timed
     (c.self.invariant c.if-self.false))
