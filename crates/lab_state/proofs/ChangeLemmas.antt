@@ -1,6 +1,6 @@
 -- Changes of one board, and what they keep.
 use Rattle.std.proofs.Common.{◌≡◌, ◌∙◌, sym, ap, refl, ℕ, ◌+◌, ◌<◌, List, [], ◌∷◌, length}
-use Rattle.std.proofs.Common.{set, get_or, Option, Some, None, subst, arith}
+use Rattle.std.proofs.Common.{set, get_or, Option, Some, None, arith}
 use Rattle.std.specs.Prelude.{IsSome, option_and_then}
 use Rattle.std.specs.Option.{option_map, option_map_or, ForSome}
 use Rattle.std.proofs.lemmas.Grind.{common_steps}

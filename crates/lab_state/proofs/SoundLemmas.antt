@@ -269,8 +269,8 @@ none_of : (o : Option View) → is_some o ≡ false → o ≡ None
 none_of o is = grind (arith, common_steps)
 
 module _ {lab now : Lab} {spares : Spares} {source : Tree} {planned : Bool} (i : ℕ) (plan : BoardPlan)
-    (sound : IsSound lab spares source) (same : lab ≡ now) (exists : i < length now.boards) (asked : planned ≡ is_some (view_of now i))
-    (unplanned : planned ≡ false) (valid : IsValid plan) where
+    (sound : IsSound lab spares source) (same : lab ≡ now) (exists : i < length now.boards)
+    (asked : planned ≡ is_some (view_of now i)) (unplanned : planned ≡ false) (valid : IsValid plan) where
   below : i < length lab.boards
   below = rw same exists
 

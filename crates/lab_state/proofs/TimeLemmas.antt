@@ -1,9 +1,8 @@
 -- The members of the source of time are the boards.
 use Rattle.std.proofs.Common.{◌≡◌, ◌∙◌, sym, ap, refl, ℕ, ◌+◌, ◌<◌, List, [], ◌∷◌, ◌++◌, length, map, set, get_or, take}
-use Rattle.std.proofs.Common.{drop, slice_get, true, false, Option, None, Some, arith}
+use Rattle.std.proofs.Common.{drop, slice_get, false, Option, None, Some, arith}
 use Rattle.std.specs.Prelude.{◌↔◌, IsNone, OnSome, slice_set}
 use Rattle.lab_num.specs.declared.number.BoardNo.{BoardNo}
-use Rattle.std.specs.List.{All}
 use Rattle.std.specs.Option.{option_map, ForSome}
 use Rattle.std.proofs.lemmas.Grind.{common_steps}
 use Rattle.std.proofs.lemmas.List.{length-map, map-append, map-set}
@@ -12,7 +11,7 @@ use Rattle.std.proofs.lemmas.Option.{slice_get-map, slice_get-get_or, get_or_fro
 use Rattle.std.proofs.lemmas.List.Edits.{map_over_more}
 use Rattle.std.proofs.lemmas.Simd.{map-map}
 use Rattle.std.proofs.Math.Seq.{map-set_same}
-use Rattle.time_handle.specs.Grant.{Grant, fresh, paid_by, left}
+use Rattle.time_handle.specs.Grant.{Grant, fresh, left}
 use Rattle.time_source.specs.Tree.{Tree, IsLater, IsDone, new, with_member, with_speed, granted}
 use Rattle.lab_state.specs.Board.{Board}
 use Rattle.lab_state.specs.Inner.Time.{speed_of, part_of, used_up, IsTimed}

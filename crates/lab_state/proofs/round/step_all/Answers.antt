@@ -1,5 +1,5 @@
 -- One board more has taken its slots, and its part of the grant is used up.
-use Rattle.std.proofs.Common.{◌≡◌, ◌∙◌, sym, ap, refl, ◌+◌, ◌*◌, ◌<◌, ◌++◌, length, set, get_or, arith}
+use Rattle.std.proofs.Common.{◌≡◌, ◌∙◌, sym, ap, refl, ◌+◌, ◌*◌, ◌++◌, set, get_or, arith}
 use Rattle.std.proofs.lemmas.List.Edits.{map_over_more}
 use Rattle.log_merge.specs.Merge.{all_entries}
 use Rattle.std.specs.Option.{option_map}
@@ -47,7 +47,8 @@ put-requires-clause-later g c =
     let part = part_at c.args.boards.now (part_of c.args.from.0 to) used_up (stepped (granted c.args.from.0 to))
     c.loop-n.n c.index-boards-n.result c.requires.parts (ap (λ (t : Tree). t.handles) c.loop-n.invariant.source)
     c.loop-n.invariant.boards c.loop-n-test.true c.handle-grant.ensures in
-    later_used c.args.from.0 to (get_or c.loop-n.boards c.loop-n.n c.index-boards-n.result) c.handle-grant.ensures part c.in_ok-step.ensures.used
+    later_used c.args.from.0 to (get_or c.loop-n.boards c.loop-n.n c.index-boards-n.result) c.handle-grant.ensures part
+    c.in_ok-step.ensures.used
 
 pub loop-n-preserved : goal.loop-n-preserved
 loop-n-preserved g c =

@@ -14,5 +14,6 @@ invariant_of-self-2 g c h =
     ∙ ap (is_taken c.args.self.now.lab) c.in_ok-text.ensures ∙ sym c.is_taken.ensures ∙ c.if-is_taken.false in
     let room : length c.self.inside.boards.items < 16 = omega arith in
     let sound = c.self.invariant unspent in
-    rw (c.in_ok-push.ensures.ok, c.new.ensures, joined sound.timed _ c.add-member.ensures.full c.add-member.ensures.added room)
+    let member = joined sound.timed _ c.add-member.ensures.full c.add-member.ensures.added room in
+    rw (c.in_ok-push.ensures.ok, c.new.ensures, member)
     (sound-push c.in_ok-text.text sound room free)
