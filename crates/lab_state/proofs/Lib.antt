@@ -5,5 +5,6 @@ pub mod SpareLemmas
 pub mod SoundLemmas
 pub mod ChangeLemmas
 pub mod KeyLemmas
+pub mod TimeLemmas
 pub mod RoundLemmas
 pub mod RunLemmas

@@ -1,7 +1,7 @@
 -- The steps of a round, and what they keep.
 use Rattle.std.proofs.Common.{◌≡◌, ◌∙◌, sym, ap, refl, Bool, true, false, cond, not, ℕ, zero, suc, ◌+◌, ◌-◌, ◌*◌, ◌^◌}
 use Rattle.std.proofs.Common.{◌<◌, ◌≤◌, List, [], ◌∷◌, ◌++◌, length, map, fold, find, unwrap_or, get_or, slice_get}
-use Rattle.std.proofs.Common.{Option, Some, None, take, drop, add-zero, arith}
+use Rattle.std.proofs.Common.{Option, Some, None, take, drop, subst, add-zero, arith}
 use Rattle.std.specs.Prelude.{IsSome, is_none}
 use Rattle.std.proofs.lemmas.List.{map-append}
 use Rattle.std.proofs.lemmas.List.Elements.{All-nil, All-filter, All-weaker}
@@ -24,6 +24,7 @@ use Rattle.board.specs.View.{View, State}
 use Rattle.board.specs.Stretch.{stretch}
 use Rattle.board.specs.Numbered.{IsNumbered, AreNumbered}
 use Rattle.board.specs.Changes.{handed}
+use Rattle.time_source.specs.Tree.{Tree}
 use Rattle.lab_state.specs.Board.{Board}
 use Rattle.lab_state.specs.Boundary.{Handed, to_member, to_route, to_routes, boundary}
 use Rattle.lab_state.specs.Hub.{Hub, members_of}
@@ -34,10 +35,12 @@ use Rattle.lab_state.specs.Inner.End.{Played, played}
 use Rattle.lab_state.specs.Inner.Spares.{Spares}
 use Rattle.lab_state.specs.Inner.Standing.{Outline, outline, outlines, number_of, IsStanding, AreStanding}
 use Rattle.lab_state.specs.Inner.Standing.{kind_of_outline, kind_in, IsDevice, AreDevices, IsSound}
+use Rattle.lab_state.specs.Inner.Time.{speed_of, IsTimed}
 use Rattle.lab_state.proofs.ListLemmas.{map-change, map-map_same, not_yet, position-map}
 use Rattle.lab_state.proofs.KeyLemmas.{Ascend, none_ascend, board_ascends, ascend_any}
 use Rattle.lab_state.proofs.SoundLemmas.{sound-same}
-use Rattle.lab_state.proofs.ChangeLemmas.{same_part, outline-view}
+use Rattle.lab_state.proofs.ChangeLemmas.{same_part, same_speed, outline-view}
+use Rattle.lab_state.proofs.TimeLemmas.{end_is, timed-others}
 
 -- ---- what handing over keeps
 
@@ -168,6 +171,22 @@ module _ (law : Numbering) (from q : ℕ) (within : from + q ≤ 10000000000) wh
   standing_stepped b (board ∷ boards) are =
       (standing_one b board.view are.0, standing_stepped (b + 1) boards are.1)
 
+  speed_one :
+      (b : ℕ) (o : Option View) → ForSome (option_map (λ v. v.numbers) o) (IsStanding (1000 * from) b) →
+      option_map_or (λ v. v.numbers.speed) (option_map (λ v. (granted from (from + q) v).view) o) 1
+      ≡ option_map_or (λ v. v.numbers.speed) o 1
+  speed_one b None is = refl
+  speed_one b (Some v) is = (numbered b v (is v.numbers refl)).speed
+
+  speeds_stepped :
+      (b : ℕ) (boards : List Board) → AreStanding (1000 * from) b (map number_of boards) →
+      map speed_of (map (stepped (granted from (from + q))) boards) ≡ map speed_of boards
+  speeds_stepped b [] are = refl
+  speeds_stepped b (board ∷ boards) are =
+      let here = speed_one b board.view are.0 in
+      let others = speeds_stepped (b + 1) boards are.1 in
+      cc
+
   module _ {T : Type 0} (key : T → Key) (made : State → List T)
       (keys : (b : ℕ) (v : View) → IsStanding (1000 * from) b v.numbers → (first : ℕ) × AreNumbered b first
       (map key (made (granted from (from + q) v)))) where
@@ -233,21 +252,28 @@ outlines-stepped law from to boards =
     map-map_same outline (stepped (granted from to))
     (outline-view (λ v. (granted from to v).view) (λ v. law v from 0 _)) boards
 
--- a laboratory after a round
+-- a laboratory after a round, at the time of its source
 pub sound-round :
-    Numbering → PlanKeeping → {lab : Lab} {spares : Spares} (q : ℕ) → lab.now + q ≤ 10000000000 → IsSound lab spares →
-    IsSound (record lab { boards = (played lab.now q lab.hubs lab.boards).boards; now = lab.now + q }) spares
+    Numbering → PlanKeeping → {lab : Lab} {spares : Spares} {source next : Tree} (q : ℕ) →
+    lab.now + q ≤ 10000000000 → IsTimed next (lab.now + q) lab.boards → IsSound lab spares source →
+    IsSound (record lab { boards = (played lab.now q lab.hubs lab.boards).boards; now = next.end }) spares next
 unfolding boundary
-sound-round law plans {lab = lab} q within sound =
+sound-round law plans {lab = lab} {spares = spares} {next = next} q within timed sound =
     let grant = granted lab.now (lab.now + q) in
     let posts = listing post_key (flat_map (posts_made grant) lab.boards) in
-    sound-same (played lab.now q lab.hubs lab.boards).boards (lab.now + q)
+    let boards = (played lab.now q lab.hubs lab.boards).boards in
+    let start : Handed = record { boards = map (stepped grant) lab.boards; notes = [] } in
+    let numbers = map-routes number_of
+    (λ dev payload board. same_part (λ v. v.numbers) (λ v. handed v dev payload) (λ v. refl) board.view) (lab.now + q)
+    (members_of lab.hubs) start posts in
+    let speeds = map-routes speed_of (λ dev payload. same_speed (λ v. handed v dev payload) (λ v. refl)) (lab.now + q)
+    (members_of lab.hubs) start posts in
+    subst (λ (now : ℕ). IsSound (record lab { boards = boards; now = now }) spares next) (sym (end_is timed))
+    (sound-same boards (lab.now + q)
     (outlines-routes (lab.now + q) lab.hubs (map (stepped grant) lab.boards) posts
     ∙ outlines-stepped plans lab.now (lab.now + q) lab.boards)
-    (rw (map-routes number_of (λ dev payload board. same_part (λ v. v.numbers) (λ v. handed v dev payload) (λ v. refl)
-    board.view) (lab.now + q) (members_of lab.hubs)
-    (record { boards = map (stepped grant) lab.boards; notes = [] }) posts)
-    (standing_stepped law lab.now q within 0 lab.boards sound.standing)) within sound
+    (rw numbers (standing_stepped law lab.now q within 0 lab.boards sound.standing)) within
+    (timed-others timed (speeds ∙ speeds_stepped law lab.now q within 0 lab.boards sound.standing)) sound)
 
 -- every board has a plan after a round if it had one before
 is_none-map : {A : Type 0} (f : A → A) (o : Option A) → is_none (option_map f o) ≡ is_none o

@@ -30,21 +30,26 @@ use Rattle.lab_state.specs.Change.{change_at}
 use Rattle.lab_state.specs.Hub.{Hub}
 use Rattle.lab_state.specs.Lab.{Lab, Seen}
 use Rattle.lab_state.specs.Names.{is_taken}
-use Rattle.lab_state.specs.One.{view_at, view_of, kind_at, with_member}
+use Rattle.lab_state.specs.One as one
+use Rattle.lab_state.specs.One.{view_at, view_of, kind_at}
+use Rattle.time_source.specs.Tree.{Tree, new, with_member, with_speed}
 use Rattle.lab_state.specs.Inner.Spares.{Spares, full, HasFor, HasRoomFor, AreTaken}
 use Rattle.lab_state.specs.Inner.Standing.{Outline, outline, outlines, number_of, IsStanding, AreStanding, IsKept}
 use Rattle.lab_state.specs.Inner.Standing.{kind_of_outline, kind_in, AreMembers, AreDevices, count_of_plans, IsSound}
+use Rattle.lab_state.specs.Inner.Time.{IsTimed}
 use Rattle.lab_state.proofs.ListLemmas.{set-change, map-change, each-weaker, found-push, found-set}
 use Rattle.lab_state.proofs.ListLemmas.{none_has, board_more, hub_more}
+use Rattle.lab_state.proofs.TimeLemmas.{timed-new, timed-push, timed-speed}
 
 -- ---- other boards of the same outlines
 
 -- some time later
 pub sound-same :
-    {lab : Lab} {spares : Spares} (others : List Board) (later : ℕ) → outlines others ≡ outlines lab.boards →
-    AreStanding (1000 * later) 0 (map number_of others) → later ≤ 10000000000 → IsSound lab spares →
-    IsSound (record lab { boards = others; now = later }) spares
-sound-same {lab = lab} others later same standing within sound =
+    {lab : Lab} {spares : Spares} {source next : Tree} (others : List Board) (later : ℕ) →
+    outlines others ≡ outlines lab.boards → AreStanding (1000 * later) 0 (map number_of others) →
+    later ≤ 10000000000 → IsTimed next later others → IsSound lab spares source →
+    IsSound (record lab { boards = others; now = later }) spares next
+sound-same {lab = lab} others later same standing within timed sound =
     let names : map (λ board. board.name) others ≡ map (λ board. board.name) lab.boards =
     sym (map-map (λ (o : Outline). o.name) outline others) ∙ ap (map (λ (o : Outline). o.name)) same
     ∙ map-map (λ (o : Outline). o.name) outline lab.boards in
@@ -60,6 +65,7 @@ sound-same {lab = lab} others later same standing within sound =
         least_quantum = sound.times.least_quantum;
         most_quantum = sound.times.most_quantum;
       };
+      timed = timed;
     }
 
 -- one of them written over
@@ -83,13 +89,14 @@ numbers-set most boards i {old = old} new is keeps are =
 
 -- one board changed
 pub sound-set :
-    {lab : Lab} {spares : Spares} (i : ℕ) {old new : Board} → old ≡ get_or lab.boards i old → IsKept old new →
-    IsSound lab spares → IsSound (record lab { boards = set lab.boards i new }) spares
-sound-set {lab = lab} i {old = old} {new = new} is kept sound =
+    {lab : Lab} {spares : Spares} {source next : Tree} (i : ℕ) {old new : Board} → old ≡ get_or lab.boards i old →
+    IsKept old new → IsTimed next lab.now (set lab.boards i new) → IsSound lab spares source →
+    IsSound (record lab { boards = set lab.boards i new }) spares next
+sound-set {lab = lab} i {old = old} {new = new} is kept timed sound =
     sound-same (set lab.boards i new) lab.now
     (map-set_same outline lab.boards i new old (kept.same ∙ ap outline is))
     (numbers-set (1000 * lab.now) lab.boards i new is (kept.stands (1000 * lab.now) (0 + i)) sound.standing)
-    sound.times.time sound
+    sound.times.time timed sound
 
 -- and what it is seen as
 pub seen_set :
@@ -101,7 +108,7 @@ seen_set {lab = lab} F i is at made = rw (← is, set-change F lab.boards i at m
 
 -- ---- a laboratory without boards and hubs
 
-pub sound-new : IsSound (record { boards = []; hubs = []; now = 0; quantum = 100 }) full
+pub sound-new : IsSound (record { boards = []; hubs = []; now = 0; quantum = 100 }) full new
 sound-new = record {
   few_boards = omega arith;
   standing = tt;
@@ -118,6 +125,7 @@ sound-new = record {
     finishers = omega arith;
   };
   times = record { time = omega arith; least_quantum = omega arith; most_quantum = omega arith };
+  timed = timed-new;
 }
 
 -- ---- a board more
@@ -154,9 +162,10 @@ unnamed lab name free =
 
 -- a laboratory with a name more
 pub sound-push :
-    {lab : Lab} {spares : Spares} (name : List ℕ) → IsSound lab spares → length lab.boards < 16 →
-    is_taken lab name ≡ false →
+    {lab : Lab} {spares : Spares} {source : Tree} (name : List ℕ) → IsSound lab spares source →
+    length lab.boards < 16 → is_taken lab name ≡ false →
     IsSound (record lab { boards = lab.boards ++ record { name = name; view = None } ∷ [] }) spares
+    (with_member source 1)
 sound-push {lab = lab} name sound room free =
     let board : Board = record { name = name; view = None } in
     let os = outlines lab.boards in
@@ -174,14 +183,15 @@ sound-push {lab = lab} name sound room free =
           rw map-append (board_more name (unnamed lab name free).0 (unnamed lab name free).1 sound.names);
       enough = rw (pushed, plans) sound.enough;
       times = sound.times;
+      timed = timed-push sound.timed name;
     }
 
 -- ---- hubs
 
 -- a laboratory with a hub more
 pub sound-hub :
-    {lab : Lab} {spares : Spares} (hub : Hub) → IsSound lab spares → hub.members ≡ [] → is_taken lab hub.name ≡ false →
-    IsSound (record lab { hubs = lab.hubs ++ hub ∷ [] }) spares
+    {lab : Lab} {spares : Spares} {source : Tree} (hub : Hub) → IsSound lab spares source → hub.members ≡ [] →
+    is_taken lab hub.name ≡ false → IsSound (record lab { hubs = lab.hubs ++ hub ∷ [] }) spares source
 sound-hub {lab = lab} hub sound none free = record {
   few_boards = sound.few_boards;
   standing = sound.standing;
@@ -190,6 +200,7 @@ sound-hub {lab = lab} hub sound none free = record {
       rw map-append (hub_more hub.name (unnamed lab hub.name free).0 (unnamed lab hub.name free).1 sound.names);
   enough = sound.enough;
   times = sound.times;
+  timed = sound.timed;
 }
   where
     os : List Outline
@@ -201,16 +212,17 @@ sound-hub {lab = lab} hub sound none free = record {
 
 -- a laboratory with a member more in one of its hubs, of which a hub that has this number has the kind
 pub sound-member :
-    {lab : Lab} {spares : Spares} (n : ℕ) (m : Member) → IsSound lab spares →
+    {lab : Lab} {spares : Spares} {source : Tree} (n : ℕ) (m : Member) → IsSound lab spares source →
     ((hub : Hub) → slice_get lab.hubs n ≡ Some hub → kind_in (outlines lab.boards) m ≡ Some hub.kind) →
-    IsSound (record lab { hubs = change_at lab.hubs n (with_member m) }) spares
+    IsSound (record lab { hubs = change_at lab.hubs n (one.with_member m) }) spares source
 sound-member {lab = lab} n m sound kind = record {
   few_boards = sound.few_boards;
   standing = sound.standing;
   devices = member-change lab.hubs n kind sound.devices;
-  names = rw (map-change (λ (hub : Hub). hub.name) (with_member m) (λ hub. refl) lab.hubs n) sound.names;
+  names = rw (map-change (λ (hub : Hub). hub.name) (one.with_member m) (λ hub. refl) lab.hubs n) sound.names;
   enough = sound.enough;
   times = sound.times;
+  timed = sound.timed;
 }
   where
     os : List Outline
@@ -218,7 +230,7 @@ sound-member {lab = lab} n m sound kind = record {
 
     member-change :
         (hubs : List Hub) (n : ℕ) → ((hub : Hub) → slice_get hubs n ≡ Some hub → kind_in os m ≡ Some hub.kind) →
-        AreDevices os hubs → AreDevices os (change_at hubs n (with_member m))
+        AreDevices os hubs → AreDevices os (change_at hubs n (one.with_member m))
     member-change [] n kind all = tt
     member-change (hub ∷ hubs) zero kind all =
         (All-push (λ m. kind_in os m ≡ Some hub.kind) hub.members m all.0 (kind hub refl), all.1)
@@ -256,9 +268,9 @@ bare_at boards i none = grind (arith, common_steps, slice_get-map outline boards
 none_of : (o : Option View) → is_some o ≡ false → o ≡ None
 none_of o is = grind (arith, common_steps)
 
-module _ {lab now : Lab} {spares : Spares} {planned : Bool} (i : ℕ) (plan : BoardPlan) (sound : IsSound lab spares)
-    (same : lab ≡ now) (exists : i < length now.boards) (asked : planned ≡ is_some (view_of now i))
-    (unplanned : planned ≡ false) (valid : IsValid plan) where
+module _ {lab now : Lab} {spares : Spares} {source : Tree} {planned : Bool} (i : ℕ) (plan : BoardPlan)
+    (sound : IsSound lab spares source) (same : lab ≡ now) (exists : i < length now.boards)
+    (asked : planned ≡ is_some (view_of now i)) (unplanned : planned ≡ false) (valid : IsValid plan) where
   below : i < length lab.boards
   below = rw same exists
 
@@ -303,6 +315,7 @@ module _ {lab now : Lab} {spares : Spares} {planned : Bool} (i : ℕ) (plan : Bo
   pub sound-fit :
       (left : Spares) {old : Board} → old ≡ get_or lab.boards i old → AreTaken spares left plan.kinds →
       IsSound (record lab { boards = set lab.boards i (record old { view = Some (new_board i plan) }) }) left
+      (with_speed source i plan.speed)
   sound-fit left {old = old} is taken =
       let new : Board = record old { view = Some (new_board i plan) } in
       let os = outlines lab.boards in
@@ -338,20 +351,21 @@ module _ {lab now : Lab} {spares : Spares} {planned : Bool} (i : ℕ) (plan : Bo
           finishers = omega (arith, taken Finisher, is_small.finishers, plans, sound.enough.finishers);
         };
         times = sound.times;
+        timed = timed-speed sound.timed i new;
       }
 
 -- ---- devices that are given back
 
 -- there is room for what was taken
 pub room-for :
-    {lab : Lab} {spares : Spares} (left : Spares) (kinds : List Kind) → IsSound lab spares →
+    {lab : Lab} {spares : Spares} {source : Tree} (left : Spares) (kinds : List Kind) → IsSound lab spares source →
     AreTaken spares left kinds → HasRoomFor left kinds
 room-for left kinds sound taken = λ kind. omega (arith, taken kind, sound.enough.few kind)
 
 -- and then all are there again
 pub sound-back :
-    {lab : Lab} {spares : Spares} (left back : Spares) (kinds : List Kind) → IsSound lab spares →
-    AreTaken spares left kinds → AreTaken back left kinds → IsSound lab back
+    {lab : Lab} {spares : Spares} {source : Tree} (left back : Spares) (kinds : List Kind) →
+    IsSound lab spares source → AreTaken spares left kinds → AreTaken back left kinds → IsSound lab back source
 sound-back left back kinds sound taken given = record {
   few_boards = sound.few_boards;
   standing = sound.standing;
@@ -364,4 +378,5 @@ sound-back left back kinds sound taken given = record {
     finishers = omega (arith, taken Finisher, given Finisher, sound.enough.finishers);
   };
   times = sound.times;
+  timed = sound.timed;
 }

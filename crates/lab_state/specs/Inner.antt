@@ -6,3 +6,4 @@ pub mod Fault
 pub mod Hubs
 pub mod Spares
 pub mod Standing
+pub mod Time

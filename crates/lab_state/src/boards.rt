@@ -18,6 +18,9 @@ use lab_num::{BoardNo, Member, NoMemory, Text};
 /// The most boards that a laboratory has.
 const MOST_BOARDS: usize = 16;
 
+/// The speed at which a board without a plan is a member of the source of time.
+const LEAST_SPEED: u32 = 1;
+
 /// The number of the first board of this name.
 fn number_of<D: Device>(boards: &[NamedBoard<D>], name: &str) -> Option<usize>
     ensures { result ≡ position (λ board. bytes_eq board.name name.now) boards.now }
@@ -81,6 +84,7 @@ impl<D: Device> Lab<D> {
         let number = BoardNo(self.boards.len() as u8);
         let text = Text::of(self.alloc, name)?;
         push(&mut self.boards, NamedBoard::new(text))?;
+        let _member = self.source.add(LEAST_SPEED);
         Ok(number)
     }
 

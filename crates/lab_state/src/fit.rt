@@ -28,9 +28,11 @@ impl<D: Device> Lab<D> {
             return Err(FitFault::Has);
         }
         let devices = self.spares.take(self.alloc, plan.kinds.items())?;
+        let speed = plan.speed;
         match Board::new(self.alloc, board, plan, devices) {
             Ok(made) => {
                 self.boards[board.0 as usize].fit(made);
+                self.source.set_speed(board, speed);
                 Ok(())
             }
             Err(devices) => {

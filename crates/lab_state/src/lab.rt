@@ -8,11 +8,13 @@ use dev_core::{Device, Stock};
 use lab_num::{Micros, NoMemory};
 use std::alloc::Global;
 use std::marker::Model;
+use time_source::Source;
 
 /// The quantum of a new laboratory, in microseconds.
 const QUANTUM: u64 = 100;
 
-/// Boards and the hubs between them, paused between two rounds. It is spent once memory ran out
+/// Boards and the hubs between them, paused between two rounds. Each board is a member of the source
+/// of time, at the board's speed, and one without a plan at the least. It is spent once memory ran out
 /// inside a round.
 #[derive(Drop)]
 pub struct Lab<D: Device> {
@@ -20,7 +22,7 @@ pub struct Lab<D: Device> {
     pub(crate) boards: Vec<NamedBoard<D>>,
     pub(crate) hubs: HubList,
     pub(crate) spares: Spares<D>,
-    pub(crate) time: Micros,
+    pub(crate) source: Source,
     pub(crate) quantum: u64,
     pub(crate) spent: bool,
 }
@@ -36,7 +38,7 @@ impl<D: Device> Model for Lab<D> {
       lab = record {
         boards = l.boards.items;
         hubs = l.hubs;
-        now = l.time.0;
+        now = l.source.end;
         quantum = l.quantum;
       };
       spent = l.spent;
@@ -46,10 +48,11 @@ impl<D: Device> Model for Lab<D> {
         (record {
           boards = l.boards.items;
           hubs = l.hubs;
-          now = l.time.0;
+          now = l.source.end;
           quantum = l.quantum;
         })
-        l.spares };
+        l.spares
+        l.source };
 }
 
 impl<D: Device> Lab<D> {
@@ -71,7 +74,7 @@ impl<D: Device> Lab<D> {
             boards: Vec::new(alloc),
             hubs: HubList::new(alloc),
             spares: Spares::of(stock),
-            time: Micros(0),
+            source: Source::new(),
             quantum: QUANTUM,
             spent: false,
         })
@@ -83,7 +86,7 @@ impl<D: Device> Lab<D> {
         ensures value { result.0 ≡ self.now.lab.now }
         ensures last { result.0 ≤ 10000000000 }
     {
-        self.time
+        self.source.elapsed()
     }
 
     /// The length of a round in a run, in microseconds.

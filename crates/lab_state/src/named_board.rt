@@ -5,19 +5,22 @@ ghost use Rattle.std.specs.Option.{option_map, ForSome};
 ghost use Rattle.log_merge.specs.Merge.{all_entries};
 ghost use Rattle.board.specs.Changes.{with_bytes, handed, holds_each};
 ghost use Rattle.board.specs.View.{quiet};
+ghost use Rattle.time_handle.specs.Grant.{fresh};
 ghost use Rattle.lab_state.specs.Boundary as boundary_spec;
 ghost use Rattle.lab_state.specs.Boundary.{note_by};
 ghost use Rattle.lab_state.specs.Inner.Change.{changed_by, MayChange};
+ghost use Rattle.lab_state.specs.Inner.Time.{part_of, used_up};
 ghost use Rattle.lab_state.specs.One.{with_view};
 ghost use Rattle.lab_state.specs.Round.{granted, stepped, posts_made, entries_made};
 
 use crate::change::Change;
 use board::{Board, SlotAt, Turn};
 use dev_core::{Device, Entry, Kind, Payload, Post, Taken};
-use lab_num::{Micros, NoMemory, Text};
+use lab_num::{NoMemory, Text};
 use log_merge::Note;
 use std::marker::Model;
 use sys_bus::BoardPlan;
+use time_handle::Handle;
 
 /// A name, and the board under it if there is one. Nobody is yet to take a post or an entry of it.
 #[derive(Drop)]
@@ -61,29 +64,42 @@ fn take_posts<D: Device>(board: &mut Board<D>, posts: &mut Vec<Post>) -> Result<
     Ok(())
 }
 
-/// Gives a board the slots of a round, and takes what it has made.
+/// Uses all slots of a grant.
+fn use_up(grant: &mut Handle)
+    ensures { grant.new ≡ used_up grant.old }
+{
+    let _report = grant.used(grant.left());
+}
+
+/// Gives a board the slots of a grant, and takes what it has made.
 fn step_board<D: Device>(
     board: &mut Board<D>,
-    from: Micros,
-    q: u64,
+    grant: &mut Handle,
     made: &mut Made,
 ) -> Result<(), NoMemory>
-    requires within { from.0 + q ≤ 10000000000 }
+    requires within { grant.old.to ≤ 10000000000 }
+    requires part { grant.old
+        ≡ fresh grant.old.from grant.old.to board.old.view.numbers.speed }
     requires quiet { board.old ≡ quiet board.old.view }
     requires posts { board.old.view.numbers.posted ≤ 10000000000000 }
     requires entries { board.old.view.numbers.entered ≤ 10000000000000 }
+    ensures used { OnOk result (grant.new ≡ used_up grant.old) }
     ensures board { OnOk result (board.new
-        ≡ quiet (granted from.0 (from.0 + q) board.old.view).view) }
+        ≡ quiet (granted grant.old.from grant.old.to board.old.view).view) }
     ensures posts { OnOk result (made.new.posts.items
-        ≡ made.old.posts.items ++ (granted from.0 (from.0 + q) board.old.view).posts) }
+        ≡ made.old.posts.items ++ (granted grant.old.from grant.old.to board.old.view).posts) }
     ensures entries { OnOk result (all_entries made.new.entries.items
         ≡ all_entries made.old.entries.items
-        ++ (granted from.0 (from.0 + q) board.old.view).entries) }
+        ++ (granted grant.old.from grant.old.to board.old.view).entries) }
 {
-    let slots = q * u64::from(board.speed());
-    let Turn::Used(_) = board.turn(SlotAt { from, first: 0 }, slots) else {
+    let first = SlotAt {
+        from: grant.from(),
+        first: grant.taken(),
+    };
+    let Turn::Used(_) = board.turn(first, grant.left()) else {
         return Err(NoMemory);
     };
+    use_up(grant);
     take_posts(board, &mut made.posts)?;
     made.entries.push(board.take_entries())?;
     Ok(())
@@ -166,24 +182,27 @@ impl<D: Device> NamedBoard<D> {
         }
     }
 
-    /// Gives the board the slots of a round, and takes what it has made. Without memory for that
-    /// the board is lost.
-    pub fn step(&mut self, from: Micros, q: u64, made: &mut Made) -> Result<(), NoMemory>
-        requires within { from.0 + q ≤ 10000000000 }
+    /// Gives the board the slots of a grant, and takes what it has made. Without memory for that
+    /// the board is lost. Where there is no board the slots pass.
+    pub fn step(&mut self, grant: &mut Handle, made: &mut Made) -> Result<(), NoMemory>
+        requires within { grant.old.to ≤ 10000000000 }
+        requires part { grant.old ≡ part_of grant.old.from grant.old.to self.old }
         requires made { ForSome self.old.view (λ v.
             (v.numbers.posted ≤ 10000000000000) × (v.numbers.entered ≤ 10000000000000)) }
+        ensures used { OnOk result (grant.new ≡ used_up grant.old) }
         ensures board { OnOk result (self.new
-            ≡ stepped (granted from.0 (from.0 + q)) self.old) }
+            ≡ stepped (granted grant.old.from grant.old.to) self.old) }
         ensures posts { OnOk result (made.new.posts.items ≡ made.old.posts.items
-            ++ posts_made (granted from.0 (from.0 + q)) self.old) }
+            ++ posts_made (granted grant.old.from grant.old.to) self.old) }
         ensures entries { OnOk result (all_entries made.new.entries.items
             ≡ all_entries made.old.entries.items
-            ++ entries_made (granted from.0 (from.0 + q)) self.old) }
+            ++ entries_made (granted grant.old.from grant.old.to) self.old) }
     {
         let Some(mut board) = self.board.take() else {
+            use_up(grant);
             return Ok(());
         };
-        step_board(&mut board, from, q, made)?;
+        step_board(&mut board, grant, made)?;
         self.board = Some(board);
         Ok(())
     }

@@ -1,6 +1,6 @@
 //! One round: every board takes the slots that its grant pays, and then what they have sent is
 //! handed over.
-ghost use Rattle.std.specs.Prelude.{◌≡◌, ◌+◌, ◌*◌, ◌<◌, ◌≤◌, ◌++◌, map, true, false, IfOk, OnOk, OnErr, IsNone};
+ghost use Rattle.std.specs.Prelude.{◌≡◌, ◌+◌, ◌*◌, ◌<◌, ◌≤◌, ◌++◌, map, length, true, false, IfOk, OnOk, OnErr, IsNone};
 ghost use Rattle.std.specs.Option.{option_map};
 ghost use Rattle.std.specs.List.{flat_map};
 ghost use Rattle.lab_num.specs.Listing.{listing};
@@ -8,6 +8,7 @@ ghost use Rattle.dev_core.specs.Post.{post_key};
 ghost use Rattle.log_merge.specs.Merge.{all_entries};
 ghost use Rattle.lab_state.specs.Inner.End.{Played, played};
 ghost use Rattle.lab_state.specs.Inner.Standing.{outlines, number_of, AreStanding, AreDevices};
+ghost use Rattle.lab_state.specs.Inner.Time.{IsTimed, part_of, used_up};
 ghost use Rattle.lab_state.specs.One.{HaveAllPlans};
 ghost use Rattle.lab_state.specs.Round as round_spec;
 ghost use Rattle.lab_state.specs.Round.{granted, stepped, posts_made, entries_made, slot_items};
@@ -19,9 +20,10 @@ use crate::lab::Lab;
 use crate::named_board::{Made, NamedBoard};
 use board::{stretches_keep_plans, stretches_number};
 use dev_core::{Device, Entry, Post};
-use lab_num::{Key, Micros, NoMemory, Rows};
+use lab_num::{BoardNo, Key, Micros, NoMemory, Rows};
 use log_merge::{LogItem, Member0, merge_entries, merge_posts};
 use std::alloc::Global;
+use time_source::Source;
 
 /// What a round or a run has come to.
 #[derive(PartialEq, Eq, Drop, Debug)]
@@ -41,15 +43,21 @@ struct Slots {
     items: Vec<LogItem>,
 }
 
-/// Gives every board the slots of a round, and takes what they have made.
+/// Gives every board its part of the open grant, and takes what they have made.
 fn step_all<D: Device>(
     boards: &mut [NamedBoard<D>],
+    source: &mut Source,
     from: Micros,
     q: u64,
     made: &mut Made,
 ) -> Result<(), NoMemory>
     requires within { from.0 + q ≤ 10000000000 }
     requires standing { AreStanding (1000 * from.0) 0 (map number_of boards.old) }
+    requires few { length boards.old ≤ 16 }
+    requires opened { source.old.is_open ≡ true }
+    requires parts { source.old.handles ≡ map (part_of from.0 (from.0 + q)) boards.old }
+    ensures used { OnOk result (source.new
+        ≡ record source.old { handles = map used_up source.old.handles }) }
     ensures boards { OnOk result (boards.new
         ≡ map (stepped (granted from.0 (from.0 + q))) boards.old) }
     ensures posts { OnOk result (made.new.posts.items ≡ made.old.posts.items
@@ -58,8 +66,11 @@ fn step_all<D: Device>(
         ≡ all_entries made.old.entries.items
         ++ flat_map (entries_made (granted from.0 (from.0 + q))) boards.old) }
 {
-    for board in boards.iter_mut() {
-        board.step(from, q, made)?;
+    for (n, board) in boards.iter_mut().enumerate() {
+        let member = BoardNo(n as u8);
+        let mut grant = source.handle(member);
+        board.step(&mut grant, made)?;
+        source.put(member, grant);
     }
     Ok(())
 }
@@ -83,15 +94,19 @@ fn items_of(alloc: Global, entries: &[Entry]) -> Result<Vec<LogItem>, NoMemory>
     Ok(items)
 }
 
-/// Runs the boards for a round of `q` microseconds, and takes what they have made.
+/// Grants the boards `q` microseconds, and takes what they have made.
 fn take_slots<D: Device>(
     alloc: Global,
     boards: &mut [NamedBoard<D>],
+    source: &mut Source,
     from: Micros,
     q: u64,
 ) -> Result<Slots, NoMemory>
     requires within { from.0 + q ≤ 10000000000 }
     requires standing { AreStanding (1000 * from.0) 0 (map number_of boards.old) }
+    requires few { length boards.old ≤ 16 }
+    requires timed { IsTimed source.old from.0 boards.old }
+    ensures timed { OnOk result (IsTimed source.new (from.0 + q) boards.old) }
     ensures boards { OnOk result (boards.new
         ≡ map (stepped (granted from.0 (from.0 + q))) boards.old) }
     ensures posts { IfOk result (λ slots. slots.posts.items
@@ -104,7 +119,9 @@ fn take_slots<D: Device>(
         posts: Vec::new(alloc),
         entries: Vec::new(alloc),
     };
-    step_all(boards, from, q, &mut made)?;
+    source.grant(q);
+    step_all(boards, source, from, q, &mut made)?;
+    source.close();
     let Made { posts, entries } = made;
     let posts = merge_posts(alloc, posts)?;
     let entries = merge_entries(alloc, entries)?;
@@ -122,20 +139,24 @@ fn key_of(post: &Option<Post>) -> Option<Key>
 fn play<D: Device>(
     alloc: Global,
     boards: &mut [NamedBoard<D>],
+    source: &mut Source,
     hubs: &HubList,
-    from: Micros,
     q: u64,
 ) -> Result<RoundLog, NoMemory>
-    requires within { from.0 + q ≤ 10000000000 }
-    requires standing { AreStanding (1000 * from.0) 0 (map number_of boards.old) }
+    requires within { source.old.end + q ≤ 10000000000 }
+    requires standing { AreStanding (1000 * source.old.end) 0 (map number_of boards.old) }
+    requires few { length boards.old ≤ 16 }
+    requires timed { IsTimed source.old source.old.end boards.old }
     requires devices { AreDevices (outlines boards.old) hubs.now }
-    ensures { IfOk result (λ log. ◌≡◌ {A = Played}
+    ensures timed { OnOk result (IsTimed source.new (source.old.end + q) boards.old) }
+    ensures played { IfOk result (λ log. ◌≡◌ {A = Played}
         (record { boards = boards.new; items = log.lines; paused = log.paused })
-        (played from.0 q hubs.now boards.old)) }
+        (played source.old.end q hubs.now boards.old)) }
 {
     stretches_keep_plans();
-    let Slots { posts, mut items } = take_slots(alloc, boards, from, q)?;
-    let at = Micros(from.0 + q);
+    let from = source.elapsed();
+    let Slots { posts, mut items } = take_slots(alloc, boards, source, from, q)?;
+    let at = source.elapsed();
     let notes = hand_over_all(alloc, boards, hubs, &posts, at)?;
     items.extend_from_slice(&notes)?;
     let pause = pause_of(&posts);
@@ -166,11 +187,16 @@ impl<D: Device> Lab<D> {
         }
         stretches_number();
         stretches_keep_plans();
-        let Ok(log) = play(self.alloc, &mut self.boards, &self.hubs, self.time, q) else {
+        let Ok(log) = play(
+            self.alloc,
+            &mut self.boards,
+            &mut self.source,
+            &self.hubs,
+            q,
+        ) else {
             self.spent = true;
             return Err(LabFault::Memory);
         };
-        self.time = Micros(self.time.0 + q);
         Ok(log)
     }
 }

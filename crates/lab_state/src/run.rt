@@ -113,7 +113,7 @@ impl<D: Device> Lab<D> {
         if let Some(board) = self.first_without_plan() {
             return Err(RunFault::NoPlan(board));
         }
-        if d.0 > LAST - self.time.0 {
+        if d.0 > LAST - self.source.elapsed().0 {
             return Err(RunFault::TooLong);
         }
         let q = self.quantum;

@@ -83,6 +83,7 @@ impl Handle {
     pub fn left(&self) -> u64
         ensures value { result ≡ grants.left self.now }
         ensures rest { self.now.used + result ≡ grants.paid_by self.now }
+        ensures most { result ≤ 10 ^ 13 }
     {
         (self.to.0 - self.from.0) * u64::from(self.speed) - self.used
     }

@@ -10,7 +10,9 @@ use Rattle.board.specs.Numbers.{Numbers}
 use Rattle.lab_state.specs.Board.{Board}
 use Rattle.lab_state.specs.Hub.{Hub}
 use Rattle.lab_state.specs.Lab.{Lab}
+use Rattle.time_source.specs.Tree.{Tree}
 use Rattle.lab_state.specs.Inner.Spares.{Spares, left_of, full}
+use Rattle.lab_state.specs.Inner.Time.{IsTimed}
 
 -- what no change of one board touches: its name, and the kinds of its devices if it has a plan
 pub record Outline : Type 0 where
@@ -92,11 +94,12 @@ pub record IsEnough (spares : Spares) (plans : ℕ) : Type 0 where
 
 -- at most 16 boards under numbers of their own, of which no two have made two things under one number; hubs that
 -- connect devices of these boards; no name that two of the boards and hubs have; devices for the boards that have no
--- plan yet
-pub record IsSound (lab : Lab) (spares : Spares) : Type 0 where
+-- plan yet; a source of time at the laboratory's time, whose members have the boards' speeds
+pub record IsSound (lab : Lab) (spares : Spares) (source : Tree) : Type 0 where
   pub few_boards : length lab.boards ≤ 16
   pub standing : AreStanding (1000 * lab.now) 0 (map number_of lab.boards)
   pub devices : AreDevices (outlines lab.boards) lab.hubs
   pub names : AreNames (map (λ board. board.name) lab.boards) (map (λ hub. hub.name) lab.hubs)
   pub enough : IsEnough spares (count_of_plans (outlines lab.boards))
   pub times : AreTimes lab.now lab.quantum
+  pub timed : IsTimed source lab.now lab.boards

@@ -1,11 +1,11 @@
 -- What is written is no part of what holds of the laboratory.
-use Rattle.std.proofs.Common.{take, Result, Ok, Err, OnOk}
+use Rattle.std.proofs.Common.{refl, take, Result, Ok, Err, OnOk}
 use Rattle.std.specs.Prelude.{OnErr}
 use Rattle.std.proofs.lemmas.Result.{on_ok_weaker, on_err_weaker}
 use Rattle.board.specs.Changes.{with_bytes}
 use Rattle.lab_state.specs.One.{with_view}
 use Rattle.lab_state.proofs.SoundLemmas.{sound-set, seen_set}
-use Rattle.lab_state.proofs.ChangeLemmas.{bytes-kept}
+use Rattle.lab_state.proofs.ChangeLemmas.{bytes-kept, timed-kept}
 use Rattle.lab_state.proofs.lab.Lab.copy_in.Goals as goal
 
 either : {T E P Q C : Type 0} (r : Result T E) → OnOk r P → OnErr r Q → (P → C) → (Q → C) → C
@@ -14,12 +14,15 @@ either (Err e) p q first second = second q
 
 pub invariant_of-self : goal.invariant_of-self
 invariant_of-self g c h =
+    let is = c.index_mut.ensures.value in
+    let kept = timed-kept c.args.b.0 (c.self.invariant h).timed is in
     either c.copy_in.result c.copy_in.ensures.ok c.copy_in.ensures.err
     (λ made. rw made
-    (sound-set c.args.b.0 c.index_mut.ensures.value (bytes-kept c.args.at c.args.bytes.now _) (c.self.invariant h)))
+    (sound-set c.args.b.0 is (bytes-kept c.args.at c.args.bytes.now _)
+    (kept (λ v. with_bytes v c.args.at c.args.bytes.now) (λ v. refl)) (c.self.invariant h)))
     (λ made. rw made.1.1
-    (sound-set c.args.b.0 c.index_mut.ensures.value (bytes-kept c.args.at (take made.0 c.args.bytes.now) _)
-    (c.self.invariant h)))
+    (sound-set c.args.b.0 is (bytes-kept c.args.at (take made.0 c.args.bytes.now) _)
+    (kept (λ v. with_bytes v c.args.at (take made.0 c.args.bytes.now)) (λ v. refl)) (c.self.invariant h)))
 
 pub returns-clause-ok : goal.returns-clause-ok
 returns-clause-ok g c =
