@@ -1,183 +1,260 @@
 //! What items print, and which lists are open lines.
-use crate::*;
 use dev_core::{Finish, Frame, What};
-use lab_num::{BoardNo, Member, Micros, Rows, Text};
+use lab_num::{BoardNo, Member, Micros, NoMemory, Rows, Text};
 use log_merge::{BoardNames, LogItem, Member0, Names, Note};
+use crate::{Lines, OpenLine};
 use std::alloc::Global;
+use std::process::Abort;
 use std::test::Fail;
 
 /// The longest line that is not ended, of 127 bytes.
-const LONGEST: &str =
-    "xxxxxxxxxxxxxxxxxxxxxxxxxxxxxxxxxxxxxxxxxxxxxxxxxxxxxxxxxxxxxxxxxxxxxxxxxxxxxxxxxxxxxxxxxxxxxxxxxxxxxxxxxxxxxxxxxxxxxxxxxxxxxxx";
+const LONGEST: &str = "\
+xxxxxxxxxxxxxxxxxxxxxxxxxxxxxxxxxxxxxxxxxxxxxxxxxxxxxxxxxxxxxxxx\
+xxxxxxxxxxxxxxxxxxxxxxxxxxxxxxxxxxxxxxxxxxxxxxxxxxxxxxxxxxxxxxx";
 
 /// A whole line, of 128 bytes.
-const WHOLE: &str =
-    "xxxxxxxxxxxxxxxxxxxxxxxxxxxxxxxxxxxxxxxxxxxxxxxxxxxxxxxxxxxxxxxxxxxxxxxxxxxxxxxxxxxxxxxxxxxxxxxxxxxxxxxxxxxxxxxxxxxxxxxxxxxxxxxx";
+const WHOLE: &str = "\
+xxxxxxxxxxxxxxxxxxxxxxxxxxxxxxxxxxxxxxxxxxxxxxxxxxxxxxxxxxxxxxxx\
+xxxxxxxxxxxxxxxxxxxxxxxxxxxxxxxxxxxxxxxxxxxxxxxxxxxxxxxxxxxxxxxx";
 
-/// The boards `m0` and `m1`, each with the devices `uart` and `fin`.
-fn names(alloc: Global) -> Result<Names, Fail> {
-    let mut boards = Vec::new(alloc);
-    for name in ["m0", "m1"] {
-        let devices = vec![in alloc; Text::of(alloc, "uart")?, Text::of(alloc, "fin")?]?;
-        boards.push(BoardNames {
-            name: Text::of(alloc, name)?,
-            devices: Rows::of(devices),
-        })?;
-    }
+/// What it prints, and what it prints with a line feed behind it.
+const WHOLE_PRINTED: &str = "[2.000000] m0/uart: \
+xxxxxxxxxxxxxxxxxxxxxxxxxxxxxxxxxxxxxxxxxxxxxxxxxxxxxxxxxxxxxxxx\
+xxxxxxxxxxxxxxxxxxxxxxxxxxxxxxxxxxxxxxxxxxxxxxxxxxxxxxxxxxxxxxxx\n";
+
+const FED_PRINTED: &str = "[2.000000] m0/uart: \
+xxxxxxxxxxxxxxxxxxxxxxxxxxxxxxxxxxxxxxxxxxxxxxxxxxxxxxxxxxxxxxxx\
+xxxxxxxxxxxxxxxxxxxxxxxxxxxxxxxxxxxxxxxxxxxxxxxxxxxxxxxxxxxxxxxx\n\
+[2.000001] m0/uart: \n";
+
+/// A board with the devices `uart` and `fin`.
+fn board(alloc: Global, name: &str) -> Result<BoardNames, NoMemory> {
+    let devices = vec![in alloc; Text::of(alloc, "uart")?, Text::of(alloc, "fin")?]?;
+    Ok(BoardNames {
+        name: Text::of(alloc, name)?,
+        devices: Rows::of(devices),
+    })
+}
+
+/// The boards `m0` and `m1`.
+fn names(alloc: Global) -> Result<Names, NoMemory> {
+    let boards = vec![in alloc; board(alloc, "m0")?, board(alloc, "m1")?]?;
     Ok(Names {
         boards: Rows::of(boards),
     })
 }
 
-/// What the items print, and what is printed of open lines at the end. No line is open then.
-fn printed(alloc: Global, items: &[LogItem]) -> Result<(String, String), Fail> {
-    let names = names(alloc)?;
-    let mut lines = Lines::new(alloc);
-    let text = String::from_utf8(lines.text(&names, items)?)?;
-    let rest = String::from_utf8(lines.rest(&names)?)?;
-    Ok((text, rest))
+fn assert_text(rt: &impl Abort, bytes: Vec<u8>, text: &str) -> Result<(), Fail> {
+    assert_eq!(rt; String::from_utf8(bytes)?.as_str(), text);
+    Ok(())
 }
 
-/// The items of a round: bytes of boards and devices, all those of a piece sent at one microsecond,
-/// and at its end a byte that `m1/fin` lost.
-fn round(alloc: Global, pieces: &[(u64, u8, u8, &str)]) -> Result<Vec<LogItem>, Fail> {
+/// The items print the first text, and the lines that are open then the second one. None is open
+/// before.
+fn assert_printed(
+    rt: &impl Abort,
+    alloc: Global,
+    items: &[LogItem],
+    text: &str,
+    rest: &str,
+) -> Result<(), Fail> {
+    let names = names(alloc)?;
+    let mut lines = Lines::new(alloc);
+    assert_text(rt, lines.text(&names, items)?, text)?;
+    assert_text(rt, lines.rest(&names)?, rest)
+}
+
+/// The finisher of `m1`.
+const FINISHER: Member = Member {
+    board: BoardNo(1),
+    dev: 1,
+};
+
+/// Bytes that a device of a board sends, all at one microsecond.
+type Piece = (u64, u8, u8, &'static str);
+
+/// The items of a round, and at its end a byte that `m1/fin` lost.
+fn round(alloc: Global, pieces: &[Piece]) -> Result<Vec<LogItem>, NoMemory> {
     let mut items = Vec::new(alloc);
     for &(at, board, dev, bytes) in pieces {
+        let slot = Member0 {
+            at: Micros(at),
+            board: BoardNo(board),
+        };
         for &value in bytes.as_bytes() {
-            let slot = Member0 {
-                at: Micros(at),
-                board: BoardNo(board),
-            };
             items.push(LogItem::Slot(slot, What::Byte { dev, value }))?;
         }
     }
-    let member = Member {
-        board: BoardNo(1),
-        dev: 1,
-    };
     items.push(LogItem::Note {
         at: Micros(100),
-        member,
+        member: FINISHER,
         note: Note::Overrun,
     })?;
     Ok(items)
 }
 
+/// Each row: the pieces of a round, the lines that end in it, and those that are open at the end.
+static ROUNDS: [(&[Piece], &str, &str); 8] = [
+    (&[], "", ""),
+    (
+        &[(7, 0, 0, "A\\\x07\n")],
+        "[0.000007] m0/uart: A\\\\\\x07\n",
+        "",
+    ),
+    (&[(7, 0, 0, "\n")], "[0.000007] m0/uart: \n", ""),
+    (&[(2_000_000, 0, 0, WHOLE)], WHOLE_PRINTED, ""),
+    (
+        &[(2_000_000, 0, 0, WHOLE), (2_000_001, 0, 0, "\n")],
+        FED_PRINTED,
+        "",
+    ),
+    (
+        &[
+            (3, 1, 1, "d"),
+            (4, 1, 0, "c"),
+            (5, 0, 0, "a"),
+            (6, 1, 0, "c"),
+        ],
+        "",
+        "[0.000005] m0/uart: a\n[0.000006] m1/uart: cc\n[0.000003] m1/fin: d\n",
+    ),
+    (
+        &[
+            (3, 1, 0, "b"),
+            (4, 0, 0, "a"),
+            (123_456_789, 1, 0, "\n"),
+            (9, 0, 0, "b"),
+        ],
+        "[123.456789] m1/uart: b\n",
+        "[0.000009] m0/uart: ab\n",
+    ),
+    (
+        &[(0, 0, 0, " ~\\\t\r\0\x1f\x7f\u{e9}\"'")],
+        "",
+        "[0.000000] m0/uart:  ~\\\\\\t\\r\\x00\\x1f\\x7f\\xc3\\xa9\"'\n",
+    ),
+];
+
+fn assert_rounds(
+    rt: &impl Abort,
+    alloc: Global,
+    rows: &[(&[Piece], &str, &str)],
+) -> Result<(), Fail> {
+    for (pieces, ended, rest) in rows {
+        let mut text = String::from_str(alloc, ended)?;
+        text.push_str("[0.000100] m1/fin: overrun\n")?;
+        assert_printed(rt, alloc, &round(alloc, pieces)?, text.as_str(), rest)?;
+    }
+    Ok(())
+}
+
 #[test]
 fn uart_lines_end_at_a_line_feed_or_the_128th_byte(rt: HostRuntime) -> Result<(), Fail> {
-    let whole = format!(in rt.alloc(); "[2.000000] m0/uart: {WHOLE}\n")?;
-    let fed = format!(in rt.alloc(); "[2.000000] m0/uart: {WHOLE}\n[2.000001] m0/uart: \n")?;
-    let rows: [(&[(u64, u8, u8, &str)], &str, &str); 8] = [
-        (&[], "", ""),
-        (
-            &[(7, 0, 0, "A\\\x07\n")],
-            "[0.000007] m0/uart: A\\\\\\x07\n",
-            "",
-        ),
-        (&[(7, 0, 0, "\n")], "[0.000007] m0/uart: \n", ""),
-        (&[(2_000_000, 0, 0, WHOLE)], whole.as_str(), ""),
-        (
-            &[(2_000_000, 0, 0, WHOLE), (2_000_001, 0, 0, "\n")],
-            fed.as_str(),
-            "",
-        ),
-        (
-            &[
-                (3, 1, 1, "d"),
-                (4, 1, 0, "c"),
-                (5, 0, 0, "a"),
-                (6, 1, 0, "c"),
-            ],
-            "",
-            "[0.000005] m0/uart: a\n[0.000006] m1/uart: cc\n[0.000003] m1/fin: d\n",
-        ),
-        (
-            &[
-                (3, 1, 0, "b"),
-                (4, 0, 0, "a"),
-                (123_456_789, 1, 0, "\n"),
-                (9, 0, 0, "b"),
-            ],
-            "[123.456789] m1/uart: b\n",
-            "[0.000009] m0/uart: ab\n",
-        ),
-        (
-            &[(0, 0, 0, " ~\\\t\r\0\x1f\x7f\u{e9}\"'")],
-            "",
-            "[0.000000] m0/uart:  ~\\\\\\t\\r\\x00\\x1f\\x7f\\xc3\\xa9\"'\n",
-        ),
-    ];
-    for (pieces, ended, rest) in rows {
-        let (text, last) = printed(rt.alloc(), &round(rt.alloc(), pieces)?)?;
-        let lost = text.strip_suffix("[0.000100] m1/fin: overrun\n");
-        assert_eq!(rt; lost, Some(ended));
-        assert_eq!(rt; last.as_str(), rest);
+    assert_rounds(&rt, rt.alloc(), &ROUNDS)
+}
+
+/// The end of a round.
+const END: Micros = Micros(200);
+
+/// What `m1` has logged.
+enum Logged {
+    /// A byte was lost at its finisher.
+    Overrun,
+    /// It loaded so many bytes at 0x90000000.
+    Read(u8),
+    /// It stored so many bytes of a value at 0xFC.
+    Write(u8, u32),
+    /// Its finisher asked for a pause, with a pass or with this code.
+    Passed,
+    Failed(u16),
+}
+
+/// What `m1` noted in a slot.
+fn noted(what: What) -> LogItem {
+    let slot = Member0 {
+        at: Micros(104),
+        board: BoardNo(1),
+    };
+    LogItem::Slot(slot, what)
+}
+
+fn paused(finish: Finish) -> LogItem {
+    LogItem::Pause {
+        at: END,
+        member: FINISHER,
+        finish,
+    }
+}
+
+fn item(logged: &Logged) -> LogItem {
+    match *logged {
+        Logged::Overrun => LogItem::Note {
+            at: END,
+            member: FINISHER,
+            note: Note::Overrun,
+        },
+        Logged::Read(width) => noted(What::Read {
+            width,
+            at: 0x9000_0000,
+        }),
+        Logged::Write(width, value) => noted(What::Write {
+            width,
+            at: 0xFC,
+            value,
+        }),
+        Logged::Passed => paused(Finish::Pass),
+        Logged::Failed(code) => paused(Finish::Fail(code)),
+    }
+}
+
+/// Each row: what was logged, and the line that it prints.
+static ITEMS: [(Logged, &str); 9] = [
+    (Logged::Overrun, "[0.000200] m1/fin: overrun\n"),
+    (
+        Logged::Read(1),
+        "[0.000104] m1/sysbus: read 1 at 0x90000000\n",
+    ),
+    (
+        Logged::Read(2),
+        "[0.000104] m1/sysbus: read 2 at 0x90000000\n",
+    ),
+    (
+        Logged::Read(4),
+        "[0.000104] m1/sysbus: read 4 at 0x90000000\n",
+    ),
+    (
+        Logged::Write(1, 0xAB),
+        "[0.000104] m1/sysbus: write 1 at 0x000000fc value 0x000000ab\n",
+    ),
+    (
+        Logged::Write(2, 0xABCD),
+        "[0.000104] m1/sysbus: write 2 at 0x000000fc value 0x0000abcd\n",
+    ),
+    (
+        Logged::Write(4, 0xFFFF_FFFF),
+        "[0.000104] m1/sysbus: write 4 at 0x000000fc value 0xffffffff\n",
+    ),
+    (Logged::Passed, "[0.000200] pause m1/fin: pass\n"),
+    (Logged::Failed(65535), "[0.000200] pause m1/fin: fail 65535\n"),
+];
+
+fn assert_items(rt: &impl Abort, alloc: Global, rows: &[(Logged, &str)]) -> Result<(), Fail> {
+    for (logged, line) in rows {
+        assert_printed(rt, alloc, &[item(logged)], line, "")?;
     }
     Ok(())
 }
 
 #[test]
 fn each_other_item_is_one_line(rt: HostRuntime) -> Result<(), Fail> {
-    let slot = Member0 {
-        at: Micros(104),
-        board: BoardNo(1),
-    };
-    let member = Member {
-        board: BoardNo(1),
-        dev: 1,
-    };
-    let at = Micros(200);
-    let note = |note| LogItem::Note { at, member, note };
-    let read = |width| LogItem::Slot(
-        slot,
-        What::Read {
-            width,
-            at: 0x9000_0000,
-        },
-    );
-    let write = |width, value| LogItem::Slot(
-        slot,
-        What::Write {
-            width,
-            at: 0xFC,
-            value,
-        },
-    );
-    let pause = |finish| LogItem::Pause { at, member, finish };
-    let rows = [
-        (note(Note::Overrun), "[0.000200] m1/fin: overrun\n"),
-        (read(1), "[0.000104] m1/sysbus: read 1 at 0x90000000\n"),
-        (read(2), "[0.000104] m1/sysbus: read 2 at 0x90000000\n"),
-        (read(4), "[0.000104] m1/sysbus: read 4 at 0x90000000\n"),
-        (
-            write(1, 0xAB),
-            "[0.000104] m1/sysbus: write 1 at 0x000000fc value 0x000000ab\n",
-        ),
-        (
-            write(2, 0xABCD),
-            "[0.000104] m1/sysbus: write 2 at 0x000000fc value 0x0000abcd\n",
-        ),
-        (
-            write(4, 0xFFFF_FFFF),
-            "[0.000104] m1/sysbus: write 4 at 0x000000fc value 0xffffffff\n",
-        ),
-        (pause(Finish::Pass), "[0.000200] pause m1/fin: pass\n"),
-        (
-            pause(Finish::Fail(65535)),
-            "[0.000200] pause m1/fin: fail 65535\n",
-        ),
-    ];
-    for (item, line) in rows {
-        let (text, rest) = printed(rt.alloc(), &[item])?;
-        assert_eq!(rt; text.as_str(), line);
-        assert_eq!(rt; rest.as_str(), "");
-    }
-    Ok(())
+    assert_items(&rt, rt.alloc(), &ITEMS)
 }
 
-/// Frames: an identifier, the length that a remote frame asks for, the bytes of a data frame, and
+/// A frame's identifier, the length that a remote frame asks for, the bytes of a data frame, and
 /// how the log shows the frame.
-static FRAMES: [(u16, Option<u8>, &[u8], &str); 7] = [
+type Shown = (u16, Option<u8>, &'static [u8], &'static str);
+
+static FRAMES: [Shown; 7] = [
     (0x123, None, &[0x0A, 0x0B, 0x0C], "123 data 3 0a0b0c"),
     (0x000, None, &[], "000 data 0"),
     (
@@ -200,74 +277,98 @@ fn frame(id: u16, asked: Option<u8>, bytes: &[u8]) -> Frame {
     }
 }
 
-#[test]
-fn a_frame_is_one_line_by_what_became_of_it(rt: HostRuntime) -> Result<(), Fail> {
+/// `m0/uart` sends the frame, and it comes to `m1/fin` and is lost there.
+fn carried(frame: Frame) -> [LogItem; 3] {
     let slot = Member0 {
         at: Micros(104),
         board: BoardNo(0),
     };
-    let member = Member {
-        board: BoardNo(1),
-        dev: 1,
+    let note = |note| LogItem::Note {
+        at: END,
+        member: FINISHER,
+        note,
     };
-    let at = Micros(200);
-    for &(id, asked, bytes, shown) in &FRAMES {
-        let frame = frame(id, asked, bytes);
-        let note = |note| LogItem::Note { at, member, note };
-        let sent = LogItem::Slot(slot, What::Sent { dev: 0, frame });
-        let items = [sent, note(Note::Received(frame)), note(Note::Lost(frame))];
-        let lines = format!(in rt.alloc();
+    [
+        LogItem::Slot(slot, What::Sent { dev: 0, frame }),
+        note(Note::Received(frame)),
+        note(Note::Lost(frame)),
+    ]
+}
+
+fn assert_frames(rt: &impl Abort, alloc: Global, rows: &[Shown]) -> Result<(), Fail> {
+    for (id, asked, bytes, shown) in rows {
+        let text = format!(in alloc;
             "[0.000104] m0/uart: tx {shown}\n[0.000200] m1/fin: rx {shown}\n[0.000200] m1/fin: lost {shown}\n"
         )?;
-        let (text, rest) = printed(rt.alloc(), &items)?;
-        assert_eq!(rt; text.as_str(), lines.as_str());
-        assert_eq!(rt; rest.as_str(), "");
+        let items = carried(frame(*id, *asked, bytes));
+        assert_printed(rt, alloc, &items, text.as_str(), "")?;
     }
     Ok(())
 }
 
-/// Lines of boards and devices with these bytes.
-fn open(alloc: Global, list: &[(u8, u8, &str)]) -> Result<Vec<OpenLine>, Fail> {
-    let mut lines = Vec::new(alloc);
-    for &(board, dev, bytes) in list {
-        let member = Member {
+#[test]
+fn a_frame_is_one_line_by_what_became_of_it(rt: HostRuntime) -> Result<(), Fail> {
+    assert_frames(&rt, rt.alloc(), &FRAMES)
+}
+
+/// Bytes of a device of a board.
+type Line = (u8, u8, &'static str);
+
+/// The open line that a row of a list is.
+fn open_line(alloc: Global, line: &Line) -> Result<OpenLine, NoMemory> {
+    let (board, dev, bytes) = *line;
+    Ok(OpenLine {
+        member: Member {
             board: BoardNo(board),
             dev,
-        };
-        let bytes = Rows::of(Vec::from_slice(alloc, bytes.as_bytes())?);
-        lines.push(OpenLine {
-            member,
-            at: Micros(5),
-            bytes,
-        })?;
+        },
+        at: Micros(5),
+        bytes: Rows::of(Vec::from_slice(alloc, bytes.as_bytes())?),
+    })
+}
+
+fn open_lines(alloc: Global, list: &[Line]) -> Result<Vec<OpenLine>, NoMemory> {
+    let mut lines = Vec::new(alloc);
+    for line in list {
+        lines.push(open_line(alloc, line)?)?;
     }
     Ok(lines)
+}
+
+/// Each row: lines, and whether they are open lines.
+static LISTS: [(&[Line], bool); 10] = [
+    (&[], true),
+    (&[(0, 1, "a")], true),
+    (&[(0, 1, "a"), (0, 2, "bc"), (1, 0, LONGEST)], true),
+    (&[(0, 1, "a"), (0, 1, "b")], false),
+    (&[(0, 1, "a"), (0, 0, "b")], false),
+    (&[(1, 0, "a"), (0, 1, "b")], false),
+    (&[(0, 0, "a"), (2, 0, "b"), (1, 0, "c")], false),
+    (&[(0, 0, "a"), (0, 1, "")], false),
+    (&[(0, 0, WHOLE)], false),
+    (&[(0, 0, "a\n")], false),
+];
+
+/// The lines are open lines, and are kept as they are; or they are none, if they are not to be.
+fn is_told(alloc: Global, list: &[Line], are_open: bool) -> Result<bool, NoMemory> {
+    let wanted = open_lines(alloc, list)?;
+    match Lines::of(open_lines(alloc, list)?) {
+        Some(lines) => Ok(are_open && lines.unended() == wanted.as_slice()),
+        None => Ok(!are_open),
+    }
+}
+
+fn assert_lists(rt: &impl Abort, alloc: Global, rows: &[(&[Line], bool)]) -> Result<(), NoMemory> {
+    for (list, are_open) in rows {
+        assert!(rt; is_told(alloc, list, *are_open)?);
+    }
+    Ok(())
 }
 
 #[test]
 fn a_list_is_open_lines_where_it_rises_and_no_line_is_empty_or_ended(
     rt: HostRuntime,
 ) -> Result<(), Fail> {
-    let rows: [(&[(u8, u8, &str)], bool); 10] = [
-        (&[], true),
-        (&[(0, 1, "a")], true),
-        (&[(0, 1, "a"), (0, 2, "bc"), (1, 0, LONGEST)], true),
-        (&[(0, 1, "a"), (0, 1, "b")], false),
-        (&[(0, 1, "a"), (0, 0, "b")], false),
-        (&[(1, 0, "a"), (0, 1, "b")], false),
-        (&[(0, 0, "a"), (2, 0, "b"), (1, 0, "c")], false),
-        (&[(0, 0, "a"), (0, 1, "")], false),
-        (&[(0, 0, WHOLE)], false),
-        (&[(0, 0, "a\n")], false),
-    ];
-    for (list, are_open) in rows {
-        let given = open(rt.alloc(), list)?;
-        let wanted = open(rt.alloc(), list)?;
-        let lines = Lines::of(given);
-        assert_eq!(rt; lines.is_some(), are_open);
-        if let Some(lines) = lines {
-            assert_eq!(rt; lines.unended(), wanted.as_slice());
-        }
-    }
+    assert_lists(&rt, rt.alloc(), &LISTS)?;
     Ok(())
 }
