@@ -57,6 +57,7 @@ static ROWS: [Row; 7] = [
     ("c009 p00 r00 c102", Ran::Stopped(3), &[0]),
     ("c003 r00", Ran::Stopped(1), &[]),
 ];
+
 fn assert_rows(rt: &impl Abort, alloc: Global, rows: &[Row]) -> Result<(), Fail> {
     for (text, ran, boards) in rows {
         let mut floor = two_boards(rt, alloc)?;

@@ -235,7 +235,10 @@ static ITEMS: [(Logged, &str); 9] = [
         "[0.000104] m1/sysbus: write 4 at 0x000000fc value 0xffffffff\n",
     ),
     (Logged::Passed, "[0.000200] pause m1/fin: pass\n"),
-    (Logged::Failed(65535), "[0.000200] pause m1/fin: fail 65535\n"),
+    (
+        Logged::Failed(65535),
+        "[0.000200] pause m1/fin: fail 65535\n",
+    ),
 ];
 
 fn assert_items(rt: &impl Abort, alloc: Global, rows: &[(Logged, &str)]) -> Result<(), Fail> {

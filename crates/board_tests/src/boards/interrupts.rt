@@ -4,10 +4,11 @@ ghost use Rattle.dev_core.specs.declared.kind.Kind.TheVariants.{Uart as uart};
 
 use super::Step::{Arrive, At, Go, NoneSent, Register, Reset, Retired, Run, Sent, Speed};
 use super::{BASE, SECOND, Step, UART, play_on, region};
-use dev_core::{Device, Kind, Taken};
+use dev_core::{Kind, Taken};
 use lab_num::Rows;
 use sample_boards::{USUAL_REGIONS, names_of, usual_board};
 use std::alloc::Global;
+use std::process::Abort;
 use std::test::Fail;
 use sys_bus::{BoardPlan, NamedWhat, RegionKind, Wire, WireFrom, WirePin};
 use uart_16550::Uart;
@@ -304,24 +305,39 @@ const TIMED: [Step; 11] = [
     Register(8, 0),
 ];
 
-#[test]
-fn lines_lead_to_traps(rt: HostRuntime) -> Result<(), Fail> {
-    let rows: [(&[Wire], &[u32], &[Step]); 8] = [
-        (&BY_PLIC, &WAIT, &UNTIL_50),
-        (&BY_PLIC, &WAIT_99, &UNTIL_99),
-        (&BY_PLIC, &WAIT_0, &AT_ONCE),
-        (&BY_PLIC, &WAIT_LONG, &FOR_EVER),
-        (&DIRECT, &NESTED, &IN_ORDER),
-        (&BY_PLIC, &PLIC_ECHO, &ECHOED),
-        (&DIRECT, &TWO_LINES, &ORED),
-        (&BY_PLIC, &TIMES, &TIMED),
-    ];
-    let alloc = rt.alloc();
+/// Each row: wires, a program and its steps.
+static ROWS: [(&[Wire], &[u32], &[Step]); 8] = [
+    (&BY_PLIC, &WAIT, &UNTIL_50),
+    (&BY_PLIC, &WAIT_99, &UNTIL_99),
+    (&BY_PLIC, &WAIT_0, &AT_ONCE),
+    (&BY_PLIC, &WAIT_LONG, &FOR_EVER),
+    (&DIRECT, &NESTED, &IN_ORDER),
+    (&BY_PLIC, &PLIC_ECHO, &ECHOED),
+    (&DIRECT, &TWO_LINES, &ORED),
+    (&BY_PLIC, &TIMES, &TIMED),
+];
+
+fn play_all(
+    rt: &impl Abort,
+    alloc: Global,
+    rows: &[(&[Wire], &[u32], &[Step])],
+) -> Result<(), Fail> {
     for (wires, words, steps) in rows {
-        let first: Box<dyn Device + Send> = Box::new(alloc, Uart::new())?;
-        let second: Box<dyn Device + Send> = Box::new(alloc, Uart::new())?;
-        let plan = plan(alloc, wires)?;
-        play_on(&rt, alloc, plan, Kind::Uart, (first, second), words, steps)?;
+        let devices = (Uart::new(), Uart::new());
+        play_on(
+            rt,
+            alloc,
+            plan(alloc, wires)?,
+            Kind::Uart,
+            devices,
+            words,
+            steps,
+        )?;
     }
     Ok(())
+}
+
+#[test]
+fn lines_lead_to_traps(rt: HostRuntime) -> Result<(), Fail> {
+    play_all(&rt, rt.alloc(), &ROWS)
 }
