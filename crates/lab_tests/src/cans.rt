@@ -319,8 +319,7 @@ fn frames_cross_a_bus_where_a_round_ends(rt: HostRuntime) -> Result<(), Fail> {
 }
 
 /// The interrupt is entered in the first slot of a round, and the line feed is sent six slots later.
-const ON_FRAME_LOG: &str =
-    "[0.000100] m1/can: rx 123 data 2 410a\n[0.000106] m1/uart: A\n\
+const ON_FRAME_LOG: &str = "[0.000100] m1/can: rx 123 data 2 410a\n[0.000106] m1/uart: A\n\
 [0.000200] m1/can: rx 123 data 2 420a\n[0.000206] m1/uart: B\n";
 
 #[test]
@@ -329,7 +328,13 @@ fn a_frame_interrupts_through_the_controller(rt: HostRuntime) -> Result<(), Fail
     let script = format!(in rt.alloc();
         "$platform=@w.repl\n$first=@twice.bin\n$second=@on_frame.bin\n{JOIN}{PAIR}{rest}"
     )?;
-    assert_script(&rt, can_files(rt.alloc())?, script.as_str(), 0, ON_FRAME_LOG)?;
+    assert_script(
+        &rt,
+        can_files(rt.alloc())?,
+        script.as_str(),
+        0,
+        ON_FRAME_LOG,
+    )?;
     Ok(())
 }
 
@@ -470,6 +475,12 @@ fn full_log(alloc: Global) -> Result<String, NoMemory> {
 fn full_boards_fill_the_laboratory(rt: HostRuntime) -> Result<(), Fail> {
     let script = full_script(rt.alloc())?;
     let log = full_log(rt.alloc())?;
-    assert_script(&rt, can_files(rt.alloc())?, script.as_str(), 3, log.as_str())?;
+    assert_script(
+        &rt,
+        can_files(rt.alloc())?,
+        script.as_str(),
+        3,
+        log.as_str(),
+    )?;
     Ok(())
 }

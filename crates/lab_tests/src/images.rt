@@ -235,7 +235,13 @@ fn assert_refused_in_the_script<R: Abort + AllocGlobal>(
     let alloc = rt.alloc();
     let script = format!(in alloc; "{BOARD}sysbus {command} @image\nfoo\n")?;
     let written = format!(in alloc; "error: s.resc:3: {text}\n")?;
-    assert_script(rt, files_with(alloc, file)?, script.as_str(), 3, written.as_str())
+    assert_script(
+        rt,
+        files_with(alloc, file)?,
+        script.as_str(),
+        3,
+        written.as_str(),
+    )
 }
 
 /// It is refused at a line of a file that the script includes.
@@ -352,7 +358,13 @@ fn assert_entry<R: Abort + AllocGlobal>(rt: &R, file: &[u8], entry: &str) -> Res
     let alloc = rt.alloc();
     let script = joined(alloc, BOARD, "sysbus LoadELF @image\ncpu PC\n")?;
     let written = joined(alloc, entry, "\n")?;
-    assert_script(rt, files_with(alloc, file)?, script.as_str(), 0, written.as_str())
+    assert_script(
+        rt,
+        files_with(alloc, file)?,
+        script.as_str(),
+        0,
+        written.as_str(),
+    )
 }
 
 fn assert_places<R: Abort + AllocGlobal>(

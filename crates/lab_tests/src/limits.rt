@@ -80,7 +80,14 @@ fn there_are_16_boards_at_most(rt: HostRuntime) -> Result<(), Fail> {
     let written = repeated(rt.alloc(), "0x100002b7\n", 16, fault)?;
     assert_repeated(&rt, BOARD, 16, "\n\nmach create\n", 3, written.as_str())?;
     let fault = "error: s.resc:17: S6 taken\n";
-    assert_repeated(&rt, "mach create\n", 16, "mach create machine-3\n", 3, fault)?;
+    assert_repeated(
+        &rt,
+        "mach create\n",
+        16,
+        "mach create machine-3\n",
+        3,
+        fault,
+    )?;
     Ok(())
 }
 
@@ -210,12 +217,7 @@ static SIZES: [(usize, Option<&str>, u8, &str); 11] = [
         3,
         "error: s.resc:2: S19 size\n",
     ),
-    (
-        16_777_216,
-        Some(IMAGE),
-        3,
-        "error: s.resc:3: S16 address\n",
-    ),
+    (16_777_216, Some(IMAGE), 3, "error: s.resc:3: S16 address\n"),
     (16_777_217, Some(IMAGE), 3, "error: s.resc:3: S19 size\n"),
     (16_777_216, Some(ELF), 3, "error: s.resc:3: E2 not elf\n"),
     (16_777_217, Some(ELF), 3, "error: s.resc:3: S19 size\n"),

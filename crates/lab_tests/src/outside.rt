@@ -275,7 +275,13 @@ fn a_failed_write_cuts_a_run_short(rt: HostRuntime) -> Result<(), Fail> {
     assert_unwritten(&rt, HOLE, HOLE_LOG, 4096, &HOLE_LINES)?;
     assert_unwritten(&rt, HOLE, HOLE_LOG, 1, &bytes_of(rt.alloc(), HOLE_LOG)?)?;
     assert_unwritten(&rt, BODIES, BODIES_LOG, 4096, &BODIES_LINES)?;
-    assert_unwritten(&rt, BODIES, BODIES_LOG, 1, &bytes_of(rt.alloc(), BODIES_LOG)?)?;
+    assert_unwritten(
+        &rt,
+        BODIES,
+        BODIES_LOG,
+        1,
+        &bytes_of(rt.alloc(), BODIES_LOG)?,
+    )?;
     Ok(())
 }
 

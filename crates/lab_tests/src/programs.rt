@@ -128,11 +128,7 @@ static PROGRAMS: [Program; 11] = [
     ("nops.bin", &[], 200, &[]),
 ];
 
-fn put_programs(
-    files: &mut MemFiles,
-    alloc: Global,
-    programs: &[Program],
-) -> Result<(), NoMemory> {
+fn put_programs(files: &mut MemFiles, alloc: Global, programs: &[Program]) -> Result<(), NoMemory> {
     for (name, first, nops, last) in programs {
         files.put(name, &padded(alloc, first, *nops, last)?)?;
     }

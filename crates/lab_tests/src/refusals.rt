@@ -330,10 +330,7 @@ static NO_TEXTS: [(&[u8], &str); 5] = [
     ),
 ];
 
-fn assert_no_texts<R: Abort + AllocGlobal>(
-    rt: &R,
-    rows: &[(&[u8], &str)],
-) -> Result<(), NoMemory> {
+fn assert_no_texts<R: Abort + AllocGlobal>(rt: &R, rows: &[(&[u8], &str)]) -> Result<(), NoMemory> {
     for (bytes, written) in rows {
         let mut files = files(rt.alloc())?;
         files.put("s.resc", bytes)?;
