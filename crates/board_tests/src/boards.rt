@@ -327,13 +327,13 @@ fn load<D: Device>(board: &mut Board<D>, words: &[u32]) -> Result<bool, NoMemory
 /// Gives a board a program, and takes the steps.
 fn play<D: Device>(
     rt: &impl Abort,
-    mut board: Board<D>,
+    board: &mut Board<D>,
     words: &[u32],
     steps: &[Step],
 ) -> Result<(), NoMemory> {
-    assert!(rt; load(&mut board, words)?);
+    assert!(rt; load(board, words)?);
     for step in steps {
-        assert!(rt; do_step(&mut board, *step)?);
+        assert!(rt; do_step(board, *step)?);
     }
     Ok(())
 }
@@ -352,7 +352,7 @@ fn play_on<D: Device>(
     requires first { D.meaning devices.0 ≡ first_state uart }
     requires second { D.meaning devices.1 ≡ first_state second }
 {
-    let board = start(rt, alloc, plan, second, devices)?;
-    play(rt, board, words, steps)?;
+    let mut board = start(rt, alloc, plan, second, devices)?;
+    play(rt, &mut board, words, steps)?;
     Ok(())
 }

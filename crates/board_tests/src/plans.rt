@@ -1,9 +1,9 @@
 //! Plans of two boards and of boards that are nearly right, and accesses at the ends of regions.
+use crate::parts::{set_kinds, set_memories, set_names, set_regions, set_wires};
 use dev_core::Kind;
-use lab_num::{NoMemory, Rows, Text};
+use lab_num::{NoMemory, Text};
 use sample_boards::{
-    MEMORIES, SMALL_KINDS, SMALL_NAMES, SMALL_REGIONS, USUAL_REGIONS, names_of, small_board,
-    usual_board,
+    MEMORIES, SMALL_KINDS, SMALL_NAMES, SMALL_REGIONS, USUAL_REGIONS, small_board, usual_board,
 };
 use std::alloc::Global;
 use std::process::Abort;
@@ -69,10 +69,10 @@ fn is_counted(
     kinds: usize,
 ) -> Result<bool, NoMemory> {
     let mut plan = small_board(alloc)?;
-    plan.names = names_of(alloc, &SMALL_NAMES[..names.min(4)])?;
-    plan.regions = Rows::of(SMALL_REGIONS[..regions.min(3)].to_vec(alloc)?);
-    plan.memories = Rows::of(MEMORIES[..memories.min(1)].to_vec(alloc)?);
-    plan.kinds = Rows::of(SMALL_KINDS[..kinds.min(2)].to_vec(alloc)?);
+    set_names(&mut plan, alloc, &SMALL_NAMES[..names.min(4)])?;
+    set_regions(&mut plan, alloc, &SMALL_REGIONS[..regions.min(3)])?;
+    set_memories(&mut plan, alloc, &MEMORIES[..memories.min(1)])?;
+    set_kinds(&mut plan, alloc, &SMALL_KINDS[..kinds.min(2)])?;
     Ok(plan.is_valid())
 }
 
@@ -86,7 +86,7 @@ fn is_named(
     let mut names = SMALL_NAMES;
     names[i % 4] = (name, what);
     let mut plan = small_board(alloc)?;
-    plan.names = names_of(alloc, &names)?;
+    set_names(&mut plan, alloc, &names)?;
     plan.cpu = Text::of(alloc, cpu)?;
     Ok(plan.is_valid())
 }
@@ -170,8 +170,8 @@ fn is_small_range(
     let mut regions = SMALL_REGIONS;
     regions[i % 3] = with_range(regions[i % 3], range.0, range.1, range.2);
     let mut plan = small_board(alloc)?;
-    plan.regions = Rows::of(regions.to_vec(alloc)?);
-    plan.memories = Rows::of([memory].to_vec(alloc)?);
+    set_regions(&mut plan, alloc, &regions)?;
+    set_memories(&mut plan, alloc, &[memory])?;
     Ok(plan.is_valid())
 }
 
@@ -179,7 +179,7 @@ fn is_usual_range(alloc: Global, i: usize, base: u32, size: u32) -> Result<bool,
     let mut regions = USUAL_REGIONS;
     regions[i % 4] = with_range(regions[i % 4], base, size, 1);
     let mut plan = usual_board(alloc)?;
-    plan.regions = Rows::of(regions.to_vec(alloc)?);
+    set_regions(&mut plan, alloc, &regions)?;
     Ok(plan.is_valid())
 }
 
@@ -281,13 +281,13 @@ fn has_wire(
     from: WireFrom,
     pin: WirePin,
 ) -> Result<bool, NoMemory> {
-    plan.wires = Rows::of([Wire { from, pin }].to_vec(alloc)?);
+    set_wires(&mut plan, alloc, &[Wire { from, pin }])?;
     Ok(plan.is_valid())
 }
 
 fn has_kinds(alloc: Global, first: Kind, second: Kind) -> Result<bool, NoMemory> {
     let mut plan = small_board(alloc)?;
-    plan.kinds = Rows::of([first, second].to_vec(alloc)?);
+    set_kinds(&mut plan, alloc, &[first, second])?;
     Ok(plan.is_valid())
 }
 

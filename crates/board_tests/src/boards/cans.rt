@@ -7,11 +7,12 @@ use super::Step::{
     ShowCan,
 };
 use super::{BASE, BOARD, Step, entered, key, play, region, sent, takes};
+use crate::parts::{set_names, set_regions, set_wires};
 use board::Board;
 use can_sja1000::Can;
 use dev_core::{Device, Frame, Kind, Payload, Taken, What};
 use lab_num::{NoMemory, Rows};
-use sample_boards::{USUAL_REGIONS, names_of, usual_board};
+use sample_boards::{USUAL_REGIONS, usual_board};
 use std::alloc::Global;
 use std::process::Abort;
 use std::test::Fail;
@@ -50,7 +51,7 @@ fn plan(alloc: Global) -> Result<BoardPlan, NoMemory>
     ensures { IfOk result (λ plan. plan.kinds ≡ can ∷ can ∷ can ∷ can ∷ []) }
 {
     let mut plan = usual_board(alloc)?;
-    plan.names = names_of(alloc, &NAMES)?;
+    set_names(&mut plan, alloc, &NAMES)?;
     let regions = [
         USUAL_REGIONS[0],
         USUAL_REGIONS[1],
@@ -60,9 +61,9 @@ fn plan(alloc: Global) -> Result<BoardPlan, NoMemory>
         region(0x1001_0200, 0x100, RegionKind::Dev(2), 1),
         region(0x1001_0300, 0x100, RegionKind::Dev(3), 1),
     ];
-    plan.regions = Rows::of(Vec::from_slice(alloc, &regions)?);
+    set_regions(&mut plan, alloc, &regions)?;
+    set_wires(&mut plan, alloc, &WIRES)?;
     plan.kinds = Rows::of(vec![in alloc; Kind::Can, Kind::Can, Kind::Can, Kind::Can]?);
-    plan.wires = Rows::of(Vec::from_slice(alloc, &WIRES)?);
     plan.speed = 1;
     Ok(plan)
 }
@@ -300,8 +301,8 @@ static ROWS: [(&[u32], &[Step]); 4] = [
 
 fn play_all(rt: &impl Abort, alloc: Global, rows: &[(&[u32], &[Step])]) -> Result<(), Fail> {
     for (words, steps) in rows {
-        let board = start(rt, alloc, plan(alloc)?)?;
-        play(rt, board, words, steps)?;
+        let mut board = start(rt, alloc, plan(alloc)?)?;
+        play(rt, &mut board, words, steps)?;
     }
     Ok(())
 }

@@ -4,9 +4,10 @@ ghost use Rattle.dev_core.specs.declared.kind.Kind.TheVariants.{Uart as uart};
 
 use super::Step::{Arrive, At, Go, NoneSent, Register, Reset, Retired, Run, Sent, Speed};
 use super::{BASE, SECOND, Step, UART, play_on, region};
+use crate::parts::{set_names, set_regions, set_wires};
 use dev_core::{Kind, Taken};
 use lab_num::Rows;
-use sample_boards::{USUAL_REGIONS, names_of, usual_board};
+use sample_boards::{USUAL_REGIONS, usual_board};
 use std::alloc::Global;
 use std::process::Abort;
 use std::test::Fail;
@@ -67,13 +68,18 @@ const DIRECT: [Wire; 4] = [
 fn plan(alloc: Global, wires: &[Wire]) -> Result<BoardPlan, Fail>
     ensures { IfOk result (λ plan. plan.kinds ≡ uart ∷ uart ∷ []) }
 {
-    let mut regions = USUAL_REGIONS.to_vec(alloc)?;
-    regions.push(region(0x1000_1000, 0x100, RegionKind::Dev(SECOND), 1))?;
+    let regions = [
+        USUAL_REGIONS[0],
+        USUAL_REGIONS[1],
+        USUAL_REGIONS[2],
+        USUAL_REGIONS[3],
+        region(0x1000_1000, 0x100, RegionKind::Dev(SECOND), 1),
+    ];
     let mut plan = usual_board(alloc)?;
-    plan.names = names_of(alloc, &NAMES)?;
-    plan.regions = Rows::of(regions);
+    set_names(&mut plan, alloc, &NAMES)?;
+    set_regions(&mut plan, alloc, &regions)?;
+    set_wires(&mut plan, alloc, wires)?;
     plan.kinds = Rows::of(vec![in alloc; Kind::Uart, Kind::Uart]?);
-    plan.wires = Rows::of(Vec::from_slice(alloc, wires)?);
     Ok(plan)
 }
 
