@@ -142,27 +142,89 @@ fn start<D: Device>(
     }
 }
 
-/// Copies bytes into memories that hold them all.
-fn copy<D: Device>(
-    rt: &impl Abort,
-    board: &mut Board<D>,
-    at: u32,
-    bytes: &[u8],
-) -> Result<(), NoMemory> {
-    assert!(rt; bytes.len() < 0x1000);
-    assert!(rt; board.holds(at, bytes.len() as u32));
-    board.copy_in(at, bytes)
+/// Copies bytes into memories, if these hold them all.
+fn copy<D: Device>(board: &mut Board<D>, at: u32, bytes: &[u8]) -> Result<bool, NoMemory> {
+    if bytes.len() >= 0x1000 || !board.holds(at, bytes.len() as u32) {
+        return Ok(false);
+    }
+    board.copy_in(at, bytes)?;
+    Ok(true)
 }
 
-fn run<D: Device>(rt: &impl Abort, board: &mut Board<D>, from: u64, first: u64, n: u64) {
-    assert!(rt; from <= 1000 && first <= 1000 && n <= 1000);
-    assert!(rt; from + (first + n) / u64::from(board.speed()) <= 10_000_000_000);
-    assert!(rt; board.posted() < 1000 && board.entered() < 1000);
+fn zero<D: Device>(board: &mut Board<D>, at: u32, count: u32) -> bool {
+    if !board.holds(at, count) {
+        return false;
+    }
+    board.zero(at, count);
+    true
+}
+
+fn go<D: Device>(board: &mut Board<D>, pc: u32) -> bool {
+    if pc % 4 != 0 {
+        return false;
+    }
+    board.set_pc(pc);
+    true
+}
+
+fn set_speed<D: Device>(board: &mut Board<D>, speed: u32) -> bool {
+    if speed < 1 || speed > 1000 {
+        return false;
+    }
+    board.set_speed(speed);
+    true
+}
+
+fn show<D: Device>(board: &mut Board<D>) -> bool {
+    if !matches!(board.plan().kinds.items().first(), Some(Kind::Uart)) {
+        return false;
+    }
+    board.show(UART);
+    true
+}
+
+/// Changes a board from outside, and says whether that can be done.
+fn change<D: Device>(board: &mut Board<D>, step: Step) -> Result<bool, NoMemory> {
+    let done = match step {
+        Step::Copy(at, bytes) => copy(board, at, bytes)?,
+        Step::Zero(at, count) => zero(board, at, count),
+        Step::Go(pc) => go(board, pc),
+        Step::Halt(on) => {
+            board.set_halted(on);
+            board.halted() == on
+        }
+        Step::Show => show(board),
+        Step::Reset => {
+            board.reset();
+            true
+        }
+        Step::Speed(speed) => set_speed(board, speed),
+        _ => true,
+    };
+    Ok(done)
+}
+
+/// A board takes all of these slots.
+fn runs<D: Device>(board: &mut Board<D>, from: u64, first: u64, n: u64) -> bool {
+    if from > 1000 || first > 1000 || n > 1000 {
+        return false;
+    }
+    if from + (first + n) / u64::from(board.speed()) > 10_000_000_000 {
+        return false;
+    }
+    if board.posted() >= 1000 || board.entered() >= 1000 {
+        return false;
+    }
     let at = SlotAt {
         from: Micros(from),
         first,
     };
-    assert_eq!(rt; board.turn(at, n), Turn::Used(n));
+    board.turn(at, n) == Turn::Used(n)
+}
+
+/// A device answers so when a payload arrives at it.
+fn takes<D: Device>(board: &mut Board<D>, dev: u8, payload: &Payload, taken: Taken) -> bool {
+    usize::from(dev) < board.plan().kinds.items().len() && board.deliver(dev, payload) == taken
 }
 
 fn key(at: u64, number: u64) -> Key {
@@ -174,82 +236,38 @@ fn key(at: u64, number: u64) -> Key {
 }
 
 /// The oldest post is this one, and is dropped.
-fn sent<D: Device>(rt: &impl Abort, board: &mut Board<D>, key: Key, dev: u8, payload: Payload) {
+fn sent<D: Device>(board: &mut Board<D>, key: Key, dev: u8, payload: Payload) -> bool {
     let from = Member { board: BOARD, dev };
     let post = Post { key, from, payload };
-    assert!(rt; board.next_post() == Some(post));
+    let is_next = board.next_post() == Some(post);
     if board.next_post().is_some() {
         board.drop_post();
     }
+    is_next
 }
 
 /// The entries since the last look are this one.
-fn entered<D: Device>(rt: &impl Abort, board: &mut Board<D>, key: Key, what: What) {
+fn entered<D: Device>(board: &mut Board<D>, key: Key, what: What) -> bool {
     let made = [Entry { key, what }];
-    assert_eq!(rt; board.take_entries().as_slice(), made.as_slice());
+    board.take_entries().as_slice() == made.as_slice()
 }
 
-/// A byte arrives at a device.
-fn arrive<D: Device>(rt: &impl Abort, board: &mut Board<D>, dev: u8, byte: u8, taken: Taken) {
-    assert!(rt; usize::from(dev) < board.plan().kinds.items().len());
-    assert_eq!(rt; board.deliver(dev, &Payload::Byte(byte)), taken);
-}
-
-fn show<D: Device>(rt: &impl Abort, board: &mut Board<D>) {
-    assert!(rt; matches!(board.plan().kinds.items().first(), Some(Kind::Uart)));
-    board.show(UART);
-}
-
-fn is_shown<D: Device>(rt: &impl Abort, board: &Board<D>, dev: u8) -> bool {
-    assert!(rt; usize::from(dev) < board.plan().kinds.items().len());
-    board.is_shown(dev)
-}
-
-/// Changes a board from outside.
-fn change<D: Device>(rt: &impl Abort, board: &mut Board<D>, step: Step) -> Result<(), NoMemory> {
+/// Runs a board, or takes what it has made, and says whether all is as it should be.
+fn take<D: Device>(board: &mut Board<D>, step: Step) -> bool {
     match step {
-        Step::Copy(at, bytes) => copy(rt, board, at, bytes)?,
-        Step::Zero(at, count) => {
-            assert!(rt; board.holds(at, count));
-            board.zero(at, count);
-        }
-        Step::Go(pc) => {
-            assert!(rt; pc % 4 == 0);
-            board.set_pc(pc);
-        }
-        Step::Halt(on) => {
-            board.set_halted(on);
-            assert_eq!(rt; board.halted(), on);
-        }
-        Step::Show => show(rt, board),
-        Step::Reset => board.reset(),
-        Step::Speed(speed) => {
-            assert!(rt; 1 <= speed && speed <= 1000);
-            board.set_speed(speed);
-        }
-        _ => {}
-    }
-    Ok(())
-}
-
-/// Looks at a board, which a look at its posts or entries changes.
-fn look<D: Device>(rt: &impl Abort, board: &mut Board<D>, step: Step) {
-    match step {
-        Step::Shown(dev, shown) => assert_eq!(rt; is_shown(rt, board, dev), shown),
-        Step::Run(from, first, n) => run(rt, board, from, first, n),
-        Step::Arrive(dev, byte, taken) => arrive(rt, board, dev, byte, taken),
-        Step::Sent(at, number, byte) => sent(rt, board, key(at, number), UART, Payload::Byte(byte)),
+        Step::Run(from, first, n) => runs(board, from, first, n),
+        Step::Arrive(dev, byte, taken) => takes(board, dev, &Payload::Byte(byte), taken),
+        Step::Sent(at, number, byte) => sent(board, key(at, number), UART, Payload::Byte(byte)),
         Step::Failed(at, number, code) => {
             let finish = Payload::Finish(Finish::Fail(code));
-            sent(rt, board, key(at, number), SECOND, finish);
+            sent(board, key(at, number), SECOND, finish)
         }
-        Step::NoneSent => assert!(rt; board.next_post().is_none()),
         Step::Entered(at, number, value) => {
-            entered(rt, board, key(at, number), What::Byte { dev: UART, value });
+            entered(board, key(at, number), What::Byte { dev: UART, value })
         }
         Step::Read(at, number, width, address) => {
             let read = What::Read { width, at: address };
-            entered(rt, board, key(at, number), read);
+            entered(board, key(at, number), read)
         }
         Step::Write(at, number, width, address, value) => {
             let write = What::Write {
@@ -257,40 +275,65 @@ fn look<D: Device>(rt: &impl Abort, board: &mut Board<D>, step: Step) {
                 at: address,
                 value,
             };
-            entered(rt, board, key(at, number), write);
+            entered(board, key(at, number), write)
         }
-        Step::NoneEntered => assert_eq!(rt; board.take_entries().len(), 0),
-        Step::Made(posts, entries) => {
-            assert_eq!(rt; (board.posted(), board.entered()), (posts, entries));
-        }
-        Step::Register(n, value) => {
-            assert!(rt; n < 32);
-            assert_eq!(rt; board.register(n), value);
-        }
-        Step::At(pc) => assert_eq!(rt; board.pc(), pc),
-        Step::Retired(n) => assert_eq!(rt; board.retired(), n),
-        Step::Holds(at, count, held) => assert_eq!(rt; board.holds(at, count), held),
-        Step::Word(at, word) => assert_eq!(rt; board.load_word(at), word),
-        _ => {}
+        Step::NoneEntered => board.take_entries().is_empty(),
+        _ => true,
     }
 }
 
-/// Gives a board a program at its first memory, and takes the steps.
+/// A device is there, and is shown or is not.
+fn is_shown<D: Device>(board: &Board<D>, dev: u8, shown: bool) -> bool {
+    usize::from(dev) < board.plan().kinds.items().len() && board.is_shown(dev) == shown
+}
+
+/// A board is as it should be.
+fn is_so<D: Device>(board: &Board<D>, step: Step) -> bool {
+    match step {
+        Step::Shown(dev, shown) => is_shown(board, dev, shown),
+        Step::NoneSent => board.next_post().is_none(),
+        Step::Made(posts, entries) => board.posted() == posts && board.entered() == entries,
+        Step::Register(n, value) => n < 32 && board.register(n) == value,
+        Step::At(pc) => board.pc() == pc,
+        Step::Retired(n) => board.retired() == n,
+        Step::Holds(at, count, held) => board.holds(at, count) == held,
+        Step::Word(at, word) => board.load_word(at) == word,
+        _ => true,
+    }
+}
+
+/// Takes a step, and says whether it was as it should be.
+fn do_step<D: Device>(board: &mut Board<D>, step: Step) -> Result<bool, NoMemory> {
+    Ok(
+        change(board, step)?
+            && take(board, step)
+            && cans::exchange(board, step)
+            && is_so(board, step),
+    )
+}
+
+/// Copies a program to the first memory, and makes it the next to run.
+fn load<D: Device>(board: &mut Board<D>, words: &[u32]) -> Result<bool, NoMemory> {
+    let mut at = BASE;
+    for word in words {
+        if !copy(board, at, &word.to_le_bytes())? {
+            return Ok(false);
+        }
+        at = at.wrapping_add(4);
+    }
+    Ok(go(board, BASE))
+}
+
+/// Gives a board a program, and takes the steps.
 fn play<D: Device>(
     rt: &impl Abort,
-    mut board: Board<D>,
+    board: &mut Board<D>,
     words: &[u32],
     steps: &[Step],
 ) -> Result<(), NoMemory> {
-    for (i, word) in words.iter().enumerate() {
-        assert!(rt; i < 100);
-        copy(rt, &mut board, BASE + 4 * i as u32, &word.to_le_bytes())?;
-    }
-    board.set_pc(BASE);
+    assert!(rt; load(board, words)?);
     for step in steps {
-        change(rt, &mut board, *step)?;
-        look(rt, &mut board, *step);
-        cans::exchange(rt, &mut board, *step);
+        assert!(rt; do_step(board, *step)?);
     }
     Ok(())
 }
@@ -309,7 +352,7 @@ fn play_on<D: Device>(
     requires first { D.meaning devices.0 ≡ first_state uart }
     requires second { D.meaning devices.1 ≡ first_state second }
 {
-    let board = start(rt, alloc, plan, second, devices)?;
-    play(rt, board, words, steps)?;
+    let mut board = start(rt, alloc, plan, second, devices)?;
+    play(rt, &mut board, words, steps)?;
     Ok(())
 }

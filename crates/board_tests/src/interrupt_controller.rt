@@ -1,23 +1,40 @@
 //! Tables of the PLIC, through its calls and its registers.
-ghost use Rattle.std.specs.Prelude.{◌<◌};
+ghost use Rattle.std.specs.Prelude.{◌≡◌, ◌<◌};
 
 use plic::{Plic, PlicState};
+use std::process::Abort;
 
-#[test]
-fn a_claimed_source_is_claimed_again_once_it_is_completed(rt: HostRuntime) {
+/// What three claims in context 0 give.
+fn three_claims(plic: &mut Plic) -> (u8, u8, u8)
+    requires { 0 < plic.old.contexts }
+    ensures { plic.new.contexts ≡ plic.old.contexts }
+{
+    (plic.claim(0), plic.claim(0), plic.claim(0))
+}
+
+/// A PLIC of one context, in which sources 2 and 3 are enabled, of priority 1.
+fn two_sources() -> Plic
+    ensures { result.contexts ≡ 1 }
+{
     let mut plic = Plic::new(4, 1);
     plic.store(0x8, 4, 1);
     plic.store(0xC, 4, 1);
     plic.store(0x2000, 4, 0b1100);
+    plic
+}
+
+#[test]
+fn a_claimed_source_is_claimed_again_once_it_is_completed(rt: HostRuntime) {
+    let mut plic = two_sources();
     plic.sample(0b1100);
     assert!(rt; plic.output(0));
-    assert_eq!(rt; (plic.claim(0), plic.claim(0), plic.claim(0)), (2, 3, 0));
+    assert!(rt; three_claims(&mut plic) == (2, 3, 0));
     plic.complete(0, 2);
     plic.sample(0b1100);
-    assert_eq!(rt; (plic.claim(0), plic.claim(0)), (2, 0));
-    assert_eq!(rt; plic.state().shut, 0b1100);
+    assert!(rt; three_claims(&mut plic) == (2, 0, 0));
+    assert!(rt; plic.state().shut == 0b1100);
     plic.reset();
-    assert_eq!(rt; plic.state(), PlicState::reset());
+    assert!(rt; plic.state() == PlicState::reset());
 }
 
 /// The output to a context, and what it claims, where source 5 alone is pending, of this priority
@@ -42,8 +59,8 @@ fn a_priority_above_the_threshold_interrupts_and_one_above_0_is_claimed(rt: Host
     for priority in 0..8 {
         for threshold in 0..8 {
             let wanted = Some((priority > threshold, if priority > 0 { 5 } else { 0 }));
-            assert_eq!(rt; told(0, priority, threshold), wanted);
-            assert_eq!(rt; told(14, priority, threshold), wanted);
+            assert!(rt; told(0, priority, threshold) == wanted);
+            assert!(rt; told(14, priority, threshold) == wanted);
         }
     }
 }
@@ -67,7 +84,7 @@ fn carry_out(plic: &mut Plic, act: Act) -> u32 {
 }
 
 /// The sources next to the ends of words.
-const ENDS: [u32; 7] = [31, 32, 63, 64, 95, 96, 127];
+static ENDS: [u32; 7] = [31, 32, 63, 64, 95, 96, 127];
 
 const LINES: u128 = 1 << 31 | 1 << 32 | 1 << 63 | 1 << 64 | 1 << 95 | 1 << 96 | 1 << 127;
 
@@ -77,7 +94,7 @@ const FIRST: u32 = 0x20_0004;
 const LAST: u32 = 0x20_E004;
 
 /// Of those sources 31, 63, 95 and 127 are enabled in context 0, and the others in context 14.
-const COURSE: [(Act, u32); 40] = [
+static COURSE: [(Act, u32); 40] = [
     (Act::Store(0x2000, 0x8000_0000), 0),
     (Act::Store(0x2004, 0x8000_0000), 0),
     (Act::Store(0x2008, 0x8000_0000), 0),
@@ -122,20 +139,29 @@ const COURSE: [(Act, u32); 40] = [
     (Act::Load(LAST), 96),
 ];
 
+fn assert_course(rt: &impl Abort, plic: &mut Plic, course: &[(Act, u32)]) {
+    for (act, answer) in course {
+        assert_eq!(rt; carry_out(plic, *act), *answer);
+    }
+}
+
+/// Gives sources priority 1.
+fn give_priority(plic: &mut Plic, sources: &[u32]) {
+    for source in sources {
+        plic.store(4 * (*source % 128), 4, 1);
+    }
+}
+
 #[test]
 fn a_gateway_hands_on_one_request_until_it_is_completed(rt: HostRuntime) {
     let mut plic = Plic::new(127, 15);
-    for &source in &ENDS {
-        let _ = carry_out(&mut plic, Act::Store(4 * (source % 128), 1));
-    }
-    for &(step, answer) in &COURSE {
-        assert_eq!(rt; carry_out(&mut plic, step), answer);
-    }
+    give_priority(&mut plic, &ENDS);
+    assert_course(&rt, &mut plic, &COURSE);
 }
 
 /// An offset and a width of a store of all ones in a PLIC of 40 sources and 2 contexts, and what a
 /// load of a word there then gives.
-const REGISTERS: [(u32, u8, u32); 32] = [
+static REGISTERS: [(u32, u8, u32); 32] = [
     (0x0, 4, 0),
     (0x4, 4, 7),
     (0x4, 2, 0),
@@ -170,20 +196,30 @@ const REGISTERS: [(u32, u8, u32); 32] = [
     (0xFFFF_FFFC, 4, 0),
 ];
 
+/// What loads of a word, a byte and a halfword give behind a store of all ones.
+fn kept(at: u32, width: u8) -> (u32, u32, u32) {
+    let mut plic = Plic::new(40, 2);
+    plic.store(at, width, 0xFFFF_FFFF);
+    (plic.load(at, 4), plic.load(at, 1), plic.load(at, 2))
+}
+
+fn assert_registers(rt: &impl Abort, rows: &[(u32, u8, u32)]) {
+    for (at, width, read) in rows {
+        assert_eq!(rt; kept(*at, *width), (*read, 0, 0));
+    }
+}
+
 #[test]
 fn a_register_keeps_the_bits_that_are_there(rt: HostRuntime) {
-    for &(at, width, read) in &REGISTERS {
-        let mut plic = Plic::new(40, 2);
-        plic.store(at, width, 0xFFFF_FFFF);
-        assert_eq!(rt; (at, width, plic.load(at, 4)), (at, width, read));
-        assert_eq!(rt; (plic.load(at, 1), plic.load(at, 2)), (0, 0));
-    }
+    assert_registers(&rt, &REGISTERS);
 }
 
 /// What a state is like but for a reset one, and whether a PLIC of 40 sources and 2 contexts can
 /// have it: its pending sources and shut gateways, the priorities of 0, 40 and 41, the enables of
 /// contexts 1 and 2, and their thresholds.
-const STATES: [(u128, u128, [u8; 3], [u128; 2], [u8; 2], bool); 17] = [
+type Row = (u128, u128, [u8; 3], [u128; 2], [u8; 2], bool);
+
+static STATES: [Row; 17] = [
     (0, 0, [0, 0, 0], [0, 0], [0, 0], true),
     (2, 1 << 40, [0, 7, 0], [1 << 40, 0], [7, 0], true),
     (1, 0, [0, 0, 0], [0, 0], [0, 0], false),
@@ -203,22 +239,33 @@ const STATES: [(u128, u128, [u8; 3], [u128; 2], [u8; 2], bool); 17] = [
     (0, 0, [0, 0, 0], [0, 0], [0, 8], false),
 ];
 
+fn state_of(row: &Row) -> PlicState {
+    let (pending, shut, priorities, enables, thresholds, _) = *row;
+    let mut state = PlicState::reset();
+    state.pending = pending;
+    state.shut = shut;
+    state.priorities[0] = priorities[0];
+    state.priorities[40] = priorities[1];
+    state.priorities[41] = priorities[2];
+    state.enables[1] = enables[0];
+    state.enables[2] = enables[1];
+    state.thresholds[1] = thresholds[0];
+    state.thresholds[2] = thresholds[1];
+    state
+}
+
+fn assert_states(rt: &impl Abort, rows: &[Row]) {
+    for row in rows {
+        let state = state_of(row);
+        let mut plic = Plic::new(40, 2);
+        let valid = plic.put(&state);
+        assert!(rt; valid == row.5);
+        let after = if valid { state } else { PlicState::reset() };
+        assert!(rt; plic.state() == after);
+    }
+}
+
 #[test]
 fn put_refuses_what_is_absent(rt: HostRuntime) {
-    for &(pending, shut, [none, last, past], enables, thresholds, valid) in &STATES {
-        let mut state = PlicState::reset();
-        state.pending = pending;
-        state.shut = shut;
-        state.priorities[0] = none;
-        state.priorities[40] = last;
-        state.priorities[41] = past;
-        state.enables[1] = enables[0];
-        state.enables[2] = enables[1];
-        state.thresholds[1] = thresholds[0];
-        state.thresholds[2] = thresholds[1];
-        let mut plic = Plic::new(40, 2);
-        assert_eq!(rt; plic.put(&state), valid);
-        let after = if valid { state } else { PlicState::reset() };
-        assert_eq!(rt; plic.state(), after);
-    }
+    assert_states(&rt, &STATES);
 }

@@ -6,4 +6,6 @@ mod boards;
 #[cfg(test)]
 mod interrupt_controller;
 #[cfg(test)]
+mod parts;
+#[cfg(test)]
 mod plans;

@@ -1,11 +1,12 @@
 //! Plans of two boards and of boards that are nearly right, and accesses at the ends of regions.
+use crate::parts::{set_kinds, set_memories, set_names, set_regions, set_wires};
 use dev_core::Kind;
-use lab_num::{NoMemory, Rows, Text};
+use lab_num::{NoMemory, Text};
 use sample_boards::{
-    MEMORIES, SMALL_KINDS, SMALL_NAMES, SMALL_REGIONS, USUAL_REGIONS, names_of, small_board,
-    usual_board,
+    MEMORIES, SMALL_KINDS, SMALL_NAMES, SMALL_REGIONS, USUAL_REGIONS, small_board, usual_board,
 };
 use std::alloc::Global;
+use std::process::Abort;
 use std::test::Fail;
 use sys_bus::{
     BoardPlan, NamedWhat, Place, PlicSize, Region, RegionKind, Regions, Target, Wire, WireFrom,
@@ -13,7 +14,7 @@ use sys_bus::{
 };
 
 /// Each row: how many names, regions, memories and devices of the small board there are.
-const COUNTS: [(usize, usize, usize, usize, bool); 5] = [
+static COUNTS: [(usize, usize, usize, usize, bool); 5] = [
     (4, 3, 1, 2, true),
     (3, 3, 1, 2, false),
     (4, 2, 1, 2, false),
@@ -22,7 +23,7 @@ const COUNTS: [(usize, usize, usize, usize, bool); 5] = [
 ];
 
 /// Each row: an entry of the small board that is another, and the name of the processor.
-const NAMES: [(usize, &str, NamedWhat, &str, bool); 11] = [
+static NAMES: [(usize, &str, NamedWhat, &str, bool); 11] = [
     (
         1,
         "Uart_0",
@@ -68,10 +69,10 @@ fn is_counted(
     kinds: usize,
 ) -> Result<bool, NoMemory> {
     let mut plan = small_board(alloc)?;
-    plan.names = names_of(alloc, &SMALL_NAMES[..names.min(4)])?;
-    plan.regions = Rows::of(SMALL_REGIONS[..regions.min(3)].to_vec(alloc)?);
-    plan.memories = Rows::of(MEMORIES[..memories.min(1)].to_vec(alloc)?);
-    plan.kinds = Rows::of(SMALL_KINDS[..kinds.min(2)].to_vec(alloc)?);
+    set_names(&mut plan, alloc, &SMALL_NAMES[..names.min(4)])?;
+    set_regions(&mut plan, alloc, &SMALL_REGIONS[..regions.min(3)])?;
+    set_memories(&mut plan, alloc, &MEMORIES[..memories.min(1)])?;
+    set_kinds(&mut plan, alloc, &SMALL_KINDS[..kinds.min(2)])?;
     Ok(plan.is_valid())
 }
 
@@ -85,28 +86,45 @@ fn is_named(
     let mut names = SMALL_NAMES;
     names[i % 4] = (name, what);
     let mut plan = small_board(alloc)?;
-    plan.names = names_of(alloc, &names)?;
+    set_names(&mut plan, alloc, &names)?;
     plan.cpu = Text::of(alloc, cpu)?;
     Ok(plan.is_valid())
 }
 
+fn assert_counts(
+    rt: &impl Abort,
+    alloc: Global,
+    rows: &[(usize, usize, usize, usize, bool)],
+) -> Result<(), NoMemory> {
+    for (names, regions, memories, kinds, valid) in rows {
+        let is_valid = is_counted(alloc, *names, *regions, *memories, *kinds)?;
+        assert!(rt; is_valid == *valid);
+    }
+    Ok(())
+}
+
+fn assert_names(
+    rt: &impl Abort,
+    alloc: Global,
+    rows: &[(usize, &'static str, NamedWhat, &str, bool)],
+) -> Result<(), NoMemory> {
+    for (i, name, what, cpu, valid) in rows {
+        let is_valid = is_named(alloc, *i, name, *what, cpu)?;
+        assert!(rt; is_valid == *valid);
+    }
+    Ok(())
+}
+
 #[test]
 fn each_part_has_one_name_and_one_region(rt: HostRuntime) -> Result<(), Fail> {
-    let alloc = rt.alloc();
-    for &(names, regions, memories, kinds, valid) in &COUNTS {
-        let is_valid = is_counted(alloc, names, regions, memories, kinds)?;
-        assert_eq!(rt; is_valid, valid);
-    }
-    for &(i, name, what, cpu, valid) in &NAMES {
-        let is_valid = is_named(alloc, i, name, what, cpu)?;
-        assert_eq!(rt; is_valid, valid, "{i}: {name}");
-    }
+    assert_counts(&rt, rt.alloc(), &COUNTS)?;
+    assert_names(&rt, rt.alloc(), &NAMES)?;
     Ok(())
 }
 
 /// Each row: a region of the small board with another base, size and step, and the size of the
 /// memory.
-const SMALL_RANGES: [(usize, u32, u32, u8, u32, bool); 17] = [
+static SMALL_RANGES: [(usize, u32, u32, u8, u32, bool); 17] = [
     (0, 0xFFFF_0000, 0x1_0000, 1, 0x1_0000, true),
     (0, 0xFFFF_0004, 0x1_0000, 1, 0x1_0000, false),
     (0, 0x8000_0004, 0x1_0000, 1, 0x1_0000, true),
@@ -127,7 +145,7 @@ const SMALL_RANGES: [(usize, u32, u32, u8, u32, bool); 17] = [
 ];
 
 /// The same for the timer and the interrupt controller of the usual board.
-const USUAL_RANGES: [(usize, u32, u32, bool); 4] = [
+static USUAL_RANGES: [(usize, u32, u32, bool); 4] = [
     (1, 0x200_0000, 0xC000, true),
     (1, 0x200_0000, 0xBFFC, false),
     (2, 0xC00_0000, 0x21_0000, true),
@@ -152,8 +170,8 @@ fn is_small_range(
     let mut regions = SMALL_REGIONS;
     regions[i % 3] = with_range(regions[i % 3], range.0, range.1, range.2);
     let mut plan = small_board(alloc)?;
-    plan.regions = Rows::of(regions.to_vec(alloc)?);
-    plan.memories = Rows::of([memory].to_vec(alloc)?);
+    set_regions(&mut plan, alloc, &regions)?;
+    set_memories(&mut plan, alloc, &[memory])?;
     Ok(plan.is_valid())
 }
 
@@ -161,21 +179,38 @@ fn is_usual_range(alloc: Global, i: usize, base: u32, size: u32) -> Result<bool,
     let mut regions = USUAL_REGIONS;
     regions[i % 4] = with_range(regions[i % 4], base, size, 1);
     let mut plan = usual_board(alloc)?;
-    plan.regions = Rows::of(regions.to_vec(alloc)?);
+    set_regions(&mut plan, alloc, &regions)?;
     Ok(plan.is_valid())
+}
+
+fn assert_small_ranges(
+    rt: &impl Abort,
+    alloc: Global,
+    rows: &[(usize, u32, u32, u8, u32, bool)],
+) -> Result<(), NoMemory> {
+    for (i, base, size, step, memory, valid) in rows {
+        let is_valid = is_small_range(alloc, *i, (*base, *size, *step), *memory)?;
+        assert!(rt; is_valid == *valid);
+    }
+    Ok(())
+}
+
+fn assert_usual_ranges(
+    rt: &impl Abort,
+    alloc: Global,
+    rows: &[(usize, u32, u32, bool)],
+) -> Result<(), NoMemory> {
+    for (i, base, size, valid) in rows {
+        let is_valid = is_usual_range(alloc, *i, *base, *size)?;
+        assert!(rt; is_valid == *valid);
+    }
+    Ok(())
 }
 
 #[test]
 fn regions_lie_apart_within_their_limits(rt: HostRuntime) -> Result<(), Fail> {
-    let alloc = rt.alloc();
-    for &(i, base, size, step, memory, valid) in &SMALL_RANGES {
-        let is_valid = is_small_range(alloc, i, (base, size, step), memory)?;
-        assert_eq!(rt; is_valid, valid, "{i}: {base:#x}, {size:#x}");
-    }
-    for &(i, base, size, valid) in &USUAL_RANGES {
-        let is_valid = is_usual_range(alloc, i, base, size)?;
-        assert_eq!(rt; is_valid, valid, "{i}: {base:#x}, {size:#x}");
-    }
+    assert_small_ranges(&rt, rt.alloc(), &SMALL_RANGES)?;
+    assert_usual_ranges(&rt, rt.alloc(), &USUAL_RANGES)?;
     Ok(())
 }
 
@@ -184,7 +219,7 @@ fn plic(sources: u8, contexts: u8) -> Option<PlicSize> {
 }
 
 /// Each row: the frequency, sources, contexts and speed of the usual board.
-const NUMBERS: [(Option<u32>, u8, u8, u32, bool); 12] = [
+static NUMBERS: [(Option<u32>, u8, u8, u32, bool); 12] = [
     (Some(1), 1, 1, 1, true),
     (Some(1_000_000_000), 127, 15, 1000, true),
     (None, 31, 1, 25, false),
@@ -200,7 +235,7 @@ const NUMBERS: [(Option<u32>, u8, u8, u32, bool); 12] = [
 ];
 
 /// Each row: a wire, and whether the usual board and the small one may have it.
-const WIRES: [(WireFrom, WirePin, bool, bool); 15] = [
+static WIRES: [(WireFrom, WirePin, bool, bool); 15] = [
     (WireFrom::Soft, WirePin::Cpu(3), true, false),
     (WireFrom::Timer, WirePin::Cpu(7), true, false),
     (WireFrom::Timer, WirePin::Cpu(8), false, false),
@@ -219,7 +254,7 @@ const WIRES: [(WireFrom, WirePin, bool, bool); 15] = [
 ];
 
 /// The kinds of the small board's devices.
-const KINDS: [(Kind, Kind, bool); 3] = [
+static KINDS: [(Kind, Kind, bool); 3] = [
     (Kind::Can, Kind::Finisher, true),
     (Kind::Can, Kind::Can, true),
     (Kind::Finisher, Kind::Finisher, false),
@@ -246,44 +281,66 @@ fn has_wire(
     from: WireFrom,
     pin: WirePin,
 ) -> Result<bool, NoMemory> {
-    plan.wires = Rows::of([Wire { from, pin }].to_vec(alloc)?);
+    set_wires(&mut plan, alloc, &[Wire { from, pin }])?;
     Ok(plan.is_valid())
 }
 
 fn has_kinds(alloc: Global, first: Kind, second: Kind) -> Result<bool, NoMemory> {
     let mut plan = small_board(alloc)?;
-    plan.kinds = Rows::of([first, second].to_vec(alloc)?);
+    set_kinds(&mut plan, alloc, &[first, second])?;
     Ok(plan.is_valid())
+}
+
+fn assert_numbers(
+    rt: &impl Abort,
+    alloc: Global,
+    rows: &[(Option<u32>, u8, u8, u32, bool)],
+) -> Result<(), NoMemory> {
+    for (frequency, sources, contexts, speed, valid) in rows {
+        let is_valid = has_numbers(alloc, *frequency, *sources, *contexts, *speed)?;
+        assert!(rt; is_valid == *valid);
+    }
+    Ok(())
+}
+
+fn assert_kinds(
+    rt: &impl Abort,
+    alloc: Global,
+    rows: &[(Kind, Kind, bool)],
+) -> Result<(), NoMemory> {
+    for (first, second, valid) in rows {
+        assert!(rt; has_kinds(alloc, *first, *second)? == *valid);
+    }
+    Ok(())
 }
 
 #[test]
 fn numbers_and_kinds_are_those_that_may_be(rt: HostRuntime) -> Result<(), Fail> {
-    let alloc = rt.alloc();
-    for &(frequency, sources, contexts, speed, valid) in &NUMBERS {
-        let is_valid = has_numbers(alloc, frequency, sources, contexts, speed)?;
-        assert_eq!(rt; is_valid, valid);
-    }
-    for &(first, second, valid) in &KINDS {
-        let is_valid = has_kinds(alloc, first, second)?;
-        assert_eq!(rt; is_valid, valid);
+    assert_numbers(&rt, rt.alloc(), &NUMBERS)?;
+    assert_kinds(&rt, rt.alloc(), &KINDS)?;
+    Ok(())
+}
+
+fn assert_wires(
+    rt: &impl Abort,
+    alloc: Global,
+    rows: &[(WireFrom, WirePin, bool, bool)],
+) -> Result<(), NoMemory> {
+    for (from, pin, on_usual, on_small) in rows {
+        assert!(rt; has_wire(alloc, usual_board(alloc)?, *from, *pin)? == *on_usual);
+        assert!(rt; has_wire(alloc, small_board(alloc)?, *from, *pin)? == *on_small);
     }
     Ok(())
 }
 
 #[test]
 fn wires_are_those_that_may_be(rt: HostRuntime) -> Result<(), Fail> {
-    let alloc = rt.alloc();
-    for &(from, pin, on_usual, on_small) in &WIRES {
-        let is_valid = has_wire(alloc, usual_board(alloc)?, from, pin)?;
-        assert_eq!(rt; is_valid, on_usual);
-        let is_valid = has_wire(alloc, small_board(alloc)?, from, pin)?;
-        assert_eq!(rt; is_valid, on_small);
-    }
+    assert_wires(&rt, rt.alloc(), &WIRES)?;
     Ok(())
 }
 
 /// Accesses of the usual board, at both ends of each region and past them.
-const ACCESSES: [(u32, u8, Target); 17] = [
+static ACCESSES: [(u32, u8, Target); 17] = [
     (0x7FFF_FFFE, 4, Target::Nothing),
     (0x7FFF_FFFF, 1, Target::Nothing),
     (0x8000_0000, 4, Target::Ram { part: 0, at: 0 }),
@@ -319,7 +376,7 @@ const ACCESSES: [(u32, u8, Target); 17] = [
 
 /// Addresses, and their places in the memory of the usual board once it was found: those from which
 /// four bytes of it lie.
-const PLACES: [(u32, Option<Place>); 6] = [
+static PLACES: [(u32, Option<Place>); 6] = [
     (0x7FFF_FFFF, None),
     (0x8000_0000, Some(Place { part: 0, at: 0 })),
     (
@@ -334,28 +391,32 @@ const PLACES: [(u32, Option<Place>); 6] = [
     (0x1000_0000, None),
 ];
 
+/// The access belongs to this target, also where what is kept of the last one is tried first.
+fn assert_accesses(rt: &impl Abort, regions: &mut Regions, rows: &[(u32, u8, Target)]) {
+    for (at, width, target) in rows {
+        let (at, width) = (*at, *width);
+        assert!(rt; width == 1 || width == 2 || width == 4);
+        assert_eq!(rt; regions.find(at, width), *target);
+        assert_eq!(rt; regions.find_data(at, width), *target);
+    }
+}
+
+fn assert_places(rt: &impl Abort, regions: &Regions, rows: &[(u32, Option<Place>)]) {
+    for (at, place) in rows {
+        assert!(rt; regions.near_code(*at) == *place);
+        assert!(rt; regions.near_data(*at) == *place);
+    }
+}
+
 #[test]
 fn an_access_belongs_to_the_region_that_holds_it_whole(rt: HostRuntime) -> Result<(), Fail> {
     let usual = usual_board(rt.alloc())?;
     assert!(rt; usual.is_valid());
     let mut regions = Regions::new(usual.regions.into_items());
-    for &(at, width, target) in &ACCESSES {
-        assert!(rt; width == 1 || width == 2 || width == 4);
-        assert_eq!(rt; regions.find(at, width), target, "{width} bytes at {at:#x}");
-        assert_eq!(rt;
-            regions.find_data(at, width),
-            target,
-            "{width} bytes at {at:#x}"
-        );
-    }
-    assert_eq!(rt; regions.near_code(0x8000_0000), None);
-    assert_eq!(rt;
-        regions.find_code(0x8000_0010),
-        Target::Ram { part: 0, at: 0x10 }
-    );
-    for &(at, place) in &PLACES {
-        assert_eq!(rt; regions.near_code(at), place, "{at:#x}");
-        assert_eq!(rt; regions.near_data(at), place, "{at:#x}");
-    }
+    assert_accesses(&rt, &mut regions, &ACCESSES);
+    assert!(rt; regions.near_code(0x8000_0000).is_none());
+    let target = Target::Ram { part: 0, at: 0x10 };
+    assert!(rt; regions.find_code(0x8000_0010) == target);
+    assert_places(&rt, &regions, &PLACES);
     Ok(())
 }

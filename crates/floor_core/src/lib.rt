@@ -12,8 +12,3 @@ pub use event::{Event, Mailed, Ran};
 pub use floor::Floor;
 pub use job::{Job, Turn};
 pub use laws::{floors_stay_sound, no_board_passes_its_grant, orders_agree};
-
-#[cfg(test)]
-mod tests;
-#[cfg(test)]
-mod toy;

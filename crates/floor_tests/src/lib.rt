@@ -1,4 +1,4 @@
-//! Tests of boards with their grants on a floor.
+//! Tests of floors, of toys and of boards with their grants on them.
 #![tactic(auto)]
 
 #[cfg(test)]
@@ -7,3 +7,9 @@ mod boards;
 mod events;
 #[cfg(test)]
 mod parcels;
+#[cfg(test)]
+mod toy;
+#[cfg(test)]
+mod toys;
+#[cfg(test)]
+mod words;

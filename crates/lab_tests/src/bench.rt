@@ -21,6 +21,21 @@ fn words_of(alloc: Global, line: &str) -> Result<Vec<String>, NoMemory> {
     Ok(words)
 }
 
+/// Lets each name hold its bytes.
+pub fn put_all(files: &mut MemFiles, rows: &[(&str, &[u8])]) -> Result<(), NoMemory> {
+    for (name, bytes) in rows {
+        files.put(name, bytes)?;
+    }
+    Ok(())
+}
+
+/// A text, and then another.
+pub fn joined(alloc: Global, first: &str, last: &str) -> Result<String, NoMemory> {
+    let mut text = String::from_str(alloc, first)?;
+    text.push_str(last)?;
+    Ok(text)
+}
+
 /// A run for the words of a line, on devices enough for every laboratory: how it ends.
 pub fn run(
     alloc: Global,

@@ -1,5 +1,5 @@
 //! Boards on CAN buses.
-use crate::bench::assert_script;
+use crate::bench::{assert_script, joined};
 use crate::programs::{bytes_of, files};
 use lab_io::MemFiles;
 use lab_num::NoMemory;
@@ -135,6 +135,46 @@ const FLOODS: &[Store] = &[
     (62, 1, 1),
 ];
 
+/// Programs by their names.
+static PROGRAMS: [(&str, &[Store]); 12] = [
+    ("sends.bin", SENDS),
+    ("twice.bin", SENDS_TWICE),
+    ("floods.bin", FLOODS),
+    // Goes to operating mode, where all identifiers are accepted.
+    ("listens.bin", &[(2, 5, 0xFF), (4, 0, 0)]),
+    // Stays in reset mode.
+    ("reset.bin", &[(2, 5, 0xFF), (30, 10, 0x24), (40, 1, 1)]),
+    // Accepts 128 to 12f, and, with a bit of the mask, 120 to 127 too.
+    ("other.bin", &[(2, 4, 0x25), (4, 0, 0)]),
+    ("masked.bin", &[(2, 4, 0x25), (4, 5, 0x01), (6, 0, 0)]),
+    (
+        "asks.bin",
+        &[(4, 0, 0), (30, 10, 0xFF), (32, 11, 0xF8), (40, 1, 1)],
+    ),
+    // Sends in the last slot of a round, and in the first of the next.
+    ("last.bin", &[(4, 0, 0), (99, 1, 1)]),
+    ("next.bin", &[(4, 0, 0), (100, 1, 1)]),
+    (
+        "both7.bin",
+        &[(2, 5, 0xFF), (4, 0, 0), (30, 11, 0xE0), (40, 1, 1)],
+    ),
+    (
+        "both400.bin",
+        &[(2, 5, 0xFF), (4, 0, 0), (30, 10, 0x80), (40, 1, 1)],
+    ),
+];
+
+fn put_programs(
+    files: &mut MemFiles,
+    alloc: Global,
+    programs: &[(&str, &[Store])],
+) -> Result<(), NoMemory> {
+    for (name, stores) in programs {
+        files.put(name, &program(alloc, stores)?)?;
+    }
+    Ok(())
+}
+
 /// The platforms and programs by their names.
 fn can_files(alloc: Global) -> Result<MemFiles, NoMemory> {
     let mut files = files(alloc)?;
@@ -142,36 +182,7 @@ fn can_files(alloc: Global) -> Result<MemFiles, NoMemory> {
     files.put("w.repl", WIRED_BOARD.as_bytes())?;
     files.put("full.repl", FULL_BOARD.as_bytes())?;
     files.put("on_frame.bin", &bytes_of(alloc, ON_FRAME)?)?;
-    let programs: [(&str, &[Store]); 12] = [
-        ("sends.bin", SENDS),
-        ("twice.bin", SENDS_TWICE),
-        ("floods.bin", FLOODS),
-        // Goes to operating mode, where all identifiers are accepted.
-        ("listens.bin", &[(2, 5, 0xFF), (4, 0, 0)]),
-        // Stays in reset mode.
-        ("reset.bin", &[(2, 5, 0xFF), (30, 10, 0x24), (40, 1, 1)]),
-        // Accepts 128 to 12f, and, with a bit of the mask, 120 to 127 too.
-        ("other.bin", &[(2, 4, 0x25), (4, 0, 0)]),
-        ("masked.bin", &[(2, 4, 0x25), (4, 5, 0x01), (6, 0, 0)]),
-        (
-            "asks.bin",
-            &[(4, 0, 0), (30, 10, 0xFF), (32, 11, 0xF8), (40, 1, 1)],
-        ),
-        // Sends in the last slot of a round, and in the first of the next.
-        ("last.bin", &[(4, 0, 0), (99, 1, 1)]),
-        ("next.bin", &[(4, 0, 0), (100, 1, 1)]),
-        (
-            "both7.bin",
-            &[(2, 5, 0xFF), (4, 0, 0), (30, 11, 0xE0), (40, 1, 1)],
-        ),
-        (
-            "both400.bin",
-            &[(2, 5, 0xFF), (4, 0, 0), (30, 10, 0x80), (40, 1, 1)],
-        ),
-    ];
-    for (name, stores) in programs {
-        files.put(name, &program(alloc, stores)?)?;
-    }
+    put_programs(&mut files, alloc, &PROGRAMS)?;
     Ok(files)
 }
 
@@ -198,7 +209,7 @@ const FLOOD_LOG: &str = "\
 ";
 
 /// Each row: the programs of `m0` and of `m1`, and the log of 200 microseconds with both shown.
-static BUSES: [(&str, &str, &str); 9] = [
+static BUSES: [(&str, &str, &str); 10] = [
     (
         "sends",
         "listens",
@@ -242,6 +253,7 @@ static BUSES: [(&str, &str, &str); 9] = [
         "[0.000040] m0/can: tx 007 data 0\n[0.000040] m1/can: tx 400 data 0\n\
 [0.000100] m1/can: rx 007 data 0\n[0.000100] m0/can: rx 400 data 0\n",
     ),
+    ("floods", "listens", FLOOD_LOG),
 ];
 
 /// The frames of the rows' programs are logged as the rows say.
@@ -303,21 +315,26 @@ const ON_FRAME: &[u32] = &[
 #[test]
 fn frames_cross_a_bus_where_a_round_ends(rt: HostRuntime) -> Result<(), Fail> {
     assert_buses(&rt, &BUSES)?;
-    assert_buses(&rt, &[("floods", "listens", FLOOD_LOG)])?;
     Ok(())
 }
 
 /// The interrupt is entered in the first slot of a round, and the line feed is sent six slots later.
+const ON_FRAME_LOG: &str = "[0.000100] m1/can: rx 123 data 2 410a\n[0.000106] m1/uart: A\n\
+[0.000200] m1/can: rx 123 data 2 420a\n[0.000206] m1/uart: B\n";
+
 #[test]
 fn a_frame_interrupts_through_the_controller(rt: HostRuntime) -> Result<(), Fail> {
-    let alloc = rt.alloc();
     let rest = "showAnalyzer can\nshowAnalyzer uart\nemulation RunFor 0.0003\n";
-    let script = format!(in alloc;
+    let script = format!(in rt.alloc();
         "$platform=@w.repl\n$first=@twice.bin\n$second=@on_frame.bin\n{JOIN}{PAIR}{rest}"
     )?;
-    let log = "[0.000100] m1/can: rx 123 data 2 410a\n[0.000106] m1/uart: A\n\
-[0.000200] m1/can: rx 123 data 2 420a\n[0.000206] m1/uart: B\n";
-    assert_script(&rt, can_files(alloc)?, script.as_str(), 0, log)?;
+    assert_script(
+        &rt,
+        can_files(rt.alloc())?,
+        script.as_str(),
+        0,
+        ON_FRAME_LOG,
+    )?;
     Ok(())
 }
 
@@ -408,43 +425,62 @@ fn assert_rows<R: Abort + AllocGlobal>(
     number: u8,
     rows: &[(&str, &str)],
 ) -> Result<(), NoMemory> {
-    let alloc = rt.alloc();
     for (rest, written) in rows {
-        let script = format!(in alloc; "{text}{rest}")?;
-        assert_script(rt, can_files(alloc)?, script.as_str(), number, written)?;
+        let script = joined(rt.alloc(), text, rest)?;
+        assert_script(rt, can_files(rt.alloc())?, script.as_str(), number, written)?;
     }
     Ok(())
 }
 
+/// The hubs and the board before each fault.
+const HUBS: &str = "emulation CreateCANHub \"bus\"\nemulation CreateUARTHub wire\nmach create m0\n\
+machine LoadPlatformDescription @c.repl\n";
+
 #[test]
 fn controllers_are_shown_and_joined_by_their_kind(rt: HostRuntime) -> Result<(), Fail> {
-    let pair = format!(in rt.alloc(); "{JOIN}{PAIR}")?;
+    let pair = joined(rt.alloc(), JOIN, PAIR)?;
     assert_rows(&rt, pair.as_str(), 0, &SHOWN)?;
-    let hubs = "emulation CreateCANHub \"bus\"\nemulation CreateUARTHub wire\nmach create m0\n\
-machine LoadPlatformDescription @c.repl\n";
-    assert_rows(&rt, hubs, 3, &FAULTS)?;
+    assert_rows(&rt, HUBS, 3, &FAULTS)?;
     Ok(())
 }
 
 /// A full board more on the bus, its last controller shown.
 const MORE: &str = "mach create\nrunMacro $join\nshowAnalyzer can3\n";
 
-/// Sixteen boards with all devices that they can have: the last one sends, and the others take its
-/// frame.
-#[test]
-fn full_boards_fill_the_laboratory(rt: HostRuntime) -> Result<(), Fail> {
-    let alloc = rt.alloc();
+/// Sixteen full boards, of which the last one sends.
+fn full_script(alloc: Global) -> Result<String, NoMemory> {
     let mut script = format!(in alloc; "$platform=@full.repl\n$can=can3\n{JOIN}$bin=$second\n")?;
-    let mut log = String::from_str(alloc, "[0.000040] machine-15/can3: tx 123 data 3 0a0b0c\n")?;
-    for number in 0..15 {
+    for _ in 0..15 {
         script.push_str(MORE)?;
-        let line = format!(in alloc; "[0.000100] machine-{number}/can3: rx 123 data 3 0a0b0c\n")?;
-        log.push_str(line.as_str())?;
     }
     script.push_str("$bin=$first\n")?;
     script.push_str(MORE)?;
     script.push_str("start\nmach create\n")?;
+    Ok(script)
+}
+
+fn full_log(alloc: Global) -> Result<String, NoMemory> {
+    let mut log = String::from_str(alloc, "[0.000040] machine-15/can3: tx 123 data 3 0a0b0c\n")?;
+    for number in 0..15 {
+        let line = format!(in alloc; "[0.000100] machine-{number}/can3: rx 123 data 3 0a0b0c\n")?;
+        log.push_str(line.as_str())?;
+    }
     log.push_str("error: s.resc:66: S13 boards\n")?;
-    assert_script(&rt, can_files(alloc)?, script.as_str(), 3, log.as_str())?;
+    Ok(log)
+}
+
+/// Sixteen boards with all devices that they can have: the last one sends, and the others take its
+/// frame.
+#[test]
+fn full_boards_fill_the_laboratory(rt: HostRuntime) -> Result<(), Fail> {
+    let script = full_script(rt.alloc())?;
+    let log = full_log(rt.alloc())?;
+    assert_script(
+        &rt,
+        can_files(rt.alloc())?,
+        script.as_str(),
+        3,
+        log.as_str(),
+    )?;
     Ok(())
 }

@@ -4,6 +4,8 @@
 //! none of this code: its boards as a loop of assignments, its UARTs as queues of sixteen bytes.
 use crate::bench::assert_run;
 use lab_io::MemFiles;
+use lab_num::NoMemory;
+use std::process::Abort;
 use std::test::Fail;
 
 /// Sixteen boards of seed 7.
@@ -48,10 +50,15 @@ static ROWS: [(&str, &str); 6] = [
     ("gen 7 16", SIXTEEN),
 ];
 
+fn assert_generated<R: Abort + AllocGlobal>(rt: &R, rows: &[(&str, &str)]) -> Result<(), NoMemory> {
+    for (words, written) in rows {
+        assert_run(rt, words, MemFiles::new(rt.alloc()), 0, written)?;
+    }
+    Ok(())
+}
+
 #[test]
 fn a_laboratory_is_generated_and_summed_up(rt: HostRuntime) -> Result<(), Fail> {
-    for &(words, written) in &ROWS {
-        assert_run(&rt, words, MemFiles::new(rt.alloc()), 0, written)?;
-    }
+    assert_generated(&rt, &ROWS)?;
     Ok(())
 }

@@ -1,6 +1,6 @@
 //! Images that scripts load, and those that they are refused for.
-use crate::bench::assert_script;
-use crate::programs::files;
+use crate::bench::{assert_script, joined, put_all};
+use crate::programs::{bytes_of, files};
 use lab_io::MemFiles;
 use lab_num::NoMemory;
 use std::alloc::Global;
@@ -57,10 +57,6 @@ const ADDRESS: usize = 64;
 const FILE_SIZE: usize = 68;
 
 const MEMORY_SIZE: usize = 72;
-
-/// The same program as an Intel HEX file.
-const A_HEX: &str =
-    ":0200000480007A\r\n:10000000B702001013031004238062006F00000089\r\n:00000001FF\r\n";
 
 /// The words of an ELF file with two segments: 0x11111111 and 0x22222222 at the first address, and
 /// 0x33333333 and a word of zeros at the second.
@@ -121,26 +117,39 @@ fn file_of(alloc: Global, words: &[u32], first: Word, second: Word) -> Result<Ve
     Ok(bytes)
 }
 
+/// Intel HEX files by their names.
+static HEX_FILES: [(&str, &[u8]); 3] = [
+    (
+        "a.hex",
+        b":0200000480007A\r\n:10000000B702001013031004238062006F00000089\r\n:00000001FF\r\n",
+    ),
+    (
+        "two.hex",
+        b":0200000480007A\n:020010000102EB\n:020011000A0BD8\n:00000001FF\n",
+    ),
+    (
+        "reversed.hex",
+        b":0200000480007A\n:020011000a0bd8\n:020010000102eb\n:00000001FF\n",
+    ),
+];
+
+/// The file of `TWO` with its program headers in the other order: the short segment is the later one
+/// in `TWO`, the longer one in this.
+fn reversed(alloc: Global) -> Result<Vec<u8>, NoMemory> {
+    let mut bytes = bytes_of(alloc, &TWO[..13])?;
+    bytes.extend_from_slice(&bytes_of(alloc, &TWO[21..29])?)?;
+    bytes.extend_from_slice(&bytes_of(alloc, &TWO[13..21])?)?;
+    bytes.extend_from_slice(&bytes_of(alloc, &TWO[29..])?)?;
+    Ok(bytes)
+}
+
 /// The image files by their names.
 fn image_files(alloc: Global) -> Result<MemFiles, NoMemory> {
     let mut files = files(alloc)?;
-    files.put("a.elf", &file_of(alloc, &A_ELF, SAME, SAME)?)?;
-    files.put("a.hex", A_HEX.as_bytes())?;
-    // In the first of these the short segment is the later one, in the second the longer one.
-    files.put("two.elf", &file_of(alloc, &TWO, SAME, SAME)?)?;
-    let mut reversed = file_of(alloc, &TWO[..13], SAME, SAME)?;
-    for words in [&TWO[21..29], &TWO[13..21], &TWO[29..]] {
-        reversed.extend_from_slice(&file_of(alloc, words, SAME, SAME)?)?;
-    }
-    files.put("reversed.elf", &reversed)?;
-    files.put(
-        "two.hex",
-        b":0200000480007A\n:020010000102EB\n:020011000A0BD8\n:00000001FF\n",
-    )?;
-    files.put(
-        "reversed.hex",
-        b":0200000480007A\n:020011000a0bd8\n:020010000102eb\n:00000001FF\n",
-    )?;
+    put_all(&mut files, &HEX_FILES)?;
+    files.put("a.elf", &bytes_of(alloc, &A_ELF)?)?;
+    files.put("two.elf", &bytes_of(alloc, &TWO)?)?;
+    files.put("reversed.elf", &reversed(alloc)?)?;
     Ok(files)
 }
 
@@ -197,7 +206,7 @@ sysbus ReadDoubleWord 0x80000008\n",
 /// The scripts write what their rows say.
 fn assert_loaded<R: Abort + AllocGlobal>(rt: &R, rows: &[(&str, &str)]) -> Result<(), NoMemory> {
     for (lines, written) in rows {
-        let script = format!(in rt.alloc(); "{BOARD}{lines}")?;
+        let script = joined(rt.alloc(), BOARD, lines)?;
         assert_script(rt, image_files(rt.alloc())?, script.as_str(), 0, written)?;
     }
     Ok(())
@@ -209,28 +218,57 @@ fn images_are_loaded_and_run(rt: HostRuntime) -> Result<(), Fail> {
     Ok(())
 }
 
-/// The load of a file is refused by this text: at a line of a script, and at a line of a file that it
-/// includes.
-fn assert_refused<R: Abort + AllocGlobal>(
+/// The image files and this one.
+fn files_with(alloc: Global, file: &[u8]) -> Result<MemFiles, NoMemory> {
+    let mut files = image_files(alloc)?;
+    files.put("image", file)?;
+    Ok(files)
+}
+
+/// The load of a file is refused by this text at a line of a script.
+fn assert_refused_in_the_script<R: Abort + AllocGlobal>(
     rt: &R,
     command: &str,
     file: &[u8],
     text: &str,
 ) -> Result<(), NoMemory> {
     let alloc = rt.alloc();
-    let mut files = image_files(alloc)?;
-    files.put("image", file)?;
     let script = format!(in alloc; "{BOARD}sysbus {command} @image\nfoo\n")?;
     let written = format!(in alloc; "error: s.resc:3: {text}\n")?;
-    assert_script(rt, files, script.as_str(), 3, written.as_str())?;
+    assert_script(
+        rt,
+        files_with(alloc, file)?,
+        script.as_str(),
+        3,
+        written.as_str(),
+    )
+}
 
-    let mut files = image_files(alloc)?;
-    files.put("image", file)?;
+/// It is refused at a line of a file that the script includes.
+fn assert_refused_in_a_file<R: Abort + AllocGlobal>(
+    rt: &R,
+    command: &str,
+    file: &[u8],
+    text: &str,
+) -> Result<(), NoMemory> {
+    let alloc = rt.alloc();
     let included = format!(in alloc; "# a note\n\nsysbus {command} @image\nfoo\n")?;
+    let mut files = files_with(alloc, file)?;
     files.put("i.resc", included.as_bytes())?;
-    let script = format!(in alloc; "{BOARD}include @i.resc\n")?;
+    let script = joined(alloc, BOARD, "include @i.resc\n")?;
     let written = format!(in alloc; "error: i.resc:3: {text}\n")?;
     assert_script(rt, files, script.as_str(), 3, written.as_str())
+}
+
+/// It is refused in both places.
+fn assert_refused<R: Abort + AllocGlobal>(
+    rt: &R,
+    command: &str,
+    file: &[u8],
+    text: &str,
+) -> Result<(), NoMemory> {
+    assert_refused_in_the_script(rt, command, file, text)?;
+    assert_refused_in_a_file(rt, command, file, text)
 }
 
 /// Each row: the length of the file, a word of it that is another one, and how its load is refused.
@@ -315,22 +353,29 @@ static PLACES: [(Word, Word, Option<&str>); 16] = [
     ((FILE_SIZE, 0), (ADDRESS, 0x8000_FFED), None),
 ];
 
+/// The image is loaded, and sets this entry.
+fn assert_entry<R: Abort + AllocGlobal>(rt: &R, file: &[u8], entry: &str) -> Result<(), NoMemory> {
+    let alloc = rt.alloc();
+    let script = joined(alloc, BOARD, "sysbus LoadELF @image\ncpu PC\n")?;
+    let written = joined(alloc, entry, "\n")?;
+    assert_script(
+        rt,
+        files_with(alloc, file)?,
+        script.as_str(),
+        0,
+        written.as_str(),
+    )
+}
+
 fn assert_places<R: Abort + AllocGlobal>(
     rt: &R,
     rows: &[(Word, Word, Option<&str>)],
 ) -> Result<(), NoMemory> {
-    let alloc = rt.alloc();
-    let script = format!(in alloc; "{BOARD}sysbus LoadELF @image\ncpu PC\n")?;
     for (first, second, entry) in rows {
-        let file = file_of(alloc, &A_ELF, *first, *second)?;
+        let file = file_of(rt.alloc(), &A_ELF, *first, *second)?;
         match entry {
             None => assert_refused(rt, "LoadELF", &file, "S16 address")?,
-            Some(pc) => {
-                let mut files = image_files(alloc)?;
-                files.put("image", &file)?;
-                let written = format!(in alloc; "{pc}\n")?;
-                assert_script(rt, files, script.as_str(), 0, written.as_str())?;
-            }
+            Some(pc) => assert_entry(rt, &file, pc)?,
         }
     }
     Ok(())

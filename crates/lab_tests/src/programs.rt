@@ -89,29 +89,50 @@ fn padded(alloc: Global, first: &[u32], nops: usize, last: &[u32]) -> Result<Vec
     Ok(bytes)
 }
 
-/// `SEND_A` with so many words before its store, which is then in slot 2 and so many.
-pub fn send_later(alloc: Global, nops: usize) -> Result<Vec<u8>, NoMemory> {
-    padded(alloc, &SEND_A[..2], nops, &SEND_A[2..])
-}
+/// A name, first words, so many words that do nothing, and last words.
+type Program = (&'static str, &'static [u32], usize, &'static [u32]);
 
-/// Stores 0x5555 to the finisher in slot 10.
-pub fn pass_in_slot_10(alloc: Global) -> Result<Vec<u8>, NoMemory> {
-    padded(
-        alloc,
+/// `SEND_A` with so many words before its store, which is then in slot 99 or 100; a store of 0x5555 to
+/// the finisher in slot 10, and one of 0x00073333 in slot 20; and words that do nothing.
+static PROGRAMS: [Program; 11] = [
+    ("a.bin", SEND_A, 0, &[]),
+    ("b.bin", SEND_B, 0, &[]),
+    ("c.bin", SEND_C, 0, &[]),
+    ("echo.bin", ECHO, 0, &[]),
+    ("echoall.bin", ECHO_ALL, 0, &[]),
+    ("hole.bin", HOLE, 0, &[]),
+    (
+        "send99.bin",
+        &[0x1000_02B7, 0x0410_0313],
+        97,
+        &[0x0062_8023, 0x0000_006F],
+    ),
+    (
+        "send100.bin",
+        &[0x1000_02B7, 0x0410_0313],
+        98,
+        &[0x0062_8023, 0x0000_006F],
+    ),
+    (
+        "pass.bin",
         &[0x0010_02B7, 0x0000_5337, 0x5553_0313],
         7,
         &[0x0062_A023, 0x0000_006F],
-    )
-}
-
-/// Stores 0x00073333 to the finisher in slot 20.
-pub fn fail_in_slot_20(alloc: Global) -> Result<Vec<u8>, NoMemory> {
-    padded(
-        alloc,
+    ),
+    (
+        "fail.bin",
         &[0x0010_02B7, 0x0007_3337, 0x3333_0313],
         17,
         &[0x0062_A023, 0x0000_006F],
-    )
+    ),
+    ("nops.bin", &[], 200, &[]),
+];
+
+fn put_programs(files: &mut MemFiles, alloc: Global, programs: &[Program]) -> Result<(), NoMemory> {
+    for (name, first, nops, last) in programs {
+        files.put(name, &padded(alloc, first, *nops, last)?)?;
+    }
+    Ok(())
 }
 
 /// The programs and platforms by their names.
@@ -119,21 +140,6 @@ pub fn files(alloc: Global) -> Result<MemFiles, NoMemory> {
     let mut files = MemFiles::new(alloc);
     files.put("p.repl", USUAL.as_bytes())?;
     files.put("u.repl", WIRED.as_bytes())?;
-    let programs: [(&str, &[u32]); 6] = [
-        ("a.bin", SEND_A),
-        ("b.bin", SEND_B),
-        ("c.bin", SEND_C),
-        ("echo.bin", ECHO),
-        ("echoall.bin", ECHO_ALL),
-        ("hole.bin", HOLE),
-    ];
-    for &(name, words) in &programs {
-        files.put(name, &bytes_of(alloc, words)?)?;
-    }
-    files.put("send99.bin", &send_later(alloc, 97)?)?;
-    files.put("send100.bin", &send_later(alloc, 98)?)?;
-    files.put("pass.bin", &pass_in_slot_10(alloc)?)?;
-    files.put("fail.bin", &fail_in_slot_20(alloc)?)?;
-    files.put("nops.bin", &padded(alloc, &[], 200, &[])?)?;
+    put_programs(&mut files, alloc, &PROGRAMS)?;
     Ok(files)
 }

@@ -13,6 +13,3 @@ pub use laws::{lines_are_whole, prints_join};
 pub use line::OpenLine;
 pub use lines::Lines;
 pub use number::Word;
-
-#[cfg(test)]
-mod tests;

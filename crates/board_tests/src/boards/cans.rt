@@ -6,12 +6,13 @@ use super::Step::{
     At, FrameEntered, FrameSent, Halt, Handed, Made, NoneEntered, NoneSent, Register, Retired, Run,
     ShowCan,
 };
-use super::{BASE, BOARD, Step, entered, key, play, region, sent};
+use super::{BASE, BOARD, Step, entered, key, play, region, sent, takes};
+use crate::parts::{set_names, set_regions, set_wires};
 use board::Board;
 use can_sja1000::Can;
 use dev_core::{Device, Frame, Kind, Payload, Taken, What};
 use lab_num::{NoMemory, Rows};
-use sample_boards::{USUAL_REGIONS, names_of, usual_board};
+use sample_boards::{USUAL_REGIONS, usual_board};
 use std::alloc::Global;
 use std::process::Abort;
 use std::test::Fail;
@@ -50,7 +51,7 @@ fn plan(alloc: Global) -> Result<BoardPlan, NoMemory>
     ensures { IfOk result (λ plan. plan.kinds ≡ can ∷ can ∷ can ∷ can ∷ []) }
 {
     let mut plan = usual_board(alloc)?;
-    plan.names = names_of(alloc, &NAMES)?;
+    set_names(&mut plan, alloc, &NAMES)?;
     let regions = [
         USUAL_REGIONS[0],
         USUAL_REGIONS[1],
@@ -60,9 +61,9 @@ fn plan(alloc: Global) -> Result<BoardPlan, NoMemory>
         region(0x1001_0200, 0x100, RegionKind::Dev(2), 1),
         region(0x1001_0300, 0x100, RegionKind::Dev(3), 1),
     ];
-    plan.regions = Rows::of(Vec::from_slice(alloc, &regions)?);
+    set_regions(&mut plan, alloc, &regions)?;
+    set_wires(&mut plan, alloc, &WIRES)?;
     plan.kinds = Rows::of(vec![in alloc; Kind::Can, Kind::Can, Kind::Can, Kind::Can]?);
-    plan.wires = Rows::of(Vec::from_slice(alloc, &WIRES)?);
     plan.speed = 1;
     Ok(plan)
 }
@@ -83,36 +84,34 @@ fn frame(id: u16, bytes: &[u8]) -> Frame {
     Frame::new(id % 2048, &bytes[..bytes.len().min(8)])
 }
 
-fn show<D: Device>(rt: &impl Abort, board: &mut Board<D>, dev: u8) {
-    assert!(rt;
-        matches!(
-            board.plan().kinds.items().get(usize::from(dev)),
-            Some(Kind::Can)
-        )
-    );
+fn show<D: Device>(board: &mut Board<D>, dev: u8) -> bool {
+    let kind = board.plan().kinds.items().get(usize::from(dev));
+    if !matches!(kind, Some(Kind::Can)) {
+        return false;
+    }
     board.show(dev);
+    true
 }
 
-/// A frame is handed to a device.
-fn hand<D: Device>(rt: &impl Abort, board: &mut Board<D>, dev: u8, frame: Frame, taken: Taken) {
-    assert!(rt; usize::from(dev) < board.plan().kinds.items().len());
-    assert_eq!(rt; board.deliver(dev, &Payload::Frame(frame)), taken);
-}
-
-/// Takes a step that is about frames.
-pub fn exchange<D: Device>(rt: &impl Abort, board: &mut Board<D>, step: Step) {
+/// Takes a step that is about frames, and says whether it was as it should be.
+pub fn exchange<D: Device>(board: &mut Board<D>, step: Step) -> bool {
     match step {
-        ShowCan(dev) => show(rt, board, dev),
-        Handed(dev, id, bytes, taken) => hand(rt, board, dev, frame(id, bytes), taken),
+        ShowCan(dev) => show(board, dev),
+        Handed(dev, id, bytes, taken) => takes(
+            board,
+            dev,
+            &Payload::Frame(frame(id, bytes)),
+            taken,
+        ),
         FrameSent(at, number, dev, id, bytes) => {
             let payload = Payload::Frame(frame(id, bytes));
-            sent(rt, board, key(at, number), dev, payload);
+            sent(board, key(at, number), dev, payload)
         }
         FrameEntered(at, number, dev, id, bytes) => {
             let frame = frame(id, bytes);
-            entered(rt, board, key(at, number), What::Sent { dev, frame });
+            entered(board, key(at, number), What::Sent { dev, frame })
         }
-        _ => {}
+        _ => true,
     }
 }
 
@@ -134,7 +133,7 @@ const READ: [u32; 10] = [
 
 /// In reset mode CR reads 1, the transmit buffer 0xFF and ACR what was stored, in operating mode ACR
 /// reads 0xFF. The controllers are apart.
-static READING: [Step; 8] = [
+const READING: [Step; 8] = [
     Run(0, 0, 10),
     Register(6, 1),
     Register(7, 0xFF),
@@ -168,7 +167,7 @@ const SEND: [u32; 14] = [
 
 /// The first frame is sent by slot 9, and each further one 13 slots later. The third controller is
 /// shown.
-static SENDING: [Step; 14] = [
+const SENDING: [Step; 14] = [
     ShowCan(2),
     Run(0, 0, 9),
     NoneSent,
@@ -227,7 +226,7 @@ const RECEIVE: [u32; 30] = [
 
 /// The handler is entered once for each frame, also where two are held. A frame for which there is no
 /// room is lost, and a controller in reset mode takes none.
-static RECEIVING: [Step; 34] = [
+const RECEIVING: [Step; 34] = [
     Run(0, 0, 100),
     At(BASE + 80),
     Retired(20),
@@ -281,7 +280,7 @@ const PIN: [u32; 10] = [
 ];
 
 /// The pin is up from the delivery to the load.
-static ON_PIN: [Step; 8] = [
+const ON_PIN: [Step; 8] = [
     Run(0, 0, 7),
     Register(6, 0),
     Handed(3, 0x7FF, &[1], Taken::Kept),
@@ -292,17 +291,23 @@ static ON_PIN: [Step; 8] = [
     NoneEntered,
 ];
 
-#[test]
-fn can_controllers_send_and_receive(rt: HostRuntime) -> Result<(), Fail> {
-    let rows: [(&[u32], &[Step]); 4] = [
-        (&READ, &READING),
-        (&SEND, &SENDING),
-        (&RECEIVE, &RECEIVING),
-        (&PIN, &ON_PIN),
-    ];
+/// Each row: a program and its steps.
+static ROWS: [(&[u32], &[Step]); 4] = [
+    (&READ, &READING),
+    (&SEND, &SENDING),
+    (&RECEIVE, &RECEIVING),
+    (&PIN, &ON_PIN),
+];
+
+fn play_all(rt: &impl Abort, alloc: Global, rows: &[(&[u32], &[Step])]) -> Result<(), Fail> {
     for (words, steps) in rows {
-        let board = start(&rt, rt.alloc(), plan(rt.alloc())?)?;
-        play(&rt, board, words, steps)?;
+        let mut board = start(rt, alloc, plan(alloc)?)?;
+        play(rt, &mut board, words, steps)?;
     }
     Ok(())
+}
+
+#[test]
+fn can_controllers_send_and_receive(rt: HostRuntime) -> Result<(), Fail> {
+    play_all(&rt, rt.alloc(), &ROWS)
 }

@@ -4,10 +4,12 @@ ghost use Rattle.dev_core.specs.declared.kind.Kind.TheVariants.{Uart as uart};
 
 use super::Step::{Arrive, At, Go, NoneSent, Register, Reset, Retired, Run, Sent, Speed};
 use super::{BASE, SECOND, Step, UART, play_on, region};
-use dev_core::{Device, Kind, Taken};
+use crate::parts::{set_names, set_regions, set_wires};
+use dev_core::{Kind, Taken};
 use lab_num::Rows;
-use sample_boards::{USUAL_REGIONS, names_of, usual_board};
+use sample_boards::{USUAL_REGIONS, usual_board};
 use std::alloc::Global;
+use std::process::Abort;
 use std::test::Fail;
 use sys_bus::{BoardPlan, NamedWhat, RegionKind, Wire, WireFrom, WirePin};
 use uart_16550::Uart;
@@ -66,13 +68,18 @@ const DIRECT: [Wire; 4] = [
 fn plan(alloc: Global, wires: &[Wire]) -> Result<BoardPlan, Fail>
     ensures { IfOk result (λ plan. plan.kinds ≡ uart ∷ uart ∷ []) }
 {
-    let mut regions = USUAL_REGIONS.to_vec(alloc)?;
-    regions.push(region(0x1000_1000, 0x100, RegionKind::Dev(SECOND), 1))?;
+    let regions = [
+        USUAL_REGIONS[0],
+        USUAL_REGIONS[1],
+        USUAL_REGIONS[2],
+        USUAL_REGIONS[3],
+        region(0x1000_1000, 0x100, RegionKind::Dev(SECOND), 1),
+    ];
     let mut plan = usual_board(alloc)?;
-    plan.names = names_of(alloc, &NAMES)?;
-    plan.regions = Rows::of(regions);
+    set_names(&mut plan, alloc, &NAMES)?;
+    set_regions(&mut plan, alloc, &regions)?;
+    set_wires(&mut plan, alloc, wires)?;
     plan.kinds = Rows::of(vec![in alloc; Kind::Uart, Kind::Uart]?);
-    plan.wires = Rows::of(Vec::from_slice(alloc, wires)?);
     Ok(plan)
 }
 
@@ -304,24 +311,39 @@ const TIMED: [Step; 11] = [
     Register(8, 0),
 ];
 
-#[test]
-fn lines_lead_to_traps(rt: HostRuntime) -> Result<(), Fail> {
-    let rows: [(&[Wire], &[u32], &[Step]); 8] = [
-        (&BY_PLIC, &WAIT, &UNTIL_50),
-        (&BY_PLIC, &WAIT_99, &UNTIL_99),
-        (&BY_PLIC, &WAIT_0, &AT_ONCE),
-        (&BY_PLIC, &WAIT_LONG, &FOR_EVER),
-        (&DIRECT, &NESTED, &IN_ORDER),
-        (&BY_PLIC, &PLIC_ECHO, &ECHOED),
-        (&DIRECT, &TWO_LINES, &ORED),
-        (&BY_PLIC, &TIMES, &TIMED),
-    ];
-    let alloc = rt.alloc();
+/// Each row: wires, a program and its steps.
+static ROWS: [(&[Wire], &[u32], &[Step]); 8] = [
+    (&BY_PLIC, &WAIT, &UNTIL_50),
+    (&BY_PLIC, &WAIT_99, &UNTIL_99),
+    (&BY_PLIC, &WAIT_0, &AT_ONCE),
+    (&BY_PLIC, &WAIT_LONG, &FOR_EVER),
+    (&DIRECT, &NESTED, &IN_ORDER),
+    (&BY_PLIC, &PLIC_ECHO, &ECHOED),
+    (&DIRECT, &TWO_LINES, &ORED),
+    (&BY_PLIC, &TIMES, &TIMED),
+];
+
+fn play_all(
+    rt: &impl Abort,
+    alloc: Global,
+    rows: &[(&[Wire], &[u32], &[Step])],
+) -> Result<(), Fail> {
     for (wires, words, steps) in rows {
-        let first: Box<dyn Device + Send> = Box::new(alloc, Uart::new())?;
-        let second: Box<dyn Device + Send> = Box::new(alloc, Uart::new())?;
-        let plan = plan(alloc, wires)?;
-        play_on(&rt, alloc, plan, Kind::Uart, (first, second), words, steps)?;
+        let devices = (Uart::new(), Uart::new());
+        play_on(
+            rt,
+            alloc,
+            plan(alloc, wires)?,
+            Kind::Uart,
+            devices,
+            words,
+            steps,
+        )?;
     }
     Ok(())
+}
+
+#[test]
+fn lines_lead_to_traps(rt: HostRuntime) -> Result<(), Fail> {
+    play_all(&rt, rt.alloc(), &ROWS)
 }

@@ -5,6 +5,8 @@ use super::Step::{
 };
 use super::{BASE, SECOND, Step, UART, plan, play_on};
 use dev_core::{Device, Kind, Taken};
+use std::alloc::Global;
+use std::process::Abort;
 use std::test::Fail;
 use test_finisher::Finisher;
 use uart_16550::Uart;
@@ -246,27 +248,27 @@ const MEMORY: [Step; 26] = [
     NoneSent,
 ];
 
-#[test]
-fn programs_run_slot_by_slot(rt: HostRuntime) -> Result<(), Fail> {
-    let rows: [(u8, &[u32], &[Step]); 10] = [
-        (1, &SEND, &SENDING),
-        (1, &ECHO, &ECHOING),
-        (1, &READ_STATUS, &OVERRUN),
-        (1, &STORE, &STORED),
-        (1, &MISS, &MISSED),
-        (1, &WAIT, &WAITING),
-        (1, &FAIL, &FAILING),
-        (1, &SEND, &RESETTING),
-        (4, &WIDE, &FAR_APART),
-        (1, &[], &MEMORY),
-    ];
-    let alloc = rt.alloc();
+/// Each row: how far apart the registers of the UART are, a program and its steps.
+static ROWS: [(u8, &[u32], &[Step]); 10] = [
+    (1, &SEND, &SENDING),
+    (1, &ECHO, &ECHOING),
+    (1, &READ_STATUS, &OVERRUN),
+    (1, &STORE, &STORED),
+    (1, &MISS, &MISSED),
+    (1, &WAIT, &WAITING),
+    (1, &FAIL, &FAILING),
+    (1, &SEND, &RESETTING),
+    (4, &WIDE, &FAR_APART),
+    (1, &[], &MEMORY),
+];
+
+fn play_all(rt: &impl Abort, alloc: Global, rows: &[(u8, &[u32], &[Step])]) -> Result<(), Fail> {
     for (step, words, steps) in rows {
         let uart: Box<dyn Device + Send> = Box::new(alloc, Uart::new())?;
         let finisher: Box<dyn Device + Send> = Box::new(alloc, Finisher::new())?;
-        let plan = plan(alloc, step, Kind::Finisher)?;
+        let plan = plan(alloc, *step, Kind::Finisher)?;
         play_on(
-            &rt,
+            rt,
             alloc,
             plan,
             Kind::Finisher,
@@ -276,4 +278,9 @@ fn programs_run_slot_by_slot(rt: HostRuntime) -> Result<(), Fail> {
         )?;
     }
     Ok(())
+}
+
+#[test]
+fn programs_run_slot_by_slot(rt: HostRuntime) -> Result<(), Fail> {
+    play_all(&rt, rt.alloc(), &ROWS)
 }

@@ -2,8 +2,8 @@
 ghost use Rattle.std.specs.Prelude.{◌≡◌, ◌+◌, ◌<◌, ◌≤◌, ◌++◌, take, drop, vec_len, OnOk, OnErr, option_to_list};
 ghost use Rattle.floor_core.specs.Job.{posts};
 
-use crate::{Job, Turn};
 use dev_core::Post;
+use floor_core::{Job, Turn};
 use lab_num::NoMemory;
 use std::alloc::Global;
 use std::sync::Wait;

@@ -1,11 +1,13 @@
 //! Toys on a floor: lists of events that stop, and all orders of what three workers do.
-ghost use Rattle.std.specs.Prelude.{◌≡◌, length, IfOk};
+ghost use Rattle.std.specs.Prelude.{◌≡◌, ◌<◌, length, IfOk};
 
 use crate::toy::Toy;
-use crate::{Event, Floor, Job, Ran};
+use crate::words::{event, events_of};
 use dev_core::{Payload, Post};
+use floor_core::{Event, Floor, Job, Ran};
 use lab_num::{BoardNo, Key, Member, Micros, NoMemory, PostNo};
 use std::alloc::Global;
+use std::process::Abort;
 use std::test::Fail;
 
 /// The post number `number` of a board, which it makes at `at`.
@@ -22,45 +24,8 @@ fn post(board: u8, at: u64, number: u64) -> Post {
     }
 }
 
-/// A hexadecimal digit, or 0 where there is none.
-fn digit(word: &[u8], place: usize) -> u8 {
-    match word.get(place) {
-        Some(d @ b'0'..=b'9') => *d - b'0',
-        Some(d @ b'a'..=b'f') => *d - b'a' + 10,
-        _ => 0,
-    }
-}
-
-/// An event: `c` claims, `p` posts, `r` reports, each with the digits of the worker, of the board
-/// and, for a claim, of the slots; `e` closes.
-fn event(word: &[u8]) -> Event {
-    let worker = digit(word, 1);
-    let board = BoardNo(digit(word, 2));
-    let slots = u64::from(digit(word, 3));
-    match word.first() {
-        Some(b'c') => Event::Claim {
-            worker,
-            board,
-            slots,
-        },
-        Some(b'p') => Event::Post { worker, board },
-        Some(b'r') => Event::Report { worker, board },
-        _ => Event::Close,
-    }
-}
-
-fn events_of(alloc: Global, text: &str) -> Result<Vec<Event>, NoMemory> {
-    let mut events = Vec::new(alloc);
-    for word in text.split(' ') {
-        events.push(event(word.as_bytes()))?;
-    }
-    Ok(events)
-}
-
 /// Two boards of ten slots: the first makes one post in its last slot, the second makes none.
-fn two_boards(alloc: Global) -> Result<Floor<Toy>, NoMemory>
-    ensures { IfOk result (λ floor. length floor.boards ≡ 2) }
-{
+fn two_boards(alloc: Global) -> Result<Floor<Toy>, NoMemory> {
     let mut slots = vec![in alloc; None; 9]?;
     slots.push(Some(post(0, 9, 0)))?;
     let first = Toy::new(alloc, slots);
@@ -68,8 +33,8 @@ fn two_boards(alloc: Global) -> Result<Floor<Toy>, NoMemory>
     Floor::begin(alloc, vec![in alloc; first, second]?)
 }
 
-/// Events, what becomes of them, and whether the floor is ended then.
-const STOPS: [(&str, Ran, bool); 16] = [
+/// Each row: events, what becomes of them, and whether the floor is ended then.
+static STOPS: [(&str, Ran, bool); 16] = [
     ("c01a c111", Ran::Stopped(1), false),
     ("c019 r01 c111", Ran::All, false),
     ("c019 r01 c112", Ran::Stopped(2), false),
@@ -88,18 +53,27 @@ const STOPS: [(&str, Ran, bool); 16] = [
     ("c00a c11a p00 r00 r11 e e", Ran::Stopped(6), true),
 ];
 
+/// What becomes of these events with two boards, and whether the floor is ended then.
+fn ran(alloc: Global, text: &str) -> Result<(Ran, bool), NoMemory> {
+    let mut floor = two_boards(alloc)?;
+    let ran = floor.run_events(&events_of(alloc, text)?);
+    Ok((ran, floor.is_ended()))
+}
+
+fn assert_stops(
+    rt: &impl Abort,
+    alloc: Global,
+    rows: &[(&str, Ran, bool)],
+) -> Result<(), NoMemory> {
+    for (text, expected, ended) in rows {
+        assert_eq!(rt; ran(alloc, text)?, (*expected, *ended));
+    }
+    Ok(())
+}
+
 #[test]
 fn a_list_stops_at_its_first_event_that_is_not_legal(rt: HostRuntime) -> Result<(), Fail> {
-    let alloc = rt.alloc();
-    for (text, expected, ended) in STOPS {
-        let mut floor = two_boards(alloc)?;
-        assert_eq!(rt;
-            floor.run_events(&events_of(alloc, text)?),
-            expected,
-            "{text}"
-        );
-        assert_eq!(rt; floor.is_ended(), ended, "{text}");
-    }
+    assert_stops(&rt, rt.alloc(), &STOPS)?;
     Ok(())
 }
 
@@ -137,6 +111,11 @@ fn three_boards(alloc: Global) -> Result<Floor<Toy>, NoMemory>
     Floor::begin(alloc, vec![in alloc; first, second, third]?)
 }
 
+/// Their posts in rising order of key.
+fn all_posts() -> [Post; 3] {
+    [post(0, 0, 0), post(1, 2, 0), post(0, 3, 1)]
+}
+
 /// The posts in the mail in rising order of key.
 fn listed(alloc: Global, floor: &Floor<Toy>) -> Result<Vec<Post>, NoMemory> {
     let mut posts = Vec::new(alloc);
@@ -147,30 +126,33 @@ fn listed(alloc: Global, floor: &Floor<Toy>) -> Result<Vec<Post>, NoMemory> {
     Ok(posts)
 }
 
+/// The board has used so many slots, and has nothing left and nothing unsent.
+fn is_done(floor: &Floor<Toy>, board: u8, slots: u64) -> bool
+    requires { board < length floor.now.boards }
+{
+    let board = BoardNo(board);
+    let job = floor.job(board);
+    floor.used(board) == slots && job.left() == 0 && job.next_post().is_none()
+}
+
+/// The events all happen, end the floor, and leave what each order of the scripts leaves.
+fn come_to_the_same(alloc: Global, events: &[Event]) -> Result<bool, NoMemory> {
+    let mut floor = three_boards(alloc)?;
+    let ran = floor.run_events(events);
+    let are_done = is_done(&floor, 0, 2) && is_done(&floor, 1, 2) && is_done(&floor, 2, 3);
+    let posts = listed(alloc, &floor)?;
+    let are_posted = posts.as_slice() == all_posts().as_slice();
+    Ok(ran == Ran::All && floor.is_ended() && are_done && are_posted)
+}
+
 #[test]
 fn all_orders_of_three_boards_come_to_the_same(rt: HostRuntime) -> Result<(), Fail> {
-    let alloc = rt.alloc();
-    let expected = [post(0, 0, 0), post(1, 2, 0), post(0, 3, 1)];
     let mut orders = 0_u32;
     for code in 0..19_683 {
-        let Some(events) = order(alloc, code)? else {
-            continue;
-        };
-        let mut floor = three_boards(alloc)?;
-        assert_eq!(rt; floor.run_events(&events), Ran::All, "{code}");
-        assert!(rt; floor.is_ended());
-        assert_eq!(rt;
-            listed(alloc, &floor)?.as_slice(),
-            expected.as_slice(),
-            "{code}"
-        );
-        for (board, slots) in [(0, 2), (1, 2), (2, 3)] {
-            let board = BoardNo(board);
-            assert_eq!(rt; floor.used(board), slots);
-            assert_eq!(rt; floor.job(board).left(), 0);
-            assert_eq!(rt; floor.job(board).next_post(), None);
+        if let Some(events) = order(rt.alloc(), code)? {
+            assert!(rt; come_to_the_same(rt.alloc(), &events)?);
+            orders = orders.saturating_add(1);
         }
-        orders = orders.saturating_add(1);
     }
     assert_eq!(rt; orders, 1_260);
     Ok(())

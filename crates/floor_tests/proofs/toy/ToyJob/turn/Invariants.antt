@@ -1,6 +1,6 @@
 use Rattle.std.proofs.Common.{◌≡◌, ◌+◌, ◌-◌, ◌≤◌, ◌++◌, take, drop, vec_len}
 use Rattle.floor_core.specs.Job.{posts}
-use Rattle.floor_core.proofs.toy.ToyJob.turn.Given as goal
+use Rattle.floor_tests.proofs.toy.ToyJob.turn.Given as goal
 
 abbrev pub invariant-loop-i : goal.invariant-loop-i
 invariant-loop-i l = record {
