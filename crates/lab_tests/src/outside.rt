@@ -193,7 +193,7 @@ const HOLE_LOG: &str = "[0.000001] m0/sysbus: read 4 at 0x90000000\n0x00000000\n
 
 const BODIES_LOG: &str = "0x80000000\n0x8000000c\n[0.000002] m0/uart: A\n";
 
-/// The letter, where a fourth read is that of an image that is too long.
+/// The letter, and a further read: of an image that has no place on the board.
 fn assert_read_late<R: Abort + AllocGlobal>(rt: &R) -> Result<(), NoMemory> {
     let alloc = rt.alloc();
     let script = joined(alloc, LETTER, "cpu PC\nsysbus LoadBinary @b.bin 0\n")?;
