@@ -1,10 +1,8 @@
-//! Tests of boards, of their plans and of the interrupt controller.
+//! Tests of boards and of their plans.
 #![tactic(auto)]
 
 #[cfg(test)]
 mod boards;
-#[cfg(test)]
-mod interrupt_controller;
 #[cfg(test)]
 mod parts;
 #[cfg(test)]

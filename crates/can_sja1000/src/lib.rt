@@ -13,6 +13,3 @@ mod registers;
 
 pub use can::Can;
 pub use laws::{acceptance_laws, carrying_laws, state_laws};
-
-#[cfg(test)]
-mod tests;

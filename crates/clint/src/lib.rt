@@ -12,6 +12,3 @@ mod state;
 pub use clint::Clint;
 pub use laws::timer_lines_change_at_most_twice;
 pub use state::ClintState;
-
-#[cfg(test)]
-mod tests;

@@ -27,6 +27,3 @@ pub use post::{Entry, Post, What};
 pub use state::{DevState, is_valid_state};
 pub use stock::Stock;
 pub use uart_state::UartState;
-
-#[cfg(test)]
-mod tests;

@@ -5,8 +5,6 @@ mod fields;
 mod image;
 mod laws;
 mod load;
-#[cfg(test)]
-mod tests;
 
 pub use image::{ElfFault, Image, Part};
 pub use laws::{later_parts_count, parts_lie_within_the_file};

@@ -1,4 +1,4 @@
-//! Tests of floors, of toys and of boards with their grants on them.
+//! Tests of grants and their source, of floors, and of toys and boards with their grants on them.
 #![tactic(auto)]
 
 #[cfg(test)]
@@ -6,7 +6,11 @@ mod boards;
 #[cfg(test)]
 mod events;
 #[cfg(test)]
+mod handle;
+#[cfg(test)]
 mod parcels;
+#[cfg(test)]
+mod source;
 #[cfg(test)]
 mod toy;
 #[cfg(test)]

@@ -6,8 +6,6 @@ mod laws;
 mod lines;
 mod load;
 mod record;
-#[cfg(test)]
-mod tests;
 
 pub use fault::HexFault;
 pub use laws::{addresses_wrap, lines_after_the_end_have_no_meaning};

@@ -1,9 +1,13 @@
-//! Tests of the assembler and of single instructions.
+//! Tests of the decoder, the assembler, a hart and single instructions.
 #![tactic(auto)]
 
 #[cfg(test)]
 mod assembler;
 #[cfg(test)]
+mod decoder;
+#[cfg(test)]
 mod encoder;
+#[cfg(test)]
+mod hart;
 #[cfg(test)]
 mod step;

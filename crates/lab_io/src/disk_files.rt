@@ -1,5 +1,7 @@
 //! The real files, relative to the working folder.
 ghost use Rattle.std.specs.Prelude.{◌≡◌, ◌≢◌, ◌<◌, ◌≤◌, [], length, None, IfSome};
+ghost use Rattle.lab_io.specs.Known.{Rose};
+ghost use Rattle.lab_io.specs.Held.{IsReadAs, read_faults};
 
 use crate::files::{Files, ReadAnswer};
 use std::io::{ErrorKind, Read};
@@ -60,7 +62,17 @@ impl<R: rt::Files> Files for DiskFiles<'_, R> {
     ghost faults = { λ faults. faults };
 
     /// A file that cannot be opened or read is a fault. It may change while it is read.
-    fn read(&mut self, name: &str, limit: usize, into: &mut Vec<u8>) -> ReadAnswer {
+    fn read(&mut self, name: &str, limit: usize, into: &mut Vec<u8>) -> ReadAnswer
+        requires empty { into.old.items ≡ [] }
+        requires limit { limit ≤ 67108864 }
+
+        ensures bytes { IsReadAs None name.now limit result into.new.items }
+        ensures failed { result ≡ ReadAnswer.Failed → Rose self.old self.new }
+
+        ensures faults { self.old ≤ self.new }
+
+        ensures counted { self.new ≡ read_faults result self.old }
+    {
         let answer = match fs::open(self.rt, name) {
             Ok(file) => read_whole(file, limit, into),
             Err(_) => ReadAnswer::Failed,
@@ -69,41 +81,5 @@ impl<R: rt::Files> Files for DiskFiles<'_, R> {
             self.faults = self.faults.saturating_add(1);
         }
         answer
-    }
-}
-
-#[cfg(test)]
-mod tests {
-    use super::*;
-    use std::test::Fail;
-
-    #[test]
-    fn real_files_are_read_whole(rt: HostRuntime) -> Result<(), Fail> {
-        let alloc = rt.alloc();
-        // No two pieces of 251 bytes that lie 256 apart are alike.
-        let bytes: Vec<u8> = (0..20_000_u32).map(|i| (i % 251) as u8).collect(alloc)?;
-        fs::write(&rt, "lab_io_real_file", bytes.as_slice())?;
-        let mut files = DiskFiles::new(&rt);
-        for (name, limit, answer) in [
-            ("lab_io_real_file", 30_000, ReadAnswer::Done),
-            ("lab_io_real_file", 20_000, ReadAnswer::Done),
-            ("lab_io_real_file", 19_999, ReadAnswer::TooLarge),
-            ("lab_io_no_such_file", 64, ReadAnswer::Failed),
-            // A folder may be opened, and not be read.
-            (".", 64, ReadAnswer::Failed),
-        ] {
-            assert!(rt; limit <= 30_000);
-            let mut into = Vec::new(alloc);
-            assert_eq!(rt;
-                files.read(name, limit, &mut into),
-                answer,
-                "{name} at {limit}"
-            );
-            let is_whole = into == bytes;
-            assert_eq!(rt; is_whole, answer == ReadAnswer::Done, "{name} at {limit}");
-        }
-        assert_eq!(rt; files.faults, 2);
-        fs::remove_file(&rt, "lab_io_real_file")?;
-        Ok(())
     }
 }

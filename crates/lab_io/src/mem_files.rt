@@ -172,38 +172,3 @@ impl Files for MemFiles {
         answer
     }
 }
-
-#[cfg(test)]
-mod tests {
-    use super::*;
-    use std::test::Fail;
-
-    #[test]
-    fn a_read_answers_by_name_limit_and_number(rt: HostRuntime) -> Result<(), Fail> {
-        let alloc = rt.alloc();
-        let mut files = MemFiles::new(alloc);
-        files.put("three", b"one")?;
-        files.put("empty", b"")?;
-        files.put("three", b"abc")?;
-        files.fail_at(6)?;
-        for (name, limit, answer, bytes) in [
-            ("three", 64, ReadAnswer::Done, b"abc".as_slice()),
-            ("three", 3, ReadAnswer::Done, b"abc".as_slice()),
-            ("three", 2, ReadAnswer::TooLarge, b"".as_slice()),
-            ("empty", 0, ReadAnswer::Done, b"".as_slice()),
-            ("absent", 64, ReadAnswer::Failed, b"".as_slice()),
-            ("", 64, ReadAnswer::Failed, b"".as_slice()),
-            ("three", 64, ReadAnswer::Failed, b"".as_slice()),
-            ("three", 64, ReadAnswer::Done, b"abc".as_slice()),
-        ] {
-            let mut into = Vec::new(alloc);
-            assert_eq!(rt;
-                files.read(name, limit, &mut into),
-                answer,
-                "{name} at {limit}"
-            );
-            assert_eq!(rt; into.as_slice(), bytes, "{name} at {limit}");
-        }
-        Ok(())
-    }
-}

@@ -2,7 +2,7 @@
 ghost use Rattle.std.specs.Prelude.{◌≡◌, ◌≢◌, ◌≤◌, [], length, take, None};
 ghost use Rattle.std.specs.Io.KnownBytes.{Appends};
 ghost use Rattle.lab_io.specs.Known.{grown, Rose};
-ghost use Rattle.lab_io.specs.Sink.{IsTaken, taken};
+ghost use Rattle.lab_io.specs.Sink.{IsTaken, taken, write_faults};
 
 use crate::sink::{Sink, Wrote};
 use std::io;
@@ -59,6 +59,7 @@ impl<R: Print> Sink for OutSink<'_, R> {
         ensures written { None ≡ grown None (take (taken result) piece.now) }
         ensures failed { result ≡ Wrote.Failed → Rose self.old self.new }
         ensures faults { self.old ≤ self.new }
+        ensures counted { self.new ≡ write_faults result self.old }
         ensures never_memory { result ≢ Wrote.Memory }
     {
         let answer = write_some(&mut io::writer(self.rt), piece);
@@ -66,78 +67,5 @@ impl<R: Print> Sink for OutSink<'_, R> {
             self.faults = self.faults.saturating_add(1);
         }
         answer
-    }
-}
-
-#[cfg(test)]
-mod tests {
-    use super::*;
-    use crate::sink::{WriteFault, write_whole};
-    use std::cell::RefCell;
-    use std::fmt::Display;
-    use std::test::Fail;
-
-    /// A terminal that takes at most `most` bytes a write and `room` bytes in all. Once it has
-    /// taken them it takes nothing, and where `most` is 0 it is broken.
-    #[derive(Drop)]
-    struct Terminal {
-        most: usize,
-        room: usize,
-        taken: RefCell<Vec<u8>>,
-    }
-
-    impl Print for Terminal {
-        fn print<D: Display + Drop>(&self, _value: D) -> io::Result<()> {
-            Ok(())
-        }
-
-        fn println<D: Display + Drop>(&self, _value: D) -> io::Result<()> {
-            Ok(())
-        }
-
-        fn write_all(&self, _bytes: &[u8]) -> io::Result<()> {
-            Ok(())
-        }
-
-        fn write_some(&self, bytes: &[u8]) -> io::Result<usize> {
-            let Ok(mut taken) = self.taken.try_borrow_mut() else {
-                return Err(io::ErrorKind::BrokenPipe.into());
-            };
-            if self.most == 0 {
-                return Err(io::ErrorKind::BrokenPipe.into());
-            }
-            let left = self.room.saturating_sub(taken.len());
-            let count = bytes.len().min(self.most).min(left);
-            taken.extend_from_slice(&bytes[..count])?;
-            Ok(count)
-        }
-    }
-
-    #[test]
-    fn the_output_is_told_what_was_taken(rt: HostRuntime) -> Result<(), Fail> {
-        for (most, room, answer, text, faults) in [
-            (9, 9, Ok(()), b"abcde".as_slice(), 0),
-            (2, 9, Ok(()), b"abcde".as_slice(), 0),
-            (2, 3, Err(WriteFault::Unwritten), b"abc".as_slice(), 1),
-            (2, 0, Err(WriteFault::Unwritten), b"".as_slice(), 1),
-            (0, 9, Err(WriteFault::Unwritten), b"".as_slice(), 1),
-        ] {
-            let taken = RefCell::new(Vec::new(rt.alloc()));
-            let terminal = Terminal { most, room, taken };
-            let mut out = OutSink::new(&terminal);
-            assert_eq!(rt; write_whole(&mut out, b"abcde"), answer, "{most} of {room}");
-            assert_eq!(rt; out.faults, faults, "{most} of {room}");
-            assert_eq!(rt;
-                terminal.taken.try_borrow()?.as_slice(),
-                text,
-                "{most} of {room}"
-            );
-        }
-        // The standard output itself.
-        assert_eq!(rt;
-            write_whole(&mut OutSink::new(&rt), b"a line of a test\n"),
-            Ok(())
-        );
-        Ok(())
     }
 }

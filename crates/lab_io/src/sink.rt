@@ -63,30 +63,3 @@ pub fn write_whole<K: Sink>(out: &mut K, piece: &[u8]) -> Result<(), WriteFault>
     }
     Ok(())
 }
-
-#[cfg(test)]
-mod tests {
-    use super::*;
-    use crate::mem_sink::MemSink;
-    use std::test::Fail;
-
-    #[test]
-    fn pieces_are_written_whole_up_to_a_fault(rt: HostRuntime) -> Result<(), Fail> {
-        let mut out = MemSink::new(rt.alloc(), 2);
-        out.fail_at(3)?;
-        out.fail_at(4)?;
-        for (piece, answer) in [
-            // Writes 0 and 1.
-            (b"abc".as_slice(), Ok(())),
-            (b"".as_slice(), Ok(())),
-            // The second write fails.
-            (b"defgh".as_slice(), Err(WriteFault::Unwritten)),
-            (b"i".as_slice(), Err(WriteFault::Unwritten)),
-            (b"jk".as_slice(), Ok(())),
-        ] {
-            assert_eq!(rt; write_whole(&mut out, piece), answer, "{piece:?}");
-        }
-        assert_eq!(rt; out.bytes(), b"abcdejk".as_slice());
-        Ok(())
-    }
-}

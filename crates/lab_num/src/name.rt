@@ -23,32 +23,3 @@ pub fn is_name(text: &str) -> bool
 {
     !text.is_empty() && are_name_chars(text)
 }
-
-#[cfg(test)]
-mod tests {
-    use super::*;
-
-    #[test]
-    fn tells_names_from_other_texts(rt: HostRuntime) {
-        for (text, expected) in [
-            ("m", true),
-            ("m0", true),
-            ("machine-0", true),
-            ("A_b-9", true),
-            ("-", true),
-            ("_", true),
-            ("0", true),
-            ("", false),
-            (" ", false),
-            ("a b", false),
-            ("a.b", false),
-            ("$a", false),
-            ("a/b", false),
-            ("\"a\"", false),
-            ("\u{e9}", false),
-            ("a\n", false),
-        ] {
-            assert_eq!(rt; is_name(text), expected, "{text}");
-        }
-    }
-}

@@ -45,34 +45,3 @@ pub fn number_of(text: &str) -> Option<u32>
         None => decimal(text),
     }
 }
-
-#[cfg(test)]
-mod tests {
-    use super::*;
-
-    #[test]
-    fn reads_numerals_below_two_to_the_thirty_second(rt: HostRuntime) {
-        for (text, expected) in [
-            ("0", Some(0)),
-            ("007", Some(7)),
-            ("4294967295", Some(4_294_967_295)),
-            ("4294967296", None),
-            ("0x0", Some(0)),
-            ("0x80000000", Some(0x8000_0000)),
-            ("0xffffFFFF", Some(4_294_967_295)),
-            ("0x0000000001", Some(1)),
-            ("0x100000000", None),
-            ("", None),
-            ("0x", None),
-            ("0X10", None),
-            ("+1", None),
-            ("-1", None),
-            ("1_000", None),
-            ("ff", None),
-            ("0xg", None),
-            ("1 ", None),
-        ] {
-            assert_eq!(rt; number_of(text), expected, "{text}");
-        }
-    }
-}

@@ -52,24 +52,3 @@ impl<T: Eq> Eq for Rows<T> {
 
     ghost laws = { lists_equiv T.Eq.laws };
 }
-
-#[cfg(test)]
-mod tests {
-    use super::*;
-    use crate::text::Text;
-    use std::test::Fail;
-
-    #[test]
-    fn rows_and_texts_are_copied_whole(rt: HostRuntime) -> Result<(), Fail> {
-        let alloc = rt.alloc();
-        let first = Text::of(alloc, "m\u{e9}")?;
-        let second = Text::of(alloc, "me")?;
-        let rows = Rows::of(vec![in alloc; first, second]?);
-        let copy = rows.clone()?;
-        assert!(rt; copy == rows);
-        for (text, expected) in copy.into_items().iter().zip(["m\u{e9}", "me"]) {
-            assert_eq!(rt; text.as_str(), expected);
-        }
-        Ok(())
-    }
-}

@@ -7,6 +7,3 @@ mod ram;
 
 pub use laws::aligned_numbers_lie_in_one_page;
 pub use ram::PageRam;
-
-#[cfg(test)]
-mod tests;

@@ -71,6 +71,3 @@ pub fn rows_match_fields()
 pub fn valid_fits()
     ensures { (i : Instr) → IsValid i → IsInstr i }
 {}
-
-#[cfg(test)]
-mod tests;

@@ -15,6 +15,3 @@ pub use hart::Hart;
 pub use laws::{counters_stay, read_back, return_after_entry, zero_register};
 pub use numbers::{Counter, counter_of};
 pub use state::HartState;
-
-#[cfg(test)]
-mod tests;

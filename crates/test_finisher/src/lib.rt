@@ -4,6 +4,3 @@
 mod finisher;
 
 pub use finisher::Finisher;
-
-#[cfg(test)]
-mod tests;

@@ -6,6 +6,3 @@ mod report;
 
 pub use handle::Handle;
 pub use report::Report;
-
-#[cfg(test)]
-mod tests;

@@ -5,6 +5,3 @@
 mod source;
 
 pub use source::Source;
-
-#[cfg(test)]
-mod tests;

@@ -9,6 +9,3 @@ mod registers;
 mod uart;
 
 pub use uart::Uart;
-
-#[cfg(test)]
-mod tests;

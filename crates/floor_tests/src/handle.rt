@@ -1,6 +1,6 @@
 //! Tables of grants.
-use crate::{Handle, Report};
 use lab_num::Micros;
+use time_handle::{Handle, Report};
 
 /// A grant, if there is one from `from` to `to` at this speed.
 fn grant(from: u64, to: u64, speed: u32) -> Option<Handle> {

@@ -1,9 +1,9 @@
 //! Tables of grants to two members, to none and to many.
 ghost use Rattle.std.specs.Prelude.{◌≡◌, ◌+◌, ◌^◌, ◌<◌, ◌≤◌, true, false, length, IsTrue, IfSome};
 
-use crate::Source;
 use lab_num::{BoardNo, Micros};
 use time_handle::Report;
+use time_source::Source;
 
 /// Two members at these speeds.
 fn pair(speeds: (u32, u32)) -> Option<Source>

@@ -1,5 +1,5 @@
 //! Tables of the SJA1000 in BasicCAN mode, through the calls of a device.
-use crate::Can;
+use can_sja1000::Can;
 use dev_core::Taken::{Kept, Overrun, Refused};
 use dev_core::{CanState, DevState, Device, Effect, Frame, FrameRow, Payload, Taken, UartState};
 use std::process::Abort;

@@ -1,5 +1,5 @@
 //! Tables of the CLINT: its registers and lines at chosen times.
-use crate::{Clint, ClintState};
+use clint::{Clint, ClintState};
 use lab_num::Micros;
 
 /// The state of a CLINT whose counter began at an offset.

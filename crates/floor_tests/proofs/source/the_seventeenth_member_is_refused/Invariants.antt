@@ -1,5 +1,5 @@
 use Rattle.std.proofs.Common.{◌≡◌, false}
-use Rattle.time_source.proofs.tests.the_seventeenth_member_is_refused.Given as goal
+use Rattle.floor_tests.proofs.source.the_seventeenth_member_is_refused.Given as goal
 
 abbrev pub invariant-loop-board : goal.invariant-loop-board
 invariant-loop-board g l = l.source.is_open ≡ false

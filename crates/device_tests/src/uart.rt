@@ -1,8 +1,8 @@
 //! Tables of the PC16550D, through the calls of a device.
-use crate::Uart;
 use dev_core::{ByteRow, DevState, Device, Effect, Frame, Payload, Taken, UartState};
 use std::process::Abort;
 use std::test::Fail;
+use uart_16550::Uart;
 
 const BYTES: [u8; 16] = [1, 2, 3, 4, 5, 6, 7, 8, 9, 10, 11, 12, 13, 14, 15, 16];
 

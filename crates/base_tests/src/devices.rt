@@ -1,5 +1,5 @@
 //! Frames, rows and states by tables.
-use super::*;
+use dev_core::{ByteRow, CanState, DevState, Frame, FrameRow, UartState, is_valid_state};
 
 const BYTES: [u8; 16] = [1, 2, 3, 4, 5, 6, 7, 8, 9, 10, 11, 12, 13, 14, 15, 16];
 

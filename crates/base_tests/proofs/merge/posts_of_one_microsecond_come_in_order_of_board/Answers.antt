@@ -1,7 +1,7 @@
 -- The keys of two boards differ.
 use Rattle.std.proofs.Common.{refl}
 use Rattle.std.specs.List.{IsDistinct}
-use Rattle.log_merge.proofs.merge.tests.posts_of_one_microsecond_come_in_order_of_board.Goals as goal
+use Rattle.base_tests.proofs.merge.posts_of_one_microsecond_come_in_order_of_board.Goals as goal
 
 pub merge_posts-requires : goal.merge_posts-requires
 unfolding IsDistinct

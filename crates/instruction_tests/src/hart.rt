@@ -1,5 +1,5 @@
 //! Rows from the manuals.
-use super::*;
+use rv_hart::{CsrFault, Exception, Hart, HartState, Lines};
 use std::test::Fail;
 
 const LINES: Lines = Lines {

@@ -1,5 +1,5 @@
 //! Words from an assembler, and words that mean nothing.
-use super::*;
+use rv_decode::{Instr, Op, decode};
 
 #[test]
 fn words_of_an_assembler_mean_their_instructions(rt: HostRuntime) {

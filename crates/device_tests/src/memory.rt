@@ -2,8 +2,8 @@
 ghost use Rattle.std.specs.Prelude.{◌≡◌, ◌+◌, ◌≤◌, length, IsTrue};
 ghost use Rattle.page_ram.specs.Access.{IsWidth};
 
-use super::*;
 use lab_num::NoMemory;
+use page_ram::PageRam;
 use std::alloc::Global;
 use std::process::Abort;
 use std::test::Fail;

@@ -1,7 +1,7 @@
 //! What a finisher sends, through the calls of a device.
-use crate::Finisher;
 use dev_core::{DevState, Device, Effect, Finish, Payload, Stock, Taken, UartState};
 use std::test::Fail;
+use test_finisher::Finisher;
 
 /// A register, what is stored in it, and what is sent.
 const STORES: [(u32, u32, Option<Finish>); 9] = [

@@ -1,5 +1,5 @@
 //! Files, and the images or faults that they give.
-use crate::{ElfFault, Image, read_elf};
+use elf_load::{ElfFault, Image, read_elf};
 use std::alloc::Global;
 use std::test::Fail;
 

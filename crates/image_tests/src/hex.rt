@@ -1,6 +1,6 @@
 //! Files, and the images or faults that they give.
-use crate::{HexFault, read_hex};
 use elf_load::Image;
+use ihex_load::{HexFault, read_hex};
 use std::alloc::Global;
 use std::test::Fail;
 

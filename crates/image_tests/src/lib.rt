@@ -1,0 +1,7 @@
+//! Tests of images: ELF32 files and Intel HEX.
+#![tactic(auto)]
+
+#[cfg(test)]
+mod elf;
+#[cfg(test)]
+mod hex;
