@@ -25,7 +25,7 @@ SECTIONS
     __data_end = .;
   } > ram AT> rom :data
   __data_rom = LOADADDR(.data);
-  /* `AT> ram`: else its load address would be behind that of .data. */
+  /* `AT> ram`: else its load address would be after that of .data. */
   .bss : {
     __bss = .;
     *(.bss* .sbss* COMMON)

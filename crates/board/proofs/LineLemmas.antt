@@ -2,7 +2,7 @@
 use Rattle.std.proofs.Common.{◌≡◌, ℕ, false, List, [], length, Option, Some, None, is_some, refl, ap, ◌∙◌}
 use Rattle.std.proofs.Common.{◌^◌, ◌<◌, ◌==◌, ◌||◌, ◌∷◌, inl, inr, not, arith}
 use Rattle.std.proofs.Common.{Bool, true, false, ◌&&◌, sym}
-use Rattle.std.specs.Prelude.{option_map, slice_index_or, slice_set}
+use Rattle.std.specs.Prelude.{option_map, slice_index_or}
 use Rattle.std.specs.List.{list_any}
 use Rattle.std.proofs.Math.Path.{fun_ext}
 use Rattle.std.proofs.lemmas.Bool.{cases_eq}

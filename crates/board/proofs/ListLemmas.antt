@@ -133,8 +133,3 @@ pub set_set : {X : Type 0} (xs : List X) (i : ℕ) (x y : X) → slice_set (slic
 set_set [] i x y = refl
 set_set (z ∷ zs) zero x y = refl
 set_set (z ∷ zs) (suc i) x y = ap (λ rest. z ∷ rest) (set_set zs i x y)
-
--- a range whose first number fails
-pub first_fails : (p : ℕ → Bool) (a n : ℕ) → 0 < n → p a ≡ false → list_all p (range_with_len a n) ≡ false
-first_fails p a zero some fails = absurd (omega (arith, some))
-first_fails p a (suc n) some fails = rw fails refl

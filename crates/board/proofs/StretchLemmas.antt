@@ -1,8 +1,8 @@
 -- Laws of slots one after another.
-use Rattle.std.proofs.Common.{◌≡◌, ℕ, true, zero, suc, ◌+◌, ◌*◌, ◌/◌, ◌<◌, ◌≤◌, List, [], ◌∷◌, sum, refl, ◌∙◌}
+use Rattle.std.proofs.Common.{◌≡◌, ℕ, true, zero, suc, ◌+◌, ◌*◌, List, [], ◌∷◌, sum, refl, ◌∙◌}
 use Rattle.std.proofs.Common.{append_assoc, add-one, add-zero, add-suc, add_assoc, arith}
 use Rattle.std.proofs.lemmas.List.Sums.{sum_by-cons}
-use Rattle.std.proofs.Math.Nat.{mul-le-mul, suc-mul}
+use Rattle.std.proofs.Math.Nat.{suc-mul}
 use Rattle.lab_num.specs.Paid.{slot_at}
 use Rattle.board.specs.View.{View, State, quiet, after}
 use Rattle.board.specs.Slot.{slot}
@@ -49,18 +49,12 @@ slot_begins a i q r w here full =
     let more : (q + 1) * r ≡ q * r + r = rw (add-one) (suc-mul q r) in
     omega (arith, here, full, more)
 
--- a slot that lies before the last microsecond has a number that fits
-pub slots_fit : (x speed last : ℕ) → 1 ≤ speed → speed ≤ 1000 → x / speed ≤ last → x < 1000 * last + 1000
-slots_fit x speed last least most within =
-    let product : speed * (x / speed) ≤ 1000 * last = mul-le-mul most within in
-    omega arith
-
 pub speed-stretch : (v : View) (from a n : ℕ) → (stretch v from a n).view.numbers.speed ≡ v.numbers.speed
 unfolding stretch
 speed-stretch v from a zero = refl
 speed-stretch v from a (suc n) = speed-slot (stretch v from a n).view _ ∙ speed-stretch v from a n
 
--- a stretch and the one behind it are one stretch
+-- a stretch and the one after it are one stretch
 pub stretch-add :
     (v : View) (from a m n : ℕ) →
     stretch v from a (m + n) ≡ after (stretch v from a m) (stretch (stretch v from a m).view from (a + m) n)

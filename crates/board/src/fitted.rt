@@ -1,7 +1,7 @@
 //! A device of a board.
 ghost use Rattle.std.specs.Prelude.{◌≡◌, ◌^◌, ◌%◌, ◌<◌, true};
 ghost use Rattle.rv_exec.specs.Access.{IsWidth};
-ghost use Rattle.dev_core.specs.Device.{dev_line, dev_take, dev_reset, kind_of, IsValid};
+ghost use Rattle.dev_core.specs.Device.{dev_line, dev_take, kind_of, IsValid};
 ghost use Rattle.board.specs.Space.{register_load, register_store};
 ghost use Rattle.board.specs.New.{hidden, reset_device};
 

@@ -6,7 +6,7 @@ ghost use Rattle.board.specs.New.{IsSameKept, reset};
 ghost use Rattle.board.specs.Stretch.{stretch, in_turns};
 ghost use Rattle.board.specs.Numbered.{IsNumbered};
 
-/// A stretch of slots and the one behind it are one stretch.
+/// A stretch of slots and the one after it are one stretch.
 pub fn stretches_join()
     ensures { (v : View) (from a m n : ℕ) →
         stretch v from a (m + n)

@@ -1,11 +1,9 @@
 //! What the processor is wired to in a slot, and what the board makes by it.
-ghost use Rattle.std.specs.Prelude.{◌≡◌, ◌↔◌, ◌^◌, ◌%◌, ◌<◌, ◌≤◌, ◌+◌, length, IfOk, OnOk, OnErr, IsTrue};
+ghost use Rattle.std.specs.Prelude.{◌≡◌, ◌↔◌, ◌^◌, ◌<◌, length, IfOk, OnOk, OnErr, IsTrue};
 ghost use Rattle.std.specs.Vec.{vec_len, vec_capacity};
 ghost use Rattle.std.specs.VecDeque.{deque_len, deque_capacity};
-ghost use Rattle.page_ram.specs.Access.{IsInOnePage};
-ghost use Rattle.rv_exec.specs.Access.{IsAccess, IsWidth};
+ghost use Rattle.rv_exec.specs.Access.{IsAccess};
 ghost use Rattle.sys_bus.specs.declared.region.Target.TheVariants.{Ram, Dev};
-ghost use Rattle.board.specs.Space.{memory_at};
 ghost use Rattle.board.specs.Wires.{fetched, answer, loaded, stored, stored_to, sent, entered, note_if, post_of};
 ghost use Rattle.board.specs.Wires.{entry_of, key_of};
 

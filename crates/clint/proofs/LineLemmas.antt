@@ -1,11 +1,8 @@
 -- How often the line of the timer interrupt changes.
-use Rattle.std.proofs.Common.{◌≡◌, ◌≢◌, ℕ, ◌+◌, ◌*◌, ◌/◌, ◌%◌, ◌^◌, ◌<◌, ◌≤◌, Bool, true, false, nat_le, refl, arith}
-use Rattle.std.proofs.Common.{◌⊎◌, inl, inr}
-use Rattle.std.proofs.lemmas.Bool.{cases_lt}
+use Rattle.std.proofs.Common.{◌≡◌, ◌≢◌, ℕ, ◌*◌, ◌^◌, ◌<◌, ◌≤◌, Bool, true, false, refl, arith}
 use Rattle.std.proofs.lemmas.Bool.Decides.{nat_tests}
 use Rattle.std.proofs.Math.Nat.{mul-le-mul, mul-le-mul_right}
-use Rattle.clint.specs.Clint.{Timer, mtime, timer_line}
-use Rattle.clint.specs.Laws.{IsTimer, ChangesTwice, FallsAtWraps}
+use Rattle.clint.specs.Laws.{ChangesTwice, FallsAtWraps}
 use Rattle.clint.specs.Mtime.{ticks, counter}
 
 -- how far a counter has come, and what it shows

@@ -1,5 +1,5 @@
 //! The halves of a register of 64 bits.
-ghost use Rattle.std.specs.Prelude.{◌≡◌, ◌<◌, ◌^◌};
+ghost use Rattle.std.specs.Prelude.{◌≡◌, ◌<◌};
 ghost use Rattle.clint.specs.Mtime.{high, low, with_high, with_low};
 
 pub fn low(value: u64) -> u32

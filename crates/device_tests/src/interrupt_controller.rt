@@ -196,7 +196,7 @@ static REGISTERS: [(u32, u8, u32); 32] = [
     (0xFFFF_FFFC, 4, 0),
 ];
 
-/// What loads of a word, a byte and a halfword give behind a store of all ones.
+/// What loads of a word, a byte and a halfword give after a store of all ones.
 fn kept(at: u32, width: u8) -> (u32, u32, u32) {
     let mut plic = Plic::new(40, 2);
     plic.store(at, width, 0xFFFF_FFFF);

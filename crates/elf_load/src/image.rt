@@ -2,7 +2,7 @@
 use lab_num::Rows;
 use std::alloc::{AllocError, AllocFailed};
 
-/// Bytes that stand one after another from an address on, and zeros behind them.
+/// Bytes that stand one after another from an address on, and zeros after them.
 #[derive(Clone, PartialEq, Eq, Debug, Drop)]
 pub struct Part {
     /// The address of the first byte.

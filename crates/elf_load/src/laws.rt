@@ -16,7 +16,7 @@ pub fn parts_lie_within_the_file()
         image_of file ≡ Ok image → All EndsInMemory image.parts }
 {}
 
-/// A part that comes behind others gives its bytes to its addresses, and leaves all others as they
+/// A part that comes after others gives its bytes to its addresses, and leaves all others as they
 /// were.
 pub fn later_parts_count()
     ensures within { (parts : List Part) (part : Part) (address byte : ℕ) →

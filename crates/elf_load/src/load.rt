@@ -1,8 +1,8 @@
 //! From the bytes of an ELF file to its image.
-ghost use Rattle.std.specs.Prelude.{◌≡◌, ◌≤◌, ◌+◌, ◌*◌, List, length, true, false, Some, None, Ok, OnOk, IfErr};
+ghost use Rattle.std.specs.Prelude.{◌≡◌, ◌≤◌, ◌+◌, ◌*◌, length, true, false, Some, None, Ok, OnOk, IfErr};
 ghost use Rattle.std.specs.Prelude.{if◌then◌else◌};
 ghost use Rattle.elf_load.specs.declared.image.ElfFault.TheVariants as fault;
-ghost use Rattle.elf_load.specs.Header.{header_size, e_phoff, e_phnum};
+ghost use Rattle.elf_load.specs.Header.{header_size, e_phoff};
 ghost use Rattle.elf_load.specs.Image as images;
 ghost use Rattle.elf_load.specs.Image.{image_of, first_of, tests, has_wrong_segment, IsReadAs};
 ghost use Rattle.elf_load.specs.Inner.Parts.{Gives, part_told, parts_told};

@@ -15,9 +15,6 @@ pub some_and : {A : Type 0} (P : A → Type 0) (o : Option A) → IsSomeAnd o P 
 some_and P None h = absurd h
 some_and P (Some x) h = (x, refl, h)
 
-pub and_some : {A : Type 0} (P : A → Type 0) (o : Option A) (x : A) → o ≡ Some x → P x → IsSomeAnd o P
-and_some P o x is h = subst (λ p. IsSomeAnd p P) (sym is) h
-
 pub within : {A : Type 0} (P : A → Type 0) (xs : List A) (i : ℕ) → IsSomeAnd (slice_get xs i) P → i < length xs
 within P [] i h = absurd h
 within P (x ∷ xs) zero h = omega arith
@@ -88,7 +85,3 @@ first_of (x ∷ xs) some = (x, refl)
 pub first_none : {A : Type 0} (xs : List A) → slice_get xs 0 ≡ None → xs ≡ []
 first_none [] is = refl
 first_none (x ∷ xs) is = absurd (cc)
-
-pub first_some : {A : Type 0} (xs : List A) (x : A) → slice_get xs 0 ≡ Some x → xs ≢ []
-first_some [] x is = absurd (cc)
-first_some (y ∷ xs) x is = λ h. cc

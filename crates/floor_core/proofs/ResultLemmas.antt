@@ -1,6 +1,6 @@
 -- What holds of a floor after any legal events, and after those that end the round.
 use Rattle.std.proofs.Common.{◌≡◌, ◌∙◌, ℕ, zero, suc, ◌+◌, ◌<◌, ◌≤◌, List, [], ◌∷◌, ◌++◌, length, map}
-use Rattle.std.proofs.Common.{refl, sym, ap, subst, arith, true, false, All, Option, Some, slice_get, append-nil}
+use Rattle.std.proofs.Common.{refl, sym, ap, subst, arith, true, All, Option, Some, slice_get, append-nil}
 use Rattle.std.proofs.lemmas.List.Elements.{All-nil, All-push, All-head, All-tail}
 use Rattle.dev_core.specs.declared.post.Post as post
 use Rattle.floor_core.specs.declared.event.Event.{Event}
@@ -40,9 +40,6 @@ module _ {S : Type 0} (state_after : S → List (Option post.Post) → ℕ → S
     pub sound : Sound state_after starts f
     pub ends : f.is_ended ≡ true → All IsDone f.boards
     pub members : All (λ m. m.by.0 < length starts) f.mail
-
-  not_ended : (f : Floor S) → f.is_ended ≡ false → f.is_ended ≡ true → All IsDone f.boards
-  not_ended f is not = absurd (cc)
 
   kept_begun : Rests state_after → (starts : List (Job S)) → Kept starts (begun starts)
   kept_begun rests starts = record {

@@ -1,5 +1,5 @@
 //! The floor of one round.
-ghost use Rattle.std.specs.Prelude.{◌≡◌, ◌≢◌, ◌<◌, ◌≤◌, ◌↔◌, true, map, length, IsTrue, IsSomeAnd, IfOk, OnOk};
+ghost use Rattle.std.specs.Prelude.{◌≡◌, ◌<◌, ◌≤◌, ◌↔◌, true, map, length, IsTrue, IsSomeAnd, IfOk, OnOk};
 ghost use Rattle.std.specs.Prelude.{slice_get};
 ghost use Rattle.floor_core.specs.Events.{IsLegal, MayClaim, MayPost, MayReport, happened};
 ghost use Rattle.floor_core.specs.Floor.{begun};

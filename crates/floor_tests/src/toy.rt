@@ -1,5 +1,5 @@
 //! A job of the tests: a list with a post or none for each slot.
-ghost use Rattle.std.specs.Prelude.{◌≡◌, ◌+◌, ◌<◌, ◌≤◌, ◌++◌, take, drop, vec_len, OnOk, OnErr, option_to_list};
+ghost use Rattle.std.specs.Prelude.{◌≡◌, ◌+◌, ◌<◌, ◌++◌, take, drop, vec_len, OnOk, OnErr, option_to_list};
 ghost use Rattle.floor_core.specs.Job.{posts};
 
 use dev_core::Post;
@@ -18,7 +18,7 @@ pub struct Toy {
     sent: Vec<Post>,
 }
 
-/// Puts a post, if there is one, behind the others.
+/// Puts a post, if there is one, after the others.
 fn add(posts: &mut Vec<Post>, next: Option<Post>) -> Result<(), NoMemory>
     ensures added { OnOk result (posts.new.items ≡ posts.old.items ++ option_to_list next) }
     ensures same { OnErr result (posts.new.items ≡ posts.old.items) }

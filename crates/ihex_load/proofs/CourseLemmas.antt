@@ -8,7 +8,7 @@ use Rattle.ihex_load.specs.Record.{line_of}
 use Rattle.ihex_load.specs.Image.{records, placed, parts_of, space_size}
 use Rattle.ihex_load.specs.Inner.Course.{told_from, told_behind}
 
--- behind a record, by what the later lines say
+-- after a record, by what the later lines say
 behind :
     (base : ℕ) (parts : List Part) (later : List (List ℕ)) (record_ : Record) (rest : Result (List Record) HexFault) →
     records later ≡ rest → (line : List ℕ) → line_of line ≡ Ok record_ →

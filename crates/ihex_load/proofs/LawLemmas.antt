@@ -1,4 +1,4 @@
--- Lines behind the end, and addresses that wrap.
+-- Lines after the end, and addresses that wrap.
 use Rattle.std.proofs.Common.{◌≡◌, ◌∷◌, ◌++◌, ◌∙◌, ◌+◌, ◌-◌, ◌%◌, ◌<◌, ◌≤◌, ℕ, List, [], length, Ok, Some, refl, ap}
 use Rattle.std.proofs.Common.{slice_index, take, drop, append-nil, nat_le, nat_lt, inl, inr, ◌⊎◌, Bool, true, false}
 use Rattle.std.proofs.Common.{None, arith}
@@ -22,7 +22,7 @@ unfolding image_of
 same_image file other (before, end, after, others, is, lines_file, lines_other) =
     rw (lines_file, lines_other, ended before after others end is) refl
 
--- the bytes of a part without zeros, and the addresses before and behind it
+-- the bytes of a part without zeros, and the addresses before and after it
 byte_here : (at i place : ℕ) (bytes : List ℕ) → place ≡ at + i → i < length bytes →
     byte_in (part at bytes) place ≡ Some (slice_index bytes i)
 byte_here at i place bytes is within =

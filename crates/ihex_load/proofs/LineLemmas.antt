@@ -26,7 +26,7 @@ some_part : (text : List ℕ) → (first : List ℕ) × (others : List (List ℕ
 some_part [] = ([], [], refl)
 some_part (x ∷ text) = first_part (feed x) x (slice_split feed text)
 
--- the line before a part that stands behind a line feed
+-- the line before a part that stands after a line feed
 before_part : (line text : List ℕ) →
     lines_of_parts (line ∷ slice_split feed text) ≡ strip_carriage_return line ∷ lines text
 before_part line text = let (first, others, is) = some_part text in rw is refl

@@ -5,7 +5,7 @@ ghost use Rattle.ihex_load.specs.Image.{image_of, placed, space_size};
 ghost use Rattle.ihex_load.specs.Laws.{AgreeToTheEnd};
 
 /// Files that have the same lines up to a record of type 01 have the same image or fault, whatever
-/// comes behind it.
+/// comes after it.
 pub fn lines_after_the_end_have_no_meaning()
     ensures { (file other : List ℕ) → AgreeToTheEnd file other → image_of file ≡ image_of other }
 {}

@@ -25,7 +25,7 @@ fn part(alloc: Global, at: u32, bytes: &[u8]) -> Result<Part, HexFault>
     })
 }
 
-/// Puts bytes from an address on behind the other parts. Those that pass the end of the address
+/// Puts bytes from an address on after the other parts. Those that pass the end of the address
 /// space stand from address 0 on.
 fn place(alloc: Global, parts: &mut Vec<Part>, at: u32, bytes: &[u8]) -> Result<(), HexFault>
     ensures ok { OnOk result (parts.new.items ≡ parts.old.items ++ placed at bytes.now) }

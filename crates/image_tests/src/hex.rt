@@ -25,7 +25,7 @@ fn answer(alloc: Global, file: &str) -> Result<String, Fail> {
     }
 }
 
-/// The file of a line, with a record before it and the end behind it.
+/// The file of a line, with a record before it and the end after it.
 fn answer_to_line(alloc: Global, line: &str) -> Result<String, Fail> {
     let file = format!(in alloc; ":0100000007F8\n{line}\n:00000001FF\n")?;
     answer(alloc, &file)

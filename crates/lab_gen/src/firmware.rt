@@ -1,5 +1,5 @@
 //! The program of a board.
-ghost use Rattle.std.specs.Prelude.{◌≡◌, ◌<◌, ◌≤◌, ◌^◌, Some, None, IfOk, find, length, not, true};
+ghost use Rattle.std.specs.Prelude.{◌≡◌, ◌<◌, ◌≤◌, ◌^◌, Some, None, IfOk, find, length};
 ghost use Rattle.std.specs.List.{flat_map};
 ghost use Rattle.rv_asm.specs.Program.{given, is_fault, lines_of};
 ghost use Rattle.lab_gen.specs.Firmware as spec;

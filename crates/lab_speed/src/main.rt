@@ -12,7 +12,7 @@ mod platform;
 
 use board::{Board, SlotAt};
 use dev_core::Device;
-use lab_num::{BoardNo, Micros};
+use lab_num::Micros;
 use loops::{INTERRUPTS, LOOPS};
 use platform::board_of;
 use rv_asm::assemble;

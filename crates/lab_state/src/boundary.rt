@@ -1,5 +1,5 @@
 //! The boundary between two rounds: what the boards have sent is handed over.
-ghost use Rattle.std.specs.Prelude.{◌≡◌, ◌++◌, All, [], length, fold, find, OnOk, IfOk};
+ghost use Rattle.std.specs.Prelude.{◌≡◌, ◌++◌, All, fold, find, OnOk, IfOk};
 ghost use Rattle.std.specs.Option.{option_map, option_to_list};
 ghost use Rattle.lab_state.specs.Boundary as boundary_spec;
 ghost use Rattle.lab_state.specs.Boundary.{Handed, note_item, to_member, to_route, to_routes, is_finish};

@@ -1,7 +1,6 @@
 //! Runs: rounds of one quantum each, and a shorter one for what is left.
 ghost use Rattle.std.specs.Prelude.{◌≡◌, ◌+◌, ◌*◌, ◌<◌, ◌≤◌, ◌↔◌, ◌≢◌, fold, replicate, true, false, Some, IfOk, OnOk};
 ghost use Rattle.std.specs.Prelude.{OnErr};
-ghost use Rattle.std.specs.Option.{option_map};
 ghost use Rattle.lab_num.specs.declared.number.BoardNo.{BoardNo};
 ghost use Rattle.lab_state.specs.Inner.Came.{came_to};
 ghost use Rattle.lab_state.specs.One.{first_without, HaveAllPlans};

@@ -1,6 +1,5 @@
 //! The devices that no board has yet.
 ghost use Rattle.std.specs.Prelude.{◌≡◌, ◌<◌, [], ◌∷◌, map, All, OnErr, IfOk, OnOk};
-ghost use Rattle.dev_core.specs.declared.kind.Kind.{Kind as KindOf};
 ghost use Rattle.dev_core.specs.Device.{kind_of};
 ghost use Rattle.dev_core.specs.Stock.{IsFull};
 ghost use Rattle.board.specs.New.{first_state};

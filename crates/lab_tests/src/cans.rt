@@ -418,7 +418,7 @@ static FAULTS: [(&str, &str); 15] = [
     ),
 ];
 
-/// The scripts write what their rows say behind this text, and end with this number.
+/// The scripts write what their rows say after this text, and end with this number.
 fn assert_rows<R: Abort + AllocGlobal>(
     rt: &R,
     text: &str,

@@ -33,7 +33,7 @@ fn more_files(alloc: Global) -> Result<MemFiles, NoMemory> {
     Ok(files)
 }
 
-/// The number of the line behind this text.
+/// The number of the line after this text.
 fn line_behind(text: &str) -> u32 {
     let mut line = 1;
     for byte in text.bytes() {
@@ -55,7 +55,7 @@ fn assert_fault<R: Abort + AllocGlobal>(
     assert_script(rt, files, script, 3, last.as_str())
 }
 
-/// A line is refused behind these lines as it stands.
+/// A line is refused after these lines as it stands.
 fn assert_refused_as_it_stands<R: Abort + AllocGlobal>(
     rt: &R,
     before: &str,

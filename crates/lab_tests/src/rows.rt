@@ -24,7 +24,7 @@ sysbus LoadBinary @{program} 0x80000000\ncpu PC 0x80000000\nshowAnalyzer sysbus.
     )?)
 }
 
-/// Each row: the program, what is asked for behind it, the number of the status and what is written.
+/// Each row: the program, what is asked for after it, the number of the status and what is written.
 static ON_ONE_BOARD: [(&str, &str, u8, &str); 8] = [
     (
         "a.bin",

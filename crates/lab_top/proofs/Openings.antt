@@ -1,6 +1,6 @@
 -- The course of a run, from the words and the read of its script on.
-use Rattle.std.proofs.Common.{◌≡◌, ℕ, ◌<◌, ◌≤◌, ◌==◌, ◌+◌, Bool, true, false, List, [], ◌∷◌, length, take, count_by}
-use Rattle.std.proofs.Common.{Option, Some, Result, Err, IfSome, sym, refl, append-nil, arith}
+use Rattle.std.proofs.Common.{◌≡◌, ℕ, ◌≤◌, ◌==◌, ◌+◌, Bool, true, false, List, [], ◌∷◌, length, take, count_by}
+use Rattle.std.proofs.Common.{Option, Some, IfSome, sym, refl, append-nil, arith}
 use Rattle.std.proofs.lemmas.Bool.Decides.{nat_tests}
 use Rattle.std.proofs.lemmas.Str.{is_utf8-from_IsUtf8, IsUtf8-from_is_utf8}
 use Rattle.std.specs.FinMap.{get}
@@ -11,14 +11,12 @@ use Rattle.lab_io.specs.Held.{Held}
 use Rattle.lab_state.specs.Run.{run}
 use Rattle.lab_words.specs.declared.request.Request.{Request}
 use Rattle.lab_words.specs.declared.request.UsageCause.{UsageCause}
-use Rattle.lab_words.specs.declared.request.WordsFault.{WordsFault}
 use Rattle.lab_words.specs.declared.request.WordsFault.TheVariants as words_fault
-use Rattle.lab_words.specs.Requests.{IsReadAs}
 use Rattle.lab_words.specs.Usage.{usage_line}
 use Rattle.repl_files.specs.Asked.{AsksSome}
 use Rattle.repl_files.specs.Content.{bad_line}
 use Rattle.resc_vars.specs.declared.cause.ScriptCause.{ScriptCause}
-use Rattle.resc_vars.specs.declared.cause.ScriptCause.TheVariants.{Size, Utf8}
+use Rattle.resc_vars.specs.declared.cause.ScriptCause.TheVariants.{Utf8}
 use Rattle.monitor.specs.declared.fault.ScriptFault.{ScriptFault}
 use Rattle.monitor.specs.declared.setting.Setting.{Setting}
 use Rattle.monitor.specs.Answer.{fault_at}
@@ -30,12 +28,11 @@ use Rattle.lab_top.specs.declared.status.Status.TheVariants as end_by
 use Rattle.lab_top.specs.Content.{Content, Readable, Faulty, bytes_content, content_of, whole}
 use Rattle.lab_top.specs.Headline.{OnRefused, WritesUsage}
 use Rattle.lab_top.specs.Request as asked_by
-use Rattle.lab_top.specs.Request.{Refused, Gen, by_reading, request_of}
+use Rattle.lab_top.specs.Request.{Refused, Gen, request_of}
 use Rattle.lab_gen.specs.Summary.{summary_of}
 use Rattle.lab_top.specs.Transcript.{Done, Usage, Script, rest_of, begun, run_of, transcript}
 use Rattle.lab_top.specs.Inner.Course.{Told, Course, IsEnd}
 use Rattle.lab_top.specs.Inner.Opened.{IsContent, IsOpened, IsRefused}
-use Rattle.lab_top.specs.Inner.Words.{IsAsked}
 use Rattle.lab_top.proofs.Pieces.{grown-nil}
 use Rattle.lab_top.proofs.Courses.{course_after, course_ended, course_memory, course_stopped, course_unread}
 
@@ -58,10 +55,6 @@ pub content_bad : (file bytes : List ℕ) (at line : ℕ) → length bytes ≤ 1
     bytes_content file bytes ≡ Faulty (fault_at (record { file = file; number = line }) Utf8)
 unfolding bad_line
 content_bad file bytes at line small not place is = rw (no_utf8 bytes _ refl not, is, place) (grind (arith, nat_tests))
-
-content_large : (file bytes : List ℕ) → 16777216 < length bytes →
-    bytes_content file bytes ≡ Faulty (fault_at (whole file) Size)
-content_large file bytes large = grind (arith, nat_tests)
 
 -- a file was refused so, or memory ran out
 pub refused_content : (is : Content) (place : Place) (cause : ScriptCause) (opened : Opened) →
@@ -130,12 +123,6 @@ opening_memory held script setting out log log' asks =
     asks
 
 -- ---- the words
-
--- the words could not be read as they are, and that was told
-pub asked_not : (meant : Result Request UsageCause) (fault : WordsFault) → IsReadAs meant (Err fault) →
-    IsAsked (by_reading meant) (Err fault)
-asked_not meant (words_fault.Usage cause) is = rw is refl
-asked_not meant words_fault.Memory is = tt
 
 -- memory ran out before the words were read
 pub unread_words : (asked : asked_by.Request) (out : Option (List ℕ)) (log : Option (List (List ℕ))) →

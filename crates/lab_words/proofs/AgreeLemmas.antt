@@ -34,7 +34,7 @@ module _ (s : Shape) where
   abbrev end_fault : Walk → Kinds
   end_fault w = settle_fault s.rules s.args_override_self w.held
 
-  -- the faults from w on, without those behind the last settling
+  -- the faults from w on, without those after the last settling
   abbrev pub rest_fault : Walk → List Text → Kinds
   rest_fault w words = or_else (walk_fault s [] w words) (end_fault (end_walk w words))
 

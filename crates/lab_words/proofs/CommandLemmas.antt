@@ -209,7 +209,7 @@ module _ (a : App) (f : Form) (has : HasForm a f) where
       ap₂ (λ (subs : List Shape) ws. rows_after (built a).top.rules (map label_of subs) ws) has.leaf (all_words words)
       ∙ no_default_rows (built a).top.rules _ has.no_defaults
 
-  -- the faults behind the walk over the words
+  -- the faults after the walk over the words
   abbrev checked : List Text → Kinds
   checked words =
       or_else (rest_fault (built a).top first_walk words)

@@ -48,7 +48,7 @@ pub nil≢cons : {X : Type 0} (x : X) (xs : List X) → [] ≡ x ∷ xs → ⊥
 unfolding is_nil
 nil≢cons x xs e = true≢false (ap is_nil e)
 
--- a text that begins with `-` and is longer has a character behind it
+-- a text that begins with `-` and is longer has a character after it
 pub char_behind : (x : ℕ) (rest : Text) → IsUtf8 (45 ∷ x ∷ rest) → (y : ℕ) × (Some y ≡ slice_get (chars (x ∷ rest)) 0)
 char_behind x rest u = go (chars (x ∷ rest)) refl
   where

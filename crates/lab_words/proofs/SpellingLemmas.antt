@@ -73,7 +73,7 @@ module _ (form : Form) where
   plain_then text [] given words parts later = refl
   plain_then text (name ∷ left) given words parts later = given_then name text left given words parts (later left)
 
-  -- behind `--`
+  -- after `--`
   plain_reads : (words left : List Text) (given : List (Text × Text))
       → texts_from form (reading plain_only left given) words
       ≡ option_map (λ n. n.given) (take_parts (reading anything left given) (map word words))
@@ -122,7 +122,7 @@ module _ (form : Form) where
 
 -- ---- the words of no line are refused
 
--- the first `=`, the text before it and the text behind it
+-- the first `=`, the text before it and the text after it
 
 found : (text : Text) → list_any is_equals text ≡ true → position_or_len is_equals text < length text
 found [] e = absurd (false≢true e)

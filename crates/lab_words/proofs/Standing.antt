@@ -85,7 +85,7 @@ IsDoomed s w = (rows : List Row) × (pending : Option (Text × List Text)) × (p
     ((waiting : Waiting) × (w ≡ stand rows pending waiting position true)))
     × PlainAt s.rules position left × Faulty (settle s rows pending)
 
--- what a word comes to: k are the faults of its turn, and w the walk behind it
+-- what a word comes to: k are the faults of its turn, and w the walk after it
 abbrev pub StepOf : Shape → Form → Kinds → Walk → Option Reading → Type 0
 StepOf s f k w (Some r) = (k ≡ []) × Stands s f r w
 StepOf s f k w None = Faulty k ⊎ IsDoomed s w

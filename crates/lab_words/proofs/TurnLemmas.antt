@@ -267,7 +267,7 @@ module _ (s : Shape) (f : Form) (fits : Fits s f) (rows : List Row) (pending : O
       go true known = known_step text facts known
       go false unknown = inl (unknown_fails s f fits rows pending idle position word refl name text facts unknown)
 
-  -- behind `--`
+  -- after `--`
   pub tail_step : StepOf s f (turn_fault s [] (stand rows pending idle position true) word)
       (walked s.rules [] (stand rows pending idle position true) word)
       (give_plain left word (reading plain_only left given))

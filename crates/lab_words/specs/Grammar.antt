@@ -15,7 +15,7 @@ pub data Sort : Type 0 where
   end_of_options : Sort
   -- `--NAME`, or `--NAME=TEXT`
   option : Text → Option Text → Sort
-  -- `-` and something else behind it
+  -- `-` and something else after it
   stray : Sort
   -- a word without a `-` at its head, or `-` itself
   plain : Sort
@@ -26,7 +26,7 @@ is_dash b = b == byte "-"
 abbrev pub is_equals : ℕ → Bool
 is_equals b = b == byte "="
 
--- what stands behind the first `=`, if there is one
+-- what stands after the first `=`, if there is one
 abbrev pub attached : Text → Option Text
 attached text = if list_any is_equals text then Some (after_first is_equals text) else None
 
@@ -80,7 +80,7 @@ abbrev pub give_plain : List Text → Text → Reading → Option Reading
 give_plain [] text reading = None
 give_plain (name ∷ left) text reading = give name text (record reading { left = left })
 
--- an option has its text behind `=`, or in the next word
+-- an option has its text after `=`, or in the next word
 abbrev pub give_option : Text → Option Text → Reading → Option Reading
 give_option name (Some text) reading = give name text reading
 give_option name None reading = Some (record reading { place = text_of_option name })

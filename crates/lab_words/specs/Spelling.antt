@@ -14,7 +14,7 @@ pub data Part : Type 0 where
   -- an option as two words, `--NAME` and `TEXT`
   apart : Text → Text → Part
 
--- a line is its parts, and perhaps `--` and plain words behind it
+-- a line is its parts, and perhaps `--` and plain words after it
 pub record Line : Type 0 where
   pub parts : List Part
   pub behind : Option (List Text)
@@ -55,7 +55,7 @@ IsLineOf form line = list_all (may_stand form) line.parts ≡ true
 
 -- ---- what a line gives
 
--- the parts of a line, and the words behind them as plain ones
+-- the parts of a line, and the words after them as plain ones
 abbrev pub parts_of : Line → List Part
 parts_of line = line.parts ++ map word (unwrap_or line.behind [])
 

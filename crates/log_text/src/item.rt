@@ -1,5 +1,5 @@
 //! The lines of items that come alone: of bus errors, frames, overruns and pauses.
-ghost use Rattle.std.specs.Prelude.{◌≡◌, ◌++◌, ◌∷◌, OnOk, IsTrue, string_bytes, codes};
+ghost use Rattle.std.specs.Prelude.{◌≡◌, ◌++◌, OnOk, string_bytes, codes};
 ghost use Rattle.std.specs.Fmt.{decimal};
 ghost use Rattle.log_text.specs.Log as log_spec;
 ghost use Rattle.log_text.specs.Names as names_spec;

@@ -1,9 +1,8 @@
 //! The line of one UART.
-ghost use Rattle.std.specs.Prelude.{◌≡◌, ◌++◌, OnOk, IfOk, IsTrue, string_bytes};
+ghost use Rattle.std.specs.Prelude.{◌≡◌, ◌++◌, OnOk, IfOk, string_bytes};
 ghost use Rattle.std.specs.List.{flat_map};
 ghost use Rattle.log_text.specs.Line as line_spec;
 ghost use Rattle.log_text.specs.Log as log_spec;
-ghost use Rattle.log_text.specs.Names.{place_name};
 
 use crate::names::{board_name, device_name};
 use crate::number::Seconds;

@@ -1,5 +1,5 @@
 //! The lines of all UARTs, and the text that items of the log make of them.
-ghost use Rattle.std.specs.Prelude.{◌≡◌, ◌++◌, ◌≤◌, [], length, take, drop, Some, None, if◌then◌else◌, OnOk, OnErr};
+ghost use Rattle.std.specs.Prelude.{◌≡◌, ◌++◌, ◌≤◌, [], length, Some, None, if◌then◌else◌, OnOk, OnErr};
 ghost use Rattle.std.specs.Prelude.{IfOk, IsTrue, string_bytes};
 ghost use Rattle.std.specs.List.{list_all};
 ghost use Rattle.log_text.specs.Line as line_spec;

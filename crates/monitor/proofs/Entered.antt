@@ -1,26 +1,20 @@
 -- What comes of a body that a command enters.
-use Rattle.std.proofs.Common.{◌≡◌, ◌∙◌, ℕ, ◌<◌, ◌≤◌, nat_lt, Bool, true, false, cond, List}
-use Rattle.std.proofs.Common.{[], ◌∷◌, length, Option, None, Some}
-use Rattle.std.proofs.Common.{Result, Ok, Err, Vec, String, string_bytes, refl, sym, ap, append-nil, arith}
+use Rattle.std.proofs.Common.{◌≡◌, ◌∙◌, ℕ, ◌<◌, ◌≤◌, nat_lt, true, List}
+use Rattle.std.proofs.Common.{[], ◌∷◌, length, Option, Some}
+use Rattle.std.proofs.Common.{Ok, String, string_bytes, refl, sym, ap, arith}
 use Rattle.std.specs.FinMap.{get}
 use Rattle.std.specs.Global.{Global}
-use Rattle.std.specs.Str.{is_utf8}
 use Rattle.std.proofs.lemmas.Bool.Decides.{nat_tests}
 use Rattle.lab_io.specs.Held.{Held}
 use Rattle.lab_io.specs.Known.{grown}
-use Rattle.resc_vars.specs.declared.answer.FlowFault.{FlowFault}
 use Rattle.resc_vars.specs.declared.answer.FlowFault.TheVariants as flow_fault
-use Rattle.resc_vars.specs.declared.cause.ScriptCause.TheVariants.{Depth}
-use Rattle.resc_vars.specs.Bodies.{Leaves, enter, source_of, depth_limit}
+use Rattle.resc_vars.specs.Bodies.{enter, source_of, depth_limit}
 use Rattle.resc_vars.specs.Script as script
-use Rattle.monitor.specs.declared.stop.Stop.{Stop}
-use Rattle.monitor.specs.declared.stop.Stop.TheVariants.{Quit, Line, File, Content, Unread, Memory}
 use Rattle.monitor.specs.Answer.{Goes, Did, answer_at, with_file}
 use Rattle.monitor.specs.Bodies.{entered, include, include_bytes}
 use Rattle.monitor.specs.State.{State, Place}
-use Rattle.monitor.specs.Step.{Running}
-use Rattle.monitor.specs.Inner.Ruling.{IsCarried, IsRuled, IsText, flow_stop}
-use Rattle.monitor.proofs.Ruled.{fits, grown_by_none}
+use Rattle.monitor.specs.Inner.Ruling.{IsText}
+use Rattle.monitor.proofs.Ruled.{fits}
 
 -- fewer than 8 bodies are open
 pub include_reads :
@@ -29,21 +23,6 @@ pub include_reads :
     ≡ record { names = path ∷ []; answer = with_file place (get held path) (include_bytes s place path) }
 include_reads held s place path room =
     let yes : nat_lt (length s.flow.outer) depth_limit ≡ true = grind (arith, nat_tests) in rw yes refl
-
--- a file that was read is no text
-pub text_stops :
-    (did : Did) (s after : State) (place : Place) (path bytes : List ℕ) (stop : Stop)
-    (log log' : Option (List (List ℕ))) →
-    did.names ≡ path ∷ [] → did.answer ≡ include_bytes s place path bytes → log' ≡ grown log (path ∷ []) →
-    IsText path bytes (Err stop) → IsCarried did place (Err stop) after log log'
-text_stops did s after place path bytes Quit log log' names answer asked is = absurd is
-text_stops did s after place path bytes (Line cause) log log' names answer asked is = absurd is
-text_stops did s after place path bytes (File fault) log log' names answer asked is =
-    (answer ∙ rw (is.0, is.1) refl, rw names asked)
-text_stops did s after place path bytes (Content cause) log log' names answer asked is = absurd is
-text_stops did s after place path bytes Unread log log' names answer asked is = absurd is
-text_stops did s after place path bytes Memory log log' names answer asked is =
-    record { passed = path ∷ []; coming = []; all = names; asked = asked }
 
 -- a file that was read is this text
 pub text_goes :

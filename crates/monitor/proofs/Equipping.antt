@@ -1,15 +1,13 @@
 -- What comes of a platform that a command loads.
-use Rattle.std.proofs.Common.{◌≡◌, ◌∙◌, ℕ, List, [], ◌∷◌, length, Option, None, Some, Result, Ok}
+use Rattle.std.proofs.Common.{◌≡◌, ◌∙◌, ℕ, List, [], length, Option, Result, Ok}
 use Rattle.std.proofs.Common.{Err, Vec, refl, sym, ap, append-nil}
 use Rattle.std.specs.Global.{Global}
 use Rattle.lab_io.specs.Held.{Held}
-use Rattle.lab_io.specs.Known.{grown}
 use Rattle.sys_bus.specs.declared.plan.BoardPlan.{BoardPlan}
 use Rattle.repl_files.specs.declared.load.Loaded.{Loaded}
 use Rattle.repl_files.specs.Loaded.{IsLoaded}
 use Rattle.repl_files.specs.Loading.{Loading, load}
 use Rattle.repl_build.specs.Plan.{built}
-use Rattle.resc_vars.specs.declared.cause.ScriptCause.{ScriptCause}
 use Rattle.monitor.specs.declared.stop.Stop.{Stop}
 use Rattle.monitor.specs.declared.stop.Stop.TheVariants.{Quit, Line, File, Content, Unread, Memory}
 use Rattle.monitor.specs.Boards.{equip, equip_loaded, load_onto, load_platform}

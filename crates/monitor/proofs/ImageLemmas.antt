@@ -7,7 +7,7 @@ use Rattle.std.proofs.Common.{append-nil, subst, arith}
 use Rattle.std.specs.Prelude.{IsSome}
 use Rattle.std.specs.FinMap.{get}
 use Rattle.std.specs.Global.{Global}
-use Rattle.std.specs.List.{fold, list_all, range_with_len}
+use Rattle.std.specs.List.{list_all, range_with_len}
 use Rattle.std.specs.Option.{ForSome, option_map}
 use Rattle.std.proofs.lemmas.Bool.{and_parts}
 use Rattle.std.proofs.lemmas.Bool.Decides.{nat_tests}
@@ -30,7 +30,7 @@ use Rattle.lab_state.specs.One.{changed, view_at, view_of, with_view}
 use Rattle.monitor.specs.declared.fault.Cause.{Cause}
 use Rattle.monitor.specs.declared.stop.Stop.{Stop}
 use Rattle.monitor.specs.declared.stop.Stop.TheVariants.{Quit, Line, File, Content, Unread, Memory}
-use Rattle.monitor.specs.Answer.{Answer, Faults, answer_at, reads, told_at, with_file}
+use Rattle.monitor.specs.Answer.{Answer, Faults, reads, told_at, with_file}
 use Rattle.monitor.specs.Images.{holds_part, is_entry, load_file, load_image, load_read, size, with_entry, with_part}
 use Rattle.monitor.specs.Images.{with_parts}
 use Rattle.monitor.specs.Inner.Ruling.{IsBoard, IsCarried, IsChanged, IsFile, IsImage, IsOnward, IsRuled}
@@ -173,7 +173,7 @@ unchanged b f old same =
     (sym (change_none old.state.lab.boards b (with_view f)
     (λ board. ap (λ view. record board { view = view }) (map_none board.view f same))))
 
--- a board is changed behind a change
+-- a board is changed after a change
 pub changed_more :
     (b : ℕ) (f g h : View → View) (old mid new : Running) → ((v : View) → g (f v) ≡ h v) →
     IsChanged b f old mid → IsChanged b g mid new → IsChanged b h old new
@@ -258,7 +258,7 @@ still_held s from bytes at count =
     ap (λ plan. list_all (λ a. is_memory (target_of plan.regions a 1)) (range_with_len at count))
     (plan_copied s from bytes)
 
--- bytes, and others behind them
+-- bytes, and others after them
 pub copied_behind :
     (s : Space) (at : ℕ) (xs ys : List ℕ) → copied s at (xs ++ ys) ≡ copied (copied s at xs) (at + length xs) ys
 copied_behind s at [] ys = let same : at + 0 ≡ at = omega arith in rw same refl
@@ -282,7 +282,7 @@ held_pieces p at (suc m) n all =
     let same : at + suc m ≡ at + 1 + m = omega arith in
     (rw (both.0, rest.0) refl, rw same rest.1)
 
--- a part that has its places: its bytes, and its zeros behind them
+-- a part that has its places: its bytes, and its zeros after them
 pub part_pieces :
     (v : View) (part : Part) → holds_part v part ≡ true →
     (size part < 2 ^ 32) × (part.at + size part ≤ 2 ^ 32)
@@ -303,7 +303,7 @@ pub part_numbers :
 part_numbers None part some holds = cc some
 part_numbers (Some v) part some holds = let pieces = part_pieces v part (holds v refl) in (pieces.0, pieces.1)
 
--- a part is its bytes with its zeros behind them
+-- a part is its bytes with its zeros after them
 pub part_of_pieces :
     (v : View) (part : Part) →
     with_bytes (with_bytes v part.at part.bytes) (part.at + length part.bytes) (replicate part.zeros 0)
@@ -316,7 +316,7 @@ pub part_without_zeros :
 part_without_zeros v part none =
     ap (with_bytes v part.at) (sym (append-nil part.bytes) ∙ ap (λ n. part.bytes ++ replicate n 0) (sym none))
 
--- a part is loaded behind others
+-- a part is loaded after others
 pub parts_more :
     (v : View) (parts : List Part) (i : ℕ) (part : Part) → i < length parts →
     with_part (with_parts v (take i parts)) (get_or parts i part) ≡ with_parts v (take (i + 1) parts)

@@ -7,7 +7,6 @@ use Rattle.std.proofs.lemmas.Bool.Decides.{nat_tests}
 use Rattle.lab_io.specs.Held.{Held}
 use Rattle.lab_io.specs.Known.{grown}
 use Rattle.lab_state.specs.Run.{Play}
-use Rattle.repl_files.specs.Asked.{AsksSome, AsksUpTo}
 use Rattle.resc_read.specs.declared.command.Command.{Command}
 use Rattle.resc_read.specs.declared.command.Command.TheVariants as command
 use Rattle.resc_vars.specs.declared.cause.ScriptCause.{ScriptCause}
@@ -118,7 +117,7 @@ file_stops did place name content use_ Unread after log log' names answer is =
     record { earlier = []; name = name; coming = []; all = names; asked = is }
 file_stops did place name content use_ Memory after log log' names answer is = rw names is
 
--- a line behind which the script does not go on
+-- a line after which the script does not go on
 pub stop_is_step :
     (did : Did) (place : Place) (stop : Stop) (after : State) (log log' : Option (List (List ℕ))) →
     IsCarried did place (Err stop) after log log' → IsStep did (step_of place stop) after log log'

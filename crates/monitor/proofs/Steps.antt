@@ -1,10 +1,8 @@
 -- What the next line of a script comes to.
-use Rattle.std.proofs.Common.{◌≡◌, ℕ, List, [], Option, Some, None, refl, ap}
+use Rattle.std.proofs.Common.{◌≡◌, ℕ, List, Option, refl}
 use Rattle.lab_io.specs.Held.{Held}
 use Rattle.lab_state.specs.Run.{Play}
-use Rattle.repl_files.specs.Asked.{AsksSome}
 use Rattle.resc_read.specs.Line.{line_of}
-use Rattle.resc_vars.specs.declared.answer.Next.{Next}
 use Rattle.resc_vars.specs.declared.answer.Next.TheVariants as next
 use Rattle.resc_vars.specs.declared.cause.ScriptCause.{ScriptCause}
 use Rattle.resc_vars.specs.Script as script
@@ -12,9 +10,8 @@ use Rattle.resc_vars.specs.Script.{next_of, Says}
 use Rattle.monitor.specs.declared.step.Step.{Step}
 use Rattle.monitor.specs.declared.step.Step.TheVariants as step
 use Rattle.monitor.specs.declared.fault.Cause.TheVariants.{Script}
-use Rattle.monitor.specs.Answer.{Did, Ends, Faults, fault_at}
-use Rattle.monitor.specs.Command.{did, done_by, without_files}
-use Rattle.monitor.specs.State.{State, Place}
+use Rattle.monitor.specs.Command.{did, done_by}
+use Rattle.monitor.specs.State.{State}
 use Rattle.monitor.specs.Step.{IsStep}
 use Rattle.monitor.proofs.Ruled.{grown_by_none}
 
@@ -50,6 +47,3 @@ pub fault_is :
     IsStep (did play held s) (step.Fault (record { file = file; line = n; cause = Script cause })) after log log
 unfolding did
 fault_is play held s after flow file n cause log is = rw is (refl, grown_by_none log)
-
-pub memory_is : (did : Did) (after : State) (log : Option (List (List ℕ))) → IsStep did step.Memory after log log
-memory_is did after log = record { passed = []; coming = did.names; all = refl; asked = grown_by_none log }

@@ -1,9 +1,8 @@
 -- What a line asks for has names of their form and numbers within their limits.
 use Rattle.std.proofs.Common.{◌≡◌, ℕ, ◌≤◌, ◌&&◌, Bool, true, false, cond, List, [], ◌∷◌, drop, Option, None, Some}
-use Rattle.std.proofs.Common.{Result, Ok, Err, refl, nat_le, ◌^◌, arith, codes}
-use Rattle.std.specs.Prelude.{IsTrue, option_and_then}
+use Rattle.std.proofs.Common.{Result, Ok, Err, refl, nat_le, ◌^◌, arith}
+use Rattle.std.specs.Prelude.{option_and_then}
 use Rattle.std.specs.Option.{ok_or}
-use Rattle.std.proofs.lemmas.Bool.{and_parts}
 use Rattle.std.proofs.lemmas.Bool.Decides.{nat_tests}
 use Rattle.lab_num.specs.declared.number.Micros.{Micros}
 use Rattle.lab_num.specs.Name.{is_name}
@@ -15,7 +14,7 @@ use Rattle.resc_read.specs.Words as of_text
 use Rattle.resc_read.specs.Arguments.{◌>>=◌, none, one, optional, two, processor, name, entry, path, variable, number}
 use Rattle.resc_read.specs.Arguments.{truth, speed, time, quantum}
 use Rattle.resc_read.specs.Line.{command_of, is_definition, line_of}
-use Rattle.resc_read.specs.Sorts.{if_name, name_of, text_of}
+use Rattle.resc_read.specs.Sorts.{if_name, text_of}
 use Rattle.resc_read.specs.Table.{Row, begins, by_rows, opening_len, word_at, processor_rows, word_rows, machine_rows}
 use Rattle.resc_read.specs.Table.{memory_rows, emulation_rows, by_all_rows, by_word_rows, by_machine_rows}
 use Rattle.resc_read.specs.Table.{by_memory_rows, by_emulation_rows}

@@ -1,5 +1,5 @@
 -- Commands that make hubs, connect devices to them and show what devices send.
-use Rattle.std.specs.Prelude.{ℕ, Bool, false, not, is_some, List, [], ◌∷◌, ◌++◌, Option, None, Some, Result, Ok}
+use Rattle.std.specs.Prelude.{ℕ, Bool, false, not, is_some, List, [], ◌∷◌, ◌++◌, Option, Some, Result, Ok}
 use Rattle.lab_num.specs.Route.{is_connected}
 use Rattle.dev_core.specs.declared.kind.Kind.{Kind}
 use Rattle.dev_core.specs.declared.kind.Kind.TheVariants as kind

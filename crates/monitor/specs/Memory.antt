@@ -9,7 +9,7 @@ use Rattle.board.specs.Changes.{holds_each, with_bytes, word_held}
 use Rattle.board.specs.View.{View}
 use Rattle.resc_vars.specs.declared.cause.ScriptCause.{ScriptCause}
 use Rattle.resc_vars.specs.declared.cause.ScriptCause.TheVariants.{Address}
-use Rattle.monitor.specs.Answer.{Answer, Did, Done, says, leaves, answer_at, reads, with_file}
+use Rattle.monitor.specs.Answer.{Did, Done, says, leaves, answer_at, reads, with_file}
 use Rattle.monitor.specs.Refusal.{◌>>=◌, require}
 use Rattle.monitor.specs.Selected.{Equipped, equipped, with_board}
 use Rattle.monitor.specs.State.{State, Place}

@@ -7,7 +7,7 @@ use Rattle.std.specs.Str.{bytes_eq}
 use Rattle.lab_num.specs.declared.key.Member.{Member}
 use Rattle.sys_bus.specs.declared.plan.BoardPlan.{BoardPlan}
 use Rattle.sys_bus.specs.declared.plan.NamedWhat.{NamedWhat}
-use Rattle.sys_bus.specs.declared.plan.NamedWhat.TheVariants.{Cpu, Part}
+use Rattle.sys_bus.specs.declared.plan.NamedWhat.TheVariants.{Part}
 use Rattle.sys_bus.specs.declared.region.RegionKind.TheVariants.{Dev}
 use Rattle.sys_bus.specs.Name.{is_processor}
 use Rattle.board.specs.Changes.{is_shown_kind}

@@ -192,7 +192,7 @@ fn fault_at(file: Text, line: u32, cause: Cause) -> Step
     Step::Fault(ScriptFault { file, line, cause })
 }
 
-/// What a step answers at a line behind which the script does not go on.
+/// What a step answers at a line after which the script does not go on.
 fn stopped(file: Text, line: u32, stop: Stop) -> Step
     ensures { result ≡ step_of (record { file = file; number = line }) stop }
 {

@@ -1,4 +1,4 @@
-//! Why a script does not go on behind a command.
+//! Why a script does not go on after a command.
 ghost use Rattle.std.specs.Prelude.{◌≡◌};
 
 use crate::fault::{Cause, ScriptFault};
@@ -6,7 +6,7 @@ use lab_num::NoMemory;
 use resc_vars::{FlowFault, ScriptCause};
 use std::alloc::{AllocError, AllocFailed};
 
-/// Why a script does not go on behind a command.
+/// Why a script does not go on after a command.
 #[derive(Drop, Debug)]
 pub(crate) enum Stop {
     /// The command ends it.

@@ -35,7 +35,7 @@ stretch-none : (v : View) (from a : ℕ) → stretch v from a 0 ≡ quiet v
 unfolding stretch
 stretch-none v from a = refl
 
--- that a stretch and the one behind it are one stretch
+-- that a stretch and the one after it are one stretch
 abbrev pub Joins : Type 0
 Joins = (v : View) (from a m n : ℕ) →
     stretch v from a (m + n) ≡ after (stretch v from a m) (stretch (stretch v from a m).view from (a + m) n)

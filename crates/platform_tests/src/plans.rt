@@ -207,7 +207,7 @@ fin: Miscellaneous.SiFiveTest @ sysbus 0x1000
 u: UART.NS16550 @ sysbus 0x100
 ";
 
-/// Lines behind those of a memory and a processor, and their first fault: names, types and attributes.
+/// Lines after those of a memory and a processor, and their first fault: names, types and attributes.
 static NAMES_AND_TYPES: [(&str, &str); 30] = [
     ("", "accepted"),
     ("ram: UART.NS16550 @ sysbus 0x100\n", "P7 2:3"),
@@ -256,7 +256,7 @@ static NAMES_AND_TYPES: [(&str, &str); 30] = [
     ("ram:\n b: 1\nu: UART.NS16550 { a: 1 }\n", "P4 2:4"),
 ];
 
-/// Lines behind those of a memory and a processor, and their first fault: what is missing, and the values of
+/// Lines after those of a memory and a processor, and their first fault: what is missing, and the values of
 /// processors and memories.
 static MISSING_AND_VALUES: [(&str, &str); 40] = [
     ("u: UART.NS16550\n", "P6 2:3"),
@@ -361,7 +361,7 @@ static MISSING_AND_VALUES: [(&str, &str); 40] = [
     ),
 ];
 
-/// Lines behind those of a memory and a processor, and their first fault: the values of timers, interrupt
+/// Lines after those of a memory and a processor, and their first fault: the values of timers, interrupt
 /// controllers and devices.
 static DEVICE_VALUES: [(&str, &str); 34] = [
     (
@@ -502,7 +502,7 @@ numberOfSources: 1 }\n",
     ("cpu: { hartId: 0 }\ncpu: { hartId: 1 }\n", "P5 2:4"),
 ];
 
-/// Lines behind those of a memory and a processor, and their first fault: processors that are not built, counts,
+/// Lines after those of a memory and a processor, and their first fault: processors that are not built, counts,
 /// places and names that are meant.
 static COUNTS_AND_PLACES: [(&str, &str); 42] = [
     ("cpu: { cpuType: \"rv32im_zicsr\" }\n", "accepted"),
@@ -645,7 +645,7 @@ v: UART.NS16550 @ sysbus 0x200 { -> u@3 }\n",
     ),
 ];
 
-/// Lines behind those of a memory and a processor, and their first fault: CAN controllers.
+/// Lines after those of a memory and a processor, and their first fault: CAN controllers.
 static CANS: [(&str, &str); 22] = [
     ("c: CAN.SJA1000 @ sysbus 0x100\n", "accepted"),
     ("c: CAN.SJA1000 @ sysbus <0x100, +0x100>\n", "accepted"),
@@ -699,7 +699,7 @@ f: Miscellaneous.SiFiveTest @ sysbus 0x1000\n",
     ),
 ];
 
-/// Each row: lines behind those of a whole board, and its wires or the first fault.
+/// Each row: lines after those of a whole board, and its wires or the first fault.
 static WIRES: [(&str, &str); 36] = [
     ("clint: { 0 -> cpu@3 }\n", "soft>pin3"),
     ("clint: { 1 -> cpu@11 }\n", "timer>pin11"),
@@ -840,7 +840,7 @@ fn assert_plans(rt: &impl Abort, alloc: Global, rows: &[(&str, &str)]) -> Result
     Ok(())
 }
 
-/// Each row's lines, behind those of a board, are refused for the fault beside them, or accepted.
+/// Each row's lines, after those of a board, are refused for the fault beside them, or accepted.
 fn assert_outcomes(
     rt: &impl Abort,
     alloc: Global,
@@ -855,7 +855,7 @@ fn assert_outcomes(
     Ok(())
 }
 
-/// Each row's lines, behind those of a whole board, make the wires beside them, or are refused.
+/// Each row's lines, after those of a whole board, make the wires beside them, or are refused.
 fn assert_wires(rt: &impl Abort, alloc: Global, rows: &[(&str, &str)]) -> Result<(), Fail> {
     for &(lines, expected) in rows {
         let text = joined(alloc, FULL, lines)?;

@@ -5,7 +5,7 @@ use Rattle.std.proofs.lemmas.List.Elements.{All-replicate, All-set}
 use Rattle.plic.specs.declared.state.PlicState.{PlicState}
 use Rattle.plic.specs.State.{IsController, IsPlicState, plic_reset}
 use Rattle.plic.specs.Sources.{AreSources}
-use Rattle.plic.proofs.SetLemmas.{AreSources-zero, AreSources-union, AreSources-without, AreSources-with_word}
+use Rattle.plic.proofs.SetLemmas.{AreSources-zero, AreSources-union, AreSources-without}
 use Rattle.plic.proofs.SetLemmas.{AreSources-raised}
 
 -- zeros from some place on

@@ -1,5 +1,5 @@
 //! The memory map of a PLIC (RISC-V PLIC 1.0.0, "Memory Map").
-ghost use Rattle.std.specs.Prelude.{◌≡◌, ◌<◌, ◌≤◌, IfSome};
+ghost use Rattle.std.specs.Prelude.{◌≡◌, ◌<◌, IfSome};
 ghost use Rattle.plic.specs.Inner.There.{IsThere};
 ghost use Rattle.plic.specs.Map.{index_in, reached};
 

@@ -35,7 +35,7 @@ pub all_append :
     list_all p (xs ++ ys) ≡ true
 all_append p xs ys one two = list_all-append p xs ys ∙ both_true _ _ one two
 
--- what stands behind a list in front
+-- what stands after a list in front
 pub at_seam : {X : Type 0} (xs : List X) (y : X) (ys : List X) → slice_get (xs ++ y ∷ ys) (length xs) ≡ Some y
 at_seam [] y ys = refl
 at_seam (x ∷ xs) y ys = at_seam xs y ys

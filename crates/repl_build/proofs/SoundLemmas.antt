@@ -1,4 +1,4 @@
--- What each peripheral meets that stands behind others, where all rules are kept.
+-- What each peripheral meets that stands after others, where all rules are kept.
 use Rattle.std.proofs.Common.{◌≡◌, ◌^◌, Bool, true, false, not, ◌||◌, refl, List, []}
 use Rattle.std.proofs.Common.{◌∷◌, ◌++◌, None, nat_lt, is_none}
 use Rattle.std.specs.List.{list_any}

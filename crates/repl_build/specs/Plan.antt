@@ -32,7 +32,7 @@ use Rattle.repl_build.specs.Rules.{broken}
 use Rattle.repl_build.specs.Types.{is_type}
 use Rattle.repl_build.specs.Wires.{placed_wires, items_wires}
 
--- lists of what each peripheral gives, behind those before it
+-- lists of what each peripheral gives, after those before it
 abbrev pub each : {X : Type 0} → (List Peripheral → Peripheral → List X) → List Peripheral → List Peripheral → List X
 each f before [] = []
 each f before (p ∷ ps) = f before p ++ each f (before ++ p ∷ []) ps

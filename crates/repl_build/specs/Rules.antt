@@ -25,7 +25,7 @@ cause_of Counts = cause.Count
 cause_of Apart = cause.Overlap
 cause_of References = cause.Reference
 
--- a peripheral breaks the rule, behind those before it
+-- a peripheral breaks the rule, after those before it
 abbrev pub breaks : Rule → List Peripheral → Peripheral → Bool
 breaks Types before p = is_none p.kind
 breaks Required before p = is_lacking p

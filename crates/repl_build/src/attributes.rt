@@ -1,5 +1,5 @@
 //! The attributes that each type has, and the values that they take.
-ghost use Rattle.std.specs.Prelude.{◌≡◌, find, codes};
+ghost use Rattle.std.specs.Prelude.{◌≡◌, find};
 ghost use Rattle.std.specs.Option.{option_map};
 ghost use Rattle.repl_build.specs.Attributes as attribute;
 

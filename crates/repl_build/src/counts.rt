@@ -1,5 +1,5 @@
 //! How many peripherals of a type a board has.
-ghost use Rattle.std.specs.Prelude.{◌≡◌, ◌+◌, nat_lt, length};
+ghost use Rattle.std.specs.Prelude.{◌≡◌, ◌+◌, nat_lt};
 ghost use Rattle.std.specs.List.{sum_by};
 ghost use Rattle.sys_bus.specs.declared.limits.TheConstants as limit;
 ghost use Rattle.repl_build.specs.Counts as counts_spec;

@@ -1,6 +1,6 @@
 //! The first fault.
 ghost use Rattle.std.specs.Prelude.{◌≡◌};
-ghost use Rattle.repl_build.specs.First.{fault_if, first_of, refuse};
+ghost use Rattle.repl_build.specs.First.{fault_if, refuse};
 
 use repl_read::{PlatCause, PlatFault};
 

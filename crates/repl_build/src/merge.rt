@@ -126,7 +126,7 @@ fn merged_items(
     Ok(items)
 }
 
-/// Puts the peripheral that an entry gives its type behind others, if it gives one.
+/// Puts the peripheral that an entry gives its type after others, if it gives one.
 fn add_peripheral(
     alloc: Global,
     peripherals: &mut Vec<Peripheral>,

@@ -1,6 +1,5 @@
 //! The tests of peripherals, each over all of them and their items in order.
-ghost use Rattle.std.specs.Prelude.{◌≡◌, []};
-ghost use Rattle.repl_build.specs.First.{first_fault};
+ghost use Rattle.std.specs.Prelude.{◌≡◌};
 ghost use Rattle.repl_build.specs.Plan.{tested};
 ghost use Rattle.repl_build.specs.Rules as rules_spec;
 
@@ -48,7 +47,7 @@ fn cause_of(rule: Rule) -> PlatCause
     }
 }
 
-/// Whether a peripheral breaks the rule, behind those before it.
+/// Whether a peripheral breaks the rule, after those before it.
 fn breaks(rule: Rule, before: &[Peripheral], p: &Peripheral) -> bool
     ensures { result ≡ rules_spec.breaks rule before.now p.now }
 {

@@ -18,7 +18,7 @@ use sys_bus::{PlicSize, Wire, WireFrom, WirePin};
 /// The greatest number of a line or a pin.
 const MOST_SOURCES: u32 = 127;
 
-/// Puts the numbers of a span behind others.
+/// Puts the numbers of a span after others.
 fn add_numbers(numbers: &mut Vec<u8>, span: Span) -> Result<(), PlatFault>
     requires { IsTrue (wires_spec.is_low span) }
     ensures ok { OnOk result (numbers.new.items ≡ numbers.old.items ++ wires_spec.numbers_of span) }
@@ -253,7 +253,7 @@ fn placed_wires(
     }
 }
 
-/// Puts wires behind others.
+/// Puts wires after others.
 fn append(wires: &mut Vec<Wire>, more: &[Wire]) -> Result<(), PlatFault>
     ensures ok { OnOk result (wires.new.items ≡ wires.old.items ++ more.now) }
     ensures err { IfErr result (λ fault. fault ≡ PlatFault.Memory) }

@@ -11,7 +11,7 @@ use Rattle.repl_files.specs.Loading.{Gives, Loading, Outcome, Joined, Refused, O
 use Rattle.repl_files.specs.Inner.Course.{Adds, IsCourse}
 use Rattle.repl_files.proofs.Grown.{grown-append, grown-nil, up_to_more, some_more, up_to_behind, some_behind}
 
--- behind the names of the first part come others, or none
+-- after the names of the first part come others, or none
 rest_names : (names : List (List ℕ)) (outcome : Outcome) (rest : Loading) →
     (more : List (List ℕ)) × ((go_on names outcome rest).names ≡ names ++ more)
 rest_names names (Joined entries) rest = (rest.names, refl)
@@ -51,7 +51,7 @@ stopped_in first rest Memory log log' stop =
     let more = rest_names first.names first.outcome rest in some_more first.names more.0 _ log log' more.1 stop
 
 module _ (gives : Gives) (file : List ℕ) (number : ℕ) where
-  -- an entry was joined, and then those behind it went by their course
+  -- an entry was joined, and then those after it went by their course
   course_more : (entry : Entry) (entries : List Entry) (result : Result (Unit {0}) LoadFault) (old mid new : Loaded)
       (log between log' : Log) → Adds (one gives file number (length old.names.items) entry) old mid log between →
       IsCourse (in_order gives file number (length mid.names.items) entries) result mid new between log' →
@@ -62,7 +62,7 @@ module _ (gives : Gives) (file : List ℕ) (number : ℕ) where
       course_after first _ result old mid new log between log' adds
       (subst from (ap length adds.names ∙ length-append old.names.items first.names) course)
 
-  -- the first of these entries was joined, and then those behind it went by their course
+  -- the first of these entries was joined, and then those after it went by their course
   pub course_step : (all : List Entry) (entry : Entry) (entries : List Entry) (result : Result (Unit {0}) LoadFault)
       (old mid new : Loaded) (log between log' : Log) → all ≡ entry ∷ entries →
       Adds (one gives file number (length old.names.items) entry) old mid log between →

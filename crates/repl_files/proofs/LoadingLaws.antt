@@ -17,7 +17,7 @@ use Rattle.repl_files.specs.Laws.{IsHeld, AllHeld, EndsBy, IsFrom, AllFrom}
 use Rattle.repl_files.specs.Loading.{Gives, Use, Loading, Outcome, Joined, Refused, Oversized, Absent, stopped}
 use Rattle.repl_files.specs.Loading.{refused_at, joined, go_on, used_file, one_by, one, in_order, file_read, used, load}
 
--- these names stand in a whole list behind so many others
+-- these names stand in a whole list after so many others
 record Within (all : List (List ℕ)) (count : ℕ) (names : List (List ℕ)) : Type 0 where
   before : List (List ℕ)
   behind : List (List ℕ)
@@ -71,7 +71,7 @@ held_by None = refl
 held_by (Some bytes) = some_by (nat_lt 16777216 (length bytes)) (is_utf8 bytes) (platform bytes) (bad_line bytes) bytes
 
 module _ (held : Held) where
-  -- What holds of a loading behind so many names: the whole loading has at most 64 names, and ends as it says; and its
+  -- What holds of a loading after so many names: the whole loading has at most 64 names, and ends as it says; and its
   -- entries are those of its files, whatever whole list of this sort its names stand in.
   record IsLawful (Named : List (List ℕ) → Type 0) (count : ℕ) (loading : Loading) : Type 0 where
     few : count + length loading.names ≤ 64

@@ -18,7 +18,7 @@ use Rattle.repl_files.specs.Loading.{Gives, Use, Loading, Outcome, Joined, Refus
 use Rattle.repl_files.specs.Loading.{in_order, stopped, refused_at, file_read, used}
 use Rattle.repl_files.specs.Inner.Course.{Adds, IsCourse, IsFaultAt, IsStoppedAt}
 use Rattle.repl_files.proofs.Courses.{course_after}
-use Rattle.repl_files.proofs.Grown.{grown-nil, asks_none, asks_all, up_to_more, some_more}
+use Rattle.repl_files.proofs.Grown.{grown-nil, asks_all, up_to_more, some_more}
 
 -- a head that is one too many
 used-refused : (room : ℕ) (held : Held) (count : ℕ) (at : Use) → (room ≡ 0) ⊎ (64 ≤ count) →
@@ -69,11 +69,6 @@ module _ (gives : Gives) (large : Outcome) (name : List ℕ) where
       (record { earlier = []; name = name; coming = []; all = refl; asked = asked })
   file_stopped number content Memory log log' asks =
       let more = file_names gives large name number content in some_more (name ∷ []) more.0 _ log log' more.1 asks
-
-  -- memory was wanting before the read
-  pub file_unasked : (number : ℕ) (content : Content) (fault : LoadFault) (log : Log) →
-      fault ≡ Memory → IsStopped (file_read gives large name number content) fault log log
-  file_unasked number content fault log is = rw is (asks_none _ log)
 
   -- a file was read, and its entries went by their course
   pub file_goes : (number : ℕ) (content : Content) (entries : List Entry) (result : Result (Unit {0}) LoadFault)

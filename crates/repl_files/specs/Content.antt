@@ -15,7 +15,7 @@ pub data Content : Type 0 where
   Faulty : ℕ → FileCause → Content
   Readable : List Entry → Content
 
--- the line of the first byte behind the longest prefix that is UTF-8
+-- the line of the first byte after the longest prefix that is UTF-8
 unfoldable pub bad_line : List ℕ → ℕ
 bad_line bytes = count_by (λ b. b == byte "\n") (take (utf8_valid_len bytes) bytes) + 1
 

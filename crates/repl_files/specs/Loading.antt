@@ -48,7 +48,7 @@ joined entries (Refused fault) = Refused fault
 joined entries Oversized = Oversized
 joined entries Absent = Absent
 
--- These names were read and this came of it. If that stops nothing, the rest comes behind it.
+-- These names were read and this came of it. If that stops nothing, the rest comes after it.
 abbrev pub go_on : List (List ℕ) → Outcome → Loading → Loading
 go_on names (Joined entries) rest = record { names = names ++ rest.names; outcome = joined entries rest.outcome }
 go_on names (Refused fault) rest = stopped names (Refused fault)

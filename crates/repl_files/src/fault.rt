@@ -11,7 +11,7 @@ use std::alloc::{AllocError, AllocFailed, Global};
 pub enum FileCause {
     /// The line names a file, and 8 bodies are open, or 64 files were read.
     Depth,
-    /// The file is not UTF-8. The line is that of the first byte behind its longest prefix that is.
+    /// The file is not UTF-8. The line is that of the first byte after its longest prefix that is.
     Utf8,
     /// The line names a file of more than 16,777,216 bytes.
     Size,

@@ -36,7 +36,7 @@ pub struct Loaded {
 /// read in order, each with its own before the next, and each as often as it is named.
 ///
 /// `At` is answered for the first fault: `Platform` by the text of a file, at its line; `Utf8` for a
-/// file that is not UTF-8, at the line of the first byte behind its longest prefix that is; `Depth` at
+/// file that is not UTF-8, at the line of the first byte after its longest prefix that is; `Depth` at
 /// a `using` line where 8 bodies are open beside the script, its own file among them if a `using` line
 /// named it, or 64 files were read; and `Size` at a `using` line whose file has more than 16,777,216
 /// bytes. `TooLarge` is answered where the file of this name has more. `Unread` is answered only where

@@ -5,7 +5,7 @@ use Rattle.std.specs.Option.{option_map_or}
 use Rattle.std.specs.Str.Lines.{lines}
 use Rattle.repl_read.specs.declared.comments.Inside.{Inside}
 use Rattle.repl_read.specs.declared.comments.Inside.TheVariants.{Nothing, Words, Line, Block}
-use Rattle.repl_read.specs.Comments.{quote, turn_at, behind, ends_line, seen, closes, marks, blanked}
+use Rattle.repl_read.specs.Comments.{quote, turn_at, after_sign, ends_line, seen, closes, marks, blanked}
 use Rattle.repl_read.specs.Platform.{platform, entries_of}
 use Rattle.repl_read.specs.Tokens.{token_line}
 use Rattle.repl_read.specs.Inner.Turns.{turn}
@@ -21,7 +21,7 @@ outside _ = Nothing
 -- a sign that does not begin a comment
 pub plain :
     (b : ℕ) (bs : List ℕ) → turn Nothing b bs ≡ None →
-    blanked Nothing (b ∷ bs) ≡ b ∷ blanked (behind Nothing b) bs
+    blanked Nothing (b ∷ bs) ≡ b ∷ blanked (after_sign Nothing b) bs
 plain b bs none = blanked_first Nothing b bs ∙ rw none refl
 
 no_slash-turn : (b next : ℕ) → (b == 47) ≡ false → turn_at Nothing b next ≡ None
@@ -55,7 +55,7 @@ words_turn : (b : ℕ) (bs : List ℕ) → turn Words b bs ≡ None
 words_turn b [] = refl
 words_turn b (next ∷ bs) = refl
 
-pub words_plain : (b : ℕ) (bs : List ℕ) → blanked Words (b ∷ bs) ≡ b ∷ blanked (behind Words b) bs
+pub words_plain : (b : ℕ) (bs : List ℕ) → blanked Words (b ∷ bs) ≡ b ∷ blanked (after_sign Words b) bs
 words_plain b bs = blanked_first Words b bs ∙ rw (words_turn b bs) refl
 
 -- no string begins or ends at a turn
@@ -111,7 +111,7 @@ no_turn_behind true b next bs none =
     rw (blanked_first Words next bs, words_turn next bs) (rw none refl)
 no_turn_behind false b next bs none =
     rw (blanked_first Nothing next bs)
-    (no_turn_first b next (blanked (behind Nothing next) bs) (turn Nothing next bs) none)
+    (no_turn_first b next (blanked (after_sign Nothing next) bs) (turn Nothing next bs) none)
 
 -- what is seen of a sign of a comment begins nothing
 comment_dull :
@@ -144,19 +144,19 @@ outside_line false = refl
 -- one sign that begins and ends nothing
 again_one :
     (inside : Inside) (b next : ℕ) (bs : List ℕ) → turn_at inside b next ≡ None →
-    blanked (outside (behind inside b)) (blanked (behind inside b) (next ∷ bs))
-    ≡ blanked (behind inside b) (next ∷ bs) →
-    blanked (outside inside) (seen inside b next ∷ blanked (behind inside b) (next ∷ bs))
-    ≡ seen inside b next ∷ blanked (behind inside b) (next ∷ bs)
+    blanked (outside (after_sign inside b)) (blanked (after_sign inside b) (next ∷ bs))
+    ≡ blanked (after_sign inside b) (next ∷ bs) →
+    blanked (outside inside) (seen inside b next ∷ blanked (after_sign inside b) (next ∷ bs))
+    ≡ seen inside b next ∷ blanked (after_sign inside b) (next ∷ bs)
 again_one Nothing b next bs none same =
-    let rest = blanked (behind Nothing b) (next ∷ bs) in
+    let rest = blanked (after_sign Nothing b) (next ∷ bs) in
     plain b rest (no_turn_behind (b == quote) b next bs none)
     ∙ ap (λ xs. b ∷ xs) (rw (outside_choice (b == quote)) at same)
 again_one Words b next bs none same =
-    let rest = blanked (behind Words b) (next ∷ bs) in
+    let rest = blanked (after_sign Words b) (next ∷ bs) in
     words_plain b rest ∙ ap (λ xs. b ∷ xs) (rw (outside_words (b == quote || b == 10)) at same)
 again_one Line b next bs none same =
-    let rest = blanked (behind Line b) (next ∷ bs) in
+    let rest = blanked (after_sign Line b) (next ∷ bs) in
     let y = cond (ends_line b next) b 32 in
     dull y rest (comment_dull b next).0 (comment_dull b next).1
     ∙ ap (λ xs. y ∷ xs) (rw (outside_line (b == 10)) at same)
@@ -174,8 +174,8 @@ again_two then_ bs out same =
 
 again_by :
     (inside : Inside) (b next : ℕ) (bs : List ℕ) (o : Option Inside) → turn_at inside b next ≡ o →
-    blanked (outside (behind inside b)) (blanked (behind inside b) (next ∷ bs))
-    ≡ blanked (behind inside b) (next ∷ bs) →
+    blanked (outside (after_sign inside b)) (blanked (after_sign inside b) (next ∷ bs))
+    ≡ blanked (after_sign inside b) (next ∷ bs) →
     ((then_ : Inside) → blanked (outside then_) (blanked then_ bs) ≡ blanked then_ bs) →
     blanked (outside inside) (blanked inside (b ∷ next ∷ bs)) ≡ blanked inside (b ∷ next ∷ bs)
 again_by inside b next bs None is one two = rw is (again_one inside b next bs is one)
@@ -194,7 +194,7 @@ pub blanked_again :
 blanked_again inside [] = refl
 blanked_again inside (b ∷ []) = last_again inside b
 blanked_again inside (b ∷ next ∷ bs) =
-    again_by inside b next bs (turn_at inside b next) refl (blanked_again (behind inside b) (next ∷ bs))
+    again_by inside b next bs (turn_at inside b next) refl (blanked_again (after_sign inside b) (next ∷ bs))
     (λ then_. blanked_again then_ bs)
 
 -- so the text reads as with its comments

@@ -42,7 +42,7 @@ line_law words rest all =
     let two : length words + 2 ≡ suc (suc (length words)) = omega arith in
     rw two (ap (λ xs. 32 ∷ 32 ∷ xs) (line_words words rest all))
 
--- what stands first in a comment's words, or behind them
+-- what stands first in a comment's words, or after them
 next_open :
     (b : ℕ) (words rest : List ℕ) → (b == 42 && get_or words 0 0 == 47) ≡ false →
     (b == 42 && get_or (words ++ 42 ∷ 47 ∷ rest) 0 0 == 47) ≡ false

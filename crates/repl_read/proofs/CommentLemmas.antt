@@ -2,7 +2,7 @@
 use Rattle.std.proofs.Common.{◌≡◌, ℕ, ◌∙◌, refl, List, [], ◌∷◌, ◌++◌, get_or, Option, None, Some, append_assoc}
 use Rattle.std.specs.Option.{option_map, option_map_or}
 use Rattle.repl_read.specs.declared.comments.Inside.{Inside}
-use Rattle.repl_read.specs.Comments.{turn_at, behind, seen, marks, blanked}
+use Rattle.repl_read.specs.Comments.{turn_at, after_sign, seen, marks, blanked}
 use Rattle.repl_read.specs.Inner.Turns.{turn}
 
 -- what follows a turn, with the rest of the text at hand
@@ -20,10 +20,10 @@ by_turn bs plain (Some then_) = refl
 pub blanked_first :
     (inside : Inside) (b : ℕ) (more : List ℕ) →
     blanked inside (b ∷ more)
-    ≡ option_map_or turned (turn inside b more) (seen inside b (get_or more 0 0) ∷ blanked (behind inside b) more)
+    ≡ option_map_or turned (turn inside b more) (seen inside b (get_or more 0 0) ∷ blanked (after_sign inside b) more)
 blanked_first inside b [] = refl
 blanked_first inside b (next ∷ bs) =
-    by_turn bs (seen inside b next ∷ blanked (behind inside b) (next ∷ bs)) (turn_at inside b next)
+    by_turn bs (seen inside b next ∷ blanked (after_sign inside b) (next ∷ bs)) (turn_at inside b next)
 
 pub blanked_turn :
     (inside then_ : Inside) (front : List ℕ) (b : ℕ) (more rest whole : List ℕ) →
@@ -35,7 +35,7 @@ blanked_turn inside then_ front b more rest whole turns read =
 pub blanked_one :
     (inside : Inside) (front : List ℕ) (b : ℕ) (more whole : List ℕ) →
     turn inside b more ≡ None → front ++ blanked inside (b ∷ more) ≡ whole →
-    (front ++ seen inside b (get_or more 0 0) ∷ []) ++ blanked (behind inside b) more ≡ whole
+    (front ++ seen inside b (get_or more 0 0) ∷ []) ++ blanked (after_sign inside b) more ≡ whole
 blanked_one inside front b more whole stays read =
-    append_assoc front (seen inside b (get_or more 0 0) ∷ []) (blanked (behind inside b) more)
+    append_assoc front (seen inside b (get_or more 0 0) ∷ []) (blanked (after_sign inside b) more)
     ∙ rw (blanked_first inside b more, stays) at read

@@ -1,18 +1,15 @@
 -- Lines to entries, line by line.
 use Rattle.std.proofs.Common.{◌≡◌, ℕ, ◌+◌, ◌<◌, ◌∙◌, refl, sym, ap, List, [], ◌∷◌, ◌++◌, length, drop, Option, None}
 use Rattle.std.proofs.Common.{Some, Result, Ok, Err, append_assoc, arith}
-use Rattle.std.specs.Prelude.{option_to_list}
 use Rattle.std.proofs.lemmas.List.{append-nil, drop-drop, length-drop}
 use Rattle.repl_read.specs.declared.entry.Entry.{Entry}
 use Rattle.repl_read.specs.declared.entry.Head.{Head}
 use Rattle.repl_read.specs.declared.entry.Item.{Item}
-use Rattle.repl_read.specs.declared.fault.PlatFault.{PlatFault}
-use Rattle.repl_read.specs.declared.fault.PlatFault.TheVariants.{At, Memory}
 use Rattle.repl_read.specs.declared.lines.Said.{Said}
 use Rattle.repl_read.specs.declared.lines.Stand.{Stand}
 use Rattle.repl_read.specs.declared.tokens.TokenLine.{TokenLine}
-use Rattle.repl_read.specs.Platform.{◌>>=◌, LineFault, Rest, put, items_at, read_lines, Tells}
-use Rattle.repl_read.specs.Inner.Entries.{TellsPart, said_from, done_by, begun_by, extended_by}
+use Rattle.repl_read.specs.Platform.{◌>>=◌, LineFault, Rest, put, items_at, read_lines}
+use Rattle.repl_read.specs.Inner.Entries.{said_from, done_by, begun_by, extended_by}
 
 -- entries that are done, one that was begun, and what the other lines say
 abbrev pub finish : List Entry → Option Entry → Result Rest LineFault → Result (List Entry) LineFault
@@ -24,12 +21,6 @@ pub finish_fault :
     (done : List Entry) (begun : Option Entry) (fault : LineFault) → finish done begun (Err fault) ≡ Err fault
 finish_fault done None fault = refl
 finish_fault done (Some e) fault = refl
-
--- no line is left
-pub finish_end :
-    (done : List Entry) (begun : Option Entry) → finish done begun (Ok ([], [])) ≡ Ok (done ++ option_to_list begun)
-finish_end done None = refl
-finish_end done (Some e) = ap (λ items. Ok (done ++ record e { items = items } ∷ [])) (append-nil e.items)
 
 -- a line more
 finish_more :
@@ -87,10 +78,3 @@ line_fault lines i stand fault done begun whole inside is read =
     let some : 0 < length (drop i lines) = omega (arith, length-drop i lines) in
     sym read
     ∙ (ap (finish done begun) (read_fault stand (i + 1) (drop i lines) fault some is) ∙ finish_fault done begun fault)
-
--- a fault of a part is the fault of the whole
-pub tells_fault :
-    {X : Type 0} (fault : PlatFault) (part : Result X LineFault) (whole : Result (List Entry) LineFault) →
-    TellsPart (Err fault) part → ((fault : LineFault) → part ≡ Err fault → whole ≡ Err fault) → Tells (Err fault) whole
-tells_fault Memory part whole given same = tt
-tells_fault (At file line cause) part whole given same = (given.0, same (line, cause) given.1)

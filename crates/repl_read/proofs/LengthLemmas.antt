@@ -9,7 +9,7 @@ use Rattle.std.proofs.lemmas.List.Sums.{count_by-le-length}
 use Rattle.std.proofs.lemmas.List.Splits.{length-slice_split}
 use Rattle.repl_read.specs.declared.comments.Inside.{Inside}
 use Rattle.repl_read.specs.declared.comments.Inside.TheVariants.{Nothing, Words, Line, Block}
-use Rattle.repl_read.specs.Comments.{turn_at, behind, seen, closes, marks, blanked}
+use Rattle.repl_read.specs.Comments.{turn_at, after_sign, seen, closes, marks, blanked}
 use Rattle.repl_read.specs.Platform.{token_lines}
 use Rattle.repl_read.specs.Tokens.{token_line}
 
@@ -51,8 +51,8 @@ length-blanked : (inside : Inside) (text : List ℕ) → length (blanked inside 
 length-blanked inside [] = refl
 length-blanked inside (b ∷ []) = refl
 length-blanked inside (b ∷ next ∷ bs) =
-    by_turn-length (turn_at inside b next) (seen inside b next) (blanked (behind inside b) (next ∷ bs)) bs
-    (λ then_. blanked then_ bs) (length bs) (length-blanked (behind inside b) (next ∷ bs))
+    by_turn-length (turn_at inside b next) (seen inside b next) (blanked (after_sign inside b) (next ∷ bs)) bs
+    (λ then_. blanked then_ bs) (length bs) (length-blanked (after_sign inside b) (next ∷ bs))
     (λ then_. length-blanked then_ bs)
 
 pub lines_few : (text : List ℕ) → length text ≤ 2 ^ 24 → length (token_lines text) ≤ 2 ^ 24 + 1

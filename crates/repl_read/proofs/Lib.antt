@@ -2,7 +2,6 @@
 pub mod BlankLemmas
 pub mod CommentLaws
 pub mod CommentLemmas
-pub mod CutLemmas
 pub mod EntryLemmas
 pub mod FaultLemmas
 pub mod LengthLemmas

@@ -2,7 +2,7 @@
 use Rattle.std.proofs.Common.{◌≡◌, ℕ, ◌+◌, ◌<◌, ◌==◌, ◌∙◌, true, false, refl, sym, ap, List, [], ◌∷◌, ◌++◌, length}
 use Rattle.std.proofs.Common.{get_or, map, filter, drop, Result, Ok, Err, append_assoc, arith}
 use Rattle.std.proofs.lemmas.Bool.Decides.{nat_tests}
-use Rattle.std.proofs.lemmas.List.{drop_more, append-nil}
+use Rattle.std.proofs.lemmas.List.{drop_more}
 use Rattle.repl_read.specs.declared.fault.Fault.{Fault}
 use Rattle.repl_read.specs.declared.fault.Fault.TheVariants.{Cause, Memory}
 use Rattle.repl_read.specs.declared.fault.ReadCause.{ReadCause}
@@ -18,10 +18,6 @@ abbrev pub onto : {Y : Type 0} → List Y → Result (List Y) ReadCause → Resu
 onto done (Ok more) = Ok (done ++ more)
 onto done (Err cause) = Err cause
 
-pub onto_none : {Y : Type 0} (r : Result (List Y) ReadCause) → onto [] r ≡ r
-onto_none (Ok more) = refl
-onto_none (Err cause) = refl
-
 onto_more :
     {Y : Type 0} (done : List Y) (y : Y) (r : Result (List Y) ReadCause) →
     onto done (r >>= λ ys. Ok (y ∷ ys)) ≡ onto (done ++ y ∷ []) r
@@ -33,15 +29,6 @@ pub all_more :
     {X Y : Type 0} (f : X → Result Y ReadCause) (x : X) (xs : List X) (y : Y) (done : List Y) →
     f x ≡ Ok y → onto done (all_of f (x ∷ xs)) ≡ onto (done ++ y ∷ []) (all_of f xs)
 all_more f x xs y done is = rw is (onto_more done y (all_of f xs))
-
--- a part with a fault
-pub all_fault :
-    {X Y : Type 0} (f : X → Result Y ReadCause) (x : X) (xs : List X) (cause : ReadCause) (done : List Y) →
-    f x ≡ Err cause → onto done (all_of f (x ∷ xs)) ≡ Err cause
-all_fault f x xs cause done is = rw is refl
-
-pub all_read : {Y : Type 0} (done : List Y) → onto done (Ok []) ≡ Ok done
-all_read done = ap Ok (append-nil done)
 
 -- a fault of a part is a fault of the whole
 pub gives_fault :

@@ -12,7 +12,7 @@ use Rattle.std.proofs.lemmas.List.Folds.{list_all-append, list_all_at}
 use Rattle.std.proofs.lemmas.List.Splits.{length-slice_split}
 use Rattle.repl_read.specs.declared.comments.Inside.{Inside}
 use Rattle.repl_read.specs.declared.comments.Inside.TheVariants.{Nothing, Words, Line, Block}
-use Rattle.repl_read.specs.Comments.{turn_at, behind, ends_line, seen, closes, marks, blanked}
+use Rattle.repl_read.specs.Comments.{turn_at, after_sign, ends_line, seen, closes, marks, blanked}
 use Rattle.repl_read.specs.Laws.{is_no_return, with_returns}
 use Rattle.repl_read.specs.Platform.{platform, entries_of}
 use Rattle.repl_read.specs.Tokens.{token_line}
@@ -22,7 +22,7 @@ use Rattle.repl_read.proofs.Utf8Lemmas.{neither, never}
 
 -- ---- lines
 
--- each part but the last, with a carriage return behind it
+-- each part but the last, with a carriage return after it
 abbrev returned : List (List ℕ) → List (List ℕ)
 returned [] = []
 returned (x ∷ []) = x ∷ []
@@ -164,14 +164,14 @@ turn_no_feed inside b next then_ is =
     ]
 
 -- a line feed stays, whatever it stands in, and a carriage return before it
-feed_blanked : (inside : Inside) (bs : List ℕ) → blanked inside (10 ∷ bs) ≡ 10 ∷ blanked (behind inside 10) bs
+feed_blanked : (inside : Inside) (bs : List ℕ) → blanked inside (10 ∷ bs) ≡ 10 ∷ blanked (after_sign inside 10) bs
 feed_blanked Nothing bs = blanked_first Nothing 10 bs ∙ rw (feed_turn Nothing bs) refl
 feed_blanked Words bs = blanked_first Words 10 bs ∙ rw (feed_turn Words bs) refl
 feed_blanked Line bs = blanked_first Line 10 bs ∙ rw (feed_turn Line bs) refl
 feed_blanked Block bs = blanked_first Block 10 bs ∙ rw (feed_turn Block bs) refl
 
 return_blanked :
-    (inside : Inside) (bs : List ℕ) → blanked inside (13 ∷ 10 ∷ bs) ≡ 13 ∷ 10 ∷ blanked (behind inside 10) bs
+    (inside : Inside) (bs : List ℕ) → blanked inside (13 ∷ 10 ∷ bs) ≡ 13 ∷ 10 ∷ blanked (after_sign inside 10) bs
 return_blanked Nothing bs = ap (λ xs. 13 ∷ xs) (feed_blanked Nothing bs)
 return_blanked Words bs = ap (λ xs. 13 ∷ xs) (feed_blanked Words bs)
 return_blanked Line bs = ap (λ xs. 13 ∷ xs) (feed_blanked Line bs)
@@ -220,7 +220,7 @@ no_return-eqb b here = grind (arith, nat_tests)
 returns_by :
     (inside : Inside) (b next : ℕ) (bs : List ℕ) (o : Option Inside) → turn_at inside b next ≡ o →
     (b == 10) ≡ false → (b == 13) ≡ false →
-    blanked (behind inside b) (with_returns (next ∷ bs)) ≡ with_returns (blanked (behind inside b) (next ∷ bs)) →
+    blanked (after_sign inside b) (with_returns (next ∷ bs)) ≡ with_returns (blanked (after_sign inside b) (next ∷ bs)) →
     ((then_ : Inside) → blanked then_ (with_returns bs) ≡ with_returns (blanked then_ bs)) →
     blanked inside (b ∷ with_returns (next ∷ bs)) ≡ with_returns (blanked inside (b ∷ next ∷ bs))
 returns_by inside b next bs None is feed return_ one two =
@@ -254,14 +254,14 @@ blanked_returns inside (b ∷ []) all = last_returns inside b (no_return-eqb b (
 blanked_returns inside (b ∷ next ∷ bs) all =
     let both = and_parts (is_no_return b) (no_returns (next ∷ bs)) all in
     let rest = and_parts (is_no_return next) (no_returns bs) both.1 in
-    let one = blanked_returns (behind inside b) (next ∷ bs) both.1 in
+    let one = blanked_returns (after_sign inside b) (next ∷ bs) both.1 in
     let two : (then_ : Inside) → blanked then_ (with_returns bs) ≡ with_returns (blanked then_ bs) =
     λ then_. blanked_returns then_ bs rest.1 in
     elim (eqb_tells b 10) [
       | inl feed ↦
           let same :
-          blanked (behind inside 10) (with_returns (next ∷ bs))
-          ≡ with_returns (blanked (behind inside 10) (next ∷ bs)) =
+          blanked (after_sign inside 10) (with_returns (next ∷ bs))
+          ≡ with_returns (blanked (after_sign inside 10) (next ∷ bs)) =
           rw feed.1 at one in
           rw feed.1
           (return_blanked inside (with_returns (next ∷ bs))
@@ -311,7 +311,7 @@ blanked_none inside (b ∷ next ∷ bs) all =
     let both = and_parts (is_no_return b) (no_returns (next ∷ bs)) all in
     let rest = and_parts (is_no_return next) (no_returns bs) both.1 in
     none_by (turn_at inside b next) bs _
-    (rw (seen_none inside b next both.0) (blanked_none (behind inside b) (next ∷ bs) both.1))
+    (rw (seen_none inside b next both.0) (blanked_none (after_sign inside b) (next ∷ bs) both.1))
     (λ then_. blanked_none then_ bs rest.1)
 
 pub platform_returns : (text : List ℕ) → no_returns text ≡ true → platform (with_returns text) ≡ platform text

@@ -30,7 +30,7 @@ begun : (b : ℕ) (ts : List Token) → glue b false ts ≡ Word (b ∷ []) ∷ 
 begun b [] = refl
 begun b (t ∷ ts) = search rules
 
--- a word and what stands behind it
+-- a word and what stands after it
 pub word_tokens :
     (b : ℕ) (word rest : List ℕ) → list_all is_word_byte (b ∷ word) ≡ true → is_word_byte (get_or rest 0 0) ≡ false →
     tokens_of false ((b ∷ word) ++ rest) ≡ Word (b ∷ word) ∷ tokens_of false rest
@@ -43,7 +43,7 @@ word_tokens b (c ∷ word) rest all ends =
     ∙ (ap (λ joined. glue b joined (tokens_of false ((c ∷ word) ++ rest))) next
     ∙ ap (glue b true) (word_tokens c word rest both.1 ends))
 
--- a string and what stands behind it
+-- a string and what stands after it
 pub string_tokens :
     (text rest : List ℕ) → list_all is_no_quote text ≡ true →
     tokens_of true (text ++ quote ∷ rest) ≡ Quoted text ∷ tokens_of false rest
@@ -83,7 +83,7 @@ string_cut es n inside all ends =
 word_ascii : (b : ℕ) → is_word_byte b ≡ true → b < 128
 word_ascii b word = grind (arith, nat_tests)
 
--- a line may be cut behind a word
+-- a line may be cut after a word
 pub word_end :
     (line : List ℕ) (start n : ℕ) → IsUtf8 line → start < length line → is_word_byte (get_or line start 0) ≡ true →
     n ≤ length (drop start line) → list_all is_word_byte (take n (drop start line)) ≡ true →
@@ -154,7 +154,7 @@ string_step line words start n inside string fits all ends is =
       within = omega (arith, length-drop (start + 1) line);
     }
 
--- a line may be cut behind a quote, and before one
+-- a line may be cut after a quote, and before one
 pub quote_end :
     (line : List ℕ) (start : ℕ) → IsUtf8 line → start < length line → get_or line start 0 ≡ quote →
     IsCharBoundary line (start + 1)

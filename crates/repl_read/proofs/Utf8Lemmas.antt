@@ -11,7 +11,7 @@ use Rattle.std.proofs.lemmas.Str.Ascii.{IsAscii-cons, IsAscii-nil}
 use lib.Utf8.{encode, encodes, scalar, scalars}
 use Rattle.repl_read.specs.declared.comments.Inside.{Inside}
 use Rattle.repl_read.specs.declared.comments.Inside.TheVariants.{Nothing, Words, Line, Block}
-use Rattle.repl_read.specs.Comments.{turn_at, behind, ends_line, seen, closes, marks, blanked}
+use Rattle.repl_read.specs.Comments.{turn_at, after_sign, ends_line, seen, closes, marks, blanked}
 use Rattle.repl_read.specs.Inner.Turns.{turn}
 use Rattle.repl_read.proofs.CommentLemmas.{blanked_first}
 
@@ -44,11 +44,11 @@ turn_high : (inside : Inside) (b : ℕ) (more : List ℕ) → 128 ≤ b → turn
 turn_high inside b [] high = refl
 turn_high inside b (next ∷ more) high = rw (turn_at_high inside b next high) refl
 
-behind_high : (inside : Inside) (b : ℕ) → 128 ≤ b → behind inside b ≡ inside
-behind_high Nothing b high = rw (ne_eqb b 34 (omega arith)) refl
-behind_high Words b high = rw (ne_eqb b 34 (omega arith), ne_eqb b 10 (omega arith)) refl
-behind_high Line b high = rw (ne_eqb b 10 (omega arith)) refl
-behind_high Block b high = refl
+after_sign_high : (inside : Inside) (b : ℕ) → 128 ≤ b → after_sign inside b ≡ inside
+after_sign_high Nothing b high = rw (ne_eqb b 34 (omega arith)) refl
+after_sign_high Words b high = rw (ne_eqb b 34 (omega arith), ne_eqb b 10 (omega arith)) refl
+after_sign_high Line b high = rw (ne_eqb b 10 (omega arith)) refl
+after_sign_high Block b high = refl
 
 -- what is seen of a byte beyond ASCII
 abbrev seen_high : Inside → ℕ → ℕ
@@ -72,7 +72,7 @@ blanked_high inside (h ∷ hs) rest high =
     blanked_first inside h (hs ++ rest)
     ∙ rw (
       turn_high inside h (hs ++ rest) high.0,
-      behind_high inside h high.0,
+      after_sign_high inside h high.0,
       seen-high inside h (get_or (hs ++ rest) 0 0) high.0,
     )
     (ap (λ xs. seen_high inside h ∷ xs) (blanked_high inside hs rest high.1))
@@ -173,14 +173,14 @@ kept_low inside c cs low took one two =
     elim took [
       | inl alone ↦
           let next = get_or (encodes cs) 0 0 in
-          let here : blanked inside (encodes (c ∷ cs)) ≡ seen inside c next ∷ blanked (behind inside c) (encodes cs) =
+          let here : blanked inside (encodes (c ∷ cs)) ≡ seen inside c next ∷ blanked (after_sign inside c) (encodes cs) =
           rw (encode_ascii c low) (blanked_first inside c (encodes cs) ∙ rw alone refl) in
           let first =
           IsUtf8-from_ascii (seen inside c next ∷ [])
           (IsAscii-cons (seen inside c next) [] (seen_low inside c next low) IsAscii-nil) in
           rw here
-          (IsUtf8-append (seen inside c next ∷ []) (blanked (behind inside c) (encodes cs)) first
-          (one (behind inside c)))
+          (IsUtf8-append (seen inside c next ∷ []) (blanked (after_sign inside c) (encodes cs)) first
+          (one (after_sign inside c)))
       | inr both ↦
           let here :
           blanked inside (encodes (c ∷ cs)) ≡ marks both.0 (encodes both.2) ++ blanked both.0 (encodes both.2) =

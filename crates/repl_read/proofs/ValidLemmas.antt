@@ -22,7 +22,7 @@ use Rattle.repl_read.specs.Forms.{◌>>=◌, require, judged, number, all_of}
 use Rattle.repl_read.specs.Heads.{using_of, place_of, head_of}
 use Rattle.repl_read.specs.Items.{word_value, attribute_of, span_of, ended_list, one_span, pins_of, numbered_ends}
 use Rattle.repl_read.specs.Items.{source_of, wire_of, is_filled, item_of, items_of}
-use Rattle.repl_read.specs.Lines.{parted_items, closed_list, list_of, within_line, item_line, behind_brace, plain_head}
+use Rattle.repl_read.specs.Lines.{parted_items, closed_list, list_of, within_line, item_line, after_brace, plain_head}
 use Rattle.repl_read.specs.Lines.{braced_head, using_or, head_line, some_line, said_of}
 use Rattle.lab_num.specs.Numeral.{number_of}
 use Rattle.repl_read.specs.Words.{is_name, is_dotted_name}
@@ -203,7 +203,7 @@ braced_good later front rest =
     (λ head good.
     good_then is_list is_said (list_of rest) _ (list_good rest)
     (λ list items.
-    good_then (λ stand. true) is_said (behind_brace list.ended later) _ (good_any (behind_brace list.ended later))
+    good_then (λ stand. true) is_said (after_brace list.ended later) _ (good_any (after_brace list.ended later))
     (λ stand any. rw (good, items) refl))))
 
 using_good : (o : Option (List ℕ)) (r : Result Said ReadCause) → Good is_said r → Good is_said (using_or o r)

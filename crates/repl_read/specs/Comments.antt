@@ -10,7 +10,7 @@ use Rattle.repl_read.specs.declared.comments.Inside.TheVariants.{Nothing, Words,
 abbrev pub quote : ℕ
 quote = 34
 
--- two signs that begin or end a comment, and what stands behind them
+-- two signs that begin or end a comment, and what stands after them
 abbrev pub turn_at : Inside → ℕ → ℕ → Option Inside
 turn_at Nothing b next =
     if b == byte "/" && next == byte "/" then Some Line
@@ -20,12 +20,12 @@ turn_at Words b next = None
 turn_at Line b next = None
 turn_at Block b next = if b == byte "*" && next == byte "/" then Some Nothing else None
 
--- what stands behind any other sign: a string and a line comment end with their line
-abbrev pub behind : Inside → ℕ → Inside
-behind Nothing b = if b == quote then Words else Nothing
-behind Words b = if b == quote || b == byte "\n" then Nothing else Words
-behind Line b = if b == byte "\n" then Nothing else Line
-behind Block b = Block
+-- what stands after any other sign: a string and a line comment end with their line
+abbrev pub after_sign : Inside → ℕ → Inside
+after_sign Nothing b = if b == quote then Words else Nothing
+after_sign Words b = if b == quote || b == byte "\n" then Nothing else Words
+after_sign Line b = if b == byte "\n" then Nothing else Line
+after_sign Block b = Block
 
 -- a line's end: a line feed, or a carriage return directly before one
 abbrev pub ends_line : ℕ → ℕ → Bool
@@ -54,4 +54,4 @@ blanked inside [] = []
 blanked inside (b ∷ []) = seen inside b 0 ∷ []
 blanked inside (b ∷ next ∷ bs) =
     option_map_or (λ then_. marks then_ bs ++ blanked then_ bs) (turn_at inside b next)
-    (seen inside b next ∷ blanked (behind inside b) (next ∷ bs))
+    (seen inside b next ∷ blanked (after_sign inside b) (next ∷ bs))

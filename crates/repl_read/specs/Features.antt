@@ -52,7 +52,7 @@ in_head tokens = in_item tokens || (list_any is_at tokens && not (has_type token
 abbrev pub in_parts : List Token → Bool
 in_parts tokens = list_any in_item (parts mark.Semicolon tokens)
 
--- in what stands behind `{`, or on a further line between braces: in some item, or behind the `}`
+-- in what stands after `{`, or on a further line between braces: in some item, or after the `}`
 abbrev pub in_list : List Token → Bool
 in_list tokens =
     with_cut (cut mark.CloseBrace tokens) (in_parts tokens) (λ inner rest. in_parts inner || in_item rest)

@@ -19,7 +19,7 @@ abbrev pub using_of : List Token → Option (List ℕ)
 using_of (Word word ∷ Quoted file ∷ []) = if bytes_eq word (codes "using") then Some file else None
 using_of other = None
 
--- where an entry is registered, by what stands behind its type
+-- where an entry is registered, by what stands after its type
 abbrev pub place_of : List Token → Result Place ReadCause
 place_of [] = Ok Absent
 place_of (At ∷ Word word ∷ []) = do

@@ -61,12 +61,12 @@ span_of other = Err Form
 abbrev pub spans_of : List (List Token) → Result (List Span) ReadCause
 spans_of parts = all_of span_of parts
 
--- a list ends at its first `]`, behind which nothing stands
+-- a list ends at its first `]`, after which nothing stands
 abbrev pub ended_list : List Token → List Token → Result (List Span) ReadCause
 ended_list inner [] = spans_of (parts mark.Comma inner)
 ended_list inner (t ∷ ts) = Err Form
 
--- what stands behind `[`: numbers and ranges, parted by commas
+-- what stands after `[`: numbers and ranges, parted by commas
 abbrev pub bracketed : List Token → Result (List Span) ReadCause
 bracketed tokens = with_cut (cut mark.EndList tokens) (Err Form) ended_list
 
@@ -93,7 +93,7 @@ source_of (Word word ∷ []) =
     if bytes_eq word (codes "IRQ") then Ok Irq else numbered_ends (Word word ∷ [])
 source_of other = numbered_ends other
 
--- what stands before and behind `->`
+-- what stands before and after `->`
 abbrev pub wire_of : List Token → List Token → Result ItemWhat ReadCause
 wire_of front (Word to ∷ At ∷ rest) = do
   from ← source_of front

@@ -32,12 +32,12 @@ parted_items tokens ended = do
   items ← items_of (parts mark.Semicolon tokens)
   Ok (record { items = items; ended = ended })
 
--- what stands before `}`, behind which nothing may stand
+-- what stands before `}`, after which nothing may stand
 abbrev pub closed_list : List Token → List Token → Result Listed ReadCause
 closed_list inner [] = parted_items inner true
 closed_list inner (t ∷ ts) = Err Form
 
--- the items of what stands behind `{`, or on a further line between braces
+-- the items of what stands after `{`, or on a further line between braces
 abbrev pub list_of : List Token → Result Listed ReadCause
 list_of tokens = with_cut (cut mark.CloseBrace tokens) (parted_items tokens false) closed_list
 
@@ -54,11 +54,11 @@ item_line Under tokens = judged (in_item tokens) (do
   Ok (record { head = None; items = item ∷ []; next = Under }))
 item_line other tokens = judged (in_item tokens) (Err Form)
 
--- where the lines behind a `{` stand, which must be closed on this line or on a later one
-abbrev pub behind_brace : Bool → Bool → Result Stand ReadCause
-behind_brace true later = Ok Apart
-behind_brace false true = Ok Within
-behind_brace false false = Err Form
+-- where the lines after a `{` stand, which must be closed on this line or on a later one
+abbrev pub after_brace : Bool → Bool → Result Stand ReadCause
+after_brace true later = Ok Apart
+after_brace false true = Ok Within
+after_brace false false = Err Form
 
 -- a head alone
 abbrev pub plain_head : List Token → Result Said ReadCause
@@ -71,7 +71,7 @@ abbrev pub braced_head : Bool → List Token → List Token → Result Said Read
 braced_head later front rest = judged (in_head front || in_list rest) (do
   head ← head_of front
   list ← list_of rest
-  stand ← behind_brace list.ended later
+  stand ← after_brace list.ended later
   Ok (record { head = Some head; items = list.items; next = stand }))
 
 abbrev pub using_or : Option (List ℕ) → Result Said ReadCause → Result Said ReadCause

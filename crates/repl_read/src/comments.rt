@@ -2,7 +2,7 @@
 ghost use Rattle.std.specs.Prelude.{◌≡◌, IfOk, slice_index};
 ghost use Rattle.std.specs.Option.{option_map};
 ghost use Rattle.std.specs.String.{string_bytes};
-ghost use Rattle.repl_read.specs.Comments.{turn_at, behind, ends_line, seen, closes, marks, blanked};
+ghost use Rattle.repl_read.specs.Comments.{turn_at, after_sign, ends_line, seen, closes, marks, blanked};
 ghost use Rattle.repl_read.specs.Inner.Turns.{turn};
 
 use std::alloc::{AllocError, Global};
@@ -19,7 +19,7 @@ pub(crate) enum Inside {
     Block,
 }
 
-/// What stands behind two signs that begin or end a comment.
+/// What stands after two signs that begin or end a comment.
 fn turn_at(inside: Inside, b: u8, next: u8) -> Option<Inside>
     ensures { result ≡ turn_at inside b next }
 {
@@ -31,9 +31,9 @@ fn turn_at(inside: Inside, b: u8, next: u8) -> Option<Inside>
     }
 }
 
-/// What stands behind any other sign.
-fn behind(inside: Inside, b: u8) -> Inside
-    ensures { result ≡ behind inside b }
+/// What stands after any other sign.
+fn after_sign(inside: Inside, b: u8) -> Inside
+    ensures { result ≡ after_sign inside b }
 {
     match (inside, b) {
         (Inside::Nothing, b'"') => Inside::Words,
@@ -68,7 +68,7 @@ fn first_byte(bytes: &[u8]) -> u8
     }
 }
 
-/// What stands behind two signs that begin or end a comment, and the rest of the text.
+/// What stands after two signs that begin or end a comment, and the rest of the text.
 fn turn(inside: Inside, b: u8, more: &[u8]) -> Option<(Inside, &[u8])>
     ensures { option_map (λ x. (x.0, x.1.now)) result ≡ turn inside b more.now }
 {
@@ -117,7 +117,7 @@ fn blanked(alloc: Global, text: &[u8]) -> Result<Vec<u8>, AllocError>
             }
             None => {
                 made.push(seen(inside, *b, first_byte(more)))?;
-                inside = behind(inside, *b);
+                inside = after_sign(inside, *b);
                 rest = more;
             }
         }

@@ -2,7 +2,7 @@
 ghost use Rattle.std.specs.Prelude.{◌≡◌};
 ghost use Rattle.std.specs.List.{list_any};
 ghost use Rattle.repl_read.specs.Features.{is_feature_word, is_feature, is_section_word, begins_section, in_item};
-ghost use Rattle.repl_read.specs.Features.{begins_with_word, has_type, is_at, in_head, in_parts, in_list};
+ghost use Rattle.repl_read.specs.Features.{has_type, is_at, in_head, in_parts, in_list};
 ghost use Rattle.repl_read.specs.Cuts.{is_mark};
 
 use crate::cuts::{Mark, cut, is_mark};
@@ -95,7 +95,7 @@ fn is_semicolon(token: &Token) -> bool
     is_mark(Mark::Semicolon, token)
 }
 
-/// Whether a line between braces has a feature that is left out, or what stands behind its `}`.
+/// Whether a line between braces has a feature that is left out, or what stands after its `}`.
 pub(crate) fn in_list(tokens: &[Token]) -> bool
     ensures { result ≡ in_list tokens.now }
 {

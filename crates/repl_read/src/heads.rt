@@ -57,7 +57,7 @@ fn on_bus(word: &Text) -> Result<(), Fault>
     require(word.as_str() == "sysbus")
 }
 
-/// Where an entry is registered, by what stands behind its type.
+/// Where an entry is registered, by what stands after its type.
 fn place_of(tokens: &[Token]) -> Result<Place, Fault>
     ensures { Gives result (place_of tokens.now) }
 {

@@ -84,7 +84,7 @@ fn spans_of(alloc: Global, parts: &[&[Token]]) -> Result<Rows<Span>, Fault>
     Ok(Rows::of(spans))
 }
 
-/// The numbers and ranges of what stands behind `[`.
+/// The numbers and ranges of what stands after `[`.
 fn bracketed(alloc: Global, tokens: &[Token]) -> Result<Rows<Span>, Fault>
     ensures { Gives result (bracketed tokens.now) }
 {
@@ -141,11 +141,11 @@ fn source_of(alloc: Global, tokens: &[Token]) -> Result<Ends, Fault>
     }
 }
 
-/// The wire that the tokens before and behind `->` make.
-fn wire_of(alloc: Global, front: &[Token], behind: &[Token]) -> Result<ItemWhat, Fault>
-    ensures { Gives result (wire_of front.now behind.now) }
+/// The wire that the tokens before and after `->` make.
+fn wire_of(alloc: Global, front: &[Token], back: &[Token]) -> Result<ItemWhat, Fault>
+    ensures { Gives result (wire_of front.now back.now) }
 {
-    match behind {
+    match back {
         [Token::Word(to), Token::At, rest @ ..] => {
             let from = source_of(alloc, front)?;
             require(is_name(to.as_str()))?;
@@ -165,7 +165,7 @@ pub(crate) fn item_of(alloc: Global, tokens: &[Token]) -> Result<ItemWhat, Fault
     ensures { Gives result (item_of tokens.now) }
 {
     match cut(Mark::Arrow, tokens) {
-        Some((front, behind)) => wire_of(alloc, front, behind),
+        Some((front, back)) => wire_of(alloc, front, back),
         None => attribute_of(tokens),
     }
 }

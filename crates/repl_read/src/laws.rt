@@ -1,6 +1,6 @@
 //! The laws of platform text. The functions here do nothing when they run: a proof that needs a
 //! law calls the one whose contract it is.
-ghost use Rattle.std.specs.Prelude.{◌==◌, ◌+◌, ◌++◌, ◌∷◌, [], false, length, codes, IfOk, ◌≡◌, ◌<◌, ℕ, true, List};
+ghost use Rattle.std.specs.Prelude.{◌==◌, ◌+◌, ◌++◌, ◌∷◌, false, length, codes, IfOk, ◌≡◌, ℕ, true, List};
 ghost use Rattle.std.specs.List.{list_all};
 ghost use Rattle.std.specs.Str.{byte};
 ghost use Rattle.repl_read.specs.declared.comments.Inside.TheVariants.{Nothing};

@@ -2,7 +2,7 @@
 ghost use Rattle.std.specs.Prelude.{◌≡◌};
 ghost use Rattle.std.specs.List.{list_any};
 ghost use Rattle.repl_read.specs.Inner.Gives.{Gives};
-ghost use Rattle.repl_read.specs.Lines.{has_close, parted_items, list_of, within_line, item_line, behind_brace};
+ghost use Rattle.repl_read.specs.Lines.{has_close, parted_items, list_of, within_line, item_line, after_brace};
 ghost use Rattle.repl_read.specs.Lines.{plain_head, braced_head, head_line, some_line, said_of};
 ghost use Rattle.repl_read.specs.Forms.{judged};
 
@@ -78,7 +78,7 @@ fn parted_items(alloc: Global, tokens: &[Token], ended: bool) -> Result<Listed, 
     Ok(Listed { items, ended })
 }
 
-/// The items of what stands behind `{`, or on a further line between braces.
+/// The items of what stands after `{`, or on a further line between braces.
 fn list_of(alloc: Global, tokens: &[Token]) -> Result<Listed, Fault>
     ensures { Gives result (list_of tokens.now) }
 {
@@ -123,9 +123,9 @@ fn item_line(alloc: Global, stand: Stand, tokens: &[Token]) -> Result<Said, Faul
     })
 }
 
-/// Where the lines behind a `{` stand.
-fn behind_brace(ended: bool, later: &[TokenLine]) -> Result<Stand, Fault>
-    ensures { Gives result (behind_brace ended (list_any has_close later.now)) }
+/// Where the lines after a `{` stand.
+fn after_brace(ended: bool, later: &[TokenLine]) -> Result<Stand, Fault>
+    ensures { Gives result (after_brace ended (list_any has_close later.now)) }
 {
     if ended {
         return Ok(Stand::Apart);
@@ -162,7 +162,7 @@ fn braced_head(
     judge(in_head(front) || in_list(rest))?;
     let head = head_of(front)?;
     let list = list_of(alloc, rest)?;
-    let next = behind_brace(list.ended, later)?;
+    let next = after_brace(list.ended, later)?;
     Ok(Said {
         head: Some(head),
         items: list.items,

@@ -55,7 +55,7 @@ fn said_at(alloc: Global, stand: Stand, lines: &[TokenLine], i: usize) -> Result
     }
 }
 
-/// Puts the entry that was begun behind the others.
+/// Puts the entry that was begun after the others.
 fn close(entries: &mut Vec<Entry>, begun: Option<Begun>) -> Result<(), PlatFault>
     ensures ok { OnOk result (entries.new.items ≡ entries.old.items ++ closed begun) }
     ensures err { IfErr result (λ fault. fault ≡ PlatFault.Memory) }
@@ -72,7 +72,7 @@ fn close(entries: &mut Vec<Entry>, begun: Option<Begun>) -> Result<(), PlatFault
     Ok(())
 }
 
-/// The entry to which items come behind this line, which may begin it.
+/// The entry to which items come after this line, which may begin it.
 fn begin(
     alloc: Global,
     entries: &mut Vec<Entry>,
@@ -95,7 +95,7 @@ fn begin(
     }))
 }
 
-/// Puts items of line `n` behind the others.
+/// Puts items of line `n` after the others.
 fn add_items(items: &mut Vec<Item>, n: u32, whats: Rows<ItemWhat>) -> Result<(), PlatFault>
     ensures ok { OnOk result (items.new.items ≡ items.old.items ++ items_at n whats) }
     ensures err { IfErr result (λ fault. fault ≡ PlatFault.Memory) }
@@ -151,9 +151,9 @@ fn entries_of(alloc: Global, lines: &[TokenLine]) -> Result<Vec<Entry>, PlatFaul
 /// and its file is not read. `//` to the line's end and `/* */` are blanks outside strings. A line
 /// that is not indented is `using "file"` or a head: `name:`, `name: Type`, `name: Type @ sysbus`,
 /// `name: Type @ sysbus ADDR` or `name: Type @ sysbus <ADDR, +SIZE>`. The items of a head are the
-/// indented lines behind it, or stand between `{` on its line and `}`, parted by `;` or line ends:
+/// indented lines after it, or stand between `{` on its line and `}`, parted by `;` or line ends:
 /// attributes `key: value`, and wires `SRC -> dest@DST`. Numbers are below 2^32, decimal or
-/// hexadecimal behind `0x`.
+/// hexadecimal after `0x`.
 ///
 /// `At` with `Feature` is answered for a line that asks for a feature of that format which is left
 /// out: `|`, the words `local`, `as`, `new` and `none`, the sections `init`, `reset` and `preinit`,

@@ -11,7 +11,7 @@ use Rattle.std.proofs.lemmas.List.Folds.{list_all_at}
 use Rattle.std.proofs.lemmas.List.Splits.{length-slice_split}
 use Rattle.resc_vars.specs.Laws.{is_no_return, with_returns}
 
--- each part but the last, with a carriage return behind it
+-- each part but the last, with a carriage return after it
 abbrev returned : List (List ℕ) → List (List ℕ)
 returned [] = []
 returned (x ∷ []) = x ∷ []

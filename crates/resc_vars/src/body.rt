@@ -8,7 +8,7 @@ use lab_num::{NoMemory, Text};
 use std::alloc::Global;
 use std::marker::Model;
 
-/// The lines of a body, of which the first `taken` are behind.
+/// The lines of a body, of which the first `taken` are done.
 #[derive(Drop, Debug)]
 pub(crate) struct Body {
     source: Source,

@@ -1,6 +1,5 @@
 //! What stands in the lines of a body.
-ghost use Rattle.std.specs.Prelude.{◌≡◌, ◌+◌, ◌≤◌, ◌^◌, ◌∷◌, [], List, false, length, map, position, IfOk, IfSome};
-ghost use Rattle.std.specs.String.{string_len, string_bytes};
+ghost use Rattle.std.specs.Prelude.{◌≡◌, ◌+◌, ◌≤◌, ◌^◌, [], length, map, position, IfOk, IfSome};
 ghost use Rattle.std.specs.Str.Lines.{lines};
 ghost use Rattle.resc_vars.specs.Bodies.{numbered, source_of};
 ghost use Rattle.resc_vars.specs.Form as forms;

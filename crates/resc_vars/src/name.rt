@@ -57,7 +57,7 @@ impl Eq for Name {
 
 impl Hash for Name {
     ghost use Rattle.std.specs.Hash as fed;
-    ghost use Rattle.std.specs.Cmp.Rules.{comparing, hashing};
+    ghost use Rattle.std.specs.Cmp.Rules.{hashing};
     ghost use Rattle.std.proofs.Common.{rules};
 
     ghost hash_input = { λ name. fed.str name };

@@ -1,4 +1,4 @@
--- A text may be cut before and behind a blank.
+-- A text may be cut before and after a blank.
 use Rattle.std.proofs.Common.{◌≡◌, ℕ, ◌+◌, ◌-◌, ◌<◌, ◌≤◌, true, List, length, get_or, subst, inl, inr, arith}
 use Rattle.std.specs.List.{prefix_len, position_or_len}
 use Rattle.std.specs.Str.{IsUtf8, IsCharBoundary}
@@ -11,7 +11,7 @@ use Rattle.rv_asm.specs.Texts.{is_blank}
 blank_ascii : (b : ℕ) → is_blank b ≡ true → b < 128
 blank_ascii b blank = grind (arith, nat_tests)
 
--- behind the blanks at the front
+-- after the blanks at the front
 pub front_boundary :
     (bs : List ℕ) → IsUtf8 bs → 0 < prefix_len is_blank bs → IsCharBoundary bs (prefix_len is_blank bs)
 front_boundary bs text some =
@@ -35,7 +35,7 @@ blank_boundary bs n within blank =
           subst (IsCharBoundary bs) whole (IsCharBoundary-end bs)
     ]
 
--- behind the first word
+-- after the first word
 pub word_boundary : (bs : List ℕ) → IsCharBoundary bs (position_or_len is_blank bs)
 word_boundary bs =
     blank_boundary bs (position_or_len is_blank bs) (prefix_len-le-length _ bs)

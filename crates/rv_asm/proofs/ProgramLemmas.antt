@@ -29,7 +29,7 @@ texts lines = map (λ line. line.now) lines
 abbrev pub line_at : List (Bor (List ℕ)) → ℕ → List ℕ
 line_at lines i = (get_or lines i (record { ref_ptr = (0, 0); now = [] })).now
 
--- the line at i, and those behind it
+-- the line at i, and those after it
 pub next_text :
     (lines : List (Bor (List ℕ))) (i : ℕ) → i < length lines →
     drop i (texts lines) ≡ line_at lines i ∷ drop (i + 1) (texts lines)

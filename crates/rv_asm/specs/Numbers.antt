@@ -13,7 +13,7 @@ abbrev pub numeral : (ℕ → Bool) → ℕ → List ℕ → Option ℕ
 numeral is_digit radix text =
     if not (length text == 0) && list_all is_digit text then Some (digits_value radix text) else None
 
--- decimal digits, or hexadecimal ones behind `0x`
+-- decimal digits, or hexadecimal ones after `0x`
 abbrev pub magnitude_of : List ℕ → Option ℕ
 magnitude_of text =
     if starts_with nat_eq text (codes "0x")

@@ -1,5 +1,5 @@
 //! From a text to its words: once over the lines for the labels, and once for the words.
-ghost use Rattle.std.specs.Prelude.{◌≡◌, ℕ, ◌+◌, ◌*◌, ◌^◌, ◌≤◌, [], ◌∷◌, ◌++◌, List, if◌then◌else◌, Some, None, map};
+ghost use Rattle.std.specs.Prelude.{◌≡◌, ◌+◌, ◌^◌, ◌≤◌, [], ◌∷◌, ◌++◌, Some, None, map};
 ghost use Rattle.std.specs.Prelude.{length, IfOk, IfErr, OnOk};
 ghost use Rattle.rv_asm.specs.Places.{place_in, HasPlaces, with_label};
 ghost use Rattle.rv_asm.specs.Lines.{label_of};
@@ -76,7 +76,7 @@ fn word_at(labels: &HashMap<&str, u32>, n: u32, address: u32, line: &str) -> Res
     }
 }
 
-/// Puts the word behind the others.
+/// Puts the word after the others.
 fn push_word(words: &mut Vec<u32>, word: u32) -> Result<(), AsmFault>
     ensures ok { OnOk result (words.new.items ≡ words.old.items ++ word ∷ []) }
     ensures err { IfErr result (λ fault. fault ≡ AsmFault.Memory) }
@@ -114,7 +114,7 @@ fn words_of(
 /// A line ends at an LF or at the text's end. `#` begins a comment, and blanks are space and tab; a
 /// line with nothing else gives no word. Any other line has a label or not, `label:`, and then one
 /// instruction that `decode` knows, or `.word n`, with its operands parted by commas: registers
-/// `x0` to `x31`; numbers, decimal or hexadecimal behind `0x`, with or without `-`; `n(xR)` at
+/// `x0` to `x31`; numbers, decimal or hexadecimal after `0x`, with or without `-`; `n(xR)` at
 /// loads, stores and `jalr`; a label or an offset in bytes at branches and `jal`; the upper 20 bits
 /// at `lui` and `auipc`; the number of a control and status register between two operands. Fences
 /// stand without operands and have all fields 0.

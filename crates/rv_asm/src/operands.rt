@@ -1,6 +1,6 @@
 //! The word that an instruction's operands give. Operands of another shape give `None`, and a
 //! number outside its field `Some(None)`.
-ghost use Rattle.std.specs.Prelude.{◌≡◌, ◌<◌, ◌≤◌, ◌^◌, IfSome};
+ghost use Rattle.std.specs.Prelude.{◌≡◌, ◌<◌, ◌≤◌, IfSome};
 ghost use Rattle.std.specs.Option.{option_map};
 ghost use Rattle.rv_asm.specs.Operands.{operand_and, register_and, number_in, csr_and, place_of, registers_word};
 ghost use Rattle.rv_asm.specs.Operands.{immediate_word, load_word, store_word, upper_word, csr_word};
@@ -51,7 +51,7 @@ fn csr_and(text: &str) -> Option<(Option<u32>, &str)>
     Some((csr, rest))
 }
 
-/// A number and the register in parentheses behind it.
+/// A number and the register in parentheses after it.
 #[tactic(auto, unfolding(crate::specs::Operands::place_of))]
 fn place_of(text: &str) -> Option<(Option<u32>, u8)>
     ensures value { result ≡ place_of text.now }

@@ -1,11 +1,10 @@
 //! From a word to the instruction that it means.
-ghost use Rattle.std.specs.Prelude.{◌≡◌, ℕ, ◌/◌, ◌%◌, ◌^◌, ◌<◌, ◌≤◌, ◌↔◌, ◌≢◌, Some, IfSome, IsTrue, Contains};
+ghost use Rattle.std.specs.Prelude.{◌≡◌, ℕ, ◌^◌, ◌<◌, ◌≤◌, ◌↔◌, Some, IfSome, Contains};
 ghost use Rattle.std.specs.Prelude.{count_by};
 ghost use Rattle.std.specs.Option.{option_map};
 ghost use Rattle.rv_decode.specs.Table.{Row, table, matches, matched_row, row_of};
 ghost use Rattle.rv_decode.specs.FixedBits.{fixed_of};
 ghost use Rattle.rv_decode.specs.Means.{means, fields_by, IsInstr, IsValid};
-ghost use Rattle.rv_decode.specs.Inner.ByFields.{op_by};
 
 use crate::immediate::{
     bits, immediate_b, immediate_i, immediate_j, immediate_s, immediate_u, register,

@@ -1,6 +1,6 @@
 //! The parts of a board: memories, devices, the timer and the interrupt controller.
-ghost use Rattle.std.specs.Prelude.{◌≡◌, ◌<◌, ◌&&◌, length, count_by};
-ghost use Rattle.std.specs.List.{list_all, list_any, range_with_len};
+ghost use Rattle.std.specs.Prelude.{◌≡◌, ◌<◌, ◌&&◌};
+ghost use Rattle.std.specs.List.{list_all, range_with_len};
 ghost use Rattle.sys_bus.specs.Part as part_spec;
 ghost use Rattle.sys_bus.specs.declared.region.RegionKind.TheVariants.{Ram, Dev};
 

@@ -1,5 +1,5 @@
 //! The plan of a board.
-ghost use Rattle.std.specs.Prelude.{◌≡◌, ◌↔◌, IsTrue};
+ghost use Rattle.std.specs.Prelude.{◌↔◌, IsTrue};
 
 use crate::limits::{
     are_few_devices, are_few_memories, are_ranges, are_steps, is_frequency, is_plic_size, is_speed,

@@ -1,6 +1,5 @@
 //! The UART as a device.
-ghost use Rattle.std.specs.Prelude.{◌≡◌, ◌%◌, ◌^◌};
-ghost use Rattle.dev_core.specs.Answered.{Answered};
+ghost use Rattle.std.specs.Prelude.{◌≡◌};
 ghost use Rattle.dev_core.specs.Uart.{
   ier_stored,
   iir,

@@ -1,5 +1,5 @@
 //! The memories of a board.
-ghost use Rattle.std.specs.Prelude.{◌≡◌, ◌+◌, ◌<◌, ◌≤◌, ◌%◌, length, take, IsTrue, IfOk, OnOk, OnErr, IfSome};
+ghost use Rattle.std.specs.Prelude.{◌≡◌, ◌+◌, ◌<◌, ◌≤◌, ◌%◌, length, take, IsTrue, IfOk, OnOk, OnErr};
 ghost use Rattle.page_ram.specs.Bytes.{zeros};
 ghost use Rattle.board.specs.Wires.{word_in};
 ghost use Rattle.board.specs.Changes.{in_memory, holds_each, copied};

@@ -237,7 +237,7 @@ const PLIC_ECHO: [u32; 23] = [
     0x3020_0073,
 ];
 
-/// The entry takes a slot, and the byte is sent in the third one behind it.
+/// The entry takes a slot, and the byte is sent in the third one after it.
 const ECHOED: [Step; 14] = [
     Speed(1),
     Run(0, 0, 100),

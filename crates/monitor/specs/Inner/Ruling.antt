@@ -213,7 +213,7 @@ Leaves (Err (Content cause)) old new = new ≡ old
 Leaves (Err Unread) old new = new ≡ old
 Leaves (Err Memory) old new = new.ended ≡ old.ended
 
--- what a step answers at a line behind which the script does not go on
+-- what a step answers at a line after which the script does not go on
 abbrev pub step_of : Place → Stop → Step
 step_of place Quit = step.End
 step_of place (Line cause) = step.Fault (fault_at place cause)

@@ -1,4 +1,4 @@
--- The fault of the segments, behind the tests of the header.
+-- The fault of the segments, after the tests of the header.
 use Rattle.std.proofs.lemmas.Result.{err_from_is_err_and}
 use Rattle.elf_load.proofs.PartLemmas.{parts_fault}
 use Rattle.elf_load.proofs.load.read_elf.Goals as goal

@@ -1,4 +1,4 @@
--- Lines behind the end, from the lemma.
+-- Lines after the end, from the lemma.
 use Rattle.ihex_load.proofs.LawLemmas.{same_image}
 use Rattle.ihex_load.proofs.laws.lines_after_the_end_have_no_meaning.Goals as goal
 

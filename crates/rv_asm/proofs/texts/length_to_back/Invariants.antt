@@ -1,4 +1,4 @@
--- The bytes behind are blanks.
+-- The bytes after are blanks.
 use Rattle.std.proofs.Common.{◌≡◌, ◌+◌, ◌≤◌, ◌<◌, true, length, take, get_or}
 use Rattle.std.specs.List.{suffix_len}
 use Rattle.rv_asm.specs.Texts.{is_blank}

@@ -1,4 +1,4 @@
--- The text is cut behind blanks.
+-- The text is cut after blanks.
 use Rattle.std.proofs.Common.{◌≡◌}
 use Rattle.std.specs.List.{prefix_len}
 use Rattle.rv_asm.specs.Texts.{is_blank}

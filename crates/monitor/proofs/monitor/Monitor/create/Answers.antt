@@ -1,4 +1,4 @@
-use Rattle.std.proofs.Common.{◌≡◌, ◌∙◌, ◌++◌, ℕ, List, length, codes, ap, arith, subst}
+use Rattle.std.proofs.Common.{◌∙◌, ◌++◌, ℕ, List, length, codes, ap, arith, subst}
 use Rattle.std.specs.Fmt.{decimal}
 use Rattle.monitor.specs.Boards.{create_as}
 use Rattle.monitor.specs.Step.{Running}

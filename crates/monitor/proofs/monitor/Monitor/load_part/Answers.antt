@@ -1,6 +1,5 @@
 use Rattle.std.proofs.Common.{◌≡◌, ◌∙◌, ◌+◌, ap, arith, length, refl, sym, Some, true, subst}
 use Rattle.std.specs.Prelude.{IsSome}
-use Rattle.std.specs.Option.{ForSome}
 use Rattle.page_ram.specs.Bytes.{zeros}
 use Rattle.board.specs.Changes.{holds_each, with_bytes}
 use Rattle.board.specs.View.{View}

@@ -1,6 +1,5 @@
 use Rattle.std.proofs.Common.{◌≡◌, ℕ, length, rules, arith, subst, sym, Ok, Err}
 use Rattle.std.proofs.lemmas.Grind.{common_steps}
-use Rattle.lab_io.specs.Held.{Held}
 use Rattle.repl_files.specs.Loaded.{IsLoaded}
 use Rattle.repl_files.specs.Loading.{load}
 use Rattle.monitor.specs.Answer.{Did}

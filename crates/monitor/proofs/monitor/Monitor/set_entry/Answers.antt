@@ -1,4 +1,3 @@
-use Rattle.std.proofs.Common.{◌≡◌, None, Option, Some, refl}
 use Rattle.monitor.specs.Images.{with_entry}
 use Rattle.monitor.proofs.ImageLemmas.{no_entry, unchanged}
 use Rattle.monitor.proofs.monitor.Monitor.set_entry.Goals as goal
