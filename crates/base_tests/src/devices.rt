@@ -4,53 +4,87 @@ use dev_core::{ByteRow, CanState, DevState, Frame, FrameRow, UartState, is_valid
 const BYTES: [u8; 16] = [1, 2, 3, 4, 5, 6, 7, 8, 9, 10, 11, 12, 13, 14, 15, 16];
 
 /// Identifiers, and how many bytes a frame carries or asks for.
-const FRAMES: [(u16, usize); 5] = [(0x000, 0), (0x100, 1), (0x555, 5), (0x7FE, 7), (0x7FF, 8)];
+static FRAMES: [(u16, usize); 5] = [(0x000, 0), (0x100, 1), (0x555, 5), (0x7FE, 7), (0x7FF, 8)];
 
 /// A data frame with the first bytes.
 fn data_frame(id: u16, len: usize) -> Frame {
     Frame::new(id % 2048, &BYTES[..len.min(8)])
 }
 
+/// Whether a data frame shows these.
+fn shows_data(frame: &Frame, id: u16, data: &[u8]) -> bool {
+    frame.id() == id
+        && usize::from(frame.len()) == data.len()
+        && !frame.is_remote()
+        && frame.data() == data
+        && frame.held_size() == 2 + data.len()
+}
+
+/// Whether a remote frame shows these, and takes two bytes.
+fn shows_remote(frame: &Frame, id: u16, len: usize) -> bool {
+    frame.id() == id
+        && usize::from(frame.len()) == len
+        && frame.is_remote()
+        && frame.data().is_empty()
+        && frame.held_size() == 2
+}
+
 #[test]
 fn a_frame_shows_what_it_was_made_of(rt: HostRuntime) {
-    for (id, len) in FRAMES {
+    for row in &FRAMES {
+        let (id, len) = *row;
         let frame = data_frame(id, len);
-        assert_eq!(rt; frame.id(), id);
-        assert_eq!(rt; usize::from(frame.len()), len);
-        assert!(rt; !frame.is_remote());
-        assert_eq!(rt; frame.data(), &BYTES[..len.min(8)]);
-        assert_eq!(rt; frame.held_size(), 2 + frame.data().len());
         let remote = Frame::new_remote(id % 2048, len.min(8) as u8);
-        assert_eq!(rt; remote.id(), id);
-        assert_eq!(rt; usize::from(remote.len()), len);
-        assert!(rt; remote.is_remote());
-        assert!(rt; remote.data().is_empty());
-        assert_eq!(rt; remote.held_size(), 2);
+        assert!(rt; shows_data(&frame, id, &BYTES[..len.min(8)]));
+        assert!(rt; shows_remote(&remote, id, len));
         assert!(rt; frame != remote && remote == remote);
     }
+}
+
+/// Whether a row gives these bytes, first to last.
+fn pops(row: &mut ByteRow, bytes: &[u8]) -> bool {
+    bytes.iter().all(|byte| row.pop_first() == Some(*byte))
+}
+
+/// Whether a row of these bytes gives them back and is empty then.
+fn gives_back(bytes: &[u8]) -> bool {
+    if bytes.len() > 16 {
+        return false;
+    }
+    let mut row = ByteRow::of(bytes);
+    row.items() == bytes
+        && row.len() == bytes.len()
+        && pops(&mut row, bytes)
+        && row.is_empty()
+        && row == ByteRow::new()
+        && row.pop_first().is_none()
+}
+
+/// Whether a row gives these frames, first to last.
+fn pops_frames(row: &mut FrameRow, frames: &[Frame]) -> bool {
+    frames.iter().all(|frame| row.pop_first() == Some(*frame))
+}
+
+/// Whether a row of these three frames gives them back and is empty then.
+fn gives_frames_back(frames: &[Frame; 3]) -> bool {
+    let mut row = FrameRow::of(frames);
+    row.items() == frames.as_slice()
+        && row == row
+        && row != FrameRow::new()
+        && pops_frames(&mut row, frames)
+        && row == FrameRow::new()
+        && row.pop_first().is_none()
 }
 
 #[test]
 fn a_row_keeps_its_items_in_order(rt: HostRuntime) {
     for len in 0..=BYTES.len() {
-        let mut row = ByteRow::of(&BYTES[..len]);
-        assert_eq!(rt; row.items(), &BYTES[..len]);
-        assert_eq!(rt; row.len(), len);
-        for byte in &BYTES[..len] {
-            assert_eq!(rt; row.pop_first(), Some(*byte));
-        }
-        assert!(rt; row.is_empty() && row == ByteRow::new());
-        assert_eq!(rt; row.pop_first(), None);
+        assert!(rt; gives_back(&BYTES[..len]), "{len}");
     }
     let frames = [data_frame(1, 1), data_frame(2, 0), data_frame(1, 1)];
-    let mut row = FrameRow::of(&frames);
-    assert_eq!(rt; row.items(), frames.as_slice());
-    assert!(rt; row == row && row != FrameRow::new());
-    assert!(rt; row != FrameRow::of(&[frames[0], frames[1], data_frame(1, 2)]));
-    for frame in frames {
-        assert_eq!(rt; row.pop_first(), Some(frame));
-    }
-    assert!(rt; row == FrameRow::new() && row.pop_first().is_none());
+    assert!(rt; gives_frames_back(&frames));
+    let others = [frames[0], frames[1], data_frame(1, 2)];
+    assert!(rt; FrameRow::of(&frames) != FrameRow::of(&others));
 }
 
 /// A reset UART, but for interrupt enable, modem control, FIFOs, trigger level and received bytes.

@@ -1,7 +1,34 @@
 //! Files in memory, and real ones.
+ghost use Rattle.std.specs.Prelude.{◌≤◌};
+
 use lab_io::{DiskFiles, Files, MemFiles, ReadAnswer};
-use std::fs;
+use std::alloc::{AllocError, Global};
 use std::test::Fail;
+use std::{fs, rt};
+
+/// Whether a read of at most `limit` bytes answers so and gives these bytes.
+fn reads<F: Files>(
+    alloc: Global,
+    files: &mut F,
+    (name, limit): (&str, usize),
+    answer: ReadAnswer,
+    bytes: &[u8],
+) -> bool {
+    let mut into = Vec::new(alloc);
+    limit <= 30_000 && files.read(name, limit, &mut into) == answer && into.as_slice() == bytes
+}
+
+/// What is asked for and how much of it at most, and the answer with its bytes.
+static IN_MEMORY: [((&str, usize), ReadAnswer, &[u8]); 8] = [
+    (("three", 64), ReadAnswer::Done, b"abc"),
+    (("three", 3), ReadAnswer::Done, b"abc"),
+    (("three", 2), ReadAnswer::TooLarge, b""),
+    (("empty", 0), ReadAnswer::Done, b""),
+    (("absent", 64), ReadAnswer::Failed, b""),
+    (("", 64), ReadAnswer::Failed, b""),
+    (("three", 64), ReadAnswer::Failed, b""),
+    (("three", 64), ReadAnswer::Done, b"abc"),
+];
 
 #[test]
 fn a_read_answers_by_name_limit_and_number(rt: HostRuntime) -> Result<(), Fail> {
@@ -11,52 +38,49 @@ fn a_read_answers_by_name_limit_and_number(rt: HostRuntime) -> Result<(), Fail> 
     files.put("empty", b"")?;
     files.put("three", b"abc")?;
     files.fail_at(6)?;
-    for (name, limit, answer, bytes) in [
-        ("three", 64, ReadAnswer::Done, b"abc".as_slice()),
-        ("three", 3, ReadAnswer::Done, b"abc".as_slice()),
-        ("three", 2, ReadAnswer::TooLarge, b"".as_slice()),
-        ("empty", 0, ReadAnswer::Done, b"".as_slice()),
-        ("absent", 64, ReadAnswer::Failed, b"".as_slice()),
-        ("", 64, ReadAnswer::Failed, b"".as_slice()),
-        ("three", 64, ReadAnswer::Failed, b"".as_slice()),
-        ("three", 64, ReadAnswer::Done, b"abc".as_slice()),
-    ] {
-        let mut into = Vec::new(alloc);
-        assert_eq!(rt;
-            files.read(name, limit, &mut into),
-            answer,
-            "{name} at {limit}"
+    for (asked, answer, bytes) in &IN_MEMORY {
+        assert!(rt;
+            reads(alloc, &mut files, *asked, *answer, bytes),
+            "{asked:?}"
         );
-        assert_eq!(rt; into.as_slice(), bytes, "{name} at {limit}");
     }
     Ok(())
+}
+
+/// 20,000 bytes, of which no two pieces of 251 bytes that lie 256 apart are alike.
+fn varied_bytes(alloc: Global) -> Result<Vec<u8>, AllocError> {
+    (0..20_000_u32).map(|i| (i % 251) as u8).collect(alloc)
+}
+
+/// What is asked for and how much of it at most, and the answer. A folder may be opened, and not be
+/// read.
+static ON_DISK: [((&str, usize), ReadAnswer); 5] = [
+    (("lab_io_real_file", 30_000), ReadAnswer::Done),
+    (("lab_io_real_file", 20_000), ReadAnswer::Done),
+    (("lab_io_real_file", 19_999), ReadAnswer::TooLarge),
+    (("lab_io_no_such_file", 64), ReadAnswer::Failed),
+    ((".", 64), ReadAnswer::Failed),
+];
+
+/// Whether the real files answer as the table says, where the one of that name has these bytes.
+fn disk_reads<R: rt::Files>(rt: &R, alloc: Global, bytes: &[u8]) -> bool {
+    let mut files = DiskFiles::new(rt);
+    ON_DISK.iter().all(|(asked, answer)| {
+        let expected = if *answer == ReadAnswer::Done {
+            bytes
+        } else {
+            &[]
+        };
+        reads(alloc, &mut files, *asked, *answer, expected)
+    })
 }
 
 #[test]
 fn real_files_are_read_whole(rt: HostRuntime) -> Result<(), Fail> {
     let alloc = rt.alloc();
-    // No two pieces of 251 bytes that lie 256 apart are alike.
-    let bytes: Vec<u8> = (0..20_000_u32).map(|i| (i % 251) as u8).collect(alloc)?;
+    let bytes = varied_bytes(alloc)?;
     fs::write(&rt, "lab_io_real_file", bytes.as_slice())?;
-    let mut files = DiskFiles::new(&rt);
-    for (name, limit, answer) in [
-        ("lab_io_real_file", 30_000, ReadAnswer::Done),
-        ("lab_io_real_file", 20_000, ReadAnswer::Done),
-        ("lab_io_real_file", 19_999, ReadAnswer::TooLarge),
-        ("lab_io_no_such_file", 64, ReadAnswer::Failed),
-        // A folder may be opened, and not be read.
-        (".", 64, ReadAnswer::Failed),
-    ] {
-        assert!(rt; limit <= 30_000);
-        let mut into = Vec::new(alloc);
-        assert_eq!(rt;
-            files.read(name, limit, &mut into),
-            answer,
-            "{name} at {limit}"
-        );
-        let is_whole = into == bytes;
-        assert_eq!(rt; is_whole, answer == ReadAnswer::Done, "{name} at {limit}");
-    }
+    assert!(rt; disk_reads(&rt, alloc, &bytes));
     fs::remove_file(&rt, "lab_io_real_file")?;
     Ok(())
 }

@@ -4,10 +4,50 @@ use lab_num::{BoardNo, Member};
 use std::test::Fail;
 use uart_hub::{HubFault, UartHubs};
 
-fn device(board: u8, dev: u8) -> Member {
+/// The numbers of a board and of a device of it.
+type Numbers = (u8, u8);
+
+/// A hub, a device that is connected to it, and the answer.
+type Connection = (u32, Numbers, Result<(), HubFault>);
+
+/// A device, and the other members of its hub.
+type Route = (Numbers, &'static [Numbers]);
+
+fn device((board, dev): Numbers) -> Member {
     Member {
         board: BoardNo(board),
         dev,
+    }
+}
+
+/// Whether these are the devices.
+fn are(members: &[Member], expected: &[Numbers]) -> bool {
+    members.len() == expected.len()
+        && members
+            .iter()
+            .zip(expected)
+            .all(|(member, numbers)| *member == device(*numbers))
+}
+
+static UARTS: [Connection; 6] = [
+    (1, (2, 0), Ok(())),
+    (1, (0, 1), Ok(())),
+    (1, (0, 0), Ok(())),
+    (0, (1, 0), Ok(())),
+    (0, (0, 1), Err(HubFault::Already)),
+    (1, (0, 1), Err(HubFault::Already)),
+];
+
+static UART_ROUTES: [Route; 3] = [((0, 1), &[(2, 0), (0, 0)]), ((1, 0), &[]), ((1, 1), &[])];
+
+fn connects_uart(hubs: &mut UartHubs, (hub, numbers, answer): Connection) -> bool {
+    (hub as usize) < hubs.len() && hubs.connect(hub, device(numbers)) == answer
+}
+
+fn uart_reaches(hubs: &UartHubs, (from, others): Route) -> bool {
+    match hubs.route(device(from)) {
+        Ok(list) => are(&list, others),
+        Err(_) => false,
     }
 }
 
@@ -17,25 +57,39 @@ fn a_member_is_connected_once_and_reaches_the_others(rt: HostRuntime) -> Result<
     let first = hubs.create()?;
     let second = hubs.create()?;
     assert_eq!(rt; (first, second), (0, 1));
-    for (hub, member, answer) in [
-        (1, device(2, 0), Ok(())),
-        (1, device(0, 1), Ok(())),
-        (1, device(0, 0), Ok(())),
-        (0, device(1, 0), Ok(())),
-        (0, device(0, 1), Err(HubFault::Already)),
-        (1, device(0, 1), Err(HubFault::Already)),
-    ] {
-        assert!(rt; (hub as usize) < hubs.len());
-        assert_eq!(rt; hubs.connect(hub, member), answer, "{member:?} at {hub}");
+    for connection in &UARTS {
+        assert!(rt; connects_uart(&mut hubs, *connection), "{connection:?}");
     }
-    for (from, others) in [
-        (device(0, 1), [device(2, 0), device(0, 0)].as_slice()),
-        (device(1, 0), [].as_slice()),
-        (device(1, 1), [].as_slice()),
-    ] {
-        assert_eq!(rt; hubs.route(from)?.as_slice(), others, "from {from:?}");
+    for route in &UART_ROUTES {
+        assert!(rt; uart_reaches(&hubs, *route), "{route:?}");
     }
     Ok(())
+}
+
+static CANS: [Connection; 5] = [
+    (0, (1, 0), Ok(())),
+    (0, (0, 2), Ok(())),
+    (1, (2, 0), Ok(())),
+    (0, (2, 1), Ok(())),
+    (1, (0, 2), Err(HubFault::Already)),
+];
+
+static CAN_ROUTES: [Route; 3] = [((0, 2), &[(1, 0), (2, 1)]), ((2, 0), &[]), ((3, 0), &[])];
+
+fn connects_can(hubs: &mut CanHubs, (hub, numbers, answer): Connection) -> bool {
+    (hub as usize) < hubs.len() && hubs.connect(hub, device(numbers)) == answer
+}
+
+fn can_reaches(hubs: &CanHubs, (from, others): Route) -> bool {
+    match hubs.route(device(from)) {
+        Ok(list) => are(&list, others),
+        Err(_) => false,
+    }
+}
+
+/// Whether these are the members of the first of two hubs.
+fn are_members(hubs: &CanHubs, members: &[Numbers]) -> bool {
+    hubs.len() == 2 && are(hubs.members(0), members)
 }
 
 #[test]
@@ -44,28 +98,13 @@ fn a_frame_goes_to_the_other_members_of_its_hub(rt: HostRuntime) -> Result<(), F
     assert!(rt; hubs.is_empty());
     let bus = hubs.create()?;
     let other = hubs.create()?;
-    assert_eq!(rt; (bus, other, hubs.len()), (0, 1, 2));
-    for (hub, member, answer) in [
-        (0, device(1, 0), Ok(())),
-        (0, device(0, 2), Ok(())),
-        (1, device(2, 0), Ok(())),
-        (0, device(2, 1), Ok(())),
-        (1, device(0, 2), Err(HubFault::Already)),
-    ] {
-        assert!(rt; (hub as usize) < hubs.len());
-        assert_eq!(rt; hubs.connect(hub, member), answer, "{member:?} at {hub}");
+    assert_eq!(rt; (bus, other), (0, 1));
+    for connection in &CANS {
+        assert!(rt; connects_can(&mut hubs, *connection), "{connection:?}");
     }
-    assert!(rt; hubs.len() > 0);
-    assert_eq!(rt;
-        hubs.members(0),
-        [device(1, 0), device(0, 2), device(2, 1)].as_slice()
-    );
-    for (from, others) in [
-        (device(0, 2), [device(1, 0), device(2, 1)].as_slice()),
-        (device(2, 0), [].as_slice()),
-        (device(3, 0), [].as_slice()),
-    ] {
-        assert_eq!(rt; hubs.route(from)?.as_slice(), others, "from {from:?}");
+    assert!(rt; are_members(&hubs, &[(1, 0), (0, 2), (2, 1)]));
+    for route in &CAN_ROUTES {
+        assert!(rt; can_reaches(&hubs, *route), "{route:?}");
     }
     Ok(())
 }

@@ -1,25 +1,28 @@
 //! Outputs in memory, and a terminal.
 use lab_io::{MemSink, OutSink, Sink, WriteFault, write_whole};
+use std::alloc::Global;
 use std::cell::RefCell;
 use std::fmt::Display;
 use std::io;
 use std::test::Fail;
+
+/// Pieces, and the answers to them: the first takes writes 0 and 1, the second none, and the second
+/// write of the third fails.
+static PIECES: [(&[u8], Result<(), WriteFault>); 5] = [
+    (b"abc", Ok(())),
+    (b"", Ok(())),
+    (b"defgh", Err(WriteFault::Unwritten)),
+    (b"i", Err(WriteFault::Unwritten)),
+    (b"jk", Ok(())),
+];
 
 #[test]
 fn pieces_are_written_whole_up_to_a_fault(rt: HostRuntime) -> Result<(), Fail> {
     let mut out = MemSink::new(rt.alloc(), 2);
     out.fail_at(3)?;
     out.fail_at(4)?;
-    for (piece, answer) in [
-        // Writes 0 and 1.
-        (b"abc".as_slice(), Ok(())),
-        (b"".as_slice(), Ok(())),
-        // The second write fails.
-        (b"defgh".as_slice(), Err(WriteFault::Unwritten)),
-        (b"i".as_slice(), Err(WriteFault::Unwritten)),
-        (b"jk".as_slice(), Ok(())),
-    ] {
-        assert_eq!(rt; write_whole(&mut out, piece), answer, "{piece:?}");
+    for (piece, answer) in &PIECES {
+        assert_eq!(rt; write_whole(&mut out, piece), *answer, "{piece:?}");
     }
     assert_eq!(rt; out.bytes(), b"abcdejk".as_slice());
     Ok(())
@@ -61,29 +64,41 @@ impl Print for Terminal {
     }
 }
 
+/// What a terminal takes a write and in all, the answer to a piece of five bytes, and what is taken
+/// of it.
+static TAKEN: [((usize, usize), Result<(), WriteFault>, &[u8]); 5] = [
+    ((9, 9), Ok(()), b"abcde"),
+    ((2, 9), Ok(()), b"abcde"),
+    ((2, 3), Err(WriteFault::Unwritten), b"abc"),
+    ((2, 0), Err(WriteFault::Unwritten), b""),
+    ((0, 9), Err(WriteFault::Unwritten), b""),
+];
+
+/// Whether a terminal answers so, and takes this.
+fn takes(
+    alloc: Global,
+    (most, room): (usize, usize),
+    answer: Result<(), WriteFault>,
+    bytes: &[u8],
+) -> bool {
+    let taken = RefCell::new(Vec::new(alloc));
+    let terminal = Terminal { most, room, taken };
+    let answered = write_whole(&mut OutSink::new(&terminal), b"abcde");
+    match terminal.taken.try_borrow() {
+        Ok(taken) => answered == answer && taken.as_slice() == bytes,
+        Err(_) => false,
+    }
+}
+
 #[test]
-fn the_output_is_told_what_was_taken(rt: HostRuntime) -> Result<(), Fail> {
-    for (most, room, answer, text) in [
-        (9, 9, Ok(()), b"abcde".as_slice()),
-        (2, 9, Ok(()), b"abcde".as_slice()),
-        (2, 3, Err(WriteFault::Unwritten), b"abc".as_slice()),
-        (2, 0, Err(WriteFault::Unwritten), b"".as_slice()),
-        (0, 9, Err(WriteFault::Unwritten), b"".as_slice()),
-    ] {
-        let taken = RefCell::new(Vec::new(rt.alloc()));
-        let terminal = Terminal { most, room, taken };
-        let mut out = OutSink::new(&terminal);
-        assert_eq!(rt; write_whole(&mut out, b"abcde"), answer, "{most} of {room}");
-        assert_eq!(rt;
-            terminal.taken.try_borrow()?.as_slice(),
-            text,
-            "{most} of {room}"
-        );
+fn the_output_is_told_what_was_taken(rt: HostRuntime) {
+    let alloc = rt.alloc();
+    for (terminal, answer, bytes) in &TAKEN {
+        assert!(rt; takes(alloc, *terminal, *answer, bytes), "{terminal:?}");
     }
     // The standard output itself.
     assert_eq!(rt;
         write_whole(&mut OutSink::new(&rt), b"a line of a test\n"),
         Ok(())
     );
-    Ok(())
 }

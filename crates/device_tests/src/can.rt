@@ -2,7 +2,6 @@
 use can_sja1000::Can;
 use dev_core::Taken::{Kept, Overrun, Refused};
 use dev_core::{CanState, DevState, Device, Effect, Frame, FrameRow, Payload, Taken, UartState};
-use std::process::Abort;
 use std::test::Fail;
 
 const BYTES: [u8; 8] = [1, 2, 3, 4, 5, 6, 7, 8];
@@ -33,7 +32,7 @@ fn open(control: u8) -> CanState {
 
 /// A register; in operating mode, what is stored and what a load then gives; the same in reset
 /// mode.
-const REGISTERS: [(u32, u32, u32, u32, u32); 18] = [
+static REGISTERS: [(u32, u32, u32, u32, u32); 18] = [
     (0, 0xFE, 0x1E, 0xFF, 0x1F),
     (1, 0x00, 0xFF, 0x00, 0xFF),
     (2, 0xFF, 0x0C, 0xFF, 0x0C),
@@ -62,22 +61,32 @@ fn reads_back(control: u8, reg: u32, value: u32) -> u32 {
     load(&mut can, reg)
 }
 
-#[test]
-fn a_register_reads_by_the_mode(rt: HostRuntime) {
-    for (reg, operating, read_operating, reset, read_reset) in REGISTERS {
-        assert_eq!(rt; reads_back(0, reg, operating), read_operating, "{reg}");
-        assert_eq!(rt; reads_back(1, reg, reset), read_reset, "{reg}");
-    }
+fn reads_by_mode(
+    (reg, operating, read_operating, reset, read_reset): (u32, u32, u32, u32, u32),
+) -> bool {
+    reads_back(0, reg, operating) == read_operating && reads_back(1, reg, reset) == read_reset
+}
+
+/// What the clock divider reads after a store in reset mode and one in operating mode.
+fn divider_of_both_modes() -> u32 {
     let mut can = Can::new();
     let _ = store(&mut can, 31, 0xEF);
     let _ = store(&mut can, 0, 0);
     let _ = store(&mut can, 31, 0x02);
-    assert_eq!(rt; load(&mut can, 31), 0x6A);
+    load(&mut can, 31)
+}
+
+#[test]
+fn a_register_reads_by_the_mode(rt: HostRuntime) {
+    for row in &REGISTERS {
+        assert!(rt; reads_by_mode(*row), "{row:?}");
+    }
+    assert_eq!(rt; divider_of_both_modes(), 0x6A);
 }
 
 /// The first two bytes of the transmit buffer, and the frame that is sent: its identifier, whether
 /// it is remote, and its length.
-const SENT: [(u8, u8, u16, bool, usize); 9] = [
+static SENT: [(u8, u8, u16, bool, usize); 9] = [
     (0x00, 0x00, 0x000, false, 0),
     (0x24, 0x63, 0x123, false, 3),
     (0x24, 0x68, 0x123, false, 8),
@@ -89,46 +98,61 @@ const SENT: [(u8, u8, u16, bool, usize); 9] = [
     (0x00, 0x33, 0x001, true, 3),
 ];
 
+/// A controller in operating mode whose transmit buffer has these two bytes, and 1 to 8.
+fn loaded(upper: u8, lower: u8) -> Can {
+    let mut can = Can::new();
+    let _ = store(&mut can, 0, 0);
+    let _ = store(&mut can, 10, u32::from(upper));
+    let _ = store(&mut can, 11, u32::from(lower));
+    for place in 0..8 {
+        let _ = store(&mut can, 12 + place, 1 + place);
+    }
+    can
+}
+
+/// Whether the receive buffer has these two bytes, and `len` of 1 to 8 and zeros after them.
+fn holds(can: &mut Can, upper: u8, lower: u32, len: u32) -> bool {
+    for place in 0..8 {
+        let byte = if place < len { 1 + place } else { 0 };
+        if load(can, 22 + place) != byte {
+            return false;
+        }
+    }
+    load(can, 20) == u32::from(upper) && load(can, 21) == lower
+}
+
+/// Whether this frame, taken by a controller, reads as the first two bytes say.
+fn carries(frame: Frame, (upper, lower, _, remote, len): (u8, u8, u16, bool, usize)) -> bool {
+    let mut receiver = Can::new();
+    let len = len.min(8) as u32;
+    let data = if remote { 0 } else { len };
+    receiver.put(&DevState::Can(open(0)))
+        && take(&mut receiver, frame) == Kept
+        && holds(&mut receiver, upper, u32::from(lower & 0xF0) + len, data)
+}
+
+fn says((upper, lower, id, remote, len): (u8, u8, u16, bool, usize)) -> bool {
+    let frame = if remote {
+        Frame::new_remote(id % 2048, len.min(8) as u8)
+    } else {
+        data_frame(id, len)
+    };
+    store(&mut loaded(upper, lower), 1, 1) == Effect::Send(Payload::Frame(frame))
+        && carries(frame, (upper, lower, id, remote, len))
+}
+
 #[test]
 fn the_transmit_buffer_says_a_frame(rt: HostRuntime) {
-    for (upper, lower, id, remote, len) in SENT {
-        let mut can = Can::new();
-        let _ = store(&mut can, 0, 0);
-        let _ = store(&mut can, 10, u32::from(upper));
-        let _ = store(&mut can, 11, u32::from(lower));
-        for place in 0..8 {
-            let _ = store(&mut can, 12 + place, 1 + place);
-        }
-        let frame = if remote {
-            Frame::new_remote(id % 2048, len.min(8) as u8)
-        } else {
-            data_frame(id, len)
-        };
-        assert_eq!(rt;
-            store(&mut can, 1, 1),
-            Effect::Send(Payload::Frame(frame)),
-            "{lower:x}"
-        );
-        let mut receiver = Can::new();
-        assert!(rt; receiver.put(&DevState::Can(open(0))));
-        assert_eq!(rt; take(&mut receiver, frame), Kept);
-        assert_eq!(rt; load(&mut receiver, 20), u32::from(upper));
-        let read = u32::from(lower & 0xF0) + (len.min(8) as u32);
-        assert_eq!(rt; load(&mut receiver, 21), read, "{lower:x}");
-        for place in 0..8 {
-            let carried = if !remote && (place as usize) < len {
-                1 + place
-            } else {
-                0
-            };
-            assert_eq!(rt; load(&mut receiver, 22 + place), carried, "{lower:x}");
-        }
+    for row in &SENT {
+        assert!(rt; says(*row), "{row:?}");
     }
 }
 
 /// Control before, how many frames are held, whether one was lost before, and pending RI, TI, DOI;
 /// a register and what is stored in it; then IR, SR and how many frames are held.
-const MOMENTS: [(u8, usize, bool, u8, u32, u32, u32, u32, usize); 27] = [
+type Moment = (u8, usize, bool, u8, u32, u32, u32, u32, usize);
+
+static MOMENTS: [Moment; 27] = [
     // RI: by enabling with a frame held, in no other store of control
     (0x00, 1, false, 0, 0, 0x02, 1, 0x0D, 1),
     (0x00, 0, false, 0, 0, 0x02, 0, 0x0C, 0),
@@ -166,35 +190,54 @@ const MOMENTS: [(u8, usize, bool, u8, u32, u32, u32, u32, usize); 27] = [
     (0x16, 1, true, 3, 31, 0x07, 3, 0x0F, 1),
 ];
 
+/// The state before a moment.
+fn before((control, held, dos, pending, ..): Moment) -> CanState {
+    let mut state = open(control);
+    state.received = FrameRow::of(&[data_frame(1, 0); 2][..held.min(2)]);
+    state.dos = dos;
+    state.ri = pending & 1 != 0;
+    state.ti = pending & 2 != 0;
+    state.doi = pending & 8 != 0;
+    state
+}
+
+/// Whether the interrupt register gives this, once, and the line is up until then.
+fn interrupts(can: &mut Can, ir: u32) -> bool {
+    can.line() == (ir != 0) && load(can, 3) == ir && load(can, 3) == 0 && !can.line()
+}
+
+/// Whether so many frames without data are held, each of which is released.
+fn releases(can: &mut Can, held: usize) -> bool {
+    for _ in 0..held {
+        if load(can, 21) != 0x20 {
+            return false;
+        }
+        let _ = store(can, 0, 0);
+        let _ = store(can, 1, 4);
+    }
+    load(can, 21) == 0
+}
+
+fn changes(moment: Moment) -> bool {
+    let (_, _, _, _, reg, value, ir, sr, held) = moment;
+    let mut can = Can::new();
+    let is_put = can.put(&DevState::Can(before(moment)));
+    let _ = store(&mut can, reg, value);
+    is_put && interrupts(&mut can, ir) && load(&mut can, 2) == sr && releases(&mut can, held)
+}
+
 #[test]
 fn interrupts_and_status_change_at_their_moments(rt: HostRuntime) {
-    for (control, held, dos, pending, reg, value, ir, sr, held_after) in MOMENTS {
-        let mut state = open(control);
-        state.received = FrameRow::of(&[data_frame(1, 0); 2][..held.min(2)]);
-        state.dos = dos;
-        state.ri = pending & 1 != 0;
-        state.ti = pending & 2 != 0;
-        state.doi = pending & 8 != 0;
-        let mut can = Can::new();
-        assert!(rt; can.put(&DevState::Can(state)));
-        let _ = store(&mut can, reg, value);
-        assert_eq!(rt; can.line(), ir != 0, "{control:x} {value:x}");
-        assert_eq!(rt; load(&mut can, 3), ir, "{control:x} {value:x}");
-        assert_eq!(rt; load(&mut can, 3), 0);
-        assert!(rt; !can.line());
-        assert_eq!(rt; load(&mut can, 2), sr, "{control:x} {value:x}");
-        for _ in 0..held_after {
-            assert_eq!(rt; load(&mut can, 21), 0x20);
-            let _ = store(&mut can, 0, 0);
-            let _ = store(&mut can, 1, 4);
-        }
-        assert_eq!(rt; load(&mut can, 21), 0);
+    for moment in &MOMENTS {
+        assert!(rt; changes(*moment), "{moment:?}");
     }
 }
 
 /// Control, code and mask, bytes held before, whether one was lost before, and the frame; then the
 /// answer, IR and SR.
-const TAKEN: [(u8, u8, u8, usize, bool, u16, usize, Taken, u32, u32); 18] = [
+type Taking = (u8, u8, u8, usize, bool, u16, usize, Taken, u32, u32);
+
+static TAKEN: [Taking; 18] = [
     (0x00, 0x20, 0x00, 0, false, 0x100, 8, Kept, 0, 0x0D),
     (0x00, 0x20, 0x00, 0, false, 0x107, 8, Kept, 0, 0x0D),
     (0x00, 0x20, 0x00, 0, false, 0x108, 8, Refused, 0, 0x0C),
@@ -226,63 +269,88 @@ fn row_of(held: usize) -> FrameRow {
     row
 }
 
+/// The state before a frame comes.
+fn before_taking((control, code, mask, held, dos, ..): Taking) -> CanState {
+    let mut state = open(control);
+    state.code = code;
+    state.mask = mask;
+    state.received = row_of(held);
+    state.dos = dos;
+    state
+}
+
+fn takes(taking: Taking) -> bool {
+    let (_, _, _, _, _, id, len, taken, ir, sr) = taking;
+    let mut can = Can::new();
+    can.put(&DevState::Can(before_taking(taking)))
+        && take(&mut can, data_frame(id, len)) == taken
+        && load(&mut can, 3) == ir
+        && load(&mut can, 2) == sr
+}
+
 #[test]
 fn a_frame_is_taken_by_filter_and_room(rt: HostRuntime) {
-    for (control, code, mask, held, dos, id, len, taken, ir, sr) in TAKEN {
-        let mut state = open(control);
-        state.code = code;
-        state.mask = mask;
-        state.received = row_of(held);
-        state.dos = dos;
-        let mut can = Can::new();
-        assert!(rt; can.put(&DevState::Can(state)));
-        assert_eq!(rt;
-            take(&mut can, data_frame(id, len)),
-            taken,
-            "{code:x} {mask:x} {id:x}"
-        );
-        assert_eq!(rt; load(&mut can, 3), ir, "{control:x} {held}");
-        assert_eq!(rt; load(&mut can, 2), sr, "{control:x} {held}");
+    for taking in &TAKEN {
+        assert!(rt; takes(*taking), "{taking:?}");
     }
 }
 
-/// The receive FIFO is filled to its last byte, by data frames and remote frames.
-fn fill<D: Device>(rt: &impl Abort, can: &mut D) {
+/// Whether these frames are answered so, one after another.
+fn answers<D: Device>(can: &mut D, frames: &[(Frame, Taken)]) -> bool {
+    for (frame, taken) in frames {
+        if take(can, *frame) != *taken {
+            return false;
+        }
+    }
+    true
+}
+
+/// Whether a receive FIFO takes data frames and remote frames up to its last byte.
+fn fills<D: Device>(can: &mut D) -> bool {
     let _ = store(can, 4, 0x20);
     let _ = store(can, 0, 0);
-    assert_eq!(rt; take(can, data_frame(0x100, 8)), Kept);
-    assert_eq!(rt; take(can, data_frame(0x108, 8)), Refused);
+    let filtered = answers(
+        can,
+        &[
+            (data_frame(0x100, 8), Kept),
+            (data_frame(0x108, 8), Refused),
+        ],
+    );
     let _ = store(can, 0, 1);
     let _ = store(can, 5, 0xFF);
     let _ = store(can, 0, 0);
-    for _ in 0..6 {
-        assert_eq!(rt; take(can, data_frame(0x123, 8)), Kept);
-    }
-    assert_eq!(rt; take(can, data_frame(0x123, 8)), Overrun);
-    for taken in [Kept, Kept, Overrun] {
-        assert_eq!(rt; take(can, Frame::new_remote(0x123, 8)), taken);
-    }
-    assert_eq!(rt; load(can, 2), 0x0F);
+    let data = data_frame(0x123, 8);
+    let remote = Frame::new_remote(0x123, 8);
+    filtered
+        && answers(can, &[(data, Kept); 6])
+        && answers(can, &[(data, Overrun), (remote, Kept)])
+        && answers(can, &[(remote, Kept), (remote, Overrun)])
+        && load(can, 2) == 0x0F
+}
+
+/// Whether a state is not taken, and leaves the device as it was.
+fn refuses<D: Device>(can: &mut D, state: &DevState) -> bool {
+    let before = can.state();
+    !can.put(state) && can.state() == before
+}
+
+/// Whether a byte is not taken, and leaves the device as it was.
+fn refuses_a_byte<D: Device>(can: &mut D) -> bool {
+    let before = can.state();
+    can.take(&Payload::Byte(1)) == Refused && can.state() == before
 }
 
 #[test]
 fn the_receive_fifo_holds_64_bytes(rt: HostRuntime) -> Result<(), Fail> {
-    fill(&rt, &mut Can::new());
+    assert!(rt; fills(&mut Can::new()));
     let mut boxed: Box<dyn Device + Send> = Box::new(rt.alloc(), Can::new())?;
-    fill(&rt, &mut boxed);
-    let before = boxed.state();
-    for state in [
-        DevState::Finisher,
-        DevState::Uart(UartState::reset()),
-        DevState::Can(overfull()),
-    ] {
-        assert!(rt; !boxed.put(&state));
-        assert_eq!(rt; boxed.state(), before);
-    }
-    assert_eq!(rt; boxed.take(&Payload::Byte(1)), Refused);
-    assert_eq!(rt; boxed.state(), before);
+    assert!(rt; fills(&mut boxed));
+    assert!(rt; refuses(&mut boxed, &DevState::Finisher));
+    assert!(rt; refuses(&mut boxed, &DevState::Uart(UartState::reset())));
+    assert!(rt; refuses(&mut boxed, &DevState::Can(overfull())));
+    assert!(rt; refuses_a_byte(&mut boxed));
     boxed.reset();
-    assert_eq!(rt; boxed.state(), DevState::Can(CanState::reset()));
+    assert!(rt; boxed.state() == DevState::Can(CanState::reset()));
     Ok(())
 }
 

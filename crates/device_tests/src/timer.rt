@@ -10,7 +10,7 @@ fn began_at(offset: u64) -> ClintState {
 }
 
 /// The hertz of a counter, the offset that it began at, a microsecond, and `mtime` then.
-const COUNTERS: [(u32, u64, u64, u64); 14] = [
+static COUNTERS: [(u32, u64, u64, u64); 14] = [
     (1, 0, 999_999, 0),
     (1, 0, 1_000_000, 1),
     (32_768, 0, 0, 0),
@@ -27,22 +27,25 @@ const COUNTERS: [(u32, u64, u64, u64); 14] = [
     (1_000_000, u64::MAX - 4, 10, 5),
 ];
 
+fn counts((frequency, offset, micros, mtime): (u32, u64, u64, u64)) -> bool {
+    let mut clint = Clint::new(frequency.clamp(1, 1_000_000_000));
+    clint.put(&began_at(offset));
+    let now = Micros(micros);
+    clint.mtime(now) == mtime
+        && u64::from(clint.load(0xBFF8, 4, now)) == mtime % (1 << 32)
+        && u64::from(clint.load(0xBFFC, 4, now)) == mtime >> 32
+}
+
 #[test]
 fn mtime_rises_with_lab_time_and_wraps(rt: HostRuntime) {
-    for (frequency, offset, micros, mtime) in COUNTERS {
-        let mut clint = Clint::new(frequency.clamp(1, 1_000_000_000));
-        clint.put(&began_at(offset));
-        let now = Micros(micros);
-        assert_eq!(rt; clint.mtime(now), mtime, "{frequency} {micros}");
-        let low = u64::from(clint.load(0xBFF8, 4, now));
-        let high = u64::from(clint.load(0xBFFC, 4, now));
-        assert_eq!(rt; (low, high), (mtime % (1 << 32), mtime >> 32));
+    for row in &COUNTERS {
+        assert!(rt; counts(*row), "{row:?}");
     }
 }
 
 /// An offset and a width of a store of 0xF234_5679 at microsecond 0x5_0000_0009, of a counter of a
 /// megahertz; and what is left: msip, mtimecmp and mtime.
-const STORES: [(u32, u8, bool, u64, u64); 12] = [
+static STORES: [(u32, u8, bool, u64, u64); 12] = [
     (0x0000, 4, true, u64::MAX, 0x5_0000_0009),
     (0x0000, 2, false, u64::MAX, 0x5_0000_0009),
     (0x0001, 4, false, u64::MAX, 0x5_0000_0009),
@@ -57,33 +60,44 @@ const STORES: [(u32, u8, bool, u64, u64); 12] = [
     (0xFFFF_FFFF, 4, false, u64::MAX, 0x5_0000_0009),
 ];
 
+fn leaves((at, width, msip, mtimecmp, mtime): (u32, u8, bool, u64, u64)) -> bool {
+    let now = Micros(0x5_0000_0009);
+    let mut clint = Clint::new(1_000_000);
+    clint.store(at, width, 0xF234_5679, now);
+    let state = clint.state();
+    clint.software() == msip
+        && clint.mtime(now) == mtime
+        && state.msip == msip
+        && state.mtimecmp == mtimecmp
+        && reads(&clint, width, mtimecmp)
+}
+
+/// Whether mtimecmp reads so: its lower half by a word, its upper one in this width.
+fn reads(clint: &Clint, width: u8, mtimecmp: u64) -> bool {
+    let now = Micros(0x5_0000_0009);
+    let upper = if width == 4 { mtimecmp >> 32 } else { 0 };
+    u64::from(clint.load(0x4000, 4, now)) == mtimecmp % (1 << 32)
+        && u64::from(clint.load(0x4004, width, now)) == upper
+}
+
+/// Whether a timer after this store is as a new one once it is reset.
+fn is_reset_after((at, width): (u32, u8)) -> bool {
+    let mut clint = Clint::new(1_000_000);
+    clint.store(at, width, 0xF234_5679, Micros(0x5_0000_0009));
+    clint.reset();
+    clint.state() == ClintState::reset()
+}
+
 #[test]
 fn a_store_of_a_word_replaces_a_half(rt: HostRuntime) {
-    let now = Micros(0x5_0000_0009);
-    for (at, width, msip, mtimecmp, mtime) in STORES {
-        let mut clint = Clint::new(1_000_000);
-        clint.store(at, width, 0xF234_5679, now);
-        assert_eq!(rt; clint.software(), msip, "{at:x} {width}");
-        assert_eq!(rt; clint.mtime(now), mtime, "{at:x} {width}");
-        let state = clint.state();
-        assert_eq!(rt; (state.msip, state.mtimecmp), (msip, mtimecmp));
-        let low = clint.load(0x4000, 4, now);
-        assert_eq!(rt; u64::from(low), mtimecmp % (1 << 32));
-        assert_eq!(rt;
-            clint.load(0x4004, width, now),
-            if width == 4 {
-                (mtimecmp >> 32) as u32
-            } else {
-                0
-            }
-        );
-        clint.reset();
-        assert_eq!(rt; clint.state(), ClintState::reset());
+    for row in &STORES {
+        assert!(rt; leaves(*row), "{row:?}");
+        assert!(rt; is_reset_after((row.0, row.1)), "{row:?}");
     }
 }
 
 /// What a counter of a megahertz began at, mtimecmp, a microsecond; and the timer line then.
-const LINES: [(u64, u64, u64, bool); 7] = [
+static LINES: [(u64, u64, u64, bool); 7] = [
     (0, 10, 9, false),
     (0, 10, 10, true),
     (0, 10, 11, true),
@@ -93,13 +107,17 @@ const LINES: [(u64, u64, u64, bool); 7] = [
     (u64::MAX, u64::MAX, 1, false),
 ];
 
+fn line_is((offset, mtimecmp, micros, up): (u64, u64, u64, bool)) -> bool {
+    let mut state = began_at(offset);
+    state.mtimecmp = mtimecmp;
+    let mut clint = Clint::new(1_000_000);
+    clint.put(&state);
+    clint.timer(Micros(micros)) == up
+}
+
 #[test]
 fn the_timer_line_is_up_from_mtimecmp_on(rt: HostRuntime) {
-    for (offset, mtimecmp, micros, up) in LINES {
-        let mut state = began_at(offset);
-        state.mtimecmp = mtimecmp;
-        let mut clint = Clint::new(1_000_000);
-        clint.put(&state);
-        assert_eq!(rt; clint.timer(Micros(micros)), up, "{mtimecmp} {micros}");
+    for row in &LINES {
+        assert!(rt; line_is(*row), "{row:?}");
     }
 }
