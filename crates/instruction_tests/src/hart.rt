@@ -13,7 +13,7 @@ fn hart_of(state: HartState) -> Result<Hart, CsrFault> {
 }
 
 /// A number that can be written, what is written to it, and what it then reads.
-const WRITTEN: [(u32, u32, u32); 21] = [
+static WRITTEN: [(u32, u32, u32); 21] = [
     (0x300, 0xFFFF_FFFF, 0x1888),
     (0x300, 0x0000_0008, 0x1808),
     (0x300, 0x0000_0080, 0x1880),
@@ -40,7 +40,7 @@ const WRITTEN: [(u32, u32, u32); 21] = [
 /// A number that cannot be written, and what it reads where mcycle is 0x0000000200000001 and
 /// minstret 0x0000000400000003. The last ones are those of CSRs that this hart lacks, neighbours of
 /// CSRs, and numbers of more than 12 bits.
-const REFUSED: [(u32, Result<u32, CsrFault>); 26] = [
+static REFUSED: [(u32, Result<u32, CsrFault>); 26] = [
     (0xC00, Ok(1)),
     (0xC80, Ok(2)),
     (0xC02, Ok(3)),
@@ -69,29 +69,35 @@ const REFUSED: [(u32, Result<u32, CsrFault>); 26] = [
     (0xFFFF_FFFF, Err(CsrFault::Illegal)),
 ];
 
+fn reads_as_written((number, written, read): (u32, u32, u32)) -> bool {
+    let mut hart = Hart::new();
+    hart.csr_write(number, written).is_ok() && hart.csr_read(number, LINES) == Ok(read)
+}
+
+/// Whether a number reads so and cannot be written.
+fn refuses(before: &Hart, (number, read): (u32, Result<u32, CsrFault>)) -> bool {
+    let mut hart = *before;
+    hart.csr_read(number, LINES) == read && hart.csr_write(number, 0).is_err() && hart == *before
+}
+
 #[test]
 fn each_csr_reads_and_is_written_as_the_manual_says(rt: HostRuntime) -> Result<(), Fail> {
-    for (number, written, read) in WRITTEN {
-        let mut hart = Hart::new();
-        hart.csr_write(number, written)?;
-        assert_eq!(rt; hart.csr_read(number, LINES), Ok(read), "{number:x}");
+    for row in &WRITTEN {
+        assert!(rt; reads_as_written(*row), "{row:?}");
     }
     let counted = hart_of(HartState {
         mcycle: 0x2_0000_0001,
         minstret: 0x4_0000_0003,
         ..Hart::new().state()
     })?;
-    for (number, read) in REFUSED {
-        let mut hart = counted;
-        assert_eq!(rt; hart.csr_read(number, LINES), read, "{number:x}");
-        assert!(rt; hart.csr_write(number, 0).is_err(), "{number:x}");
-        assert!(rt; hart == counted, "{number:x}");
+    for row in &REFUSED {
+        assert!(rt; refuses(&counted, *row), "{row:?}");
     }
     Ok(())
 }
 
 /// What is enabled, what is pending, and what is taken where MIE is 1.
-const TAKEN: [(u32, u32, Option<u8>); 8] = [
+static TAKEN: [(u32, u32, Option<u8>); 8] = [
     (0x888, 0x888, Some(11)),
     (0x888, 0x088, Some(3)),
     (0x888, 0x080, Some(7)),
@@ -102,24 +108,31 @@ const TAKEN: [(u32, u32, Option<u8>); 8] = [
     (0x888, 0x777, None),
 ];
 
+fn chooses((mie, lines, taken): (u32, u32, Option<u8>)) -> Result<bool, CsrFault> {
+    let state = HartState {
+        mie,
+        ..Hart::new().state()
+    };
+    let masked = hart_of(state)?;
+    let open = hart_of(HartState { on: true, ..state })?;
+    Ok(
+        masked.pending(lines).is_none()
+            && masked.is_ready(lines) == taken.is_some()
+            && open.pending(lines) == taken,
+    )
+}
+
 #[test]
 fn the_external_interrupt_comes_before_software_and_timer(rt: HostRuntime) -> Result<(), Fail> {
-    for (mie, lines, taken) in TAKEN {
-        let state = HartState {
-            mie,
-            ..Hart::new().state()
-        };
-        let masked = hart_of(state)?;
-        let open = hart_of(HartState { on: true, ..state })?;
-        assert_eq!(rt; masked.pending(lines), None, "MIE is 0");
-        assert_eq!(rt; masked.is_ready(lines), taken.is_some());
-        assert_eq!(rt; open.pending(lines), taken, "{mie:x} {lines:x}");
+    for row in &TAKEN {
+        let is_so = chooses(*row)?;
+        assert!(rt; is_so, "{row:?}");
     }
     Ok(())
 }
 
 /// mtvec, a cause, and where the trap goes.
-const TARGETS: [(u32, u32, u32); 8] = [
+static TARGETS: [(u32, u32, u32); 8] = [
     (0x0000_1000, 2, 0x1000),
     (0x0000_1000, 0x8000_0007, 0x1000),
     (0x0000_1001, 2, 0x1000),
@@ -130,36 +143,41 @@ const TARGETS: [(u32, u32, u32); 8] = [
     (0xFFFF_FFFD, 0x8000_0003, 0x0000_0008),
 ];
 
+/// Whether the state is that after a trap from 0x40, with mtval 9, while MIE was 1.
+fn is_trapped(state: &HartState, cause: u32, target: u32) -> bool {
+    state.pc == target
+        && state.mepc == 0x40
+        && state.mcause == cause
+        && state.mtval == 9
+        && !state.on
+        && state.before
+}
+
+fn goes_and_returns((mtvec, cause, target): (u32, u32, u32)) -> Result<bool, CsrFault> {
+    let mut hart = hart_of(HartState {
+        pc: 0x40,
+        on: true,
+        mtvec,
+        ..Hart::new().state()
+    })?;
+    hart.enter_trap(cause, 9);
+    let trapped = hart.state();
+    hart.leave_trap();
+    let returned = hart.state();
+    Ok(is_trapped(&trapped, cause, target) && returned.pc == 0x40 && returned.on && returned.before)
+}
+
 #[test]
 fn a_trap_goes_to_the_base_or_by_its_vector_and_back(rt: HostRuntime) -> Result<(), Fail> {
-    for (mtvec, cause, target) in TARGETS {
-        let mut hart = hart_of(HartState {
-            pc: 0x40,
-            on: true,
-            mtvec,
-            ..Hart::new().state()
-        })?;
-        hart.enter_trap(cause, 9);
-        let trapped = hart.state();
-        assert_eq!(rt;
-            (trapped.pc, trapped.mepc),
-            (target, 0x40),
-            "{mtvec:x} {cause:x}"
-        );
-        assert_eq!(rt; (trapped.mcause, trapped.mtval), (cause, 9));
-        assert_eq!(rt; (trapped.on, trapped.before), (false, true));
-        hart.leave_trap();
-        let returned = hart.state();
-        assert_eq!(rt;
-            (returned.pc, returned.on, returned.before),
-            (0x40, true, true)
-        );
+    for row in &TARGETS {
+        let is_so = goes_and_returns(*row)?;
+        assert!(rt; is_so, "{row:?}");
     }
     Ok(())
 }
 
 /// The exceptions, and their causes in table 3.6 of the Privileged ISA.
-const CAUSES: [(Exception, u32); 7] = [
+static CAUSES: [(Exception, u32); 7] = [
     (Exception::InstructionAddressMisaligned, 0),
     (Exception::InstructionAccessFault, 1),
     (Exception::IllegalInstruction, 2),
@@ -169,26 +187,32 @@ const CAUSES: [(Exception, u32); 7] = [
     (Exception::EnvironmentCall, 11),
 ];
 
+fn excepts((exception, cause): (Exception, u32)) -> bool {
+    let mut hart = Hart::default();
+    hart.enter_exception(exception, 5);
+    let state = hart.state();
+    state.mcause == cause && state.mtval == 5
+}
+
+fn interrupts(n: u8) -> bool {
+    let mut hart = Hart::default();
+    hart.enter_interrupt(n);
+    let state = hart.state();
+    state.mcause == 0x8000_0000 + u32::from(n) && state.mtval == 0
+}
+
 #[test]
 fn exceptions_and_interrupts_have_their_causes(rt: HostRuntime) {
-    let mut hart = Hart::default();
-    for (exception, cause) in CAUSES {
-        hart.enter_exception(exception, 5);
-        let state = hart.state();
-        assert_eq!(rt; (state.mcause, state.mtval), (cause, 5));
+    for row in &CAUSES {
+        assert!(rt; excepts(*row), "{row:?}");
     }
-    for n in [3, 7, 11] {
-        hart.enter_interrupt(n);
-        let state = hart.state();
-        assert_eq!(rt;
-            (state.mcause, state.mtval),
-            (0x8000_0000 + u32::from(n), 0)
-        );
+    for n in &[3, 7, 11] {
+        assert!(rt; interrupts(*n), "{n}");
     }
 }
 
 /// What is in x0, mie, mtvec, mepc and the pc of a state, and whether a hart can have it.
-const STATES: [(u32, u32, u32, u32, u32, bool); 9] = [
+static STATES: [(u32, u32, u32, u32, u32, bool); 9] = [
     (0, 0x888, 0x101, 0x104, 0x108, true),
     (1, 0, 0, 0, 0, false),
     (0, 0x889, 0, 0, 0, false),
@@ -200,43 +224,66 @@ const STATES: [(u32, u32, u32, u32, u32, bool); 9] = [
     (0, 0, 0, 0, 0x102, false),
 ];
 
+fn is_told((x0, mie, mtvec, mepc, pc, is_valid): (u32, u32, u32, u32, u32, bool)) -> bool {
+    let state = HartState {
+        registers: [x0; 32],
+        mie,
+        mtvec,
+        mepc,
+        pc,
+        ..Hart::new().state()
+    };
+    match Hart::of(&state) {
+        Some(hart) => is_valid && hart.state() == state,
+        None => !is_valid,
+    }
+}
+
 #[test]
 fn a_state_of_no_hart_is_refused(rt: HostRuntime) {
-    for (x0, mie, mtvec, mepc, pc, is_valid) in STATES {
-        let state = HartState {
-            registers: [x0; 32],
-            mie,
-            mtvec,
-            mepc,
-            pc,
-            ..Hart::new().state()
-        };
-        let found = Hart::of(&state).map(|hart| hart.state());
-        assert_eq!(rt; found, if is_valid { Some(state) } else { None });
+    for row in &STATES {
+        assert!(rt; is_told(*row), "{row:?}");
     }
 }
 
 /// A register, what is written to it, and what it then reads.
-const REGISTERS: [(u8, u32, u32); 3] = [(0, 7, 0), (1, 7, 7), (31, 0xFFFF_FFFF, 0xFFFF_FFFF)];
+static REGISTERS: [(u8, u32, u32); 3] = [(0, 7, 0), (1, 7, 7), (31, 0xFFFF_FFFF, 0xFFFF_FFFF)];
+
+/// Whether a write of a register, an advance and a jump leave the registers and the pc so.
+fn moves((rd, value, read): (u8, u32, u32)) -> bool {
+    if rd > 31 {
+        return false;
+    }
+    let mut hart = Hart::new();
+    hart.set_register(rd, value);
+    let set = hart.register(rd);
+    hart.finish(rd, value);
+    hart.advance();
+    let finished = (hart.register(rd), hart.pc());
+    hart.jump(rd, 0xFFFF_FFFC);
+    let linked = hart.register(rd);
+    hart.advance();
+    set == read
+        && finished == (read, 8)
+        && linked == (if rd == 0 { 0 } else { 12 })
+        && hart.pc() == 0
+}
+
+/// Whether counters rise by one, and both flags are set.
+fn counts_and_waits() -> bool {
+    let mut hart = Hart::new();
+    hart.tick();
+    hart.retire();
+    hart.set_waiting(true);
+    hart.set_halted(true);
+    let state = hart.state();
+    hart.waiting() && hart.halted() && state.mcycle == 1 && state.minstret == 1
+}
 
 #[test]
 fn an_instruction_moves_the_hart(rt: HostRuntime) {
-    for (rd, value, read) in REGISTERS {
-        let mut hart = Hart::new();
-        hart.set_register(rd, value);
-        assert_eq!(rt; hart.register(rd), read);
-        hart.finish(rd, value);
-        hart.advance();
-        assert_eq!(rt; (hart.register(rd), hart.pc()), (read, 8));
-        hart.jump(rd, 0xFFFF_FFFC);
-        assert_eq!(rt; hart.register(rd), if rd == 0 { 0 } else { 12 });
-        hart.advance();
-        assert_eq!(rt; hart.pc(), 0);
-        hart.tick();
-        hart.retire();
-        hart.set_waiting(true);
-        hart.set_halted(true);
-        assert_eq!(rt; (hart.waiting(), hart.halted()), (true, true));
-        assert_eq!(rt; (hart.state().mcycle, hart.state().minstret), (1, 1));
+    for row in &REGISTERS {
+        assert!(rt; moves(*row), "{row:?}");
     }
+    assert!(rt; counts_and_waits());
 }
