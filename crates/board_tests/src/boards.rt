@@ -97,18 +97,22 @@ const NAMES: [(&str, NamedWhat); 5] = [
 
 /// Memories of 64 KiB and of 4 KiB after it, a UART whose registers are `step` bytes apart, and a
 /// second device.
-fn plan(alloc: Global, step: u8, second: Kind) -> Result<BoardPlan, Fail>
-    ensures { IfOk result (λ plan. plan.kinds ≡ uart ∷ second ∷ []) }
-{
-    let regions = [
+fn regions(step: u8) -> [Region; 4] {
+    [
         region(BASE, 0x1_0000, RegionKind::Ram(0), 1),
         region(0x8001_0000, 0x1000, RegionKind::Ram(1), 1),
         region(0x1000_0000, 0x100, RegionKind::Dev(UART), step),
         region(0x0010_0000, 0x1000, RegionKind::Dev(SECOND), 1),
-    ];
+    ]
+}
+
+/// A plan with these regions.
+fn plan(alloc: Global, step: u8, second: Kind) -> Result<BoardPlan, Fail>
+    ensures { IfOk result (λ plan. plan.kinds ≡ uart ∷ second ∷ []) }
+{
     Ok(BoardPlan {
         names: names_of(alloc, &NAMES)?,
-        regions: Rows::of(Vec::from_slice(alloc, &regions)?),
+        regions: Rows::of(Vec::from_slice(alloc, &regions(step))?),
         memories: Rows::of(vec![in alloc; 0x1_0000, 0x1000]?),
         kinds: Rows::of(vec![in alloc; Kind::Uart, second]?),
         frequency: None,

@@ -27,7 +27,9 @@ fn after(handle: Option<Handle>, first: u64, second: u64) -> Option<(u64, u64, u
 }
 
 /// The ends and the speed of a grant, the slots used at first and then, and what that comes to.
-const GRANTS: [(u64, u64, u32, u64, u64, Option<(u64, u64, u64, Report)>); 18] = [
+type Row = (u64, u64, u32, u64, u64, Option<(u64, u64, u64, Report)>);
+
+static GRANTS: [Row; 18] = [
     (0, 100, 1, 0, 0, Some((0, 100, 0, Report::Break))),
     (0, 100, 1, 50, 49, Some((99, 1, 99, Report::Break))),
     (0, 100, 1, 50, 50, Some((100, 0, 100, Report::Continue))),
@@ -83,14 +85,13 @@ const GRANTS: [(u64, u64, u32, u64, u64, Option<(u64, u64, u64, Report)>); 18] =
     ),
 ];
 
+fn comes_to((from, to, speed, first, second, expected): Row) -> bool {
+    after(grant(from, to, speed), first, second) == expected
+}
+
 #[test]
 fn slots_are_used_up_to_the_end_of_the_grant(rt: HostRuntime) {
-    for (from, to, speed, first, second, expected) in GRANTS {
-        let handle = grant(from, to, speed);
-        assert_eq!(rt;
-            after(handle, first, second),
-            expected,
-            "{from} {to} {speed} {first} {second}"
-        );
+    for row in &GRANTS {
+        assert!(rt; comes_to(*row), "{row:?}");
     }
 }

@@ -94,7 +94,7 @@ type Row = (
 
 /// The speeds and the length of the first grant, those of the second, the slots used of it, the
 /// reports, and the time. It is done where both report that they are.
-const GRANTS: [Row; 12] = [
+static GRANTS: [Row; 12] = [
     ((1, 1), 0, (1, 1), 100, (0, 0), NONE, 0),
     ((1, 1), 0, (1, 1), 100, (30, 70), NONE, 30),
     ((1, 1), 0, (1, 1), 100, (70, 30), NONE, 30),
@@ -109,13 +109,16 @@ const GRANTS: [Row; 12] = [
     ((1, 1_000), 100, (1_000, 2), 100, (100_000, 200), BOTH, 200),
 ];
 
+fn comes_to((speeds, first, then, second, slots, reports, time): Row) -> bool {
+    let time = Micros(time);
+    let played = (reports.0, reports.1, time, reports == BOTH);
+    second_grant(speeds, first, then, second, slots) == Some((played, time))
+}
+
 #[test]
 fn the_time_is_that_of_the_slowest_member(rt: HostRuntime) {
-    for (speeds, first, then, second, slots, reports, time) in GRANTS {
-        let time = Micros(time);
-        let expected = Some(((reports.0, reports.1, time, reports == BOTH), time));
-        let found = second_grant(speeds, first, then, second, slots);
-        assert_eq!(rt; found, expected, "{first} {second} {}", time.0);
+    for row in &GRANTS {
+        assert!(rt; comes_to(*row), "{row:?}");
     }
 }
 
@@ -145,7 +148,7 @@ type PiecesRow = (
 
 /// The speeds, the length of the grant, the slots, and what they come to. It is done where both
 /// members' last reports say so.
-const PIECES: [PiecesRow; 3] = [
+static PIECES: [PiecesRow; 3] = [
     (
         (1, 3),
         10,
@@ -172,28 +175,34 @@ const PIECES: [PiecesRow; 3] = [
     ),
 ];
 
+fn comes_to_in_pieces((speeds, micros, slots, expected): PiecesRow) -> bool {
+    let (first, second, before, third, after) = expected;
+    let done = second == Report::Continue && third == Report::Continue;
+    let pieces = (first, second, Micros(before), third, Micros(after));
+    in_pieces(speeds, micros, slots) == Some((pieces, done))
+}
+
 #[test]
 fn a_member_goes_on_where_it_left_off(rt: HostRuntime) {
-    for (speeds, micros, slots, expected) in PIECES {
-        let (first, second, before, third, after) = expected;
-        let done = second == Report::Continue && third == Report::Continue;
-        let pieces = (first, second, Micros(before), third, Micros(after));
-        assert_eq!(rt;
-            in_pieces(speeds, micros, slots),
-            Some((pieces, done)),
-            "{micros}"
-        );
+    for row in &PIECES {
+        assert!(rt; comes_to_in_pieces(*row), "{row:?}");
     }
+}
+
+static LENGTHS: [u64; 4] = [0, 1, 250, 10_000_000_000];
+
+/// Whether a grant of this length is done at once where a source has no members.
+fn is_done_at_once(micros: u64) -> bool {
+    let mut source = Source::new();
+    let begun = source.elapsed();
+    source.grant(micros.min(10_000_000_000));
+    begun == Micros(0) && source.elapsed() == Micros(micros) && source.is_done()
 }
 
 #[test]
 fn without_members_a_grant_is_done_at_once(rt: HostRuntime) {
-    for micros in [0, 1, 250, 10_000_000_000_u64] {
-        let mut source = Source::new();
-        assert_eq!(rt; source.elapsed(), Micros(0));
-        source.grant(micros.min(10_000_000_000));
-        assert_eq!(rt; source.elapsed(), Micros(micros));
-        assert!(rt; source.is_done());
+    for micros in &LENGTHS {
+        assert!(rt; is_done_at_once(*micros), "{micros}");
     }
 }
 

@@ -67,6 +67,22 @@ pub fn run(
     Ok(run_lab(alloc, &words, files, out, stock))
 }
 
+/// What a run for the words of a line has written, where that or its number is not as expected.
+fn difference(
+    alloc: Global,
+    line: &str,
+    files: &mut MemFiles,
+    number: u8,
+    written: &str,
+) -> Result<Option<String>, NoMemory> {
+    let mut out = MemSink::new(alloc, 4096);
+    let status = run(alloc, line, files, &mut out)?;
+    if status.number() == number && out.bytes() == written.as_bytes() {
+        return Ok(None);
+    }
+    Ok(Some(String::from_utf8_lossy(alloc, out.bytes())?))
+}
+
 /// A run for the words of a line ends with this number, and has written this.
 pub fn assert_run<R: Abort + AllocGlobal>(
     rt: &R,
@@ -75,14 +91,8 @@ pub fn assert_run<R: Abort + AllocGlobal>(
     number: u8,
     written: &str,
 ) -> Result<(), NoMemory> {
-    let alloc = rt.alloc();
-    let mut out = MemSink::new(alloc, 4096);
-    let status = run(alloc, line, &mut files, &mut out)?;
-    assert_eq!(rt;
-        String::from_utf8_lossy(alloc, out.bytes())?.as_str(),
-        written
-    );
-    assert_eq!(rt; status.number(), number);
+    let difference = difference(rt.alloc(), line, &mut files, number, written)?;
+    assert!(rt; difference.is_none(), "{difference:?}");
     Ok(())
 }
 

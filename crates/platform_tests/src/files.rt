@@ -155,11 +155,9 @@ static ROWS: [(u8, &str, &str); 34] = [
 fn files_are_loaded_in_the_order_of_their_texts(rt: HostRuntime) -> Result<(), Fail> {
     let alloc = rt.alloc();
     let mut files = library(alloc)?;
-    for &(bodies, name, expected) in &ROWS {
-        assert_eq!(rt;
-            loading(alloc, &mut files, bodies, name)?.as_str(),
-            expected
-        );
+    for (bodies, name, expected) in &ROWS {
+        let loaded = loading(alloc, &mut files, *bodies, name)?;
+        assert!(rt; loaded.as_str() == *expected, "{name}");
     }
     Ok(())
 }
@@ -178,14 +176,19 @@ static FAILURES: [(u64, &str, &str); 10] = [
     (4, "pair", "2 files, 0 pair:1, 1 leaf:2, 0 pair:3"),
 ];
 
+/// What is loaded of a file where one call of the files fails.
+fn loading_failing(alloc: Global, call: u64, name: &str) -> Result<String, Fail> {
+    let mut files = MemFiles::new(alloc);
+    put_all(&mut files, &FILES)?;
+    files.fail_at(call)?;
+    Ok(loading(alloc, &mut files, 0, name)?)
+}
+
 #[test]
 fn a_read_that_fails_ends_the_loading(rt: HostRuntime) -> Result<(), Fail> {
-    let alloc = rt.alloc();
-    for &(call, name, expected) in &FAILURES {
-        let mut files = MemFiles::new(alloc);
-        put_all(&mut files, &FILES)?;
-        files.fail_at(call)?;
-        assert_eq!(rt; loading(alloc, &mut files, 0, name)?.as_str(), expected);
+    for (call, name, expected) in &FAILURES {
+        let loaded = loading_failing(rt.alloc(), *call, name)?;
+        assert!(rt; loaded.as_str() == *expected, "{name}");
     }
     Ok(())
 }

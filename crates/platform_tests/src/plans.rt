@@ -825,19 +825,25 @@ d: CPU.RiscV32 @ sysbus { cpuType: \"rv32im\" }\n",
     ("\n\n  \n// nothing\n", "P11 0:0"),
 ];
 
-fn joined(alloc: Global, front: &str, behind: &str) -> Result<String, AllocError> {
+fn joined(alloc: Global, front: &str, back: &str) -> Result<String, AllocError> {
     let mut text = String::from_str(alloc, front)?;
-    text.push_str(behind)?;
+    text.push_str(back)?;
     Ok(text)
 }
 
 /// What is built of each row's text is what stands beside it.
 fn assert_plans(rt: &impl Abort, alloc: Global, rows: &[(&str, &str)]) -> Result<(), Fail> {
-    for &(text, expected) in rows {
+    for (text, expected) in rows {
         let made = building(alloc, text)?;
-        assert_eq!(rt; made.as_str(), expected);
+        assert!(rt; made.as_str() == *expected, "{text}");
     }
     Ok(())
+}
+
+/// What comes of lines after those of a board.
+fn outcome_of(alloc: Global, board: &str, lines: &str) -> Result<String, AllocError> {
+    let text = joined(alloc, board, lines)?;
+    outcome(alloc, text.as_str())
 }
 
 /// Each row's lines, after those of a board, are refused for the fault beside them, or accepted.
@@ -847,20 +853,24 @@ fn assert_outcomes(
     board: &str,
     rows: &[(&str, &str)],
 ) -> Result<(), Fail> {
-    for &(lines, expected) in rows {
-        let text = joined(alloc, board, lines)?;
-        let made = outcome(alloc, text.as_str())?;
-        assert_eq!(rt; made.as_str(), expected, "{lines}");
+    for (lines, expected) in rows {
+        let made = outcome_of(alloc, board, lines)?;
+        assert!(rt; made.as_str() == *expected, "{lines}");
     }
     Ok(())
 }
 
+/// The wires that lines after those of a whole board make.
+fn wiring_of(alloc: Global, lines: &str) -> Result<String, AllocError> {
+    let text = joined(alloc, FULL, lines)?;
+    wiring(alloc, text.as_str())
+}
+
 /// Each row's lines, after those of a whole board, make the wires beside them, or are refused.
 fn assert_wires(rt: &impl Abort, alloc: Global, rows: &[(&str, &str)]) -> Result<(), Fail> {
-    for &(lines, expected) in rows {
-        let text = joined(alloc, FULL, lines)?;
-        let made = wiring(alloc, text.as_str())?;
-        assert_eq!(rt; made.as_str().trim_end(), expected, "{lines}");
+    for (lines, expected) in rows {
+        let made = wiring_of(alloc, lines)?;
+        assert!(rt; made.as_str().trim_end() == *expected, "{lines}");
     }
     Ok(())
 }

@@ -114,8 +114,9 @@ fn reading(alloc: Global, text: &str) -> Result<String, AllocError> {
 
 /// What is read of each row's text is what stands beside it.
 fn assert_readings(rt: &impl Abort, alloc: Global, rows: &[(&str, &str)]) -> Result<(), Fail> {
-    for &(text, expected) in rows {
-        assert_eq!(rt; reading(alloc, text)?.as_str(), expected);
+    for (text, expected) in rows {
+        let read = reading(alloc, text)?;
+        assert!(rt; read.as_str() == *expected, "{text}");
     }
     Ok(())
 }

@@ -123,6 +123,12 @@ runMacro $reset
 start
 ";
 
+/// Whether a script and a file that it includes give this.
+fn gives(alloc: Global, script: &str, file: &str, expected: &str) -> Result<bool, Fail> {
+    let course = course(alloc, script, file)?;
+    Ok(course.as_str() == expected)
+}
+
 /// Each row: a script, a file that it includes, and what they give.
 static SCRIPTS: [(&str, &str, &str); 36] = [
     (
@@ -227,9 +233,9 @@ static SCRIPTS: [(&str, &str, &str); 36] = [
 
 #[test]
 fn scripts_give_their_lines_in_order(rt: HostRuntime) -> Result<(), Fail> {
-    let alloc = rt.alloc();
-    for &(script, file, expected) in &SCRIPTS {
-        assert_eq!(rt; course(alloc, script, file)?.as_str(), expected);
+    for (script, file, expected) in &SCRIPTS {
+        let is_so = gives(rt.alloc(), script, file, expected)?;
+        assert!(rt; is_so, "{script}");
     }
     Ok(())
 }
@@ -261,17 +267,20 @@ static DEFINITIONS: [(&str, LineFault); 23] = [
     ("$x??=3", LineFault::Unknown),
 ];
 
+/// Whether a script gives this line as it stands, and goes on after it.
+fn is_handed_on(alloc: Global, line: &str) -> Result<bool, Fail> {
+    let expected = format!(in alloc; "s:1 {line}|s:2 pause|end")?;
+    let script = format!(in alloc; "{line}\npause")?;
+    gives(alloc, script.as_str(), "", expected.as_str())
+}
+
 #[test]
 fn definitions_of_another_form_are_wrong_commands(rt: HostRuntime) -> Result<(), Fail> {
     let alloc = rt.alloc();
-    for &(line, cause) in &DEFINITIONS {
-        let expected = format!(in alloc; "s:1 {line}|s:2 pause|end")?;
-        let script = format!(in alloc; "{line}\npause")?;
-        assert_eq!(rt;
-            course(alloc, script.as_str(), "")?.as_str(),
-            expected.as_str()
-        );
-        assert_eq!(rt; read_line(alloc, line).err(), Some(cause), "{line}");
+    for (line, cause) in &DEFINITIONS {
+        let is_handed_on = is_handed_on(alloc, line)?;
+        assert!(rt; is_handed_on, "{line}");
+        assert!(rt; read_line(alloc, line).err() == Some(*cause), "{line}");
     }
     Ok(())
 }
@@ -286,14 +295,17 @@ fn after_many(alloc: Global, n: usize) -> Result<String, Fail> {
     course(alloc, script.as_str(), "")
 }
 
+/// How many lines come before the last command, and the answer to it.
+static MANY: [(usize, &str); 2] = [
+    (99_999, "s:199999 macro|s:200000: S12 commands"),
+    (100_000, "s:200001: S12 commands"),
+];
+
 #[test]
 fn a_script_has_100_000_commands(rt: HostRuntime) -> Result<(), Fail> {
-    let alloc = rt.alloc();
-    for (n, expected) in [
-        (99_999, "s:199999 macro|s:200000: S12 commands"),
-        (100_000, "s:200001: S12 commands"),
-    ] {
-        assert_eq!(rt; after_many(alloc, n)?.as_str(), expected);
+    for (n, expected) in &MANY {
+        let answer = after_many(rt.alloc(), *n)?;
+        assert!(rt; answer.as_str() == *expected, "{n}");
     }
     Ok(())
 }

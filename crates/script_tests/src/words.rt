@@ -41,10 +41,16 @@ fn answer(alloc: Global, line: &str) -> Result<String, Fail> {
     Ok(text)
 }
 
+fn asks_for(alloc: Global, line: &str, expected: &str) -> Result<bool, Fail> {
+    let answer = answer(alloc, line)?;
+    Ok(answer.as_str() == expected)
+}
+
 /// Each row's words ask for what stands beside them.
 fn assert_answers(rt: &impl Abort, alloc: Global, rows: &[(&str, &str)]) -> Result<(), Fail> {
-    for &(line, expected) in rows {
-        assert_eq!(rt; answer(alloc, line)?.as_str(), expected, "{line}");
+    for (line, expected) in rows {
+        let is_so = asks_for(alloc, line, expected)?;
+        assert!(rt; is_so, "{line}");
     }
     Ok(())
 }

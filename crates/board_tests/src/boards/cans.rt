@@ -16,7 +16,7 @@ use sample_boards::{USUAL_REGIONS, usual_board};
 use std::alloc::Global;
 use std::process::Abort;
 use std::test::Fail;
-use sys_bus::{BoardPlan, NamedWhat, RegionKind, Wire, WireFrom, WirePin};
+use sys_bus::{BoardPlan, NamedWhat, Region, RegionKind, Wire, WireFrom, WirePin};
 
 /// The names of the usual board, with four CAN controllers in place of its UART.
 const NAMES: [(&str, NamedWhat); 8] = [
@@ -46,13 +46,10 @@ const WIRES: [Wire; 3] = [
     },
 ];
 
-/// Four controllers, 256 bytes apart from 0x10010000 on.
-fn plan(alloc: Global) -> Result<BoardPlan, NoMemory>
-    ensures { IfOk result (λ plan. plan.kinds ≡ can ∷ can ∷ can ∷ can ∷ []) }
-{
-    let mut plan = usual_board(alloc)?;
-    set_names(&mut plan, alloc, &NAMES)?;
-    let regions = [
+/// The regions of the usual board, with four controllers in place of its UART, 256 bytes apart from
+/// 0x10010000 on.
+fn regions() -> [Region; 7] {
+    [
         USUAL_REGIONS[0],
         USUAL_REGIONS[1],
         USUAL_REGIONS[2],
@@ -60,11 +57,25 @@ fn plan(alloc: Global) -> Result<BoardPlan, NoMemory>
         region(0x1001_0100, 0x100, RegionKind::Dev(1), 1),
         region(0x1001_0200, 0x100, RegionKind::Dev(2), 1),
         region(0x1001_0300, 0x100, RegionKind::Dev(3), 1),
-    ];
-    set_regions(&mut plan, alloc, &regions)?;
+    ]
+}
+
+/// A plan with these parts and wires, but the kinds of the usual board.
+fn parts(alloc: Global) -> Result<BoardPlan, NoMemory> {
+    let mut plan = usual_board(alloc)?;
+    set_names(&mut plan, alloc, &NAMES)?;
+    set_regions(&mut plan, alloc, &regions())?;
     set_wires(&mut plan, alloc, &WIRES)?;
-    plan.kinds = Rows::of(vec![in alloc; Kind::Can, Kind::Can, Kind::Can, Kind::Can]?);
     plan.speed = 1;
+    Ok(plan)
+}
+
+/// Four controllers.
+fn plan(alloc: Global) -> Result<BoardPlan, NoMemory>
+    ensures { IfOk result (λ plan. plan.kinds ≡ can ∷ can ∷ can ∷ can ∷ []) }
+{
+    let mut plan = parts(alloc)?;
+    plan.kinds = Rows::of(vec![in alloc; Kind::Can, Kind::Can, Kind::Can, Kind::Can]?);
     Ok(plan)
 }
 
@@ -299,10 +310,16 @@ static ROWS: [(&[u32], &[Step]); 4] = [
     (&PIN, &ON_PIN),
 ];
 
+/// Plays a program on a new board.
+fn play_one(rt: &impl Abort, alloc: Global, words: &[u32], steps: &[Step]) -> Result<(), Fail> {
+    let mut board = start(rt, alloc, plan(alloc)?)?;
+    play(rt, &mut board, words, steps)?;
+    Ok(())
+}
+
 fn play_all(rt: &impl Abort, alloc: Global, rows: &[(&[u32], &[Step])]) -> Result<(), Fail> {
     for (words, steps) in rows {
-        let mut board = start(rt, alloc, plan(alloc)?)?;
-        play(rt, &mut board, words, steps)?;
+        play_one(rt, alloc, words, steps)?;
     }
     Ok(())
 }

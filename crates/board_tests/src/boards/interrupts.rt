@@ -6,12 +6,12 @@ use super::Step::{Arrive, At, Go, NoneSent, Register, Reset, Retired, Run, Sent,
 use super::{BASE, SECOND, Step, UART, play_on, region};
 use crate::parts::{set_names, set_regions, set_wires};
 use dev_core::{Kind, Taken};
-use lab_num::Rows;
+use lab_num::{NoMemory, Rows};
 use sample_boards::{USUAL_REGIONS, usual_board};
 use std::alloc::Global;
 use std::process::Abort;
 use std::test::Fail;
-use sys_bus::{BoardPlan, NamedWhat, RegionKind, Wire, WireFrom, WirePin};
+use sys_bus::{BoardPlan, NamedWhat, Region, RegionKind, Wire, WireFrom, WirePin};
 use uart_16550::Uart;
 
 /// The names of the usual board, and a second UART.
@@ -64,21 +64,31 @@ const DIRECT: [Wire; 4] = [
     },
 ];
 
-/// The usual board with a second UART and these wires.
-fn plan(alloc: Global, wires: &[Wire]) -> Result<BoardPlan, Fail>
-    ensures { IfOk result (λ plan. plan.kinds ≡ uart ∷ uart ∷ []) }
-{
-    let regions = [
+/// The regions of the usual board, and a second UART.
+fn regions() -> [Region; 5] {
+    [
         USUAL_REGIONS[0],
         USUAL_REGIONS[1],
         USUAL_REGIONS[2],
         USUAL_REGIONS[3],
         region(0x1000_1000, 0x100, RegionKind::Dev(SECOND), 1),
-    ];
+    ]
+}
+
+/// A plan with these parts and wires, but the kinds of the usual board.
+fn parts(alloc: Global, wires: &[Wire]) -> Result<BoardPlan, NoMemory> {
     let mut plan = usual_board(alloc)?;
     set_names(&mut plan, alloc, &NAMES)?;
-    set_regions(&mut plan, alloc, &regions)?;
+    set_regions(&mut plan, alloc, &regions())?;
     set_wires(&mut plan, alloc, wires)?;
+    Ok(plan)
+}
+
+/// The usual board with a second UART and these wires.
+fn plan(alloc: Global, wires: &[Wire]) -> Result<BoardPlan, NoMemory>
+    ensures { IfOk result (λ plan. plan.kinds ≡ uart ∷ uart ∷ []) }
+{
+    let mut plan = parts(alloc, wires)?;
     plan.kinds = Rows::of(vec![in alloc; Kind::Uart, Kind::Uart]?);
     Ok(plan)
 }
@@ -323,22 +333,26 @@ static ROWS: [(&[Wire], &[u32], &[Step]); 8] = [
     (&BY_PLIC, &TIMES, &TIMED),
 ];
 
+/// Plays a program on a new board with these wires.
+fn play_one(
+    rt: &impl Abort,
+    alloc: Global,
+    wires: &[Wire],
+    words: &[u32],
+    steps: &[Step],
+) -> Result<(), Fail> {
+    let plan = plan(alloc, wires)?;
+    let devices = (Uart::new(), Uart::new());
+    play_on(rt, alloc, plan, Kind::Uart, devices, words, steps)
+}
+
 fn play_all(
     rt: &impl Abort,
     alloc: Global,
     rows: &[(&[Wire], &[u32], &[Step])],
 ) -> Result<(), Fail> {
     for (wires, words, steps) in rows {
-        let devices = (Uart::new(), Uart::new());
-        play_on(
-            rt,
-            alloc,
-            plan(alloc, wires)?,
-            Kind::Uart,
-            devices,
-            words,
-            steps,
-        )?;
+        play_one(rt, alloc, wires, words, steps)?;
     }
     Ok(())
 }

@@ -262,20 +262,24 @@ static ROWS: [(u8, &[u32], &[Step]); 10] = [
     (1, &[], &MEMORY),
 ];
 
+/// Plays a program on a new board whose UART has its registers `step` bytes apart.
+fn play_one(
+    rt: &impl Abort,
+    alloc: Global,
+    step: u8,
+    words: &[u32],
+    steps: &[Step],
+) -> Result<(), Fail> {
+    let uart: Box<dyn Device + Send> = Box::new(alloc, Uart::new())?;
+    let finisher: Box<dyn Device + Send> = Box::new(alloc, Finisher::new())?;
+    let plan = plan(alloc, step, Kind::Finisher)?;
+    let devices = (uart, finisher);
+    play_on(rt, alloc, plan, Kind::Finisher, devices, words, steps)
+}
+
 fn play_all(rt: &impl Abort, alloc: Global, rows: &[(u8, &[u32], &[Step])]) -> Result<(), Fail> {
     for (step, words, steps) in rows {
-        let uart: Box<dyn Device + Send> = Box::new(alloc, Uart::new())?;
-        let finisher: Box<dyn Device + Send> = Box::new(alloc, Finisher::new())?;
-        let plan = plan(alloc, *step, Kind::Finisher)?;
-        play_on(
-            rt,
-            alloc,
-            plan,
-            Kind::Finisher,
-            (uart, finisher),
-            words,
-            steps,
-        )?;
+        play_one(rt, alloc, *step, words, steps)?;
     }
     Ok(())
 }
