@@ -2,7 +2,7 @@
 use rv_decode::{Instr, Op, decode};
 
 /// A word and its instruction: the name, rd, rs1, rs2 and the immediate.
-static WORDS: [(u32, Op, u8, u8, u8, u32); 66] = [
+pub static WORDS: [(u32, Op, u8, u8, u8, u32); 66] = [
     (0x100002B7, Op::Lui, 5, 0, 0, 0x10000000), // lui x5, 0x10000
     (0xFFFFFFB7, Op::Lui, 31, 0, 0, 0xFFFFF000), // lui x31, 0xfffff
     (0x80001517, Op::Auipc, 10, 0, 0, 0x80001000), // auipc x10, 0x80001
