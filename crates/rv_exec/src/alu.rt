@@ -1,5 +1,5 @@
 //! The operations on words (RISC-V Unprivileged ISA 20191213, sections 2.4 and 7).
-ghost use Rattle.std.specs.Prelude.{◌≡◌, ◌*ℤ◌};
+ghost use Rattle.std.specs.Prelude.{◌≡◌, ◌*ℤ◌, int_lt};
 ghost use Rattle.std.specs.Int.{int_shr};
 ghost use Rattle.rv_exec.specs.Word.{
   add,
@@ -55,11 +55,18 @@ pub fn sra(a: u32, b: u32) -> u32
     a.cast_signed().wrapping_shr(b).cast_unsigned()
 }
 
+/// Whether `a` is less than `b` as signed numbers.
+pub fn is_less(a: u32, b: u32) -> bool
+    ensures { result ≡ int_lt (signed a) (signed b) }
+{
+    a.cast_signed() < b.cast_signed()
+}
+
 /// 1 where `a` is less than `b` as signed numbers, or else 0.
 pub fn slt(a: u32, b: u32) -> u32
     ensures { result ≡ less a b }
 {
-    u32::from(a.cast_signed() < b.cast_signed())
+    u32::from(is_less(a, b))
 }
 
 /// 1 where `a` is less than `b`, or else 0.

@@ -5,48 +5,23 @@ ghost use Rattle.rv_hart.specs.Core.{reg};
 ghost use Rattle.rv_exec.specs.Laws.{KeepsMinstret, RaisesMcycle, RaisesMinstret};
 ghost use Rattle.rv_exec.specs.Effect.{
   AsksBus,
-  below,
-  below_unsigned,
   bus_after,
   core_after,
   effect,
   effect_by,
   effect_of_fetch,
-  equal,
   outcome_on,
 };
 
 use crate::access::{Shape, load, store};
-use crate::alu::{
-    add, div, divu, mul, mulh, mulhsu, mulhu, rem, remu, sll, slt, sltu, sra, srl, sub,
-};
+use crate::alu::add;
 use crate::bus::{Bus, NoMemory};
+use crate::condition::is_taken;
 use crate::csr::{Change, change_csr};
 use crate::ending::{advance, branch, finish, jump, leave, trap, wait};
+use crate::operation::{on_immediate, on_registers};
 use rv_decode::{Instr, Op, decode};
 use rv_hart::{Exception, Hart, Lines, zero_register};
-
-fn is_equal(hart: &Hart, i: &Instr) -> bool
-    requires { IsInstr i.now }
-    ensures { result ≡ equal hart.now i.now }
-{
-    hart.register(i.rs1) == hart.register(i.rs2)
-}
-
-/// Whether the first register is less than the second as signed numbers.
-fn is_below(hart: &Hart, i: &Instr) -> bool
-    requires { IsInstr i.now }
-    ensures { result ≡ below hart.now i.now }
-{
-    hart.register(i.rs1).cast_signed() < hart.register(i.rs2).cast_signed()
-}
-
-fn is_below_unsigned(hart: &Hart, i: &Instr) -> bool
-    requires { IsInstr i.now }
-    ensures { result ≡ below_unsigned hart.now i.now }
-{
-    hart.register(i.rs1) < hart.register(i.rs2)
-}
 
 /// Does an instruction. `NoMemory` comes only where the bus refuses its load or its store.
 #[tactic(auto, unfolding(crate::specs::Effect::effect_by))]
@@ -67,77 +42,67 @@ fn execute<B: Bus>(
     ensures core_err { OnErr result (hart.new ≡ hart.old) }
     ensures bus_err { OnErr result (bus.new ≡ bus.old) }
 {
+    let a = hart.register(i.rs1);
+    let b = hart.register(i.rs2);
     match i.op {
         // upper immediates
         Op::Lui => finish(hart, i.rd, i.imm),
         Op::Auipc => finish(hart, i.rd, add(hart.pc(), i.imm)),
         // jumps and branches
         Op::Jal => jump(hart, i.rd, add(hart.pc(), i.imm)),
-        Op::Jalr => jump(hart, i.rd, add(hart.register(i.rs1), i.imm) / 2 * 2),
-        Op::Beq => branch(hart, is_equal(hart, i), i.imm),
-        Op::Bne => branch(hart, !is_equal(hart, i), i.imm),
-        Op::Blt => branch(hart, is_below(hart, i), i.imm),
-        Op::Bge => branch(hart, !is_below(hart, i), i.imm),
-        Op::Bltu => branch(hart, is_below_unsigned(hart, i), i.imm),
-        Op::Bgeu => branch(hart, !is_below_unsigned(hart, i), i.imm),
+        Op::Jalr => jump(hart, i.rd, add(a, i.imm) / 2 * 2),
+        Op::Beq | Op::Bne | Op::Blt | Op::Bge | Op::Bltu | Op::Bgeu => {
+            branch(hart, is_taken(i, a, b), i.imm);
+        }
         // loads and stores
-        Op::Lb => load(hart, bus, i, 1, Shape::SignedByte)?,
-        Op::Lh => load(hart, bus, i, 2, Shape::SignedHalf)?,
-        Op::Lw => load(hart, bus, i, 4, Shape::Unsigned)?,
-        Op::Lbu => load(hart, bus, i, 1, Shape::Unsigned)?,
-        Op::Lhu => load(hart, bus, i, 2, Shape::Unsigned)?,
-        Op::Sb => store(hart, bus, i, 1)?,
-        Op::Sh => store(hart, bus, i, 2)?,
-        Op::Sw => store(hart, bus, i, 4)?,
+        Op::Lb => return load(hart, bus, i, 1, Shape::SignedByte),
+        Op::Lh => return load(hart, bus, i, 2, Shape::SignedHalf),
+        Op::Lw => return load(hart, bus, i, 4, Shape::Unsigned),
+        Op::Lbu => return load(hart, bus, i, 1, Shape::Unsigned),
+        Op::Lhu => return load(hart, bus, i, 2, Shape::Unsigned),
+        Op::Sb => return store(hart, bus, i, 1),
+        Op::Sh => return store(hart, bus, i, 2),
+        Op::Sw => return store(hart, bus, i, 4),
         // a register and an immediate
-        Op::Addi => finish(hart, i.rd, add(hart.register(i.rs1), i.imm)),
-        Op::Slti => finish(hart, i.rd, slt(hart.register(i.rs1), i.imm)),
-        Op::Sltiu => finish(hart, i.rd, sltu(hart.register(i.rs1), i.imm)),
-        Op::Xori => finish(hart, i.rd, hart.register(i.rs1) ^ i.imm),
-        Op::Ori => finish(hart, i.rd, hart.register(i.rs1) | i.imm),
-        Op::Andi => finish(hart, i.rd, hart.register(i.rs1) & i.imm),
-        Op::Slli => finish(hart, i.rd, sll(hart.register(i.rs1), i.imm)),
-        Op::Srli => finish(hart, i.rd, srl(hart.register(i.rs1), i.imm)),
-        Op::Srai => finish(hart, i.rd, sra(hart.register(i.rs1), i.imm)),
-        // two registers
-        Op::Add => finish(hart, i.rd, add(hart.register(i.rs1), hart.register(i.rs2))),
-        Op::Sub => finish(hart, i.rd, sub(hart.register(i.rs1), hart.register(i.rs2))),
-        Op::Sll => finish(hart, i.rd, sll(hart.register(i.rs1), hart.register(i.rs2))),
-        Op::Slt => finish(hart, i.rd, slt(hart.register(i.rs1), hart.register(i.rs2))),
-        Op::Sltu => finish(hart, i.rd, sltu(hart.register(i.rs1), hart.register(i.rs2))),
-        Op::Xor => finish(hart, i.rd, hart.register(i.rs1) ^ hart.register(i.rs2)),
-        Op::Srl => finish(hart, i.rd, srl(hart.register(i.rs1), hart.register(i.rs2))),
-        Op::Sra => finish(hart, i.rd, sra(hart.register(i.rs1), hart.register(i.rs2))),
-        Op::Or => finish(hart, i.rd, hart.register(i.rs1) | hart.register(i.rs2)),
-        Op::And => finish(hart, i.rd, hart.register(i.rs1) & hart.register(i.rs2)),
+        Op::Addi
+        | Op::Slti
+        | Op::Sltiu
+        | Op::Xori
+        | Op::Ori
+        | Op::Andi
+        | Op::Slli
+        | Op::Srli
+        | Op::Srai => finish(hart, i.rd, on_immediate(i, a)),
+        // two registers, with products and quotients
+        Op::Add
+        | Op::Sub
+        | Op::Sll
+        | Op::Slt
+        | Op::Sltu
+        | Op::Xor
+        | Op::Srl
+        | Op::Sra
+        | Op::Or
+        | Op::And
+        | Op::Mul
+        | Op::Mulh
+        | Op::Mulhsu
+        | Op::Mulhu
+        | Op::Div
+        | Op::Divu
+        | Op::Rem
+        | Op::Remu => finish(hart, i.rd, on_registers(i, a, b)),
         // fences and calls
         Op::Fence | Op::FenceI => advance(hart),
         Op::Ecall => trap(hart, Exception::EnvironmentCall, 0),
         Op::Ebreak => trap(hart, Exception::Breakpoint, hart.pc()),
         // control and status registers
-        Op::Csrrw => change_csr(hart, Change::Write, hart.register(i.rs1), i, word, lines),
-        Op::Csrrs => change_csr(hart, Change::Set, hart.register(i.rs1), i, word, lines),
-        Op::Csrrc => change_csr(hart, Change::Clear, hart.register(i.rs1), i, word, lines),
+        Op::Csrrw => change_csr(hart, Change::Write, a, i, word, lines),
+        Op::Csrrs => change_csr(hart, Change::Set, a, i, word, lines),
+        Op::Csrrc => change_csr(hart, Change::Clear, a, i, word, lines),
         Op::Csrrwi => change_csr(hart, Change::Write, u32::from(i.rs1), i, word, lines),
         Op::Csrrsi => change_csr(hart, Change::Set, u32::from(i.rs1), i, word, lines),
         Op::Csrrci => change_csr(hart, Change::Clear, u32::from(i.rs1), i, word, lines),
-        // products and quotients
-        Op::Mul => finish(hart, i.rd, mul(hart.register(i.rs1), hart.register(i.rs2))),
-        Op::Mulh => finish(hart, i.rd, mulh(hart.register(i.rs1), hart.register(i.rs2))),
-        Op::Mulhsu => finish(
-            hart,
-            i.rd,
-            mulhsu(hart.register(i.rs1), hart.register(i.rs2)),
-        ),
-        Op::Mulhu => finish(
-            hart,
-            i.rd,
-            mulhu(hart.register(i.rs1), hart.register(i.rs2)),
-        ),
-        Op::Div => finish(hart, i.rd, div(hart.register(i.rs1), hart.register(i.rs2))),
-        Op::Divu => finish(hart, i.rd, divu(hart.register(i.rs1), hart.register(i.rs2))),
-        Op::Rem => finish(hart, i.rd, rem(hart.register(i.rs1), hart.register(i.rs2))),
-        Op::Remu => finish(hart, i.rd, remu(hart.register(i.rs1), hart.register(i.rs2))),
         // privileged
         Op::Mret => leave(hart),
         Op::Wfi => wait(hart),
