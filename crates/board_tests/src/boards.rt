@@ -334,7 +334,7 @@ fn play<D: Device>(
     board: &mut Board<D>,
     words: &[u32],
     steps: &[Step],
-) -> Result<(), NoMemory> {
+) -> Result<(), Fail> {
     assert!(rt; load(board, words)?);
     for step in steps {
         assert!(rt; do_step(board, *step)?);
@@ -357,6 +357,5 @@ fn play_on<D: Device>(
     requires second { D.meaning devices.1 ≡ first_state second }
 {
     let mut board = start(rt, alloc, plan, second, devices)?;
-    play(rt, &mut board, words, steps)?;
-    Ok(())
+    play(rt, &mut board, words, steps)
 }

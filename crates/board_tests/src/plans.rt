@@ -61,6 +61,22 @@ static NAMES: [(usize, &str, NamedWhat, &str, bool); 11] = [
     (1, "uart", NamedWhat::Part(RegionKind::Clint), "cpu", false),
 ];
 
+/// Whether a plan is valid with so many names, regions, memories and devices of the small board.
+fn is_valid_with(
+    plan: &mut BoardPlan,
+    alloc: Global,
+    names: usize,
+    regions: usize,
+    memories: usize,
+    kinds: usize,
+) -> Result<bool, NoMemory> {
+    set_names(plan, alloc, &SMALL_NAMES[..names.min(4)])?;
+    set_regions(plan, alloc, &SMALL_REGIONS[..regions.min(3)])?;
+    set_memories(plan, alloc, &MEMORIES[..memories.min(1)])?;
+    set_kinds(plan, alloc, &SMALL_KINDS[..kinds.min(2)])?;
+    Ok(plan.is_valid())
+}
+
 fn is_counted(
     alloc: Global,
     names: usize,
@@ -69,10 +85,18 @@ fn is_counted(
     kinds: usize,
 ) -> Result<bool, NoMemory> {
     let mut plan = small_board(alloc)?;
-    set_names(&mut plan, alloc, &SMALL_NAMES[..names.min(4)])?;
-    set_regions(&mut plan, alloc, &SMALL_REGIONS[..regions.min(3)])?;
-    set_memories(&mut plan, alloc, &MEMORIES[..memories.min(1)])?;
-    set_kinds(&mut plan, alloc, &SMALL_KINDS[..kinds.min(2)])?;
+    is_valid_with(&mut plan, alloc, names, regions, memories, kinds)
+}
+
+/// Whether a plan is valid with these names.
+fn is_valid_under(
+    plan: &mut BoardPlan,
+    alloc: Global,
+    names: &[(&str, NamedWhat)],
+    cpu: &str,
+) -> Result<bool, NoMemory> {
+    set_names(plan, alloc, names)?;
+    plan.cpu = Text::of(alloc, cpu)?;
     Ok(plan.is_valid())
 }
 
@@ -86,9 +110,7 @@ fn is_named(
     let mut names = SMALL_NAMES;
     names[i % 4] = (name, what);
     let mut plan = small_board(alloc)?;
-    set_names(&mut plan, alloc, &names)?;
-    plan.cpu = Text::of(alloc, cpu)?;
-    Ok(plan.is_valid())
+    is_valid_under(&mut plan, alloc, &names, cpu)
 }
 
 fn assert_counts(
@@ -161,6 +183,18 @@ fn with_range(region: Region, base: u32, size: u32, step: u8) -> Region {
     }
 }
 
+/// Whether a plan is valid with these regions and memories.
+fn is_valid_over(
+    plan: &mut BoardPlan,
+    alloc: Global,
+    regions: &[Region],
+    memories: &[u32],
+) -> Result<bool, NoMemory> {
+    set_regions(plan, alloc, regions)?;
+    set_memories(plan, alloc, memories)?;
+    Ok(plan.is_valid())
+}
+
 fn is_small_range(
     alloc: Global,
     i: usize,
@@ -170,17 +204,14 @@ fn is_small_range(
     let mut regions = SMALL_REGIONS;
     regions[i % 3] = with_range(regions[i % 3], range.0, range.1, range.2);
     let mut plan = small_board(alloc)?;
-    set_regions(&mut plan, alloc, &regions)?;
-    set_memories(&mut plan, alloc, &[memory])?;
-    Ok(plan.is_valid())
+    is_valid_over(&mut plan, alloc, &regions, &[memory])
 }
 
 fn is_usual_range(alloc: Global, i: usize, base: u32, size: u32) -> Result<bool, NoMemory> {
     let mut regions = USUAL_REGIONS;
     regions[i % 4] = with_range(regions[i % 4], base, size, 1);
     let mut plan = usual_board(alloc)?;
-    set_regions(&mut plan, alloc, &regions)?;
-    Ok(plan.is_valid())
+    is_valid_over(&mut plan, alloc, &regions, &MEMORIES)
 }
 
 fn assert_small_ranges(
@@ -274,21 +305,36 @@ fn has_numbers(
     Ok(plan.is_valid())
 }
 
-/// Whether a board's plan is valid with one wire.
-fn has_wire(
+/// Whether a plan is valid with one wire.
+fn is_valid_by(
+    plan: &mut BoardPlan,
     alloc: Global,
-    mut plan: BoardPlan,
     from: WireFrom,
     pin: WirePin,
 ) -> Result<bool, NoMemory> {
-    set_wires(&mut plan, alloc, &[Wire { from, pin }])?;
+    set_wires(plan, alloc, &[Wire { from, pin }])?;
+    Ok(plan.is_valid())
+}
+
+fn has_usual_wire(alloc: Global, from: WireFrom, pin: WirePin) -> Result<bool, NoMemory> {
+    let mut plan = usual_board(alloc)?;
+    is_valid_by(&mut plan, alloc, from, pin)
+}
+
+fn has_small_wire(alloc: Global, from: WireFrom, pin: WirePin) -> Result<bool, NoMemory> {
+    let mut plan = small_board(alloc)?;
+    is_valid_by(&mut plan, alloc, from, pin)
+}
+
+/// Whether a plan is valid with these devices.
+fn is_valid_of(plan: &mut BoardPlan, alloc: Global, kinds: &[Kind]) -> Result<bool, NoMemory> {
+    set_kinds(plan, alloc, kinds)?;
     Ok(plan.is_valid())
 }
 
 fn has_kinds(alloc: Global, first: Kind, second: Kind) -> Result<bool, NoMemory> {
     let mut plan = small_board(alloc)?;
-    set_kinds(&mut plan, alloc, &[first, second])?;
-    Ok(plan.is_valid())
+    is_valid_of(&mut plan, alloc, &[first, second])
 }
 
 fn assert_numbers(
@@ -327,8 +373,11 @@ fn assert_wires(
     rows: &[(WireFrom, WirePin, bool, bool)],
 ) -> Result<(), NoMemory> {
     for (from, pin, on_usual, on_small) in rows {
-        assert!(rt; has_wire(alloc, usual_board(alloc)?, *from, *pin)? == *on_usual);
-        assert!(rt; has_wire(alloc, small_board(alloc)?, *from, *pin)? == *on_small);
+        let may_be = (
+            has_usual_wire(alloc, *from, *pin)?,
+            has_small_wire(alloc, *from, *pin)?,
+        );
+        assert!(rt; may_be == (*on_usual, *on_small));
     }
     Ok(())
 }

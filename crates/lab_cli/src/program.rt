@@ -87,12 +87,22 @@ fn run_on_boxes<R: Files + Print + AllocGlobal>(
         cans,
         finishers,
     };
+    Ok(run_on_stock(rt, words, stock))
+}
+
+/// Runs the program by these words, on the devices of a full stock, on the files of the machine and
+/// its standard output.
+fn run_on_stock<R: Files + Print + AllocGlobal, D: Device>(
+    rt: &R,
+    words: &[String],
+    stock: Stock<D>,
+) -> Status {
     if !stock.is_full() {
-        return Ok(Status::Memory);
+        return Status::Memory;
     }
     let mut files = DiskFiles::new(rt);
     let mut out = OutSink::new(rt);
-    Ok(run_lab(alloc, words, &mut files, &mut out, stock))
+    run_lab(rt.alloc(), words, &mut files, &mut out, stock)
 }
 
 #[cfg(test)]

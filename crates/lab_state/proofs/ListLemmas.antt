@@ -1,7 +1,7 @@
 -- Lists: a change of one place, maps, and names.
 use Rattle.std.proofs.Common.{◌≡◌, ◌∙◌, sym, ap, refl, Bool, false, not, cond, ℕ, zero, suc, ◌+◌, ◌<◌, ◌≤◌, List, []}
 use Rattle.std.proofs.Common.{◌∷◌, ◌++◌, length, map, set, get_or, take, drop, slice_get, Option, Some, None, arith}
-use Rattle.std.specs.Prelude.{is_some}
+use Rattle.std.specs.Prelude.{is_some, IsSome}
 use Rattle.std.specs.List.{flat_map, All, AllByRecursion, position, position_or_len}
 use Rattle.std.specs.Option.{option_map}
 use Rattle.std.specs.Str.{bytes_eq}
@@ -14,7 +14,9 @@ use Rattle.std.proofs.lemmas.List.Quantifiers.{all_pairs_push}
 use Rattle.std.proofs.lemmas.List.Sums.{fails_before_first, position_or_len_is}
 use Rattle.std.proofs.lemmas.Option.{slice_get-map, slice_get_within, get_or_from_slice_get}
 use Rattle.std.proofs.lemmas.Cmp.{nat_list_eq_equiv}
+use Rattle.lab_state.specs.Board.{Board}
 use Rattle.lab_state.specs.Change.{change_at}
+use Rattle.lab_state.specs.One.{view_at}
 use Rattle.lab_state.specs.Inner.Standing.{NamesDiffer, AreNames}
 
 -- ---- a change of one place
@@ -151,3 +153,11 @@ no_hub f boards g hubs i name are is =
     let at : slice_get (map f boards) i ≡ Some name = slice_get-map f boards i ∙ sym is in
     let here = get_or_from_slice_get (map f boards) i name name at in
     not_found g hubs name (rw here at (are.apart i name (slice_get_within (map f boards) i name at)))
+
+-- ---- a board that has a plan
+
+-- it is one of the boards
+pub planned_below : (boards : List Board) (b : ℕ) → IsSome (view_at boards b) → b < length boards
+planned_below [] b some = absurd (cc)
+planned_below (board ∷ boards) zero some = omega arith
+planned_below (board ∷ boards) (suc b) some = omega (arith, planned_below boards b some)

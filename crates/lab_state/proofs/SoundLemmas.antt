@@ -33,7 +33,7 @@ use Rattle.lab_state.specs.Names.{is_taken}
 use Rattle.lab_state.specs.One as one
 use Rattle.lab_state.specs.One.{view_at, view_of, kind_at}
 use Rattle.time_source.specs.Tree.{Tree, new, with_member, with_speed}
-use Rattle.lab_state.specs.Inner.Spares.{Spares, full, HasFor, HasRoomFor, AreTaken}
+use Rattle.lab_state.specs.Inner.Spares.{Spares, full, HasFor, AreTaken}
 use Rattle.lab_state.specs.Inner.Standing.{Outline, outline, outlines, number_of, IsStanding, AreStanding, IsKept}
 use Rattle.lab_state.specs.Inner.Standing.{kind_of_outline, kind_in, AreMembers, AreDevices, count_of_plans, IsSound}
 use Rattle.lab_state.specs.Inner.Time.{IsTimed}
@@ -353,30 +353,3 @@ module _ {lab now : Lab} {spares : Spares} {source : Tree} {planned : Bool} (i :
         times = sound.times;
         timed = timed-speed sound.timed i new;
       }
-
--- ---- devices that are given back
-
--- there is room for what was taken
-pub room-for :
-    {lab : Lab} {spares : Spares} {source : Tree} (left : Spares) (kinds : List Kind) → IsSound lab spares source →
-    AreTaken spares left kinds → HasRoomFor left kinds
-room-for left kinds sound taken = λ kind. omega (arith, taken kind, sound.enough.few kind)
-
--- and then all are there again
-pub sound-back :
-    {lab : Lab} {spares : Spares} {source : Tree} (left back : Spares) (kinds : List Kind) →
-    IsSound lab spares source → AreTaken spares left kinds → AreTaken back left kinds → IsSound lab back source
-sound-back left back kinds sound taken given = record {
-  few_boards = sound.few_boards;
-  standing = sound.standing;
-  devices = sound.devices;
-  names = sound.names;
-  enough = record {
-    few = λ kind. omega (arith, taken kind, given kind, sound.enough.few kind);
-    uarts = omega (arith, taken Uart, given Uart, sound.enough.uarts);
-    cans = omega (arith, taken Can, given Can, sound.enough.cans);
-    finishers = omega (arith, taken Finisher, given Finisher, sound.enough.finishers);
-  };
-  times = sound.times;
-  timed = sound.timed;
-}

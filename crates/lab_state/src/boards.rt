@@ -166,7 +166,6 @@ impl<D: Device> Lab<D> {
         requires device { IsSome (kind_at self.now.lab.boards member) }
         ensures { Some result ≡ kind_at self.now.lab.boards member }
     {
-        let plan = self.board(member.board).plan();
-        plan.kinds.items()[member.dev as usize]
+        self.device_kind(member).unwrap()
     }
 }

@@ -1,6 +1,6 @@
 //! The hubs of a laboratory.
 ghost use Rattle.std.specs.Prelude.{◌≡◌, ◌+◌, ◌^◌, ◌<◌, ◌↔◌, ◌≢◌, ◌++◌, ◌∷◌, [], length, false, Some, None, slice_get};
-ghost use Rattle.std.specs.Prelude.{IfSome, IsSome, IsTrue, OnOk, OnErr};
+ghost use Rattle.std.specs.Prelude.{IfSome, IfOk, IfErr, IsSome, IsTrue, OnOk, OnErr};
 ghost use Rattle.std.specs.Option.{option_map};
 ghost use Rattle.lab_num.specs.Name as name_spec;
 ghost use Rattle.lab_num.specs.Route.{StandOnce, is_connected};
@@ -99,6 +99,31 @@ impl<D: Device> Lab<D> {
         self.create_hub(name, Kind::Can)
     }
 
+    /// The number of the hub of this name, if it connects devices of this kind.
+    fn hub_for(&self, kind: Kind, hub: &str) -> Result<usize, ConnectFault>
+        requires { self.now.spent ≡ false }
+        ensures number { IfOk result (λ n. names_spec.hub_named self.now.lab hub.now ≡ Some n) }
+        ensures head { IfOk result (λ n.
+            option_map (λ hub. hub.kind) (slice_get self.now.lab.hubs n) ≡ Some kind) }
+        ensures ok { OnOk result (names_spec.kind_named self.now.lab hub.now ≡ Some kind) }
+        ensures name { (result ≡ Err ConnectFault.Name)
+            ↔ (names_spec.hub_named self.now.lab hub.now ≡ None) }
+        ensures kind { (result ≡ Err ConnectFault.Kind)
+            ↔ (IsSome (names_spec.hub_named self.now.lab hub.now)
+            × (names_spec.kind_named self.now.lab hub.now ≢ Some kind)) }
+        ensures err { OnErr result (names_spec.kind_named self.now.lab hub.now ≢ Some kind) }
+        ensures fault { IfErr result (λ fault. fault ≢ ConnectFault.Already) }
+    {
+        let Some(n) = self.hub_named(hub) else {
+            return Err(ConnectFault::Name);
+        };
+        if is_same(self.hubs.head(n).kind, kind) {
+            Ok(n)
+        } else {
+            Err(ConnectFault::Kind)
+        }
+    }
+
     /// Puts a device of a board that has a plan at the end of the hub of this name.
     pub fn connect(&mut self, member: Member, hub: &str) -> Result<(), ConnectFault>
         requires unspent { self.old.spent ≡ false }
@@ -120,12 +145,7 @@ impl<D: Device> Lab<D> {
             × IsTrue (is_connected (members_of self.old.lab.hubs) member)) }
         ensures err { OnErr result (self.new ≡ self.old) }
     {
-        let Some(n) = self.hub_named(hub) else {
-            return Err(ConnectFault::Name);
-        };
-        if !is_same(self.hubs.head(n).kind, self.kind_of(member)) {
-            return Err(ConnectFault::Kind);
-        }
+        let n = self.hub_for(self.kind_of(member), hub)?;
         self.hubs.connect(n, member)?;
         Ok(())
     }

@@ -1,6 +1,6 @@
 //! A board under its name.
-ghost use Rattle.std.specs.Prelude.{◌≡◌, ◌+◌, ◌≤◌, ◌<◌, ◌++◌, [], length, take, ℕ, IsTrue, Some, None, OnOk, OnErr};
-ghost use Rattle.std.specs.Prelude.{option_and_then, is_none, slice_get};
+ghost use Rattle.std.specs.Prelude.{◌≡◌, ◌+◌, ◌≤◌, ◌<◌, ◌++◌, [], length, take, ℕ, IsTrue, Some, None};
+ghost use Rattle.std.specs.Prelude.{option_and_then, is_none, slice_get, IfOk, OnOk, OnErr};
 ghost use Rattle.std.specs.Option.{option_map, ForSome};
 ghost use Rattle.log_merge.specs.Merge.{all_entries};
 ghost use Rattle.board.specs.Changes.{with_bytes, handed, holds_each};
@@ -105,6 +105,30 @@ fn step_board<D: Device>(
     Ok(())
 }
 
+/// A board after the slots of a grant. Without memory for what it has made it is lost.
+fn after_step<D: Device>(
+    mut board: Board<D>,
+    grant: &mut Handle,
+    made: &mut Made,
+) -> Result<Board<D>, NoMemory>
+    requires within { grant.old.to ≤ 10000000000 }
+    requires part { grant.old ≡ fresh grant.old.from grant.old.to board.view.numbers.speed }
+    requires quiet { board ≡ quiet board.view }
+    requires posts { board.view.numbers.posted ≤ 10000000000000 }
+    requires entries { board.view.numbers.entered ≤ 10000000000000 }
+    ensures used { OnOk result (grant.new ≡ used_up grant.old) }
+    ensures board { IfOk result (λ after.
+        after ≡ quiet (granted grant.old.from grant.old.to board.view).view) }
+    ensures posts { OnOk result (made.new.posts.items
+        ≡ made.old.posts.items ++ (granted grant.old.from grant.old.to board.view).posts) }
+    ensures entries { OnOk result (all_entries made.new.entries.items
+        ≡ all_entries made.old.entries.items
+        ++ (granted grant.old.from grant.old.to board.view).entries) }
+{
+    step_board(&mut board, grant, made)?;
+    Ok(board)
+}
+
 /// What the log notes of a payload that a shown device was handed and answered so.
 fn note_of(payload: &Payload, taken: Taken) -> Option<Note>
     ensures { result ≡ boundary_spec.note_of payload.now taken }
@@ -198,12 +222,11 @@ impl<D: Device> NamedBoard<D> {
             ≡ all_entries made.old.entries.items
             ++ entries_made (granted grant.old.from grant.old.to) self.old) }
     {
-        let Some(mut board) = self.board.take() else {
+        let Some(board) = self.board.take() else {
             use_up(grant);
             return Ok(());
         };
-        step_board(&mut board, grant, made)?;
-        self.board = Some(board);
+        self.board = Some(after_step(board, grant, made)?);
         Ok(())
     }
 

@@ -87,9 +87,24 @@ impl<D: Device> Lab<D> {
         self.go_on(run, rest)
     }
 
+    /// The rounds of a run.
+    #[tactic(auto, using(crate::proofs::RunLemmas::run_is))]
+    fn rounds(&mut self, d: u64) -> Result<RoundLog, LabFault>
+        requires unspent { self.old.spent ≡ false }
+        requires plans { HaveAllPlans self.old.lab }
+        requires within { self.old.lab.now + d ≤ 10000000000 }
+        ensures ok { IfOk result (λ log.
+            came_to self.new.lab log ≡ run_spec.run self.old.lab d) }
+        ensures unspent { OnOk result (self.new.spent ≡ false) }
+        ensures err { OnErr result (self.new.spent ≡ true) }
+    {
+        let q = self.quantum;
+        let run = self.whole_quanta(d / q, q)?;
+        self.what_is_left(run, d % q)
+    }
+
     /// Runs for `d` microseconds: rounds of one quantum each, and then a shorter one if the quanta
     /// do not fill `d`. A run of 0 changes nothing. `RunFault::Memory` spends the laboratory.
-    #[tactic(auto, using(crate::proofs::RunLemmas::run_is))]
     pub fn run_for(&mut self, d: Micros) -> Result<RoundLog, RunFault>
         ensures lab { OnOk result (self.new
             ≡ record { lab = (run_spec.run self.old.lab d.0).lab; spent = false }) }
@@ -115,9 +130,7 @@ impl<D: Device> Lab<D> {
         if d.0 > LAST - self.source.elapsed().0 {
             return Err(RunFault::TooLong);
         }
-        let q = self.quantum;
-        let run = self.whole_quanta(d.0 / q, q)?;
-        let run = self.what_is_left(run, d.0 % q)?;
+        let run = self.rounds(d.0)?;
         Ok(run)
     }
 }

@@ -36,6 +36,21 @@ pub fn joined(alloc: Global, first: &str, last: &str) -> Result<String, NoMemory
     Ok(text)
 }
 
+/// A run for the words of a line on the devices of a full stock: how it ends.
+fn run_on<D: Device>(
+    alloc: Global,
+    line: &str,
+    files: &mut MemFiles,
+    out: &mut MemSink,
+    stock: Stock<D>,
+) -> Result<Status, NoMemory> {
+    if !stock.is_full() {
+        return Err(NoMemory);
+    }
+    let words = words_of(alloc, line)?;
+    Ok(run_lab(alloc, &words, files, out, stock))
+}
+
 /// A run for the words of a line, on devices enough for every laboratory: how it ends.
 pub fn run(
     alloc: Global,
@@ -43,7 +58,6 @@ pub fn run(
     files: &mut MemFiles,
     out: &mut MemSink,
 ) -> Result<Status, NoMemory> {
-    let words = words_of(alloc, line)?;
     let mut uarts: Vec<Box<dyn Device + Send>> = Vec::new(alloc);
     for _ in 0..64 {
         uarts.push(Box::new(alloc, Uart::new())?)?;
@@ -61,10 +75,7 @@ pub fn run(
         cans,
         finishers,
     };
-    if !stock.is_full() {
-        return Err(NoMemory);
-    }
-    Ok(run_lab(alloc, &words, files, out, stock))
+    run_on(alloc, line, files, out, stock)
 }
 
 /// What a run for the words of a line has written, where that or its number is not as expected.

@@ -37,24 +37,35 @@ fn device(board: BoardNo, dev: u8) -> Member
     Member { board, dev }
 }
 
-/// A laboratory with a hub of each kind and no board.
-fn new_lab<D: Device>(rt: &impl Abort, alloc: Global, stock: Stock<D>) -> Result<Lab<D>, Fail> {
-    assert!(rt; stock.is_full());
-    let mut lab = Lab::new(alloc, stock)?;
+/// Creates a hub of each kind.
+fn create_hubs<D: Device>(rt: &impl Abort, lab: &mut Lab<D>) -> Result<(), Fail> {
+    assert!(rt; !lab.is_spent() && lab.hubs() < 9);
     assert!(rt; is_name(HUB));
     lab.create_uart_hub(HUB)?;
-    assert!(rt; !lab.is_spent());
-    assert!(rt; is_name(BUS) && lab.hubs() < 9);
+    assert!(rt; !lab.is_spent() && lab.hubs() < 9);
+    assert!(rt; is_name(BUS));
     lab.create_can_hub(BUS)?;
-    Ok(lab)
+    Ok(())
+}
+
+/// Takes the steps in a new laboratory with a hub of each kind and no board.
+fn play_on<D: Device>(
+    rt: &impl Abort,
+    alloc: Global,
+    stock: Stock<D>,
+    steps: &[Step],
+) -> Result<(), Fail> {
+    assert!(rt; stock.is_full());
+    let mut lab = Lab::new(alloc, stock)?;
+    create_hubs(rt, &mut lab)?;
+    play(rt, alloc, &mut lab, steps)
 }
 
 /// Takes the steps of each case, in a laboratory of its own.
 fn play_all(rt: &impl Abort, alloc: Global, cases: &[&[Step]]) -> Result<(), Fail> {
     for steps in cases {
         let counts = Counts::new();
-        let lab = new_lab(rt, alloc, stock(alloc, &counts)?)?;
-        play(rt, alloc, lab, steps)?;
+        play_on(rt, alloc, stock(alloc, &counts)?, steps)?;
     }
     Ok(())
 }
@@ -82,8 +93,7 @@ fn sixteen_boards_with_all_devices_fit(rt: HostRuntime) -> Result<(), Fail> {
 #[test]
 fn boards_take_the_devices_of_the_stock_in_order(rt: HostRuntime) -> Result<(), Fail> {
     let counts = Counts::new();
-    let lab = new_lab(&rt, rt.alloc(), stock(rt.alloc(), &counts)?)?;
-    play(&rt, rt.alloc(), lab, &cases::STORES)?;
+    play_on(&rt, rt.alloc(), stock(rt.alloc(), &counts)?, &cases::STORES)?;
     let stores = (counts.first.get(), counts.second.get(), counts.others.get());
     assert_eq!(rt; stores, (1, 2, 0));
     Ok(())

@@ -60,22 +60,22 @@ fn regions() -> [Region; 7] {
     ]
 }
 
-/// A plan with these parts and wires, but the kinds of the usual board.
-fn parts(alloc: Global) -> Result<BoardPlan, NoMemory> {
-    let mut plan = usual_board(alloc)?;
-    set_names(&mut plan, alloc, &NAMES)?;
-    set_regions(&mut plan, alloc, &regions())?;
-    set_wires(&mut plan, alloc, &WIRES)?;
-    plan.speed = 1;
-    Ok(plan)
+/// Puts these parts and wires in place of those of a plan.
+fn set_parts(plan: &mut BoardPlan, alloc: Global) -> Result<(), NoMemory> {
+    set_names(plan, alloc, &NAMES)?;
+    set_regions(plan, alloc, &regions())?;
+    set_wires(plan, alloc, &WIRES)
 }
 
-/// Four controllers.
+/// The usual board with these parts and wires, and four controllers.
 fn plan(alloc: Global) -> Result<BoardPlan, NoMemory>
     ensures { IfOk result (λ plan. plan.kinds ≡ can ∷ can ∷ can ∷ can ∷ []) }
 {
-    let mut plan = parts(alloc)?;
-    plan.kinds = Rows::of(vec![in alloc; Kind::Can, Kind::Can, Kind::Can, Kind::Can]?);
+    let kinds = Rows::of(vec![in alloc; Kind::Can, Kind::Can, Kind::Can, Kind::Can]?);
+    let mut plan = usual_board(alloc)?;
+    set_parts(&mut plan, alloc)?;
+    plan.speed = 1;
+    plan.kinds = kinds;
     Ok(plan)
 }
 
@@ -313,8 +313,7 @@ static ROWS: [(&[u32], &[Step]); 4] = [
 /// Plays a program on a new board.
 fn play_one(rt: &impl Abort, alloc: Global, words: &[u32], steps: &[Step]) -> Result<(), Fail> {
     let mut board = start(rt, alloc, plan(alloc)?)?;
-    play(rt, &mut board, words, steps)?;
-    Ok(())
+    play(rt, &mut board, words, steps)
 }
 
 fn play_all(rt: &impl Abort, alloc: Global, rows: &[(&[u32], &[Step])]) -> Result<(), Fail> {

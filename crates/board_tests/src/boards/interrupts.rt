@@ -75,21 +75,21 @@ fn regions() -> [Region; 5] {
     ]
 }
 
-/// A plan with these parts and wires, but the kinds of the usual board.
-fn parts(alloc: Global, wires: &[Wire]) -> Result<BoardPlan, NoMemory> {
-    let mut plan = usual_board(alloc)?;
-    set_names(&mut plan, alloc, &NAMES)?;
-    set_regions(&mut plan, alloc, &regions())?;
-    set_wires(&mut plan, alloc, wires)?;
-    Ok(plan)
+/// Puts these parts and wires in place of those of a plan.
+fn set_parts(plan: &mut BoardPlan, alloc: Global, wires: &[Wire]) -> Result<(), NoMemory> {
+    set_names(plan, alloc, &NAMES)?;
+    set_regions(plan, alloc, &regions())?;
+    set_wires(plan, alloc, wires)
 }
 
 /// The usual board with a second UART and these wires.
 fn plan(alloc: Global, wires: &[Wire]) -> Result<BoardPlan, NoMemory>
     ensures { IfOk result (λ plan. plan.kinds ≡ uart ∷ uart ∷ []) }
 {
-    let mut plan = parts(alloc, wires)?;
-    plan.kinds = Rows::of(vec![in alloc; Kind::Uart, Kind::Uart]?);
+    let kinds = Rows::of(vec![in alloc; Kind::Uart, Kind::Uart]?);
+    let mut plan = usual_board(alloc)?;
+    set_parts(&mut plan, alloc, wires)?;
+    plan.kinds = kinds;
     Ok(plan)
 }
 

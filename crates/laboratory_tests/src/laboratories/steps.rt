@@ -490,11 +490,27 @@ fn read<D: Device>(rt: &impl Abort, lab: &mut Lab<D>, step: Step) -> Result<(), 
     Ok(())
 }
 
-/// Takes the steps, each of which one of these does.
+/// Takes a step, which one of these does.
+fn take<D: Device>(
+    rt: &impl Abort,
+    alloc: Global,
+    lab: &mut Lab<D>,
+    log: &mut Log,
+    step: Step,
+) -> Result<(), Fail> {
+    build(rt, alloc, lab, step)?;
+    change(rt, lab, step);
+    run(rt, lab, log, step)?;
+    look(rt, log, step);
+    look_at_frames(rt, log, step);
+    read(rt, lab, step)
+}
+
+/// Takes the steps.
 pub fn play<D: Device>(
     rt: &impl Abort,
     alloc: Global,
-    mut lab: Lab<D>,
+    lab: &mut Lab<D>,
     steps: &[Step],
 ) -> Result<(), Fail> {
     let nothing = lab.run_for(Micros(0))?;
@@ -503,12 +519,7 @@ pub fn play<D: Device>(
         seen: 0,
     };
     for step in steps {
-        build(rt, alloc, &mut lab, *step)?;
-        change(rt, &mut lab, *step);
-        run(rt, &mut lab, &mut log, *step)?;
-        look(rt, &mut log, *step);
-        look_at_frames(rt, &mut log, *step);
-        read(rt, &mut lab, *step)?;
+        take(rt, alloc, lab, &mut log, *step)?;
     }
     Ok(())
 }

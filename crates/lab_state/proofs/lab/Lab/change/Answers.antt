@@ -1,10 +1,16 @@
 -- A change of one board keeps what holds of the laboratory, and its member of the source of time has its speed.
-use Rattle.std.proofs.Common.{◌≡◌, ◌∙◌, ap, false}
+use Rattle.std.proofs.Common.{◌≡◌, ◌∙◌, ap, false, arith}
 use Rattle.lab_state.specs.One.{with_view}
 use Rattle.lab_state.specs.Inner.Change.{changed_by}
+use Rattle.lab_state.proofs.ListLemmas.{planned_below}
 use Rattle.lab_state.proofs.SoundLemmas.{sound-set, seen_set}
 use Rattle.lab_state.proofs.ChangeLemmas.{change-kept, timed-change, member_of, speed-given, sped-end}
 use Rattle.lab_state.proofs.lab.Lab.change.Goals as goal
+
+pub index_mut-requires : goal.index_mut-requires
+index_mut-requires g c =
+    let below = planned_below c.self.inside.boards.items c.args.b.0 (rw (← c.self.view_is) at c.requires.has_plan) in
+    omega (arith, below)
 
 pub keep_speed-requires-clause-member : goal.keep_speed-requires-clause-member
 keep_speed-requires-clause-member g c =

@@ -1,9 +1,10 @@
 -- What is written is no part of what holds of the laboratory.
-use Rattle.std.proofs.Common.{refl, take, Result, Ok, Err, OnOk}
+use Rattle.std.proofs.Common.{refl, take, Result, Ok, Err, OnOk, arith}
 use Rattle.std.specs.Prelude.{OnErr}
 use Rattle.std.proofs.lemmas.Result.{on_ok_weaker, on_err_weaker}
 use Rattle.board.specs.Changes.{with_bytes}
 use Rattle.lab_state.specs.One.{with_view}
+use Rattle.lab_state.proofs.ListLemmas.{planned_below}
 use Rattle.lab_state.proofs.SoundLemmas.{sound-set, seen_set}
 use Rattle.lab_state.proofs.ChangeLemmas.{bytes-kept, timed-kept}
 use Rattle.lab_state.proofs.lab.Lab.copy_in.Goals as goal
@@ -11,6 +12,11 @@ use Rattle.lab_state.proofs.lab.Lab.copy_in.Goals as goal
 either : {T E P Q C : Type 0} (r : Result T E) → OnOk r P → OnErr r Q → (P → C) → (Q → C) → C
 either (Ok x) p q first second = first p
 either (Err e) p q first second = second q
+
+pub index_mut-requires : goal.index_mut-requires
+index_mut-requires g c =
+    let below = planned_below c.self.inside.boards.items c.args.b.0 (rw (← c.self.view_is) at c.requires.has_plan) in
+    omega (arith, below)
 
 pub invariant_of-self : goal.invariant_of-self
 invariant_of-self g c h =
