@@ -1,5 +1,5 @@
 //! The real files, relative to the working folder.
-ghost use Rattle.std.specs.Prelude.{◌≡◌, ◌≢◌, ◌<◌, ◌≤◌, [], length, None, IfSome};
+ghost use Rattle.std.specs.Prelude.{◌≡◌, ◌≢◌, ◌<◌, ◌≤◌, ◌⊎◌, [], length, None, IfSome};
 ghost use Rattle.lab_io.specs.Known.{Rose};
 ghost use Rattle.lab_io.specs.Held.{IsReadAs, read_faults};
 
@@ -7,6 +7,17 @@ use crate::files::{Files, ReadAnswer};
 use std::io::{ErrorKind, Read};
 use std::marker::Model;
 use std::{fs, rt};
+
+/// What an error of a read is answered as.
+fn answer_to(kind: ErrorKind) -> ReadAnswer
+    ensures { (result ≡ ReadAnswer.Memory) ⊎ (result ≡ ReadAnswer.Failed) }
+{
+    if kind == ErrorKind::OutOfMemory {
+        ReadAnswer::Memory
+    } else {
+        ReadAnswer::Failed
+    }
+}
 
 /// Reads a source whole, if it has at most `limit` bytes.
 fn read_whole<S: Read + Drop>(source: S, limit: usize, into: &mut Vec<u8>) -> ReadAnswer
@@ -22,11 +33,22 @@ fn read_whole<S: Read + Drop>(source: S, limit: usize, into: &mut Vec<u8>) -> Re
     let answer = match source.take(limit as u64 + 1).read_to_end(into) {
         Ok(_) if into.len() <= limit => return ReadAnswer::Done,
         Ok(_) => ReadAnswer::TooLarge,
-        Err(error) if error.kind() == ErrorKind::OutOfMemory => ReadAnswer::Memory,
-        Err(_) => ReadAnswer::Failed,
+        Err(error) => answer_to(error.kind()),
     };
     into.clear();
     answer
+}
+
+/// Reads the file of a name whole, if it has at most `limit` bytes.
+fn read_named<R: rt::Files>(rt: &R, name: &str, limit: usize, into: &mut Vec<u8>) -> ReadAnswer
+    requires empty { into.old.items ≡ [] }
+    requires limit { limit ≤ 67108864 }
+    ensures { IsReadAs None name.now limit result into.new.items }
+{
+    match fs::open(rt, name) {
+        Ok(file) => read_whole(file, limit, into),
+        Err(_) => ReadAnswer::Failed,
+    }
 }
 
 /// The real files, relative to the working folder. What they hold is not told: of them contracts
@@ -73,10 +95,7 @@ impl<R: rt::Files> Files for DiskFiles<'_, R> {
 
         ensures counted { self.new ≡ read_faults result self.old }
     {
-        let answer = match fs::open(self.rt, name) {
-            Ok(file) => read_whole(file, limit, into),
-            Err(_) => ReadAnswer::Failed,
-        };
+        let answer = read_named(self.rt, name, limit, into);
         if answer == ReadAnswer::Failed {
             self.faults = self.faults.saturating_add(1);
         }

@@ -4,6 +4,7 @@ ghost use Rattle.std.specs.Option.{option_copied};
 ghost use Rattle.std.specs.FinMap as map;
 ghost use Rattle.lab_io.specs.Known.{grown, Rose};
 ghost use Rattle.lab_io.specs.Held.{IsReadAs, asks};
+ghost use Rattle.lab_io.specs.FilesSeen.{IsToFail, after_read};
 
 use crate::files::{Files, ReadAnswer};
 use std::alloc::{AllocError, Global};
@@ -121,11 +122,52 @@ impl MemFiles {
     {
         self.failing.contains(&self.calls)
     }
+
+    /// What the read that comes next answers and gives, as far as memory is found for it.
+    fn answer(&self, name: &str, limit: usize, into: &mut Vec<u8>) -> ReadAnswer
+        requires { into.old.items ≡ [] }
+        ensures given { IsReadAs (Some self.now.held) name.now limit result into.new.items }
+        ensures fails { result ≢ ReadAnswer.Memory →
+            (result ≡ ReadAnswer.Failed ↔ IsToFail self.now name.now) }
+    {
+        if self.is_listed() {
+            ReadAnswer::Failed
+        } else {
+            self.give(name, limit, into)
+        }
+    }
+
+    /// Adds a name to those that were asked for.
+    fn ask(&mut self, name: &str) -> Result<(), AllocError>
+        ensures ok { OnOk result (self.new
+            ≡ record self.old { asked = self.old.asked ++ name.now ∷ [] }) }
+        ensures err { OnErr result (self.new ≡ self.old) }
+    {
+        let name = String::from_str(self.alloc, name)?;
+        self.asked.push(name)?;
+        Ok(())
+    }
+
+    /// Counts a read with its answer. One that finds no memory for its name has asked for none.
+    fn note(&mut self, name: &str, answer: ReadAnswer) -> Result<(), AllocError>
+        ensures ok { OnOk result (self.new ≡ after_read self.old name.now answer) }
+        ensures err { OnErr result (self.new ≡ after_read self.old name.now ReadAnswer.Memory) }
+        ensures faults { self.old.faults ≤ self.new.faults }
+    {
+        self.calls = self.calls.saturating_add(1);
+        match answer {
+            ReadAnswer::Done | ReadAnswer::TooLarge => self.ask(name),
+            ReadAnswer::Failed => {
+                self.ask(name)?;
+                self.faults = self.faults.saturating_add(1);
+                Ok(())
+            }
+            ReadAnswer::Memory => Ok(()),
+        }
+    }
 }
 
 impl Files for MemFiles {
-    ghost use Rattle.lab_io.specs.FilesSeen.{IsToFail, after_read};
-
     ghost held = { λ files. Some files.held };
 
     ghost asked = { λ files. Some files.asked };
@@ -148,27 +190,13 @@ impl Files for MemFiles {
             (result ≡ ReadAnswer.Failed ↔ IsToFail self.old name.now) }
         ensures after { self.new ≡ after_read self.old name.now result }
     {
-        let is_listed = self.is_listed();
-        self.calls = self.calls.saturating_add(1);
-        let Ok(asked) = String::from_str(self.alloc, name) else {
-            return ReadAnswer::Memory;
-        };
-        if self.asked.reserve(1).is_err() {
-            return ReadAnswer::Memory;
+        let answer = self.answer(name, limit, into);
+        match self.note(name, answer) {
+            Ok(()) => answer,
+            Err(_) => {
+                into.clear();
+                ReadAnswer::Memory
+            }
         }
-        let answer = if is_listed {
-            ReadAnswer::Failed
-        } else {
-            self.give(name, limit, into)
-        };
-        match answer {
-            ReadAnswer::Memory => return ReadAnswer::Memory,
-            ReadAnswer::Failed => self.faults = self.faults.saturating_add(1),
-            ReadAnswer::Done | ReadAnswer::TooLarge => {}
-        }
-        let Ok(()) = self.asked.push(asked) else {
-            unreachable!()
-        };
-        answer
     }
 }

@@ -127,9 +127,18 @@ pub fn print_pause(
     let at = Seconds(at);
     let board = board_name(names, member.board);
     let device = device_name(names, member);
+    write!(text, "[{at}] pause {board}/{device}: ")?;
+    end_with_finish(finish, text)
+}
+
+/// Writes how a run has ended, and ends the line.
+fn end_with_finish(finish: Finish, text: &mut String) -> Result<(), NoMemory>
+    ensures { OnOk result (string_bytes text.new
+        ≡ string_bytes text.old ++ log_spec.finish_text finish ++ codes "\n") }
+{
     match finish {
-        Finish::Pass => writeln!(text, "[{at}] pause {board}/{device}: pass")?,
-        Finish::Fail(code) => writeln!(text, "[{at}] pause {board}/{device}: fail {code}")?,
+        Finish::Pass => writeln!(text, "pass")?,
+        Finish::Fail(code) => writeln!(text, "fail {code}")?,
     }
     Ok(())
 }
