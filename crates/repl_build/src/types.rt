@@ -3,7 +3,7 @@ ghost use Rattle.std.specs.Prelude.{◌≡◌};
 ghost use Rattle.repl_build.specs.Types as types_spec;
 
 /// A type of peripheral that a board may have.
-#[derive(Clone, Copy, PartialEq, Eq, Debug)]
+#[derive(Clone, Copy)]
 pub(crate) enum PeripheralType {
     Cpu,
     Memory,
@@ -34,14 +34,14 @@ pub(crate) fn type_of(name: &str) -> Option<PeripheralType>
 pub(crate) fn is_type(kind: PeripheralType, other: Option<PeripheralType>) -> bool
     ensures { result ≡ types_spec.is_type kind other }
 {
-    match (kind, other) {
-        (PeripheralType::Cpu, Some(PeripheralType::Cpu)) => true,
-        (PeripheralType::Memory, Some(PeripheralType::Memory)) => true,
-        (PeripheralType::Clint, Some(PeripheralType::Clint)) => true,
-        (PeripheralType::Plic, Some(PeripheralType::Plic)) => true,
-        (PeripheralType::Uart, Some(PeripheralType::Uart)) => true,
-        (PeripheralType::Can, Some(PeripheralType::Can)) => true,
-        (PeripheralType::Finisher, Some(PeripheralType::Finisher)) => true,
-        _ => false,
-    }
+    matches!(
+        (kind, other),
+        (PeripheralType::Cpu, Some(PeripheralType::Cpu))
+            | (PeripheralType::Memory, Some(PeripheralType::Memory))
+            | (PeripheralType::Clint, Some(PeripheralType::Clint))
+            | (PeripheralType::Plic, Some(PeripheralType::Plic))
+            | (PeripheralType::Uart, Some(PeripheralType::Uart))
+            | (PeripheralType::Can, Some(PeripheralType::Can))
+            | (PeripheralType::Finisher, Some(PeripheralType::Finisher))
+    )
 }
