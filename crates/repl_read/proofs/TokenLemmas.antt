@@ -1,6 +1,6 @@
 -- The tokens of a line, one at a time.
 use Rattle.std.proofs.Common.{◌≡◌, ℕ, ◌+◌, ◌<◌, ◌≤◌, ◌==◌, true, false, ◌∙◌, refl, sym, ap, rules, subst, add-zero}
-use Rattle.std.proofs.Common.{add-one, zero, suc, List, [], ◌∷◌, ◌++◌, length, get_or, take, drop, None, Some, ◌≢◌, arith}
+use Rattle.std.proofs.Common.{add-one, zero, suc, List, [], ◌∷◌, ◌++◌, length, get_or, take, drop, None, Some, ◌≢◌, append_assoc, arith}
 use Rattle.std.specs.List.{list_all}
 use Rattle.std.specs.Str.{byte, IsUtf8, IsCharBoundary}
 use Rattle.std.proofs.lemmas.Bool.{and_parts}
@@ -11,6 +11,7 @@ use Rattle.std.proofs.lemmas.Str.{IsCharBoundary-before_ascii, IsCharBoundary-af
 use Rattle.repl_read.specs.Comments.{quote}
 use Rattle.repl_read.specs.Tokens.{is_blank, is_word_byte, sign_of, glue, dash, tokens_of}
 use Rattle.repl_read.specs.Inner.Steps.{is_no_quote, IsStep}
+use Rattle.repl_read.specs.declared.tokens.Step.{Step}
 use Rattle.repl_read.specs.declared.tokens.Token.{Token}
 use Rattle.repl_read.specs.declared.tokens.Token.TheVariants.{Word, Quoted, Minus, Arrow, Other}
 
@@ -223,3 +224,17 @@ pub quote_end :
     (line : List ℕ) (start : ℕ) → IsUtf8 line → start < length line → get_or line start 0 ≡ quote →
     IsCharBoundary line (start + 1)
 quote_end line start text inside string = IsCharBoundary-after_ascii line start text inside (omega arith)
+
+-- a token more, and what stands after it
+pub token_more :
+    (line : List ℕ) (start : ℕ) (step : Step) (token : Token) (made whole : List Token) → IsStep line start step →
+    step.token ≡ Some token → made ++ tokens_of false (drop start line) ≡ whole →
+    (made ++ token ∷ []) ++ tokens_of false (drop step.end line) ≡ whole
+token_more line start step token made whole here is read =
+    append_assoc made (token ∷ []) (tokens_of false (drop step.end line)) ∙ (rw (here.token, is) at read)
+
+pub no_token_more :
+    (line : List ℕ) (start : ℕ) (step : Step) (made whole : List Token) → IsStep line start step →
+    step.token ≡ None → made ++ tokens_of false (drop start line) ≡ whole →
+    made ++ tokens_of false (drop step.end line) ≡ whole
+no_token_more line start step made whole here is read = rw (here.token, is) at read
