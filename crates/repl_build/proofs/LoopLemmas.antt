@@ -1,8 +1,8 @@
 -- Loops over lists, an element at a time.
 use Rattle.std.proofs.Common.{◌≡◌, ℕ, ◌+◌, ◌<◌, ◌∙◌, Bool, true, false, refl, sym, ap, List, [], ◌∷◌, ◌++◌, length}
-use Rattle.std.proofs.Common.{get_or, take, drop, map, filter, append_assoc, Option, None, Some, Result, Ok, Err, arith}
+use Rattle.std.proofs.Common.{get_or, take, drop, map, filter, append_assoc, Option, None, Some, Result, Ok, Err}
 use Rattle.std.specs.List.{flat_map, filter_map, fold}
-use Rattle.std.proofs.lemmas.List.{drop_more, take_more, append-nil, map-append}
+use Rattle.std.proofs.lemmas.List.{drop_more, take_more, map-append}
 use Rattle.std.proofs.lemmas.List.Sums.{fold-append}
 use Rattle.repl_read.specs.declared.fault.PlatFault.{PlatFault}
 use Rattle.sys_bus.specs.declared.plan.PlicSize.{PlicSize}

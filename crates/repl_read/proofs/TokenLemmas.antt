@@ -1,6 +1,7 @@
 -- The tokens of a line, one at a time.
 use Rattle.std.proofs.Common.{◌≡◌, ℕ, ◌+◌, ◌<◌, ◌≤◌, ◌==◌, true, false, ◌∙◌, refl, sym, ap, rules, subst, add-zero}
-use Rattle.std.proofs.Common.{add-one, zero, suc, List, [], ◌∷◌, ◌++◌, length, get_or, take, drop, None, Some, ◌≢◌, append_assoc, arith}
+use Rattle.std.proofs.Common.{add-one, zero, suc, List, [], ◌∷◌, ◌++◌, length, get_or, take, drop, None, Some, arith}
+use Rattle.std.proofs.Common.{◌≢◌, append_assoc}
 use Rattle.std.specs.List.{list_all}
 use Rattle.std.specs.Str.{byte, IsUtf8, IsCharBoundary}
 use Rattle.std.proofs.lemmas.Bool.{and_parts}

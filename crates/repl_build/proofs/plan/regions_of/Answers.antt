@@ -1,5 +1,5 @@
 -- A peripheral more.
-use Rattle.std.proofs.Common.{◌≡◌, ◌∙◌, sym, ap, Some, None, take, [], ◌∷◌, option_to_list}
+use Rattle.std.proofs.Common.{◌≡◌, ◌∙◌, sym, ap, take, [], ◌∷◌, option_to_list}
 use Rattle.std.proofs.lemmas.List.{append-nil}
 use Rattle.repl_build.specs.Plan.{region_of}
 use Rattle.repl_build.proofs.LoopLemmas.{each_more}

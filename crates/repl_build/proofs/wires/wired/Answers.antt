@@ -1,5 +1,5 @@
 -- Lists of different lengths, and a line and a pin more.
-use Rattle.std.proofs.Common.{◌<◌, ◌∙◌, sym, length, arith}
+use Rattle.std.proofs.Common.{◌<◌, sym, length, arith}
 use Rattle.repl_build.specs.Wires.{wire_at}
 use Rattle.repl_build.proofs.WireLemmas.{unequal}
 use Rattle.repl_build.proofs.LoopLemmas.{wired_more}

@@ -1,5 +1,5 @@
 -- A dash, by the sign after it.
-use Rattle.std.proofs.Common.{◌+◌, arith}
+use Rattle.std.proofs.Common.{◌+◌}
 use Rattle.std.proofs.lemmas.List.{take_rest}
 use Rattle.repl_read.proofs.TokenLemmas.{arrow_step, dash_step}
 use Rattle.repl_read.proofs.tokens.dash_at.Goals as goal
