@@ -1,6 +1,7 @@
 -- Lemmas of repl_build.
 pub mod CountLemmas
 pub mod ListLemmas
+pub mod LoopLemmas
 pub mod NameLemmas
 pub mod NoneLemmas
 pub mod NumberLemmas

@@ -12,7 +12,7 @@ use repl_read::{ItemWhat, Place, Value};
 pub(crate) const PAGE_SIZE: u32 = 4096;
 
 /// What an attribute takes.
-#[derive(Clone, Copy, PartialEq, Eq, Debug)]
+#[derive(Clone, Copy)]
 pub(crate) enum Sort {
     /// A string.
     Quoted,

@@ -11,7 +11,7 @@ use repl_read::{Entry, Head, Item, ItemWhat, Place, PlatFault};
 use std::alloc::Global;
 
 /// An item, and where it stands.
-#[derive(Clone, Drop, Debug)]
+#[derive(Drop)]
 pub(crate) struct PlacedItem {
     pub(crate) file: u32,
     pub(crate) line: u32,
@@ -19,7 +19,7 @@ pub(crate) struct PlacedItem {
 }
 
 /// An entry that has a type, with all its items.
-#[derive(Drop, Debug)]
+#[derive(Drop)]
 pub(crate) struct Peripheral {
     pub(crate) file: u32,
     pub(crate) line: u32,

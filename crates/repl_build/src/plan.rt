@@ -151,14 +151,43 @@ fn speed_of(all: &[Peripheral]) -> u32
 }
 
 /// The name of the processor.
-fn cpu_name_of(alloc: Global, all: &[Peripheral]) -> Result<Text, PlatFault>
-    ensures ok { IfOk result (λ name. name ≡ plan_spec.cpu_name_of all.now) }
-    ensures err { IfErr result (λ fault. fault ≡ PlatFault.Memory) }
+fn cpu_name_of(all: &[Peripheral]) -> &str
+    ensures { result.now ≡ plan_spec.cpu_name_of all.now }
 {
     match first_with(PeripheralType::Cpu, all) {
-        Some(cpu) => Ok(cpu.name.clone()?),
-        None => Ok(Text::of(alloc, "")?),
+        Some(cpu) => cpu.name.as_str(),
+        None => "",
     }
+}
+
+/// The lists of a plan, apart from its wires.
+#[derive(Drop)]
+struct Lists {
+    names: Rows<Named>,
+    regions: Rows<Region>,
+    memories: Rows<u32>,
+    kinds: Rows<Kind>,
+}
+
+fn lists_of(alloc: Global, all: &[Peripheral]) -> Result<Lists, PlatFault>
+    requires { AreFew all.now }
+    ensures names { IfOk result (λ lists. lists.names ≡ plan_spec.each plan_spec.name_of [] all.now) }
+    ensures regions { IfOk result
+        (λ lists. lists.regions ≡ plan_spec.each plan_spec.region_of [] all.now) }
+    ensures memories { IfOk result (λ lists. lists.memories ≡ plan_spec.memories_of all.now) }
+    ensures kinds { IfOk result (λ lists. lists.kinds ≡ plan_spec.kinds_of all.now) }
+    ensures err { IfErr result (λ fault. fault ≡ PlatFault.Memory) }
+{
+    let names = names_of(alloc, all)?;
+    let regions = regions_of(alloc, all)?;
+    let memories = memories_of(alloc, all)?;
+    let kinds = kinds_of(alloc, all)?;
+    Ok(Lists {
+        names,
+        regions,
+        memories,
+        kinds,
+    })
 }
 
 /// The plan of peripherals that keep all rules, or the fault of the first wire that cannot be.
@@ -168,16 +197,13 @@ pub(crate) fn plan_of(alloc: Global, all: &[Peripheral]) -> Result<BoardPlan, Pl
 {
     let plic = plic_of(all);
     let wires = wires_of(alloc, plic, all)?;
-    let names = names_of(alloc, all)?;
-    let regions = regions_of(alloc, all)?;
-    let memories = memories_of(alloc, all)?;
-    let kinds = kinds_of(alloc, all)?;
-    let cpu = cpu_name_of(alloc, all)?;
+    let cpu = Text::of(alloc, cpu_name_of(all))?;
+    let lists = lists_of(alloc, all)?;
     Ok(BoardPlan {
-        names,
-        regions,
-        memories,
-        kinds,
+        names: lists.names,
+        regions: lists.regions,
+        memories: lists.memories,
+        kinds: lists.kinds,
         frequency: frequency_of(all),
         plic,
         wires,

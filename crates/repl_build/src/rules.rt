@@ -12,7 +12,7 @@ use crate::references::refers_to_none;
 use repl_read::{PlatCause, PlatFault};
 
 /// What each peripheral and each item meets.
-#[derive(Clone, Copy, PartialEq, Eq, Debug)]
+#[derive(Clone, Copy)]
 pub(crate) enum Rule {
     /// A type is known.
     Types,

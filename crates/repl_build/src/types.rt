@@ -1,9 +1,9 @@
 //! The types of peripherals.
-ghost use Rattle.std.specs.Prelude.{◌≡◌};
+ghost use Rattle.std.specs.Prelude.{◌≡◌, Some};
 ghost use Rattle.repl_build.specs.Types as types_spec;
 
 /// A type of peripheral that a board may have.
-#[derive(Clone, Copy, PartialEq, Eq, Debug)]
+#[derive(Clone, Copy)]
 pub(crate) enum PeripheralType {
     Cpu,
     Memory,
@@ -30,18 +30,27 @@ pub(crate) fn type_of(name: &str) -> Option<PeripheralType>
     }
 }
 
+fn is_same(kind: PeripheralType, other: PeripheralType) -> bool
+    ensures { result ≡ types_spec.is_type kind (Some other) }
+{
+    matches!(
+        (kind, other),
+        (PeripheralType::Cpu, PeripheralType::Cpu)
+            | (PeripheralType::Memory, PeripheralType::Memory)
+            | (PeripheralType::Clint, PeripheralType::Clint)
+            | (PeripheralType::Plic, PeripheralType::Plic)
+            | (PeripheralType::Uart, PeripheralType::Uart)
+            | (PeripheralType::Can, PeripheralType::Can)
+            | (PeripheralType::Finisher, PeripheralType::Finisher)
+    )
+}
+
 /// Whether a peripheral's type is this one.
 pub(crate) fn is_type(kind: PeripheralType, other: Option<PeripheralType>) -> bool
     ensures { result ≡ types_spec.is_type kind other }
 {
-    match (kind, other) {
-        (PeripheralType::Cpu, Some(PeripheralType::Cpu)) => true,
-        (PeripheralType::Memory, Some(PeripheralType::Memory)) => true,
-        (PeripheralType::Clint, Some(PeripheralType::Clint)) => true,
-        (PeripheralType::Plic, Some(PeripheralType::Plic)) => true,
-        (PeripheralType::Uart, Some(PeripheralType::Uart)) => true,
-        (PeripheralType::Can, Some(PeripheralType::Can)) => true,
-        (PeripheralType::Finisher, Some(PeripheralType::Finisher)) => true,
-        _ => false,
+    match other {
+        Some(other) => is_same(kind, other),
+        None => false,
     }
 }

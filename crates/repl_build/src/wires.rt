@@ -126,7 +126,7 @@ fn may_end(plic: Option<PlicSize>, from: WireFrom, pin: WirePin) -> bool
 }
 
 /// Where a wire may begin and end.
-#[derive(Clone, Copy, Debug)]
+#[derive(Clone, Copy)]
 struct Between {
     plic: Option<PlicSize>,
     kind: Option<PeripheralType>,

@@ -1,10 +1,11 @@
 -- Lines to entries, line by line.
 use Rattle.std.proofs.Common.{◌≡◌, ℕ, ◌+◌, ◌<◌, ◌∙◌, refl, sym, ap, List, [], ◌∷◌, ◌++◌, length, drop, Option, None}
 use Rattle.std.proofs.Common.{Some, Result, Ok, Err, append_assoc, arith}
-use Rattle.std.proofs.lemmas.List.{append-nil, drop-drop, length-drop}
+use Rattle.std.proofs.lemmas.List.{append-nil, drop-drop, length-drop, map-append}
 use Rattle.repl_read.specs.declared.entry.Entry.{Entry}
 use Rattle.repl_read.specs.declared.entry.Head.{Head}
 use Rattle.repl_read.specs.declared.entry.Item.{Item}
+use Rattle.repl_read.specs.declared.entry.ItemWhat.{ItemWhat}
 use Rattle.repl_read.specs.declared.lines.Said.{Said}
 use Rattle.repl_read.specs.declared.lines.Stand.{Stand}
 use Rattle.repl_read.specs.declared.tokens.TokenLine.{TokenLine}
@@ -78,3 +79,11 @@ line_fault lines i stand fault done begun whole inside is read =
     let some : 0 < length (drop i lines) = omega (arith, length-drop i lines) in
     sym read
     ∙ (ap (finish done begun) (read_fault stand (i + 1) (drop i lines) fault some is) ∙ finish_fault done begun fault)
+
+-- an item more of one line
+pub item_more :
+    (n : ℕ) (what : ItemWhat) (whats : List ItemWhat) (made before : List Item) → made ≡ before ++ items_at n whats →
+    made ++ record { line = n; what = what } ∷ [] ≡ before ++ items_at n (whats ++ what ∷ [])
+item_more n what whats made before is =
+    rw (is, map-append {B = Item} (λ w. record { line = n; what = w }) whats (what ∷ []))
+    (append_assoc before (items_at n whats) (record { line = n; what = what } ∷ []))

@@ -220,7 +220,8 @@ no_return-eqb b here = grind (arith, nat_tests)
 returns_by :
     (inside : Inside) (b next : ℕ) (bs : List ℕ) (o : Option Inside) → turn_at inside b next ≡ o →
     (b == 10) ≡ false → (b == 13) ≡ false →
-    blanked (after_sign inside b) (with_returns (next ∷ bs)) ≡ with_returns (blanked (after_sign inside b) (next ∷ bs)) →
+    blanked (after_sign inside b) (with_returns (next ∷ bs))
+    ≡ with_returns (blanked (after_sign inside b) (next ∷ bs)) →
     ((then_ : Inside) → blanked then_ (with_returns bs) ≡ with_returns (blanked then_ bs)) →
     blanked inside (b ∷ with_returns (next ∷ bs)) ≡ with_returns (blanked inside (b ∷ next ∷ bs))
 returns_by inside b next bs None is feed return_ one two =

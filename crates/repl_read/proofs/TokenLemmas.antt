@@ -1,18 +1,20 @@
 -- The tokens of a line, one at a time.
 use Rattle.std.proofs.Common.{◌≡◌, ℕ, ◌+◌, ◌<◌, ◌≤◌, ◌==◌, true, false, ◌∙◌, refl, sym, ap, rules, subst, add-zero}
-use Rattle.std.proofs.Common.{add-one, zero, suc, List, [], ◌∷◌, ◌++◌, length, get_or, take, drop, Some, arith}
+use Rattle.std.proofs.Common.{add-one, zero, suc, List, [], ◌∷◌, ◌++◌, length, get_or, take, drop, None, Some, arith}
+use Rattle.std.proofs.Common.{◌≢◌, append_assoc}
 use Rattle.std.specs.List.{list_all}
-use Rattle.std.specs.Str.{IsUtf8, IsCharBoundary}
+use Rattle.std.specs.Str.{byte, IsUtf8, IsCharBoundary}
 use Rattle.std.proofs.lemmas.Bool.{and_parts}
 use Rattle.std.proofs.lemmas.Bool.Decides.{nat_tests}
 use Rattle.std.proofs.lemmas.List.{take-append-drop, get_or-drop, drop_more, drop_all, take_all, drop-drop, length-drop}
 use Rattle.std.proofs.lemmas.List.Folds.{list_all_more}
 use Rattle.std.proofs.lemmas.Str.{IsCharBoundary-before_ascii, IsCharBoundary-after_ascii}
 use Rattle.repl_read.specs.Comments.{quote}
-use Rattle.repl_read.specs.Tokens.{is_blank, is_word_byte, glue, tokens_of}
+use Rattle.repl_read.specs.Tokens.{is_blank, is_word_byte, sign_of, glue, dash, tokens_of}
 use Rattle.repl_read.specs.Inner.Steps.{is_no_quote, IsStep}
+use Rattle.repl_read.specs.declared.tokens.Step.{Step}
 use Rattle.repl_read.specs.declared.tokens.Token.{Token}
-use Rattle.repl_read.specs.declared.tokens.Token.TheVariants.{Word, Quoted, Other}
+use Rattle.repl_read.specs.declared.tokens.Token.TheVariants.{Word, Quoted, Minus, Arrow, Other}
 
 -- what a byte of a word is not
 word_no_blank : (b : ℕ) → is_word_byte b ≡ true → is_blank b ≡ false
@@ -154,8 +156,86 @@ string_step line words start n inside string fits all ends is =
       within = omega (arith, length-drop (start + 1) line);
     }
 
+-- a blank at the front of a line
+pub blank_step :
+    (line : List ℕ) (start : ℕ) → start < length line → is_blank (get_or line start 0) ≡ true →
+    IsStep line start (record { token = None; end = start + 1 })
+blank_step line start inside blank =
+    record { token = rw (drop_more line start 0 inside, blank) refl; further = omega arith; within = omega arith }
+
+-- a sign that is neither a blank, nor of a word, nor a quote, nor a dash
+pub sign_step :
+    (line : List ℕ) (start : ℕ) → start < length line → is_blank (get_or line start 0) ≡ false →
+    is_word_byte (get_or line start 0) ≡ false → get_or line start 0 ≢ quote → get_or line start 0 ≢ byte "-" →
+    IsStep line start (record { token = Some (sign_of (get_or line start 0)); end = start + 1 })
+sign_step line start inside no_blank no_word no_quote no_dash =
+    let quote_no : (get_or line start 0 == quote) ≡ false = grind (arith, nat_tests) in
+    let dash_no : (get_or line start 0 == byte "-") ≡ false = grind (arith, nat_tests) in
+    record {
+      token = rw (drop_more line start 0 inside, no_blank, quote_no, no_word, dash_no) refl;
+      further = omega arith;
+      within = omega arith;
+    }
+
+lone_dash : (ts : List Token) → dash false ts ≡ Minus ∷ ts
+lone_dash [] = refl
+lone_dash (t ∷ ts) = search rules
+
+-- a dash, and what stands after it
+from_dash :
+    (line : List ℕ) (start : ℕ) → start < length line → get_or line start 0 ≡ byte "-" →
+    tokens_of false (drop start line)
+    ≡ dash (get_or (drop (start + 1) line) 0 0 == byte ">") (tokens_of false (drop (start + 1) line))
+from_dash line start inside is = rw (drop_more line start 0 inside, is) refl
+
+pub dash_step :
+    (line : List ℕ) (start : ℕ) → start < length line → get_or line start 0 ≡ byte "-" →
+    get_or (drop (start + 1) line) 0 0 ≢ byte ">" →
+    IsStep line start (record { token = Some Minus; end = start + 1 })
+dash_step line start inside is other =
+    let lone : (get_or (drop (start + 1) line) 0 0 == byte ">") ≡ false = grind (arith, nat_tests) in
+    record {
+      token =
+          from_dash line start inside is
+          ∙ rw lone (lone_dash (tokens_of false (drop (start + 1) line)));
+      further = omega arith;
+      within = omega arith;
+    }
+
+arrow_tokens :
+    (bs : List ℕ) → get_or bs 0 0 ≡ byte ">" →
+    (0 < length bs) × (dash (get_or bs 0 0 == byte ">") (tokens_of false bs) ≡ Arrow ∷ tokens_of false (drop 1 bs))
+arrow_tokens [] next = absurd (omega arith)
+arrow_tokens (b ∷ bs) next = (omega arith, rw next refl)
+
+pub arrow_step :
+    (line : List ℕ) (start : ℕ) → start < length line → get_or line start 0 ≡ byte "-" →
+    get_or (drop (start + 1) line) 0 0 ≡ byte ">" →
+    IsStep line start (record { token = Some Arrow; end = start + 1 + 1 })
+arrow_step line start inside is next =
+    let arrow = arrow_tokens (drop (start + 1) line) next in
+    record {
+      token = from_dash line start inside is ∙ rw (drop-drop 1 (start + 1) line) at arrow.1;
+      further = omega arith;
+      within = omega (arith, arrow.0, length-drop (start + 1) line);
+    }
+
 -- a line may be cut after a quote, and before one
 pub quote_end :
     (line : List ℕ) (start : ℕ) → IsUtf8 line → start < length line → get_or line start 0 ≡ quote →
     IsCharBoundary line (start + 1)
 quote_end line start text inside string = IsCharBoundary-after_ascii line start text inside (omega arith)
+
+-- a token more, and what stands after it
+pub token_more :
+    (line : List ℕ) (start : ℕ) (step : Step) (token : Token) (made whole : List Token) → IsStep line start step →
+    step.token ≡ Some token → made ++ tokens_of false (drop start line) ≡ whole →
+    (made ++ token ∷ []) ++ tokens_of false (drop step.end line) ≡ whole
+token_more line start step token made whole here is read =
+    append_assoc made (token ∷ []) (tokens_of false (drop step.end line)) ∙ (rw (here.token, is) at read)
+
+pub no_token_more :
+    (line : List ℕ) (start : ℕ) (step : Step) (made whole : List Token) → IsStep line start step →
+    step.token ≡ None → made ++ tokens_of false (drop start line) ≡ whole →
+    made ++ tokens_of false (drop step.end line) ≡ whole
+no_token_more line start step made whole here is read = rw (here.token, is) at read

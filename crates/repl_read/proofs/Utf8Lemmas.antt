@@ -173,7 +173,8 @@ kept_low inside c cs low took one two =
     elim took [
       | inl alone ↦
           let next = get_or (encodes cs) 0 0 in
-          let here : blanked inside (encodes (c ∷ cs)) ≡ seen inside c next ∷ blanked (after_sign inside c) (encodes cs) =
+          let here :
+          blanked inside (encodes (c ∷ cs)) ≡ seen inside c next ∷ blanked (after_sign inside c) (encodes cs) =
           rw (encode_ascii c low) (blanked_first inside c (encodes cs) ∙ rw alone refl) in
           let first =
           IsUtf8-from_ascii (seen inside c next ∷ [])

@@ -59,7 +59,7 @@ fn seen(inside: Inside, b: u8, next: u8) -> u8
 }
 
 /// The first byte, or 0 where there is none.
-fn first_byte(bytes: &[u8]) -> u8
+pub(crate) fn first_byte(bytes: &[u8]) -> u8
     ensures { result ≡ slice_index bytes.now 0 }
 {
     match bytes {

@@ -1,9 +1,9 @@
 //! The first line of an entry.
-ghost use Rattle.std.specs.Prelude.{◌≡◌};
+ghost use Rattle.std.specs.Prelude.{◌≡◌, [], ◌∷◌};
 ghost use Rattle.std.specs.Option.{option_map};
 ghost use Rattle.std.specs.Str.{bytes_eq};
 ghost use Rattle.std.specs.Prelude.{codes};
-ghost use Rattle.repl_read.specs.Forms.{require, number};
+ghost use Rattle.repl_read.specs.Forms.{number};
 ghost use Rattle.repl_read.specs.Heads.{using_of, place_of, head_of};
 ghost use Rattle.repl_read.specs.Inner.Gives.{Gives};
 ghost use Rattle.lab_num.specs.Numeral.{number_of};
@@ -13,17 +13,6 @@ use crate::fault::{Fault, ReadCause};
 use crate::numbers::{is_dotted_name, is_name};
 use crate::tokens::Token;
 use lab_num::{Text, number_of};
-
-/// Passes where the condition of a form holds.
-pub(crate) fn require(holds: bool) -> Result<(), Fault>
-    ensures { Gives result (require holds) }
-{
-    if holds {
-        Ok(())
-    } else {
-        Err(Fault::Cause(ReadCause::Form))
-    }
-}
 
 /// The number that a word must be.
 pub(crate) fn number(word: &Text) -> Result<u32, Fault>
@@ -51,10 +40,65 @@ pub(crate) fn using_of(tokens: &[Token]) -> Option<&Text>
     }
 }
 
-fn on_bus(word: &Text) -> Result<(), Fault>
-    ensures { Gives result (require (bytes_eq word.now (codes "sysbus"))) }
+fn is_bus(word: &Text) -> bool
+    ensures { result ≡ bytes_eq word.now (codes "sysbus") }
 {
-    require(word.as_str() == "sysbus")
+    word.as_str() == "sysbus"
+}
+
+/// The registration at the bus, without an address.
+fn bus_place(bus: &Text) -> Result<Place, Fault>
+    ensures { Gives result (place_of (Token.At ∷ Token.Word bus.now ∷ [])) }
+{
+    if is_bus(bus) {
+        Ok(Place::Bus)
+    } else {
+        Err(Fault::Cause(ReadCause::Form))
+    }
+}
+
+/// The registration at the bus from an address on.
+fn address_place(bus: &Text, base: &Text) -> Result<Place, Fault>
+    ensures { Gives result (place_of (Token.At ∷ Token.Word bus.now ∷ Token.Word base.now ∷ [])) }
+{
+    if !is_bus(bus) {
+        return Err(Fault::Cause(ReadCause::Form));
+    }
+    Ok(Place::Address(number(base)?))
+}
+
+/// The registration at the bus over a range of addresses.
+fn range_place(bus: &Text, base: &Text, size: &Text) -> Result<Place, Fault>
+    ensures { Gives result (place_of
+        (Token.At ∷ Token.Word bus.now ∷ Token.Less ∷ Token.Word base.now ∷ Token.Comma ∷ Token.Plus
+        ∷ Token.Word size.now ∷ Token.More ∷ [])) }
+{
+    if !is_bus(bus) {
+        return Err(Fault::Cause(ReadCause::Form));
+    }
+    Ok(Place::Range {
+        base: number(base)?,
+        size: number(size)?,
+    })
+}
+
+/// Where an entry is registered at the bus, by what stands after the bus.
+fn place_on(bus: &Text, after: &[Token]) -> Result<Place, Fault>
+    ensures { Gives result (place_of (Token.At ∷ Token.Word bus.now ∷ after.now)) }
+{
+    match after {
+        [] => bus_place(bus),
+        [Token::Word(base)] => address_place(bus, base),
+        [
+            Token::Less,
+            Token::Word(base),
+            Token::Comma,
+            Token::Plus,
+            Token::Word(size),
+            Token::More,
+        ] => range_place(bus, base, size),
+        _ => Err(Fault::Cause(ReadCause::Form)),
+    }
 }
 
 /// Where an entry is registered, by what stands after its type.
@@ -63,32 +107,37 @@ fn place_of(tokens: &[Token]) -> Result<Place, Fault>
 {
     match tokens {
         [] => Ok(Place::Absent),
-        [Token::At, Token::Word(word)] => {
-            on_bus(word)?;
-            Ok(Place::Bus)
-        }
-        [Token::At, Token::Word(word), Token::Word(base)] => {
-            on_bus(word)?;
-            Ok(Place::Address(number(base)?))
-        }
-        [
-            Token::At,
-            Token::Word(word),
-            Token::Less,
-            Token::Word(base),
-            Token::Comma,
-            Token::Plus,
-            Token::Word(size),
-            Token::More,
-        ] => {
-            on_bus(word)?;
-            Ok(Place::Range {
-                base: number(base)?,
-                size: number(size)?,
-            })
-        }
+        [Token::At, Token::Word(bus), after @ ..] => place_on(bus, after),
         _ => Err(Fault::Cause(ReadCause::Form)),
     }
+}
+
+/// The head of further items of a peripheral.
+fn update_head(name: &Text) -> Result<Head, Fault>
+    ensures { Gives result (head_of (Token.Word name.now ∷ Token.Colon ∷ [])) }
+{
+    if !is_name(name.as_str()) {
+        return Err(Fault::Cause(ReadCause::Form));
+    }
+    Ok(Head::Update {
+        name: name.clone()?,
+    })
+}
+
+/// The head of a peripheral with its type, by what stands after it.
+fn typed_head(name: &Text, kind: &Text, rest: &[Token]) -> Result<Head, Fault>
+    ensures { Gives result
+        (head_of (Token.Word name.now ∷ Token.Colon ∷ Token.Word kind.now ∷ rest.now)) }
+{
+    if !is_name(name.as_str()) || !is_dotted_name(kind.as_str()) {
+        return Err(Fault::Cause(ReadCause::Form));
+    }
+    let at = place_of(rest)?;
+    Ok(Head::Typed {
+        name: name.clone()?,
+        kind: kind.clone()?,
+        at,
+    })
 }
 
 /// The head that a line's tokens make.
@@ -96,27 +145,13 @@ pub(crate) fn head_of(tokens: &[Token]) -> Result<Head, Fault>
     ensures { Gives result (head_of tokens.now) }
 {
     match tokens {
-        [Token::Word(name), Token::Colon] => {
-            require(is_name(name.as_str()))?;
-            Ok(Head::Update {
-                name: name.clone()?,
-            })
-        }
+        [Token::Word(name), Token::Colon] => update_head(name),
         [
             Token::Word(name),
             Token::Colon,
             Token::Word(kind),
             rest @ ..,
-        ] => {
-            require(is_name(name.as_str()))?;
-            require(is_dotted_name(kind.as_str()))?;
-            let at = place_of(rest)?;
-            Ok(Head::Typed {
-                name: name.clone()?,
-                kind: kind.clone()?,
-                at,
-            })
-        }
+        ] => typed_head(name, kind, rest),
         _ => Err(Fault::Cause(ReadCause::Form)),
     }
 }

@@ -1,5 +1,5 @@
 //! The items of an entry: attributes and wires.
-ghost use Rattle.std.specs.Prelude.{◌≡◌, codes, map};
+ghost use Rattle.std.specs.Prelude.{◌≡◌, [], ◌∷◌, codes, map};
 ghost use Rattle.std.specs.Str.{bytes_eq};
 ghost use Rattle.repl_read.specs.Inner.Gives.{Gives};
 ghost use Rattle.repl_read.specs.Items.{word_value, attribute_of, span_of, spans_of, bracketed, one_span, pins_of};
@@ -8,7 +8,7 @@ ghost use Rattle.repl_read.specs.Items.{numbered_ends, source_of, wire_of, item_
 use crate::cuts::{Mark, cut, parts};
 use crate::entry::{Ends, ItemWhat, Span, Value};
 use crate::fault::{Fault, ReadCause};
-use crate::heads::{number, require};
+use crate::heads::number;
 use crate::numbers::{is_dotted_name, is_name};
 use crate::tokens::Token;
 use lab_num::{Rows, Text, number_of};
@@ -30,28 +30,64 @@ fn word_value(word: &Text) -> Result<Value, Fault>
     }
 }
 
+/// The attribute whose value is a word.
+fn word_attribute(key: &Text, word: &Text) -> Result<ItemWhat, Fault>
+    ensures { Gives result
+        (attribute_of (Token.Word key.now ∷ Token.Colon ∷ Token.Word word.now ∷ [])) }
+{
+    if !is_name(key.as_str()) {
+        return Err(Fault::Cause(ReadCause::Form));
+    }
+    let value = word_value(word)?;
+    Ok(ItemWhat::Attribute {
+        key: key.clone()?,
+        value,
+    })
+}
+
+/// The attribute whose value is a string.
+fn string_attribute(key: &Text, words: &Text) -> Result<ItemWhat, Fault>
+    ensures { Gives result
+        (attribute_of (Token.Word key.now ∷ Token.Colon ∷ Token.Quoted words.now ∷ [])) }
+{
+    if !is_name(key.as_str()) {
+        return Err(Fault::Cause(ReadCause::Form));
+    }
+    Ok(ItemWhat::Attribute {
+        key: key.clone()?,
+        value: Value::Words(words.clone()?),
+    })
+}
+
 /// The attribute that an item's tokens make.
 fn attribute_of(tokens: &[Token]) -> Result<ItemWhat, Fault>
     ensures { Gives result (attribute_of tokens.now) }
 {
     match tokens {
-        [Token::Word(key), Token::Colon, Token::Word(word)] => {
-            require(is_name(key.as_str()))?;
-            let value = word_value(word)?;
-            Ok(ItemWhat::Attribute {
-                key: key.clone()?,
-                value,
-            })
-        }
-        [Token::Word(key), Token::Colon, Token::Quoted(words)] => {
-            require(is_name(key.as_str()))?;
-            Ok(ItemWhat::Attribute {
-                key: key.clone()?,
-                value: Value::Words(words.clone()?),
-            })
-        }
+        [Token::Word(key), Token::Colon, Token::Word(word)] => word_attribute(key, word),
+        [Token::Word(key), Token::Colon, Token::Quoted(words)] => string_attribute(key, words),
         _ => Err(Fault::Cause(ReadCause::Form)),
     }
+}
+
+/// A number alone, as its span.
+fn number_span(word: &Text) -> Result<Span, Fault>
+    ensures { Gives result (span_of (Token.Word word.now ∷ [])) }
+{
+    let n = number(word)?;
+    Ok(Span { first: n, last: n })
+}
+
+/// The range between two numbers, of which the first is not above the last.
+fn range_span(first: &Text, last: &Text) -> Result<Span, Fault>
+    ensures { Gives result (span_of (Token.Word first.now ∷ Token.Minus ∷ Token.Word last.now ∷ [])) }
+{
+    let first = number(first)?;
+    let last = number(last)?;
+    if first > last {
+        return Err(Fault::Cause(ReadCause::Form));
+    }
+    Ok(Span { first, last })
 }
 
 /// The number or the range that the tokens make.
@@ -59,16 +95,8 @@ fn span_of(tokens: &[Token]) -> Result<Span, Fault>
     ensures { Gives result (span_of tokens.now) }
 {
     match tokens {
-        [Token::Word(word)] => {
-            let n = number(word)?;
-            Ok(Span { first: n, last: n })
-        }
-        [Token::Word(first), Token::Minus, Token::Word(last)] => {
-            let first = number(first)?;
-            let last = number(last)?;
-            require(first <= last)?;
-            Ok(Span { first, last })
-        }
+        [Token::Word(word)] => number_span(word),
+        [Token::Word(first), Token::Minus, Token::Word(last)] => range_span(first, last),
         _ => Err(Fault::Cause(ReadCause::Form)),
     }
 }
@@ -141,21 +169,28 @@ fn source_of(alloc: Global, tokens: &[Token]) -> Result<Ends, Fault>
     }
 }
 
+/// The wire to the pins of a peripheral.
+fn wire_to(alloc: Global, front: &[Token], to: &Text, rest: &[Token]) -> Result<ItemWhat, Fault>
+    ensures { Gives result (wire_of front.now (Token.Word to.now ∷ Token.At ∷ rest.now)) }
+{
+    let from = source_of(alloc, front)?;
+    if !is_name(to.as_str()) {
+        return Err(Fault::Cause(ReadCause::Form));
+    }
+    let pins = numbered_ends(alloc, rest)?;
+    Ok(ItemWhat::Wire {
+        from,
+        to: to.clone()?,
+        pins,
+    })
+}
+
 /// The wire that the tokens before and after `->` make.
 fn wire_of(alloc: Global, front: &[Token], back: &[Token]) -> Result<ItemWhat, Fault>
     ensures { Gives result (wire_of front.now back.now) }
 {
     match back {
-        [Token::Word(to), Token::At, rest @ ..] => {
-            let from = source_of(alloc, front)?;
-            require(is_name(to.as_str()))?;
-            let pins = numbered_ends(alloc, rest)?;
-            Ok(ItemWhat::Wire {
-                from,
-                to: to.clone()?,
-                pins,
-            })
-        }
+        [Token::Word(to), Token::At, rest @ ..] => wire_to(alloc, front, to, rest),
         _ => Err(Fault::Cause(ReadCause::Form)),
     }
 }

@@ -4,7 +4,6 @@ ghost use Rattle.std.specs.List.{list_any};
 ghost use Rattle.repl_read.specs.Inner.Gives.{Gives};
 ghost use Rattle.repl_read.specs.Lines.{has_close, parted_items, list_of, within_line, item_line, after_brace};
 ghost use Rattle.repl_read.specs.Lines.{plain_head, braced_head, head_line, some_line, said_of};
-ghost use Rattle.repl_read.specs.Forms.{judged};
 
 use crate::cuts::{Mark, cut, is_mark, parts};
 use crate::entry::{Head, ItemWhat};
@@ -17,7 +16,7 @@ use lab_num::Rows;
 use std::alloc::Global;
 
 /// Where a line stands.
-#[derive(Clone, Copy, PartialEq)]
+#[derive(Clone, Copy)]
 pub(crate) enum Stand {
     /// Behind no head to which items may come.
     Apart,
@@ -58,17 +57,6 @@ fn has_later_close(lines: &[TokenLine]) -> bool
     lines.iter().any(has_close)
 }
 
-/// Passes where there is no feature that is left out.
-fn judge(feature: bool) -> Result<(), Fault>
-    ensures { Gives result (judged feature (Ok tt)) }
-{
-    if feature {
-        Err(Fault::Cause(ReadCause::Feature))
-    } else {
-        Ok(())
-    }
-}
-
 /// The items that are parted by `;`.
 fn parted_items(alloc: Global, tokens: &[Token], ended: bool) -> Result<Listed, Fault>
     ensures { Gives result (parted_items tokens.now ended) }
@@ -93,7 +81,9 @@ fn list_of(alloc: Global, tokens: &[Token]) -> Result<Listed, Fault>
 fn within_line(alloc: Global, tokens: &[Token]) -> Result<Said, Fault>
     ensures { Gives result (within_line tokens.now) }
 {
-    judge(in_list(tokens))?;
+    if in_list(tokens) {
+        return Err(Fault::Cause(ReadCause::Feature));
+    }
     let list = list_of(alloc, tokens)?;
     let next = if list.ended {
         Stand::Apart
@@ -111,8 +101,10 @@ fn within_line(alloc: Global, tokens: &[Token]) -> Result<Said, Fault>
 fn item_line(alloc: Global, stand: Stand, tokens: &[Token]) -> Result<Said, Fault>
     ensures { Gives result (item_line stand tokens.now) }
 {
-    judge(in_item(tokens))?;
-    if stand != Stand::Under {
+    if in_item(tokens) {
+        return Err(Fault::Cause(ReadCause::Feature));
+    }
+    if !matches!(stand, Stand::Under) {
         return Err(Fault::Cause(ReadCause::Form));
     }
     let item = item_of(alloc, tokens)?;
@@ -141,7 +133,9 @@ fn after_brace(ended: bool, later: &[TokenLine]) -> Result<Stand, Fault>
 fn plain_head(alloc: Global, tokens: &[Token]) -> Result<Said, Fault>
     ensures { Gives result (plain_head tokens.now) }
 {
-    judge(in_head(tokens))?;
+    if in_head(tokens) {
+        return Err(Fault::Cause(ReadCause::Feature));
+    }
     let head = head_of(tokens)?;
     Ok(Said {
         head: Some(head),
@@ -159,7 +153,9 @@ fn braced_head(
 ) -> Result<Said, Fault>
     ensures { Gives result (braced_head (list_any has_close later.now) front.now rest.now) }
 {
-    judge(in_head(front) || in_list(rest))?;
+    if in_head(front) || in_list(rest) {
+        return Err(Fault::Cause(ReadCause::Feature));
+    }
     let head = head_of(front)?;
     let list = list_of(alloc, rest)?;
     let next = after_brace(list.ended, later)?;
@@ -198,12 +194,10 @@ fn some_line(
 ) -> Result<Said, Fault>
     ensures { Gives result (some_line stand indented (list_any has_close later.now) tokens.now) }
 {
-    if stand == Stand::Within {
-        within_line(alloc, tokens)
-    } else if indented {
-        item_line(alloc, stand, tokens)
-    } else {
-        head_line(alloc, later, tokens)
+    match stand {
+        Stand::Within => within_line(alloc, tokens),
+        _ if indented => item_line(alloc, stand, tokens),
+        _ => head_line(alloc, later, tokens),
     }
 }
 

@@ -126,6 +126,24 @@ fn extended(begun: Option<Begun>, n: u32, whats: Rows<ItemWhat>) -> Result<Optio
     Ok(Some(Begun { line, head, items }))
 }
 
+/// The entry to which items come after line `n`, with the items of that line.
+fn put(
+    alloc: Global,
+    entries: &mut Vec<Entry>,
+    begun: Option<Begun>,
+    n: u32,
+    head: Option<Head>,
+    whats: Rows<ItemWhat>,
+) -> Result<Option<Begun>, PlatFault>
+    ensures done { OnOk result (entries.new.items ≡ done_by head entries.old.items (opened begun)) }
+    ensures begun { IfOk result
+        (λ after. opened after ≡ extended_by (items_at n whats) (begun_by n head (opened begun))) }
+    ensures err { IfErr result (λ fault. fault ≡ PlatFault.Memory) }
+{
+    let begun = begin(alloc, entries, begun, n, head)?;
+    extended(begun, n, whats)
+}
+
 /// The entries of a text's lines.
 fn entries_of(alloc: Global, lines: &[TokenLine]) -> Result<Vec<Entry>, PlatFault>
     requires { length lines.now ≤ 2 ^ 24 + 1 }
@@ -137,8 +155,7 @@ fn entries_of(alloc: Global, lines: &[TokenLine]) -> Result<Vec<Entry>, PlatFaul
     for i in 0..lines.len() {
         let n = i as u32 + 1;
         let Said { head, items, next } = said_at(alloc, stand, lines, i)?;
-        begun = begin(alloc, &mut entries, begun, n, head)?;
-        begun = extended(begun, n, items)?;
+        begun = put(alloc, &mut entries, begun, n, head, items)?;
         stand = next;
     }
     close(&mut entries, begun)?;

@@ -1,11 +1,13 @@
 //! A line as its words, strings and signs.
 ghost use Rattle.std.specs.Prelude.{◌≡◌, ◌≢◌, ◌<◌, ◌≤◌, true, false, IfOk, length, map, take, slice_index};
 ghost use Rattle.std.specs.List.{list_all};
+ghost use Rattle.std.specs.Str.{byte};
 ghost use Rattle.std.specs.Str.Lines.{lines};
 ghost use Rattle.repl_read.specs.Comments.{quote};
 ghost use Rattle.repl_read.specs.Inner.Steps.{IsStep, is_no_quote};
 ghost use Rattle.repl_read.specs.Tokens.{is_blank, is_word_byte, sign_of, tokens_of, token_line};
 
+use crate::comments::first_byte;
 use lab_num::{NoMemory, Rows, Text};
 use std::alloc::{AllocError, Global};
 
@@ -146,6 +148,26 @@ fn string_at(alloc: Global, line: &str, start: usize) -> Result<Step, NoMemory>
     })
 }
 
+/// The dash at `start`, or the arrow that it begins.
+fn dash_at(line: &[u8], start: usize) -> Step
+    requires inside { start < length line.now }
+    requires dash { slice_index line.now start ≡ byte "-" }
+    ensures { IsStep line.now start result }
+{
+    let end = start + 1;
+    if first_byte(&line[end..]) == b'>' {
+        Step {
+            token: Some(Token::Arrow),
+            end: end + 1,
+        }
+    } else {
+        Step {
+            token: Some(Token::Minus),
+            end,
+        }
+    }
+}
+
 /// The blank or the sign at `start`.
 fn sign_at(line: &[u8], start: usize) -> Step
     requires inside { start < length line.now }
@@ -153,21 +175,14 @@ fn sign_at(line: &[u8], start: usize) -> Step
     requires no_string { slice_index line.now start ≢ quote }
     ensures { IsStep line.now start result }
 {
-    match &line[start..] {
-        [b' ' | b'\t', ..] => Step {
+    match line[start] {
+        b'-' => dash_at(line, start),
+        b if is_blank(b) => Step {
             token: None,
             end: start + 1,
         },
-        [b'-', b'>', ..] => Step {
-            token: Some(Token::Arrow),
-            end: start + 2,
-        },
-        [b'-', ..] => Step {
-            token: Some(Token::Minus),
-            end: start + 1,
-        },
-        _ => Step {
-            token: Some(sign_of(line[start])),
+        b => Step {
+            token: Some(sign_of(b)),
             end: start + 1,
         },
     }
@@ -220,14 +235,21 @@ fn lines_of(alloc: Global, text: &str) -> Result<Vec<&str>, AllocError>
     text.lines().collect(alloc)
 }
 
+/// Each of some lines, as its tokens.
+fn each_token_line(alloc: Global, lines: &[&str]) -> Result<Vec<TokenLine>, NoMemory>
+    ensures { IfOk result (λ made. made.items ≡ map token_line (map (λ line. line.now) lines.now)) }
+{
+    let mut made = Vec::new(alloc);
+    for line in lines {
+        made.push(token_line(alloc, line)?)?;
+    }
+    Ok(made)
+}
+
 /// The lines of a text, as their tokens.
 pub(crate) fn token_lines(alloc: Global, text: &str) -> Result<Vec<TokenLine>, NoMemory>
     ensures { IfOk result (λ made. made.items ≡ map token_line (lines text.now)) }
 {
     let lines = lines_of(alloc, text)?;
-    let mut made = Vec::new(alloc);
-    for line in &lines {
-        made.push(token_line(alloc, line)?)?;
-    }
-    Ok(made)
+    each_token_line(alloc, &lines)
 }

@@ -6,8 +6,5 @@ use Rattle.repl_build.proofs.plan.plan_of.Goals as goal
 pub wires_of-requires : goal.wires_of-requires
 wires_of-requires c = (are_few c.args.all.now (keeps c.args.all.now c.requires).counts).1
 
-pub names_of-requires : goal.names_of-requires
-names_of-requires c = are_few c.args.all.now (keeps c.args.all.now c.requires).counts
-
-pub regions_of-requires : goal.regions_of-requires
-regions_of-requires c = are_few c.args.all.now (keeps c.args.all.now c.requires).counts
+pub lists_of-requires : goal.lists_of-requires
+lists_of-requires c = are_few c.args.all.now (keeps c.args.all.now c.requires).counts

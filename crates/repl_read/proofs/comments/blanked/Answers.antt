@@ -15,6 +15,7 @@ signs-preserved-in-Some-turn c =
 pub signs-preserved : goal.signs-preserved
 signs-preserved c =
     let here = rw (c.in-Some.ensures {u = tt}).cases.0 at c.signs.invariant in
-    rw ((c.in_ok-push-in-None.ensures {u = tt}).items, c.seen.ensures, c.first_byte.ensures, c.after_sign-inside.ensures)
+    let seen = rw c.first_byte.ensures at c.seen.ensures in
+    rw ((c.in_ok-push-in-None.ensures {u = tt}).items, seen, c.after_sign-inside.ensures)
     (blanked_one c.signs.inside c.signs.made.items c.in-Some.b.now c.in-Some.more.now
     (blanked Nothing c.args.text.now) (sym (c.in-None.ensures {u = tt})) here)

@@ -11,5 +11,5 @@ loop-i-preserved c =
     let step =
     line_more c.args.lines.now c.loop-i.i c.loop-i.stand c.in_ok-head.field-0 c.loop-i.entries.items
     (opened c.loop-i.begun) (entries_of c.args.lines.now) inside (c.in_ok-head.ensures {u = tt}) c.loop-i.invariant in
-    let begin = c.in_ok-begun.ensures {u = tt} in
-    rw (begin.done, (c.in_ok-begun-2.ensures {u = tt}).ok, begin.begun) step
+    let put = c.in_ok-begun.ensures {u = tt} in
+    rw (put.done, put.begun) step
