@@ -18,7 +18,7 @@ use std::alloc::Global;
 /// Where a line stands.
 #[derive(Clone, Copy)]
 pub(crate) enum Stand {
-    /// Behind no head to which items may come.
+    /// After no head to which items may come.
     Apart,
     /// Behind a head to which indented lines belong.
     Under,

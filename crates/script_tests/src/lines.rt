@@ -276,7 +276,7 @@ fn each_command_is_read_in_each_of_its_forms(rt: HostRuntime) -> Result<(), Fail
 /// Each of these lines is refused for this fault.
 fn assert_faults(rt: &impl Abort, alloc: Global, fault: LineFault, lines: &[&str]) {
     for line in lines {
-        assert!(rt; read_line(alloc, line) == Err(fault), "{line}");
+        assert!(rt; read_line(alloc, line).err() == Some(fault), "{line}");
     }
 }
 
