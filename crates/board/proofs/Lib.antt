@@ -1,7 +1,9 @@
 pub mod CopyLemmas
+pub mod DeviceLemmas
 pub mod FitLemmas
 pub mod LineLemmas
 pub mod ListLemmas
+pub mod MemoryLemmas
 pub mod NumberLemmas
 pub mod PlanLemmas
 pub mod SlotLemmas

@@ -3,8 +3,6 @@ ghost use Rattle.std.specs.Prelude.{◌≡◌, ◌≢◌, ℕ, ◌+◌, ◌/◌,
 ghost use Rattle.std.specs.Prelude.{slice_get, slice_index_or, option_map, OnOk, OnErr, IfOk, IfErr, IsTrue};
 ghost use Rattle.rv_hart.specs.Trap.{chosen};
 
-use crate::numbers::Numbers;
-use crate::space::Space;
 use crate::wires::Wires;
 use dev_core::{Device, Entry, Payload, Post, Taken};
 use lab_num::{BoardNo, Micros, NoMemory};
@@ -12,7 +10,6 @@ use plic::PlicState;
 use rv_exec::step;
 use rv_hart::{Hart, Lines};
 use std::alloc::Global;
-use std::collections::VecDeque;
 use std::marker::Model;
 use std::mem;
 use sys_bus::BoardPlan;
@@ -93,28 +90,10 @@ impl<D: Device> Board<D> {
         ensures state { IfOk result (λ board. board ≡ quiet (new_board number.0 plan)) }
         ensures back { IfErr result (λ back. back.items ≡ devices.items) }
     {
-        let speed = plan.speed;
-        let Ok(posts) = VecDeque::with_capacity(alloc, 1) else {
-            return Err(devices);
-        };
-        let Ok(entries) = Vec::with_capacity(alloc, 1) else {
-            return Err(devices);
-        };
-        let space = Space::new(alloc, plan, devices)?;
+        let wires = Wires::new(alloc, number, plan, devices)?;
         Ok(Board {
             hart: Hart::new(),
-            wires: Wires {
-                numbers: Numbers {
-                    number,
-                    speed,
-                    posted: 0,
-                    entered: 0,
-                },
-                space,
-                at: Micros(0),
-                posts,
-                entries,
-            },
+            wires,
         })
     }
 

@@ -4,7 +4,9 @@ ghost use Rattle.rv_exec.specs.Access.{IsWidth};
 ghost use Rattle.dev_core.specs.Device.{dev_line, dev_take, kind_of, IsValid};
 ghost use Rattle.board.specs.Space.{register_load, register_store};
 ghost use Rattle.board.specs.New.{hidden, reset_device};
+ghost use Rattle.board.specs.Inner.Remembers.{still};
 
+use crate::remembered::{Remembered, forget_if_changed};
 use dev_core::{DevState, Device, Effect, Payload, Taken};
 use std::marker::Model;
 
@@ -90,6 +92,63 @@ impl<D: Device> Fitted<D> {
             Some(register) => self.device.store(register, width, value),
             None => Effect::Quiet,
         }
+    }
+
+    /// Loads a register as `load` does. What is remembered of the lines is forgotten where the
+    /// device's line is no longer as it was.
+    #[inline(always)]
+    pub fn load_wired(
+        &mut self,
+        remembered: &mut Option<Remembered>,
+        register: Option<u32>,
+        width: u8,
+    ) -> u32
+        requires { IsWidth width }
+        ensures answer { result ≡ (register_load self.old.state width register).answer }
+        ensures after { self.new ≡ record self.old {
+          state = (register_load self.old.state width register).after;
+        } }
+        ensures lines { remembered.new ≡
+            still remembered.old (dev_line self.old.state) (dev_line self.new.state) }
+        ensures fits { result < 256 ^ width }
+        ensures kind { kind_of self.new.state ≡ kind_of self.old.state }
+        ensures valid { IsValid self.new.state }
+    {
+        if remembered.is_none() {
+            return self.load(register, width);
+        }
+        let before = self.line_now();
+        let value = self.load(register, width);
+        forget_if_changed(remembered, before, self.line_now());
+        value
+    }
+
+    /// Stores in a register as `store` does. What is remembered of the lines is forgotten where the
+    /// device's line is no longer as it was.
+    #[inline(always)]
+    pub fn store_wired(
+        &mut self,
+        remembered: &mut Option<Remembered>,
+        register: Option<u32>,
+        width: u8,
+        value: u32,
+    ) -> Effect
+        ensures answer { result ≡ (register_store self.old.state width value register).answer }
+        ensures after { self.new ≡ record self.old {
+          state = (register_store self.old.state width value register).after;
+        } }
+        ensures lines { remembered.new ≡
+            still remembered.old (dev_line self.old.state) (dev_line self.new.state) }
+        ensures kind { kind_of self.new.state ≡ kind_of self.old.state }
+        ensures valid { IsValid self.new.state }
+    {
+        if remembered.is_none() {
+            return self.store(register, width, value);
+        }
+        let before = self.line_now();
+        let effect = self.store(register, width, value);
+        forget_if_changed(remembered, before, self.line_now());
+        effect
     }
 
     /// Hands the device what another one sent.

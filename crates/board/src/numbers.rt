@@ -29,6 +29,18 @@ impl Model for Numbers {
 }
 
 impl Numbers {
+    /// The numbers of a board that has made nothing yet.
+    pub fn new(number: BoardNo, speed: u32) -> Numbers
+        ensures { result ≡ record { number = number.0; speed = speed; posted = 0; entered = 0 } }
+    {
+        Numbers {
+            number,
+            speed,
+            posted: 0,
+            entered: 0,
+        }
+    }
+
     /// Counts a post more. The counter stands still at its last value.
     pub fn count_post(&mut self)
         ensures { self.new ≡ after_post self.old }

@@ -6,7 +6,7 @@ use lab_num::Micros;
 use rv_hart::Lines;
 
 /// What the lines were in a microsecond, after the interrupt controller had sampled its sources.
-#[derive(Clone, Copy, PartialEq, Eq, Debug)]
+#[derive(Clone, Copy)]
 pub struct Remembered {
     pub at: Micros,
     /// Whether the line of the timer interrupt was up.

@@ -74,6 +74,14 @@ impl<D: Device> Model for Space<D> {
         (s.regions ≡ s.plan.regions) × IsFit seen × (s.wired ≡ is_wired s.plan) × IsRight seen s.remembered };
 }
 
+/// The parts of a board that take memory.
+#[derive(Drop)]
+struct Parts<D: Device> {
+    regions: Regions,
+    memories: Vec<PageRam>,
+    devices: Vec<Fitted<D>>,
+}
+
 /// Memories of these sizes, with 0 in each byte.
 fn memories_of(alloc: Global, sizes: &[u32]) -> Result<Vec<PageRam>, NoMemory>
     requires { All IsRamSize sizes.now }
@@ -84,6 +92,20 @@ fn memories_of(alloc: Global, sizes: &[u32]) -> Result<Vec<PageRam>, NoMemory>
         memories.push(PageRam::new(alloc, size)?)?;
     }
     Ok(memories)
+}
+
+/// The regions of a plan, and its memories with 0 in each byte.
+fn regions_and_memories(
+    alloc: Global,
+    plan: &BoardPlan,
+) -> Result<(Regions, Vec<PageRam>), NoMemory>
+    requires { IsValid plan.now }
+    ensures regions { IfOk result (λ parts. parts.0 ≡ plan.now.regions) }
+    ensures memories { IfOk result (λ parts. parts.1.items ≡ map zeros plan.now.memories) }
+{
+    let regions = Vec::from_slice(alloc, plan.regions.items())?;
+    let memories = memories_of(alloc, plan.memories.items())?;
+    Ok((Regions::new(regions), memories))
 }
 
 /// Devices as those of a board, none of them shown. `Err` gives them back in their order.
@@ -101,6 +123,27 @@ fn fit_all<D: Device>(alloc: Global, devices: Vec<D>) -> Result<Vec<Fitted<D>>, 
         fitted.push_reserved(Fitted::new(device));
     }
     Ok(fitted)
+}
+
+/// The parts of a new board of a plan. `Err` is for want of memory alone, and gives the devices back
+/// in their order.
+fn parts_of<D: Device>(alloc: Global, plan: &BoardPlan, devices: Vec<D>) -> Result<Parts<D>, Vec<D>>
+    requires { IsValid plan.now }
+    ensures regions { IfOk result (λ parts. parts.regions ≡ plan.now.regions) }
+    ensures memories { IfOk result (λ parts. parts.memories.items ≡ map zeros plan.now.memories) }
+    ensures devices { IfOk result (λ parts.
+        parts.devices.items ≡ map hidden (map D.meaning devices.items)) }
+    ensures err { IfErr result (λ back. back.items ≡ devices.items) }
+{
+    let Ok((regions, memories)) = regions_and_memories(alloc, plan) else {
+        return Err(devices);
+    };
+    let devices = fit_all(alloc, devices)?;
+    Ok(Parts {
+        regions,
+        memories,
+        devices,
+    })
 }
 
 /// The timer of a plan, in its reset state.
@@ -136,23 +179,28 @@ impl<D: Device> Space<D> {
         ensures ok { IfOk result (λ space. space ≡ new_space plan) }
         ensures err { IfErr result (λ back. back.items ≡ devices.items) }
     {
-        let Ok(regions) = Vec::from_slice(alloc, plan.regions.items()) else {
-            return Err(devices);
-        };
-        let Ok(memories) = memories_of(alloc, plan.memories.items()) else {
-            return Err(devices);
-        };
-        let devices = fit_all(alloc, devices)?;
-        Ok(Space {
-            regions: Regions::new(regions),
-            memories,
+        let parts = parts_of(alloc, &plan, devices)?;
+        Ok(Space::from_parts(plan, parts))
+    }
+
+    /// The same of the parts that were made for the plan.
+    fn from_parts(plan: BoardPlan, parts: Parts<D>) -> Space<D>
+        requires plan { IsValid plan }
+        requires regions { parts.regions ≡ plan.regions }
+        requires memories { parts.memories.items ≡ map zeros plan.memories }
+        requires devices { parts.devices.items ≡ map hidden (first_states plan) }
+        ensures { result ≡ new_space plan }
+    {
+        Space {
+            regions: parts.regions,
+            memories: parts.memories,
             timer: timer_of(plan.frequency),
             controller: controller_of(plan.plic),
-            devices,
+            devices: parts.devices,
             wired: is_wired(&plan),
             remembered: None,
             plan,
-        })
+        }
     }
 
     pub fn plan(&self) -> &BoardPlan

@@ -1,20 +1,27 @@
 //! What the processor is wired to in a slot, and what the board makes by it.
-ghost use Rattle.std.specs.Prelude.{◌≡◌, ◌↔◌, ◌^◌, ◌<◌, length, IfOk, OnOk, OnErr, IsTrue};
+ghost use Rattle.std.specs.Prelude.{◌≡◌, ◌↔◌, ◌+◌, ◌^◌, ◌<◌, ◌≤◌, [], length, map, IfOk, IfErr, OnOk, OnErr, IsTrue};
 ghost use Rattle.std.specs.Vec.{vec_len, vec_capacity};
 ghost use Rattle.std.specs.VecDeque.{deque_len, deque_capacity};
-ghost use Rattle.rv_exec.specs.Access.{IsAccess};
+ghost use Rattle.dev_core.specs.declared.post.What.TheVariants.{Read};
+ghost use Rattle.page_ram.specs.Access.{IsInOnePage};
+ghost use Rattle.rv_exec.specs.Access.{IsAccess, IsWidth};
 ghost use Rattle.sys_bus.specs.declared.region.Target.TheVariants.{Ram, Dev};
 ghost use Rattle.board.specs.Wires.{fetched, answer, loaded, stored, stored_to, sent, entered, note_if, post_of};
 ghost use Rattle.board.specs.Wires.{entry_of, key_of};
+ghost use Rattle.board.specs.New.{first_states, new_board};
+ghost use Rattle.board.specs.Space.{memory_at};
+ghost use Rattle.board.specs.View.{wires_of};
+ghost use Rattle.sys_bus.specs.Plan.{IsValid};
 
 use crate::numbers::Numbers;
 use crate::space::Space;
 use dev_core::{Device, Effect, Entry, Payload, Post, What};
-use lab_num::{Key, Member, Micros, PostNo};
+use lab_num::{BoardNo, Key, Member, Micros, PostNo};
 use rv_exec::{Bus, NoMemory as OutOfMemory};
+use std::alloc::Global;
 use std::collections::VecDeque;
 use std::marker::Model;
-use sys_bus::Target;
+use sys_bus::{BoardPlan, Target};
 
 /// What a board has but its processor: its numbers, its space, and what it has made and nobody has
 /// taken yet.
@@ -42,7 +49,67 @@ impl<D: Device> Model for Wires<D> {
     } };
 }
 
+/// Room for posts and for entries, of which none is made yet.
+fn rooms(alloc: Global) -> Result<(VecDeque<Post>, Vec<Entry>), OutOfMemory>
+    ensures posts { IfOk result (λ rooms. rooms.0.items ≡ []) }
+    ensures entries { IfOk result (λ rooms. rooms.1.items ≡ []) }
+{
+    let Ok(posts) = VecDeque::with_capacity(alloc, 1) else {
+        return Err(OutOfMemory);
+    };
+    let Ok(entries) = Vec::with_capacity(alloc, 1) else {
+        return Err(OutOfMemory);
+    };
+    Ok((posts, entries))
+}
+
 impl<D: Device> Wires<D> {
+    /// What a new board of this number and plan has at lab time 0. `Err` is for want of memory
+    /// alone, and gives the devices back in their order.
+    pub fn new(
+        alloc: Global,
+        number: BoardNo,
+        plan: BoardPlan,
+        devices: Vec<D>,
+    ) -> Result<Wires<D>, Vec<D>>
+        requires plan { IsValid plan }
+        requires devices { map D.meaning devices.items ≡ first_states plan }
+        ensures ok { IfOk result (λ wires. wires ≡ wires_of (new_board number.0 plan) 0) }
+        ensures err { IfErr result (λ back. back.items ≡ devices.items) }
+    {
+        let Ok((posts, entries)) = rooms(alloc) else {
+            return Err(devices);
+        };
+        Wires::with_rooms(alloc, number, plan, devices, posts, entries)
+    }
+
+    /// The same, where there is room for posts and for entries.
+    fn with_rooms(
+        alloc: Global,
+        number: BoardNo,
+        plan: BoardPlan,
+        devices: Vec<D>,
+        posts: VecDeque<Post>,
+        entries: Vec<Entry>,
+    ) -> Result<Wires<D>, Vec<D>>
+        requires plan { IsValid plan }
+        requires devices { map D.meaning devices.items ≡ first_states plan }
+        requires posts { posts.items ≡ [] }
+        requires entries { entries.items ≡ [] }
+        ensures ok { IfOk result (λ wires. wires ≡ wires_of (new_board number.0 plan) 0) }
+        ensures err { IfErr result (λ back. back.items ≡ devices.items) }
+    {
+        let numbers = Numbers::new(number, plan.speed);
+        let space = Space::new(alloc, plan, devices)?;
+        Ok(Wires {
+            numbers,
+            space,
+            at: Micros(0),
+            posts,
+            entries,
+        })
+    }
+
     /// Begins a slot, in this microsecond.
     pub fn begin_slot(&mut self, at: Micros)
         ensures { self.new ≡ record self.old { at = at.0 } }
@@ -191,11 +258,40 @@ impl<D: Device> Wires<D> {
             Target::Dev { dev, at } => Ok(self.space.load_device(dev, at, width)),
             Target::Clint { at } => Ok(self.space.load_timer(self.at, at, width)),
             Target::Plic { at } => Ok(self.space.load_controller(at, width)),
-            Target::Nothing => {
-                self.enter(What::Read { width, at })?;
-                Ok(0)
-            }
+            Target::Nothing => self.load_nothing(at, width),
         }
+    }
+
+    /// A load that reaches nothing answers 0, and is noted.
+    fn load_nothing(&mut self, at: u32, width: u8) -> Result<u32, OutOfMemory>
+        ensures answer { IfOk result (λ value. value ≡ 0) }
+        ensures ok { OnOk result (self.new ≡ entered self.old (Read width at)) }
+        ensures err { OnErr result (self.new ≡ self.old) }
+    {
+        self.enter(What::Read { width, at })?;
+        Ok(0)
+    }
+
+    /// Stores in a memory. After an `Err` it is as before.
+    #[inline(always)]
+    fn store_in_memory(
+        &mut self,
+        part: u8,
+        at: u32,
+        width: u8,
+        value: u32,
+    ) -> Result<(), OutOfMemory>
+        requires width { IsWidth width }
+        requires part { part < length self.old.space.memories }
+        requires lies { at + width ≤ length (memory_at self.old.space part) }
+        requires page { IsInOnePage at width }
+        ensures ok { OnOk result (self.new ≡ stored_to self.old at width value (Ram part at)) }
+        ensures err { OnErr result (self.new ≡ self.old) }
+    {
+        let Ok(()) = self.space.store_memory(part, at, width, value) else {
+            return Err(OutOfMemory);
+        };
+        Ok(())
     }
 
     /// A store that is not known to lie in a memory.
@@ -207,12 +303,7 @@ impl<D: Device> Wires<D> {
         ensures err { OnErr result (self.new ≡ self.old) }
     {
         match self.space.find_data(at, width) {
-            Target::Ram { part, at } => {
-                let Ok(()) = self.space.store_memory(part, at, width, value) else {
-                    return Err(OutOfMemory);
-                };
-                Ok(())
-            }
+            Target::Ram { part, at } => self.store_in_memory(part, at, width, value),
             Target::Dev { dev, at } => self.store_in_device(dev, at, width, value),
             Target::Clint { at } => {
                 self.space.store_timer(self.at, at, width, value);
@@ -277,12 +368,7 @@ impl<D: Device> Bus for Wires<D> {
     #[tactic(auto, unfolding(crate::specs::Wires::stored))]
     fn store(&mut self, at: u32, width: u8, value: u32) -> Result<(), OutOfMemory> {
         match self.space.near_data(at) {
-            Some(place) => {
-                let Ok(()) = self.space.store_memory(place.part, place.at, width, value) else {
-                    return Err(OutOfMemory);
-                };
-                Ok(())
-            }
+            Some(place) => self.store_in_memory(place.part, place.at, width, value),
             None => self.store_anew(at, width, value),
         }
     }

@@ -7,7 +7,6 @@ ghost use Rattle.board.specs.Space.{device_store};
 ghost use Rattle.board.specs.New.{reset_device, reset_space};
 
 use super::Space;
-use crate::remembered::forget_if_changed;
 use dev_core::{DevState, Device, Effect, Payload, Taken};
 
 /// The register at a place of a device whose registers begin 1 or 4 bytes apart.
@@ -39,16 +38,8 @@ impl<D: Device> Space<D> {
         ensures fits { result < 256 ^ width }
     {
         let register = self.register_of(dev, at);
-        let known = self.remembered.is_some();
         let device = &mut self.devices[usize::from(dev)];
-        if !known {
-            return device.load(register, width);
-        }
-        let before = device.line_now();
-        let value = device.load(register, width);
-        let after = device.line_now();
-        forget_if_changed(&mut self.remembered, before, after);
-        value
+        device.load_wired(&mut self.remembered, register, width)
     }
 
     #[inline(always)]
@@ -59,16 +50,8 @@ impl<D: Device> Space<D> {
             with_state self.old dev (device_store self.old dev at width value).after }
     {
         let register = self.register_of(dev, at);
-        let known = self.remembered.is_some();
         let device = &mut self.devices[usize::from(dev)];
-        if !known {
-            return device.store(register, width, value);
-        }
-        let before = device.line_now();
-        let effect = device.store(register, width, value);
-        let after = device.line_now();
-        forget_if_changed(&mut self.remembered, before, after);
-        effect
+        device.store_wired(&mut self.remembered, register, width, value)
     }
 
     /// Hands a device what another one sent.

@@ -3,7 +3,7 @@ ghost use Rattle.std.specs.Prelude.{◌≡◌, ◌+◌, ◌<◌, ◌≤◌, ◌%
 ghost use Rattle.page_ram.specs.Bytes.{zeros};
 ghost use Rattle.board.specs.Wires.{word_in};
 ghost use Rattle.board.specs.Changes.{in_memory, holds_each, copied};
-ghost use Rattle.board.specs.Inner.Copies.{CopiesPrefix, IsRoom};
+ghost use Rattle.board.specs.Inner.Copies.{CopiesPrefix, HasRoom, IsRoom};
 
 use super::Space;
 use dev_core::Device;
@@ -39,6 +39,17 @@ impl<D: Device> Space<D> {
             }),
             _ => None,
         }
+    }
+
+    /// The same of an address that is known to be in a memory.
+    fn room_from(&self, at: u64) -> Room
+        requires { IsTrue (in_memory self.now at) }
+        ensures { HasRoom self.now at result }
+    {
+        let Some(room) = self.room_at(at) else {
+            unreachable!()
+        };
+        room
     }
 
     /// The word of memory at an address. None where no memory holds all four bytes.
@@ -93,9 +104,7 @@ impl<D: Device> Space<D> {
         ensures ok { IfOk result (λ n. self.new ≡ copied self.old at (take n bytes.now)) }
         ensures err { OnErr result (CopiesPrefix self.old self.new at bytes.now) }
     {
-        let Some(room) = self.room_at(at) else {
-            unreachable!()
-        };
+        let room = self.room_from(at);
         let count = bytes.len().min(room.size as usize);
         self.memories[usize::from(room.part)].copy_in(room.at, &bytes[..count])?;
         Ok(count)
@@ -121,9 +130,7 @@ impl<D: Device> Space<D> {
         ensures most { result ≤ count }
         ensures after { self.new ≡ copied self.old at (zeros result) }
     {
-        let Some(room) = self.room_at(at) else {
-            unreachable!()
-        };
+        let room = self.room_from(at);
         let count = count.min(room.size);
         self.memories[usize::from(room.part)].zero(room.at, count);
         count

@@ -16,12 +16,12 @@ invariant_of-self g c = (
 
 pub returns-in_err-copy_in-clause-err : goal.returns-in_err-copy_in-clause-err
 returns-in_err-copy_in-clause-err g c =
-    let room = rw (← c.self.view_is) at (c.in-Some.ensures {u = tt}) in
+    let room = rw (← c.self.view_is) at c.room_from-room.ensures in
     let failed = (c.in_err-copy_in.ensures {u = tt}).err in
     let piece = length-take c.min-count.result c.args.bytes.now in
     on_err c.from_residual.result
     (rw (← c.self.view_is)
-    (put_front _ c.args.at c.in-Some.room c.args.bytes.now c.min-count.result failed.0 _ c.index_mut.result.now
+    (put_front _ c.args.at c.room_from-room.result c.args.bytes.now c.min-count.result failed.0 _ c.index_mut.result.now
     c.copy_in.new.self c.from.result room
     (omega (arith, c.min-count.ensures)) failed.1.0 c.from.ensures c.index_mut.ensures.value failed.1.1))
 
@@ -36,9 +36,9 @@ invariant_of-self-2 g c = (
 
 pub returns-clause-ok : goal.returns-clause-ok
 returns-clause-ok g c =
-    let room = rw (← c.self.view_is) at (c.in-Some.ensures {u = tt}) in
+    let room = rw (← c.self.view_is) at c.room_from-room.ensures in
     let piece = length-take c.min-count.result c.args.bytes.now in
     rw (← c.self.view_is)
-    (put_piece _ c.args.at c.in-Some.room (take c.min-count.result c.args.bytes.now) _ c.index_mut.result.now
+    (put_piece _ c.args.at c.room_from-room.result (take c.min-count.result c.args.bytes.now) _ c.index_mut.result.now
     c.copy_in.new.self c.from.result room (omega (arith, piece, c.min-count.ensures)) c.from.ensures
     c.index_mut.ensures.value (c.in_ok-copy_in.ensures {u = tt}).ok)

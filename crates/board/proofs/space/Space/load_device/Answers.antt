@@ -1,33 +1,36 @@
-use Rattle.std.proofs.Common.{◌∙◌, ap, sym, rules}
-use Rattle.dev_core.specs.Device.{kind_of, dev_line}
-use Rattle.board.specs.Space.{Fitted}
+use Rattle.std.proofs.Common.{◌∙◌, ap, refl}
+use Rattle.dev_core.specs.Device.{kind_of}
+use Rattle.board.specs.Space.{Space, register_load}
+use Rattle.board.proofs.DeviceLemmas.{answered, left}
 use Rattle.board.proofs.FitLemmas.{fit_device}
-use Rattle.board.proofs.LineLemmas.{right_device, right_unknown}
+use Rattle.board.proofs.LineLemmas.{right_device}
 use Rattle.board.proofs.space.Space.load_device.Goals as goal
 
 pub invariant_of-self : goal.invariant_of-self
-invariant_of-self g c = (
-  c.self.invariant.0,
-  fit_device _ c.from.result c.load.new.self _ c.self.invariant.1
-      (c.load.ensures.kind ∙ ap (λ f. kind_of f.state) c.index_mut-device.ensures.value)
-      c.load.ensures.valid,
-  c.self.invariant.2,
-  right_unknown _ _ c.is_some-known.result c.is_some-known.ensures c.if-not-known.true,
-)
-
-pub invariant_of-self-2 : goal.invariant_of-self-2
-invariant_of-self-2 g c =
-    let device = c.line_now-before.ensures.same ∙ c.index_mut-device.ensures.value in
-    let kept = c.line_now-after.ensures.same in (
+invariant_of-self g c =
+    let there = rw (← c.self.view_is) at c.requires.dev in (
       c.self.invariant.0,
-      fit_device _ c.from.result c.line_now-after.new.self _ c.self.invariant.1
-          (ap {A = Fitted} (λ f. kind_of f.state) kept ∙ c.load-value.ensures.kind
-          ∙ ap {A = Fitted} (λ f. kind_of f.state) device)
-          (rw kept c.load-value.ensures.valid),
+      fit_device _ c.from.result c.load_wired.new.self _ c.self.invariant.1
+          (c.load_wired.ensures.kind ∙ ap (λ f. kind_of f.state) c.index_mut-device.ensures.value)
+          c.load_wired.ensures.valid,
       c.self.invariant.2,
-      rw c.forget_if_changed.ensures
-          (right_device _ c.from.result _ c.line_now-after.new.self _ _ c.line_now-before.result
-          c.line_now-after.result c.self.invariant.3 (search rules) c.index_mut-device.ensures.value
-          c.line_now-before.ensures.line
-          (c.line_now-after.ensures.line ∙ ap {A = Fitted} (λ f. dev_line f.state) (sym kept))),
+      rw c.load_wired.ensures.lines
+          (right_device _ c.from.result _ c.load_wired.new.self _ _ _ _ c.self.invariant.3 (rw c.from.ensures there)
+          c.index_mut-device.ensures.value refl refl),
     )
+
+pub returns-clause-answer : goal.returns-clause-answer
+returns-clause-answer g c =
+    answered c.args.self.now c.args.dev c.args.at c.from.result _ _ _ _
+    (λ state register. (register_load state c.args.width register).answer) _ c.requires.dev c.from.ensures
+    (ap {A = Space} (λ s. s.devices) c.self.view_is) c.index_mut-device.ensures.value
+    c.register_of-register.ensures c.load_wired.ensures.answer
+
+pub returns-clause-after : goal.returns-clause-after
+returns-clause-after g c =
+    let there = rw (← c.self.view_is) at c.requires.dev in
+    let register = rw (← c.self.view_is) at c.register_of-register.ensures in
+    rw (← c.self.view_is)
+    (left _ c.args.dev c.args.at c.from.result _ _ _ _
+    (λ state register. (register_load state c.args.width register).after) there c.from.ensures
+    c.index_mut-device.ensures.value register c.load_wired.ensures.after)

@@ -17,9 +17,9 @@ invariant_of-self g c = (
 
 pub returns-clause-after : goal.returns-clause-after
 returns-clause-after g c =
-    let room = rw (← c.self.view_is) at (c.in-Some.ensures {u = tt}) in
+    let room = rw (← c.self.view_is) at c.room_from-room.ensures in
     let count = length-replicate {A = ℕ} c.min-count.result 0 in
     rw (← c.self.view_is)
-    (put_piece _ c.args.at c.in-Some.room (zeros c.min-count.result) _ c.index_mut.result.now
+    (put_piece _ c.args.at c.room_from-room.result (zeros c.min-count.result) _ c.index_mut.result.now
     c.zero.new.self c.from.result room (omega (arith, count, c.min-count.ensures)) c.from.ensures
     c.index_mut.ensures.value c.zero.ensures.value)
