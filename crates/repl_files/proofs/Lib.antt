@@ -5,3 +5,4 @@ pub mod Grown
 pub mod LoadingLaws
 pub mod OneEntry
 pub mod Uses
+pub mod Wanting

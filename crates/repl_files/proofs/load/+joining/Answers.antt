@@ -9,6 +9,7 @@ use Rattle.repl_files.specs.Loading.{Use, used, refused_at}
 use Rattle.repl_files.proofs.Courses.{course_step, stopped_step, course_end}
 use Rattle.repl_files.proofs.OneEntry.{rose_from, one_used, one_kept}
 use Rattle.repl_files.proofs.Uses.{use_refused, use_large, use_goes, file_goes, file_stopped}
+use Rattle.repl_files.proofs.Wanting.{wanting, told_read}
 use Rattle.repl_files.proofs.load.+joining.Goals.{join_file-then-room-eq0-via-then-room-eq0}
 use Rattle.repl_files.proofs.load.+joining.Goals.{join_file-then-room-eq0-via-else-room-eq0+then-len-ge-MOST_FILES}
 use Rattle.repl_files.proofs.load.+joining.Goals as goal
@@ -182,3 +183,12 @@ join_file-returns-in-Stopped-clause-held g t c = c.open.ensures.held
 
 pub join_file-returns-in-Stopped-clause-faults : goal.join_file-returns-in-Stopped-clause-faults
 join_file-returns-in-Stopped-clause-faults g t c = c.open.ensures.faults
+
+pub join_file-returns-in-Err-clause-course : goal.join_file-returns-in-Err-clause-course
+join_file-returns-in-Err-clause-course g t c = λ held is. wanting _ _ _ c.in-Err.ensures.err
+
+pub join_file-returns-then-room-eq0-clause-unread : goal.join_file-returns-then-room-eq0-clause-unread
+join_file-returns-then-room-eq0-clause-unread g t c = λ is. absurd (told_read _ _ _ refl c.fault_at.ensures is)
+
+pub join_file-returns-in-TooLarge-clause-unread : goal.join_file-returns-in-TooLarge-clause-unread
+join_file-returns-in-TooLarge-clause-unread g t c = λ is. absurd (told_read _ _ _ refl c.fault_at-in-TooLarge.ensures is)

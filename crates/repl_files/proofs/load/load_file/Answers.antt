@@ -6,6 +6,7 @@ use Rattle.repl_files.specs.Content.{content_of}
 use Rattle.repl_files.specs.Loading.{loaded, used, Oversized}
 use Rattle.repl_files.proofs.OneEntry.{rose_from}
 use Rattle.repl_files.proofs.Uses.{file_stopped, file_goes, oversized, loaded_whole}
+use Rattle.repl_files.proofs.Wanting.{wanting}
 use Rattle.repl_files.proofs.load.load_file.Goals as goal
 
 pub returns-in-Ok-clause-loaded : goal.returns-in-Ok-clause-loaded
@@ -74,3 +75,6 @@ returns-in-Stopped-clause-held g c = c.open.ensures.held
 
 pub returns-in-Stopped-clause-faults : goal.returns-in-Stopped-clause-faults
 returns-in-Stopped-clause-faults g c = c.open.ensures.faults
+
+pub returns-in-Err-clause-loaded : goal.returns-in-Err-clause-loaded
+returns-in-Err-clause-loaded g c = λ held is. wanting _ _ _ c.in-Err.ensures.err
