@@ -1,6 +1,6 @@
 -- One post more is sent.
-use Rattle.std.proofs.Common.{◌≡◌, ◌≢◌, ◌∙◌, ◌<◌, List, [], ◌∷◌, ◌++◌, length, drop, Some, slice_get, append_assoc, arith}
-use Rattle.std.proofs.Common.{refl, sym, ap}
+use Rattle.std.proofs.Common.{◌≡◌, ◌≢◌, ◌∙◌, ◌<◌, List, [], ◌∷◌, ◌++◌, length, drop, Some, slice_get, append_assoc}
+use Rattle.std.proofs.Common.{arith, refl, sym, ap}
 use Rattle.dev_core.specs.declared.post.Post.{Post}
 use Rattle.board.specs.View.{State}
 

@@ -1,6 +1,6 @@
 -- How one entry goes by its course.
-use Rattle.std.proofs.Common.{◌≡◌, ◌∷◌, ◌++◌, ◌≤◌, ℕ, List, [], Option, None, Some, Result, Ok, Err, OnOk, IfErr, sym, refl}
-use Rattle.std.proofs.Common.{subst, append-nil, arith}
+use Rattle.std.proofs.Common.{◌≡◌, ◌∷◌, ◌++◌, ◌≤◌, ℕ, List, [], Option, None, Some, Result, Ok, Err, OnOk, IfErr}
+use Rattle.std.proofs.Common.{sym, refl, subst, append-nil, arith}
 use Rattle.lab_io.specs.Known.{Rose}
 use Rattle.repl_read.specs.declared.entry.Entry.{Entry}
 use Rattle.repl_files.specs.declared.fault.LoadFault.{LoadFault}

@@ -110,13 +110,15 @@ pub join_entries-returns-in-Err-clause-few : goal.join_entries-returns-in-Err-cl
 join_entries-returns-in-Err-clause-few g t c = c.join_entry.ensures.few
 
 pub join_entries-returns-in-Err-clause-unread : goal.join_entries-returns-in-Err-clause-unread
-join_entries-returns-in-Err-clause-unread g t c = λ is. rose_from _ _ _ c.loop-entry.invariant.faults (c.in-Err.ensures.unread is)
+join_entries-returns-in-Err-clause-unread g t c =
+    λ is. rose_from _ _ _ c.loop-entry.invariant.faults (c.in-Err.ensures.unread is)
 
 pub join_entries-returns-in-Err-clause-held : goal.join_entries-returns-in-Err-clause-held
 join_entries-returns-in-Err-clause-held g t c = c.join_entry.ensures.held ∙ c.loop-entry.invariant.held
 
 pub join_entries-returns-in-Err-clause-faults : goal.join_entries-returns-in-Err-clause-faults
-join_entries-returns-in-Err-clause-faults g t c = omega (arith, c.join_entry.ensures.faults, c.loop-entry.invariant.faults)
+join_entries-returns-in-Err-clause-faults g t c =
+    omega (arith, c.join_entry.ensures.faults, c.loop-entry.invariant.faults)
 
 pub join_entries-returns-clause-few : goal.join_entries-returns-clause-few
 join_entries-returns-clause-few g t c = c.loop-entry.invariant.few
@@ -164,7 +166,8 @@ pub join_file-returns-in-Entries-clause-good : goal.join_file-returns-in-Entries
 join_file-returns-in-Entries-clause-good g t c = c.join_entries.ensures.good
 
 pub join_file-returns-in-Entries-clause-unread : goal.join_file-returns-in-Entries-clause-unread
-join_file-returns-in-Entries-clause-unread g t c = λ is. rose_from _ _ _ c.open.ensures.faults (c.join_entries.ensures.unread is)
+join_file-returns-in-Entries-clause-unread g t c =
+    λ is. rose_from _ _ _ c.open.ensures.faults (c.join_entries.ensures.unread is)
 
 pub join_file-returns-in-Entries-clause-held : goal.join_file-returns-in-Entries-clause-held
 join_file-returns-in-Entries-clause-held g t c = c.join_entries.ensures.held ∙ c.open.ensures.held
@@ -191,4 +194,5 @@ pub join_file-returns-then-room-eq0-clause-unread : goal.join_file-returns-then-
 join_file-returns-then-room-eq0-clause-unread g t c = λ is. absurd (told_read _ _ _ refl c.fault_at.ensures is)
 
 pub join_file-returns-in-TooLarge-clause-unread : goal.join_file-returns-in-TooLarge-clause-unread
-join_file-returns-in-TooLarge-clause-unread g t c = λ is. absurd (told_read _ _ _ refl c.fault_at-in-TooLarge.ensures is)
+join_file-returns-in-TooLarge-clause-unread g t c =
+    λ is. absurd (told_read _ _ _ refl c.fault_at-in-TooLarge.ensures is)
