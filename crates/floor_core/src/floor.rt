@@ -2,7 +2,7 @@
 ghost use Rattle.std.specs.Prelude.{◌≡◌, ◌<◌, ◌≤◌, ◌↔◌, true, map, length, IsTrue, IsSomeAnd, IfOk, OnOk};
 ghost use Rattle.std.specs.Prelude.{slice_get};
 ghost use Rattle.floor_core.specs.Events.{IsLegal, MayClaim, MayPost, MayReport, happened};
-ghost use Rattle.floor_core.specs.Floor.{begun};
+ghost use Rattle.floor_core.specs.Floor.{begun, fresh};
 ghost use Rattle.floor_core.specs.Run.{ComesTo};
 
 use crate::desk::Desk;
@@ -29,6 +29,17 @@ impl<J: Job> Model for Floor<J> {
     ghost view = { λ f. record { boards = f.desks.items; mail = f.mail.items; is_ended = f.is_ended } };
 }
 
+/// A desk for each job, with the board at home.
+fn desks_of<J: Job>(alloc: Global, jobs: Vec<J>) -> Result<Vec<Desk<J>>, NoMemory>
+    ensures { IfOk result (λ desks. desks.items ≡ map fresh (map J.meaning jobs.items)) }
+{
+    let mut desks = Vec::with_capacity(alloc, jobs.len())?;
+    for job in jobs {
+        desks.push(Desk::new(job))?;
+    }
+    Ok(desks)
+}
+
 impl<J: Job> Floor<J> {
     /// The floor as a round begins: each board is at home and has used nothing.
     pub fn begin(alloc: Global, jobs: Vec<J>) -> Result<Floor<J>, NoMemory>
@@ -36,10 +47,7 @@ impl<J: Job> Floor<J> {
         ensures floor { IfOk result (λ floor. floor ≡ begun (map J.meaning jobs.items)) }
         ensures boards { IfOk result (λ floor. length floor.boards ≡ length jobs.items) }
     {
-        let mut desks = Vec::with_capacity(alloc, jobs.len())?;
-        for job in jobs {
-            desks.push(Desk::new(job))?;
-        }
+        let desks = desks_of(alloc, jobs)?;
         Ok(Floor {
             desks,
             mail: Vec::new(alloc),
@@ -103,13 +111,15 @@ impl<J: Job> Floor<J> {
     pub fn legal(&self, e: &Event) -> bool
         ensures { IsTrue result ↔ IsLegal self.now e.now }
     {
-        !self.is_ended
-            && match *e {
-                Event::Claim { board, slots, .. } => self.may_claim(board, slots),
-                Event::Post { worker, board } => self.may_post(worker, board),
-                Event::Report { worker, board } => self.may_report(worker, board),
-                Event::Close => self.desks.iter().all(|desk| desk.is_done()),
-            }
+        if self.is_ended {
+            return false;
+        }
+        match *e {
+            Event::Claim { board, slots, .. } => self.may_claim(board, slots),
+            Event::Post { worker, board } => self.may_post(worker, board),
+            Event::Report { worker, board } => self.may_report(worker, board),
+            Event::Close => self.desks.iter().all(|desk| desk.is_done()),
+        }
     }
 
     /// The worker takes the board for a turn of so many slots.

@@ -1,3 +1,4 @@
 -- Lemmas of parcel.
+pub mod SendLemmas
 pub mod SlotLemmas
 pub mod TurnLemmas

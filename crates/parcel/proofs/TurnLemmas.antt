@@ -7,7 +7,7 @@ use Rattle.floor_core.specs.Job as job
 use Rattle.time_handle.specs.Grant.{Grant, left}
 use Rattle.parcel.specs.Inner.Room.{IsPaid}
 use Rattle.parcel.specs.Slots.{spent, stepped, job_of, state_after}
-use Rattle.parcel.proofs.SlotLemmas.{length-coming}
+use Rattle.parcel.proofs.SlotLemmas.{AreAllNumbered, length-coming}
 
 -- what turns are to the board
 abbrev pub AreStretches : Type 0
@@ -62,3 +62,15 @@ used_some stretches b b' g g' limit n rest from first m paid rest_is n_is from_i
       omega (arith, is.0, all),
       turned stretches b b' g g' from first m (omega (arith, few, rest_is)) paid from_is first_is is.1 grant_is,
     )
+
+-- after a turn the counts have room for what is left
+pub still_paid :
+    AreAllNumbered → (b b' : State) (g g' : Grant) (from first n : ℕ) → n ≤ left g → IsPaid b.view.numbers g →
+    b' ≡ after b (stretch b.view from first n) → g' ≡ spent g n → IsPaid b'.view.numbers g'
+still_paid numbered b b' g g' from first n few paid board_is grant_is =
+    let is = numbered b.view from first n (omega (arith, few, paid.posts)) (omega (arith, few, paid.entries)) in
+    rw (board_is, grant_is) (record {
+      speed = paid.speed ∙ sym is.speed;
+      posts = omega (arith, few, paid.posts, is.posted, is.few_posts);
+      entries = omega (arith, few, paid.entries, is.entered, is.few_entries);
+    })

@@ -3,4 +3,6 @@ pub mod Contents
 pub mod Courses
 pub mod Grown
 pub mod LoadingLaws
+pub mod OneEntry
 pub mod Uses
+pub mod Wanting

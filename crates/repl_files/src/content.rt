@@ -15,7 +15,7 @@ use std::str;
 const MOST_BYTES: usize = 16_777_216;
 
 /// How a file was opened.
-#[derive(Drop, Debug)]
+#[derive(Drop)]
 pub(crate) enum Opened {
     /// The entries of its text.
     Entries(Vec<Entry>),

@@ -1,9 +1,10 @@
 //! Loading the platform file that a command names, with all that its `using` lines name.
 ghost use Rattle.std.specs.Prelude.{◌≡◌, ◌≤◌, ◌<◌, ◌++◌, ◌∷◌, [], length, Err, IfSome, IfOk, IfErr, OnOk, IsTrue};
 ghost use Rattle.std.specs.List.{list_all};
+ghost use Rattle.std.specs.Option.{option_map};
 ghost use Rattle.lab_io.specs.Known.{Rose};
 ghost use Rattle.repl_read.specs.Entries.{is_entry};
-ghost use Rattle.repl_files.specs.Loading.{Absent, load, loaded, used, one, in_order};
+ghost use Rattle.repl_files.specs.Loading.{Absent, load, loaded, used, used_file, one, in_order};
 ghost use Rattle.repl_files.specs.Loaded.{IsLoaded, IsCut};
 ghost use Rattle.repl_files.specs.Inner.Course.{Told, IsCourse};
 
@@ -176,9 +177,9 @@ fn join_entry<F: Files>(
     ensures held { F.held files.new ≡ F.held files.old }
     ensures faults { F.faults files.old ≤ F.faults files.new }
 {
-    match &entry.head {
-        Head::Using(name) => { join_file(alloc, files, room, file, entry.line, name.as_str(), all) }
-        Head::Typed { .. } | Head::Update { .. } => keep(number, entry, all),
+    match used_name(&entry.head) {
+        Some(name) => join_file(alloc, files, room, file, entry.line, name, all),
+        None => keep(number, entry, all),
     }
 }
 
@@ -221,6 +222,16 @@ fn join_file<F: Files>(
     }
 }
 
+/// The file that a head names, if it is a `using` head.
+fn used_name(head: &Head) -> Option<&str>
+    ensures { option_map (λ name. name.now) result ≡ used_file head.now }
+{
+    match head {
+        Head::Using(name) => Some(name.as_str()),
+        Head::Typed { .. } | Head::Update { .. } => None,
+    }
+}
+
 /// Notes the name of a file that is to be read.
 fn note(alloc: Global, name: &str, all: &mut Loaded) -> Result<(), LoadFault>
     ensures names { OnOk result (all.new.names.items ≡ all.old.names.items ++ name.now ∷ []) }
@@ -240,9 +251,8 @@ fn keep(number: u32, entry: Entry, all: &mut Loaded) -> Result<(), LoadFault>
     ensures err { IfErr result (λ fault. fault ≡ LoadFault.Memory) }
     ensures names { all.new.names.items ≡ all.old.names.items }
 {
-    all.entries.push(Entry {
-        file: number,
-        ..entry
-    })?;
+    let mut entry = entry;
+    entry.file = number;
+    all.entries.push(entry)?;
     Ok(())
 }

@@ -74,36 +74,63 @@ pub fn names_of(alloc: Global, names: &[(&str, NamedWhat)]) -> Result<Rows<Named
     Ok(Rows::of(list))
 }
 
-/// A board with a memory of 64 KiB, a UART and a finisher, at one instruction a microsecond.
-pub fn small_board(alloc: Global) -> Result<BoardPlan, NoMemory> {
+/// What stands at the addresses of a board.
+#[derive(Drop)]
+struct Parts {
+    regions: Rows<Region>,
+    memories: Rows<u32>,
+    kinds: Rows<Kind>,
+}
+
+/// A memory of 64 KiB, and devices of these kinds.
+fn parts_of(alloc: Global, regions: &[Region], kinds: &[Kind]) -> Result<Parts, NoMemory> {
+    let regions = regions.to_vec(alloc)?;
+    let memories = MEMORIES.to_vec(alloc)?;
+    let kinds = kinds.to_vec(alloc)?;
+    Ok(Parts {
+        regions: Rows::of(regions),
+        memories: Rows::of(memories),
+        kinds: Rows::of(kinds),
+    })
+}
+
+/// A board of these parts without timer, interrupt controller and wires, at one instruction a microsecond.
+fn board_of(
+    alloc: Global,
+    names: &[(&str, NamedWhat)],
+    regions: &[Region],
+    kinds: &[Kind],
+) -> Result<BoardPlan, NoMemory> {
+    let cpu = Text::of(alloc, "cpu")?;
+    let names = names_of(alloc, names)?;
+    let parts = parts_of(alloc, regions, kinds)?;
     Ok(BoardPlan {
-        names: names_of(alloc, &SMALL_NAMES)?,
-        regions: Rows::of(SMALL_REGIONS.to_vec(alloc)?),
-        memories: Rows::of(MEMORIES.to_vec(alloc)?),
-        kinds: Rows::of(SMALL_KINDS.to_vec(alloc)?),
+        names,
+        regions: parts.regions,
+        memories: parts.memories,
+        kinds: parts.kinds,
         frequency: None,
         plic: None,
         wires: Rows::of(Vec::new(alloc)),
         speed: 1,
-        cpu: Text::of(alloc, "cpu")?,
+        cpu,
     })
+}
+
+/// A board with a memory of 64 KiB, a UART and a finisher, at one instruction a microsecond.
+pub fn small_board(alloc: Global) -> Result<BoardPlan, NoMemory> {
+    board_of(alloc, &SMALL_NAMES, &SMALL_REGIONS, &SMALL_KINDS)
 }
 
 /// A board with the same memory, a timer of a megahertz, an interrupt controller of 31 sources and a
 /// UART, without wires.
 pub fn usual_board(alloc: Global) -> Result<BoardPlan, NoMemory> {
-    Ok(BoardPlan {
-        names: names_of(alloc, &USUAL_NAMES)?,
-        regions: Rows::of(USUAL_REGIONS.to_vec(alloc)?),
-        memories: Rows::of(MEMORIES.to_vec(alloc)?),
-        kinds: Rows::of(USUAL_KINDS.to_vec(alloc)?),
-        frequency: Some(1_000_000),
-        plic: Some(PlicSize {
-            sources: 31,
-            contexts: 1,
-        }),
-        wires: Rows::of(Vec::new(alloc)),
-        speed: 25,
-        cpu: Text::of(alloc, "cpu")?,
-    })
+    let mut plan = board_of(alloc, &USUAL_NAMES, &USUAL_REGIONS, &USUAL_KINDS)?;
+    plan.frequency = Some(1_000_000);
+    plan.plic = Some(PlicSize {
+        sources: 31,
+        contexts: 1,
+    });
+    plan.speed = 25;
+    Ok(plan)
 }

@@ -7,7 +7,9 @@ use Rattle.repl_files.specs.declared.fault.FileCause.TheVariants.{Size}
 use Rattle.repl_files.specs.Content.{content_of}
 use Rattle.repl_files.specs.Loading.{Use, used, refused_at}
 use Rattle.repl_files.proofs.Courses.{course_step, stopped_step, course_end}
+use Rattle.repl_files.proofs.OneEntry.{rose_from, one_used, one_kept}
 use Rattle.repl_files.proofs.Uses.{use_refused, use_large, use_goes, file_goes, file_stopped}
+use Rattle.repl_files.proofs.Wanting.{wanting, told_read}
 use Rattle.repl_files.proofs.load.+joining.Goals.{join_file-then-room-eq0-via-then-room-eq0}
 use Rattle.repl_files.proofs.load.+joining.Goals.{join_file-then-room-eq0-via-else-room-eq0+then-len-ge-MOST_FILES}
 use Rattle.repl_files.proofs.load.+joining.Goals as goal
@@ -103,3 +105,94 @@ join_file-returns-in-Stopped-clause-course g t c = λ held is.
     (file_stopped (used (c.args.room - 1) held) (refused_at at Size) at.name (length old.names.items)
     (content_of (get held at.name)) c.in-Stopped.fault
     (g.F.Files.asked c.args.files.now) (g.F.Files.asked c.open.new.files) (c.in-Stopped.ensures.opened held is))
+
+pub join_entries-returns-in-Err-clause-few : goal.join_entries-returns-in-Err-clause-few
+join_entries-returns-in-Err-clause-few g t c = c.join_entry.ensures.few
+
+pub join_entries-returns-in-Err-clause-unread : goal.join_entries-returns-in-Err-clause-unread
+join_entries-returns-in-Err-clause-unread g t c =
+    λ is. rose_from _ _ _ c.loop-entry.invariant.faults (c.in-Err.ensures.unread is)
+
+pub join_entries-returns-in-Err-clause-held : goal.join_entries-returns-in-Err-clause-held
+join_entries-returns-in-Err-clause-held g t c = c.join_entry.ensures.held ∙ c.loop-entry.invariant.held
+
+pub join_entries-returns-in-Err-clause-faults : goal.join_entries-returns-in-Err-clause-faults
+join_entries-returns-in-Err-clause-faults g t c =
+    omega (arith, c.join_entry.ensures.faults, c.loop-entry.invariant.faults)
+
+pub join_entries-returns-clause-few : goal.join_entries-returns-clause-few
+join_entries-returns-clause-few g t c = c.loop-entry.invariant.few
+
+pub join_entries-returns-clause-good : goal.join_entries-returns-clause-good
+join_entries-returns-clause-good g t c = c.loop-entry.invariant.good
+
+pub join_entries-returns-clause-held : goal.join_entries-returns-clause-held
+join_entries-returns-clause-held g t c = c.loop-entry.invariant.held
+
+pub join_entries-returns-clause-faults : goal.join_entries-returns-clause-faults
+join_entries-returns-clause-faults g t c = c.loop-entry.invariant.faults
+
+pub join_entry-returns-in-Some-clause-course : goal.join_entry-returns-in-Some-clause-course
+join_entry-returns-in-Some-clause-course g t c = λ held is.
+    one_used (used c.args.room held) c.args.file.now c.args.number (length c.args.all.now.names.items) c.args.entry
+    c.in-Some.name.now c.join_file.result c.args.all.now c.join_file.new.all (g.F.Files.asked c.args.files.now)
+    (g.F.Files.asked c.join_file.new.files) c.in-Some.ensures (c.join_file.ensures.course held is)
+
+pub join_entry-returns-in-Some-clause-few : goal.join_entry-returns-in-Some-clause-few
+join_entry-returns-in-Some-clause-few g t c = c.join_file.ensures.few
+
+pub join_entry-returns-in-Some-clause-good : goal.join_entry-returns-in-Some-clause-good
+join_entry-returns-in-Some-clause-good g t c = c.join_file.ensures.good
+
+pub join_entry-returns-in-Some-clause-unread : goal.join_entry-returns-in-Some-clause-unread
+join_entry-returns-in-Some-clause-unread g t c = c.join_file.ensures.unread
+
+pub join_entry-returns-in-Some-clause-held : goal.join_entry-returns-in-Some-clause-held
+join_entry-returns-in-Some-clause-held g t c = c.join_file.ensures.held
+
+pub join_entry-returns-in-Some-clause-faults : goal.join_entry-returns-in-Some-clause-faults
+join_entry-returns-in-Some-clause-faults g t c = c.join_file.ensures.faults
+
+pub join_entry-returns-in-None-clause-course : goal.join_entry-returns-in-None-clause-course
+join_entry-returns-in-None-clause-course g t c = λ held is.
+    one_kept (used c.args.room held) c.args.file.now c.args.number (length c.args.all.now.names.items) c.args.entry
+    c.keep.result c.args.all.now c.keep.new.all (g.F.Files.asked c.args.files.now) c.in-None.ensures
+    c.keep.ensures.ok c.keep.ensures.err c.keep.ensures.names
+
+pub join_file-returns-in-Entries-clause-few : goal.join_file-returns-in-Entries-clause-few
+join_file-returns-in-Entries-clause-few g t c = c.join_entries.ensures.few
+
+pub join_file-returns-in-Entries-clause-good : goal.join_file-returns-in-Entries-clause-good
+join_file-returns-in-Entries-clause-good g t c = c.join_entries.ensures.good
+
+pub join_file-returns-in-Entries-clause-unread : goal.join_file-returns-in-Entries-clause-unread
+join_file-returns-in-Entries-clause-unread g t c =
+    λ is. rose_from _ _ _ c.open.ensures.faults (c.join_entries.ensures.unread is)
+
+pub join_file-returns-in-Entries-clause-held : goal.join_file-returns-in-Entries-clause-held
+join_file-returns-in-Entries-clause-held g t c = c.join_entries.ensures.held ∙ c.open.ensures.held
+
+pub join_file-returns-in-Entries-clause-faults : goal.join_file-returns-in-Entries-clause-faults
+join_file-returns-in-Entries-clause-faults g t c = omega (arith, c.join_entries.ensures.faults, c.open.ensures.faults)
+
+pub join_file-returns-in-TooLarge-clause-held : goal.join_file-returns-in-TooLarge-clause-held
+join_file-returns-in-TooLarge-clause-held g t c = c.open.ensures.held
+
+pub join_file-returns-in-TooLarge-clause-faults : goal.join_file-returns-in-TooLarge-clause-faults
+join_file-returns-in-TooLarge-clause-faults g t c = c.open.ensures.faults
+
+pub join_file-returns-in-Stopped-clause-held : goal.join_file-returns-in-Stopped-clause-held
+join_file-returns-in-Stopped-clause-held g t c = c.open.ensures.held
+
+pub join_file-returns-in-Stopped-clause-faults : goal.join_file-returns-in-Stopped-clause-faults
+join_file-returns-in-Stopped-clause-faults g t c = c.open.ensures.faults
+
+pub join_file-returns-in-Err-clause-course : goal.join_file-returns-in-Err-clause-course
+join_file-returns-in-Err-clause-course g t c = λ held is. wanting _ _ _ c.in-Err.ensures.err
+
+pub join_file-returns-then-room-eq0-clause-unread : goal.join_file-returns-then-room-eq0-clause-unread
+join_file-returns-then-room-eq0-clause-unread g t c = λ is. absurd (told_read _ _ _ refl c.fault_at.ensures is)
+
+pub join_file-returns-in-TooLarge-clause-unread : goal.join_file-returns-in-TooLarge-clause-unread
+join_file-returns-in-TooLarge-clause-unread g t c =
+    λ is. absurd (told_read _ _ _ refl c.fault_at-in-TooLarge.ensures is)

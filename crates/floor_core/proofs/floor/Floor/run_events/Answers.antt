@@ -1,4 +1,5 @@
-use Rattle.std.proofs.Common.{◌∙◌, take, sym, subst, refl}
+use Rattle.std.proofs.Common.{◌∙◌, take, sym, subst, refl, arith}
+use Rattle.std.proofs.lemmas.Grind.{common_steps}
 use Rattle.std.proofs.lemmas.List.{take_more}
 use Rattle.floor_core.specs.Run.{IsRun}
 use Rattle.floor_core.proofs.ResultLemmas.{run_more}
@@ -13,3 +14,6 @@ loop-i-preserved g c = record {
       ((c.if-not-legal.ensures {u = tt}).0 refl) c.in-Ok.ensures.happened);
   boards = c.happen.ensures.boards ∙ c.loop-i.invariant.boards;
 }
+
+pub returns-clause-ran : goal.returns-clause-ran
+returns-clause-ran g c = grind (arith, common_steps)
