@@ -9,7 +9,7 @@ use std::alloc::Global;
 use std::marker::Model;
 
 /// The lines of a body, of which the first `taken` are done.
-#[derive(Drop, Debug)]
+#[derive(Drop)]
 pub(crate) struct Body {
     source: Source,
     taken: usize,

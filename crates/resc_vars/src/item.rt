@@ -12,21 +12,21 @@ use lab_num::{NoMemory, Rows, Text};
 use std::alloc::{AllocError, Global};
 
 /// A line and its number, counted from 1 in its file.
-#[derive(Drop, Debug)]
+#[derive(Drop)]
 pub(crate) struct Line {
     pub(crate) number: u32,
     pub(crate) text: Text,
 }
 
 /// The lines of a file, or those of a macro's body.
-#[derive(Drop, Debug)]
+#[derive(Drop)]
 pub(crate) struct Source {
     pub(crate) file: Text,
     pub(crate) lines: Rows<Line>,
 }
 
 /// What a line asks for, or a macro's lines together. Each counts as a command.
-#[derive(Drop, Debug)]
+#[derive(Drop)]
 pub(crate) enum Item {
     /// A command, with variables that are to be replaced.
     Command(Line),
@@ -83,6 +83,16 @@ fn lines_of(alloc: Global, text: &str) -> Result<Vec<&str>, AllocError>
     text.lines().collect(alloc)
 }
 
+/// A line with its number.
+fn line_at(alloc: Global, number: u32, text: &str) -> Result<Line, NoMemory>
+    ensures { IfOk result (λ made. made ≡ record { number = number; text = text.now }) }
+{
+    Ok(Line {
+        number,
+        text: Text::of(alloc, text)?,
+    })
+}
+
 /// The lines with their numbers.
 fn numbered(alloc: Global, texts: &[&str]) -> Result<Rows<Line>, NoMemory>
     requires { length texts.now ≤ 2 ^ 24 + 1 }
@@ -90,12 +100,18 @@ fn numbered(alloc: Global, texts: &[&str]) -> Result<Rows<Line>, NoMemory>
 {
     let mut made = Vec::new(alloc);
     for (i, text) in texts.iter().enumerate() {
-        made.push(Line {
-            number: i as u32 + 1,
-            text: Text::of(alloc, text)?,
-        })?;
+        made.push(line_at(alloc, i as u32 + 1, text)?)?;
     }
     Ok(Rows::of(made))
+}
+
+/// The lines of a text with their numbers.
+fn numbered_lines(alloc: Global, text: &str) -> Result<Rows<Line>, NoMemory>
+    requires { length text.now ≤ 2 ^ 24 }
+    ensures { IfOk result (λ made. made ≡ numbered 1 (lines text.now)) }
+{
+    let texts = lines_of(alloc, text)?;
+    numbered(alloc, &texts)
 }
 
 /// A file of this name with this text.
@@ -104,8 +120,7 @@ pub(crate) fn source_of(alloc: Global, name: &str, text: &str) -> Result<Source,
     ensures { IfOk result (λ made. made ≡ source_of name.now text.now) }
 {
     let file = Text::of(alloc, name)?;
-    let texts = lines_of(alloc, text)?;
-    let lines = numbered(alloc, &texts)?;
+    let lines = numbered_lines(alloc, text)?;
     Ok(Source { file, lines })
 }
 
@@ -153,6 +168,24 @@ fn macro_item(
     Ok((define, from + k + 1))
 }
 
+/// A macro whose body begins after so many lines, if it begins.
+fn begun_item(
+    alloc: Global,
+    line: &Line,
+    name: Name,
+    lines: &[Line],
+    from: Option<usize>,
+) -> Result<(Item, usize), NoMemory>
+    requires { IfSome from (λ from. from ≤ length lines.now) }
+    ensures value { IfOk result (λ found. found ≡ items.begun_item line.now name lines.now from) }
+    ensures within { IfOk result (λ found. found.1 ≤ length lines.now) }
+{
+    match from {
+        None => Ok((Item::Malformed(copy_line(alloc, line)?), 0)),
+        Some(from) => macro_item(alloc, line, name, lines, from),
+    }
+}
+
 /// The item at a line, and how many of the lines that follow are its own.
 #[tactic(auto, unfolding(crate::specs::Items::item_at))]
 fn item_at(alloc: Global, line: &Line, lines: &[Line]) -> Result<(Item, usize), NoMemory>
@@ -166,10 +199,7 @@ fn item_at(alloc: Global, line: &Line, lines: &[Line]) -> Result<(Item, usize), 
             let line = line.number;
             Ok((Item::Assign { line, assignment }, 0))
         }
-        Form::Macro { name, opened } => match begin(opened, lines) {
-            None => Ok((Item::Malformed(copy_line(alloc, line)?), 0)),
-            Some(from) => macro_item(alloc, line, name, lines, from),
-        },
+        Form::Macro { name, opened } => begun_item(alloc, line, name, lines, begin(opened, lines)),
     }
 }
 

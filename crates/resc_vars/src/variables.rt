@@ -1,11 +1,14 @@
 //! Lines with their variables replaced.
-ghost use Rattle.std.specs.Prelude.{◌≡◌, IfOk};
+ghost use Rattle.std.specs.Prelude.{◌≡◌, ◌∷◌, ◌++◌, map, IfOk, OnOk};
+ghost use Rattle.std.specs.Str.{byte};
 ghost use Rattle.std.specs.Option.{option_map};
 ghost use Rattle.std.specs.String.{string_bytes};
 ghost use Rattle.resc_read.specs.Words as words;
-ghost use Rattle.resc_vars.specs.Variables.{stands_for, replaced, names_macro, after_name, command_text};
+ghost use Rattle.resc_vars.specs.Inner.Steps.{SetsVariable};
+ghost use Rattle.resc_vars.specs.Variables.{stands_for, replaced, names_macro, after_name, command_text, with_value};
 
-use crate::name::Name;
+use crate::form::Assignment;
+use crate::name::{Name, put};
 use indexmap::IndexMap;
 use lab_num::{NoMemory, Text};
 use resc_read::{cut, piece_len, variable_of, words_of};
@@ -33,6 +36,48 @@ pub(crate) fn stands_for<'a>(
     }
 }
 
+/// A copy of what stands for a word.
+fn value_for(alloc: Global, variables: &Variables, word: &str) -> Result<Option<Text>, NoMemory>
+    ensures { IfOk result (λ found. found ≡ stands_for variables.now.entries word.now) }
+{
+    match stands_for(alloc, variables, word)? {
+        None => Ok(None),
+        Some(value) => Ok(Some(Text::of(alloc, value)?)),
+    }
+}
+
+/// Gives a variable a value, unless it is to be set only if it is unset, and has one.
+fn give(
+    variables: &mut Variables,
+    name: Name,
+    only_if_unset: bool,
+    value: Text,
+) -> Result<(), NoMemory>
+    ensures { OnOk result (variables.new.entries ≡ with_value variables.old.entries name only_if_unset value) }
+{
+    if !only_if_unset || variables.get(&name).is_none() {
+        return put(variables, name, value);
+    }
+    Ok(())
+}
+
+/// Sets a variable, unless its value is a variable that is unset.
+pub(crate) fn set_variable(
+    alloc: Global,
+    variables: &mut Variables,
+    assignment: Assignment,
+) -> Result<bool, NoMemory>
+    ensures { IfOk result (λ set. SetsVariable assignment variables.old.entries set variables.new.entries) }
+{
+    match value_for(alloc, variables, assignment.value.as_str())? {
+        None => Ok(false),
+        Some(value) => {
+            give(variables, assignment.name, assignment.only_if_unset, value)?;
+            Ok(true)
+        }
+    }
+}
+
 /// The line with its variables replaced, if each is set.
 fn replaced(alloc: Global, variables: &Variables, line: &str) -> Result<Option<String>, NoMemory>
     ensures { IfOk result (λ made. option_map string_bytes made
@@ -56,15 +101,32 @@ fn replaced(alloc: Global, variables: &Variables, line: &str) -> Result<Option<S
     }
 }
 
+/// Whether words begin with `runMacro` and `$name`.
+fn are_of_macro(words: &[&str]) -> bool
+    ensures { result ≡ names_macro (map (λ word. word.now) words.now) }
+{
+    match words {
+        [first, second, ..] if *first == "runMacro" => variable_of(second).is_some(),
+        _ => false,
+    }
+}
+
 /// Whether a line begins with `runMacro $name`.
 fn names_macro(alloc: Global, line: &str) -> Result<bool, NoMemory>
     ensures { IfOk result (λ is. is ≡ names_macro (words.words line.now)) }
 {
     let words = words_of(alloc, line)?;
-    match words.as_slice() {
-        [first, second, ..] => Ok(*first == "runMacro" && variable_of(second).is_some()),
-        _ => Ok(false),
-    }
+    Ok(are_of_macro(&words))
+}
+
+/// Two texts with a `$` between them.
+fn joined(alloc: Global, front: &str, more: &str) -> Result<Text, NoMemory>
+    ensures { IfOk result (λ made. made ≡ front.now ++ byte "$" ∷ more.now) }
+{
+    let mut made = String::from_str(alloc, front)?;
+    made.push('$')?;
+    made.push_str(more)?;
+    Ok(Text::of(alloc, made.as_str())?)
 }
 
 /// A line with its variables replaced after its first `$`.
@@ -75,13 +137,10 @@ fn after_name(alloc: Global, variables: &Variables, line: &str) -> Result<Option
     let Some((front, rest)) = cut(line, '$') else {
         return Ok(Some(Text::of(alloc, line)?));
     };
-    let Some(more) = replaced(alloc, variables, rest)? else {
-        return Ok(None);
-    };
-    let mut made = String::from_str(alloc, front)?;
-    made.push('$')?;
-    made.push_str(more.as_str())?;
-    Ok(Some(Text::of(alloc, made.as_str())?))
+    match replaced(alloc, variables, rest)? {
+        None => Ok(None),
+        Some(more) => Ok(Some(joined(alloc, front, more.as_str())?)),
+    }
 }
 
 /// The text of a command, with its variables replaced.
