@@ -38,9 +38,6 @@ first_at lines rest line i item own inner here kept is few at passed =
     let enough : length rest ≡ length lines - (i + 1) = ap length is ∙ length-drop (i + 1) lines in
     (omega (arith, few, enough, inner), passed ∙ (ap (items 0) head ∙ (found ∙ ap (λ xs. item ∷ items 0 xs) further)))
 
-line_at : ℕ → List ℕ → Line
-line_at n text = record { number = n; text = text }
-
 -- one line more has its number
 pub numbered_more :
     (made all : List Line) (texts : List (Bor (List ℕ))) (i : ℕ) (d : Bor (List ℕ)) (line : Line) →

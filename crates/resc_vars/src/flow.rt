@@ -6,7 +6,6 @@ ghost use Rattle.std.specs.String.{string_bytes};
 ghost use Rattle.resc_vars.specs.declared.item.Item.TheVariants as items;
 ghost use Rattle.resc_vars.specs.Script.{command_limit, given, defined, next_of, Says, is_line};
 ghost use Rattle.resc_vars.specs.Script.{TakesCommands};
-ghost use Rattle.resc_vars.specs.Variables.{command_text};
 ghost use Rattle.resc_vars.specs.Bodies.{begun, source_of, enter, run_of, Leaves};
 ghost use Rattle.resc_vars.specs.Inner.Steps.{Takes, Closes, IsFault, Sets};
 ghost use Rattle.resc_vars.specs.Inner.Steps.{next_with, with_counted, Acts, IsSameBodies};
@@ -210,18 +209,6 @@ impl Flow {
         if self.is_full() {
             return self.fault(line.number, ScriptCause::Commands);
         }
-        self.replaced(line)
-    }
-
-    /// Hands a command on with its variables replaced.
-    fn replaced(&mut self, line: Line) -> Next
-        requires goes_on { self.old.ended ≡ false }
-        requires within { self.old.kept.taken < command_limit }
-        ensures says { Says result self.new
-            (given self.old.current.file line.number (command_text self.old.kept.variables line.text)
-            (with_counted self.old)) }
-        ensures bodies { IsSameBodies self.old self.new }
-    {
         match command_text(self.alloc, &self.variables, line.text.as_str()) {
             Err(_) => Next::Memory,
             Ok(None) => self.fault(line.number, ScriptCause::Variable),
@@ -305,13 +292,9 @@ impl Flow {
         if self.outer.len() >= DEPTH {
             return Err(FlowFault::Depth);
         }
-        let around = std::mem::replace(&mut self.body, Body::of(source));
-        match self.outer.push(around) {
+        match self.body.enter(&mut self.outer, source) {
             Ok(()) => Ok(()),
-            Err(back) => {
-                self.body = back.value;
-                Err(FlowFault::Memory)
-            }
+            Err(_) => Err(FlowFault::Memory),
         }
     }
 

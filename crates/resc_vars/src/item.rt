@@ -168,24 +168,6 @@ fn macro_item(
     Ok((define, from + k + 1))
 }
 
-/// A macro whose body begins after so many lines, if it begins.
-fn begun_item(
-    alloc: Global,
-    line: &Line,
-    name: Name,
-    lines: &[Line],
-    from: Option<usize>,
-) -> Result<(Item, usize), NoMemory>
-    requires { IfSome from (λ from. from ≤ length lines.now) }
-    ensures value { IfOk result (λ found. found ≡ items.begun_item line.now name lines.now from) }
-    ensures within { IfOk result (λ found. found.1 ≤ length lines.now) }
-{
-    match from {
-        None => Ok((Item::Malformed(copy_line(alloc, line)?), 0)),
-        Some(from) => macro_item(alloc, line, name, lines, from),
-    }
-}
-
 /// The item at a line, and how many of the lines that follow are its own.
 #[tactic(auto, unfolding(crate::specs::Items::item_at))]
 fn item_at(alloc: Global, line: &Line, lines: &[Line]) -> Result<(Item, usize), NoMemory>
@@ -199,7 +181,10 @@ fn item_at(alloc: Global, line: &Line, lines: &[Line]) -> Result<(Item, usize), 
             let line = line.number;
             Ok((Item::Assign { line, assignment }, 0))
         }
-        Form::Macro { name, opened } => begun_item(alloc, line, name, lines, begin(opened, lines)),
+        Form::Macro { name, opened } => match begin(opened, lines) {
+            None => Ok((Item::Malformed(copy_line(alloc, line)?), 0)),
+            Some(from) => macro_item(alloc, line, name, lines, from),
+        },
     }
 }
 

@@ -1,6 +1,5 @@
 //! Lines with their variables replaced.
-ghost use Rattle.std.specs.Prelude.{◌≡◌, ◌∷◌, ◌++◌, map, IfOk, OnOk};
-ghost use Rattle.std.specs.Str.{byte};
+ghost use Rattle.std.specs.Prelude.{◌≡◌, IfOk, OnOk};
 ghost use Rattle.std.specs.Option.{option_map};
 ghost use Rattle.std.specs.String.{string_bytes};
 ghost use Rattle.resc_read.specs.Words as words;
@@ -18,7 +17,7 @@ use std::alloc::Global;
 pub(crate) type Variables = IndexMap<Name, Text>;
 
 /// What stands for a word: the value of a variable that it names, or itself.
-pub(crate) fn stands_for<'a>(
+fn stands_for<'a>(
     alloc: Global,
     variables: &'a Variables,
     word: &'a str,
@@ -101,32 +100,15 @@ fn replaced(alloc: Global, variables: &Variables, line: &str) -> Result<Option<S
     }
 }
 
-/// Whether words begin with `runMacro` and `$name`.
-fn are_of_macro(words: &[&str]) -> bool
-    ensures { result ≡ names_macro (map (λ word. word.now) words.now) }
-{
-    match words {
-        [first, second, ..] if *first == "runMacro" => variable_of(second).is_some(),
-        _ => false,
-    }
-}
-
 /// Whether a line begins with `runMacro $name`.
 fn names_macro(alloc: Global, line: &str) -> Result<bool, NoMemory>
     ensures { IfOk result (λ is. is ≡ names_macro (words.words line.now)) }
 {
     let words = words_of(alloc, line)?;
-    Ok(are_of_macro(&words))
-}
-
-/// Two texts with a `$` between them.
-fn joined(alloc: Global, front: &str, more: &str) -> Result<Text, NoMemory>
-    ensures { IfOk result (λ made. made ≡ front.now ++ byte "$" ∷ more.now) }
-{
-    let mut made = String::from_str(alloc, front)?;
-    made.push('$')?;
-    made.push_str(more)?;
-    Ok(Text::of(alloc, made.as_str())?)
+    match words.as_slice() {
+        [first, second, ..] => Ok(*first == "runMacro" && variable_of(second).is_some()),
+        _ => Ok(false),
+    }
 }
 
 /// A line with its variables replaced after its first `$`.
@@ -137,10 +119,13 @@ fn after_name(alloc: Global, variables: &Variables, line: &str) -> Result<Option
     let Some((front, rest)) = cut(line, '$') else {
         return Ok(Some(Text::of(alloc, line)?));
     };
-    match replaced(alloc, variables, rest)? {
-        None => Ok(None),
-        Some(more) => Ok(Some(joined(alloc, front, more.as_str())?)),
-    }
+    let Some(more) = replaced(alloc, variables, rest)? else {
+        return Ok(None);
+    };
+    let mut made = String::from_str(alloc, front)?;
+    made.push('$')?;
+    made.push_str(more.as_str())?;
+    Ok(Some(Text::of(alloc, made.as_str())?))
 }
 
 /// The text of a command, with its variables replaced.
