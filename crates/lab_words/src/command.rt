@@ -1,10 +1,11 @@
 //! The commands as `clap` knows them, and the texts that it finds.
 ghost use Rattle.std.specs.Prelude.{◌≡◌, IfOk, true, map};
 ghost use Rattle.std.specs.String.{string_bytes};
-ghost use Rattle.clap.specs.Words.{app_of};
+ghost use Rattle.clap.specs.Words.{app_of, with_rule};
 ghost use Rattle.clap.specs.Faults.{is_simple_and_free};
 ghost use Rattle.lab_words.specs.Grammar.{check_form, gen_form, run_form};
-ghost use Rattle.lab_words.specs.Inner.Commands.{GivesTexts, TakenBy, check_app, gen_app, run_app};
+ghost use Rattle.lab_words.specs.Inner.Commands.{GivesTexts, TakenBy, bare, check_app, gen_app, optional};
+ghost use Rattle.lab_words.specs.Inner.Commands.{run_app, wanted};
 
 use crate::request::{UsageCause, WordsFault};
 use clap::error::ErrorKind;
@@ -25,42 +26,57 @@ fn matches_of<'a>(command: Command<'a>, words: &'a [String]) -> Result<ArgMatche
     }
 }
 
+/// A command without `--help`, whose words do not begin with a program's name.
+fn bare_command<'a>(alloc: Global, name: &'a str) -> Command<'a>
+    ensures { app_of result ≡ bare name.entry.now }
+{
+    Command::new(alloc, name)
+        .no_binary_name(true)
+        .disable_help_flag(true)
+}
+
+/// The command with an option `--NAME TEXT` more.
+fn with_option<'a>(
+    alloc: Global,
+    command: Command<'a>,
+    name: &'a str,
+) -> Result<Command<'a>, AllocError>
+    ensures { IfOk result (λ made. app_of made ≡ with_rule (app_of command.entry) (optional name.entry.now)) }
+{
+    command.arg(Arg::new(alloc, name).long(name))
+}
+
+/// The command with a plain word more, which has to be there.
+fn with_word<'a>(
+    alloc: Global,
+    command: Command<'a>,
+    name: &'a str,
+) -> Result<Command<'a>, AllocError>
+    ensures { IfOk result (λ made. app_of made ≡ with_rule (app_of command.entry) (wanted name.entry.now)) }
+{
+    command.arg(Arg::new(alloc, name).required(true))
+}
+
 fn run_command<'a>(alloc: Global) -> Result<Command<'a>, AllocError>
     ensures { IfOk result (λ command. app_of command ≡ run_app) }
 {
-    let workers = Arg::new(alloc, "workers").long("workers");
-    let until = Arg::new(alloc, "until").long("until");
-    let script = Arg::new(alloc, "SCRIPT").required(true);
-    Command::new(alloc, "run")
-        .no_binary_name(true)
-        .disable_help_flag(true)
-        .arg(workers)?
-        .arg(until)?
-        .arg(script)
+    let command = with_option(alloc, bare_command(alloc, "run"), "workers")?;
+    let command = with_option(alloc, command, "until")?;
+    with_word(alloc, command, "SCRIPT")
 }
 
 fn check_command<'a>(alloc: Global) -> Result<Command<'a>, AllocError>
     ensures { IfOk result (λ command. app_of command ≡ check_app) }
 {
-    let script = Arg::new(alloc, "SCRIPT").required(true);
-    Command::new(alloc, "check")
-        .no_binary_name(true)
-        .disable_help_flag(true)
-        .arg(script)
+    with_word(alloc, bare_command(alloc, "check"), "SCRIPT")
 }
 
 fn gen_command<'a>(alloc: Global) -> Result<Command<'a>, AllocError>
     ensures { IfOk result (λ command. app_of command ≡ gen_app) }
 {
-    let workers = Arg::new(alloc, "workers").long("workers");
-    let seed = Arg::new(alloc, "SEED").required(true);
-    let boards = Arg::new(alloc, "BOARDS").required(true);
-    Command::new(alloc, "gen")
-        .no_binary_name(true)
-        .disable_help_flag(true)
-        .arg(workers)?
-        .arg(seed)?
-        .arg(boards)
+    let command = with_option(alloc, bare_command(alloc, "gen"), "workers")?;
+    let command = with_word(alloc, command, "SEED")?;
+    with_word(alloc, command, "BOARDS")
 }
 
 /// The texts of `SCRIPT`, `workers` and `until` in the words after `run`.

@@ -38,20 +38,14 @@ first_at lines rest line i item own inner here kept is few at passed =
     let enough : length rest ≡ length lines - (i + 1) = ap length is ∙ length-drop (i + 1) lines in
     (omega (arith, few, enough, inner), passed ∙ (ap (items 0) head ∙ (found ∙ ap (λ xs. item ∷ items 0 xs) further)))
 
-line_at : ℕ → List ℕ → Line
-line_at n text = record { number = n; text = text }
-
 -- one line more has its number
 pub numbered_more :
-    (made all : List Line) (texts : List (Bor (List ℕ))) (i : ℕ) (d : Bor (List ℕ)) (text : List ℕ) →
-    i < length texts → text ≡ (get_or texts i d).now →
+    (made all : List Line) (texts : List (Bor (List ℕ))) (i : ℕ) (d : Bor (List ℕ)) (line : Line) →
+    i < length texts → line ≡ record { number = i + 1; text = (get_or texts i d).now } →
     made ++ numbered (i + 1) (map (λ x. x.now) (drop i texts)) ≡ all →
-    (made ++ record { number = i + 1; text = text } ∷ [])
-    ++ numbered (i + 1 + 1) (map (λ x. x.now) (drop (i + 1) texts))
-    ≡ all
-unfolding line_at
-numbered_more made all texts i d text inner same read =
+    (made ++ line ∷ []) ++ numbered (i + 1 + 1) (map (λ x. x.now) (drop (i + 1) texts)) ≡ all
+numbered_more made all texts i d line inner same read =
     let rest = numbered (i + 1 + 1) (map (λ x. x.now) (drop (i + 1) texts)) in
-    append_assoc made (line_at (i + 1) text ∷ []) rest
-    ∙ (ap (λ x. made ++ line_at (i + 1) x ∷ rest) same
+    append_assoc made (line ∷ []) rest
+    ∙ (ap (λ x. made ++ x ∷ rest) same
     ∙ (ap (λ xs. made ++ numbered (i + 1) (map (λ x. x.now) xs)) (sym (cut_at texts i d inner)) ∙ read))

@@ -1,5 +1,5 @@
 //! An open body.
-ghost use Rattle.std.specs.Prelude.{◌≡◌, IfOk};
+ghost use Rattle.std.specs.Prelude.{◌≡◌, ◌∷◌, ◌++◌, [], IfOk, OnOk, OnErr};
 ghost use Rattle.resc_vars.specs.Inner.Steps.{Takes};
 ghost use Rattle.resc_vars.specs.Bodies.{opened};
 
@@ -9,7 +9,7 @@ use std::alloc::Global;
 use std::marker::Model;
 
 /// The lines of a body, of which the first `taken` are done.
-#[derive(Drop, Debug)]
+#[derive(Drop)]
 pub(crate) struct Body {
     source: Source,
     taken: usize,
@@ -53,6 +53,22 @@ impl Body {
             Some((item, n)) => {
                 self.taken += n;
                 Ok(Some(item))
+            }
+        }
+    }
+
+    /// Opens the body of a file, and puts the one that was open on those around it.
+    pub(crate) fn enter(&mut self, outer: &mut Vec<Body>, source: Source) -> Result<(), NoMemory>
+        ensures body { OnOk result (self.new ≡ opened source) }
+        ensures outer { OnOk result (outer.new.items ≡ outer.old.items ++ self.old ∷ []) }
+        ensures refused { OnErr result ((self.new ≡ self.old) × (outer.new.items ≡ outer.old.items)) }
+    {
+        let around = std::mem::replace(self, Body::of(source));
+        match outer.push(around) {
+            Ok(()) => Ok(()),
+            Err(back) => {
+                *self = back.value;
+                Err(NoMemory)
             }
         }
     }

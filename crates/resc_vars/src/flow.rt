@@ -1,5 +1,7 @@
 //! The open bodies of a script, its variables and its macros.
-ghost use Rattle.std.specs.Prelude.{◌≡◌, ◌<◌, ◌≤◌, ◌^◌, not, nat_lt, length, false, IfOk, OnOk};
+ghost use Rattle.std.specs.Prelude.{◌≡◌, ◌<◌, ◌≤◌, ◌^◌, not, nat_eq, nat_lt, length, false, IfOk, OnOk};
+ghost use Rattle.std.specs.Cmp.Lexicographic.{pointwise};
+ghost use Rattle.std.specs.Map.{lookup};
 ghost use Rattle.std.specs.String.{string_bytes};
 ghost use Rattle.resc_vars.specs.declared.item.Item.TheVariants as items;
 ghost use Rattle.resc_vars.specs.Script.{command_limit, given, defined, next_of, Says, is_line};
@@ -13,8 +15,8 @@ use crate::body::Body;
 use crate::cause::ScriptCause;
 use crate::form::Assignment;
 use crate::item::{Item, Line, Source, copy_source, source_of};
-use crate::name::Name;
-use crate::variables::{Variables, command_text, stands_for};
+use crate::name::{Name, put};
+use crate::variables::{Variables, command_text, set_variable};
 use indexmap::IndexMap;
 use lab_num::{NoMemory, Rows, Text};
 use std::alloc::Global;
@@ -231,20 +233,11 @@ impl Flow {
         ensures sets { IfOk result (λ set. Sets assignment self.old set self.new) }
         ensures bodies { IsSameBodies self.old self.new }
     {
-        let Assignment {
-            name,
-            only_if_unset,
-            value,
-        } = assignment;
-        let value = match stands_for(self.alloc, &self.variables, value.as_str())? {
-            None => return Ok(false),
-            Some(value) => Text::of(self.alloc, value)?,
-        };
-        if !only_if_unset || self.variables.get(&name).is_none() {
-            self.variables.insert(name, value)?;
+        let set = set_variable(self.alloc, &mut self.variables, assignment)?;
+        if set {
+            self.taken += 1;
         }
-        self.taken += 1;
-        Ok(true)
+        Ok(set)
     }
 
     fn assign(&mut self, line: u32, assignment: Assignment) -> Option<Next>
@@ -271,7 +264,7 @@ impl Flow {
         ensures bodies { IsSameBodies self.old self.new }
     {
         let file = Text::of(self.alloc, self.body.file().as_str())?;
-        self.macros.insert(name, Source { file, lines })?;
+        put(&mut self.macros, name, Source { file, lines })?;
         self.taken += 1;
         Ok(())
     }
@@ -299,13 +292,9 @@ impl Flow {
         if self.outer.len() >= DEPTH {
             return Err(FlowFault::Depth);
         }
-        let around = std::mem::replace(&mut self.body, Body::of(source));
-        match self.outer.push(around) {
+        match self.body.enter(&mut self.outer, source) {
             Ok(()) => Ok(()),
-            Err(back) => {
-                self.body = back.value;
-                Err(FlowFault::Memory)
-            }
+            Err(_) => Err(FlowFault::Memory),
         }
     }
 
@@ -333,11 +322,20 @@ impl Flow {
         ensures leaves { Leaves result self.old self.new (run_of self.old name.now) }
         ensures goes_on { self.new.ended ≡ false }
     {
+        match self.macro_of(name)? {
+            None => Err(FlowFault::Variable),
+            Some(source) => self.enter(source),
+        }
+    }
+
+    /// A copy of the macro of this name, if there is one.
+    fn macro_of(&self, name: &str) -> Result<Option<Source>, NoMemory>
+        ensures { IfOk result (λ found. found ≡ lookup (pointwise nat_eq name.now) self.now.kept.macros) }
+    {
         let name = Name::of(self.alloc, name)?;
-        let Some(source) = self.macros.get(&name) else {
-            return Err(FlowFault::Variable);
-        };
-        let source = copy_source(self.alloc, source)?;
-        self.enter(source)
+        match self.macros.get(&name) {
+            None => Ok(None),
+            Some(source) => Ok(Some(copy_source(self.alloc, source)?)),
+        }
     }
 }

@@ -11,7 +11,7 @@ use resc_read::{cut, is_blank, is_variable_name, path_of, text_of, variable_of, 
 use std::alloc::Global;
 
 /// What `$name=VALUE` sets, or `$name?=VALUE` where the variable is unset.
-#[derive(Drop, Debug)]
+#[derive(Drop)]
 pub(crate) struct Assignment {
     pub(crate) name: Name,
     pub(crate) only_if_unset: bool,
@@ -19,7 +19,7 @@ pub(crate) struct Assignment {
 }
 
 /// The form of a line.
-#[derive(Drop, Debug)]
+#[derive(Drop)]
 pub(crate) enum Form {
     /// A command, with variables that are to be replaced.
     Command,

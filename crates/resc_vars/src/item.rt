@@ -12,21 +12,21 @@ use lab_num::{NoMemory, Rows, Text};
 use std::alloc::{AllocError, Global};
 
 /// A line and its number, counted from 1 in its file.
-#[derive(Drop, Debug)]
+#[derive(Drop)]
 pub(crate) struct Line {
     pub(crate) number: u32,
     pub(crate) text: Text,
 }
 
 /// The lines of a file, or those of a macro's body.
-#[derive(Drop, Debug)]
+#[derive(Drop)]
 pub(crate) struct Source {
     pub(crate) file: Text,
     pub(crate) lines: Rows<Line>,
 }
 
 /// What a line asks for, or a macro's lines together. Each counts as a command.
-#[derive(Drop, Debug)]
+#[derive(Drop)]
 pub(crate) enum Item {
     /// A command, with variables that are to be replaced.
     Command(Line),
@@ -83,6 +83,16 @@ fn lines_of(alloc: Global, text: &str) -> Result<Vec<&str>, AllocError>
     text.lines().collect(alloc)
 }
 
+/// A line with its number.
+fn line_at(alloc: Global, number: u32, text: &str) -> Result<Line, NoMemory>
+    ensures { IfOk result (λ made. made ≡ record { number = number; text = text.now }) }
+{
+    Ok(Line {
+        number,
+        text: Text::of(alloc, text)?,
+    })
+}
+
 /// The lines with their numbers.
 fn numbered(alloc: Global, texts: &[&str]) -> Result<Rows<Line>, NoMemory>
     requires { length texts.now ≤ 2 ^ 24 + 1 }
@@ -90,12 +100,18 @@ fn numbered(alloc: Global, texts: &[&str]) -> Result<Rows<Line>, NoMemory>
 {
     let mut made = Vec::new(alloc);
     for (i, text) in texts.iter().enumerate() {
-        made.push(Line {
-            number: i as u32 + 1,
-            text: Text::of(alloc, text)?,
-        })?;
+        made.push(line_at(alloc, i as u32 + 1, text)?)?;
     }
     Ok(Rows::of(made))
+}
+
+/// The lines of a text with their numbers.
+fn numbered_lines(alloc: Global, text: &str) -> Result<Rows<Line>, NoMemory>
+    requires { length text.now ≤ 2 ^ 24 }
+    ensures { IfOk result (λ made. made ≡ numbered 1 (lines text.now)) }
+{
+    let texts = lines_of(alloc, text)?;
+    numbered(alloc, &texts)
 }
 
 /// A file of this name with this text.
@@ -104,8 +120,7 @@ pub(crate) fn source_of(alloc: Global, name: &str, text: &str) -> Result<Source,
     ensures { IfOk result (λ made. made ≡ source_of name.now text.now) }
 {
     let file = Text::of(alloc, name)?;
-    let texts = lines_of(alloc, text)?;
-    let lines = numbered(alloc, &texts)?;
+    let lines = numbered_lines(alloc, text)?;
     Ok(Source { file, lines })
 }
 

@@ -1,13 +1,16 @@
 //! Names of variables and macros.
-ghost use Rattle.std.specs.Prelude.{◌≡◌, IfOk};
+ghost use Rattle.std.specs.Prelude.{◌≡◌, nat_eq, IfOk, OnOk};
+ghost use Rattle.std.specs.Cmp.Lexicographic.{pointwise};
+ghost use Rattle.indexmap.specs.IndexMap.{insert_entry};
 
+use indexmap::IndexMap;
 use lab_num::{NoMemory, Text};
 use std::alloc::Global;
 use std::hash::{Hash, Hasher};
 use std::marker::Model;
 
 /// The name of a variable or a macro, by which a map finds it; contracts see it as its bytes.
-#[derive(Clone, Drop, Debug)]
+#[derive(Drop)]
 pub(crate) struct Name {
     text: Text,
 }
@@ -33,6 +36,18 @@ impl Name {
     {
         self.text.as_str()
     }
+}
+
+/// Keeps a value under a name, in place of the one that is there.
+pub(crate) fn put<V: Drop>(
+    map: &mut IndexMap<Name, V>,
+    name: Name,
+    value: V,
+) -> Result<(), NoMemory>
+    ensures { OnOk result (map.new.entries ≡ insert_entry (pointwise nat_eq) map.old.entries name value) }
+{
+    map.insert(name, value)?;
+    Ok(())
 }
 
 impl PartialEq for Name {

@@ -1,11 +1,13 @@
 //! Lines with their variables replaced.
-ghost use Rattle.std.specs.Prelude.{◌≡◌, IfOk};
+ghost use Rattle.std.specs.Prelude.{◌≡◌, IfOk, OnOk};
 ghost use Rattle.std.specs.Option.{option_map};
 ghost use Rattle.std.specs.String.{string_bytes};
 ghost use Rattle.resc_read.specs.Words as words;
-ghost use Rattle.resc_vars.specs.Variables.{stands_for, replaced, names_macro, after_name, command_text};
+ghost use Rattle.resc_vars.specs.Inner.Steps.{SetsVariable};
+ghost use Rattle.resc_vars.specs.Variables.{stands_for, replaced, names_macro, after_name, command_text, with_value};
 
-use crate::name::Name;
+use crate::form::Assignment;
+use crate::name::{Name, put};
 use indexmap::IndexMap;
 use lab_num::{NoMemory, Text};
 use resc_read::{cut, piece_len, variable_of, words_of};
@@ -15,7 +17,7 @@ use std::alloc::Global;
 pub(crate) type Variables = IndexMap<Name, Text>;
 
 /// What stands for a word: the value of a variable that it names, or itself.
-pub(crate) fn stands_for<'a>(
+fn stands_for<'a>(
     alloc: Global,
     variables: &'a Variables,
     word: &'a str,
@@ -30,6 +32,48 @@ pub(crate) fn stands_for<'a>(
     match variables.get(&name) {
         None => Ok(None),
         Some(value) => Ok(Some(value.as_str())),
+    }
+}
+
+/// A copy of what stands for a word.
+fn value_for(alloc: Global, variables: &Variables, word: &str) -> Result<Option<Text>, NoMemory>
+    ensures { IfOk result (λ found. found ≡ stands_for variables.now.entries word.now) }
+{
+    match stands_for(alloc, variables, word)? {
+        None => Ok(None),
+        Some(value) => Ok(Some(Text::of(alloc, value)?)),
+    }
+}
+
+/// Gives a variable a value, unless it is to be set only if it is unset, and has one.
+fn give(
+    variables: &mut Variables,
+    name: Name,
+    only_if_unset: bool,
+    value: Text,
+) -> Result<(), NoMemory>
+    ensures { OnOk result (variables.new.entries ≡ with_value variables.old.entries name only_if_unset value) }
+{
+    if !only_if_unset || variables.get(&name).is_none() {
+        return put(variables, name, value);
+    }
+    Ok(())
+}
+
+/// Sets a variable, unless its value is a variable that is unset.
+pub(crate) fn set_variable(
+    alloc: Global,
+    variables: &mut Variables,
+    assignment: Assignment,
+) -> Result<bool, NoMemory>
+    ensures { IfOk result (λ set. SetsVariable assignment variables.old.entries set variables.new.entries) }
+{
+    match value_for(alloc, variables, assignment.value.as_str())? {
+        None => Ok(false),
+        Some(value) => {
+            give(variables, assignment.name, assignment.only_if_unset, value)?;
+            Ok(true)
+        }
     }
 }
 

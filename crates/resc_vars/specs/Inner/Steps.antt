@@ -5,7 +5,9 @@ use Rattle.resc_vars.specs.declared.item.Line.{Line}
 use Rattle.resc_vars.specs.declared.item.Item.{Item}
 use Rattle.resc_vars.specs.declared.answer.Next.{Next}
 use Rattle.resc_vars.specs.declared.answer.Next.TheVariants as next
+use Rattle.std.specs.Option.{option_map}
 use Rattle.resc_vars.specs.Items.{items}
+use Rattle.resc_vars.specs.Variables.{Variables, stands_for, with_value}
 use Rattle.resc_vars.specs.declared.form.Assignment.{Assignment}
 use Rattle.resc_vars.specs.Script.{State, Outcome, Says, assigned, counted, in_body, in_bodies, next_of}
 
@@ -51,6 +53,12 @@ Acts None after said = next_of after ≡ said
 -- a state with one command more
 abbrev pub with_counted : State → State
 with_counted s = record s { kept = counted s.kept }
+
+-- the variables after an assignment, made or refused
+abbrev pub SetsVariable : Assignment → Variables → Bool → Variables → Type 0
+SetsVariable a before true after =
+    option_map (λ value. with_value before a.name a.only_if_unset value) (stands_for before a.value) ≡ Some after
+SetsVariable a before false after = stands_for before a.value ≡ None
 
 -- an assignment, made or refused
 abbrev pub Sets : Assignment → State → Bool → State → Type 0

@@ -3,7 +3,7 @@ use Rattle.std.proofs.Common.{◌≡◌, ◌∙◌, ap, sym, length, arith}
 use Rattle.std.specs.Str.Lines.{lines}
 use Rattle.std.proofs.lemmas.List.{length-map}
 use Rattle.resc_vars.proofs.LengthLemmas.{lines-le}
-use Rattle.resc_vars.proofs.item.source_of.Goals as goal
+use Rattle.resc_vars.proofs.item.numbered_lines.Goals as goal
 
 pub numbered-requires : goal.numbered-requires
 numbered-requires c =
