@@ -14,12 +14,12 @@ ghost use Rattle.rv_exec.specs.Effect.{
 };
 
 use crate::access::{Shape, load, store};
-use crate::alu::{
-    add, div, divu, is_less, mul, mulh, mulhsu, mulhu, rem, remu, sll, slt, sltu, sra, srl, sub,
-};
+use crate::alu::add;
 use crate::bus::{Bus, NoMemory};
+use crate::condition::is_taken;
 use crate::csr::{Change, change_csr};
 use crate::ending::{advance, branch, finish, jump, leave, trap, wait};
+use crate::operation::{on_immediate, on_registers};
 use rv_decode::{Instr, Op, decode};
 use rv_hart::{Exception, Hart, Lines, zero_register};
 
@@ -51,12 +51,9 @@ fn execute<B: Bus>(
         // jumps and branches
         Op::Jal => jump(hart, i.rd, add(hart.pc(), i.imm)),
         Op::Jalr => jump(hart, i.rd, add(a, i.imm) / 2 * 2),
-        Op::Beq => branch(hart, a == b, i.imm),
-        Op::Bne => branch(hart, a != b, i.imm),
-        Op::Blt => branch(hart, is_less(a, b), i.imm),
-        Op::Bge => branch(hart, !is_less(a, b), i.imm),
-        Op::Bltu => branch(hart, a < b, i.imm),
-        Op::Bgeu => branch(hart, a >= b, i.imm),
+        Op::Beq | Op::Bne | Op::Blt | Op::Bge | Op::Bltu | Op::Bgeu => {
+            branch(hart, is_taken(i, a, b), i.imm);
+        }
         // loads and stores
         Op::Lb => return load(hart, bus, i, 1, Shape::SignedByte),
         Op::Lh => return load(hart, bus, i, 2, Shape::SignedHalf),
@@ -67,26 +64,34 @@ fn execute<B: Bus>(
         Op::Sh => return store(hart, bus, i, 2),
         Op::Sw => return store(hart, bus, i, 4),
         // a register and an immediate
-        Op::Addi => finish(hart, i.rd, add(a, i.imm)),
-        Op::Slti => finish(hart, i.rd, slt(a, i.imm)),
-        Op::Sltiu => finish(hart, i.rd, sltu(a, i.imm)),
-        Op::Xori => finish(hart, i.rd, a ^ i.imm),
-        Op::Ori => finish(hart, i.rd, a | i.imm),
-        Op::Andi => finish(hart, i.rd, a & i.imm),
-        Op::Slli => finish(hart, i.rd, sll(a, i.imm)),
-        Op::Srli => finish(hart, i.rd, srl(a, i.imm)),
-        Op::Srai => finish(hart, i.rd, sra(a, i.imm)),
-        // two registers
-        Op::Add => finish(hart, i.rd, add(a, b)),
-        Op::Sub => finish(hart, i.rd, sub(a, b)),
-        Op::Sll => finish(hart, i.rd, sll(a, b)),
-        Op::Slt => finish(hart, i.rd, slt(a, b)),
-        Op::Sltu => finish(hart, i.rd, sltu(a, b)),
-        Op::Xor => finish(hart, i.rd, a ^ b),
-        Op::Srl => finish(hart, i.rd, srl(a, b)),
-        Op::Sra => finish(hart, i.rd, sra(a, b)),
-        Op::Or => finish(hart, i.rd, a | b),
-        Op::And => finish(hart, i.rd, a & b),
+        Op::Addi
+        | Op::Slti
+        | Op::Sltiu
+        | Op::Xori
+        | Op::Ori
+        | Op::Andi
+        | Op::Slli
+        | Op::Srli
+        | Op::Srai => finish(hart, i.rd, on_immediate(i, a)),
+        // two registers, with products and quotients
+        Op::Add
+        | Op::Sub
+        | Op::Sll
+        | Op::Slt
+        | Op::Sltu
+        | Op::Xor
+        | Op::Srl
+        | Op::Sra
+        | Op::Or
+        | Op::And
+        | Op::Mul
+        | Op::Mulh
+        | Op::Mulhsu
+        | Op::Mulhu
+        | Op::Div
+        | Op::Divu
+        | Op::Rem
+        | Op::Remu => finish(hart, i.rd, on_registers(i, a, b)),
         // fences and calls
         Op::Fence | Op::FenceI => advance(hart),
         Op::Ecall => trap(hart, Exception::EnvironmentCall, 0),
@@ -98,15 +103,6 @@ fn execute<B: Bus>(
         Op::Csrrwi => change_csr(hart, Change::Write, u32::from(i.rs1), i, word, lines),
         Op::Csrrsi => change_csr(hart, Change::Set, u32::from(i.rs1), i, word, lines),
         Op::Csrrci => change_csr(hart, Change::Clear, u32::from(i.rs1), i, word, lines),
-        // products and quotients
-        Op::Mul => finish(hart, i.rd, mul(a, b)),
-        Op::Mulh => finish(hart, i.rd, mulh(a, b)),
-        Op::Mulhsu => finish(hart, i.rd, mulhsu(a, b)),
-        Op::Mulhu => finish(hart, i.rd, mulhu(a, b)),
-        Op::Div => finish(hart, i.rd, div(a, b)),
-        Op::Divu => finish(hart, i.rd, divu(a, b)),
-        Op::Rem => finish(hart, i.rd, rem(a, b)),
-        Op::Remu => finish(hart, i.rd, remu(a, b)),
         // privileged
         Op::Mret => leave(hart),
         Op::Wfi => wait(hart),

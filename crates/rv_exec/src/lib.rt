@@ -4,9 +4,11 @@
 mod access;
 mod alu;
 mod bus;
+mod condition;
 mod csr;
 mod ending;
 mod execute;
+mod operation;
 
 pub use bus::{Bus, NoMemory};
 pub use execute::step;
