@@ -24,20 +24,15 @@ const PROGRAM: [u32; 4] = [0x1000_02B7, 0x0410_0313, 0x0062_8023, 0x0000_006F];
 fn plan(alloc: Global) -> Result<BoardPlan, Fail>
     ensures { IfOk result (λ plan. plan.kinds ≡ uart ∷ []) }
 {
+    let kinds = Rows::of(vec![in alloc; Kind::Uart]?);
     let mut plan = usual_board(alloc)?;
-    plan.kinds = Rows::of(vec![in alloc; Kind::Uart]?);
+    plan.kinds = kinds;
     plan.speed = 2;
     Ok(plan)
 }
 
-/// A board of the program.
-fn board(rt: &impl Abort, alloc: Global, number: BoardNo) -> Result<Board<Uart>, Fail> {
-    let plan = plan(alloc)?;
-    assert!(rt; plan.is_valid());
-    let devices = vec![in alloc; Uart::new()]?;
-    let Ok(mut board) = Board::new(alloc, number, plan, devices) else {
-        return Err(Fail::from(NoMemory));
-    };
+/// Puts the program into a board.
+fn load(rt: &impl Abort, board: &mut Board<Uart>) -> Result<(), NoMemory> {
     let mut at = START;
     for word in PROGRAM {
         assert!(rt; board.holds(at, 4));
@@ -45,6 +40,18 @@ fn board(rt: &impl Abort, alloc: Global, number: BoardNo) -> Result<Board<Uart>,
         at = at.wrapping_add(4);
     }
     board.set_pc(START);
+    Ok(())
+}
+
+/// A board of the program.
+fn board(rt: &impl Abort, alloc: Global, number: BoardNo) -> Result<Board<Uart>, Fail> {
+    let devices = vec![in alloc; Uart::new()]?;
+    let plan = plan(alloc)?;
+    assert!(rt; plan.is_valid());
+    let Ok(mut board) = Board::new(alloc, number, plan, devices) else {
+        return Err(Fail::from(NoMemory));
+    };
+    load(rt, &mut board)?;
     Ok(board)
 }
 

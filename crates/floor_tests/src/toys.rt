@@ -55,8 +55,9 @@ static STOPS: [(&str, Ran, bool); 16] = [
 
 /// What becomes of these events with two boards, and whether the floor is ended then.
 fn ran(alloc: Global, text: &str) -> Result<(Ran, bool), NoMemory> {
+    let events = events_of(alloc, text)?;
     let mut floor = two_boards(alloc)?;
-    let ran = floor.run_events(&events_of(alloc, text)?);
+    let ran = floor.run_events(&events);
     Ok((ran, floor.is_ended()))
 }
 
@@ -135,14 +136,22 @@ fn is_done(floor: &Floor<Toy>, board: u8, slots: u64) -> bool
     floor.used(board) == slots && job.left() == 0 && job.next_post().is_none()
 }
 
+/// Whether the mail has what each order of the scripts leaves in it.
+fn are_posted(alloc: Global, floor: &Floor<Toy>) -> Result<bool, NoMemory> {
+    let posts = listed(alloc, floor)?;
+    Ok(posts.as_slice() == all_posts().as_slice())
+}
+
 /// The events all happen, end the floor, and leave what each order of the scripts leaves.
 fn come_to_the_same(alloc: Global, events: &[Event]) -> Result<bool, NoMemory> {
     let mut floor = three_boards(alloc)?;
     let ran = floor.run_events(events);
     let are_done = is_done(&floor, 0, 2) && is_done(&floor, 1, 2) && is_done(&floor, 2, 3);
-    let posts = listed(alloc, &floor)?;
-    let are_posted = posts.as_slice() == all_posts().as_slice();
-    Ok(ran == Ran::All && floor.is_ended() && are_done && are_posted)
+    if ran == Ran::All && floor.is_ended() && are_done {
+        are_posted(alloc, &floor)
+    } else {
+        Ok(false)
+    }
 }
 
 #[test]

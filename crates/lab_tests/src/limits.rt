@@ -113,15 +113,25 @@ fn put_link(files: &mut MemFiles, alloc: Global, number: u32) -> Result<(), NoMe
     put_numbered(files, alloc, number, "repl", platform.as_str())
 }
 
+fn put_chain(
+    files: &mut MemFiles,
+    alloc: Global,
+    last: u32,
+    script: &str,
+    platform: &str,
+) -> Result<(), NoMemory> {
+    for number in 1..last {
+        put_link(files, alloc, number)?;
+    }
+    put_numbered(files, alloc, last, "resc", script)?;
+    put_numbered(files, alloc, last, "repl", platform)
+}
+
 /// Files `1.resc`, `2.resc` and so on, each of which includes the next; and `1.repl`, `2.repl` and
 /// so on, each of which uses the next. The last of each has this text.
 fn chain(alloc: Global, last: u32, script: &str, platform: &str) -> Result<MemFiles, NoMemory> {
     let mut files = files(alloc)?;
-    for number in 1..last {
-        put_link(&mut files, alloc, number)?;
-    }
-    put_numbered(&mut files, alloc, last, "resc", script)?;
-    put_numbered(&mut files, alloc, last, "repl", platform)?;
+    put_chain(&mut files, alloc, last, script, platform)?;
     Ok(files)
 }
 
@@ -175,15 +185,24 @@ fn eight_bodies_are_open_beside_the_script_at_most(rt: HostRuntime) -> Result<()
 /// run ends.
 static USED: [(u32, u8, &str); 2] = [(62, 0, ""), (63, 3, "error: all.repl:64: S11 depth\n")];
 
+fn put_used(files: &mut MemFiles, alloc: Global, count: u32) -> Result<(), NoMemory> {
+    let all = repeated(alloc, "using \"none.repl\"\n", count, "using \"p.repl\"\n")?;
+    files.put("none.repl", b"")?;
+    files.put("all.repl", all.as_bytes())?;
+    Ok(())
+}
+
+/// The files, of which `all.repl` uses an empty one so many times, and then the usual platform.
+fn using(alloc: Global, count: u32) -> Result<MemFiles, NoMemory> {
+    let mut files = files(alloc)?;
+    put_used(&mut files, alloc, count)?;
+    Ok(files)
+}
+
 fn assert_used<R: Abort + AllocGlobal>(rt: &R, rows: &[(u32, u8, &str)]) -> Result<(), NoMemory> {
     let script = "mach create m\nmachine LoadPlatformDescription @all.repl\n";
-    let alloc = rt.alloc();
     for (count, number, written) in rows {
-        let all = repeated(alloc, "using \"none.repl\"\n", *count, "using \"p.repl\"\n")?;
-        let mut files = files(alloc)?;
-        files.put("none.repl", b"")?;
-        files.put("all.repl", all.as_bytes())?;
-        assert_script(rt, files, script, *number, written)?;
+        assert_script(rt, using(rt.alloc(), *count)?, script, *number, written)?;
     }
     Ok(())
 }

@@ -90,11 +90,15 @@ static FILES: [(&str, &[u8]); 2] = [
     ),
 ];
 
+fn put_script(files: &mut MemFiles, script: &str) -> Result<(), NoMemory> {
+    files.put("s.resc", script.as_bytes())?;
+    put_all(files, &FILES)
+}
+
 /// The files, of which `s.resc` is this script.
 fn files_with(alloc: Global, script: &str) -> Result<MemFiles, NoMemory> {
     let mut files = files(alloc)?;
-    files.put("s.resc", script.as_bytes())?;
-    put_all(&mut files, &FILES)?;
+    put_script(&mut files, script)?;
     Ok(files)
 }
 

@@ -135,11 +135,15 @@ fn put_programs(files: &mut MemFiles, alloc: Global, programs: &[Program]) -> Re
     Ok(())
 }
 
+fn put_usual(files: &mut MemFiles, alloc: Global) -> Result<(), NoMemory> {
+    files.put("p.repl", USUAL.as_bytes())?;
+    files.put("u.repl", WIRED.as_bytes())?;
+    put_programs(files, alloc, &PROGRAMS)
+}
+
 /// The programs and platforms by their names.
 pub fn files(alloc: Global) -> Result<MemFiles, NoMemory> {
     let mut files = MemFiles::new(alloc);
-    files.put("p.repl", USUAL.as_bytes())?;
-    files.put("u.repl", WIRED.as_bytes())?;
-    put_programs(&mut files, alloc, &PROGRAMS)?;
+    put_usual(&mut files, alloc)?;
     Ok(files)
 }

@@ -94,15 +94,24 @@ fn put_all(files: &mut MemFiles, rows: &[(&str, &[u8])]) -> Result<(), AllocErro
     Ok(())
 }
 
-fn library(alloc: Global) -> Result<MemFiles, AllocError> {
-    let mut files = MemFiles::new(alloc);
-    put_all(&mut files, &FILES)?;
-    put_many(alloc, &mut files)?;
+/// Files of as many bytes as are read, and of one byte more.
+fn put_large(alloc: Global, files: &mut MemFiles) -> Result<(), AllocError> {
     let mut bytes = Vec::new(alloc);
     bytes.resize(16_777_216, 0xff)?;
     files.put("full", &bytes)?;
     bytes.push(0xff)?;
-    files.put("large", &bytes)?;
+    files.put("large", &bytes)
+}
+
+fn put_library(alloc: Global, files: &mut MemFiles) -> Result<(), AllocError> {
+    put_all(files, &FILES)?;
+    put_many(alloc, files)?;
+    put_large(alloc, files)
+}
+
+fn library(alloc: Global) -> Result<MemFiles, AllocError> {
+    let mut files = MemFiles::new(alloc);
+    put_library(alloc, &mut files)?;
     Ok(files)
 }
 

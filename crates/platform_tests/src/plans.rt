@@ -66,23 +66,48 @@ fn show_numbers(out: &mut String, plan: &BoardPlan) -> Result<(), AllocError> {
     write!(out, "speed{speed} cpu={}", plan.cpu.as_str())
 }
 
-fn show_plan(out: &mut String, plan: &BoardPlan) -> Result<(), AllocError> {
-    for named in plan.names.items() {
+fn show_names(out: &mut String, names: &[Named]) -> Result<(), AllocError> {
+    for named in names {
         show_name(out, named)?;
     }
-    for region in plan.regions.items() {
+    Ok(())
+}
+
+fn show_regions(out: &mut String, regions: &[Region]) -> Result<(), AllocError> {
+    for region in regions {
         show_region(out, region)?;
     }
-    for size in plan.memories.items() {
+    Ok(())
+}
+
+fn show_memories(out: &mut String, sizes: &[u32]) -> Result<(), AllocError> {
+    for size in sizes {
         let size = *size;
         write!(out, "{size:x} ")?;
     }
-    for kind in plan.kinds.items() {
+    Ok(())
+}
+
+fn show_kinds(out: &mut String, kinds: &[Kind]) -> Result<(), AllocError> {
+    for kind in kinds {
         show_kind(out, *kind)?;
     }
-    for wire in plan.wires.items() {
+    Ok(())
+}
+
+fn show_wires(out: &mut String, wires: &[Wire]) -> Result<(), AllocError> {
+    for wire in wires {
         show_wire(out, wire)?;
     }
+    Ok(())
+}
+
+fn show_plan(out: &mut String, plan: &BoardPlan) -> Result<(), AllocError> {
+    show_names(out, plan.names.items())?;
+    show_regions(out, plan.regions.items())?;
+    show_memories(out, plan.memories.items())?;
+    show_kinds(out, plan.kinds.items())?;
+    show_wires(out, plan.wires.items())?;
     show_numbers(out, plan)
 }
 
@@ -125,13 +150,17 @@ fn show_fault(out: &mut String, fault: PlatFault) -> Result<(), AllocError> {
     }
 }
 
+fn show_built(out: &mut String, built: &Result<BoardPlan, PlatFault>) -> Result<(), AllocError> {
+    match built {
+        Ok(plan) => show_plan(out, plan),
+        Err(fault) => show_fault(out, *fault),
+    }
+}
+
 /// What is built of a text, in one line.
 fn building(alloc: Global, text: &str) -> Result<String, AllocError> {
     let mut out = String::new(alloc);
-    match built(alloc, text) {
-        Ok(plan) => show_plan(&mut out, &plan)?,
-        Err(fault) => show_fault(&mut out, fault)?,
-    }
+    show_built(&mut out, &built(alloc, text))?;
     Ok(out)
 }
 
@@ -145,17 +174,17 @@ fn outcome(alloc: Global, text: &str) -> Result<String, AllocError> {
     Ok(out)
 }
 
+fn show_wired(out: &mut String, built: &Result<BoardPlan, PlatFault>) -> Result<(), AllocError> {
+    match built {
+        Ok(plan) => show_wires(out, plan.wires.items()),
+        Err(fault) => show_fault(out, *fault),
+    }
+}
+
 /// The wires of a text, or its first fault.
 fn wiring(alloc: Global, text: &str) -> Result<String, AllocError> {
     let mut out = String::new(alloc);
-    match built(alloc, text) {
-        Ok(plan) => {
-            for wire in plan.wires.items() {
-                show_wire(&mut out, wire)?;
-            }
-        }
-        Err(fault) => show_fault(&mut out, fault)?,
-    }
+    show_wired(&mut out, &built(alloc, text))?;
     Ok(out)
 }
 

@@ -79,6 +79,13 @@ fn show_entry(out: &mut String, entry: &Entry) -> Result<(), AllocError> {
     out.push_str("]")
 }
 
+fn show_entries(out: &mut String, entries: &[Entry]) -> Result<(), AllocError> {
+    for entry in entries {
+        show_entry(out, entry)?;
+    }
+    Ok(())
+}
+
 fn show_fault(out: &mut String, fault: PlatFault) -> Result<(), AllocError> {
     match fault {
         PlatFault::At {
@@ -95,19 +102,18 @@ fn show_fault(out: &mut String, fault: PlatFault) -> Result<(), AllocError> {
     }
 }
 
+fn show_read(out: &mut String, read: &Result<Vec<Entry>, PlatFault>) -> Result<(), AllocError> {
+    match read {
+        Ok(entries) => show_entries(out, entries),
+        Err(fault) => show_fault(out, *fault),
+    }
+}
+
 /// What is read of a text, in one line.
 fn reading(alloc: Global, text: &str) -> Result<String, AllocError> {
     let mut out = String::new(alloc);
-    if text.len() > 1_000_000 {
-        return Ok(out);
-    }
-    match read_platform(alloc, text) {
-        Ok(entries) => {
-            for entry in &entries {
-                show_entry(&mut out, entry)?;
-            }
-        }
-        Err(fault) => show_fault(&mut out, fault)?,
+    if text.len() <= 1_000_000 {
+        show_read(&mut out, &read_platform(alloc, text))?;
     }
     Ok(out)
 }

@@ -54,7 +54,30 @@ fn line_text(next: Next) -> Option<Text>
     }
 }
 
-/// Opens what a line opens: `file`, or a macro. An answer is why it is refused.
+/// Opens what a command opens: `file`, or a macro. An answer is why it is refused.
+fn carry_out(
+    alloc: Global,
+    flow: &mut Flow,
+    command: &Command,
+    file: &str,
+) -> Result<Option<&'static str>, Fail>
+    requires { flow.old.ended ≡ false }
+    ensures { flow.new.ended ≡ false }
+{
+    let answer = match command {
+        Command::Include { path } => flow.include(path.as_str(), short(alloc, file)?),
+        Command::RunMacro { name } => flow.run_macro(name.as_str()),
+        _ => return Ok(None),
+    };
+    match answer {
+        Ok(()) => Ok(None),
+        Err(FlowFault::Depth) => Ok(Some("depth")),
+        Err(FlowFault::Variable) => Ok(Some("no macro")),
+        Err(FlowFault::Memory) => Ok(Some("memory")),
+    }
+}
+
+/// Opens what a line opens.
 fn open(
     alloc: Global,
     flow: &mut Flow,
@@ -64,16 +87,9 @@ fn open(
     requires { flow.old.ended ≡ false }
     ensures { flow.new.ended ≡ false }
 {
-    let answer = match read_line(alloc, line) {
-        Ok(Command::Include { path }) => flow.include(path.as_str(), short(alloc, file)?),
-        Ok(Command::RunMacro { name }) => flow.run_macro(name.as_str()),
-        _ => return Ok(None),
-    };
-    match answer {
-        Ok(()) => Ok(None),
-        Err(FlowFault::Depth) => Ok(Some("depth")),
-        Err(FlowFault::Variable) => Ok(Some("no macro")),
-        Err(FlowFault::Memory) => Ok(Some("memory")),
+    match read_line(alloc, line) {
+        Ok(command) => carry_out(alloc, flow, &command, file),
+        Err(_) => Ok(None),
     }
 }
 
@@ -97,15 +113,24 @@ fn step(alloc: Global, flow: &mut Flow, said: &mut String, file: &str) -> Result
     }
 }
 
-/// The answers to a script up to its end. Its lines `include` take the text of `file`.
-fn course(alloc: Global, script: &str, file: &str) -> Result<String, Fail> {
-    let mut flow = Flow::new(alloc, "s", short(alloc, script)?)?;
-    let mut said = String::new(alloc);
+/// Adds the answers of a script up to its end.
+fn play(alloc: Global, flow: &mut Flow, said: &mut String, file: &str) -> Result<(), Fail>
+    requires { flow.old.ended ≡ false }
+{
     'lines: for _ in 0..100 {
-        if !step(alloc, &mut flow, &mut said, file)? {
-            return Ok(said);
+        if !step(alloc, flow, said, file)? {
+            return Ok(());
         }
     }
+    Ok(())
+}
+
+/// The answers to a script up to its end. Its lines `include` take the text of `file`.
+fn course(alloc: Global, script: &str, file: &str) -> Result<String, Fail> {
+    let script = short(alloc, script)?;
+    let mut said = String::new(alloc);
+    let mut flow = Flow::new(alloc, "s", script)?;
+    play(alloc, &mut flow, &mut said, file)?;
     Ok(said)
 }
 
