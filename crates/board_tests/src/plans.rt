@@ -62,7 +62,7 @@ static NAMES: [(usize, &str, NamedWhat, &str, bool); 11] = [
 ];
 
 /// Whether a plan is valid with so many names, regions, memories and devices of the small board.
-fn is_valid_with(
+fn are_counts_valid(
     plan: &mut BoardPlan,
     alloc: Global,
     names: usize,
@@ -85,11 +85,11 @@ fn is_counted(
     kinds: usize,
 ) -> Result<bool, NoMemory> {
     let mut plan = small_board(alloc)?;
-    is_valid_with(&mut plan, alloc, names, regions, memories, kinds)
+    are_counts_valid(&mut plan, alloc, names, regions, memories, kinds)
 }
 
 /// Whether a plan is valid with these names.
-fn is_valid_under(
+fn are_names_valid(
     plan: &mut BoardPlan,
     alloc: Global,
     names: &[(&str, NamedWhat)],
@@ -110,7 +110,7 @@ fn is_named(
     let mut names = SMALL_NAMES;
     names[i % 4] = (name, what);
     let mut plan = small_board(alloc)?;
-    is_valid_under(&mut plan, alloc, &names, cpu)
+    are_names_valid(&mut plan, alloc, &names, cpu)
 }
 
 fn assert_counts(
@@ -184,7 +184,7 @@ fn with_range(region: Region, base: u32, size: u32, step: u8) -> Region {
 }
 
 /// Whether a plan is valid with these regions and memories.
-fn is_valid_over(
+fn are_regions_valid(
     plan: &mut BoardPlan,
     alloc: Global,
     regions: &[Region],
@@ -204,14 +204,14 @@ fn is_small_range(
     let mut regions = SMALL_REGIONS;
     regions[i % 3] = with_range(regions[i % 3], range.0, range.1, range.2);
     let mut plan = small_board(alloc)?;
-    is_valid_over(&mut plan, alloc, &regions, &[memory])
+    are_regions_valid(&mut plan, alloc, &regions, &[memory])
 }
 
 fn is_usual_range(alloc: Global, i: usize, base: u32, size: u32) -> Result<bool, NoMemory> {
     let mut regions = USUAL_REGIONS;
     regions[i % 4] = with_range(regions[i % 4], base, size, 1);
     let mut plan = usual_board(alloc)?;
-    is_valid_over(&mut plan, alloc, &regions, &MEMORIES)
+    are_regions_valid(&mut plan, alloc, &regions, &MEMORIES)
 }
 
 fn assert_small_ranges(
@@ -306,7 +306,7 @@ fn has_numbers(
 }
 
 /// Whether a plan is valid with one wire.
-fn is_valid_by(
+fn is_wire_valid(
     plan: &mut BoardPlan,
     alloc: Global,
     from: WireFrom,
@@ -318,23 +318,23 @@ fn is_valid_by(
 
 fn has_usual_wire(alloc: Global, from: WireFrom, pin: WirePin) -> Result<bool, NoMemory> {
     let mut plan = usual_board(alloc)?;
-    is_valid_by(&mut plan, alloc, from, pin)
+    is_wire_valid(&mut plan, alloc, from, pin)
 }
 
 fn has_small_wire(alloc: Global, from: WireFrom, pin: WirePin) -> Result<bool, NoMemory> {
     let mut plan = small_board(alloc)?;
-    is_valid_by(&mut plan, alloc, from, pin)
+    is_wire_valid(&mut plan, alloc, from, pin)
 }
 
 /// Whether a plan is valid with these devices.
-fn is_valid_of(plan: &mut BoardPlan, alloc: Global, kinds: &[Kind]) -> Result<bool, NoMemory> {
+fn are_kinds_valid(plan: &mut BoardPlan, alloc: Global, kinds: &[Kind]) -> Result<bool, NoMemory> {
     set_kinds(plan, alloc, kinds)?;
     Ok(plan.is_valid())
 }
 
 fn has_kinds(alloc: Global, first: Kind, second: Kind) -> Result<bool, NoMemory> {
     let mut plan = small_board(alloc)?;
-    is_valid_of(&mut plan, alloc, &[first, second])
+    are_kinds_valid(&mut plan, alloc, &[first, second])
 }
 
 fn assert_numbers(
