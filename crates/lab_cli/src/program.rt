@@ -7,7 +7,7 @@ use can_sja1000::Can;
 use dev_core::{Device, Stock};
 use lab_io::{DiskFiles, OutSink};
 use lab_top::{Status, run_lab};
-use std::alloc::{AllocError, Global};
+use std::alloc::AllocError;
 use std::io::ErrorKind;
 use std::process::{ExitCode, Termination};
 use std::rt::{Env, Files};
@@ -63,44 +63,30 @@ fn status_of<R: Env + Files + Print + AllocGlobal>(rt: &R) -> Status {
     }
 }
 
-/// Devices, each in a box of its own.
-type Boxes = Vec<Box<dyn Device + Send>>;
-
-fn add_uarts(alloc: Global, boxes: &mut Boxes) -> Result<(), AllocError> {
-    for _ in 0..UARTS {
-        boxes.push(Box::new(alloc, Uart::new())?)?;
-    }
-    Ok(())
-}
-
-fn add_cans(alloc: Global, boxes: &mut Boxes) -> Result<(), AllocError> {
-    for _ in 0..CANS {
-        boxes.push(Box::new(alloc, Can::new())?)?;
-    }
-    Ok(())
-}
-
-fn add_finishers(alloc: Global, boxes: &mut Boxes) -> Result<(), AllocError> {
-    for _ in 0..FINISHERS {
-        boxes.push(Box::new(alloc, Finisher::new())?)?;
-    }
-    Ok(())
-}
-
-/// Runs the program by these words, on devices enough for each board that a laboratory can have.
+/// Runs the program by these words, on devices enough for each board that a laboratory can have,
+/// each in a box of its own.
 fn run_on_boxes<R: Files + Print + AllocGlobal>(
     rt: &R,
     words: &[String],
 ) -> Result<Status, AllocError> {
     let alloc = rt.alloc();
-    let mut stock = Stock {
-        uarts: Boxes::new(alloc),
-        cans: Boxes::new(alloc),
-        finishers: Boxes::new(alloc),
+    let mut uarts: Vec<Box<dyn Device + Send>> = Vec::new(alloc);
+    for _ in 0..UARTS {
+        uarts.push(Box::new(alloc, Uart::new())?)?;
+    }
+    let mut cans: Vec<Box<dyn Device + Send>> = Vec::new(alloc);
+    for _ in 0..CANS {
+        cans.push(Box::new(alloc, Can::new())?)?;
+    }
+    let mut finishers: Vec<Box<dyn Device + Send>> = Vec::new(alloc);
+    for _ in 0..FINISHERS {
+        finishers.push(Box::new(alloc, Finisher::new())?)?;
+    }
+    let stock = Stock {
+        uarts,
+        cans,
+        finishers,
     };
-    add_uarts(alloc, &mut stock.uarts)?;
-    add_cans(alloc, &mut stock.cans)?;
-    add_finishers(alloc, &mut stock.finishers)?;
     Ok(run_on_stock(rt, words, stock))
 }
 
