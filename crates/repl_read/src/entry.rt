@@ -2,7 +2,7 @@
 use lab_num::{Rows, Text};
 
 /// One entry: its head, the attributes and wires that belong to it, and where it stands.
-#[derive(Clone, PartialEq, Eq, Drop, Debug)]
+#[derive(PartialEq, Eq, Drop, Debug)]
 pub struct Entry {
     /// The number of the file, 0 for the text that was read.
     pub file: u32,
@@ -14,7 +14,7 @@ pub struct Entry {
 }
 
 /// The first line of an entry.
-#[derive(Clone, PartialEq, Eq, Drop, Debug)]
+#[derive(PartialEq, Eq, Drop, Debug)]
 pub enum Head {
     /// The entries of the file of this name stand here.
     Using(Text),
@@ -38,7 +38,7 @@ pub enum Place {
 }
 
 /// One item of an entry, and its line, from 1 on.
-#[derive(Clone, PartialEq, Eq, Drop, Debug)]
+#[derive(PartialEq, Eq, Drop, Debug)]
 pub struct Item {
     pub line: u32,
     pub what: ItemWhat,

@@ -1,6 +1,17 @@
 -- The divisor is not 0, and the quotient fits.
 use Rattle.std.proofs.Common.{arith}
+use Rattle.std.proofs.lemmas.Grind.{common_steps}
 use Rattle.rv_exec.proofs.alu.rem.Goals as goal
 
 pub nonzero_rem-cast_signed : goal.nonzero_rem-cast_signed
 nonzero_rem-cast_signed c = grind arith
+
+pub returns-then-b-eq0 : goal.returns-then-b-eq0
+returns-then-b-eq0 c = grind arith
+
+pub returns-then-overflows : goal.returns-then-overflows
+returns-then-overflows c = grind arith
+
+pub returns-else-overflows : goal.returns-else-overflows
+returns-else-overflows c = grind (arith, common_steps)
+
