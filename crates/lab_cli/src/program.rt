@@ -6,12 +6,10 @@ ghost use Rattle.lab_top.specs.Headline.{number_of};
 use can_sja1000::Can;
 use dev_core::{Device, Stock};
 use lab_io::{DiskFiles, OutSink};
-use lab_top::{Status, run_lab};
+use lab_top::{Status, command_words, run_lab};
 use std::alloc::AllocError;
-use std::io::ErrorKind;
 use std::process::{ExitCode, Termination};
 use std::rt::{Env, Files};
-use std::{env, io};
 use test_finisher::Finisher;
 use uart_16550::Uart;
 
@@ -21,16 +19,6 @@ const UARTS: usize = 64;
 const CANS: usize = 64;
 
 const FINISHERS: usize = 16;
-
-/// The words after the program's name. Where a word is not UTF-8 there are none. It fails only
-/// where memory runs out.
-fn words_of<R: Env + AllocGlobal>(rt: &R) -> io::Result<Vec<String>> {
-    match env::args(rt) {
-        Ok(words) => Ok(words.skip(1).collect(rt.alloc())?),
-        Err(error) if error.kind() == ErrorKind::InvalidData => Ok(Vec::new(rt.alloc())),
-        Err(error) => Err(error),
-    }
-}
 
 /// How the program has ended. Only `run` makes one.
 #[derive(Drop)]
@@ -57,7 +45,7 @@ pub fn run<R: Env + Files + Print + AllocGlobal>(rt: &R) -> Ended {
 
 /// How a run of the program ends.
 fn status_of<R: Env + Files + Print + AllocGlobal>(rt: &R) -> Status {
-    match words_of(rt) {
+    match command_words(rt) {
         Ok(words) => run_on_boxes(rt, &words).unwrap_or(Status::Memory),
         Err(_) => Status::Memory,
     }
@@ -103,62 +91,4 @@ fn run_on_stock<R: Files + Print + AllocGlobal, D: Device>(
     let mut files = DiskFiles::new(rt);
     let mut out = OutSink::new(rt);
     run_lab(rt.alloc(), words, &mut files, &mut out, stock)
-}
-
-#[cfg(test)]
-mod tests {
-    use super::*;
-    use std::alloc::Global;
-    use std::env::FillError;
-    use std::test::Fail;
-
-    /// A command line, the program's name first.
-    #[derive(Drop)]
-    struct CommandLine<'a> {
-        words: &'a [&'a [u8]],
-    }
-
-    impl Env for CommandLine<'_> {
-        fn arg(&self, i: usize, buf: &mut [u8]) -> Result<usize, FillError> {
-            let word = self.words.get(i).ok_or(FillError::NotPresent)?;
-            if word.len() > buf.len() {
-                return Err(FillError::TooLong);
-            }
-            buf[..word.len()].copy_from_slice(word);
-            Ok(word.len())
-        }
-
-        fn var(&self, _name: &str, _buf: &mut [u8]) -> Result<usize, FillError> {
-            Err(FillError::NotPresent)
-        }
-
-        fn var_at(&self, _i: usize, _buf: &mut [u8]) -> Result<usize, FillError> {
-            Err(FillError::NotPresent)
-        }
-    }
-
-    #[test]
-    fn the_words_follow_the_program_name(rt: HostRuntime) -> Result<(), Fail> {
-        let alloc: Global = rt.alloc();
-        for (words, expected) in [
-            (
-                [b"lab".as_slice(), b"run", b"s.resc"].as_slice(),
-                "run s.resc",
-            ),
-            ([b"lab".as_slice(), b"", b"a b"].as_slice(), " a b"),
-            ([b"lab".as_slice()].as_slice(), ""),
-            // The last word is not UTF-8.
-            ([b"lab".as_slice(), b"run", b"\xff"].as_slice(), ""),
-        ] {
-            let words = words_of(&(CommandLine { words }, alloc))?;
-            assert_eq!(rt; words.join(alloc, " ")?.as_str(), expected);
-        }
-        Ok(())
-    }
-
-    #[test]
-    fn a_program_without_a_command_ends_with_two(rt: HostRuntime) {
-        // The one word of a test's command line is the name of the test.
-        assert_eq!(rt; run(&rt).report(&rt), ExitCode::from(2));
-    }
 }

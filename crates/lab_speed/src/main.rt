@@ -42,26 +42,31 @@ struct Task {
     wired: bool,
 }
 
-/// What the words ask for.
-fn asked<R: Env + AllocGlobal>(rt: &R) -> Option<Task> {
-    let mut words = env::args(rt).ok()?.skip(1);
-    let name = words.next()?;
-    let slots = words.next()?.parse::<u64>().ok()?;
-    let wired = match words.next() {
-        Some(word) if word.as_str() == "wired" => true,
-        Some(_) => return None,
-        None => false,
+/// The loop of this name, with its text.
+fn loop_named(name: &str) -> Option<(&'static str, &'static str)> {
+    LOOPS.into_iter().find(|l| l.0 == name)
+}
+
+/// What the words after the program's name ask for.
+fn asked(words: &[String]) -> Option<Task> {
+    let (name, slots, wired) = match words {
+        [name, slots] => (name, slots, false),
+        [name, slots, wired] if wired.as_str() == "wired" => (name, slots, true),
+        _ => return None,
     };
-    if words.next().is_some() {
-        return None;
-    }
-    let (name, text) = LOOPS.into_iter().find(|l| l.0 == name.as_str())?;
+    let slots = slots.parse::<u64>().ok()?;
+    let (name, text) = loop_named(name.as_str())?;
     Some(Task {
         name,
         text,
         slots,
         wired,
     })
+}
+
+/// The words after the program's name.
+fn words_of<R: Env + AllocGlobal>(rt: &R) -> Option<Vec<String>> {
+    env::args(rt).ok()?.skip(1).collect(rt.alloc()).ok()
 }
 
 /// The text of a task's program.
@@ -108,17 +113,27 @@ fn retired_in<D: Device>(board: &mut Board<D>, slots: u64) -> Option<u64> {
     Some(board.retired())
 }
 
+/// The program of a task, as bytes.
+fn program_for(alloc: Global, task: Task) -> Option<Vec<u8>> {
+    let text = text_of(alloc, task)?;
+    program_of(alloc, text.as_str())
+}
+
+/// Runs a task on a new board, and answers how many instructions were retired.
+fn run_on<D: Device>(alloc: Global, task: Task, board: &mut Board<D>) -> Option<u64> {
+    let program = program_for(alloc, task)?;
+    load(board, &program)?;
+    retired_in(board, task.slots)
+}
+
 /// Runs a task on a board with these devices, a UART and a finisher, and answers how many
 /// instructions were retired.
 fn run<D: Device>(alloc: Global, task: Task, uart: D, finisher: D) -> Option<u64>
     requires uart { D.meaning uart ≡ first_state Kind.Uart }
     requires finisher { D.meaning finisher ≡ first_state Kind.Finisher }
 {
-    let text = text_of(alloc, task)?;
-    let program = program_of(alloc, text.as_str())?;
     let mut board = board_of(alloc, task.wired, uart, finisher)?;
-    load(&mut board, &program)?;
-    retired_in(&mut board, task.slots)
+    run_on(alloc, task, &mut board)
 }
 
 /// Does a task with devices in boxes, as the laboratory has them.
@@ -129,7 +144,10 @@ fn done(alloc: Global, task: Task) -> Option<u64> {
 }
 
 fn main(rt: HostRuntime) -> io::Result<ExitCode> {
-    let Some(task) = asked(&rt) else {
+    let Some(words) = words_of(&rt) else {
+        return Ok(ExitCode::from(1));
+    };
+    let Some(task) = asked(&words) else {
         println!(rt; "{USAGE}")?;
         return Ok(ExitCode::from(2));
     };

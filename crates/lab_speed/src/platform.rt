@@ -2,6 +2,7 @@
 ghost use Rattle.std.specs.Prelude.{◌≡◌, ◌∷◌, [], IfSome};
 ghost use Rattle.dev_core.specs.declared.kind.Kind.TheVariants.{Uart, Finisher};
 ghost use Rattle.board.specs.New.{first_state};
+ghost use Rattle.sys_bus.specs.Plan.{IsValid};
 
 use board::Board;
 use dev_core::{Device, Kind};
@@ -100,17 +101,31 @@ fn plan(alloc: Global, wired: bool) -> Option<BoardPlan>
     })
 }
 
+/// The plan of the board, if it is one that a board can have.
+fn valid_plan(alloc: Global, wired: bool) -> Option<BoardPlan>
+    ensures kinds { IfSome result (λ plan. plan.kinds ≡ Uart ∷ Finisher ∷ []) }
+    ensures valid { IfSome result (λ plan. IsValid plan) }
+{
+    let plan = plan(alloc, wired)?;
+    plan.is_valid().then_some(plan)
+}
+
+/// The two devices in their order.
+fn both<D: Device>(alloc: Global, uart: D, finisher: D) -> Option<Vec<D>>
+    ensures { IfSome result (λ devices. devices.items ≡ uart ∷ finisher ∷ []) }
+{
+    let mut devices = Vec::new(alloc);
+    devices.push(uart).ok()?;
+    devices.push(finisher).ok()?;
+    Some(devices)
+}
+
 /// A new board with these devices, which may have a timer, an interrupt controller and wires.
 pub fn board_of<D: Device>(alloc: Global, wired: bool, uart: D, finisher: D) -> Option<Board<D>>
     requires uart { D.meaning uart ≡ first_state Uart }
     requires finisher { D.meaning finisher ≡ first_state Finisher }
 {
-    let plan = plan(alloc, wired)?;
-    let mut devices = Vec::new(alloc);
-    devices.push(uart).ok()?;
-    devices.push(finisher).ok()?;
-    if !plan.is_valid() {
-        return None;
-    }
+    let devices = both(alloc, uart, finisher)?;
+    let plan = valid_plan(alloc, wired)?;
     Board::new(alloc, BoardNo(0), plan, devices).ok()
 }

@@ -6,6 +6,8 @@ mod bench;
 #[cfg(test)]
 mod cans;
 #[cfg(test)]
+mod command_line;
+#[cfg(test)]
 mod generated;
 #[cfg(test)]
 mod images;

@@ -1,12 +1,14 @@
 //! The whole program: what the command words ask for, from the script's bytes to the log's.
 #![tactic(auto)]
 
+mod command_line;
 mod laws;
 mod run;
 mod script;
 mod status;
 mod words;
 
+pub use command_line::command_words;
 pub use laws::{checks_run_nothing, returns_agree, transcripts_agree, workers_agree};
 pub use run::run_lab;
 pub use status::Status;
