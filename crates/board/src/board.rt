@@ -119,7 +119,7 @@ impl<D: Device> Board<D> {
         ensures least { 1 ≤ result }
         ensures most { result ≤ 1000 }
     {
-        self.wires.numbers.speed
+        self.wires.made.numbers.speed
     }
 
     /// Sets the speed, in instructions a microsecond.
@@ -128,7 +128,7 @@ impl<D: Device> Board<D> {
         requires most { speed ≤ 1000 }
         ensures { self.new ≡ record self.old { view = with_speed self.old.view speed } }
     {
-        self.wires.numbers.speed = speed;
+        self.wires.made.numbers.speed = speed;
     }
 
     /// Takes the next `n` slots. Slot `i` of the call lies in microsecond
@@ -305,7 +305,7 @@ impl<D: Device> Board<D> {
     pub fn next_post(&self) -> Option<Post>
         ensures { result ≡ slice_get self.now.posts 0 }
     {
-        self.wires.posts.front().copied()
+        self.wires.made.posts.front().copied()
     }
 
     /// Drops the oldest post.
@@ -313,7 +313,7 @@ impl<D: Device> Board<D> {
         requires { self.old.posts ≢ [] }
         ensures { self.new ≡ record self.old { posts = drop 1 self.old.posts } }
     {
-        let _ = self.wires.posts.pop_front();
+        let _ = self.wires.made.posts.pop_front();
     }
 
     /// Hands out the log entries since the last call, in the order in which they were made, and
@@ -322,11 +322,11 @@ impl<D: Device> Board<D> {
         ensures taken { result.items ≡ self.old.entries }
         ensures left { self.new ≡ record self.old { entries = [] } }
     {
-        let none = Vec::new(*self.wires.entries.allocator());
-        if self.wires.entries.is_empty() {
+        let none = Vec::new(*self.wires.made.entries.allocator());
+        if self.wires.made.entries.is_empty() {
             return none;
         }
-        mem::replace(&mut self.wires.entries, none)
+        mem::replace(&mut self.wires.made.entries, none)
     }
 
     /// Shows a UART or a CAN controller: from now on each byte or frame that it sends makes a log
@@ -427,14 +427,14 @@ impl<D: Device> Board<D> {
     pub fn posted(&self) -> u64
         ensures { result ≡ self.now.view.numbers.posted }
     {
-        self.wires.numbers.posted
+        self.wires.made.numbers.posted
     }
 
     /// How many log entries the board has made so far.
     pub fn entered(&self) -> u64
         ensures { result ≡ self.now.view.numbers.entered }
     {
-        self.wires.numbers.entered
+        self.wires.made.numbers.entered
     }
 
     /// How many instructions the processor has retired, by its CSR minstret.

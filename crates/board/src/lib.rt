@@ -5,6 +5,7 @@
 mod board;
 mod fitted;
 mod laws;
+mod made;
 mod numbers;
 mod remembered;
 mod space;

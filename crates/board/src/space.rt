@@ -1,7 +1,8 @@
 //! All that the loads and stores of a board's processor reach: memories, a timer, an interrupt
 //! controller and devices.
-ghost use Rattle.std.specs.Prelude.{◌≡◌, ◌≤◌, ◌+◌, ◌<◌, ◌^◌, length, map, option_map, All, IsTrue, IfOk, IfErr, IfSome};
+ghost use Rattle.std.specs.Prelude.{◌≡◌, ◌≤◌, ◌+◌, ◌<◌, ◌^◌, [], length, map, option_map, All, IsTrue, IfOk, IfSome};
 ghost use Rattle.std.specs.Prelude.{OnOk, OnErr};
+ghost use Rattle.std.specs.Vec.{vec_len, vec_capacity};
 ghost use Rattle.rv_exec.specs.Access.{IsAccess, IsWidth};
 ghost use Rattle.page_ram.specs.Access.{IsInOnePage, IsRamSize};
 ghost use Rattle.page_ram.specs.Bytes.{zeros, value_at, put_value};
@@ -74,12 +75,32 @@ impl<D: Device> Model for Space<D> {
         (s.regions ≡ s.plan.regions) × IsFit seen × (s.wired ≡ is_wired s.plan) × IsRight seen s.remembered };
 }
 
-/// The parts of a board that take memory.
+/// What a new board of a plan takes memory for.
 #[derive(Drop)]
-struct Parts<D: Device> {
+pub struct Parts<D: Device> {
     regions: Regions,
     memories: Vec<PageRam>,
+    /// Room for its devices.
     devices: Vec<Fitted<D>>,
+}
+
+impl<D: Device> Parts<D> {
+    /// The parts of a plan, with 0 in each byte of the memories, and room for so many devices.
+    pub fn new(alloc: Global, plan: &BoardPlan, devices: usize) -> Result<Parts<D>, NoMemory>
+        requires { IsValid plan.now }
+        ensures regions { IfOk result (λ parts. parts.regions ≡ plan.now.regions) }
+        ensures memories { IfOk result (λ parts. parts.memories.items ≡ map zeros plan.now.memories) }
+        ensures devices { IfOk result (λ parts. parts.devices.items ≡ []) }
+        ensures room { IfOk result (λ parts. devices ≤ vec_capacity parts.devices) }
+    {
+        let devices = Vec::with_capacity(alloc, devices)?;
+        let (regions, memories) = regions_and_memories(alloc, plan)?;
+        Ok(Parts {
+            regions,
+            memories,
+            devices,
+        })
+    }
 }
 
 /// Memories of these sizes, with 0 in each byte.
@@ -108,42 +129,16 @@ fn regions_and_memories(
     Ok((Regions::new(regions), memories))
 }
 
-/// Devices as those of a board, none of them shown. `Err` gives them back in their order.
-fn fit_all<D: Device>(alloc: Global, devices: Vec<D>) -> Result<Vec<Fitted<D>>, Vec<D>>
-    ensures ok { IfOk result (λ fitted.
-        fitted.items ≡ map hidden (map D.meaning devices.items)) }
-    ensures err { IfErr result (λ back. back.items ≡ devices.items) }
+/// Puts devices as those of a board, none of them shown, into a list that has room for them.
+fn fit_all<D: Device>(fitted: &mut Vec<Fitted<D>>, devices: Vec<D>)
+    requires none { fitted.old.items ≡ [] }
+    requires room { vec_len devices ≤ vec_capacity fitted.old }
+    ensures { fitted.new.items ≡ map hidden (map D.meaning devices.items) }
 {
-    let mut fitted = Vec::new(alloc);
-    if fitted.reserve(devices.len()).is_err() {
-        return Err(devices);
-    }
     let mut rest = VecDeque::from(devices);
     while let Some(device) = rest.pop_front() {
         fitted.push_reserved(Fitted::new(device));
     }
-    Ok(fitted)
-}
-
-/// The parts of a new board of a plan. `Err` is for want of memory alone, and gives the devices back
-/// in their order.
-fn parts_of<D: Device>(alloc: Global, plan: &BoardPlan, devices: Vec<D>) -> Result<Parts<D>, Vec<D>>
-    requires { IsValid plan.now }
-    ensures regions { IfOk result (λ parts. parts.regions ≡ plan.now.regions) }
-    ensures memories { IfOk result (λ parts. parts.memories.items ≡ map zeros plan.now.memories) }
-    ensures devices { IfOk result (λ parts.
-        parts.devices.items ≡ map hidden (map D.meaning devices.items)) }
-    ensures err { IfErr result (λ back. back.items ≡ devices.items) }
-{
-    let Ok((regions, memories)) = regions_and_memories(alloc, plan) else {
-        return Err(devices);
-    };
-    let devices = fit_all(alloc, devices)?;
-    Ok(Parts {
-        regions,
-        memories,
-        devices,
-    })
 }
 
 /// The timer of a plan, in its reset state.
@@ -171,32 +166,24 @@ fn is_wired(plan: &BoardPlan) -> bool
 }
 
 impl<D: Device> Space<D> {
-    /// What a new board of the plan reaches. `Err` is for want of memory alone, and gives the
-    /// devices back in their order.
-    pub fn new(alloc: Global, plan: BoardPlan, devices: Vec<D>) -> Result<Space<D>, Vec<D>>
-        requires plan { IsValid plan }
-        requires devices { map D.meaning devices.items ≡ first_states plan }
-        ensures ok { IfOk result (λ space. space ≡ new_space plan) }
-        ensures err { IfErr result (λ back. back.items ≡ devices.items) }
-    {
-        let parts = parts_of(alloc, &plan, devices)?;
-        Ok(Space::from_parts(plan, parts))
-    }
-
-    /// The same of the parts that were made for the plan.
-    fn from_parts(plan: BoardPlan, parts: Parts<D>) -> Space<D>
+    /// What a new board of the plan reaches, of the parts that were made for the plan.
+    pub fn new(plan: BoardPlan, parts: Parts<D>, devices: Vec<D>) -> Space<D>
         requires plan { IsValid plan }
         requires regions { parts.regions ≡ plan.regions }
         requires memories { parts.memories.items ≡ map zeros plan.memories }
-        requires devices { parts.devices.items ≡ map hidden (first_states plan) }
+        requires none { parts.devices.items ≡ [] }
+        requires room { vec_len devices ≤ vec_capacity parts.devices }
+        requires devices { map D.meaning devices.items ≡ first_states plan }
         ensures { result ≡ new_space plan }
     {
+        let mut fitted = parts.devices;
+        fit_all(&mut fitted, devices);
         Space {
             regions: parts.regions,
             memories: parts.memories,
             timer: timer_of(plan.frequency),
             controller: controller_of(plan.plic),
-            devices: parts.devices,
+            devices: fitted,
             wired: is_wired(&plan),
             remembered: None,
             plan,

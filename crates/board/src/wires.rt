@@ -1,38 +1,33 @@
 //! What the processor is wired to in a slot, and what the board makes by it.
-ghost use Rattle.std.specs.Prelude.{◌≡◌, ◌↔◌, ◌+◌, ◌^◌, ◌<◌, ◌≤◌, [], length, map, IfOk, IfErr, OnOk, OnErr, IsTrue};
+ghost use Rattle.std.specs.Prelude.{◌≡◌, ◌+◌, ◌^◌, ◌<◌, ◌≤◌, [], length, map, IfOk, IfErr, OnOk, OnErr};
 ghost use Rattle.std.specs.Vec.{vec_len, vec_capacity};
-ghost use Rattle.std.specs.VecDeque.{deque_len, deque_capacity};
 ghost use Rattle.dev_core.specs.declared.post.What.TheVariants.{Read};
 ghost use Rattle.page_ram.specs.Access.{IsInOnePage};
+ghost use Rattle.page_ram.specs.Bytes.{zeros};
 ghost use Rattle.rv_exec.specs.Access.{IsAccess, IsWidth};
 ghost use Rattle.sys_bus.specs.declared.region.Target.TheVariants.{Ram, Dev};
-ghost use Rattle.board.specs.Wires.{fetched, answer, loaded, stored, stored_to, sent, entered, note_if, post_of};
-ghost use Rattle.board.specs.Wires.{entry_of, key_of};
-ghost use Rattle.board.specs.New.{first_states, new_board};
+ghost use Rattle.board.specs.Wires.{fetched, answer, loaded, stored, stored_to, sent, entered};
+ghost use Rattle.board.specs.New.{first_states, new_board, new_numbers, new_space};
 ghost use Rattle.board.specs.Space.{memory_at};
 ghost use Rattle.board.specs.View.{wires_of};
 ghost use Rattle.sys_bus.specs.Plan.{IsValid};
 
-use crate::numbers::Numbers;
-use crate::space::Space;
-use dev_core::{Device, Effect, Entry, Payload, Post, What};
-use lab_num::{BoardNo, Key, Member, Micros, PostNo};
+use crate::made::Made;
+use crate::space::{Parts, Space};
+use dev_core::{Device, Effect, Payload, What};
+use lab_num::{BoardNo, Micros, NoMemory};
 use rv_exec::{Bus, NoMemory as OutOfMemory};
 use std::alloc::Global;
-use std::collections::VecDeque;
 use std::marker::Model;
 use sys_bus::{BoardPlan, Target};
 
-/// What a board has but its processor: its numbers, its space, and what it has made and nobody has
-/// taken yet.
+/// What a board has but its processor.
 #[derive(Drop)]
 pub struct Wires<D: Device> {
-    pub numbers: Numbers,
+    pub made: Made,
     pub space: Space<D>,
     /// The microsecond of the slot.
     pub at: Micros,
-    pub posts: VecDeque<Post>,
-    pub entries: Vec<Entry>,
 }
 
 impl<D: Device> Model for Wires<D> {
@@ -41,26 +36,42 @@ impl<D: Device> Model for Wires<D> {
     ghost Value = { Seen };
 
     ghost view = { λ w. record {
-      numbers = w.numbers;
+      numbers = w.made.numbers;
       space = w.space;
       at = w.at.0;
-      posts = w.posts.items;
-      entries = w.entries.items;
+      posts = w.made.posts.items;
+      entries = w.made.entries.items;
     } };
 }
 
-/// Room for posts and for entries, of which none is made yet.
-fn rooms(alloc: Global) -> Result<(VecDeque<Post>, Vec<Entry>), OutOfMemory>
-    ensures posts { IfOk result (λ rooms. rooms.0.items ≡ []) }
-    ensures entries { IfOk result (λ rooms. rooms.1.items ≡ []) }
-{
-    let Ok(posts) = VecDeque::with_capacity(alloc, 1) else {
-        return Err(OutOfMemory);
-    };
-    let Ok(entries) = Vec::with_capacity(alloc, 1) else {
-        return Err(OutOfMemory);
-    };
-    Ok((posts, entries))
+/// What a new board takes memory for.
+#[derive(Drop)]
+struct Rooms<D: Device> {
+    made: Made,
+    parts: Parts<D>,
+}
+
+impl<D: Device> Rooms<D> {
+    /// That of a board of this number and plan, with so many devices.
+    fn new(
+        alloc: Global,
+        number: BoardNo,
+        plan: &BoardPlan,
+        devices: usize,
+    ) -> Result<Rooms<D>, NoMemory>
+        requires { IsValid plan.now }
+        ensures numbers { IfOk result (λ rooms. rooms.made.numbers ≡ new_numbers number.0 plan.now) }
+        ensures posts { IfOk result (λ rooms. rooms.made.posts.items ≡ []) }
+        ensures entries { IfOk result (λ rooms. rooms.made.entries.items ≡ []) }
+        ensures regions { IfOk result (λ rooms. rooms.parts.regions ≡ plan.now.regions) }
+        ensures memories { IfOk result (λ rooms. rooms.parts.memories.items ≡ map zeros plan.now.memories) }
+        ensures devices { IfOk result (λ rooms. rooms.parts.devices.items ≡ []) }
+        ensures room { IfOk result (λ rooms. devices ≤ vec_capacity rooms.parts.devices) }
+    {
+        let made = Made::new(alloc, number, plan.speed)?;
+        let parts = Parts::new(alloc, plan, devices)?;
+        Ok(Rooms { made, parts })
+    }
 }
 
 impl<D: Device> Wires<D> {
@@ -77,37 +88,35 @@ impl<D: Device> Wires<D> {
         ensures ok { IfOk result (λ wires. wires ≡ wires_of (new_board number.0 plan) 0) }
         ensures err { IfErr result (λ back. back.items ≡ devices.items) }
     {
-        let Ok((posts, entries)) = rooms(alloc) else {
+        let Ok(rooms) = Rooms::new(alloc, number, &plan, devices.len()) else {
             return Err(devices);
         };
-        Wires::with_rooms(alloc, number, plan, devices, posts, entries)
+        Ok(Wires::of(plan, rooms, devices))
     }
 
-    /// The same, where there is room for posts and for entries.
-    fn with_rooms(
-        alloc: Global,
-        number: BoardNo,
-        plan: BoardPlan,
-        devices: Vec<D>,
-        posts: VecDeque<Post>,
-        entries: Vec<Entry>,
-    ) -> Result<Wires<D>, Vec<D>>
+    /// The same of what was made for the plan.
+    fn of(plan: BoardPlan, rooms: Rooms<D>, devices: Vec<D>) -> Wires<D>
         requires plan { IsValid plan }
+        requires posts { rooms.made.posts.items ≡ [] }
+        requires entries { rooms.made.entries.items ≡ [] }
+        requires regions { rooms.parts.regions ≡ plan.regions }
+        requires memories { rooms.parts.memories.items ≡ map zeros plan.memories }
+        requires none { rooms.parts.devices.items ≡ [] }
+        requires room { vec_len devices ≤ vec_capacity rooms.parts.devices }
         requires devices { map D.meaning devices.items ≡ first_states plan }
-        requires posts { posts.items ≡ [] }
-        requires entries { entries.items ≡ [] }
-        ensures ok { IfOk result (λ wires. wires ≡ wires_of (new_board number.0 plan) 0) }
-        ensures err { IfErr result (λ back. back.items ≡ devices.items) }
+        ensures { result ≡ record {
+          numbers = rooms.made.numbers;
+          space = new_space plan;
+          at = 0;
+          posts = [];
+          entries = [];
+        } }
     {
-        let numbers = Numbers::new(number, plan.speed);
-        let space = Space::new(alloc, plan, devices)?;
-        Ok(Wires {
-            numbers,
-            space,
+        Wires {
+            made: rooms.made,
+            space: Space::new(plan, rooms.parts, devices),
             at: Micros(0),
-            posts,
-            entries,
-        })
+        }
     }
 
     /// Begins a slot, in this microsecond.
@@ -124,45 +133,7 @@ impl<D: Device> Wires<D> {
         ensures ok { OnOk result (self.new ≡ entered self.old note) }
         ensures err { OnErr result (self.new ≡ self.old) }
     {
-        let entry = self.entry_of(note);
-        if self.entries.push(entry).is_err() {
-            return Err(OutOfMemory);
-        }
-        self.numbers.count_entry();
-        Ok(())
-    }
-
-    fn post_of(&self, dev: u8, payload: &Payload) -> Post
-        ensures { result ≡ post_of self.now dev payload.now }
-    {
-        Post {
-            key: self.key_of(self.numbers.posted),
-            from: Member {
-                board: self.numbers.number,
-                dev,
-            },
-            payload: *payload,
-        }
-    }
-
-    fn entry_of(&self, what: What) -> Entry
-        ensures { result ≡ entry_of self.now what }
-    {
-        Entry {
-            key: self.key_of(self.numbers.entered),
-            what,
-        }
-    }
-
-    /// The key of what the board makes in this slot.
-    fn key_of(&self, number: u64) -> Key
-        ensures { result ≡ key_of self.now number }
-    {
-        Key {
-            at: self.at,
-            board: self.numbers.number,
-            number: PostNo(number),
-        }
+        self.made.enter(self.at, note)
     }
 
     /// Stores in a device, and does what it makes the device do. After an `Err` the device is as
@@ -179,18 +150,12 @@ impl<D: Device> Wires<D> {
         ensures ok { OnOk result (self.new ≡ stored_to self.old at width value (Dev dev at)) }
         ensures err { OnErr result (self.new ≡ self.old) }
     {
-        if !has_room(&self.posts, &self.entries) {
+        if !self.made.has_room() {
             return self.store_without_room(dev, at, width, value);
         }
         if let Effect::Send(payload) = self.space.store_device(dev, at, width, value) {
-            let post = self.post_of(dev, &payload);
-            self.posts.push_back_reserved(post);
-            self.numbers.count_post();
-            if let Some(note) = note_if(self.space.is_shown(dev), dev, &payload) {
-                let entry = self.entry_of(note);
-                self.entries.push_reserved(entry);
-                self.numbers.count_entry();
-            }
+            self.made
+                .send(self.at, dev, &payload, self.space.is_shown(dev));
         }
         Ok(())
     }
@@ -224,23 +189,13 @@ impl<D: Device> Wires<D> {
     }
 
     /// A device sends, where there may be no room: a post, and an entry where the device is shown.
-    #[tactic(auto, unfolding(crate::specs::Wires::sent))]
     fn send(&mut self, dev: u8, payload: &Payload) -> Result<(), OutOfMemory>
         requires { dev < length self.old.space.devices }
         ensures ok { OnOk result (self.new ≡ sent self.old dev payload.now) }
         ensures err { OnErr result (self.new ≡ self.old) }
     {
-        let post = self.post_of(dev, payload);
-        if self.entries.reserve(1).is_err() || self.posts.push_back(post).is_err() {
-            return Err(OutOfMemory);
-        }
-        self.numbers.count_post();
-        if let Some(note) = note_if(self.space.is_shown(dev), dev, payload) {
-            let entry = self.entry_of(note);
-            self.entries.push_reserved(entry);
-            self.numbers.count_entry();
-        }
-        Ok(())
+        let shown = self.space.is_shown(dev);
+        self.made.make_room_and_send(self.at, dev, payload, shown)
     }
 
     /// A load that is not known to lie in a memory.
@@ -315,28 +270,6 @@ impl<D: Device> Wires<D> {
             }
             Target::Nothing => self.enter(What::Write { width, at, value }),
         }
-    }
-}
-
-/// Whether there is room for one more post and one more entry.
-fn has_room(posts: &VecDeque<Post>, entries: &Vec<Entry>) -> bool
-    ensures { IsTrue result ↔ ((deque_len posts.now < deque_capacity posts.now)
-        × (vec_len entries.now < vec_capacity entries.now)) }
-{
-    posts.len() < posts.capacity() && entries.len() < entries.capacity()
-}
-
-/// What the log notes of a payload that a device sends which is shown or not.
-fn note_if(shown: bool, dev: u8, payload: &Payload) -> Option<What>
-    ensures { result ≡ note_if shown dev payload.now }
-{
-    if !shown {
-        return None;
-    }
-    match payload {
-        Payload::Byte(value) => Some(What::Byte { dev, value: *value }),
-        Payload::Frame(frame) => Some(What::Sent { dev, frame: *frame }),
-        Payload::Finish(_) => None,
     }
 }
 

@@ -1,10 +1,24 @@
-use Rattle.std.proofs.Common.{◌≡◌, ◌∙◌, refl, ap, rules, arith, length, map, drop}
+use Rattle.std.proofs.Common.{◌≡◌, ◌∙◌, ℕ, ◌≤◌, ◌++◌, List, refl, ap, rules, arith, length, map, take, drop}
 use Rattle.std.proofs.Math.ListN.{drop_of_length-le}
 use Rattle.std.proofs.lemmas.List.{append-nil, take_all, take-append-le}
 use Rattle.std.proofs.lemmas.List.Edits.{map_over_more}
 use Rattle.board.specs.New.{reset_device}
+use Rattle.board.specs.Space.{Space, Fitted}
 use Rattle.board.proofs.FitLemmas.{fit_reset}
 use Rattle.board.proofs.space.Space.reset_devices.Goals as goal
+
+-- after the last device all are reset
+all-reset :
+    (n i : ℕ) (now before inside : List Fitted) →
+    now ≡ map reset_device (take i before) ++ drop i before → length before ≤ i → before ≡ inside →
+    n ≤ length now → length now ≤ n → take n (now ++ drop (length now) inside) ≡ map reset_device inside
+all-reset n i now before inside done end is most least =
+    let items : now ≡ map reset_device before =
+    done ∙ rw (take_all i before end, drop_of_length-le before end, append-nil) refl in
+    take-append-le n now (drop (length now) inside) most
+    ∙ take_all n now least
+    ∙ items
+    ∙ ap (map reset_device) is
 
 pub loop-device-preserved : goal.loop-device-preserved
 loop-device-preserved g c =
@@ -13,13 +27,14 @@ loop-device-preserved g c =
 
 pub invariant_of-self : goal.invariant_of-self
 invariant_of-self g c =
-    let devices = c.deref_mut-device-items.result.now in
-    let end = c.loop-device-test.false in
-    let items : c.loop-device.device-items ≡ map reset_device devices =
-    c.loop-device.invariant
-    ∙ rw (take_all c.loop-device.device-index devices end, drop_of_length-le devices end, append-nil) refl in
-    let all = take-append-le c.self.inside.devices.len c.loop-device.device-items
-    (drop (length c.loop-device.device-items) c.self.inside.devices.items) (search rules)
-    ∙ take_all c.self.inside.devices.len c.loop-device.device-items (search rules)
-    ∙ items ∙ ap (map reset_device) c.deref_mut-device-items.ensures.value in
+    let all = all-reset c.self.inside.devices.len c.loop-device.device-index c.loop-device.device-items
+    c.deref_mut-device-items.result.now c.self.inside.devices.items c.loop-device.invariant c.loop-device-test.false
+    c.deref_mut-device-items.ensures.value (search rules) (search rules) in
     (c.self.invariant.0, rw all (fit_reset _ c.self.invariant.1), c.self.invariant.2, tt)
+
+pub returns : goal.returns
+returns g c =
+    let all = all-reset c.self.inside.devices.len c.loop-device.device-index c.loop-device.device-items
+    c.deref_mut-device-items.result.now c.self.inside.devices.items c.loop-device.invariant c.loop-device-test.false
+    c.deref_mut-device-items.ensures.value (search rules) (search rules) in
+    rw all (ap {A = Space} (λ s. record s { devices = map reset_device s.devices }) c.self.view_is)
