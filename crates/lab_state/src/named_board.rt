@@ -71,6 +71,26 @@ fn use_up(grant: &mut Handle)
     let _report = grant.used(grant.left());
 }
 
+/// Gives a board the slots of a grant.
+fn take_turn<D: Device>(board: &mut Board<D>, grant: &Handle) -> Result<(), NoMemory>
+    requires within { grant.now.to ≤ 10000000000 }
+    requires part { grant.now
+        ≡ fresh grant.now.from grant.now.to board.old.view.numbers.speed }
+    requires quiet { board.old ≡ quiet board.old.view }
+    requires posts { board.old.view.numbers.posted ≤ 10000000000000 }
+    requires entries { board.old.view.numbers.entered ≤ 10000000000000 }
+    ensures { OnOk result (board.new ≡ granted grant.now.from grant.now.to board.old.view) }
+{
+    let first = SlotAt {
+        from: grant.from(),
+        first: grant.taken(),
+    };
+    match board.turn(first, grant.left()) {
+        Turn::Used(_) => Ok(()),
+        Turn::Starved(_) => Err(NoMemory),
+    }
+}
+
 /// Gives a board the slots of a grant, and takes what it has made.
 fn step_board<D: Device>(
     board: &mut Board<D>,
@@ -92,13 +112,7 @@ fn step_board<D: Device>(
         ≡ all_entries made.old.entries.items
         ++ (granted grant.old.from grant.old.to board.old.view).entries) }
 {
-    let first = SlotAt {
-        from: grant.from(),
-        first: grant.taken(),
-    };
-    let Turn::Used(_) = board.turn(first, grant.left()) else {
-        return Err(NoMemory);
-    };
+    take_turn(board, grant)?;
     use_up(grant);
     take_posts(board, &mut made.posts)?;
     made.entries.push(board.take_entries())?;
@@ -174,7 +188,7 @@ impl<D: Device> NamedBoard<D> {
         requires { board ≡ quiet board.view }
         ensures { self.new ≡ record self.old { view = Some board.view } }
     {
-        self.board = Some(board);
+        self.board.insert(board);
     }
 
     pub fn name(&self) -> &Text
@@ -222,11 +236,10 @@ impl<D: Device> NamedBoard<D> {
             ≡ all_entries made.old.entries.items
             ++ entries_made (granted grant.old.from grant.old.to) self.old) }
     {
-        let Some(board) = self.board.take() else {
-            use_up(grant);
-            return Ok(());
-        };
-        self.board = Some(after_step(board, grant, made)?);
+        match self.board.take() {
+            Some(board) => self.fit(after_step(board, grant, made)?),
+            None => use_up(grant),
+        }
         Ok(())
     }
 

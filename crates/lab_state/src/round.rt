@@ -3,8 +3,9 @@
 ghost use Rattle.std.specs.Prelude.{◌≡◌, ◌+◌, ◌*◌, ◌<◌, ◌≤◌, ◌++◌, map, length, true, false, IfOk, OnOk, OnErr};
 ghost use Rattle.std.specs.Option.{option_map};
 ghost use Rattle.std.specs.List.{flat_map};
+ghost use Rattle.lab_num.specs.Key.{KeysDiffer};
 ghost use Rattle.lab_num.specs.Listing.{listing};
-ghost use Rattle.dev_core.specs.Post.{post_key};
+ghost use Rattle.dev_core.specs.Post.{entry_key, post_key};
 ghost use Rattle.log_merge.specs.Merge.{all_entries};
 ghost use Rattle.lab_state.specs.Inner.End.{Played, played};
 ghost use Rattle.lab_state.specs.Inner.Standing.{outlines, number_of, AreStanding, AreDevices};
@@ -94,6 +95,21 @@ fn items_of(alloc: Global, entries: &[Entry]) -> Result<Vec<LogItem>, NoMemory>
     Ok(items)
 }
 
+/// What boards have made in a round, in rising order of key.
+fn in_order(alloc: Global, made: Made) -> Result<Slots, NoMemory>
+    requires posts { KeysDiffer post_key made.posts.items }
+    requires entries { KeysDiffer entry_key (all_entries made.entries.items) }
+    ensures posts { IfOk result (λ slots. slots.posts.items ≡ listing post_key made.posts.items) }
+    ensures items { IfOk result (λ slots. slots.items.items
+        ≡ map round_spec.item_of (listing entry_key (all_entries made.entries.items))) }
+{
+    let Made { posts, entries } = made;
+    let posts = merge_posts(alloc, posts)?;
+    let entries = merge_entries(alloc, entries)?;
+    let items = items_of(alloc, &entries)?;
+    Ok(Slots { posts, items })
+}
+
 /// Grants the boards `q` microseconds, and takes what they have made.
 fn take_slots<D: Device>(
     alloc: Global,
@@ -122,17 +138,27 @@ fn take_slots<D: Device>(
     source.grant(q);
     step_all(boards, source, from, q, &mut made)?;
     source.close();
-    let Made { posts, entries } = made;
-    let posts = merge_posts(alloc, posts)?;
-    let entries = merge_entries(alloc, entries)?;
-    let items = items_of(alloc, &entries)?;
-    Ok(Slots { posts, items })
+    in_order(alloc, made)
 }
 
 fn key_of(post: &Option<Post>) -> Option<Key>
     ensures { result ≡ option_map post_key post.now }
 {
     post.as_ref().map(|post| post.key)
+}
+
+/// Puts what was noted at the boundary, and then its pause if there is one, at the end of the items.
+fn push_end(
+    items: &mut Vec<LogItem>,
+    at: Micros,
+    notes: &[LogItem],
+    pause: &Option<Post>,
+) -> Result<(), NoMemory>
+    ensures { OnOk result (items.new.items
+        ≡ items.old.items ++ notes.now ++ round_spec.pause_items at.0 pause.now) }
+{
+    items.extend_from_slice(notes)?;
+    push_pause(items, at, pause)
 }
 
 /// Runs the boards for a round of `q` microseconds, and hands over what they have sent.
@@ -158,9 +184,8 @@ fn play<D: Device>(
     let Slots { posts, mut items } = take_slots(alloc, boards, source, from, q)?;
     let at = source.elapsed();
     let notes = hand_over_all(alloc, boards, hubs, &posts, at)?;
-    items.extend_from_slice(&notes)?;
     let pause = pause_of(&posts);
-    push_pause(&mut items, at, &pause)?;
+    push_end(&mut items, at, &notes, &pause)?;
     Ok(RoundLog {
         lines: Rows::of(items),
         paused: key_of(&pause),
