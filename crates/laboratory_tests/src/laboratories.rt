@@ -8,11 +8,11 @@ mod frames;
 mod plans;
 mod steps;
 
-use cases::{CHANGES, PROGRAMS, READ_AND_REFUSED};
+use cases::{CHANGED_AND_READ, PROGRAMS, STORES};
 use chip::{Counts, stock};
 use dev_core::{Device, Stock};
 use frames::{ALL_FIT, FRAMES};
-use lab_num::{BoardNo, Member, is_name};
+use lab_num::{BoardNo, Member};
 use lab_state::Lab;
 use std::alloc::Global;
 use std::process::Abort;
@@ -37,17 +37,6 @@ fn device(board: BoardNo, dev: u8) -> Member
     Member { board, dev }
 }
 
-/// Creates a hub of each kind.
-fn create_hubs<D: Device>(rt: &impl Abort, lab: &mut Lab<D>) -> Result<(), Fail> {
-    assert!(rt; !lab.is_spent() && lab.hubs() < 9);
-    assert!(rt; is_name(HUB));
-    lab.create_uart_hub(HUB)?;
-    assert!(rt; !lab.is_spent() && lab.hubs() < 9);
-    assert!(rt; is_name(BUS));
-    lab.create_can_hub(BUS)?;
-    Ok(())
-}
-
 /// Takes the steps in a new laboratory with a hub of each kind and no board.
 fn play_on<D: Device>(
     rt: &impl Abort,
@@ -57,15 +46,24 @@ fn play_on<D: Device>(
 ) -> Result<(), Fail> {
     assert!(rt; stock.is_full());
     let mut lab = Lab::new(alloc, stock)?;
-    create_hubs(rt, &mut lab)?;
     play(rt, alloc, &mut lab, steps)
+}
+
+/// The same, whose devices count.
+fn play_counted(
+    rt: &impl Abort,
+    alloc: Global,
+    counts: &Counts,
+    steps: &[Step],
+) -> Result<(), Fail> {
+    let stock = stock(alloc, counts)?;
+    play_on(rt, alloc, stock, steps)
 }
 
 /// Takes the steps of each case, in a laboratory of its own.
 fn play_all(rt: &impl Abort, alloc: Global, cases: &[&[Step]]) -> Result<(), Fail> {
     for steps in cases {
-        let counts = Counts::new();
-        play_on(rt, alloc, stock(alloc, &counts)?, steps)?;
+        play_counted(rt, alloc, &Counts::new(), steps)?;
     }
     Ok(())
 }
@@ -77,7 +75,7 @@ fn programs_log_what_they_send_load_and_lose(rt: HostRuntime) -> Result<(), Fail
 
 #[test]
 fn a_laboratory_is_changed_read_and_refused(rt: HostRuntime) -> Result<(), Fail> {
-    play_all(&rt, rt.alloc(), &[&CHANGES, &READ_AND_REFUSED])
+    play_all(&rt, rt.alloc(), &CHANGED_AND_READ)
 }
 
 #[test]
@@ -87,14 +85,13 @@ fn frames_cross_a_hub_and_are_noted_by_their_answers(rt: HostRuntime) -> Result<
 
 #[test]
 fn sixteen_boards_with_all_devices_fit(rt: HostRuntime) -> Result<(), Fail> {
-    play_all(&rt, rt.alloc(), &[&ALL_FIT])
+    play_all(&rt, rt.alloc(), &ALL_FIT)
 }
 
 #[test]
 fn boards_take_the_devices_of_the_stock_in_order(rt: HostRuntime) -> Result<(), Fail> {
     let counts = Counts::new();
-    play_on(&rt, rt.alloc(), stock(rt.alloc(), &counts)?, &cases::STORES)?;
-    let stores = (counts.first.get(), counts.second.get(), counts.others.get());
-    assert_eq!(rt; stores, (1, 2, 0));
+    play_counted(&rt, rt.alloc(), &counts, &STORES)?;
+    assert!(rt; counts.are_stores(1, 2, 0));
     Ok(())
 }

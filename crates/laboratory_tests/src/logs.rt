@@ -17,40 +17,67 @@ const WHOLE: &str = "\
 xxxxxxxxxxxxxxxxxxxxxxxxxxxxxxxxxxxxxxxxxxxxxxxxxxxxxxxxxxxxxxxx\
 xxxxxxxxxxxxxxxxxxxxxxxxxxxxxxxxxxxxxxxxxxxxxxxxxxxxxxxxxxxxxxxx";
 
-/// What it prints, and what it prints with a line feed after it.
+/// What a round prints in which it is sent, and one with a line feed after it.
 const WHOLE_PRINTED: &str = "[2.000000] m0/uart: \
 xxxxxxxxxxxxxxxxxxxxxxxxxxxxxxxxxxxxxxxxxxxxxxxxxxxxxxxxxxxxxxxx\
-xxxxxxxxxxxxxxxxxxxxxxxxxxxxxxxxxxxxxxxxxxxxxxxxxxxxxxxxxxxxxxxx\n";
+xxxxxxxxxxxxxxxxxxxxxxxxxxxxxxxxxxxxxxxxxxxxxxxxxxxxxxxxxxxxxxxx\n\
+[0.000100] m1/fin: overrun\n";
 
 const FED_PRINTED: &str = "[2.000000] m0/uart: \
 xxxxxxxxxxxxxxxxxxxxxxxxxxxxxxxxxxxxxxxxxxxxxxxxxxxxxxxxxxxxxxxx\
 xxxxxxxxxxxxxxxxxxxxxxxxxxxxxxxxxxxxxxxxxxxxxxxxxxxxxxxxxxxxxxxx\n\
-[2.000001] m0/uart: \n";
+[2.000001] m0/uart: \n\
+[0.000100] m1/fin: overrun\n";
 
-/// A board with the devices `uart` and `fin`.
-fn board(alloc: Global, name: &str) -> Result<BoardNames, NoMemory> {
-    let devices = vec![in alloc; Text::of(alloc, "uart")?, Text::of(alloc, "fin")?]?;
-    Ok(BoardNames {
-        name: Text::of(alloc, name)?,
-        devices: Rows::of(devices),
-    })
+/// The names of the boards, and those of the devices of each.
+static BOARDS: [&str; 2] = ["m0", "m1"];
+
+static DEVICES: [&str; 2] = ["uart", "fin"];
+
+fn texts(alloc: Global, names: &[&str]) -> Result<Rows<Text>, NoMemory> {
+    let mut texts = Vec::new(alloc);
+    for name in names {
+        texts.push(Text::of(alloc, name)?)?;
+    }
+    Ok(Rows::of(texts))
 }
 
-/// The boards `m0` and `m1`.
+fn board(alloc: Global, name: &str) -> Result<BoardNames, NoMemory> {
+    let name = Text::of(alloc, name)?;
+    let devices = texts(alloc, &DEVICES)?;
+    Ok(BoardNames { name, devices })
+}
+
 fn names(alloc: Global) -> Result<Names, NoMemory> {
-    let boards = vec![in alloc; board(alloc, "m0")?, board(alloc, "m1")?]?;
+    let mut boards = Vec::new(alloc);
+    for name in &BOARDS {
+        boards.push(board(alloc, name)?)?;
+    }
     Ok(Names {
         boards: Rows::of(boards),
     })
 }
 
 fn assert_text(rt: &impl Abort, bytes: Vec<u8>, text: &str) -> Result<(), Fail> {
-    assert_eq!(rt; String::from_utf8(bytes)?.as_str(), text);
+    let printed = String::from_utf8(bytes)?;
+    assert_eq!(rt; printed.as_str(), text);
     Ok(())
 }
 
-/// The items print the first text, and the lines that are open then the second one. None is open
-/// before.
+/// The items print the first text, and the lines that are open then the second one.
+fn assert_lines(
+    rt: &impl Abort,
+    names: &Names,
+    lines: &mut Lines,
+    items: &[LogItem],
+    text: &str,
+    rest: &str,
+) -> Result<(), Fail> {
+    assert_text(rt, lines.text(names, items)?, text)?;
+    assert_text(rt, lines.rest(names)?, rest)
+}
+
+/// The same where no line is open before.
 fn assert_printed(
     rt: &impl Abort,
     alloc: Global,
@@ -60,8 +87,7 @@ fn assert_printed(
 ) -> Result<(), Fail> {
     let names = names(alloc)?;
     let mut lines = Lines::new(alloc);
-    assert_text(rt, lines.text(&names, items)?, text)?;
-    assert_text(rt, lines.rest(&names)?, rest)
+    assert_lines(rt, &names, &mut lines, items, text, rest)
 }
 
 /// The finisher of `m1`.
@@ -93,15 +119,22 @@ fn round(alloc: Global, pieces: &[Piece]) -> Result<Vec<LogItem>, NoMemory> {
     Ok(items)
 }
 
+/// What the lost byte prints.
+const LOST_PRINTED: &str = "[0.000100] m1/fin: overrun\n";
+
 /// Each row: the pieces of a round, the lines that end in it, and those that are open at the end.
 static ROUNDS: [(&[Piece], &str, &str); 8] = [
-    (&[], "", ""),
+    (&[], LOST_PRINTED, ""),
     (
         &[(7, 0, 0, "A\\\x07\n")],
-        "[0.000007] m0/uart: A\\\\\\x07\n",
+        "[0.000007] m0/uart: A\\\\\\x07\n[0.000100] m1/fin: overrun\n",
         "",
     ),
-    (&[(7, 0, 0, "\n")], "[0.000007] m0/uart: \n", ""),
+    (
+        &[(7, 0, 0, "\n")],
+        "[0.000007] m0/uart: \n[0.000100] m1/fin: overrun\n",
+        "",
+    ),
     (&[(2_000_000, 0, 0, WHOLE)], WHOLE_PRINTED, ""),
     (
         &[(2_000_000, 0, 0, WHOLE), (2_000_001, 0, 0, "\n")],
@@ -115,7 +148,7 @@ static ROUNDS: [(&[Piece], &str, &str); 8] = [
             (5, 0, 0, "a"),
             (6, 1, 0, "c"),
         ],
-        "",
+        LOST_PRINTED,
         "[0.000005] m0/uart: a\n[0.000006] m1/uart: cc\n[0.000003] m1/fin: d\n",
     ),
     (
@@ -125,25 +158,34 @@ static ROUNDS: [(&[Piece], &str, &str); 8] = [
             (123_456_789, 1, 0, "\n"),
             (9, 0, 0, "b"),
         ],
-        "[123.456789] m1/uart: b\n",
+        "[123.456789] m1/uart: b\n[0.000100] m1/fin: overrun\n",
         "[0.000009] m0/uart: ab\n",
     ),
     (
         &[(0, 0, 0, " ~\\\t\r\0\x1f\x7f\u{e9}\"'")],
-        "",
+        LOST_PRINTED,
         "[0.000000] m0/uart:  ~\\\\\\t\\r\\x00\\x1f\\x7f\\xc3\\xa9\"'\n",
     ),
 ];
+
+fn assert_round(
+    rt: &impl Abort,
+    alloc: Global,
+    pieces: &[Piece],
+    text: &str,
+    rest: &str,
+) -> Result<(), Fail> {
+    let items = round(alloc, pieces)?;
+    assert_printed(rt, alloc, &items, text, rest)
+}
 
 fn assert_rounds(
     rt: &impl Abort,
     alloc: Global,
     rows: &[(&[Piece], &str, &str)],
 ) -> Result<(), Fail> {
-    for (pieces, ended, rest) in rows {
-        let mut text = String::from_str(alloc, ended)?;
-        text.push_str("[0.000100] m1/fin: overrun\n")?;
-        assert_printed(rt, alloc, &round(alloc, pieces)?, text.as_str(), rest)?;
+    for (pieces, text, rest) in rows {
+        assert_round(rt, alloc, pieces, text, rest)?;
     }
     Ok(())
 }
@@ -178,6 +220,15 @@ fn noted(what: What) -> LogItem {
     LogItem::Slot(slot, what)
 }
 
+/// What its finisher noted at the end of the round.
+fn of_finisher(note: Note) -> LogItem {
+    LogItem::Note {
+        at: END,
+        member: FINISHER,
+        note,
+    }
+}
+
 fn paused(finish: Finish) -> LogItem {
     LogItem::Pause {
         at: END,
@@ -188,11 +239,7 @@ fn paused(finish: Finish) -> LogItem {
 
 fn item(logged: &Logged) -> LogItem {
     match *logged {
-        Logged::Overrun => LogItem::Note {
-            at: END,
-            member: FINISHER,
-            note: Note::Overrun,
-        },
+        Logged::Overrun => of_finisher(Note::Overrun),
         Logged::Read(width) => noted(What::Read {
             width,
             at: 0x9000_0000,
@@ -286,25 +333,23 @@ fn carried(frame: Frame) -> [LogItem; 3] {
         at: Micros(104),
         board: BoardNo(0),
     };
-    let note = |note| LogItem::Note {
-        at: END,
-        member: FINISHER,
-        note,
-    };
     [
         LogItem::Slot(slot, What::Sent { dev: 0, frame }),
-        note(Note::Received(frame)),
-        note(Note::Lost(frame)),
+        of_finisher(Note::Received(frame)),
+        of_finisher(Note::Lost(frame)),
     ]
+}
+
+fn assert_frame(rt: &impl Abort, alloc: Global, frame: Frame, shown: &str) -> Result<(), Fail> {
+    let text = format!(in alloc;
+        "[0.000104] m0/uart: tx {shown}\n[0.000200] m1/fin: rx {shown}\n[0.000200] m1/fin: lost {shown}\n"
+    )?;
+    assert_printed(rt, alloc, &carried(frame), text.as_str(), "")
 }
 
 fn assert_frames(rt: &impl Abort, alloc: Global, rows: &[Shown]) -> Result<(), Fail> {
     for (id, asked, bytes, shown) in rows {
-        let text = format!(in alloc;
-            "[0.000104] m0/uart: tx {shown}\n[0.000200] m1/fin: rx {shown}\n[0.000200] m1/fin: lost {shown}\n"
-        )?;
-        let items = carried(frame(*id, *asked, bytes));
-        assert_printed(rt, alloc, &items, text.as_str(), "")?;
+        assert_frame(rt, alloc, frame(*id, *asked, bytes), shown)?;
     }
     Ok(())
 }

@@ -82,7 +82,6 @@ const FAIL: [u32; 3] = [0x0010_02B7, 0x0007_3337, 0x3333_0313];
 /// sw x6, 0(x5)
 const FINISH: u32 = 0x0062_A023;
 
-#[derive(Clone, Copy)]
 pub enum Program {
     /// These instructions.
     Of(&'static [u32]),
@@ -94,34 +93,39 @@ pub enum Program {
     Frames(usize),
 }
 
-/// Instructions of which the one before the last stands in this slot.
-fn with_last(alloc: Global, first: &[u32], last: u32, slot: usize) -> Result<Vec<u32>, Fail> {
-    let mut words = Vec::from_slice(alloc, first)?;
-    for _ in first.len()..slot {
-        words.push(NOP)?;
+/// Adds the bytes of instructions.
+pub fn add_words(bytes: &mut Vec<u8>, words: &[u32]) -> Result<(), Fail> {
+    for word in words {
+        bytes.extend_from_slice(&word.to_le_bytes())?;
     }
-    words.extend_from_slice(&[last, STAY])?;
-    Ok(words)
+    Ok(())
+}
+
+/// Adds instructions of which the one before the last stands in this slot.
+fn add_with_last(bytes: &mut Vec<u8>, first: &[u32], last: u32, slot: usize) -> Result<(), Fail> {
+    add_words(bytes, first)?;
+    for _ in first.len()..slot {
+        add_words(bytes, &[NOP])?;
+    }
+    add_words(bytes, &[last, STAY])
 }
 
 impl Program {
-    fn words(self, alloc: Global) -> Result<Vec<u32>, Fail> {
-        match self {
-            Program::Of(words) => Ok(Vec::from_slice(alloc, words)?),
+    fn add_to(&self, bytes: &mut Vec<u8>) -> Result<(), Fail> {
+        match *self {
+            Program::Of(words) => add_words(bytes, words),
             Program::Send(letter, slot) => {
                 let letter = LETTER_A.wrapping_add(letter.wrapping_mul(LETTER_STEP));
-                with_last(alloc, &[LUI, letter], SEND, slot)
+                add_with_last(bytes, &[LUI, letter], SEND, slot)
             }
-            Program::Finish(first, slot) => with_last(alloc, first, FINISH, slot),
-            Program::Frames(times) => frames::sender(alloc, times),
+            Program::Finish(first, slot) => add_with_last(bytes, first, FINISH, slot),
+            Program::Frames(times) => frames::add_sender(bytes, times),
         }
     }
 
-    pub fn bytes(self, alloc: Global) -> Result<Vec<u8>, Fail> {
+    pub fn bytes(&self, alloc: Global) -> Result<Vec<u8>, Fail> {
         let mut bytes = Vec::new(alloc);
-        for word in &self.words(alloc)? {
-            bytes.extend_from_slice(&word.to_le_bytes())?;
-        }
+        self.add_to(&mut bytes)?;
         Ok(bytes)
     }
 }
@@ -264,7 +268,7 @@ const ROUNDS: [Step; 10] = [
     Now(30),
 ];
 
-pub const PROGRAMS: [&[Step]; 11] = [
+pub static PROGRAMS: [&[Step]; 11] = [
     &SLOT_99,
     &SLOT_100,
     &SLOT_199,
@@ -279,7 +283,7 @@ pub const PROGRAMS: [&[Step]; 11] = [
 ];
 
 /// A board that goes round in one place is changed.
-pub const CHANGES: [Step; 29] = [
+const CHANGES: [Step; 29] = [
     Boards(&[Program::Of(&[STAY])], 0),
     Speed(0, 3),
     Run(10),
@@ -311,7 +315,7 @@ pub const CHANGES: [Step; 29] = [
     Pc(0, 0),
 ];
 
-pub const READ_AND_REFUSED: [Step; 19] = [
+const READ_AND_REFUSED: [Step; 19] = [
     Add("m0"),
     Fit(0),
     Add("m1"),
@@ -333,8 +337,10 @@ pub const READ_AND_REFUSED: [Step; 19] = [
     Logged(1, "m1"),
 ];
 
+pub static CHANGED_AND_READ: [&[Step]; 2] = [&CHANGES, &READ_AND_REFUSED];
+
 /// Board 0 stores once and board 1 twice.
-pub const STORES: [Step; 2] = [
+pub static STORES: [Step; 2] = [
     Boards(
         &[
             Program::Of(&[LUI, SEND, STAY]),

@@ -1,138 +1,138 @@
-//! The devices of the boards.
+//! The devices of the boards, which count their stores.
 use can_sja1000::Can;
 use dev_core::{DevState, Device, Effect, Kind, Payload, Stock, Taken};
-use sample_boards::CountedUart;
 use std::alloc::Global;
 use std::cell::Cell;
 use std::test::Fail;
 use test_finisher::Finisher;
+use uart_16550::Uart;
 
-/// A UART that counts, a CAN controller, or a finisher.
+/// A device that counts its stores. The count stands still at 2^32 - 1.
 #[derive(Drop)]
-pub enum Chip<'a> {
-    Uart(CountedUart<'a>),
-    Can(Can),
-    Finisher(Finisher),
+pub struct Counted<'a, D> {
+    device: D,
+    stores: &'a Cell<u32>,
 }
 
-impl<'a> Device for Chip<'a> {
-    ghost use Rattle.dev_core.specs.declared.state.DevState.TheVariants as state;
-    ghost use Rattle.laboratory_tests.specs.declared.laboratories.chip.Chip.TheVariants.{Uart, Can, Finisher};
-
-    ghost meaning = { elim [
-      | Uart uart ↦ ⟦<CountedUart<'a> as Device>⟧.meaning uart
-      | Can can ↦ state.Can can
-      | Finisher finisher ↦ state.Finisher
-    ] };
+impl<'a, D: Device> Device for Counted<'a, D> {
+    ghost meaning = { λ c. D.meaning c.device };
 
     fn kind(&self) -> Kind {
-        match self {
-            Chip::Uart(uart) => uart.kind(),
-            Chip::Can(can) => can.kind(),
-            Chip::Finisher(finisher) => finisher.kind(),
-        }
+        self.device.kind()
     }
 
     fn load(&mut self, reg: u32, width: u8) -> u32 {
-        match self {
-            Chip::Uart(uart) => uart.load(reg, width),
-            Chip::Can(can) => can.load(reg, width),
-            Chip::Finisher(finisher) => finisher.load(reg, width),
-        }
+        self.device.load(reg, width)
     }
 
     fn store(&mut self, reg: u32, width: u8, value: u32) -> Effect {
-        match self {
-            Chip::Uart(uart) => uart.store(reg, width, value),
-            Chip::Can(can) => can.store(reg, width, value),
-            Chip::Finisher(finisher) => finisher.store(reg, width, value),
-        }
+        self.stores.set(self.stores.get().saturating_add(1));
+        self.device.store(reg, width, value)
     }
 
     fn take(&mut self, payload: &Payload) -> Taken {
-        match self {
-            Chip::Uart(uart) => uart.take(payload),
-            Chip::Can(can) => can.take(payload),
-            Chip::Finisher(finisher) => finisher.take(payload),
-        }
+        self.device.take(payload)
     }
 
     fn line(&self) -> bool {
-        match self {
-            Chip::Uart(uart) => uart.line(),
-            Chip::Can(can) => can.line(),
-            Chip::Finisher(finisher) => finisher.line(),
-        }
+        self.device.line()
     }
 
     fn reset(&mut self) {
-        match self {
-            Chip::Uart(uart) => uart.reset(),
-            Chip::Can(can) => can.reset(),
-            Chip::Finisher(finisher) => finisher.reset(),
-        }
+        self.device.reset();
     }
 
     fn state(&self) -> DevState {
-        match self {
-            Chip::Uart(uart) => uart.state(),
-            Chip::Can(can) => can.state(),
-            Chip::Finisher(finisher) => finisher.state(),
-        }
+        self.device.state()
     }
 
     fn put(&mut self, state: &DevState) -> bool {
-        match self {
-            Chip::Uart(uart) => uart.put(state),
-            Chip::Can(can) => can.put(state),
-            Chip::Finisher(finisher) => finisher.put(state),
-        }
+        self.device.put(state)
     }
 }
 
-/// How many stores the first UART of a stock, the second and all others were handed, and how many
-/// loads all of them.
+/// How many stores the first UART of a stock, the second and all other devices were handed.
 #[derive(Drop)]
 pub struct Counts {
-    pub loads: Cell<u32>,
-    pub first: Cell<u32>,
-    pub second: Cell<u32>,
-    pub others: Cell<u32>,
+    first: Cell<u32>,
+    second: Cell<u32>,
+    others: Cell<u32>,
 }
 
 impl Counts {
     pub fn new() -> Counts {
         Counts {
-            loads: Cell::new(0),
             first: Cell::new(0),
             second: Cell::new(0),
             others: Cell::new(0),
         }
     }
+
+    /// So many stores of the first UART, of the second and of all others.
+    pub fn are_stores(&self, first: u32, second: u32, others: u32) -> bool {
+        self.first.get() == first && self.second.get() == second && self.others.get() == others
+    }
 }
 
-/// The devices of a full stock.
-pub fn stock(alloc: Global, counts: &Counts) -> Result<Stock<Chip<'_>>, Fail> {
-    let mut uarts = Vec::new(alloc);
+/// A device of a stock.
+pub type Chip<'a> = Counted<'a, Box<dyn Device + Send>>;
+
+fn add<'a>(
+    chips: &mut Vec<Chip<'a>>,
+    device: Box<dyn Device + Send>,
+    stores: &'a Cell<u32>,
+) -> Result<(), Fail> {
+    chips.push(Counted { device, stores })?;
+    Ok(())
+}
+
+fn add_uarts<'a>(uarts: &mut Vec<Chip<'a>>, alloc: Global, counts: &'a Counts) -> Result<(), Fail> {
     for n in 0..64 {
         let stores = match n {
             0 => &counts.first,
             1 => &counts.second,
             _ => &counts.others,
         };
-        uarts.push(Chip::Uart(CountedUart::new(&counts.loads, stores)))?;
+        add(uarts, Box::new(alloc, Uart::new())?, stores)?;
     }
-    let mut cans = Vec::new(alloc);
+    Ok(())
+}
+
+fn add_cans<'a>(
+    cans: &mut Vec<Chip<'a>>,
+    alloc: Global,
+    stores: &'a Cell<u32>,
+) -> Result<(), Fail> {
     for _ in 0..64 {
-        cans.push(Chip::Can(Can::new()))?;
+        add(cans, Box::new(alloc, Can::new())?, stores)?;
     }
-    let mut finishers = Vec::new(alloc);
+    Ok(())
+}
+
+fn add_finishers<'a>(
+    finishers: &mut Vec<Chip<'a>>,
+    alloc: Global,
+    stores: &'a Cell<u32>,
+) -> Result<(), Fail> {
     for _ in 0..16 {
-        finishers.push(Chip::Finisher(Finisher::new()))?;
+        add(finishers, Box::new(alloc, Finisher::new())?, stores)?;
     }
-    Ok(Stock {
-        uarts,
-        cans,
-        finishers,
-    })
+    Ok(())
+}
+
+fn fill<'a>(stock: &mut Stock<Chip<'a>>, alloc: Global, counts: &'a Counts) -> Result<(), Fail> {
+    add_uarts(&mut stock.uarts, alloc, counts)?;
+    add_cans(&mut stock.cans, alloc, &counts.others)?;
+    add_finishers(&mut stock.finishers, alloc, &counts.others)
+}
+
+/// The devices of a full stock.
+pub fn stock(alloc: Global, counts: &Counts) -> Result<Stock<Chip<'_>>, Fail> {
+    let mut stock = Stock {
+        uarts: Vec::new(alloc),
+        cans: Vec::new(alloc),
+        finishers: Vec::new(alloc),
+    };
+    fill(&mut stock, alloc, counts)?;
+    Ok(stock)
 }

@@ -1,5 +1,5 @@
 //! Programs of CAN controllers, and what comes of them.
-use super::cases::{LUI, Program, STAY};
+use super::cases::{LUI, Program, STAY, add_words};
 use super::steps::Step;
 use super::steps::Step::{
     Add, BoardsFull, CanBoards, Connect, Count, FitFull, FrameSent, Lost, NoMore, Received, Run,
@@ -7,7 +7,6 @@ use super::steps::Step::{
 };
 use super::{BUS, HUB};
 use lab_state::ConnectFault;
-use std::alloc::Global;
 use std::test::Fail;
 
 /// lui x5, 0x11000: the address of the first CAN controller; addi x6, x0, 0xFF; sb x6, 5(x5): the
@@ -53,14 +52,13 @@ const TAKES_ALL: Program = Program::Of(&[TAKE_ALL[0], TAKE_ALL[1], TAKE_ALL[2], 
 const TAKES_FEW: Program = Program::Of(&[TAKE_FEW[0], TAKE_FEW[1], STAY]);
 
 /// Takes every frame, and sends its own so many times: the first in slot 11.
-pub fn sender(alloc: Global, times: usize) -> Result<Vec<u32>, Fail> {
-    let mut words = Vec::from_slice(alloc, &TAKE_ALL)?;
-    words.extend_from_slice(&FRAME)?;
+pub fn add_sender(bytes: &mut Vec<u8>, times: usize) -> Result<(), Fail> {
+    add_words(bytes, &TAKE_ALL)?;
+    add_words(bytes, &FRAME)?;
     for _ in 0..times {
-        words.push(SEND_FRAME)?;
+        add_words(bytes, &[SEND_FRAME])?;
     }
-    words.push(STAY)?;
-    Ok(words)
+    add_words(bytes, &[STAY])
 }
 
 /// A frame comes to the other members at the end of the round in which it was sent, once, and not
@@ -152,7 +150,7 @@ const KINDS: [Step; 9] = [
     Connect(0, 7, BUS, None),
 ];
 
-pub const FRAMES: [&[Step]; 7] = [
+pub static FRAMES: [&[Step]; 7] = [
     &TO_OTHERS,
     &TWO_SENDERS,
     &READ_FRAME,
@@ -163,4 +161,4 @@ pub const FRAMES: [&[Step]; 7] = [
 ];
 
 /// There are devices for sixteen boards with as many as a board may have, and no more boards.
-pub const ALL_FIT: [Step; 3] = [Sixteen, Count(16, 2), BoardsFull];
+pub static ALL_FIT: [&[Step]; 1] = [&[Sixteen, Count(16, 2), BoardsFull]];

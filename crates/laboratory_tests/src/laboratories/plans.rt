@@ -1,11 +1,11 @@
-//! The plan of a board with as many devices as a board may have.
+//! The plans of the boards.
 use dev_core::Kind;
 use lab_num::{NoMemory, Rows, Text};
-use sample_boards::{MEMORIES, names_of};
+use sample_boards::{MEMORIES, names_of, small_board};
 use std::alloc::Global;
 use sys_bus::{BoardPlan, NamedWhat, Region, RegionKind};
 
-const NAMES: [(&str, NamedWhat); 11] = [
+static NAMES: [(&str, NamedWhat); 11] = [
     ("ram", NamedWhat::Part(RegionKind::Ram(0))),
     ("uart0", NamedWhat::Part(RegionKind::Dev(0))),
     ("uart1", NamedWhat::Part(RegionKind::Dev(1))),
@@ -20,7 +20,7 @@ const NAMES: [(&str, NamedWhat); 11] = [
 ];
 
 /// The base of each region, its size, and what stands there.
-const REGIONS: [(u32, u32, RegionKind); 10] = [
+static REGIONS: [(u32, u32, RegionKind); 10] = [
     (0x8000_0000, 0x1_0000, RegionKind::Ram(0)),
     (0x1000_0000, 0x100, RegionKind::Dev(0)),
     (0x1000_0100, 0x100, RegionKind::Dev(1)),
@@ -33,7 +33,7 @@ const REGIONS: [(u32, u32, RegionKind); 10] = [
     (0x0010_0000, 0x1000, RegionKind::Dev(8)),
 ];
 
-const KINDS: [Kind; 9] = [
+static KINDS: [Kind; 9] = [
     Kind::Uart,
     Kind::Uart,
     Kind::Uart,
@@ -58,9 +58,25 @@ fn regions(alloc: Global) -> Result<Rows<Region>, NoMemory> {
     Ok(Rows::of(list))
 }
 
+/// What a board has.
+pub enum Size {
+    /// A memory of 64 KiB, a UART and a finisher.
+    Small,
+    /// As many devices as a board may have.
+    Full,
+}
+
+/// The plan of a board.
+pub fn plan_of(alloc: Global, size: &Size) -> Result<BoardPlan, NoMemory> {
+    match size {
+        Size::Small => small_board(alloc),
+        Size::Full => full_board(alloc),
+    }
+}
+
 /// A board with a memory of 64 KiB, four UARTs, four CAN controllers and a finisher, at one
 /// instruction a microsecond.
-pub fn full_board(alloc: Global) -> Result<BoardPlan, NoMemory> {
+fn full_board(alloc: Global) -> Result<BoardPlan, NoMemory> {
     Ok(BoardPlan {
         names: names_of(alloc, &NAMES)?,
         regions: regions(alloc)?,
