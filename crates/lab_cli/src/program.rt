@@ -5,9 +5,9 @@ ghost use Rattle.lab_top.specs.Headline.{number_of};
 
 use can_sja1000::Can;
 use dev_core::{Device, Stock};
-use lab_io::{DiskFiles, OutSink};
+use lab_io::{DiskFiles, OutSink, Sink};
 use lab_top::{Status, command_words, run_lab};
-use std::alloc::AllocError;
+use std::alloc::{AllocError, Global};
 use std::process::{ExitCode, Termination};
 use std::rt::{Env, Files};
 use test_finisher::Finisher;
@@ -35,29 +35,36 @@ impl Termination for Ended {
     }
 }
 
-/// Runs the program. Where there is no memory for the words or for the devices, it ends as any run
-/// that finds none.
+/// Runs the program over the files of the machine and its standard output. Where there is no memory
+/// for the words or for the devices, it ends as any run that finds none.
 pub fn run<R: Env + Files + Print + AllocGlobal>(rt: &R) -> Ended {
+    let mut files = DiskFiles::new(rt);
+    let mut out = OutSink::new(rt);
     Ended {
-        status: status_of(rt),
+        status: status_of(rt, &mut files, &mut out),
     }
 }
 
-/// How a run of the program ends.
-fn status_of<R: Env + Files + Print + AllocGlobal>(rt: &R) -> Status {
+/// How a run of the program over these files and this output ends.
+fn status_of<R: Env + AllocGlobal, F: lab_io::Files, K: Sink>(
+    rt: &R,
+    files: &mut F,
+    out: &mut K,
+) -> Status {
     match command_words(rt) {
-        Ok(words) => run_on_boxes(rt, &words).unwrap_or(Status::Memory),
+        Ok(words) => run_on_boxes(rt.alloc(), &words, files, out).unwrap_or(Status::Memory),
         Err(_) => Status::Memory,
     }
 }
 
 /// Runs the program by these words, on devices enough for each board that a laboratory can have,
 /// each in a box of its own.
-fn run_on_boxes<R: Files + Print + AllocGlobal>(
-    rt: &R,
+fn run_on_boxes<F: lab_io::Files, K: Sink>(
+    alloc: Global,
     words: &[String],
+    files: &mut F,
+    out: &mut K,
 ) -> Result<Status, AllocError> {
-    let alloc = rt.alloc();
     let mut uarts: Vec<Box<dyn Device + Send>> = Vec::new(alloc);
     for _ in 0..UARTS {
         uarts.push(Box::new(alloc, Uart::new())?)?;
@@ -75,20 +82,19 @@ fn run_on_boxes<R: Files + Print + AllocGlobal>(
         cans,
         finishers,
     };
-    Ok(run_on_stock(rt, words, stock))
+    Ok(run_on_stock(alloc, words, files, out, stock))
 }
 
-/// Runs the program by these words, on the devices of a full stock, on the files of the machine and
-/// its standard output.
-fn run_on_stock<R: Files + Print + AllocGlobal, D: Device>(
-    rt: &R,
+/// Runs the program by these words, on the devices of a full stock.
+fn run_on_stock<D: Device, F: lab_io::Files, K: Sink>(
+    alloc: Global,
     words: &[String],
+    files: &mut F,
+    out: &mut K,
     stock: Stock<D>,
 ) -> Status {
     if !stock.is_full() {
         return Status::Memory;
     }
-    let mut files = DiskFiles::new(rt);
-    let mut out = OutSink::new(rt);
-    run_lab(rt.alloc(), words, &mut files, &mut out, stock)
+    run_lab(alloc, words, files, out, stock)
 }
