@@ -2,6 +2,7 @@ pub mod BoardLemmas
 pub mod Entered
 pub mod Equipping
 pub mod ImageLemmas
+pub mod Joining
 pub mod MachineNames
 pub mod MapLemmas
 pub mod MemoryLemmas

@@ -5,10 +5,12 @@ ghost use Rattle.std.specs.List.{list_all};
 ghost use Rattle.lab_io.specs.Known.{Rose};
 ghost use Rattle.lab_num.specs.Name.{is_name};
 ghost use Rattle.lab_state.specs.One.{view_of};
+ghost use Rattle.repl_files.specs.Loading.{load};
 ghost use Rattle.repl_read.specs.Entries.{is_entry};
 ghost use Rattle.sys_bus.specs.Plan.{IsValid};
 ghost use Rattle.monitor.specs.Boards as boards;
 ghost use Rattle.monitor.specs.State.{Place};
+ghost use Rattle.monitor.specs.Inner.Reading.{IsPlanRead};
 ghost use Rattle.monitor.specs.Inner.Ruling as ruling;
 ghost use Rattle.monitor.specs.Inner.Ruling.{IsCarried, IsFileStop, IsFitted, IsPlan, IsRuled};
 ghost use Rattle.monitor.specs.Inner.Ruling.{Leaves, Told};
@@ -124,11 +126,7 @@ impl<D: Device> Monitor<D> {
         ensures faults { F.faults files.old ≤ F.faults files.new }
     {
         let b = self.bare()?;
-        let loaded = match load_platform(self.alloc, files, self.flow.depth(), path) {
-            Ok(loaded) => loaded,
-            Err(fault) => return Err(load_stop(fault)),
-        };
-        let plan = plan_of(self.alloc, loaded)?;
+        let plan = read_plan(self.alloc, files, self.flow.depth(), path)?;
         self.fit(b, plan)
     }
 
@@ -173,6 +171,27 @@ fn load_stop(fault: LoadFault) -> Stop
         LoadFault::TooLarge => Stop::Line(ScriptCause::Size),
         LoadFault::Unread => Stop::Unread,
         LoadFault::Memory => Stop::Memory,
+    }
+}
+
+/// The plan that a platform file and the files that it names describe, beside so many open bodies.
+fn read_plan<F: Files>(
+    alloc: Global,
+    files: &mut F,
+    bodies: u8,
+    path: &str,
+) -> Result<BoardPlan, Stop>
+    requires { bodies ≤ 8 }
+    ensures read { Told (F.held files.old) (λ held.
+        IsPlanRead (load held bodies path.now) result (F.asked files.old) (F.asked files.new)) }
+    ensures valid { IfOk result IsValid }
+    ensures unread { result ≡ Err Stop.Unread → Rose (F.faults files.old) (F.faults files.new) }
+    ensures held { F.held files.new ≡ F.held files.old }
+    ensures faults { F.faults files.old ≤ F.faults files.new }
+{
+    match load_platform(alloc, files, bodies, path) {
+        Ok(loaded) => plan_of(alloc, loaded),
+        Err(fault) => Err(load_stop(fault)),
     }
 }
 

@@ -1,12 +1,14 @@
 //! Commands that enter a body.
-ghost use Rattle.std.specs.Prelude.{◌≡◌, ◌≤◌, false, Err};
+ghost use Rattle.std.specs.Prelude.{◌≡◌, ◌≤◌, length, false, Err};
+ghost use Rattle.std.specs.String.{string_bytes};
 ghost use Rattle.lab_io.specs.Known.{Rose};
+ghost use Rattle.resc_vars.specs.Bodies.{enter, source_of};
 ghost use Rattle.monitor.specs.Bodies as bodies;
 ghost use Rattle.monitor.specs.State.{Place};
 ghost use Rattle.monitor.specs.Inner.Ruling.{IsCarried, IsRuled, Leaves, Told};
 
 use crate::monitor::Monitor;
-use crate::read::{read_file, text_of};
+use crate::read::read_text;
 use crate::stop::Stop;
 use dev_core::Device;
 use lab_io::Files;
@@ -41,8 +43,19 @@ impl<D: Device> Monitor<D> {
         if self.flow.depth() >= DEPTH {
             return Err(Stop::Line(ScriptCause::Depth));
         }
-        let bytes = read_file(self.alloc, files, path)?;
-        let text = text_of(self.alloc, path, &bytes)?;
+        let text = read_text(self.alloc, files, path)?;
+        self.enter(path, text)
+    }
+
+    /// Enters the text of a file.
+    fn enter(&mut self, path: &str, text: String) -> Result<Vec<u8>, Stop>
+        requires unspent { self.old.spent ≡ false }
+        requires goes_on { self.old.state.flow.ended ≡ false }
+        requires few { length (string_bytes text) ≤ 16777216 }
+        ensures { IsRuled (bodies.entered self.old.state
+            (enter self.old.state.flow (source_of path.now (string_bytes text))))
+            result self.old self.new }
+    {
         self.flow.include(path, text)?;
         Ok(Vec::new(self.alloc))
     }

@@ -1,12 +1,15 @@
 //! Commands that make hubs, connect devices to them and show what devices send.
-ghost use Rattle.std.specs.Prelude.{◌≡◌, false, IsTrue};
+ghost use Rattle.std.specs.Prelude.{◌≡◌, false, IfOk, IsSome, IsTrue};
 ghost use Rattle.lab_num.specs.Name.{is_name};
+ghost use Rattle.lab_state.specs.One.{kind_at};
 ghost use Rattle.monitor.specs.Hubs as hubs;
+ghost use Rattle.monitor.specs.Inner.Reading.{joining};
 ghost use Rattle.monitor.specs.Inner.Ruling.{IsRuled};
 
 use crate::monitor::Monitor;
 use crate::stop::Stop;
 use dev_core::Device;
+use lab_num::Member;
 use lab_state::{ConnectFault, HubNameFault};
 use resc_vars::ScriptCause;
 
@@ -70,17 +73,27 @@ impl<D: Device> Monitor<D> {
         Ok(Vec::new(self.alloc))
     }
 
-    /// Puts a device of the selected board into a hub.
-    pub(crate) fn connect(&mut self, dev: &str, hub: &str) -> Result<Vec<u8>, Stop>
-        requires unspent { self.old.spent ≡ false }
-        ensures { IsRuled (hubs.connect self.old.state dev.now hub.now) result self.old self.new }
+    /// The device of the selected board that goes into a hub of this name.
+    fn joining(&self, dev: &str, hub: &str) -> Result<Member, ScriptCause>
+        requires { self.now.spent ≡ false }
+        ensures meant { result ≡ joining self.now.state dev.now hub.now }
+        ensures device { IfOk result (λ m. IsSome (kind_at self.now.state.lab.boards m)) }
     {
         let b = self.equipped()?;
         let what = self.entry(b, dev)?;
         if self.lab.find_hub(hub).is_none() {
-            return Err(Stop::Line(ScriptCause::Name));
+            return Err(ScriptCause::Name);
         }
-        let member = self.speaker(b, what)?;
+        self.speaker(b, what)
+    }
+
+    /// Puts a device of the selected board into a hub.
+    #[tactic(auto, using(crate::proofs::Joining::connect_by))]
+    pub(crate) fn connect(&mut self, dev: &str, hub: &str) -> Result<Vec<u8>, Stop>
+        requires unspent { self.old.spent ≡ false }
+        ensures { IsRuled (hubs.connect self.old.state dev.now hub.now) result self.old self.new }
+    {
+        let member = self.joining(dev, hub)?;
         self.lab.connect(member, hub)?;
         Ok(Vec::new(self.alloc))
     }

@@ -1,5 +1,6 @@
 //! Commands to the processor of the selected board: each prints a value, or sets it.
-ghost use Rattle.std.specs.Prelude.{◌≡◌, ◌≤◌, false, IfSome, IsSome, Some};
+ghost use Rattle.std.specs.Prelude.{◌≡◌, ◌≤◌, ◌++◌, codes, false, IfErr, IfOk, IfSome, IsSome, Some};
+ghost use Rattle.std.specs.Fmt.{decimal};
 ghost use Rattle.std.specs.Option.{ForSome};
 ghost use Rattle.lab_state.specs.One.{view_of};
 ghost use Rattle.monitor.specs.Processor as processor;
@@ -11,6 +12,25 @@ use crate::stop::Stop;
 use dev_core::Device;
 use lab_num::BoardNo;
 use resc_vars::ScriptCause;
+use std::alloc::Global;
+
+/// A truth value as it is printed.
+fn truth_line(alloc: Global, truth: bool) -> Result<Vec<u8>, Stop>
+    ensures ok { IfOk result (λ line. line.items ≡ processor.truth_line truth) }
+    ensures err { IfErr result (λ stop. stop ≡ Stop.Memory) }
+{
+    let line = format!(in alloc; "{truth}\n")?;
+    Ok(line.into_bytes())
+}
+
+/// A number as it is printed.
+fn number_line(alloc: Global, number: u32) -> Result<Vec<u8>, Stop>
+    ensures ok { IfOk result (λ line. line.items ≡ decimal number ++ codes "\n") }
+    ensures err { IfErr result (λ stop. stop ≡ Stop.Memory) }
+{
+    let line = format!(in alloc; "{number}\n")?;
+    Ok(line.into_bytes())
+}
 
 impl<D: Device> Monitor<D> {
     /// Prints or sets the address of the next instruction.
@@ -46,11 +66,7 @@ impl<D: Device> Monitor<D> {
     {
         let b = self.processor(cpu)?;
         match value {
-            None => {
-                let halted = self.lab.board(b).halted();
-                let line = format!(in self.alloc; "{halted}\n")?;
-                Ok(line.into_bytes())
-            }
+            None => truth_line(self.alloc, self.lab.board(b).halted()),
             Some(value) => {
                 self.lab.set_halted(b, value);
                 Ok(Vec::new(self.alloc))
@@ -66,11 +82,7 @@ impl<D: Device> Monitor<D> {
     {
         let b = self.processor(cpu)?;
         match value {
-            None => {
-                let speed = self.lab.board(b).speed();
-                let line = format!(in self.alloc; "{speed}\n")?;
-                Ok(line.into_bytes())
-            }
+            None => number_line(self.alloc, self.lab.board(b).speed()),
             Some(value) => {
                 self.lab.set_speed(b, value);
                 Ok(Vec::new(self.alloc))

@@ -1,7 +1,9 @@
 //! Files that commands name, read whole.
 ghost use Rattle.std.specs.Prelude.{◌≡◌, ◌≤◌, length, Err, IfOk, IfErr};
 ghost use Rattle.std.specs.FinMap.{get};
+ghost use Rattle.std.specs.String.{string_bytes};
 ghost use Rattle.lab_io.specs.Known.{Rose};
+ghost use Rattle.monitor.specs.Inner.Reading.{IsTextRead};
 ghost use Rattle.monitor.specs.Inner.Ruling.{IsFile, IsFileError, IsText, Told};
 
 use crate::fault::{Cause, ScriptFault};
@@ -35,8 +37,21 @@ pub(crate) fn read_file<F: Files>(alloc: Global, files: &mut F, name: &str) -> R
     }
 }
 
-/// The text of a file, which is refused at its first byte that is none of a text.
-pub(crate) fn text_of(alloc: Global, name: &str, bytes: &[u8]) -> Result<String, Stop>
+/// Reads the text of a file, which is refused at its first byte that is none of a text.
+pub(crate) fn read_text<F: Files>(alloc: Global, files: &mut F, name: &str) -> Result<String, Stop>
+    ensures read { Told (F.held files.old) (λ held.
+        IsTextRead (get held name.now) name.now result (F.asked files.old) (F.asked files.new)) }
+    ensures few { IfOk result (λ text. length (string_bytes text) ≤ 16777216) }
+    ensures unread { result ≡ Err Stop.Unread → Rose (F.faults files.old) (F.faults files.new) }
+    ensures held { F.held files.new ≡ F.held files.old }
+    ensures faults { F.faults files.old ≤ F.faults files.new }
+{
+    let bytes = read_file(alloc, files, name)?;
+    text_of(alloc, name, &bytes)
+}
+
+/// The text of these bytes of a file.
+fn text_of(alloc: Global, name: &str, bytes: &[u8]) -> Result<String, Stop>
     requires { length bytes.now ≤ 16777216 }
     ensures { IsText name.now bytes.now result }
 {

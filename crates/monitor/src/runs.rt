@@ -1,13 +1,17 @@
 //! Commands that run the laboratory.
-ghost use Rattle.std.specs.Prelude.{◌≡◌, ◌≤◌, false};
+ghost use Rattle.std.specs.Prelude.{◌≡◌, ◌≤◌, ◌+◌, false, Ok, IfOk, OnErr, OnOk};
+ghost use Rattle.lab_state.specs.Names.{names};
+ghost use Rattle.lab_state.specs.One.{HaveAllPlans};
 ghost use Rattle.lab_state.specs.Run.{run};
+ghost use Rattle.log_text.specs.Log.{open_lines, text};
 ghost use Rattle.monitor.specs.Runs as runs;
 ghost use Rattle.monitor.specs.Inner.Ruling.{IsOnward, IsRuled};
 
 use crate::monitor::Monitor;
 use crate::stop::Stop;
 use dev_core::Device;
-use lab_num::Micros;
+use lab_num::{Micros, NoMemory};
+use log_merge::LogItem;
 use resc_vars::ScriptCause;
 
 /// The last microsecond that a laboratory has: ten thousand seconds.
@@ -38,14 +42,36 @@ impl<D: Device> Monitor<D> {
         if length.0 > LAST - self.lab.now().0 {
             return Err(Stop::Line(ScriptCause::LabTime));
         }
-        let length = if self.dry { Micros(0) } else { length };
+        self.run(if self.dry { Micros(0) } else { length })
+    }
+
+    /// Runs the laboratory, each of whose boards has its plan, and prints its log.
+    fn run(&mut self, length: Micros) -> Result<Vec<u8>, Stop>
+        requires unspent { self.old.spent ≡ false }
+        requires plans { HaveAllPlans self.old.state.lab }
+        requires time { self.old.state.lab.now + length.0 ≤ 10000000000 }
+        ensures { IsRuled (Ok (runs.has_run self.old.state (run self.old.state.lab length.0)))
+            result self.old self.new }
+    {
         // Of what refuses a run, want of memory is left.
         let Ok(log) = self.lab.run_for(length) else {
             return Err(Stop::Memory);
         };
+        Ok(self.print(log.lines.items())?)
+    }
+
+    /// What is printed of these items of the log.
+    fn print(&mut self, items: &[LogItem]) -> Result<Vec<u8>, NoMemory>
+        requires { self.old.spent ≡ false }
+        ensures text { IfOk result (λ printed. printed.items
+            ≡ text (names self.old.state.lab) self.old.state.lines items.now) }
+        ensures ok { OnOk result (self.new ≡ record self.old {
+          state = record self.old.state { lines = open_lines self.old.state.lines items.now };
+        }) }
+        ensures err { OnErr result (self.new ≡ self.old) }
+    {
         let names = self.lab.names()?;
-        let text = self.lines.text(&names, log.lines.items())?;
-        Ok(text)
+        self.lines.text(&names, items)
     }
 
     /// Runs to the time of the setting, if that is still to come.
