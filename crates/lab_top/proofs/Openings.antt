@@ -9,7 +9,6 @@ use Rattle.std.specs.Str.Lossy.{utf8_valid_len}
 use Rattle.lab_io.specs.Known.{grown}
 use Rattle.lab_io.specs.Held.{Held}
 use Rattle.lab_state.specs.Run.{run}
-use Rattle.lab_words.specs.declared.request.Request.{Request}
 use Rattle.lab_words.specs.declared.request.UsageCause.{UsageCause}
 use Rattle.lab_words.specs.declared.request.WordsFault.TheVariants as words_fault
 use Rattle.lab_words.specs.Usage.{usage_line}
