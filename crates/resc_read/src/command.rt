@@ -4,7 +4,7 @@ use std::alloc::{AllocError, AllocFailed};
 
 /// What a line of a script asks for. A `name`, `dev`, `hub` or `cpu` is its word without quotes; a
 /// prefix `sysbus.` of it stays.
-#[derive(Drop)]
+#[derive(Debug, Drop)]
 pub enum Command {
     /// `mach create [name]`: make a board and select it.
     Create { name: Option<Text> },
