@@ -14,4 +14,3 @@ returns-then-overflows c = grind arith
 
 pub returns-else-overflows : goal.returns-else-overflows
 returns-else-overflows c = grind (arith, common_steps)
-
