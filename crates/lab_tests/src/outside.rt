@@ -45,17 +45,22 @@ static OTHER_WORDS: [(&str, UsageCause); 25] = [
     ("gen 18446744073709551616 1", UsageCause::Value),
 ];
 
+/// Whether the words of a line are answered by the usage line, for this cause.
+fn is_answered(alloc: Global, line: &str, cause: UsageCause) -> Result<bool, NoMemory> {
+    let mut files = MemFiles::new(alloc);
+    let mut out = MemSink::new(alloc, 4096);
+    let status = run(alloc, line, &mut files, &mut out)?;
+    let is_told = status.number() == 2 && out.bytes() == USAGE.as_bytes();
+    Ok(is_told && is_usage(&status, cause))
+}
+
 fn assert_usage<R: Abort + AllocGlobal>(
     rt: &R,
     rows: &[(&str, UsageCause)],
 ) -> Result<(), NoMemory> {
-    let alloc = rt.alloc();
     for (line, cause) in rows {
-        let mut files = files(alloc)?;
-        let mut out = MemSink::new(alloc, 4096);
-        let status = run(alloc, line, &mut files, &mut out)?;
-        assert!(rt; is_usage(&status, *cause) && status.number() == 2);
-        assert!(rt; out.bytes() == USAGE.as_bytes());
+        let is_answered = is_answered(rt.alloc(), line, *cause)?;
+        assert!(rt; is_answered, "{line}");
     }
     Ok(())
 }
@@ -250,14 +255,26 @@ fn assert_written<R: Abort + AllocGlobal>(
 ) -> Result<(), NoMemory> {
     let mut files = files_with(rt.alloc(), script)?;
     let status = run(rt.alloc(), RUN, &mut files, &mut out)?;
-    assert!(rt; status.number() == number);
-    assert!(rt; out.bytes() == written.as_bytes());
+    assert!(rt; status.number() == number && out.bytes() == written.as_bytes());
     Ok(())
 }
 
 /// An output that takes so many bytes at once.
 fn sink(alloc: Global, most: usize) -> MemSink {
     MemSink::new(alloc, most.max(1))
+}
+
+/// The run of a script in which this write fails ends as unwritten, and has written this.
+fn assert_unwritten_at<R: Abort + AllocGlobal>(
+    rt: &R,
+    script: &str,
+    most: usize,
+    call: u64,
+    written: &str,
+) -> Result<(), NoMemory> {
+    let mut out = sink(rt.alloc(), most);
+    out.fail_at(call)?;
+    assert_written(rt, script, out, 5, written)
 }
 
 /// The run of a script whose output takes so many bytes at once, in which one write fails, ends as
@@ -271,9 +288,7 @@ fn assert_unwritten<R: Abort + AllocGlobal>(
 ) -> Result<(), NoMemory> {
     let mut taken = String::new(rt.alloc());
     for (call, piece) in (0..).zip(pieces) {
-        let mut out = sink(rt.alloc(), most);
-        out.fail_at(call)?;
-        assert_written(rt, script, out, 5, taken.as_str())?;
+        assert_unwritten_at(rt, script, most, call, taken.as_str())?;
         taken.push_str(piece)?;
     }
     assert!(rt; taken.as_str() == whole);

@@ -22,7 +22,7 @@ const SEND_A: &[u32] = &[0x1000_02B7, 0x0410_0313, 0x0062_8023, 0x0000_006F];
 const HOLE: &[u32] = &[0x9000_02B7, 0x0002_A303, 0x0002_8067];
 
 /// The bytes of words in little-endian order.
-pub fn bytes_of(alloc: Global, words: &[u32]) -> Result<Vec<u8>, NoMemory> {
+fn bytes_of(alloc: Global, words: &[u32]) -> Result<Vec<u8>, NoMemory> {
     let mut bytes = Vec::new(alloc);
     for word in words {
         bytes.extend_from_slice(&word.to_le_bytes())?;
@@ -30,11 +30,24 @@ pub fn bytes_of(alloc: Global, words: &[u32]) -> Result<Vec<u8>, NoMemory> {
     Ok(bytes)
 }
 
+/// Lets each name hold its words.
+pub fn put_words(
+    files: &mut MemFiles,
+    alloc: Global,
+    rows: &[(&str, &[u32])],
+) -> Result<(), NoMemory> {
+    for (name, words) in rows {
+        files.put(name, &bytes_of(alloc, words)?)?;
+    }
+    Ok(())
+}
+
+static PROGRAMS: [(&str, &[u32]); 2] = [("a.bin", SEND_A), ("hole.bin", HOLE)];
+
 /// The programs and the platform by their names.
 pub fn files(alloc: Global) -> Result<MemFiles, NoMemory> {
     let mut files = MemFiles::new(alloc);
     files.put("p.repl", USUAL.as_bytes())?;
-    files.put("a.bin", &bytes_of(alloc, SEND_A)?)?;
-    files.put("hole.bin", &bytes_of(alloc, HOLE)?)?;
+    put_words(&mut files, alloc, &PROGRAMS)?;
     Ok(files)
 }

@@ -1,7 +1,9 @@
 //! Lines that are refused, in a script, in a macro and in an included file.
 use crate::bench::{assert_run, joined, put_all};
 use crate::programs::files;
+use lab_io::MemFiles;
 use lab_num::NoMemory;
+use std::alloc::Global;
 use std::process::Abort;
 use std::test::Fail;
 
@@ -38,6 +40,20 @@ fn line_behind(text: &str) -> u32 {
     line
 }
 
+fn put_scripts(files: &mut MemFiles, script: &[u8], included: &str) -> Result<(), NoMemory> {
+    put_all(files, &FILES)?;
+    files.put("i.resc", included.as_bytes())?;
+    files.put("s.resc", script)?;
+    Ok(())
+}
+
+/// The files, of which `s.resc` and `i.resc` have these texts.
+fn files_with(alloc: Global, script: &[u8], included: &str) -> Result<MemFiles, NoMemory> {
+    let mut files = files(alloc)?;
+    put_scripts(&mut files, script, included)?;
+    Ok(files)
+}
+
 /// The run of a script, where `i.resc` has this text, ends with this fault.
 fn assert_fault<R: Abort + AllocGlobal>(
     rt: &R,
@@ -45,11 +61,8 @@ fn assert_fault<R: Abort + AllocGlobal>(
     included: &str,
     fault: &str,
 ) -> Result<(), NoMemory> {
-    let mut files = files(rt.alloc())?;
-    put_all(&mut files, &FILES)?;
-    files.put("i.resc", included.as_bytes())?;
-    files.put("s.resc", script)?;
     let last = format!(in rt.alloc(); "error: {fault}\n")?;
+    let files = files_with(rt.alloc(), script, included)?;
     assert_run(rt, "run s.resc", files, 3, last.as_str())
 }
 
@@ -94,8 +107,12 @@ fn assert_refused_in_a_file<R: Abort + AllocGlobal>(
     assert_fault(rt, script.as_bytes(), included.as_str(), fault.as_str())
 }
 
+/// The laboratory has no time left.
+const LAST: &str = "emulation SetGlobalQuantum 1\nemulation RunFor 10000\n";
+
 /// Each row: what stands before the line, the line, and how it is refused.
-static NO_COMMANDS: [(&str, &str, &str); 32] = [
+static LINES: [(&str, &str, &str); 87] = [
+    // Lines that are no commands.
     ("", "foo", "S1 unknown command"),
     ("", "foo \"bar", "S1 unknown command"),
     ("", "\"mach\" create", "S1 unknown command"),
@@ -128,10 +145,7 @@ static NO_COMMANDS: [(&str, &str, &str); 32] = [
     ("$r=runMacro\n", "$r $m", "S3 variable"),
     ("$m=macro\n", "$m x", "S2 arguments"),
     ("$m=\"$n\"\n$n=pause\n", "$m", "S1 unknown command"),
-];
-
-/// The same of lines that are commands to boards.
-static ABOUT_BOARDS: [(&str, &str, &str); 38] = [
+    // Commands to boards.
     ("", "machine Reset", "S4 no board"),
     ("", "cpu PC 3", "S4 no board"),
     ("", "showAnalyzer a!b", "S4 no board"),
@@ -190,13 +204,7 @@ static ABOUT_BOARDS: [(&str, &str, &str); 38] = [
         "S6 taken",
     ),
     (TWO_HUBS, "connector Connect uart other", "S9 connected"),
-];
-
-/// The laboratory has no time left.
-const LAST: &str = "emulation SetGlobalQuantum 1\nemulation RunFor 10000\n";
-
-/// The same of lines with a time or an address.
-static TIMES_AND_PLACES: [(&str, &str, &str); 17] = [
+    // Times and addresses.
     ("", "emulation RunFor \"0.0000001\"", "S10 time"),
     ("", "emulation RunFor 10000.000001", "S10 time"),
     ("", "emulation RunFor 3s", "S10 time"),
@@ -237,9 +245,7 @@ fn assert_all_refused<R: Abort + AllocGlobal>(
 
 #[test]
 fn lines_are_refused_in_scripts_macros_and_included_files(rt: HostRuntime) -> Result<(), Fail> {
-    assert_all_refused(&rt, &NO_COMMANDS)?;
-    assert_all_refused(&rt, &ABOUT_BOARDS)?;
-    assert_all_refused(&rt, &TIMES_AND_PLACES)?;
+    assert_all_refused(&rt, &LINES)?;
     Ok(())
 }
 
