@@ -1,6 +1,6 @@
 //! Images that scripts load, and those that they are refused for.
-use crate::bench::{assert_script, joined, put_all};
-use crate::programs::{bytes_of, files};
+use crate::bench::{assert_run, assert_script, joined, put_all};
+use crate::programs::{files, put_words};
 use lab_io::MemFiles;
 use lab_num::NoMemory;
 use std::alloc::Global;
@@ -13,7 +13,7 @@ const BOARD: &str = "mach create m0\nmachine LoadPlatformDescription @p.repl\n";
 /// The words of an ELF file of 100 bytes: a header; the program header of a segment with a virtual
 /// address, the physical address 0x80000000, 16 bytes in the file and 20 in memory; and the program
 /// `SEND_A`. The entry is 0x80000000.
-static A_ELF: [u32; 25] = [
+const A_ELF: &[u32] = &[
     0x464C_457F,
     0x0001_0101,
     0,
@@ -60,7 +60,7 @@ const MEMORY_SIZE: usize = 72;
 
 /// The words of an ELF file with two segments: 0x11111111 and 0x22222222 at the first address, and
 /// 0x33333333 and a word of zeros at the second.
-static TWO: [u32; 32] = [
+const TWO: &[u32] = &[
     0x464C_457F,
     0x0001_0101,
     0,
@@ -87,6 +87,43 @@ static TWO: [u32; 32] = [
     0,
     0x8000_0004,
     4,
+    8,
+    5,
+    4,
+    0x1111_1111,
+    0x2222_2222,
+    0x3333_3333,
+];
+
+/// The same file with its program headers in the other order: the short segment is the later one in
+/// `TWO`, the longer one in this.
+const REVERSED: &[u32] = &[
+    0x464C_457F,
+    0x0001_0101,
+    0,
+    0,
+    0x00F3_0002,
+    1,
+    0x8000_0000,
+    52,
+    0,
+    0,
+    0x0020_0034,
+    2,
+    0,
+    1,
+    124,
+    0,
+    0x8000_0004,
+    4,
+    8,
+    5,
+    4,
+    1,
+    116,
+    0,
+    0x8000_0000,
+    8,
     8,
     5,
     4,
@@ -133,23 +170,17 @@ static HEX_FILES: [(&str, &[u8]); 3] = [
     ),
 ];
 
-/// The file of `TWO` with its program headers in the other order: the short segment is the later one
-/// in `TWO`, the longer one in this.
-fn reversed(alloc: Global) -> Result<Vec<u8>, NoMemory> {
-    let mut bytes = bytes_of(alloc, &TWO[..13])?;
-    bytes.extend_from_slice(&bytes_of(alloc, &TWO[21..29])?)?;
-    bytes.extend_from_slice(&bytes_of(alloc, &TWO[13..21])?)?;
-    bytes.extend_from_slice(&bytes_of(alloc, &TWO[29..])?)?;
-    Ok(bytes)
-}
+static ELF_FILES: [(&str, &[u32]); 3] = [
+    ("a.elf", A_ELF),
+    ("two.elf", TWO),
+    ("reversed.elf", REVERSED),
+];
 
 /// The image files by their names.
 fn image_files(alloc: Global) -> Result<MemFiles, NoMemory> {
     let mut files = files(alloc)?;
     put_all(&mut files, &HEX_FILES)?;
-    files.put("a.elf", &bytes_of(alloc, &A_ELF)?)?;
-    files.put("two.elf", &bytes_of(alloc, &TWO)?)?;
-    files.put("reversed.elf", &reversed(alloc)?)?;
+    put_words(&mut files, alloc, &ELF_FILES)?;
     Ok(files)
 }
 
@@ -225,50 +256,40 @@ fn files_with(alloc: Global, file: &[u8]) -> Result<MemFiles, NoMemory> {
     Ok(files)
 }
 
-/// The load of a file is refused by this text at a line of a script.
-fn assert_refused_in_the_script<R: Abort + AllocGlobal>(
-    rt: &R,
-    command: &str,
-    file: &[u8],
-    text: &str,
-) -> Result<(), NoMemory> {
-    let alloc = rt.alloc();
+/// Puts a line that loads the file in third place of `s.resc`, and of `i.resc`.
+fn put_loads(files: &mut MemFiles, alloc: Global, command: &str) -> Result<(), NoMemory> {
     let script = format!(in alloc; "{BOARD}sysbus {command} @image\nfoo\n")?;
-    let written = format!(in alloc; "error: s.resc:3: {text}\n")?;
-    assert_script(
-        rt,
-        files_with(alloc, file)?,
-        script.as_str(),
-        3,
-        written.as_str(),
-    )
-}
-
-/// It is refused at a line of a file that the script includes.
-fn assert_refused_in_a_file<R: Abort + AllocGlobal>(
-    rt: &R,
-    command: &str,
-    file: &[u8],
-    text: &str,
-) -> Result<(), NoMemory> {
-    let alloc = rt.alloc();
+    files.put("s.resc", script.as_bytes())?;
     let included = format!(in alloc; "# a note\n\nsysbus {command} @image\nfoo\n")?;
-    let mut files = files_with(alloc, file)?;
     files.put("i.resc", included.as_bytes())?;
     let script = joined(alloc, BOARD, "include @i.resc\n")?;
-    let written = format!(in alloc; "error: i.resc:3: {text}\n")?;
-    assert_script(rt, files, script.as_str(), 3, written.as_str())
+    files.put("t.resc", script.as_bytes())?;
+    Ok(())
 }
 
-/// It is refused in both places.
+/// The image files, this one, and the scripts that load it.
+fn files_loading(alloc: Global, command: &str, file: &[u8]) -> Result<MemFiles, NoMemory> {
+    let mut files = files_with(alloc, file)?;
+    put_loads(&mut files, alloc, command)?;
+    Ok(files)
+}
+
+/// Each row: the words of a run, and the file where the line stands.
+static WAYS: [(&str, &str); 2] = [("run s.resc", "s.resc"), ("run t.resc", "i.resc")];
+
+/// The load of a file is refused by this text at a line of a script, and of a file that it includes.
 fn assert_refused<R: Abort + AllocGlobal>(
     rt: &R,
     command: &str,
     file: &[u8],
     text: &str,
 ) -> Result<(), NoMemory> {
-    assert_refused_in_the_script(rt, command, file, text)?;
-    assert_refused_in_a_file(rt, command, file, text)
+    for (words, name) in &WAYS {
+        let written = format!(in rt.alloc(); "error: {name}:3: {text}\n")?;
+        let files = files_loading(rt.alloc(), command, file)?;
+        assert_run(rt, words, files, 3, written.as_str())?;
+    }
+    Ok(())
 }
 
 /// Each row: the length of the file, a word of it that is another one, and how its load is refused.
@@ -292,7 +313,7 @@ fn assert_elf_faults<R: Abort + AllocGlobal>(
     rows: &[(usize, Word, &str)],
 ) -> Result<(), NoMemory> {
     for (length, word, text) in rows {
-        let mut file = file_of(rt.alloc(), &A_ELF, *word, SAME)?;
+        let mut file = file_of(rt.alloc(), A_ELF, *word, SAME)?;
         file.truncate(*length);
         assert_refused(rt, "LoadELF", &file, text)?;
     }
@@ -318,13 +339,6 @@ fn assert_hex_faults<R: Abort + AllocGlobal>(
     for (file, text) in rows {
         assert_refused(rt, "LoadHEX", file.as_bytes(), text)?;
     }
-    Ok(())
-}
-
-#[test]
-fn each_fault_of_an_image_is_told_at_the_line_that_loads_it(rt: HostRuntime) -> Result<(), Fail> {
-    assert_elf_faults(&rt, &ELF_FAULTS)?;
-    assert_hex_faults(&rt, &HEX_FAULTS)?;
     Ok(())
 }
 
@@ -372,7 +386,7 @@ fn assert_places<R: Abort + AllocGlobal>(
     rows: &[(Word, Word, Option<&str>)],
 ) -> Result<(), NoMemory> {
     for (first, second, entry) in rows {
-        let file = file_of(rt.alloc(), &A_ELF, *first, *second)?;
+        let file = file_of(rt.alloc(), A_ELF, *first, *second)?;
         match entry {
             None => assert_refused(rt, "LoadELF", &file, "S16 address")?,
             Some(pc) => assert_entry(rt, &file, pc)?,
@@ -382,7 +396,9 @@ fn assert_places<R: Abort + AllocGlobal>(
 }
 
 #[test]
-fn an_image_is_loaded_only_where_it_has_its_places(rt: HostRuntime) -> Result<(), Fail> {
+fn faults_of_images_and_of_their_places_are_told_at_the_line(rt: HostRuntime) -> Result<(), Fail> {
+    assert_elf_faults(&rt, &ELF_FAULTS)?;
+    assert_hex_faults(&rt, &HEX_FAULTS)?;
     assert_places(&rt, &PLACES)?;
     Ok(())
 }
