@@ -1,97 +1,270 @@
-//! What laboratories do and show, step by step, on boards with a memory, UARTs and a finisher, of
-//! which some have CAN controllers.
-ghost use Rattle.std.specs.Prelude.{◌≡◌};
+//! The calls of a laboratory, on two boards with a memory, a UART and a finisher, whose devices count.
+ghost use Rattle.std.specs.Prelude.{◌≡◌, ◌+◌, ◌<◌, ◌≤◌, true, false, IsSome, OnErr};
+ghost use Rattle.lab_state.specs.One.{view_of, HaveAllPlans};
 
-mod cases;
 mod chip;
-mod frames;
-mod plans;
-mod steps;
 
-use cases::{CHANGED_AND_READ, PROGRAMS, STORES};
-use chip::{Counts, stock};
-use dev_core::{Device, Stock};
-use frames::{ALL_FIT, FRAMES};
-use lab_num::{BoardNo, Member};
-use lab_state::Lab;
+use chip::stock;
+use dev_core::{Device, Finish, Kind, Stock, What};
+use lab_num::{BoardNo, Key, Member, Micros, PostNo, is_name};
+use lab_state::{FitFault, Lab, LabFault, RoundLog, RunFault};
+use log_merge::{LogItem, Member0, Names};
+use sample_boards::small_board;
 use std::alloc::Global;
+use std::cell::Cell;
 use std::process::Abort;
 use std::test::Fail;
-use steps::{Step, play};
 
 /// Where a board's memory begins.
 const START: u32 = 0x8000_0000;
 
-/// The hub of UARTs.
-const HUB: &str = "hub";
+/// lui x5, 0x10000; addi x6, x0, 65; sb x6, 0(x5); jal x0, 0: sends `A` in slot 2
+const SENDS: &[u8] = b"\xB7\x02\x00\x10\x13\x03\x10\x04\x23\x80\x62\x00\x6F\x00\x00\x00";
 
-/// The hub of CAN controllers.
-const BUS: &str = "bus";
+/// lui x5, 0x10000; lbu x6, 5(x5); sb x6, 0(x5): sends the line status in slot 2; lui x5, 0x100;
+/// lui x6, 0x5; addi x6, x6, 0x555; sw x6, 0(x5); jal x0, 0: passes in slot 6
+const PASSES: &[u8] = b"\xB7\x02\x00\x10\x03\xC3\x52\x00\x23\x80\x62\x00\xB7\x02\x10\x00\
+\x37\x53\x00\x00\x13\x03\x53\x55\x23\xA0\x62\x00\x6F\x00\x00\x00";
 
-/// A device of a board. The UART of a small board is 0 and its finisher is 1. The first UART of a full
-/// board is 0, its first CAN controller 4 and its finisher 8.
-fn device(board: BoardNo, dev: u8) -> Member
-    ensures board { result.board ≡ board }
-    ensures dev { result.dev ≡ dev }
+const M0: BoardNo = BoardNo(0);
+
+const M1: BoardNo = BoardNo(1);
+
+/// The UARTs of the boards.
+static UARTS: [Member; 2] = [Member { board: M0, dev: 0 }, Member { board: M1, dev: 0 }];
+
+fn is_planned<D: Device>(lab: &Lab<D>, b: BoardNo) -> bool
+    ensures unspent { result ≡ true → lab.now.spent ≡ false }
+    ensures planned { result ≡ true → IsSome (view_of lab.now.lab b.0) }
 {
-    Member { board, dev }
+    !lab.is_spent() && b.0 < lab.boards() && lab.has_plan(b)
 }
 
-/// Takes the steps in a new laboratory with a hub of each kind and no board.
-fn play_on<D: Device>(
-    rt: &impl Abort,
-    alloc: Global,
-    stock: Stock<D>,
-    steps: &[Step],
-) -> Result<(), Fail> {
-    assert!(rt; stock.is_full());
-    let mut lab = Lab::new(alloc, stock)?;
-    play(rt, alloc, &mut lab, steps)
-}
-
-/// The same, whose devices count.
-fn play_counted(
-    rt: &impl Abort,
-    alloc: Global,
-    counts: &Counts,
-    steps: &[Step],
-) -> Result<(), Fail> {
-    let stock = stock(alloc, counts)?;
-    play_on(rt, alloc, stock, steps)
-}
-
-/// Takes the steps of each case, in a laboratory of its own.
-fn play_all(rt: &impl Abort, alloc: Global, cases: &[&[Step]]) -> Result<(), Fail> {
-    for steps in cases {
-        play_counted(rt, alloc, &Counts::new(), steps)?;
-    }
+fn create_hubs<D: Device>(rt: &impl Abort, lab: &mut Lab<D>) -> Result<(), Fail> {
+    assert!(rt; !lab.is_spent() && lab.hubs() < 9 && is_name("hub"));
+    lab.create_uart_hub("hub")?;
+    assert!(rt; !lab.is_spent() && lab.hubs() < 9 && is_name("bus"));
+    lab.create_can_hub("bus")?;
     Ok(())
 }
 
-#[test]
-fn programs_log_what_they_send_load_and_lose(rt: HostRuntime) -> Result<(), Fail> {
-    play_all(&rt, rt.alloc(), &PROGRAMS)
+fn add<D: Device>(rt: &impl Abort, lab: &mut Lab<D>, name: &str, b: BoardNo) {
+    assert!(rt; !lab.is_spent() && is_name(name));
+    assert!(rt; lab.add_board(name) == Ok(b));
 }
 
-#[test]
-fn a_laboratory_is_changed_read_and_refused(rt: HostRuntime) -> Result<(), Fail> {
-    play_all(&rt, rt.alloc(), &CHANGED_AND_READ)
+/// A board is given a plan, or is not.
+fn fit<D: Device>(
+    rt: &impl Abort,
+    alloc: Global,
+    lab: &mut Lab<D>,
+    b: BoardNo,
+    fault: Option<FitFault>,
+) -> Result<(), Fail> {
+    let plan = small_board(alloc)?;
+    assert!(rt; plan.is_valid() && !lab.is_spent() && b.0 < lab.boards());
+    assert!(rt; lab.fit(b, plan).err() == fault);
+    Ok(())
 }
 
-#[test]
-fn frames_cross_a_hub_and_are_noted_by_their_answers(rt: HostRuntime) -> Result<(), Fail> {
-    play_all(&rt, rt.alloc(), &FRAMES)
+/// A board has a program, which is the next to run, and is on the hub.
+fn load<D: Device>(
+    rt: &impl Abort,
+    lab: &mut Lab<D>,
+    b: BoardNo,
+    program: &[u8],
+) -> Result<(), Fail> {
+    assert!(rt; is_planned(lab, b) && program.len() < 0x1_0000);
+    assert!(rt; lab.board(b).holds(START, program.len() as u32));
+    lab.copy_in(b, START, program)?;
+    assert!(rt; is_planned(lab, b));
+    lab.set_pc(b, START);
+    let uart = Member { board: b, dev: 0 };
+    assert!(rt; !lab.is_spent() && lab.device_kind(uart) == Some(Kind::Uart));
+    lab.connect(uart, "hub")?;
+    Ok(())
 }
 
-#[test]
-fn sixteen_boards_with_all_devices_fit(rt: HostRuntime) -> Result<(), Fail> {
-    play_all(&rt, rt.alloc(), &ALL_FIT)
+/// Shows the first board's UART.
+fn show<D: Device>(rt: &impl Abort, lab: &mut Lab<D>) {
+    assert!(rt; is_planned(lab, M0) && lab.device_kind(UARTS[0]) == Some(Kind::Uart));
+    assert!(rt;
+        matches!(
+            lab.board(M0).plan().kinds.items().get(0),
+            Some(Kind::Uart | Kind::Can)
+        )
+    );
+    lab.show(UARTS[0]);
 }
 
+/// Makes two boards. No run is made before each has a plan, and none has a second one.
+fn build<D: Device>(rt: &impl Abort, alloc: Global, lab: &mut Lab<D>) -> Result<(), Fail> {
+    create_hubs(rt, lab)?;
+    add(rt, lab, "m0", M0);
+    fit(rt, alloc, lab, M0, None)?;
+    add(rt, lab, "m1", M1);
+    assert!(rt; lab.run_for(Micros(10)).err() == Some(RunFault::NoPlan(M1)));
+    fit(rt, alloc, lab, M1, None)?;
+    fit(rt, alloc, lab, M0, Some(FitFault::Has))?;
+    load(rt, lab, M0, SENDS)?;
+    load(rt, lab, M1, PASSES)?;
+    show(rt, lab);
+    Ok(())
+}
+
+fn are_boards<D: Device>(lab: &Lab<D>) -> bool {
+    !lab.is_spent()
+        && lab.boards() == 2
+        && lab.board_name(M1).as_str() == "m1"
+        && lab.find_board("m1") == Some(M1)
+        && lab.first_without_plan().is_none()
+}
+
+fn are_hubs<D: Device>(lab: &Lab<D>) -> bool {
+    !lab.is_spent()
+        && lab.hubs() == 2
+        && lab.hub_name(1).as_str() == "bus"
+        && lab.find_hub("bus") == Some(1)
+        && lab.hub_kind(1) == Kind::Can
+        && lab.hub_members(0) == &UARTS[..]
+}
+
+/// The second board is `m1`, with `uart` and `fin`.
+fn is_m1(names: &Names) -> bool {
+    match names.boards.items() {
+        [_, m1] => match m1.devices.items() {
+            [uart, fin] => {
+                m1.name.as_str() == "m1" && uart.as_str() == "uart" && fin.as_str() == "fin"
+            }
+            _ => false,
+        },
+        _ => false,
+    }
+}
+
+fn read<D: Device>(rt: &impl Abort, lab: &mut Lab<D>) -> Result<(), Fail> {
+    assert!(rt; are_boards(lab) && are_hubs(lab));
+    assert!(rt; !lab.is_spent());
+    lab.set_quantum(7);
+    assert!(rt; !lab.is_spent());
+    assert!(rt; lab.quantum() == 7 && is_m1(&lab.names()?));
+    Ok(())
+}
+
+/// A round, which is asked for once more where the first found no memory.
+fn round_again<D: Device>(lab: &mut Lab<D>, q: u64) -> Result<RoundLog, LabFault>
+    requires some { 0 < q }
+    requires plans { lab.old.spent ≡ false → HaveAllPlans lab.old.lab }
+    requires within { lab.old.spent ≡ false → lab.old.lab.now + q ≤ 10000000000 }
+    ensures spent { lab.old.spent ≡ true → result ≡ Err LabFault.Memory }
+    ensures err { OnErr result (lab.new.spent ≡ true) }
+{
+    match lab.round(q) {
+        Ok(log) => Ok(log),
+        Err(_) => lab.round(q),
+    }
+}
+
+/// What the first round logs: what the board that is shown sends, and the pass.
+const LINES: [LogItem; 2] = [
+    LogItem::Slot(
+        Member0 {
+            at: Micros(2),
+            board: M0,
+        },
+        What::Byte {
+            dev: 0,
+            value: b'A',
+        },
+    ),
+    LogItem::Pause {
+        at: Micros(10),
+        member: Member { board: M1, dev: 1 },
+        finish: Finish::Pass,
+    },
+];
+
+/// The second post of its board.
+const PASS: Key = Key {
+    at: Micros(6),
+    board: M1,
+    number: PostNo(1),
+};
+
+fn first_round<D: Device>(rt: &impl Abort, lab: &mut Lab<D>) -> Result<(), Fail> {
+    assert!(rt; !lab.is_spent() && lab.first_without_plan().is_none());
+    assert!(rt; lab.now().0 < 1_000_000);
+    let log = round_again(lab, 10)?;
+    assert!(rt; log.lines.items() == &LINES[..] && log.paused == Some(PASS));
+    Ok(())
+}
+
+/// A board has taken so many instructions, and its next one stands here.
+fn is_at<D: Device>(lab: &Lab<D>, b: BoardNo, retired: u64, pc: u32) -> bool {
+    is_planned(lab, b) && lab.board(b).retired() == retired && lab.board(b).pc() == pc
+}
+
+/// A run logs nothing, and the boards stand so after it.
+fn run<D: Device>(
+    rt: &impl Abort,
+    lab: &mut Lab<D>,
+    d: u64,
+    m0: (u64, u32),
+    m1: (u64, u32),
+) -> Result<(), Fail> {
+    let log = lab.run_for(Micros(d))?;
+    assert!(rt; log.lines.items().is_empty() && log.paused.is_none());
+    assert!(rt; is_at(lab, M0, m0.0, m0.1) && is_at(lab, M1, m1.0, m1.1));
+    Ok(())
+}
+
+/// Halts the first board, or lets it run, and sets the speed of the second.
+fn change<D: Device>(rt: &impl Abort, lab: &mut Lab<D>, is_halted: bool, speed: u32) {
+    assert!(rt; is_planned(lab, M0));
+    lab.set_halted(M0, is_halted);
+    assert!(rt; is_planned(lab, M1) && 1 <= speed && speed <= 1000);
+    lab.set_speed(M1, speed);
+}
+
+/// Resets the second board, and clears the instruction at which the first one stays.
+fn clear<D: Device>(rt: &impl Abort, lab: &mut Lab<D>) {
+    assert!(rt; is_planned(lab, M1));
+    lab.reset(M1);
+    assert!(rt; is_planned(lab, M0) && lab.board(M0).holds(START + 12, 4));
+    lab.zero(M0, START + 12, 4);
+}
+
+fn run_and_change<D: Device>(rt: &impl Abort, lab: &mut Lab<D>) -> Result<(), Fail> {
+    first_round(rt, lab)?;
+    run(rt, lab, 20, (30, START + 12), (30, START + 28))?;
+    change(rt, lab, true, 3);
+    run(rt, lab, 10, (30, START + 12), (60, START + 28))?;
+    change(rt, lab, false, 1);
+    clear(rt, lab);
+    run(rt, lab, 10, (30, 0), (0, 0))?;
+    assert!(rt; !lab.is_spent() && lab.now() == Micros(50));
+    Ok(())
+}
+
+fn play<D: Device>(rt: &impl Abort, alloc: Global, lab: &mut Lab<D>) -> Result<(), Fail> {
+    build(rt, alloc, lab)?;
+    read(rt, lab)?;
+    run_and_change(rt, lab)
+}
+
+fn play_on<D: Device>(rt: &impl Abort, alloc: Global, stock: Stock<D>) -> Result<(), Fail> {
+    assert!(rt; stock.is_full());
+    let mut lab = Lab::new(alloc, stock)?;
+    play(rt, alloc, &mut lab)
+}
+
+/// The first board stores once, and the second loads once and stores once; its finisher is called
+/// once.
 #[test]
-fn boards_take_the_devices_of_the_stock_in_order(rt: HostRuntime) -> Result<(), Fail> {
-    let counts = Counts::new();
-    play_counted(&rt, rt.alloc(), &counts, &STORES)?;
-    assert!(rt; counts.are_stores(1, 2, 0));
+fn a_laboratory_calls_the_devices_of_its_stock_in_order(rt: HostRuntime) -> Result<(), Fail> {
+    let counts = [Cell::new(0), Cell::new(0), Cell::new(0)];
+    let stock = stock(rt.alloc(), &counts)?;
+    play_on(&rt, rt.alloc(), stock)?;
+    assert!(rt; counts[0].get() == 1 && counts[1].get() == 2 && counts[2].get() == 1);
     Ok(())
 }
