@@ -321,13 +321,6 @@ fn assert_hex_faults<R: Abort + AllocGlobal>(
     Ok(())
 }
 
-#[test]
-fn each_fault_of_an_image_is_told_at_the_line_that_loads_it(rt: HostRuntime) -> Result<(), Fail> {
-    assert_elf_faults(&rt, &ELF_FAULTS)?;
-    assert_hex_faults(&rt, &HEX_FAULTS)?;
-    Ok(())
-}
-
 /// Each row: two words of an ELF file that are other ones, and the entry that is then set, if the
 /// image is loaded.
 static PLACES: [(Word, Word, Option<&str>); 16] = [
@@ -382,7 +375,9 @@ fn assert_places<R: Abort + AllocGlobal>(
 }
 
 #[test]
-fn an_image_is_loaded_only_where_it_has_its_places(rt: HostRuntime) -> Result<(), Fail> {
+fn faults_of_images_and_of_their_places_are_told_at_the_line(rt: HostRuntime) -> Result<(), Fail> {
+    assert_elf_faults(&rt, &ELF_FAULTS)?;
+    assert_hex_faults(&rt, &HEX_FAULTS)?;
     assert_places(&rt, &PLACES)?;
     Ok(())
 }

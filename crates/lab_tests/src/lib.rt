@@ -4,11 +4,7 @@
 #[cfg(test)]
 mod bench;
 #[cfg(test)]
-mod cans;
-#[cfg(test)]
 mod command_line;
-#[cfg(test)]
-mod generated;
 #[cfg(test)]
 mod images;
 #[cfg(test)]
@@ -16,10 +12,6 @@ mod limits;
 #[cfg(test)]
 mod outside;
 #[cfg(test)]
-mod platforms;
-#[cfg(test)]
 mod programs;
 #[cfg(test)]
 mod refusals;
-#[cfg(test)]
-mod rows;

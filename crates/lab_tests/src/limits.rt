@@ -17,77 +17,64 @@ fn repeated(alloc: Global, line: &str, count: u32, last: &str) -> Result<String,
     Ok(script)
 }
 
-/// The script of a line so many times and then another ends with this number, and has written this.
-fn assert_repeated<R: Abort + AllocGlobal>(
-    rt: &R,
-    line: &str,
-    count: u32,
-    last: &str,
-    number: u8,
-    written: &str,
-) -> Result<(), NoMemory> {
-    let script = repeated(rt.alloc(), line, count, last)?;
-    assert_script(rt, files(rt.alloc())?, script.as_str(), number, written)
-}
+/// A board, whose program's first word is read.
+const BOARD: &str = "mach create\nmachine LoadPlatformDescription @p.repl\n\
+sysbus LoadBinary @a.bin 0x80000000\ncpu PC 0x80000000\nshowAnalyzer uart\n\
+sysbus ReadDoubleWord 0x80000000\n";
 
-/// Each row: what stands 25,000 times, what stands last, and how the run ends.
-static COMMANDS: [(&str, &str, u8, &str); 4] = [
-    ("pause\npause\npause\npause\n", "# a note", 0, ""),
+const SIXTEEN: &str = "\
+0x100002b7\n0x100002b7\n0x100002b7\n0x100002b7\n0x100002b7\n0x100002b7\n0x100002b7\n0x100002b7\n\
+0x100002b7\n0x100002b7\n0x100002b7\n0x100002b7\n0x100002b7\n0x100002b7\n0x100002b7\n0x100002b7\n\
+error: s.resc:99: S13 boards\n";
+
+/// Each row: how often lines stand, the lines, what stands last, and how the run ends.
+static REPEATED: [(u32, &str, &str, u8, &str); 6] = [
+    (25_000, "pause\npause\npause\npause\n", "# a note", 0, ""),
     (
+        25_000,
         "pause\npause\npause\npause\n",
         "\n\n foo $unset",
         3,
         "error: s.resc:100003: S12 commands\n",
     ),
     (
+        25_000,
         "pause\n$a=3\n\n# a note\nmacro m\"\"\"\n\n\"\"\"\n$a?=4\n",
         "$a=5",
         3,
         "error: s.resc:200001: S12 commands\n",
     ),
     (
+        25_000,
         "pause\npause\npause\npause\n",
         "macro m\"\"\"\n",
         3,
         "error: s.resc:100001: S17 unclosed\n",
     ),
+    (16, BOARD, "\n\nmach create\n", 3, SIXTEEN),
+    (
+        16,
+        "mach create\n",
+        "mach create machine-3\n",
+        3,
+        "error: s.resc:17: S6 taken\n",
+    ),
 ];
 
-fn assert_commands<R: Abort + AllocGlobal>(
+fn assert_repeated<R: Abort + AllocGlobal>(
     rt: &R,
-    rows: &[(&str, &str, u8, &str)],
+    rows: &[(u32, &str, &str, u8, &str)],
 ) -> Result<(), NoMemory> {
-    for (lines, last, number, written) in rows {
-        assert_repeated(rt, lines, 25_000, last, *number, written)?;
+    for (count, lines, last, number, written) in rows {
+        let script = repeated(rt.alloc(), lines, *count, last)?;
+        assert_script(rt, files(rt.alloc())?, script.as_str(), *number, written)?;
     }
     Ok(())
 }
 
 #[test]
-fn a_script_takes_100_000_commands_at_most(rt: HostRuntime) -> Result<(), Fail> {
-    assert_commands(&rt, &COMMANDS)?;
-    Ok(())
-}
-
-/// A board, whose program's first word is read.
-const BOARD: &str = "mach create\nmachine LoadPlatformDescription @p.repl\n\
-sysbus LoadBinary @a.bin 0x80000000\ncpu PC 0x80000000\nshowAnalyzer uart\n\
-sysbus ReadDoubleWord 0x80000000\n";
-
-#[test]
-fn there_are_16_boards_at_most(rt: HostRuntime) -> Result<(), Fail> {
-    let fault = "error: s.resc:99: S13 boards\n";
-    let written = repeated(rt.alloc(), "0x100002b7\n", 16, fault)?;
-    assert_repeated(&rt, BOARD, 16, "\n\nmach create\n", 3, written.as_str())?;
-    let fault = "error: s.resc:17: S6 taken\n";
-    assert_repeated(
-        &rt,
-        "mach create\n",
-        16,
-        "mach create machine-3\n",
-        3,
-        fault,
-    )?;
+fn a_script_takes_100_000_commands_and_16_boards_at_most(rt: HostRuntime) -> Result<(), Fail> {
+    assert_repeated(&rt, &REPEATED)?;
     Ok(())
 }
 
@@ -174,13 +161,6 @@ fn assert_platforms<R: Abort + AllocGlobal>(
     Ok(())
 }
 
-#[test]
-fn eight_bodies_are_open_beside_the_script_at_most(rt: HostRuntime) -> Result<(), Fail> {
-    assert_scripts(&rt, &SCRIPTS)?;
-    assert_platforms(&rt, &PLATFORMS)?;
-    Ok(())
-}
-
 /// Each row: how many `using` lines of an empty file stand before that of the platform, and how the
 /// run ends.
 static USED: [(u32, u8, &str); 2] = [(62, 0, ""), (63, 3, "error: all.repl:64: S11 depth\n")];
@@ -208,7 +188,11 @@ fn assert_used<R: Abort + AllocGlobal>(rt: &R, rows: &[(u32, u8, &str)]) -> Resu
 }
 
 #[test]
-fn a_command_reads_64_platform_files_at_most(rt: HostRuntime) -> Result<(), Fail> {
+fn eight_bodies_are_open_and_64_platform_files_are_read_at_most(
+    rt: HostRuntime,
+) -> Result<(), Fail> {
+    assert_scripts(&rt, &SCRIPTS)?;
+    assert_platforms(&rt, &PLATFORMS)?;
     assert_used(&rt, &USED)?;
     Ok(())
 }

@@ -1,6 +1,6 @@
 //! Words, and faults of files and outputs.
 use crate::bench::{assert_run, joined, put_all, run};
-use crate::programs::{USUAL, files};
+use crate::programs::files;
 use lab_io::{MemFiles, MemSink};
 use lab_num::NoMemory;
 use lab_top::Status;
@@ -102,8 +102,29 @@ fn files_with(alloc: Global, script: &str) -> Result<MemFiles, NoMemory> {
     Ok(files)
 }
 
+/// A script with variables, a macro and `start`, whose lines end with a carriage return too.
+const CARRIAGES: &str = "\
+:name: One board\r\n\
+using sysbus\r\n\
+$name?=\"m0\"\r\n\
+$bin?=@a.bin\r\n\
+mach create $name\r\n\
+machine LoadPlatformDescription @p.repl\r\n\
+showAnalyzer sysbus.uart\r\n\
+macro reset\r\n\
+\"\"\"\r\n    sysbus LoadBinary $bin 0x80000000\r\n    cpu PC 0x80000000\r\n\"\"\"\r\n\
+runMacro $reset\r\n\
+start\r\n";
+
 /// Each row: words, the script, and how the run ends.
-static CHECKED: [(&str, &str, u8, &str); 10] = [
+static CHECKED: [(&str, &str, u8, &str); 13] = [
+    ("run --until 0.0002 s.resc", "\n\r\n \t\n", 0, ""),
+    (
+        "run s.resc --until 0.000003",
+        CARRIAGES,
+        0,
+        "[0.000002] m0/uart: A\n",
+    ),
     ("check s.resc", LETTER, 0, ""),
     ("check -- s.resc", HOLE, 0, "0x80000000\n"),
     ("run -- s.resc", LETTER, 0, "[0.000002] m0/uart: A\n"),
@@ -137,6 +158,12 @@ static CHECKED: [(&str, &str, u8, &str); 10] = [
         4,
         "",
     ),
+    (
+        "check s.resc",
+        "mach create\nmachine LoadPlatformDescription @p.repl\nsysbus LoadBinary @none 0x80000000\nfoo",
+        4,
+        "",
+    ),
     ("check none", "", 4, ""),
     ("run none", "", 4, ""),
 ];
@@ -154,10 +181,6 @@ fn assert_checked<R: Abort + AllocGlobal>(
 #[test]
 fn scripts_are_checked_without_a_run(rt: HostRuntime) -> Result<(), Fail> {
     assert_checked(&rt, &CHECKED)?;
-    let mut files = MemFiles::new(rt.alloc());
-    files.put("s.resc", LETTER.as_bytes())?;
-    files.put("p.repl", USUAL.as_bytes())?;
-    assert_run(&rt, "check s.resc", files, 4, "")?;
     Ok(())
 }
 
@@ -200,7 +223,7 @@ const BODIES_LOG: &str = "0x80000000\n0x8000000c\n[0.000002] m0/uart: A\n";
 /// The letter, and a further read: of an image that has no place on the board.
 fn assert_read_late<R: Abort + AllocGlobal>(rt: &R) -> Result<(), NoMemory> {
     let alloc = rt.alloc();
-    let script = joined(alloc, LETTER, "cpu PC\nsysbus LoadBinary @b.bin 0\n")?;
+    let script = joined(alloc, LETTER, "cpu PC\nsysbus LoadBinary @a.bin 0\n")?;
     let mut files = files_with(alloc, script.as_str())?;
     files.fail_at(3)?;
     assert_run(rt, "run s.resc", files, 4, "0x8000000c\n")?;

@@ -1,9 +1,7 @@
 //! Lines that are refused, in a script, in a macro and in an included file.
-use crate::bench::{assert_run, assert_script, joined, put_all};
+use crate::bench::{assert_run, joined, put_all};
 use crate::programs::files;
-use lab_io::MemFiles;
 use lab_num::NoMemory;
-use std::alloc::Global;
 use std::process::Abort;
 use std::test::Fail;
 
@@ -19,19 +17,15 @@ const TWO_HUBS: &str = "mach create m0\nmachine LoadPlatformDescription @p.repl\
 emulation CreateUARTHub hub\nconnector Connect uart hub\nemulation CreateUARTHub other\n";
 
 /// The files that the lines name.
-static FILES: [(&str, &[u8]); 5] = [
+static FILES: [(&str, &[u8]); 7] = [
     ("bad.resc", b"pause\npause \xFF\n"),
     ("bad.repl", b"\n\xC3\n"),
+    ("bytes.repl", b"// a note\n\n\xFE"),
+    ("using.repl", b"using \"p.repl\"\nusing \"bytes.repl\"\n"),
     ("open.resc", b"pause\nmacro m\n\"\"\"\npause\n"),
     ("self.resc", b"include @self.resc\n"),
     ("self.repl", b"\nusing \"self.repl\"\n"),
 ];
-
-fn more_files(alloc: Global) -> Result<MemFiles, NoMemory> {
-    let mut files = files(alloc)?;
-    put_all(&mut files, &FILES)?;
-    Ok(files)
-}
 
 /// The number of the line after this text.
 fn line_behind(text: &str) -> u32 {
@@ -44,45 +38,46 @@ fn line_behind(text: &str) -> u32 {
     line
 }
 
-/// A script ends with this fault.
+/// The run of a script, where `i.resc` has this text, ends with this fault.
 fn assert_fault<R: Abort + AllocGlobal>(
     rt: &R,
-    files: MemFiles,
-    script: &str,
+    script: &[u8],
+    included: &str,
     fault: &str,
 ) -> Result<(), NoMemory> {
+    let mut files = files(rt.alloc())?;
+    put_all(&mut files, &FILES)?;
+    files.put("i.resc", included.as_bytes())?;
+    files.put("s.resc", script)?;
     let last = format!(in rt.alloc(); "error: {fault}\n")?;
-    assert_script(rt, files, script, 3, last.as_str())
+    assert_run(rt, "run s.resc", files, 3, last.as_str())
 }
 
-/// A line is refused after these lines as it stands.
-fn assert_refused_as_it_stands<R: Abort + AllocGlobal>(
+/// Where a line stands in a script: what is before it and after it, and how many lines further it is.
+static PLACES: [(&str, &str, u32); 2] = [
+    ("", "\nfoo\n", 0),
+    (
+        "macro inner\n\"\"\"\n\n    ",
+        "\n\"\"\"\nrunMacro $inner\n",
+        3,
+    ),
+];
+
+/// A line is refused after these lines as it stands and in a macro.
+fn assert_refused_in_the_script<R: Abort + AllocGlobal>(
     rt: &R,
     before: &str,
     line: &str,
     text: &str,
 ) -> Result<(), NoMemory> {
     let alloc = rt.alloc();
-    let number = line_behind(before);
-    let script = format!(in alloc; "{before}{line}\nfoo\n")?;
-    let fault = format!(in alloc; "s.resc:{number}: {text}")?;
-    assert_fault(rt, more_files(alloc)?, script.as_str(), fault.as_str())
-}
-
-/// It is refused in a macro.
-fn assert_refused_in_a_macro<R: Abort + AllocGlobal>(
-    rt: &R,
-    before: &str,
-    line: &str,
-    text: &str,
-) -> Result<(), NoMemory> {
-    let alloc = rt.alloc();
-    let number = line_behind(before).saturating_add(3);
-    let script = format!(in alloc;
-        "{before}macro inner\n\"\"\"\n\n    {line}\n\"\"\"\nrunMacro $inner\n"
-    )?;
-    let fault = format!(in alloc; "s.resc:{number}: {text}")?;
-    assert_fault(rt, more_files(alloc)?, script.as_str(), fault.as_str())
+    for (start, end, further) in &PLACES {
+        let number = line_behind(before).saturating_add(*further);
+        let script = format!(in alloc; "{before}{start}{line}{end}")?;
+        let fault = format!(in alloc; "s.resc:{number}: {text}")?;
+        assert_fault(rt, script.as_bytes(), "", fault.as_str())?;
+    }
+    Ok(())
 }
 
 /// It is refused in a file that is included.
@@ -94,23 +89,9 @@ fn assert_refused_in_a_file<R: Abort + AllocGlobal>(
 ) -> Result<(), NoMemory> {
     let alloc = rt.alloc();
     let script = joined(alloc, before, "include @i.resc\n")?;
-    let fault = joined(alloc, "i.resc:2: ", text)?;
     let included = format!(in alloc; "# a note\n{line}\r\nfoo")?;
-    let mut files = more_files(alloc)?;
-    files.put("i.resc", included.as_bytes())?;
-    assert_fault(rt, files, script.as_str(), fault.as_str())
-}
-
-/// It is refused in each of these places.
-fn assert_refused<R: Abort + AllocGlobal>(
-    rt: &R,
-    before: &str,
-    line: &str,
-    text: &str,
-) -> Result<(), NoMemory> {
-    assert_refused_as_it_stands(rt, before, line, text)?;
-    assert_refused_in_a_macro(rt, before, line, text)?;
-    assert_refused_in_a_file(rt, before, line, text)
+    let fault = joined(alloc, "i.resc:2: ", text)?;
+    assert_fault(rt, script.as_bytes(), included.as_str(), fault.as_str())
 }
 
 /// Each row: what stands before the line, the line, and how it is refused.
@@ -149,22 +130,7 @@ static NO_COMMANDS: [(&str, &str, &str); 32] = [
     ("$m=\"$n\"\n$n=pause\n", "$m", "S1 unknown command"),
 ];
 
-fn assert_all_refused<R: Abort + AllocGlobal>(
-    rt: &R,
-    rows: &[(&str, &str, &str)],
-) -> Result<(), NoMemory> {
-    for (before, line, text) in rows {
-        assert_refused(rt, before, line, text)?;
-    }
-    Ok(())
-}
-
-#[test]
-fn lines_that_are_no_commands_are_refused(rt: HostRuntime) -> Result<(), Fail> {
-    assert_all_refused(&rt, &NO_COMMANDS)?;
-    Ok(())
-}
-
+/// The same of lines that are commands to boards.
 static ABOUT_BOARDS: [(&str, &str, &str); 38] = [
     ("", "machine Reset", "S4 no board"),
     ("", "cpu PC 3", "S4 no board"),
@@ -226,15 +192,10 @@ static ABOUT_BOARDS: [(&str, &str, &str); 38] = [
     (TWO_HUBS, "connector Connect uart other", "S9 connected"),
 ];
 
-#[test]
-fn lines_about_boards_are_refused(rt: HostRuntime) -> Result<(), Fail> {
-    assert_all_refused(&rt, &ABOUT_BOARDS)?;
-    Ok(())
-}
-
 /// The laboratory has no time left.
 const LAST: &str = "emulation SetGlobalQuantum 1\nemulation RunFor 10000\n";
 
+/// The same of lines with a time or an address.
 static TIMES_AND_PLACES: [(&str, &str, &str); 17] = [
     ("", "emulation RunFor \"0.0000001\"", "S10 time"),
     ("", "emulation RunFor 10000.000001", "S10 time"),
@@ -263,84 +224,79 @@ static TIMES_AND_PLACES: [(&str, &str, &str); 17] = [
     (BOARD, "cpu PC 0x80000002", "S16 address"),
 ];
 
+fn assert_all_refused<R: Abort + AllocGlobal>(
+    rt: &R,
+    rows: &[(&str, &str, &str)],
+) -> Result<(), NoMemory> {
+    for (before, line, text) in rows {
+        assert_refused_in_the_script(rt, before, line, text)?;
+        assert_refused_in_a_file(rt, before, line, text)?;
+    }
+    Ok(())
+}
+
 #[test]
-fn lines_about_times_and_places_are_refused(rt: HostRuntime) -> Result<(), Fail> {
+fn lines_are_refused_in_scripts_macros_and_included_files(rt: HostRuntime) -> Result<(), Fail> {
+    assert_all_refused(&rt, &NO_COMMANDS)?;
+    assert_all_refused(&rt, &ABOUT_BOARDS)?;
     assert_all_refused(&rt, &TIMES_AND_PLACES)?;
     Ok(())
 }
 
 /// Each row: a script, and the fault that it ends with.
-static BODIES: [(&str, &str); 11] = [
+static WHOLE: [(&[u8], &str); 17] = [
     (
-        "macro m\n\"\"\"\nrunMacro $m\n\"\"\"\nrunMacro $m",
+        b"macro m\n\"\"\"\nrunMacro $m\n\"\"\"\nrunMacro $m",
         "s.resc:3: S11 depth",
     ),
-    ("include @self.resc", "self.resc:1: S11 depth"),
+    (b"include @self.resc", "self.resc:1: S11 depth"),
     (
-        "mach create a\nmachine LoadPlatformDescription @self.repl",
+        b"mach create a\nmachine LoadPlatformDescription @self.repl",
         "self.repl:2: S11 depth",
     ),
     (
-        "macro m\n\"\"\"\npause\nmacro n\n\"\"\"\nrunMacro $m",
+        b"macro m\n\"\"\"\npause\nmacro n\n\"\"\"\nrunMacro $m",
         "s.resc:4: S17 unclosed",
     ),
-    ("include @open.resc", "open.resc:2: S17 unclosed"),
-    ("pause\nmacro m", "s.resc:2: S17 unclosed"),
+    (b"include @open.resc", "open.resc:2: S17 unclosed"),
+    (b"pause\nmacro m", "s.resc:2: S17 unclosed"),
     (
-        "macro m\n\"\"\"\nfoo\n\"\"\"\n\nmacro m \"\"\"\npause",
+        b"macro m\n\"\"\"\nfoo\n\"\"\"\n\nmacro m \"\"\"\npause",
         "s.resc:6: S17 unclosed",
     ),
-    ("include @bad.resc", "bad.resc:2: S18 not utf-8"),
+    (b"include @bad.resc", "bad.resc:2: S18 not utf-8"),
     (
-        "macro m\n\"\"\"\ninclude @bad.resc\n\"\"\"\nrunMacro $m",
+        b"macro m\n\"\"\"\ninclude @bad.resc\n\"\"\"\nrunMacro $m",
         "bad.resc:2: S18 not utf-8",
     ),
     (
-        "mach create a\nmachine LoadPlatformDescription @bad.repl",
+        b"mach create a\nmachine LoadPlatformDescription @bad.repl",
         "bad.repl:2: S18 not utf-8",
     ),
     (
-        "macro m\n\"\"\"\nsysbus LoadBinary @b 1\nrunMacro $m\n\"\"\"\nrunMacro $m",
+        b"mach create\nmachine LoadPlatformDescription @using.repl\nfoo",
+        "bytes.repl:3: S18 not utf-8",
+    ),
+    (
+        b"macro m\n\"\"\"\nsysbus LoadBinary @b 1\nrunMacro $m\n\"\"\"\nrunMacro $m",
         "s.resc:3: S4 no board",
     ),
+    (b"\xFF", "s.resc:1: S18 not utf-8"),
+    (b"pause\npause \xFF\n", "s.resc:2: S18 not utf-8"),
+    (b"foo\n\n\xE2\x82", "s.resc:3: S18 not utf-8"),
+    (b"foo\n\xE2\x82\n\xFF", "s.resc:2: S18 not utf-8"),
+    (b"# \xE2\x82\xAC\nfoo\n", "s.resc:2: S1 unknown command"),
 ];
 
-fn assert_faults<R: Abort + AllocGlobal>(rt: &R, rows: &[(&str, &str)]) -> Result<(), NoMemory> {
+fn assert_faults<R: Abort + AllocGlobal>(rt: &R, rows: &[(&[u8], &str)]) -> Result<(), NoMemory> {
     for (script, fault) in rows {
-        assert_fault(rt, more_files(rt.alloc())?, script, fault)?;
+        assert_fault(rt, script, "", fault)?;
     }
     Ok(())
 }
 
 #[test]
-fn bodies_and_their_files_are_refused(rt: HostRuntime) -> Result<(), Fail> {
-    assert_faults(&rt, &BODIES)?;
-    Ok(())
-}
-
-/// Each row: the bytes of a script, and what its run writes.
-static NO_TEXTS: [(&[u8], &str); 5] = [
-    (b"\xFF", "error: s.resc:1: S18 not utf-8\n"),
-    (b"pause\npause \xFF\n", "error: s.resc:2: S18 not utf-8\n"),
-    (b"foo\n\n\xE2\x82", "error: s.resc:3: S18 not utf-8\n"),
-    (b"foo\n\xE2\x82\n\xFF", "error: s.resc:2: S18 not utf-8\n"),
-    (
-        b"# \xE2\x82\xAC\nfoo\n",
-        "error: s.resc:2: S1 unknown command\n",
-    ),
-];
-
-fn assert_no_texts<R: Abort + AllocGlobal>(rt: &R, rows: &[(&[u8], &str)]) -> Result<(), NoMemory> {
-    for (bytes, written) in rows {
-        let mut files = files(rt.alloc())?;
-        files.put("s.resc", bytes)?;
-        assert_run(rt, "run s.resc", files, 3, written)?;
-    }
-    Ok(())
-}
-
-#[test]
-fn a_script_that_is_no_text_is_refused_at_its_first_bad_byte(rt: HostRuntime) -> Result<(), Fail> {
-    assert_no_texts(&rt, &NO_TEXTS)?;
+fn bodies_and_bytes_that_are_no_text_are_refused(rt: HostRuntime) -> Result<(), Fail> {
+    assert_faults(&rt, &WHOLE)?;
     Ok(())
 }
