@@ -1,18 +1,14 @@
-//! Programs of a few instructions, slot by slot, on a board with two memories and two devices.
+//! A board with two memories and two UARTs that count their calls.
 ghost use Rattle.std.specs.Prelude.{◌≡◌, ◌∷◌, [], IfOk};
 ghost use Rattle.dev_core.specs.declared.kind.Kind.TheVariants.{Uart as uart};
-ghost use Rattle.board.specs.New.{first_state};
 
-mod cans;
-mod counted;
-mod interrupts;
-mod programs;
-
+use crate::parts::{set_memories, set_names, set_regions};
 use board::{Board, SlotAt, Turn};
-use dev_core::{Device, Entry, Finish, Kind, Payload, Post, Taken, What};
-use lab_num::{BoardNo, Key, Member, Micros, NoMemory, PostNo, Rows, Text};
-use sample_boards::names_of;
+use dev_core::{Entry, Kind, Payload, Post, What};
+use lab_num::{BoardNo, Key, Member, Micros, NoMemory, PostNo, Rows};
+use sample_boards::{CountedUart, SMALL_REGIONS, small_board};
 use std::alloc::Global;
+use std::cell::Cell;
 use std::process::Abort;
 use std::test::Fail;
 use sys_bus::{BoardPlan, NamedWhat, Region, RegionKind};
@@ -21,133 +17,63 @@ const BASE: u32 = 0x8000_0000;
 
 const BOARD: BoardNo = BoardNo(3);
 
-/// The places of the two devices of a board. The first is a UART.
+/// The place of the first UART.
 const UART: u8 = 0;
 
-const SECOND: u8 = 1;
-
-/// What is done with a board, or seen of it.
-#[derive(Clone, Copy)]
-enum Step {
-    /// Bytes are copied into the memories from an address on.
-    Copy(u32, &'static [u8]),
-    /// So many bytes from an address on become 0.
-    Zero(u32, u32),
-    /// The next instruction is at this address.
-    Go(u32),
-    Halt(bool),
-    /// The UART is shown.
-    Show,
-    /// Whether a device is shown.
-    Shown(u8, bool),
-    Reset,
-    /// So many instructions a microsecond.
-    Speed(u32),
-    /// Of the grant that begins at a microsecond, from a slot on, so many.
-    Run(u64, u64, u64),
-    /// A byte arrives at a device.
-    Arrive(u8, u8, Taken),
-    /// The oldest post has this microsecond and number, is this byte of the UART, and is dropped.
-    Sent(u64, u64, u8),
-    /// The same of the end of a test, with this code.
-    Failed(u64, u64, u16),
-    NoneSent,
-    /// The entries since the last look are one of this microsecond and number: a byte of the UART.
-    Entered(u64, u64, u8),
-    /// The same of a load of so many bytes at an address that reaches nothing.
-    Read(u64, u64, u8, u32),
-    /// The same of a store of a value.
-    Write(u64, u64, u8, u32, u32),
-    NoneEntered,
-    /// So many posts and entries were made.
-    Made(u64, u64),
-    Register(u8, u32),
-    At(u32),
-    Retired(u64),
-    Holds(u32, u32, bool),
-    Word(u32, Option<u32>),
-    /// The CAN controller is shown.
-    ShowCan(u8),
-    /// A data frame with this identifier and these bytes is handed to a device.
-    Handed(u8, u16, &'static [u8], Taken),
-    /// The oldest post has this microsecond and number, is this data frame of a device, and is
-    /// dropped.
-    FrameSent(u64, u64, u8, u16, &'static [u8]),
-    /// The entries since the last look are one of this microsecond and number: a frame of a device.
-    FrameEntered(u64, u64, u8, u16, &'static [u8]),
-}
-
-fn region(base: u32, size: u32, kind: RegionKind, step: u8) -> Region {
-    Region {
-        base,
-        size,
-        kind,
-        step,
-    }
-}
-
-/// The names of the parts of a board.
 const NAMES: [(&str, NamedWhat); 5] = [
     ("ram", NamedWhat::Part(RegionKind::Ram(0))),
     ("high", NamedWhat::Part(RegionKind::Ram(1))),
-    ("uart", NamedWhat::Part(RegionKind::Dev(UART))),
-    ("other", NamedWhat::Part(RegionKind::Dev(SECOND))),
+    ("uart", NamedWhat::Part(RegionKind::Dev(0))),
+    ("other", NamedWhat::Part(RegionKind::Dev(1))),
     ("cpu", NamedWhat::Cpu),
 ];
 
-/// Memories of 64 KiB and of 4 KiB after it, a UART whose registers are `step` bytes apart, and a
-/// second device.
-fn regions(step: u8) -> [Region; 4] {
-    [
-        region(BASE, 0x1_0000, RegionKind::Ram(0), 1),
-        region(0x8001_0000, 0x1000, RegionKind::Ram(1), 1),
-        region(0x1000_0000, 0x100, RegionKind::Dev(UART), step),
-        region(0x0010_0000, 0x1000, RegionKind::Dev(SECOND), 1),
-    ]
+/// 4 KiB after the 64 KiB of the small board.
+const HIGH: Region = Region {
+    base: 0x8001_0000,
+    size: 0x1000,
+    kind: RegionKind::Ram(1),
+    step: 1,
+};
+
+fn set_parts(plan: &mut BoardPlan, alloc: Global) -> Result<(), NoMemory> {
+    let [ram, uart, other] = SMALL_REGIONS;
+    set_names(plan, alloc, &NAMES)?;
+    set_regions(plan, alloc, &[ram, HIGH, uart, other])?;
+    set_memories(plan, alloc, &[0x1_0000, 0x1000])
 }
 
-/// A plan with these regions.
-fn plan(alloc: Global, step: u8, second: Kind) -> Result<BoardPlan, Fail>
-    ensures { IfOk result (λ plan. plan.kinds ≡ uart ∷ second ∷ []) }
+/// The small board with a second memory, and with a second UART in place of its finisher.
+fn plan(alloc: Global) -> Result<BoardPlan, NoMemory>
+    ensures { IfOk result (λ plan. plan.kinds ≡ uart ∷ uart ∷ []) }
 {
-    Ok(BoardPlan {
-        names: names_of(alloc, &NAMES)?,
-        regions: Rows::of(Vec::from_slice(alloc, &regions(step))?),
-        memories: Rows::of(vec![in alloc; 0x1_0000, 0x1000]?),
-        kinds: Rows::of(vec![in alloc; Kind::Uart, second]?),
-        frequency: None,
-        plic: None,
-        wires: Rows::of(Vec::new(alloc)),
-        speed: 1,
-        cpu: Text::of(alloc, "cpu")?,
-    })
+    let kinds = Rows::of(vec![in alloc; Kind::Uart, Kind::Uart]?);
+    let mut plan = small_board(alloc)?;
+    set_parts(&mut plan, alloc)?;
+    plan.kinds = kinds;
+    Ok(plan)
 }
 
-/// A board of a plan with these devices.
-fn start<D: Device>(
+/// A board whose UARTs count their loads and their stores, the first and then the second.
+fn start<'a>(
     rt: &impl Abort,
     alloc: Global,
-    plan: BoardPlan,
-    second: Kind,
-    devices: (D, D),
-) -> Result<Board<D>, Fail>
-    requires kinds { plan.kinds ≡ uart ∷ second ∷ [] }
-    requires first { D.meaning devices.0 ≡ first_state uart }
-    requires second { D.meaning devices.1 ≡ first_state second }
-{
+    counts: &'a [Cell<u32>; 4],
+) -> Result<Board<CountedUart<'a>>, Fail> {
+    let uarts = vec![in alloc;
+        CountedUart::new(&counts[0], &counts[1]),
+        CountedUart::new(&counts[2], &counts[3]),
+    ]?;
+    let plan = plan(alloc)?;
     assert!(rt; plan.is_valid());
-    let mut list = Vec::new(alloc);
-    if list.push(devices.0).is_err() || list.push(devices.1).is_err() {
-        return Err(Fail::from(NoMemory));
-    }
-    match Board::new(alloc, BOARD, plan, list) {
+    match Board::new(alloc, BOARD, plan, uarts) {
         Ok(board) => Ok(board),
         Err(_) => Err(Fail::from(NoMemory)),
     }
 }
 
 /// Copies bytes into memories, if these hold them all.
-fn copy<D: Device>(board: &mut Board<D>, at: u32, bytes: &[u8]) -> Result<bool, NoMemory> {
+fn copies(board: &mut Board<CountedUart>, at: u32, bytes: &[u8]) -> Result<bool, NoMemory> {
     if bytes.len() >= 0x1000 || !board.holds(at, bytes.len() as u32) {
         return Ok(false);
     }
@@ -155,7 +81,7 @@ fn copy<D: Device>(board: &mut Board<D>, at: u32, bytes: &[u8]) -> Result<bool, 
     Ok(true)
 }
 
-fn zero<D: Device>(board: &mut Board<D>, at: u32, count: u32) -> bool {
+fn zeroes(board: &mut Board<CountedUart>, at: u32, count: u32) -> bool {
     if !board.holds(at, count) {
         return false;
     }
@@ -163,60 +89,79 @@ fn zero<D: Device>(board: &mut Board<D>, at: u32, count: u32) -> bool {
     true
 }
 
-fn go<D: Device>(board: &mut Board<D>, pc: u32) -> bool {
-    if pc % 4 != 0 {
-        return false;
+/// Each row: an address, a count, and whether the memories hold so many bytes from there on.
+static HELD: [(u32, u32, bool); 11] = [
+    (0x8000_0000, 0x1_1000, true),
+    (0x8000_0000, 0x1_1001, false),
+    (0x8000_0001, 0x1_1000, false),
+    (0x8000_FFFF, 2, true),
+    (0x8001_0FFF, 1, true),
+    (0x8001_0FFF, 2, false),
+    (0x7FFF_FFFF, 1, false),
+    (0x7FFF_FFFF, 2, false),
+    (0x1000_0000, 1, false),
+    (0xFFFF_FFFF, 0xFFFF_FFFF, false),
+    (0x0000_0000, 0, true),
+];
+
+/// Bytes that are copied to 0x8000FFFB, so that the last one lies in the second memory.
+static BYTES: [u8; 6] = [0x55, 0x44, 0x33, 0x22, 0x11, 0x66];
+
+/// Words after that copy.
+static COPIED: [(u32, Option<u32>); 8] = [
+    (0x8000_FFFC, Some(0x1122_3344)),
+    (0x8000_FFF8, Some(0x5500_0000)),
+    (0x8001_0000, Some(0x66)),
+    (0x8000_FFF4, Some(0)),
+    (0x8000_FFFE, None),
+    (0x8001_1000, None),
+    (0x7FFF_FFFC, None),
+    (0x1000_0000, None),
+];
+
+/// Words once the two bytes from 0x8000FFFF on are 0.
+static ZEROED: [(u32, Option<u32>); 2] = [(0x8000_FFFC, Some(0x0022_3344)), (0x8001_0000, Some(0))];
+
+fn assert_held(rt: &impl Abort, board: &Board<CountedUart>, rows: &[(u32, u32, bool)]) {
+    for (at, count, held) in rows {
+        assert!(rt; board.holds(*at, *count) == *held);
     }
-    board.set_pc(pc);
-    true
 }
 
-fn set_speed<D: Device>(board: &mut Board<D>, speed: u32) -> bool {
-    if speed < 1 || speed > 1000 {
-        return false;
+fn assert_words(rt: &impl Abort, board: &Board<CountedUart>, rows: &[(u32, Option<u32>)]) {
+    for (at, word) in rows {
+        assert!(rt; board.load_word(*at) == *word);
     }
-    board.set_speed(speed);
-    true
 }
 
-fn show<D: Device>(board: &mut Board<D>) -> bool {
-    if !matches!(board.plan().kinds.items().first(), Some(Kind::Uart)) {
-        return false;
-    }
-    board.show(UART);
-    true
+/// The last byte of the first memory and the first of the second are neighbours.
+fn fill(rt: &impl Abort, board: &mut Board<CountedUart>) -> Result<(), NoMemory> {
+    assert_held(rt, board, &HELD);
+    let copied = copies(board, 0, &[])? && copies(board, 0x8000_FFFB, &BYTES)?;
+    assert!(rt; copied);
+    assert_words(rt, board, &COPIED);
+    assert!(rt; zeroes(board, 0x8000_FFFF, 2) && zeroes(board, 0x8000_FFFC, 0));
+    assert_words(rt, board, &ZEROED);
+    Ok(())
 }
 
-/// Changes a board from outside, and says whether that can be done.
-fn change<D: Device>(board: &mut Board<D>, step: Step) -> Result<bool, NoMemory> {
-    let done = match step {
-        Step::Copy(at, bytes) => copy(board, at, bytes)?,
-        Step::Zero(at, count) => zero(board, at, count),
-        Step::Go(pc) => go(board, pc),
-        Step::Halt(on) => {
-            board.set_halted(on);
-            board.halted() == on
-        }
-        Step::Show => show(board),
-        Step::Reset => {
-            board.reset();
-            true
-        }
-        Step::Speed(speed) => set_speed(board, speed),
-        _ => true,
-    };
-    Ok(done)
+/// Copies a program to the first memory, and makes it the next to run.
+fn loads(board: &mut Board<CountedUart>, program: &[u8]) -> Result<bool, NoMemory> {
+    board.set_pc(BASE);
+    copies(board, BASE, program)
 }
 
-/// A board takes all of these slots.
-fn runs<D: Device>(board: &mut Board<D>, from: u64, first: u64, n: u64) -> bool {
-    if from > 1000 || first > 1000 || n > 1000 {
+/// Of the grant that begins at a microsecond a board takes so many slots from one on.
+fn runs(board: &mut Board<CountedUart>, from: u64, first: u64, n: u64) -> bool {
+    if from > 1000
+        || first > 1000
+        || n > 1000
+        || board.posted() >= 1000
+        || board.entered() >= 1000
+    {
         return false;
     }
     if from + (first + n) / u64::from(board.speed()) > 10_000_000_000 {
-        return false;
-    }
-    if board.posted() >= 1000 || board.entered() >= 1000 {
         return false;
     }
     let at = SlotAt {
@@ -226,9 +171,13 @@ fn runs<D: Device>(board: &mut Board<D>, from: u64, first: u64, n: u64) -> bool 
     board.turn(at, n) == Turn::Used(n)
 }
 
-/// A device answers so when a payload arrives at it.
-fn takes<D: Device>(board: &mut Board<D>, dev: u8, payload: &Payload, taken: Taken) -> bool {
-    usize::from(dev) < board.plan().kinds.items().len() && board.deliver(dev, payload) == taken
+/// Shows the first UART.
+fn shows(board: &mut Board<CountedUart>) -> bool {
+    if !matches!(board.plan().kinds.items().first(), Some(Kind::Uart)) {
+        return false;
+    }
+    board.show(UART);
+    board.is_shown(UART)
 }
 
 fn key(at: u64, number: u64) -> Key {
@@ -239,123 +188,121 @@ fn key(at: u64, number: u64) -> Key {
     }
 }
 
-/// The oldest post is this one, and is dropped.
-fn sent<D: Device>(board: &mut Board<D>, key: Key, dev: u8, payload: Payload) -> bool {
-    let from = Member { board: BOARD, dev };
-    let post = Post { key, from, payload };
-    let is_next = board.next_post() == Some(post);
+fn drop_one(board: &mut Board<CountedUart>) {
     if board.next_post().is_some() {
         board.drop_post();
     }
-    is_next
 }
 
-/// The entries since the last look are this one.
-fn entered<D: Device>(board: &mut Board<D>, key: Key, what: What) -> bool {
-    let made = [Entry { key, what }];
-    board.take_entries().as_slice() == made.as_slice()
+/// The one post, which is dropped, has this microsecond and number, and is the letter of a UART.
+fn posts(board: &mut Board<CountedUart>, (at, number): (u64, u64)) -> bool {
+    let from = Member {
+        board: BOARD,
+        dev: UART,
+    };
+    let post = Post {
+        key: key(at, number),
+        from,
+        payload: Payload::Byte(65),
+    };
+    let is_next = board.next_post() == Some(post);
+    drop_one(board);
+    is_next && board.next_post().is_none()
 }
 
-/// Runs a board, or takes what it has made, and says whether all is as it should be.
-fn take<D: Device>(board: &mut Board<D>, step: Step) -> bool {
-    match step {
-        Step::Run(from, first, n) => runs(board, from, first, n),
-        Step::Arrive(dev, byte, taken) => takes(board, dev, &Payload::Byte(byte), taken),
-        Step::Sent(at, number, byte) => sent(board, key(at, number), UART, Payload::Byte(byte)),
-        Step::Failed(at, number, code) => {
-            let finish = Payload::Finish(Finish::Fail(code));
-            sent(board, key(at, number), SECOND, finish)
-        }
-        Step::Entered(at, number, value) => {
-            entered(board, key(at, number), What::Byte { dev: UART, value })
-        }
-        Step::Read(at, number, width, address) => {
-            let read = What::Read { width, at: address };
-            entered(board, key(at, number), read)
-        }
-        Step::Write(at, number, width, address, value) => {
-            let write = What::Write {
-                width,
-                at: address,
-                value,
+/// The entries since the last look are one of this microsecond and number, or none.
+fn enters(board: &mut Board<CountedUart>, entry: Option<(u64, u64)>) -> bool {
+    let made = board.take_entries();
+    match entry {
+        Some((at, number)) => {
+            let what = What::Byte {
+                dev: UART,
+                value: 65,
             };
-            entered(board, key(at, number), write)
+            let wanted = [Entry {
+                key: key(at, number),
+                what,
+            }];
+            made.as_slice() == wanted.as_slice()
         }
-        Step::NoneEntered => board.take_entries().is_empty(),
-        _ => true,
+        None => made.is_empty(),
     }
 }
 
-/// A device is there, and is shown or is not.
-fn is_shown<D: Device>(board: &Board<D>, dev: u8, shown: bool) -> bool {
-    usize::from(dev) < board.plan().kinds.items().len() && board.is_shown(dev) == shown
-}
+/// lui x5, 0x10000; addi x6, x0, 65; sb x6, 0(x5); jal x0, -4
+static SEND: [u8; 16] = [
+    0xB7, 0x02, 0x00, 0x10, 0x13, 0x03, 0x10, 0x04, 0x23, 0x80, 0x62, 0x00, 0x6F, 0xF0, 0xDF, 0xFF,
+];
 
-/// A board is as it should be.
-fn is_so<D: Device>(board: &Board<D>, step: Step) -> bool {
-    match step {
-        Step::Shown(dev, shown) => is_shown(board, dev, shown),
-        Step::NoneSent => board.next_post().is_none(),
-        Step::Made(posts, entries) => board.posted() == posts && board.entered() == entries,
-        Step::Register(n, value) => n < 32 && board.register(n) == value,
-        Step::At(pc) => board.pc() == pc,
-        Step::Retired(n) => board.retired() == n,
-        Step::Holds(at, count, held) => board.holds(at, count) == held,
-        Step::Word(at, word) => board.load_word(at) == word,
-        _ => true,
+type Sending = (u64, u64, (u64, u64), Option<(u64, u64)>);
+
+/// Each row: a grant, a slot of it at which the letter is sent, the post, and the entry. The UART is
+/// not shown at first.
+static SENT: [Sending; 1] = [(100, 32, (132, 2), None)];
+
+static SHOWN: [Sending; 2] = [
+    (200, 0, (200, 3), Some((200, 0))),
+    (200, 52, (252, 4), Some((252, 1))),
+];
+
+fn assert_sent(rt: &impl Abort, board: &mut Board<CountedUart>, rows: &[Sending]) {
+    for (from, first, post, entry) in rows {
+        assert!(rt; runs(board, *from, *first, 2) && posts(board, *post) && enters(board, *entry));
     }
 }
 
-/// Takes a step, and says whether it was as it should be.
-fn do_step<D: Device>(board: &mut Board<D>, step: Step) -> Result<bool, NoMemory> {
-    Ok(
-        change(board, step)?
-            && take(board, step)
-            && cans::exchange(board, step)
-            && is_so(board, step),
-    )
-}
-
-/// Copies a program to the first memory, and makes it the next to run.
-fn load<D: Device>(board: &mut Board<D>, words: &[u32]) -> Result<bool, NoMemory> {
-    let mut at = BASE;
-    for word in words {
-        if !copy(board, at, &word.to_le_bytes())? {
-            return Ok(false);
-        }
-        at = at.wrapping_add(4);
-    }
-    Ok(go(board, BASE))
-}
-
-/// Gives a board a program, and takes the steps.
-fn play<D: Device>(
-    rt: &impl Abort,
-    board: &mut Board<D>,
-    words: &[u32],
-    steps: &[Step],
-) -> Result<(), Fail> {
-    assert!(rt; load(board, words)?);
-    for step in steps {
-        assert!(rt; do_step(board, *step)?);
-    }
+/// Posts and entries are numbered apart, and a reset keeps the numbers.
+fn send(rt: &impl Abort, board: &mut Board<CountedUart>) -> Result<(), NoMemory> {
+    let sends = loads(board, &SEND)? && runs(board, 100, 30, 2) && board.next_post().is_none();
+    assert!(rt; sends);
+    assert_sent(rt, board, &SENT);
+    assert!(rt; shows(board));
+    assert_sent(rt, board, &SHOWN);
+    board.reset();
+    assert!(rt; board.posted() == 5 && board.entered() == 2 && board.retired() == 0);
     Ok(())
 }
 
-/// Plays a program on a board of a plan with these devices.
-fn play_on<D: Device>(
+/// lui x5, 0x10000; lbu x6, 5(x5); sb x6, 7(x5); lbu x6, 5(x5); lui x7, 0x100; sb x6, 0(x7)
+static ACCESSES: [u8; 24] = [
+    0xB7, 0x02, 0x00, 0x10, 0x03, 0xC3, 0x52, 0x00, 0xA3, 0x83, 0x62, 0x00, 0x03, 0xC3, 0x52, 0x00,
+    0xB7, 0x03, 0x10, 0x00, 0x23, 0x80, 0x63, 0x00,
+];
+
+/// The second time there is no room for a post at first.
+fn access(rt: &impl Abort, board: &mut Board<CountedUart>) -> Result<(), NoMemory> {
+    let runs_once = loads(board, &ACCESSES)? && runs(board, 0, 0, 6);
+    assert!(rt; runs_once);
+    board.set_pc(BASE);
+    assert!(rt; runs(board, 6, 0, 6) && board.posted() == 2 && board.entered() == 0);
+    drop_one(board);
+    drop_one(board);
+    Ok(())
+}
+
+/// Each load and each store of a register is one call.
+fn assert_calls(rt: &impl Abort, counts: &[Cell<u32>; 4]) {
+    assert!(rt; counts[0].get() == 4 && counts[1].get() == 2);
+    assert!(rt; counts[2].get() == 0 && counts[3].get() == 2);
+}
+
+fn use_board(
     rt: &impl Abort,
-    alloc: Global,
-    plan: BoardPlan,
-    second: Kind,
-    devices: (D, D),
-    words: &[u32],
-    steps: &[Step],
-) -> Result<(), Fail>
-    requires kinds { plan.kinds ≡ uart ∷ second ∷ [] }
-    requires first { D.meaning devices.0 ≡ first_state uart }
-    requires second { D.meaning devices.1 ≡ first_state second }
-{
-    let mut board = start(rt, alloc, plan, second, devices)?;
-    play(rt, &mut board, words, steps)
+    board: &mut Board<CountedUart>,
+    counts: &[Cell<u32>; 4],
+) -> Result<(), NoMemory> {
+    access(rt, board)?;
+    assert_calls(rt, counts);
+    send(rt, board)?;
+    fill(rt, board)
+}
+
+#[test]
+fn a_board_calls_devices_once_numbers_what_they_send_and_holds_bytes(
+    rt: HostRuntime,
+) -> Result<(), Fail> {
+    let counts = [Cell::new(0), Cell::new(0), Cell::new(0), Cell::new(0)];
+    let mut board = start(&rt, rt.alloc(), &counts)?;
+    let used = use_board(&rt, &mut board, &counts);
+    used.map_err(Fail::from)
 }
