@@ -156,11 +156,6 @@ right_device s dev old new d r before after right there at was is =
     by_lines (Some r) true true right was is = right_same s dev new d r right there (sym is ∙ was)
     by_lines (Some r) false false right was is = right_same s dev new d r right there (sym is ∙ was)
 
--- nothing that is remembered is right anywhere
-pub right_unknown : (s : Space) (r : Option Remembered) (known : Bool) → known ≡ is_some r → known ≡ false → IsRight s r
-right_unknown s None known is unknown = tt
-right_unknown s (Some r) known is unknown = absurd (cc)
-
 -- of all lines the timer's alone goes by the time
 pub later_lines :
     (s : Space) (old now mtime : ℕ) (up up' : Bool) (lines : Lines) → up ≡ timer_up s.timer old →

@@ -21,9 +21,3 @@ behind base parts later (Data offset bytes) (Err fault) is line says = rw (says,
 behind base parts later EndOfFile rest is line says = rw says (ap Ok (append-nil parts))
 behind base parts later (Base address) (Ok all) is line says = rw (says, is) refl
 behind base parts later (Base address) (Err fault) is line says = rw (says, is) refl
-
-pub one_more :
-    (base : ℕ) (parts : List Part) (later : List (List ℕ)) (line : List ℕ) (told : Result Record HexFault) →
-    line_of line ≡ told → told_from base parts (line ∷ later) ≡ told_behind base parts later told
-one_more base parts later line (Ok record_) says = behind base parts later record_ _ refl line says
-one_more base parts later line (Err fault) says = rw says refl

@@ -4,72 +4,9 @@ use crate::programs::files;
 use lab_io::{MemFiles, MemSink};
 use lab_num::NoMemory;
 use lab_top::Status;
-use lab_words::UsageCause;
 use std::alloc::Global;
 use std::process::Abort;
 use std::test::Fail;
-
-const USAGE: &str =
-    "usage: lab run SCRIPT [--workers N] [--until TIME] | check SCRIPT | gen SEED BOARDS [--workers N]\n";
-
-fn is_usage(status: &Status, cause: UsageCause) -> bool {
-    matches!(status, Status::Usage(given) if *given == cause)
-}
-
-/// Each row: words, and why they are answered by the usage line.
-static OTHER_WORDS: [(&str, UsageCause); 25] = [
-    ("", UsageCause::Command),
-    ("s.resc", UsageCause::Command),
-    ("help", UsageCause::Command),
-    ("--help", UsageCause::Command),
-    ("run", UsageCause::Words),
-    ("run -h", UsageCause::Words),
-    ("run s.resc t.resc", UsageCause::Words),
-    ("run s.resc --workers 2 --workers 2", UsageCause::Words),
-    ("run s.resc --workers", UsageCause::Words),
-    ("run s.resc --until 1s", UsageCause::Words),
-    ("run s.resc --workers 9 --until 1s", UsageCause::Words),
-    ("run s.resc --workers 9", UsageCause::Value),
-    ("run s.resc --workers 0", UsageCause::Value),
-    ("run s.resc --until 10001", UsageCause::Value),
-    ("check", UsageCause::Words),
-    ("check s.resc --until 1", UsageCause::Words),
-    ("gen", UsageCause::Words),
-    ("gen 7", UsageCause::Words),
-    ("gen 7 16 1", UsageCause::Words),
-    ("gen -7 16", UsageCause::Words),
-    ("gen 7 16 --until 1", UsageCause::Words),
-    ("gen 7 0", UsageCause::Value),
-    ("gen 7 17", UsageCause::Value),
-    ("gen 7 16 --workers 9", UsageCause::Value),
-    ("gen 18446744073709551616 1", UsageCause::Value),
-];
-
-/// Whether the words of a line are answered by the usage line, for this cause.
-fn is_answered(alloc: Global, line: &str, cause: UsageCause) -> Result<bool, NoMemory> {
-    let mut files = MemFiles::new(alloc);
-    let mut out = MemSink::new(alloc, 4096);
-    let status = run(alloc, line, &mut files, &mut out)?;
-    let is_told = status.number() == 2 && out.bytes() == USAGE.as_bytes();
-    Ok(is_told && is_usage(&status, cause))
-}
-
-fn assert_usage<R: Abort + AllocGlobal>(
-    rt: &R,
-    rows: &[(&str, UsageCause)],
-) -> Result<(), NoMemory> {
-    for (line, cause) in rows {
-        let is_answered = is_answered(rt.alloc(), line, *cause)?;
-        assert!(rt; is_answered, "{line}");
-    }
-    Ok(())
-}
-
-#[test]
-fn other_words_are_answered_by_the_usage_line(rt: HostRuntime) -> Result<(), Fail> {
-    assert_usage(&rt, &OTHER_WORDS)?;
-    Ok(())
-}
 
 /// A board that sends a letter.
 const LETTER: &str = "mach create \"m0\"\nmachine LoadPlatformDescription @p.repl\n\
@@ -121,71 +58,29 @@ macro reset\r\n\
 runMacro $reset\r\n\
 start\r\n";
 
-/// Each row: words, the script, and how the run ends.
-static CHECKED: [(&str, &str, u8, &str); 13] = [
-    ("run --until 0.0002 s.resc", "\n\r\n \t\n", 0, ""),
+/// Each row: words, a script with carriage returns, and what its run writes.
+static CARRIED: [(&str, &str, &str); 2] = [
+    ("run --until 0.0002 s.resc", "\n\r\n \t\n", ""),
     (
         "run s.resc --until 0.000003",
         CARRIAGES,
-        0,
         "[0.000002] m0/uart: A\n",
     ),
-    ("check s.resc", LETTER, 0, ""),
-    ("check -- s.resc", HOLE, 0, "0x80000000\n"),
-    ("run -- s.resc", LETTER, 0, "[0.000002] m0/uart: A\n"),
-    (
-        "check s.resc",
-        "emulation RunFor 10000\nstart\nemulation RunFor 1\nfoo",
-        3,
-        "error: s.resc:4: S1 unknown command\n",
-    ),
-    (
-        "check s.resc",
-        "mach create\nstart\n",
-        3,
-        "error: s.resc:2: S15 platform\n",
-    ),
-    (
-        "check s.resc",
-        "sysbus LoadBinary @none 0",
-        3,
-        "error: s.resc:1: S4 no board\n",
-    ),
-    (
-        "check s.resc",
-        "mach create\nmachine LoadPlatformDescription @p.repl\nsysbus LoadELF @none\nfoo",
-        4,
-        "",
-    ),
-    (
-        "run s.resc",
-        "mach create\nmachine LoadPlatformDescription @p.repl\nsysbus LoadHEX @none\nfoo",
-        4,
-        "",
-    ),
-    (
-        "check s.resc",
-        "mach create\nmachine LoadPlatformDescription @p.repl\nsysbus LoadBinary @none 0x80000000\nfoo",
-        4,
-        "",
-    ),
-    ("check none", "", 4, ""),
-    ("run none", "", 4, ""),
 ];
 
-fn assert_checked<R: Abort + AllocGlobal>(
+fn assert_carried<R: Abort + AllocGlobal>(
     rt: &R,
-    rows: &[(&str, &str, u8, &str)],
+    rows: &[(&str, &str, &str)],
 ) -> Result<(), NoMemory> {
-    for (line, script, number, written) in rows {
-        assert_run(rt, line, files_with(rt.alloc(), script)?, *number, written)?;
+    for (line, script, written) in rows {
+        assert_run(rt, line, files_with(rt.alloc(), script)?, 0, written)?;
     }
     Ok(())
 }
 
 #[test]
-fn scripts_are_checked_without_a_run(rt: HostRuntime) -> Result<(), Fail> {
-    assert_checked(&rt, &CHECKED)?;
+fn carriage_returns_before_line_feeds_change_nothing(rt: HostRuntime) -> Result<(), Fail> {
+    assert_carried(&rt, &CARRIED)?;
     Ok(())
 }
 

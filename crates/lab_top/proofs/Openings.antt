@@ -1,6 +1,6 @@
 -- The course of a run, from the words and the read of its script on.
 use Rattle.std.proofs.Common.{◌≡◌, ℕ, ◌≤◌, ◌==◌, ◌+◌, Bool, true, false, List, [], ◌∷◌, length, take, count_by}
-use Rattle.std.proofs.Common.{Option, Some, IfSome, sym, refl, append-nil, arith}
+use Rattle.std.proofs.Common.{Option, IfSome, sym, refl, append-nil, arith}
 use Rattle.std.proofs.lemmas.Bool.Decides.{nat_tests}
 use Rattle.std.proofs.lemmas.Str.{is_utf8-from_IsUtf8, IsUtf8-from_is_utf8}
 use Rattle.std.specs.FinMap.{get}
@@ -31,7 +31,7 @@ use Rattle.lab_top.specs.Request.{Refused, Gen, request_of}
 use Rattle.lab_gen.specs.Summary.{summary_of}
 use Rattle.lab_top.specs.Transcript.{Done, Usage, Script, rest_of, begun, run_of, transcript}
 use Rattle.lab_top.specs.Inner.Course.{Told, Course, IsEnd}
-use Rattle.lab_top.specs.Inner.Opened.{IsContent, IsOpened, IsRefused}
+use Rattle.lab_top.specs.Inner.Opened.{IsContent, IsRefused}
 use Rattle.lab_top.proofs.Pieces.{grown-nil}
 use Rattle.lab_top.proofs.Courses.{course_after, course_ended, course_memory, course_stopped, course_unread}
 
@@ -68,20 +68,6 @@ refused_content is place cause opened_by.Memory so refused = tt
 pub asks_all : (names : List (List ℕ)) (log log' : Option (List (List ℕ))) → log' ≡ grown log names →
     AsksSome names log log'
 asks_all names log log' asked = record { passed = names; coming = []; all = sym (append-nil names); asked = asked }
-
-asks_none : (names : List (List ℕ)) (log log' : Option (List (List ℕ))) → log' ≡ log → AsksSome names log log'
-asks_none names log log' same =
-    record { passed = []; coming = names; all = refl; asked = rw same (sym (grown-nil log)) }
-
--- a file was read, and is what was told of it
-pub opened_content :
-    (there : Option (List ℕ)) (bytes name : List ℕ) (opened : Opened) (log log' : Option (List (List ℕ))) →
-    there ≡ Some bytes → log' ≡ grown log (name ∷ []) → IsContent (bytes_content name bytes) opened →
-    IsOpened (content_of name there) name opened log log'
-opened_content there bytes name (opened_by.Text text) log log' is asked so = rw is (so, asked)
-opened_content there bytes name (opened_by.Refused fault) log log' is asked so = rw is (so, asked)
-opened_content there bytes name opened_by.Unread log log' is asked so = absurd so
-opened_content there bytes name opened_by.Memory log log' is asked so = asks_all (name ∷ []) log log' asked
 
 -- ---- the run of a script
 

@@ -1,6 +1,6 @@
 -- Lists and counts.
 use Rattle.std.proofs.Common.{◌≡◌, ℕ, ◌+◌, ◌<◌, ◌≤◌, ◌∙◌, Bool, true, false, ◌&&◌, refl, sym, ap, List, [], ◌∷◌, ◌++◌}
-use Rattle.std.proofs.Common.{count_by, if◌then◌else◌, arith, zero, suc, length, slice_get, Some, ◌||◌, cond}
+use Rattle.std.proofs.Common.{count_by, if◌then◌else◌, arith, zero, suc, ◌||◌, cond}
 use Rattle.std.proofs.Common.{append_assoc, subst}
 use Rattle.std.proofs.lemmas.List.Folds.{list_all-append, list_any-append}
 use Rattle.std.proofs.lemmas.List.Sums.{sum_by-append, sum_by-cons, sum_by_push}
@@ -34,11 +34,6 @@ pub all_append :
     {X : Type 0} (p : X → Bool) (xs ys : List X) → list_all p xs ≡ true → list_all p ys ≡ true →
     list_all p (xs ++ ys) ≡ true
 all_append p xs ys one two = list_all-append p xs ys ∙ both_true _ _ one two
-
--- what stands after a list in front
-pub at_seam : {X : Type 0} (xs : List X) (y : X) (ys : List X) → slice_get (xs ++ y ∷ ys) (length xs) ≡ Some y
-at_seam [] y ys = refl
-at_seam (x ∷ xs) y ys = at_seam xs y ys
 
 -- no element passes the test with one before it
 abbrev pub NoneBefore : {X : Type 0} → (X → X → Bool) → List X → List X → Type 0

@@ -70,16 +70,6 @@ line_more lines i stand said done begun whole inside is read =
     sym (finish_more done begun (i + 1) said.head (items_at (i + 1) said.items) rest)
     ∙ (rw (first, drop-drop 1 i lines) at read)
 
-pub line_fault :
-    (lines : List TokenLine) (i : ℕ) (stand : Stand) (fault : LineFault) (done : List Entry) (begun : Option Entry)
-    (whole : Result (List Entry) LineFault) → i < length lines →
-    said_from stand (i + 1) (drop i lines) ≡ Err fault →
-    finish done begun (read_lines stand (i + 1) (drop i lines)) ≡ whole → whole ≡ Err fault
-line_fault lines i stand fault done begun whole inside is read =
-    let some : 0 < length (drop i lines) = omega (arith, length-drop i lines) in
-    sym read
-    ∙ (ap (finish done begun) (read_fault stand (i + 1) (drop i lines) fault some is) ∙ finish_fault done begun fault)
-
 -- an item more of one line
 pub item_more :
     (n : ℕ) (what : ItemWhat) (whats : List ItemWhat) (made before : List Item) → made ≡ before ++ items_at n whats →

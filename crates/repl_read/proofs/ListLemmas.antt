@@ -3,14 +3,11 @@ use Rattle.std.proofs.Common.{◌≡◌, ℕ, ◌+◌, ◌<◌, ◌==◌, ◌∙
 use Rattle.std.proofs.Common.{get_or, map, filter, drop, Result, Ok, Err, append_assoc, arith}
 use Rattle.std.proofs.lemmas.Bool.Decides.{nat_tests}
 use Rattle.std.proofs.lemmas.List.{drop_more}
-use Rattle.repl_read.specs.declared.fault.Fault.{Fault}
-use Rattle.repl_read.specs.declared.fault.Fault.TheVariants.{Cause, Memory}
 use Rattle.repl_read.specs.declared.fault.ReadCause.{ReadCause}
 use Rattle.repl_read.specs.declared.entry.ItemWhat.{ItemWhat}
 use Rattle.repl_read.specs.declared.tokens.Token.{Token}
 use Rattle.repl_read.specs.Items.{is_filled, item_of, items_of}
 use Rattle.repl_read.specs.Forms.{◌>>=◌, all_of}
-use Rattle.repl_read.specs.Inner.Gives.{Gives}
 use denote.Ref.{Bor}
 
 -- what is read so far, in front of what the other parts say
@@ -29,13 +26,6 @@ pub all_more :
     {X Y : Type 0} (f : X → Result Y ReadCause) (x : X) (xs : List X) (y : Y) (done : List Y) →
     f x ≡ Ok y → onto done (all_of f (x ∷ xs)) ≡ onto (done ++ y ∷ []) (all_of f xs)
 all_more f x xs y done is = rw is (onto_more done y (all_of f xs))
-
--- a fault of a part is a fault of the whole
-pub gives_fault :
-    {X Y : Type 0} (fault : Fault) (part : Result X ReadCause) (whole : Result Y ReadCause) →
-    Gives (Err fault) part → ((cause : ReadCause) → part ≡ Err cause → whole ≡ Err cause) → Gives (Err fault) whole
-gives_fault Memory part whole given same = tt
-gives_fault (Cause cause) part whole given same = same cause given
 
 -- the parts from one on
 pub parts_from :

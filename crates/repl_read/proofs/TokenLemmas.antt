@@ -10,7 +10,7 @@ use Rattle.std.proofs.lemmas.List.{take-append-drop, get_or-drop, drop_more, dro
 use Rattle.std.proofs.lemmas.List.Folds.{list_all_more}
 use Rattle.std.proofs.lemmas.Str.{IsCharBoundary-before_ascii, IsCharBoundary-after_ascii}
 use Rattle.repl_read.specs.Comments.{quote}
-use Rattle.repl_read.specs.Tokens.{is_blank, is_word_byte, sign_of, glue, dash, tokens_of}
+use Rattle.repl_read.specs.Tokens.{is_blank, is_word_byte, glue, dash, tokens_of}
 use Rattle.repl_read.specs.Inner.Steps.{is_no_quote, IsStep}
 use Rattle.repl_read.specs.declared.tokens.Step.{Step}
 use Rattle.repl_read.specs.declared.tokens.Token.{Token}
@@ -154,27 +154,6 @@ string_step line words start n inside string fits all ends is =
       token = rw (is, ← behind) (from_quote line start inside string ∙ cut);
       further = omega arith;
       within = omega (arith, length-drop (start + 1) line);
-    }
-
--- a blank at the front of a line
-pub blank_step :
-    (line : List ℕ) (start : ℕ) → start < length line → is_blank (get_or line start 0) ≡ true →
-    IsStep line start (record { token = None; end = start + 1 })
-blank_step line start inside blank =
-    record { token = rw (drop_more line start 0 inside, blank) refl; further = omega arith; within = omega arith }
-
--- a sign that is neither a blank, nor of a word, nor a quote, nor a dash
-pub sign_step :
-    (line : List ℕ) (start : ℕ) → start < length line → is_blank (get_or line start 0) ≡ false →
-    is_word_byte (get_or line start 0) ≡ false → get_or line start 0 ≢ quote → get_or line start 0 ≢ byte "-" →
-    IsStep line start (record { token = Some (sign_of (get_or line start 0)); end = start + 1 })
-sign_step line start inside no_blank no_word no_quote no_dash =
-    let quote_no : (get_or line start 0 == quote) ≡ false = grind (arith, nat_tests) in
-    let dash_no : (get_or line start 0 == byte "-") ≡ false = grind (arith, nat_tests) in
-    record {
-      token = rw (drop_more line start 0 inside, no_blank, quote_no, no_word, dash_no) refl;
-      further = omega arith;
-      within = omega arith;
     }
 
 lone_dash : (ts : List Token) → dash false ts ≡ Minus ∷ ts

@@ -6,7 +6,7 @@ ghost use Rattle.rv_asm.specs.Mnemonics.{system_named, op_named, mnemonic_of};
 use rv_decode::Op;
 
 /// What stands first on a line: an instruction, or the directive `.word`.
-#[derive(Clone, Copy, PartialEq, Eq, Debug)]
+#[derive(Clone, Copy)]
 pub(crate) enum Mnemonic {
     Word,
     Instruction(Op),

@@ -7,7 +7,7 @@ ghost use Rattle.rv_asm.specs.Inner.Saturated.{most, saturated};
 ghost use Rattle.rv_asm.specs.Numbers.{numeral, magnitude_of, number_of, in_field, even_in_field};
 
 /// A number: its sign, and its magnitude up to 2^64 - 1, which stands for those above too.
-#[derive(Clone, Copy, PartialEq, Eq, Debug)]
+#[derive(Clone, Copy)]
 pub(crate) struct Number {
     pub(crate) negative: bool,
     pub(crate) magnitude: u64,

@@ -5,7 +5,7 @@ ghost use Rattle.rv_asm.specs.Shapes.{shape_of};
 use rv_decode::Op;
 
 /// The shape of an instruction's operands.
-#[derive(Clone, Copy, PartialEq, Eq, Debug)]
+#[derive(Clone, Copy)]
 pub(crate) enum Shape {
     /// `rd, rs1, rs2`.
     Registers,

@@ -3,5 +3,5 @@ use Rattle.board.proofs.made.Made.note.Goals as goal
 
 pub returns-in-Some : goal.returns-in-Some
 returns-in-Some c = λ s.
-    rw (← c.note_if.ensures, c.in-Some.is, c.count_entry.ensures, c.push_reserved.ensures.items, c.entry-entry.ensures s)
-    refl
+    rw (← c.note_if.ensures, c.in-Some.is, c.count_entry.ensures)
+    (rw (c.push_reserved.ensures.items, c.entry-entry.ensures s) refl)
