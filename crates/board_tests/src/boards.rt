@@ -43,13 +43,19 @@ fn set_parts(plan: &mut BoardPlan, alloc: Global) -> Result<(), NoMemory> {
     set_memories(plan, alloc, &[0x1_0000, 0x1000])
 }
 
-/// The small board with a second memory, and with a second UART in place of its finisher.
+/// The small board with a second memory.
+fn with_parts(alloc: Global) -> Result<BoardPlan, NoMemory> {
+    let mut plan = small_board(alloc)?;
+    set_parts(&mut plan, alloc)?;
+    Ok(plan)
+}
+
+/// The same with a second UART in place of the finisher.
 fn plan(alloc: Global) -> Result<BoardPlan, NoMemory>
     ensures { IfOk result (λ plan. plan.kinds ≡ uart ∷ uart ∷ []) }
 {
     let kinds = Rows::of(vec![in alloc; Kind::Uart, Kind::Uart]?);
-    let mut plan = small_board(alloc)?;
-    set_parts(&mut plan, alloc)?;
+    let mut plan = with_parts(alloc)?;
     plan.kinds = kinds;
     Ok(plan)
 }
@@ -72,13 +78,16 @@ fn start<'a>(
     }
 }
 
-/// Copies bytes into memories, if these hold them all.
-fn copies(board: &mut Board<CountedUart>, at: u32, bytes: &[u8]) -> Result<bool, NoMemory> {
-    if bytes.len() >= 0x1000 || !board.holds(at, bytes.len() as u32) {
-        return Ok(false);
-    }
+fn copy(
+    rt: &impl Abort,
+    board: &mut Board<CountedUart>,
+    at: u32,
+    bytes: &[u8],
+) -> Result<(), NoMemory> {
+    assert!(rt; bytes.len() < 0x1000);
+    assert!(rt; board.holds(at, bytes.len() as u32));
     board.copy_in(at, bytes)?;
-    Ok(true)
+    Ok(())
 }
 
 fn zeroes(board: &mut Board<CountedUart>, at: u32, count: u32) -> bool {
@@ -137,18 +146,15 @@ fn assert_words(rt: &impl Abort, board: &Board<CountedUart>, rows: &[(u32, Optio
 /// The last byte of the first memory and the first of the second are neighbours.
 fn fill(rt: &impl Abort, board: &mut Board<CountedUart>) -> Result<(), NoMemory> {
     assert_held(rt, board, &HELD);
-    let copied = copies(board, 0, &[])? && copies(board, 0x8000_FFFB, &BYTES)?;
-    assert!(rt; copied);
+    copy(rt, board, 0, &[])?;
+    copy(rt, board, 0x8000_FFFB, &BYTES)?;
     assert_words(rt, board, &COPIED);
-    assert!(rt; zeroes(board, 0x8000_FFFF, 2) && zeroes(board, 0x8000_FFFC, 0));
-    assert_words(rt, board, &ZEROED);
     Ok(())
 }
 
-/// Copies a program to the first memory, and makes it the next to run.
-fn loads(board: &mut Board<CountedUart>, program: &[u8]) -> Result<bool, NoMemory> {
-    board.set_pc(BASE);
-    copies(board, BASE, program)
+fn clear(rt: &impl Abort, board: &mut Board<CountedUart>) {
+    assert!(rt; zeroes(board, 0x8000_FFFF, 2) && zeroes(board, 0x8000_FFFC, 0));
+    assert_words(rt, board, &ZEROED);
 }
 
 /// Of the grant that begins at a microsecond a board takes so many slots from one on.
@@ -251,16 +257,18 @@ fn assert_sent(rt: &impl Abort, board: &mut Board<CountedUart>, rows: &[Sending]
     }
 }
 
-/// Posts and entries are numbered apart, and a reset keeps the numbers.
-fn send(rt: &impl Abort, board: &mut Board<CountedUart>) -> Result<(), NoMemory> {
-    let sends = loads(board, &SEND)? && runs(board, 100, 30, 2) && board.next_post().is_none();
-    assert!(rt; sends);
+/// Posts and entries are numbered apart.
+fn send(rt: &impl Abort, board: &mut Board<CountedUart>) {
+    assert!(rt; runs(board, 100, 30, 2) && board.next_post().is_none());
     assert_sent(rt, board, &SENT);
     assert!(rt; shows(board));
     assert_sent(rt, board, &SHOWN);
+}
+
+/// A reset keeps the numbers.
+fn reset(rt: &impl Abort, board: &mut Board<CountedUart>) {
     board.reset();
     assert!(rt; board.posted() == 5 && board.entered() == 2 && board.retired() == 0);
-    Ok(())
 }
 
 /// lui x5, 0x10000; lbu x6, 5(x5); sb x6, 7(x5); lbu x6, 5(x5); lui x7, 0x100; sb x6, 0(x7)
@@ -270,14 +278,12 @@ static ACCESSES: [u8; 24] = [
 ];
 
 /// The second time there is no room for a post at first.
-fn access(rt: &impl Abort, board: &mut Board<CountedUart>) -> Result<(), NoMemory> {
-    let runs_once = loads(board, &ACCESSES)? && runs(board, 0, 0, 6);
-    assert!(rt; runs_once);
+fn access(rt: &impl Abort, board: &mut Board<CountedUart>) {
+    assert!(rt; runs(board, 0, 0, 6));
     board.set_pc(BASE);
     assert!(rt; runs(board, 6, 0, 6) && board.posted() == 2 && board.entered() == 0);
     drop_one(board);
     drop_one(board);
-    Ok(())
 }
 
 /// Each load and each store of a register is one call.
@@ -286,15 +292,26 @@ fn assert_calls(rt: &impl Abort, counts: &[Cell<u32>; 4]) {
     assert!(rt; counts[2].get() == 0 && counts[3].get() == 2);
 }
 
+/// Copies a program to the first memory, and makes it the next to run.
+fn load(rt: &impl Abort, board: &mut Board<CountedUart>, program: &[u8]) -> Result<(), NoMemory> {
+    board.set_pc(BASE);
+    copy(rt, board, BASE, program)
+}
+
 fn use_board(
     rt: &impl Abort,
     board: &mut Board<CountedUart>,
     counts: &[Cell<u32>; 4],
-) -> Result<(), NoMemory> {
-    access(rt, board)?;
+) -> Result<(), Fail> {
+    load(rt, board, &ACCESSES)?;
+    access(rt, board);
     assert_calls(rt, counts);
-    send(rt, board)?;
-    fill(rt, board)
+    load(rt, board, &SEND)?;
+    send(rt, board);
+    reset(rt, board);
+    fill(rt, board)?;
+    clear(rt, board);
+    Ok(())
 }
 
 #[test]
@@ -303,6 +320,5 @@ fn a_board_calls_devices_once_numbers_what_they_send_and_holds_bytes(
 ) -> Result<(), Fail> {
     let counts = [Cell::new(0), Cell::new(0), Cell::new(0), Cell::new(0)];
     let mut board = start(&rt, rt.alloc(), &counts)?;
-    let used = use_board(&rt, &mut board, &counts);
-    used.map_err(Fail::from)
+    use_board(&rt, &mut board, &counts)
 }
