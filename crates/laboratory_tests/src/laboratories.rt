@@ -40,51 +40,46 @@ fn is_planned<D: Device>(lab: &Lab<D>, b: BoardNo) -> bool
     !lab.is_spent() && b.0 < lab.boards() && lab.has_plan(b)
 }
 
-fn create_hub<D: Device>(rt: &impl Abort, lab: &mut Lab<D>) {
-    assert!(rt; !lab.is_spent() && lab.hubs() < 9 && is_name("hub"));
-    assert!(rt; lab.create_uart_hub("hub") == Ok(()));
+fn creates_hubs<D: Device>(lab: &mut Lab<D>) -> bool {
+    !lab.is_spent()
+        && lab.hubs() == 0
+        && is_name("hub")
+        && lab.create_uart_hub("hub").is_ok()
+        && !lab.is_spent()
+        && lab.hubs() == 1
+        && is_name("bus")
+        && lab.create_can_hub("bus").is_ok()
 }
 
-fn create_bus<D: Device>(rt: &impl Abort, lab: &mut Lab<D>) {
-    assert!(rt; !lab.is_spent() && lab.hubs() < 9 && is_name("bus"));
-    assert!(rt; lab.create_can_hub("bus") == Ok(()));
+fn adds<D: Device>(lab: &mut Lab<D>, name: &str, b: BoardNo) -> bool {
+    !lab.is_spent() && is_name(name) && lab.add_board(name) == Ok(b)
 }
 
-fn add<D: Device>(rt: &impl Abort, lab: &mut Lab<D>, name: &str, b: BoardNo) {
-    assert!(rt; !lab.is_spent() && is_name(name));
-    assert!(rt; lab.add_board(name) == Ok(b));
-}
-
-/// A board is given a plan, or is not.
-fn fit<D: Device>(
-    rt: &impl Abort,
+/// Whether a board is given a plan, or is refused for this fault.
+fn fits<D: Device>(
     alloc: Global,
     lab: &mut Lab<D>,
     b: BoardNo,
     fault: Option<FitFault>,
-) -> Result<(), NoMemory> {
+) -> Result<bool, NoMemory> {
     let plan = small_board(alloc)?;
-    assert!(rt; plan.is_valid() && !lab.is_spent() && b.0 < lab.boards());
-    assert!(rt; lab.fit(b, plan).err() == fault);
-    Ok(())
+    Ok(plan.is_valid() && !lab.is_spent() && b.0 < lab.boards() && lab.fit(b, plan).err() == fault)
 }
 
-/// A board has a program, which is the next to run.
-fn load<D: Device>(rt: &impl Abort, lab: &mut Lab<D>, b: BoardNo, program: &[u8]) {
-    assert!(rt; is_planned(lab, b) && program.len() < 0x1_0000);
-    assert!(rt; lab.board(b).holds(START, program.len() as u32));
-    assert!(rt; lab.copy_in(b, START, program).is_ok());
-    assert!(rt; is_planned(lab, b));
-    lab.set_pc(b, START);
+/// A board has a program.
+fn loads<D: Device>(lab: &mut Lab<D>, b: BoardNo, program: &[u8]) -> bool {
+    is_planned(lab, b)
+        && program.len() < 0x1_0000
+        && lab.board(b).holds(START, program.len() as u32)
+        && lab.copy_in(b, START, program).is_ok()
 }
 
-fn join<D: Device>(rt: &impl Abort, lab: &mut Lab<D>, uart: Member) {
-    assert!(rt; !lab.is_spent() && lab.device_kind(uart) == Some(Kind::Uart));
-    assert!(rt; lab.connect(uart, "hub") == Ok(()));
+fn joins<D: Device>(lab: &mut Lab<D>, uart: Member) -> bool {
+    !lab.is_spent() && lab.device_kind(uart) == Some(Kind::Uart) && lab.connect(uart, "hub").is_ok()
 }
 
-/// Shows the first board's UART.
-fn show<D: Device>(rt: &impl Abort, lab: &mut Lab<D>) {
+/// Shows the first board's UART, and lets the boards begin with their programs.
+fn start<D: Device>(rt: &impl Abort, lab: &mut Lab<D>) {
     assert!(rt; is_planned(lab, M0) && lab.device_kind(UARTS[0]) == Some(Kind::Uart));
     assert!(rt;
         matches!(
@@ -93,27 +88,31 @@ fn show<D: Device>(rt: &impl Abort, lab: &mut Lab<D>) {
         )
     );
     lab.show(UARTS[0]);
+    assert!(rt; is_planned(lab, M0));
+    lab.set_pc(M0, START);
+    assert!(rt; is_planned(lab, M1));
+    lab.set_pc(M1, START);
 }
 
-/// Makes two boards. No run is made before each has a plan, and none has a second one.
-fn build<D: Device>(rt: &impl Abort, alloc: Global, lab: &mut Lab<D>) -> Result<(), NoMemory> {
-    add(rt, lab, "m0", M0);
-    fit(rt, alloc, lab, M0, None)?;
-    add(rt, lab, "m1", M1);
-    assert!(rt; lab.run_for(Micros(10)).err() == Some(RunFault::NoPlan(M1)));
-    fit(rt, alloc, lab, M1, None)?;
-    fit(rt, alloc, lab, M0, Some(FitFault::Has))
+/// Adds two boards. No run is made before each has a plan, and none has a second one.
+fn builds<D: Device>(alloc: Global, lab: &mut Lab<D>) -> Result<bool, NoMemory> {
+    Ok(
+        adds(lab, "m0", M0)
+            && adds(lab, "m1", M1)
+            && fits(alloc, lab, M0, None)?
+            && lab.run_for(Micros(10)).err() == Some(RunFault::NoPlan(M1))
+            && fits(alloc, lab, M1, None)?
+            && fits(alloc, lab, M0, Some(FitFault::Has))?,
+    )
 }
 
-/// Gives them programs, and joins their UARTs, of which the first is shown.
-fn equip<D: Device>(rt: &impl Abort, lab: &mut Lab<D>) {
-    load(rt, lab, M0, SENDS);
-    load(rt, lab, M1, PASSES);
-    create_hub(rt, lab);
-    create_bus(rt, lab);
-    join(rt, lab, UARTS[0]);
-    join(rt, lab, UARTS[1]);
-    show(rt, lab);
+/// Gives them programs, and joins their UARTs.
+fn equips<D: Device>(lab: &mut Lab<D>) -> bool {
+    loads(lab, M0, SENDS)
+        && loads(lab, M1, PASSES)
+        && creates_hubs(lab)
+        && joins(lab, UARTS[0])
+        && joins(lab, UARTS[1])
 }
 
 fn are_boards<D: Device>(lab: &Lab<D>) -> bool {
@@ -141,11 +140,8 @@ fn is_m1(names: &Names) -> bool {
     }
 }
 
-fn read<D: Device>(rt: &impl Abort, lab: &Lab<D>) -> Result<(), NoMemory> {
-    assert!(rt; are_boards(lab) && are_hubs(lab));
-    assert!(rt; !lab.is_spent());
-    assert!(rt; is_m1(&lab.names()?));
-    Ok(())
+fn is_named<D: Device>(lab: &Lab<D>) -> Result<bool, NoMemory> {
+    Ok(!lab.is_spent() && is_m1(&lab.names()?))
 }
 
 fn set_quantum<D: Device>(rt: &impl Abort, lab: &mut Lab<D>) {
@@ -198,9 +194,10 @@ fn is_first_round(log: &RoundLog) -> bool {
     log.lines.items() == &LINES[..] && log.paused == Some(PASS)
 }
 
-fn first_round<D: Device>(rt: &impl Abort, lab: &mut Lab<D>) -> bool {
-    assert!(rt; !lab.is_spent() && lab.first_without_plan().is_none());
-    assert!(rt; lab.now().0 < 1_000_000);
+fn plays_first_round<D: Device>(lab: &mut Lab<D>) -> bool {
+    if lab.is_spent() || lab.first_without_plan().is_some() || lab.now().0 > 1_000_000 {
+        return false;
+    }
     match round_again(lab, 10) {
         Ok(log) => is_first_round(&log),
         Err(_) => false,
@@ -221,9 +218,8 @@ fn is_quiet<D: Device>(lab: &mut Lab<D>, d: u64) -> bool {
 }
 
 /// A run logs nothing, and the boards stand so after it.
-fn run<D: Device>(rt: &impl Abort, lab: &mut Lab<D>, d: u64, m0: (u64, u32), m1: (u64, u32)) {
-    assert!(rt; is_quiet(lab, d));
-    assert!(rt; is_at(lab, M0, m0.0, m0.1) && is_at(lab, M1, m1.0, m1.1));
+fn runs<D: Device>(lab: &mut Lab<D>, d: u64, m0: (u64, u32), m1: (u64, u32)) -> bool {
+    is_quiet(lab, d) && is_at(lab, M0, m0.0, m0.1) && is_at(lab, M1, m1.0, m1.1)
 }
 
 /// Halts the first board, or lets it run, and sets the speed of the second.
@@ -243,21 +239,21 @@ fn clear<D: Device>(rt: &impl Abort, lab: &mut Lab<D>) {
 }
 
 fn run_and_change<D: Device>(rt: &impl Abort, lab: &mut Lab<D>) {
-    assert!(rt; first_round(rt, lab));
-    run(rt, lab, 20, (30, START + 12), (30, START + 28));
+    assert!(rt; plays_first_round(lab));
+    assert!(rt; runs(lab, 20, (30, START + 12), (30, START + 28)));
     change(rt, lab, true, 3);
-    run(rt, lab, 10, (30, START + 12), (60, START + 28));
+    assert!(rt; runs(lab, 10, (30, START + 12), (60, START + 28)));
     change(rt, lab, false, 1);
     clear(rt, lab);
-    run(rt, lab, 10, (30, 0), (0, 0));
+    assert!(rt; runs(lab, 10, (30, 0), (0, 0)));
     assert!(rt; !lab.is_spent() && lab.now() == Micros(50));
 }
 
 fn play<D: Device>(rt: &impl Abort, alloc: Global, lab: &mut Lab<D>) -> Result<(), NoMemory> {
-    build(rt, alloc, lab)?;
-    equip(rt, lab);
+    assert!(rt; builds(alloc, lab)? && equips(lab));
+    assert!(rt; are_boards(lab) && are_hubs(lab) && is_named(lab)?);
     set_quantum(rt, lab);
-    read(rt, lab)?;
+    start(rt, lab);
     run_and_change(rt, lab);
     Ok(())
 }
