@@ -4,11 +4,7 @@
 #[cfg(test)]
 mod bench;
 #[cfg(test)]
-mod command_line;
-#[cfg(test)]
 mod images;
-#[cfg(test)]
-mod limits;
 #[cfg(test)]
 mod outside;
 #[cfg(test)]

@@ -4,7 +4,7 @@ use lab_num::NoMemory;
 use std::alloc::Global;
 
 /// 64 KiB of memory, a UART, a finisher and a processor of one instruction a microsecond.
-pub const USUAL: &str = "\
+const USUAL: &str = "\
 ram: Memory.MappedMemory @ sysbus 0x80000000
     size: 0x10000
 uart: UART.NS16550 @ sysbus 0x10000000
