@@ -68,6 +68,9 @@ plan_line boards b name v small is named =
     ap (λ o. option_map_or (line_by (get_or boards b no_board).name) o []) (sym (is ∙ view_is boards b small))
     ∙ ap (λ n. line_by n v) (sym (name_is boards b name small named))
 
+-- what is told of a board, with a plan or without one
+pub ruleset told_of_board = (bare_posts, bare_line, plan_posts, plan_line)
+
 -- ---- a board more
 
 pub lines_more :

@@ -27,7 +27,7 @@ fn print_line<D: Device>(text: &mut String, name: &str, board: &Board<D>) -> Res
 
 /// Writes the line of a board, and answers how many posts it has made. A board without a plan has no
 /// line and has made none.
-#[tactic(auto, using(crate::proofs::Told::bare_posts, crate::proofs::Told::bare_line, crate::proofs::Told::plan_posts, crate::proofs::Told::plan_line))]
+#[tactic(auto, using(crate::proofs::Told::told_of_board))]
 fn print_board<D: Device>(lab: &Lab<D>, b: BoardNo, text: &mut String) -> Result<u64, NoMemory>
     requires unspent { lab.now.spent ≡ false }
     requires exists { b.0 < length lab.now.lab.boards }

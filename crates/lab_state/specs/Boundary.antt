@@ -9,7 +9,7 @@ use Rattle.dev_core.specs.declared.payload.Finish.{Finish}
 use Rattle.dev_core.specs.declared.payload.Payload.{Payload}
 use Rattle.dev_core.specs.declared.payload.Payload.TheVariants as payload
 use Rattle.dev_core.specs.declared.payload.Taken.{Taken}
-use Rattle.dev_core.specs.declared.payload.Taken.TheVariants.{Kept, Overrun}
+use Rattle.dev_core.specs.declared.payload.Taken.TheVariants.{Kept, Refused, Overrun}
 use Rattle.dev_core.specs.declared.post.Post.{Post}
 use Rattle.dev_core.specs.Post.{post_key}
 use Rattle.log_merge.specs.declared.item.LogItem.{LogItem}
@@ -27,10 +27,13 @@ use Rattle.lab_state.specs.One.{with_view, view_at}
 -- what the log notes of a payload that a device was handed, by its answer: a byte that had no room, and a frame that
 -- was kept or had none
 abbrev pub note_of : Payload → Taken → Option Note
+note_of (payload.Byte byte) Kept = None
+note_of (payload.Byte byte) Refused = None
 note_of (payload.Byte byte) Overrun = Some note.Overrun
 note_of (payload.Frame frame) Kept = Some (note.Received frame)
+note_of (payload.Frame frame) Refused = None
 note_of (payload.Frame frame) Overrun = Some (note.Lost frame)
-note_of _ _ = None
+note_of (payload.Finish finish) taken = None
 
 -- and of a device that is not shown, nothing
 abbrev pub note_if : Bool → Payload → Taken → Option Note

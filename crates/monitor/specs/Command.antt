@@ -27,7 +27,7 @@ use Rattle.monitor.specs.State.{State, Place}
 abbrev pub without_files : Answer → Did
 without_files answer = record { names = []; answer = answer }
 
--- what a command comes to that reads no file and does not end the script; one of another kind is unknown here
+-- what a command comes to that reads no file and does not end the script; the others are unknown here, and stand below
 abbrev pub ruled : Play → State → Command → Result Done ScriptCause
 ruled play s (command.Create name) = create s name
 ruled play s (command.Select name) = select s name
@@ -47,7 +47,12 @@ ruled play s (command.RunMacro name) = run_macro s name
 ruled play s command.UsingSysbus = Ok (leaves s)
 ruled play s command.Pause = Ok (leaves s)
 ruled play s command.Start = start play s
-ruled play s _ = Err Unknown
+ruled play s (command.LoadPlatform path) = Err Unknown
+ruled play s (command.LoadElf path) = Err Unknown
+ruled play s (command.LoadBinary path at) = Err Unknown
+ruled play s (command.LoadHex path) = Err Unknown
+ruled play s (command.Include path) = Err Unknown
+ruled play s command.Quit = Err Unknown
 
 -- what a command does
 abbrev pub carried : Play → Held → State → Place → Command → Did
