@@ -12,7 +12,7 @@ use Rattle.resc_vars.specs.Bodies.{enter, run_of, source_of, depth_limit}
 use Rattle.resc_vars.specs.Script as script
 use Rattle.monitor.specs.declared.fault.Cause.TheVariants.{Script}
 use Rattle.monitor.specs.Answer.{Answer, Faults, Did, Done, leaves, answer_at, reads, with_file}
-use Rattle.monitor.specs.Refusal.{◌>>=◌, require}
+use Rattle.monitor.specs.Refusal.{require}
 use Rattle.monitor.specs.State.{State, Place}
 
 -- a body was entered or is refused
