@@ -5,7 +5,8 @@ ghost use Rattle.std.specs.Char.{is_ascii_digit, is_ascii_hexdigit};
 ghost use Rattle.lab_num.specs.Numeral.{numeral};
 ghost use Rattle.lab_num.specs.Numeral as numerals;
 
-fn are_digits(text: &str) -> bool
+/// Whether the text has decimal digits alone.
+pub(crate) fn are_digits(text: &str) -> bool
     ensures { result ≡ list_all is_ascii_digit text.now }
 {
     text.bytes().all(|b| b.is_ascii_digit())

@@ -1,11 +1,10 @@
 //! The texts of times.
 ghost use Rattle.std.specs.Prelude.{◌≡◌, ◌<◌, ◌≤◌, ◌*◌, ◌^◌, IfSome};
-ghost use Rattle.std.specs.Char.{is_ascii_digit};
-ghost use Rattle.std.specs.List.{list_all};
 ghost use Rattle.std.specs.Option.{option_map};
 ghost use Rattle.lab_num.specs.Time as times;
 
 use crate::number::Micros;
+use crate::numeral::are_digits;
 
 /// Why a text is no time.
 #[derive(Clone, Copy, PartialEq, Eq, Debug)]
@@ -25,12 +24,6 @@ fn cut(text: &str, sign: char) -> Option<(&str, &str)>
     ensures { option_map (λ x. (x.0.now, x.1.now)) result ≡ times.cut sign text.now }
 {
     text.split_once(sign)
-}
-
-fn are_digits(text: &str) -> bool
-    ensures { result ≡ list_all is_ascii_digit text.now }
-{
-    text.bytes().all(|b| b.is_ascii_digit())
 }
 
 /// The number that one to `most` decimal digits write.
