@@ -3,6 +3,7 @@ use Rattle.std.specs.Prelude.{ℕ, ◌+◌, ◌%◌, ◌^◌, ◌==◌, ◌&&◌
 use Rattle.std.specs.Prelude.{Option, None, Some, Result, Ok, Err}
 use Rattle.std.specs.FinMap.{get}
 use Rattle.std.specs.List.{fold, list_all, slice_get}
+use Rattle.std.specs.Result.{result_map_both}
 use Rattle.elf_load.specs.declared.image.Image.{Image}
 use Rattle.elf_load.specs.declared.image.Part.{Part}
 use Rattle.elf_load.specs.Image as elf
@@ -57,23 +58,30 @@ load_image s on image = do
   fits ← require (list_all (holds_part on.view) image.parts && is_entry image.entry) Address
   Ok (leaves (with_board s on (λ v. with_entry (with_parts v image.parts) image.entry)))
 
--- the image of a file is loaded, or its fault is told at the line
-abbrev pub load_read : {F : Type 0} → (F → Cause) → State → Place → Equipped → Result Image F → Answer
-load_read cause s place on (Ok image) = answer_at place (load_image s on image)
-load_read cause s place on (Err fault) = Faults (told_at place (cause fault))
+-- the image of a file, or the fault that is told of it
+abbrev pub elf_image : List ℕ → Result Image Cause
+elf_image bytes = result_map_both (λ image. image) (λ fault. Elf fault) (elf.image_of bytes)
 
-abbrev pub load_file : {F : Type 0} → (List ℕ → Result Image F) → (F → Cause) → Held → State → Place → List ℕ → Did
-load_file image_of cause held s place path =
+abbrev pub hex_image : List ℕ → Result Image Cause
+hex_image bytes = result_map_both (λ image. image) (λ fault. Hex fault) (hex.image_of bytes)
+
+-- the image of a file is loaded, or its fault is told at the line
+abbrev pub load_read : State → Place → Equipped → Result Image Cause → Answer
+load_read s place on (Ok image) = answer_at place (load_image s on image)
+load_read s place on (Err cause) = Faults (told_at place cause)
+
+abbrev pub load_file : (List ℕ → Result Image Cause) → Held → State → Place → List ℕ → Did
+load_file image_of held s place path =
     reads place path (equipped s) (λ on.
-    with_file place (get held path) (λ bytes. load_read cause s place on (image_of bytes)))
+    with_file place (get held path) (λ bytes. load_read s place on (image_of bytes)))
 
 -- sysbus LoadELF @path
 abbrev pub load_elf : Held → State → Place → List ℕ → Did
-load_elf held s place path = load_file elf.image_of (λ fault. Elf fault) held s place path
+load_elf held s place path = load_file elf_image held s place path
 
 -- sysbus LoadHEX @path: such an image has no entry, and the address of the next instruction stays
 abbrev pub load_hex : Held → State → Place → List ℕ → Did
-load_hex held s place path = load_file hex.image_of (λ fault. Hex fault) held s place path
+load_hex held s place path = load_file hex_image held s place path
 
 -- the byte of memory at an address, if a memory has it
 abbrev pub byte_of : Space → Target → Option ℕ

@@ -6,6 +6,7 @@ ghost use Rattle.monitor.specs.Command.{carried, ruled};
 ghost use Rattle.monitor.specs.State.{Place};
 ghost use Rattle.monitor.specs.Inner.Ruling.{IsCarried, IsRuled, IsWithin, Leaves, Told};
 
+use crate::images::Format;
 use crate::monitor::Monitor;
 use crate::stop::Stop;
 use dev_core::Device;
@@ -49,9 +50,9 @@ impl<D: Device> Monitor<D> {
     {
         match command {
             Command::LoadPlatform { path } => self.load_platform(files, path.as_str()),
-            Command::LoadElf { path } => self.load_elf(files, path.as_str()),
+            Command::LoadElf { path } => self.load_file(files, Format::Elf, path.as_str()),
             Command::LoadBinary { path, at } => self.load_binary(files, path.as_str(), at),
-            Command::LoadHex { path } => self.load_hex(files, path.as_str()),
+            Command::LoadHex { path } => self.load_file(files, Format::Hex, path.as_str()),
             Command::Include { path } => self.include(files, path.as_str()),
             Command::Quit => Err(Stop::Quit),
             other => self.carry_out_alone(other),

@@ -2,13 +2,11 @@
 ghost use Rattle.std.specs.Prelude.{◌≡◌, ◌≤◌, false, Err, IfErr, IsSome, IsTrue, OnOk};
 ghost use Rattle.std.specs.List.{list_all};
 ghost use Rattle.std.specs.Option.{ForSome};
-ghost use Rattle.elf_load.specs.Image as elf;
-ghost use Rattle.ihex_load.specs.Image as hex;
 ghost use Rattle.lab_io.specs.Known.{Rose};
 ghost use Rattle.lab_state.specs.One.{view_of};
 ghost use Rattle.monitor.specs.Images as images;
 ghost use Rattle.monitor.specs.State.{Place};
-ghost use Rattle.monitor.specs.Inner.Ruling.{IsCarried, IsChanged, IsImage, IsRuled, Leaves, Told};
+ghost use Rattle.monitor.specs.Inner.Ruling.{IsCarried, IsChanged, IsImage, IsRuled, Leaves, Told, image_by};
 
 use crate::fault::Cause;
 use crate::monitor::Monitor;
@@ -22,9 +20,16 @@ use lab_num::BoardNo;
 use resc_vars::ScriptCause;
 use std::alloc::Global;
 
+/// The formats of image files.
+#[derive(Clone, Copy)]
+pub(crate) enum Format {
+    Elf,
+    Hex,
+}
+
 /// The image of an ELF file.
 fn elf_image(alloc: Global, file: &[u8]) -> Result<Image, Stop>
-    ensures { IsImage (λ fault. Cause.Elf fault) (elf.image_of file.now) result }
+    ensures { IsImage (images.elf_image file.now) result }
 {
     match read_elf(alloc, file) {
         Ok(image) => Ok(image),
@@ -35,12 +40,22 @@ fn elf_image(alloc: Global, file: &[u8]) -> Result<Image, Stop>
 
 /// The image of an Intel HEX file.
 fn hex_image(alloc: Global, file: &[u8]) -> Result<Image, Stop>
-    ensures { IsImage (λ fault. Cause.Hex fault) (hex.image_of file.now) result }
+    ensures { IsImage (images.hex_image file.now) result }
 {
     match read_hex(alloc, file) {
         Ok(image) => Ok(image),
         Err(HexFault::Memory) => Err(Stop::Memory),
         Err(fault) => Err(Stop::Content(Cause::Hex(fault))),
+    }
+}
+
+/// The image of a file of a format.
+fn read_image(alloc: Global, format: Format, file: &[u8]) -> Result<Image, Stop>
+    ensures { IsImage (image_by format file.now) result }
+{
+    match format {
+        Format::Elf => elf_image(alloc, file),
+        Format::Hex => hex_image(alloc, file),
     }
 }
 
@@ -149,11 +164,16 @@ impl<D: Device> Monitor<D> {
         Ok(Vec::new(self.alloc))
     }
 
-    /// Loads an ELF file.
-    pub(crate) fn load_elf<F: Files>(&mut self, files: &mut F, path: &str) -> Result<Vec<u8>, Stop>
+    /// Loads the image of a file.
+    pub(crate) fn load_file<F: Files>(
+        &mut self,
+        files: &mut F,
+        format: Format,
+        path: &str,
+    ) -> Result<Vec<u8>, Stop>
         requires unspent { self.old.spent ≡ false }
         ensures carried { (place : Place) → Told (F.held files.old) (λ held.
-            IsCarried (images.load_elf held self.old.state place path.now) place
+            IsCarried (images.load_file (image_by format) held self.old.state place path.now) place
             result self.new.state (F.asked files.old) (F.asked files.new)) }
         ensures leaves { Leaves result self.old self.new }
         ensures unread { result ≡ Err Stop.Unread → Rose (F.faults files.old) (F.faults files.new) }
@@ -162,24 +182,7 @@ impl<D: Device> Monitor<D> {
     {
         let b = self.equipped()?;
         let bytes = read_file(self.alloc, files, path)?;
-        let image = elf_image(self.alloc, &bytes)?;
-        self.load_image(b, &image)
-    }
-
-    /// Loads an Intel HEX file.
-    pub(crate) fn load_hex<F: Files>(&mut self, files: &mut F, path: &str) -> Result<Vec<u8>, Stop>
-        requires unspent { self.old.spent ≡ false }
-        ensures carried { (place : Place) → Told (F.held files.old) (λ held.
-            IsCarried (images.load_hex held self.old.state place path.now) place
-            result self.new.state (F.asked files.old) (F.asked files.new)) }
-        ensures leaves { Leaves result self.old self.new }
-        ensures unread { result ≡ Err Stop.Unread → Rose (F.faults files.old) (F.faults files.new) }
-        ensures held { F.held files.new ≡ F.held files.old }
-        ensures faults { F.faults files.old ≤ F.faults files.new }
-    {
-        let b = self.equipped()?;
-        let bytes = read_file(self.alloc, files, path)?;
-        let image = hex_image(self.alloc, &bytes)?;
+        let image = read_image(self.alloc, format, &bytes)?;
         self.load_image(b, &image)
     }
 }

@@ -20,6 +20,7 @@ use Rattle.repl_files.specs.declared.load.Loaded.{Loaded}
 use Rattle.repl_files.specs.Content.{bad_line}
 use Rattle.monitor.specs.declared.fault.Cause.TheVariants.{Script}
 use Rattle.monitor.specs.Boards.{equip, file_fault}
+use Rattle.monitor.specs.Images.{elf_image, hex_image}
 use Rattle.monitor.specs.Selected.{Equipped}
 use Rattle.std.specs.Global.{Global}
 use Rattle.lab_io.specs.Known.{grown}
@@ -36,6 +37,8 @@ use Rattle.resc_vars.specs.declared.answer.FlowFault.{FlowFault}
 use Rattle.resc_vars.specs.declared.answer.FlowFault.TheVariants as flow_fault
 use Rattle.resc_vars.specs.declared.cause.ScriptCause.{ScriptCause}
 use Rattle.resc_vars.specs.declared.cause.ScriptCause.TheVariants as script_cause
+use Rattle.monitor.specs.declared.images.Format.{Format}
+use Rattle.monitor.specs.declared.images.Format.TheVariants as format
 use Rattle.monitor.specs.declared.stop.Stop.{Stop}
 use Rattle.monitor.specs.declared.stop.Stop.TheVariants.{Quit, Line, File, Content, Unread, Memory}
 use Rattle.monitor.specs.Answer.{Goes, Ends, Faults, Did, Done, fault_at, told_at}
@@ -126,15 +129,20 @@ load_stop load_fault.TooLarge = Line script_cause.Size
 load_stop load_fault.Unread = Unread
 load_stop load_fault.Memory = Memory
 
+-- the image of a file of this format, or the fault that is told of it
+abbrev pub image_by : Format → List ℕ → Result Image Cause
+image_by format.Elf bytes = elf_image bytes
+image_by format.Hex bytes = hex_image bytes
+
 -- a file was read as the image that its bytes mean, or is refused for their fault, or memory ran out
-abbrev pub IsImage : {F : Type 0} → (F → Cause) → Result Image F → Result Image Stop → Type 0
-IsImage told meant (Ok image) = meant ≡ Ok image
-IsImage told meant (Err Quit) = ⊥
-IsImage told meant (Err (Line cause)) = ⊥
-IsImage told meant (Err (File fault)) = ⊥
-IsImage {F} told meant (Err (Content cause)) = (fault : F) × (meant ≡ Err fault) × (cause ≡ told fault)
-IsImage told meant (Err Unread) = ⊥
-IsImage told meant (Err Memory) = Unit {0}
+abbrev pub IsImage : Result Image Cause → Result Image Stop → Type 0
+IsImage meant (Ok image) = meant ≡ Ok image
+IsImage meant (Err Quit) = ⊥
+IsImage meant (Err (Line cause)) = ⊥
+IsImage meant (Err (File fault)) = ⊥
+IsImage meant (Err (Content cause)) = meant ≡ Err cause
+IsImage meant (Err Unread) = ⊥
+IsImage meant (Err Memory) = Unit {0}
 
 -- a board was changed, and nothing else
 abbrev pub IsChanged : ℕ → (View → View) → Running → Running → Type 0

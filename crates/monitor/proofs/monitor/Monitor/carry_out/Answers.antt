@@ -8,6 +8,14 @@ pub returns-in-LoadPlatform-clause-carried : goal.returns-in-LoadPlatform-clause
 returns-in-LoadPlatform-clause-carried g c = λ place held is.
     rw (c.in-LoadPlatform.is, ← c.as_str.ensures) (c.load_platform.ensures.carried place held is)
 
+pub returns-in-LoadElf-clause-carried : goal.returns-in-LoadElf-clause-carried
+returns-in-LoadElf-clause-carried g c = λ place held is.
+    rw (c.in-LoadElf.is, ← c.as_str-in-LoadElf.ensures) (c.load_file.ensures.carried place held is)
+
+pub returns-in-LoadHex-clause-carried : goal.returns-in-LoadHex-clause-carried
+returns-in-LoadHex-clause-carried g c = λ place held is.
+    rw (c.in-LoadHex.is, ← c.as_str-in-LoadHex.ensures) (c.load_file-in-LoadHex.ensures.carried place held is)
+
 pub returns-in_default : goal.returns-in_default
 returns-in_default g c =
     let s = c.args.self.now.state in
