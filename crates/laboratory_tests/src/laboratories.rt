@@ -39,23 +39,14 @@ fn is_planned<D: Device>(lab: &Lab<D>, b: BoardNo) -> bool
     !lab.is_spent() && b.0 < lab.boards() && lab.has_plan(b)
 }
 
-/// Adds a board with a plan.
-fn adds<D: Device>(
-    alloc: Global,
-    lab: &mut Lab<D>,
-    name: &str,
-    b: BoardNo,
-) -> Result<bool, NoMemory> {
+fn adds<D: Device>(lab: &mut Lab<D>, name: &str, b: BoardNo) -> bool {
+    !lab.is_spent() && is_name(name) && lab.add_board(name) == Ok(b)
+}
+
+/// A board is given a plan.
+fn fits<D: Device>(alloc: Global, lab: &mut Lab<D>, b: BoardNo) -> Result<bool, NoMemory> {
     let plan = small_board(alloc)?;
-    Ok(
-        !lab.is_spent()
-            && is_name(name)
-            && lab.add_board(name) == Ok(b)
-            && plan.is_valid()
-            && !lab.is_spent()
-            && b.0 < lab.boards()
-            && lab.fit(b, plan).is_ok(),
-    )
+    Ok(plan.is_valid() && !lab.is_spent() && b.0 < lab.boards() && lab.fit(b, plan).is_ok())
 }
 
 /// A board has a program.
@@ -100,12 +91,13 @@ fn are_hubs<D: Device>(lab: &Lab<D>) -> bool {
 
 /// Shows the first board's UART.
 fn shows<D: Device>(lab: &mut Lab<D>) -> bool {
-    if !is_planned(lab, M0)
-        || !matches!(
-            lab.board(M0).plan().kinds.items().get(0),
-            Some(Kind::Uart | Kind::Can)
-        )
-    {
+    if !is_planned(lab, M0) || lab.device_kind(UARTS[0]) != Some(Kind::Uart) {
+        return false;
+    }
+    if !matches!(
+        lab.board(M0).plan().kinds.items().get(0),
+        Some(Kind::Uart | Kind::Can)
+    ) {
         return false;
     }
     lab.show(UARTS[0]);
@@ -164,8 +156,10 @@ fn plays<D: Device>(lab: &mut Lab<D>) -> bool {
 /// Each call answers with success.
 fn succeeds<D: Device>(alloc: Global, lab: &mut Lab<D>) -> Result<bool, NoMemory> {
     Ok(
-        adds(alloc, lab, "m0", M0)?
-            && adds(alloc, lab, "m1", M1)?
+        adds(lab, "m0", M0)
+            && adds(lab, "m1", M1)
+            && fits(alloc, lab, M0)?
+            && fits(alloc, lab, M1)?
             && loads(lab, M0, SENDS)
             && loads(lab, M1, PASSES)
             && creates_hubs(lab)
