@@ -1,17 +1,16 @@
-//! A board with two memories and two UARTs that count their calls.
+//! A board with two UARTs that count their calls.
 ghost use Rattle.std.specs.Prelude.{◌≡◌, ◌∷◌, [], IfOk};
 ghost use Rattle.dev_core.specs.declared.kind.Kind.TheVariants.{Uart as uart};
 
-use crate::parts::{set_memories, set_names, set_regions};
 use board::{Board, SlotAt, Turn};
 use dev_core::{Entry, Kind, Payload, Post, What};
 use lab_num::{BoardNo, Key, Member, Micros, NoMemory, PostNo, Rows};
-use sample_boards::{CountedUart, SMALL_REGIONS, small_board};
+use sample_boards::{CountedUart, small_board};
 use std::alloc::Global;
 use std::cell::Cell;
 use std::process::Abort;
 use std::test::Fail;
-use sys_bus::{BoardPlan, NamedWhat, Region, RegionKind};
+use sys_bus::BoardPlan;
 
 const BASE: u32 = 0x8000_0000;
 
@@ -20,42 +19,12 @@ const BOARD: BoardNo = BoardNo(3);
 /// The place of the first UART.
 const UART: u8 = 0;
 
-const NAMES: [(&str, NamedWhat); 5] = [
-    ("ram", NamedWhat::Part(RegionKind::Ram(0))),
-    ("high", NamedWhat::Part(RegionKind::Ram(1))),
-    ("uart", NamedWhat::Part(RegionKind::Dev(0))),
-    ("other", NamedWhat::Part(RegionKind::Dev(1))),
-    ("cpu", NamedWhat::Cpu),
-];
-
-/// 4 KiB after the 64 KiB of the small board.
-const HIGH: Region = Region {
-    base: 0x8001_0000,
-    size: 0x1000,
-    kind: RegionKind::Ram(1),
-    step: 1,
-};
-
-fn set_parts(plan: &mut BoardPlan, alloc: Global) -> Result<(), NoMemory> {
-    let [ram, uart, other] = SMALL_REGIONS;
-    set_names(plan, alloc, &NAMES)?;
-    set_regions(plan, alloc, &[ram, HIGH, uart, other])?;
-    set_memories(plan, alloc, &[0x1_0000, 0x1000])
-}
-
-/// The small board with a second memory.
-fn with_parts(alloc: Global) -> Result<BoardPlan, NoMemory> {
-    let mut plan = small_board(alloc)?;
-    set_parts(&mut plan, alloc)?;
-    Ok(plan)
-}
-
-/// The same with a second UART in place of the finisher.
+/// The small board with a second UART in place of the finisher.
 fn plan(alloc: Global) -> Result<BoardPlan, NoMemory>
     ensures { IfOk result (λ plan. plan.kinds ≡ uart ∷ uart ∷ []) }
 {
     let kinds = Rows::of(vec![in alloc; Kind::Uart, Kind::Uart]?);
-    let mut plan = with_parts(alloc)?;
+    let mut plan = small_board(alloc)?;
     plan.kinds = kinds;
     Ok(plan)
 }
@@ -88,73 +57,6 @@ fn copy(
     assert!(rt; board.holds(at, bytes.len() as u32));
     board.copy_in(at, bytes)?;
     Ok(())
-}
-
-fn zeroes(board: &mut Board<CountedUart>, at: u32, count: u32) -> bool {
-    if !board.holds(at, count) {
-        return false;
-    }
-    board.zero(at, count);
-    true
-}
-
-/// Each row: an address, a count, and whether the memories hold so many bytes from there on.
-static HELD: [(u32, u32, bool); 11] = [
-    (0x8000_0000, 0x1_1000, true),
-    (0x8000_0000, 0x1_1001, false),
-    (0x8000_0001, 0x1_1000, false),
-    (0x8000_FFFF, 2, true),
-    (0x8001_0FFF, 1, true),
-    (0x8001_0FFF, 2, false),
-    (0x7FFF_FFFF, 1, false),
-    (0x7FFF_FFFF, 2, false),
-    (0x1000_0000, 1, false),
-    (0xFFFF_FFFF, 0xFFFF_FFFF, false),
-    (0x0000_0000, 0, true),
-];
-
-/// Bytes that are copied to 0x8000FFFB, so that the last one lies in the second memory.
-static BYTES: [u8; 6] = [0x55, 0x44, 0x33, 0x22, 0x11, 0x66];
-
-/// Words after that copy.
-static COPIED: [(u32, Option<u32>); 8] = [
-    (0x8000_FFFC, Some(0x1122_3344)),
-    (0x8000_FFF8, Some(0x5500_0000)),
-    (0x8001_0000, Some(0x66)),
-    (0x8000_FFF4, Some(0)),
-    (0x8000_FFFE, None),
-    (0x8001_1000, None),
-    (0x7FFF_FFFC, None),
-    (0x1000_0000, None),
-];
-
-/// Words once the two bytes from 0x8000FFFF on are 0.
-static ZEROED: [(u32, Option<u32>); 2] = [(0x8000_FFFC, Some(0x0022_3344)), (0x8001_0000, Some(0))];
-
-fn assert_held(rt: &impl Abort, board: &Board<CountedUart>, rows: &[(u32, u32, bool)]) {
-    for (at, count, held) in rows {
-        assert!(rt; board.holds(*at, *count) == *held);
-    }
-}
-
-fn assert_words(rt: &impl Abort, board: &Board<CountedUart>, rows: &[(u32, Option<u32>)]) {
-    for (at, word) in rows {
-        assert!(rt; board.load_word(*at) == *word);
-    }
-}
-
-/// The last byte of the first memory and the first of the second are neighbours.
-fn fill(rt: &impl Abort, board: &mut Board<CountedUart>) -> Result<(), NoMemory> {
-    assert_held(rt, board, &HELD);
-    copy(rt, board, 0, &[])?;
-    copy(rt, board, 0x8000_FFFB, &BYTES)?;
-    assert_words(rt, board, &COPIED);
-    Ok(())
-}
-
-fn clear(rt: &impl Abort, board: &mut Board<CountedUart>) {
-    assert!(rt; zeroes(board, 0x8000_FFFF, 2) && zeroes(board, 0x8000_FFFC, 0));
-    assert_words(rt, board, &ZEROED);
 }
 
 /// Of the grant that begins at a microsecond a board takes so many slots from one on.
@@ -309,15 +211,11 @@ fn use_board(
     load(rt, board, &SEND)?;
     send(rt, board);
     reset(rt, board);
-    fill(rt, board)?;
-    clear(rt, board);
     Ok(())
 }
 
 #[test]
-fn a_board_calls_devices_once_numbers_what_they_send_and_holds_bytes(
-    rt: HostRuntime,
-) -> Result<(), Fail> {
+fn a_board_calls_devices_once_and_numbers_what_they_send(rt: HostRuntime) -> Result<(), Fail> {
     let counts = [Cell::new(0), Cell::new(0), Cell::new(0), Cell::new(0)];
     let mut board = start(&rt, rt.alloc(), &counts)?;
     use_board(&rt, &mut board, &counts)

@@ -5,41 +5,66 @@ use lab_io::{MemFiles, MemSink};
 use lab_num::NoMemory;
 use lab_top::{Status, run_lab};
 use std::alloc::Global;
-use std::process::Abort;
 use test_finisher::Finisher;
 use uart_16550::Uart;
 
-/// The words of a line, with one blank between them. An empty line has none.
-fn words_of(alloc: Global, line: &str) -> Result<Vec<String>, NoMemory> {
-    let mut words = Vec::new(alloc);
-    if line.is_empty() {
-        return Ok(words);
-    }
-    for word in line.split(' ') {
-        words.push(String::from_str(alloc, word)?)?;
-    }
-    Ok(words)
-}
+/// 64 KiB of memory, a UART and a processor of one instruction a microsecond.
+const PLATFORM: &[u8] = b"\
+ram: Memory.MappedMemory @ sysbus 0x80000000
+    size: 0x10000
+uart: UART.NS16550 @ sysbus 0x10000000
+cpu: CPU.RiscV32 @ sysbus
+    cpuType: \"rv32im\"
+    PerformanceInMips: 1
+";
 
-/// Lets each name hold its bytes.
-pub fn put_all(files: &mut MemFiles, rows: &[(&str, &[u8])]) -> Result<(), NoMemory> {
+/// lui x5, 0x10000; addi x6, x0, 65; sb x6, 0(x5); jal x0, 0: sends `A` in slot 2
+const SENDS: &[u8] = b"\xB7\x02\x00\x10\x13\x03\x10\x04\x23\x80\x62\x00\x6F\x00\x00\x00";
+
+/// lui x5, 0x90000; lw x6, 0(x5); jalr x0, 0(x5): reads where nothing is, and jumps there
+const STRAYS: &[u8] = b"\xB7\x02\x00\x90\x03\xA3\x02\x00\x67\x80\x02\x00";
+
+/// The files that scripts name.
+static FILES: [(&str, &[u8]); 5] = [
+    ("p.repl", PLATFORM),
+    ("using.repl", b"using \"p.repl\"\n"),
+    ("a.bin", SENDS),
+    ("hole.bin", STRAYS),
+    (
+        "load.resc",
+        b"sysbus LoadBinary @a.bin 0x80000000\ncpu PC 0x80000000\ncpu PC\nshowAnalyzer uart\n",
+    ),
+];
+
+fn put_all(files: &mut MemFiles, rows: &[(&str, &[u8])]) -> Result<(), NoMemory> {
     for (name, bytes) in rows {
         files.put(name, bytes)?;
     }
     Ok(())
 }
 
-/// A text, and then another.
-pub fn joined(alloc: Global, first: &str, last: &str) -> Result<String, NoMemory> {
-    let mut text = String::from_str(alloc, first)?;
-    text.push_str(last)?;
-    Ok(text)
+/// The files, of which `s.resc` is this script.
+pub fn files(alloc: Global, script: &str) -> Result<MemFiles, NoMemory> {
+    let mut files = MemFiles::new(alloc);
+    put_all(&mut files, &FILES)?;
+    files.put("s.resc", script.as_bytes())?;
+    Ok(files)
 }
 
-/// A run for the words of a line on the devices of a full stock: how it ends.
+/// The words of each run.
+static WORDS: [&str; 4] = ["run", "s.resc", "--until", "0.000003"];
+
+fn words_of(alloc: Global, words: &[&str]) -> Result<Vec<String>, NoMemory> {
+    let mut list = Vec::new(alloc);
+    for word in words {
+        list.push(String::from_str(alloc, word)?)?;
+    }
+    Ok(list)
+}
+
+/// A run on the devices of a full stock: how it ends.
 fn run_on<D: Device>(
     alloc: Global,
-    line: &str,
     files: &mut MemFiles,
     out: &mut MemSink,
     stock: Stock<D>,
@@ -47,17 +72,12 @@ fn run_on<D: Device>(
     if !stock.is_full() {
         return Err(NoMemory);
     }
-    let words = words_of(alloc, line)?;
+    let words = words_of(alloc, &WORDS)?;
     Ok(run_lab(alloc, &words, files, out, stock))
 }
 
-/// A run for the words of a line, on devices enough for every laboratory: how it ends.
-pub fn run(
-    alloc: Global,
-    line: &str,
-    files: &mut MemFiles,
-    out: &mut MemSink,
-) -> Result<Status, NoMemory> {
+/// A run of `s.resc` to microsecond 3, on devices enough for every laboratory: how it ends.
+pub fn run(alloc: Global, files: &mut MemFiles, out: &mut MemSink) -> Result<Status, NoMemory> {
     let mut uarts: Vec<Box<dyn Device + Send>> = Vec::new(alloc);
     for _ in 0..64 {
         uarts.push(Box::new(alloc, Uart::new())?)?;
@@ -75,47 +95,5 @@ pub fn run(
         cans,
         finishers,
     };
-    run_on(alloc, line, files, out, stock)
-}
-
-/// What a run for the words of a line has written, where that or its number is not as expected.
-fn difference(
-    alloc: Global,
-    line: &str,
-    files: &mut MemFiles,
-    number: u8,
-    written: &str,
-) -> Result<Option<String>, NoMemory> {
-    let mut out = MemSink::new(alloc, 4096);
-    let status = run(alloc, line, files, &mut out)?;
-    if status.number() == number && out.bytes() == written.as_bytes() {
-        return Ok(None);
-    }
-    Ok(Some(String::from_utf8_lossy(alloc, out.bytes())?))
-}
-
-/// A run for the words of a line ends with this number, and has written this.
-pub fn assert_run<R: Abort + AllocGlobal>(
-    rt: &R,
-    line: &str,
-    mut files: MemFiles,
-    number: u8,
-    written: &str,
-) -> Result<(), NoMemory> {
-    let difference = difference(rt.alloc(), line, &mut files, number, written)?;
-    assert!(rt; difference.is_none(), "{difference:?}");
-    Ok(())
-}
-
-/// The run of a script over these files, in which `start` runs to microsecond 200, ends with this
-/// number, and has written this.
-pub fn assert_script<R: Abort + AllocGlobal>(
-    rt: &R,
-    mut files: MemFiles,
-    script: &str,
-    number: u8,
-    written: &str,
-) -> Result<(), NoMemory> {
-    files.put("s.resc", script.as_bytes())?;
-    assert_run(rt, "run --until 0.0002 s.resc", files, number, written)
+    run_on(alloc, files, out, stock)
 }

@@ -1,13 +1,7 @@
-//! Tests of the whole program, over files and an output in memory.
+//! Tests of the whole program, over files and an output in memory that fail where they are told to.
 #![tactic(auto)]
 
 #[cfg(test)]
 mod bench;
 #[cfg(test)]
-mod images;
-#[cfg(test)]
 mod outside;
-#[cfg(test)]
-mod programs;
-#[cfg(test)]
-mod refusals;
