@@ -1,13 +1,13 @@
 //! The calls of a laboratory, on two boards with a memory, a UART and a finisher, whose devices count.
-ghost use Rattle.std.specs.Prelude.{◌≡◌, true, false, IsSome};
-ghost use Rattle.lab_state.specs.One.{view_of};
+ghost use Rattle.std.specs.Prelude.{◌≡◌, ◌+◌, ◌<◌, ◌≤◌, true, false, IsSome, OnErr};
+ghost use Rattle.lab_state.specs.One.{view_of, HaveAllPlans};
 
 mod chip;
 
 use chip::{Counts, stock};
 use dev_core::{Device, Finish, Kind, Stock, What};
 use lab_num::{BoardNo, Key, Member, Micros, NoMemory, PostNo, is_name};
-use lab_state::Lab;
+use lab_state::{Lab, LabFault, RoundLog};
 use log_merge::{LogItem, Member0, Names};
 use sample_boards::small_board;
 use std::alloc::Global;
@@ -142,12 +142,26 @@ const PASS: Key = Key {
     number: PostNo(1),
 };
 
+/// A round, which is asked for once more where the first found no memory.
+fn round_again<D: Device>(lab: &mut Lab<D>, q: u64) -> Result<RoundLog, LabFault>
+    requires some { 0 < q }
+    requires plans { lab.old.spent ≡ false → HaveAllPlans lab.old.lab }
+    requires within { lab.old.spent ≡ false → lab.old.lab.now + q ≤ 10000000000 }
+    ensures spent { lab.old.spent ≡ true → result ≡ Err LabFault.Memory }
+    ensures err { OnErr result (lab.new.spent ≡ true) }
+{
+    match lab.round(q) {
+        Ok(log) => Ok(log),
+        Err(_) => lab.round(q),
+    }
+}
+
 /// A round of 10 microseconds logs the lines, and the pass pauses it.
 fn plays<D: Device>(lab: &mut Lab<D>) -> bool {
     if lab.is_spent() || lab.first_without_plan().is_some() || lab.now().0 > 1_000_000 {
         return false;
     }
-    match lab.round(10) {
+    match round_again(lab, 10) {
         Ok(log) => log.lines.items() == &LINES[..] && log.paused == Some(PASS),
         Err(_) => false,
     }
