@@ -6,7 +6,7 @@ ghost use Rattle.rv_asm.specs.Places.{place_in};
 ghost use Rattle.rv_asm.specs.Operands.{operand_and, number_in};
 ghost use Rattle.rv_asm.specs.Inner.Fields.{Fit};
 ghost use Rattle.rv_asm.specs.Inner.Parts.{first_of, place_parts, others_of};
-ghost use Rattle.rv_asm.specs.Inner.Reading.{value_of, kinds_of, fields_of, read};
+ghost use Rattle.rv_asm.specs.Inner.Reading.{value_of, kinds_of, fields_of, AllFit, word_by_values, read};
 
 use crate::encoder::{Fields, word_of};
 use crate::fault::AsmCause;
@@ -149,6 +149,20 @@ fn fields_of(shape: Shape, a: u32, b: u32, c: u32) -> Fields
     Fields { rd, rs1, rs2, imm }
 }
 
+/// The word of these values, if each is in its field.
+fn word_by_values(op: Op, shape: Shape, a: u8, b: Option<u32>, c: Option<u32>) -> Option<u32>
+    requires { AllFit shape a b c }
+    ensures { result ≡ word_by_values op shape a b c }
+{
+    if let Some(b) = b
+        && let Some(c) = c
+    {
+        Some(word_of(op, fields_of(shape, u32::from(a), b, c)))
+    } else {
+        None
+    }
+}
+
 /// The word of an instruction's operands, if each value is in its field.
 pub(crate) fn operands_word(
     labels: &HashMap<&str, u32>,
@@ -159,16 +173,14 @@ pub(crate) fn operands_word(
 ) -> Result<Option<u32>, AsmCause>
     ensures { result ≡ read (place_in labels.now) here op text.now shape }
 {
-    let (a, rest) = first_of(shape, text).ok_or(AsmCause::Form)?;
-    let (second, third) = others_of(shape, rest).ok_or(AsmCause::Form)?;
+    let Some((a, rest)) = first_of(shape, text) else {
+        return Err(AsmCause::Form);
+    };
+    let Some((second, third)) = others_of(shape, rest) else {
+        return Err(AsmCause::Form);
+    };
     let (kind, last) = kinds_of(shape);
     let b = value_of(labels, here, kind, second)?;
     let c = value_of(labels, here, last, third)?;
-    if let Some(b) = b
-        && let Some(c) = c
-    {
-        Ok(Some(word_of(op, fields_of(shape, u32::from(a), b, c))))
-    } else {
-        Ok(None)
-    }
+    Ok(word_by_values(op, shape, a, b, c))
 }

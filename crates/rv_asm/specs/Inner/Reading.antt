@@ -1,5 +1,5 @@
 -- How the code reads operands: the value of each by its kind, and the fields that the values go to.
-use Rattle.std.specs.Prelude.{ℕ, ◌==◌, ◌*◌, ◌^◌, ◌-◌, length, List, if◌then◌else◌, Option, Some, None, Result, Ok, Err}
+use Rattle.std.specs.Prelude.{◌≡◌, ℕ, ◌<◌, ◌==◌, ◌*◌, ◌^◌, ◌-◌, length, List, if◌then◌else◌, Option, Some, None, Result, Ok, Err}
 use Rattle.std.specs.Option.{option_map, ok_or}
 use Rattle.rv_decode.specs.declared.instruction.Op.{Op}
 use Rattle.rv_asm.specs.declared.encoder.Fields.{Fields}
@@ -14,7 +14,7 @@ use Rattle.rv_asm.specs.Encoded.{encoded}
 use Rattle.rv_asm.specs.Texts.{register_of}
 use Rattle.rv_asm.specs.Operands.{number_in}
 use Rattle.rv_asm.specs.Lines.{offset_in, ◌>>=◌}
-use Rattle.rv_asm.specs.Inner.Fields.{fields, with_op}
+use Rattle.rv_asm.specs.Inner.Fields.{fields, with_op, Fit}
 use Rattle.rv_asm.specs.Inner.Parts.{first_of, others_of}
 
 -- what each operand after the first register is
@@ -51,6 +51,11 @@ fields_of Jump a b c = fields a 0 0 b
 fields_of Csr a b c = fields a c 0 b
 fields_of CsrImmediate a b c = fields a c 0 b
 fields_of Bare a b c = fields 0 0 0 0
+
+-- values that are in their fields fit the fields of the instruction
+abbrev pub AllFit : Shape → ℕ → Option ℕ → Option ℕ → Type 0
+AllFit shape a b c =
+    (m n : ℕ) → m < 2 ^ 32 → n < 2 ^ 32 → b ≡ Some m → c ≡ Some n → Fit (fields_of shape a m n)
 
 -- the word of the values, if each is in its field
 abbrev pub word_by_values : Op → Shape → ℕ → Option ℕ → Option ℕ → Option ℕ
