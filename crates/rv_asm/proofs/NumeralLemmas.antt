@@ -4,13 +4,13 @@ use Rattle.std.proofs.Common.{[], ◌∷◌, length, get_or, min, Option, Some, 
 use Rattle.std.specs.Prelude.{nat_le, nat_eq, IfSome, if◌then◌else◌}
 use Rattle.std.specs.List.{list_all, starts_with}
 use Rattle.std.specs.Result.{result_unwrap_or, OkIff}
-use Rattle.std.specs.Char.{digit_value, is_ascii_digit, is_ascii_hexdigit}
+use Rattle.std.specs.Char.{digit_value}
 use Rattle.std.specs.Str.Parse.{digits_value, AllDigits, IsNumeral, ParsesUnsigned}
 use Rattle.std.proofs.lemmas.Str.Parse.{without_leading_plus_none}
 use Rattle.std.proofs.lemmas.Bool.{and_parts, cases_lt, cases_Bool}
 use Rattle.std.proofs.lemmas.Bool.Decides.{nat_tests}
 use Rattle.rv_asm.specs.Numbers.{numeral, in_field, even_in_field}
-use Rattle.rv_asm.specs.Inner.Saturated.{most, saturated}
+use Rattle.rv_asm.specs.Inner.Saturated.{most, saturated, is_digit_of}
 use Rattle.rv_asm.specs.declared.numbers.Number.{Number}
 use Rattle.std.specs.Option.{option_map}
 
@@ -56,11 +56,8 @@ numeral_parses test radix text r digit few parsed some all =
     rw (some, all)
     (ap Some (fits_or_most r (IsNumeral radix text) (digits_value radix text) holds (rw plain at parsed)))
 
-pub decimal_digit : (b : ℕ) → is_ascii_digit b ≡ true → digit_value b < 10
-decimal_digit b digit = grind (arith, nat_tests)
-
-pub hexadecimal_digit : (b : ℕ) → is_ascii_hexdigit b ≡ true → digit_value b < 16
-hexadecimal_digit b digit = grind (arith, nat_tests)
+pub is_digit_of-below : (radix : ℕ) → 10 ≤ radix → (b : ℕ) → is_digit_of radix b ≡ true → digit_value b < radix
+is_digit_of-below radix least b digit = grind (arith, nat_tests)
 
 -- ---- fields
 

@@ -3,9 +3,9 @@
 ghost use Rattle.std.specs.Prelude.{◌≡◌};
 ghost use Rattle.std.specs.Option.{option_map};
 ghost use Rattle.rv_asm.specs.Places.{place_in};
-ghost use Rattle.rv_asm.specs.Lines.{word_by, mnemonic_in, operands_in, plain_word, labelled_word, label_of, line_word};
+ghost use Rattle.rv_asm.specs.Lines.{word_by, mnemonic_in, operands_in, label_of, line_word};
 ghost use Rattle.rv_asm.specs.Lines.{gives_word};
-ghost use Rattle.rv_asm.specs.Inner.Scan.{is_first, word_from};
+ghost use Rattle.rv_asm.specs.Inner.Scan.{is_first, statement_word, word_from};
 
 use crate::fault::AsmCause;
 use crate::mnemonics::{Mnemonic, mnemonic_of};
@@ -51,16 +51,6 @@ fn operands_in(statement: &str) -> &str
     trimmed(rest)
 }
 
-/// The word of a line without a label.
-#[tactic(auto, unfolding(crate::specs::Lines::plain_word))]
-fn plain_word(labels: &HashMap<&str, u32>, here: u32, statement: &str) -> Result<u32, AsmCause>
-    ensures { result ≡ plain_word (place_in labels.now) here statement.now }
-{
-    let mnemonic = mnemonic_in(statement)?;
-    let word = word_by(labels, here, operands_in(statement), mnemonic)?;
-    word.ok_or(AsmCause::Range)
-}
-
 /// Whether the label's place is here.
 fn is_given_here(labels: &HashMap<&str, u32>, here: u32, label: &str) -> bool
     ensures { result ≡ is_first (place_in labels.now) here label.now }
@@ -71,23 +61,27 @@ fn is_given_here(labels: &HashMap<&str, u32>, here: u32, label: &str) -> bool
     }
 }
 
-/// The word of a line with a label.
-#[tactic(auto, unfolding(crate::specs::Lines::labelled_word))]
-fn labelled_word(
+/// The word of a line with or without a label.
+#[tactic(auto, unfolding(crate::specs::Lines::plain_word, crate::specs::Lines::labelled_word))]
+fn statement_word(
     labels: &HashMap<&str, u32>,
     here: u32,
-    label: &str,
+    label: Option<&str>,
     statement: &str,
 ) -> Result<u32, AsmCause>
-    ensures { result ≡ labelled_word (place_in labels.now) here
-        (is_first (place_in labels.now) here label.now) label.now statement.now }
+    ensures { result ≡ statement_word (place_in labels.now) here
+        (option_map (λ label. label.now) label.entry) statement.now }
 {
     let mnemonic = mnemonic_in(statement)?;
-    if !is_name(label) {
+    if let Some(label) = label
+        && !is_name(label)
+    {
         return Err(AsmCause::Form);
     }
     let word = word_by(labels, here, operands_in(statement), mnemonic)?;
-    if !is_given_here(labels, here, label) {
+    if let Some(label) = label
+        && !is_given_here(labels, here, label)
+    {
         return Err(AsmCause::Label);
     }
     word.ok_or(AsmCause::Range)
@@ -108,9 +102,9 @@ pub(crate) fn line_word(labels: &HashMap<&str, u32>, here: u32, line: &str) -> R
 {
     let code = code_of(line);
     match cut(code, ':') {
-        None => plain_word(labels, here, trimmed(code)),
+        None => statement_word(labels, here, None, trimmed(code)),
         Some((label, statement)) => {
-            labelled_word(labels, here, trimmed(label), trimmed(statement))
+            statement_word(labels, here, Some(trimmed(label)), trimmed(statement))
         }
     }
 }

@@ -7,7 +7,7 @@ use Rattle.rv_asm.specs.declared.fault.AsmCause.{AsmCause}
 use Rattle.rv_asm.specs.declared.fault.AsmFault.{AsmFault}
 use Rattle.rv_asm.specs.declared.fault.AsmFault.TheVariants.{Line, Memory}
 use Rattle.rv_asm.specs.Places.{is_label}
-use Rattle.rv_asm.specs.Lines.{gives_word, label_of, line_word}
+use Rattle.rv_asm.specs.Lines.{gives_word, label_of, plain_word, labelled_word, line_word}
 
 -- the place of the first line that gives this label, where the first line has this address
 abbrev pub place_from : ℕ → List (List ℕ) → List ℕ → Option ℕ
@@ -25,6 +25,12 @@ is_here here (Some there) = there == here
 -- whether a label has its place here, so that no earlier line gives it
 abbrev pub is_first : (List ℕ → Option ℕ) → ℕ → List ℕ → Bool
 is_first places here name = is_here here (places name)
+
+-- the word of a statement with or without a label
+abbrev pub statement_word : (List ℕ → Option ℕ) → ℕ → Option (List ℕ) → List ℕ → Result ℕ AsmCause
+statement_word places here None statement = plain_word places here statement
+statement_word places here (Some label) statement =
+    labelled_word places here (is_first places here label) label statement
 
 -- the word of a line at this address
 abbrev pub word_from : (List ℕ → Option ℕ) → ℕ → List ℕ → Result ℕ AsmCause

@@ -1,5 +1,5 @@
 -- The values fit their fields by the kinds of the shape.
-use Rattle.std.proofs.Common.{◌≡◌, sym, Some, Ok, rules}
+use Rattle.std.proofs.Common.{◌≡◌, sym, Some, Ok}
 use Rattle.rv_asm.specs.Places.{place_in}
 use Rattle.rv_asm.specs.Inner.Reading.{value_of, kinds_of}
 use Rattle.rv_asm.proofs.ReadingLemmas.{fields_fit}
