@@ -180,26 +180,12 @@ fn fits(i: &Instr) -> bool
     i.rd < 32 && i.rs1 < 32 && i.rs2 < 32
 }
 
-/// Whether two names of instructions are one.
-fn is_same_op(a: Op, b: Op) -> bool
-    ensures { IsTrue result ↔ (a ≡ b) }
-{
-    a == b
-}
-
-/// Whether two instructions are one.
-fn is_same(a: &Instr, b: &Instr) -> bool
-    ensures { IsTrue result ↔ (a.now ≡ b.now) }
-{
-    is_same_op(a.op, b.op) && a.rd == b.rd && a.rs1 == b.rs1 && a.rs2 == b.rs2 && a.imm == b.imm
-}
-
 /// Whether the word means the instruction.
 fn is_meant(word: u32, i: &Instr) -> bool
     ensures { IsTrue result ↔ (means word ≡ Some i.now) }
 {
     match decode(word) {
-        Some(meant) => is_same(&meant, i),
+        Some(meant) => meant == *i,
         None => false,
     }
 }
