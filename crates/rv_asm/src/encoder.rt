@@ -180,12 +180,19 @@ fn fits(i: &Instr) -> bool
     i.rd < 32 && i.rs1 < 32 && i.rs2 < 32
 }
 
+/// Whether two instructions are one.
+fn is_same(a: &Instr, b: &Instr) -> bool
+    ensures { IsTrue result ↔ (a.now ≡ b.now) }
+{
+    a == b
+}
+
 /// Whether the word means the instruction.
 fn is_meant(word: u32, i: &Instr) -> bool
     ensures { IsTrue result ↔ (means word ≡ Some i.now) }
 {
     match decode(word) {
-        Some(meant) => meant == *i,
+        Some(meant) => is_same(&meant, i),
         None => false,
     }
 }
