@@ -1,6 +1,6 @@
 //! The names of instructions.
 ghost use Rattle.std.specs.Prelude.{◌≡◌, map};
-ghost use Rattle.rv_asm.specs.Mnemonics.{named_in, op_named, mnemonic_of};
+ghost use Rattle.rv_asm.specs.Mnemonics.{named_in, mnemonic_of};
 
 use rv_decode::Op;
 
@@ -84,21 +84,14 @@ fn op_in(names: &[(&str, Op)], name: &str) -> Option<Op>
     None
 }
 
-/// The instruction of this name.
-#[tactic(auto, unfolding(crate::specs::Mnemonics::op_named))]
-fn op_named(name: &str) -> Option<Op>
-    ensures { result ≡ op_named name.now }
-{
-    op_in(&NAMES, name)
-}
-
 /// The instruction or directive of this name.
+#[tactic(auto, unfolding(crate::specs::Mnemonics::op_named))]
 pub(crate) fn mnemonic_of(name: &str) -> Option<Mnemonic>
     ensures { result ≡ mnemonic_of name.now }
 {
     if name == ".word" {
         Some(Mnemonic::Word)
     } else {
-        op_named(name).map(Mnemonic::Instruction)
+        op_in(&NAMES, name).map(Mnemonic::Instruction)
     }
 }

@@ -3,7 +3,7 @@
 ghost use Rattle.std.specs.Prelude.{◌≡◌, ◌<◌, IfSome};
 ghost use Rattle.std.specs.Option.{option_map};
 ghost use Rattle.rv_asm.specs.Places.{place_in};
-ghost use Rattle.rv_asm.specs.Operands.{operand_and, number_in};
+ghost use Rattle.rv_asm.specs.Operands.{operand_and};
 ghost use Rattle.rv_asm.specs.Inner.Fields.{Fit};
 ghost use Rattle.rv_asm.specs.Inner.Parts.{first_of, place_parts, others_of};
 ghost use Rattle.rv_asm.specs.Inner.Reading.{value_of, kinds_of, fields_of, AllFit, word_by_values, read};
@@ -99,16 +99,6 @@ fn kinds_of(shape: Shape) -> (Kind, Kind)
     }
 }
 
-/// A number, as 32 bits if it is from -least to greatest.
-fn number_in(least: u32, greatest: u32, text: &str) -> Option<Option<u32>>
-    ensures { result ≡ number_in least greatest text.now }
-{
-    match number_of(text) {
-        Some(number) => Some(number.in_field(least, greatest)),
-        None => None,
-    }
-}
-
 /// The value of an operand, if it is in its field.
 pub(crate) fn value_of(
     labels: &HashMap<&str, u32>,
@@ -123,7 +113,10 @@ pub(crate) fn value_of(
             Some(register) => Ok(Some(u32::from(register))),
             None => Err(AsmCause::Form),
         },
-        Kind::Number(least, greatest) => number_in(least, greatest, text).ok_or(AsmCause::Form),
+        Kind::Number(least, greatest) => match number_of(text) {
+            Some(number) => Ok(number.in_field(least, greatest)),
+            None => Err(AsmCause::Form),
+        },
         Kind::Target(least, greatest) => offset_in(labels, here, least, greatest, text),
         Kind::Nothing if text.is_empty() => Ok(Some(0)),
         Kind::Nothing => Err(AsmCause::Form),
