@@ -1,7 +1,8 @@
 -- The lemmas of this crate.
+pub mod ReadingLemmas
 pub mod RoundTrip
 pub mod BoundaryLemmas
 pub mod NumeralLemmas
 pub mod ProgramLemmas
-pub mod Targets
+pub mod OffsetLemmas
 pub mod Positions

@@ -1,16 +1,16 @@
 -- What std reads of a text of digits.
-use Rattle.std.proofs.Common.{◌≡◌, ℕ, ◌^◌, ◌<◌, ◌≤◌, Bool, true, false, ◌==◌, ◌%◌, refl, sym, ◌∙◌, ap, inl, inr, List}
+use Rattle.std.proofs.Common.{◌≡◌, ℕ, ◌^◌, ◌<◌, ◌≤◌, Bool, true, false, ◌==◌, ◌%◌, refl, sym, ◌∙◌, ap, inl, inr, ◌⊎◌, List}
 use Rattle.std.proofs.Common.{[], ◌∷◌, length, get_or, min, Option, Some, None, Result, Ok, Err, arith}
-use Rattle.std.specs.Prelude.{nat_le, IfSome, if◌then◌else◌}
-use Rattle.std.specs.List.{list_all}
+use Rattle.std.specs.Prelude.{nat_le, nat_eq, IfSome, if◌then◌else◌}
+use Rattle.std.specs.List.{list_all, starts_with}
 use Rattle.std.specs.Result.{result_unwrap_or, OkIff}
-use Rattle.std.specs.Char.{digit_value, is_ascii_digit, is_ascii_hexdigit}
+use Rattle.std.specs.Char.{digit_value}
 use Rattle.std.specs.Str.Parse.{digits_value, AllDigits, IsNumeral, ParsesUnsigned}
 use Rattle.std.proofs.lemmas.Str.Parse.{without_leading_plus_none}
-use Rattle.std.proofs.lemmas.Bool.{and_parts, cases_lt}
+use Rattle.std.proofs.lemmas.Bool.{and_parts, cases_lt, cases_Bool}
 use Rattle.std.proofs.lemmas.Bool.Decides.{nat_tests}
 use Rattle.rv_asm.specs.Numbers.{numeral, in_field, even_in_field}
-use Rattle.rv_asm.specs.Inner.Saturated.{most, saturated}
+use Rattle.rv_asm.specs.Inner.Saturated.{most, saturated, is_digit_of}
 use Rattle.rv_asm.specs.declared.numbers.Number.{Number}
 use Rattle.std.specs.Option.{option_map}
 
@@ -56,11 +56,8 @@ numeral_parses test radix text r digit few parsed some all =
     rw (some, all)
     (ap Some (fits_or_most r (IsNumeral radix text) (digits_value radix text) holds (rw plain at parsed)))
 
-pub decimal_digit : (b : ℕ) → is_ascii_digit b ≡ true → digit_value b < 10
-decimal_digit b digit = grind (arith, nat_tests)
-
-pub hexadecimal_digit : (b : ℕ) → is_ascii_hexdigit b ≡ true → digit_value b < 16
-hexadecimal_digit b digit = grind (arith, nat_tests)
+pub is_digit_of-below : (radix : ℕ) → 10 ≤ radix → (b : ℕ) → is_digit_of radix b ≡ true → digit_value b < radix
+is_digit_of-below radix least b digit = grind (arith, nat_tests)
 
 -- ---- fields
 
@@ -142,6 +139,16 @@ even_in_field-saturated least greatest n small_least small_greatest =
     most_outside false =
         let first : nat_le most greatest ≡ false = grind (arith, nat_tests) in
         rw first refl
+
+-- a text that no `-` begins
+pub no_sign :
+    (text : List ℕ) → ((rest : List ℕ) → text ≡ 45 ∷ rest → ⊥) → starts_with nat_eq text (45 ∷ []) ≡ false
+no_sign [] none = refl
+no_sign (x ∷ xs) none = by (cases_Bool (x == 45))
+  where
+    by : (x == 45 ≡ true) ⊎ (x == 45 ≡ false) → starts_with nat_eq (x ∷ xs) (45 ∷ []) ≡ false
+    by (inl here) = absurd (none xs (ap (λ y. y ∷ xs) (grind (arith, nat_tests))))
+    by (inr other) = grind (arith, nat_tests)
 
 -- a sign before a magnitude as the code holds it
 pub none_signed :

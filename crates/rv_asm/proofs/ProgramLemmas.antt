@@ -19,7 +19,7 @@ use Rattle.rv_asm.specs.declared.fault.AsmFault.TheVariants.{Line, Memory}
 use Rattle.rv_asm.specs.Lines.{gives_word, label_of}
 use Rattle.rv_asm.specs.Places.{is_label}
 use Rattle.rv_asm.specs.Program.{lines_of}
-use Rattle.rv_asm.specs.Inner.Scan.{place_from, word_from, at_line, words_from, Gives, ◌>>=◌}
+use Rattle.rv_asm.specs.Inner.Scan.{place_from, word_from, at_line, words_from, Fails, ◌>>=◌}
 
 -- the texts of lines
 abbrev pub texts : List (Bor (List ℕ)) → List (List ℕ)
@@ -156,10 +156,12 @@ words_fault places lines i address line done fault next gives made all =
     rw next at all in
     sym (rw (gives, made) at before)
 
+-- a fault of a line is that of all lines
 pub gives_fault :
-    (fault : AsmFault) (meant : Result (List ℕ) AsmFault) → meant ≡ Err fault → Gives (Err fault) meant
-gives_fault (Line n cause) meant is = is
-gives_fault Memory meant is = tt
+    (fault : AsmFault) (word : Result ℕ AsmFault) (meant : Result (List ℕ) AsmFault) → Fails word fault →
+    (word ≡ Err fault → meant ≡ Err fault) → Fails meant fault
+gives_fault (Line n cause) word meant is told = told is
+gives_fault Memory word meant is told = tt
 
 -- ---- the text
 

@@ -4,7 +4,7 @@ ghost use Rattle.std.specs.Prelude.{length, IfOk, IfErr, OnOk};
 ghost use Rattle.rv_asm.specs.Places.{place_in, HasPlaces, with_label};
 ghost use Rattle.rv_asm.specs.Lines.{label_of};
 ghost use Rattle.rv_asm.specs.Program.{lines_of, Assembles};
-ghost use Rattle.rv_asm.specs.Inner.Scan.{place_from, word_from, at_line, words_from, Gives};
+ghost use Rattle.rv_asm.specs.Inner.Scan.{place_from, word_from, at_line, words_from, Pushes, Gives};
 
 use crate::fault::AsmFault;
 use crate::lines::{gives_word, label_of, line_word};
@@ -18,22 +18,6 @@ fn lines_of(alloc: Global, text: &str) -> Result<Vec<&str>, AllocError>
     text.split('\n').collect(alloc)
 }
 
-/// Gives the label this address, unless it has one.
-fn add_label<'a>(
-    labels: &mut HashMap<&'a str, u32>,
-    label: &'a str,
-    address: u32,
-) -> Result<(), AllocError>
-    ensures { OnOk result
-        (HasPlaces labels.new (with_label (place_in labels.old) (Some label.now) address)) }
-{
-    if labels.contains_key(&label) {
-        return Ok(());
-    }
-    labels.insert(label, address)?;
-    Ok(())
-}
-
 /// Gives the line's label this address, unless it has one.
 fn add_label_of<'a>(
     labels: &mut HashMap<&'a str, u32>,
@@ -43,10 +27,14 @@ fn add_label_of<'a>(
     ensures { OnOk result
         (HasPlaces labels.new (with_label (place_in labels.old) (label_of line.now) address)) }
 {
-    match label_of(line) {
-        Some(label) => add_label(labels, label, address),
-        None => Ok(()),
+    let Some(label) = label_of(line) else {
+        return Ok(());
+    };
+    if labels.contains_key(&label) {
+        return Ok(());
     }
+    labels.insert(label, address)?;
+    Ok(())
 }
 
 /// The address of each label, where the first line that gives it stands.
@@ -66,24 +54,23 @@ fn labels_of<'a>(alloc: Global, lines: &[&'a str]) -> Result<HashMap<&'a str, u3
     Ok(labels)
 }
 
-/// The word of the line with this number.
-fn word_at(labels: &HashMap<&str, u32>, n: u32, address: u32, line: &str) -> Result<u32, AsmFault>
-    ensures { result ≡ at_line n (word_from (place_in labels.now) address line.now) }
+/// Puts the word of the line with this number after the others.
+fn push_line(
+    words: &mut Vec<u32>,
+    labels: &HashMap<&str, u32>,
+    n: u32,
+    address: u32,
+    line: &str,
+) -> Result<(), AsmFault>
+    ensures { Pushes words.old.items words.new.items
+        (at_line n (word_from (place_in labels.now) address line.now)) result }
 {
     match line_word(labels, address, line) {
-        Ok(word) => Ok(word),
+        Ok(word) => match words.push(word) {
+            Ok(()) => Ok(()),
+            Err(_) => Err(AsmFault::Memory),
+        },
         Err(cause) => Err(AsmFault::Line { n, cause }),
-    }
-}
-
-/// Puts the word after the others.
-fn push_word(words: &mut Vec<u32>, word: u32) -> Result<(), AsmFault>
-    ensures ok { OnOk result (words.new.items ≡ words.old.items ++ word ∷ []) }
-    ensures err { IfErr result (λ fault. fault ≡ AsmFault.Memory) }
-{
-    match words.push(word) {
-        Ok(()) => Ok(()),
-        Err(_) => Err(AsmFault::Memory),
     }
 }
 
@@ -101,8 +88,7 @@ fn words_of(
     let mut address = 0;
     for (i, line) in lines.iter().enumerate() {
         if gives_word(line) {
-            let word = word_at(labels, i as u32 + 1, address, line)?;
-            push_word(&mut words, word)?;
+            push_line(&mut words, labels, i as u32 + 1, address, line)?;
             address += 4;
         }
     }

@@ -4,7 +4,8 @@ ghost use Rattle.std.specs.Option.{option_map};
 ghost use Rattle.rv_decode.specs.Table.{row_of};
 ghost use Rattle.rv_decode.specs.Immediate.{field};
 ghost use Rattle.rv_decode.specs.Means.{means, IsInstr, IsValid};
-ghost use Rattle.rv_asm.specs.Encoded.{encoded, word_with, placed_s, placed_b, placed_j};
+ghost use Rattle.rv_asm.specs.Encoded.{encoded, placed_s, placed_b, placed_j};
+ghost use Rattle.rv_asm.specs.Inner.Fields.{Fit, with_op};
 
 use rv_decode::{Format, Instr, Op, bits, decode, rows_differ, rows_match_fields, valid_fits};
 
@@ -122,44 +123,52 @@ fn place_j(imm: u32) -> u32
         + (bits(imm, 20, 1) << 31)
 }
 
-/// The word that has the instruction's fields in the places of its format.
-fn word_of(i: &Instr) -> u32
-    requires { IsInstr i.now }
-    ensures { encoded i.now ≡ Some result }
+/// The fields of an instruction; the immediate as `Instr` has it.
+pub(crate) struct Fields {
+    pub(crate) rd: u32,
+    pub(crate) rs1: u32,
+    pub(crate) rs2: u32,
+    pub(crate) imm: u32,
+}
+
+/// The word that has these fields in the places of the instruction's format.
+pub(crate) fn word_of(op: Op, fields: Fields) -> u32
+    requires { Fit fields }
+    ensures { encoded (with_op op fields) ≡ Some result }
 {
-    let code = opcode(i.op);
-    let low = code + (funct3(i.op) << 12);
-    let rd = u32::from(i.rd) << 7;
-    let rs1 = u32::from(i.rs1) << 15;
-    let rs2 = u32::from(i.rs2) << 20;
-    let high = funct7(i.op) << 25;
-    match i.op.format() {
+    let Fields { rd, rs1, rs2, imm } = fields;
+    let code = opcode(op);
+    let low = code + (funct3(op) << 12);
+    let high = funct7(op) << 25;
+    let rd = rd << 7;
+    let rs1 = rs1 << 15;
+    let rs2 = rs2 << 20;
+    match op.format() {
         Format::R => low + high + rd + rs1 + rs2,
-        Format::I | Format::IUnsigned => low + rd + rs1 + (bits(i.imm, 0, 12) << 20),
-        Format::IShift => low + high + rd + rs1 + (bits(i.imm, 0, 5) << 20),
-        Format::S => low + rs1 + rs2 + place_s(i.imm),
-        Format::B => low + rs1 + rs2 + place_b(i.imm),
-        Format::U => code + rd + (bits(i.imm, 12, 20) << 12),
-        Format::J => code + rd + place_j(i.imm),
-        Format::Fixed => fixed_word(i.op),
+        Format::I | Format::IUnsigned => low + rd + rs1 + (bits(imm, 0, 12) << 20),
+        Format::IShift => low + high + rd + rs1 + (bits(imm, 0, 5) << 20),
+        Format::S => low + rs1 + rs2 + place_s(imm),
+        Format::B => low + rs1 + rs2 + place_b(imm),
+        Format::U => code + rd + (bits(imm, 12, 20) << 12),
+        Format::J => code + rd + place_j(imm),
+        Format::Fixed => fixed_word(op),
     }
 }
 
-/// The word of these fields, if there is an immediate.
-pub(crate) fn word_with(op: Op, rd: u8, rs1: u8, rs2: u8, imm: Option<u32>) -> Option<u32>
-    requires rd { rd < 32 }
-    requires rs1 { rs1 < 32 }
-    requires rs2 { rs2 < 32 }
-    ensures { result ≡ word_with op rd rs1 rs2 imm }
+/// The word that has the instruction's fields in the places of its format.
+fn word_with(i: &Instr) -> u32
+    requires { IsInstr i.now }
+    ensures { encoded i.now ≡ Some result }
 {
-    let imm = imm?;
-    Some(word_of(&Instr {
-        op,
-        rd,
-        rs1,
-        rs2,
-        imm,
-    }))
+    word_of(
+        i.op,
+        Fields {
+            rd: u32::from(i.rd),
+            rs1: u32::from(i.rs1),
+            rs2: u32::from(i.rs2),
+            imm: i.imm,
+        },
+    )
 }
 
 /// Whether the numbers of the registers are below 32.
@@ -171,18 +180,11 @@ fn fits(i: &Instr) -> bool
     i.rd < 32 && i.rs1 < 32 && i.rs2 < 32
 }
 
-/// Whether two names of instructions are one.
-fn is_same_op(a: Op, b: Op) -> bool
-    ensures { IsTrue result ↔ (a ≡ b) }
-{
-    a == b
-}
-
 /// Whether two instructions are one.
 fn is_same(a: &Instr, b: &Instr) -> bool
     ensures { IsTrue result ↔ (a.now ≡ b.now) }
 {
-    is_same_op(a.op, b.op) && a.rd == b.rd && a.rs1 == b.rs1 && a.rs2 == b.rs2 && a.imm == b.imm
+    a == b
 }
 
 /// Whether the word means the instruction.
@@ -205,7 +207,7 @@ pub fn encode(i: &Instr) -> u32
     rows_differ();
     rows_match_fields();
     valid_fits();
-    word_of(i)
+    word_with(i)
 }
 
 /// Whether some word means the instruction, as `encode` requires.
@@ -215,5 +217,5 @@ pub fn is_valid(i: &Instr) -> bool
     rows_differ();
     rows_match_fields();
     valid_fits();
-    fits(i) && is_meant(word_of(i), i)
+    fits(i) && is_meant(word_with(i), i)
 }

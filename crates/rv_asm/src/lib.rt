@@ -9,6 +9,7 @@ mod mnemonics;
 mod numbers;
 mod operands;
 mod shapes;
+mod targets;
 mod texts;
 
 pub use assembler::assemble;

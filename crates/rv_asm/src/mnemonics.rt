@@ -1,7 +1,6 @@
 //! The names of instructions.
-ghost use Rattle.std.specs.Prelude.{◌≡◌};
-ghost use Rattle.rv_asm.specs.Mnemonics.{control_named, memory_named, immediate_named, register_named, multiply_named};
-ghost use Rattle.rv_asm.specs.Mnemonics.{system_named, op_named, mnemonic_of};
+ghost use Rattle.std.specs.Prelude.{◌≡◌, map};
+ghost use Rattle.rv_asm.specs.Mnemonics.{named_in, mnemonic_of};
 
 use rv_decode::Op;
 
@@ -12,134 +11,87 @@ pub(crate) enum Mnemonic {
     Instruction(Op),
 }
 
-/// The name of a jump, a branch or an upper immediate.
-fn control_named(name: &str) -> Option<Op>
-    ensures { result ≡ control_named name.now }
-{
-    match name {
-        "lui" => Some(Op::Lui),
-        "auipc" => Some(Op::Auipc),
-        "jal" => Some(Op::Jal),
-        "jalr" => Some(Op::Jalr),
-        "beq" => Some(Op::Beq),
-        "bne" => Some(Op::Bne),
-        "blt" => Some(Op::Blt),
-        "bge" => Some(Op::Bge),
-        "bltu" => Some(Op::Bltu),
-        "bgeu" => Some(Op::Bgeu),
-        _ => None,
-    }
-}
+/// Each instruction, with its name.
+static NAMES: [(&str, Op); 57] = [
+    ("lui", Op::Lui),
+    ("auipc", Op::Auipc),
+    ("jal", Op::Jal),
+    ("jalr", Op::Jalr),
+    ("beq", Op::Beq),
+    ("bne", Op::Bne),
+    ("blt", Op::Blt),
+    ("bge", Op::Bge),
+    ("bltu", Op::Bltu),
+    ("bgeu", Op::Bgeu),
+    ("lb", Op::Lb),
+    ("lh", Op::Lh),
+    ("lw", Op::Lw),
+    ("lbu", Op::Lbu),
+    ("lhu", Op::Lhu),
+    ("sb", Op::Sb),
+    ("sh", Op::Sh),
+    ("sw", Op::Sw),
+    ("addi", Op::Addi),
+    ("slti", Op::Slti),
+    ("sltiu", Op::Sltiu),
+    ("xori", Op::Xori),
+    ("ori", Op::Ori),
+    ("andi", Op::Andi),
+    ("slli", Op::Slli),
+    ("srli", Op::Srli),
+    ("srai", Op::Srai),
+    ("add", Op::Add),
+    ("sub", Op::Sub),
+    ("sll", Op::Sll),
+    ("slt", Op::Slt),
+    ("sltu", Op::Sltu),
+    ("xor", Op::Xor),
+    ("srl", Op::Srl),
+    ("sra", Op::Sra),
+    ("or", Op::Or),
+    ("and", Op::And),
+    ("mul", Op::Mul),
+    ("mulh", Op::Mulh),
+    ("mulhsu", Op::Mulhsu),
+    ("mulhu", Op::Mulhu),
+    ("div", Op::Div),
+    ("divu", Op::Divu),
+    ("rem", Op::Rem),
+    ("remu", Op::Remu),
+    ("fence", Op::Fence),
+    ("fence.i", Op::FenceI),
+    ("ecall", Op::Ecall),
+    ("ebreak", Op::Ebreak),
+    ("csrrw", Op::Csrrw),
+    ("csrrs", Op::Csrrs),
+    ("csrrc", Op::Csrrc),
+    ("csrrwi", Op::Csrrwi),
+    ("csrrsi", Op::Csrrsi),
+    ("csrrci", Op::Csrrci),
+    ("mret", Op::Mret),
+    ("wfi", Op::Wfi),
+];
 
-/// The name of a load or a store.
-fn memory_named(name: &str) -> Option<Op>
-    ensures { result ≡ memory_named name.now }
+/// The first instruction of this name among these.
+fn op_in(names: &[(&str, Op)], name: &str) -> Option<Op>
+    ensures { result ≡ named_in (map (λ x. (x.0.now, x.1)) names.now) name.now }
 {
-    match name {
-        "lb" => Some(Op::Lb),
-        "lh" => Some(Op::Lh),
-        "lw" => Some(Op::Lw),
-        "lbu" => Some(Op::Lbu),
-        "lhu" => Some(Op::Lhu),
-        "sb" => Some(Op::Sb),
-        "sh" => Some(Op::Sh),
-        "sw" => Some(Op::Sw),
-        _ => None,
+    for (known, op) in names {
+        if name == *known {
+            return Some(*op);
+        }
     }
-}
-
-/// The name of an operation on a register and an immediate.
-fn immediate_named(name: &str) -> Option<Op>
-    ensures { result ≡ immediate_named name.now }
-{
-    match name {
-        "addi" => Some(Op::Addi),
-        "slti" => Some(Op::Slti),
-        "sltiu" => Some(Op::Sltiu),
-        "xori" => Some(Op::Xori),
-        "ori" => Some(Op::Ori),
-        "andi" => Some(Op::Andi),
-        "slli" => Some(Op::Slli),
-        "srli" => Some(Op::Srli),
-        "srai" => Some(Op::Srai),
-        _ => None,
-    }
-}
-
-/// The name of an operation on two registers.
-fn register_named(name: &str) -> Option<Op>
-    ensures { result ≡ register_named name.now }
-{
-    match name {
-        "add" => Some(Op::Add),
-        "sub" => Some(Op::Sub),
-        "sll" => Some(Op::Sll),
-        "slt" => Some(Op::Slt),
-        "sltu" => Some(Op::Sltu),
-        "xor" => Some(Op::Xor),
-        "srl" => Some(Op::Srl),
-        "sra" => Some(Op::Sra),
-        "or" => Some(Op::Or),
-        "and" => Some(Op::And),
-        _ => None,
-    }
-}
-
-/// The name of a product or a quotient.
-fn multiply_named(name: &str) -> Option<Op>
-    ensures { result ≡ multiply_named name.now }
-{
-    match name {
-        "mul" => Some(Op::Mul),
-        "mulh" => Some(Op::Mulh),
-        "mulhsu" => Some(Op::Mulhsu),
-        "mulhu" => Some(Op::Mulhu),
-        "div" => Some(Op::Div),
-        "divu" => Some(Op::Divu),
-        "rem" => Some(Op::Rem),
-        "remu" => Some(Op::Remu),
-        _ => None,
-    }
-}
-
-/// The name of a fence, a call, or an access to a control and status register.
-fn system_named(name: &str) -> Option<Op>
-    ensures { result ≡ system_named name.now }
-{
-    match name {
-        "fence" => Some(Op::Fence),
-        "fence.i" => Some(Op::FenceI),
-        "ecall" => Some(Op::Ecall),
-        "ebreak" => Some(Op::Ebreak),
-        "csrrw" => Some(Op::Csrrw),
-        "csrrs" => Some(Op::Csrrs),
-        "csrrc" => Some(Op::Csrrc),
-        "csrrwi" => Some(Op::Csrrwi),
-        "csrrsi" => Some(Op::Csrrsi),
-        "csrrci" => Some(Op::Csrrci),
-        "mret" => Some(Op::Mret),
-        "wfi" => Some(Op::Wfi),
-        _ => None,
-    }
-}
-
-/// The instruction of this name.
-#[tactic(auto, unfolding(crate::specs::Mnemonics::op_named))]
-fn op_named(name: &str) -> Option<Op>
-    ensures { result ≡ op_named name.now }
-{
-    control_named(name).or(memory_named(name).or(immediate_named(name).or(register_named(name).or(
-        multiply_named(name).or(system_named(name)),
-    ))))
+    None
 }
 
 /// The instruction or directive of this name.
+#[tactic(auto, unfolding(crate::specs::Mnemonics::op_named))]
 pub(crate) fn mnemonic_of(name: &str) -> Option<Mnemonic>
     ensures { result ≡ mnemonic_of name.now }
 {
     if name == ".word" {
-        return Some(Mnemonic::Word);
+        Some(Mnemonic::Word)
+    } else {
+        op_in(&NAMES, name).map(Mnemonic::Instruction)
     }
-    let op = op_named(name)?;
-    Some(Mnemonic::Instruction(op))
 }

@@ -1,9 +1,8 @@
 //! Numbers in a text, and the fields that they fit.
-ghost use Rattle.std.specs.Prelude.{◌≡◌, ◌<◌, min};
+ghost use Rattle.std.specs.Prelude.{◌≡◌, ◌≤◌, min};
 ghost use Rattle.std.specs.Option.{option_map};
 ghost use Rattle.std.specs.List.{list_all};
-ghost use Rattle.std.specs.Char.{is_ascii_digit, is_ascii_hexdigit};
-ghost use Rattle.rv_asm.specs.Inner.Saturated.{most, saturated};
+ghost use Rattle.rv_asm.specs.Inner.Saturated.{most, saturated, is_digit_of};
 ghost use Rattle.rv_asm.specs.Numbers.{numeral, magnitude_of, number_of, in_field, even_in_field};
 
 /// A number: its sign, and its magnitude up to 2^64 - 1, which stands for those above too.
@@ -13,42 +12,38 @@ pub(crate) struct Number {
     pub(crate) magnitude: u64,
 }
 
-fn are_digits(text: &str) -> bool
-    ensures { result ≡ list_all is_ascii_digit text.now }
+/// Whether all bytes are digits, hexadecimal ones where the radix is 16 and decimal ones elsewhere.
+fn are_digits(text: &str, radix: u32) -> bool
+    ensures { result ≡ list_all (is_digit_of radix) text.now }
 {
-    text.bytes().all(|b| b.is_ascii_digit())
+    text.bytes().all(|b| {
+        if radix == 16 {
+            b.is_ascii_hexdigit()
+        } else {
+            b.is_ascii_digit()
+        }
+    })
 }
 
-fn are_hexadecimal_digits(text: &str) -> bool
-    ensures { result ≡ list_all is_ascii_hexdigit text.now }
+/// The number that digits of this radix write.
+fn numeral(digits: &str, radix: u32) -> Option<u64>
+    requires least { 10 ≤ radix }
+    requires most { radix ≤ 36 }
+    ensures { result
+        ≡ option_map (λ n. min n most) (numeral (is_digit_of radix) radix digits.now) }
 {
-    text.bytes().all(|b| b.is_ascii_hexdigit())
-}
-
-fn decimal(text: &str) -> Option<u64>
-    ensures { result ≡ option_map (λ n. min n most) (numeral is_ascii_digit 10 text.now) }
-{
-    if text.is_empty() || !are_digits(text) {
+    if digits.is_empty() || !are_digits(digits, radix) {
         return None;
     }
-    Some(u64::from_str_radix(text, 10).unwrap_or(u64::MAX))
-}
-
-fn hexadecimal(text: &str) -> Option<u64>
-    ensures { result ≡ option_map (λ n. min n most) (numeral is_ascii_hexdigit 16 text.now) }
-{
-    if text.is_empty() || !are_hexadecimal_digits(text) {
-        return None;
-    }
-    Some(u64::from_str_radix(text, 16).unwrap_or(u64::MAX))
+    Some(u64::from_str_radix(digits, radix).unwrap_or(u64::MAX))
 }
 
 fn magnitude_of(text: &str) -> Option<u64>
     ensures { result ≡ option_map (λ n. min n most) (magnitude_of text.now) }
 {
     match text.strip_prefix("0x") {
-        Some(digits) => hexadecimal(digits),
-        None => decimal(text),
+        Some(digits) => numeral(digits, 16),
+        None => numeral(text, 10),
     }
 }
 

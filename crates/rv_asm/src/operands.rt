@@ -1,16 +1,34 @@
-//! The word that an instruction's operands give. Operands of another shape give `None`, and a
-//! number outside its field `Some(None)`.
-ghost use Rattle.std.specs.Prelude.{◌≡◌, ◌<◌, ◌≤◌, IfSome};
+//! The word that an instruction's operands give: their texts by the signs between them, the value of
+//! each by its kind, and the fields that the values go to.
+ghost use Rattle.std.specs.Prelude.{◌≡◌, ◌<◌, IfSome};
 ghost use Rattle.std.specs.Option.{option_map};
-ghost use Rattle.rv_asm.specs.Operands.{operand_and, register_and, number_in, csr_and, place_of, registers_word};
-ghost use Rattle.rv_asm.specs.Operands.{immediate_word, load_word, store_word, upper_word, csr_word};
-ghost use Rattle.rv_asm.specs.Operands.{csr_immediate_fields, csr_immediate_word, bare_word, directive_word};
-ghost use Rattle.rv_asm.specs.Operands.{two_registers_and};
+ghost use Rattle.rv_asm.specs.Places.{place_in};
+ghost use Rattle.rv_asm.specs.Operands.{operand_and};
+ghost use Rattle.rv_asm.specs.Inner.Fields.{Fit};
+ghost use Rattle.rv_asm.specs.Inner.Parts.{first_of, place_parts, others_of};
+ghost use Rattle.rv_asm.specs.Inner.Reading.{value_of, kinds_of, fields_of, AllFit, word_by_values, read};
 
-use crate::encoder::word_with;
+use crate::encoder::{Fields, word_of};
+use crate::fault::AsmCause;
 use crate::numbers::number_of;
+use crate::shapes::Shape;
+use crate::targets::offset_in;
 use crate::texts::{cut, register_of, trimmed};
 use rv_decode::Op;
+use std::collections::HashMap;
+
+/// What an operand is.
+#[derive(Clone, Copy)]
+pub(crate) enum Kind {
+    /// `x0` to `x31`.
+    Register,
+    /// A number, from minus the first to the second.
+    Number(u32, u32),
+    /// A label or an offset, which is even and from minus the first to the second.
+    Target(u32, u32),
+    /// No operand.
+    Nothing,
+}
 
 /// The first operand, and what follows its comma.
 #[tactic(auto, unfolding(crate::specs::Operands::operand_and))]
@@ -21,168 +39,141 @@ fn operand_and(text: &str) -> Option<(&str, &str)>
     Some((trimmed(first), trimmed(rest)))
 }
 
-/// A register, and what follows its comma.
+/// The register that stands first, and what follows its comma; 0 where there are no operands.
 #[tactic(auto, unfolding(crate::specs::Operands::register_and))]
-pub(crate) fn register_and(text: &str) -> Option<(u8, &str)>
-    ensures value { option_map (λ x. (x.0, x.1.now)) result ≡ register_and text.now }
+fn first_of(shape: Shape, text: &str) -> Option<(u8, &str)>
+    ensures value { option_map (λ x. (x.0, x.1.now)) result ≡ first_of shape text.now }
     ensures fits { IfSome result (λ x. x.0 < 32) }
 {
-    let (first, rest) = operand_and(text)?;
-    let register = register_of(first)?;
-    Some((register, rest))
-}
-
-/// A number, as 32 bits if it is from -least to greatest.
-fn number_in(least: u32, greatest: u32, text: &str) -> Option<Option<u32>>
-    ensures value { result ≡ number_in least greatest text.now }
-    ensures fits { least ≡ 0 → IfSome result (λ n. IfSome n (λ n. n ≤ greatest)) }
-{
-    let number = number_of(text)?;
-    Some(number.in_field(least, greatest))
-}
-
-/// The number of a control and status register, and what follows its comma.
-#[tactic(auto, unfolding(crate::specs::Operands::csr_and))]
-fn csr_and(text: &str) -> Option<(Option<u32>, &str)>
-    ensures { option_map (λ x. (x.0, x.1.now)) result ≡ csr_and text.now }
-{
-    let (first, rest) = operand_and(text)?;
-    let csr = number_in(0, 4095, first)?;
-    Some((csr, rest))
-}
-
-/// A number and the register in parentheses after it.
-#[tactic(auto, unfolding(crate::specs::Operands::place_of))]
-fn place_of(text: &str) -> Option<(Option<u32>, u8)>
-    ensures value { result ≡ place_of text.now }
-    ensures fits { IfSome result (λ x. x.1 < 32) }
-{
-    let (number, rest) = cut(text, '(')?;
-    let (base, end) = cut(rest, ')')?;
-    let offset = number_in(2048, 2047, number)?;
-    let base = register_of(base)?;
-    if end.is_empty() {
-        Some((offset, base))
+    if let Shape::Bare = shape {
+        Some((0, text))
+    } else if let Some((first, rest)) = operand_and(text)
+        && let Some(register) = register_of(first)
+    {
+        Some((register, rest))
     } else {
         None
     }
 }
 
-/// `rd, rs1, rs2`.
-#[tactic(auto, unfolding(crate::specs::Operands::registers_word))]
-pub(crate) fn registers_word(op: Op, text: &str) -> Option<Option<u32>>
-    ensures { result ≡ registers_word op text.now }
+/// A number, and the operand in parentheses after it.
+fn place_parts(text: &str) -> Option<(&str, &str)>
+    ensures { option_map (λ x. (x.0.now, x.1.now)) result ≡ place_parts text.now }
 {
-    let (rd, rest) = register_and(text)?;
-    let (rs1, rest) = register_and(rest)?;
-    let rs2 = register_of(rest)?;
-    Some(word_with(op, rd, rs1, rs2, Some(0)))
+    if let Some((number, rest)) = cut(text, '(')
+        && let Some((base, end)) = cut(rest, ')')
+        && end.is_empty()
+    {
+        Some((number, base))
+    } else {
+        None
+    }
 }
 
-/// `rd, rs1, number`, the number from -least to greatest.
-#[tactic(auto, unfolding(crate::specs::Operands::immediate_word))]
-pub(crate) fn immediate_word(op: Op, least: u32, greatest: u32, text: &str) -> Option<Option<u32>>
-    ensures { result ≡ immediate_word op least greatest text.now }
+/// The operands after the first register; where there is one alone or none, the last is empty.
+fn others_of(shape: Shape, text: &str) -> Option<(&str, &str)>
+    ensures { option_map (λ x. (x.0.now, x.1.now)) result ≡ others_of shape text.now }
 {
-    let (rd, rest) = register_and(text)?;
-    let (rs1, rest) = register_and(rest)?;
-    let imm = number_in(least, greatest, rest)?;
-    Some(word_with(op, rd, rs1, 0, imm))
+    match shape {
+        Shape::Upper | Shape::Jump | Shape::Bare => Some((text, "")),
+        Shape::Load | Shape::Store => place_parts(text),
+        _ => operand_and(text),
+    }
 }
 
-/// `rd, number(rs1)`.
-#[tactic(auto, unfolding(crate::specs::Operands::load_word))]
-pub(crate) fn load_word(op: Op, text: &str) -> Option<Option<u32>>
-    ensures { result ≡ load_word op text.now }
+/// What each operand after the first register is.
+fn kinds_of(shape: Shape) -> (Kind, Kind)
+    ensures { result ≡ kinds_of shape }
 {
-    let (rd, rest) = register_and(text)?;
-    let (imm, rs1) = place_of(rest)?;
-    Some(word_with(op, rd, rs1, 0, imm))
+    match shape {
+        Shape::Registers => (Kind::Register, Kind::Register),
+        Shape::Immediate => (Kind::Register, Kind::Number(2048, 2047)),
+        Shape::Shift => (Kind::Register, Kind::Number(0, 31)),
+        Shape::Load | Shape::Store => (Kind::Number(2048, 2047), Kind::Register),
+        Shape::Branch => (Kind::Register, Kind::Target(4096, 4095)),
+        Shape::Upper => (Kind::Number(0, 0xFFFFF), Kind::Nothing),
+        Shape::Jump => (Kind::Target(1 << 20, (1 << 20) - 1), Kind::Nothing),
+        Shape::Csr => (Kind::Number(0, 4095), Kind::Register),
+        Shape::CsrImmediate => (Kind::Number(0, 4095), Kind::Number(0, 31)),
+        Shape::Bare => (Kind::Nothing, Kind::Nothing),
+    }
 }
 
-/// `rs2, number(rs1)`.
-#[tactic(auto, unfolding(crate::specs::Operands::store_word))]
-pub(crate) fn store_word(op: Op, text: &str) -> Option<Option<u32>>
-    ensures { result ≡ store_word op text.now }
+/// The value of an operand, if it is in its field.
+pub(crate) fn value_of(
+    labels: &HashMap<&str, u32>,
+    here: u32,
+    kind: Kind,
+    text: &str,
+) -> Result<Option<u32>, AsmCause>
+    ensures { result ≡ value_of (place_in labels.now) here kind text.now }
 {
-    let (rs2, rest) = register_and(text)?;
-    let (imm, rs1) = place_of(rest)?;
-    Some(word_with(op, 0, rs1, rs2, imm))
+    match kind {
+        Kind::Register => match register_of(text) {
+            Some(register) => Ok(Some(u32::from(register))),
+            None => Err(AsmCause::Form),
+        },
+        Kind::Number(least, greatest) => match number_of(text) {
+            Some(number) => Ok(number.in_field(least, greatest)),
+            None => Err(AsmCause::Form),
+        },
+        Kind::Target(least, greatest) => offset_in(labels, here, least, greatest, text),
+        Kind::Nothing if text.is_empty() => Ok(Some(0)),
+        Kind::Nothing => Err(AsmCause::Form),
+    }
 }
 
-/// `rd, number`, the upper 20 bits.
-#[tactic(auto, unfolding(crate::specs::Operands::upper_word))]
-pub(crate) fn upper_word(op: Op, text: &str) -> Option<Option<u32>>
-    ensures { result ≡ upper_word op text.now }
+/// The fields of an instruction whose operands have these values.
+fn fields_of(shape: Shape, a: u32, b: u32, c: u32) -> Fields
+    requires { Fit (fields_of shape a b c) }
+    ensures value { result ≡ fields_of shape a b c }
+    ensures fits { Fit result }
 {
-    let (rd, rest) = register_and(text)?;
-    let Some(upper) = number_in(0, 0xFFFFF, rest)? else {
-        return Some(None);
+    let (rd, rs1, rs2, imm) = match shape {
+        Shape::Registers => (a, b, c, 0),
+        Shape::Immediate | Shape::Shift => (a, b, 0, c),
+        Shape::Load | Shape::Csr | Shape::CsrImmediate => (a, c, 0, b),
+        Shape::Store => (0, c, a, b),
+        Shape::Branch => (0, a, b, c),
+        Shape::Upper => (a, 0, 0, b << 12),
+        Shape::Jump => (a, 0, 0, b),
+        Shape::Bare => (0, 0, 0, 0),
     };
-    Some(word_with(op, rd, 0, 0, Some(upper * (1 << 12))))
+    Fields { rd, rs1, rs2, imm }
 }
 
-/// `rd, number, rs1`, the number of a control and status register.
-#[tactic(auto, unfolding(crate::specs::Operands::csr_word))]
-pub(crate) fn csr_word(op: Op, text: &str) -> Option<Option<u32>>
-    ensures { result ≡ csr_word op text.now }
+/// The word of these values, if each is in its field.
+fn word_by_values(op: Op, shape: Shape, a: u8, b: Option<u32>, c: Option<u32>) -> Option<u32>
+    requires { AllFit shape a b c }
+    ensures { result ≡ word_by_values op shape a b c }
 {
-    let (rd, rest) = register_and(text)?;
-    let (csr, rest) = csr_and(rest)?;
-    let rs1 = register_of(rest)?;
-    Some(word_with(op, rd, rs1, 0, csr))
-}
-
-/// The word of an access to a control and status register with an immediate, if both numbers fit.
-fn csr_immediate_fields(op: Op, rd: u8, csr: Option<u32>, value: Option<u32>) -> Option<u32>
-    requires rd { rd < 32 }
-    requires value { IfSome value (λ n. n < 32) }
-    ensures { result ≡ csr_immediate_fields op rd csr value }
-{
-    let imm = csr?;
-    let rs1 = value?;
-    word_with(op, rd, rs1 as u8, 0, Some(imm))
-}
-
-/// `rd, number, number`.
-#[tactic(auto, unfolding(crate::specs::Operands::csr_immediate_word))]
-pub(crate) fn csr_immediate_word(op: Op, text: &str) -> Option<Option<u32>>
-    ensures { result ≡ csr_immediate_word op text.now }
-{
-    let (rd, rest) = register_and(text)?;
-    let (csr, rest) = csr_and(rest)?;
-    let value = number_in(0, 31, rest)?;
-    Some(csr_immediate_fields(op, rd, csr, value))
-}
-
-/// No operands.
-#[tactic(auto, unfolding(crate::specs::Operands::bare_word))]
-pub(crate) fn bare_word(op: Op, text: &str) -> Option<Option<u32>>
-    ensures { result ≡ bare_word op text.now }
-{
-    if text.is_empty() {
-        Some(word_with(op, 0, 0, 0, Some(0)))
+    if let Some(b) = b
+        && let Some(c) = c
+    {
+        Some(word_of(op, fields_of(shape, u32::from(a), b, c)))
     } else {
         None
     }
 }
 
-/// `.word number`.
-#[tactic(auto, unfolding(crate::specs::Operands::directive_word))]
-pub(crate) fn directive_word(text: &str) -> Option<Option<u32>>
-    ensures { result ≡ directive_word text.now }
+/// The word of an instruction's operands, if each value is in its field.
+pub(crate) fn operands_word(
+    labels: &HashMap<&str, u32>,
+    here: u32,
+    op: Op,
+    text: &str,
+    shape: Shape,
+) -> Result<Option<u32>, AsmCause>
+    ensures { result ≡ read (place_in labels.now) here op text.now shape }
 {
-    number_in(1 << 31, u32::MAX, text)
-}
-
-/// Two registers, and what follows the second's comma.
-#[tactic(auto, unfolding(crate::specs::Operands::two_registers_and))]
-pub(crate) fn two_registers_and(text: &str) -> Option<(u8, u8, &str)>
-    ensures value { option_map (λ x. (x.0, x.1, x.2.now)) result ≡ two_registers_and text.now }
-    ensures first { IfSome result (λ x. x.0 < 32) }
-    ensures second { IfSome result (λ x. x.1 < 32) }
-{
-    let (rs1, rest) = register_and(text)?;
-    let (rs2, rest) = register_and(rest)?;
-    Some((rs1, rs2, rest))
+    let Some((a, rest)) = first_of(shape, text) else {
+        return Err(AsmCause::Form);
+    };
+    let Some((second, third)) = others_of(shape, rest) else {
+        return Err(AsmCause::Form);
+    };
+    let (kind, last) = kinds_of(shape);
+    let b = value_of(labels, here, kind, second)?;
+    let c = value_of(labels, here, last, third)?;
+    Ok(word_by_values(op, shape, a, b, c))
 }

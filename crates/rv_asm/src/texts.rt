@@ -1,8 +1,8 @@
 //! Parts of a line: comments, blanks, words, names and registers.
-ghost use Rattle.std.specs.Prelude.{◌≡◌, ◌-◌, ◌<◌, ◌≤◌, true, length, drop, slice_index, IfSome};
+ghost use Rattle.std.specs.Prelude.{◌≡◌, ◌-◌, ◌<◌, ◌≤◌, true, length, drop, slice_index};
 ghost use Rattle.std.specs.Option.{option_map};
 ghost use Rattle.std.specs.List.{list_all, prefix_len, suffix_len, position_or_len, before_first};
-ghost use Rattle.rv_asm.specs.Texts.{is_blank, without_front, without_back, trimmed, cut, code_of, is_name_byte};
+ghost use Rattle.rv_asm.specs.Texts.{is_blank, trimmed, cut, code_of, is_name_byte};
 ghost use Rattle.rv_asm.specs.Texts.{is_name, register_of};
 
 /// Whether the byte is a space or a tab.
@@ -49,28 +49,15 @@ fn word_length(bytes: &[u8]) -> usize
     bytes.len()
 }
 
-/// The text without the blanks at its front.
-fn without_front(text: &str) -> &str
-    ensures { result.now ≡ without_front text.now }
-{
-    let n = front_blanks(text.as_bytes());
-    &text[n..]
-}
-
-/// The text without the blanks at its end.
-fn without_back(text: &str) -> &str
-    ensures { result.now ≡ without_back text.now }
-{
-    let n = length_to_back(text.as_bytes());
-    &text[..n]
-}
-
 /// The text without the blanks around it.
 #[tactic(auto, unfolding(crate::specs::Texts::trimmed))]
 pub(crate) fn trimmed(text: &str) -> &str
     ensures { result.now ≡ trimmed text.now }
 {
-    without_back(without_front(text))
+    let front = front_blanks(text.as_bytes());
+    let rest = &text[front..];
+    let length = length_to_back(rest.as_bytes());
+    &rest[..length]
 }
 
 /// The text up to its first blank, and the rest of it.
@@ -124,8 +111,7 @@ pub(crate) fn is_name(text: &str) -> bool
 
 /// The number of the register that the text names.
 pub(crate) fn register_of(text: &str) -> Option<u8>
-    ensures value { result ≡ register_of text.now }
-    ensures fits { IfSome result (λ n. n < 32) }
+    ensures { result ≡ register_of text.now }
 {
     match text.as_bytes() {
         [b'x', a] if a.is_ascii_digit() => Some(*a - b'0'),

@@ -1,5 +1,5 @@
 -- The course of the assembler over the lines, from the first to the last.
-use Rattle.std.specs.Prelude.{◌≡◌, ℕ, ◌+◌, ◌==◌, Bool, false, List, [], ◌∷◌, if◌then◌else◌, Option, Some, None, Result}
+use Rattle.std.specs.Prelude.{◌≡◌, ℕ, ◌+◌, ◌==◌, Bool, false, List, [], ◌∷◌, ◌++◌, if◌then◌else◌, Option, Some, None, Result}
 use Rattle.std.specs.Prelude.{Ok, Err}
 use Rattle.std.specs.declared.vec.Vec.{Vec}
 use Rattle.std.specs.declared.alloc.Global.{Global}
@@ -7,7 +7,7 @@ use Rattle.rv_asm.specs.declared.fault.AsmCause.{AsmCause}
 use Rattle.rv_asm.specs.declared.fault.AsmFault.{AsmFault}
 use Rattle.rv_asm.specs.declared.fault.AsmFault.TheVariants.{Line, Memory}
 use Rattle.rv_asm.specs.Places.{is_label}
-use Rattle.rv_asm.specs.Lines.{gives_word, label_of, line_word}
+use Rattle.rv_asm.specs.Lines.{gives_word, label_of, plain_word, labelled_word, line_word}
 
 -- the place of the first line that gives this label, where the first line has this address
 abbrev pub place_from : ℕ → List (List ℕ) → List ℕ → Option ℕ
@@ -25,6 +25,12 @@ is_here here (Some there) = there == here
 -- whether a label has its place here, so that no earlier line gives it
 abbrev pub is_first : (List ℕ → Option ℕ) → ℕ → List ℕ → Bool
 is_first places here name = is_here here (places name)
+
+-- the word of a statement with or without a label
+abbrev pub statement_word : (List ℕ → Option ℕ) → ℕ → Option (List ℕ) → List ℕ → Result ℕ AsmCause
+statement_word places here None statement = plain_word places here statement
+statement_word places here (Some label) statement =
+    labelled_word places here (is_first places here label) label statement
 
 -- the word of a line at this address
 abbrev pub word_from : (List ℕ → Option ℕ) → ℕ → List ℕ → Result ℕ AsmCause
@@ -50,8 +56,17 @@ words_from places n address (line ∷ lines) =
     >>= λ words. Ok (word ∷ words))
     else words_from places (n + 1) address lines
 
--- the words, or the first fault, unless memory was wanting
+-- the fault that is meant, or memory was wanting
+abbrev pub Fails : {T : Type 0} → Result T AsmFault → AsmFault → Type 0
+Fails meant (Line n cause) = meant ≡ Err (Line n cause)
+Fails meant Memory = Unit {0}
+
+-- the word that is meant is put after the others, unless that fails
+abbrev pub Pushes : {T : Type 0} → List ℕ → List ℕ → Result ℕ AsmFault → Result T AsmFault → Type 0
+Pushes old new meant (Ok done) = (word : ℕ) × (meant ≡ Ok word) × (new ≡ old ++ word ∷ [])
+Pushes old new meant (Err fault) = Fails meant fault
+
+-- the words that are meant, unless that fails
 abbrev pub Gives : Result (Vec ℕ Global) AsmFault → Result (List ℕ) AsmFault → Type 0
 Gives (Ok words) meant = meant ≡ Ok words.items
-Gives (Err (Line n cause)) meant = meant ≡ Err (Line n cause)
-Gives (Err Memory) meant = Unit {0}
+Gives (Err fault) meant = Fails meant fault

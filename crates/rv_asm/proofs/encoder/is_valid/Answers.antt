@@ -8,12 +8,12 @@ use Rattle.rv_asm.proofs.encoder.is_valid.Goals as goal
 
 pub returns-then-fits : goal.returns-then-fits
 returns-then-fits c = (
-  λ yes. (c.word_of.result, c.word_of.type_inv, c.is_meant.ensures.0 yes),
+  λ yes. (c.word_with.result, c.word_with.type_inv, c.is_meant.ensures.0 yes),
   λ valid.
       let encoded =
       encoded-means valid.0 c.args.i.now valid.1 c.rows_differ.ensures.instructions
       c.rows_match_fields.ensures valid.2 in
-      let is : c.word_of.result ≡ valid.0 = Some-is (sym c.word_of.ensures ∙ encoded) in
+      let is : c.word_with.result ≡ valid.0 = Some-is (sym c.word_with.ensures ∙ encoded) in
       let P : ℕ → Type 0 = λ word. means word ≡ Some c.args.i.now in
       c.is_meant.ensures.1 (subst P (sym is) valid.2),
 )

@@ -4,8 +4,8 @@ use Rattle.std.proofs.lemmas.Result.{err_from_is_err_and}
 use Rattle.rv_asm.specs.Places.{place_in}
 use Rattle.rv_asm.specs.Numbers.{number_of}
 use Rattle.rv_asm.specs.Lines.{target_of}
-use Rattle.rv_asm.proofs.Targets.{target_number, target_label, target_fault}
-use Rattle.rv_asm.proofs.lines.offset_in.Goals as goal
+use Rattle.rv_asm.proofs.OffsetLemmas.{target_number, target_label, target_fault}
+use Rattle.rv_asm.proofs.targets.offset_in.Goals as goal
 
 pub returns-in-Some : goal.returns-in-Some
 unfolding target_of
