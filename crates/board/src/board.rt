@@ -3,7 +3,7 @@ ghost use Rattle.std.specs.Prelude.{◌≡◌, ◌≢◌, ℕ, ◌+◌, ◌/◌,
 ghost use Rattle.std.specs.Prelude.{slice_get, slice_index_or, option_map, OnOk, OnErr, IfOk, IfErr, IsTrue};
 ghost use Rattle.rv_hart.specs.Trap.{chosen};
 
-use crate::wires::Wires;
+use crate::wires::{Rooms, Wires};
 use dev_core::{Device, Entry, Payload, Post, Taken};
 use lab_num::{BoardNo, Micros, NoMemory};
 use plic::PlicState;
@@ -11,7 +11,6 @@ use rv_exec::step;
 use rv_hart::{Hart, Lines};
 use std::alloc::Global;
 use std::marker::Model;
-use std::mem;
 use sys_bus::BoardPlan;
 
 /// The copies of the interpreter, of which each is called from one place, so that it is inlined
@@ -90,10 +89,12 @@ impl<D: Device> Board<D> {
         ensures state { IfOk result (λ board. board ≡ quiet (new_board number.0 plan)) }
         ensures back { IfErr result (λ back. back.items ≡ devices.items) }
     {
-        let wires = Wires::new(alloc, number, plan, devices)?;
+        let Ok(rooms) = Rooms::new(alloc, number, &plan, devices.len()) else {
+            return Err(devices);
+        };
         Ok(Board {
             hart: Hart::new(),
-            wires,
+            wires: Wires::new(plan, rooms, devices),
         })
     }
 
@@ -190,22 +191,6 @@ impl<D: Device> Board<D> {
         }
     }
 
-    /// The state of the interrupt controller, where there is one.
-    fn controller_state(&self) -> Option<PlicState>
-        ensures value { result ≡ option_map (λ c. c.state) self.now.view.space.controller }
-        ensures valid { IsStateOf self.now.view.space.controller result }
-    {
-        self.wires.space.controller_state()
-    }
-
-    /// The interrupt controller samples its sources, and the lines are read.
-    fn sample(&mut self, at: Micros) -> Lines
-        ensures after { self.new ≡ record self.old { view = sampling self.old.view } }
-        ensures lines { result ≡ lines_of (sampled self.old.view.space) at.0 }
-    {
-        self.wires.space.sample(at)
-    }
-
     /// Puts the interrupt controller back into a state that it had.
     fn put_controller(&mut self, state: &Option<PlicState>)
         requires { IsStateOf self.old.view.space.controller state.now }
@@ -223,8 +208,8 @@ impl<D: Device> Board<D> {
             (running (sampling self.old.view) at.0 (lines_of (sampled self.old.view.space) at.0))) }
         ensures err { OnErr result (self.new ≡ self.old) }
     {
-        let before = self.controller_state();
-        let lines = self.sample(at);
+        let before = self.wires.space.controller_state();
+        let lines = self.wires.space.sample(at);
         let Ok(()) = self.run::<APART>(at, lines) else {
             self.put_controller(&before);
             return Err(NoMemory);
@@ -322,11 +307,7 @@ impl<D: Device> Board<D> {
         ensures taken { result.items ≡ self.old.entries }
         ensures left { self.new ≡ record self.old { entries = [] } }
     {
-        let none = Vec::new(*self.wires.made.entries.allocator());
-        if self.wires.made.entries.is_empty() {
-            return none;
-        }
-        mem::replace(&mut self.wires.made.entries, none)
+        self.wires.made.take_entries()
     }
 
     /// Shows a UART or a CAN controller: from now on each byte or frame that it sends makes a log
