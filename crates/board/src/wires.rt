@@ -13,7 +13,7 @@ ghost use Rattle.board.specs.View.{wires_of};
 ghost use Rattle.sys_bus.specs.Plan.{IsValid};
 
 use crate::made::Made;
-use crate::space::{Parts, Space};
+use crate::space::{Parts, Space, regions_and_memories};
 use dev_core::{Device, Effect, Payload, What};
 use lab_num::{BoardNo, Micros, NoMemory};
 use rv_exec::{Bus, NoMemory as OutOfMemory};
@@ -69,8 +69,16 @@ impl<D: Device> Rooms<D> {
         ensures room { IfOk result (λ rooms. devices ≤ vec_capacity rooms.parts.devices) }
     {
         let made = Made::new(alloc, number, plan.speed)?;
-        let parts = Parts::new(alloc, plan, devices)?;
-        Ok(Rooms { made, parts })
+        let devices = Vec::with_capacity(alloc, devices)?;
+        let (regions, memories) = regions_and_memories(alloc, plan)?;
+        Ok(Rooms {
+            made,
+            parts: Parts {
+                regions,
+                memories,
+                devices,
+            },
+        })
     }
 }
 
