@@ -136,11 +136,6 @@ put_front s at room bytes count n d old new from has few within part_is old_is n
       ),
     )
 
--- what holds in any case holds after an error
-pub on_err : {T E P : Type 0} (r : Result T E) → P → OnErr r P
-on_err (Ok x) p = tt
-on_err (Err e) p = p
-
 -- the pieces so far, and one more
 pub one_more :
     (s mid new : Space) (at done n : ℕ) (bytes : List ℕ) → done ≤ length bytes →

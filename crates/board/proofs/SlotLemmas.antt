@@ -19,7 +19,7 @@ use Rattle.board.specs.Wires.{Wires, posted, entered, entered_if, note_if, sent,
 use Rattle.board.specs.Wires.{loaded_from, stored_to}
 use Rattle.rv_exec.specs.Effect.{Effect, Done, Load, Store, effect_of_fetch, core_after, bus_after}
 use Rattle.board.specs.View.{View, State, quiet, state_of, after}
-use Rattle.board.specs.Slot.{slot, awake, carried_out}
+use Rattle.board.specs.Slot.{slot, awake}
 
 -- the wires with this space, by which all this was made before
 abbrev pub wires_by : Wires → Space → List Post → List Entry → Wires

@@ -90,7 +90,11 @@ impl<D: Device> Space<D> {
     {
         let mut done = 0;
         while done < bytes.len() {
-            done += self.copy_piece(u64::from(at) + done as u64, &bytes[done..])?;
+            let next = u64::from(at) + done as u64;
+            let Ok(count) = self.copy_piece(next, &bytes[done..]) else {
+                return Err(NoMemory);
+            };
+            done += count;
         }
         Ok(())
     }
@@ -106,7 +110,10 @@ impl<D: Device> Space<D> {
     {
         let room = self.room_from(at);
         let count = bytes.len().min(room.size as usize);
-        self.memories[usize::from(room.part)].copy_in(room.at, &bytes[..count])?;
+        let memory = &mut self.memories[usize::from(room.part)];
+        let Ok(()) = memory.copy_in(room.at, &bytes[..count]) else {
+            return Err(NoMemory);
+        };
         Ok(count)
     }
 
