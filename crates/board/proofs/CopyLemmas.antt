@@ -7,8 +7,6 @@ use Rattle.std.proofs.Math.Seq.{take-add}
 use Rattle.std.proofs.lemmas.List.{drop-set-lt, take-append-drop, get_or-set_same, set-get_or, get_or_default}
 use Rattle.std.proofs.lemmas.List.{length-take, length-take-le, length-drop, take-take, length-replicate}
 use Rattle.std.proofs.lemmas.List.{replicate-append-replicate}
-use Rattle.std.specs.Prelude.{Result, Ok, Err}
-use Rattle.std.specs.Result.{OnErr}
 use Rattle.page_ram.specs.Bytes.{put_bytes, zeros}
 use Rattle.sys_bus.specs.declared.region.Target.{Target}
 use Rattle.sys_bus.specs.declared.region.Target.TheVariants.{Ram, Clint, Plic, Dev, Nothing}

@@ -13,7 +13,7 @@ use Rattle.rv_exec.specs.Effect.{effect_of_fetch, core_after}
 use Rattle.sys_bus.specs.declared.plan.BoardPlan.{BoardPlan}
 use Rattle.board.specs.Lines.{sampled, lines_of}
 use Rattle.board.specs.Numbers.{Numbers, one_more}
-use Rattle.board.specs.Wires.{Wires, fetched, answer}
+use Rattle.board.specs.Wires.{fetched, answer}
 use Rattle.board.specs.View.{View, State, quiet, wires_of, state_of, after}
 use Rattle.board.specs.Slot.{slot, running, sampling, awake, asleep, woken, cycle, instruction}
 use Rattle.board.specs.Stretch.{stretch}
