@@ -7,6 +7,8 @@ use Rattle.std.proofs.Math.Seq.{take-add}
 use Rattle.std.proofs.lemmas.List.{drop-set-lt, take-append-drop, get_or-set_same, set-get_or, get_or_default}
 use Rattle.std.proofs.lemmas.List.{length-take, length-take-le, length-drop, take-take, length-replicate}
 use Rattle.std.proofs.lemmas.List.{replicate-append-replicate}
+use Rattle.std.specs.Prelude.{Result, Ok, Err}
+use Rattle.std.specs.Result.{OnErr}
 use Rattle.page_ram.specs.Bytes.{put_bytes, zeros}
 use Rattle.sys_bus.specs.declared.region.Target.{Target}
 use Rattle.sys_bus.specs.declared.region.Target.TheVariants.{Ram, Clint, Plic, Dev, Nothing}
@@ -133,6 +135,11 @@ put_front s at room bytes count n d old new from has few within part_is old_is n
             (new_is ∙ ap (λ b. put_bytes old room.at b) same),
       ),
     )
+
+-- what holds in any case holds after an error
+pub on_err : {T E P : Type 0} (r : Result T E) → P → OnErr r P
+on_err (Ok x) p = tt
+on_err (Err e) p = p
 
 -- the pieces so far, and one more
 pub one_more :

@@ -1,6 +1,6 @@
 //! The board: its slots, and what they make.
 ghost use Rattle.std.specs.Prelude.{◌≡◌, ◌≢◌, ℕ, ◌+◌, ◌/◌, ◌%◌, ◌<◌, ◌≤◌, ◌^◌, [], true, length, drop, map, All};
-ghost use Rattle.std.specs.Prelude.{slice_get, slice_index_or, option_map, OnOk, OnErr, IfOk, IfErr, IsTrue};
+ghost use Rattle.std.specs.Prelude.{slice_get, slice_index_or, OnOk, OnErr, IfOk, IfErr, IsTrue};
 ghost use Rattle.rv_hart.specs.Trap.{chosen};
 
 use crate::wires::{Rooms, Wires};
@@ -11,6 +11,7 @@ use rv_exec::step;
 use rv_hart::{Hart, Lines};
 use std::alloc::Global;
 use std::marker::Model;
+use std::mem;
 use sys_bus::BoardPlan;
 
 /// The copies of the interpreter, of which each is called from one place, so that it is inlined
@@ -307,7 +308,11 @@ impl<D: Device> Board<D> {
         ensures taken { result.items ≡ self.old.entries }
         ensures left { self.new ≡ record self.old { entries = [] } }
     {
-        self.wires.made.take_entries()
+        let none = Vec::new(*self.wires.made.entries.allocator());
+        if self.wires.made.entries.is_empty() {
+            return none;
+        }
+        mem::replace(&mut self.wires.made.entries, none)
     }
 
     /// Shows a UART or a CAN controller: from now on each byte or frame that it sends makes a log

@@ -11,7 +11,6 @@ use lab_num::{BoardNo, Key, Member, Micros, NoMemory, PostNo};
 use rv_exec::NoMemory as OutOfMemory;
 use std::alloc::Global;
 use std::collections::VecDeque;
-use std::mem;
 
 /// A board's numbers, and what it has made and nobody has taken yet.
 #[derive(Drop)]
@@ -76,21 +75,6 @@ impl Made {
         ensures { IsTrue result ↔ HasRoom self.now }
     {
         self.posts.len() < self.posts.capacity() && self.entries.len() < self.entries.capacity()
-    }
-
-    /// Hands out the entries, and keeps none.
-    pub fn take_entries(&mut self) -> Vec<Entry>
-        ensures taken { result.items ≡ self.old.entries.items }
-        ensures left { self.new.entries.items ≡ [] }
-        ensures posts { self.new.posts.items ≡ self.old.posts.items }
-        ensures numbers { self.new.numbers ≡ self.old.numbers }
-    {
-        let mut taken = Vec::new(*self.entries.allocator());
-        // where there are none, their room is kept
-        if !self.entries.is_empty() {
-            mem::swap(&mut taken, &mut self.entries);
-        }
-        taken
     }
 
     /// Notes something for the log.

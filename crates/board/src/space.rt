@@ -75,7 +75,7 @@ impl<D: Device> Model for Space<D> {
         (s.regions ≡ s.plan.regions) × IsFit seen × (s.wired ≡ is_wired s.plan) × IsRight seen s.remembered };
 }
 
-/// Of what a new board of a plan reaches, that for which it takes memory.
+/// What a new board of a plan reaches and takes memory for.
 #[derive(Drop)]
 pub struct Parts<D: Device> {
     pub regions: Regions,

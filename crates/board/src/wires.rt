@@ -1,20 +1,19 @@
 //! What the processor is wired to in a slot, and what the board makes by it.
-ghost use Rattle.std.specs.Prelude.{◌≡◌, ◌+◌, ◌^◌, ◌<◌, ◌≤◌, [], length, map, IfOk, IfErr, OnOk, OnErr};
+ghost use Rattle.std.specs.Prelude.{◌≡◌, ◌+◌, ◌^◌, ◌<◌, ◌≤◌, [], length, map, IfOk, OnOk, OnErr};
 ghost use Rattle.std.specs.Vec.{vec_len, vec_capacity};
 ghost use Rattle.dev_core.specs.declared.post.What.TheVariants.{Read};
 ghost use Rattle.page_ram.specs.Access.{IsInOnePage};
 ghost use Rattle.page_ram.specs.Bytes.{zeros};
 ghost use Rattle.rv_exec.specs.Access.{IsAccess, IsWidth};
 ghost use Rattle.sys_bus.specs.declared.region.Target.TheVariants.{Ram, Dev};
-ghost use Rattle.board.specs.Wires.{fetched, answer, loaded, stored, stored_to, sent, entered};
-ghost use Rattle.board.specs.New.{first_states, new_board, new_numbers, new_space};
+ghost use Rattle.board.specs.Wires.{fetched, answer, loaded, stored, stored_to, entered};
+ghost use Rattle.board.specs.New.{first_states, new_numbers, new_space};
 ghost use Rattle.board.specs.Space.{memory_at};
-ghost use Rattle.board.specs.View.{wires_of};
 ghost use Rattle.sys_bus.specs.Plan.{IsValid};
 
 use crate::made::Made;
 use crate::space::{Parts, Space, regions_and_memories};
-use dev_core::{Device, Effect, Payload, What};
+use dev_core::{Device, Effect, What};
 use lab_num::{BoardNo, Micros, NoMemory};
 use rv_exec::{Bus, NoMemory as OutOfMemory};
 use std::alloc::Global;

@@ -12,12 +12,54 @@ use dev_core::Device;
 use lab_num::Micros;
 use plic::{Plic, PlicState};
 
+fn load_timer(timer: &Option<Clint>, now: Micros, at: u32, width: u8) -> u32
+    requires { IsWidth width }
+    ensures value { result ≡ timer_load timer.now now.0 at width }
+    ensures fits { result < 256 ^ width }
+{
+    match timer {
+        Some(timer) => timer.load(at, width, now),
+        None => 0,
+    }
+}
+
+fn store_timer(timer: &mut Option<Clint>, now: Micros, at: u32, width: u8, value: u32)
+    ensures after { timer.new ≡ timer_stored timer.old now.0 at width value }
+    ensures kept { option_map (λ c. c.frequency) timer.new ≡ option_map (λ c. c.frequency) timer.old }
+{
+    if let Some(timer) = timer {
+        timer.store(at, width, value, now);
+    }
+}
+
 fn reset_timer(timer: &mut Option<Clint>)
     ensures after { timer.new ≡ option_map reset_timer timer.old }
     ensures kept { option_map (λ c. c.frequency) timer.new ≡ option_map (λ c. c.frequency) timer.old }
 {
     if let Some(timer) = timer {
         timer.reset();
+    }
+}
+
+fn load_controller(controller: &mut Option<Plic>, at: u32, width: u8) -> u32
+    requires { IsWidth width }
+    ensures value { result ≡ controller_load controller.old at width }
+    ensures after { controller.new ≡ controller_loaded controller.old at width }
+    ensures kept { option_map size_of controller.new ≡ option_map size_of controller.old }
+    ensures fits { result < 256 ^ width }
+{
+    match controller {
+        Some(controller) => controller.load(at, width),
+        None => 0,
+    }
+}
+
+fn store_controller(controller: &mut Option<Plic>, at: u32, width: u8, value: u32)
+    ensures after { controller.new ≡ controller_stored controller.old at width value }
+    ensures kept { option_map size_of controller.new ≡ option_map size_of controller.old }
+{
+    if let Some(controller) = controller {
+        controller.store(at, width, value);
     }
 }
 
@@ -57,10 +99,7 @@ impl<D: Device> Space<D> {
         ensures value { result ≡ timer_load self.now.timer now.0 at width }
         ensures fits { result < 256 ^ width }
     {
-        match &self.timer {
-            Some(timer) => timer.load(at, width, now),
-            None => 0,
-        }
+        load_timer(&self.timer, now, at, width)
     }
 
     pub fn store_timer(&mut self, now: Micros, at: u32, width: u8, value: u32)
@@ -69,9 +108,7 @@ impl<D: Device> Space<D> {
         } }
     {
         self.remembered = None;
-        if let Some(timer) = &mut self.timer {
-            timer.store(at, width, value, now);
-        }
+        store_timer(&mut self.timer, now, at, width, value);
     }
 
     pub fn load_controller(&mut self, at: u32, width: u8) -> u32
@@ -83,10 +120,7 @@ impl<D: Device> Space<D> {
         ensures fits { result < 256 ^ width }
     {
         self.remembered = None;
-        match &mut self.controller {
-            Some(controller) => controller.load(at, width),
-            None => 0,
-        }
+        load_controller(&mut self.controller, at, width)
     }
 
     pub fn store_controller(&mut self, at: u32, width: u8, value: u32)
@@ -95,9 +129,7 @@ impl<D: Device> Space<D> {
         } }
     {
         self.remembered = None;
-        if let Some(controller) = &mut self.controller {
-            controller.store(at, width, value);
-        }
+        store_controller(&mut self.controller, at, width, value);
     }
 
     /// The state of the interrupt controller, where there is one.

@@ -90,11 +90,7 @@ impl<D: Device> Space<D> {
     {
         let mut done = 0;
         while done < bytes.len() {
-            let next = u64::from(at) + done as u64;
-            let Ok(count) = self.copy_piece(next, &bytes[done..]) else {
-                return Err(NoMemory);
-            };
-            done += count;
+            done += self.copy_piece(u64::from(at) + done as u64, &bytes[done..])?;
         }
         Ok(())
     }
@@ -110,10 +106,7 @@ impl<D: Device> Space<D> {
     {
         let room = self.room_from(at);
         let count = bytes.len().min(room.size as usize);
-        let memory = &mut self.memories[usize::from(room.part)];
-        let Ok(()) = memory.copy_in(room.at, &bytes[..count]) else {
-            return Err(NoMemory);
-        };
+        self.memories[usize::from(room.part)].copy_in(room.at, &bytes[..count])?;
         Ok(count)
     }
 

@@ -1,7 +1,7 @@
 use Rattle.std.proofs.Common.{◌≡◌, ◌+◌, ◌-◌, ◌∙◌, arith, take, drop, length}
 use Rattle.std.proofs.lemmas.List.{length-drop, take_all}
 use Rattle.board.specs.Changes.{in_memory}
-use Rattle.board.proofs.CopyLemmas.{one_more, front_of, still_memory}
+use Rattle.board.proofs.CopyLemmas.{one_more, front_of, on_err, still_memory}
 use Rattle.board.proofs.ListLemmas.{range_passes}
 use Rattle.board.proofs.space.Space.copy_in.Goals as goal
 
@@ -13,15 +13,16 @@ copy_piece-requires-clause-memory g c =
     ∙ range_passes (in_memory c.args.self.now) c.args.at (length c.args.bytes.now) c.loop-done.done c.requires
     c.loop-done-test.true)
 
-pub returns-in_default-clause-err : goal.returns-in_default-clause-err
-returns-in_default-clause-err g c =
+pub returns-in_err-done-clause-err : goal.returns-in_err-done-clause-err
+returns-in_err-done-clause-err g c =
     let bytes = c.args.bytes.now in
     let done = c.loop-done.done in
     let left = length-drop done bytes in
     let rest : take (length bytes - done) (drop done bytes) ≡ drop done bytes =
     take_all (length bytes - done) (drop done bytes) (omega (arith, left)) in
-    front_of c.args.self.now c.loop-done.self c.copy_piece.new.self c.args.at done bytes c.loop-done.invariant.done
-    c.loop-done.invariant.self (rw (rest, c.from.ensures) at ((c.in_default.ensures {u = tt}).err))
+    on_err c.from_residual.result
+    (front_of c.args.self.now c.loop-done.self c.copy_piece.new.self c.args.at done bytes c.loop-done.invariant.done
+    c.loop-done.invariant.self (rw (rest, c.from.ensures) at ((c.in_err-done.ensures {u = tt}).err)))
 
 pub loop-done-preserved : goal.loop-done-preserved
 loop-done-preserved g c =
@@ -30,10 +31,10 @@ loop-done-preserved g c =
     let left = length-drop done bytes in
     let rest : take (length bytes - done) (drop done bytes) ≡ drop done bytes =
     take_all (length bytes - done) (drop done bytes) (omega (arith, left)) in
-    let ok = rw (rest, c.from.ensures) at (c.in-Ok.ensures {u = tt}) in
+    let ok = rw (rest, c.from.ensures) at (c.in_ok-done.ensures {u = tt}) in
     record {
       done = omega (arith, ok.count.1, left, c.loop-done.invariant.done);
       self =
-          one_more c.args.self.now c.loop-done.self c.copy_piece.new.self c.args.at done c.in-Ok.count bytes
+          one_more c.args.self.now c.loop-done.self c.copy_piece.new.self c.args.at done c.in_ok-done.field-0 bytes
           c.loop-done.invariant.done c.loop-done.invariant.self ok.ok;
     }
