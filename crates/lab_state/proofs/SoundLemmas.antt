@@ -1,6 +1,6 @@
 -- What holds of a laboratory goes on to hold where it is changed.
 use Rattle.std.proofs.Common.{◌≡◌, ◌∙◌, sym, ap, refl, Bool, true, false, cond, ℕ, ◌+◌, ◌*◌, ◌<◌, ◌≤◌, List, [], ◌∷◌, ◌++◌}
-use Rattle.std.proofs.Common.{length, map, set, get_or, slice_get, Option, Some, None, add-zero, arith}
+use Rattle.std.proofs.Common.{length, map, set, get_or, slice_get, Option, Some, None, add-zero, arith, rules}
 use Rattle.std.specs.Prelude.{is_some, IsSome, option_and_then}
 use Rattle.std.specs.Option.{option_map}
 use Rattle.std.specs.List.{All}
@@ -63,19 +63,10 @@ sound-new = record {
   shape = record {
     few = omega arith;
     devices = All-nil _;
-    names = record {
-      boards_differ = λ i j d before within. absurd (omega arith);
-      hubs_differ = λ i j d before within. absurd (omega arith);
-      apart = All-nil _;
-    };
-    enough = record {
-      few = λ kind. omega arith;
-      uarts = omega arith;
-      cans = omega arith;
-      finishers = omega arith;
-    };
+    names = search rules;
+    enough = search rules;
   };
-  times = record { time = omega arith; least_quantum = omega arith; most_quantum = omega arith };
+  times = search rules;
   timed = record { closed = refl; speeds = refl; standing = λ b n at. absurd (cc) };
 }
 
@@ -188,6 +179,10 @@ kind-outlines boards m = grind (arith, common_steps, slice_get-map outline board
 
 -- ---- one board changed
 
+some_of : {A : Type 0} (o : Option A) → IsSome o → (x : A) × (o ≡ Some x)
+some_of None has = absurd (cc)
+some_of (Some x) has = (x, refl)
+
 module _ {lab : Lab} {spares : Spares} {source : Tree} (i : ℕ) {old : Board} (is : old ≡ get_or lab.boards i old)
     (sound : IsSound lab spares source) where
   -- its name, its devices and its numbers stay
@@ -200,49 +195,38 @@ module _ {lab : Lab} {spares : Spares} {source : Tree} (i : ℕ) {old : Board} (
     timed = rw (map-set_same number_of lab.boards i new old (also ∙ ap number_of is)) sound.timed;
   }
 
-  -- its name and its devices stay, and its member gets its speed
-  pub sound-numbers :
-      (new : Board) (n : Numbers) → outline new ≡ outline old → number_of new ≡ Some n →
-      IsStanding (1000 * source.end) i n →
-      IsSound (record lab { boards = set lab.boards i new }) spares (tree.with_speed source i n.speed)
-  sound-numbers new n same has stands = record {
-    shape = rw (map-set_same outline lab.boards i new old (same ∙ ap outline is)) sound.shape;
-    times = sound.times;
-    timed = rw (map-set number_of lab.boards i new, has) (timed-set sound.timed i n stands);
-  }
-
-  -- the board is the one that is read
-  pub here : IsSome (view_at lab.boards i) → slice_get lab.boards i ≡ Some old
-  here has = slice_get_read lab.boards (length lab.boards) i old refl (planned_below lab.boards i has) is
-
-  -- another speed
+  -- its speed is another, and its member's
   pub sound-speed :
       (speed : ℕ) → 1 ≤ speed → speed ≤ 1000 → IsSome (view_at lab.boards i) →
       IsSound (record lab { boards = set lab.boards i (with_view (λ v. with_speed v speed) old) }) spares
       (tree.with_speed source i speed)
   sound-speed speed least most has =
-      by_view old.view refl (rw (here has) at has)
-    where
-      by_view :
-          (o : Option View) → old.view ≡ o → IsSome o →
-          IsSound (record lab { boards = set lab.boards i (with_view (λ v. with_speed v speed) old) }) spares
-          (tree.with_speed source i speed)
-      by_view None at some = absurd (cc)
-      by_view (Some v) at some =
-          let found : slice_get (numbers_of lab.boards) i ≡ Some (Some v.numbers) =
-          slice_get-map number_of lab.boards i ∙ ap (option_map number_of) (here has)
-          ∙ ap (λ o. Some (option_map (λ (v : View). v.numbers) o)) at in
-          let stands = sound.timed.standing i v.numbers found in
-          sound-numbers (with_view (λ v. with_speed v speed) old) (record v.numbers { speed = speed })
-          (outline-view (λ v. with_speed v speed) (λ v. refl) old)
-          (ap (λ o. option_map (λ (v : View). v.numbers) (option_map (λ v. with_speed v speed) o)) at)
-          (record {
-            number = stands.number;
-            least_speed = least;
-            most_speed = most;
-            few_posts = stands.few_posts;
-            few_entries = stands.few_entries;
-          })
+      let faster = λ (v : View). with_speed v speed in
+      let here = slice_get_read lab.boards (length lab.boards) i old refl (planned_below lab.boards i has) is in
+      let view = some_of old.view (rw here at has) in
+      let stands = sound.timed.standing i view.0.numbers
+      (slice_get-map number_of lab.boards i ∙ ap (option_map number_of) here
+      ∙ ap (λ o. Some (option_map (λ (v : View). v.numbers) o)) view.1) in
+      record {
+        shape =
+            rw (map-set_same outline lab.boards i (with_view faster old) old
+                (outline-view faster (λ v. refl) old ∙ ap outline is))
+            sound.shape;
+        times = sound.times;
+        timed =
+            rw (
+              map-set number_of lab.boards i (with_view faster old),
+              ap (λ o. option_map (λ (v : View). v.numbers) (option_map faster o)) view.1,
+            )
+            (timed-set sound.timed i (record view.0.numbers { speed = speed })
+            (record {
+              number = stands.number;
+              least_speed = least;
+              most_speed = most;
+              few_posts = stands.few_posts;
+              few_entries = stands.few_entries;
+            }));
+      }
 
 -- ---- a board by its plan
 

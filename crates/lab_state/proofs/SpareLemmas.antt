@@ -1,10 +1,14 @@
 -- The devices that no board has yet.
-use Rattle.std.proofs.Common.{◌≡◌, ℕ, zero, suc, List, [], ◌∷◌, map, replicate, length, sym, ap, ◌∙◌}
+use Rattle.std.proofs.Common.{◌≡◌, ◌∙◌, sym, ap, refl, ℕ, zero, suc, List, [], ◌∷◌, map, replicate, length}
 use Rattle.std.proofs.lemmas.List.{length-map, length-replicate}
-use Rattle.std.specs.List.{AllByRecursion}
+use Rattle.std.proofs.lemmas.List.Elements.{All-from_recursion}
+use Rattle.std.specs.List.{All, AllByRecursion}
 use Rattle.dev_core.specs.declared.kind.Kind.{Kind}
 use Rattle.dev_core.specs.declared.kind.Kind.TheVariants.{Uart, Can, Finisher}
-use Rattle.lab_state.specs.Inner.Spares.{Spares, left_of, AreTaken}
+use Rattle.dev_core.specs.declared.state.DevState.{DevState}
+use Rattle.dev_core.specs.Device.{kind_of}
+use Rattle.board.specs.New.{first_state}
+use Rattle.lab_state.specs.Inner.Spares.{Spares, left_of, kinds_of, AreTaken}
 
 -- items that are all seen as one thing
 pub seen_as :
@@ -25,3 +29,27 @@ pub all_back :
 all_back all left back kinds taken given =
     let same : (kind : Kind) → left_of back kind ≡ left_of all kind = λ kind. sym (given kind) ∙ taken kind in
     λ i. record { uarts = same Uart i; cans = same Can i; finishers = same Finisher i }
+
+-- a device in its first state tells its kind
+kind_first : (kind : Kind) → kind_of (first_state kind) ≡ kind
+kind_first Uart = refl
+kind_first Can = refl
+kind_first Finisher = refl
+
+pub kinds_first : (kinds : List Kind) → kinds_of (map first_state kinds) ≡ kinds
+kinds_first [] = refl
+kinds_first (kind ∷ kinds) = λ i. kind_first kind i ∷ kinds_first kinds i
+
+pub all_first :
+    {A : Type 0} (f : A → DevState) (xs : List A) (kinds : List Kind) → map f xs ≡ map first_state kinds →
+    All (λ x. f x ≡ first_state (kind_of (f x))) xs
+all_first {A = A} f xs kinds is = All-from_recursion (λ x. f x ≡ first_state (kind_of (f x))) xs (each xs kinds is)
+  where
+    each :
+        (xs : List A) (kinds : List Kind) → map f xs ≡ map first_state kinds →
+        AllByRecursion (λ x. f x ≡ first_state (kind_of (f x))) xs
+    each [] kinds is = tt
+    each (x ∷ xs) [] is = absurd (cc)
+    each (x ∷ xs) (kind ∷ kinds) is =
+        let here : f x ≡ first_state kind = cc in
+        (rw (here, kind_first kind) refl, each xs kinds (cc))

@@ -110,6 +110,29 @@ fn step_board<D: Device>(
     Ok(())
 }
 
+/// A board after the slots of a grant. Without memory for what it has made it is lost.
+fn after_step<D: Device>(
+    mut board: Board<D>,
+    grant: &Handle,
+    made: &mut Made,
+) -> Result<Board<D>, NoMemory>
+    requires within { grant.now.to ≤ 10000000000 }
+    requires part { grant.now ≡ fresh grant.now.from grant.now.to board.view.numbers.speed }
+    requires quiet { board ≡ quiet board.view }
+    requires posts { board.view.numbers.posted ≤ 10000000000000 }
+    requires entries { board.view.numbers.entered ≤ 10000000000000 }
+    ensures board { IfOk result (λ after.
+        after ≡ quiet (granted grant.now.from grant.now.to board.view).view) }
+    ensures posts { OnOk result (made.new.posts.items
+        ≡ made.old.posts.items ++ (granted grant.now.from grant.now.to board.view).posts) }
+    ensures entries { OnOk result (all_entries made.new.entries.items
+        ≡ all_entries made.old.entries.items
+        ++ (granted grant.now.from grant.now.to board.view).entries) }
+{
+    step_board(&mut board, grant, made)?;
+    Ok(board)
+}
+
 /// What the log notes of a payload that a shown device was handed and answered so.
 fn note_of(payload: &Payload, taken: Taken) -> Option<Note>
     ensures { result ≡ boundary_spec.note_of payload.now taken }
@@ -155,7 +178,7 @@ impl<D: Device> NamedBoard<D> {
         requires { board ≡ quiet board.view }
         ensures { self.new ≡ record self.old { view = Some board.view } }
     {
-        self.board = Some(board);
+        let _board = self.board.insert(board);
     }
 
     pub fn name(&self) -> &Text
@@ -202,9 +225,8 @@ impl<D: Device> NamedBoard<D> {
             ≡ all_entries made.old.entries.items
             ++ entries_made (granted grant.now.from grant.now.to) self.old) }
     {
-        if let Some(mut board) = self.board.take() {
-            step_board(&mut board, grant, made)?;
-            self.board = Some(board);
+        if let Some(board) = self.board.take() {
+            self.fit(after_step(board, grant, made)?);
         }
         Ok(())
     }
