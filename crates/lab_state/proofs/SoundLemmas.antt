@@ -1,5 +1,5 @@
 -- What holds of a laboratory goes on to hold where it is changed.
-use Rattle.std.proofs.Common.{◌≡◌, ◌∙◌, sym, ap, refl, Bool, true, false, cond, ℕ, ◌+◌, ◌*◌, ◌<◌, ◌≤◌, List, [], ◌∷◌, ◌++◌}
+use Rattle.std.proofs.Common.{◌≡◌, ◌∙◌, sym, ap, refl, Bool, true, false, cond, ℕ, ◌+◌, ◌<◌, ◌≤◌, List, [], ◌∷◌, ◌++◌}
 use Rattle.std.proofs.Common.{length, map, set, get_or, slice_get, Option, Some, None, add-zero, arith, rules}
 use Rattle.std.specs.Prelude.{is_some, IsSome, option_and_then}
 use Rattle.std.specs.Option.{option_map}
@@ -19,7 +19,6 @@ use Rattle.dev_core.specs.declared.kind.Kind.{Kind}
 use Rattle.dev_core.specs.declared.kind.Kind.TheVariants.{Uart, Can, Finisher}
 use Rattle.board.specs.Changes.{with_speed}
 use Rattle.board.specs.New.{new_board, new_numbers}
-use Rattle.board.specs.Numbers.{Numbers}
 use Rattle.board.specs.View.{View}
 use Rattle.sys_bus.specs.declared.plan.BoardPlan.{BoardPlan}
 use Rattle.sys_bus.specs.Limits.{count_of}
@@ -35,7 +34,7 @@ use Rattle.time_source.specs.Tree.{Tree}
 use Rattle.lab_state.specs.Inner.Spares.{Spares, full, HasFor, AreTaken}
 use Rattle.lab_state.specs.Inner.Standing.{Outline, outline, outlines, kind_of_outline, kind_in, AreMembers, AreDevices}
 use Rattle.lab_state.specs.Inner.Standing.{count_of_plans, IsSound}
-use Rattle.lab_state.specs.Inner.Time.{number_of, numbers_of, IsStanding}
+use Rattle.lab_state.specs.Inner.Time.{number_of}
 use Rattle.lab_state.proofs.ListLemmas.{set-change, map-change, All-change, each-set, each-push}
 use Rattle.lab_state.proofs.ListLemmas.{none_has, board_more, hub_more, planned_below}
 use Rattle.lab_state.proofs.ChangeLemmas.{outline-view}
@@ -210,7 +209,7 @@ module _ {lab : Lab} {spares : Spares} {source : Tree} (i : ℕ) {old : Board} (
       record {
         shape =
             rw (map-set_same outline lab.boards i (with_view faster old) old
-                (outline-view faster (λ v. refl) old ∙ ap outline is))
+            (outline-view faster (λ v. refl) old ∙ ap outline is))
             sound.shape;
         times = sound.times;
         timed =

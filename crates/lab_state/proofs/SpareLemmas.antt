@@ -1,14 +1,17 @@
 -- The devices that no board has yet.
-use Rattle.std.proofs.Common.{◌≡◌, ◌∙◌, sym, ap, refl, ℕ, zero, suc, List, [], ◌∷◌, map, replicate, length}
+use Rattle.std.proofs.Common.{◌≡◌, ◌∙◌, sym, ap, refl, ℕ, zero, suc, ◌+◌, ◌<◌, true, cond, List, [], ◌∷◌, map, replicate}
+use Rattle.std.proofs.Common.{length, take, get_or, arith}
 use Rattle.std.proofs.lemmas.List.{length-map, length-replicate}
 use Rattle.std.proofs.lemmas.List.Elements.{All-from_recursion}
+use Rattle.std.proofs.lemmas.List.Sums.{count_by_more_yes, sum_by-take-le}
 use Rattle.std.specs.List.{All, AllByRecursion}
 use Rattle.dev_core.specs.declared.kind.Kind.{Kind}
 use Rattle.dev_core.specs.declared.kind.Kind.TheVariants.{Uart, Can, Finisher}
 use Rattle.dev_core.specs.declared.state.DevState.{DevState}
 use Rattle.dev_core.specs.Device.{kind_of}
+use Rattle.sys_bus.specs.Limits.{is_kind}
 use Rattle.board.specs.New.{first_state}
-use Rattle.lab_state.specs.Inner.Spares.{Spares, left_of, kinds_of, AreTaken}
+use Rattle.lab_state.specs.Inner.Spares.{Spares, left_of, kinds_of, HasFor, AreTaken}
 
 -- items that are all seen as one thing
 pub seen_as :
@@ -22,6 +25,25 @@ seen_as f (suc n) (x ∷ xs) b is = (cc, seen_as f n xs b (cc))
 pub seen_long : {A B : Type 0} (f : A → B) (n : ℕ) (xs : List A) (b : B) → map f xs ≡ replicate n b → length xs ≡ n
 seen_long f n xs b is =
     sym (length-map xs f) ∙ ap length is ∙ length-replicate n b
+
+-- there is a device for the kind that comes next
+pub still_left :
+    (all now : Spares) (kinds : List Kind) (i : ℕ) (d : Kind) → HasFor all kinds → AreTaken all now (take i kinds) →
+    i < length kinds → 0 < left_of now (get_or kinds i d)
+still_left all now kinds i d has taken below =
+    let kind = get_or kinds i d in
+    omega (
+      arith,
+      has kind,
+      taken kind,
+      count_by_more_yes (is_kind kind) kinds i d below (same kind),
+      sum_by-take-le (λ k. cond (is_kind kind k) 1 0) kinds (i + 1),
+    )
+  where
+    same : (kind : Kind) → is_kind kind kind ≡ true
+    same Uart = refl
+    same Can = refl
+    same Finisher = refl
 
 -- devices that were taken and are put back
 pub all_back :

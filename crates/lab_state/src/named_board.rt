@@ -52,16 +52,17 @@ pub struct Made {
     pub entries: Vec<Vec<Entry>>,
 }
 
-/// Moves the posts of a board to the end of a list.
+/// Moves the posts of a board to the end of a list. Without memory for them they are lost.
 fn take_posts<D: Device>(board: &mut Board<D>, posts: &mut Vec<Post>) -> Result<(), NoMemory>
-    ensures board { OnOk result (board.new ≡ record board.old { posts = [] }) }
+    ensures board { board.new ≡ record board.old { posts = [] } }
     ensures posts { OnOk result (posts.new.items ≡ posts.old.items ++ board.old.posts) }
 {
+    let mut starved = false;
     while let Some(post) = board.next_post() {
-        posts.push(post)?;
+        starved |= posts.push(post).is_err();
         board.drop_post();
     }
-    Ok(())
+    if starved { Err(NoMemory) } else { Ok(()) }
 }
 
 /// Gives a board the slots of a grant.
@@ -84,7 +85,7 @@ fn take_turn<D: Device>(board: &mut Board<D>, grant: &Handle) -> Result<(), NoMe
     }
 }
 
-/// Gives a board the slots of a grant, and takes what it has made.
+/// Gives a board the slots of a grant, and takes what it has made. Without memory for that it is lost.
 fn step_board<D: Device>(
     board: &mut Board<D>,
     grant: &Handle,
@@ -96,41 +97,20 @@ fn step_board<D: Device>(
     requires quiet { board.old ≡ quiet board.old.view }
     requires posts { board.old.view.numbers.posted ≤ 10000000000000 }
     requires entries { board.old.view.numbers.entered ≤ 10000000000000 }
-    ensures board { OnOk result (board.new
-        ≡ quiet (granted grant.now.from grant.now.to board.old.view).view) }
+    ensures quiet { board.new ≡ quiet board.new.view }
+    ensures view { OnOk result (board.new.view
+        ≡ (granted grant.now.from grant.now.to board.old.view).view) }
     ensures posts { OnOk result (made.new.posts.items
         ≡ made.old.posts.items ++ (granted grant.now.from grant.now.to board.old.view).posts) }
     ensures entries { OnOk result (all_entries made.new.entries.items
         ≡ all_entries made.old.entries.items
         ++ (granted grant.now.from grant.now.to board.old.view).entries) }
 {
-    take_turn(board, grant)?;
-    take_posts(board, &mut made.posts)?;
+    let stepped = take_turn(board, grant);
+    let taken = take_posts(board, &mut made.posts);
     made.entries.push(board.take_entries())?;
-    Ok(())
-}
-
-/// A board after the slots of a grant. Without memory for what it has made it is lost.
-fn after_step<D: Device>(
-    mut board: Board<D>,
-    grant: &Handle,
-    made: &mut Made,
-) -> Result<Board<D>, NoMemory>
-    requires within { grant.now.to ≤ 10000000000 }
-    requires part { grant.now ≡ fresh grant.now.from grant.now.to board.view.numbers.speed }
-    requires quiet { board ≡ quiet board.view }
-    requires posts { board.view.numbers.posted ≤ 10000000000000 }
-    requires entries { board.view.numbers.entered ≤ 10000000000000 }
-    ensures board { IfOk result (λ after.
-        after ≡ quiet (granted grant.now.from grant.now.to board.view).view) }
-    ensures posts { OnOk result (made.new.posts.items
-        ≡ made.old.posts.items ++ (granted grant.now.from grant.now.to board.view).posts) }
-    ensures entries { OnOk result (all_entries made.new.entries.items
-        ≡ all_entries made.old.entries.items
-        ++ (granted grant.now.from grant.now.to board.view).entries) }
-{
-    step_board(&mut board, grant, made)?;
-    Ok(board)
+    stepped?;
+    taken
 }
 
 /// What the log notes of a payload that a shown device was handed and answered so.
@@ -211,7 +191,7 @@ impl<D: Device> NamedBoard<D> {
     }
 
     /// Gives the board the slots of a grant, and takes what it has made. Without memory for that
-    /// the board is lost. Where there is no board the slots pass.
+    /// it is lost. Where there is no board the slots pass.
     pub fn step(&mut self, grant: &Handle, made: &mut Made) -> Result<(), NoMemory>
         requires within { grant.now.to ≤ 10000000000 }
         requires part { grant.now ≡ part_of grant.now.from grant.now.to self.old }
@@ -225,10 +205,10 @@ impl<D: Device> NamedBoard<D> {
             ≡ all_entries made.old.entries.items
             ++ entries_made (granted grant.now.from grant.now.to) self.old) }
     {
-        if let Some(board) = self.board.take() {
-            self.fit(after_step(board, grant, made)?);
+        match &mut self.board {
+            Some(board) => step_board(board, grant, made),
+            None => Ok(()),
         }
-        Ok(())
     }
 
     /// Hands a payload to a device of the board, and gives what the log notes of it.

@@ -1,9 +1,12 @@
 -- Devices that are put back are there again.
-use Rattle.std.proofs.Common.{◌≡◌, ◌∙◌, ap, List, map, arith}
-use Rattle.dev_core.specs.declared.kind.Kind.{Kind}
+use Rattle.std.proofs.Common.{◌∙◌, ap, map, arith}
+use Rattle.board.specs.New.{first_state}
 use Rattle.lab_state.specs.Inner.Spares.{kinds_of}
 use Rattle.lab_state.proofs.SpareLemmas.{all_back, kinds_first, all_first}
 use Rattle.lab_state.proofs.fit.fit_board.Goals as goal
+
+pub new-requires-clause-devices : goal.new-requires-clause-devices
+new-requires-clause-devices g c = c.in_ok-devices.ensures.devices ∙ ap (map first_state) c.items.ensures
 
 pub give_back-requires : goal.give_back-requires
 give_back-requires g c =
