@@ -4,7 +4,7 @@ use Rattle.std.specs.Option.{option_map}
 use Rattle.sys_bus.specs.declared.region.Target.{Target}
 use Rattle.sys_bus.specs.declared.region.Target.TheVariants.{Ram, Clint, Plic, Dev, Nothing}
 use Rattle.page_ram.specs.Bytes.{zeros}
-use Rattle.board.specs.Changes.{put_in, put_byte, copied}
+use Rattle.board.specs.Changes.{put_in, put_byte, copied, with_bytes}
 use Rattle.board.specs.Space.{Space, target_at}
 use Rattle.board.specs.View.{View}
 use Rattle.lab_state.specs.declared.change.Change.{Change}
@@ -21,13 +21,16 @@ pub same_part :
 same_part g f same None = refl
 same_part g f same (Some x) = ap Some (same x)
 
-abbrev pub KeepsPlan : (View → View) → Type 0
-KeepsPlan f = (v : View) → (f v).space.plan ≡ v.space.plan
-
-pub outline-view : (f : View → View) → KeepsPlan f → (board : Board) → outline (with_view f board) ≡ outline board
+pub outline-view :
+    (f : View → View) → ((v : View) → (f v).space.plan ≡ v.space.plan) → (board : Board) →
+    outline (with_view f board) ≡ outline board
 outline-view f keeps board =
     ap (λ kinds. record { name = board.name; kinds = kinds })
     (same_part (λ v. v.space.plan.kinds) f (λ v. ap (λ plan. plan.kinds) (keeps v)) board.view)
+
+-- a change that leaves the plan and the numbers
+abbrev pub Leaves : (View → View) → Type 0
+Leaves f = (v : View) → ((f v).space.plan ≡ v.space.plan) × ((f v).numbers ≡ v.numbers)
 
 put-plan : (s : Space) (byte : ℕ) (target : Target) → (put_in s byte target).plan ≡ s.plan
 put-plan s byte (Ram part at) = refl
@@ -36,21 +39,17 @@ put-plan s byte (Clint at) = refl
 put-plan s byte (Plic at) = refl
 put-plan s byte Nothing = refl
 
-pub copied-plan : (s : Space) (at : ℕ) (bytes : List ℕ) → (copied s at bytes).plan ≡ s.plan
+copied-plan : (s : Space) (at : ℕ) (bytes : List ℕ) → (copied s at bytes).plan ≡ s.plan
 copied-plan s at [] = refl
 copied-plan s at (byte ∷ bytes) =
     copied-plan (put_byte s at byte) (at + 1) bytes ∙ put-plan s byte (target_at s at 1)
 
-pub change-plan : (c : Change) → KeepsPlan (changed_by c)
-change-plan (change.Pc pc) v = refl
-change-plan (change.Halted on) v = refl
-change-plan (change.Shown dev) v = refl
-change-plan (change.Zero at count) v = copied-plan v.space at (zeros count)
-change-plan change.Reset v = refl
+pub bytes-leave : (at : ℕ) (bytes : List ℕ) → Leaves (λ v. with_bytes v at bytes)
+bytes-leave at bytes v = (copied-plan v.space at bytes, refl)
 
-pub change-numbers : (c : Change) (v : View) → (changed_by c v).numbers ≡ v.numbers
-change-numbers (change.Pc pc) v = refl
-change-numbers (change.Halted on) v = refl
-change-numbers (change.Shown dev) v = refl
-change-numbers (change.Zero at count) v = refl
-change-numbers change.Reset v = refl
+pub change-leaves : (c : Change) → Leaves (changed_by c)
+change-leaves (change.Pc pc) v = (refl, refl)
+change-leaves (change.Halted on) v = (refl, refl)
+change-leaves (change.Shown dev) v = (refl, refl)
+change-leaves (change.Zero at count) v = bytes-leave at (zeros count) v
+change-leaves change.Reset v = (refl, refl)

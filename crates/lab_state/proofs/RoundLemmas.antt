@@ -254,7 +254,8 @@ outlines-stepped law from q boards =
 -- outlines tell which boards have no plan
 pub plans_kept :
     (boards others : List Board) → outlines others ≡ outlines boards → first_without others ≡ first_without boards
-plans_kept boards others same = by_outlines others ∙ ap (position (λ o. is_none o.kinds)) same ∙ sym (by_outlines boards)
+plans_kept boards others same =
+    by_outlines others ∙ ap (position (λ o. is_none o.kinds)) same ∙ sym (by_outlines boards)
   where
     by_outlines : (boards : List Board) → first_without boards ≡ position (λ o. is_none o.kinds) (outlines boards)
     by_outlines boards =

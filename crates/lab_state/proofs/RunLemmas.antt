@@ -1,13 +1,14 @@
 -- Rounds one after another.
-use Rattle.std.proofs.Common.{◌≡◌, ◌∙◌, sym, ap, refl, eq-eqb, Bool, true, false, ℕ, ◌+◌, ◌-◌, ◌*◌, ◌/◌, ◌%◌, ◌<◌, inl, inr, List, []}
-use Rattle.std.proofs.Common.{◌∷◌, ◌++◌, length, take, fold, None, add-one, append_assoc}
+use Rattle.std.proofs.Common.{◌≡◌, ◌∙◌, sym, ap, refl, eq-eqb, Bool, true, false, ℕ, ◌+◌, ◌-◌, ◌*◌, ◌/◌, ◌%◌, ◌<◌, inl, inr}
+use Rattle.std.proofs.Common.{List, [], ◌∷◌, ◌++◌, length, take, fold, None, add-one, append_assoc}
 use Rattle.std.proofs.Common.{arith}
 use Rattle.std.specs.Prelude.{if◌then◌else◌, min, is_some, IsSome, Option, Some}
 use Rattle.std.proofs.lemmas.Bool.{cases_lt}
 use Rattle.std.proofs.lemmas.Bool.Decides.{nat_tests}
 use Rattle.std.proofs.lemmas.List.{append-nil, replicate-append-replicate}
 use Rattle.std.proofs.lemmas.List.Sums.{fold-append}
-use Rattle.std.proofs.Math.Nat.{mul-add-mod_self_left, mul-add-div, div-add-mod, div-eq_of_lt, mod-eq_of_lt, add-div_left, add-mod_left}
+use Rattle.std.proofs.Math.Nat.{mul-add-mod_self_left, mul-add-div, div-add-mod, div-eq_of_lt, mod-eq_of_lt}
+use Rattle.std.proofs.Math.Nat.{add-div_left, add-mod_left}
 use Rattle.std.specs.List.Sorted.{IsPermutation}
 use Rattle.std.proofs.lemmas.List.Sorted.{IsPermutation-sym, IsPermutation-trans}
 use Rattle.lab_num.specs.declared.key.Key.{Key}
@@ -139,7 +140,8 @@ boundaries-agree is only at hubs boards posts others differ same =
 -- ---- the end of a run
 
 -- a run that has paused goes on no more
-pub after_pause : (play : Play) (run : Rounded) (qs : List ℕ) → is_some run.paused ≡ true → fold (go_on play) run qs ≡ run
+pub after_pause :
+    (play : Play) (run : Rounded) (qs : List ℕ) → is_some run.paused ≡ true → fold (go_on play) run qs ≡ run
 after_pause play run [] is = refl
 after_pause play run (q ∷ qs) is =
     let stays : go_on play run q ≡ run = rw is refl in

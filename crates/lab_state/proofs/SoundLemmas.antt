@@ -1,6 +1,6 @@
 -- What holds of a laboratory goes on to hold where it is changed.
 use Rattle.std.proofs.Common.{◌≡◌, ◌∙◌, sym, ap, refl, Bool, true, false, cond, ℕ, ◌+◌, ◌<◌, ◌≤◌, List, [], ◌∷◌, ◌++◌}
-use Rattle.std.proofs.Common.{length, map, set, get_or, slice_get, Option, Some, None, add-zero, arith, rules}
+use Rattle.std.proofs.Common.{length, map, set, get_or, slice_get, Option, Some, None, add-zero, subst, arith, rules}
 use Rattle.std.specs.Prelude.{is_some, IsSome, option_and_then}
 use Rattle.std.specs.Option.{option_map}
 use Rattle.std.specs.List.{All}
@@ -37,7 +37,7 @@ use Rattle.lab_state.specs.Inner.Standing.{count_of_plans, IsSound}
 use Rattle.lab_state.specs.Inner.Time.{number_of}
 use Rattle.lab_state.proofs.ListLemmas.{set-change, map-change, All-change, each-set, each-push}
 use Rattle.lab_state.proofs.ListLemmas.{none_has, board_more, hub_more, planned_below}
-use Rattle.lab_state.proofs.ChangeLemmas.{outline-view}
+use Rattle.lab_state.proofs.ChangeLemmas.{same_part, outline-view, Leaves}
 use Rattle.lab_state.proofs.TimeLemmas.{timed-push, timed-set}
 
 -- what holds of a laboratory that is seen as not spent
@@ -46,6 +46,12 @@ pub unspent :
     (spent ≡ false → IsSound lab spares source) → record { lab = lab; spent = spent } ≡ s → s.spent ≡ false →
     IsSound lab spares source
 unspent sound is whole = sound (ap (λ s. s.spent) is ∙ whole)
+
+-- there is a board where one has a plan
+pub planned_at :
+    {lab : Lab} {spent : Bool} {s : Seen} (b : ℕ) → record { lab = lab; spent = spent } ≡ s →
+    IsSome (view_of s.lab b) → b < length lab.boards
+planned_at {lab = lab} b is has = planned_below lab.boards b (subst (λ (s : Seen). IsSome (view_of s.lab b)) (sym is) has)
 
 -- what one is seen as of which a board is changed
 pub seen_set :
@@ -186,12 +192,17 @@ module _ {lab : Lab} {spares : Spares} {source : Tree} (i : ℕ) {old : Board} (
     (sound : IsSound lab spares source) where
   -- its name, its devices and its numbers stay
   pub sound-kept :
-      (new : Board) → outline new ≡ outline old → number_of new ≡ number_of old →
-      IsSound (record lab { boards = set lab.boards i new }) spares source
-  sound-kept new same also = record {
-    shape = rw (map-set_same outline lab.boards i new old (same ∙ ap outline is)) sound.shape;
+      (f : View → View) → Leaves f → IsSound (record lab { boards = set lab.boards i (with_view f old) }) spares source
+  sound-kept f leaves = record {
+    shape =
+        rw (map-set_same outline lab.boards i (with_view f old) old
+        (outline-view f (λ v. (leaves v).0) old ∙ ap outline is))
+        sound.shape;
     times = sound.times;
-    timed = rw (map-set_same number_of lab.boards i new old (also ∙ ap number_of is)) sound.timed;
+    timed =
+        rw (map-set_same number_of lab.boards i (with_view f old) old
+        (same_part (λ v. v.numbers) f (λ v. (leaves v).1) old.view ∙ ap number_of is))
+        sound.timed;
   }
 
   -- its speed is another, and its member's

@@ -87,7 +87,8 @@ module _ {source : Tree} (boards : List Board) (timed : IsTimed source (numbers_
     pub timed-granted :
         (numbers : List (Option Numbers)) → map speed_of numbers ≡ map speed_of (numbers_of boards) →
         AreStanding (1000 * (source.end + q)) numbers →
-        IsTimed (record (granted source q) { handles = map used_up (granted source q).handles; is_open = false }) numbers
+        IsTimed (record (granted source q) { handles = map used_up (granted source q).handles; is_open = false })
+        numbers
     timed-granted numbers same standing = record {
       closed = refl;
       speeds =
@@ -99,8 +100,8 @@ module _ {source : Tree} (boards : List Board) (timed : IsTimed source (numbers_
 
 -- the part of the board that a loop comes to next
 pub part_at :
-    (boards : List Board) {now : List Board} {handles : List Grant} (part : Board → Grant) (step : Board → Board) (i : ℕ)
-    (d : Board) {g : Grant} →
+    (boards : List Board) {now : List Board} {handles : List Grant} (part : Board → Grant) (step : Board → Board)
+    (i : ℕ) (d : Board) {g : Grant} →
     handles ≡ map part boards → now ≡ map step (take i boards) ++ drop i boards → i < length boards →
     slice_get handles i ≡ Some g → g ≡ part (get_or now i d)
 part_at boards part step i d {g = g} parts so_far below at =

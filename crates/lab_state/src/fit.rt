@@ -1,13 +1,13 @@
 //! Boards are made by their plans.
-ghost use Rattle.std.specs.Prelude.{◌≡◌, ◌<◌, ◌↔◌, [], length, false, Some, IsSome, OnOk, OnErr};
+ghost use Rattle.std.specs.Prelude.{◌≡◌, ◌<◌, ◌↔◌, [], length, false, IsSome, IfOk, OnOk, OnErr};
 ghost use Rattle.sys_bus.specs.Plan.{IsValid};
 ghost use Rattle.board.specs.New.{new_board};
+ghost use Rattle.board.specs.View.{quiet};
 ghost use Rattle.lab_state.specs.Inner.Spares.{AreTaken, HasFor, HasRoomFor};
 ghost use Rattle.lab_state.specs.One.{view_of, fitted};
 
 use crate::faults::FitFault;
 use crate::lab::Lab;
-use crate::named_board::NamedBoard;
 use crate::spares::Spares;
 use board::Board;
 use dev_core::Device;
@@ -15,29 +15,23 @@ use lab_num::{BoardNo, NoMemory};
 use std::alloc::Global;
 use sys_bus::BoardPlan;
 
-/// Makes a board of spare devices under a name. Where it is refused they are there again.
-fn fit_board<D: Device>(
+/// Makes a board of spare devices, which are there again where it is refused.
+fn made<D: Device>(
     alloc: Global,
     spares: &mut Spares<D>,
-    spot: &mut NamedBoard<D>,
     number: BoardNo,
     plan: BoardPlan,
-) -> Result<(), NoMemory>
+) -> Result<Board<D>, NoMemory>
     requires plan { IsValid plan }
     requires enough { HasFor spares.old plan.kinds }
     requires few { HasRoomFor spares.old [] }
-    ensures ok { OnOk result (spot.new
-        ≡ record spot.old { view = Some (new_board number.0 plan) }) }
+    ensures ok { IfOk result (λ board. board ≡ quiet (new_board number.0 plan)) }
     ensures taken { OnOk result (AreTaken spares.old spares.new plan.kinds) }
     ensures err { OnErr result (spares.new ≡ spares.old) }
-    ensures same { OnErr result (spot.new ≡ spot.old) }
 {
     let devices = spares.take(alloc, plan.kinds.items())?;
     match Board::new(alloc, number, plan, devices) {
-        Ok(board) => {
-            spot.fit(board);
-            Ok(())
-        }
+        Ok(board) => Ok(board),
         Err(devices) => {
             spares.give_back(devices);
             Err(NoMemory)
@@ -62,8 +56,8 @@ impl<D: Device> Lab<D> {
             return Err(FitFault::Has);
         }
         let speed = plan.speed;
-        let spot = &mut self.boards[board.0 as usize];
-        fit_board(self.alloc, &mut self.spares, spot, board, plan)?;
+        let made = made(self.alloc, &mut self.spares, board, plan)?;
+        self.boards[board.0 as usize].fit(made);
         self.source.set_speed(board, speed);
         Ok(())
     }

@@ -10,7 +10,9 @@ use Rattle.lab_state.proofs.named_board.take_posts.Goals as goal
 none_left : (posts : List Post) → None ≡ slice_get posts 0 → posts ≡ []
 none_left posts is = grind (arith, common_steps, slice_get_cases posts 0)
 
-empty : (now old : State) → now ≡ record old { posts = now.posts } → None ≡ slice_get now.posts 0 → now ≡ record old { posts = [] }
+empty :
+    (now old : State) → now ≡ record old { posts = now.posts } → None ≡ slice_get now.posts 0 →
+    now ≡ record old { posts = [] }
 empty now old is end = is ∙ ap (λ posts. record old { posts = posts }) (none_left now.posts end)
 
 pub returns-then-starved-clause-board : goal.returns-then-starved-clause-board

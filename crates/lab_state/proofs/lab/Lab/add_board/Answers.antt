@@ -13,6 +13,7 @@ invariant_of-self-2 g c h =
     ∙ ap (is_taken c.args.self.now.lab) c.in_ok-text.ensures ∙ sym c.is_taken.ensures ∙ c.if-is_taken.false in
     let room : length c.self.inside.boards.items < 16 = omega arith in
     let sound = unspent c.self.invariant c.self.view_is c.requires.unspent in
-    let member = joined c.self.inside.boards.items sound.timed _ c.add-member.ensures.full c.add-member.ensures.added room in
+    let member = joined c.self.inside.boards.items sound.timed _ c.add-member.ensures.full
+    c.add-member.ensures.added room in
     rw (c.in_ok-push.ensures.ok, c.new.ensures, member)
     (sound-push c.in_ok-text.text sound room free)

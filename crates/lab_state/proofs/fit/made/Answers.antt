@@ -3,7 +3,7 @@ use Rattle.std.proofs.Common.{◌∙◌, ap, map, arith}
 use Rattle.board.specs.New.{first_state}
 use Rattle.lab_state.specs.Inner.Spares.{kinds_of}
 use Rattle.lab_state.proofs.SpareLemmas.{all_back, kinds_first, all_first}
-use Rattle.lab_state.proofs.fit.fit_board.Goals as goal
+use Rattle.lab_state.proofs.fit.made.Goals as goal
 
 pub new-requires-clause-devices : goal.new-requires-clause-devices
 new-requires-clause-devices g c = c.in_ok-devices.ensures.devices ∙ ap (map first_state) c.items.ensures
