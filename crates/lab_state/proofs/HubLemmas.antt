@@ -33,10 +33,10 @@ hubs-push (h ∷ hs) (ms ∷ mss) n same =
     ap (λ rest. record { name = h.name; kind = h.kind; members = ms } ∷ rest) (hubs-push hs mss n (omega arith))
 
 pub hubs-connected :
-    (names : List HubName) (members : List (List Member)) (i : ℕ) (m : Member) → length names ≡ length members →
+    (names : List HubName) (members : List (List Member)) (i : ℕ) (m : Member) →
     hubs_of names (routes.connected members i m) ≡ change_at (hubs_of names members) i (with_member m)
-hubs-connected [] members i m same = refl
-hubs-connected (h ∷ hs) [] i m same = absurd (omega arith)
-hubs-connected (h ∷ hs) (ms ∷ mss) zero m same = refl
-hubs-connected (h ∷ hs) (ms ∷ mss) (suc i) m same =
-    ap (λ rest. record { name = h.name; kind = h.kind; members = ms } ∷ rest) (hubs-connected hs mss i m (omega arith))
+hubs-connected [] members i m = refl
+hubs-connected (h ∷ hs) [] i m = refl
+hubs-connected (h ∷ hs) (ms ∷ mss) zero m = refl
+hubs-connected (h ∷ hs) (ms ∷ mss) (suc i) m =
+    ap (λ rest. record { name = h.name; kind = h.kind; members = ms } ∷ rest) (hubs-connected hs mss i m)

@@ -50,7 +50,7 @@ later b first c other keys after ascend = record {
 }
 
 -- the keys of one board, numbered one after another, and then those of later boards
-pub board_ascends :
+board_ascends :
     (b first : ℕ) (keys rest : List Key) → AreNumbered b first keys → Ascend (b + 1) 0 rest →
     Ascend b first (keys ++ rest)
 unfolding IsDistinct
@@ -71,5 +71,7 @@ board_ascends b first (key ∷ keys) rest is ascend =
     }
 
 -- the first number of a board does not matter
-pub ascend_any : (b first : ℕ) (keys : List Key) → Ascend b first keys → Ascend b 0 keys
-ascend_any b first keys ascend = later b first b 0 keys (omega arith, λ same. omega arith) ascend
+pub after_board :
+    (b first : ℕ) (keys rest : List Key) → AreNumbered b first keys → Ascend (b + 1) 0 rest → Ascend b 0 (keys ++ rest)
+after_board b first keys rest are others = later b first b 0 (keys ++ rest) (omega arith, λ same. omega arith)
+    (board_ascends b first keys rest are others)

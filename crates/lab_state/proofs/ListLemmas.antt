@@ -9,7 +9,7 @@ use Rattle.std.proofs.lemmas.Bool.Decides.{nat_tests}
 use Rattle.std.proofs.lemmas.Grind.{common_steps}
 use Rattle.std.proofs.lemmas.Simd.{map-map}
 use Rattle.std.proofs.lemmas.List.{take_more, length-map, flat_map_more}
-use Rattle.std.proofs.lemmas.List.Elements.{All-map, All-push}
+use Rattle.std.proofs.lemmas.List.Elements.{All-map, All-push, All-cons, All-head, All-tail}
 use Rattle.std.proofs.lemmas.List.Quantifiers.{all_pairs_push}
 use Rattle.std.proofs.lemmas.List.Sums.{fails_before_first, position_or_len_is}
 use Rattle.std.proofs.lemmas.Option.{slice_get-map, slice_get_within, get_or_from_slice_get}
@@ -48,23 +48,35 @@ pub each-weaker :
 each-weaker P Q step [] all = tt
 each-weaker P Q step (x ∷ xs) all = (step x all.0, each-weaker P Q step xs all.1)
 
--- what is found at a place is found in a longer list, and where something is put at a place that had nothing
-module _ {A B : Type 0} (look : Option A → Option B) where
-  pub found-push :
-      (xs ys : List A) (i : ℕ) (y : B) → look None ≡ None → look (slice_get xs i) ≡ Some y →
-      look (slice_get (xs ++ ys) i) ≡ Some y
-  found-push [] ys i y none at = absurd (cc)
-  found-push (x ∷ xs) ys zero y none at = at
-  found-push (x ∷ xs) ys (suc i) y none at = found-push xs ys i y none at
+-- what holds of each item, where one is changed
+pub All-change :
+    {A : Type 0} (P : A → Type 0) (F : A → A) (xs : List A) (i : ℕ) →
+    ((x : A) → slice_get xs i ≡ Some x → P x → P (F x)) → All P xs → All P (change_at xs i F)
+All-change P F [] i keeps all = all
+All-change P F (x ∷ xs) zero keeps all =
+    All-cons P (F x) xs (keeps x refl (All-head P x xs all)) (All-tail P x xs all)
+All-change P F (x ∷ xs) (suc i) keeps all =
+    All-cons P x (change_at xs i F) (All-head P x xs all) (All-change P F xs i keeps (All-tail P x xs all))
 
-  pub found-set :
-      (xs : List A) (i k : ℕ) (new : A) (y : B) → look (slice_get xs i) ≡ None → look (slice_get xs k) ≡ Some y →
-      look (slice_get (set xs i new) k) ≡ Some y
-  found-set [] i k new y none at = at
-  found-set (x ∷ xs) zero zero new y none at = absurd (cc)
-  found-set (x ∷ xs) zero (suc k) new y none at = at
-  found-set (x ∷ xs) (suc i) zero new y none at = at
-  found-set (x ∷ xs) (suc i) (suc k) new y none at = found-set xs i k new y none at
+-- what holds of the item at each place, or of none there, where one is written or put at the end
+module _ {A : Type 0} where
+  pub each-set :
+      (P : ℕ → Option A → Type 0) (xs : List A) (i : ℕ) (new : A) → P i (Some new) →
+      ((k : ℕ) → P k (slice_get xs k)) → (k : ℕ) → P k (slice_get (set xs i new) k)
+  each-set P [] i new here all k = all k
+  each-set P (x ∷ xs) zero new here all zero = here
+  each-set P (x ∷ xs) zero new here all (suc k) = all (suc k)
+  each-set P (x ∷ xs) (suc i) new here all zero = all zero
+  each-set P (x ∷ xs) (suc i) new here all (suc k) =
+      each-set (λ k. P (suc k)) xs i new here (λ k. all (suc k)) k
+
+  pub each-push :
+      (P : ℕ → Option A → Type 0) (xs : List A) (new : A) → P (length xs) (Some new) →
+      ((k : ℕ) → P k (slice_get xs k)) → (k : ℕ) → P k (slice_get (xs ++ new ∷ []) k)
+  each-push P [] new here all zero = here
+  each-push P [] new here all (suc k) = all (suc k)
+  each-push P (x ∷ xs) new here all zero = all zero
+  each-push P (x ∷ xs) new here all (suc k) = each-push (λ k. P (suc k)) xs new here (λ k. all (suc k)) k
 
 -- an item that a loop over a list has not come to
 pub not_yet :

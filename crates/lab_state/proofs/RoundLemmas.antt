@@ -1,10 +1,10 @@
--- The steps of a round, and what they keep.
-use Rattle.std.proofs.Common.{◌≡◌, ◌∙◌, sym, ap, refl, Bool, true, false, cond, not, ℕ, zero, suc, ◌+◌, ◌-◌, ◌*◌, ◌^◌}
+-- What boards make in a round, and what handing over keeps.
+use Rattle.std.proofs.Common.{◌≡◌, ◌∙◌, sym, ap, refl, Bool, true, false, cond, not, ℕ, suc, ◌+◌, ◌-◌, ◌*◌, ◌^◌}
 use Rattle.std.proofs.Common.{◌<◌, ◌≤◌, List, [], ◌∷◌, ◌++◌, length, map, fold, find, unwrap_or, get_or, slice_get}
-use Rattle.std.proofs.Common.{Option, Some, None, take, drop, subst, add-zero, arith}
+use Rattle.std.proofs.Common.{Option, Some, None, take, drop, add-zero, zero-add, arith}
 use Rattle.std.specs.Prelude.{IsSome, is_none}
 use Rattle.std.proofs.lemmas.List.{map-append}
-use Rattle.std.proofs.lemmas.List.Elements.{All-nil, All-filter, All-weaker}
+use Rattle.std.proofs.lemmas.List.Elements.{All-nil, All-filter, All-head, All-tail, All-weaker}
 use Rattle.std.proofs.lemmas.Grind.{common_steps}
 use Rattle.std.proofs.lemmas.Option.{slice_get_past, slice_get-map, slice_get-get_or}
 use Rattle.std.proofs.Math.Nat.{mul-le-mul_left}
@@ -14,33 +14,28 @@ use Rattle.std.specs.Option.{option_map, option_map_or, ForSome}
 use Rattle.lab_num.specs.declared.key.Key.{Key}
 use Rattle.lab_num.specs.declared.key.Member.{Member}
 use Rattle.lab_num.specs.Key.{same_member, KeysDiffer}
-use Rattle.lab_num.specs.Listing.{listing}
 use Rattle.lab_num.specs.Paid.{paid}
 use Rattle.lab_num.specs.Route.{route, hub_of, has_member}
 use Rattle.dev_core.specs.declared.payload.Payload.{Payload}
 use Rattle.dev_core.specs.declared.post.Post.{Post}
 use Rattle.dev_core.specs.Post.{post_key, entry_key}
-use Rattle.board.specs.View.{View, State}
+use Rattle.board.specs.View.{View}
 use Rattle.board.specs.Stretch.{stretch}
-use Rattle.board.specs.Numbered.{IsNumbered, AreNumbered}
+use Rattle.board.specs.Numbered.{IsNumbered}
 use Rattle.board.specs.Changes.{handed}
-use Rattle.time_source.specs.Tree.{Tree}
 use Rattle.lab_state.specs.Board.{Board}
-use Rattle.lab_state.specs.Boundary.{Handed, to_member, to_route, to_routes, boundary}
+use Rattle.lab_state.specs.Boundary.{Handed, to_member, to_route, to_routes}
 use Rattle.lab_state.specs.Hub.{Hub, members_of}
 use Rattle.lab_state.specs.Lab.{Lab}
-use Rattle.lab_state.specs.One.{with_view, HaveAllPlans}
-use Rattle.lab_state.specs.Round.{granted, stepped, posts_made, entries_made, round_by, round}
-use Rattle.lab_state.specs.Inner.End.{Played, played}
-use Rattle.lab_state.specs.Inner.Spares.{Spares}
-use Rattle.lab_state.specs.Inner.Standing.{Outline, outline, outlines, number_of, IsStanding, AreStanding}
-use Rattle.lab_state.specs.Inner.Standing.{kind_of_outline, kind_in, IsDevice, AreDevices, IsSound}
-use Rattle.lab_state.specs.Inner.Time.{speed_of, IsTimed}
+use Rattle.lab_state.specs.One.{with_view, first_without}
+use Rattle.lab_state.specs.Round.{stepped, posts_made, entries_made, round_by, round}
+use Rattle.lab_state.specs.Inner.End.{Played, in_round, played}
+use Rattle.lab_state.specs.Inner.Standing.{Outline, outline, outlines}
+use Rattle.lab_state.specs.Inner.Standing.{kind_of_outline, kind_in, IsDevice, AreMembers, AreDevices}
+use Rattle.lab_state.specs.Inner.Time.{number_of, numbers_of, speed_of, IsStanding, StandsAt, AreStanding}
 use Rattle.lab_state.proofs.ListLemmas.{map-change, map-map_same, not_yet, position-map}
-use Rattle.lab_state.proofs.KeyLemmas.{Ascend, none_ascend, board_ascends, ascend_any}
-use Rattle.lab_state.proofs.SoundLemmas.{sound-same}
-use Rattle.lab_state.proofs.ChangeLemmas.{same_part, same_speed, outline-view}
-use Rattle.lab_state.proofs.TimeLemmas.{end_is, timed-others}
+use Rattle.lab_state.proofs.KeyLemmas.{Ascend, none_ascend, after_board}
+use Rattle.lab_state.proofs.ChangeLemmas.{same_part, outline-view}
 
 -- ---- what handing over keeps
 
@@ -70,11 +65,16 @@ handed-outline :
     outline (with_view (λ v. handed v dev payload) board) ≡ outline board
 handed-outline dev payload board = outline-view (λ v. handed v dev payload) (λ v. refl) board
 
-pub outlines-routes :
-    (at : ℕ) (hubs : List Hub) (boards : List Board) (posts : List Post) →
-    outlines (to_routes at hubs boards posts).boards ≡ outlines boards
-outlines-routes at hubs boards posts =
-    map-routes outline handed-outline at (members_of hubs) (record { boards = boards; notes = [] }) posts
+module _ (at : ℕ) (hubs : List Hub) (boards : List Board) (posts : List Post) where
+  pub outlines-routes : outlines (to_routes at hubs boards posts).boards ≡ outlines boards
+  outlines-routes =
+      map-routes outline handed-outline at (members_of hubs) (record { boards = boards; notes = [] }) posts
+
+  pub numbers-routes : numbers_of (to_routes at hubs boards posts).boards ≡ numbers_of boards
+  numbers-routes =
+      map-routes number_of
+      (λ dev payload board. same_part (λ v. v.numbers) (λ v. handed v dev payload) (λ v. refl) board.view) at
+      (members_of hubs) (record { boards = boards; notes = [] }) posts
 
 -- a device of a board can be handed something
 can_take :
@@ -119,8 +119,9 @@ route_devices os hubs m all =
     hub_devices [] all = All-nil (IsDevice os)
     hub_devices (hub ∷ hubs) all =
         found (has_member hub.members m) hub.members (find (λ h. has_member h m) (members_of hubs))
-        (All-weaker (λ m. kind_in os m ≡ Some hub.kind) (IsDevice os) (λ m is. rw is refl) hub.members all.0)
-        (hub_devices hubs all.1)
+        (All-weaker (λ m. kind_in os m ≡ Some hub.kind) (IsDevice os) (λ m is. rw is refl) hub.members
+        (All-head (AreMembers os) hub hubs all))
+        (hub_devices hubs (All-tail (AreMembers os) hub hubs all))
 
 -- ---- what all boards make
 
@@ -138,16 +139,16 @@ module _ (law : Numbering) (from q : ℕ) (within : from + q ≤ 10000000000) wh
 
   numbered :
       (b : ℕ) (v : View) → IsStanding (1000 * from) b v.numbers →
-      IsNumbered v.numbers (paid from (from + q) v.numbers.speed) (granted from (from + q) v)
+      IsNumbered v.numbers (paid from (from + q) v.numbers.speed) (in_round from q v)
   numbered b v is =
       let count = few v.numbers.speed is.most_speed in
       law v from 0 (paid from (from + q) v.numbers.speed) (omega (arith, count, is.few_posts))
       (omega (arith, count, is.few_entries))
 
-  standing_run :
+  stands :
       (b : ℕ) (v : View) → IsStanding (1000 * from) b v.numbers →
-      IsStanding (1000 * (from + q)) b (granted from (from + q) v).view.numbers
-  standing_run b v is =
+      IsStanding (1000 * (from + q)) b (in_round from q v).view.numbers
+  stands b v is =
       let made = numbered b v is in
       let count = few v.numbers.speed is.most_speed in
       record {
@@ -158,86 +159,84 @@ module _ (law : Numbering) (from q : ℕ) (within : from + q ≤ 10000000000) wh
         few_entries = omega (arith, made.entered, made.few_entries, is.few_entries, count);
       }
 
-  standing_one :
-      (b : ℕ) (o : Option View) → ForSome (option_map (λ v. v.numbers) o) (IsStanding (1000 * from) b) →
-      ForSome (option_map (λ v. v.numbers) (option_map (λ v. (granted from (from + q) v).view) o))
-      (IsStanding (1000 * (from + q)) b)
-  standing_one b o is = grind (arith, common_steps, standing_run b)
+  -- each board stands after its slots
+  pub standing :
+      (boards : List Board) → AreStanding (1000 * from) (numbers_of boards) →
+      AreStanding (1000 * (from + q)) (numbers_of (map (stepped (in_round from q)) boards))
+  standing boards are b n at =
+      one (slice_get boards b) (λ m found. are b m (slice_get-map number_of boards b ∙ found)) n
+      (sym
+      (slice_get-map number_of (map (stepped (in_round from q)) boards) b
+      ∙ ap (option_map number_of) (slice_get-map (stepped (in_round from q)) boards b))
+      ∙ at)
+    where
+      one :
+          (o : Option Board) → StandsAt (1000 * from) b (option_map number_of o) →
+          StandsAt (1000 * (from + q)) b (option_map number_of (option_map (stepped (in_round from q)) o))
+      one o is n at = grind (arith, common_steps, stands b)
 
-  standing_stepped :
-      (b : ℕ) (boards : List Board) → AreStanding (1000 * from) b (map number_of boards) →
-      AreStanding (1000 * (from + q)) b (map number_of (map (stepped (granted from (from + q))) boards))
-  standing_stepped b [] are = tt
-  standing_stepped b (board ∷ boards) are =
-      (standing_one b board.view are.0, standing_stepped (b + 1) boards are.1)
+  -- boards from this number on keep their speeds, and the keys of what they make differ
+  abbrev Came : ℕ → List Board → Type 0
+  Came b boards =
+      (map speed_of (numbers_of (map (stepped (in_round from q)) boards)) ≡ map speed_of (numbers_of boards))
+      × Ascend b 0 (map post_key (flat_map (posts_made (in_round from q)) boards))
+      × Ascend b 0 (map entry_key (flat_map (entries_made (in_round from q)) boards))
 
-  speed_one :
-      (b : ℕ) (o : Option View) → ForSome (option_map (λ v. v.numbers) o) (IsStanding (1000 * from) b) →
-      option_map_or (λ v. v.numbers.speed) (option_map (λ v. (granted from (from + q) v).view) o) 1
-      ≡ option_map_or (λ v. v.numbers.speed) o 1
-  speed_one b None is = refl
-  speed_one b (Some v) is = (numbered b v (is v.numbers refl)).speed
+  came :
+      (b : ℕ) (boards : List Board) →
+      ((k : ℕ) → StandsAt (1000 * from) (b + k) (slice_get (numbers_of boards) k)) → Came b boards
+  came b [] are = (refl, none_ascend b, none_ascend b)
+  came b (board ∷ boards) are =
+      let rest = came (b + 1) boards (λ k n at. rw (place k) (are (suc k) n at)) in
+      let here = one board.view (λ n at. rw add-zero at (are 0 n at)) rest.1 rest.2 in
+      (λ i. here.0 i ∷ rest.0 i, rw map-append here.1, rw map-append here.2)
+    where
+      place : (k : ℕ) → b + 1 + k ≡ b + suc k
+      place k = omega arith
 
-  speeds_stepped :
-      (b : ℕ) (boards : List Board) → AreStanding (1000 * from) b (map number_of boards) →
-      map speed_of (map (stepped (granted from (from + q))) boards) ≡ map speed_of boards
-  speeds_stepped b [] are = refl
-  speeds_stepped b (board ∷ boards) are =
-      let here = speed_one b board.view are.0 in
-      let others = speeds_stepped (b + 1) boards are.1 in
-      cc
+      one :
+          (o : Option View) → StandsAt (1000 * from) b (Some (option_map (λ v. v.numbers) o)) →
+          {posts entries : List Key} → Ascend (b + 1) 0 posts → Ascend (b + 1) 0 entries →
+          (speed_of (option_map (λ v. v.numbers) (option_map (λ v. (in_round from q v).view) o))
+          ≡ speed_of (option_map (λ v. v.numbers) o))
+          × Ascend b 0 (map post_key (option_map_or (λ v. (in_round from q v).posts) o []) ++ posts)
+          × Ascend b 0 (map entry_key (option_map_or (λ v. (in_round from q v).entries) o []) ++ entries)
+      one None is posts entries = (refl, after_board b 0 [] _ tt posts, after_board b 0 [] _ tt entries)
+      one (Some v) is posts entries =
+          let own = is v.numbers refl in
+          let made = numbered b v own in (
+            made.speed,
+            after_board b v.numbers.posted (map post_key (in_round from q v).posts) _
+                (rw (← own.number) made.post_keys) posts,
+            after_board b v.numbers.entered (map entry_key (in_round from q v).entries) _
+                (rw (← own.number) made.entry_keys) entries,
+          )
 
-  module _ {T : Type 0} (key : T → Key) (made : State → List T)
-      (keys : (b : ℕ) (v : View) → IsStanding (1000 * from) b v.numbers → (first : ℕ) × AreNumbered b first
-      (map key (made (granted from (from + q) v)))) where
-    one :
-        (b : ℕ) (rest : List Key) → Ascend (b + 1) 0 rest → (o : Option View) →
-        ForSome (option_map (λ v. v.numbers) o) (IsStanding (1000 * from) b) →
-        Ascend b 0 (map key (option_map_or (λ v. made (granted from (from + q) v)) o []) ++ rest)
-    one b rest others None is = board_ascends b 0 [] rest tt others
-    one b rest others (Some v) is =
-        let own = keys b v (is v.numbers refl) in
-        let list = map key (made (granted from (from + q) v)) in
-        ascend_any b own.0 (list ++ rest) (board_ascends b own.0 list rest own.1 others)
+  module _ (boards : List Board) (are : AreStanding (1000 * from) (numbers_of boards)) where
+    all : Came 0 boards
+    all = came 0 boards (λ k n at. rw zero-add (are k n at))
 
-    ascend :
-        (b : ℕ) (boards : List Board) → AreStanding (1000 * from) b (map number_of boards) →
-        Ascend b 0
-        (map key
-        (flat_map (λ (board : Board). option_map_or (λ v. made (granted from (from + q) v)) board.view []) boards))
-    ascend b [] are = none_ascend b
-    ascend b (board ∷ boards) are = rw map-append (one b _ (ascend (b + 1) boards are.1) board.view are.0)
+    pub speeds :
+        map speed_of (numbers_of (map (stepped (in_round from q)) boards)) ≡ map speed_of (numbers_of boards)
+    speeds = all.0
 
-  pub posts_differ :
-      (boards : List Board) → AreStanding (1000 * from) 0 (map number_of boards) →
-      KeysDiffer post_key (flat_map (posts_made (granted from (from + q))) boards)
-  posts_differ boards are =
-      (ascend post_key (λ run. run.posts)
-      (λ b v is. (v.numbers.posted, rw (← is.number) (numbered b v is).post_keys)) 0 boards are).differ
+    pub posts_differ : KeysDiffer post_key (flat_map (posts_made (in_round from q)) boards)
+    posts_differ = all.1.differ
 
-  pub entries_differ :
-      (boards : List Board) → AreStanding (1000 * from) 0 (map number_of boards) →
-      KeysDiffer entry_key (flat_map (entries_made (granted from (from + q))) boards)
-  entries_differ boards are =
-      (ascend entry_key (λ run. run.entries)
-      (λ b v is. (v.numbers.entered, rw (← is.number) (numbered b v is).entry_keys)) 0 boards are).differ
+    pub entries_differ : KeysDiffer entry_key (flat_map (entries_made (in_round from q)) boards)
+    entries_differ = all.2.differ
 
--- the boards that stand may take the slots of a round
-standing_at :
-    (most b : ℕ) (boards : List Board) (i : ℕ) (d : Board) → AreStanding most b (map number_of boards) →
-    i < length boards → ForSome (number_of (get_or boards i d)) (IsStanding most (b + i))
-standing_at most b [] i d are below = absurd (omega arith)
-standing_at most b (x ∷ xs) zero d are below = rw add-zero are.0
-standing_at most b (x ∷ xs) (suc i) d are below =
-    let place : b + suc i ≡ b + 1 + i = omega arith in rw place (standing_at most (b + 1) xs i d are.1 (omega arith))
-
--- and a board that a loop has not come to stands as it stood
+-- a board that a loop has not come to stands as it stood
 pub standing_next :
     (step : Board → Board) (most : ℕ) (old boards : List Board) (i : ℕ) (item : Board) →
-    boards ≡ map step (take i old) ++ drop i old → i < length old → AreStanding most 0 (map number_of old) →
-    ForSome (number_of (get_or boards i item)) (IsStanding most (0 + i))
-standing_next step most old boards i item is below are =
-    rw (ap (λ boards. get_or boards i item) is ∙ not_yet step old i item) (standing_at most 0 old i item are below)
+    boards ≡ map step (take i old) ++ drop i old → i < length old → AreStanding most (numbers_of old) →
+    ForSome (number_of (get_or boards i item)) (IsStanding most i)
+standing_next step most old boards i item is below are n at =
+    are i n
+    (slice_get-map number_of old i ∙ ap (option_map number_of) (slice_get-get_or old i item below)
+    ∙ ap (λ board. Some (number_of board))
+    (sym (ap (λ boards. get_or boards i item) is ∙ not_yet step old i item))
+    ∙ ap Some at)
 
 -- ---- the round
 
@@ -246,51 +245,25 @@ abbrev pub PlanKeeping : Type 0
 PlanKeeping = (v : View) (from a n : ℕ) → (stretch v from a n).view.space.plan ≡ v.space.plan
 
 pub outlines-stepped :
-    PlanKeeping → (from to : ℕ) (boards : List Board) →
-    outlines (map (stepped (granted from to)) boards) ≡ outlines boards
-outlines-stepped law from to boards =
-    map-map_same outline (stepped (granted from to))
-    (outline-view (λ v. (granted from to v).view) (λ v. law v from 0 _)) boards
+    PlanKeeping → (from q : ℕ) (boards : List Board) →
+    outlines (map (stepped (in_round from q)) boards) ≡ outlines boards
+outlines-stepped law from q boards =
+    map-map_same outline (stepped (in_round from q))
+    (outline-view (λ v. (in_round from q v).view) (λ v. law v from 0 _)) boards
 
--- a laboratory after a round, at the time of its source
-pub sound-round :
-    Numbering → PlanKeeping → {lab : Lab} {spares : Spares} {source next : Tree} (q : ℕ) →
-    lab.now + q ≤ 10000000000 → IsTimed next (lab.now + q) lab.boards → IsSound lab spares source →
-    IsSound (record lab { boards = (played lab.now q lab.hubs lab.boards).boards; now = next.end }) spares next
-unfolding boundary
-sound-round law plans {lab = lab} {spares = spares} {next = next} q within timed sound =
-    let grant = granted lab.now (lab.now + q) in
-    let posts = listing post_key (flat_map (posts_made grant) lab.boards) in
-    let boards = (played lab.now q lab.hubs lab.boards).boards in
-    let start : Handed = record { boards = map (stepped grant) lab.boards; notes = [] } in
-    let numbers = map-routes number_of
-    (λ dev payload board. same_part (λ v. v.numbers) (λ v. handed v dev payload) (λ v. refl) board.view) (lab.now + q)
-    (members_of lab.hubs) start posts in
-    let speeds = map-routes speed_of (λ dev payload. same_speed (λ v. handed v dev payload) (λ v. refl)) (lab.now + q)
-    (members_of lab.hubs) start posts in
-    subst (λ (now : ℕ). IsSound (record lab { boards = boards; now = now }) spares next) (sym (end_is timed))
-    (sound-same boards (lab.now + q)
-    (outlines-routes (lab.now + q) lab.hubs (map (stepped grant) lab.boards) posts
-    ∙ outlines-stepped plans lab.now (lab.now + q) lab.boards)
-    (rw numbers (standing_stepped law lab.now q within 0 lab.boards sound.standing)) within
-    (timed-others timed (speeds ∙ speeds_stepped law lab.now q within 0 lab.boards sound.standing)) sound)
-
--- every board has a plan after a round if it had one before
-is_none-map : {A : Type 0} (f : A → A) (o : Option A) → is_none (option_map f o) ≡ is_none o
-is_none-map f o = grind (arith, common_steps)
-
-pub plans-round : (lab : Lab) (q : ℕ) → HaveAllPlans lab → HaveAllPlans (round lab q).lab
-unfolding round_by boundary
-plans-round lab q all =
-    let bare = λ (board : Board). is_none board.view in
-    let grant = granted lab.now (lab.now + q) in
-    let posts = listing post_key (flat_map (posts_made grant) lab.boards) in
-    sym (position-map bare (λ b. b) (round lab q).lab.boards)
-    ∙ ap (position (λ b. b))
-    (map-routes bare (λ dev payload board. is_none-map (λ v. handed v dev payload) board.view) (lab.now + q)
-    (members_of lab.hubs) (record { boards = map (stepped grant) lab.boards; notes = [] }) posts
-    ∙ map-map_same bare (stepped grant) (λ board. is_none-map (λ v. (grant v).view) board.view) lab.boards)
-    ∙ position-map bare (λ b. b) lab.boards ∙ all
+-- outlines tell which boards have no plan
+pub plans_kept :
+    (boards others : List Board) → outlines others ≡ outlines boards → first_without others ≡ first_without boards
+plans_kept boards others same =
+    by_outlines others ∙ ap (position (λ o. is_none o.kinds)) same ∙ sym (by_outlines boards)
+  where
+    by_outlines : (boards : List Board) → first_without boards ≡ position (λ o. is_none o.kinds) (outlines boards)
+    by_outlines boards =
+        ap (λ p. position p boards) (λ i board. is_none-map board.view i)
+        ∙ sym (position-map outline (λ o. is_none o.kinds) boards)
+      where
+        is_none-map : (o : Option View) → is_none o ≡ is_none (option_map (λ v. v.space.plan.kinds) o)
+        is_none-map o = grind (arith, common_steps)
 
 -- a round, as it is played
 pub round_is :

@@ -1,11 +1,14 @@
 -- Rounds one after another.
-use Rattle.std.proofs.Common.{◌≡◌, ◌∙◌, sym, ap, refl, eq-eqb, Bool, true, false, ℕ, ◌+◌, ◌*◌, ◌/◌, ◌%◌, ◌<◌, List, []}
-use Rattle.std.proofs.Common.{◌∷◌, ◌++◌, length, take, fold, replicate, None, add-one, append_assoc}
+use Rattle.std.proofs.Common.{◌≡◌, ◌∙◌, sym, ap, refl, eq-eqb, Bool, true, false, ℕ, ◌+◌, ◌-◌, ◌*◌, ◌/◌, ◌%◌, ◌<◌, inl, inr}
+use Rattle.std.proofs.Common.{List, [], ◌∷◌, ◌++◌, length, take, fold, None, add-one, append_assoc}
 use Rattle.std.proofs.Common.{arith}
-use Rattle.std.specs.Prelude.{if◌then◌else◌, is_some, IsSome, Option, Some}
+use Rattle.std.specs.Prelude.{if◌then◌else◌, min, is_some, IsSome, Option, Some}
+use Rattle.std.proofs.lemmas.Bool.{cases_lt}
+use Rattle.std.proofs.lemmas.Bool.Decides.{nat_tests}
 use Rattle.std.proofs.lemmas.List.{append-nil, replicate-append-replicate}
 use Rattle.std.proofs.lemmas.List.Sums.{fold-append}
-use Rattle.std.proofs.Math.Nat.{mul-add-mod_self_left, mul-add-div, div-add-mod}
+use Rattle.std.proofs.Math.Nat.{mul-add-mod_self_left, mul-add-div, div-add-mod, div-eq_of_lt, mod-eq_of_lt}
+use Rattle.std.proofs.Math.Nat.{add-div_left, add-mod_left}
 use Rattle.std.specs.List.Sorted.{IsPermutation}
 use Rattle.std.proofs.lemmas.List.Sorted.{IsPermutation-sym, IsPermutation-trans}
 use Rattle.lab_num.specs.declared.key.Key.{Key}
@@ -31,17 +34,6 @@ unfolding round_by
 same_quantum run [] = refl
 same_quantum run (q ∷ qs) =
     same_quantum (go_on round run q) qs ∙ on_quantum (is_some run.paused) run (round run.lab q) refl
-
--- a run is the round of what is left, after those of the whole quanta
-pub run_is :
-    (lab : Lab) (d : ℕ) {q : ℕ} {whole end : Rounded} → q ≡ lab.quantum →
-    whole ≡ fold (go_on round) (still lab) (replicate (d / q) q) →
-    end ≡ fold (go_on round) whole (rest_of (d % q)) → end ≡ run lab d
-unfolding run_by
-run_is lab d {q = q} same first last =
-    last ∙ ap (λ run. fold (go_on round) run (rest_of (d % q))) first
-    ∙ sym (fold-append (go_on round) (still lab) (replicate (d / q) q) (rest_of (d % q)))
-    ∙ ap (λ q. fold (go_on round) (still lab) (lengths q d)) same
 
 -- ---- runs one after the other
 
@@ -86,6 +78,47 @@ runs-join lab d e some whole unpaused =
     ∙ ap (λ q. followed_by (run lab d) (fold (go_on round) (still (run lab d).lab) (lengths q e)))
     (sym (same_quantum (still lab) (lengths lab.quantum d)))
 
+-- ---- a run round by round
+
+-- a run of no length
+pub none_left : (q : ℕ) → 0 < q → lengths q 0 ≡ []
+none_left q some =
+    let whole : 0 / q ≡ 0 = omega (arith, div-add-mod 0 q) in
+    let rest : 0 % q ≡ 0 = omega (arith, div-add-mod 0 q) in
+    rw (whole, rest) refl
+
+-- the first round of a run
+first_length :
+    (q d : ℕ) {n : ℕ} → 0 < q → 0 < d → n ≡ min d q → lengths q d ≡ n ∷ lengths q (d - n)
+first_length q d {n = n} some more least = elim (cases_lt d q) [
+  | inl short ↦
+      let all : n ≡ d = omega arith in
+      let none : d - d ≡ 0 = omega arith in
+      let one : rest_of d ≡ d ∷ [] = grind (arith, nat_tests) in
+      rw (all, none, none_left q some, div-eq_of_lt short, mod-eq_of_lt short) one
+  | inr long ↦
+      let quantum : n ≡ q = omega arith in
+      let parts : d ≡ q + (d - q) = omega arith in
+      let count : d / q ≡ (d - q) / q + 1 = ap (λ d. d / q) parts ∙ add-div_left (d - q) some in
+      let rest : d % q ≡ (d - q) % q = ap (λ d. d % q) parts ∙ add-mod_left q (d - q) in
+      rw (quantum, count, rest, add-one) refl
+]
+
+-- the time after a round
+pub round_time : (lab : Lab) (q : ℕ) → (round lab q).lab.now ≡ lab.now + q
+unfolding round_by
+round_time lab q = refl
+
+-- one round more, as long as there is no pause
+pub one_round_more :
+    (q d : ℕ) (run : Rounded) {n : ℕ} {next : Rounded} → 0 < q → 0 < d → is_some run.paused ≡ false → n ≡ min d q →
+    next ≡ followed_by run (round run.lab n) →
+    fold (go_on round) next (lengths q (d - n)) ≡ fold (go_on round) run (lengths q d)
+one_round_more q d run {n = n} some more unpaused least is =
+    let one : followed_by run (round run.lab n) ≡ go_on round run n = rw unpaused refl in
+    ap (λ run. fold (go_on round) run (lengths q (d - n))) (is ∙ one)
+    ∙ sym (ap (fold (go_on round) run) (first_length q d some more least))
+
 -- ---- the order of the posts
 
 pub boundaries-agree :
@@ -107,7 +140,8 @@ boundaries-agree is only at hubs boards posts others differ same =
 -- ---- the end of a run
 
 -- a run that has paused goes on no more
-after_pause : (play : Play) (run : Rounded) (qs : List ℕ) → is_some run.paused ≡ true → fold (go_on play) run qs ≡ run
+pub after_pause :
+    (play : Play) (run : Rounded) (qs : List ℕ) → is_some run.paused ≡ true → fold (go_on play) run qs ≡ run
 after_pause play run [] is = refl
 after_pause play run (q ∷ qs) is =
     let stays : go_on play run q ≡ run = rw is refl in

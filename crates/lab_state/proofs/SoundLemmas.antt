@@ -1,12 +1,10 @@
 -- What holds of a laboratory goes on to hold where it is changed.
-use Rattle.std.proofs.Common.{◌≡◌, ◌∙◌, sym, ap, refl, Bool, true, false, cond, ℕ, zero, suc, ◌+◌, ◌*◌, ◌<◌, ◌≤◌}
-use Rattle.std.proofs.Common.{List, [], ◌∷◌, ◌++◌, subst}
-use Rattle.std.proofs.Common.{length, map, set, get_or, slice_get, Option, Some, None, add-zero, zero-add, arith}
-use Rattle.std.specs.Prelude.{is_some, option_and_then}
+use Rattle.std.proofs.Common.{◌≡◌, ◌∙◌, sym, ap, refl, Bool, true, false, cond, ℕ, ◌+◌, ◌<◌, ◌≤◌, List, [], ◌∷◌, ◌++◌}
+use Rattle.std.proofs.Common.{length, map, set, get_or, slice_get, Option, Some, None, add-zero, subst, arith, rules}
+use Rattle.std.specs.Prelude.{is_some, IsSome, option_and_then}
+use Rattle.std.specs.Option.{option_map}
 use Rattle.std.specs.List.{All}
-use Rattle.std.specs.Option.{ForSome}
 use Rattle.std.specs.Str.{bytes_eq}
-use Rattle.std.proofs.Math.ListN.{get_or-map}
 use Rattle.std.proofs.Math.Seq.{map-set_same}
 use Rattle.std.proofs.lemmas.Bool.{or_parts}
 use Rattle.std.proofs.lemmas.Bool.Decides.{nat_tests}
@@ -15,12 +13,12 @@ use Rattle.std.proofs.lemmas.Simd.{map-map}
 use Rattle.std.proofs.lemmas.List.{map-append, map-set, length-map, length-set, length_push}
 use Rattle.std.proofs.lemmas.List.Elements.{All-nil, All-weaker, All-push}
 use Rattle.std.proofs.lemmas.List.Sums.{sum_by_push, sum_by-set, count_by-le-length}
-use Rattle.std.proofs.lemmas.Option.{slice_get-get_or, slice_get-map, same_Some}
+use Rattle.std.proofs.lemmas.Option.{slice_get-get_or, slice_get-map, slice_get_past, slice_get_read}
 use Rattle.lab_num.specs.declared.key.Member.{Member}
 use Rattle.dev_core.specs.declared.kind.Kind.{Kind}
 use Rattle.dev_core.specs.declared.kind.Kind.TheVariants.{Uart, Can, Finisher}
-use Rattle.board.specs.New.{new_board}
-use Rattle.board.specs.Numbers.{Numbers}
+use Rattle.board.specs.Changes.{with_speed}
+use Rattle.board.specs.New.{new_board, new_numbers}
 use Rattle.board.specs.View.{View}
 use Rattle.sys_bus.specs.declared.plan.BoardPlan.{BoardPlan}
 use Rattle.sys_bus.specs.Limits.{count_of}
@@ -30,75 +28,32 @@ use Rattle.lab_state.specs.Change.{change_at}
 use Rattle.lab_state.specs.Hub.{Hub}
 use Rattle.lab_state.specs.Lab.{Lab, Seen}
 use Rattle.lab_state.specs.Names.{is_taken}
-use Rattle.lab_state.specs.One as one
-use Rattle.lab_state.specs.One.{view_at, view_of, kind_at}
-use Rattle.time_source.specs.Tree.{Tree, new, with_member, with_speed}
+use Rattle.lab_state.specs.One.{view_at, view_of, kind_at, with_view, with_member}
+use Rattle.time_source.specs.Tree as tree
+use Rattle.time_source.specs.Tree.{Tree}
 use Rattle.lab_state.specs.Inner.Spares.{Spares, full, HasFor, AreTaken}
-use Rattle.lab_state.specs.Inner.Standing.{Outline, outline, outlines, number_of, IsStanding, AreStanding, IsKept}
-use Rattle.lab_state.specs.Inner.Standing.{kind_of_outline, kind_in, AreMembers, AreDevices, count_of_plans, IsSound}
-use Rattle.lab_state.specs.Inner.Time.{IsTimed}
-use Rattle.lab_state.proofs.ListLemmas.{set-change, map-change, each-weaker, found-push, found-set}
-use Rattle.lab_state.proofs.ListLemmas.{none_has, board_more, hub_more}
-use Rattle.lab_state.proofs.TimeLemmas.{timed-new, timed-push, timed-speed}
+use Rattle.lab_state.specs.Inner.Standing.{Outline, outline, outlines, kind_of_outline, kind_in, AreMembers, AreDevices}
+use Rattle.lab_state.specs.Inner.Standing.{count_of_plans, IsSound}
+use Rattle.lab_state.specs.Inner.Time.{number_of}
+use Rattle.lab_state.proofs.ListLemmas.{set-change, map-change, All-change, each-set, each-push}
+use Rattle.lab_state.proofs.ListLemmas.{none_has, board_more, hub_more, planned_below}
+use Rattle.lab_state.proofs.ChangeLemmas.{same_part, outline-view, Leaves}
+use Rattle.lab_state.proofs.TimeLemmas.{timed-push, timed-set}
 
--- ---- other boards of the same outlines
+-- what holds of a laboratory that is seen as not spent
+pub unspent :
+    {lab : Lab} {spent : Bool} {s : Seen} {spares : Spares} {source : Tree} →
+    (spent ≡ false → IsSound lab spares source) → record { lab = lab; spent = spent } ≡ s → s.spent ≡ false →
+    IsSound lab spares source
+unspent sound is whole = sound (ap (λ s. s.spent) is ∙ whole)
 
--- some time later
-pub sound-same :
-    {lab : Lab} {spares : Spares} {source next : Tree} (others : List Board) (later : ℕ) →
-    outlines others ≡ outlines lab.boards → AreStanding (1000 * later) 0 (map number_of others) →
-    later ≤ 10000000000 → IsTimed next later others → IsSound lab spares source →
-    IsSound (record lab { boards = others; now = later }) spares next
-sound-same {lab = lab} others later same standing within timed sound =
-    let names : map (λ board. board.name) others ≡ map (λ board. board.name) lab.boards =
-    sym (map-map (λ (o : Outline). o.name) outline others) ∙ ap (map (λ (o : Outline). o.name)) same
-    ∙ map-map (λ (o : Outline). o.name) outline lab.boards in
-    record {
-      few_boards =
-          omega (arith, ap length same, length-map others outline, length-map lab.boards outline, sound.few_boards);
-      standing = standing;
-      devices = rw same sound.devices;
-      names = rw names sound.names;
-      enough = rw same sound.enough;
-      times = record {
-        time = within;
-        least_quantum = sound.times.least_quantum;
-        most_quantum = sound.times.most_quantum;
-      };
-      timed = timed;
-    }
+-- there is a board where one has a plan
+pub planned_at :
+    {lab : Lab} {spent : Bool} {s : Seen} (b : ℕ) → record { lab = lab; spent = spent } ≡ s →
+    IsSome (view_of s.lab b) → b < length lab.boards
+planned_at {lab = lab} b is has = planned_below lab.boards b (subst (λ (s : Seen). IsSome (view_of s.lab b)) (sym is) has)
 
--- one of them written over
-standing-set :
-    (most first : ℕ) (ns : List (Option Numbers)) (i : ℕ) {old new : Option Numbers} → old ≡ get_or ns i old →
-    (ForSome old (IsStanding most (first + i)) → ForSome new (IsStanding most (first + i))) →
-    AreStanding most first ns → AreStanding most first (set ns i new)
-standing-set most first [] i is keeps are = tt
-standing-set most first (n ∷ ns) zero is keeps are = (rw add-zero at (keeps (rw (add-zero, is) are.0)), are.1)
-standing-set most first (n ∷ ns) (suc i) is keeps are =
-    let place : first + suc i ≡ first + 1 + i = omega arith in
-    (are.0, standing-set most (first + 1) ns i is (rw place at keeps) are.1)
-
-numbers-set :
-    (most : ℕ) (boards : List Board) (i : ℕ) {old : Board} (new : Board) → old ≡ get_or boards i old →
-    (ForSome (number_of old) (IsStanding most (0 + i)) → ForSome (number_of new) (IsStanding most (0 + i))) →
-    AreStanding most 0 (map number_of boards) → AreStanding most 0 (map number_of (set boards i new))
-numbers-set most boards i {old = old} new is keeps are =
-    rw map-set
-    (standing-set most 0 (map number_of boards) i (ap number_of is ∙ sym (get_or-map number_of boards i old)) keeps are)
-
--- one board changed
-pub sound-set :
-    {lab : Lab} {spares : Spares} {source next : Tree} (i : ℕ) {old new : Board} → old ≡ get_or lab.boards i old →
-    IsKept old new → IsTimed next lab.now (set lab.boards i new) → IsSound lab spares source →
-    IsSound (record lab { boards = set lab.boards i new }) spares next
-sound-set {lab = lab} i {old = old} {new = new} is kept timed sound =
-    sound-same (set lab.boards i new) lab.now
-    (map-set_same outline lab.boards i new old (kept.same ∙ ap outline is))
-    (numbers-set (1000 * lab.now) lab.boards i new is (kept.stands (1000 * lab.now) (0 + i)) sound.standing)
-    sound.times.time timed sound
-
--- and what it is seen as
+-- what one is seen as of which a board is changed
 pub seen_set :
     {s : Seen} {lab : Lab} {spent : Bool} (F : Board → Board) (i : ℕ) {old new : Board} →
     record { lab = lab; spent = spent } ≡ s → old ≡ get_or lab.boards i old → new ≡ F old →
@@ -108,46 +63,33 @@ seen_set {lab = lab} F i is at made = rw (← is, set-change F lab.boards i at m
 
 -- ---- a laboratory without boards and hubs
 
-pub sound-new : IsSound (record { boards = []; hubs = []; now = 0; quantum = 100 }) full new
+pub sound-new : IsSound (record { boards = []; hubs = []; now = 0; quantum = 100 }) full tree.new
 sound-new = record {
-  few_boards = omega arith;
-  standing = tt;
-  devices = tt;
-  names = record {
-    boards_differ = λ i j d before within. absurd (omega arith);
-    hubs_differ = λ i j d before within. absurd (omega arith);
-    apart = All-nil _;
+  shape = record {
+    few = omega arith;
+    devices = All-nil _;
+    names = search rules;
+    enough = search rules;
   };
-  enough = record {
-    few = λ kind. omega arith;
-    uarts = omega arith;
-    cans = omega arith;
-    finishers = omega arith;
-  };
-  times = record { time = omega arith; least_quantum = omega arith; most_quantum = omega arith };
-  timed = timed-new;
+  times = search rules;
+  timed = record { closed = refl; speeds = refl; standing = λ b n at. absurd (cc) };
 }
 
 -- ---- a board more
 
-standing-push :
-    (most first : ℕ) (boards : List Board) (name : List ℕ) → AreStanding most first (map number_of boards) →
-    AreStanding most first (map number_of (boards ++ record { name = name; view = None } ∷ []))
-standing-push most first [] name all = (λ n at. absurd (cc), tt)
-standing-push most first (x ∷ xs) name all = (all.0, standing-push most (first + 1) xs name all.1)
+-- a plan or none
+abbrev one_if : Outline → ℕ
+one_if o = cond (is_some o.kinds) 1 0
 
 -- members of hubs that stay devices of their kind
 devices-kept :
     (before after : List Outline) →
-    ((m : Member) (kind : Kind) → kind_in before m ≡ Some kind → kind_in after m ≡ Some kind) → (hubs : List Hub) →
-    AreDevices before hubs → AreDevices after hubs
+    ((dev : ℕ) (kind : Kind) (b : ℕ) → kind_of_outline dev (slice_get before b) ≡ Some kind →
+    kind_of_outline dev (slice_get after b) ≡ Some kind) →
+    (hubs : List Hub) → AreDevices before hubs → AreDevices after hubs
 devices-kept before after keeps hubs all =
-    each-weaker (AreMembers before) (AreMembers after)
-    (λ hub are. All-weaker _ _ (λ m. keeps m hub.kind) hub.members are) hubs all
-
--- a plan or none
-abbrev one_if : Outline → ℕ
-one_if o = cond (is_some o.kinds) 1 0
+    All-weaker (AreMembers before) (AreMembers after)
+    (λ hub are. All-weaker _ _ (λ m. keeps m.dev hub.kind m.board.0) hub.members are) hubs all
 
 -- a name that is not taken
 unnamed :
@@ -165,25 +107,30 @@ pub sound-push :
     {lab : Lab} {spares : Spares} {source : Tree} (name : List ℕ) → IsSound lab spares source →
     length lab.boards < 16 → is_taken lab name ≡ false →
     IsSound (record lab { boards = lab.boards ++ record { name = name; view = None } ∷ [] }) spares
-    (with_member source 1)
+    (tree.with_member source 1)
 sound-push {lab = lab} name sound room free =
     let board : Board = record { name = name; view = None } in
     let os = outlines lab.boards in
     let o : Outline = record { name = name; kinds = None } in
-    let pushed : outlines (lab.boards ++ board ∷ []) ≡ os ++ o ∷ [] = map-append outline lab.boards (board ∷ []) in
-    let plans : count_of_plans (os ++ o ∷ []) ≡ count_of_plans os = sum_by_push one_if os o ∙ add-zero _ in
+    let names = rw map-map at sound.shape.names in
     record {
-      few_boards = omega (arith, length_push lab.boards board);
-      standing = standing-push (1000 * lab.now) 0 lab.boards name sound.standing;
-      devices =
-          rw pushed
-          (devices-kept os (os ++ o ∷ [])
-          (λ m kind. found-push (kind_of_outline m.dev) os (o ∷ []) m.board.0 kind refl) lab.hubs sound.devices);
-      names =
-          rw map-append (board_more name (unnamed lab name free).0 (unnamed lab name free).1 sound.names);
-      enough = rw (pushed, plans) sound.enough;
+      shape =
+          rw (map-append outline lab.boards (board ∷ []))
+          (record {
+            few = omega (arith, length_push os o, length-map lab.boards outline);
+            devices =
+                devices-kept os (os ++ o ∷ [])
+                (λ dev kind. each-push
+                (λ b found. kind_of_outline dev (slice_get os b) ≡ Some kind → kind_of_outline dev found ≡ Some kind)
+                os o (λ at. absurd (cc (slice_get_past os (length os) (omega arith)))) (λ b at. at))
+                lab.hubs sound.shape.devices;
+            names =
+                rw (map-append, map-map)
+                (board_more name (unnamed lab name free).0 (unnamed lab name free).1 names);
+            enough = rw (sum_by_push one_if os o ∙ add-zero _) sound.shape.enough;
+          });
       times = sound.times;
-      timed = timed-push sound.timed name;
+      timed = rw (map-append number_of lab.boards (board ∷ [])) (timed-push sound.timed);
     }
 
 -- ---- hubs
@@ -192,53 +139,104 @@ sound-push {lab = lab} name sound room free =
 pub sound-hub :
     {lab : Lab} {spares : Spares} {source : Tree} (hub : Hub) → IsSound lab spares source → hub.members ≡ [] →
     is_taken lab hub.name ≡ false → IsSound (record lab { hubs = lab.hubs ++ hub ∷ [] }) spares source
-sound-hub {lab = lab} hub sound none free = record {
-  few_boards = sound.few_boards;
-  standing = sound.standing;
-  devices = hubs-push lab.hubs sound.devices;
-  names =
-      rw map-append (hub_more hub.name (unnamed lab hub.name free).0 (unnamed lab hub.name free).1 sound.names);
-  enough = sound.enough;
-  times = sound.times;
-  timed = sound.timed;
-}
-  where
-    os : List Outline
-    os = outlines lab.boards
-
-    hubs-push : (hubs : List Hub) → AreDevices os hubs → AreDevices os (hubs ++ hub ∷ [])
-    hubs-push [] all = (rw none (All-nil (λ m. kind_in os m ≡ Some hub.kind)), tt)
-    hubs-push (h ∷ hs) all = (all.0, hubs-push hs all.1)
+sound-hub {lab = lab} hub sound none free =
+    let os = outlines lab.boards in
+    let names = rw map-map at sound.shape.names in
+    record {
+      shape = record {
+        few = sound.shape.few;
+        devices =
+            All-push (AreMembers os) lab.hubs hub sound.shape.devices
+            (rw none (All-nil (λ m. kind_in os m ≡ Some hub.kind)));
+        names =
+            rw (map-append, map-map)
+            (hub_more hub.name (unnamed lab hub.name free).0 (unnamed lab hub.name free).1 names);
+        enough = sound.shape.enough;
+      };
+      times = sound.times;
+      timed = sound.timed;
+    }
 
 -- a laboratory with a member more in one of its hubs, of which a hub that has this number has the kind
 pub sound-member :
     {lab : Lab} {spares : Spares} {source : Tree} (n : ℕ) (m : Member) → IsSound lab spares source →
     ((hub : Hub) → slice_get lab.hubs n ≡ Some hub → kind_in (outlines lab.boards) m ≡ Some hub.kind) →
-    IsSound (record lab { hubs = change_at lab.hubs n (one.with_member m) }) spares source
-sound-member {lab = lab} n m sound kind = record {
-  few_boards = sound.few_boards;
-  standing = sound.standing;
-  devices = member-change lab.hubs n kind sound.devices;
-  names = rw (map-change (λ (hub : Hub). hub.name) (one.with_member m) (λ hub. refl) lab.hubs n) sound.names;
-  enough = sound.enough;
-  times = sound.times;
-  timed = sound.timed;
-}
-  where
-    os : List Outline
-    os = outlines lab.boards
-
-    member-change :
-        (hubs : List Hub) (n : ℕ) → ((hub : Hub) → slice_get hubs n ≡ Some hub → kind_in os m ≡ Some hub.kind) →
-        AreDevices os hubs → AreDevices os (change_at hubs n (one.with_member m))
-    member-change [] n kind all = tt
-    member-change (hub ∷ hubs) zero kind all =
-        (All-push (λ m. kind_in os m ≡ Some hub.kind) hub.members m all.0 (kind hub refl), all.1)
-    member-change (hub ∷ hubs) (suc n) kind all = (all.0, member-change hubs n kind all.1)
+    IsSound (record lab { hubs = change_at lab.hubs n (with_member m) }) spares source
+sound-member {lab = lab} n m sound kind =
+    let os = outlines lab.boards in
+    record {
+      shape = record {
+        few = sound.shape.few;
+        devices =
+            All-change (AreMembers os) (with_member m) lab.hubs n
+            (λ hub at all. All-push (λ m. kind_in os m ≡ Some hub.kind) hub.members m all (kind hub at))
+            sound.shape.devices;
+        names = rw (map-change (λ (hub : Hub). hub.name) (with_member m) (λ hub. refl) lab.hubs n) sound.shape.names;
+        enough = sound.shape.enough;
+      };
+      times = sound.times;
+      timed = sound.timed;
+    }
 
 -- the kind of a device, by boards and by outlines
 pub kind-outlines : (boards : List Board) (m : Member) → kind_in (outlines boards) m ≡ kind_at boards m
 kind-outlines boards m = grind (arith, common_steps, slice_get-map outline boards m.board.0)
+
+-- ---- one board changed
+
+some_of : {A : Type 0} (o : Option A) → IsSome o → (x : A) × (o ≡ Some x)
+some_of None has = absurd (cc)
+some_of (Some x) has = (x, refl)
+
+module _ {lab : Lab} {spares : Spares} {source : Tree} (i : ℕ) {old : Board} (is : old ≡ get_or lab.boards i old)
+    (sound : IsSound lab spares source) where
+  -- its name, its devices and its numbers stay
+  pub sound-kept :
+      (f : View → View) → Leaves f → IsSound (record lab { boards = set lab.boards i (with_view f old) }) spares source
+  sound-kept f leaves = record {
+    shape =
+        rw (map-set_same outline lab.boards i (with_view f old) old
+        (outline-view f (λ v. (leaves v).0) old ∙ ap outline is))
+        sound.shape;
+    times = sound.times;
+    timed =
+        rw (map-set_same number_of lab.boards i (with_view f old) old
+        (same_part (λ v. v.numbers) f (λ v. (leaves v).1) old.view ∙ ap number_of is))
+        sound.timed;
+  }
+
+  -- its speed is another, and its member's
+  pub sound-speed :
+      (speed : ℕ) → 1 ≤ speed → speed ≤ 1000 → IsSome (view_at lab.boards i) →
+      IsSound (record lab { boards = set lab.boards i (with_view (λ v. with_speed v speed) old) }) spares
+      (tree.with_speed source i speed)
+  sound-speed speed least most has =
+      let faster = λ (v : View). with_speed v speed in
+      let here = slice_get_read lab.boards (length lab.boards) i old refl (planned_below lab.boards i has) is in
+      let view = some_of old.view (rw here at has) in
+      let stands = sound.timed.standing i view.0.numbers
+      (slice_get-map number_of lab.boards i ∙ ap (option_map number_of) here
+      ∙ ap (λ o. Some (option_map (λ (v : View). v.numbers) o)) view.1) in
+      record {
+        shape =
+            rw (map-set_same outline lab.boards i (with_view faster old) old
+            (outline-view faster (λ v. refl) old ∙ ap outline is))
+            sound.shape;
+        times = sound.times;
+        timed =
+            rw (
+              map-set number_of lab.boards i (with_view faster old),
+              ap (λ o. option_map (λ (v : View). v.numbers) (option_map faster o)) view.1,
+            )
+            (timed-set sound.timed i (record view.0.numbers { speed = speed })
+            (record {
+              number = stands.number;
+              least_speed = least;
+              most_speed = most;
+              few_posts = stands.few_posts;
+              few_entries = stands.few_entries;
+            }));
+      }
 
 -- ---- a board by its plan
 
@@ -259,34 +257,34 @@ small plan valid = record {
   most = grind (arith, nat_tests, valid.speed);
 }
 
+-- a board that has no plan
+pub bare :
+    {lab now : Lab} {planned : Bool} (i : ℕ) → lab ≡ now → planned ≡ is_some (view_of now i) → planned ≡ false →
+    view_at lab.boards i ≡ None
+bare {lab = lab} i same asked unplanned = none_of (view_at lab.boards i) (rw same (sym asked ∙ unplanned))
+  where
+    none_of : (o : Option View) → is_some o ≡ false → o ≡ None
+    none_of o is = grind (arith, common_steps)
+
 bare_at :
     (boards : List Board) (i : ℕ) → view_at boards i ≡ None →
     option_and_then (λ (o : Outline). o.kinds) (slice_get (outlines boards) i) ≡ None
 bare_at boards i none = grind (arith, common_steps, slice_get-map outline boards i)
 
--- a board that was asked for its plan
-none_of : (o : Option View) → is_some o ≡ false → o ≡ None
-none_of o is = grind (arith, common_steps)
+module _ {lab : Lab} {spares : Spares} {source : Tree} (i : ℕ) (plan : BoardPlan) (sound : IsSound lab spares source)
+    (below : i < length lab.boards) (none : view_at lab.boards i ≡ None) (valid : IsValid plan) where
+  abbrev os : List Outline
+  os = outlines lab.boards
 
-module _ {lab now : Lab} {spares : Spares} {source : Tree} {planned : Bool} (i : ℕ) (plan : BoardPlan)
-    (sound : IsSound lab spares source) (same : lab ≡ now) (exists : i < length now.boards)
-    (asked : planned ≡ is_some (view_of now i)) (unplanned : planned ≡ false) (valid : IsValid plan) where
-  below : i < length lab.boards
-  below = rw same exists
+  no_kinds : option_and_then (λ (o : Outline). o.kinds) (slice_get os i) ≡ None
+  no_kinds = bare_at lab.boards i none
 
-  none : view_at lab.boards i ≡ None
-  none = none_of (view_at lab.boards i) (rw same (sym asked ∙ unplanned))
-
-  one_plan_more :
-      (o : Outline) → is_some o.kinds ≡ true →
-      count_of_plans (set (outlines lab.boards) i o) ≡ count_of_plans (outlines lab.boards) + 1
+  one_plan_more : (o : Outline) → is_some o.kinds ≡ true → count_of_plans (set os i o) ≡ count_of_plans os + 1
   one_plan_more o some =
-      let os = outlines lab.boards in
       let d : Outline = record { name = []; kinds = None } in
       let long : i < length os = rw length-map below in
       let no : (get_or os i d).kinds ≡ None =
-      sym (ap (option_and_then (λ (o : Outline). o.kinds)) (slice_get-get_or os i d long))
-      ∙ bare_at lab.boards i none in
+      sym (ap (option_and_then (λ (o : Outline). o.kinds)) (slice_get-get_or os i d long)) ∙ no_kinds in
       let before : one_if (get_or os i d) ≡ 0 = rw no refl in
       let after : one_if o ≡ 1 = rw some refl in
       omega (arith, sum_by-set one_if os i o d long)
@@ -294,62 +292,64 @@ module _ {lab now : Lab} {spares : Spares} {source : Tree} {planned : Bool} (i :
   pub has-for : HasFor spares plan.kinds
   has-for = each
     where
-      few : count_of_plans (outlines lab.boards) < 16
+      few : count_of_plans os < 16
       few =
           let planned : Outline = record { name = []; kinds = Some [] } in
-          let os = set (outlines lab.boards) i planned in
           omega (
             arith,
             one_plan_more planned refl,
-            count_by-le-length (λ (o : Outline). is_some o.kinds) os,
-            length-set (outlines lab.boards) i planned,
-            length-map lab.boards outline,
-            sound.few_boards,
+            count_by-le-length (λ (o : Outline). is_some o.kinds) (set os i planned),
+            length-set os i planned,
+            sound.shape.few,
           )
 
       each : HasFor spares plan.kinds
-      each Uart = omega (arith, (small plan valid).uarts, sound.enough.uarts, few)
-      each Can = omega (arith, (small plan valid).cans, sound.enough.cans, few)
-      each Finisher = omega (arith, (small plan valid).finishers, sound.enough.finishers, few)
+      each Uart = omega (arith, (small plan valid).uarts, sound.shape.enough.uarts, few)
+      each Can = omega (arith, (small plan valid).cans, sound.shape.enough.cans, few)
+      each Finisher = omega (arith, (small plan valid).finishers, sound.shape.enough.finishers, few)
 
   pub sound-fit :
       (left : Spares) {old : Board} → old ≡ get_or lab.boards i old → AreTaken spares left plan.kinds →
       IsSound (record lab { boards = set lab.boards i (record old { view = Some (new_board i plan) }) }) left
-      (with_speed source i plan.speed)
+      (tree.with_speed source i plan.speed)
   sound-fit left {old = old} is taken =
       let new : Board = record old { view = Some (new_board i plan) } in
-      let os = outlines lab.boards in
       let o = outline new in
-      let after : outlines (set lab.boards i new) ≡ set os i o = map-set outline lab.boards i new in
-      let plans : count_of_plans (outlines (set lab.boards i new)) ≡ count_of_plans os + 1 =
-      ap count_of_plans after ∙ one_plan_more o refl in
+      let plans = one_plan_more o refl in
       let is_small = small plan valid in
+      let names = map-set_same (λ (board : Board). board.name) lab.boards i new old (ap (λ (b : Board). b.name) is) in
       record {
-        few_boards = rw length-set sound.few_boards;
-        standing = numbers-set (1000 * lab.now) lab.boards i new is
-            (λ before n at. subst (IsStanding (1000 * lab.now) (0 + i)) (same_Some _ _ at)
+        shape =
+            rw (map-set outline lab.boards i new)
             (record {
-              number = sym (zero-add i);
+              few = rw length-set sound.shape.few;
+              devices =
+                  devices-kept os (set os i o)
+                  (λ dev kind. each-set
+                  (λ b found. kind_of_outline dev (slice_get os b) ≡ Some kind →
+                  kind_of_outline dev found ≡ Some kind)
+                  os i o
+                  (λ at. absurd (cc (at, ap (option_and_then (λ kinds. slice_get kinds dev)) no_kinds)))
+                  (λ b at. at))
+                  lab.hubs sound.shape.devices;
+              names =
+                  rw (← map-set outline lab.boards i new, map-map, names) (rw map-map at sound.shape.names);
+              enough = record {
+                few = λ kind. omega (arith, taken kind, sound.shape.enough.few kind);
+                uarts = omega (arith, taken Uart, is_small.uarts, plans, sound.shape.enough.uarts);
+                cans = omega (arith, taken Can, is_small.cans, plans, sound.shape.enough.cans);
+                finishers = omega (arith, taken Finisher, is_small.finishers, plans, sound.shape.enough.finishers);
+              };
+            });
+        times = sound.times;
+        timed =
+            rw (map-set number_of lab.boards i new)
+            (timed-set sound.timed i (new_numbers i plan)
+            (record {
+              number = refl;
               least_speed = is_small.least;
               most_speed = is_small.most;
               few_posts = omega arith;
               few_entries = omega arith;
-            })) sound.standing;
-        devices =
-            rw after
-            (devices-kept os (set os i o)
-            (λ m kind at. found-set (kind_of_outline m.dev) os i m.board.0 o kind
-            (ap (option_and_then (λ kinds. slice_get kinds m.dev)) (bare_at lab.boards i none)) at)
-            lab.hubs sound.devices);
-        names =
-            rw (map-set_same (λ (board : Board). board.name) lab.boards i new old (ap (λ (b : Board). b.name) is))
-            sound.names;
-        enough = record {
-          few = λ kind. omega (arith, taken kind, sound.enough.few kind);
-          uarts = omega (arith, taken Uart, is_small.uarts, plans, sound.enough.uarts);
-          cans = omega (arith, taken Can, is_small.cans, plans, sound.enough.cans);
-          finishers = omega (arith, taken Finisher, is_small.finishers, plans, sound.enough.finishers);
-        };
-        times = sound.times;
-        timed = timed-speed sound.timed i new;
+            }));
       }

@@ -1,5 +1,4 @@
 -- What serves private contracts and proofs alone.
-pub mod Came
 pub mod Change
 pub mod End
 pub mod Fault

@@ -50,7 +50,7 @@ impl<D: Device> Lab<D> {
     pub(crate) fn is_taken(&self, name: &str) -> bool
         ensures { result ≡ names_spec.is_taken self.now.lab name.now }
     {
-        number_of(&self.boards, name).is_some() || self.hub_named(name).is_some()
+        number_of(&self.boards, name).is_some() || self.hubs.find(name).is_some()
     }
 
     /// Adds a board without a plan.

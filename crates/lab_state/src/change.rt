@@ -5,14 +5,13 @@ ghost use Rattle.lab_state.specs.Inner.Change.{changed_by, MayChange};
 use board::Board;
 use dev_core::Device;
 
-/// What may be changed of a board that has a plan, and cannot fail.
-#[derive(Clone, Copy)]
+/// What may be changed of a board that has a plan and cannot fail. Its name, its plan and its numbers
+/// stay.
+#[derive(Drop)]
 pub enum Change {
     /// The address of the next instruction.
     Pc(u32),
     Halted(bool),
-    /// Instructions a microsecond.
-    Speed(u32),
     /// A device is shown.
     Shown(u8),
     /// Bytes of the memories become 0.
@@ -29,7 +28,6 @@ impl Change {
         match self {
             Change::Pc(pc) => board.set_pc(pc),
             Change::Halted(on) => board.set_halted(on),
-            Change::Speed(speed) => board.set_speed(speed),
             Change::Shown(dev) => board.show(dev),
             Change::Zero { at, count } => board.zero(at, count),
             Change::Reset => board.reset(),

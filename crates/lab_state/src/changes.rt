@@ -6,28 +6,15 @@ ghost use Rattle.board.specs.Changes.{with_pc, with_halted, with_speed, with_sho
 ghost use Rattle.board.specs.Changes.{holds_each};
 ghost use Rattle.board.specs.New as board_spec;
 ghost use Rattle.lab_state.specs.Inner.Change.{changed_by, MayChange};
-ghost use Rattle.lab_state.specs.Inner.Time.{sped, IsSpeedGiven};
 ghost use Rattle.lab_state.specs.One.{view_of, changed, WritesPrefix};
 
 use crate::change::Change;
 use crate::lab::Lab;
 use dev_core::Device;
 use lab_num::{BoardNo, Member, NoMemory};
-use time_source::Source;
-
-/// Sets the speed of a member whose board gets another one.
-fn keep_speed(source: &mut Source, b: BoardNo, change: Change)
-    requires closed { source.old.is_open ≡ false }
-    requires member { b.0 < length source.old.handles }
-    requires may { IsSpeedGiven change }
-    ensures { source.new ≡ sped change b.0 source.old }
-{
-    if let Change::Speed(speed) = change {
-        source.set_speed(b, speed);
-    }
-}
 
 impl<D: Device> Lab<D> {
+    /// Changes a board.
     fn change(&mut self, b: BoardNo, change: Change)
         requires unspent { self.old.spent ≡ false }
         requires has_plan { IsSome (view_of self.old.lab b.0) }
@@ -37,7 +24,6 @@ impl<D: Device> Lab<D> {
         } }
     {
         self.boards[b.0 as usize].change(change);
-        keep_speed(&mut self.source, b, change);
     }
 
     /// Writes bytes into the memories of a board from an address on. After an `Err` some of the
@@ -102,7 +88,8 @@ impl<D: Device> Lab<D> {
           lab = changed self.old.lab b.0 (λ v. with_speed v speed);
         } }
     {
-        self.change(b, Change::Speed(speed));
+        self.boards[b.0 as usize].set_speed(speed);
+        self.source.set_speed(b, speed);
     }
 
     /// Shows a UART or a CAN controller: from now on each byte or frame that it sends makes an item

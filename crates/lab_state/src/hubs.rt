@@ -22,7 +22,7 @@ fn is_same(a: Kind, b: Kind) -> bool
 
 impl<D: Device> Lab<D> {
     /// The number of the hub of this name.
-    pub(crate) fn hub_named(&self, name: &str) -> Option<usize>
+    fn hub_named(&self, name: &str) -> Option<usize>
         ensures number { result ≡ names_spec.hub_named self.now.lab name.now }
         ensures few { IfSome result (λ n. n < 2 ^ 32) }
     {

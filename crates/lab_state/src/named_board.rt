@@ -3,13 +3,13 @@ ghost use Rattle.std.specs.Prelude.{◌≡◌, ◌+◌, ◌≤◌, ◌<◌, ◌+
 ghost use Rattle.std.specs.Prelude.{option_and_then, is_none, slice_get, IfOk, OnOk, OnErr};
 ghost use Rattle.std.specs.Option.{option_map, ForSome};
 ghost use Rattle.log_merge.specs.Merge.{all_entries};
-ghost use Rattle.board.specs.Changes.{with_bytes, handed, holds_each};
+ghost use Rattle.board.specs.Changes.{with_bytes, with_speed, handed, holds_each};
 ghost use Rattle.board.specs.View.{quiet};
 ghost use Rattle.time_handle.specs.Grant.{fresh};
 ghost use Rattle.lab_state.specs.Boundary as boundary_spec;
 ghost use Rattle.lab_state.specs.Boundary.{note_by};
 ghost use Rattle.lab_state.specs.Inner.Change.{changed_by, MayChange};
-ghost use Rattle.lab_state.specs.Inner.Time.{part_of, used_up};
+ghost use Rattle.lab_state.specs.Inner.Time.{part_of};
 ghost use Rattle.lab_state.specs.One.{with_view};
 ghost use Rattle.lab_state.specs.Round.{granted, stepped, posts_made, entries_made};
 
@@ -52,23 +52,17 @@ pub struct Made {
     pub entries: Vec<Vec<Entry>>,
 }
 
-/// Moves the posts of a board to the end of a list.
+/// Moves the posts of a board to the end of a list. Without memory for them they are lost.
 fn take_posts<D: Device>(board: &mut Board<D>, posts: &mut Vec<Post>) -> Result<(), NoMemory>
-    ensures board { OnOk result (board.new ≡ record board.old { posts = [] }) }
+    ensures board { board.new ≡ record board.old { posts = [] } }
     ensures posts { OnOk result (posts.new.items ≡ posts.old.items ++ board.old.posts) }
 {
+    let mut starved = false;
     while let Some(post) = board.next_post() {
-        posts.push(post)?;
+        starved |= posts.push(post).is_err();
         board.drop_post();
     }
-    Ok(())
-}
-
-/// Uses all slots of a grant.
-fn use_up(grant: &mut Handle)
-    ensures { grant.new ≡ used_up grant.old }
-{
-    let _report = grant.used(grant.left());
+    if starved { Err(NoMemory) } else { Ok(()) }
 }
 
 /// Gives a board the slots of a grant.
@@ -91,56 +85,32 @@ fn take_turn<D: Device>(board: &mut Board<D>, grant: &Handle) -> Result<(), NoMe
     }
 }
 
-/// Gives a board the slots of a grant, and takes what it has made.
+/// Gives a board the slots of a grant, and takes what it has made. Without memory for that it is lost.
 fn step_board<D: Device>(
     board: &mut Board<D>,
-    grant: &mut Handle,
+    grant: &Handle,
     made: &mut Made,
 ) -> Result<(), NoMemory>
-    requires within { grant.old.to ≤ 10000000000 }
-    requires part { grant.old
-        ≡ fresh grant.old.from grant.old.to board.old.view.numbers.speed }
+    requires within { grant.now.to ≤ 10000000000 }
+    requires part { grant.now
+        ≡ fresh grant.now.from grant.now.to board.old.view.numbers.speed }
     requires quiet { board.old ≡ quiet board.old.view }
     requires posts { board.old.view.numbers.posted ≤ 10000000000000 }
     requires entries { board.old.view.numbers.entered ≤ 10000000000000 }
-    ensures used { OnOk result (grant.new ≡ used_up grant.old) }
-    ensures board { OnOk result (board.new
-        ≡ quiet (granted grant.old.from grant.old.to board.old.view).view) }
+    ensures quiet { board.new ≡ quiet board.new.view }
+    ensures view { OnOk result (board.new.view
+        ≡ (granted grant.now.from grant.now.to board.old.view).view) }
     ensures posts { OnOk result (made.new.posts.items
-        ≡ made.old.posts.items ++ (granted grant.old.from grant.old.to board.old.view).posts) }
+        ≡ made.old.posts.items ++ (granted grant.now.from grant.now.to board.old.view).posts) }
     ensures entries { OnOk result (all_entries made.new.entries.items
         ≡ all_entries made.old.entries.items
-        ++ (granted grant.old.from grant.old.to board.old.view).entries) }
+        ++ (granted grant.now.from grant.now.to board.old.view).entries) }
 {
-    take_turn(board, grant)?;
-    use_up(grant);
-    take_posts(board, &mut made.posts)?;
+    let stepped = take_turn(board, grant);
+    let taken = take_posts(board, &mut made.posts);
     made.entries.push(board.take_entries())?;
-    Ok(())
-}
-
-/// A board after the slots of a grant. Without memory for what it has made it is lost.
-fn after_step<D: Device>(
-    mut board: Board<D>,
-    grant: &mut Handle,
-    made: &mut Made,
-) -> Result<Board<D>, NoMemory>
-    requires within { grant.old.to ≤ 10000000000 }
-    requires part { grant.old ≡ fresh grant.old.from grant.old.to board.view.numbers.speed }
-    requires quiet { board ≡ quiet board.view }
-    requires posts { board.view.numbers.posted ≤ 10000000000000 }
-    requires entries { board.view.numbers.entered ≤ 10000000000000 }
-    ensures used { OnOk result (grant.new ≡ used_up grant.old) }
-    ensures board { IfOk result (λ after.
-        after ≡ quiet (granted grant.old.from grant.old.to board.view).view) }
-    ensures posts { OnOk result (made.new.posts.items
-        ≡ made.old.posts.items ++ (granted grant.old.from grant.old.to board.view).posts) }
-    ensures entries { OnOk result (all_entries made.new.entries.items
-        ≡ all_entries made.old.entries.items
-        ++ (granted grant.old.from grant.old.to board.view).entries) }
-{
-    step_board(&mut board, grant, made)?;
-    Ok(board)
+    stepped?;
+    taken
 }
 
 /// What the log notes of a payload that a shown device was handed and answered so.
@@ -188,7 +158,7 @@ impl<D: Device> NamedBoard<D> {
         requires { board ≡ quiet board.view }
         ensures { self.new ≡ record self.old { view = Some board.view } }
     {
-        self.board.insert(board);
+        let _board = self.board.insert(board);
     }
 
     pub fn name(&self) -> &Text
@@ -221,26 +191,24 @@ impl<D: Device> NamedBoard<D> {
     }
 
     /// Gives the board the slots of a grant, and takes what it has made. Without memory for that
-    /// the board is lost. Where there is no board the slots pass.
-    pub fn step(&mut self, grant: &mut Handle, made: &mut Made) -> Result<(), NoMemory>
-        requires within { grant.old.to ≤ 10000000000 }
-        requires part { grant.old ≡ part_of grant.old.from grant.old.to self.old }
+    /// it is lost. Where there is no board the slots pass.
+    pub fn step(&mut self, grant: &Handle, made: &mut Made) -> Result<(), NoMemory>
+        requires within { grant.now.to ≤ 10000000000 }
+        requires part { grant.now ≡ part_of grant.now.from grant.now.to self.old }
         requires made { ForSome self.old.view (λ v.
             (v.numbers.posted ≤ 10000000000000) × (v.numbers.entered ≤ 10000000000000)) }
-        ensures used { OnOk result (grant.new ≡ used_up grant.old) }
         ensures board { OnOk result (self.new
-            ≡ stepped (granted grant.old.from grant.old.to) self.old) }
+            ≡ stepped (granted grant.now.from grant.now.to) self.old) }
         ensures posts { OnOk result (made.new.posts.items ≡ made.old.posts.items
-            ++ posts_made (granted grant.old.from grant.old.to) self.old) }
+            ++ posts_made (granted grant.now.from grant.now.to) self.old) }
         ensures entries { OnOk result (all_entries made.new.entries.items
             ≡ all_entries made.old.entries.items
-            ++ entries_made (granted grant.old.from grant.old.to) self.old) }
+            ++ entries_made (granted grant.now.from grant.now.to) self.old) }
     {
-        match self.board.take() {
-            Some(board) => self.fit(after_step(board, grant, made)?),
-            None => use_up(grant),
+        match &mut self.board {
+            Some(board) => step_board(board, grant, made),
+            None => Ok(()),
         }
-        Ok(())
     }
 
     /// Hands a payload to a device of the board, and gives what the log notes of it.
@@ -262,6 +230,17 @@ impl<D: Device> NamedBoard<D> {
     {
         if let Some(board) = &mut self.board {
             change.make(board);
+        }
+    }
+
+    /// Sets the speed of the board.
+    pub fn set_speed(&mut self, speed: u32)
+        requires least { 1 ≤ speed }
+        requires most { speed ≤ 1000 }
+        ensures { self.new ≡ with_view (λ v. with_speed v speed) self.old }
+    {
+        if let Some(board) = &mut self.board {
+            board.set_speed(speed);
         }
     }
 

@@ -7,12 +7,12 @@ ghost use Rattle.lab_num.specs.Key.{KeysDiffer};
 ghost use Rattle.lab_num.specs.Listing.{listing};
 ghost use Rattle.dev_core.specs.Post.{entry_key, post_key};
 ghost use Rattle.log_merge.specs.Merge.{all_entries};
-ghost use Rattle.lab_state.specs.Inner.End.{Played, played};
-ghost use Rattle.lab_state.specs.Inner.Standing.{outlines, number_of, AreStanding, AreDevices};
-ghost use Rattle.lab_state.specs.Inner.Time.{IsTimed, part_of, used_up};
+ghost use Rattle.lab_state.specs.Inner.End.{Played, in_round, played};
+ghost use Rattle.lab_state.specs.Inner.Standing.{outlines, AreDevices};
+ghost use Rattle.lab_state.specs.Inner.Time.{numbers_of, AreStanding, IsTimed, part_of, used_up};
 ghost use Rattle.lab_state.specs.One.{HaveAllPlans};
 ghost use Rattle.lab_state.specs.Round as round_spec;
-ghost use Rattle.lab_state.specs.Round.{granted, stepped, posts_made, entries_made, slot_items};
+ghost use Rattle.lab_state.specs.Round.{stepped, posts_made, entries_made, slot_items};
 
 use crate::boundary::{hand_over_all, pause_of, push_pause};
 use crate::faults::LabFault;
@@ -44,36 +44,46 @@ struct Slots {
     items: Vec<LogItem>,
 }
 
-/// Gives every board its part of the open grant, and takes what they have made.
+/// Gives every board the slots of its part of the open grant, and takes what they have made.
 fn step_all<D: Device>(
     boards: &mut [NamedBoard<D>],
-    source: &mut Source,
+    source: &Source,
     from: Micros,
     q: u64,
     made: &mut Made,
 ) -> Result<(), NoMemory>
     requires within { from.0 + q ≤ 10000000000 }
-    requires standing { AreStanding (1000 * from.0) 0 (map number_of boards.old) }
+    requires standing { AreStanding (1000 * from.0) (numbers_of boards.old) }
     requires few { length boards.old ≤ 16 }
-    requires opened { source.old.is_open ≡ true }
-    requires parts { source.old.handles ≡ map (part_of from.0 (from.0 + q)) boards.old }
-    ensures used { OnOk result (source.new
-        ≡ record source.old { handles = map used_up source.old.handles }) }
-    ensures boards { OnOk result (boards.new
-        ≡ map (stepped (granted from.0 (from.0 + q))) boards.old) }
-    ensures posts { OnOk result (made.new.posts.items ≡ made.old.posts.items
-        ++ flat_map (posts_made (granted from.0 (from.0 + q))) boards.old) }
+    requires opened { source.now.is_open ≡ true }
+    requires parts { source.now.handles ≡ map (part_of from.0 (from.0 + q)) boards.old }
+    ensures boards { OnOk result (boards.new ≡ map (stepped (in_round from.0 q)) boards.old) }
+    ensures posts { OnOk result (made.new.posts.items
+        ≡ made.old.posts.items ++ flat_map (posts_made (in_round from.0 q)) boards.old) }
     ensures entries { OnOk result (all_entries made.new.entries.items
         ≡ all_entries made.old.entries.items
-        ++ flat_map (entries_made (granted from.0 (from.0 + q))) boards.old) }
+        ++ flat_map (entries_made (in_round from.0 q)) boards.old) }
 {
     for (n, board) in boards.iter_mut().enumerate() {
-        let member = BoardNo(n as u8);
-        let mut grant = source.handle(member);
-        board.step(&mut grant, made)?;
-        source.put(member, grant);
+        let grant = source.handle(BoardNo(n as u8));
+        board.step(&grant, made)?;
     }
     Ok(())
+}
+
+/// Uses up the open grant.
+fn use_up(source: &mut Source, members: usize)
+    requires opened { source.old.is_open ≡ true }
+    requires all { members ≡ length source.old.handles }
+    requires few { members ≤ 16 }
+    ensures { source.new ≡ record source.old { handles = map used_up source.old.handles } }
+{
+    for n in 0..members {
+        let member = BoardNo(n as u8);
+        let mut grant = source.handle(member);
+        let _report = grant.used(grant.left());
+        source.put(member, grant);
+    }
 }
 
 /// An entry as an item of the log.
@@ -115,28 +125,29 @@ fn take_slots<D: Device>(
     alloc: Global,
     boards: &mut [NamedBoard<D>],
     source: &mut Source,
-    from: Micros,
     q: u64,
 ) -> Result<Slots, NoMemory>
-    requires within { from.0 + q ≤ 10000000000 }
-    requires standing { AreStanding (1000 * from.0) 0 (map number_of boards.old) }
+    requires within { source.old.end + q ≤ 10000000000 }
     requires few { length boards.old ≤ 16 }
-    requires timed { IsTimed source.old from.0 boards.old }
-    ensures timed { OnOk result (IsTimed source.new (from.0 + q) boards.old) }
+    requires timed { IsTimed source.old (numbers_of boards.old) }
+    ensures end { OnOk result (source.new.end ≡ source.old.end + q) }
+    ensures timed { OnOk result (IsTimed source.new (numbers_of boards.new)) }
     ensures boards { OnOk result (boards.new
-        ≡ map (stepped (granted from.0 (from.0 + q))) boards.old) }
+        ≡ map (stepped (in_round source.old.end q)) boards.old) }
     ensures posts { IfOk result (λ slots. slots.posts.items
-        ≡ listing post_key (flat_map (posts_made (granted from.0 (from.0 + q))) boards.old)) }
+        ≡ listing post_key (flat_map (posts_made (in_round source.old.end q)) boards.old)) }
     ensures items { IfOk result (λ slots. slots.items.items
-        ≡ slot_items (granted from.0 (from.0 + q)) boards.old) }
+        ≡ slot_items (in_round source.old.end q) boards.old) }
 {
     stretches_number();
     let mut made = Made {
         posts: Vec::new(alloc),
         entries: Vec::new(alloc),
     };
+    let from = source.elapsed();
     source.grant(q);
     step_all(boards, source, from, q, &mut made)?;
+    use_up(source, boards.len());
     source.close();
     in_order(alloc, made)
 }
@@ -170,18 +181,18 @@ fn play<D: Device>(
     q: u64,
 ) -> Result<RoundLog, NoMemory>
     requires within { source.old.end + q ≤ 10000000000 }
-    requires standing { AreStanding (1000 * source.old.end) 0 (map number_of boards.old) }
     requires few { length boards.old ≤ 16 }
-    requires timed { IsTimed source.old source.old.end boards.old }
+    requires timed { IsTimed source.old (numbers_of boards.old) }
     requires devices { AreDevices (outlines boards.old) hubs.now }
-    ensures timed { OnOk result (IsTimed source.new (source.old.end + q) boards.old) }
+    ensures end { OnOk result (source.new.end ≡ source.old.end + q) }
+    ensures timed { OnOk result (IsTimed source.new (numbers_of boards.new)) }
+    ensures outlines { OnOk result (outlines boards.new ≡ outlines boards.old) }
     ensures played { IfOk result (λ log. ◌≡◌ {A = Played}
         (record { boards = boards.new; items = log.lines; paused = log.paused })
         (played source.old.end q hubs.now boards.old)) }
 {
     stretches_keep_plans();
-    let from = source.elapsed();
-    let Slots { posts, mut items } = take_slots(alloc, boards, source, from, q)?;
+    let Slots { posts, mut items } = take_slots(alloc, boards, source, q)?;
     let at = source.elapsed();
     let notes = hand_over_all(alloc, boards, hubs, &posts, at)?;
     let pause = pause_of(&posts);
@@ -210,8 +221,6 @@ impl<D: Device> Lab<D> {
         if self.spent {
             return Err(LabFault::Memory);
         }
-        stretches_number();
-        stretches_keep_plans();
         let Ok(log) = play(
             self.alloc,
             &mut self.boards,

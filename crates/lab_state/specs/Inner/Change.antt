@@ -1,7 +1,7 @@
 -- What may be changed of a board that has a plan.
-use Rattle.std.specs.Prelude.{◌≡◌, ◌<◌, ◌≤◌, ◌%◌, length, IsTrue}
+use Rattle.std.specs.Prelude.{◌≡◌, ◌<◌, ◌%◌, length, IsTrue}
 use Rattle.page_ram.specs.Bytes.{zeros}
-use Rattle.board.specs.Changes.{with_pc, with_halted, with_speed, with_shown, with_bytes, may_be_shown, holds_each}
+use Rattle.board.specs.Changes.{with_pc, with_halted, with_shown, with_bytes, may_be_shown, holds_each}
 use Rattle.board.specs.New.{reset}
 use Rattle.board.specs.View.{View}
 use Rattle.lab_state.specs.declared.change.Change.{Change}
@@ -10,7 +10,6 @@ use Rattle.lab_state.specs.declared.change.Change.TheVariants as change
 abbrev pub changed_by : Change → View → View
 changed_by (change.Pc pc) v = with_pc v pc
 changed_by (change.Halted on) v = with_halted v on
-changed_by (change.Speed speed) v = with_speed v speed
 changed_by (change.Shown dev) v = with_shown v dev
 changed_by (change.Zero at count) v = with_bytes v at (zeros count)
 changed_by change.Reset v = reset v
@@ -19,7 +18,6 @@ changed_by change.Reset v = reset v
 abbrev pub MayChange : Change → View → Type 0
 MayChange (change.Pc pc) v = pc % 4 ≡ 0
 MayChange (change.Halted on) v = Unit {0}
-MayChange (change.Speed speed) v = (1 ≤ speed) × (speed ≤ 1000)
 MayChange (change.Shown dev) v = (dev < length v.space.devices) × IsTrue (may_be_shown v dev)
 MayChange (change.Zero at count) v = IsTrue (holds_each v.space at count)
 MayChange change.Reset v = Unit {0}

@@ -1,20 +1,19 @@
 -- What holds of every laboratory that is not spent.
-use Rattle.std.specs.Prelude.{◌≡◌, ℕ, ◌+◌, ◌*◌, ◌≤◌, List, [], ◌∷◌, length, map, count_by, slice_get, Option}
+use Rattle.std.specs.Prelude.{◌≡◌, ℕ, ◌+◌, ◌*◌, ◌≤◌, List, length, map, count_by, slice_get, Option}
 use Rattle.std.specs.Prelude.{Some, false, is_some, IsSome, option_and_then}
-use Rattle.std.specs.List.{All, AllByRecursion, AllPairs}
-use Rattle.std.specs.Option.{option_map, ForSome}
+use Rattle.std.specs.List.{All, AllPairs}
+use Rattle.std.specs.Option.{option_map}
 use Rattle.std.specs.Str.{bytes_eq}
 use Rattle.lab_num.specs.declared.key.Member.{Member}
 use Rattle.dev_core.specs.declared.kind.Kind.{Kind}
-use Rattle.board.specs.Numbers.{Numbers}
 use Rattle.lab_state.specs.Board.{Board}
 use Rattle.lab_state.specs.Hub.{Hub}
 use Rattle.lab_state.specs.Lab.{Lab}
 use Rattle.time_source.specs.Tree.{Tree}
 use Rattle.lab_state.specs.Inner.Spares.{Spares, left_of, full}
-use Rattle.lab_state.specs.Inner.Time.{IsTimed}
+use Rattle.lab_state.specs.Inner.Time.{numbers_of, IsTimed}
 
--- what no change of one board touches: its name, and the kinds of its devices if it has a plan
+-- a board's name, and the kinds of its devices if it has a plan
 pub record Outline : Type 0 where
   pub name : List ℕ
   pub kinds : Option (List Kind)
@@ -24,28 +23,6 @@ outline board = record { name = board.name; kinds = option_map (λ v. v.space.pl
 
 abbrev pub outlines : List Board → List Outline
 outlines boards = map outline boards
-
--- a board of this number, at a speed that a board may have, which has made at most so many posts and entries
-pub record IsStanding (most b : ℕ) (n : Numbers) : Type 0 where
-  pub number : n.number ≡ b
-  pub least_speed : 1 ≤ n.speed
-  pub most_speed : n.speed ≤ 1000
-  pub few_posts : n.posted ≤ most
-  pub few_entries : n.entered ≤ most
-
--- the numbers of a board that has a plan
-abbrev pub number_of : Board → Option Numbers
-number_of board = option_map (λ v. v.numbers) board.view
-
--- the numbers of boards that are numbered one after another from this number on
-abbrev pub AreStanding : ℕ → ℕ → List (Option Numbers) → Type 0
-AreStanding most first [] = Unit {0}
-AreStanding most first (n ∷ ns) = ForSome n (IsStanding most first) × AreStanding most (first + 1) ns
-
--- a board after a change from outside: its name and its devices are the same, and it stands where it stood
-pub record IsKept (old new : Board) : Type 0 where
-  pub same : outline new ≡ outline old
-  pub stands : (most b : ℕ) → ForSome (number_of old) (IsStanding most b) → ForSome (number_of new) (IsStanding most b)
 
 -- the kind of a device, if its board has a plan and the device is one of it
 abbrev pub kind_of_outline : ℕ → Option Outline → Option Kind
@@ -62,7 +39,7 @@ abbrev pub AreMembers : List Outline → Hub → Type 0
 AreMembers boards hub = All (λ m. kind_in boards m ≡ Some hub.kind) hub.members
 
 abbrev pub AreDevices : List Outline → List Hub → Type 0
-AreDevices boards hubs = AllByRecursion (AreMembers boards) hubs
+AreDevices boards hubs = All (AreMembers boards) hubs
 
 -- no two of the names are one
 abbrev pub NamesDiffer : List (List ℕ) → Type 0
@@ -92,14 +69,16 @@ pub record IsEnough (spares : Spares) (plans : ℕ) : Type 0 where
   pub cans : 64 ≤ spares.cans + 4 * plans
   pub finishers : 16 ≤ spares.finishers + plans
 
--- at most 16 boards under numbers of their own, of which no two have made two things under one number; hubs that
--- connect devices of these boards; no name that two of the boards and hubs have; devices for the boards that have no
--- plan yet; a source of time at the laboratory's time, whose members have the boards' speeds
+-- at most 16 boards; hubs that connect devices of these boards; no name that two of the boards and hubs have; devices
+-- for the boards that have no plan yet
+pub record IsShaped (boards : List Outline) (hubs : List Hub) (spares : Spares) : Type 0 where
+  pub few : length boards ≤ 16
+  pub devices : AreDevices boards hubs
+  pub names : AreNames (map (λ board. board.name) boards) (map (λ hub. hub.name) hubs)
+  pub enough : IsEnough spares (count_of_plans boards)
+
+-- such a laboratory, with a source of time for its boards
 pub record IsSound (lab : Lab) (spares : Spares) (source : Tree) : Type 0 where
-  pub few_boards : length lab.boards ≤ 16
-  pub standing : AreStanding (1000 * lab.now) 0 (map number_of lab.boards)
-  pub devices : AreDevices (outlines lab.boards) lab.hubs
-  pub names : AreNames (map (λ board. board.name) lab.boards) (map (λ hub. hub.name) lab.hubs)
-  pub enough : IsEnough spares (count_of_plans (outlines lab.boards))
+  pub shape : IsShaped (outlines lab.boards) lab.hubs spares
   pub times : AreTimes lab.now lab.quantum
-  pub timed : IsTimed source lab.now lab.boards
+  pub timed : IsTimed source (numbers_of lab.boards)

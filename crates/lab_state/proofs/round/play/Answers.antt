@@ -1,31 +1,34 @@
 -- The slots and the boundary are the round.
-use Rattle.std.proofs.Common.{◌∙◌, ap, refl, ◌+◌}
+use Rattle.std.proofs.Common.{◌∙◌, ap, refl}
 use Rattle.lab_state.specs.Boundary.{Handed, boundary}
-use Rattle.lab_state.proofs.RoundLemmas.{outlines-stepped}
+use Rattle.lab_state.specs.Inner.Standing.{outlines}
+use Rattle.lab_state.specs.Inner.Time.{numbers_of}
+use Rattle.lab_state.proofs.RoundLemmas.{outlines-stepped, outlines-routes, numbers-routes}
+use Rattle.lab_state.proofs.TimeLemmas.{at_end}
 use Rattle.lab_state.proofs.round.play.Goals as goal
-
-pub take_slots-requires : goal.take_slots-requires
-take_slots-requires g c =
-    rw (c.elapsed-from.ensures.value, c.requires.timed.time)
-    (record {
-      within = c.requires.within;
-      standing = c.requires.standing;
-      few = c.requires.few;
-      timed = c.requires.timed;
-    })
 
 pub hand_over_all-requires : goal.hand_over_all-requires
 hand_over_all-requires g c =
-    let from = c.elapsed-from.result.0 in
     rw (
       c.in_ok-posts.ensures.boards,
-      outlines-stepped c.stretches_keep_plans.ensures from (from + c.args.q) c.args.boards.now,
+      outlines-stepped c.stretches_keep_plans.ensures c.args.source.now.end c.args.q c.args.boards.now,
     )
     c.requires.devices
 
 pub returns-clause-timed : goal.returns-clause-timed
 returns-clause-timed g c =
-    rw (c.elapsed-from.ensures.value, c.requires.timed.time) at c.in_ok-posts.ensures.timed
+    rw (
+      ap (λ (h : Handed). numbers_of h.boards) c.in_ok-notes.ensures,
+      numbers-routes c.elapsed-at.result.0 c.args.hubs.now c.take_slots.new.boards c.deref.result.now,
+    )
+    c.in_ok-posts.ensures.timed
+
+pub returns-clause-outlines : goal.returns-clause-outlines
+returns-clause-outlines g c =
+    ap (λ (h : Handed). outlines h.boards) c.in_ok-notes.ensures
+    ∙ outlines-routes c.elapsed-at.result.0 c.args.hubs.now c.take_slots.new.boards c.deref.result.now
+    ∙ ap outlines c.in_ok-posts.ensures.boards
+    ∙ outlines-stepped c.stretches_keep_plans.ensures c.args.source.now.end c.args.q c.args.boards.now
 
 pub returns-clause-played : goal.returns-clause-played
 unfolding boundary
@@ -40,10 +43,9 @@ returns-clause-played g c =
       c.pause_of-pause.ensures,
       c.deref.ensures.value,
       c.deref-2.ensures.value,
-      c.elapsed-at.ensures.value ∙ c.in_ok-posts.ensures.timed.time,
+      c.elapsed-at.ensures.value ∙ at_end c.in_ok-posts.ensures.timed ∙ c.in_ok-posts.ensures.end,
       c.in_ok-posts.ensures.boards,
       c.in_ok-posts.ensures.items,
       c.in_ok-posts.ensures.posts,
-      c.elapsed-from.ensures.value ∙ c.requires.timed.time,
     )
     refl

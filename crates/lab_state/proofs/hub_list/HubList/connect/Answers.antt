@@ -1,5 +1,5 @@
 -- The hubs have the members in their order.
-use Rattle.std.proofs.Common.{◌≡◌, ◌∙◌, sym, ap, length, arith}
+use Rattle.std.proofs.Common.{◌≡◌, ◌∙◌, ap, length, arith}
 use Rattle.std.proofs.lemmas.Grind.{common_steps}
 use Rattle.std.proofs.lemmas.Result.{on_ok_weaker}
 use Rattle.lab_state.specs.Change.{change_at}
@@ -22,6 +22,5 @@ returns-clause-ok c =
     on_ok_weaker c.connect.result
     (λ made. ap (hubs_of c.self.inside.names.items) made
     ∙ hubs-connected c.self.inside.names.items c.self.inside.members c.args.n c.args.member
-    (sym are.names_long ∙ are.members_long)
     ∙ ap (λ hubs. change_at hubs c.args.n (with_member c.args.member)) c.self.view_is)
     c.connect.ensures.ok

@@ -1,12 +1,11 @@
 -- What is written is no part of what holds of the laboratory.
-use Rattle.std.proofs.Common.{refl, take, Result, Ok, Err, OnOk, arith}
+use Rattle.std.proofs.Common.{refl, ℕ, List, take, Result, Ok, Err, OnOk, arith}
 use Rattle.std.specs.Prelude.{OnErr}
 use Rattle.std.proofs.lemmas.Result.{on_ok_weaker, on_err_weaker}
 use Rattle.board.specs.Changes.{with_bytes}
 use Rattle.lab_state.specs.One.{with_view}
-use Rattle.lab_state.proofs.ListLemmas.{planned_below}
-use Rattle.lab_state.proofs.SoundLemmas.{sound-set, seen_set}
-use Rattle.lab_state.proofs.ChangeLemmas.{bytes-kept, timed-kept}
+use Rattle.lab_state.proofs.SoundLemmas.{planned_at, sound-kept, seen_set}
+use Rattle.lab_state.proofs.ChangeLemmas.{bytes-leave}
 use Rattle.lab_state.proofs.lab.Lab.copy_in.Goals as goal
 
 either : {T E P Q C : Type 0} (r : Result T E) → OnOk r P → OnErr r Q → (P → C) → (Q → C) → C
@@ -14,21 +13,14 @@ either (Ok x) p q first second = first p
 either (Err e) p q first second = second q
 
 pub index_mut-requires : goal.index_mut-requires
-index_mut-requires g c =
-    let below = planned_below c.self.inside.boards.items c.args.b.0 (rw (← c.self.view_is) at c.requires.has_plan) in
-    omega (arith, below)
+index_mut-requires g c = omega (arith, planned_at c.args.b.0 c.self.view_is c.requires.has_plan)
 
 pub invariant_of-self : goal.invariant_of-self
 invariant_of-self g c h =
-    let is = c.index_mut.ensures.value in
-    let kept = timed-kept c.args.b.0 (c.self.invariant h).timed is in
-    either c.copy_in.result c.copy_in.ensures.ok c.copy_in.ensures.err
-    (λ made. rw made
-    (sound-set c.args.b.0 is (bytes-kept c.args.at c.args.bytes.now _)
-    (kept (λ v. with_bytes v c.args.at c.args.bytes.now) (λ v. refl)) (c.self.invariant h)))
-    (λ made. rw made.1.1
-    (sound-set c.args.b.0 is (bytes-kept c.args.at (take made.0 c.args.bytes.now) _)
-    (kept (λ v. with_bytes v c.args.at (take made.0 c.args.bytes.now)) (λ v. refl)) (c.self.invariant h)))
+    let kept = λ (bytes : List ℕ). sound-kept c.args.b.0 c.index_mut.ensures.value (c.self.invariant h)
+    (λ v. with_bytes v c.args.at bytes) (bytes-leave c.args.at bytes) in
+    either c.copy_in.result c.copy_in.ensures.ok c.copy_in.ensures.err (λ made. rw made (kept c.args.bytes.now))
+    (λ made. rw made.1.1 (kept (take made.0 c.args.bytes.now)))
 
 pub returns-clause-ok : goal.returns-clause-ok
 returns-clause-ok g c =
