@@ -1,7 +1,7 @@
 -- What std reads of a text of digits.
 use Rattle.std.proofs.Common.{◌≡◌, ℕ, ◌^◌, ◌<◌, ◌≤◌, Bool, true, false, ◌==◌, ◌%◌, refl, sym, ◌∙◌, ap, inl, inr, ◌⊎◌, List}
 use Rattle.std.proofs.Common.{[], ◌∷◌, length, get_or, min, Option, Some, None, Result, Ok, Err, arith}
-use Rattle.std.specs.Prelude.{nat_le, nat_eq, IfSome, if◌then◌else◌}
+use Rattle.std.specs.Prelude.{nat_le, nat_eq, if◌then◌else◌}
 use Rattle.std.specs.List.{list_all, starts_with}
 use Rattle.std.specs.Result.{result_unwrap_or, OkIff}
 use Rattle.std.specs.Char.{digit_value}
@@ -176,10 +176,3 @@ in_field-most n greatest m is = most_by n.negative n.magnitude is
         in_field 0 greatest (record { negative = negative; magnitude = k }) ≡ Some m → m ≤ greatest
     most_by true k is = grind (arith, nat_tests)
     most_by false k is = grind (arith, nat_tests)
-
-pub in_field-fits :
-    (n : Number) (least greatest : ℕ) (found : Option ℕ) →
-    found ≡ in_field least greatest n → least ≡ 0 → IfSome found (λ m. m ≤ greatest)
-in_field-fits n least greatest None is none_below = tt
-in_field-fits n least greatest (Some m) is none_below =
-    in_field-most n greatest m (sym (rw none_below at is))
