@@ -38,8 +38,10 @@ use Rattle.board.specs.Inner.Fit.{IsFit, LiesIn, IsInPage, HoldsAccesses}
 use Rattle.sys_bus.specs.declared.near.Place.{Place}
 use Rattle.sys_bus.specs.Place.{IsPlace}
 use Rattle.std.specs.Option.{IfSome}
-use Rattle.board.proofs.ListLemmas.{any_at, passes_at, All-by_place, All-set, counted_at, found_passes}
-use Rattle.board.proofs.ListLemmas.{within_sum, range_passes, set_set}
+use Rattle.board.proofs.ListLemmas.{any_at, passes_at, All-by_place, counted_at, found_passes}
+use Rattle.board.proofs.ListLemmas.{range_passes, set_set}
+use Rattle.std.proofs.lemmas.List.Elements.{All-map, All-set}
+use Rattle.std.proofs.lemmas.List.Sums.{get_or-le-sum_by}
 
 -- the bytes of a memory of the plan
 memory-size :
@@ -207,10 +209,10 @@ ram_sizes plan valid = All-by_place IsRamSize plan.memories each
         let ranged' = rw is at ranged in
         let same : slice_index plan.memories i ≡ size = get_or_from_slice_get plan.memories i size 0 there in
         let few : are_few_memories plan.memories ≡ true = valid.few_memories in
-        let sum' = within_sum plan.memories i size there in (
+        let sum' = get_or-le-sum_by (λ n. n) plan.memories i 0 within in (
           grind (arith, nat_tests, ranged', sized, same),
           grind (arith, nat_tests, ranged', sized, same),
-          grind (arith, nat_tests, few, sum'),
+          grind (arith, nat_tests, few, sum', same),
         )
 
 -- one memory or one device was changed
@@ -236,7 +238,7 @@ fit_device s dev fitted d fit same valid = record {
   timer = fit.timer;
   controller = fit.controller;
   kinds = map-set_same (λ f. kind_of f.state) s.devices dev fitted d same ∙ fit.kinds;
-  states = All-set (λ f. IsValidState f.state) s.devices dev fitted fit.states valid;
+  states = All-set (λ f. IsValidState f.state) s.devices dev fitted valid fit.states;
 }
 
 -- a timer or an interrupt controller has changed, but for its frequency or its size
@@ -283,7 +285,9 @@ fit_reset s fit = record {
   timer = fit.timer;
   controller = fit.controller;
   kinds = kinds s.devices ∙ fit.kinds;
-  states = states s.devices;
+  states =
+      All-map (λ f. IsValidState f.state) reset_device s.devices
+      (λ k d within. valid_reset (slice_index_or s.devices k d).state);
 }
   where
     kind : (s : DevState) → kind_of (dev_reset s) ≡ kind_of s
@@ -295,11 +299,6 @@ fit_reset s fit = record {
     kinds [] = refl
     kinds (d ∷ ds) = rw (kind d.state, kinds ds) refl
 
-    states : (ds : List Fitted) → All (λ f. IsValidState f.state) (map reset_device ds)
-    states [] k d within = absurd (omega (arith, within))
-    states (x ∷ ds) zero d within = valid_reset x.state
-    states (x ∷ ds) (suc k) d within = states ds k d (omega (arith, within))
-
 -- a new board
 pub fit_new : (plan : BoardPlan) → IsValid plan → IsFit (new_space plan)
 fit_new plan valid = record {
@@ -308,7 +307,9 @@ fit_new plan valid = record {
   timer = timer plan.frequency;
   controller = controller plan.plic;
   kinds = kinds plan.kinds;
-  states = states plan.kinds;
+  states =
+      All-map (λ f. IsValidState f.state) hidden (map first_state plan.kinds)
+      (All-map IsValidState first_state plan.kinds (λ k d within. valid_first (slice_index_or plan.kinds k d)));
 }
   where
     sizes : (ns : List ℕ) → map length (map zeros ns) ≡ ns
@@ -331,11 +332,6 @@ fit_new plan valid = record {
     kinds : (ks : List Kind) → map (λ f. kind_of f.state) (map hidden (map first_state ks)) ≡ ks
     kinds [] = refl
     kinds (k ∷ ks) = rw (kind k, kinds ks) refl
-
-    states : (ks : List Kind) → All (λ f. IsValidState f.state) (map hidden (map first_state ks))
-    states [] k d within = absurd (omega (arith, within))
-    states (x ∷ ks) zero d within = valid_first x
-    states (x ∷ ks) (suc k) d within = states ks k d (omega (arith, within))
 
 -- what a reset leaves depends on the kind alone
 same_reset : (a b : DevState) → kind_of a ≡ kind_of b → dev_reset a ≡ dev_reset b

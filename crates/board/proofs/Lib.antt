@@ -5,7 +5,6 @@ pub mod LineLemmas
 pub mod ListLemmas
 pub mod MemoryLemmas
 pub mod NumberLemmas
-pub mod PlanLemmas
 pub mod SlotLemmas
 pub mod SourceLemmas
 pub mod StretchLemmas

@@ -1,7 +1,7 @@
 -- What holds of the items of lists.
 use Rattle.std.proofs.Common.{◌≡◌, ℕ, zero, suc, ◌+◌, ◌≤◌, ◌<◌, Bool, true, false, ◌&&◌, cond, List, [], ◌∷◌, length}
 use Rattle.std.proofs.Common.{All, slice_get, Option, Some, refl, sym, ap, arith, count_by}
-use Rattle.std.specs.Prelude.{Any, find, slice_index_or, slice_set, sum, if◌then◌else◌}
+use Rattle.std.specs.Prelude.{Any, find, slice_index_or, slice_set, if◌then◌else◌}
 use Rattle.std.specs.List.{list_all, range_with_len}
 use Rattle.std.proofs.lemmas.List.Sums.{sum_by-cons}
 use Rattle.std.proofs.lemmas.Option.{same_Some, slice_get_read, slice_get-get_or}
@@ -36,16 +36,6 @@ pub All-by_place :
     ((i : ℕ) (x : X) → slice_get xs i ≡ Some x → P x) → All P xs
 All-by_place P xs each k d within = each k (slice_index_or xs k d) (slice_get-get_or xs k d within)
 
--- a list in which one item was replaced
-pub All-set :
-    {X : Type 0} (P : X → Type 0) (xs : List X) (i : ℕ) (x : X) → All P xs → P x → All P (slice_set xs i x)
-All-set P [] i x all here k d within = absurd (omega (arith, within))
-All-set P (y ∷ ys) zero x all here zero d within = here
-All-set P (y ∷ ys) zero x all here (suc k) d within = all (suc k) d within
-All-set P (y ∷ ys) (suc i) x all here zero d within = all 0 d (omega arith)
-All-set P (y ∷ ys) (suc i) x all here (suc k) d within =
-    All-set P ys i x (λ j e inside. all (suc j) e (omega (arith, inside))) here k d (omega (arith, within))
-
 -- where items are counted there is one
 pub counted_at :
     {X : Type 0} (p : X → Bool) (xs : List X) → 1 ≤ count_by p xs →
@@ -57,18 +47,6 @@ counted_at {X} p (x ∷ xs) some =
       | true ↦ λ is many. (0, (x, (refl, is)))
       | false ↦ λ is many. let rest = counted_at p xs (omega (arith, many)) in (suc rest.0, rest.1)
     ] refl (rw (sum_by-cons (λ y. if p y then 1 else 0) x xs) at some)
-
--- a number of a list is at most their sum
-pub within_sum : (xs : List ℕ) (i x : ℕ) → slice_get xs i ≡ Some x → x ≤ sum xs
-within_sum [] i x there = absurd (cc)
-within_sum (y ∷ ys) zero x there =
-    let same = same_Some _ _ there in
-    let more = sum_by-cons (λ z. z) y ys in
-    omega (arith, same, more)
-within_sum (y ∷ ys) (suc i) x there =
-    let rest = within_sum ys i x there in
-    let more = sum_by-cons (λ z. z) y ys in
-    omega (arith, rest, more)
 
 -- what all numbers of a range pass, each of them does, and the other way round
 pub range_passes :

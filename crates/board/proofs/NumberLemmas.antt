@@ -1,5 +1,5 @@
--- A stretch numbers what it makes.
-use Rattle.std.proofs.Common.{◌≡◌, ℕ, zero, suc, ◌+◌, ◌^◌, ◌<◌, Bool, true, false, List, [], ◌∷◌, ◌++◌, length, map}
+-- A stretch keeps the plan and the speed of a board, and numbers what it makes.
+use Rattle.std.proofs.Common.{◌≡◌, ℕ, zero, suc, ◌+◌, ◌^◌, ◌<◌, ◌≤◌, Bool, true, false, List, [], ◌∷◌, ◌++◌, length, map}
 use Rattle.std.proofs.Common.{refl, ◌∙◌, length-append, add-zero, add-one, arith}
 use Rattle.std.specs.Prelude.{if◌then◌else◌, Option, None, Some}
 use Rattle.std.specs.Option.{option_map_or}
@@ -7,168 +7,36 @@ use Rattle.std.proofs.lemmas.List.{map-append, length-map}
 use Rattle.lab_num.specs.declared.key.Key.{Key}
 use Rattle.lab_num.specs.Paid.{slot_at}
 use Rattle.rv_hart.specs.declared.csr.Lines.{Lines}
-use Rattle.rv_hart.specs.Core.{ticked}
+use Rattle.rv_hart.specs.Core.{Core, ticked}
 use Rattle.rv_hart.specs.Trap.{chosen, interrupt, is_ready}
-use Rattle.rv_exec.specs.Outcome.{counted}
-use Rattle.rv_exec.specs.Effect.{Effect, Done, Load, Store, effect_of_fetch}
-use Rattle.dev_core.specs.declared.payload.Effect.{Effect as DeviceEffect}
-use Rattle.dev_core.specs.declared.payload.Effect.TheVariants.{Quiet, Send}
-use Rattle.dev_core.specs.declared.payload.Payload.{Payload}
-use Rattle.dev_core.specs.declared.post.What.{What}
-use Rattle.dev_core.specs.declared.post.What.TheVariants as what
-use Rattle.sys_bus.specs.declared.region.Target.{Target}
-use Rattle.sys_bus.specs.declared.region.Target.TheVariants.{Ram, Clint, Plic, Dev, Nothing}
+use Rattle.rv_exec.specs.Effect.{effect_of_fetch, core_after}
+use Rattle.sys_bus.specs.declared.plan.BoardPlan.{BoardPlan}
 use Rattle.board.specs.Lines.{sampled, lines_of}
-use Rattle.board.specs.Space.{device_at, target_at, device_store, after_load, after_store}
-use Rattle.board.specs.Numbers.{Numbers}
-use Rattle.board.specs.Wires.{note_if, sent, acted, posted, entered, entered_if, reading, loaded, stored, stored_to}
+use Rattle.board.specs.Numbers.{Numbers, one_more}
 use Rattle.board.specs.Wires.{fetched, answer}
 use Rattle.board.specs.View.{View, State, quiet, wires_of, state_of, after}
-use Rattle.board.specs.Slot.{slot, running, sampling, awake, asleep, woken, cycle, carried_out, instruction}
+use Rattle.board.specs.Slot.{slot, running, sampling, awake, asleep, woken, cycle, instruction}
 use Rattle.board.specs.Stretch.{stretch}
 use Rattle.board.specs.Numbered.{AreNumbered, IsNumbered}
+use Rattle.board.proofs.SlotLemmas.{HoldsOfEach, by_effect}
 
--- the counters of a board do not reach their last value in so many slots
-record HasRoom (old : Numbers) (n : ℕ) : Type 0 where
-  posted : old.posted + n < 2 ^ 64
-  entered : old.entered + n < 2 ^ 64
+-- the keys of what a board has made in at most so many slots, where its counter does not come to its last value
+record IsCounted (board from to n : ℕ) (made : List Key) : Type 0 where
+  count : to ≡ from + length made
+  few : length made ≤ n
+  keys : AreNumbered board from made
 
--- nothing was made
-numbered_none : (v : View) (n : ℕ) → IsNumbered v.numbers n (quiet v)
-numbered_none v n = record {
-  number = refl;
-  speed = refl;
-  posted = omega arith;
-  entered = omega arith;
-  few_posts = omega arith;
-  few_entries = omega arith;
-  post_keys = tt;
-  entry_keys = tt;
-}
+abbrev Counts : ℕ → ℕ → ℕ → ℕ → List Key → Type 0
+Counts board from to n made = from + n < 2 ^ 64 → IsCounted board from to n made
 
--- something was noted for the log
-numbered_entered :
-    (v : View) (t : ℕ) (note : What) → HasRoom v.numbers 1 →
-    IsNumbered v.numbers 1 (state_of v.core (entered (wires_of v t) note))
-numbered_entered v t note room = record {
-  number = refl;
-  speed = refl;
-  posted = omega arith;
-  entered = omega (arith, room.entered);
-  few_posts = omega arith;
-  few_entries = omega arith;
-  post_keys = tt;
-  entry_keys = (refl, refl, tt);
-}
+counts-none : (board from n : ℕ) → Counts board from from n []
+counts-none board from n room = record { count = omega arith; few = omega arith; keys = tt }
 
-numbered_entered_if :
-    (v : View) (t : ℕ) (note : Option What) → HasRoom v.numbers 1 →
-    IsNumbered v.numbers 1 (state_of v.core (entered_if (wires_of v t) note))
-numbered_entered_if v t None room = numbered_none v 1
-numbered_entered_if v t (Some note) room = numbered_entered v t note room
+counts-one : (board from : ℕ) (key : Key) → key.board.0 ≡ board → key.number.0 ≡ from →
+    Counts board from (one_more from) 1 (key ∷ [])
+counts-one board from key own number room =
+    record { count = omega (arith, room); few = omega arith; keys = (own, number, tt) }
 
--- a payload was sent
-numbered_sent :
-    (v : View) (t dev : ℕ) (payload : Payload) → HasRoom v.numbers 1 →
-    IsNumbered v.numbers 1 (state_of v.core (sent (wires_of v t) dev payload))
-unfolding sent
-numbered_sent v t dev payload room = by_note (note_if (device_at v.space dev).shown dev payload)
-  where
-    by_note :
-        (note : Option What) → let made = posted (wires_of v t) dev payload in
-        IsNumbered v.numbers 1 (state_of v.core (entered_if made note))
-    by_note (Some note) = record {
-      number = refl;
-      speed = refl;
-      posted = omega (arith, room.posted);
-      entered = omega (arith, room.entered);
-      few_posts = omega arith;
-      few_entries = omega arith;
-      post_keys = (refl, refl, tt);
-      entry_keys = (refl, refl, tt);
-    }
-    by_note None = record {
-      number = refl;
-      speed = refl;
-      posted = omega (arith, room.posted);
-      entered = omega arith;
-      few_posts = omega arith;
-      few_entries = omega arith;
-      post_keys = (refl, refl, tt);
-      entry_keys = tt;
-    }
-
-numbered_acted :
-    (v : View) (t dev : ℕ) (effect : DeviceEffect) → HasRoom v.numbers 1 →
-    IsNumbered v.numbers 1 (state_of v.core (acted (wires_of v t) dev effect))
-numbered_acted v t dev Quiet room = numbered_none v 1
-numbered_acted v t dev (Send payload) room = numbered_sent v t dev payload room
-
-numbered_stored :
-    (v : View) (t at width value : ℕ) (target : Target) → HasRoom v.numbers 1 →
-    IsNumbered v.numbers 1 (state_of v.core (stored_to (wires_of v t) at width value target))
-numbered_stored v t at width value (Ram part offset) room =
-    numbered_none (record v { space = after_store v.space t width value (Ram part offset) }) 1
-numbered_stored v t at width value (Dev dev offset) room =
-    numbered_acted (record v { space = after_store v.space t width value (Dev dev offset) }) t dev
-    (device_store v.space dev offset width value).answer room
-numbered_stored v t at width value (Clint offset) room =
-    numbered_none (record v { space = after_store v.space t width value (Clint offset) }) 1
-numbered_stored v t at width value (Plic offset) room =
-    numbered_none (record v { space = after_store v.space t width value (Plic offset) }) 1
-numbered_stored v t at width value Nothing room = numbered_entered v t (what.Write width at value) room
-
--- an effect was carried out
-numbered_effect :
-    (v : View) (t : ℕ) (effect : Effect) → HasRoom v.numbers 1 →
-    IsNumbered v.numbers 1 (carried_out (wires_of v t) effect)
-unfolding loaded stored
-numbered_effect v t (Done done) room = numbered_none (record v { core = counted done }) 1
-numbered_effect v t (Load at width complete) room =
-    let core = counted (complete (answer (wires_of v t) at width)) in
-    let target = target_at v.space at width in
-    numbered_entered_if (record v { core = core; space = after_load v.space width target }) t
-    (reading at width target) room
-numbered_effect v t (Store at width value done) room =
-    numbered_stored (record v { core = counted done }) t at width value (target_at v.space at width) room
-
--- a slot was taken
-numbered_awake : (v : View) (t : ℕ) (lines : Lines) → HasRoom v.numbers 1 → IsNumbered v.numbers 1 (awake v t lines)
-unfolding awake
-numbered_awake v t lines room = by_chosen (chosen v.core lines.mip)
-  where
-    by_chosen :
-        (taken : Option ℕ) →
-        IsNumbered v.numbers 1 (option_map_or (λ n. cycle v (interrupt v.core n)) taken (instruction v t lines))
-    by_chosen None = numbered_effect v t (effect_of_fetch v.core (fetched (wires_of v t) v.core.pc) lines) room
-    by_chosen (Some n) = numbered_none (record v { core = ticked (interrupt v.core n) }) 1
-
-numbered_asleep : (v : View) (t : ℕ) (lines : Lines) → HasRoom v.numbers 1 → IsNumbered v.numbers 1 (asleep v t lines)
-numbered_asleep v t lines room = by_ready (is_ready v.core lines.mip)
-  where
-    by_ready : (ready : Bool) → IsNumbered v.numbers 1 (if ready then awake (woken v) t lines else cycle v v.core)
-    by_ready true = numbered_awake (woken v) t lines room
-    by_ready false = numbered_none (record v { core = ticked v.core }) 1
-
-numbered_running :
-    (v : View) (t : ℕ) (lines : Lines) → HasRoom v.numbers 1 → IsNumbered v.numbers 1 (running v t lines)
-numbered_running v t lines room = by_waiting v.core.waiting
-  where
-    by_waiting : (waiting : Bool) → IsNumbered v.numbers 1 (if waiting then asleep v t lines else awake v t lines)
-    by_waiting true = numbered_asleep v t lines room
-    by_waiting false = numbered_awake v t lines room
-
-numbered_slot : (v : View) (t : ℕ) → HasRoom v.numbers 1 → IsNumbered v.numbers 1 (slot v t)
-unfolding slot
-numbered_slot v t room = by_halted v.core.halted
-  where
-    by_halted :
-        (halted : Bool) →
-        IsNumbered v.numbers 1 (if halted then quiet v else running (sampling v) t (lines_of (sampled v.space) t))
-    by_halted true = numbered_none v 1
-    by_halted false = numbered_running (sampling v) t (lines_of (sampled v.space) t) room
-
--- keys that come after others go on with the numbers
 AreNumbered-append :
     (board first : ℕ) (xs ys : List Key) → AreNumbered board first xs → AreNumbered board (first + length xs) ys →
     AreNumbered board first (xs ++ ys)
@@ -177,56 +45,145 @@ AreNumbered-append board first (x ∷ xs) ys p q =
     let later : first + length (x ∷ xs) ≡ first + 1 + length xs = omega arith in
     (p.0, p.1, AreNumbered-append board (first + 1) xs ys p.2 (rw later at q))
 
--- the keys of items that come after others
-numbered_items :
-    {T : Type 0} (key : T → Key) (board first board' first' : ℕ) (xs ys : List T) →
-    board' ≡ board → first' ≡ first + length xs →
-    AreNumbered board first (map key xs) → AreNumbered board' first' (map key ys) →
-    AreNumbered board first (map key (xs ++ ys))
-numbered_items key board first board' first' xs ys same next p q =
-    rw map-append
-    (AreNumbered-append board first (map key xs) (map key ys) p (rw (length-map, ← next, ← same) q))
+counts-after :
+    (board board' from mid to m n : ℕ) (xs ys : List Key) → board' ≡ board →
+    Counts board from mid m xs → Counts board' mid to n ys → Counts board from to (m + n) (xs ++ ys)
+counts-after board board' from mid to m n xs ys same first second room =
+    let a = first (omega (arith, room)) in
+    let b = second (omega (arith, room, a.count, a.few)) in
+    record {
+      count = omega (arith, a.count, b.count, length-append xs ys);
+      few = omega (arith, a.few, b.few, length-append xs ys);
+      keys = AreNumbered-append board from xs ys a.keys (rw (same, a.count) at b.keys);
+    }
 
--- one stretch after another
-numbered_after :
-    (old : Numbers) (m n : ℕ) (run more : State) → IsNumbered old m run → IsNumbered run.view.numbers n more →
-    IsNumbered old (m + n) (after run more)
-numbered_after old m n run more first second = record {
-  number = second.number ∙ first.number;
-  speed = second.speed ∙ first.speed;
-  posted = omega (arith, first.posted, second.posted, length-append run.posts more.posts);
-  entered = omega (arith, first.entered, second.entered, length-append run.entries more.entries);
-  few_posts = omega (arith, first.few_posts, second.few_posts, length-append run.posts more.posts);
-  few_entries = omega (arith, first.few_entries, second.few_entries, length-append run.entries more.entries);
-  post_keys =
-      numbered_items _ old.number old.posted _ _ run.posts more.posts first.number first.posted
-      first.post_keys second.post_keys;
-  entry_keys =
-      numbered_items _ old.number old.entered _ _ run.entries more.entries first.number first.entered
-      first.entry_keys second.entry_keys;
+-- what at most so many slots leave of a board of this plan and these numbers
+record IsRun (kept : BoardPlan) (old : Numbers) (n : ℕ) (run : State) : Type 0 where
+  plan : run.view.space.plan ≡ kept
+  number : run.view.numbers.number ≡ old.number
+  speed : run.view.numbers.speed ≡ old.speed
+  posts : Counts old.number old.posted run.view.numbers.posted n (map (λ post. post.key) run.posts)
+  entries : Counts old.number old.entered run.view.numbers.entered n (map (λ entry. entry.key) run.entries)
+
+run_none : (v : View) (n : ℕ) → IsRun v.space.plan v.numbers n (quiet v)
+run_none v n = record {
+  plan = refl;
+  number = refl;
+  speed = refl;
+  posts = counts-none _ _ _;
+  entries = counts-none _ _ _;
 }
 
-numbered_run :
-    (v : View) (from a n : ℕ) → HasRoom v.numbers n → IsNumbered v.numbers n (stretch v from a n)
+-- a slot was taken
+run_awake : (v : View) (t : ℕ) (lines : Lines) → IsRun v.space.plan v.numbers 1 (awake v t lines)
+unfolding awake
+run_awake v t lines = by_chosen (chosen v.core lines.mip)
+  where
+    each : (core : Core) → HoldsOfEach (λ f. IsRun v.space.plan v.numbers 1 (state_of core (f [] []))) (wires_of v t)
+    each core = record {
+      nothing = λ s same. record {
+        plan = same;
+        number = refl;
+        speed = refl;
+        posts = counts-none _ _ _;
+        entries = counts-none _ _ _;
+      };
+      entry = λ s note same. record {
+        plan = same;
+        number = refl;
+        speed = refl;
+        posts = counts-none _ _ _;
+        entries = counts-one _ _ _ refl refl;
+      };
+      post = λ s dev payload same. record {
+        plan = same;
+        number = refl;
+        speed = refl;
+        posts = counts-one _ _ _ refl refl;
+        entries = counts-none _ _ _;
+      };
+      both = λ s dev payload note same. record {
+        plan = same;
+        number = refl;
+        speed = refl;
+        posts = counts-one _ _ _ refl refl;
+        entries = counts-one _ _ _ refl refl;
+      };
+    }
+
+    by_chosen :
+        (taken : Option ℕ) →
+        IsRun v.space.plan v.numbers 1
+        (option_map_or (λ n. cycle v (interrupt v.core n)) taken (instruction v t lines))
+    by_chosen None =
+        let effect = effect_of_fetch v.core (fetched (wires_of v t) v.core.pc) lines in
+        let core = core_after answer (wires_of v t) effect in
+        by_effect (λ f. IsRun v.space.plan v.numbers 1 (state_of core (f [] []))) (wires_of v t) effect (each core)
+    by_chosen (Some n) = run_none (record v { core = ticked (interrupt v.core n) }) 1
+
+run_if :
+    (kept : BoardPlan) (old : Numbers) (n : ℕ) (test : Bool) (a b : State) → IsRun kept old n a → IsRun kept old n b →
+    IsRun kept old n (if test then a else b)
+run_if kept old n true a b p q = p
+run_if kept old n false a b p q = q
+
+run_slot : (v : View) (t : ℕ) → IsRun v.space.plan v.numbers 1 (slot v t)
+unfolding slot sampled
+run_slot v t =
+    let lines = lines_of (sampled v.space) t in
+    let now = sampling v in
+    run_if v.space.plan v.numbers 1 v.core.halted (quiet v) (running now t lines) (run_none v 1)
+    (run_if v.space.plan v.numbers 1 v.core.waiting (asleep now t lines) (awake now t lines)
+    (run_if v.space.plan v.numbers 1 (is_ready v.core lines.mip) (awake (woken now) t lines) (cycle now v.core)
+    (run_awake (woken now) t lines) (run_none (record now { core = ticked v.core }) 1))
+    (run_awake now t lines))
+
+-- one stretch after another
+run_after :
+    (kept : BoardPlan) (old : Numbers) (m n : ℕ) (run more : State) → IsRun kept old m run →
+    IsRun run.view.space.plan run.view.numbers n more → IsRun kept old (m + n) (after run more)
+run_after kept old m n run more first second = record {
+  plan = second.plan ∙ first.plan;
+  number = second.number ∙ first.number;
+  speed = second.speed ∙ first.speed;
+  posts = rw map-append (counts-after _ _ _ _ _ m n _ _ first.number first.posts second.posts);
+  entries = rw map-append (counts-after _ _ _ _ _ m n _ _ first.number first.entries second.entries);
+}
+
+run_stretch : (v : View) (from a n : ℕ) → IsRun v.space.plan v.numbers n (stretch v from a n)
 unfolding stretch
-numbered_run v from a zero room = numbered_none v 0
-numbered_run v from a (suc n) room =
-    let fewer : HasRoom v.numbers n = record {
-      posted = omega (arith, room.posted);
-      entered = omega (arith, room.entered);
-    } in
-    let run = numbered_run v from a n fewer in
-    let now = (stretch v from a n).view in
-    let left : HasRoom now.numbers 1 = record {
-      posted = omega (arith, room.posted, run.posted, run.few_posts);
-      entered = omega (arith, room.entered, run.entered, run.few_entries);
-    } in
+run_stretch v from a zero = run_none v 0
+run_stretch v from a (suc n) =
+    let run = stretch v from a n in
     let t = slot_at from v.numbers.speed (a + n) in
-    rw add-one at (numbered_after v.numbers n 1 (stretch v from a n) (slot now t) run (numbered_slot now t left))
+    rw add-one at
+    (run_after v.space.plan v.numbers n 1 run (slot run.view t) (run_stretch v from a n) (run_slot run.view t))
+
+-- a stretch keeps the plan and the speed
+pub plan-stretch : (v : View) (from a n : ℕ) → (stretch v from a n).view.space.plan ≡ v.space.plan
+plan-stretch v from a n = (run_stretch v from a n).plan
+
+pub speed-stretch : (v : View) (from a n : ℕ) → (stretch v from a n).view.numbers.speed ≡ v.numbers.speed
+speed-stretch v from a n = (run_stretch v from a n).speed
 
 -- a stretch numbers what it makes
 pub numbered_stretch :
     (v : View) (from a n : ℕ) → v.numbers.posted + n < 2 ^ 64 → v.numbers.entered + n < 2 ^ 64 →
     IsNumbered v.numbers n (stretch v from a n)
-numbered_stretch v from a n posts entries =
-    numbered_run v from a n (record { posted = posts; entered = entries })
+numbered_stretch v from a n few_posts few_entries =
+    let run = run_stretch v from a n in
+    let made = stretch v from a n in
+    let posts = run.posts few_posts in
+    let entries = run.entries few_entries in
+    let post_count = length-map made.posts (λ post. post.key) in
+    let entry_count = length-map made.entries (λ entry. entry.key) in
+    record {
+      number = run.number;
+      speed = run.speed;
+      posted = omega (arith, posts.count, post_count);
+      entered = omega (arith, entries.count, entry_count);
+      few_posts = omega (arith, posts.few, post_count);
+      few_entries = omega (arith, entries.few, entry_count);
+      post_keys = posts.keys;
+      entry_keys = entries.keys;
+    }

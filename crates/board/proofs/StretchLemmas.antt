@@ -7,7 +7,8 @@ use Rattle.lab_num.specs.Paid.{slot_at}
 use Rattle.board.specs.View.{View, State, quiet, after}
 use Rattle.board.specs.Slot.{slot}
 use Rattle.board.specs.Stretch.{stretch, in_turns}
-use Rattle.board.proofs.SlotLemmas.{quiet-behind, slot-halted, speed-slot}
+use Rattle.board.proofs.NumberLemmas.{speed-stretch}
+use Rattle.board.proofs.SlotLemmas.{quiet-behind, slot-halted}
 
 -- what is made one after another comes in order
 after-after : (s run more : State) → after (after s run) more ≡ after s (after run more)
@@ -48,11 +49,6 @@ pub slot_begins : (a i q r w : ℕ) → a + i ≡ q * r + w → w + 1 ≡ r → 
 slot_begins a i q r w here full =
     let more : (q + 1) * r ≡ q * r + r = rw (add-one) (suc-mul q r) in
     omega (arith, here, full, more)
-
-pub speed-stretch : (v : View) (from a n : ℕ) → (stretch v from a n).view.numbers.speed ≡ v.numbers.speed
-unfolding stretch
-speed-stretch v from a zero = refl
-speed-stretch v from a (suc n) = speed-slot (stretch v from a n).view _ ∙ speed-stretch v from a n
 
 -- a stretch and the one after it are one stretch
 pub stretch-add :

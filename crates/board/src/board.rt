@@ -1,9 +1,9 @@
 //! The board: its slots, and what they make.
 ghost use Rattle.std.specs.Prelude.{◌≡◌, ◌≢◌, ℕ, ◌+◌, ◌/◌, ◌%◌, ◌<◌, ◌≤◌, ◌^◌, [], true, length, drop, map, All};
-ghost use Rattle.std.specs.Prelude.{slice_get, slice_index_or, option_map, OnOk, OnErr, IfOk, IfErr, IsTrue};
+ghost use Rattle.std.specs.Prelude.{slice_get, slice_index_or, OnOk, OnErr, IfOk, IfErr, IsTrue};
 ghost use Rattle.rv_hart.specs.Trap.{chosen};
 
-use crate::wires::Wires;
+use crate::wires::{Rooms, Wires};
 use dev_core::{Device, Entry, Payload, Post, Taken};
 use lab_num::{BoardNo, Micros, NoMemory};
 use plic::PlicState;
@@ -90,10 +90,12 @@ impl<D: Device> Board<D> {
         ensures state { IfOk result (λ board. board ≡ quiet (new_board number.0 plan)) }
         ensures back { IfErr result (λ back. back.items ≡ devices.items) }
     {
-        let wires = Wires::new(alloc, number, plan, devices)?;
+        let Ok(rooms) = Rooms::new(alloc, number, &plan, devices.len()) else {
+            return Err(devices);
+        };
         Ok(Board {
             hart: Hart::new(),
-            wires,
+            wires: Wires::new(plan, rooms, devices),
         })
     }
 
@@ -190,22 +192,6 @@ impl<D: Device> Board<D> {
         }
     }
 
-    /// The state of the interrupt controller, where there is one.
-    fn controller_state(&self) -> Option<PlicState>
-        ensures value { result ≡ option_map (λ c. c.state) self.now.view.space.controller }
-        ensures valid { IsStateOf self.now.view.space.controller result }
-    {
-        self.wires.space.controller_state()
-    }
-
-    /// The interrupt controller samples its sources, and the lines are read.
-    fn sample(&mut self, at: Micros) -> Lines
-        ensures after { self.new ≡ record self.old { view = sampling self.old.view } }
-        ensures lines { result ≡ lines_of (sampled self.old.view.space) at.0 }
-    {
-        self.wires.space.sample(at)
-    }
-
     /// Puts the interrupt controller back into a state that it had.
     fn put_controller(&mut self, state: &Option<PlicState>)
         requires { IsStateOf self.old.view.space.controller state.now }
@@ -223,8 +209,8 @@ impl<D: Device> Board<D> {
             (running (sampling self.old.view) at.0 (lines_of (sampled self.old.view.space) at.0))) }
         ensures err { OnErr result (self.new ≡ self.old) }
     {
-        let before = self.controller_state();
-        let lines = self.sample(at);
+        let before = self.wires.space.controller_state();
+        let lines = self.wires.space.sample(at);
         let Ok(()) = self.run::<APART>(at, lines) else {
             self.put_controller(&before);
             return Err(NoMemory);

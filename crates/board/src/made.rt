@@ -1,5 +1,5 @@
 //! What a board makes.
-ghost use Rattle.std.specs.Prelude.{◌≡◌, ◌↔◌, ◌<◌, [], IfOk, OnOk, OnErr, IsTrue};
+ghost use Rattle.std.specs.Prelude.{◌≡◌, ◌↔◌, ℕ, ◌<◌, [], IfOk, OnOk, OnErr, IsTrue};
 ghost use Rattle.std.specs.Vec.{vec_len, vec_capacity};
 ghost use Rattle.board.specs.Space.{Space};
 ghost use Rattle.board.specs.Wires.{posted, entered, entered_if, note_if, post_of, entry_of, key_of};
@@ -119,24 +119,14 @@ impl Made {
         self.note(at, dev, payload, shown);
     }
 
-    /// The same, where there may be no room.
-    pub fn make_room_and_send(
-        &mut self,
-        at: Micros,
-        dev: u8,
-        payload: &Payload,
-        shown: bool,
-    ) -> Result<(), OutOfMemory>
-        ensures ok { OnOk result ((s : Space) → wires_with self.new s at.0
-            ≡ entered_if (posted (wires_with self.old s at.0) dev payload.now) (note_if shown dev payload.now)) }
-        ensures err { OnErr result ((s : Space) → wires_with self.new s at.0 ≡ wires_with self.old s at.0) }
+    /// Makes room for one more post and one more entry.
+    pub fn make_room(&mut self) -> Result<(), OutOfMemory>
+        ensures room { OnOk result (HasRoom self.new) }
+        ensures same { (s : Space) (t : ℕ) → wires_with self.new s t ≡ wires_with self.old s t }
     {
-        let post = self.post(at, dev, payload);
-        if self.entries.reserve(1).is_err() || self.posts.push_back(post).is_err() {
+        if self.entries.reserve(1).is_err() || self.posts.reserve(1).is_err() {
             return Err(OutOfMemory);
         }
-        self.numbers.count_post();
-        self.note(at, dev, payload, shown);
         Ok(())
     }
 }

@@ -75,32 +75,13 @@ impl<D: Device> Model for Space<D> {
         (s.regions ≡ s.plan.regions) × IsFit seen × (s.wired ≡ is_wired s.plan) × IsRight seen s.remembered };
 }
 
-/// What a new board of a plan takes memory for.
+/// What a new board of a plan reaches and takes memory for.
 #[derive(Drop)]
 pub struct Parts<D: Device> {
-    regions: Regions,
-    memories: Vec<PageRam>,
+    pub regions: Regions,
+    pub memories: Vec<PageRam>,
     /// Room for its devices.
-    devices: Vec<Fitted<D>>,
-}
-
-impl<D: Device> Parts<D> {
-    /// The parts of a plan, with 0 in each byte of the memories, and room for so many devices.
-    pub fn new(alloc: Global, plan: &BoardPlan, devices: usize) -> Result<Parts<D>, NoMemory>
-        requires { IsValid plan.now }
-        ensures regions { IfOk result (λ parts. parts.regions ≡ plan.now.regions) }
-        ensures memories { IfOk result (λ parts. parts.memories.items ≡ map zeros plan.now.memories) }
-        ensures devices { IfOk result (λ parts. parts.devices.items ≡ []) }
-        ensures room { IfOk result (λ parts. devices ≤ vec_capacity parts.devices) }
-    {
-        let devices = Vec::with_capacity(alloc, devices)?;
-        let (regions, memories) = regions_and_memories(alloc, plan)?;
-        Ok(Parts {
-            regions,
-            memories,
-            devices,
-        })
-    }
+    pub devices: Vec<Fitted<D>>,
 }
 
 /// Memories of these sizes, with 0 in each byte.
@@ -116,7 +97,7 @@ fn memories_of(alloc: Global, sizes: &[u32]) -> Result<Vec<PageRam>, NoMemory>
 }
 
 /// The regions of a plan, and its memories with 0 in each byte.
-fn regions_and_memories(
+pub fn regions_and_memories(
     alloc: Global,
     plan: &BoardPlan,
 ) -> Result<(Regions, Vec<PageRam>), NoMemory>

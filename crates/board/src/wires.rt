@@ -1,20 +1,19 @@
 //! What the processor is wired to in a slot, and what the board makes by it.
-ghost use Rattle.std.specs.Prelude.{◌≡◌, ◌+◌, ◌^◌, ◌<◌, ◌≤◌, [], length, map, IfOk, IfErr, OnOk, OnErr};
+ghost use Rattle.std.specs.Prelude.{◌≡◌, ◌+◌, ◌^◌, ◌<◌, ◌≤◌, [], length, map, IfOk, OnOk, OnErr};
 ghost use Rattle.std.specs.Vec.{vec_len, vec_capacity};
 ghost use Rattle.dev_core.specs.declared.post.What.TheVariants.{Read};
 ghost use Rattle.page_ram.specs.Access.{IsInOnePage};
 ghost use Rattle.page_ram.specs.Bytes.{zeros};
 ghost use Rattle.rv_exec.specs.Access.{IsAccess, IsWidth};
 ghost use Rattle.sys_bus.specs.declared.region.Target.TheVariants.{Ram, Dev};
-ghost use Rattle.board.specs.Wires.{fetched, answer, loaded, stored, stored_to, sent, entered};
-ghost use Rattle.board.specs.New.{first_states, new_board, new_numbers, new_space};
+ghost use Rattle.board.specs.Wires.{fetched, answer, loaded, stored, stored_to, entered};
+ghost use Rattle.board.specs.New.{first_states, new_numbers, new_space};
 ghost use Rattle.board.specs.Space.{memory_at};
-ghost use Rattle.board.specs.View.{wires_of};
 ghost use Rattle.sys_bus.specs.Plan.{IsValid};
 
 use crate::made::Made;
-use crate::space::{Parts, Space};
-use dev_core::{Device, Effect, Payload, What};
+use crate::space::{Parts, Space, regions_and_memories};
+use dev_core::{Device, Effect, What};
 use lab_num::{BoardNo, Micros, NoMemory};
 use rv_exec::{Bus, NoMemory as OutOfMemory};
 use std::alloc::Global;
@@ -46,14 +45,14 @@ impl<D: Device> Model for Wires<D> {
 
 /// What a new board takes memory for.
 #[derive(Drop)]
-struct Rooms<D: Device> {
+pub struct Rooms<D: Device> {
     made: Made,
     parts: Parts<D>,
 }
 
 impl<D: Device> Rooms<D> {
     /// That of a board of this number and plan, with so many devices.
-    fn new(
+    pub fn new(
         alloc: Global,
         number: BoardNo,
         plan: &BoardPlan,
@@ -69,33 +68,22 @@ impl<D: Device> Rooms<D> {
         ensures room { IfOk result (λ rooms. devices ≤ vec_capacity rooms.parts.devices) }
     {
         let made = Made::new(alloc, number, plan.speed)?;
-        let parts = Parts::new(alloc, plan, devices)?;
-        Ok(Rooms { made, parts })
+        let devices = Vec::with_capacity(alloc, devices)?;
+        let (regions, memories) = regions_and_memories(alloc, plan)?;
+        Ok(Rooms {
+            made,
+            parts: Parts {
+                regions,
+                memories,
+                devices,
+            },
+        })
     }
 }
 
 impl<D: Device> Wires<D> {
-    /// What a new board of this number and plan has at lab time 0. `Err` is for want of memory
-    /// alone, and gives the devices back in their order.
-    pub fn new(
-        alloc: Global,
-        number: BoardNo,
-        plan: BoardPlan,
-        devices: Vec<D>,
-    ) -> Result<Wires<D>, Vec<D>>
-        requires plan { IsValid plan }
-        requires devices { map D.meaning devices.items ≡ first_states plan }
-        ensures ok { IfOk result (λ wires. wires ≡ wires_of (new_board number.0 plan) 0) }
-        ensures err { IfErr result (λ back. back.items ≡ devices.items) }
-    {
-        let Ok(rooms) = Rooms::new(alloc, number, &plan, devices.len()) else {
-            return Err(devices);
-        };
-        Ok(Wires::of(plan, rooms, devices))
-    }
-
-    /// The same of what was made for the plan.
-    fn of(plan: BoardPlan, rooms: Rooms<D>, devices: Vec<D>) -> Wires<D>
+    /// What a new board of the plan has at lab time 0, of the rooms that were made for the plan.
+    pub fn new(plan: BoardPlan, rooms: Rooms<D>, devices: Vec<D>) -> Wires<D>
         requires plan { IsValid plan }
         requires posts { rooms.made.posts.items ≡ [] }
         requires entries { rooms.made.entries.items ≡ [] }
@@ -176,26 +164,16 @@ impl<D: Device> Wires<D> {
         ensures err { OnErr result (self.new ≡ self.old) }
     {
         let before = self.space.state(dev);
-        match self.space.store_device(dev, at, width, value) {
-            Effect::Quiet => Ok(()),
-            Effect::Send(payload) => {
-                let Ok(()) = self.send(dev, &payload) else {
-                    self.space.put_back(dev, &before);
-                    return Err(OutOfMemory);
-                };
-                Ok(())
-            }
+        let Effect::Send(payload) = self.space.store_device(dev, at, width, value) else {
+            return Ok(());
+        };
+        if self.made.make_room().is_err() {
+            self.space.put_back(dev, &before);
+            return Err(OutOfMemory);
         }
-    }
-
-    /// A device sends, where there may be no room: a post, and an entry where the device is shown.
-    fn send(&mut self, dev: u8, payload: &Payload) -> Result<(), OutOfMemory>
-        requires { dev < length self.old.space.devices }
-        ensures ok { OnOk result (self.new ≡ sent self.old dev payload.now) }
-        ensures err { OnErr result (self.new ≡ self.old) }
-    {
-        let shown = self.space.is_shown(dev);
-        self.made.make_room_and_send(self.at, dev, payload, shown)
+        self.made
+            .send(self.at, dev, &payload, self.space.is_shown(dev));
+        Ok(())
     }
 
     /// A load that is not known to lie in a memory.

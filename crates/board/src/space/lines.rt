@@ -94,7 +94,12 @@ impl<D: Device> Space<D> {
         ensures { result ≡ pin_up self.now timer pin }
     {
         let wires = self.plan.wires.items();
-        wires.iter().any(|wire| ends_at_pin(pin, wire.pin) && self.is_up(timer, wire.from))
+        for wire in wires {
+            if ends_at_pin(pin, wire.pin) && self.is_up(timer, wire.from) {
+                return true;
+            }
+        }
+        false
     }
 
     fn pending(&self, timer: bool, pin: u8) -> u32

@@ -1,4 +1,4 @@
-use Rattle.board.proofs.PlanLemmas.{plan-stretch}
+use Rattle.board.proofs.NumberLemmas.{plan-stretch}
 use Rattle.board.proofs.laws.stretches_keep_plans.Goals as goal
 
 pub returns : goal.returns

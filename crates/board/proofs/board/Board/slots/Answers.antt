@@ -1,6 +1,6 @@
 use Rattle.std.proofs.Common.{◌≡◌, ◌∙◌, ap, sym, arith, add-zero, ◌+◌, ◌/◌}
 use Rattle.std.proofs.lemmas.Nat.{div-add-mod', div-mul-add, mod_below}
-use Rattle.board.proofs.PlanLemmas.{plan-stretch}
+use Rattle.board.proofs.NumberLemmas.{plan-stretch}
 use Rattle.board.proofs.StretchLemmas.{after_none, after_more, slot_within, slot_begins}
 use Rattle.board.specs.Inner.Remembers.{is_wired}
 use Rattle.board.specs.View.{State}

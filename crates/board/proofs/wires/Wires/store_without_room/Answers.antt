@@ -1,18 +1,27 @@
-use Rattle.std.proofs.Common.{◌≡◌, ◌∙◌, ap, rules}
+use Rattle.std.proofs.Common.{◌≡◌, ◌∙◌, ap, refl, rules}
 use Rattle.board.specs.Space.{Space, with_state}
-use Rattle.board.specs.Wires.{Wires}
+use Rattle.board.specs.Wires.{Wires, posted, entered_if, note_if, sent}
 use Rattle.board.specs.Inner.Made.{wires_with}
 use Rattle.board.proofs.FitLemmas.{put_back_same}
 use Rattle.board.proofs.wires.Wires.store_without_room.Goals as goal
 
-pub returns-in_default-clause-err : goal.returns-in_default-clause-err
-returns-in_default-clause-err g c =
-    let kept = c.in_default.ensures {u = tt} in
-    let same = c.self-in-Send.view_is ∙ kept.err in
+pub returns-then-is_err-clause-err : goal.returns-then-is_err-clause-err
+returns-then-is_err-clause-err g c =
     let back : c.put_back.new.self ≡ c.self.inside.space =
     c.put_back.ensures
-    ∙ ap (λ s. with_state s c.args.dev c.state-before.result) (ap (λ w. w.space) same ∙ c.store_device.ensures.after)
+    ∙ ap (λ s. with_state s c.args.dev c.state-before.result) c.store_device.ensures.after
     ∙ rw c.state-before.ensures.value (put_back_same c.self.inside.space c.args.dev _ (search rules)) in
-    ap {A = Wires} (λ w. record w { space = c.put_back.new.self }) same
+    c.make_room.ensures.same _ _
     ∙ ap {A = Space} (λ s. wires_with c.self.inside.made s c.self.inside.at.0) back
     ∙ c.self.view_is
+
+pub returns-clause-ok : goal.returns-clause-ok
+unfolding sent
+returns-clause-ok g c =
+    let space = c.store_device.new.self in
+    rw (← c.self.view_is, ← c.store_device.ensures.after, ← c.store_device.ensures.answer, c.in-Send.is)
+    (c.send.ensures space
+    ∙ ap {A = Wires}
+    (λ w. entered_if (posted w c.args.dev c.in-Send.payload) (note_if c.is_shown.result c.args.dev c.in-Send.payload))
+    (c.make_room.ensures.same space _)
+    ∙ rw c.is_shown.ensures refl)
