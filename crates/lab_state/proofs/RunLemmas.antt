@@ -1,6 +1,6 @@
 -- Rounds one after another.
-use Rattle.std.proofs.Common.{◌≡◌, ◌∙◌, sym, ap, refl, eq-eqb, Bool, true, false, ℕ, ◌+◌, ◌-◌, ◌*◌, ◌/◌, ◌%◌, ◌<◌, inl, inr}
-use Rattle.std.proofs.Common.{List, [], ◌∷◌, ◌++◌, length, take, fold, None, add-one, append_assoc}
+use Rattle.std.proofs.Common.{◌≡◌, ◌∙◌, sym, ap, refl, eq-eqb, Bool, true, false, ℕ, ◌+◌, ◌-◌, ◌*◌, ◌/◌, ◌%◌, ◌<◌, inl}
+use Rattle.std.proofs.Common.{inr, List, [], ◌∷◌, ◌++◌, length, take, fold, None, add-one, append_assoc}
 use Rattle.std.proofs.Common.{arith}
 use Rattle.std.specs.Prelude.{if◌then◌else◌, min, is_some, IsSome, Option, Some}
 use Rattle.std.proofs.lemmas.Bool.{cases_lt}

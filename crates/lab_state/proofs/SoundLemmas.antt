@@ -51,7 +51,8 @@ unspent sound is whole = sound (ap (λ s. s.spent) is ∙ whole)
 pub planned_at :
     {lab : Lab} {spent : Bool} {s : Seen} (b : ℕ) → record { lab = lab; spent = spent } ≡ s →
     IsSome (view_of s.lab b) → b < length lab.boards
-planned_at {lab = lab} b is has = planned_below lab.boards b (subst (λ (s : Seen). IsSome (view_of s.lab b)) (sym is) has)
+planned_at {lab = lab} b is has =
+    planned_below lab.boards b (subst (λ (s : Seen). IsSome (view_of s.lab b)) (sym is) has)
 
 -- what one is seen as of which a board is changed
 pub seen_set :

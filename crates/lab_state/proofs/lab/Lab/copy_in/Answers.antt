@@ -1,5 +1,5 @@
 -- What is written is no part of what holds of the laboratory.
-use Rattle.std.proofs.Common.{refl, ℕ, List, take, Result, Ok, Err, OnOk, arith}
+use Rattle.std.proofs.Common.{ℕ, List, take, Result, Ok, Err, OnOk, arith}
 use Rattle.std.specs.Prelude.{OnErr}
 use Rattle.std.proofs.lemmas.Result.{on_ok_weaker, on_err_weaker}
 use Rattle.board.specs.Changes.{with_bytes}
