@@ -94,12 +94,7 @@ impl<D: Device> Space<D> {
         ensures { result ≡ pin_up self.now timer pin }
     {
         let wires = self.plan.wires.items();
-        for wire in wires {
-            if ends_at_pin(pin, wire.pin) && self.is_up(timer, wire.from) {
-                return true;
-            }
-        }
-        false
+        wires.iter().any(|wire| ends_at_pin(pin, wire.pin) && self.is_up(timer, wire.from))
     }
 
     fn pending(&self, timer: bool, pin: u8) -> u32

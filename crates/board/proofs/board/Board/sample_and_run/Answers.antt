@@ -1,4 +1,4 @@
-use Rattle.std.proofs.Common.{◌≡◌, ◌∙◌, ap, refl, rules}
+use Rattle.std.proofs.Common.{◌≡◌, ◌∙◌, ap, refl}
 use Rattle.board.specs.Inner.Fit.{with_controller}
 use Rattle.board.specs.Slot.{sampling}
 use Rattle.board.specs.View.{State}
@@ -21,6 +21,3 @@ returns-in_default-clause-err g c =
     ∙ ap {A = State} (λ s. record s { view = with_controller s.view before }) sampled
     ∙ ap (λ v. record old { view = v })
     (undone old.view before (rw (← c.self.view_is, ← c.self-inside.view_is) c.controller_state-before.ensures.value))
-
-pub returns-clause-ok : goal.returns-clause-ok
-returns-clause-ok g c = search rules
