@@ -17,7 +17,8 @@ use Rattle.board.specs.Wires.{fetched, answer}
 use Rattle.board.specs.View.{View, State, quiet, wires_of, state_of, after}
 use Rattle.board.specs.Slot.{slot, running, sampling, awake, asleep, woken, cycle, instruction}
 use Rattle.board.specs.Stretch.{stretch}
-use Rattle.board.specs.Numbered.{AreNumbered, IsNumbered}
+use Rattle.lab_num.specs.Numbered.{AreNumbered}
+use Rattle.board.specs.Numbered.{IsNumbered}
 use Rattle.board.proofs.SlotLemmas.{HoldsOfEach, by_effect}
 
 -- the keys of what a board has made in at most so many slots, where its counter does not come to its last value

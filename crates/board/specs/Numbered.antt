@@ -1,14 +1,8 @@
 -- The numbers of what a board makes.
-use Rattle.std.specs.Prelude.{◌≡◌, ℕ, ◌+◌, ◌≤◌, List, [], ◌∷◌, length, map}
-use Rattle.lab_num.specs.declared.key.Key.{Key}
+use Rattle.std.specs.Prelude.{◌≡◌, ℕ, ◌+◌, ◌≤◌, length, map}
+use Rattle.lab_num.specs.Numbered.{AreNumbered}
 use Rattle.board.specs.Numbers.{Numbers}
 use Rattle.board.specs.View.{State}
-
--- the keys are of this board, and their numbers go up by one from this one on
-abbrev pub AreNumbered : ℕ → ℕ → List Key → Type 0
-AreNumbered board first [] = Unit {0}
-AreNumbered board first (key ∷ keys) =
-    (key.board.0 ≡ board) × (key.number.0 ≡ first) × AreNumbered board (first + 1) keys
 
 -- what a board of these numbers has come to in at most so many slots
 pub record IsNumbered (old : Numbers) (n : ℕ) (run : State) : Type 0 where

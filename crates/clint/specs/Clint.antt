@@ -3,7 +3,8 @@
 use Rattle.std.specs.Prelude.{ℕ, ◌-◌, ◌%◌, ◌^◌, ◌==◌, ◌&&◌, nat_le, Bool, false, if◌then◌else◌, List, [], ◌∷◌, find}
 use Rattle.std.specs.Prelude.{unwrap_or}
 use Rattle.clint.specs.declared.state.ClintState.{ClintState}
-use Rattle.clint.specs.Mtime.{ticks, counter, offset_for, low, high, with_low, with_high}
+use Rattle.lab_num.specs.Halves.{low, high, with_low, with_high}
+use Rattle.clint.specs.Mtime.{ticks, counter, offset_for}
 
 -- a CLINT: the hertz of its counter, which nothing changes, and its state
 pub record Timer : Type 0 where

@@ -12,17 +12,3 @@ counter offset ticks = (offset + ticks) % 2 ^ 64
 -- the offset of a counter that shows a value
 unfoldable pub offset_for : ℕ → ℕ → ℕ
 offset_for value ticks = (value + (2 ^ 64 - ticks % 2 ^ 64)) % 2 ^ 64
-
--- the halves of a register of 64 bits
-abbrev pub low : ℕ → ℕ
-low value = value % 2 ^ 32
-
-abbrev pub high : ℕ → ℕ
-high value = value / 2 ^ 32
-
--- a register of 64 bits with one of its halves replaced
-abbrev pub with_low : ℕ → ℕ → ℕ
-with_low value word = high value * 2 ^ 32 + word
-
-abbrev pub with_high : ℕ → ℕ → ℕ
-with_high value word = word * 2 ^ 32 + low value

@@ -2,10 +2,9 @@
 ghost use Rattle.std.specs.Prelude.{◌≡◌, ◌≤◌};
 
 use crate::counter::{counter, offset_for};
-use crate::halves::{high, low, with_high, with_low};
 use crate::registers::*;
 use crate::state::ClintState;
-use lab_num::Micros;
+use lab_num::{Micros, high_half, low_half, with_high_half, with_low_half};
 use std::marker::Model;
 
 /// The width of the accesses that the registers answer, in bytes.
@@ -84,10 +83,10 @@ impl Clint {
         }
         match at {
             MSIP => u32::from(self.state.msip),
-            MTIMECMP_LOW => low(self.state.mtimecmp),
-            MTIMECMP_HIGH => high(self.state.mtimecmp),
-            MTIME_LOW => low(self.mtime(now)),
-            MTIME_HIGH => high(self.mtime(now)),
+            MTIMECMP_LOW => low_half(self.state.mtimecmp),
+            MTIMECMP_HIGH => high_half(self.state.mtimecmp),
+            MTIME_LOW => low_half(self.mtime(now)),
+            MTIME_HIGH => high_half(self.mtime(now)),
             _ => 0,
         }
     }
@@ -112,10 +111,10 @@ impl Clint {
         }
         match at {
             MSIP => self.state.msip = value & 1 == 1,
-            MTIMECMP_LOW => self.state.mtimecmp = with_low(self.state.mtimecmp, value),
-            MTIMECMP_HIGH => self.state.mtimecmp = with_high(self.state.mtimecmp, value),
-            MTIME_LOW => self.set_mtime(with_low(self.mtime(now), value), now),
-            MTIME_HIGH => self.set_mtime(with_high(self.mtime(now), value), now),
+            MTIMECMP_LOW => self.state.mtimecmp = with_low_half(self.state.mtimecmp, value),
+            MTIMECMP_HIGH => self.state.mtimecmp = with_high_half(self.state.mtimecmp, value),
+            MTIME_LOW => self.set_mtime(with_low_half(self.mtime(now), value), now),
+            MTIME_HIGH => self.set_mtime(with_high_half(self.mtime(now), value), now),
             _ => {}
         }
     }

@@ -4,7 +4,6 @@
 
 mod clint;
 mod counter;
-mod halves;
 mod laws;
 mod registers;
 mod state;

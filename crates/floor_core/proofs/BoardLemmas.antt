@@ -2,7 +2,7 @@
 use Rattle.std.proofs.Common.{◌≡◌, ◌≢◌, ◌⊎◌, ◌↔◌, ℕ, zero, suc, ◌<◌, List, [], ◌∷◌, length, get_or, drop}
 use Rattle.std.proofs.Common.{refl, sym, ◌∙◌, ap, subst, inl, inr, arith, Option, Some, None, IsSomeAnd, slice_get, set}
 use Rattle.std.proofs.lemmas.Option.{slice_get_read}
-use Rattle.floor_core.specs.Events.{changed}
+use Rattle.lab_num.specs.Change.{change_at}
 
 -- what is said of an item that may be there is said of the item that was read
 pub there :
@@ -23,7 +23,7 @@ within P (x ∷ xs) (suc i) h = let rest = within P xs i h in omega arith
 -- to write the changed item is to change it
 pub changed_set :
     {A : Type 0} (step : A → A) (xs : List A) (i : ℕ) (x : A) →
-    i < length xs → x ≡ get_or xs i x → changed step xs i ≡ set xs i (step x)
+    i < length xs → x ≡ get_or xs i x → change_at xs i step ≡ set xs i (step x)
 changed_set step [] i x below read = refl
 changed_set step (y ∷ xs) zero x below read = ap (λ z. step z ∷ xs) (sym read)
 changed_set step (y ∷ xs) (suc i) x below read = ap (λ zs. y ∷ zs) (changed_set step xs i x (omega arith) read)
@@ -31,12 +31,12 @@ changed_set step (y ∷ xs) (suc i) x below read = ap (λ zs. y ∷ zs) (changed
 -- to write it where the list is known by another name, as is the place
 pub placed :
     {A : Type 0} (step : A → A) (bs items : List A) (k i : ℕ) (x y : A) →
-    bs ≡ items → i ≡ k → k < length bs → x ≡ get_or items i x → y ≡ step x → set items i y ≡ changed step bs k
+    bs ≡ items → i ≡ k → k < length bs → x ≡ get_or items i x → y ≡ step x → set items i y ≡ change_at bs k step
 placed step bs items k i x y same place below read is =
     ap (λ z. set items i z) is ∙
     (sym (changed_set step items i x (subst (λ (l : List _). i < length l) same (subst (λ (j : ℕ). j < length bs)
     (sym place) below)) read) ∙
-    (λ j. changed step (sym same j) (place j)))
+    (λ j. change_at (sym same j) (place j) step))
 
 -- what was read at a place is there
 pub read_at :
@@ -51,7 +51,7 @@ pub said_of :
 said_of P items k i x place below read said = subst (λ o. IsSomeAnd o P) (read_at items k i x place below read) said
 
 pub length-changed :
-    {A : Type 0} (step : A → A) (xs : List A) (i : ℕ) → length (changed step xs i) ≡ length xs
+    {A : Type 0} (step : A → A) (xs : List A) (i : ℕ) → length (change_at xs i step) ≡ length xs
 length-changed step [] i = refl
 length-changed step (x ∷ xs) zero = refl
 length-changed step (x ∷ xs) (suc i) = ap suc (length-changed step xs i)
@@ -61,7 +61,7 @@ unsome x y is = cc
 
 -- after a change an item is the changed one, or one that was there
 pub changed_get :
-    {A : Type 0} (step : A → A) (xs : List A) (k i : ℕ) (y : A) → slice_get (changed step xs k) i ≡ Some y →
+    {A : Type 0} (step : A → A) (xs : List A) (k i : ℕ) (y : A) → slice_get (change_at xs k step) i ≡ Some y →
     ((i ≡ k) × (x : A) × (slice_get xs i ≡ Some x) × (y ≡ step x)) ⊎ ((i ≢ k) × (slice_get xs i ≡ Some y))
 changed_get step [] k i y is = absurd (cc)
 changed_get step (x ∷ xs) zero zero y is = inl (refl, x, refl, sym (unsome (step x) y is))

@@ -22,7 +22,7 @@ use Rattle.dev_core.specs.Post.{post_key}
 use Rattle.floor_core.specs.declared.event.Mailed.{Mailed}
 use Rattle.floor_core.specs.Floor.{Floor, posted_by}
 use Rattle.floor_core.specs.Job.{Job}
-use Rattle.floor_core.specs.Result.{IsOver, IsNumbered, AreNumbered, mailed}
+use Rattle.floor_core.specs.Result.{IsOver, IsNumbered, mailed}
 
 -- ---- the mail is what the boards posted, in another order
 
@@ -128,20 +128,20 @@ numbers_apart a b apart =
 
 -- a key differs from those of later posts
 numbered_later :
-    (board first : ℕ) (key : Key) (ps : List Post) → key.number.0 < first → AreNumbered board first ps →
+    (board first : ℕ) (key : Key) (ps : List Post) → key.number.0 < first → AreNumbered board first (map post_key ps) →
     AllByRecursion (λ y. eq_by_cmp key_cmp key y ≡ false) (map post_key ps)
 numbered_later board first key [] below are = tt
 numbered_later board first key (p ∷ ps) below are =
     (numbers_apart key p.key (λ h. omega (arith, are.1)), numbered_later board (first + 1) key ps (omega arith) are.2)
 
-numbered_differ : (board first : ℕ) (ps : List Post) → AreNumbered board first ps → KeysDiffer post_key ps
+numbered_differ : (board first : ℕ) (ps : List Post) → AreNumbered board first (map post_key ps) → KeysDiffer post_key ps
 unfolding IsDistinct
 numbered_differ board first [] are = tt
 numbered_differ board first (p ∷ ps) are =
     (numbered_later board (first + 1) p.key ps (omega (arith, are.1)) are.2, numbered_differ board (first + 1) ps are.2)
 
 numbered_boards :
-    (board first : ℕ) (ps : List Post) → AreNumbered board first ps → AllByRecursion (λ p. p.key.board.0 ≡ board) ps
+    (board first : ℕ) (ps : List Post) → AreNumbered board first (map post_key ps) → AllByRecursion (λ p. p.key.board.0 ≡ board) ps
 numbered_boards board first [] are = tt
 numbered_boards board first (p ∷ ps) are = (are.0, numbered_boards board (first + 1) ps are.2)
 
@@ -179,7 +179,7 @@ differ_append n (x ∷ xs) ys below here first second = (
 
 -- what each of the first n boards posted is numbered
 abbrev Numbered : ℕ → List Mailed → Type 0
-Numbered n mail = (i : ℕ) → i < n → (first : ℕ) × AreNumbered i first (posted_by i mail)
+Numbered n mail = (i : ℕ) → i < n → (first : ℕ) × AreNumbered i first (map post_key (posted_by i mail))
 
 gathered_boards : (n : ℕ) (mail : List Mailed) → Numbered n mail →
     AllByRecursion (λ p. p.key.board.0 < n) (gathered n mail)
@@ -231,7 +231,7 @@ same_listing total is_listing only {S} state_after starts f g members over membe
     λ i below.
     let start = item_at starts i below in
     let first = numbered i start.0 start.1 in
-    (first.0, subst (λ (l : List Post). AreNumbered i first.0 l) (sym (over_too.posts i start.0 start.1)) first.1) in
+    (first.0, subst (λ (l : List Post). AreNumbered i first.0 (map post_key l)) (sym (over_too.posts i start.0 start.1)) first.1) in
     let back : IsPermutation (gathered n g.mail) (mailed g) =
     IsPermutation-sym (mailed g) (gathered n g.mail) (mail_gathered n g.mail members_too) in
     let there : IsPermutation (mailed f) (gathered n g.mail) =

@@ -10,7 +10,8 @@ use Rattle.dev_core.specs.declared.post.Post as post
 use Rattle.floor_core.specs.declared.event.Event.{Event}
 use Rattle.floor_core.specs.declared.event.Event.TheVariants.{Claim, Post, Report, Close}
 use Rattle.floor_core.specs.declared.event.Mailed.{Mailed}
-use Rattle.floor_core.specs.Events.{IsLegal, MayClaim, MayPost, changed, claimed, relieved, at_home, oldest, happened}
+use Rattle.lab_num.specs.Change.{change_at}
+use Rattle.floor_core.specs.Events.{IsLegal, MayClaim, MayPost, claimed, relieved, at_home, oldest, happened}
 use Rattle.floor_core.specs.Floor.{Board, Floor, fresh, begun, posted_by}
 use Rattle.floor_core.specs.Job.{Job, left, Adds, Rests}
 use Rattle.floor_core.specs.Sound.{IsSound, Sound}
@@ -61,7 +62,7 @@ module _ {S : Type 0} (state_after : S → List (Option post.Post) → ℕ → S
   -- where one board has changed and is sound, and of the others nothing came into the mail, all are sound
   sound_changed :
       (starts : List (Job S)) (f g : Floor S) (k : ℕ) (step : Board S → Board S) → Sound state_after starts f →
-      g.boards ≡ changed step f.boards k →
+      g.boards ≡ change_at f.boards k step →
       ((i : ℕ) → i ≢ k → posted_by i g.mail ≡ posted_by i f.mail) →
       ((start : Job S) (b : Board S) → slice_get f.boards k ≡ Some b →
       IsSound state_after start b (posted_by k f.mail) →

@@ -1,6 +1,7 @@
 -- Which events are legal on a floor, and what each does.
-use Rattle.std.specs.Prelude.{◌≡◌, ◌≢◌, ℕ, zero, suc, ◌+◌, ◌≤◌, true, false, List, [], ◌∷◌, ◌++◌, drop, All, IsSomeAnd}
+use Rattle.std.specs.Prelude.{◌≡◌, ◌≢◌, ℕ, ◌+◌, ◌≤◌, true, false, List, [], ◌++◌, drop, All, IsSomeAnd}
 use Rattle.std.specs.Prelude.{Option, Some, None, slice_get, option_map, option_and_then, option_to_list}
+use Rattle.lab_num.specs.Change.{change_at}
 use Rattle.lab_num.specs.declared.number.BoardNo.{BoardNo}
 use Rattle.dev_core.specs.declared.post.Post as post
 use Rattle.floor_core.specs.declared.event.Event.{Event}
@@ -30,12 +31,6 @@ IsLegal f (Post worker board) = (f.is_ended ≡ false) × IsSomeAnd (slice_get f
 IsLegal f (Report worker board) = (f.is_ended ≡ false) × IsSomeAnd (slice_get f.boards board.0) (MayReport worker)
 IsLegal f Close = (f.is_ended ≡ false) × All IsDone f.boards
 
--- the boards after one of them has changed
-abbrev pub changed : {A : Type 0} → (A → A) → List A → ℕ → List A
-changed step [] board = []
-changed step (b ∷ bs) zero = step b ∷ bs
-changed step (b ∷ bs) (suc board) = b ∷ changed step bs board
-
 -- a board that a worker takes for a turn of so many slots
 abbrev pub claimed : {S : Type 0} → (S → List (Option post.Post) → ℕ → S) → ℕ → ℕ → Board S → Board S
 claimed state_after worker slots b = record {
@@ -62,8 +57,8 @@ oldest f board =
 -- the floor after a legal event
 abbrev pub happened : {S : Type 0} → (S → List (Option post.Post) → ℕ → S) → Floor S → Event → Floor S
 happened state_after f (Claim worker board slots) =
-    record f { boards = changed (claimed state_after worker slots) f.boards board.0 }
+    record f { boards = change_at f.boards board.0 (claimed state_after worker slots) }
 happened state_after f (Post worker board) =
-    record f { boards = changed relieved f.boards board.0; mail = f.mail ++ oldest f board }
-happened state_after f (Report worker board) = record f { boards = changed at_home f.boards board.0 }
+    record f { boards = change_at f.boards board.0 relieved; mail = f.mail ++ oldest f board }
+happened state_after f (Report worker board) = record f { boards = change_at f.boards board.0 at_home }
 happened state_after f Close = record f { is_ended = true }

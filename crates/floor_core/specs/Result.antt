@@ -1,6 +1,8 @@
 -- What a round comes to, whatever the order of its events.
-use Rattle.std.specs.Prelude.{◌≡◌, ℕ, ◌+◌, List, [], ◌∷◌, map, Option, Some, slice_get}
+use Rattle.std.specs.Prelude.{◌≡◌, ℕ, List, map, Option, Some, slice_get}
+use Rattle.lab_num.specs.Numbered.{AreNumbered}
 use Rattle.dev_core.specs.declared.post.Post.{Post}
+use Rattle.dev_core.specs.Post.{post_key}
 use Rattle.floor_core.specs.Floor.{Floor, posted_by}
 use Rattle.floor_core.specs.Job.{Job, left, made, aside, after}
 
@@ -22,13 +24,7 @@ pub record IsOver {S : Type 0} (state_after : S → List (Option Post) → ℕ �
   pub jobs : jobs f ≡ map (finished state_after) starts
   pub posts : (i : ℕ) (start : Job S) → slice_get starts i ≡ Some start → posted_by i f.mail ≡ made start (left start)
 
--- posts that name this board, with numbers that rise by one from a first number on
-abbrev pub AreNumbered : ℕ → ℕ → List Post → Type 0
-AreNumbered board first [] = Unit {0}
-AreNumbered board first (p ∷ ps) =
-    (p.key.board.0 ≡ board) × (p.key.number.0 ≡ first) × AreNumbered board (first + 1) ps
-
 -- all that each job is to post names its board, with numbers that rise by one
 abbrev pub IsNumbered : {S : Type 0} → List (Job S) → Type 0
 IsNumbered {S} starts = (i : ℕ) (start : Job S) → slice_get starts i ≡ Some start →
-    (first : ℕ) × AreNumbered i first (made start (left start))
+    (first : ℕ) × AreNumbered i first (map post_key (made start (left start)))

@@ -19,7 +19,7 @@ use Rattle.board.specs.New.{new_board, new_space}
 use Rattle.board.specs.Space.{Space, target_at}
 use Rattle.board.specs.View.{View}
 use Rattle.lab_state.specs.Board.{Board}
-use Rattle.lab_state.specs.Change.{change_at}
+use Rattle.lab_num.specs.Change.{change_at}
 use Rattle.lab_state.specs.Lab.{Seen}
 use Rattle.lab_state.specs.Names.{hub_named}
 use Rattle.lab_state.specs.One.{view_at, view_of, with_view, changed, connected, fitted, kind_at}

@@ -3,4 +3,5 @@ pub mod DigitLemmas
 mod Examples
 pub mod ListingLemmas
 mod NumeralLemmas
+pub mod ReturnLemmas
 pub mod SortLemmas

@@ -1,20 +1,24 @@
 //! Numbers, names, times and keys that all crates of the laboratory share.
 #![tactic(auto)]
 
+mod halves;
 mod key;
 mod listing;
 mod name;
 mod number;
 mod numeral;
+mod returns;
 mod rows;
 mod text;
 mod time;
 
+pub use halves::{high_half, low_half, with_high_half, with_low_half};
 pub use key::{Key, Member};
 pub use listing::{key_laws, listing_laws};
-pub use name::is_name;
+pub use name::{is_identifier, is_name};
 pub use number::{BoardNo, Micros, NoMemory, PostNo};
 pub use numeral::number_of;
+pub use returns::return_law;
 pub use rows::Rows;
 pub use text::Text;
 pub use time::{TimeFault, read_time};

@@ -3,7 +3,7 @@ use Rattle.std.proofs.Common.{◌≡◌, ap, refl, ℕ, zero, suc, List, [], ◌
 use Rattle.lab_num.specs.declared.key.Member.{Member}
 use Rattle.lab_num.specs.Route as routes
 use Rattle.lab_state.specs.declared.hub_list.HubName.{HubName}
-use Rattle.lab_state.specs.Change.{change_at}
+use Rattle.lab_num.specs.Change.{change_at}
 use Rattle.lab_state.specs.One.{with_member}
 use Rattle.lab_state.specs.Inner.Hubs.{hubs_of, AreParts}
 

@@ -15,7 +15,7 @@ use Rattle.std.proofs.lemmas.List.Sums.{fails_before_first, position_or_len_is}
 use Rattle.std.proofs.lemmas.Option.{slice_get-map, slice_get_within, get_or_from_slice_get}
 use Rattle.std.proofs.lemmas.Cmp.{nat_list_eq_equiv}
 use Rattle.lab_state.specs.Board.{Board}
-use Rattle.lab_state.specs.Change.{change_at}
+use Rattle.lab_num.specs.Change.{change_at}
 use Rattle.lab_state.specs.One.{view_at}
 use Rattle.lab_state.specs.Inner.Standing.{NamesDiffer, AreNames}
 
@@ -165,6 +165,18 @@ no_hub f boards g hubs i name are is =
     let at : slice_get (map f boards) i ≡ Some name = slice_get-map f boards i ∙ sym is in
     let here = get_or_from_slice_get (map f boards) i name name at in
     not_found g hubs name (rw here at (are.apart i name (slice_get_within (map f boards) i name at)))
+
+-- and the name of a hub is not found among the boards
+pub no_board :
+    {A B : Type 0} (f : A → List ℕ) (boards : List A) (g : B → List ℕ) (hubs : List B) (i : ℕ) (name : List ℕ) →
+    AreNames (map f boards) (map g hubs) → Some name ≡ option_map g (slice_get hubs i) →
+    position (λ board. bytes_eq (f board) name) boards ≡ None
+no_board f boards g hubs i name are is =
+    let at : slice_get (map g hubs) i ≡ Some name = slice_get-map g hubs i ∙ sym is in
+    let here = get_or_from_slice_get (map g hubs) i name name at in
+    not_found f boards name
+    (λ k d below. nat_list_eq_equiv.symm (get_or (map f boards) k d) name
+        ∙ rw here at (are.apart k d below i name (slice_get_within (map g hubs) i name at)))
 
 -- ---- a board that has a plan
 

@@ -21,7 +21,7 @@ use Rattle.board.specs.Space.{device_at}
 use Rattle.board.specs.View.{View}
 use Rattle.lab_state.specs.Board.{Board}
 use Rattle.lab_state.specs.Hub.{Hub, members_of}
-use Rattle.lab_state.specs.Change.{change_at}
+use Rattle.lab_num.specs.Change.{change_at}
 use Rattle.lab_state.specs.One.{with_view, view_at}
 
 -- what the log notes of a payload that a device was handed, by its answer: a byte that had no room, and a frame that

@@ -1,7 +1,6 @@
 -- What contracts of lab_state cite.
 pub mod Board
 pub mod Boundary
-pub mod Change
 pub mod Hub
 pub mod Inner
 pub mod Lab

@@ -10,7 +10,7 @@ use Rattle.board.specs.View.{View}
 use Rattle.lab_state.specs.Board.{Board}
 use Rattle.lab_state.specs.Hub.{Hub}
 use Rattle.lab_state.specs.Lab.{Lab, Seen}
-use Rattle.lab_state.specs.Change.{change_at}
+use Rattle.lab_num.specs.Change.{change_at}
 
 -- what stands under the number of a board
 abbrev pub view_at : List Board → ℕ → Option View

@@ -5,7 +5,7 @@ ghost use Rattle.std.specs.Option.{option_map};
 ghost use Rattle.std.specs.Str.{bytes_eq};
 ghost use Rattle.lab_num.specs.Route.{StandOnce, is_connected};
 ghost use Rattle.lab_num.specs.Route as routes;
-ghost use Rattle.lab_state.specs.Change.{change_at};
+ghost use Rattle.lab_num.specs.Change.{change_at};
 ghost use Rattle.lab_state.specs.Hub.{members_of};
 ghost use Rattle.lab_state.specs.One.{with_member};
 

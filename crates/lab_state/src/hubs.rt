@@ -158,13 +158,14 @@ impl<D: Device> Lab<D> {
         self.hubs.len()
     }
 
-    /// The name of a hub, which no other hub has.
+    /// The name of a hub, which no other hub and no board has.
     pub fn hub_name(&self, n: u32) -> &Text
         requires unspent { self.now.spent ≡ false }
         requires exists { n < length self.now.lab.hubs }
         ensures value { Some result.now
             ≡ option_map (λ hub. hub.name) (slice_get self.now.lab.hubs n) }
         ensures found { names_spec.hub_named self.now.lab result.now ≡ Some n }
+        ensures no_board { names_spec.board_named self.now.lab result.now ≡ None }
     {
         &self.hubs.head(n as usize).name
     }

@@ -4,7 +4,7 @@ ghost use Rattle.std.specs.List.{list_all};
 ghost use Rattle.lab_io.specs.Held.{Held};
 ghost use Rattle.lab_state.specs.Run.{run};
 ghost use Rattle.lab_state.specs.Turns.{Cut, IsWhole, run_in_turns};
-ghost use Rattle.resc_vars.specs.Laws.{is_no_return, with_returns};
+ghost use Rattle.lab_num.specs.Returns.{is_no_return, with_returns};
 ghost use Rattle.monitor.specs.declared.setting.Setting.{Setting};
 ghost use Rattle.monitor.specs.Answer.{Done, leaves};
 ghost use Rattle.monitor.specs.Runs.{run_for};

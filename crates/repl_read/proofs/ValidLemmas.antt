@@ -25,7 +25,8 @@ use Rattle.repl_read.specs.Items.{source_of, wire_of, is_filled, item_of, items_
 use Rattle.repl_read.specs.Lines.{parted_items, closed_list, list_of, within_line, item_line, after_brace, plain_head}
 use Rattle.repl_read.specs.Lines.{braced_head, using_or, head_line, some_line, said_of}
 use Rattle.lab_num.specs.Numeral.{number_of}
-use Rattle.repl_read.specs.Words.{is_name, is_dotted_name}
+use Rattle.lab_num.specs.Name.{is_identifier}
+use Rattle.repl_read.specs.Words.{is_dotted_name}
 
 -- what is read passes a test
 abbrev pub Good : {X : Type 0} → (X → Bool) → Result X ReadCause → Type 0
@@ -72,9 +73,9 @@ good_all p f each (x ∷ xs) =
 -- ---- heads and items
 
 head_good : (tokens : List Token) → Good is_head (head_of tokens)
-head_good (Word name ∷ Colon ∷ []) = good_require is_head (is_name name) _ (λ named. named)
+head_good (Word name ∷ Colon ∷ []) = good_require is_head (is_identifier name) _ (λ named. named)
 head_good (Word name ∷ Colon ∷ Word kind ∷ rest) =
-    good_require is_head (is_name name) _
+    good_require is_head (is_identifier name) _
     (λ named.
     good_require is_head (is_dotted_name kind) _
     (λ typed.
@@ -84,9 +85,9 @@ head_good other = tt
 
 attribute_good : (tokens : List Token) → Good is_item (attribute_of tokens)
 attribute_good (Word key ∷ Colon ∷ Word word ∷ []) =
-    good_require is_item (is_name key) _
+    good_require is_item (is_identifier key) _
     (λ named. good_then (λ value. true) is_item (word_value word) _ (good_any (word_value word)) (λ value any. named))
-attribute_good (Word key ∷ Colon ∷ Quoted words ∷ []) = good_require is_item (is_name key) _ (λ named. named)
+attribute_good (Word key ∷ Colon ∷ Quoted words ∷ []) = good_require is_item (is_identifier key) _ (λ named. named)
 attribute_good other = tt
 
 same_number : (n : ℕ) → nat_le n n ≡ true
@@ -137,7 +138,7 @@ wire_good : (front behind : List Token) → Good is_item (wire_of front behind)
 wire_good front (Word to ∷ At ∷ rest) =
     good_then is_source is_item (source_of front) _ (source_good front)
     (λ from source.
-    good_require is_item (is_name to) _
+    good_require is_item (is_identifier to) _
     (λ named.
     good_then are_pins is_item (numbered_ends rest) _ (numbered_good rest)
     (λ pins good. rw (source, named, good) refl)))

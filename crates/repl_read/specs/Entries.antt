@@ -10,7 +10,8 @@ use Rattle.repl_read.specs.declared.entry.Item.{Item}
 use Rattle.repl_read.specs.declared.entry.ItemWhat.{ItemWhat}
 use Rattle.repl_read.specs.declared.entry.ItemWhat.TheVariants.{Attribute, Wire}
 use Rattle.repl_read.specs.declared.entry.Span.{Span}
-use Rattle.repl_read.specs.Words.{is_name, is_dotted_name}
+use Rattle.lab_num.specs.Name.{is_identifier}
+use Rattle.repl_read.specs.Words.{is_dotted_name}
 
 abbrev pub is_span : Span → Bool
 is_span span = nat_le span.first span.last
@@ -26,13 +27,13 @@ are_pins Irq = false
 are_pins (Spans spans) = list_all is_span spans
 
 abbrev pub is_item : ItemWhat → Bool
-is_item (Attribute key value) = is_name key
-is_item (Wire from to pins) = is_source from && is_name to && are_pins pins
+is_item (Attribute key value) = is_identifier key
+is_item (Wire from to pins) = is_source from && is_identifier to && are_pins pins
 
 abbrev pub is_head : Head → Bool
 is_head (Using file) = true
-is_head (Typed name kind place) = is_name name && is_dotted_name kind
-is_head (Update name) = is_name name
+is_head (Typed name kind place) = is_identifier name && is_dotted_name kind
+is_head (Update name) = is_identifier name
 
 abbrev pub are_items : List Item → Bool
 are_items items = list_all (λ item. is_item item.what) items

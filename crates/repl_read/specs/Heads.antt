@@ -11,7 +11,8 @@ use Rattle.repl_read.specs.declared.fault.ReadCause.TheVariants.{Form}
 use Rattle.repl_read.specs.declared.tokens.Token.{Token}
 use Rattle.repl_read.specs.declared.tokens.Token.TheVariants.{Word, Quoted, Colon, At, Less, More, Comma, Plus}
 use Rattle.lab_num.specs.Numeral.{number_of}
-use Rattle.repl_read.specs.Words.{is_name, is_dotted_name}
+use Rattle.lab_num.specs.Name.{is_identifier}
+use Rattle.repl_read.specs.Words.{is_dotted_name}
 use Rattle.repl_read.specs.Forms.{◌>>=◌, require, number}
 
 -- the file that the line names, if it is `using "file"`
@@ -39,10 +40,10 @@ place_of other = Err Form
 -- the head that a line's tokens make
 abbrev pub head_of : List Token → Result Head ReadCause
 head_of (Word name ∷ Colon ∷ []) = do
-  good ← require (is_name name)
+  good ← require (is_identifier name)
   Ok (Update name)
 head_of (Word name ∷ Colon ∷ Word kind ∷ rest) = do
-  good ← require (is_name name)
+  good ← require (is_identifier name)
   typed ← require (is_dotted_name kind)
   place ← place_of rest
   Ok (Typed name kind place)

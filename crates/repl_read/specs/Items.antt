@@ -17,7 +17,8 @@ use Rattle.repl_read.specs.declared.tokens.Token.{Token}
 use Rattle.repl_read.specs.declared.tokens.Token.TheVariants.{Word, Quoted, Colon, At, Minus, StartList}
 use Rattle.repl_read.specs.Cuts.{cut, with_cut, parts}
 use Rattle.lab_num.specs.Numeral.{number_of}
-use Rattle.repl_read.specs.Words.{is_name, is_dotted_name}
+use Rattle.lab_num.specs.Name.{is_identifier}
+use Rattle.repl_read.specs.Words.{is_dotted_name}
 use Rattle.repl_read.specs.Forms.{◌>>=◌, require, number, all_of}
 
 -- a word that is no number: `true`, `false`, or a name with dots
@@ -38,11 +39,11 @@ word_value word = numbered word (number_of word)
 -- `key: value`
 abbrev pub attribute_of : List Token → Result ItemWhat ReadCause
 attribute_of (Word key ∷ Colon ∷ Word word ∷ []) = do
-  good ← require (is_name key)
+  good ← require (is_identifier key)
   value ← word_value word
   Ok (Attribute key value)
 attribute_of (Word key ∷ Colon ∷ Quoted words ∷ []) = do
-  good ← require (is_name key)
+  good ← require (is_identifier key)
   Ok (Attribute key (Words words))
 attribute_of other = Err Form
 
@@ -97,7 +98,7 @@ source_of other = numbered_ends other
 abbrev pub wire_of : List Token → List Token → Result ItemWhat ReadCause
 wire_of front (Word to ∷ At ∷ rest) = do
   from ← source_of front
-  good ← require (is_name to)
+  good ← require (is_identifier to)
   pins ← numbered_ends rest
   Ok (Wire from to pins)
 wire_of front other = Err Form

@@ -6,15 +6,6 @@ use Rattle.repl_read.specs.declared.fault.PlatCause.TheVariants.{Form, Feature}
 use Rattle.repl_read.specs.Comments.{quote}
 use Rattle.repl_read.specs.Platform.{LineFault}
 
-abbrev pub is_no_return : ℕ → Bool
-is_no_return b = not (b == byte "\r")
-
--- a text with a carriage return before each line feed
-abbrev pub with_returns : List ℕ → List ℕ
-with_returns [] = []
-with_returns (b ∷ bs) =
-    if b == byte "\n" then byte "\r" ∷ byte "\n" ∷ with_returns bs else b ∷ with_returns bs
-
 -- a sign that does not end a line
 abbrev pub stays_on_line : ℕ → Bool
 stays_on_line b = not (b == byte "\n") && not (b == byte "\r")

@@ -10,9 +10,9 @@ ghost use Rattle.lab_num.specs.Numeral.{number_of};
 
 use crate::entry::{Head, Place};
 use crate::fault::{Fault, ReadCause};
-use crate::numbers::{is_dotted_name, is_name};
+use crate::numbers::is_dotted_name;
 use crate::tokens::Token;
-use lab_num::{Text, number_of};
+use lab_num::{Text, is_identifier, number_of};
 
 /// The number that a word must be.
 pub(crate) fn number(word: &Text) -> Result<u32, Fault>
@@ -116,7 +116,7 @@ fn place_of(tokens: &[Token]) -> Result<Place, Fault>
 fn update_head(name: &Text) -> Result<Head, Fault>
     ensures { Gives result (head_of (Token.Word name.now ∷ Token.Colon ∷ [])) }
 {
-    if !is_name(name.as_str()) {
+    if !is_identifier(name.as_str()) {
         return Err(Fault::Cause(ReadCause::Form));
     }
     Ok(Head::Update {
@@ -129,7 +129,7 @@ fn typed_head(name: &Text, kind: &Text, rest: &[Token]) -> Result<Head, Fault>
     ensures { Gives result
         (head_of (Token.Word name.now ∷ Token.Colon ∷ Token.Word kind.now ∷ rest.now)) }
 {
-    if !is_name(name.as_str()) || !is_dotted_name(kind.as_str()) {
+    if !is_identifier(name.as_str()) || !is_dotted_name(kind.as_str()) {
         return Err(Fault::Cause(ReadCause::Form));
     }
     let at = place_of(rest)?;

@@ -9,9 +9,9 @@ use crate::cuts::{Mark, cut, parts};
 use crate::entry::{Ends, ItemWhat, Span, Value};
 use crate::fault::{Fault, ReadCause};
 use crate::heads::number;
-use crate::numbers::{is_dotted_name, is_name};
+use crate::numbers::is_dotted_name;
 use crate::tokens::Token;
-use lab_num::{Rows, Text, number_of};
+use lab_num::{Rows, Text, is_identifier, number_of};
 use std::alloc::Global;
 
 /// The value that a word is.
@@ -35,7 +35,7 @@ fn word_attribute(key: &Text, word: &Text) -> Result<ItemWhat, Fault>
     ensures { Gives result
         (attribute_of (Token.Word key.now ∷ Token.Colon ∷ Token.Word word.now ∷ [])) }
 {
-    if !is_name(key.as_str()) {
+    if !is_identifier(key.as_str()) {
         return Err(Fault::Cause(ReadCause::Form));
     }
     let value = word_value(word)?;
@@ -50,7 +50,7 @@ fn string_attribute(key: &Text, words: &Text) -> Result<ItemWhat, Fault>
     ensures { Gives result
         (attribute_of (Token.Word key.now ∷ Token.Colon ∷ Token.Quoted words.now ∷ [])) }
 {
-    if !is_name(key.as_str()) {
+    if !is_identifier(key.as_str()) {
         return Err(Fault::Cause(ReadCause::Form));
     }
     Ok(ItemWhat::Attribute {
@@ -174,7 +174,7 @@ fn wire_to(alloc: Global, front: &[Token], to: &Text, rest: &[Token]) -> Result<
     ensures { Gives result (wire_of front.now (Token.Word to.now ∷ Token.At ∷ rest.now)) }
 {
     let from = source_of(alloc, front)?;
-    if !is_name(to.as_str()) {
+    if !is_identifier(to.as_str()) {
         return Err(Fault::Cause(ReadCause::Form));
     }
     let pins = numbered_ends(alloc, rest)?;

@@ -6,8 +6,11 @@ ghost use Rattle.std.specs.Str.{byte};
 ghost use Rattle.repl_read.specs.declared.comments.Inside.TheVariants.{Nothing};
 ghost use Rattle.repl_read.specs.Entries.{is_entry};
 ghost use Rattle.repl_read.specs.Comments.{quote, closes, blanked};
-ghost use Rattle.repl_read.specs.Laws.{stays_on_line, stays_in_string, blanks, is_no_return, with_returns, IsFault};
+ghost use Rattle.lab_num.specs.Returns.{is_no_return, with_returns};
+ghost use Rattle.repl_read.specs.Laws.{stays_on_line, stays_in_string, blanks, IsFault};
 ghost use Rattle.repl_read.specs.Platform.{platform};
+
+use lab_num::return_law;
 
 /// A text without carriage returns reads as it does with one before each line feed; blanks in place
 /// of its comments change nothing; its entries have names of their form, wires with pins, and numbers
@@ -20,7 +23,9 @@ pub fn platform_laws()
     ensures entries { (text : List ℕ) →
         IfOk (platform text) (λ entries. list_all is_entry entries ≡ true) }
     ensures faults { (text : List ℕ) → IsFault (platform text) }
-{}
+{
+    return_law();
+}
 
 /// Outside strings and comments a comment of one line is blanks, up to its first `*/` or to the
 /// line's end; a string of one line stays as it is, whatever stands in it; and so does any other

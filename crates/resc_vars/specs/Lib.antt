@@ -5,5 +5,4 @@ pub mod Items
 pub mod Variables
 pub mod Script
 pub mod Bodies
-pub mod Laws
 pub mod Inner

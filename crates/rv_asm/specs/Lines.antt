@@ -14,7 +14,8 @@ use Rattle.rv_asm.specs.declared.shapes.Shape.TheVariants.{Jump, Csr, CsrImmedia
 use Rattle.rv_asm.specs.declared.fault.AsmCause.{AsmCause}
 use Rattle.rv_asm.specs.declared.fault.AsmCause.TheVariants.{Name, Form, Label, Range}
 use Rattle.rv_asm.specs.Encoded.{word_with}
-use Rattle.rv_asm.specs.Texts.{is_blank, trimmed, cut, with_cut, code_of, is_name}
+use Rattle.lab_num.specs.Name.{is_identifier}
+use Rattle.rv_asm.specs.Texts.{is_blank, trimmed, cut, with_cut, code_of}
 use Rattle.rv_asm.specs.Numbers.{number_of, even_in_field}
 use Rattle.rv_asm.specs.Mnemonics.{mnemonic_of}
 use Rattle.rv_asm.specs.Shapes.{shape_of}
@@ -40,7 +41,7 @@ offset_by here (Some there) = Ok (distance here there)
 
 -- the offset that a target gives, which is a number or else a name
 abbrev pub target_by : (List ℕ → Option ℕ) → ℕ → List ℕ → Option Number → Result Number AsmCause
-target_by places here text None = if is_name text then offset_by here (places text) else Err Form
+target_by places here text None = if is_identifier text then offset_by here (places text) else Err Form
 target_by places here text (Some number) = Ok number
 
 -- the offset of a target, where labels have these places
@@ -105,7 +106,7 @@ plain_word places here statement = do
 unfoldable pub labelled_word : (List ℕ → Option ℕ) → ℕ → Bool → List ℕ → List ℕ → Result ℕ AsmCause
 labelled_word places here is_new label statement = do
   mnemonic ← mnemonic_in statement
-  name ← (if is_name label then Ok label else Err Form)
+  name ← (if is_identifier label then Ok label else Err Form)
   word ← word_by places here (operands_in statement) mnemonic
   fitting ← (if is_new then Ok word else Err Label)
   ok_or fitting Range

@@ -37,14 +37,6 @@ with_cut (Some x) alone both = both x.0 x.1
 abbrev pub code_of : List ℕ → List ℕ
 code_of line = with_cut (cut (byte "#") line) line (λ code comment. code)
 
--- a byte of a name
-abbrev pub is_name_byte : ℕ → Bool
-is_name_byte b = is_ascii_alphanumeric b || b == byte "_"
-
--- an ASCII letter, then ASCII letters, digits or `_`
-abbrev pub is_name : List ℕ → Bool
-is_name text = is_ascii_alphabetic (slice_index text 0) && list_all is_name_byte text
-
 -- the number that two decimal digits write
 abbrev pub ten_and_one : ℕ → ℕ → ℕ
 ten_and_one a b = (a - byte "0") * 10 + (b - byte "0")

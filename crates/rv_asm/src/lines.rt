@@ -12,7 +12,8 @@ use crate::mnemonics::{Mnemonic, mnemonic_of};
 use crate::operands::{Kind, operands_word, value_of};
 use crate::shapes::shape_of;
 use crate::targets::place_of;
-use crate::texts::{code_of, cut, first_word, is_name, trimmed};
+use crate::texts::{code_of, cut, first_word, trimmed};
+use lab_num::is_identifier;
 use std::collections::HashMap;
 
 /// The word that a mnemonic's operands give, if its number is in its field.
@@ -74,7 +75,7 @@ fn statement_word(
 {
     let mnemonic = mnemonic_in(statement)?;
     if let Some(label) = label
-        && !is_name(label)
+        && !is_identifier(label)
     {
         return Err(AsmCause::Form);
     }

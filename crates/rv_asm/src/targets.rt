@@ -6,7 +6,7 @@ ghost use Rattle.rv_asm.specs.Lines.{distance, target_by, offset_in};
 
 use crate::fault::AsmCause;
 use crate::numbers::{Number, number_of};
-use crate::texts::is_name;
+use lab_num::is_identifier;
 use std::collections::HashMap;
 
 /// How far it is from here to there.
@@ -37,7 +37,7 @@ pub(crate) fn place_of(labels: &HashMap<&str, u32>, name: &str) -> Option<u32>
 fn label_offset(labels: &HashMap<&str, u32>, here: u32, name: &str) -> Result<Number, AsmCause>
     ensures { result ≡ target_by (place_in labels.now) here name.now None }
 {
-    if !is_name(name) {
+    if !is_identifier(name) {
         return Err(AsmCause::Form);
     }
     match place_of(labels, name) {

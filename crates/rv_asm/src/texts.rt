@@ -2,8 +2,7 @@
 ghost use Rattle.std.specs.Prelude.{◌≡◌, ◌-◌, ◌<◌, ◌≤◌, true, length, drop, slice_index};
 ghost use Rattle.std.specs.Option.{option_map};
 ghost use Rattle.std.specs.List.{list_all, prefix_len, suffix_len, position_or_len, before_first};
-ghost use Rattle.rv_asm.specs.Texts.{is_blank, trimmed, cut, code_of, is_name_byte};
-ghost use Rattle.rv_asm.specs.Texts.{is_name, register_of};
+ghost use Rattle.rv_asm.specs.Texts.{is_blank, trimmed, cut, code_of, register_of};
 
 /// Whether the byte is a space or a tab.
 fn is_blank(b: u8) -> bool
@@ -84,28 +83,6 @@ pub(crate) fn code_of(line: &str) -> &str
     match cut(line, '#') {
         Some((code, _)) => code,
         None => line,
-    }
-}
-
-fn is_name_byte(b: u8) -> bool
-    ensures { result ≡ is_name_byte b }
-{
-    b.is_ascii_alphanumeric() || b == b'_'
-}
-
-fn are_name_bytes(text: &str) -> bool
-    ensures { result ≡ list_all is_name_byte text.now }
-{
-    text.bytes().all(is_name_byte)
-}
-
-/// Whether the text is a name: an ASCII letter, then ASCII letters, digits or `_`.
-pub(crate) fn is_name(text: &str) -> bool
-    ensures { result ≡ is_name text.now }
-{
-    match text.as_bytes() {
-        [first, ..] => first.is_ascii_alphabetic() && are_name_bytes(text),
-        [] => false,
     }
 }
 

@@ -2,6 +2,7 @@
 use Rattle.std.specs.Prelude.{ℕ, ◌+◌, ◌*◌, ◌/◌, ◌%◌, ◌^◌, ◌==◌, ◌||◌, Bool, if◌then◌else◌, List, [], ◌∷◌, Option, Some}
 use Rattle.std.specs.Prelude.{None, find, option_and_then, option_map, is_some, bit_and}
 use Prim.Native.String.{String}
+use Rattle.lab_num.specs.Halves.{low, high, with_low, with_high}
 use Rattle.rv_hart.specs.declared.numbers.TheConstants.{MCYCLE, MCYCLEH, MINSTRET, MINSTRETH}
 use Rattle.rv_hart.specs.declared.csr.Lines.{Lines}
 use Rattle.rv_hart.specs.declared.numbers.Counter.{Counter}
@@ -22,20 +23,6 @@ status core = flag core.on * 2 ^ 3 + flag core.before * 2 ^ 7 + 3 * 2 ^ 11
 -- 3.1.1)
 abbrev pub rv32im : ℕ
 rv32im = 2 ^ 30 + 2 ^ 8 + 2 ^ 12
-
--- the halves of a counter of 64 bits
-abbrev pub low : ℕ → ℕ
-low counter = counter % 2 ^ 32
-
-abbrev pub high : ℕ → ℕ
-high counter = counter / 2 ^ 32
-
--- a counter after a write of one of its halves
-abbrev pub with_low : ℕ → ℕ → ℕ
-with_low counter value = high counter * 2 ^ 32 + value
-
-abbrev pub with_high : ℕ → ℕ → ℕ
-with_high counter value = value * 2 ^ 32 + low counter
 
 -- one CSR: its number, its name, what it reads, and the core after a write, where it can be written
 pub record Row : Type 0 where

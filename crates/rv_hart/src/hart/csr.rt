@@ -1,53 +1,16 @@
 //! The reads and writes of the CSRs.
 ghost use Rattle.std.specs.Prelude.{◌≡◌, ◌&&◌, not, OnErr, is_ok, is_some, ok_or, unwrap_or};
-ghost use Rattle.rv_hart.specs.Csr.{
-  csr_read,
-  csr_written,
-  high,
-  is_listed,
-  is_read_only,
-  low,
-  status,
-  with_high,
-  with_low,
-};
+ghost use Rattle.rv_hart.specs.Csr.{csr_read, csr_written, is_listed, is_read_only, status};
 
 use crate::bits::is_set;
 use crate::cause::INTERRUPT_BITS;
 use crate::csr::{CsrFault, Lines};
 use crate::hart::Hart;
 use crate::numbers;
+use lab_num::{high_half, low_half, with_high_half, with_low_half};
 
 /// 32 bits wide, with the base instructions and M.
 const RV32IM: u32 = 1 << 30 | 1 << 12 | 1 << 8;
-
-/// The lower half of a counter.
-fn low_half(counter: u64) -> u32
-    ensures { result ≡ low counter }
-{
-    (counter % (1 << 32)) as u32
-}
-
-/// The upper half of a counter.
-fn high_half(counter: u64) -> u32
-    ensures { result ≡ high counter }
-{
-    (counter >> 32) as u32
-}
-
-/// A counter with another lower half.
-fn with_low_half(counter: u64, value: u32) -> u64
-    ensures { result ≡ with_low counter value }
-{
-    (u64::from(high_half(counter)) << 32) + u64::from(value)
-}
-
-/// A counter with another upper half.
-fn with_high_half(counter: u64, value: u32) -> u64
-    ensures { result ≡ with_high counter value }
-{
-    (u64::from(value) << 32) + u64::from(low_half(counter))
-}
 
 impl Hart {
     /// mstatus: MIE, MPIE, and MPP, which is always machine mode.

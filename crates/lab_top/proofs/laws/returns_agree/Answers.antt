@@ -1,4 +1,4 @@
-use Rattle.resc_vars.specs.Laws.{with_returns}
+use Rattle.lab_num.specs.Returns.{with_returns}
 use Rattle.lab_top.proofs.Settings.{begun_lines}
 use Rattle.lab_top.proofs.laws.returns_agree.Goals as goal
 

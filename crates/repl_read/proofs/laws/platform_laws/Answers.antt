@@ -12,7 +12,7 @@ pub returns-clause-entries : goal.returns-clause-entries
 returns-clause-entries c = platform_entries
 
 pub returns-clause-returns : goal.returns-clause-returns
-returns-clause-returns c = platform_returns
+returns-clause-returns c = platform_returns c.return_law.ensures
 
 pub returns-clause-faults : goal.returns-clause-faults
 returns-clause-faults c = λ text. platform-fault text

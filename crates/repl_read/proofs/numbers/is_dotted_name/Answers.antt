@@ -3,12 +3,12 @@ use Rattle.std.proofs.Common.{rules, lit<}
 use borrow.Author.Tests.{tests}
 use Rattle.std.proofs.lemmas.Iterator.Search.{all_from_yields_List}
 use Rattle.std.proofs.lemmas.Iterator.Splits.{YieldsList-from_str_split}
-use Rattle.repl_read.specs.Words.{is_name}
+use Rattle.lab_num.specs.Name.{is_identifier}
 use Rattle.repl_read.proofs.numbers.is_dotted_name.Goals as goal
 
 pub returns : goal.returns
 returns c =
-    all_from_yields_List is_name _ _ _ c.all.ensures.ran
+    all_from_yields_List is_identifier _ _ _ c.all.ensures.ran
     (YieldsList-from_str_split 46 c.args.text.now (lit< tt) c.split.ensures.text c.split.ensures.has_more
     c.split.ensures.pattern)
     (λ x b q k. search (rules, tests))

@@ -1,7 +1,6 @@
 use Rattle.std.proofs.Common.{ap}
 use Rattle.resc_vars.specs.Bodies.{numbered}
-use Rattle.resc_vars.proofs.ReturnLemmas.{lines_returns}
 use Rattle.resc_vars.proofs.laws.return_law.Goals as goal
 
 pub returns : goal.returns
-returns c = λ file text none. ap (λ lines. record { file = file; lines = numbered 1 lines }) (lines_returns text none)
+returns c = λ file text none. ap (λ lines. record { file = file; lines = numbered 1 lines }) (c.lines_return_law.ensures text none)

@@ -2,7 +2,7 @@
 use Rattle.std.proofs.Common.{◌≡◌, ◌∙◌, ap, length, arith}
 use Rattle.std.proofs.lemmas.Grind.{common_steps}
 use Rattle.std.proofs.lemmas.Result.{on_ok_weaker}
-use Rattle.lab_state.specs.Change.{change_at}
+use Rattle.lab_num.specs.Change.{change_at}
 use Rattle.lab_state.specs.One.{with_member}
 use Rattle.lab_state.specs.Inner.Hubs.{hubs_of}
 use Rattle.lab_state.proofs.HubLemmas.{parts, hubs-connected}

@@ -1,6 +1,8 @@
--- No two hubs have one name.
+-- No two hubs have one name, and no board has the name of a hub.
+use Rattle.std.proofs.lemmas.Simd.{map-map}
+use Rattle.lab_state.specs.Board.{Board}
 use Rattle.lab_state.specs.Hub.{Hub}
-use Rattle.lab_state.proofs.ListLemmas.{named_at}
+use Rattle.lab_state.proofs.ListLemmas.{named_at, no_board}
 use Rattle.lab_state.proofs.SoundLemmas.{unspent}
 use Rattle.lab_state.proofs.lab.Lab.hub_name.Goals as goal
 
@@ -10,3 +12,10 @@ returns-clause-found g c =
     rw (← c.self.view_is)
     (named_at (λ (hub : Hub). hub.name) c.self.inside.hubs c.args.n c.head.result.now.name
     sound.shape.names.hubs_differ c.head.ensures.name)
+
+pub returns-clause-no_board : goal.returns-clause-no_board
+returns-clause-no_board g c =
+    let sound = unspent c.self.invariant c.self.view_is c.requires.unspent in
+    rw (← c.self.view_is)
+    (no_board (λ (board : Board). board.name) c.self.inside.boards.items (λ (hub : Hub). hub.name) c.self.inside.hubs
+    c.args.n c.head.result.now.name (rw map-map at sound.shape.names) c.head.ensures.name)

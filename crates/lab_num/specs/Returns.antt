@@ -1,4 +1,4 @@
--- What the law of carriage returns speaks of.
+-- Texts whose lines end with a carriage return and a line feed.
 use Rattle.std.specs.Prelude.{ℕ, ◌==◌, not, Bool, if◌then◌else◌, List, [], ◌∷◌}
 use Rattle.std.specs.Str.{byte}
 

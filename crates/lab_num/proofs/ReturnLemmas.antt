@@ -9,7 +9,7 @@ use Rattle.std.proofs.lemmas.List.{length-append}
 use Rattle.std.proofs.Math.Seq.{get_or-append_seam, take-append_seam}
 use Rattle.std.proofs.lemmas.List.Folds.{list_all_at}
 use Rattle.std.proofs.lemmas.List.Splits.{length-slice_split}
-use Rattle.resc_vars.specs.Laws.{is_no_return, with_returns}
+use Rattle.lab_num.specs.Returns.{is_no_return, with_returns}
 
 -- each part but the last, with a carriage return after it
 abbrev returned : List (List ℕ) → List (List ℕ)
