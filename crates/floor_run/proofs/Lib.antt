@@ -1,0 +1,6 @@
+-- Lemmas of floor_run.
+pub mod CloseLemmas
+pub mod OpenLemmas
+pub mod RoundLemmas
+pub mod StepLemmas
+pub mod TurnLemmas
