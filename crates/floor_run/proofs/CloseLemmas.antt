@@ -44,7 +44,7 @@ module _ {J : Type 0} (left : J → ℕ) (AfterTurns : J → ℕ → J → Type 
       taken (Some job) (same (Some job) p.1.1) ∙ ap some (kept_in word (Some job) (omega arith)),
       (subst (λ (k : ℕ). AfterTurns start k job) (sym quarter) p.1.2, inl (omega arith, subst (λ (k : ℕ). 4096 * k < left start) (sym quarter) p.0)),
     )
-    closed_at (out seat) shown p = let x = there {J = J} left AfterTurns slots i near in let odd : word % 4 ≡ 1 = omega arith in (None, taken x.0 x.1 ∙ ap some (kept_out word x.0 odd), odd)
+    closed_at (out seat) shown p = let x = there slots i near in let odd : word % 4 ≡ 1 = omega arith in (None, taken x.0 x.1 ∙ ap some (kept_out word x.0 odd), odd)
     closed_at done shown p = let quarter : word / 4 ≡ q = omega arith in let job : J = p.1.0 in (
       Some job,
       taken (Some job) (same (Some job) p.1.1) ∙ ap some (kept_in word (Some job) (omega arith)),
@@ -55,7 +55,7 @@ module _ {J : Type 0} (left : J → ℕ) (AfterTurns : J → ℕ → J → Type 
   closes starts words slots jobs f long takes = let s = f.0 in let r = f.1 in let n : length slots ≡ length starts = sym f.3 ∙ r.roomy in (
     words,
     long ∙ n,
-    λ i start e. let ok = r.each_board i start e in let near : i < length slots = omega (arith, below {J = J} left AfterTurns starts i start e) in
+    λ i start e. let ok = r.each_board i start e in let near : i < length slots = omega (arith, below starts i start e) in
         closed_at s.homes s.views start i (r.cells i).0 (get_or words (i + 1) 0) slots jobs near (λ y at. f.4 i y at) (λ x at. takes i x near at) (r.cells i).1
         (ap (λ (l : List ℕ). get_or l (i + 1) 0) (sym f.2) ∙ ok.shows) ok.stands,
   )

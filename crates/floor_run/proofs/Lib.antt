@@ -2,5 +2,6 @@
 pub mod CloseLemmas
 pub mod OpenLemmas
 pub mod RoundLemmas
+pub mod ShownLemmas
 pub mod StepLemmas
 pub mod TurnLemmas

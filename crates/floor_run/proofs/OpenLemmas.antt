@@ -28,10 +28,10 @@ got [] i a d e = absurd (some-ne-none a (sym e))
 got (x ∷ xs) zero a d e = some-injective x a e
 got (x ∷ xs) (suc i) a d e = got xs i a d e
 
-got_mapped : {A : Type 0} → (f : A → ℕ) (l : List A) (i : ℕ) (a : A) → get_elem? l i ≡ some a → get_or (map f l) i 0 ≡ f a
+pub got_mapped : {A : Type 0} → (f : A → ℕ) (l : List A) (i : ℕ) (a : A) → get_elem? l i ≡ some a → get_or (map f l) i 0 ≡ f a
 got_mapped f l i a e = got (map f l) i (f a) 0 (at_map f l i a e)
 
-all_at : {A : Type 0} → (P : A → Type 0) (l : List A) (i : ℕ) (a : A) → All P l → get_elem? l i ≡ some a → P a
+pub all_at : {A : Type 0} → (P : A → Type 0) (l : List A) (i : ℕ) (a : A) → All P l → get_elem? l i ≡ some a → P a
 all_at P l i a all e = subst P (got l i a a e) (all i a (inside l i a e))
   where
     inside : {A : Type 0} → (l : List A) (i : ℕ) (a : A) → get_elem? l i ≡ some a → i < length l

@@ -23,8 +23,7 @@ module _ {J S : Type 0} (meaning : J → Job S) (sent : J → List Post) (state_
   -- none of the slots yet
   pub whole : Rests state_after → (start : J) → (meaning start).unsent ≡ [] → Partly meaning sent state_after start start
   whole rests start none =
-      let zero_is : paid meaning start 0 ≡ 0 = omega arith in
-      (
+      let zero_is : paid meaning start 0 ≡ 0 = omega arith in (
         0,
         omega arith,
         subst (λ (n : ℕ). After meaning sent state_after start n start) zero_is
@@ -40,8 +39,7 @@ module _ {J S : Type 0} (meaning : J → Job S) (sent : J → List Post) (state_
       let k : ℕ = L start in
       let m : ℕ = L job in
       let l : m ≡ k - n = left_after meaning sent state_after start job n p.2 in
-      let below : n ≤ k = p.1 in
-      (
+      let below : n ≤ k = p.1 in (
         n + min 4096 m,
         omega arith,
         adds_up meaning sent state_after turns more start job next n (min 4096 m) (omega arith) p.2 t,
@@ -106,8 +104,7 @@ pairs_more {X} {Y} R xs ys ys' x y p related now = (
   ap length now ∙
       (length-append ys (y ∷ []) ∙ (ap (λ (n : ℕ). n + 1) p.0 ∙ sym (length-append xs (x ∷ [])))),
   λ i z e. dite (ℕ_discrete i (length xs))
-      (λ same. let is : x ≡ z = some-injective x z (sym (at_last xs x i (sym same)) ∙ e) in
-      (
+      (λ same. let is : x ≡ z = some-injective x z (sym (at_last xs x i (sym same)) ∙ e) in (
         y,
         ap (λ (l : List Y). get_elem? l i) now ∙ at_last ys y i (p.0 ∙ sym same),
         subst (λ (w : X). R w y) is related,

@@ -39,14 +39,36 @@ put_else cells i c j other = at_put cells i c (λ q x. q ≢ i → x ≡ cells q
 or_at : (a k : ℕ) → k < 4 → bit_or (4 * a + k) 1 ≡ 4 * a + bit_or k 1
 or_at a k h = let e : 4 * a + k ≡ a * 2 ^ 2 + k = omega arith in ap (λ (n : ℕ). bit_or n 1) e ∙ (or_block 2 a 0 k 1 (omega arith) (omega arith) ∙ (rw or_zero_r (let f : a * 4 + bit_or k 1 ≡ 4 * a + bit_or k 1 = omega arith in f)))
 
-or_even : (a : ℕ) → bit_or (4 * a) 1 ≡ 4 * a + 1
+pub or_even : (a : ℕ) → bit_or (4 * a) 1 ≡ 4 * a + 1
 or_even a = let e : 4 * a ≡ 4 * a + 0 = omega arith in ap (λ (n : ℕ). bit_or n 1) e ∙ or_at a 0 (omega arith)
 
-or_one : (a : ℕ) → bit_or (4 * a + 1) 1 ≡ 4 * a + 1
+pub or_one : (a : ℕ) → bit_or (4 * a + 1) 1 ≡ 4 * a + 1
 or_one a = or_at a 1 (omega arith)
 
-or_three : (a : ℕ) → bit_or (4 * a + 3) 1 ≡ 4 * a + 3
+pub or_three : (a : ℕ) → bit_or (4 * a + 3) 1 ≡ 4 * a + 3
 or_three a = or_at a 3 (omega arith)
+
+-- what is there is there after a write
+pub set_there : {A : Type 0} (l : List A) (i : ℕ) (a b : A) → get_elem? l i ≡ some a → get_elem? (set l i b) i ≡ some b
+set_there [] i a b e = absurd (some-ne-none a (sym e))
+set_there (x ∷ xs) zero a b e = refl
+set_there (x ∷ xs) (suc i) a b e = set_there xs i a b e
+
+pub there : {A : Type 0} (l : List A) (i : ℕ) → i < length l → (a : A) × (get_elem? l i ≡ some a)
+there [] i h = absurd (omega arith)
+there (x ∷ xs) zero h = (x, refl)
+there (x ∷ xs) (suc i) h = there xs i (omega arith)
+
+pub below : {A : Type 0} (l : List A) (i : ℕ) (a : A) → get_elem? l i ≡ some a → i < length l
+below [] i a e = absurd (some-ne-none a (sym e))
+below (x ∷ xs) zero a e = omega arith
+below (x ∷ xs) (suc i) a e = let h = below xs i a e in omega arith
+
+pub none_held : {J X : Type 0} (o : Option J) (job : J) → o ≡ None → o ≡ Some job → X
+none_held o job a b = let e : None ≡ Some job = sym a ∙ b in cc
+
+some_held : {J : Type 0} (o : Option J) (a b : J) → o ≡ Some a → o ≡ Some b → a ≡ b
+some_held o a b p q = let e : Some a ≡ Some b = sym p ∙ q in cc
 
 module _ {J : Type 0} (left : J → ℕ) (AfterTurns : J → ℕ → J → Type 0) where
   abbrev St : Type 0
@@ -100,27 +122,6 @@ module _ {J : Type 0} (left : J → ℕ) (AfterTurns : J → ℕ → J → Type 
             })
             (at_set s.views id seat w u e);
       }
-
-  set_there : {A : Type 0} → (l : List A) (i : ℕ) (a b : A) → get_elem? l i ≡ some a → get_elem? (set l i b) i ≡ some b
-  set_there [] i a b e = absurd (some-ne-none a (sym e))
-  set_there (x ∷ xs) zero a b e = refl
-  set_there (x ∷ xs) (suc i) a b e = set_there xs i a b e
-
-  pub there : {A : Type 0} → (l : List A) (i : ℕ) → i < length l → (a : A) × (get_elem? l i ≡ some a)
-  there [] i h = absurd (omega arith)
-  there (x ∷ xs) zero h = (x, refl)
-  there (x ∷ xs) (suc i) h = there xs i (omega arith)
-
-  pub below : {A : Type 0} → (l : List A) (i : ℕ) (a : A) → get_elem? l i ≡ some a → i < length l
-  below [] i a e = absurd (some-ne-none a (sym e))
-  below (x ∷ xs) zero a e = omega arith
-  below (x ∷ xs) (suc i) a e = let h = below xs i a e in omega arith
-
-  none_held : {X : Type 0} → (o : Option J) (job : J) → o ≡ None → o ≡ Some job → X
-  none_held o job a b = let e : None ≡ Some job = sym a ∙ b in cc
-
-  some_held : (o : Option J) (a b : J) → o ≡ Some a → o ≡ Some b → a ≡ b
-  some_held o a b p q = let e : Some a ≡ Some b = sym p ∙ q in cc
 
   abbrev Goes : List J → St → ℕ → ℕ → Seated J → (Seated J → Type 0) → ℕ → Type 0
   Goes starts s i id me told new = (w : View J) × (a : Act (Option J)) × Valid s.homes me.1 a × Rule left AfterTurns starts (stepped s i new id me.1 w a) × told (w, carried_after me.1 a)

@@ -10,7 +10,7 @@ module _ {J : Type 0} (left : J → ℕ) (AfterTurns : J → ℕ → J → Type 
   IsWon starts v job =
       (v.held ≡ Some job) × (v.found % 4 ≡ 0) ×
       ((start : J) × (get_elem? starts v.board ≡ some start) × AfterTurns start (v.found / 4) job ×
-        (4096 * (v.found / 4) < left start))
+      (4096 * (v.found / 4) < left start))
 
 -- the board was out, or paid up
 abbrev pub IsMissed : {J : Type 0} → View J → Type 0

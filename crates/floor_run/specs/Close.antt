@@ -20,5 +20,5 @@ module _ {J : Type 0} (left : J → ℕ) (AfterTurns : J → ℕ → J → Type 
   Closing starts jobs =
       (words : List ℕ) × (length jobs ≡ length starts) ×
       ((i : ℕ) (start : J) → get_elem? starts i ≡ some start →
-        (job : Option J) × (get_elem? jobs i ≡ some job) ×
-        ClosedAs start (slice_index_or words (i + 1) 0) job)
+      (job : Option J) × (get_elem? jobs i ≡ some job) ×
+      ClosedAs start (slice_index_or words (i + 1) 0) job)

@@ -4,5 +4,6 @@ pub mod Claim
 pub mod Close
 pub mod Inner
 pub mod Rule
+pub mod Shown
 pub mod Turns
 pub mod View

@@ -89,7 +89,7 @@ impl<J: Job> Bench<J> {
         ensures seen { hand.new.sees ≡ after_claim hand.old.sees board.0 hand.new.sees.found result }
         ensures told { MatchOption result (IsMissed hand.new.sees)
             (IsWon (slots_left J.meaning) (AfterTurns J.meaning J.sent J.state_after)
-                self.now.starts hand.new.sees) }
+            self.now.starts hand.new.sees) }
     {
         let index = usize::from(board.0);
         let found = self
@@ -141,7 +141,7 @@ impl<J: Job> Bench<J> {
         requires { IsHandOf self hand × HoldsNothing hand }
         ensures { IfOk result (λ jobs.
             Closing (slots_left J.meaning) (AfterTurns J.meaning J.sent J.state_after)
-                self.starts jobs.items) }
+            self.starts jobs.items) }
     {
         let Bench { table, alloc } = self;
         let jobs = Vec::with_capacity(alloc, table.slot_count())?;

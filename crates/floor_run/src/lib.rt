@@ -11,9 +11,11 @@ mod hand;
 mod opening;
 mod round;
 mod rule;
+mod shown;
 mod view;
 
 pub use bench::Bench;
 pub use gate::{Gate, NoGate};
 pub use hand::Hand;
 pub use round::run_round;
+pub use shown::bench_shows_a_floor;

@@ -24,8 +24,7 @@ store-requires g c =
     let laws = c.turns_add_up.ensures in
     let job = c.args.job in
     let nothing : rest c.hand.inside.seat.me.1 ≡ [] = ap rest (c.hand.invariant.1 ∙ ap (carried v) held) in
-    let l : c.left.result ≡ slots_left g.J.Job.meaning job = c.left.ensures in
-    (
+    let l : c.left.result ≡ slots_left g.J.Job.meaning job = c.left.ensures in (
       search rules,
       omega (arith, c.self.invariant.0),
       report_from _ _ _ _ _ _ v _ _ job k.0
@@ -33,8 +32,7 @@ store-requires g c =
           c.hand.invariant.0.live held (c.hand.invariant.0.board_is ∙ sym is)
           (λ start has stands. let after =
           next g.J.Job.meaning g.J.Job.sent g.J.Job.state_after laws.turns laws.posts start k.0 job (v.found / 4)
-          stands k.2 in
-          (
+          stands k.2 in (
             after,
             ends g.J.Job.meaning g.J.Job.sent g.J.Job.state_after start job v.found c.hand.inside.reports _
                 reports.0 after
