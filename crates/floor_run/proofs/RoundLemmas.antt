@@ -1,5 +1,6 @@
 -- A job is run to its end, turn by turn.
-use Rattle.std.proofs.Common.{◌≡◌, ◌≢◌, ◌∙◌, ℕ, zero, suc, ◌+◌, ◌-◌, ◌/◌, ◌<◌, ◌≤◌, min, List, [], ◌∷◌, ◌++◌, length, map}
+use Rattle.std.proofs.Common.{◌≡◌, ◌≢◌, ◌∙◌, ℕ, zero, suc, ◌+◌, ◌-◌, ◌/◌, ◌<◌, ◌≤◌, min, List, [], ◌∷◌, ◌++◌}
+use Rattle.std.proofs.Common.{length, map}
 use Rattle.std.proofs.Common.{refl, sym, ap, subst, arith, get_or, length-append, Option, Some}
 use mathlib.Core.Option.{some, some-injective}
 use mathlib.Core.Logic.{dite}
@@ -13,7 +14,8 @@ use Rattle.floor_run.specs.Inner.Round.{Pairs, Ended, Partly, Finished}
 use Rattle.floor_run.specs.Turns.{After, slots_left, IsTurned, AfterTurns, paid}
 use Rattle.floor_run.proofs.TurnLemmas.{TurnsAdd, PostsAdd, left_after, adds_up, begins}
 
-module _ {J S : Type 0} (meaning : J → Job S) (sent : J → List Post) (state_after : S → List (Option Post) → ℕ → S) where
+module _ {J S : Type 0} (meaning : J → Job S) (sent : J → List Post)
+    (state_after : S → List (Option Post) → ℕ → S) where
   abbrev L : J → ℕ
   L = slots_left meaning
 
@@ -21,7 +23,8 @@ module _ {J S : Type 0} (meaning : J → Job S) (sent : J → List Post) (state_
   Turned = AfterTurns meaning sent state_after
 
   -- none of the slots yet
-  pub whole : Rests state_after → (start : J) → (meaning start).unsent ≡ [] → Partly meaning sent state_after start start
+  pub whole :
+      Rests state_after → (start : J) → (meaning start).unsent ≡ [] → Partly meaning sent state_after start start
   whole rests start none =
       let zero_is : paid meaning start 0 ≡ 0 = omega arith in (
         0,
@@ -54,7 +57,8 @@ module _ {J S : Type 0} (meaning : J → Job S) (sent : J → List Post) (state_
       omega arith
 
   -- where nothing is left, all slots are taken
-  pub ended : (start job : J) → Partly meaning sent state_after start job → L job ≤ 0 → Ended meaning sent state_after start job
+  pub ended :
+      (start job : J) → Partly meaning sent state_after start job → L job ≤ 0 → Ended meaning sent state_after start job
   ended start job p none_left =
       let n : ℕ = p.0 in
       let k : ℕ = L start in

@@ -1,7 +1,8 @@
 -- The bench shows a floor, and its steps are the events of that floor.
-use Rattle.std.proofs.Common.{◌≡◌, ◌≢◌, ◌∙◌, ◌⊎◌, inl, inr, ℕ, zero, suc, ◌+◌, ◌-◌, ◌*◌, ◌/◌, ◌%◌, ◌<◌, ◌≤◌, ◌==◌, min}
-use Rattle.std.proofs.Common.{Bool, true, false, List, [], ◌∷◌, ◌++◌, length, map, All, get_or, set, if◌then◌else◌, ⊎_elim}
-use Rattle.std.proofs.Common.{refl, sym, ap, subst, arith, add-one, length-drop, append-nil, get_or-set_other, get_or-set_same}
+use Rattle.std.proofs.Common.{◌≡◌, ◌≢◌, ◌∙◌, ◌⊎◌, inl, inr, ℕ, zero, suc, ◌+◌, ◌-◌, ◌*◌, ◌/◌, ◌%◌, ◌<◌, ◌==◌, min}
+use Rattle.std.proofs.Common.{Bool, true, false, List, [], ◌∷◌, length, map, All, get_or, set, if◌then◌else◌}
+use Rattle.std.proofs.Common.{refl, sym, ap, subst, arith, add-one, length-drop, append-nil, get_or-set_other}
+use Rattle.std.proofs.Common.{get_or-set_same}
 use Rattle.std.proofs.Common.{Option, Some, None, IsSomeAnd, slice_get}
 use mathlib.Core.Option.{some, some-injective, some-ne-none}
 use mathlib.Core.Logic.{dite}
@@ -12,19 +13,21 @@ use Rattle.std.proofs.lemmas.List.{length-map}
 use Rattle.atomic_table.proofs.Lists.{at_map, at_longer, set_else, set_here}
 use Rattle.dev_core.specs.declared.post.Post as post
 use Rattle.floor_core.specs.declared.event.Event.TheVariants.{Claim, Post, Report}
-use Rattle.floor_core.specs.Events.{IsLegal, MayClaim, MayPost, MayReport, changed, claimed, relieved, at_home, happened}
+use Rattle.floor_core.specs.Events.{IsLegal, MayClaim, MayPost, MayReport, changed, claimed, relieved, at_home}
+use Rattle.floor_core.specs.Events.{happened}
 use Rattle.floor_core.specs.Floor as floor
 use Rattle.floor_core.specs.Floor.{Board, Floor, begun}
 use Rattle.floor_core.specs.Job.{Job, left, made, aside, after, Rests}
 use Rattle.floor_core.specs.Sound.{IsSound}
 use Rattle.floor_run.specs.declared.view.View.{View}
-use Rattle.floor_run.specs.Rule.{Place, home, out, done, word_of, Cell, Homes, Table, Holds, InPlace, Rule}
-use Rattle.floor_run.specs.Shown.{Shows, ShowsBoard, ShowsHome, ShowsOut, IsSoundWhenSent, word, turn_slots, home_word, opened}
+use Rattle.floor_run.specs.Rule.{Place, home, out, done, word_of, Cell, Table, Holds, InPlace, Rule}
+use Rattle.floor_run.specs.Shown.{Shows, ShowsBoard, IsSoundWhenSent, word, turn_slots}
+use Rattle.floor_run.specs.Shown.{home_word, opened}
 use Rattle.floor_run.specs.Shown.{after_won, after_missed, after_report, after_split, after_join}
 use Rattle.floor_run.specs.Turns.{slots_left, paid, AfterTurns, IsTurned}
 use Rattle.floor_run.specs.View.{spent, after_claim, empty_handed}
 use Rattle.floor_run.proofs.OpenLemmas.{all_at, got_mapped}
-use Rattle.floor_run.proofs.StepLemmas.{there, below, none_held, or_even, or_one, or_three, set_there}
+use Rattle.floor_run.proofs.StepLemmas.{there, below, or_even, or_one, or_three, set_there}
 use Rattle.floor_run.proofs.TurnLemmas.{TurnsAdd, PostsAdd, next}
 
 -- after a change an item is the changed one, or one that was there
@@ -80,7 +83,8 @@ module _ {J : Type 0} where
   unheld : (v : View J) (j : ℕ) → v.held ≡ None → (job : J) → v.held ≡ Some job → ¬ (v.board ≡ j)
   unheld v j empty job h e = let bad : None ≡ Some job = sym empty ∙ h in absurd (cc)
 
-module _ {J S : Type 0} (meaning : J → Job S) (sent : J → List post.Post) (state_after : S → List (Option post.Post) → ℕ → S) where
+module _ {J S : Type 0} (meaning : J → Job S) (sent : J → List post.Post)
+    (state_after : S → List (Option post.Post) → ℕ → S) where
   abbrev L : J → ℕ
   L = slots_left meaning
 
@@ -127,7 +131,8 @@ module _ {J S : Type 0} (meaning : J → Job S) (sent : J → List post.Post) (s
     one_changed :
         (s' : Table J) (step : Board S → Board S) (i : ℕ) (start : J) (b : Board S) →
         get_elem? starts i ≡ some start → get_elem? f.boards i ≡ some b → Shown s' start i (step b) →
-        ((j : ℕ) (other : J) (c : Board S) → j ≢ i → get_elem? starts j ≡ some other → Shown s other j c → Shown s' other j c) →
+        ((j : ℕ) (other : J) (c : Board S) → j ≢ i → get_elem? starts j ≡ some other → Shown s other j c →
+        Shown s' other j c) →
         Floors starts s' (record f { boards = changed step f.boards i })
     one_changed s' step i start b has at new others = record {
       boards = length-changed step f.boards i ∙ shows.boards;
@@ -145,7 +150,8 @@ module _ {J S : Type 0} (meaning : J → Job S) (sent : J → List post.Post) (s
 
     -- no board has changed
     none_changed :
-        (s' : Table J) → ((j : ℕ) (other : J) (c : Board S) → get_elem? starts j ≡ some other → Shown s other j c → Shown s' other j c) →
+        (s' : Table J) → ((j : ℕ) (other : J) (c : Board S) → get_elem? starts j ≡ some other → Shown s other j c →
+        Shown s' other j c) →
         Floors starts s' f
     none_changed s' others = record {
       boards = shows.boards;
@@ -158,12 +164,16 @@ module _ {J S : Type 0} (meaning : J → Job S) (sent : J → List post.Post) (s
         stays s (after_split s v) other j c refl refl
         (λ k h. (h.0, h.1, at_longer s.views (empty_handed v ∷ []) k h.0 h.2, h.3, h.4)))
 
-    pub joined : (other : ℕ) (w : View J) → get_elem? s.views other ≡ some w → w.held ≡ None → Floors starts (after_join s other) f
+    pub joined :
+        (other : ℕ) (w : View J) → get_elem? s.views other ≡ some w → w.held ≡ None →
+        Floors starts (after_join s other) f
     joined other w at empty = none_changed (after_join s other) (λ j start c e.
         stays s (after_join s other) start j c refl refl
         (λ k h. still_holds s.views other w spent j k at (unheld w j empty) h))
 
-    pub posted : (seat i : ℕ) → IsLegal f (Post seat (record { 0 = i })) → Floors starts s (happened state_after f (Post seat (record { 0 = i })))
+    pub posted :
+        (seat i : ℕ) → IsLegal f (Post seat (record { 0 = i })) →
+        Floors starts s (happened state_after f (Post seat (record { 0 = i })))
     posted seat i legal = record {
       boards = length-changed relieved f.boards i ∙ shows.boards;
       each = λ j start c e e'. elim (changed_at relieved f.boards i j c e') [
@@ -189,7 +199,8 @@ module _ {J S : Type 0} (meaning : J → Job S) (sent : J → List post.Post) (s
 
       -- a word whose bit 0 is 0 is that of a board at home with slots left
       even_word :
-          (start : J) (i q : ℕ) (place : Place) → word s i ≡ word_of q place → InPlace L At s.homes s.views start i q place →
+          (start : J) (i q : ℕ) (place : Place) → word s i ≡ word_of q place →
+          InPlace L At s.homes s.views start i q place →
           word s i % 2 ≡ 0 → (word s i ≡ 4 * (word s i / 4)) × (4096 * (word s i / 4) < L start)
       even_word start i q home shown p even =
           let quarter : q ≡ word s i / 4 = omega arith in
@@ -222,10 +233,12 @@ module _ {J S : Type 0} (meaning : J → Job S) (sent : J → List post.Post) (s
 
       module _ (turns : TurnsAdd state_after) where
         pub won :
-            (seat i : ℕ) (v : View J) (start job : J) → get_elem? starts i ≡ some start → get_elem? s.views seat ≡ some v →
+            (seat i : ℕ) (v : View J) (start job : J) → get_elem? starts i ≡ some start →
+            get_elem? s.views seat ≡ some v →
             v.held ≡ None → word s i % 2 ≡ 0 → get_elem? s.homes i ≡ some (some (Some job)) →
             IsLegal f (Claim seat (record { 0 = i }) (turn_slots meaning job)) ×
-            Floors starts (after_won s seat v i job) (happened state_after f (Claim seat (record { 0 = i }) (turn_slots meaning job)))
+            Floors starts (after_won s seat v i job)
+            (happened state_after f (Claim seat (record { 0 = i }) (turn_slots meaning job)))
         won seat i v start job has at empty even lies =
             let ok = r.each_board i start has in
             let says = even_word start i (r.cells i).0 (r.cells i).1 ok.shows ok.stands even in
@@ -236,7 +249,9 @@ module _ {J S : Type 0} (meaning : J → Job S) (sent : J → List post.Post) (s
               | inr p ↦ absurd (let w = p.word_is in omega arith)
               | inl p ↦
                   let lay : J = p.job.0 in
-                  let same : lay ≡ job = unsome lay job (some-injective (Some lay) (Some job) (some-injective (some (Some lay)) (some (Some job)) (sym p.job.1 ∙ lies))) in
+                  let same : lay ≡ job = unsome lay job
+                  (some-injective (Some lay) (Some job)
+                  (some-injective (some (Some lay)) (some (Some job)) (sym p.job.1 ∙ lies))) in
                   let is : meaning job ≡ b.job = ap meaning (sym same) ∙ p.job.2 in
                   let turn : ℕ = turn_slots meaning job in
                   let n : ℕ = L start in
@@ -244,7 +259,8 @@ module _ {J S : Type 0} (meaning : J → Job S) (sent : J → List post.Post) (s
                   let q : ℕ = word s i / 4 in
                   let used_is : b.used ≡ min n (4096 * q) = p.used in
                   let more : 4096 * q < n = says.1 in
-                  let coming = ap (λ (j : Job S). length j.coming) was.job ∙ length-drop b.used (meaning start).coming in
+                  let coming = ap (λ (j : Job S). length j.coming) was.job ∙
+                  length-drop b.used (meaning start).coming in
                   let enough : left b.job ≡ m = ap (λ (j : Job S). left j) (sym is) in
                   let rest : m ≡ n - b.used = sym enough ∙ coming in
                   let both : b.used + turn ≡ paid meaning start (q + 1) = omega arith in
@@ -282,7 +298,8 @@ module _ {J S : Type 0} (meaning : J → Job S) (sent : J → List post.Post) (s
                         (λ j other c apart e. stays s s' other j c
                         (get_or-set_other s.words (i + 1) (j + 1) (bit_or (word s i) 1) 0 (λ e'. apart (omega arith)))
                         (set_else s.homes i j _ apart)
-                        (λ k h. still_holds s.views seat v (after_claim v i (word s i) (Some job)) j k at (unheld v j empty) h)),
+                        (λ k h. still_holds s.views seat v (after_claim v i (word s i) (Some job)) j k at
+                        (unheld v j empty) h)),
                   )
             ]
 
@@ -341,7 +358,11 @@ module _ {J S : Type 0} (meaning : J → Job S) (sent : J → List post.Post) (s
                               after_is.job_is ∙
                                   (ap (λ (k : ℕ). aside (after state_after (meaning start) k)) (sym used_is) ∙
                                   (sym was.job ∙
-                                  (λ k. record { state = b.job.state; coming = b.job.coming; unsent = sym none_left k }))),
+                                  (λ k. record {
+                                    state = b.job.state;
+                                    coming = b.job.coming;
+                                    unsent = sym none_left k;
+                                  }))),
                             );
                           };
                         }
@@ -362,7 +383,9 @@ module _ {J S : Type 0} (meaning : J → Job S) (sent : J → List post.Post) (s
   board_of start (q, out seat) = seated start (paid meaning start (q + 1)) (Some seat)
   board_of start (q, done) = seated start (paid meaning start q) None
 
-  is_sound : (start : J) (c : Cell) → IsSound state_after (meaning start) (board_of start c) (made (meaning start) (board_of start c).used)
+  is_sound :
+      (start : J) (c : Cell) → IsSound state_after (meaning start) (board_of start c)
+      (made (meaning start) (board_of start c).used)
   is_sound start (q, home) = record { job = refl; paid = omega arith; posts = append-nil _ }
   is_sound start (q, out seat) = record { job = refl; paid = omega arith; posts = append-nil _ }
   is_sound start (q, done) = record { job = refl; paid = omega arith; posts = append-nil _ }

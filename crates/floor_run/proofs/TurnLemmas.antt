@@ -1,5 +1,6 @@
 -- A turn more of a job is a turn more of its start.
-use Rattle.std.proofs.Common.{◌≡◌, ℕ, ◌+◌, ◌-◌, ◌*◌, ◌/◌, ◌≤◌, ◌⊎◌, inl, inr, List, [], ◌∷◌, ◌++◌, length, min, take, drop}
+use Rattle.std.proofs.Common.{◌≡◌, ℕ, ◌+◌, ◌-◌, ◌*◌, ◌/◌, ◌≤◌, ◌⊎◌, inl, inr, List, [], ◌∷◌, ◌++◌, length, min}
+use Rattle.std.proofs.Common.{take, drop}
 use Rattle.std.proofs.Common.{refl, sym, ap, ◌∙◌, subst, arith, append_assoc, append-nil, length-drop, Option}
 use Rattle.atomic_table.specs.Table.{rest}
 use Rattle.dev_core.specs.declared.post.Post.{Post}
@@ -22,7 +23,8 @@ module _ {S : Type 0} (state_after : S → List (Option Post) → ℕ → S) whe
   abbrev pub PostsAdd : Type 0
   PostsAdd = (j : Job S) (a b : ℕ) → made (after state_after j a) b ≡ made j (a + b)
 
-module _ {J S : Type 0} (meaning : J → Job S) (sent : J → List Post) (state_after : S → List (Option Post) → ℕ → S) where
+module _ {J S : Type 0} (meaning : J → Job S) (sent : J → List Post)
+    (state_after : S → List (Option Post) → ℕ → S) where
   abbrev L : J → ℕ
   L = slots_left meaning
 

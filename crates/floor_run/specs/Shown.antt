@@ -1,5 +1,6 @@
 -- The floor of floor_core that words, slots and views show, and what the steps of the bench do to them.
-use Rattle.std.specs.Prelude.{◌≡◌, ℕ, ◌+◌, ◌-◌, ◌/◌, ◌%◌, ◌==◌, ◌⊎◌, false, List, [], ◌∷◌, ◌++◌, length, min, map, if◌then◌else◌}
+use Rattle.std.specs.Prelude.{◌≡◌, ℕ, ◌+◌, ◌/◌, ◌%◌, ◌==◌, ◌⊎◌, false, List, [], ◌∷◌, ◌++◌, length, min, map}
+use Rattle.std.specs.Prelude.{if◌then◌else◌}
 use Rattle.std.specs.Prelude.{Option, Some, None, slice_index_or, slice_set}
 use mathlib.Core.Option.{some}
 use lib.ListN.{get_elem?}
@@ -72,8 +73,8 @@ module _ {J S : Type 0} (meaning : J → Job S) where
       pub job : aside b.job ≡ aside (after state_after (meaning start) b.used)
       pub place : ShowsHome s start i b ⊎ ShowsOut s start i b
 
-    -- Each board of the floor is shown, and the round goes on. The posts that a board which is out has not sent yet, and
-    -- the mail, are the floor's alone: no word tells them.
+    -- Each board of the floor is shown, and the round goes on. The posts that a board which is out has not sent yet,
+    -- and the mail, are the floor's alone: no word tells them.
     pub record Shows (starts : List J) (s : Table J) (f : Floor S) : Type 0 where
       pub boards : length f.boards ≡ length starts
       pub each : (i : ℕ) (start : J) (b : Board S) →

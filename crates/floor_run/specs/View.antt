@@ -1,5 +1,5 @@
 -- What a seat at the bench knows, and how its steps change that.
-use Rattle.std.specs.Prelude.{ℕ, ◌+◌, Bool, true, false, List, [], Option, None}
+use Rattle.std.specs.Prelude.{ℕ, ◌+◌, true, false, List, [], Option, None}
 use Rattle.floor_run.specs.declared.view.View.{View}
 
 module _ {J : Type 0} where

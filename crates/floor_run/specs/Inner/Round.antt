@@ -12,7 +12,8 @@ Pairs {X} {Y} R xs ys =
     (length ys ≡ length xs) ×
     ((i : ℕ) (x : X) → get_elem? xs i ≡ some x → (y : Y) × (get_elem? ys i ≡ some y) × R x y)
 
-module _ {J S : Type 0} (meaning : J → Job S) (sent : J → List Post) (state_after : S → List (Option Post) → ℕ → S) where
+module _ {J S : Type 0} (meaning : J → Job S) (sent : J → List Post)
+    (state_after : S → List (Option Post) → ℕ → S) where
   -- the job after all its slots
   abbrev pub Ended : J → J → Type 0
   Ended start job = After meaning sent state_after start (slots_left meaning start) job
