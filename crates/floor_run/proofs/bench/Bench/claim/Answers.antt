@@ -12,7 +12,8 @@ fetch_or-found-requires g c =
     let m = ap (length {A = g.row.J.Denot}) starts in
     let is = c.from-index.ensures in
     let near = c.requires.board in
-    let empty : v.held ≡ None = ap (λ (h : HandModel g.row.J.Denot). h.sees.held) c.hand.view_is ∙ c.requires.hand.1 in (
+    let held = ap (λ (h : HandModel g.row.J.Denot). h.sees.held) c.hand.view_is in
+    let empty : v.held ≡ None = held ∙ c.requires.hand.1 in (
       search rules,
       omega (arith, c.self.invariant.0),
       claim_keeps _ _ _ _ _ _ _ (c.hand.invariant.0.live) empty (omega arith),
