@@ -3,7 +3,7 @@ use Rattle.std.proofs.Common.{◌≡◌, ◌∙◌, ℕ, ◌+◌, ◌≤◌, Lis
 use Rattle.std.proofs.Common.{append_assoc, length-drop, drop-drop, take-add}
 use Rattle.std.proofs.lemmas.List.Elements.{filter_map-append}
 use Rattle.dev_core.specs.declared.post.Post.{Post}
-use Rattle.floor_core.specs.Job.{Job, left, posts, made, Adds}
+use Rattle.floor_core.specs.Job.{Job, left, posts, made, after, Adds}
 use Rattle.floor_core.specs.Floor.{Board}
 use Rattle.floor_core.specs.Events.{claimed, relieved, at_home}
 use Rattle.floor_core.specs.Sound.{IsSound}
@@ -16,6 +16,16 @@ made_more j a b =
     sym (append_assoc j.unsent (posts (take a j.coming)) (posts (take b (drop a j.coming)))))
 
 module _ {S : Type 0} (state_after : S → List (Option Post) → ℕ → S) where
+  -- two turns are one
+  pub two_turns :
+      Adds state_after → (j : Job S) (a b : ℕ) → a + b ≤ left j →
+      after state_after (after state_after j a) b ≡ after state_after j (a + b)
+  two_turns adds j a b enough = λ k. record {
+    state = adds j.state j.coming a b enough k;
+    coming = drop-drop b a j.coming k;
+    unsent = sym (made_more j a b) k;
+  }
+
   -- a board stays sound in a turn
   pub sound_claimed :
       Adds state_after → (start : Job S) (b : Board S) (mailed : List Post) (worker slots : ℕ) → slots ≤ left b.job →

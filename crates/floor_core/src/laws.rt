@@ -7,7 +7,7 @@ ghost use Rattle.dev_core.specs.Post.{post_key};
 ghost use Rattle.floor_core.specs.declared.event.Event.{Event};
 ghost use Rattle.floor_core.specs.Events.{IsLegal, happened};
 ghost use Rattle.floor_core.specs.Floor.{Board, Floor, begun};
-ghost use Rattle.floor_core.specs.Job.{Job, left};
+ghost use Rattle.floor_core.specs.Job.{Job, left, made, after};
 ghost use Rattle.floor_core.specs.Result.{IsOver, IsNumbered, jobs, mailed};
 ghost use Rattle.floor_core.specs.Run.{IsRun};
 ghost use Rattle.floor_core.specs.Sound.{Sound};
@@ -23,6 +23,15 @@ pub fn floors_stay_sound<J: job::Job>()
     ensures kept { (starts : List (Job J.State)) (f : Floor J.State) (e : Event) →
         Sound J.state_after starts f → IsLegal f e →
         Sound J.state_after starts (happened J.state_after f e) }
+{}
+
+/// A turn of some slots and then a turn of some more is one turn of all of them: it leaves the same
+/// job, which has made the same posts.
+pub fn turns_add_up<J: job::Job>()
+    ensures turns { (job : Job J.State) (a b : ℕ) → a + b ≤ left job →
+        after J.state_after (after J.state_after job a) b ≡ after J.state_after job (a + b) }
+    ensures posts { (job : Job J.State) (a b : ℕ) →
+        made (after J.state_after job a) b ≡ made job (a + b) }
 {}
 
 /// At every moment of a round no board has used more slots than it began with. Those that it has

@@ -11,4 +11,4 @@ mod laws;
 pub use event::{Event, Mailed, Ran};
 pub use floor::Floor;
 pub use job::{Job, Turn};
-pub use laws::{floors_stay_sound, no_board_passes_its_grant, orders_agree};
+pub use laws::{floors_stay_sound, no_board_passes_its_grant, orders_agree, turns_add_up};

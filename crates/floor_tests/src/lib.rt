@@ -1,4 +1,5 @@
-//! Tests of grants and their source, of floors, and of toys and boards with their grants on them.
+//! Tests of grants and their source, of floors, of toys and boards with their grants on them, and of
+//! rounds on threads.
 #![tactic(auto)]
 
 #[cfg(test)]
@@ -6,9 +7,15 @@ mod boards;
 #[cfg(test)]
 mod events;
 #[cfg(test)]
+mod gates;
+#[cfg(test)]
 mod handle;
 #[cfg(test)]
+mod hands;
+#[cfg(test)]
 mod parcels;
+#[cfg(test)]
+mod rounds;
 #[cfg(test)]
 mod source;
 #[cfg(test)]

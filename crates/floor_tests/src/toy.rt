@@ -1,5 +1,6 @@
 //! A job of the tests: a list with a post or none for each slot.
-ghost use Rattle.std.specs.Prelude.{◌≡◌, ◌+◌, ◌<◌, ◌++◌, take, drop, vec_len, OnOk, OnErr, option_to_list};
+ghost use Rattle.std.specs.Prelude.{◌≡◌, ◌+◌, ◌<◌, ◌++◌, [], length, take, drop, vec_len};
+ghost use Rattle.std.specs.Prelude.{All, IfOk, OnOk, OnErr, option_to_list};
 ghost use Rattle.floor_core.specs.Job.{posts};
 
 use dev_core::Post;
@@ -30,13 +31,20 @@ fn add(posts: &mut Vec<Post>, next: Option<Post>) -> Result<(), NoMemory>
 }
 
 impl Toy {
-    pub fn new(alloc: Global, slots: Vec<Option<Post>>) -> Toy {
+    pub fn new(alloc: Global, slots: Vec<Option<Post>>) -> Toy
+        ensures { result.unsent.items ≡ [] }
+    {
         Toy {
             slots,
             at: 0,
             unsent: Vec::new(alloc),
             sent: Vec::new(alloc),
         }
+    }
+
+    /// How many slots are taken.
+    pub fn taken(&self) -> u64 {
+        self.at as u64
     }
 
     /// What the next slot makes.
@@ -106,4 +114,16 @@ impl Job for Toy {
     ghost adds = { λ s l a b _. add_assoc s a b };
 
     ghost rests = { λ s l. add-zero s };
+}
+
+/// Toys that have so many slots and make no posts.
+pub fn toys(alloc: Global, slots: &[usize]) -> Result<Vec<Toy>, NoMemory>
+    ensures count { IfOk result (λ toys. length toys.items ≡ length slots.now) }
+    ensures sent { IfOk result (λ toys. All (λ toy. toy.unsent.items ≡ []) toys.items) }
+{
+    let mut toys = Vec::new(alloc);
+    for count in slots {
+        toys.push(Toy::new(alloc, vec![in alloc; None; *count]?))?;
+    }
+    Ok(toys)
 }

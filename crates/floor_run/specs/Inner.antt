@@ -1,0 +1,4 @@
+pub mod Close
+pub mod Hand
+pub mod Round
+pub mod Steps

@@ -1,0 +1,15 @@
+//! What is passed before a turn.
+use lab_num::BoardNo;
+
+/// Is entered before the first slot of each turn, by whoever takes the turn. It may wait.
+pub trait Gate: Sync {
+    fn enter(&self, board: BoardNo);
+}
+
+/// A gate that lets everyone pass at once.
+#[derive(Clone, Copy, Debug)]
+pub struct NoGate;
+
+impl Gate for NoGate {
+    fn enter(&self, _board: BoardNo) {}
+}
