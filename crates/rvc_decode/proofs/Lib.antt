@@ -1,0 +1,6 @@
+-- The lemmas of this crate.
+pub mod Masks
+pub mod Rows
+pub mod Sole
+pub mod Encodings
+pub mod Valid
