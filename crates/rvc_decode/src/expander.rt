@@ -184,10 +184,11 @@ fn quadrant_1(half: u32, funct3: u32) -> Option<Instr>
 fn load_from_stack(half: u32) -> Option<Instr>
     ensures { result ≡ expansion_by 2 2 half }
 {
-    match rd(half) {
-        0 => None,
-        rd => Some(with_immediate(Op::Lw, rd, STACK, immediate_lwsp(half))),
+    let rd = rd(half);
+    if rd == 0 {
+        return None;
     }
+    Some(with_immediate(Op::Lw, rd, STACK, immediate_lwsp(half)))
 }
 
 /// C.JR and C.MV.
