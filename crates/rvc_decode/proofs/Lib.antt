@@ -4,3 +4,4 @@ pub mod Rows
 pub mod Sole
 pub mod Encodings
 pub mod Valid
+mod KnownHalves

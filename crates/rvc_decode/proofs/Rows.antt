@@ -45,7 +45,8 @@ whole_field :
 whole_field half mask bits low count fits whole =
     let is = eqb-true (field mask low count) (2 ^ count - 1) whole in
     ap (λ v. v == field bits low count)
-    (field_and half mask low count ∙ (ap (bit_and (field half low count)) is ∙ all_bits (field half low count) count fits))
+    (field_and half mask low count ∙
+    (ap (bit_and (field half low count)) is ∙ all_bits (field half low count) count fits))
 
 -- the test of five bits from bit 7 or bit 2 on
 five_7 :

@@ -8,7 +8,8 @@ use Rattle.std.proofs.lemmas.Bool.{eqb-true, eq-eqb, and_parts, false_from_ne_tr
 use Rattle.std.proofs.lemmas.List.Sums.{sum_by-cons}
 use Rattle.rv_decode.specs.Immediate.{field}
 use Rattle.rvc_decode.specs.Immediate.{immediate_of}
-use Rattle.rvc_decode.specs.Table.{Condition, Always, ImmNot0, RdNot0, Rs2Not0, RdNot2ImmNot0, Row, meets, matches, table}
+use Rattle.rvc_decode.specs.Table.{Condition, Always, ImmNot0, RdNot0, Rs2Not0, RdNot2ImmNot0, Row, meets, matches}
+use Rattle.rvc_decode.specs.Table.{table}
 use Rattle.rvc_decode.proofs.Masks.{field_and, all_bits}
 
 -- the order of two masks is free

@@ -13,10 +13,13 @@ use Rattle.rv_decode.specs.Immediate.{field, sign_extended}
 use Rattle.rv_decode.specs.Table.{row as word_row, table as words}
 use Rattle.rv_decode.specs.Means.{IsValid}
 use Rattle.rvc_decode.specs.Immediate.{Immediate, immediate_of, imm_none, imm_addi4spn, imm_word}
-use Rattle.rvc_decode.specs.Immediate.{imm_small, imm_jump, imm_addi16sp, imm_lui, imm_shift, imm_branch, imm_lwsp, imm_swsp}
-use Rattle.rvc_decode.specs.Table.{Register, X0, X1, X2, Rd, Rs2, Rd', Rs2', Always, Row, row, table, matches, matched_row}
+use Rattle.rvc_decode.specs.Immediate.{imm_small, imm_jump, imm_addi16sp, imm_lui, imm_shift, imm_branch, imm_lwsp}
+use Rattle.rvc_decode.specs.Immediate.{imm_swsp}
+use Rattle.rvc_decode.specs.Table.{Register, X0, X1, X2, Rd, Rs2, Rd', Rs2', Always, Row, row, table, matches}
+use Rattle.rvc_decode.specs.Table.{matched_row}
 use Rattle.rvc_decode.specs.Means.{number_of, expanded, expansion}
-use Rattle.rvc_decode.proofs.Encodings.{Laws, valid_r, valid_i, valid_shift, valid_s, valid_b, valid_u, valid_j, valid_fixed}
+use Rattle.rvc_decode.proofs.Encodings.{Laws, valid_r, valid_i, valid_shift, valid_s, valid_b, valid_u, valid_j}
+use Rattle.rvc_decode.proofs.Encodings.{valid_fixed}
 
 number_fits : (r : Register) (half : ℕ) → number_of r half < 32
 number_fits X0 half = lit< tt

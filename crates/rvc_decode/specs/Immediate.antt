@@ -16,10 +16,11 @@ pub data Immediate : Type 0 where
   Unsigned : List Bits → Immediate
   Signed : ℕ → List Bits → Immediate
 
--- the number that the bits of a half-word make
+-- the number that these bits of a half-word make
 abbrev pub gathered : List Bits → ℕ → ℕ
 gathered [] half = 0
-gathered (b ∷ places) half = field half (b.from - (b.high - b.low)) (b.high - b.low + 1) * 2 ^ b.low + gathered places half
+gathered (b ∷ places) half =
+    field half (b.from - (b.high - b.low)) (b.high - b.low + 1) * 2 ^ b.low + gathered places half
 
 -- the immediate of a half-word, as 32 bits
 abbrev pub immediate_of : Immediate → ℕ → ℕ

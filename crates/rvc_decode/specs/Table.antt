@@ -38,37 +38,35 @@ row mask bits condition op rd rs1 rs2 imm =
 -- all rows: mask, bits, condition, and the instruction with rd, rs1, rs2 and immediate. A field that it lacks is 0.
 abbrev pub table : List Row
 table =
-    -- quadrant 0 (table 16.5): C.ADDI4SPN, C.LW, C.SW
-    row 0xE003 0x0000 ImmNot0 Addi Rs2' X2 X0 imm_addi4spn ∷
-    row 0xE003 0x4000 Always Lw Rs2' Rd' X0 imm_word ∷
-    row 0xE003 0xC000 Always Sw X0 Rd' Rs2' imm_word ∷
-    -- quadrant 1 (table 16.6): C.ADDI with C.NOP, C.JAL, C.LI, C.ADDI16SP, C.LUI
-    row 0xE003 0x0001 Always Addi Rd Rd X0 imm_small ∷
-    row 0xE003 0x2001 Always Jal X1 X0 X0 imm_jump ∷
-    row 0xE003 0x4001 Always Addi Rd X0 X0 imm_small ∷
-    row 0xEF83 0x6101 ImmNot0 Addi X2 X2 X0 imm_addi16sp ∷
-    row 0xE003 0x6001 RdNot2ImmNot0 Lui Rd X0 X0 imm_lui ∷
-    -- C.SRLI, C.SRAI, C.ANDI, C.SUB, C.XOR, C.OR, C.AND
-    row 0xFC03 0x8001 Always Srli Rd' Rd' X0 imm_shift ∷
-    row 0xFC03 0x8401 Always Srai Rd' Rd' X0 imm_shift ∷
-    row 0xEC03 0x8801 Always Andi Rd' Rd' X0 imm_small ∷
-    row 0xFC63 0x8C01 Always Sub Rd' Rd' Rs2' imm_none ∷
-    row 0xFC63 0x8C21 Always Xor Rd' Rd' Rs2' imm_none ∷
-    row 0xFC63 0x8C41 Always Or Rd' Rd' Rs2' imm_none ∷
-    row 0xFC63 0x8C61 Always And Rd' Rd' Rs2' imm_none ∷
-    -- C.J, C.BEQZ, C.BNEZ
-    row 0xE003 0xA001 Always Jal X0 X0 X0 imm_jump ∷
-    row 0xE003 0xC001 Always Beq X0 Rd' X0 imm_branch ∷
-    row 0xE003 0xE001 Always Bne X0 Rd' X0 imm_branch ∷
-    -- quadrant 2 (table 16.7): C.SLLI, C.LWSP, C.JR, C.MV, C.EBREAK, C.JALR, C.ADD, C.SWSP
-    row 0xF003 0x0002 Always Slli Rd Rd X0 imm_shift ∷
-    row 0xE003 0x4002 RdNot0 Lw Rd X2 X0 imm_lwsp ∷
-    row 0xF07F 0x8002 RdNot0 Jalr X0 Rd X0 imm_none ∷
-    row 0xF003 0x8002 Rs2Not0 Add Rd X0 Rs2 imm_none ∷
-    row 0xFFFF 0x9002 Always Ebreak X0 X0 X0 imm_none ∷
-    row 0xF07F 0x9002 RdNot0 Jalr X1 Rd X0 imm_none ∷
-    row 0xF003 0x9002 Rs2Not0 Add Rd Rd Rs2 imm_none ∷
-    row 0xE003 0xC002 Always Sw X0 X2 Rs2 imm_swsp ∷
+    -- quadrant 0 (table 16.5)
+    row 0xE003 0x0000 ImmNot0 Addi Rs2' X2 X0 imm_addi4spn ∷  -- C.ADDI4SPN
+    row 0xE003 0x4000 Always Lw Rs2' Rd' X0 imm_word ∷  -- C.LW
+    row 0xE003 0xC000 Always Sw X0 Rd' Rs2' imm_word ∷  -- C.SW
+    -- quadrant 1 (table 16.6)
+    row 0xE003 0x0001 Always Addi Rd Rd X0 imm_small ∷  -- C.ADDI, C.NOP
+    row 0xE003 0x2001 Always Jal X1 X0 X0 imm_jump ∷  -- C.JAL
+    row 0xE003 0x4001 Always Addi Rd X0 X0 imm_small ∷  -- C.LI
+    row 0xEF83 0x6101 ImmNot0 Addi X2 X2 X0 imm_addi16sp ∷  -- C.ADDI16SP
+    row 0xE003 0x6001 RdNot2ImmNot0 Lui Rd X0 X0 imm_lui ∷  -- C.LUI
+    row 0xFC03 0x8001 Always Srli Rd' Rd' X0 imm_shift ∷  -- C.SRLI
+    row 0xFC03 0x8401 Always Srai Rd' Rd' X0 imm_shift ∷  -- C.SRAI
+    row 0xEC03 0x8801 Always Andi Rd' Rd' X0 imm_small ∷  -- C.ANDI
+    row 0xFC63 0x8C01 Always Sub Rd' Rd' Rs2' imm_none ∷  -- C.SUB
+    row 0xFC63 0x8C21 Always Xor Rd' Rd' Rs2' imm_none ∷  -- C.XOR
+    row 0xFC63 0x8C41 Always Or Rd' Rd' Rs2' imm_none ∷  -- C.OR
+    row 0xFC63 0x8C61 Always And Rd' Rd' Rs2' imm_none ∷  -- C.AND
+    row 0xE003 0xA001 Always Jal X0 X0 X0 imm_jump ∷  -- C.J
+    row 0xE003 0xC001 Always Beq X0 Rd' X0 imm_branch ∷  -- C.BEQZ
+    row 0xE003 0xE001 Always Bne X0 Rd' X0 imm_branch ∷  -- C.BNEZ
+    -- quadrant 2 (table 16.7)
+    row 0xF003 0x0002 Always Slli Rd Rd X0 imm_shift ∷  -- C.SLLI
+    row 0xE003 0x4002 RdNot0 Lw Rd X2 X0 imm_lwsp ∷  -- C.LWSP
+    row 0xF07F 0x8002 RdNot0 Jalr X0 Rd X0 imm_none ∷  -- C.JR
+    row 0xF003 0x8002 Rs2Not0 Add Rd X0 Rs2 imm_none ∷  -- C.MV
+    row 0xFFFF 0x9002 Always Ebreak X0 X0 X0 imm_none ∷  -- C.EBREAK
+    row 0xF07F 0x9002 RdNot0 Jalr X1 Rd X0 imm_none ∷  -- C.JALR
+    row 0xF003 0x9002 Rs2Not0 Add Rd Rd Rs2 imm_none ∷  -- C.ADD
+    row 0xE003 0xC002 Always Sw X0 X2 Rs2 imm_swsp ∷  -- C.SWSP
     []
 
 -- whether a half-word with this immediate meets the condition

@@ -157,7 +157,8 @@ fn jump(rd: u8, half: u32) -> Instr
 /// A branch, by a comparison with 0.
 #[inline(always)]
 fn branch(op: Op, half: u32) -> Instr
-    ensures { result ≡ record { op = op; rd = 0; rs1 = 8 + field half 7 3; rs2 = 0; imm = immediate_of imm_branch half } }
+    ensures { let rs1 = 8 + field half 7 3 in
+        result ≡ record { op = op; rd = 0; rs1 = rs1; rs2 = 0; imm = immediate_of imm_branch half } }
 {
     with_immediate(op, 0, rd_short(half), immediate_branch(half))
 }
