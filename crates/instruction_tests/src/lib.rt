@@ -1,4 +1,4 @@
-//! Tests of the decoder, the assembler, a hart and single instructions.
+//! Tests of the decoders, the assembler, a hart and single instructions.
 #![tactic(auto)]
 
 #[cfg(test)]
@@ -7,6 +7,8 @@ mod assembler;
 mod decoder;
 #[cfg(test)]
 mod encoder;
+#[cfg(test)]
+mod half_words;
 #[cfg(test)]
 mod hart;
 #[cfg(test)]
