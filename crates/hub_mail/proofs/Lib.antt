@@ -1,0 +1,7 @@
+mod Arrival
+mod Begins
+mod Drains
+mod Gathered
+mod Keeps
+mod OfBoard
+mod Places

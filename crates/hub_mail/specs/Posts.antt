@@ -1,0 +1,16 @@
+-- Posts by board and by number.
+use Rattle.std.specs.Prelude.{ℕ, ◌<◌, ◌==◌, List, filter, AllPairs, IfSome, None}
+use Rattle.std.specs.List.{last_or}
+use Rattle.dev_core.specs.declared.post.Post.{Post}
+
+-- the posts of one board, in order
+abbrev pub of_board : ℕ → List Post → List Post
+of_board board posts = filter (λ p. p.key.board.0 == board) posts
+
+-- each post has a lower number than all that follow it
+abbrev pub RiseByNumber : List Post → Type 0
+RiseByNumber posts = AllPairs (λ a b. a.key.number.0 < b.key.number.0) posts
+
+-- the number is above that of the last post, if there is one
+abbrev pub IsAbove : ℕ → List Post → Type 0
+IsAbove number posts = IfSome (last_or None posts) (λ last. last.key.number.0 < number)

@@ -1,0 +1,12 @@
+//! The mailbox of a round: each board posts by a pass of its own, from whatever thread has it, and
+//! one boss takes all posts out. What is taken out of each board is what its pass has posted, in
+//! order.
+#![tactic(auto)]
+
+mod laws;
+mod mail;
+mod rule;
+mod view;
+
+pub use laws::arrival_laws;
+pub use mail::{Boss, Mail, Pass};
