@@ -10,8 +10,6 @@ use Rattle.std.proofs.lemmas.Slice.Eq.{bytes_eq-Decides}
 use Rattle.std.specs.List.{list_all, list_any, flat_map}
 use Rattle.std.specs.Option.{option_map}
 use Rattle.std.specs.Str.{bytes_eq}
-use Rattle.repl_read.specs.Entries.{is_entry, is_head, are_items}
-use Rattle.repl_read.specs.Words.{is_name, is_dotted_name}
 use Rattle.repl_read.specs.declared.entry.Entry.{Entry}
 use Rattle.repl_read.specs.declared.entry.Head.{Head}
 use Rattle.repl_read.specs.declared.entry.Head.TheVariants.{Using, Typed, Update}
@@ -30,7 +28,7 @@ use Rattle.repl_build.specs.declared.types.PeripheralType.TheVariants.{Cpu, Memo
 use Rattle.repl_build.specs.Counts.{count_of, has_type}
 use Rattle.repl_build.specs.First.{first_fault}
 use Rattle.repl_build.specs.Merge.{peripheral_by, peripheral_of, merged}
-use Rattle.repl_build.specs.Names.{types_name, is_typed, repeats_name, repeated_in, repeated}
+use Rattle.repl_build.specs.Names.{is_named, are_named, types_name, is_typed, repeats_name, repeated_in, repeated}
 use Rattle.repl_build.specs.Numbers.{devices_of, what_of}
 use Rattle.repl_build.specs.Plan.{each, name_by, name_of, region_by, region_of, first_with, cpu_name_in, cpu_name_of}
 use Rattle.repl_build.specs.Types.{is_type}
@@ -370,19 +368,19 @@ distinct entries none = distinct_from entries [] entries none
 
 -- names have their form
 good_entry :
-    (all : List Entry) (e : Entry) (head : Head) → is_head head ≡ true →
+    (all : List Entry) (e : Entry) (head : Head) → is_named head ≡ true →
     list_all (λ p. is_entry_name p.name) (peripheral_by all e head) ≡ true
 good_entry all e (Using file) good = refl
 good_entry all e (Update n) good = refl
-good_entry all e (Typed n kind at) good = both_true _ _ (and_true (is_name n) (is_dotted_name kind) good).0 refl
+good_entry all e (Typed n kind at) good = both_true _ _ good refl
 
-good_merged : (all xs : List Entry) → list_all is_entry xs ≡ true →
+good_merged : (all xs : List Entry) → are_named xs ≡ true →
     list_all (λ p. is_entry_name p.name) (flat_map (peripheral_of all) xs) ≡ true
 good_merged all [] good = refl
 good_merged all (e ∷ es) good =
-    let parts = and_true (is_entry e) (list_all is_entry es) good in
+    let parts = and_true (is_named e.head) (are_named es) good in
     all_append _ (peripheral_of all e) (flat_map (peripheral_of all) es)
-    (good_entry all e e.head (and_true (is_head e.head) (are_items e.items) parts.0).0) (good_merged all es parts.1)
+    (good_entry all e e.head parts.0) (good_merged all es parts.1)
 
 good_names : (before xs : List Peripheral) → list_all (λ p. is_entry_name p.name) xs ≡ true →
     are_names (each name_of before xs) ≡ true
@@ -396,6 +394,6 @@ good_names before (p ∷ ps) good =
     one None good = refl
     one (Some what) good = both_true _ _ good refl
 
-pub names_good : (entries : List Entry) → list_all is_entry entries ≡ true →
+pub names_good : (entries : List Entry) → are_named entries ≡ true →
     are_names (each name_of [] (merged entries)) ≡ true
 names_good entries good = good_names [] (merged entries) (good_merged entries entries good)

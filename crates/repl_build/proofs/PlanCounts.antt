@@ -8,7 +8,7 @@ use Rattle.std.proofs.lemmas.List.Sums.{sum_by-cons, sum_by_push}
 use Rattle.std.specs.List.{cons_option, sum_by}
 use Rattle.dev_core.specs.declared.kind.Kind.{Kind}
 use Rattle.dev_core.specs.declared.kind.Kind.TheVariants as device
-use Rattle.sys_bus.specs.declared.limits.TheConstants.{MOST_MEMORY}
+use Rattle.sys_bus.specs.Limits.{most_memory}
 use Rattle.sys_bus.specs.declared.plan.Named.{Named}
 use Rattle.sys_bus.specs.declared.region.Region.{Region}
 use Rattle.sys_bus.specs.declared.region.RegionKind.{RegionKind}
@@ -61,22 +61,22 @@ memories_sum (p ∷ ps) =
     ] whole
 
 memory_more :
-    (b : Bool) (bytes size before : ℕ) → bytes ≡ cond {A = ℕ} b size 0 → before ≤ MOST_MEMORY →
-    (b && nat_lt MOST_MEMORY (bytes + before)) ≡ false → before + bytes ≤ MOST_MEMORY
+    (b : Bool) (bytes size before : ℕ) → bytes ≡ cond {A = ℕ} b size 0 → before ≤ most_memory →
+    (b && nat_lt most_memory (bytes + before)) ≡ false → before + bytes ≤ most_memory
 memory_more true bytes size before is few fits = grind (arith, nat_tests)
 memory_more false bytes size before is few fits = omega (arith, is, few)
 
 memory_within :
-    (all before xs : List Peripheral) → sum_by bytes_of before ≤ MOST_MEMORY → Sound all before xs →
-    sum_by bytes_of (before ++ xs) ≤ MOST_MEMORY
+    (all before xs : List Peripheral) → sum_by bytes_of before ≤ most_memory → Sound all before xs →
+    sum_by bytes_of (before ++ xs) ≤ most_memory
 memory_within all before [] few sound = rw append-nil few
 memory_within all before (p ∷ ps) few sound =
-    let more : sum_by bytes_of (before ++ p ∷ []) ≤ MOST_MEMORY =
+    let more : sum_by bytes_of (before ++ p ∷ []) ≤ most_memory =
     rw (sum_by_push bytes_of before p)
     (memory_more (is_type Memory p.kind) (bytes_of p) (size_of p) (sum_by bytes_of before) refl few sound.0.few) in
     rw (← append_assoc before (p ∷ []) ps) (memory_within all (before ++ p ∷ []) ps more sound.1)
 
-pub few_bytes : (all : List Peripheral) → Sound all [] all → sum_by bytes_of all ≤ MOST_MEMORY
+pub few_bytes : (all : List Peripheral) → Sound all [] all → sum_by bytes_of all ≤ most_memory
 few_bytes all sound = memory_within all [] all (omega arith) sound
 
 -- a type that is there is counted

@@ -7,7 +7,7 @@ use Rattle.dev_core.specs.declared.kind.Kind.{Kind}
 use Rattle.dev_core.specs.declared.kind.Kind.TheVariants as device
 use Rattle.repl_read.specs.declared.entry.Place.{Place}
 use Rattle.repl_read.specs.declared.entry.Place.TheVariants.{Absent, Bus, Address, Range}
-use Rattle.sys_bus.specs.declared.limits.TheConstants.{PAGE_SIZE, REGION_UNIT}
+use Rattle.sys_bus.specs.Limits.{page_size, region_unit}
 use Rattle.sys_bus.specs.declared.plan.NamedWhat.{NamedWhat}
 use Rattle.sys_bus.specs.declared.plan.NamedWhat.TheVariants as what
 use Rattle.sys_bus.specs.declared.region.RegionKind.{RegionKind}
@@ -36,7 +36,7 @@ and_true true b is = (refl, is)
 and_true false b is = absurd (cc)
 
 record IsPlaced (t : Option PeripheralType) (at : Place) (items : List PlacedItem) : Type 0 where
-  base : (base_at at % REGION_UNIT == 0) ≡ true
+  base : (base_at at % region_unit == 0) ≡ true
   unit : is_unit t (size_at (usual_size t items) at) ≡ true
   least : nat_le (least_of t (step_of t items)) (size_at (usual_size t items) at) ≡ true
 
@@ -55,49 +55,49 @@ placed (Some Cpu) at items before part is memory registered good = absurd (cc)
 placed (Some Memory) Absent items before part is memory registered good = absurd (cc)
 placed (Some Memory) Bus items before part is memory registered good = absurd (cc)
 placed (Some Memory) (Range base size) items before part is memory registered good =
-    let first = and_true ((base % REGION_UNIT == 0) && is_unit (Some Memory) size) _ good in
-    let second = and_true (base % REGION_UNIT == 0) (is_unit (Some Memory) size) first.0 in
+    let first = and_true ((base % region_unit == 0) && is_unit (Some Memory) size) _ good in
+    let second = and_true (base % region_unit == 0) (is_unit (Some Memory) size) first.0 in
     record { base = second.0; unit = second.1; least = first.1 }
 placed (Some Memory) (Address base) items before part is memory registered good =
-    let size = and_true (number_of (codes "size") 0 items % PAGE_SIZE == 0) _ (memory refl refl) in
+    let size = and_true (number_of (codes "size") 0 items % page_size == 0) _ (memory refl refl) in
     record { base = good; unit = size.0; least = size.1 }
 placed (Some Clint) Absent items before part is memory registered good = absurd (cc)
 placed (Some Clint) Bus items before part is memory registered good = absurd (cc)
 placed (Some Clint) (Range base size) items before part is memory registered good =
-    let first = and_true ((base % REGION_UNIT == 0) && is_unit (Some Clint) size) _ good in
-    let second = and_true (base % REGION_UNIT == 0) (is_unit (Some Clint) size) first.0 in
+    let first = and_true ((base % region_unit == 0) && is_unit (Some Clint) size) _ good in
+    let second = and_true (base % region_unit == 0) (is_unit (Some Clint) size) first.0 in
     record { base = second.0; unit = second.1; least = first.1 }
 placed (Some Clint) (Address base) items before part is memory registered good =
     record { base = good; unit = refl; least = refl }
 placed (Some Plic) Absent items before part is memory registered good = absurd (cc)
 placed (Some Plic) Bus items before part is memory registered good = absurd (cc)
 placed (Some Plic) (Range base size) items before part is memory registered good =
-    let first = and_true ((base % REGION_UNIT == 0) && is_unit (Some Plic) size) _ good in
-    let second = and_true (base % REGION_UNIT == 0) (is_unit (Some Plic) size) first.0 in
+    let first = and_true ((base % region_unit == 0) && is_unit (Some Plic) size) _ good in
+    let second = and_true (base % region_unit == 0) (is_unit (Some Plic) size) first.0 in
     record { base = second.0; unit = second.1; least = first.1 }
 placed (Some Plic) (Address base) items before part is memory registered good =
     record { base = good; unit = refl; least = refl }
 placed (Some Uart) Absent items before part is memory registered good = absurd (cc)
 placed (Some Uart) Bus items before part is memory registered good = absurd (cc)
 placed (Some Uart) (Range base size) items before part is memory registered good =
-    let first = and_true ((base % REGION_UNIT == 0) && is_unit (Some Uart) size) _ good in
-    let second = and_true (base % REGION_UNIT == 0) (is_unit (Some Uart) size) first.0 in
+    let first = and_true ((base % region_unit == 0) && is_unit (Some Uart) size) _ good in
+    let second = and_true (base % region_unit == 0) (is_unit (Some Uart) size) first.0 in
     record { base = second.0; unit = second.1; least = first.1 }
 placed (Some Uart) (Address base) items before part is memory registered good =
     record { base = good; unit = refl; least = wide (is_set (codes "wideRegisters") items) }
 placed (Some Can) Absent items before part is memory registered good = absurd (cc)
 placed (Some Can) Bus items before part is memory registered good = absurd (cc)
 placed (Some Can) (Range base size) items before part is memory registered good =
-    let first = and_true ((base % REGION_UNIT == 0) && is_unit (Some Can) size) _ good in
-    let second = and_true (base % REGION_UNIT == 0) (is_unit (Some Can) size) first.0 in
+    let first = and_true ((base % region_unit == 0) && is_unit (Some Can) size) _ good in
+    let second = and_true (base % region_unit == 0) (is_unit (Some Can) size) first.0 in
     record { base = second.0; unit = second.1; least = first.1 }
 placed (Some Can) (Address base) items before part is memory registered good =
     record { base = good; unit = refl; least = refl }
 placed (Some Finisher) Absent items before part is memory registered good = absurd (cc)
 placed (Some Finisher) Bus items before part is memory registered good = absurd (cc)
 placed (Some Finisher) (Range base size) items before part is memory registered good =
-    let first = and_true ((base % REGION_UNIT == 0) && is_unit (Some Finisher) size) _ good in
-    let second = and_true (base % REGION_UNIT == 0) (is_unit (Some Finisher) size) first.0 in
+    let first = and_true ((base % region_unit == 0) && is_unit (Some Finisher) size) _ good in
+    let second = and_true (base % region_unit == 0) (is_unit (Some Finisher) size) first.0 in
     record { base = second.0; unit = second.1; least = first.1 }
 placed (Some Finisher) (Address base) items before part is memory registered good =
     record { base = good; unit = refl; least = refl }

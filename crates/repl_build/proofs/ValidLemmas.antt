@@ -2,13 +2,11 @@
 use Rattle.std.proofs.Common.{◌≡◌, ℕ, ◌≤◌, ◌∙◌, true, ◌&&◌, refl, sym, List, Option, None, Some, Result, Ok, Err}
 use Rattle.std.proofs.Common.{nat_le, length, sum, arith, [], IfOk, IsTrue}
 use Rattle.std.proofs.lemmas.Bool.Decides.{nat_tests}
-use Rattle.std.specs.List.{list_all}
 use Rattle.std.specs.Option.{option_map}
 use Rattle.dev_core.specs.declared.kind.Kind.TheVariants as device
-use Rattle.repl_read.specs.Entries.{is_entry}
 use Rattle.repl_read.specs.declared.entry.Entry.{Entry}
 use Rattle.repl_read.specs.declared.fault.PlatFault.{PlatFault}
-use Rattle.sys_bus.specs.declared.limits.TheConstants.{MOST_MEMORY}
+use Rattle.sys_bus.specs.Limits.{most_memory}
 use Rattle.sys_bus.specs.declared.plan.BoardPlan.{BoardPlan}
 use Rattle.sys_bus.specs.declared.wire.Wire.{Wire}
 use Rattle.sys_bus.specs.Limits as limit
@@ -17,7 +15,7 @@ use Rattle.repl_build.specs.declared.merge.Peripheral.{Peripheral}
 use Rattle.repl_build.specs.declared.types.PeripheralType.TheVariants.{Cpu, Memory, Clint, Plic, Uart, Can, Finisher}
 use Rattle.repl_build.specs.Counts.{count_of, has_type}
 use Rattle.repl_build.specs.Merge.{merged}
-use Rattle.repl_build.specs.Names.{repeated, untyped}
+use Rattle.repl_build.specs.Names.{are_named, repeated, untyped}
 use Rattle.repl_build.specs.Plan.{memories_of, kinds_of, first_with, clint_frequency, plic_size_of}
 use Rattle.repl_build.specs.Plan.{speed_in, wires_of, plan_with, tested, built, Gives}
 use Rattle.repl_build.proofs.CountLemmas.{few_of}
@@ -79,10 +77,10 @@ memories_few all keeps there =
     both_true _ _
     (both_true _ _ (at_most 1 (length (memories_of all)) (omega (arith, some, count)))
     (at_most (length (memories_of all)) 8 (omega (arith, few, count))))
-    (at_most (sum (memories_of all)) MOST_MEMORY (omega (arith, bytes, total)))
+    (at_most (sum (memories_of all)) most_memory (omega (arith, bytes, total)))
 
 plan_valid :
-    (entries : List Entry) (wires : List Wire) → list_all is_entry entries ≡ true → repeated entries ≡ None →
+    (entries : List Entry) (wires : List Wire) → are_named entries ≡ true → repeated entries ≡ None →
     Keeps (merged entries) → wires_of (merged entries) ≡ Ok wires → IsValid (plan_with (merged entries) wires)
 plan_valid entries wires good once keeps is =
     let all = merged entries in
@@ -113,7 +111,7 @@ plan_valid entries wires good once keeps is =
     }
 
 built_valid :
-    (entries : List Entry) (plan : BoardPlan) → list_all is_entry entries ≡ true → built entries ≡ Ok plan →
+    (entries : List Entry) (plan : BoardPlan) → are_named entries ≡ true → built entries ≡ Ok plan →
     IsValid plan
 unfolding built
 built_valid entries plan good is =
@@ -127,6 +125,6 @@ built_valid entries plan good is =
 -- what is given is valid
 pub given_valid :
     (entries : List Entry) (result : Result BoardPlan PlatFault) → Gives result (built entries) →
-    IsTrue (list_all is_entry entries) → IfOk result IsValid
+    IsTrue (are_named entries) → IfOk result IsValid
 given_valid entries (Ok plan) is good = built_valid entries plan good is
 given_valid entries (Err fault) is good = tt
