@@ -95,73 +95,53 @@ counted_type k (p ∷ ps) is =
 uart_kind : (t : Option PeripheralType) (kinds : List Kind) →
     limit.count_of (cons_option (kind_by t) kinds) device.Uart ≡ cond {A = ℕ}
     (is_type Uart t) 1 0 + limit.count_of kinds device.Uart
-uart_kind None kinds = omega arith
-uart_kind (Some Cpu) kinds = omega arith
-uart_kind (Some Memory) kinds = omega arith
-uart_kind (Some Clint) kinds = omega arith
-uart_kind (Some Plic) kinds = omega arith
 uart_kind (Some Uart) kinds = count_cons (limit.is_kind device.Uart) device.Uart kinds
 uart_kind (Some Can) kinds = count_cons (limit.is_kind device.Uart) device.Can kinds
 uart_kind (Some Finisher) kinds = count_cons (limit.is_kind device.Uart) device.Finisher kinds
+uart_kind _ kinds = omega arith
 
 finisher_kind : (t : Option PeripheralType) (kinds : List Kind) →
     limit.count_of (cons_option (kind_by t) kinds) device.Finisher ≡ cond {A = ℕ}
     (is_type Finisher t) 1 0 + limit.count_of kinds device.Finisher
-finisher_kind None kinds = omega arith
-finisher_kind (Some Cpu) kinds = omega arith
-finisher_kind (Some Memory) kinds = omega arith
-finisher_kind (Some Clint) kinds = omega arith
-finisher_kind (Some Plic) kinds = omega arith
 finisher_kind (Some Uart) kinds = count_cons (limit.is_kind device.Finisher) device.Uart kinds
 finisher_kind (Some Can) kinds = count_cons (limit.is_kind device.Finisher) device.Can kinds
 finisher_kind (Some Finisher) kinds = count_cons (limit.is_kind device.Finisher) device.Finisher kinds
+finisher_kind _ kinds = omega arith
 
 can_kind : (t : Option PeripheralType) (kinds : List Kind) →
     limit.count_of (cons_option (kind_by t) kinds) device.Can ≡ cond {A = ℕ}
     (is_type Can t) 1 0 + limit.count_of kinds device.Can
-can_kind None kinds = omega arith
-can_kind (Some Cpu) kinds = omega arith
-can_kind (Some Memory) kinds = omega arith
-can_kind (Some Clint) kinds = omega arith
-can_kind (Some Plic) kinds = omega arith
 can_kind (Some Uart) kinds = count_cons (limit.is_kind device.Can) device.Uart kinds
 can_kind (Some Can) kinds = count_cons (limit.is_kind device.Can) device.Can kinds
 can_kind (Some Finisher) kinds = count_cons (limit.is_kind device.Can) device.Finisher kinds
+can_kind _ kinds = omega arith
+
+devices_counted :
+    (kind : Kind) (k : PeripheralType) → ((t : Option PeripheralType) (kinds : List Kind) →
+    limit.count_of (cons_option (kind_by t) kinds) kind
+    ≡ cond {A = ℕ} (is_type k t) 1 0 + limit.count_of kinds kind) → (all : List Peripheral) →
+    limit.count_of (kinds_of all) kind ≡ count_of all k
+devices_counted kind k one [] = refl
+devices_counted kind k one (p ∷ ps) =
+    let rest = devices_counted kind k one ps in
+    let here = one p.kind (kinds_of ps) in
+    let sum = count_cons (λ q. is_type k q.kind) p ps in
+    omega (arith, rest, here, sum)
 
 pub uarts_count : (all : List Peripheral) → limit.count_of (kinds_of all) device.Uart ≡ count_of all Uart
-uarts_count [] = refl
-uarts_count (p ∷ ps) =
-    let rest = uarts_count ps in
-    let one = uart_kind p.kind (kinds_of ps) in
-    let sum = count_cons (λ q. is_type Uart q.kind) p ps in
-    omega (arith, rest, one, sum)
+uarts_count = devices_counted device.Uart Uart uart_kind
 
 pub finishers_count : (all : List Peripheral) → limit.count_of (kinds_of all) device.Finisher ≡ count_of all Finisher
-finishers_count [] = refl
-finishers_count (p ∷ ps) =
-    let rest = finishers_count ps in
-    let one = finisher_kind p.kind (kinds_of ps) in
-    let sum = count_cons (λ q. is_type Finisher q.kind) p ps in
-    omega (arith, rest, one, sum)
+finishers_count = devices_counted device.Finisher Finisher finisher_kind
 
 pub cans_count : (all : List Peripheral) → limit.count_of (kinds_of all) device.Can ≡ count_of all Can
-cans_count [] = refl
-cans_count (p ∷ ps) =
-    let rest = cans_count ps in
-    let one = can_kind p.kind (kinds_of ps) in
-    let sum = count_cons (λ q. is_type Can q.kind) p ps in
-    omega (arith, rest, one, sum)
+cans_count = devices_counted device.Can Can can_kind
 
 device_length : (t : Option PeripheralType) (kinds : List Kind) →
     length (cons_option (kind_by t) kinds) ≡ cond {A = ℕ} (is_device t) 1 0 + length kinds
 device_length None kinds = omega arith
 device_length (Some Cpu) kinds = omega arith
-device_length (Some Memory) kinds = omega arith
-device_length (Some Clint) kinds = omega arith
-device_length (Some Plic) kinds = omega arith
-device_length (Some Uart) kinds = omega arith
-device_length (Some Can) kinds = omega arith
-device_length (Some Finisher) kinds = omega arith
+device_length _ kinds = omega arith
 
 pub devices_count : (all : List Peripheral) → length (kinds_of all) ≡ devices_of all
 devices_count [] = refl

@@ -11,6 +11,7 @@ use Rattle.sys_bus.specs.declared.plan.BoardPlan.{BoardPlan}
 use Rattle.sys_bus.specs.declared.wire.Wire.{Wire}
 use Rattle.sys_bus.specs.Limits as limit
 use Rattle.sys_bus.specs.Plan.{IsValid}
+use Rattle.sys_bus.specs.Region.{are_apart}
 use Rattle.repl_build.specs.declared.merge.Peripheral.{Peripheral}
 use Rattle.repl_build.specs.declared.types.PeripheralType.TheVariants.{Cpu, Memory, Clint, Plic, Uart, Can, Finisher}
 use Rattle.repl_build.specs.Counts.{count_of, has_type}
@@ -110,17 +111,40 @@ plan_valid entries wires good once keeps is =
       wires = wires_good all wires is;
     }
 
-built_valid :
-    (entries : List Entry) (plan : BoardPlan) → are_named entries ≡ true → built entries ≡ Ok plan →
-    IsValid plan
+-- what a plan is made of that entries give
+pub record IsMade (entries : List Entry) (plan : BoardPlan) : Type 0 where
+  pub once : repeated entries ≡ None
+  pub keeps : Keeps (merged entries)
+  pub wires : List Wire
+  pub wired : wires_of (merged entries) ≡ Ok wires
+  pub is : plan_with (merged entries) wires ≡ plan
+
+pub made : (entries : List Entry) (plan : BoardPlan) → built entries ≡ Ok plan → IsMade entries plan
 unfolding built
-built_valid entries plan good is =
+made entries plan is =
     let once = passed (repeated entries) _ plan is in
     let typed = passed (untyped entries) _ plan once.1 in
     let rules = ok_then (tested (merged entries)) _ plan typed.1 in
     let wires = ok_then (wires_of (merged entries)) _ plan rules.1.1 in
-    rw (← same_ok _ _ wires.1.1)
-    (plan_valid entries wires.0 good once.0 (keeps (merged entries) rules.1.0) wires.1.0)
+    record {
+      once = once.0;
+      keeps = keeps (merged entries) rules.1.0;
+      wires = wires.0;
+      wired = wires.1.0;
+      is = same_ok _ _ wires.1.1;
+    }
+
+-- no byte lies in two regions of a plan
+pub regions_apart : (entries : List Entry) (plan : BoardPlan) → built entries ≡ Ok plan → IsTrue (are_apart plan.regions)
+regions_apart entries plan is =
+    let made = made entries plan is in
+    rw (← made.is) (apart (merged entries) (sound (merged entries) made.keeps))
+
+built_valid : (entries : List Entry) (plan : BoardPlan) → are_named entries ≡ true → built entries ≡ Ok plan →
+    IsValid plan
+built_valid entries plan good is =
+    let made = made entries plan is in
+    rw (← made.is) (plan_valid entries made.wires good made.once made.keeps made.wired)
 
 -- what is given is valid
 pub given_valid :

@@ -18,5 +18,8 @@ pub use limits::{
 pub use near::Place;
 pub use plan::{BoardPlan, Named, NamedWhat, PlicSize};
 pub use region::{Region, RegionKind, Target};
-pub use regions::{Regions, accesses_belong_to_one_region, bytes_of_a_region_belong_together};
+pub use regions::{
+    Regions, accesses_belong_to_one_region, an_address_lies_in_one_region,
+    bytes_of_a_region_belong_together,
+};
 pub use wire::{Wire, WireFrom, WirePin, is_context, may_end};
