@@ -1,10 +1,8 @@
 -- Peripherals that keep the rule of counts are few.
-use Rattle.std.proofs.Common.{◌≡◌, ◌+◌, ◌<◌, ◌≤◌, ◌∙◌, Bool, true, false, ◌||◌, refl, sym, ap, List, [], ◌∷◌, ◌++◌}
-use Rattle.std.proofs.Common.{Option}
-use Rattle.std.proofs.Common.{None, Some, nat_le, arith, append_assoc, if◌then◌else◌}
+use Rattle.std.proofs.Common.{◌≡◌, ◌+◌, ◌<◌, ◌≤◌, ◌∙◌, true, false, refl, sym, ap, List, [], ◌∷◌, ◌++◌}
+use Rattle.std.proofs.Common.{Option, None, Some, nat_le, arith, append_assoc, if◌then◌else◌}
 use Rattle.std.proofs.lemmas.Bool.Decides.{nat_tests}
 use Rattle.std.proofs.lemmas.List.{append-nil}
-use Rattle.std.proofs.lemmas.List.Sums.{sum_by_push}
 use Rattle.repl_build.specs.declared.merge.Peripheral.{Peripheral}
 use Rattle.repl_build.specs.declared.rules.Rule.TheVariants.{Counts}
 use Rattle.repl_build.specs.declared.types.PeripheralType.{PeripheralType}
@@ -14,12 +12,9 @@ use Rattle.repl_build.specs.First.{first_fault}
 use Rattle.repl_build.specs.Numbers.{AreFew}
 use Rattle.repl_build.specs.Rules.{peripheral_fault, broken}
 use Rattle.repl_build.specs.Types.{is_type}
+use Rattle.repl_build.proofs.ListLemmas.{count_push, or_false}
 use Rattle.repl_build.proofs.NoneLemmas.{first_none, unbroken}
 use Rattle.repl_build.proofs.TypeLemmas.{is_type_same}
-
-none_of : (a b : Bool) → (a || b) ≡ false → a ≡ false
-none_of true b is = absurd (cc)
-none_of false b is = refl
 
 room : (before : List Peripheral) (k : PeripheralType) (o : Option PeripheralType) → o ≡ Some k →
     are_as_many_as_may_be before o ≡ false → count_of before k < most_of k
@@ -32,13 +27,13 @@ one_more :
     is_one_too_many before x ≡ false → count_of (before ++ x ∷ []) k ≤ most_of k
 one_more before x k few fits =
     let push : count_of (before ++ x ∷ []) k ≡ count_of before k + (if is_type k x.kind then 1 else 0) =
-    sum_by_push (λ p. if is_type k p.kind then 1 else 0) before x in
+    count_push (λ p. is_type k p.kind) before x in
     elim (is_type k x.kind) as (λ b. is_type k x.kind ≡ b →
     count_of (before ++ x ∷ []) k ≡ count_of before k + (if b then 1 else 0) →
     count_of (before ++ x ∷ []) k ≤ most_of k) [
       | true ↦ λ is more.
           let below = room before k x.kind (is_type_same k x.kind is)
-          (none_of _ (passes_memory before x) fits) in
+          (or_false (are_as_many_as_may_be before x.kind) (passes_memory before x) fits).0 in
           omega (arith, more, below)
       | false ↦ λ is more. omega (arith, more, few)
     ] refl push

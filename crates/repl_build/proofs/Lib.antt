@@ -1,5 +1,6 @@
 -- Lemmas of repl_build.
 pub mod CountLemmas
+pub mod EntryLemmas
 pub mod ListLemmas
 pub mod LoopLemmas
 pub mod NameLemmas
@@ -8,6 +9,7 @@ pub mod NumberLemmas
 pub mod PartCounts
 pub mod PartLemmas
 pub mod PlanCounts
+pub mod QuestionLemmas
 pub mod RangeLemmas
 pub mod RegionLemmas
 pub mod SoundLemmas

@@ -30,7 +30,7 @@ use Rattle.repl_build.specs.declared.types.PeripheralType.TheVariants.{Cpu, Memo
 use Rattle.repl_build.specs.Counts.{count_of, has_type}
 use Rattle.repl_build.specs.First.{first_fault}
 use Rattle.repl_build.specs.Merge.{peripheral_by, peripheral_of, merged}
-use Rattle.repl_build.specs.Names.{types_name, is_typed, repeats_name, repeated_in, repeated}
+use Rattle.repl_build.specs.Names.{is_named, are_named, types_name, is_typed, repeats_name, repeated_in, repeated}
 use Rattle.repl_build.specs.Numbers.{devices_of, what_of}
 use Rattle.repl_build.specs.Plan.{each, name_by, name_of, region_by, region_of, first_with, cpu_name_in, cpu_name_of}
 use Rattle.repl_build.specs.Types.{is_type}
@@ -39,7 +39,7 @@ use Rattle.repl_build.proofs.ListLemmas.{self_alone}
 use Rattle.repl_build.proofs.NoneLemmas.{no_fault, first_none}
 use Rattle.repl_build.proofs.PartCounts.{is_device}
 use Rattle.repl_build.proofs.RangeLemmas.{and_true}
-use Rattle.repl_build.proofs.RegionLemmas.{regions_pass}
+use Rattle.repl_build.proofs.RegionLemmas.{each_append, regions_pass}
 use Rattle.repl_build.proofs.SoundLemmas.{Sound}
 use Rattle.repl_build.proofs.WhatLemmas.{same_part_of, device_cons}
 
@@ -90,9 +90,7 @@ in_parts (Some Cpu) before k m d is memory device = absurd (cc)
 in_parts (Some Memory) before k m d is memory device = rw (same_part_of _ _ is) (below _ _ (memory refl))
 in_parts (Some Clint) before k m d is memory device = rw (same_part_of _ _ is) refl
 in_parts (Some Plic) before k m d is memory device = rw (same_part_of _ _ is) refl
-in_parts (Some Uart) before k m d is memory device = rw (same_part_of _ _ is) (below _ _ (device refl))
-in_parts (Some Can) before k m d is memory device = rw (same_part_of _ _ is) (below _ _ (device refl))
-in_parts (Some Finisher) before k m d is memory device = rw (same_part_of _ _ is) (below _ _ (device refl))
+in_parts _ before k m d is memory device = rw (same_part_of _ _ is) (below _ _ (device refl))
 
 part_one :
     (all before : List Peripheral) (p : Peripheral) (ps : List Peripheral) (k : RegionKind) → all ≡ before ++ p ∷ ps →
@@ -132,37 +130,28 @@ clint_region : (t : Option PeripheralType) (p : Peripheral) (before : List Perip
     has_region (region_by p (what_of before t)) part.Clint ≡ is_type Clint t
 clint_region None p before = refl
 clint_region (Some Cpu) p before = refl
-clint_region (Some Memory) p before = refl
-clint_region (Some Clint) p before = refl
-clint_region (Some Plic) p before = refl
-clint_region (Some Uart) p before = refl
-clint_region (Some Can) p before = refl
-clint_region (Some Finisher) p before = refl
+clint_region _ p before = refl
+
+type_there :
+    (k : PeripheralType) (part : RegionKind) → ((t : Option PeripheralType) (p : Peripheral) (before : List Peripheral) →
+    has_region (region_by p (what_of before t)) part ≡ is_type k t) → (before xs : List Peripheral) →
+    has_region (each region_of before xs) part ≡ has_type k xs
+type_there k part one before [] = refl
+type_there k part one before (p ∷ ps) =
+    list_any-append (λ region. same_part region.kind part) (region_of before p) (each region_of (before ++ p ∷ []) ps)
+    ∙ (rw (one p.kind p before, type_there k part one (before ++ p ∷ []) ps) refl)
 
 pub clint_there : (before xs : List Peripheral) → has_region (each region_of before xs) part.Clint ≡ has_type Clint xs
-clint_there before [] = refl
-clint_there before (p ∷ ps) =
-    list_any-append (λ region. same_part region.kind part.Clint) (region_of before p) (each region_of
-    (before ++ p ∷ []) ps)
-    ∙ (rw (clint_region p.kind p before, clint_there (before ++ p ∷ []) ps) refl)
+clint_there = type_there Clint part.Clint clint_region
 
 plic_region : (t : Option PeripheralType) (p : Peripheral) (before : List Peripheral) →
     has_region (region_by p (what_of before t)) part.Plic ≡ is_type Plic t
 plic_region None p before = refl
 plic_region (Some Cpu) p before = refl
-plic_region (Some Memory) p before = refl
-plic_region (Some Clint) p before = refl
-plic_region (Some Plic) p before = refl
-plic_region (Some Uart) p before = refl
-plic_region (Some Can) p before = refl
-plic_region (Some Finisher) p before = refl
+plic_region _ p before = refl
 
 pub plic_there : (before xs : List Peripheral) → has_region (each region_of before xs) part.Plic ≡ has_type Plic xs
-plic_there before [] = refl
-plic_there before (p ∷ ps) =
-    list_any-append (λ region. same_part region.kind part.Plic) (region_of before p) (each region_of
-    (before ++ p ∷ []) ps)
-    ∙ (rw (plic_region p.kind p before, plic_there (before ++ p ∷ []) ps) refl)
+plic_there = type_there Plic part.Plic plic_region
 
 pub found_type :
     {X : Type 0} (f : Peripheral → X) (k : PeripheralType) (xs : List Peripheral) →
@@ -178,12 +167,7 @@ processor_one : (t : Option PeripheralType) (name : List ℕ) (before : List Per
     count_of_processors (name_by name (what_of before t)) ≡ cond {A = ℕ} (is_type Cpu t) 1 0
 processor_one None name before = refl
 processor_one (Some Cpu) name before = refl
-processor_one (Some Memory) name before = refl
-processor_one (Some Clint) name before = refl
-processor_one (Some Plic) name before = refl
-processor_one (Some Uart) name before = refl
-processor_one (Some Can) name before = refl
-processor_one (Some Finisher) name before = refl
+processor_one _ name before = refl
 
 processors : (before xs : List Peripheral) → count_of_processors (each name_of before xs) ≡ count_of xs Cpu
 processors before [] = refl
@@ -224,14 +208,8 @@ sole (p ∷ ps) few =
 named_one : (t : Option PeripheralType) (name cpu : List ℕ) (before : List Peripheral) → (is_type Cpu t ≡ true →
     name ≡ cpu) →
     are_processors_named cpu (name_by name (what_of before t)) ≡ true
-named_one None name cpu before same = refl
 named_one (Some Cpu) name cpu before same = both_true _ _ ((bytes_eq-Decides name cpu).1 (same refl)) refl
-named_one (Some Memory) name cpu before same = refl
-named_one (Some Clint) name cpu before same = refl
-named_one (Some Plic) name cpu before same = refl
-named_one (Some Uart) name cpu before same = refl
-named_one (Some Can) name cpu before same = refl
-named_one (Some Finisher) name cpu before same = refl
+named_one _ name cpu before same = refl
 
 named : (cpu : List ℕ) (before xs : List Peripheral) → AreNamed cpu xs →
     are_processors_named cpu (each name_of before xs) ≡ true
@@ -286,14 +264,6 @@ other_names p n is before (q ∷ qs) none =
     let rest = other_names p n is (before ++ q ∷ []) qs parts.1 in
     list_any-append (same_name n) (name_of before q) (each name_of (before ++ q ∷ []) qs) ∙ (rw (one, rest) refl)
 
-name_append :
-    (before xs ys : List Peripheral) →
-    each name_of before (xs ++ ys) ≡ each name_of before xs ++ each name_of (before ++ xs) ys
-name_append before [] ys = rw append-nil refl
-name_append before (x ∷ xs) ys =
-    ap (λ more. name_of before x ++ more) (name_append (before ++ x ∷ []) xs ys)
-    ∙ (rw (append_assoc before (x ∷ []) xs) (sym (append_assoc (name_of before x) _ _)))
-
 put_name :
     (p : Peripheral) (o : Option NamedWhat) (before rest : List Named) →
     ((n : Named) → n.name ≡ p.name → list_any (same_name n) before ≡ false) →
@@ -309,7 +279,7 @@ none_same :
 none_same before [] none = tt
 none_same before (p ∷ ps) none =
     let last : each name_of [] (before ++ p ∷ []) ≡ each name_of [] before ++ name_of before p =
-    name_append [] before (p ∷ []) ∙ ap (λ more. each name_of [] before ++ more) (append-nil (name_of before p)) in
+    each_append name_of [] before (p ∷ []) ∙ ap (λ more. each name_of [] before ++ more) (append-nil (name_of before p)) in
     put_name p (what_of before p.kind) (each name_of [] before) (each name_of (before ++ p ∷ []) ps)
     (λ n is. other_names p n is [] before none.0)
     (subst (λ b. NoneBefore same_name b (each name_of (before ++ p ∷ []) ps)) last (none_same
@@ -370,19 +340,19 @@ distinct entries none = distinct_from entries [] entries none
 
 -- names have their form
 good_entry :
-    (all : List Entry) (e : Entry) (head : Head) → is_head head ≡ true →
+    (all : List Entry) (e : Entry) (head : Head) → is_named head ≡ true →
     list_all (λ p. is_entry_name p.name) (peripheral_by all e head) ≡ true
 good_entry all e (Using file) good = refl
 good_entry all e (Update n) good = refl
-good_entry all e (Typed n kind at) good = both_true _ _ (and_true (is_name n) (is_dotted_name kind) good).0 refl
+good_entry all e (Typed n kind at) good = both_true _ _ good refl
 
-good_merged : (all xs : List Entry) → list_all is_entry xs ≡ true →
+good_merged : (all xs : List Entry) → are_named xs ≡ true →
     list_all (λ p. is_entry_name p.name) (flat_map (peripheral_of all) xs) ≡ true
 good_merged all [] good = refl
 good_merged all (e ∷ es) good =
-    let parts = and_true (is_entry e) (list_all is_entry es) good in
+    let parts = and_true (is_named e.head) (are_named es) good in
     all_append _ (peripheral_of all e) (flat_map (peripheral_of all) es)
-    (good_entry all e e.head (and_true (is_head e.head) (are_items e.items) parts.0).0) (good_merged all es parts.1)
+    (good_entry all e e.head parts.0) (good_merged all es parts.1)
 
 good_names : (before xs : List Peripheral) → list_all (λ p. is_entry_name p.name) xs ≡ true →
     are_names (each name_of before xs) ≡ true
@@ -396,6 +366,19 @@ good_names before (p ∷ ps) good =
     one None good = refl
     one (Some what) good = both_true _ _ good refl
 
-pub names_good : (entries : List Entry) → list_all is_entry entries ≡ true →
+pub names_good : (entries : List Entry) → are_named entries ≡ true →
     are_names (each name_of [] (merged entries)) ≡ true
 names_good entries good = good_names [] (merged entries) (good_merged entries entries good)
+
+-- entries of a text are named
+pub text_named : (entries : List Entry) → list_all is_entry entries ≡ true → are_named entries ≡ true
+text_named [] good = refl
+text_named (e ∷ es) good =
+    let parts = and_true (is_entry e) (list_all is_entry es) good in
+    both_true (is_named e.head) (are_named es) (head_named e.head (and_true (is_head e.head) (are_items e.items)
+    parts.0).0) (text_named es parts.1)
+  where
+    head_named : (head : Head) → is_head head ≡ true → is_named head ≡ true
+    head_named (Using file) good = refl
+    head_named (Update n) good = refl
+    head_named (Typed n kind at) good = (and_true (is_name n) (is_dotted_name kind) good).0

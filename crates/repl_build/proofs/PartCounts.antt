@@ -128,12 +128,7 @@ memory_hit :
     (if count_of before Memory == i then 1 else 0) else 0)
 memory_hit before None i = refl
 memory_hit before (Some Cpu) i = refl
-memory_hit before (Some Memory) i = refl
-memory_hit before (Some Clint) i = refl
-memory_hit before (Some Plic) i = refl
-memory_hit before (Some Uart) i = refl
-memory_hit before (Some Can) i = refl
-memory_hit before (Some Finisher) i = refl
+memory_hit before _ i = refl
 
 pub memories_numbered : IsNumbering (λ ps. count_of ps Memory) part.Ram (is_type Memory)
 memories_numbered =
@@ -145,26 +140,17 @@ memories_numbered =
     }
 
 abbrev pub is_device : Option PeripheralType → Bool
-is_device None = false
-is_device (Some Cpu) = false
-is_device (Some Memory) = false
-is_device (Some Clint) = false
-is_device (Some Plic) = false
 is_device (Some Uart) = true
 is_device (Some Can) = true
 is_device (Some Finisher) = true
+is_device _ = false
 
 device_hit :
     (before : List Peripheral) (o : Option PeripheralType) (i : ℕ) →
     hit (part.Dev i) (what_of before o) ≡ (if is_device o then (if devices_of before == i then 1 else 0) else 0)
 device_hit before None i = refl
 device_hit before (Some Cpu) i = refl
-device_hit before (Some Memory) i = refl
-device_hit before (Some Clint) i = refl
-device_hit before (Some Plic) i = refl
-device_hit before (Some Uart) i = refl
-device_hit before (Some Can) i = refl
-device_hit before (Some Finisher) i = refl
+device_hit before _ i = refl
 
 pub either : (o : Option PeripheralType) (a b c : ℕ) →
     (a + (if is_type Uart o then 1 else 0)) + (b + (if is_type Can o then 1 else 0))
@@ -172,12 +158,7 @@ pub either : (o : Option PeripheralType) (a b c : ℕ) →
     ≡ (a + b + c) + (if is_device o then 1 else 0)
 either None a b c = omega arith
 either (Some Cpu) a b c = omega arith
-either (Some Memory) a b c = omega arith
-either (Some Clint) a b c = omega arith
-either (Some Plic) a b c = omega arith
-either (Some Uart) a b c = omega arith
-either (Some Can) a b c = omega arith
-either (Some Finisher) a b c = omega arith
+either _ a b c = omega arith
 
 device_push : (before : List Peripheral) (p : Peripheral) →
     devices_of (before ++ p ∷ []) ≡ devices_of before + (if is_device p.kind then 1 else 0)
@@ -195,23 +176,13 @@ clint_hit : (before : List Peripheral) (o : Option PeripheralType) →
     hit part.Clint (what_of before o) ≡ (if is_type Clint o then 1 else 0)
 clint_hit before None = refl
 clint_hit before (Some Cpu) = refl
-clint_hit before (Some Memory) = refl
-clint_hit before (Some Clint) = refl
-clint_hit before (Some Plic) = refl
-clint_hit before (Some Uart) = refl
-clint_hit before (Some Can) = refl
-clint_hit before (Some Finisher) = refl
+clint_hit before _ = refl
 
 plic_hit : (before : List Peripheral) (o : Option PeripheralType) →
     hit part.Plic (what_of before o) ≡ (if is_type Plic o then 1 else 0)
 plic_hit before None = refl
 plic_hit before (Some Cpu) = refl
-plic_hit before (Some Memory) = refl
-plic_hit before (Some Clint) = refl
-plic_hit before (Some Plic) = refl
-plic_hit before (Some Uart) = refl
-plic_hit before (Some Can) = refl
-plic_hit before (Some Finisher) = refl
+plic_hit before _ = refl
 
 pub clint_hits : (before xs : List Peripheral) → hits part.Clint before xs ≡ count_of xs Clint
 clint_hits before [] = refl

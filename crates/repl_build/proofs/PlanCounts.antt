@@ -8,7 +8,7 @@ use Rattle.std.proofs.lemmas.List.Sums.{sum_by-cons, sum_by_push}
 use Rattle.std.specs.List.{cons_option, sum_by}
 use Rattle.dev_core.specs.declared.kind.Kind.{Kind}
 use Rattle.dev_core.specs.declared.kind.Kind.TheVariants as device
-use Rattle.sys_bus.specs.declared.limits.TheConstants.{MOST_MEMORY}
+use Rattle.sys_bus.specs.Limits.{most_memory}
 use Rattle.sys_bus.specs.declared.plan.Named.{Named}
 use Rattle.sys_bus.specs.declared.region.Region.{Region}
 use Rattle.sys_bus.specs.declared.region.RegionKind.{RegionKind}
@@ -61,22 +61,22 @@ memories_sum (p ∷ ps) =
     ] whole
 
 memory_more :
-    (b : Bool) (bytes size before : ℕ) → bytes ≡ cond {A = ℕ} b size 0 → before ≤ MOST_MEMORY →
-    (b && nat_lt MOST_MEMORY (bytes + before)) ≡ false → before + bytes ≤ MOST_MEMORY
+    (b : Bool) (bytes size before : ℕ) → bytes ≡ cond {A = ℕ} b size 0 → before ≤ most_memory →
+    (b && nat_lt most_memory (bytes + before)) ≡ false → before + bytes ≤ most_memory
 memory_more true bytes size before is few fits = grind (arith, nat_tests)
 memory_more false bytes size before is few fits = omega (arith, is, few)
 
 memory_within :
-    (all before xs : List Peripheral) → sum_by bytes_of before ≤ MOST_MEMORY → Sound all before xs →
-    sum_by bytes_of (before ++ xs) ≤ MOST_MEMORY
+    (all before xs : List Peripheral) → sum_by bytes_of before ≤ most_memory → Sound all before xs →
+    sum_by bytes_of (before ++ xs) ≤ most_memory
 memory_within all before [] few sound = rw append-nil few
 memory_within all before (p ∷ ps) few sound =
-    let more : sum_by bytes_of (before ++ p ∷ []) ≤ MOST_MEMORY =
+    let more : sum_by bytes_of (before ++ p ∷ []) ≤ most_memory =
     rw (sum_by_push bytes_of before p)
     (memory_more (is_type Memory p.kind) (bytes_of p) (size_of p) (sum_by bytes_of before) refl few sound.0.few) in
     rw (← append_assoc before (p ∷ []) ps) (memory_within all (before ++ p ∷ []) ps more sound.1)
 
-pub few_bytes : (all : List Peripheral) → Sound all [] all → sum_by bytes_of all ≤ MOST_MEMORY
+pub few_bytes : (all : List Peripheral) → Sound all [] all → sum_by bytes_of all ≤ most_memory
 few_bytes all sound = memory_within all [] all (omega arith) sound
 
 -- a type that is there is counted
@@ -95,73 +95,53 @@ counted_type k (p ∷ ps) is =
 uart_kind : (t : Option PeripheralType) (kinds : List Kind) →
     limit.count_of (cons_option (kind_by t) kinds) device.Uart ≡ cond {A = ℕ}
     (is_type Uart t) 1 0 + limit.count_of kinds device.Uart
-uart_kind None kinds = omega arith
-uart_kind (Some Cpu) kinds = omega arith
-uart_kind (Some Memory) kinds = omega arith
-uart_kind (Some Clint) kinds = omega arith
-uart_kind (Some Plic) kinds = omega arith
 uart_kind (Some Uart) kinds = count_cons (limit.is_kind device.Uart) device.Uart kinds
 uart_kind (Some Can) kinds = count_cons (limit.is_kind device.Uart) device.Can kinds
 uart_kind (Some Finisher) kinds = count_cons (limit.is_kind device.Uart) device.Finisher kinds
+uart_kind _ kinds = omega arith
 
 finisher_kind : (t : Option PeripheralType) (kinds : List Kind) →
     limit.count_of (cons_option (kind_by t) kinds) device.Finisher ≡ cond {A = ℕ}
     (is_type Finisher t) 1 0 + limit.count_of kinds device.Finisher
-finisher_kind None kinds = omega arith
-finisher_kind (Some Cpu) kinds = omega arith
-finisher_kind (Some Memory) kinds = omega arith
-finisher_kind (Some Clint) kinds = omega arith
-finisher_kind (Some Plic) kinds = omega arith
 finisher_kind (Some Uart) kinds = count_cons (limit.is_kind device.Finisher) device.Uart kinds
 finisher_kind (Some Can) kinds = count_cons (limit.is_kind device.Finisher) device.Can kinds
 finisher_kind (Some Finisher) kinds = count_cons (limit.is_kind device.Finisher) device.Finisher kinds
+finisher_kind _ kinds = omega arith
 
 can_kind : (t : Option PeripheralType) (kinds : List Kind) →
     limit.count_of (cons_option (kind_by t) kinds) device.Can ≡ cond {A = ℕ}
     (is_type Can t) 1 0 + limit.count_of kinds device.Can
-can_kind None kinds = omega arith
-can_kind (Some Cpu) kinds = omega arith
-can_kind (Some Memory) kinds = omega arith
-can_kind (Some Clint) kinds = omega arith
-can_kind (Some Plic) kinds = omega arith
 can_kind (Some Uart) kinds = count_cons (limit.is_kind device.Can) device.Uart kinds
 can_kind (Some Can) kinds = count_cons (limit.is_kind device.Can) device.Can kinds
 can_kind (Some Finisher) kinds = count_cons (limit.is_kind device.Can) device.Finisher kinds
+can_kind _ kinds = omega arith
+
+devices_counted :
+    (kind : Kind) (k : PeripheralType) → ((t : Option PeripheralType) (kinds : List Kind) →
+    limit.count_of (cons_option (kind_by t) kinds) kind
+    ≡ cond {A = ℕ} (is_type k t) 1 0 + limit.count_of kinds kind) → (all : List Peripheral) →
+    limit.count_of (kinds_of all) kind ≡ count_of all k
+devices_counted kind k one [] = refl
+devices_counted kind k one (p ∷ ps) =
+    let rest = devices_counted kind k one ps in
+    let here = one p.kind (kinds_of ps) in
+    let sum = count_cons (λ q. is_type k q.kind) p ps in
+    omega (arith, rest, here, sum)
 
 pub uarts_count : (all : List Peripheral) → limit.count_of (kinds_of all) device.Uart ≡ count_of all Uart
-uarts_count [] = refl
-uarts_count (p ∷ ps) =
-    let rest = uarts_count ps in
-    let one = uart_kind p.kind (kinds_of ps) in
-    let sum = count_cons (λ q. is_type Uart q.kind) p ps in
-    omega (arith, rest, one, sum)
+uarts_count = devices_counted device.Uart Uart uart_kind
 
 pub finishers_count : (all : List Peripheral) → limit.count_of (kinds_of all) device.Finisher ≡ count_of all Finisher
-finishers_count [] = refl
-finishers_count (p ∷ ps) =
-    let rest = finishers_count ps in
-    let one = finisher_kind p.kind (kinds_of ps) in
-    let sum = count_cons (λ q. is_type Finisher q.kind) p ps in
-    omega (arith, rest, one, sum)
+finishers_count = devices_counted device.Finisher Finisher finisher_kind
 
 pub cans_count : (all : List Peripheral) → limit.count_of (kinds_of all) device.Can ≡ count_of all Can
-cans_count [] = refl
-cans_count (p ∷ ps) =
-    let rest = cans_count ps in
-    let one = can_kind p.kind (kinds_of ps) in
-    let sum = count_cons (λ q. is_type Can q.kind) p ps in
-    omega (arith, rest, one, sum)
+cans_count = devices_counted device.Can Can can_kind
 
 device_length : (t : Option PeripheralType) (kinds : List Kind) →
     length (cons_option (kind_by t) kinds) ≡ cond {A = ℕ} (is_device t) 1 0 + length kinds
 device_length None kinds = omega arith
 device_length (Some Cpu) kinds = omega arith
-device_length (Some Memory) kinds = omega arith
-device_length (Some Clint) kinds = omega arith
-device_length (Some Plic) kinds = omega arith
-device_length (Some Uart) kinds = omega arith
-device_length (Some Can) kinds = omega arith
-device_length (Some Finisher) kinds = omega arith
+device_length _ kinds = omega arith
 
 pub devices_count : (all : List Peripheral) → length (kinds_of all) ≡ devices_of all
 devices_count [] = refl

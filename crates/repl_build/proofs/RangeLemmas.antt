@@ -6,8 +6,8 @@ use Rattle.std.specs.List.{list_all}
 use Rattle.dev_core.specs.declared.kind.Kind.{Kind}
 use Rattle.dev_core.specs.declared.kind.Kind.TheVariants as device
 use Rattle.repl_read.specs.declared.entry.Place.{Place}
-use Rattle.repl_read.specs.declared.entry.Place.TheVariants.{Absent, Bus, Address, Range}
-use Rattle.sys_bus.specs.declared.limits.TheConstants.{PAGE_SIZE, REGION_UNIT}
+use Rattle.repl_read.specs.declared.entry.Place.TheVariants.{Address, Range}
+use Rattle.sys_bus.specs.Limits.{page_size, region_unit}
 use Rattle.sys_bus.specs.declared.plan.NamedWhat.{NamedWhat}
 use Rattle.sys_bus.specs.declared.plan.NamedWhat.TheVariants as what
 use Rattle.sys_bus.specs.declared.region.RegionKind.{RegionKind}
@@ -15,7 +15,7 @@ use Rattle.sys_bus.specs.Limits.{least_device_size, is_range, are_ranges}
 use Rattle.repl_build.specs.declared.merge.Peripheral.{Peripheral}
 use Rattle.repl_build.specs.declared.merge.PlacedItem.{PlacedItem}
 use Rattle.repl_build.specs.declared.types.PeripheralType.{PeripheralType}
-use Rattle.repl_build.specs.declared.types.PeripheralType.TheVariants.{Cpu, Memory, Clint, Plic, Uart, Can, Finisher}
+use Rattle.repl_build.specs.declared.types.PeripheralType.TheVariants.{Cpu, Memory, Uart, Can, Finisher}
 use Rattle.repl_build.specs.Attributes.{is_memory_size, number_of, is_set, has_attribute, item_of}
 use Rattle.repl_build.specs.Numbers.{devices_of, what_of}
 use Rattle.repl_build.specs.Places.{is_registered, has_range, has_required, step_of, least_of, is_unit, is_place}
@@ -36,13 +36,21 @@ and_true true b is = (refl, is)
 and_true false b is = absurd (cc)
 
 record IsPlaced (t : Option PeripheralType) (at : Place) (items : List PlacedItem) : Type 0 where
-  base : (base_at at % REGION_UNIT == 0) ≡ true
+  base : (base_at at % region_unit == 0) ≡ true
   unit : is_unit t (size_at (usual_size t items) at) ≡ true
   least : nat_le (least_of t (step_of t items)) (size_at (usual_size t items) at) ≡ true
 
 wide : (b : Bool) → nat_le (least_device_size device.Uart (cond {A = ℕ} b 4 1)) 0x100 ≡ true
 wide true = refl
 wide false = refl
+
+ranged :
+    (t : Option PeripheralType) (base size : ℕ) (items : List PlacedItem) →
+    is_place t (step_of t items) (Range base size) ≡ true → IsPlaced t (Range base size) items
+ranged t base size items good =
+    let first = and_true ((base % region_unit == 0) && is_unit t size) _ good in
+    let second = and_true (base % region_unit == 0) (is_unit t size) first.0 in
+    record { base = second.0; unit = second.1; least = first.1 }
 
 placed :
     (t : Option PeripheralType) (at : Place) (items : List PlacedItem) (before : List Peripheral)
@@ -52,55 +60,15 @@ placed :
     is_registered t at ≡ true → is_place t (step_of t items) at ≡ true → IsPlaced t at items
 placed None at items before part is memory registered good = absurd (cc)
 placed (Some Cpu) at items before part is memory registered good = absurd (cc)
-placed (Some Memory) Absent items before part is memory registered good = absurd (cc)
-placed (Some Memory) Bus items before part is memory registered good = absurd (cc)
-placed (Some Memory) (Range base size) items before part is memory registered good =
-    let first = and_true ((base % REGION_UNIT == 0) && is_unit (Some Memory) size) _ good in
-    let second = and_true (base % REGION_UNIT == 0) (is_unit (Some Memory) size) first.0 in
-    record { base = second.0; unit = second.1; least = first.1 }
+placed t (Range base size) items before part is memory registered good = ranged t base size items good
 placed (Some Memory) (Address base) items before part is memory registered good =
-    let size = and_true (number_of (codes "size") 0 items % PAGE_SIZE == 0) _ (memory refl refl) in
+    let size = and_true (number_of (codes "size") 0 items % page_size == 0) _ (memory refl refl) in
     record { base = good; unit = size.0; least = size.1 }
-placed (Some Clint) Absent items before part is memory registered good = absurd (cc)
-placed (Some Clint) Bus items before part is memory registered good = absurd (cc)
-placed (Some Clint) (Range base size) items before part is memory registered good =
-    let first = and_true ((base % REGION_UNIT == 0) && is_unit (Some Clint) size) _ good in
-    let second = and_true (base % REGION_UNIT == 0) (is_unit (Some Clint) size) first.0 in
-    record { base = second.0; unit = second.1; least = first.1 }
-placed (Some Clint) (Address base) items before part is memory registered good =
-    record { base = good; unit = refl; least = refl }
-placed (Some Plic) Absent items before part is memory registered good = absurd (cc)
-placed (Some Plic) Bus items before part is memory registered good = absurd (cc)
-placed (Some Plic) (Range base size) items before part is memory registered good =
-    let first = and_true ((base % REGION_UNIT == 0) && is_unit (Some Plic) size) _ good in
-    let second = and_true (base % REGION_UNIT == 0) (is_unit (Some Plic) size) first.0 in
-    record { base = second.0; unit = second.1; least = first.1 }
-placed (Some Plic) (Address base) items before part is memory registered good =
-    record { base = good; unit = refl; least = refl }
-placed (Some Uart) Absent items before part is memory registered good = absurd (cc)
-placed (Some Uart) Bus items before part is memory registered good = absurd (cc)
-placed (Some Uart) (Range base size) items before part is memory registered good =
-    let first = and_true ((base % REGION_UNIT == 0) && is_unit (Some Uart) size) _ good in
-    let second = and_true (base % REGION_UNIT == 0) (is_unit (Some Uart) size) first.0 in
-    record { base = second.0; unit = second.1; least = first.1 }
 placed (Some Uart) (Address base) items before part is memory registered good =
     record { base = good; unit = refl; least = wide (is_set (codes "wideRegisters") items) }
-placed (Some Can) Absent items before part is memory registered good = absurd (cc)
-placed (Some Can) Bus items before part is memory registered good = absurd (cc)
-placed (Some Can) (Range base size) items before part is memory registered good =
-    let first = and_true ((base % REGION_UNIT == 0) && is_unit (Some Can) size) _ good in
-    let second = and_true (base % REGION_UNIT == 0) (is_unit (Some Can) size) first.0 in
-    record { base = second.0; unit = second.1; least = first.1 }
-placed (Some Can) (Address base) items before part is memory registered good =
+placed _ (Address base) items before part is memory registered good =
     record { base = good; unit = refl; least = refl }
-placed (Some Finisher) Absent items before part is memory registered good = absurd (cc)
-placed (Some Finisher) Bus items before part is memory registered good = absurd (cc)
-placed (Some Finisher) (Range base size) items before part is memory registered good =
-    let first = and_true ((base % REGION_UNIT == 0) && is_unit (Some Finisher) size) _ good in
-    let second = and_true (base % REGION_UNIT == 0) (is_unit (Some Finisher) size) first.0 in
-    record { base = second.0; unit = second.1; least = first.1 }
-placed (Some Finisher) (Address base) items before part is memory registered good =
-    record { base = good; unit = refl; least = refl }
+placed _ _ items before part is memory registered good = absurd (cc)
 
 all_three : (a b c : Bool) → a ≡ true → b ≡ true → c ≡ true → (a && b && c) ≡ true
 all_three a b c one two last = both_true (a && b) c (both_true a b one two) last
@@ -118,12 +86,6 @@ range_of :
     }) ≡ true
 range_of None at items before part kinds is found good = absurd (cc)
 range_of (Some Cpu) at items before part kinds is found good = absurd (cc)
-range_of (Some Memory) at items before part kinds is found good =
-    rw (same_part_of _ _ is) (all_three _ _ _ good.base good.unit good.least)
-range_of (Some Clint) at items before part kinds is found good =
-    rw (same_part_of _ _ is) (all_three _ _ _ good.base good.unit good.least)
-range_of (Some Plic) at items before part kinds is found good =
-    rw (same_part_of _ _ is) (all_three _ _ _ good.base good.unit good.least)
 range_of (Some Uart) at items before part kinds is found good =
     let same = same_part_of _ _ is in
     let kind = found refl in
@@ -136,6 +98,8 @@ range_of (Some Finisher) at items before part kinds is found good =
     let same = same_part_of _ _ is in
     let kind = found refl in
     rw (same, kind) (all_three _ _ _ good.base good.unit good.least)
+range_of _ at items before part kinds is found good =
+    rw (same_part_of _ _ is) (all_three _ _ _ good.base good.unit good.least)
 
 required_size : (at : Place) (items : List PlacedItem) → has_required (Some Memory) at items ≡ true →
     has_range at ≡ false →

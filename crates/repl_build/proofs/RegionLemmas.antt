@@ -18,7 +18,7 @@ use Rattle.sys_bus.specs.declared.plan.NamedWhat.TheVariants as what
 use Rattle.sys_bus.specs.Region.{overlaps, end_of, count_of_overlaps, are_apart, are_addressed}
 use Rattle.repl_build.specs.declared.merge.Peripheral.{Peripheral}
 use Rattle.repl_build.specs.declared.types.PeripheralType.{PeripheralType}
-use Rattle.repl_build.specs.declared.types.PeripheralType.TheVariants.{Cpu, Memory, Clint, Plic, Uart, Can, Finisher}
+use Rattle.repl_build.specs.declared.types.PeripheralType.TheVariants.{Cpu, Memory, Uart, Can, Finisher}
 use Rattle.repl_build.specs.Attributes.{is_set}
 use Rattle.repl_build.specs.Counts.{count_of}
 use Rattle.repl_build.specs.Numbers.{what_of}
@@ -75,11 +75,7 @@ size_one (Some Memory) p before ps part kind is =
     let at : (place.size_of p == slice_index (memories_of (before ++ p ∷ ps)) (count_of before Memory)) ≡ true =
     rw (memory_at before p ps memory) (same_number (place.size_of p)) in
     rw same at
-size_one (Some Clint) p before ps part kind is = rw (same_part_of _ _ is) refl
-size_one (Some Plic) p before ps part kind is = rw (same_part_of _ _ is) refl
-size_one (Some Uart) p before ps part kind is = rw (same_part_of _ _ is) refl
-size_one (Some Can) p before ps part kind is = rw (same_part_of _ _ is) refl
-size_one (Some Finisher) p before ps part kind is = rw (same_part_of _ _ is) refl
+size_one _ p before ps part kind is = rw (same_part_of _ _ is) refl
 
 sized_one :
     (all before : List Peripheral) (p : Peripheral) (ps : List Peripheral) (o : Option NamedWhat) →
@@ -103,9 +99,6 @@ step_one :
     is_step (device_in (kinds_of (before ++ p ∷ ps)) part) (place.step_of t p.items) ≡ true
 step_one None p before ps part kind is = absurd (cc)
 step_one (Some Cpu) p before ps part kind is = absurd (cc)
-step_one (Some Memory) p before ps part kind is = rw (same_part_of _ _ is) refl
-step_one (Some Clint) p before ps part kind is = rw (same_part_of _ _ is) refl
-step_one (Some Plic) p before ps part kind is = rw (same_part_of _ _ is) refl
 step_one (Some Uart) p before ps part kind is =
     let same = same_part_of _ _ is in
     let at = kind_at before p ps (ap is_device kind) ∙ ap kind_by kind in
@@ -121,6 +114,7 @@ step_one (Some Finisher) p before ps part kind is =
     let same = same_part_of _ _ is in
     let at = kind_at before p ps (ap is_device kind) ∙ ap kind_by kind in
     rw same (rw at refl)
+step_one _ p before ps part kind is = rw (same_part_of _ _ is) refl
 
 stepped_one :
     (all before : List Peripheral) (p : Peripheral) (ps : List Peripheral) (o : Option NamedWhat) →
@@ -139,13 +133,13 @@ steps all sound =
 same_overlap : (a b : Region) → overlaps a b ≡ overlaps b a
 same_overlap a b = rw (max_comm a.base b.base, min_comm (end_of a) (end_of b)) refl
 
-each_append :
-    (before xs ys : List Peripheral) →
-    each region_of before (xs ++ ys) ≡ each region_of before xs ++ each region_of (before ++ xs) ys
-each_append before [] ys = rw append-nil refl
-each_append before (x ∷ xs) ys =
-    ap (λ more. region_of before x ++ more) (each_append (before ++ x ∷ []) xs ys)
-    ∙ (rw (append_assoc before (x ∷ []) xs) (sym (append_assoc (region_of before x) _ _)))
+pub each_append :
+    {X : Type 0} (f : List Peripheral → Peripheral → List X) (before xs ys : List Peripheral) →
+    each f before (xs ++ ys) ≡ each f before xs ++ each f (before ++ xs) ys
+each_append f before [] ys = rw append-nil refl
+each_append f before (x ∷ xs) ys =
+    ap (λ more. f before x ++ more) (each_append f (before ++ x ∷ []) xs ys)
+    ∙ (rw (append_assoc before (x ∷ []) xs) (sym (append_assoc (f before x) _ _)))
 
 apart_one :
     (p q : Peripheral) (o : Option NamedWhat) → place.overlaps p q ≡ false →
@@ -191,7 +185,7 @@ none_overlap :
 none_overlap all before [] sound = tt
 none_overlap all before (p ∷ ps) sound =
     let last : each region_of [] (before ++ p ∷ []) ≡ each region_of [] before ++ region_of before p =
-    each_append [] before (p ∷ []) ∙ ap (λ more. each region_of [] before ++ more) (append-nil
+    each_append region_of [] before (p ∷ []) ∙ ap (λ more. each region_of [] before ++ more) (append-nil
     (region_of before p)) in
     put_front p (what_of before p.kind) (each region_of [] before) (each region_of (before ++ p ∷ []) ps)
     (λ r base size. regions_apart p r base size [] before sound.0.apart)

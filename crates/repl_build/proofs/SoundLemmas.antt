@@ -1,6 +1,5 @@
 -- What each peripheral meets that stands after others, where all rules are kept.
-use Rattle.std.proofs.Common.{◌≡◌, ◌^◌, Bool, true, false, not, ◌||◌, refl, List, []}
-use Rattle.std.proofs.Common.{◌∷◌, ◌++◌, None, nat_lt, is_none}
+use Rattle.std.proofs.Common.{◌≡◌, ◌^◌, Bool, true, false, not, refl, List, [], ◌∷◌, ◌++◌, None, nat_lt, is_none}
 use Rattle.std.specs.List.{list_any}
 use Rattle.repl_build.specs.declared.merge.Peripheral.{Peripheral}
 use Rattle.repl_build.specs.declared.rules.Rule.TheVariants.{Types, Required, Values, Counts, Apart}
@@ -8,6 +7,7 @@ use Rattle.repl_build.specs.Counts.{passes_memory, are_as_many_as_may_be}
 use Rattle.repl_build.specs.First.{first_fault}
 use Rattle.repl_build.specs.Places.{is_registered, has_required, is_place, step_of, overlaps, end_of}
 use Rattle.repl_build.specs.Rules.{items_fault, peripheral_fault}
+use Rattle.repl_build.proofs.ListLemmas.{or_false}
 use Rattle.repl_build.proofs.NoneLemmas.{first_none, unbroken}
 use Rattle.repl_build.proofs.PartLemmas.{complete}
 use Rattle.repl_build.proofs.TestedLemmas.{Keeps}
@@ -25,10 +25,6 @@ pub record Fits (all before : List Peripheral) (p : Peripheral) : Type 0 where
 abbrev pub Sound : List Peripheral → List Peripheral → List Peripheral → Type 0
 Sound all before [] = Unit {0}
 Sound all before (p ∷ ps) = Fits all before p × Sound all (before ++ p ∷ []) ps
-
-neither : (a b : Bool) → (a || b) ≡ false → (a ≡ false) × (b ≡ false)
-neither true b is = absurd (cc)
-neither false b is = (refl, is)
 
 not_false : (b : Bool) → not b ≡ false → b ≡ true
 not_false true is = refl
@@ -49,7 +45,7 @@ sound_from all before (p ∷ ps) types required values counts apart =
     let a = first_none _ _ apart in
     let whole = complete p (unbroken Required all before p r.0).0 in
     let value = unbroken Values all before p v.0 in
-    let collides = neither (nat_lt (2 ^ 32) (end_of p)) (list_any (overlaps p) before)
+    let collides = or_false (nat_lt (2 ^ 32) (end_of p)) (list_any (overlaps p) before)
     (unbroken Apart all before p a.0).0 in
     let fits : Fits all before p =
     record {
@@ -58,7 +54,7 @@ sound_from all before (p ∷ ps) types required values counts apart =
       required = whole.1;
       placed = not_false (is_place p.kind (step_of p.kind p.items) p.at) value.0;
       values = value.1;
-      few = (neither (are_as_many_as_may_be before p.kind) (passes_memory before p)
+      few = (or_false (are_as_many_as_may_be before p.kind) (passes_memory before p)
           (unbroken Counts all before p c.0).0).1;
       apart = collides.1;
       addressed = collides.0;

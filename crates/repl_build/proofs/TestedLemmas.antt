@@ -1,5 +1,5 @@
 -- What peripherals meet that keep all rules.
-use Rattle.std.proofs.Common.{◌≡◌, Bool, true, false, refl, List}
+use Rattle.std.proofs.Common.{◌≡◌, false, refl, List}
 use Rattle.std.proofs.Common.{Option, None, Some, Result, Ok}
 use Rattle.repl_read.specs.declared.fault.PlatFault.{PlatFault}
 use Rattle.repl_read.specs.declared.fault.PlatFault.TheVariants.{At}
@@ -10,6 +10,7 @@ use Rattle.repl_build.specs.Counts.{is_bare}
 use Rattle.repl_build.specs.First.{◌>>=◌, refuse, fault_if}
 use Rattle.repl_build.specs.Plan.{tested}
 use Rattle.repl_build.specs.Rules.{broken}
+use Rattle.repl_build.proofs.NoneLemmas.{no_fault}
 
 pub record Keeps (all : List Peripheral) : Type 0 where
   pub types : broken Types all ≡ None
@@ -25,10 +26,6 @@ pub passed :
     (o ≡ None) × (rest tt ≡ Ok x)
 passed None rest x is = (refl, is)
 passed (Some fault) rest x is = absurd (cc)
-
-no_fault : (b : Bool) (fault : PlatFault) → fault_if b fault ≡ None → b ≡ false
-no_fault true fault is = absurd (cc)
-no_fault false fault is = refl
 
 -- peripherals in which the tests find no fault keep each rule
 pub keeps : (all : List Peripheral) → tested all ≡ Ok tt → Keeps all

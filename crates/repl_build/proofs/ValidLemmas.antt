@@ -2,22 +2,21 @@
 use Rattle.std.proofs.Common.{◌≡◌, ℕ, ◌≤◌, ◌∙◌, true, ◌&&◌, refl, sym, List, Option, None, Some, Result, Ok, Err}
 use Rattle.std.proofs.Common.{nat_le, length, sum, arith, [], IfOk, IsTrue}
 use Rattle.std.proofs.lemmas.Bool.Decides.{nat_tests}
-use Rattle.std.specs.List.{list_all}
 use Rattle.std.specs.Option.{option_map}
 use Rattle.dev_core.specs.declared.kind.Kind.TheVariants as device
-use Rattle.repl_read.specs.Entries.{is_entry}
 use Rattle.repl_read.specs.declared.entry.Entry.{Entry}
 use Rattle.repl_read.specs.declared.fault.PlatFault.{PlatFault}
-use Rattle.sys_bus.specs.declared.limits.TheConstants.{MOST_MEMORY}
+use Rattle.sys_bus.specs.Limits.{most_memory}
 use Rattle.sys_bus.specs.declared.plan.BoardPlan.{BoardPlan}
 use Rattle.sys_bus.specs.declared.wire.Wire.{Wire}
 use Rattle.sys_bus.specs.Limits as limit
 use Rattle.sys_bus.specs.Plan.{IsValid}
+use Rattle.sys_bus.specs.Region.{are_apart}
 use Rattle.repl_build.specs.declared.merge.Peripheral.{Peripheral}
 use Rattle.repl_build.specs.declared.types.PeripheralType.TheVariants.{Cpu, Memory, Clint, Plic, Uart, Can, Finisher}
 use Rattle.repl_build.specs.Counts.{count_of, has_type}
 use Rattle.repl_build.specs.Merge.{merged}
-use Rattle.repl_build.specs.Names.{repeated, untyped}
+use Rattle.repl_build.specs.Names.{are_named, repeated, untyped}
 use Rattle.repl_build.specs.Plan.{memories_of, kinds_of, first_with, clint_frequency, plic_size_of}
 use Rattle.repl_build.specs.Plan.{speed_in, wires_of, plan_with, tested, built, Gives}
 use Rattle.repl_build.proofs.CountLemmas.{few_of}
@@ -79,10 +78,10 @@ memories_few all keeps there =
     both_true _ _
     (both_true _ _ (at_most 1 (length (memories_of all)) (omega (arith, some, count)))
     (at_most (length (memories_of all)) 8 (omega (arith, few, count))))
-    (at_most (sum (memories_of all)) MOST_MEMORY (omega (arith, bytes, total)))
+    (at_most (sum (memories_of all)) most_memory (omega (arith, bytes, total)))
 
 plan_valid :
-    (entries : List Entry) (wires : List Wire) → list_all is_entry entries ≡ true → repeated entries ≡ None →
+    (entries : List Entry) (wires : List Wire) → are_named entries ≡ true → repeated entries ≡ None →
     Keeps (merged entries) → wires_of (merged entries) ≡ Ok wires → IsValid (plan_with (merged entries) wires)
 plan_valid entries wires good once keeps is =
     let all = merged entries in
@@ -112,21 +111,44 @@ plan_valid entries wires good once keeps is =
       wires = wires_good all wires is;
     }
 
-built_valid :
-    (entries : List Entry) (plan : BoardPlan) → list_all is_entry entries ≡ true → built entries ≡ Ok plan →
-    IsValid plan
+-- what a plan is made of that entries give
+pub record IsMade (entries : List Entry) (plan : BoardPlan) : Type 0 where
+  pub once : repeated entries ≡ None
+  pub keeps : Keeps (merged entries)
+  pub wires : List Wire
+  pub wired : wires_of (merged entries) ≡ Ok wires
+  pub is : plan_with (merged entries) wires ≡ plan
+
+pub made : (entries : List Entry) (plan : BoardPlan) → built entries ≡ Ok plan → IsMade entries plan
 unfolding built
-built_valid entries plan good is =
+made entries plan is =
     let once = passed (repeated entries) _ plan is in
     let typed = passed (untyped entries) _ plan once.1 in
     let rules = ok_then (tested (merged entries)) _ plan typed.1 in
     let wires = ok_then (wires_of (merged entries)) _ plan rules.1.1 in
-    rw (← same_ok _ _ wires.1.1)
-    (plan_valid entries wires.0 good once.0 (keeps (merged entries) rules.1.0) wires.1.0)
+    record {
+      once = once.0;
+      keeps = keeps (merged entries) rules.1.0;
+      wires = wires.0;
+      wired = wires.1.0;
+      is = same_ok _ _ wires.1.1;
+    }
+
+-- no byte lies in two regions of a plan
+pub regions_apart : (entries : List Entry) (plan : BoardPlan) → built entries ≡ Ok plan → IsTrue (are_apart plan.regions)
+regions_apart entries plan is =
+    let made = made entries plan is in
+    rw (← made.is) (apart (merged entries) (sound (merged entries) made.keeps))
+
+built_valid : (entries : List Entry) (plan : BoardPlan) → are_named entries ≡ true → built entries ≡ Ok plan →
+    IsValid plan
+built_valid entries plan good is =
+    let made = made entries plan is in
+    rw (← made.is) (plan_valid entries made.wires good made.once made.keeps made.wired)
 
 -- what is given is valid
 pub given_valid :
     (entries : List Entry) (result : Result BoardPlan PlatFault) → Gives result (built entries) →
-    IsTrue (list_all is_entry entries) → IfOk result IsValid
+    IsTrue (are_named entries) → IfOk result IsValid
 given_valid entries (Ok plan) is good = built_valid entries plan good is
 given_valid entries (Err fault) is good = tt

@@ -1,5 +1,5 @@
 -- What a peripheral is on the board, backwards.
-use Rattle.std.proofs.Common.{◌≡◌, ℕ, ◌+◌, true, false, refl, List, [], ◌∷◌, ◌++◌, Option, None, Some, arith}
+use Rattle.std.proofs.Common.{◌≡◌, ℕ, ◌+◌, true, false, refl, List, [], ◌∷◌, ◌++◌, Option, Some, arith}
 use Rattle.std.proofs.Common.{slice_get, map, filter, cond, suc, if◌then◌else◌}
 use Rattle.std.specs.Prelude.{slice_index}
 use Rattle.std.specs.List.{cons_option}
@@ -9,7 +9,7 @@ use Rattle.sys_bus.specs.declared.plan.NamedWhat.TheVariants as what
 use Rattle.sys_bus.specs.declared.region.RegionKind.{RegionKind}
 use Rattle.repl_build.specs.declared.merge.Peripheral.{Peripheral}
 use Rattle.repl_build.specs.declared.types.PeripheralType.{PeripheralType}
-use Rattle.repl_build.specs.declared.types.PeripheralType.TheVariants.{Cpu, Memory, Clint, Plic, Uart, Can, Finisher}
+use Rattle.repl_build.specs.declared.types.PeripheralType.TheVariants.{Memory, Uart, Can, Finisher}
 use Rattle.repl_build.specs.Counts.{count_of}
 use Rattle.repl_build.specs.Numbers.{devices_of}
 use Rattle.repl_build.specs.Places.{size_of}
@@ -54,25 +54,17 @@ device_cons q qs =
 kind_next :
     (t : Option PeripheralType) (kinds : List Kind) (n m : ℕ) (k : Option Kind) →
     n ≡ (if is_device t then 1 else 0) + m → slice_get kinds m ≡ k → slice_get (cons_option (kind_by t) kinds) n ≡ k
-kind_next None kinds n m k next is = let same : n ≡ m = omega (arith, next) in rw same is
-kind_next (Some Cpu) kinds n m k next is = let same : n ≡ m = omega (arith, next) in rw same is
-kind_next (Some Memory) kinds n m k next is = let same : n ≡ m = omega (arith, next) in rw same is
-kind_next (Some Clint) kinds n m k next is = let same : n ≡ m = omega (arith, next) in rw same is
-kind_next (Some Plic) kinds n m k next is = let same : n ≡ m = omega (arith, next) in rw same is
 kind_next (Some Uart) kinds n m k next is = let same : n ≡ suc m = omega (arith, next) in rw same is
 kind_next (Some Can) kinds n m k next is = let same : n ≡ suc m = omega (arith, next) in rw same is
 kind_next (Some Finisher) kinds n m k next is = let same : n ≡ suc m = omega (arith, next) in rw same is
+kind_next _ kinds n m k next is = let same : n ≡ m = omega (arith, next) in rw same is
 
 kind_first : (t : Option PeripheralType) (kinds : List Kind) → is_device t ≡ true →
     slice_get (cons_option (kind_by t) kinds) 0 ≡ kind_by t
-kind_first None kinds is = absurd (cc)
-kind_first (Some Cpu) kinds is = absurd (cc)
-kind_first (Some Memory) kinds is = absurd (cc)
-kind_first (Some Clint) kinds is = absurd (cc)
-kind_first (Some Plic) kinds is = absurd (cc)
 kind_first (Some Uart) kinds is = refl
 kind_first (Some Can) kinds is = refl
 kind_first (Some Finisher) kinds is = refl
+kind_first _ kinds is = absurd (cc)
 
 -- the device with the number of devices before it
 pub kind_at :

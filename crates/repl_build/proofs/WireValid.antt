@@ -19,7 +19,7 @@ use Rattle.sys_bus.specs.Wire.{is_context, has_line, kind_has_line, is_from, may
 use Rattle.repl_build.specs.declared.merge.Peripheral.{Peripheral}
 use Rattle.repl_build.specs.declared.merge.PlacedItem.{PlacedItem}
 use Rattle.repl_build.specs.declared.types.PeripheralType.{PeripheralType}
-use Rattle.repl_build.specs.declared.types.PeripheralType.TheVariants.{Cpu, Memory, Clint, Plic, Uart, Can, Finisher}
+use Rattle.repl_build.specs.declared.types.PeripheralType.TheVariants.{Cpu, Clint, Plic, Uart, Can}
 use Rattle.repl_build.specs.Counts.{has_type}
 use Rattle.repl_build.specs.First.{◌>>=◌}
 use Rattle.repl_build.specs.Numbers.{devices_of}
@@ -149,9 +149,6 @@ lines_by :
     (t : Option PeripheralType) (kinds : List Kind) (regions : List Region) (plic : Option PlicSize) (dev : ℕ) →
     (is_type Clint t ≡ true → has_region regions part.Clint ≡ true) →
     (is_device t ≡ true → slice_get kinds dev ≡ kind_by t) → LinesAre kinds regions plic t dev
-lines_by None kinds regions plic dev clint device line from is = absurd (cc)
-lines_by (Some Cpu) kinds regions plic dev clint device line from is = absurd (cc)
-lines_by (Some Memory) kinds regions plic dev clint device line from is = absurd (cc)
 lines_by (Some Clint) kinds regions plic dev clint device line from is =
     elim (line == 0) as (λ a. cond {A = Option WireFrom} a (Some Soft)
     (cond {A = Option WireFrom} (line == 1) (Some Timer) None) ≡ Some from → is_from kinds regions plic from ≡ true) [
@@ -184,7 +181,7 @@ lines_by (Some Can) kinds regions plic dev clint device line from is =
       | true ↦ λ is. rw (← same_some _ _ is) can
       | false ↦ λ is. absurd (cc)
     ] is
-lines_by (Some Finisher) kinds regions plic dev clint device line from is = absurd (cc)
+lines_by _ kinds regions plic dev clint device line from is = absurd (cc)
 
 from_good :
     (plic : Option PlicSize) (all before xs : List Peripheral) (wires : List Wire) → all ≡ before ++ xs →

@@ -6,11 +6,10 @@ use Rattle.std.specs.Str.{bytes_eq}
 use Rattle.repl_read.specs.declared.entry.ItemWhat.{ItemWhat}
 use Rattle.repl_read.specs.declared.entry.ItemWhat.TheVariants.{Attribute, Wire}
 use Rattle.repl_read.specs.declared.entry.Place.{Place}
-use Rattle.repl_read.specs.declared.entry.Place.TheVariants.{Range}
+use Rattle.repl_read.specs.declared.entry.Place.TheVariants.{Absent, Bus, Address, Range}
 use Rattle.repl_read.specs.declared.entry.Value.{Value}
 use Rattle.repl_read.specs.declared.entry.Value.TheVariants.{Number, Words, Truth, Name}
-use Rattle.sys_bus.specs.declared.limits.TheConstants.{MOST_SPEED, MOST_FREQUENCY, MOST_SOURCES, MOST_CONTEXTS}
-use Rattle.sys_bus.specs.declared.limits.TheConstants.{PAGE_SIZE}
+use Rattle.sys_bus.specs.Limits.{most_speed, most_frequency, most_sources, most_contexts, page_size}
 use Rattle.repl_build.specs.declared.attributes.Sort.{Sort}
 use Rattle.repl_build.specs.declared.attributes.Sort.TheVariants.{Quoted, Reference, Flag, Yes, Within, Size}
 use Rattle.repl_build.specs.declared.merge.PlacedItem.{PlacedItem}
@@ -23,7 +22,7 @@ cpu_sort key =
     if bytes_eq key (codes "cpuType") then Some Quoted
     else if bytes_eq key (codes "timeProvider") then Some Reference
     else if bytes_eq key (codes "hartId") then Some (Within 0 0)
-    else if bytes_eq key (codes "PerformanceInMips") then Some (Within 1 MOST_SPEED)
+    else if bytes_eq key (codes "PerformanceInMips") then Some (Within 1 most_speed)
     else if bytes_eq key (codes "privilegeArchitecture") then Some Reference
     else if bytes_eq key (codes "privilegedArchitecture") then Some Reference
     else None
@@ -33,14 +32,14 @@ memory_sort key = if bytes_eq key (codes "size") then Some Size else None
 
 abbrev pub clint_sort : List ℕ → Option Sort
 clint_sort key =
-    if bytes_eq key (codes "frequency") then Some (Within 1 MOST_FREQUENCY)
+    if bytes_eq key (codes "frequency") then Some (Within 1 most_frequency)
     else if bytes_eq key (codes "numberOfTargets") then Some (Within 1 1)
     else None
 
 abbrev pub plic_sort : List ℕ → Option Sort
 plic_sort key =
-    if bytes_eq key (codes "numberOfSources") then Some (Within 1 MOST_SOURCES)
-    else if bytes_eq key (codes "numberOfContexts") then Some (Within 1 MOST_CONTEXTS)
+    if bytes_eq key (codes "numberOfSources") then Some (Within 1 most_sources)
+    else if bytes_eq key (codes "numberOfContexts") then Some (Within 1 most_contexts)
     else if bytes_eq key (codes "prioritiesEnabled") then Some Yes
     else None
 
@@ -65,21 +64,40 @@ is_unknown type_ (Wire from to pins) = false
 
 -- whole pages, at least one
 abbrev pub is_memory_size : ℕ → Bool
-is_memory_size size = (size % PAGE_SIZE == 0) && nat_le PAGE_SIZE size
+is_memory_size size = (size % page_size == 0) && nat_le page_size size
 
 -- the size of a memory is that of its range, if it has one
 abbrev pub fits_range : Place → ℕ → Bool
 fits_range (Range base size) n = n == size
-fits_range _ n = true
+fits_range (Address base) n = true
+fits_range Bus n = true
+fits_range Absent n = true
 
 abbrev pub takes : Sort → Place → Value → Bool
 takes Quoted at (Words text) = true
+takes Quoted at (Name name) = false
+takes Quoted at (Truth truth) = false
+takes Quoted at (Number n) = false
+takes Reference at (Words text) = false
 takes Reference at (Name name) = true
+takes Reference at (Truth truth) = false
+takes Reference at (Number n) = false
+takes Flag at (Words text) = false
+takes Flag at (Name name) = false
 takes Flag at (Truth truth) = true
+takes Flag at (Number n) = false
+takes Yes at (Words text) = false
+takes Yes at (Name name) = false
 takes Yes at (Truth truth) = truth
+takes Yes at (Number n) = false
+takes (Within least most) at (Words text) = false
+takes (Within least most) at (Name name) = false
+takes (Within least most) at (Truth truth) = false
 takes (Within least most) at (Number n) = nat_le least n && nat_le n most
+takes Size at (Words text) = false
+takes Size at (Name name) = false
+takes Size at (Truth truth) = false
 takes Size at (Number n) = is_memory_size n && fits_range at n
-takes _ at value = false
 
 abbrev pub takes_by : Option Sort → Place → Value → Bool
 takes_by (Some sort) at value = takes sort at value
@@ -99,7 +117,10 @@ has_attribute key items = list_any (λ item. has_key key item.what) items
 
 abbrev pub number_by : ℕ → ItemWhat → ℕ
 number_by default (Attribute key (Number n)) = n
-number_by default _ = default
+number_by default (Attribute key (Words text)) = default
+number_by default (Attribute key (Truth truth)) = default
+number_by default (Attribute key (Name name)) = default
+number_by default (Wire from to pins) = default
 
 abbrev pub number_in : ℕ → Option PlacedItem → ℕ
 number_in default None = default
@@ -111,7 +132,10 @@ number_of key default items = number_in default (item_of key items)
 
 abbrev pub is_true : ItemWhat → Bool
 is_true (Attribute key (Truth truth)) = truth
-is_true _ = false
+is_true (Attribute key (Words text)) = false
+is_true (Attribute key (Number n)) = false
+is_true (Attribute key (Name name)) = false
+is_true (Wire from to pins) = false
 
 abbrev pub is_true_in : Option PlacedItem → Bool
 is_true_in None = false
@@ -130,4 +154,7 @@ is_core text =
 -- test 7: another cpuType
 abbrev pub is_other_core : ItemWhat → Bool
 is_other_core (Attribute key (Words text)) = bytes_eq key (codes "cpuType") && not (is_core text)
-is_other_core _ = false
+is_other_core (Attribute key (Number n)) = false
+is_other_core (Attribute key (Truth truth)) = false
+is_other_core (Attribute key (Name name)) = false
+is_other_core (Wire from to pins) = false

@@ -1,10 +1,8 @@
 -- How many peripherals of a type a board has.
 use Rattle.std.specs.Prelude.{ℕ, ◌+◌, nat_le, nat_lt, Bool, false, not, ◌&&◌, ◌||◌, List, Option, Some, None}
-use Rattle.std.specs.Prelude.{count_by}
-use Rattle.std.specs.Prelude.{if◌then◌else◌}
+use Rattle.std.specs.Prelude.{count_by, if◌then◌else◌}
 use Rattle.std.specs.List.{list_any, sum_by}
-use Rattle.sys_bus.specs.declared.limits.TheConstants.{MOST_MEMORIES, MOST_MEMORY, MOST_UARTS}
-use Rattle.sys_bus.specs.declared.limits.TheConstants.{MOST_CANS, MOST_FINISHERS}
+use Rattle.sys_bus.specs.Limits.{most_memories, most_memory, most_uarts, most_cans, most_finishers}
 use Rattle.repl_build.specs.declared.merge.Peripheral.{Peripheral}
 use Rattle.repl_build.specs.declared.types.PeripheralType.{PeripheralType}
 use Rattle.repl_build.specs.declared.types.PeripheralType.TheVariants.{Cpu, Memory, Clint, Plic, Uart, Can, Finisher}
@@ -13,12 +11,12 @@ use Rattle.repl_build.specs.Types.{is_type}
 
 abbrev pub most_of : PeripheralType → ℕ
 most_of Cpu = 1
-most_of Memory = MOST_MEMORIES
+most_of Memory = most_memories
 most_of Clint = 1
 most_of Plic = 1
-most_of Uart = MOST_UARTS
-most_of Can = MOST_CANS
-most_of Finisher = MOST_FINISHERS
+most_of Uart = most_uarts
+most_of Can = most_cans
+most_of Finisher = most_finishers
 
 abbrev pub count_of : List Peripheral → PeripheralType → ℕ
 count_of peripherals type_ = count_by (λ p. is_type type_ p.kind) peripherals
@@ -32,7 +30,7 @@ abbrev pub bytes_of : Peripheral → ℕ
 bytes_of p = if is_type Memory p.kind then size_of p else 0
 
 abbrev pub passes_memory : List Peripheral → Peripheral → Bool
-passes_memory before p = is_type Memory p.kind && nat_lt MOST_MEMORY (bytes_of p + sum_by bytes_of before)
+passes_memory before p = is_type Memory p.kind && nat_lt most_memory (bytes_of p + sum_by bytes_of before)
 
 -- test 8: the entry that is one too many, or the memory that passes 64 MiB
 abbrev pub is_one_too_many : List Peripheral → Peripheral → Bool

@@ -2,11 +2,13 @@
 pub mod Attributes
 pub mod Counts
 pub mod First
+pub mod Laws
 pub mod Merge
 pub mod Names
 pub mod Numbers
 pub mod Places
 pub mod Plan
+pub mod Questions
 pub mod References
 pub mod Rules
 pub mod Types

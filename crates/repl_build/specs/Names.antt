@@ -1,7 +1,7 @@
 -- What the entries are called: each name has one type, an attribute stands once in an entry, and further items are of a
 -- name that was given its type before.
-use Rattle.std.specs.Prelude.{ℕ, Bool, false, not, List, [], Option}
-use Rattle.std.specs.List.{list_any}
+use Rattle.std.specs.Prelude.{ℕ, Bool, true, false, not, List, [], Option}
+use Rattle.std.specs.List.{list_all, list_any}
 use Rattle.std.specs.Str.{bytes_eq}
 use Rattle.repl_read.specs.declared.entry.Entry.{Entry}
 use Rattle.repl_read.specs.declared.entry.Head.{Head}
@@ -12,7 +12,17 @@ use Rattle.repl_read.specs.declared.entry.ItemWhat.TheVariants.{Attribute, Wire}
 use Rattle.repl_read.specs.declared.fault.PlatCause.TheVariants.{Twice, Reference}
 use Rattle.repl_read.specs.declared.fault.PlatFault.{PlatFault}
 use Rattle.repl_read.specs.declared.fault.PlatFault.TheVariants.{At}
+use Rattle.repl_read.specs.Words.{is_name}
 use Rattle.repl_build.specs.First.{fault_if, first_of, first_fault}
+
+-- the name of an entry that has a type is a name of a platform
+abbrev pub is_named : Head → Bool
+is_named (Typed name type_name place) = is_name name
+is_named (Using file) = true
+is_named (Update name) = true
+
+abbrev pub are_named : List Entry → Bool
+are_named entries = list_all (λ entry. is_named entry.head) entries
 
 -- the head gives the name a type
 abbrev pub types_name : List ℕ → Head → Bool

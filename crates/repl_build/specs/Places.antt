@@ -1,13 +1,11 @@
 -- Where peripherals stand: their registration, addresses and sizes.
 use Rattle.std.specs.Prelude.{ℕ, ◌+◌, ◌^◌, ◌%◌, ◌==◌, nat_le, nat_lt, min, max, Bool, true, false, not, ◌&&◌, ◌||◌}
-use Rattle.std.specs.Prelude.{List}
-use Rattle.std.specs.Prelude.{Option, Some, None, if◌then◌else◌, codes}
+use Rattle.std.specs.Prelude.{List, Option, Some, None, if◌then◌else◌, codes}
 use Rattle.std.specs.List.{list_any}
 use Rattle.repl_read.specs.declared.entry.Place.{Place}
 use Rattle.repl_read.specs.declared.entry.Place.TheVariants.{Bus, Address, Range}
 use Rattle.dev_core.specs.declared.kind.Kind.TheVariants as device
-use Rattle.sys_bus.specs.declared.limits.TheConstants.{PAGE_SIZE, REGION_UNIT, LEAST_CLINT, LEAST_PLIC}
-use Rattle.sys_bus.specs.Limits.{least_device_size}
+use Rattle.sys_bus.specs.Limits.{page_size, region_unit, least_clint, least_plic, least_device_size}
 use Rattle.repl_build.specs.declared.merge.Peripheral.{Peripheral}
 use Rattle.repl_build.specs.declared.merge.PlacedItem.{PlacedItem}
 use Rattle.repl_build.specs.declared.types.PeripheralType.{PeripheralType}
@@ -49,9 +47,9 @@ step_of _ items = 1
 -- the fewest bytes
 abbrev pub least_of : Option PeripheralType → ℕ → ℕ
 least_of (Some Cpu) step = 0
-least_of (Some Memory) step = PAGE_SIZE
-least_of (Some Clint) step = LEAST_CLINT
-least_of (Some Plic) step = LEAST_PLIC
+least_of (Some Memory) step = page_size
+least_of (Some Clint) step = least_clint
+least_of (Some Plic) step = least_plic
 least_of (Some Uart) step = least_device_size device.Uart step
 least_of (Some Can) step = least_device_size device.Can step
 least_of (Some Finisher) step = least_device_size device.Finisher step
@@ -59,13 +57,13 @@ least_of None step = 0
 
 -- a memory has whole pages, and all else whole words
 abbrev pub is_unit : Option PeripheralType → ℕ → Bool
-is_unit (Some Memory) size = size % PAGE_SIZE == 0
-is_unit _ size = size % REGION_UNIT == 0
+is_unit (Some Memory) size = size % page_size == 0
+is_unit _ size = size % region_unit == 0
 
 abbrev pub is_place : Option PeripheralType → ℕ → Place → Bool
-is_place type_ step (Address base) = base % REGION_UNIT == 0
+is_place type_ step (Address base) = base % region_unit == 0
 is_place type_ step (Range base size) =
-    (base % REGION_UNIT == 0) && is_unit type_ size && nat_le (least_of type_ step) size
+    (base % region_unit == 0) && is_unit type_ size && nat_le (least_of type_ step) size
 is_place type_ step _ = true
 
 -- test 6, of an entry: an address or size of a wrong multiple or below the least

@@ -32,10 +32,10 @@ use Rattle.repl_build.specs.Rules.{broken}
 use Rattle.repl_build.specs.Types.{is_type}
 use Rattle.repl_build.specs.Wires.{placed_wires, items_wires}
 
--- lists of what each peripheral gives, after those before it
-abbrev pub each : {X : Type 0} → (List Peripheral → Peripheral → List X) → List Peripheral → List Peripheral → List X
+-- lists of what each member of a list gives, after those before it
+abbrev pub each : {X Y : Type 0} → (List X → X → List Y) → List X → List X → List Y
 each f before [] = []
-each f before (p ∷ ps) = f before p ++ each f (before ++ p ∷ []) ps
+each f before (x ∷ xs) = f before x ++ each f (before ++ x ∷ []) xs
 
 abbrev pub name_by : List ℕ → Option NamedWhat → List Named
 name_by name None = []

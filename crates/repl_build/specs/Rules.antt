@@ -28,19 +28,24 @@ cause_of References = cause.Reference
 -- a peripheral breaks the rule, after those before it
 abbrev pub breaks : Rule → List Peripheral → Peripheral → Bool
 breaks Types before p = is_none p.kind
+breaks Attributes before p = false
 breaks Required before p = is_lacking p
 breaks Values before p = is_misplaced p
+breaks Core before p = false
 breaks Counts before p = is_one_too_many before p
 breaks Apart before p = collides before p
-breaks _ before p = false
+breaks References before p = false
 
 -- an item of a peripheral breaks the rule, among all peripherals
 abbrev pub item_breaks : Rule → List Peripheral → Peripheral → PlacedItem → Bool
+item_breaks Types all p item = false
 item_breaks Attributes all p item = is_unknown p.kind item.what
+item_breaks Required all p item = false
 item_breaks Values all p item = is_refused p.kind p.at item.what
 item_breaks Core all p item = is_other_core item.what
+item_breaks Counts all p item = false
+item_breaks Apart all p item = false
 item_breaks References all p item = refers_to_none all item.what
-item_breaks _ all p item = false
 
 abbrev pub item_fault : Rule → List Peripheral → Peripheral → List PlacedItem → PlacedItem → Option PlatFault
 item_fault rule all p before item =

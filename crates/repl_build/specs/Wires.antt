@@ -10,7 +10,7 @@ use Rattle.repl_read.specs.declared.entry.Span.{Span}
 use Rattle.repl_read.specs.declared.fault.PlatCause.TheVariants.{Line}
 use Rattle.repl_read.specs.declared.fault.PlatFault.{PlatFault}
 use Rattle.repl_read.specs.declared.fault.PlatFault.TheVariants.{At}
-use Rattle.sys_bus.specs.declared.limits.TheConstants.{MOST_SOURCES}
+use Rattle.sys_bus.specs.Limits.{most_sources}
 use Rattle.sys_bus.specs.declared.plan.PlicSize.{PlicSize}
 use Rattle.sys_bus.specs.declared.wire.Wire.{Wire}
 use Rattle.sys_bus.specs.declared.wire.WireFrom.{WireFrom}
@@ -31,7 +31,7 @@ numbers_of span = range_with_len span.first (span.last + 1 - span.first)
 
 -- no line and no pin has a number above that of the greatest source
 abbrev pub is_low : Span → Bool
-is_low span = nat_le span.last MOST_SOURCES
+is_low span = nat_le span.last most_sources
 
 -- the numbers that an end of a wire names, unless one is beyond all lines and pins; an absent end is line 0
 abbrev pub ends_of : Ends → Option (List ℕ)

@@ -7,9 +7,7 @@ use crate::merge::PlacedItem;
 use crate::names::has_key;
 use crate::types::PeripheralType;
 use repl_read::{ItemWhat, Place, Value};
-
-/// A memory has whole pages, at least one.
-pub(crate) const PAGE_SIZE: u32 = 4096;
+use sys_bus::{MOST_CONTEXTS, MOST_FREQUENCY, MOST_SOURCES, MOST_SPEED, PAGE_SIZE};
 
 /// What an attribute takes.
 #[derive(Clone, Copy)]
@@ -37,7 +35,7 @@ fn cpu_sort(key: &str) -> Option<Sort>
         "hartId" => Some(Sort::Within { least: 0, most: 0 }),
         "PerformanceInMips" => Some(Sort::Within {
             least: 1,
-            most: 1000,
+            most: MOST_SPEED,
         }),
         "privilegeArchitecture" => Some(Sort::Reference),
         "privilegedArchitecture" => Some(Sort::Reference),
@@ -60,7 +58,7 @@ fn clint_sort(key: &str) -> Option<Sort>
     match key {
         "frequency" => Some(Sort::Within {
             least: 1,
-            most: 1_000_000_000,
+            most: MOST_FREQUENCY,
         }),
         "numberOfTargets" => Some(Sort::Within { least: 1, most: 1 }),
         _ => None,
@@ -73,9 +71,12 @@ fn plic_sort(key: &str) -> Option<Sort>
     match key {
         "numberOfSources" => Some(Sort::Within {
             least: 1,
-            most: 127,
+            most: u32::from(MOST_SOURCES),
         }),
-        "numberOfContexts" => Some(Sort::Within { least: 1, most: 15 }),
+        "numberOfContexts" => Some(Sort::Within {
+            least: 1,
+            most: u32::from(MOST_CONTEXTS),
+        }),
         "prioritiesEnabled" => Some(Sort::Yes),
         _ => None,
     }

@@ -1,8 +1,7 @@
 //! From entries to the plan.
 ghost use Rattle.std.specs.Prelude.{IfOk, IsTrue};
-ghost use Rattle.std.specs.List.{list_all};
-ghost use Rattle.repl_read.specs.Entries.{is_entry};
 ghost use Rattle.sys_bus.specs.Plan.{IsValid};
+ghost use Rattle.repl_build.specs.Names.{are_named};
 ghost use Rattle.repl_build.specs.Plan.{Builds};
 
 use crate::fault::refuse;
@@ -42,10 +41,11 @@ fn plan_or_fault(alloc: Global, entries: &[Entry]) -> Result<BoardPlan, PlatFaul
 /// From `TypeName` on, the further items of an entry stand in the entry that gives the name its type.
 /// `Memory` is answered where memory is wanting alone.
 ///
-/// The plan is valid where each name has its form, as in what `read_platform` gives.
+/// The plan is valid where each name that is given a type has its form. Entries that `read_platform`
+/// gives are so (`entries_of_a_text_are_named`).
 pub fn build(alloc: Global, entries: Vec<Entry>) -> Result<BoardPlan, PlatFault>
     ensures builds { Builds entries.items result }
-    ensures valid { IsTrue (list_all is_entry entries.items) → IfOk result IsValid }
+    ensures valid { IsTrue (are_named entries.items) → IfOk result IsValid }
 {
     plan_or_fault(alloc, &entries)
 }

@@ -1,27 +1,25 @@
 //! How many peripherals of a type a board has.
 ghost use Rattle.std.specs.Prelude.{◌≡◌, ◌+◌, nat_lt};
 ghost use Rattle.std.specs.List.{sum_by};
-ghost use Rattle.sys_bus.specs.declared.limits.TheConstants as limit;
+ghost use Rattle.sys_bus.specs.Limits as limit;
 ghost use Rattle.repl_build.specs.Counts as counts_spec;
 
 use crate::merge::Peripheral;
 use crate::places::size_of;
 use crate::types::{PeripheralType, is_type};
-
-/// The most bytes of all memories together: 64 MiB.
-const MOST_MEMORY: u64 = 67_108_864;
+use sys_bus::{MOST_CANS, MOST_FINISHERS, MOST_MEMORIES, MOST_MEMORY, MOST_UARTS};
 
 fn most_of(kind: PeripheralType) -> usize
     ensures { result ≡ counts_spec.most_of kind }
 {
     match kind {
         PeripheralType::Cpu => 1,
-        PeripheralType::Memory => 8,
+        PeripheralType::Memory => MOST_MEMORIES,
         PeripheralType::Clint => 1,
         PeripheralType::Plic => 1,
-        PeripheralType::Uart => 4,
-        PeripheralType::Can => 4,
-        PeripheralType::Finisher => 1,
+        PeripheralType::Uart => MOST_UARTS,
+        PeripheralType::Can => MOST_CANS,
+        PeripheralType::Finisher => MOST_FINISHERS,
     }
 }
 
@@ -53,7 +51,7 @@ fn bytes_of(p: &Peripheral) -> u32
 
 /// Whether so many bytes and those of all memories are more than a board may have.
 fn are_too_many_bytes(bytes: u32, before: &[Peripheral]) -> bool
-    ensures { result ≡ nat_lt limit.MOST_MEMORY (bytes + sum_by counts_spec.bytes_of before.now) }
+    ensures { result ≡ nat_lt limit.most_memory (bytes + sum_by counts_spec.bytes_of before.now) }
 {
     let mut total = u64::from(bytes);
     for p in before {

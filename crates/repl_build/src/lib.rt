@@ -5,6 +5,7 @@ mod attributes;
 mod builder;
 mod counts;
 mod fault;
+mod laws;
 mod merge;
 mod names;
 mod numbers;
@@ -16,3 +17,7 @@ mod types;
 mod wires;
 
 pub use builder::build;
+pub use laws::{
+    an_address_has_one_part, each_typed_entry_has_its_part, entries_of_a_text_are_named,
+    the_first_broken_rule_is_told,
+};

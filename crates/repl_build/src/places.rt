@@ -3,13 +3,12 @@ ghost use Rattle.std.specs.Prelude.{◌≡◌};
 ghost use Rattle.std.specs.List.{list_any};
 ghost use Rattle.repl_build.specs.Places as place;
 
-use crate::attributes::{PAGE_SIZE, has_attribute, is_set, number_of};
+use crate::attributes::{has_attribute, is_set, number_of};
 use crate::merge::{Peripheral, PlacedItem};
 use crate::types::PeripheralType;
+use dev_core::Kind;
 use repl_read::Place;
-
-/// Addresses and sizes are multiples of this.
-const REGION_UNIT: u32 = 4;
+use sys_bus::{LEAST_CLINT, LEAST_PLIC, PAGE_SIZE, REGION_UNIT, least_device_size};
 
 fn is_registered(kind: Option<PeripheralType>, at: Place) -> bool
     ensures { result ≡ place.is_registered kind at }
@@ -67,11 +66,11 @@ fn least_of(kind: Option<PeripheralType>, step: u8) -> u32
 {
     match kind {
         Some(PeripheralType::Memory) => PAGE_SIZE,
-        Some(PeripheralType::Clint) => 0xC000,
-        Some(PeripheralType::Plic) => 0x21_0000,
-        Some(PeripheralType::Uart) => { if step == 4 { 32 } else { 8 } }
-        Some(PeripheralType::Can) => 32,
-        Some(PeripheralType::Finisher) => 4,
+        Some(PeripheralType::Clint) => LEAST_CLINT,
+        Some(PeripheralType::Plic) => LEAST_PLIC,
+        Some(PeripheralType::Uart) => least_device_size(Kind::Uart, step),
+        Some(PeripheralType::Can) => least_device_size(Kind::Can, step),
+        Some(PeripheralType::Finisher) => least_device_size(Kind::Finisher, step),
         Some(PeripheralType::Cpu) | None => 0,
     }
 }

@@ -1,7 +1,6 @@
 //! The wires: interrupt lines, connected one by one with pins.
 ghost use Rattle.std.specs.Prelude.{◌≡◌, ◌+◌, ◌++◌, ◌<◌, [], IfOk, IfErr, OnOk, IsTrue, true};
 ghost use Rattle.std.specs.List.{list_all, flat_map};
-ghost use Rattle.sys_bus.specs.Wire as bus_wire;
 ghost use Rattle.repl_build.specs.Numbers.{devices_of};
 ghost use Rattle.repl_build.specs.Plan.{Gives, wires_from};
 ghost use Rattle.repl_build.specs.Wires as wires_spec;
@@ -13,10 +12,7 @@ use crate::types::{PeripheralType, is_type};
 use lab_num::Rows;
 use repl_read::{Ends, ItemWhat, PlatCause, PlatFault, Span};
 use std::alloc::Global;
-use sys_bus::{PlicSize, Wire, WireFrom, WirePin};
-
-/// The greatest number of a line or a pin.
-const MOST_SOURCES: u32 = 127;
+use sys_bus::{MOST_SOURCES, PlicSize, Wire, WireFrom, WirePin, is_context, may_end};
 
 /// Puts the numbers of a span after others.
 fn add_numbers(numbers: &mut Vec<u8>, span: Span) -> Result<(), PlatFault>
@@ -46,7 +42,7 @@ fn numbers_of(alloc: Global, spans: &[Span]) -> Result<Vec<u8>, PlatFault>
 fn are_low(spans: &[Span]) -> bool
     ensures { result ≡ list_all wires_spec.is_low spans.now }
 {
-    spans.iter().all(|span| span.last <= MOST_SOURCES)
+    spans.iter().all(|span| span.last <= u32::from(MOST_SOURCES))
 }
 
 /// The numbers that an end of a wire names, unless one is beyond all lines and pins.
@@ -65,15 +61,6 @@ fn ends_of(alloc: Global, ends: &Ends) -> Result<Option<Rows<u8>>, PlatFault>
                 Ok(None)
             }
         }
-    }
-}
-
-fn is_context(plic: Option<PlicSize>, context: u8) -> bool
-    ensures { result ≡ bus_wire.is_context plic context }
-{
-    match plic {
-        Some(size) => context < size.contexts,
-        None => false,
     }
 }
 
@@ -102,26 +89,6 @@ fn pin_by(to_cpu: bool, pin: u8) -> WirePin
         WirePin::Cpu(pin)
     } else {
         WirePin::Source(pin)
-    }
-}
-
-fn is_source(plic: Option<PlicSize>, source: u8) -> bool
-    ensures { result ≡ bus_wire.is_source plic source }
-{
-    match plic {
-        Some(size) => 1 <= source && source <= size.sources,
-        None => false,
-    }
-}
-
-/// Whether a wire from there may end at a pin.
-fn may_end(plic: Option<PlicSize>, from: WireFrom, pin: WirePin) -> bool
-    ensures { result ≡ bus_wire.may_end plic from pin }
-{
-    match (from, pin) {
-        (_, WirePin::Cpu(number)) => number == 3 || number == 7 || number == 11,
-        (WireFrom::Dev(_), WirePin::Source(source)) => is_source(plic, source),
-        _ => false,
     }
 }
 

@@ -1,6 +1,6 @@
 -- Counts of the items that pass a test.
 use Rattle.std.proofs.Common.{zero, suc, find, slice_get, Option, Some, ◌≡◌, ℕ, ◌+◌, ◌≤◌, Bool, true, false, ◌&&◌, cond}
-use Rattle.std.proofs.Common.{if◌then◌else◌, List, [], ◌∷◌, length, filter, count_by, ◌⊎◌, refl, inl, inr, arith}
+use Rattle.std.proofs.Common.{if◌then◌else◌, List, [], ◌∷◌, length, filter, count_by, ◌⊎◌, refl, ap, inl, inr, arith}
 use Rattle.std.proofs.lemmas.List.Sums.{sum_by-cons}
 use Rattle.std.proofs.lemmas.Option.{same_Some}
 use Rattle.std.specs.List.{list_all}
@@ -51,6 +51,28 @@ passes_some p (y ∷ ys) (suc i) x there passes =
       | true ↦ omega arith
       | false ↦ rest
     ]
+
+-- where at most one item passes, two places of such are one
+pub one_place : {X : Type 0} (p : X → Bool) (xs : List X) (i j : ℕ) (x y : X) → length (filter p xs) ≤ 1 →
+    slice_get xs i ≡ Some x → p x ≡ true → slice_get xs j ≡ Some y → p y ≡ true → i ≡ j
+one_place p [] i j x y few at_i passes at_j also = absurd (cc)
+one_place p (z ∷ zs) zero zero x y few at_i passes at_j also = refl
+one_place p (z ∷ zs) zero (suc j) x y few at_i passes at_j also =
+    let more = passes_some p zs j y at_j also in
+    let one : p z ≡ true = rw (same_Some _ _ at_i) passes in
+    let two = rw one at few in
+    absurd (omega (arith, two, more))
+one_place p (z ∷ zs) (suc i) zero x y few at_i passes at_j also =
+    let more = passes_some p zs i x at_i passes in
+    let one : p z ≡ true = rw (same_Some _ _ at_j) also in
+    let two = rw one at few in
+    absurd (omega (arith, two, more))
+one_place p (z ∷ zs) (suc i) (suc j) x y few at_i passes at_j also =
+    ap suc (one_place p zs i j x y (fewer (p z) z (filter p zs) few) at_i passes at_j also)
+  where
+    fewer : {X : Type 0} (b : Bool) (z : X) (zs : List X) → length (cond b (z ∷ zs) zs) ≤ 1 → length zs ≤ 1
+    fewer true z zs few = omega arith
+    fewer false z zs few = few
 
 -- what is found is among the items, and passes
 pub found_passes : {X : Type 0} (p : X → Bool) (xs : List X) (x : X) →

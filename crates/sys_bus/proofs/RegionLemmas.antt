@@ -8,12 +8,12 @@ use Rattle.sys_bus.specs.declared.region.RegionKind.{RegionKind}
 use Rattle.sys_bus.specs.declared.region.RegionKind.TheVariants.{Ram, Clint, Plic, Dev}
 use Rattle.sys_bus.specs.declared.region.Target.TheVariants as to
 use Rattle.sys_bus.specs.Region.{holds, overlaps, count_of_overlaps, are_apart, target, target_by, target_if, target_of}
-use Rattle.sys_bus.specs.Region.{room_if, room_of, further, end_of, are_addressed, IsWithin, LiesIn}
+use Rattle.sys_bus.specs.Region.{room_if, room_of, further, end_of, are_addressed, HasByte, IsWithin, LiesIn}
 use Rattle.sys_bus.specs.declared.near.Near.{Near}
 use Rattle.sys_bus.specs.declared.near.Place.{Place}
 use Rattle.sys_bus.specs.Inner.Near.{IsNear, IsNearPlace}
 use Rattle.sys_bus.specs.Place.{IsPlace}
-use Rattle.sys_bus.proofs.CountLemmas.{filtered_within_count, some_passes, sole_found, found_passes, passes_at}
+use Rattle.sys_bus.proofs.CountLemmas.{filtered_within_count, one_place, some_passes, sole_found, found_passes, passes_at}
 
 -- two regions that hold an access overlap
 both_hold : (at width : ℕ) (a b : Region) →
@@ -32,6 +32,16 @@ one_holds regions at width wide apart =
           let few : nat_le (count_of_overlaps regions found.0) 1 ≡ true = found.1.1 in
           grind (arith, nat_tests, held, few)
     ]
+
+-- an address lies in one region
+pub one_region : (regions : List Region) (at i j : ℕ) (one other : Region) → IsTrue (are_apart regions) →
+    slice_get regions i ≡ Some one → HasByte one at → slice_get regions j ≡ Some other → HasByte other at → i ≡ j
+one_region regions at i j one other apart at_i has at_j also =
+    one_place (holds at 1) regions i j one other (one_holds regions at 1 (omega arith) apart) at_i (held one has) at_j
+    (held other also)
+  where
+    held : (region : Region) → HasByte region at → holds at 1 region ≡ true
+    held region has = grind (arith, nat_tests, has.0, has.1)
 
 -- a region that holds an access is the one that it belongs to
 pub near_holds : (regions : List Region) (at width i : ℕ) (region : Region) →

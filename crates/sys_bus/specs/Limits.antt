@@ -1,17 +1,77 @@
--- How many parts a board has, how large they are, and the ranges of its numbers.
-use Rattle.std.specs.Prelude.{ℕ, ◌%◌, ◌==◌, nat_le, Bool, true, false, ◌&&◌, ◌||◌, if◌then◌else◌, List, length, sum}
-use Rattle.std.specs.Prelude.{count_by, slice_get, Option, None, Some}
+-- How many parts a board has, how large they are, and the ranges of its numbers. Each number stands here by itself; the
+-- code has it once more, as a constant, and the proof compares the two.
+use Rattle.std.specs.Prelude.{ℕ, ◌+◌, ◌*◌, ◌%◌, ◌==◌, nat_le, Bool, true, false, ◌&&◌, ◌||◌, if◌then◌else◌, List}
+use Rattle.std.specs.Prelude.{length, sum, count_by, slice_get, Option, None, Some}
 use Rattle.std.specs.List.{list_all}
 use Rattle.dev_core.specs.declared.kind.Kind.{Kind}
 use Rattle.dev_core.specs.declared.kind.Kind.TheVariants.{Uart, Can, Finisher}
-use Rattle.sys_bus.specs.declared.limits.TheConstants.{MOST_UARTS, MOST_CANS, MOST_FINISHERS, MOST_MEMORIES}
-use Rattle.sys_bus.specs.declared.limits.TheConstants.{MOST_MEMORY, PAGE_SIZE, MOST_SPEED, MOST_FREQUENCY, MOST_SOURCES}
-use Rattle.sys_bus.specs.declared.limits.TheConstants.{MOST_CONTEXTS, REGION_UNIT, LEAST_CLINT, LEAST_PLIC, LEAST_UART}
-use Rattle.sys_bus.specs.declared.limits.TheConstants.{LEAST_WIDE_UART, LEAST_CAN, LEAST_FINISHER}
 use Rattle.sys_bus.specs.declared.region.RegionKind.{RegionKind}
 use Rattle.sys_bus.specs.declared.region.RegionKind.TheVariants.{Ram, Clint, Plic, Dev}
 use Rattle.sys_bus.specs.declared.region.Region.{Region}
 use Rattle.sys_bus.specs.declared.plan.PlicSize.{PlicSize}
+
+-- The laboratory's own limits of a board: four UARTs, four CAN controllers and one finisher,
+abbrev pub most_uarts : ℕ
+most_uarts = 4
+
+abbrev pub most_cans : ℕ
+most_cans = 4
+
+abbrev pub most_finishers : ℕ
+most_finishers = 1
+
+-- one to eight memories, of together at most 64 MiB,
+abbrev pub most_memories : ℕ
+most_memories = 8
+
+abbrev pub most_memory : ℕ
+most_memory = 64 * 1024 * 1024
+
+-- 1 to 1000 instructions in a microsecond,
+abbrev pub most_speed : ℕ
+most_speed = 1000
+
+-- and a timer of 1 to 1,000,000,000 ticks in a second.
+abbrev pub most_frequency : ℕ
+most_frequency = 1_000_000_000
+
+-- Sources of an interrupt controller count from 1 to 127: they fill four words of 32 bits, in which bit 0 is none's
+-- (RISC-V Platform-Level Interrupt Controller 1.0.0, section 5). It has 1 to 15 contexts.
+abbrev pub most_sources : ℕ
+most_sources = 127
+
+abbrev pub most_contexts : ℕ
+most_contexts = 15
+
+-- A memory has whole pages of 4 KiB (RISC-V Privileged ISA 20211203, section 4.3.1), and is at least one.
+abbrev pub page_size : ℕ
+page_size = 4096
+
+-- Addresses and sizes of regions are whole words.
+abbrev pub region_unit : ℕ
+region_unit = 4
+
+-- The last register of a CLINT is mtime, the eight bytes at 0xBFF8.
+abbrev pub least_clint : ℕ
+least_clint = 0xBFF8 + 8
+
+-- The contexts of a PLIC lie 0x1000 bytes apart from 0x20_0000 on, and there is room for sixteen.
+abbrev pub least_plic : ℕ
+least_plic = 0x20_0000 + 16 * 0x1000
+
+-- A UART has eight registers (PC16550D, table II), which lie one byte or four bytes apart.
+abbrev pub least_uart : ℕ
+least_uart = 8
+
+abbrev pub least_wide_uart : ℕ
+least_wide_uart = 8 * 4
+
+-- A CAN controller has 32 registers (SJA1000 data sheet, section 6.2.1), and a finisher one word.
+abbrev pub least_can : ℕ
+least_can = 32
+
+abbrev pub least_finisher : ℕ
+least_finisher = 4
 
 abbrev pub is_kind : Kind → Kind → Bool
 is_kind Uart Uart = true
@@ -24,29 +84,29 @@ count_of kinds kind = count_by (is_kind kind) kinds
 
 abbrev pub are_few_devices : List Kind → Bool
 are_few_devices kinds =
-    nat_le (count_of kinds Uart) MOST_UARTS
-    && nat_le (count_of kinds Can) MOST_CANS
-    && nat_le (count_of kinds Finisher) MOST_FINISHERS
+    nat_le (count_of kinds Uart) most_uarts
+    && nat_le (count_of kinds Can) most_cans
+    && nat_le (count_of kinds Finisher) most_finishers
 
 abbrev pub are_few_memories : List ℕ → Bool
 are_few_memories memories =
-    nat_le 1 (length memories) && nat_le (length memories) MOST_MEMORIES && nat_le (sum memories) MOST_MEMORY
+    nat_le 1 (length memories) && nat_le (length memories) most_memories && nat_le (sum memories) most_memory
 
 -- instructions in a microsecond
 abbrev pub is_speed : ℕ → Bool
-is_speed speed = nat_le 1 speed && nat_le speed MOST_SPEED
+is_speed speed = nat_le 1 speed && nat_le speed most_speed
 
 -- ticks of the timer in a second, where there is a timer
 abbrev pub is_frequency : Option ℕ → Bool
 is_frequency None = true
-is_frequency (Some ticks) = nat_le 1 ticks && nat_le ticks MOST_FREQUENCY
+is_frequency (Some ticks) = nat_le 1 ticks && nat_le ticks most_frequency
 
 -- the sources and contexts of an interrupt controller, where there is one
 abbrev pub is_plic_size : Option PlicSize → Bool
 is_plic_size None = true
 is_plic_size (Some size) =
-    nat_le 1 size.sources && nat_le size.sources MOST_SOURCES
-    && nat_le 1 size.contexts && nat_le size.contexts MOST_CONTEXTS
+    nat_le 1 size.sources && nat_le size.sources most_sources
+    && nat_le 1 size.contexts && nat_le size.contexts most_contexts
 
 -- the kind of the device that stands in a region, if a device does
 abbrev pub device_in : List Kind → RegionKind → Option Kind
@@ -63,29 +123,29 @@ are_steps kinds regions = list_all (λ region. is_step (device_in kinds region.k
 
 -- the fewest bytes of a region
 abbrev pub least_device_size : Kind → ℕ → ℕ
-least_device_size Uart step = if step == 4 then LEAST_WIDE_UART else LEAST_UART
-least_device_size Can step = LEAST_CAN
-least_device_size Finisher step = LEAST_FINISHER
+least_device_size Uart step = if step == 4 then least_wide_uart else least_uart
+least_device_size Can step = least_can
+least_device_size Finisher step = least_finisher
 
 abbrev pub least_size_at : Option Kind → ℕ → ℕ
 least_size_at None step = 0
 least_size_at (Some kind) step = least_device_size kind step
 
 abbrev pub least_size : List Kind → RegionKind → ℕ → ℕ
-least_size kinds (Ram i) step = PAGE_SIZE
-least_size kinds Clint step = LEAST_CLINT
-least_size kinds Plic step = LEAST_PLIC
+least_size kinds (Ram i) step = page_size
+least_size kinds Clint step = least_clint
+least_size kinds Plic step = least_plic
 least_size kinds (Dev i) step = least_size_at (slice_get kinds i) step
 
 -- what the size of a region is a multiple of
 abbrev pub unit_of : RegionKind → ℕ
-unit_of (Ram i) = PAGE_SIZE
-unit_of _ = REGION_UNIT
+unit_of (Ram i) = page_size
+unit_of _ = region_unit
 
 -- a region may have this address and size
 abbrev pub is_range : List Kind → Region → Bool
 is_range kinds region =
-    (region.base % REGION_UNIT == 0)
+    (region.base % region_unit == 0)
     && (region.size % unit_of region.kind == 0)
     && nat_le (least_size kinds region.kind region.step) region.size
 

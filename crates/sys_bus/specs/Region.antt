@@ -1,5 +1,5 @@
 -- Regions of addresses, and which one an access belongs to.
-use Rattle.std.specs.Prelude.{◌≡◌, ℕ, ◌+◌, ◌-◌, ◌^◌, ◌==◌, ◌≤◌, ◌⊎◌, nat_lt, nat_le, min, max, Bool, true, false, ◌&&◌}
+use Rattle.std.specs.Prelude.{◌≡◌, ℕ, ◌+◌, ◌-◌, ◌^◌, ◌==◌, ◌<◌, ◌≤◌, ◌⊎◌, nat_lt, nat_le, min, max, Bool, true, false, ◌&&◌}
 use Rattle.std.specs.Prelude.{List, find, count_by, Any, Option, None, Some}
 use Rattle.std.specs.List.{list_all}
 use Rattle.sys_bus.specs.declared.region.RegionKind.{RegionKind}
@@ -24,6 +24,10 @@ end_of region = region.base + region.size
 -- the region holds so many bytes from an address on
 abbrev pub holds : ℕ → ℕ → Region → Bool
 holds at width region = nat_le region.base at && nat_le (at + width) (end_of region)
+
+-- the region has a byte at an address
+abbrev pub HasByte : Region → ℕ → Type 0
+HasByte region at = (region.base ≤ at) × (at < end_of region)
 
 -- a byte lies in both
 abbrev pub overlaps : Region → Region → Bool

@@ -77,7 +77,7 @@ pub(crate) fn are_few_devices(kinds: &[Kind]) -> bool
 
 /// The bytes of all memories together.
 fn bytes_of(memories: &[u32]) -> u64
-    requires { length memories.now ≤ 8 }
+    requires { length memories.now ≤ limit.most_memories }
     ensures { result ≡ sum memories.now }
 {
     memories.iter().map(|&size| u64::from(size)).sum()
@@ -146,7 +146,8 @@ pub(crate) fn are_steps(kinds: &[Kind], regions: &[Region]) -> bool
     regions.iter().all(|region| is_step(device_in(kinds, region.kind), region.step))
 }
 
-fn least_device_size(kind: Kind, step: u8) -> u32
+/// The fewest bytes of the region of a device whose registers lie `step` bytes apart.
+pub fn least_device_size(kind: Kind, step: u8) -> u32
     ensures { result ≡ limit.least_device_size kind step }
 {
     match kind {

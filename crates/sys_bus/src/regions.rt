@@ -1,8 +1,8 @@
 //! The regions of a board.
-ghost use Rattle.std.specs.Prelude.{◌≡◌, ℕ, ◌+◌, ◌<◌, ◌≤◌, List, length, filter, find, IsTrue, IfSome};
+ghost use Rattle.std.specs.Prelude.{◌≡◌, ℕ, ◌+◌, ◌<◌, ◌≤◌, List, length, filter, find, slice_get, IsTrue, IfSome};
 ghost use Rattle.sys_bus.specs.declared.region.Region.{Region};
 ghost use Rattle.sys_bus.specs.Region.{holds, overlaps, count_of_overlaps, are_apart, are_addressed, target_of};
-ghost use Rattle.sys_bus.specs.Region.{target_if, room_of, step_of, further, IsWithin, IsWidth};
+ghost use Rattle.sys_bus.specs.Region.{HasByte, target_if, room_of, step_of, further, IsWithin, IsWidth};
 ghost use Rattle.sys_bus.specs.Place.{IsPlace};
 
 use crate::near::{Near, Place};
@@ -180,6 +180,13 @@ impl Regions {
 pub fn accesses_belong_to_one_region()
     ensures { (regions : List Region) (at width : ℕ) → 0 < width → IsTrue (are_apart regions) →
         length (filter (holds at width) regions) ≤ 1 }
+{}
+
+/// Of regions of which no two have a byte in common, at most one has an address.
+pub fn an_address_lies_in_one_region()
+    ensures { (regions : List Region) (at i j : ℕ) (one other : Region) → IsTrue (are_apart regions) →
+        slice_get regions i ≡ Some one → HasByte one at →
+        slice_get regions j ≡ Some other → HasByte other at → i ≡ j }
 {}
 
 /// As far as a region goes, each byte belongs to the same as the first, so many bytes further on.

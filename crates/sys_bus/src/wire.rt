@@ -51,7 +51,8 @@ fn is_source(plic: Option<PlicSize>, source: u8) -> bool
     }
 }
 
-fn is_context(plic: Option<PlicSize>, context: u8) -> bool
+/// Whether an interrupt controller has a context. Contexts count from 0.
+pub fn is_context(plic: Option<PlicSize>, context: u8) -> bool
     ensures { result ≡ wire_spec.is_context plic context }
 {
     match plic {
@@ -81,7 +82,7 @@ fn is_from(kinds: &[Kind], regions: &[Region], plic: Option<PlicSize>, from: Wir
 }
 
 /// Whether a wire from there may end at a pin.
-fn may_end(plic: Option<PlicSize>, from: WireFrom, pin: WirePin) -> bool
+pub fn may_end(plic: Option<PlicSize>, from: WireFrom, pin: WirePin) -> bool
     ensures { result ≡ wire_spec.may_end plic from pin }
 {
     match (from, pin) {
