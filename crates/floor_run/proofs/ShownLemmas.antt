@@ -13,7 +13,8 @@ use Rattle.std.proofs.lemmas.List.{length-map}
 use Rattle.atomic_table.proofs.Lists.{at_map, at_longer, set_else, set_here}
 use Rattle.dev_core.specs.declared.post.Post as post
 use Rattle.floor_core.specs.declared.event.Event.TheVariants.{Claim, Post, Report}
-use Rattle.floor_core.specs.Events.{IsLegal, MayClaim, MayPost, MayReport, changed, claimed, relieved, at_home}
+use Rattle.lab_num.specs.Change.{change_at}
+use Rattle.floor_core.specs.Events.{IsLegal, MayClaim, MayPost, MayReport, claimed, relieved, at_home}
 use Rattle.floor_core.specs.Events.{happened}
 use Rattle.floor_core.specs.Floor as floor
 use Rattle.floor_core.specs.Floor.{Board, Floor, begun}
@@ -32,7 +33,7 @@ use Rattle.floor_run.proofs.TurnLemmas.{TurnsAdd, PostsAdd, next}
 
 -- after a change an item is the changed one, or one that was there
 changed_at :
-    {A : Type 0} (step : A → A) (xs : List A) (k i : ℕ) (y : A) → get_elem? (changed step xs k) i ≡ some y →
+    {A : Type 0} (step : A → A) (xs : List A) (k i : ℕ) (y : A) → get_elem? (change_at xs k step) i ≡ some y →
     ((i ≡ k) × (x : A) × (get_elem? xs i ≡ some x) × (y ≡ step x)) ⊎ ((i ≢ k) × (get_elem? xs i ≡ some y))
 changed_at step [] k i y is = absurd (some-ne-none y (sym is))
 changed_at step (x ∷ xs) zero zero y is = inl (refl, x, refl, sym (some-injective (step x) y is))
@@ -44,10 +45,10 @@ changed_at step (x ∷ xs) (suc k) (suc i) y is =
       | inr h ↦ inr ((λ e. h.0 (omega arith)), h.1)
     ]
 
-length-changed : {A : Type 0} (step : A → A) (xs : List A) (i : ℕ) → length (changed step xs i) ≡ length xs
+length-changed : {A : Type 0} (step : A → A) (xs : List A) (i : ℕ) → length (change_at xs i step) ≡ length xs
 length-changed step [] i = refl
 length-changed step (x ∷ xs) zero = refl
-length-changed step (x ∷ xs) (suc i) = ap suc (length-changed step xs i)
+length-changed step (x ∷ xs) (suc i) = ap suc (length-change_at xs i step)
 
 -- the same item by either way of reading a list
 read : {A : Type 0} (xs : List A) (i : ℕ) (x : A) → get_elem? xs i ≡ some x → slice_get xs i ≡ Some x
@@ -133,9 +134,9 @@ module _ {J S : Type 0} (meaning : J → Job S) (sent : J → List post.Post)
         get_elem? starts i ≡ some start → get_elem? f.boards i ≡ some b → Shown s' start i (step b) →
         ((j : ℕ) (other : J) (c : Board S) → j ≢ i → get_elem? starts j ≡ some other → Shown s other j c →
         Shown s' other j c) →
-        Floors starts s' (record f { boards = changed step f.boards i })
+        Floors starts s' (record f { boards = change_at f.boards i step })
     one_changed s' step i start b has at new others = record {
-      boards = length-changed step f.boards i ∙ shows.boards;
+      boards = length-change_at f.boards i step ∙ shows.boards;
       each = λ j other c e e'. elim (changed_at step f.boards i j c e') [
         | inl h ↦ subst (λ (z : J × ℕ × Board S). Shown s' z.0 z.1 z.2)
             (λ t. (

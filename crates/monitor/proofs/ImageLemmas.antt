@@ -24,7 +24,7 @@ use Rattle.board.specs.Changes.{copied, holds_each, in_memory, is_memory, put_by
 use Rattle.board.specs.Space.{Space, target_at}
 use Rattle.board.specs.View.{View}
 use Rattle.lab_state.specs.Board.{Board}
-use Rattle.lab_state.specs.Change.{change_at}
+use Rattle.lab_num.specs.Change.{change_at}
 use Rattle.lab_state.specs.Lab.{Lab}
 use Rattle.lab_state.specs.One.{changed, view_at, view_of, with_view}
 use Rattle.monitor.specs.declared.fault.Cause.{Cause}

@@ -11,7 +11,8 @@ use Rattle.std.specs.List.{list_all, list_any, flat_map}
 use Rattle.std.specs.Option.{option_map}
 use Rattle.std.specs.Str.{bytes_eq}
 use Rattle.repl_read.specs.Entries.{is_entry, is_head, are_items}
-use Rattle.repl_read.specs.Words.{is_name, is_dotted_name}
+use Rattle.lab_num.specs.Name.{is_identifier}
+use Rattle.repl_read.specs.Words.{is_dotted_name}
 use Rattle.repl_read.specs.declared.entry.Entry.{Entry}
 use Rattle.repl_read.specs.declared.entry.Head.{Head}
 use Rattle.repl_read.specs.declared.entry.Head.TheVariants.{Using, Typed, Update}
@@ -20,7 +21,7 @@ use Rattle.sys_bus.specs.declared.plan.NamedWhat.{NamedWhat}
 use Rattle.sys_bus.specs.declared.plan.NamedWhat.TheVariants as what
 use Rattle.sys_bus.specs.declared.region.RegionKind.{RegionKind}
 use Rattle.sys_bus.specs.declared.region.RegionKind.TheVariants as part
-use Rattle.sys_bus.specs.Name.{is_entry_name, are_names, names_differ, is_processor, count_of_processors}
+use Rattle.sys_bus.specs.Name.{are_names, names_differ, is_processor, count_of_processors}
 use Rattle.sys_bus.specs.Name.{are_processors_named, has_one_processor}
 use Rattle.sys_bus.specs.Part.{is_part, names_part, has_no_others, has_region}
 use Rattle.sys_bus.specs.Region.{same_part}
@@ -341,28 +342,28 @@ distinct entries none = distinct_from entries [] entries none
 -- names have their form
 good_entry :
     (all : List Entry) (e : Entry) (head : Head) → is_named head ≡ true →
-    list_all (λ p. is_entry_name p.name) (peripheral_by all e head) ≡ true
+    list_all (λ p. is_identifier p.name) (peripheral_by all e head) ≡ true
 good_entry all e (Using file) good = refl
 good_entry all e (Update n) good = refl
 good_entry all e (Typed n kind at) good = both_true _ _ good refl
 
 good_merged : (all xs : List Entry) → are_named xs ≡ true →
-    list_all (λ p. is_entry_name p.name) (flat_map (peripheral_of all) xs) ≡ true
+    list_all (λ p. is_identifier p.name) (flat_map (peripheral_of all) xs) ≡ true
 good_merged all [] good = refl
 good_merged all (e ∷ es) good =
     let parts = and_true (is_named e.head) (are_named es) good in
     all_append _ (peripheral_of all e) (flat_map (peripheral_of all) es)
     (good_entry all e e.head parts.0) (good_merged all es parts.1)
 
-good_names : (before xs : List Peripheral) → list_all (λ p. is_entry_name p.name) xs ≡ true →
+good_names : (before xs : List Peripheral) → list_all (λ p. is_identifier p.name) xs ≡ true →
     are_names (each name_of before xs) ≡ true
 good_names before [] good = refl
 good_names before (p ∷ ps) good =
-    let parts = and_true (is_entry_name p.name) (list_all (λ p. is_entry_name p.name) ps) good in
+    let parts = and_true (is_identifier p.name) (list_all (λ p. is_identifier p.name) ps) good in
     all_append _ (name_of before p) (each name_of (before ++ p ∷ []) ps) (one (what_of before p.kind) parts.0)
     (good_names (before ++ p ∷ []) ps parts.1)
   where
-    one : (o : Option NamedWhat) → is_entry_name p.name ≡ true → are_names (name_by p.name o) ≡ true
+    one : (o : Option NamedWhat) → is_identifier p.name ≡ true → are_names (name_by p.name o) ≡ true
     one None good = refl
     one (Some what) good = both_true _ _ good refl
 
@@ -381,4 +382,4 @@ text_named (e ∷ es) good =
     head_named : (head : Head) → is_head head ≡ true → is_named head ≡ true
     head_named (Using file) good = refl
     head_named (Update n) good = refl
-    head_named (Typed n kind at) good = (and_true (is_name n) (is_dotted_name kind) good).0
+    head_named (Typed n kind at) good = (and_true (is_identifier n) (is_dotted_name kind) good).0

@@ -12,12 +12,12 @@ use Rattle.repl_read.specs.declared.entry.ItemWhat.TheVariants.{Attribute, Wire}
 use Rattle.repl_read.specs.declared.fault.PlatCause.TheVariants.{Twice, Reference}
 use Rattle.repl_read.specs.declared.fault.PlatFault.{PlatFault}
 use Rattle.repl_read.specs.declared.fault.PlatFault.TheVariants.{At}
-use Rattle.repl_read.specs.Words.{is_name}
+use Rattle.lab_num.specs.Name.{is_identifier}
 use Rattle.repl_build.specs.First.{fault_if, first_of, first_fault}
 
 -- the name of an entry that has a type is a name of a platform
 abbrev pub is_named : Head → Bool
-is_named (Typed name type_name place) = is_name name
+is_named (Typed name type_name place) = is_identifier name
 is_named (Using file) = true
 is_named (Update name) = true
 

@@ -1,22 +1,15 @@
 -- The names of a platform's entries.
-use Rattle.std.specs.Prelude.{ℕ, Bool, false, true, ◌==◌, ◌&&◌, ◌||◌, not, List, count_by, slice_index}
-use Rattle.std.specs.Char.{is_ascii_alphabetic, is_ascii_alphanumeric}
+use Rattle.std.specs.Prelude.{ℕ, Bool, false, true, ◌==◌, ◌&&◌, ◌||◌, not, List, count_by}
 use Rattle.std.specs.List.{list_all}
-use Rattle.std.specs.Str.{byte, bytes_eq}
+use Rattle.std.specs.Str.{bytes_eq}
+use Rattle.lab_num.specs.Name.{is_identifier}
 use Rattle.sys_bus.specs.declared.plan.NamedWhat.{NamedWhat}
 use Rattle.sys_bus.specs.declared.plan.NamedWhat.TheVariants.{Cpu, Part}
 use Rattle.sys_bus.specs.declared.plan.Named.{Named}
 
--- an ASCII letter or digit, or `_`
-abbrev pub is_entry_byte : ℕ → Bool
-is_entry_byte b = is_ascii_alphanumeric b || b == byte "_"
-
--- letters, digits and `_`, of which the first is a letter
-abbrev pub is_entry_name : List ℕ → Bool
-is_entry_name name = is_ascii_alphabetic (slice_index name 0) && list_all is_entry_byte name
-
+-- each name is an identifier: a letter, then letters, digits or `_`
 abbrev pub are_names : List Named → Bool
-are_names names = list_all (λ n. is_entry_name n.name) names
+are_names names = list_all (λ n. is_identifier n.name) names
 
 -- each name stands there once
 abbrev pub names_differ : List Named → Bool

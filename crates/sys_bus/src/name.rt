@@ -1,44 +1,15 @@
 //! The names of a platform's entries.
-ghost use Rattle.std.specs.Prelude.{◌≡◌, count_by, slice_index};
-ghost use Rattle.std.specs.Char.{is_ascii_alphabetic};
-ghost use Rattle.std.specs.List.{list_all};
+ghost use Rattle.std.specs.Prelude.{◌≡◌, count_by};
 ghost use Rattle.std.specs.Str.{bytes_eq};
 ghost use Rattle.sys_bus.specs.Name as name;
 
 use crate::plan::{Named, NamedWhat};
-
-fn is_entry_byte(b: u8) -> bool
-    ensures { result ≡ name.is_entry_byte b }
-{
-    b.is_ascii_alphanumeric() || b == b'_'
-}
-
-fn begins_with_letter(text: &str) -> bool
-    ensures { result ≡ is_ascii_alphabetic (slice_index text.now 0) }
-{
-    match text.as_bytes().first() {
-        Some(first) => first.is_ascii_alphabetic(),
-        None => false,
-    }
-}
-
-fn are_entry_bytes(text: &str) -> bool
-    ensures { result ≡ list_all name.is_entry_byte text.now }
-{
-    text.bytes().all(is_entry_byte)
-}
-
-/// Whether the text is letters, digits and `_`, of which the first is a letter.
-fn is_entry_name(text: &str) -> bool
-    ensures { result ≡ name.is_entry_name text.now }
-{
-    begins_with_letter(text) && are_entry_bytes(text)
-}
+use lab_num::is_identifier;
 
 pub(crate) fn are_names(names: &[Named]) -> bool
     ensures { result ≡ name.are_names names.now }
 {
-    names.iter().all(|n| is_entry_name(n.name.as_str()))
+    names.iter().all(|n| is_identifier(n.name.as_str()))
 }
 
 /// How many entries have a name.
