@@ -48,7 +48,7 @@ changed_at step (x ∷ xs) (suc k) (suc i) y is =
 length-changed : {A : Type 0} (step : A → A) (xs : List A) (i : ℕ) → length (change_at xs i step) ≡ length xs
 length-changed step [] i = refl
 length-changed step (x ∷ xs) zero = refl
-length-changed step (x ∷ xs) (suc i) = ap suc (length-change_at xs i step)
+length-changed step (x ∷ xs) (suc i) = ap suc (length-changed step xs i)
 
 -- the same item by either way of reading a list
 read : {A : Type 0} (xs : List A) (i : ℕ) (x : A) → get_elem? xs i ≡ some x → slice_get xs i ≡ Some x
@@ -136,7 +136,7 @@ module _ {J S : Type 0} (meaning : J → Job S) (sent : J → List post.Post)
         Shown s' other j c) →
         Floors starts s' (record f { boards = change_at f.boards i step })
     one_changed s' step i start b has at new others = record {
-      boards = length-change_at f.boards i step ∙ shows.boards;
+      boards = length-changed step f.boards i ∙ shows.boards;
       each = λ j other c e e'. elim (changed_at step f.boards i j c e') [
         | inl h ↦ subst (λ (z : J × ℕ × Board S). Shown s' z.0 z.1 z.2)
             (λ t. (
