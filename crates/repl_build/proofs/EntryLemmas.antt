@@ -41,7 +41,7 @@ each_tells g f told all before (p ∷ ps) one whole sound =
     map-append g (f before p) (each f (before ++ p ∷ []) ps) ∙ (rw (here, later) refl)
 
 -- what the peripherals tell, told by the entries
-entries_tell :
+pub entries_tell :
     {Y : Type 0} (told : Peripheral → List Y) (said : Entry → List Y) (all xs : List Entry) →
     ((e : Entry) → flat_map told (peripheral_of all e) ≡ said e) →
     flat_map told (flat_map (peripheral_of all) xs) ≡ flat_map said xs
