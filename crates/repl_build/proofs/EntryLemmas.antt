@@ -9,15 +9,13 @@ use Rattle.repl_read.specs.declared.entry.Entry.{Entry}
 use Rattle.repl_read.specs.declared.entry.Head.{Head}
 use Rattle.repl_read.specs.declared.entry.Head.TheVariants.{Using, Typed, Update}
 use Rattle.repl_read.specs.declared.entry.Place.{Place}
-use Rattle.repl_read.specs.declared.entry.Place.TheVariants.{Absent, Bus, Address, Range}
+use Rattle.repl_read.specs.declared.entry.Place.TheVariants.{Bus, Address, Range}
 use Rattle.sys_bus.specs.declared.plan.BoardPlan.{BoardPlan}
-use Rattle.sys_bus.specs.declared.plan.Named.{Named}
 use Rattle.sys_bus.specs.declared.plan.NamedWhat.{NamedWhat}
 use Rattle.sys_bus.specs.declared.plan.NamedWhat.TheVariants as what
-use Rattle.sys_bus.specs.declared.region.Region.{Region}
 use Rattle.repl_build.specs.declared.merge.Peripheral.{Peripheral}
 use Rattle.repl_build.specs.declared.types.PeripheralType.{PeripheralType}
-use Rattle.repl_build.specs.declared.types.PeripheralType.TheVariants.{Cpu, Memory, Clint, Plic, Uart, Can, Finisher}
+use Rattle.repl_build.specs.declared.types.PeripheralType.TheVariants.{Cpu, Uart, Can, Finisher}
 use Rattle.repl_build.specs.Laws.{typed_name, typed_type, place_at, typed_place, place_in, part_of, type_by, type_in}
 use Rattle.repl_build.specs.Merge.{peripheral_by, peripheral_of, merged}
 use Rattle.repl_build.specs.Numbers.{devices_of, what_of}
@@ -43,7 +41,7 @@ each_tells g f told all before (p ∷ ps) one whole sound =
     map-append g (f before p) (each f (before ++ p ∷ []) ps) ∙ (rw (here, later) refl)
 
 -- what the peripherals tell, told by the entries
-entries_tell :
+pub entries_tell :
     {Y : Type 0} (told : Peripheral → List Y) (said : Entry → List Y) (all xs : List Entry) →
     ((e : Entry) → flat_map told (peripheral_of all e) ≡ said e) →
     flat_map told (flat_map (peripheral_of all) xs) ≡ flat_map said xs

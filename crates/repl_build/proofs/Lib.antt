@@ -1,4 +1,5 @@
 -- Lemmas of repl_build.
+pub mod ConnectionLemmas
 pub mod CountLemmas
 pub mod EntryLemmas
 pub mod ListLemmas
@@ -15,6 +16,7 @@ pub mod RegionLemmas
 pub mod SoundLemmas
 pub mod TestedLemmas
 pub mod TypeLemmas
+pub mod UpdateLemmas
 pub mod ValidLemmas
 pub mod WhatLemmas
 pub mod WireLemmas

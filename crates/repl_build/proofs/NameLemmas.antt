@@ -134,7 +134,8 @@ clint_region (Some Cpu) p before = refl
 clint_region _ p before = refl
 
 type_there :
-    (k : PeripheralType) (part : RegionKind) → ((t : Option PeripheralType) (p : Peripheral) (before : List Peripheral) →
+    (k : PeripheralType) (part : RegionKind) →
+    ((t : Option PeripheralType) (p : Peripheral) (before : List Peripheral) →
     has_region (region_by p (what_of before t)) part ≡ is_type k t) → (before xs : List Peripheral) →
     has_region (each region_of before xs) part ≡ has_type k xs
 type_there k part one before [] = refl
@@ -237,7 +238,7 @@ same_name a b = bytes_eq b.name a.name
 abbrev pub called_same : Peripheral → Peripheral → Bool
 called_same a b = bytes_eq b.name a.name
 
-bytes_eq_comm : (xs ys : List ℕ) → bytes_eq xs ys ≡ bytes_eq ys xs
+pub bytes_eq_comm : (xs ys : List ℕ) → bytes_eq xs ys ≡ bytes_eq ys xs
 bytes_eq_comm xs ys =
     elim (bytes_eq xs ys) as (λ b. bytes_eq xs ys ≡ b → b ≡ bytes_eq ys xs) [
       | true ↦ λ is. sym ((bytes_eq-Decides ys xs).1 (sym ((bytes_eq-Decides xs ys).0 is)))
@@ -280,7 +281,8 @@ none_same :
 none_same before [] none = tt
 none_same before (p ∷ ps) none =
     let last : each name_of [] (before ++ p ∷ []) ≡ each name_of [] before ++ name_of before p =
-    each_append name_of [] before (p ∷ []) ∙ ap (λ more. each name_of [] before ++ more) (append-nil (name_of before p)) in
+    each_append name_of [] before (p ∷ []) ∙ ap (λ more. each name_of [] before ++ more) (append-nil
+    (name_of before p)) in
     put_name p (what_of before p.kind) (each name_of [] before) (each name_of (before ++ p ∷ []) ps)
     (λ n is. other_names p n is [] before none.0)
     (subst (λ b. NoneBefore same_name b (each name_of (before ++ p ∷ []) ps)) last (none_same

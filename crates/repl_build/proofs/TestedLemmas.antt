@@ -6,6 +6,7 @@ use Rattle.repl_read.specs.declared.fault.PlatFault.TheVariants.{At}
 use Rattle.repl_read.specs.declared.fault.PlatCause.TheVariants as cause
 use Rattle.repl_build.specs.declared.merge.Peripheral.{Peripheral}
 use Rattle.repl_build.specs.declared.rules.Rule.TheVariants.{Types, Attributes, Required, Values, Core, Counts, Apart}
+use Rattle.repl_build.specs.declared.rules.Rule.TheVariants.{References}
 use Rattle.repl_build.specs.Counts.{is_bare}
 use Rattle.repl_build.specs.First.{◌>>=◌, refuse, fault_if}
 use Rattle.repl_build.specs.Plan.{tested}
@@ -20,12 +21,17 @@ pub record Keeps (all : List Peripheral) : Type 0 where
   pub counts : broken Counts all ≡ None
   pub whole : is_bare all ≡ false
   pub apart : broken Apart all ≡ None
+  pub references : broken References all ≡ None
 
 pub passed :
     {X : Type 0} (o : Option PlatFault) (rest : Unit {0} → Result X PlatFault) (x : X) → (refuse o >>= rest) ≡ Ok x →
     (o ≡ None) × (rest tt ≡ Ok x)
 passed None rest x is = (refl, is)
 passed (Some fault) rest x is = absurd (cc)
+
+refused : (o : Option PlatFault) → refuse o ≡ Ok tt → o ≡ None
+refused None is = refl
+refused (Some fault) is = absurd (cc)
 
 -- peripherals in which the tests find no fault keep each rule
 pub keeps : (all : List Peripheral) → tested all ≡ Ok tt → Keeps all
@@ -46,4 +52,5 @@ keeps all is =
       counts = f.0;
       whole = no_fault (is_bare all) _ g.0;
       apart = h.0;
+      references = refused (broken References all) h.1;
     }

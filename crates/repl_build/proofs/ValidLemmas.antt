@@ -135,7 +135,8 @@ made entries plan is =
     }
 
 -- no byte lies in two regions of a plan
-pub regions_apart : (entries : List Entry) (plan : BoardPlan) → built entries ≡ Ok plan → IsTrue (are_apart plan.regions)
+pub regions_apart : (entries : List Entry) (plan : BoardPlan) → built entries ≡ Ok plan →
+    IsTrue (are_apart plan.regions)
 regions_apart entries plan is =
     let made = made entries plan is in
     rw (← made.is) (apart (merged entries) (sound (merged entries) made.keeps))

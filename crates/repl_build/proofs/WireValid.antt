@@ -43,7 +43,7 @@ ok_then (Err fault) f y is = absurd (cc)
 pub same_ok : {A : Type 0} (x y : A) → (let r : Result A PlatFault = Ok x in r) ≡ Ok y → x ≡ y
 same_ok x y is = cc
 
-same_some : {A : Type 0} (x y : A) → (let r : Option A = Some x in r) ≡ Some y → x ≡ y
+pub same_some : {A : Type 0} (x y : A) → (let r : Option A = Some x in r) ≡ Some y → x ≡ y
 same_some x y is = cc
 
 abbrev good : List Kind → List Region → Option PlicSize → Wire → Bool
@@ -121,7 +121,7 @@ item_good kinds regions plic all t dev (item.Wire from to pins) wires lines is =
       | false ↦ λ is. absurd (cc)
     ] is
 
-given : (fault : PlatFault) (o : Option (List Wire)) (wires : List Wire) → wires_or fault o ≡ Ok wires →
+pub given : (fault : PlatFault) (o : Option (List Wire)) (wires : List Wire) → wires_or fault o ≡ Ok wires →
     o ≡ Some wires
 given fault None wires is = absurd (cc)
 given fault (Some ws) wires is = ap (λ ws. Some ws) (same_ok _ _ is)

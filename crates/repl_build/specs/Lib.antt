@@ -1,5 +1,6 @@
 -- What contracts of repl_build and of the crates above cite.
 pub mod Attributes
+pub mod Connections
 pub mod Counts
 pub mod First
 pub mod Laws
@@ -12,5 +13,6 @@ pub mod Questions
 pub mod References
 pub mod Rules
 pub mod Types
+pub mod Updates
 pub mod Wires
 pub mod Inner

@@ -49,7 +49,7 @@ rule_asked r all = each (peripheral_asked r all) [] all
 abbrev pub wires_asked : List Peripheral → List Peripheral → Peripheral → List Question
 wires_asked all before p =
     map (λ item. ask Line item.file item.line
-        (is_none (item_wires (plic_of all) all p.kind (devices_of before) item.what))) p.items
+    (is_none (item_wires (plic_of all) all p.kind (devices_of before) item.what))) p.items
 
 -- the eleven rules
 abbrev pub rules : List Entry → List Peripheral → List (List Question)

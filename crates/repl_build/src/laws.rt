@@ -1,17 +1,21 @@
 //! The laws of plans. The functions here do nothing when they run: a proof that needs a law calls
 //! the one whose contract it is.
-ghost use Rattle.std.specs.Prelude.{◌≡◌, ℕ, List, IsTrue, map, slice_get, true};
+ghost use Rattle.std.specs.Prelude.{◌≡◌, ◌++◌, ◌∷◌, ℕ, List, false, IsTrue, map, slice_get, true};
 ghost use Rattle.std.specs.List.{flat_map, list_all};
 ghost use Rattle.repl_read.specs.Entries.{is_entry};
 ghost use Rattle.repl_read.specs.declared.entry.Entry.{Entry};
+ghost use Rattle.repl_read.specs.declared.entry.Head.TheVariants.{Typed, Update};
+ghost use Rattle.repl_read.specs.declared.entry.Place.{Place};
 ghost use Rattle.repl_read.specs.declared.fault.PlatFault.{PlatFault};
 ghost use Rattle.sys_bus.specs.declared.plan.BoardPlan.{BoardPlan};
 ghost use Rattle.sys_bus.specs.declared.region.Region.{Region};
 ghost use Rattle.sys_bus.specs.Region.{HasByte};
+ghost use Rattle.repl_build.specs.Connections.{AreConnected, connections};
 ghost use Rattle.repl_build.specs.Laws.{part_of, place_in, type_in, typed_name, typed_place, typed_type};
-ghost use Rattle.repl_build.specs.Names.{are_named};
+ghost use Rattle.repl_build.specs.Names.{are_named, is_typed};
 ghost use Rattle.repl_build.specs.Plan.{built};
 ghost use Rattle.repl_build.specs.Questions.{IsFirstBroken, is_kept, questions};
+ghost use Rattle.repl_build.specs.Updates.{IsWrittenIn, KeepNames, is_updated};
 
 use sys_bus::an_address_lies_in_one_region;
 
@@ -52,4 +56,24 @@ pub fn each_typed_entry_has_its_part()
         map (λ region. region.kind) plan.regions ≡ flat_map part_of plan.names }
     ensures places { (entries : List Entry) (plan : BoardPlan) → built entries ≡ Ok plan →
         map place_in plan.regions ≡ flat_map (λ entry. typed_place entries entry entry.head) entries }
+{}
+
+/// The wires of a plan are those that the text tells and no others, in the order of the entries with
+/// types: those of the items in the entry, and then those of its further items. Each leads from the
+/// line of what the one name stands for in the plan to the pin of what the other stands for.
+pub fn each_wire_is_one_of_the_text()
+    ensures { (entries : List Entry) (plan : BoardPlan) → built entries ≡ Ok plan →
+        AreConnected plan.names (connections entries) plan.wires }
+{}
+
+/// The first further items of a name count like the same items written in the entry that gives the
+/// name its type, where rules 1 and 2 are kept both ways.
+pub fn further_items_count_like_own()
+    ensures { (front mid back : List Entry) (entry further both : Entry) (name kind : List ℕ) (at : Place) →
+        entry.head ≡ Typed name kind at → further.head ≡ Update name → IsWrittenIn entry further both →
+        is_typed front name ≡ false → is_typed mid name ≡ false → is_typed back name ≡ false →
+        is_updated front name ≡ false → is_updated mid name ≡ false →
+        KeepNames (front ++ entry ∷ (mid ++ further ∷ back)) →
+        KeepNames (front ++ both ∷ (mid ++ back)) →
+        built (front ++ entry ∷ (mid ++ further ∷ back)) ≡ built (front ++ both ∷ (mid ++ back)) }
 {}

@@ -42,7 +42,9 @@ fn numbers_of(alloc: Global, spans: &[Span]) -> Result<Vec<u8>, PlatFault>
 fn are_low(spans: &[Span]) -> bool
     ensures { result ≡ list_all wires_spec.is_low spans.now }
 {
-    spans.iter().all(|span| span.last <= u32::from(MOST_SOURCES))
+    spans
+        .iter()
+        .all(|span| span.last <= u32::from(MOST_SOURCES))
 }
 
 /// The numbers that an end of a wire names, unless one is beyond all lines and pins.
