@@ -2,8 +2,9 @@
 -- `F: Files`, `K: Sink`, and P and Q are when a read, or a write, has failed:
 --     ensures files { OnlyReads F.Files P files.old files.new }
 --     ensures output { OnlyWrites K.Sink Q out.old out.new }
--- A proof joins such facts by the lemmas of `Rattle.lab_io.proofs.Frames`: `reads_on` and `writes_on` for one call after
--- another, `reads_as` and `writes_as` where P says the same in other words, `reads_none` and `writes_none` for no call.
+-- A proof joins such facts by the lemmas of `Rattle.lab_io.proofs.Frames`, where the automatic proof does not:
+-- `reads_on` and `writes_on` for one call after another, `reads_as` and `writes_as` where P or Q says the same in other
+-- words, `reads_none` and `writes_none` for no call.
 use Rattle.std.specs.Prelude.{◌≡◌, ◌≤◌}
 use Rattle.lab_io.specs.Known.{Rose}
 use Rattle.lab_io.specs.declared.files.Files.{Ghosts}

@@ -10,5 +10,7 @@ loop-at-preserved g c = record {
   within = omega (arith, c.in-Took.ensures.taken, length-take {A = ℕ}, length-drop {A = ℕ});
   untouched = λ none. absurd (omega (arith, none, c.in-Took.ensures.taken));
   written = grown-take _ _ _ _ _ _ c.loop-at.invariant.written c.in-Took.ensures.written;
-  output = writes_on c.loop-at.invariant.output (record { faults = c.in-Took.ensures.faults; counted = λ none. absurd none });
+  output =
+      writes_on c.loop-at.invariant.output
+      (record { faults = c.in-Took.ensures.faults; counted = λ none. absurd none });
 }
