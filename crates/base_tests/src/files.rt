@@ -1,7 +1,7 @@
 //! Files in memory, and real ones.
 ghost use Rattle.std.specs.Prelude.{◌≤◌};
 
-use lab_io::{DiskFiles, Files, MemFiles, ReadAnswer};
+use lab_io::{DiskFiles, Files, MemFiles, ReadAnswer, ReadFault, TextFault, read_file, read_text};
 use std::alloc::{AllocError, Global};
 use std::test::Fail;
 use std::{fs, rt};
@@ -44,6 +44,72 @@ fn a_read_answers_by_name_limit_and_number(rt: HostRuntime) -> Result<(), Fail> 
             "{asked:?}"
         );
     }
+    Ok(())
+}
+
+/// Files and the bytes that they hold, of which the last two are no text.
+static TEXTS: [(&str, &[u8]); 5] = [
+    ("empty", b""),
+    ("plain", b"a\r\nb"),
+    ("accent", b"\xc3\xa9\n"),
+    ("broken", b"a\n\xc3\xa9\n\xff\n\xff"),
+    ("cut", b"\xe2\x82"),
+];
+
+/// What is read of them as a text.
+static READ_AS_TEXT: [(&str, Result<&str, TextFault>); 6] = [
+    ("empty", Ok("")),
+    ("plain", Ok("a\r\nb")),
+    ("accent", Ok("\u{e9}\n")),
+    ("broken", Err(TextFault::NotText { line: 3 })),
+    ("cut", Err(TextFault::NotText { line: 1 })),
+    ("absent", Err(TextFault::Unread)),
+];
+
+/// Whether the text of a file is as expected.
+fn has_text(
+    alloc: Global,
+    files: &mut MemFiles,
+    (name, expected): &(&str, Result<&str, TextFault>),
+) -> bool {
+    match (read_text(alloc, files, name), expected) {
+        (Ok(text), Ok(expected)) => text.as_str() == *expected,
+        (Err(fault), Err(expected)) => fault == *expected,
+        _ => false,
+    }
+}
+
+/// Whether a file is read whole as these bytes.
+fn has_bytes(alloc: Global, files: &mut MemFiles, (name, expected): &(&str, &[u8])) -> bool {
+    match read_file(alloc, files, name) {
+        Ok(bytes) => bytes.as_slice() == *expected,
+        Err(_) => false,
+    }
+}
+
+/// Whether a read that is to fail answers so, as bytes and as a text.
+fn fails(alloc: Global, files: &mut MemFiles) -> bool {
+    let bytes = read_file(alloc, files, "plain");
+    let text = read_text(alloc, files, "plain");
+    matches!(bytes, Err(ReadFault::Unread)) && matches!(text, Err(TextFault::Unread))
+}
+
+#[test]
+fn whole_files_are_bytes_and_texts(rt: HostRuntime) -> Result<(), Fail> {
+    let alloc = rt.alloc();
+    let mut files = MemFiles::new(alloc);
+    for &(name, bytes) in &TEXTS {
+        files.put(name, bytes)?;
+    }
+    files.fail_at(11)?;
+    files.fail_at(12)?;
+    assert!(rt; TEXTS.iter().all(|row| has_bytes(alloc, &mut files, row)));
+    assert!(rt;
+        READ_AS_TEXT
+            .iter()
+            .all(|row| has_text(alloc, &mut files, row))
+    );
+    assert!(rt; fails(alloc, &mut files));
     Ok(())
 }
 

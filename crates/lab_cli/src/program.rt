@@ -1,13 +1,14 @@
 //! A run of the program, and the number with which it ends.
 ghost use Rattle.std.specs.Prelude.{◌≡◌};
 ghost use Rattle.std.specs.Process.{exit_status};
-ghost use Rattle.lab_top.specs.Headline.{number_of};
+ghost use Rattle.lab_top.specs.Headline.{exit_number};
 
 use can_sja1000::Can;
 use dev_core::{Device, Stock};
 use lab_io::{DiskFiles, OutSink, Sink};
-use lab_top::{Status, command_words, run_lab};
-use std::alloc::{AllocError, Global};
+use lab_num::NoMemory;
+use lab_top::{Status, command_words, exit_code, run_lab};
+use std::alloc::Global;
 use std::process::{ExitCode, Termination};
 use std::rt::{Env, Files};
 use test_finisher::Finisher;
@@ -20,41 +21,38 @@ const CANS: usize = 64;
 
 const FINISHERS: usize = 16;
 
-/// How the program has ended. Only `run` makes one.
+/// How the program has ended: with the status of its run, or without a run, where no memory was found
+/// for its words or its devices. Only `run` makes one.
 #[derive(Drop)]
 pub struct Ended {
-    status: Status,
+    run: Result<Status, NoMemory>,
 }
 
 impl Termination for Ended {
-    /// The exit code is the number of the status.
     fn report<R: Eprint>(self, _rt: &R) -> ExitCode
-        ensures { exit_status result ≡ number_of self.status }
+        ensures { exit_status result ≡ exit_number self.run }
     {
-        ExitCode::from(self.status.number())
+        ExitCode::from(exit_code(&self.run))
     }
 }
 
-/// Runs the program over the files of the machine and its standard output. Where there is no memory
-/// for the words or for the devices, it ends as any run that finds none.
+/// Runs the program over the files of the machine and its standard output.
 pub fn run<R: Env + Files + Print + AllocGlobal>(rt: &R) -> Ended {
     let mut files = DiskFiles::new(rt);
     let mut out = OutSink::new(rt);
     Ended {
-        status: status_of(rt, &mut files, &mut out),
+        run: run_over(rt, &mut files, &mut out),
     }
 }
 
-/// How a run of the program over these files and this output ends.
-fn status_of<R: Env + AllocGlobal, F: lab_io::Files, K: Sink>(
+/// Runs the program by the words that it was started with, over these files and this output.
+fn run_over<R: Env + AllocGlobal, F: lab_io::Files, K: Sink>(
     rt: &R,
     files: &mut F,
     out: &mut K,
-) -> Status {
-    match command_words(rt) {
-        Ok(words) => run_on_boxes(rt.alloc(), &words, files, out).unwrap_or(Status::Memory),
-        Err(_) => Status::Memory,
-    }
+) -> Result<Status, NoMemory> {
+    let words = command_words(rt)?;
+    run_on_boxes(rt.alloc(), &words, files, out)
 }
 
 /// Runs the program by these words, on devices enough for each board that a laboratory can have,
@@ -64,7 +62,7 @@ fn run_on_boxes<F: lab_io::Files, K: Sink>(
     words: &[String],
     files: &mut F,
     out: &mut K,
-) -> Result<Status, AllocError> {
+) -> Result<Status, NoMemory> {
     let mut uarts: Vec<Box<dyn Device + Send>> = Vec::new(alloc);
     for _ in 0..UARTS {
         uarts.push(Box::new(alloc, Uart::new())?)?;

@@ -1,3 +1,4 @@
+pub mod Apart
 pub mod MoreBoards
 pub mod Plans
 pub mod Texts

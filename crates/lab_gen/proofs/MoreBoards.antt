@@ -21,7 +21,7 @@ use Rattle.board.specs.View.{View}
 use Rattle.lab_state.specs.Board.{Board}
 use Rattle.lab_num.specs.Change.{change_at}
 use Rattle.lab_state.specs.Lab.{Seen}
-use Rattle.lab_state.specs.Names.{hub_named}
+use Rattle.lab_state.specs.Names.{hub_named, kind_named}
 use Rattle.lab_state.specs.One.{view_at, view_of, with_view, changed, connected, fitted, kind_at}
 use Rattle.lab_gen.specs.Firmware.{program}
 use Rattle.lab_gen.specs.Generated.{board, generated, uart_of}
@@ -131,7 +131,11 @@ last_view seed n more =
     ap (view_at (boards_of seed n ++ more ∷ [])) (sym (length-map-range_with_len (board seed) 0 n))
     ∙ view_last (boards_of seed n) more
 
--- the new board gets its plan
+-- the new board has no plan
+pub last_bare : (seed n : ℕ) (s : Seen) → IsWith seed n (bare n) s → view_of s.lab n ≡ None
+last_bare seed n s is = rw (is, last_view seed n (bare n)) refl
+
+-- it gets its plan
 pub fitted_last :
     (seed n : ℕ) (s s' : Seen) → IsWith seed n (bare n) s →
     s' ≡ record s { lab = fitted s.lab n (new_board n plan) } → IsWith seed n (equip n (bare n)) s'
@@ -167,14 +171,18 @@ loaded_last seed n s s' bytes is are so =
 
 -- it has a UART then
 pub last_has_uart :
-    (seed n : ℕ) (s : Seen) → IsWith seed n (board seed n) s → IsSome (kind_at s.lab.boards (uart_of n))
+    (seed n : ℕ) (s : Seen) → IsWith seed n (board seed n) s → kind_at s.lab.boards (uart_of n) ≡ Some Uart
 last_has_uart seed n s is =
     rw (is, last_view seed n (board seed n))
-    (ap (λ plan. is_some (slice_get plan.kinds 0)) (plan_copied (new_space plan) 0x80000000 (program seed n)))
+    (ap (λ plan. slice_get plan.kinds 0) (plan_copied (new_space plan) 0x80000000 (program seed n)))
 
 pub first_hub :
     (seed n : ℕ) (s : Seen) → IsWith seed n (board seed n) s → hub_named s.lab (codes "hub") ≡ Some 0
 first_hub seed n s is = rw is refl
+
+pub hub_of_uarts :
+    (seed n : ℕ) (s : Seen) → IsWith seed n (board seed n) s → kind_named s.lab (codes "hub") ≡ Some Uart
+hub_of_uarts seed n s is = rw is refl
 
 -- which comes at the end of the hub
 pub joined_last :

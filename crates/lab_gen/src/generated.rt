@@ -1,6 +1,7 @@
 //! The generated laboratory, run.
-ghost use Rattle.std.specs.Prelude.{◌≡◌, ◌≤◌, IfOk, map};
+ghost use Rattle.std.specs.Prelude.{◌≡◌, ◌≤◌, false, map, None, IfOk, OnOk};
 ghost use Rattle.dev_core.specs.Stock.{IsFull};
+ghost use Rattle.lab_state.specs.One.{first_without};
 ghost use Rattle.lab_state.specs.Run.{run};
 ghost use Rattle.lab_gen.specs.Summary.{summary_of};
 
@@ -8,10 +9,26 @@ use crate::boards::laboratory;
 use crate::summary::summary;
 use dev_core::{Device, Stock};
 use lab_num::{Micros, NoMemory};
+use lab_state::{Lab, RunFault};
 use std::alloc::Global;
 
 /// How long the laboratory is run.
 const LENGTH: Micros = Micros(100_000);
+
+/// Runs a laboratory that stands at time 0, each of whose boards has a plan.
+fn play<D: Device>(lab: &mut Lab<D>) -> Result<(), NoMemory>
+    requires plans { first_without lab.old.lab.boards ≡ None }
+    requires start { lab.old.lab.now ≡ 0 }
+    ensures { OnOk result (lab.new
+        ≡ record { lab = (run lab.old.lab 100000).lab; spent = false }) }
+{
+    match lab.run_for(LENGTH) {
+        Ok(_log) => Ok(()),
+        Err(RunFault::NoPlan(_)) => unreachable!(),
+        Err(RunFault::TooLong) => unreachable!(),
+        Err(RunFault::Memory) => Err(NoMemory),
+    }
+}
 
 /// Makes the laboratory of a seed, of 1 to 16 boards, runs it for 100,000 microseconds, and answers the
 /// bytes of its summary: a line for each board and one for all, each with its line feed.
@@ -29,8 +46,6 @@ pub fn generate<D: Device>(
     ensures { IfOk result (λ bytes. bytes.items ≡ summary_of run seed boards) }
 {
     let mut lab = laboratory(alloc, seed, boards, stock)?;
-    let Ok(_log) = lab.run_for(LENGTH) else {
-        return Err(NoMemory);
-    };
+    play(&mut lab)?;
     summary(alloc, &lab)
 }

@@ -2,17 +2,17 @@
 use Rattle.std.proofs.Common.{◌≡◌, ℕ, ◌+◌, List, [], ◌∷◌, ◌++◌, length, map, take, drop, Option, None, refl, sym, ap}
 use Rattle.std.proofs.Common.{append_assoc, length-append}
 use Rattle.std.proofs.lemmas.List.{take-append-drop, map-append}
+use Rattle.lab_io.specs.Asked.{Log, AsksSome, AsksUpTo}
 use Rattle.lab_io.specs.Known.{grown}
+use Rattle.lab_io.proofs.Grown.{grown-append, grown-nil}
 use Rattle.lab_io.specs.Sink.{IsPartWritten}
 use Rattle.lab_io.specs.declared.sink.WriteFault.{WriteFault}
 use Rattle.lab_io.specs.declared.sink.WriteFault.TheVariants as write_fault
 use Rattle.lab_top.specs.declared.status.Status.{Status}
 use Rattle.lab_top.specs.declared.status.Status.TheVariants as end_by
-use Rattle.repl_files.specs.Asked.{AsksSome, AsksUpTo}
 use Rattle.lab_top.specs.Transcript.{Outcome, Read, Transcript, after, ended, read_now, read_later, last_line}
 use Rattle.lab_top.specs.Inner.Course.{Course, IsLastAt, IsEnd}
 use Rattle.lab_top.specs.Headline.{final, refusal, names_read}
-use Rattle.lab_top.proofs.Pieces.{grown-nil, grown-append}
 
 -- the names of reads stay as they are
 names_read-now : (names : List (List ℕ)) → names_read (map read_now names) ≡ names
@@ -42,7 +42,7 @@ last_after front n k reads is = record {
 -- these names were read and this text was written, and then the rest went by its course
 pub course_after :
     (names : List (List ℕ)) (text : List ℕ) (rest : Transcript) (status : Status)
-    (out mid out' : Option (List ℕ)) (log between log' : Option (List (List ℕ))) →
+    (out mid out' : Option (List ℕ)) (log between log' : Log) →
     mid ≡ grown out text → between ≡ grown log names →
     Course rest status mid out' between log' → Course (after names text rest) status out out' log log'
 course_after names text rest status out mid out' log between log' wrote asked course = record {
@@ -61,7 +61,7 @@ course_after names text rest status out mid out' log between log' wrote asked co
 -- a read of these failed
 pub course_unread :
     (names : List (List ℕ)) (text : List ℕ) (rest : Transcript) (out : Option (List ℕ))
-    (log log' : Option (List (List ℕ))) →
+    (log log' : Log) →
     AsksUpTo names log log' → Course (after names text rest) end_by.Unread out out log log'
 course_unread names text rest out log log' asks = record {
   bytes = [];
@@ -84,7 +84,7 @@ course_unread names text rest out log log' asks = record {
 -- a read of these found no memory, or what comes after them did
 pub course_memory :
     (names : List (List ℕ)) (text : List ℕ) (rest : Transcript) (out : Option (List ℕ))
-    (log log' : Option (List (List ℕ))) →
+    (log log' : Log) →
     AsksSome names log log' → Course (after names text rest) end_by.Memory out out log log'
 course_memory names text rest out log log' asks = record {
   bytes = [];
@@ -101,7 +101,7 @@ course_memory names text rest out log log' asks = record {
 
 -- memory ran out before anything was read or written
 pub course_none :
-    (all : Transcript) (out : Option (List ℕ)) (log : Option (List (List ℕ))) →
+    (all : Transcript) (out : Option (List ℕ)) (log : Log) →
     Course all end_by.Memory out out log log
 course_none all out log = record {
   bytes = [];
@@ -119,7 +119,7 @@ course_none all out log = record {
 -- these names were read, and then the last text and the last line were written, or a part of them
 pub course_stopped :
     (names : List (List ℕ)) (text : List ℕ) (outcome : Outcome) (status : Status) (out out' : Option (List ℕ))
-    (log log' : Option (List (List ℕ))) →
+    (log log' : Log) →
     log' ≡ grown log names → IsEnd text outcome status out out' →
     Course (after names text (ended outcome)) status out out' log log'
 course_stopped names text outcome status out out' log log' asked end = record {
@@ -137,7 +137,7 @@ course_stopped names text outcome status out out' log log' asked end = record {
 
 -- the last line was written, or a part of it
 pub course_ended :
-    (outcome : Outcome) (status : Status) (out out' : Option (List ℕ)) (log : Option (List (List ℕ))) →
+    (outcome : Outcome) (status : Status) (out out' : Option (List ℕ)) (log : Log) →
     IsEnd [] outcome status out out' → Course (ended outcome) status out out' log log
 course_ended outcome status out out' log end = record {
   bytes = end.bytes;
@@ -189,7 +189,7 @@ end_after text outcome status out mid out' wrote end = record {
 -- these names were read and a part of a text was written, and no more
 pub course_cut :
     (names : List (List ℕ)) (text : List ℕ) (rest : Transcript) (fault : WriteFault) (out out' : Option (List ℕ))
-    (log log' : Option (List (List ℕ))) →
+    (log log' : Log) →
     IsPartWritten out text out' → log' ≡ grown log names →
     Course (after names text rest) (refusal fault) out out' log log'
 course_cut names text rest fault out out' log log' part asked = record {

@@ -1,6 +1,6 @@
 -- One step of a run, in its transcript and in its course.
-use Rattle.std.proofs.Common.{◌≡◌, ℕ, suc, ◌+◌, ◌-◌, ◌≤◌, List, [], Option, Vec, refl, arith}
-use Rattle.std.specs.Global.{Global}
+use Rattle.std.proofs.Common.{◌≡◌, ℕ, suc, ◌+◌, ◌-◌, ◌≤◌, List, [], Option, refl, arith}
+use Rattle.lab_io.specs.Asked.{Log, AsksSome, AsksUpTo}
 use Rattle.lab_io.specs.Held.{Held}
 use Rattle.lab_io.specs.Known.{grown}
 use Rattle.lab_io.specs.Sink.{IsPartWritten}
@@ -8,7 +8,6 @@ use Rattle.lab_io.specs.declared.sink.WriteFault.{WriteFault}
 use Rattle.lab_state.specs.Names.{names as names_of}
 use Rattle.lab_state.specs.Run.{run}
 use Rattle.log_text.specs.Log.{rest}
-use Rattle.repl_files.specs.Asked.{AsksSome, AsksUpTo}
 use Rattle.monitor.specs.declared.fault.ScriptFault.{ScriptFault}
 use Rattle.monitor.specs.declared.step.Step.TheVariants.{Text, End, Fault, Unread, Memory}
 use Rattle.monitor.specs.Answer.{Answer, Goes, Ends, Faults, Misses, Did}
@@ -42,25 +41,25 @@ onward_faults further s done fault is = rw is refl
 
 -- a command has printed a text, which was written whole, and then the rest went by its course
 pub step_says :
-    (more : ℕ) (held : Held) (s next : State) (text : Vec ℕ Global) (status : Status)
-    (out mid out' : Option (List ℕ)) (log between log' : Option (List (List ℕ))) →
-    IsStep (did run held s) (Text text) next log between → mid ≡ grown out text.items →
+    (more : ℕ) (held : Held) (s next : State) (text : List ℕ) (status : Status)
+    (out mid out' : Option (List ℕ)) (log between log' : Log) →
+    IsStep (did run held s) (Text text) next log between → mid ≡ grown out text →
     Course (from more run held next) status mid out' between log' →
     Course (from (suc more) run held s) status out out' log log'
 step_says more held s next text status out mid out' log between log' step wrote course =
-    rw (from_suc more held s, onward_goes (from more run held) s (did run held s) text.items next step.0)
-    (course_after (did run held s).names text.items (from more run held next) status out mid out' log between log' wrote
+    rw (from_suc more held s, onward_goes (from more run held) s (did run held s) text next step.0)
+    (course_after (did run held s).names text (from more run held next) status out mid out' log between log' wrote
     step.1 course)
 
 -- a part of it was written
 pub step_cut :
-    (more : ℕ) (held : Held) (s next : State) (text : Vec ℕ Global) (fault : WriteFault)
-    (out out' : Option (List ℕ)) (log log' : Option (List (List ℕ))) →
-    IsStep (did run held s) (Text text) next log log' → IsPartWritten out text.items out' →
+    (more : ℕ) (held : Held) (s next : State) (text : List ℕ) (fault : WriteFault)
+    (out out' : Option (List ℕ)) (log log' : Log) →
+    IsStep (did run held s) (Text text) next log log' → IsPartWritten out text out' →
     Course (from (suc more) run held s) (refusal fault) out out' log log'
 step_cut more held s next text fault out out' log log' step part =
-    rw (from_suc more held s, onward_goes (from more run held) s (did run held s) text.items next step.0)
-    (course_cut (did run held s).names text.items (from more run held next) fault out out' log log' part step.1)
+    rw (from_suc more held s, onward_goes (from more run held) s (did run held s) text next step.0)
+    (course_cut (did run held s).names text (from more run held next) fault out out' log log' part step.1)
 
 -- what is printed where a script is over
 abbrev pub left : Running → List ℕ
@@ -72,7 +71,7 @@ left_over old new over = rw (over.lab, over.lines) refl
 -- the script has ended
 pub step_ends :
     (more : ℕ) (held : Held) (old new : Running) (status : Status) (out out' : Option (List ℕ))
-    (log log' : Option (List (List ℕ))) →
+    (log log' : Log) →
     IsStep (did run held old.state) End new.state log log' → IsOver old new →
     IsEnd (left new) Done status out out' →
     Course (from (suc more) run held old.state) status out out' log log'
@@ -84,7 +83,7 @@ step_ends more held old new status out out' log log' step over end =
 -- a line was refused
 pub step_faults :
     (more : ℕ) (held : Held) (old new : Running) (fault : ScriptFault) (status : Status) (out out' : Option (List ℕ))
-    (log log' : Option (List (List ℕ))) →
+    (log log' : Log) →
     IsStep (did run held old.state) (Fault fault) new.state log log' → IsOver old new →
     IsEnd (left new) (Script fault) status out out' →
     Course (from (suc more) run held old.state) status out out' log log'
@@ -98,7 +97,7 @@ step_faults more held old new fault status out out' log log' step over end =
 
 unread_in :
     (further : State → Transcript) (s : State) (names : List (List ℕ)) (answer : Answer) (out : Option (List ℕ))
-    (log log' : Option (List (List ℕ))) →
+    (log log' : Log) →
     AsksUpTo names log log' →
     Course (onward further s (record { names = names; answer = answer })) end_by.Unread out out log log'
 unread_in further s names (Goes text next) out log log' asks = course_unread names text (further next) out log log' asks
@@ -110,7 +109,7 @@ unread_in further s names Misses out log log' asks = course_unread names [] (end
 
 -- a read failed
 pub step_unread :
-    (more : ℕ) (held : Held) (s next : State) (out : Option (List ℕ)) (log log' : Option (List (List ℕ))) →
+    (more : ℕ) (held : Held) (s next : State) (out : Option (List ℕ)) (log log' : Log) →
     IsStep (did run held s) Unread next log log' →
     Course (from (suc more) run held s) end_by.Unread out out log log'
 step_unread more held s next out log log' step =
@@ -119,7 +118,7 @@ step_unread more held s next out log log' step =
 
 memory_in :
     (further : State → Transcript) (s : State) (names : List (List ℕ)) (answer : Answer) (out : Option (List ℕ))
-    (log log' : Option (List (List ℕ))) →
+    (log log' : Log) →
     AsksSome names log log' →
     Course (onward further s (record { names = names; answer = answer })) end_by.Memory out out log log'
 memory_in further s names (Goes text next) out log log' asks = course_memory names text (further next) out log log' asks
@@ -131,7 +130,7 @@ memory_in further s names Misses out log log' asks = course_memory names [] (end
 
 -- memory ran out
 pub step_memory :
-    (more : ℕ) (held : Held) (s next : State) (out : Option (List ℕ)) (log log' : Option (List (List ℕ))) →
+    (more : ℕ) (held : Held) (s next : State) (out : Option (List ℕ)) (log log' : Log) →
     IsStep (did run held s) Memory next log log' →
     Course (from (suc more) run held s) end_by.Memory out out log log'
 step_memory more held s next out log log' step =

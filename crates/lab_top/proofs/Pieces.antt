@@ -5,15 +5,6 @@ use Rattle.std.proofs.lemmas.List.{length-take, take-append-le, take_min}
 use Rattle.lab_io.specs.Known.{grown}
 use Rattle.lab_io.specs.Sink.{IsPartWritten}
 
-pub grown-append : {A : Type 0} (told : Option (List A)) (xs ys : List A) →
-    grown (grown told xs) ys ≡ grown told (xs ++ ys)
-grown-append None xs ys = refl
-grown-append (Some told) xs ys = rw append_assoc refl
-
-pub grown-nil : {A : Type 0} (told : Option (List A)) → grown told [] ≡ told
-grown-nil None = refl
-grown-nil (Some told) = rw append-nil refl
-
 -- a part of a first piece is a part of it and a second
 pub part_of_first : (out out' : Option (List ℕ)) (first second : List ℕ) → IsPartWritten out first out' →
     IsPartWritten out (first ++ second) out'

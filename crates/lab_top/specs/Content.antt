@@ -1,7 +1,7 @@
 -- What the file of a script is.
-use Rattle.std.specs.Prelude.{ℕ, nat_lt, if◌then◌else◌, List, length, Option, None, Some}
-use Rattle.std.specs.Str.{is_utf8}
-use Rattle.repl_files.specs.Content.{bad_line}
+use Rattle.std.specs.Prelude.{ℕ, List, Option}
+use Rattle.lab_io.specs.Whole.{FileText, file_text}
+use Rattle.lab_io.specs.Whole as text
 use Rattle.resc_vars.specs.declared.cause.ScriptCause.TheVariants.{Size, Utf8}
 use Rattle.monitor.specs.declared.fault.ScriptFault.{ScriptFault}
 use Rattle.monitor.specs.Answer.{fault_at}
@@ -17,18 +17,13 @@ pub data Content : Type 0 where
 abbrev pub whole : List ℕ → Place
 whole file = record { file = file; number = 0 }
 
--- where a file stops being a text
-abbrev pub bad_place : List ℕ → List ℕ → Place
-bad_place file bytes = record { file = file; number = bad_line bytes }
-
--- what the bytes of a file are, of which there may be 16 MiB
-abbrev pub bytes_content : List ℕ → List ℕ → Content
-bytes_content file bytes =
-    if nat_lt 16777216 (length bytes) then Faulty (fault_at (whole file) Size)
-    else if is_utf8 bytes then Readable bytes
-    else Faulty (fault_at (bad_place file bytes) Utf8)
+-- what a file of this name is, by its text
+abbrev pub content_by : List ℕ → FileText → Content
+content_by file text.Missing = Missing
+content_by file text.Large = Faulty (fault_at (whole file) Size)
+content_by file (text.Broken line) = Faulty (fault_at (record { file = file; number = line }) Utf8)
+content_by file (text.Readable bytes) = Readable bytes
 
 -- what a file of this name is, which holds this
 abbrev pub content_of : List ℕ → Option (List ℕ) → Content
-content_of file None = Missing
-content_of file (Some bytes) = bytes_content file bytes
+content_of file there = content_by file (file_text there)

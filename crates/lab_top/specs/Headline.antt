@@ -1,8 +1,11 @@
 -- What the whole program promises of any run.
-use Rattle.std.specs.Prelude.{◌≡◌, ℕ, ◌⊎◌, List, [], ◌∷◌, ◌++◌, length, map, Option, None, Some, IfSome, IsSome, All}
+use Rattle.std.specs.Prelude.{◌≡◌, ℕ, ◌⊎◌, List, [], ◌∷◌, ◌++◌, length, map, Option, None, Some}
+use Rattle.std.specs.Prelude.{Result, Ok, Err, IfSome, IsSome, All}
 use Rattle.std.specs.FinMap.{get}
-use Rattle.lab_io.specs.Known.{grown, Rose}
+use Rattle.lab_io.specs.Asked.{Log}
+use Rattle.lab_io.specs.Known.{grown}
 use Rattle.lab_io.specs.Held.{Held}
+use Rattle.lab_num.specs.declared.number.NoMemory.{NoMemory}
 use Rattle.lab_io.specs.declared.sink.WriteFault.{WriteFault}
 use Rattle.lab_io.specs.declared.sink.WriteFault.TheVariants as write_fault
 use Rattle.lab_top.specs.declared.status.Status.{Status}
@@ -20,6 +23,11 @@ number_of (Usage cause) = 2
 number_of (Script fault) = 3
 number_of Unread = 4
 number_of Unwritten = 5
+
+-- the exit code of the program, which is not run where no memory is found for its words or its devices
+abbrev pub exit_number : Result Status NoMemory → ℕ
+exit_number (Ok status) = number_of status
+exit_number (Err none) = 1
 
 -- the outcome of a run that nothing has cut short
 abbrev pub final : Status → Option Outcome
@@ -43,7 +51,7 @@ abbrev pub names_read : List Read → List (List ℕ)
 names_read reads = map (λ read. read.name) reads
 
 -- the last name that was asked for is that of a read that comes after so many bytes
-pub record ReadsLast (reads : List Read) (bytes : ℕ) (log log' : Option (List (List ℕ))) : Type 0 where
+pub record ReadsLast (reads : List Read) (bytes : ℕ) (log log' : Log) : Type 0 where
   pub earlier : List Read
   pub last : Read
   pub coming : List Read
@@ -53,7 +61,7 @@ pub record ReadsLast (reads : List Read) (bytes : ℕ) (log log' : Option (List 
 
 -- What was written is what the transcript begins with. Where a read failed, it is all that comes before that read.
 pub record WritesPart (all : Transcript) (status : Status) (out out' : Option (List ℕ))
-    (log log' : Option (List (List ℕ))) : Type 0 where
+    (log log' : Log) : Type 0 where
   pub bytes : List ℕ
   pub unwritten : List ℕ
   pub all_bytes : all.bytes ≡ bytes ++ unwritten
@@ -61,7 +69,7 @@ pub record WritesPart (all : Transcript) (status : Status) (out out' : Option (L
   pub unread : status ≡ Unread → ReadsLast all.reads (length bytes) log log'
 
 -- the names that were asked for are those of the first reads of the transcript
-pub record AsksPart (all : Transcript) (log log' : Option (List (List ℕ))) : Type 0 where
+pub record AsksPart (all : Transcript) (log log' : Log) : Type 0 where
   pub passed : List Read
   pub coming : List Read
   pub all_reads : all.reads ≡ passed ++ coming
@@ -70,11 +78,6 @@ pub record AsksPart (all : Transcript) (log log' : Option (List (List ℕ))) : T
 -- each read is of a name that holds something
 abbrev pub HasAll : Held → List Read → Type 0
 HasAll held reads = All (λ read. IsSome (get held read.name)) reads
-
--- a run is cut short by a fault only where that was counted
-pub record IsCounted (status : Status) (reads reads' writes writes' : ℕ) : Type 0 where
-  pub unread : status ≡ Unread → Rose reads reads'
-  pub unwritten : status ≡ Unwritten → Rose writes writes'
 
 -- a run was not cut short, but by want of memory
 abbrev pub IsUncut : Status → Type 0
@@ -96,7 +99,7 @@ IsUsageBy (Run script setting) status = IsNoUsage status
 IsUsageBy (Gen seed boards) status = IsNoUsage status
 
 -- the usage line was written, or a front of it where that was cut short, and no name was asked for
-pub record WritesUsage (status : Status) (out out' : Option (List ℕ)) (log log' : Option (List (List ℕ))) : Type 0 where
+pub record WritesUsage (status : Status) (out out' : Option (List ℕ)) (log log' : Log) : Type 0 where
   pub bytes : List ℕ
   pub unwritten : List ℕ
   pub all_bytes : usage_line ≡ bytes ++ unwritten

@@ -8,7 +8,8 @@ mod script;
 mod status;
 mod words;
 
-pub use command_line::command_words;
+pub use command_line::{command_words, words_after_name};
+pub use lab_words::UsageCause;
 pub use laws::{checks_run_nothing, returns_agree, transcripts_agree, workers_agree};
 pub use run::run_lab;
-pub use status::Status;
+pub use status::{Status, exit_code};

@@ -1,7 +1,9 @@
 //! The whole program, from the command words to the status.
 ghost use Rattle.std.specs.Prelude.{◌≡◌, ◌≢◌, ◌≤◌, ◌^◌, [], false, length, IfSome, map, string_bytes};
+ghost use Rattle.std.specs.Option.{ForSome};
 ghost use Rattle.dev_core.specs.Stock.{IsFull};
 ghost use Rattle.lab_gen.specs.Summary.{summary_of};
+ghost use Rattle.lab_io.specs.Frame.{OnlyReads, OnlyWrites};
 ghost use Rattle.lab_io.specs.Known.{Rose};
 ghost use Rattle.lab_state.specs.Names.{names};
 ghost use Rattle.lab_state.specs.Run.{run};
@@ -10,9 +12,9 @@ ghost use Rattle.monitor.specs.State.{started};
 ghost use Rattle.lab_top.specs.Request.{request_of};
 ghost use Rattle.lab_top.specs.Transcript.{transcript, run_of, rest_of};
 ghost use Rattle.lab_top.specs.Transcript.{Script, Usage, Done};
-ghost use Rattle.lab_top.specs.Headline.{IsWhole, WritesPart, WritesUsage, AsksPart, IsCounted, HasAll, IsUncut};
+ghost use Rattle.lab_top.specs.Headline.{IsWhole, WritesPart, WritesUsage, AsksPart, HasAll, IsUncut};
 ghost use Rattle.lab_top.specs.Headline.{IsUsageBy, IsNoUsage, OnRefused, final};
-ghost use Rattle.lab_top.specs.Inner.Course.{Told, Course, IsEnd};
+ghost use Rattle.lab_top.specs.Inner.Course.{Course, IsEnd};
 
 use crate::script::{Opened, open};
 use crate::status::Status;
@@ -49,10 +51,7 @@ pub fn run_lab<D: Device, F: Files, K: Sink>(
         WritesPart (transcript (map string_bytes words.now) held) result
         (K.written out.old) (K.written out.new) (F.asked files.old) (F.asked files.new)) }
 
-    // Only a fault that was counted cuts it short, or want of memory, and it asks for no name that
-    // the transcript does not.
-    ensures counted { IsCounted result
-        (F.faults files.old) (F.faults files.new) (K.faults out.old) (K.faults out.new) }
+    // It asks for no name that the transcript does not.
     ensures asked { IfSome (F.held files.old) (λ held.
         AsksPart (transcript (map string_bytes words.now) held)
         (F.asked files.old) (F.asked files.new)) }
@@ -71,10 +70,9 @@ pub fn run_lab<D: Device, F: Files, K: Sink>(
         (WritesUsage result (K.written out.old) (K.written out.new)
         (F.asked files.old) (F.asked files.new)) }
 
-    // What the files hold stays as it is, and no count of faults falls.
-    ensures held { F.held files.new ≡ F.held files.old }
-    ensures read_faults { F.faults files.old ≤ F.faults files.new }
-    ensures write_faults { K.faults out.old ≤ K.faults out.new }
+    // Only a fault that was counted cuts it short, or want of memory. What the files hold stays.
+    ensures files { OnlyReads F.Files (result ≡ Status.Unread) files.old files.new }
+    ensures output { OnlyWrites K.Sink (result ≡ Status.Unwritten) out.old out.new }
 {
     run_words(alloc, words, files, out, stock)
 }
@@ -89,18 +87,15 @@ fn run_words<D: Device, F: Files, K: Sink>(
 ) -> Status
     requires { IsFull (map D.meaning stock.uarts.items) (map D.meaning stock.cans.items)
         (map D.meaning stock.finishers.items) }
-    ensures course { Told (F.held files.old) (λ held.
+    ensures course { ForSome (F.held files.old) (λ held.
         Course (transcript (map string_bytes words.now) held) result
         (K.written out.old) (K.written out.new) (F.asked files.old) (F.asked files.new)) }
     ensures usage { IsUsageBy (request_of (map string_bytes words.now)) result }
     ensures refused { OnRefused (request_of (map string_bytes words.now))
         (WritesUsage result (K.written out.old) (K.written out.new)
         (F.asked files.old) (F.asked files.new)) }
-    ensures unread { result ≡ Status.Unread → Rose (F.faults files.old) (F.faults files.new) }
-    ensures unwritten { result ≡ Status.Unwritten → Rose (K.faults out.old) (K.faults out.new) }
-    ensures held { F.held files.new ≡ F.held files.old }
-    ensures read_faults { F.faults files.old ≤ F.faults files.new }
-    ensures write_faults { K.faults out.old ≤ K.faults out.new }
+    ensures files { OnlyReads F.Files (result ≡ Status.Unread) files.old files.new }
+    ensures output { OnlyWrites K.Sink (result ≡ Status.Unwritten) out.old out.new }
 {
     match read_request(alloc, words) {
         Ok(Asked::Script(request)) => run_file(alloc, request, files, out, stock),
@@ -114,8 +109,7 @@ fn run_words<D: Device, F: Files, K: Sink>(
 fn refuse_words<K: Sink>(cause: UsageCause, out: &mut K) -> Status
     ensures course { IsEnd [] (Usage cause) result (K.written out.old) (K.written out.new) }
     ensures usage { IfSome (final result) (λ outcome. outcome ≡ Usage cause) }
-    ensures unwritten { result ≡ Status.Unwritten → Rose (K.faults out.old) (K.faults out.new) }
-    ensures faults { K.faults out.old ≤ K.faults out.new }
+    ensures output { OnlyWrites K.Sink (result ≡ Status.Unwritten) out.old out.new }
 {
     match write_whole(out, usage_line().as_bytes()) {
         Ok(()) => Status::Usage(cause),
@@ -139,8 +133,7 @@ fn run_generated<D: Device, K: Sink>(
         result (K.written out.old) (K.written out.new) }
     ensures usage { IsNoUsage result }
     ensures never { result ≢ Status.Unread }
-    ensures unwritten { result ≡ Status.Unwritten → Rose (K.faults out.old) (K.faults out.new) }
-    ensures faults { K.faults out.old ≤ K.faults out.new }
+    ensures output { OnlyWrites K.Sink (result ≡ Status.Unwritten) out.old out.new }
 {
     let Ok(text) = generate(alloc, seed, boards, stock) else {
         return Status::Memory;
@@ -163,15 +156,12 @@ fn run_file<D: Device, F: Files, K: Sink>(
         (map D.meaning stock.finishers.items) }
     requires some_worker { 1 ≤ request.setting.workers }
     requires few_workers { request.setting.workers ≤ 8 }
-    ensures course { Told (F.held files.old) (λ held.
+    ensures course { ForSome (F.held files.old) (λ held.
         Course (run_of run held request.script request.setting) result
         (K.written out.old) (K.written out.new) (F.asked files.old) (F.asked files.new)) }
     ensures usage { IsNoUsage result }
-    ensures unread { result ≡ Status.Unread → Rose (F.faults files.old) (F.faults files.new) }
-    ensures unwritten { result ≡ Status.Unwritten → Rose (K.faults out.old) (K.faults out.new) }
-    ensures held { F.held files.new ≡ F.held files.old }
-    ensures read_faults { F.faults files.old ≤ F.faults files.new }
-    ensures write_faults { K.faults out.old ≤ K.faults out.new }
+    ensures files { OnlyReads F.Files (result ≡ Status.Unread) files.old files.new }
+    ensures output { OnlyWrites K.Sink (result ≡ Status.Unwritten) out.old out.new }
 {
     let ScriptRun { script, setting } = request;
     match open(alloc, files, script.as_str()) {
@@ -197,15 +187,12 @@ fn run_script<D: Device, F: Files, K: Sink>(
     requires short { length (string_bytes text) ≤ 2 ^ 24 }
     requires some_worker { 1 ≤ setting.workers }
     requires few_workers { setting.workers ≤ 8 }
-    ensures course { Told (F.held files.old) (λ held.
+    ensures course { ForSome (F.held files.old) (λ held.
         Course (rest_of run held (started script.now (string_bytes text) setting)) result
         (K.written out.old) (K.written out.new) (F.asked files.old) (F.asked files.new)) }
     ensures usage { IsNoUsage result }
-    ensures unread { result ≡ Status.Unread → Rose (F.faults files.old) (F.faults files.new) }
-    ensures unwritten { result ≡ Status.Unwritten → Rose (K.faults out.old) (K.faults out.new) }
-    ensures held { F.held files.new ≡ F.held files.old }
-    ensures read_faults { F.faults files.old ≤ F.faults files.new }
-    ensures write_faults { K.faults out.old ≤ K.faults out.new }
+    ensures files { OnlyReads F.Files (result ≡ Status.Unread) files.old files.new }
+    ensures output { OnlyWrites K.Sink (result ≡ Status.Unwritten) out.old out.new }
 {
     let Ok(mut monitor) = Monitor::new(alloc, script, text, stock, setting) else {
         return Status::Memory;
@@ -224,20 +211,17 @@ fn take_commands<D: Device, F: Files, K: Sink>(
     requires goes_on { monitor.old.ended ≡ false }
     requires unspent { monitor.old.spent ≡ false }
     requires few { monitor.old.state.flow.kept.taken ≤ 100000 }
-    ensures course { Told (F.held files.old) (λ held.
+    ensures course { ForSome (F.held files.old) (λ held.
         Course (rest_of run held monitor.old.state) result
         (K.written out.old) (K.written out.new) (F.asked files.old) (F.asked files.new)) }
     ensures usage { IsNoUsage result }
-    ensures unread { result ≡ Status.Unread → Rose (F.faults files.old) (F.faults files.new) }
-    ensures unwritten { result ≡ Status.Unwritten → Rose (K.faults out.old) (K.faults out.new) }
-    ensures held { F.held files.new ≡ F.held files.old }
-    ensures read_faults { F.faults files.old ≤ F.faults files.new }
-    ensures write_faults { K.faults out.old ≤ K.faults out.new }
+    ensures files { OnlyReads F.Files (result ≡ Status.Unread) files.old files.new }
+    ensures output { OnlyWrites K.Sink (result ≡ Status.Unwritten) out.old out.new }
 {
     'commands: for _turn in 0..MOST_STEPS {
         match monitor.step(files) {
             Step::Text(text) => {
-                if let Err(fault) = write_whole(out, &text) {
+                if let Err(fault) = write_whole(out, text.items()) {
                     return Status::from(fault);
                 }
             }
@@ -257,8 +241,7 @@ fn stop<D: Device, K: Sink>(monitor: &mut Monitor<D>, out: &mut K) -> Status
         result (K.written out.old) (K.written out.new) }
     ensures usage { IsNoUsage result }
     ensures never { result ≢ Status.Unread }
-    ensures unwritten { result ≡ Status.Unwritten → Rose (K.faults out.old) (K.faults out.new) }
-    ensures faults { K.faults out.old ≤ K.faults out.new }
+    ensures output { OnlyWrites K.Sink (result ≡ Status.Unwritten) out.old out.new }
 {
     let Ok(text) = monitor.rest() else {
         return Status::Memory;
@@ -281,8 +264,7 @@ fn stop_at<D: Device, K: Sink>(
         (Script fault) result (K.written out.old) (K.written out.new) }
     ensures usage { IsNoUsage result }
     ensures never { result ≢ Status.Unread }
-    ensures unwritten { result ≡ Status.Unwritten → Rose (K.faults out.old) (K.faults out.new) }
-    ensures faults { K.faults out.old ≤ K.faults out.new }
+    ensures output { OnlyWrites K.Sink (result ≡ Status.Unwritten) out.old out.new }
 {
     let Ok(text) = monitor.rest() else {
         return Status::Memory;
@@ -298,8 +280,7 @@ fn tell<K: Sink>(alloc: Global, fault: ScriptFault, out: &mut K) -> Status
     ensures course { IsEnd [] (Script fault) result (K.written out.old) (K.written out.new) }
     ensures usage { IsNoUsage result }
     ensures never { result ≢ Status.Unread }
-    ensures unwritten { result ≡ Status.Unwritten → Rose (K.faults out.old) (K.faults out.new) }
-    ensures faults { K.faults out.old ≤ K.faults out.new }
+    ensures output { OnlyWrites K.Sink (result ≡ Status.Unwritten) out.old out.new }
 {
     let Ok(line) = format!(in alloc; "{fault}\n") else {
         return Status::Memory;

@@ -1,5 +1,9 @@
 //! How a run of the program ends.
+ghost use Rattle.std.specs.Prelude.{◌≡◌};
+ghost use Rattle.lab_top.specs.Headline.{exit_number};
+
 use lab_io::WriteFault;
+use lab_num::NoMemory;
 use lab_words::UsageCause;
 use monitor::ScriptFault;
 
@@ -21,7 +25,6 @@ pub enum Status {
 }
 
 impl Status {
-    ghost use Rattle.std.specs.Prelude.{◌≡◌};
     ghost use Rattle.lab_top.specs.Headline.{number_of};
 
     /// The number with which the program ends.
@@ -36,6 +39,17 @@ impl Status {
             Status::Unread => 4,
             Status::Unwritten => 5,
         }
+    }
+}
+
+/// The exit code of the program: the number of the status with which its run has ended, or 1 where no
+/// memory was found for its words or its devices, and it was not run.
+pub fn exit_code(ended: &Result<Status, NoMemory>) -> u8
+    ensures { result ≡ exit_number ended.now }
+{
+    match ended {
+        Ok(status) => status.number(),
+        Err(NoMemory) => 1,
     }
 }
 

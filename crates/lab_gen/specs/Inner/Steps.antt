@@ -6,6 +6,10 @@ use Rattle.lab_state.specs.Board.{Board}
 use Rattle.lab_state.specs.Lab.{Lab, Seen}
 use Rattle.lab_gen.specs.Generated.{board, generated}
 
+-- a laboratory in which nothing was made
+abbrev pub empty : Lab
+empty = record { boards = []; hubs = []; now = 0; quantum = 100 }
+
 -- the board of this number before it has a plan
 abbrev pub bare : ℕ → Board
 bare n = record { name = codes "m" ++ decimal n; view = None }

@@ -1,14 +1,11 @@
 -- How far a run has gone along a transcript.
-use Rattle.std.specs.Prelude.{◌≡◌, ◌≢◌, ℕ, List, [], ◌∷◌, ◌++◌, length, Option, Some, IfSome}
+use Rattle.std.specs.Prelude.{◌≡◌, ◌≢◌, ℕ, List, [], ◌∷◌, ◌++◌, length, Option, IfSome}
+use Rattle.lab_io.specs.Asked.{Log}
 use Rattle.lab_io.specs.Known.{grown}
 use Rattle.lab_top.specs.declared.status.Status.{Status}
 use Rattle.lab_top.specs.declared.status.Status.TheVariants as end_by
 use Rattle.lab_top.specs.Transcript.{Outcome, Read, Transcript, last_line}
 use Rattle.lab_top.specs.Headline.{final, names_read}
-
--- this holds of the value, where one is told
-abbrev pub Told : {A : Type 0} → Option A → (A → Type 0) → Type 0
-Told {A} told P = (x : A) → told ≡ Some x → P x
 
 -- the last of these reads comes after so many bytes
 pub record IsLastAt (reads : List Read) (bytes : ℕ) : Type 0 where
@@ -20,7 +17,7 @@ pub record IsLastAt (reads : List Read) (bytes : ℕ) : Type 0 where
 -- A run has gone by this transcript up to where it was cut short, if it was: what it has written and asked for is
 -- what the transcript begins with.
 pub record Course (all : Transcript) (status : Status) (out out' : Option (List ℕ))
-    (log log' : Option (List (List ℕ))) : Type 0 where
+    (log log' : Log) : Type 0 where
   pub bytes : List ℕ
   pub unwritten : List ℕ
   pub passed : List Read

@@ -1,9 +1,12 @@
 use Rattle.std.proofs.Common.{◌∙◌}
-use Rattle.lab_gen.proofs.MoreBoards.{last_exists, fitted_last, fitted_has, fitted_holds, loaded_last}
+use Rattle.lab_gen.proofs.MoreBoards.{last_bare, last_exists, fitted_last, fitted_has, fitted_holds, loaded_last}
 use Rattle.lab_gen.proofs.boards.equip.Goals as goal
 
 pub fit_plan-requires-clause-exists : goal.fit_plan-requires-clause-exists
 fit_plan-requires-clause-exists g c = last_exists _ _ _ _ c.requires
+
+pub fit_plan-requires-clause-bare : goal.fit_plan-requires-clause-bare
+fit_plan-requires-clause-bare g c = last_bare _ _ _ c.requires
 
 pub load-requires-clause-has_plan : goal.load-requires-clause-has_plan
 load-requires-clause-has_plan g c = fitted_has _ _ _ (fitted_last _ _ _ _ c.requires c.in_ok-fit_plan.ensures)

@@ -1,15 +1,18 @@
 use Rattle.std.proofs.Common.{◌≡◌, ℕ, ◌-◌, ◌≤◌, List, Option, false}
+use Rattle.std.specs.Option.{ForSome}
+use Rattle.lab_io.specs.Asked.{Log}
+use Rattle.lab_io.specs.Frame.{OnlyReads, OnlyWrites}
 use Rattle.lab_state.specs.Run.{run}
 use Rattle.lab_top.specs.declared.status.Status.{Status}
 use Rattle.lab_top.specs.Transcript.{from, rest_of}
-use Rattle.lab_top.specs.Inner.Course.{Told, Course}
+use Rattle.lab_top.specs.Inner.Course.{Course}
 use Rattle.lab_top.proofs.run.take_commands.Given as goal
 
 -- The course of what is left of the run is the course of the whole. Each turn takes a command or more.
 abbrev pub invariant-commands : goal.invariant-commands
 invariant-commands g l = record {
-  course : Told (g.F.Files.held l.fn.files) (λ held.
-      (status : Status) (out : Option (List ℕ)) (log : Option (List (List ℕ))) →
+  course : ForSome (g.F.Files.held l.fn.files) (λ held.
+      (status : Status) (out : Option (List ℕ)) (log : Log) →
       Course (from (100001 - l._turn) run held l.monitor.state) status
       (g.K.Sink.written l.out) out (g.F.Files.asked l.files) log →
       Course (rest_of run held l.fn.monitor.state) status
@@ -18,7 +21,6 @@ invariant-commands g l = record {
   unspent : l.monitor.spent ≡ false;
   counted : l._turn ≤ l.monitor.state.flow.kept.taken;
   few : l.monitor.state.flow.kept.taken ≤ 100000;
-  held : g.F.Files.held l.files ≡ g.F.Files.held l.fn.files;
-  read_faults : g.F.Files.faults l.fn.files ≤ g.F.Files.faults l.files;
-  write_faults : g.K.Sink.faults l.fn.out ≤ g.K.Sink.faults l.out;
+  files : OnlyReads g.F.Files ⊥ l.fn.files l.files;
+  output : OnlyWrites g.K.Sink ⊥ l.fn.out l.out;
 }
