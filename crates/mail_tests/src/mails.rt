@@ -64,13 +64,13 @@ fn all_posted<R: Wait>(
     Ok(all)
 }
 
-/// Takes the passes in, one after another.
-fn take_all<R: Wait>(rt: &R, boss: &mut Boss, passes: Vec<Pass>)
+/// Takes the passes in, the last of the list first.
+fn take_all<R: Wait>(rt: &R, boss: &mut Boss, mut passes: Vec<Pass>)
     requires mail { All (λ p. p.mail ≡ boss.old.mail) passes.items }
     ensures taken { length boss.new.taken ≡ length boss.old.taken + length passes.items }
     ensures count { boss.new.count ≡ boss.old.count }
 {
-    for pass in passes {
+    while let Some(pass) = passes.pop() {
         boss.take_in(rt, pass);
     }
 }
@@ -88,7 +88,7 @@ fn drained<R: Wait>(
     }
     let (mut boss, passes) = Mail::begin(rt, alloc, counts.len() as u8)?;
     let mut passes = all_posted(rt, alloc, &boss, passes, counts)?;
-    if !from_last {
+    if from_last {
         passes.reverse();
     }
     take_all(rt, &mut boss, passes);
@@ -126,12 +126,16 @@ fn drained_of_two<R: Threads + Wait + Sync>(
 /// others.
 fn are_in_order(posts: &[Post], counts: &[u64]) -> bool {
     for (board, count) in counts.iter().enumerate() {
-        let of_board = posts.iter().filter(|post| usize::from(post.key.board.0) == board);
+        let of_board = posts
+            .iter()
+            .filter(|post| usize::from(post.key.board.0) == board);
         if !of_board.map(|post| post.key.number.0).eq(0..*count) {
             return false;
         }
     }
-    posts.iter().all(|post| usize::from(post.key.board.0) < counts.len())
+    posts
+        .iter()
+        .all(|post| usize::from(post.key.board.0) < counts.len())
 }
 
 /// How many posts each board makes, in order of board, and whether the passes are taken in from the
@@ -143,7 +147,10 @@ static MAILS: [(&[u64], bool); 7] = [
     (&[0], true),
     (&[31, 1], false),
     (&[100, 0, 70], true),
-    (&[0, 1, 2, 3, 4, 5, 6, 7, 8, 9, 10, 11, 12, 13, 14, 15], false),
+    (
+        &[0, 1, 2, 3, 4, 5, 6, 7, 8, 9, 10, 11, 12, 13, 14, 15],
+        false,
+    ),
 ];
 
 #[test]
