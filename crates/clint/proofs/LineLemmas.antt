@@ -6,7 +6,7 @@ use Rattle.clint.specs.Laws.{ChangesTwice, FallsAtWraps}
 use Rattle.clint.specs.Mtime.{ticks, counter}
 
 -- how far a counter has come, and what it shows
-ticks-rise : (frequency a b : ℕ) → a ≤ b → ticks frequency a ≤ ticks frequency b
+pub ticks-rise : (frequency a b : ℕ) → a ≤ b → ticks frequency a ≤ ticks frequency b
 unfolding ticks
 ticks-rise frequency a b h = let more : a * frequency ≤ b * frequency = mul-le-mul_right frequency h in omega arith
 

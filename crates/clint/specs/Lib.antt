@@ -1,4 +1,5 @@
 -- What the contracts of the CLINT and of the crates above it cite.
 pub mod Clint
+pub mod FirstChange
 pub mod Laws
 pub mod Mtime

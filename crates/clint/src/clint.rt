@@ -1,11 +1,14 @@
 //! The CLINT and its registers.
-ghost use Rattle.std.specs.Prelude.{◌≡◌, ◌≤◌};
+ghost use Rattle.std.specs.Prelude.{◌≡◌, ◌≤◌, ◌<◌};
 
-use crate::counter::{counter, offset_for};
+use crate::counter::{all_ticks, counter, micros_until, offset_for};
 use crate::registers::*;
 use crate::state::ClintState;
 use lab_num::{Micros, high_half, low_half, with_high_half, with_low_half};
 use std::marker::Model;
+
+/// Where the counter wraps: it shows 0 in place of this.
+const WRAP: u128 = 1 << 64;
 
 /// The width of the accesses that the registers answer, in bytes.
 const WORD: u8 = 4;
@@ -39,6 +42,7 @@ impl Clint {
       software_line,
       timer_line,
     };
+    ghost use Rattle.clint.specs.FirstChange.{IsFirstChange, IsStill};
 
     /// A CLINT in its reset state, whose counter rises so many times in a second.
     pub fn new(frequency: u32) -> Clint
@@ -71,6 +75,43 @@ impl Clint {
         ensures { result ≡ timer_line self.now now.0 }
     {
         self.mtime(now) >= self.state.mtimecmp
+    }
+
+    /// The first microsecond from `now` on at which the line of the timer interrupt is not as it is
+    /// at `now`, or `last` if there is none below `last`.
+    pub fn idle_until(&self, now: Micros, last: Micros) -> Micros
+        requires { now.0 ≤ last.0 }
+        ensures { IsFirstChange self.now now.0 last.0 result.0 }
+    {
+        let line = self.timer(now);
+        let mut at = now.0;
+        while at < last.0 {
+            let next = self.stays_until(at);
+            if next >= u128::from(last.0) {
+                return last;
+            }
+            at = next as u64;
+            if self.timer(Micros(at)) != line {
+                return Micros(at);
+            }
+        }
+        last
+    }
+
+    /// A later microsecond, before which the line of the timer interrupt stays: the first one at
+    /// which the counter has come to `mtimecmp` if it is below that, and else to where it wraps.
+    fn stays_until(&self, now: u64) -> u128
+        ensures later { now < result }
+        ensures still { IsStill self.now now result }
+    {
+        let shown = self.mtime(Micros(now));
+        let compared = self.state.mtimecmp;
+        let left = if shown < compared {
+            u128::from(compared - shown)
+        } else {
+            WRAP - u128::from(shown)
+        };
+        micros_until(self.frequency, all_ticks(self.frequency, now) + left)
     }
 
     /// A load of `width` bytes at an offset within the CLINT. It gives 0 where no register is.

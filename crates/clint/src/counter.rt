@@ -1,5 +1,5 @@
 //! A counter that wraps at 2^64 and rises by the laboratory's clock.
-ghost use Rattle.std.specs.Prelude.{◌≡◌, ◌%◌, ◌^◌};
+ghost use Rattle.std.specs.Prelude.{◌≡◌, ◌%◌, ◌^◌, ◌<◌, ◌≤◌, ℕ};
 ghost use Rattle.clint.specs.Mtime.{counter, offset_for, ticks};
 
 const MICROS_PER_SECOND: u64 = 1_000_000;
@@ -28,4 +28,24 @@ pub fn offset_for(value: u64, frequency: u32, micros: u64) -> u64
     ensures shown { counter result (ticks frequency micros) ≡ value }
 {
     value.wrapping_sub(ticks(frequency, micros))
+}
+
+/// How often a counter of so many hertz rises in so many microseconds.
+#[tactic(auto, unfolding(crate::specs::Mtime::ticks))]
+pub fn all_ticks(frequency: u32, micros: u64) -> u128
+    ensures value { result ≡ ticks frequency micros }
+    ensures fits { result < 2 ^ 96 }
+{
+    u128::from(micros) * u128::from(frequency) / u128::from(MICROS_PER_SECOND)
+}
+
+/// The first microsecond until which a counter of so many hertz rises so often.
+pub fn micros_until(frequency: u32, rises: u128) -> u128
+    requires frequency { 1 ≤ frequency }
+    requires fits { rises < 2 ^ 100 }
+    ensures before { (t : ℕ) → t < result → ticks frequency t < rises }
+    ensures reached { rises ≤ ticks frequency result }
+{
+    let hertz = u128::from(frequency);
+    (rises * u128::from(MICROS_PER_SECOND) + (hertz - 1)) / hertz
 }

@@ -1,4 +1,4 @@
-//! Numbers at both ends of a memory and across its pages.
+//! Numbers and bytes at both ends of a memory, and at its pages' border.
 ghost use Rattle.std.specs.Prelude.{◌≡◌, ◌+◌, ◌≤◌, length, IsTrue};
 ghost use Rattle.page_ram.specs.Access.{IsWidth};
 
@@ -77,5 +77,96 @@ fn numbers_stand_lowest_byte_first(rt: HostRuntime) -> Result<(), Fail> {
         &pages,
         &[(4092, 4, 0x0011_0304), (4096, 4, 0xFFFF_4400)],
     );
+    Ok(())
+}
+
+#[test]
+fn a_stored_page_is_zeroed(rt: HostRuntime) -> Result<(), Fail> {
+    let mut pages = two_pages(rt.alloc())?;
+    assert_loads(&rt, &pages, &[(4096, 4, 0)]);
+    store(&mut pages, 4100, 2, 0xBEEF)?;
+    assert_loads(&rt, &pages, &[(4100, 4, 0x0000_BEEF)]);
+    pages.ram.zero(4096, 4096);
+    assert_loads(&rt, &pages, &[(4100, 4, 0)]);
+    Ok(())
+}
+
+/// Where so many bytes are copied, from a place on, into a new memory.
+static COPIES: [(u32, u32); 12] = [
+    (0, 1),
+    (4095, 1),
+    (4096, 1),
+    (4094, 2),
+    (4095, 2),
+    (4096, 2),
+    (4093, 6),
+    (0, 4096),
+    (1, 4096),
+    (4096, 4096),
+    (8191, 1),
+    (0, 8192),
+];
+
+/// Whether those bytes and no others are 0xA5, all others 0.
+fn has_copy(pages: &TwoPages, at: u32, count: u32) -> bool {
+    for i in 0..8192 {
+        let copied = at <= i && i - at < count;
+        let byte = pages.ram.load(i, 1);
+        if byte != if copied { 0xA5 } else { 0 } {
+            return false;
+        }
+    }
+    true
+}
+
+fn copies_and_zeroes(alloc: Global, at: u32, count: u32) -> Result<bool, NoMemory> {
+    let mut pages = two_pages(alloc)?;
+    if at > 8192 || count > 8192 - at {
+        return Ok(false);
+    }
+    let bytes = vec![in alloc; 0xA5u8; count as usize]?;
+    pages.ram.copy_in(at, &bytes)?;
+    let copied = has_copy(&pages, at, count);
+    pages.ram.zero(at, count);
+    Ok(copied && has_copy(&pages, 0, 0))
+}
+
+#[test]
+fn bytes_are_copied_and_zeroed_over_the_border(rt: HostRuntime) -> Result<(), Fail> {
+    for &(at, count) in &COPIES {
+        let holds = copies_and_zeroes(rt.alloc(), at, count)?;
+        assert!(rt; holds, "{count} bytes at {at}");
+    }
+    Ok(())
+}
+
+/// Stores in the first pages of a new memory, as many as are named, and drops it. The answer is
+/// whether it was 0.
+fn drops_after(alloc: Global, stored: u32) -> Result<bool, NoMemory> {
+    let mut pages = two_pages(alloc)?;
+    let clear = has_copy(&pages, 0, 0);
+    for page in 0..stored.min(2) {
+        store(&mut pages, page * 4096, 4, 0xFFFF_FFFF)?;
+    }
+    Ok(clear)
+}
+
+#[test]
+fn a_new_memory_is_0_after_others_were_dropped(rt: HostRuntime) -> Result<(), Fail> {
+    for stored in [0, 1, 2, 0] {
+        let clear = drops_after(rt.alloc(), stored)?;
+        assert!(rt; clear);
+    }
+    Ok(())
+}
+
+/// Where the allocator refuses the page (docs/DEVELOPING.md), nothing has changed.
+#[test]
+fn a_refused_page_changes_nothing(rt: HostRuntime) -> Result<(), Fail> {
+    let mut pages = two_pages(rt.alloc())?;
+    let refused = store(&mut pages, 4100, 2, 0xBEEF).is_err();
+    let loaded = if refused { 0 } else { 0xBEEF };
+    assert_loads(&rt, &pages, &[(4100, 4, loaded)]);
+    println!(rt; "the page was refused: {refused}; 4 bytes at 4100: {loaded:#x}")?;
     Ok(())
 }

@@ -121,3 +121,86 @@ fn the_timer_line_is_up_from_mtimecmp_on(rt: HostRuntime) {
         assert!(rt; line_is(*row), "{row:?}");
     }
 }
+
+fn timer_at(frequency: u32, offset: u64, mtimecmp: u64) -> Clint {
+    let mut state = began_at(offset);
+    state.mtimecmp = mtimecmp;
+    let mut clint = Clint::new(frequency.clamp(1, 1_000_000_000));
+    clint.put(&state);
+    clint
+}
+
+/// What a counter of a megahertz began at, mtimecmp, a microsecond, a last one, and the first one
+/// between at which the line has changed.
+static CHANGES: [(u64, u64, u64, u64, u64); 10] = [
+    (0, 50, 10, 100, 50),
+    (0, 50, 10, 51, 50),
+    (0, 50, 10, 50, 50),
+    (0, 50, 50, 100, 100),
+    (0, 50, 100, 100, 100),
+    (u64::MAX - 4, 3, 0, 100, 5),
+    (u64::MAX - 4, 3, 5, 100, 8),
+    (u64::MAX - 4, 3, 8, 100, 100),
+    (u64::MAX - 4, 0, 0, 100, 100),
+    (7, 10_000_000_000, 0, 10_000_000_000, 9_999_999_993),
+];
+
+fn changes_at((offset, mtimecmp, now, last, first): (u64, u64, u64, u64, u64)) -> bool {
+    let clint = timer_at(1_000_000, offset, mtimecmp);
+    now <= last && clint.idle_until(Micros(now), Micros(last)) == Micros(first)
+}
+
+#[test]
+fn the_timer_line_changes_first_at_mtimecmp_or_at_a_wrap(rt: HostRuntime) {
+    for row in &CHANGES {
+        assert!(rt; changes_at(*row), "{row:?}");
+    }
+}
+
+/// The hertz of a counter, what it began at, mtimecmp, and the first of some microseconds at whose
+/// edges the counter comes to mtimecmp, wraps, or passes over all that is below mtimecmp at once.
+static EDGES: [(u32, u64, u64, u32); 11] = [
+    (1, 0, 1, 999_994),
+    (1, u64::MAX, 1, 999_994),
+    (3, 0, 1, 333_328),
+    (3, 0, 2, 666_661),
+    (3, u64::MAX - 1, 5, 666_661),
+    (999_999_999, 0, 1_000, 0),
+    (999_999_999, 0, 999_999_999, 999_994),
+    (999_999_999, u64::MAX - 4_999, 1_500, 0),
+    (1_000_000_000, 0, 5_000, 0),
+    (1_000_000_000, u64::MAX - 2_499, 700, 0),
+    (1_000_000_000, u64::MAX - 2_499, 100, 0),
+];
+
+/// The same by a loop over microseconds.
+fn first_change(clint: &Clint, now: u64, last: u64) -> u64 {
+    for at in now..last {
+        if clint.timer(Micros(at)) != clint.timer(Micros(now)) {
+            return at;
+        }
+    }
+    last
+}
+
+fn agrees_with_a_loop((frequency, offset, mtimecmp, from): (u32, u64, u64, u32)) -> bool {
+    let clint = timer_at(frequency, offset, mtimecmp);
+    for start in 0..12 {
+        let now = u64::from(from) + start;
+        for count in 0..12 {
+            let last = now + count;
+            let first = first_change(&clint, now, last);
+            if clint.idle_until(Micros(now), Micros(last)) != Micros(first) {
+                return false;
+            }
+        }
+    }
+    true
+}
+
+#[test]
+fn the_first_change_is_that_of_a_loop(rt: HostRuntime) {
+    for row in &EDGES {
+        assert!(rt; agrees_with_a_loop(*row), "{row:?}");
+    }
+}

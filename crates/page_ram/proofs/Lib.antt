@@ -1,1 +1,4 @@
 pub mod ByteLemmas
+pub mod DirectoryLemmas
+pub mod MaybeBoxShares
+pub mod MaybeBoxSteps

@@ -2,3 +2,4 @@
 pub mod LittleEndian
 pub mod Bytes
 pub mod Access
+pub mod Inner

@@ -2,7 +2,9 @@
 #![tactic(auto)]
 
 mod laws;
+mod maybe_box;
 mod number;
+mod page;
 mod ram;
 
 pub use laws::aligned_numbers_lie_in_one_page;
