@@ -16,6 +16,7 @@ use Rattle.std.proofs.lemmas.List.Sorted.{IsPermutation-map, IsPermutation-middl
 use Rattle.std.proofs.lemmas.Map.Keys.{IsDistinct-IsPermutation}
 use Rattle.lab_num.specs.declared.key.Key.{Key}
 use Rattle.lab_num.specs.Key.{key_cmp, KeysDiffer}
+use Rattle.lab_num.specs.Numbered.{AreNumbered}
 use Rattle.lab_num.specs.Listing.{IsListing, listing}
 use Rattle.dev_core.specs.declared.post.Post.{Post}
 use Rattle.dev_core.specs.Post.{post_key}

@@ -8,5 +8,5 @@ use lab_num::is_identifier;
 pub(crate) fn is_dotted_name(text: &str) -> bool
     ensures { result ≡ is_dotted_name text.now }
 {
-    text.split('.').all(is_identifier)
+    text.split('.').all(|part| is_identifier(part))
 }
