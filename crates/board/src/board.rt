@@ -145,7 +145,7 @@ impl<D: Device> Board<D> {
         if self.halted() {
             return Turn::Used(n);
         }
-        // two loops, so that a board without wires asks in no slot for its lines
+        // two loops, so that a board without timer, interrupt controller and wires asks in no slot for its lines
         if self.wires.space.is_wired() {
             self.slots::<WIRED>(true, at, n)
         } else {

@@ -12,7 +12,8 @@ pub struct Member0 {
 /// What became of a payload that a shown device was handed at a boundary.
 #[derive(Clone, Copy, PartialEq, Eq, Debug)]
 pub enum Note {
-    /// A byte took the place of one that was not read.
+    /// A byte came for which there was no room: it was lost, or took the place of the one that was
+    /// held.
     Overrun,
     /// A frame waits to be read.
     Received(Frame),

@@ -95,7 +95,7 @@ pub fn print_note(
     }
 }
 
-/// Writes the line of a byte that took the place of one that was not read.
+/// Writes the line of a byte for which a UART had no room.
 fn print_overrun(
     at: Micros,
     member: Member,
