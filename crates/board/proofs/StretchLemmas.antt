@@ -1,7 +1,8 @@
 -- Laws of slots one after another.
-use Rattle.std.proofs.Common.{◌≡◌, ℕ, true, zero, suc, ◌+◌, ◌*◌, List, [], ◌∷◌, sum, refl, ◌∙◌}
+use Rattle.std.proofs.Common.{◌≡◌, ℕ, true, zero, suc, ◌+◌, ◌*◌, ◌/◌, ◌<◌, List, [], ◌∷◌, sum, refl, sym, ap, ◌∙◌}
 use Rattle.std.proofs.Common.{append_assoc, add-one, add-zero, add-suc, add_assoc, arith}
 use Rattle.std.proofs.lemmas.List.Sums.{sum_by-cons}
+use Rattle.std.proofs.lemmas.Nat.{div-mul-add}
 use Rattle.std.proofs.Math.Nat.{suc-mul}
 use Rattle.lab_num.specs.Paid.{slot_at}
 use Rattle.board.specs.View.{View, State, quiet, after}
@@ -11,7 +12,7 @@ use Rattle.board.proofs.NumberLemmas.{speed-stretch}
 use Rattle.board.proofs.SlotLemmas.{quiet-behind, slot-halted}
 
 -- what is made one after another comes in order
-after-after : (s run more : State) → after (after s run) more ≡ after s (after run more)
+pub after-after : (s run more : State) → after (after s run) more ≡ after s (after run more)
 after-after s run more =
     rw (append_assoc s.posts run.posts more.posts, append_assoc s.entries run.entries more.entries) refl
 
@@ -21,7 +22,7 @@ unfolding stretch
 after_none s from a = quiet-behind s
 
 -- slots of a halted board leave it as it is
-stretch-halted : (v : View) (from a n : ℕ) → v.core.halted ≡ true → stretch v from a n ≡ quiet v
+pub stretch-halted : (v : View) (from a n : ℕ) → v.core.halted ≡ true → stretch v from a n ≡ quiet v
 unfolding stretch
 stretch-halted v from a zero halted = refl
 stretch-halted v from a (suc n) halted = rw (stretch-halted v from a n halted, slot-halted v _ halted) refl
@@ -71,3 +72,10 @@ turns-add v from a [] = stretch-none v from a
 turns-add v from a (n ∷ turns) =
     let rest = turns-add (stretch v from a n).view from (a + n) turns in
     rw (sum_by-cons (λ x. x) n turns, stretch-add v from a n (sum turns), rest) refl
+
+-- the microsecond of the next slot
+pub slot_time :
+    (from a i q r w speed : ℕ) → a + i ≡ q * r + w → w < r → r ≡ speed → from + q ≡ slot_at from speed (a + i)
+slot_time from a i q r w speed here within is =
+    let quotient : (a + i) / r ≡ q = ap (λ x. x / r) here ∙ div-mul-add _ _ _ within in
+    ap (λ x. from + x) (sym quotient ∙ ap (λ s. (a + i) / s) is)

@@ -5,6 +5,7 @@ pub mod Wires
 pub mod View
 pub mod Slot
 pub mod Stretch
+pub mod Idle
 pub mod Numbered
 pub mod New
 pub mod Changes

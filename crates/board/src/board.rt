@@ -1,6 +1,6 @@
 //! The board: its slots, and what they make.
 ghost use Rattle.std.specs.Prelude.{◌≡◌, ◌≢◌, ℕ, ◌+◌, ◌/◌, ◌%◌, ◌<◌, ◌≤◌, ◌^◌, [], true, length, drop, map, All};
-ghost use Rattle.std.specs.Prelude.{slice_get, slice_index_or, OnOk, OnErr, IfOk, IfErr, IsTrue};
+ghost use Rattle.std.specs.Prelude.{slice_get, slice_index_or, OnOk, OnErr, IfOk, IfErr, IfSome, IsTrue};
 ghost use Rattle.rv_hart.specs.Trap.{chosen};
 
 use crate::wires::{Rooms, Wires};
@@ -68,13 +68,14 @@ impl<D: Device> Board<D> {
     ghost use Rattle.board.specs.Space.{device_at};
     ghost use Rattle.board.specs.View.{quiet, after};
     ghost use Rattle.board.specs.Inner.Fit.{IsStateOf, with_controller};
-    ghost use Rattle.board.specs.Lines.{sampled, lines_of};
+    ghost use Rattle.board.specs.Lines.{sampled, lines_of, timer_up};
     ghost use Rattle.board.specs.Slot.{slot, running, sampling, awake, asleep, cycle};
     ghost use Rattle.board.specs.Inner.Remembers.{is_wired};
     ghost use Rattle.rv_hart.specs.Trap.{interrupt};
     ghost use Rattle.page_ram.specs.Bytes.{zeros};
     ghost use Rattle.rv_hart.specs.Core.{reg};
-    ghost use Rattle.board.specs.Stretch.{IsTurn};
+    ghost use Rattle.board.specs.Stretch.{IsTurn, stretch};
+    ghost use Rattle.board.specs.Idle.{passed, is_idle};
 
     /// A board of this number by a plan, at lab time 0, with devices in their reset states and in
     /// the plan's order. Memories are 0, the pc is 0, and no device is shown. `Err` is for want of
@@ -162,33 +163,114 @@ impl<D: Device> Board<D> {
         let speed = u64::from(self.speed());
         let mut micros = at.first / speed;
         let mut within = at.first % speed;
-        for i in 0..n {
-            let Ok(()) = self.slot::<COPY>(wired, Micros(at.from.0 + micros)) else {
+        let mut i = 0;
+        while i < n {
+            let Ok(idle) = self.slot::<COPY>(wired, Micros(at.from.0 + micros)) else {
                 return Turn::Starved(i);
             };
+            i += 1;
             within += 1;
             if within == speed {
                 within = 0;
                 micros += 1;
             }
+            if idle {
+                i += self.pass_idle(wired, at, i, n);
+                micros = (at.first + i) / speed;
+                within = (at.first + i) % speed;
+            }
         }
         Turn::Used(n)
     }
 
-    /// One slot, in this microsecond, of a board that is wired or not. After an `Err` the board is
-    /// as before.
+    /// Passes over idle slots, of those from slot `i` of the call on: up to the first one in the
+    /// microsecond in which the line of the timer interrupt changes, or to the end of the call. The
+    /// answer is how many, and 0 where the next slot may not be idle.
+    #[cold]
+    #[inline(never)]
+    fn pass_idle(&mut self, wired: bool, at: SlotAt, i: u64, n: u64) -> u64
+        requires time { at.from.0 + (at.first + n) / self.old.view.numbers.speed ≤ 10000000000 }
+        requires wired { wired ≡ is_wired self.old.view.space.plan }
+        requires within { i ≤ n }
+        ensures most { i + result ≤ n }
+        ensures run { self.new ≡ after self.old
+            (stretch self.old.view at.from.0 (at.first + i) result) }
+    {
+        let speed = u64::from(self.speed());
+        let next = at.first + i;
+        let now = Micros(at.from.0 + next / speed);
+        let Some(lines) = self.known_lines(wired, now) else {
+            return 0;
+        };
+        if !self.is_idle(lines.mip) {
+            return 0;
+        }
+        // the microsecond after the last one, so that the slots of the last one are passed over too
+        let end = Micros(at.from.0 + (at.first + n) / speed + 1);
+        let until = self.timer_stays_until(now, end);
+        let stop = u64::min((until.0 - at.from.0) * speed, at.first + n);
+        if stop < next {
+            return 0;
+        }
+        self.pass(stop - next);
+        stop - next
+    }
+
+    /// The lines in a microsecond, where they are known without sampling.
+    fn known_lines(&mut self, wired: bool, now: Micros) -> Option<Lines>
+        requires { wired ≡ is_wired self.old.view.space.plan }
+        ensures settled { IfSome result (λ lines. sampled self.old.view.space ≡ self.old.view.space) }
+        ensures lines { IfSome result (λ lines. lines ≡ lines_of self.old.view.space now.0) }
+        ensures same { self.new ≡ self.old }
+    {
+        self.wires.space.known_lines(wired, now)
+    }
+
+    /// Whether the processor goes on waiting where these interrupts are pending.
+    fn is_idle(&self, mip: u32) -> bool
+        ensures { result ≡ is_idle self.now.view.core mip }
+    {
+        !self.hart.halted() && self.hart.waiting() && !self.hart.is_ready(mip)
+    }
+
+    /// A microsecond until which the line of the timer interrupt is as it is now.
+    fn timer_stays_until(&self, now: Micros, last: Micros) -> Micros
+        requires { now.0 ≤ last.0 }
+        ensures from { now.0 ≤ result.0 }
+        ensures until { result.0 ≤ last.0 }
+        ensures still { (t : ℕ) → now.0 ≤ t → t < result.0 →
+            timer_up self.now.view.space.timer t ≡ timer_up self.now.view.space.timer now.0 }
+    {
+        self.wires.space.timer_stays_until(now, last)
+    }
+
+    /// Lets cycles of the processor pass.
+    fn pass(&mut self, cycles: u64)
+        ensures after { self.new ≡ record self.old { view = passed self.old.view cycles } }
+        ensures fits { self.old.view.core.mcycle < 2 ^ 64 }
+    {
+        let mut state = self.hart.state();
+        state.mcycle = state.mcycle.wrapping_add(cycles);
+        let Some(hart) = Hart::of(&state) else {
+            unreachable!()
+        };
+        self.hart = hart;
+    }
+
+    /// One slot, in this microsecond, of a board that is wired or not. The answer is whether it was
+    /// idle: the processor goes on waiting. After an `Err` the board is as before.
     #[tactic(auto, unfolding(crate::specs::Slot::slot))]
-    fn slot<const COPY: u8>(&mut self, wired: bool, at: Micros) -> Result<(), NoMemory>
+    fn slot<const COPY: u8>(&mut self, wired: bool, at: Micros) -> Result<bool, NoMemory>
         requires { wired ≡ is_wired self.old.view.space.plan }
         ensures ok { OnOk result (self.new ≡ after self.old (slot self.old.view at.0)) }
         ensures err { OnErr result (self.new ≡ self.old) }
     {
         if self.hart.halted() {
-            return Ok(());
+            return Ok(false);
         }
         match self.wires.space.known_lines(wired, at) {
             Some(lines) => self.run::<COPY>(at, lines),
-            None => self.sample_and_run(at),
+            None => Ok(self.sample_and_run(at)?),
         }
     }
 
@@ -204,50 +286,52 @@ impl<D: Device> Board<D> {
     /// board is as before, the controller too.
     #[cold]
     #[inline(never)]
-    fn sample_and_run(&mut self, at: Micros) -> Result<(), NoMemory>
+    fn sample_and_run(&mut self, at: Micros) -> Result<bool, NoMemory>
         ensures ok { OnOk result (self.new ≡ after self.old
             (running (sampling self.old.view) at.0 (lines_of (sampled self.old.view.space) at.0))) }
         ensures err { OnErr result (self.new ≡ self.old) }
     {
         let before = self.wires.space.controller_state();
         let lines = self.wires.space.sample(at);
-        let Ok(()) = self.run::<APART>(at, lines) else {
+        let Ok(idle) = self.run::<APART>(at, lines) else {
             self.put_controller(&before);
             return Err(NoMemory);
         };
-        Ok(())
+        Ok(idle)
     }
 
     /// The rest of a slot whose lines are these. After an `Err` the board is as before.
-    fn run<const COPY: u8>(&mut self, at: Micros, lines: Lines) -> Result<(), NoMemory>
+    fn run<const COPY: u8>(&mut self, at: Micros, lines: Lines) -> Result<bool, NoMemory>
         ensures ok { OnOk result (self.new ≡ after self.old (running self.old.view at.0 lines)) }
         ensures err { OnErr result (self.new ≡ self.old) }
     {
         if self.hart.waiting() {
-            return self.wait(at, lines);
+            // taken apart, so that other slots test no answer of it
+            return Ok(self.wait(at, lines)?);
         }
-        self.act::<COPY>(at, lines)
+        self.act::<COPY>(at, lines)?;
+        Ok(false)
     }
 
     /// A slot of a processor that waits: it goes on waiting, or is woken. After an `Err` the board
     /// is as before.
     #[cold]
     #[inline(never)]
-    fn wait(&mut self, at: Micros, lines: Lines) -> Result<(), NoMemory>
+    fn wait(&mut self, at: Micros, lines: Lines) -> Result<bool, NoMemory>
         requires { self.old.view.core.waiting ≡ true }
         ensures ok { OnOk result (self.new ≡ after self.old (asleep self.old.view at.0 lines)) }
         ensures err { OnErr result (self.new ≡ self.old) }
     {
         if !self.hart.is_ready(lines.mip) {
             self.hart.tick();
-            return Ok(());
+            return Ok(true);
         }
         self.hart.set_waiting(false);
         let Ok(()) = self.act::<APART>(at, lines) else {
             self.hart.set_waiting(true);
             return Err(NoMemory);
         };
-        Ok(())
+        Ok(false)
     }
 
     /// Enters the interrupt that is taken now, or else does one instruction. After an `Err` the

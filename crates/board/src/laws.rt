@@ -1,10 +1,15 @@
 //! Laws of boards and of slots one after another. Each is the contract of a function that does
 //! nothing.
-ghost use Rattle.std.specs.Prelude.{◌≡◌, ℕ, ◌+◌, ◌<◌, ◌^◌, List, sum};
-ghost use Rattle.board.specs.View.{View, after};
+ghost use Rattle.std.specs.Prelude.{◌≡◌, ℕ, ◌+◌, ◌<◌, ◌^◌, Bool, true, List, sum};
+ghost use Rattle.board.specs.View.{View, quiet, after};
 ghost use Rattle.board.specs.New.{IsSameKept, reset};
 ghost use Rattle.board.specs.Stretch.{stretch, in_turns};
+ghost use Rattle.board.specs.Idle.{IsIdle, IsStillFor, passed};
+ghost use Rattle.board.specs.Lines.{sampled};
+ghost use Rattle.board.specs.Space.{Space};
 ghost use Rattle.board.specs.Numbered.{IsNumbered};
+
+use plic::second_samples_change_nothing;
 
 /// A stretch of slots and the one after it are one stretch.
 pub fn stretches_join()
@@ -32,6 +37,25 @@ pub fn stretches_number()
 pub fn stretches_keep_plans()
     ensures { (v : View) (from a n : ℕ) → (stretch v from a n).view.space.plan ≡ v.space.plan }
 {}
+
+/// A board whose processor goes on waiting as long as the timer's line is up, or is not, is after n
+/// slots in which that is so itself, with mcycle raised by n.
+pub fn waiting_boards_count_cycles()
+    ensures { (v : View) (timer : Bool) (from a n : ℕ) → v.core.mcycle < 2 ^ 64 →
+        IsIdle v timer → IsStillFor v timer from a n → stretch v from a n ≡ quiet (passed v n) }
+{}
+
+/// A board whose processor is halted is itself after any slots.
+pub fn halted_boards_stay()
+    ensures { (v : View) (from a n : ℕ) → v.core.halted ≡ true → stretch v from a n ≡ quiet v }
+{}
+
+/// A second sample of the same lines changes nothing.
+pub fn samples_settle()
+    ensures { (s : Space) → sampled (sampled s) ≡ sampled s }
+{
+    second_samples_change_nothing();
+}
 
 /// What a reset leaves depends on nothing that the processor and the devices had come to.
 pub fn resets_agree()

@@ -12,4 +12,7 @@ mod space;
 mod wires;
 
 pub use board::{Board, SlotAt, Turn};
-pub use laws::{resets_agree, stretches_join, stretches_keep_plans, stretches_number, turns_join};
+pub use laws::{
+    halted_boards_stay, resets_agree, samples_settle, stretches_join, stretches_keep_plans,
+    stretches_number, turns_join, waiting_boards_count_cycles,
+};

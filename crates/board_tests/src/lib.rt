@@ -7,3 +7,5 @@ mod boards;
 mod parts;
 #[cfg(test)]
 mod plans;
+#[cfg(test)]
+mod waits;

@@ -60,6 +60,21 @@ impl<D: Device> Space<D> {
         }
     }
 
+    /// A microsecond until which the line of the timer interrupt is as it is now: the first one at
+    /// which it is not, or the last one that is asked for.
+    pub fn timer_stays_until(&self, now: Micros, last: Micros) -> Micros
+        requires { now.0 ≤ last.0 }
+        ensures from { now.0 ≤ result.0 }
+        ensures until { result.0 ≤ last.0 }
+        ensures still { (t : ℕ) → now.0 ≤ t → t < result.0 →
+            timer_up self.now.timer t ≡ timer_up self.now.timer now.0 }
+    {
+        match &self.timer {
+            Some(timer) => timer.idle_until(now, last),
+            None => last,
+        }
+    }
+
     fn is_software_up(&self) -> bool
         ensures { result ≡ software_up self.now.timer }
     {

@@ -1,0 +1,7 @@
+use Rattle.std.proofs.Common.{refl}
+use Rattle.board.specs.Lines.{sampled}
+use Rattle.board.proofs.LineLemmas.{sampled_twice}
+use Rattle.board.proofs.laws.samples_settle.Goals as goal
+
+pub returns : goal.returns
+returns c = λ s. sampled_twice c.second_samples_change_nothing.ensures s (sampled s) refl
