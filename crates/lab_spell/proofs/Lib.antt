@@ -1,0 +1,3 @@
+mod ListLoops
+mod TextLemmas
+mod WholeLemmas

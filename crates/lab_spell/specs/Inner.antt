@@ -1,0 +1,2 @@
+-- What serves private contracts.
+pub mod Whole

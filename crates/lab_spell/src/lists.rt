@@ -1,0 +1,73 @@
+//! A list is the count of its members in 8 bytes, and the members; an array is its members.
+ghost use Rattle.std.specs.Prelude.{OnOk};
+ghost use Rattle.std.specs.List.{AllByRecursion, flat_map};
+ghost use Rattle.lab_spell.specs.Combine.{list, parse_times, times};
+ghost use Rattle.lab_spell.specs.Reads.{Appends, Reads};
+ghost use Rattle.lab_spell.specs.Laws.{list_lawful, times_lawful};
+
+use crate::fault::SnapFault;
+use crate::source::Source;
+use crate::spelled::Spelled;
+use lab_num::{NoMemory, Rows};
+use std::alloc::Global;
+
+/// Writes the spellings of all items, one after another.
+pub(crate) fn put_each<T: Spelled>(items: &[T], out: &mut Vec<u8>) -> Result<(), NoMemory>
+    ensures spelled { OnOk result (Appends out.old.items out.new.items (flat_map T.form.spell items.now)) }
+    ensures fits { OnOk result (AllByRecursion T.form.Fits items.now) }
+{
+    for item in items {
+        item.put(out)?;
+    }
+    Ok(())
+}
+
+/// Reads `count` items. Nothing is reserved for a count, which may be larger than the bytes.
+fn take_times<T: Spelled + Drop>(
+    alloc: Global,
+    count: u64,
+    source: &mut Source<'_>,
+) -> Result<Rows<T>, SnapFault>
+    ensures { Reads (parse_times T.form count source.old) source.new result }
+{
+    let mut items = Vec::new(alloc);
+    for _ in 0..count {
+        items.push(T::take(alloc, source)?)?;
+    }
+    Ok(Rows::of(items))
+}
+
+impl<T: Spelled + Drop> Spelled for Rows<T> {
+    ghost form = { list T.form };
+
+    ghost lawful = { list_lawful T.lawful };
+
+    fn put(&self, out: &mut Vec<u8>) -> Result<(), NoMemory> {
+        let items = self.items();
+        (items.len() as u64).put(out)?;
+        put_each(items, out)
+    }
+
+    fn take(alloc: Global, source: &mut Source<'_>) -> Result<Rows<T>, SnapFault> {
+        let count = u64::take(alloc, source)?;
+        take_times(alloc, count, source)
+    }
+}
+
+impl<T: Spelled + Default + Copy, const N: usize> Spelled for [T; N] {
+    ghost form = { times N T.form };
+
+    ghost lawful = { times_lawful N T.lawful };
+
+    fn put(&self, out: &mut Vec<u8>) -> Result<(), NoMemory> {
+        put_each(self, out)
+    }
+
+    fn take(alloc: Global, source: &mut Source<'_>) -> Result<[T; N], SnapFault> {
+        let mut values = [T::default(); N];
+        for i in 0..N {
+            values[i] = T::take(alloc, source)?;
+        }
+        Ok(values)
+    }
+}

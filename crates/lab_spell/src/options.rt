@@ -1,0 +1,34 @@
+//! An option is 0, or 1 and the value.
+ghost use Rattle.lab_spell.specs.Combine.{option};
+ghost use Rattle.lab_spell.specs.Laws.{option_lawful};
+
+use crate::fault::SnapFault;
+use crate::source::Source;
+use crate::spelled::Spelled;
+use lab_num::NoMemory;
+use std::alloc::Global;
+
+impl<T: Spelled> Spelled for Option<T> {
+    ghost form = { option T.form };
+
+    ghost lawful = { option_lawful T.lawful };
+
+    fn put(&self, out: &mut Vec<u8>) -> Result<(), NoMemory> {
+        match self {
+            None => out.push(0)?,
+            Some(value) => {
+                out.push(1)?;
+                value.put(out)?;
+            }
+        }
+        Ok(())
+    }
+
+    fn take(alloc: Global, source: &mut Source<'_>) -> Result<Option<T>, SnapFault> {
+        match source.byte()? {
+            0 => Ok(None),
+            1 => Ok(Some(T::take(alloc, source)?)),
+            _ => Err(SnapFault::Bad),
+        }
+    }
+}

@@ -1,0 +1,33 @@
+//! A text is a list of bytes, which are UTF-8.
+use crate::fault::SnapFault;
+use crate::lists::put_each;
+use crate::source::Source;
+use crate::spelled::Spelled;
+use lab_num::{NoMemory, Rows, Text};
+use std::alloc::Global;
+
+impl Spelled for Text {
+    ghost use Rattle.lab_spell.specs.Combine.{text};
+    ghost use Rattle.lab_spell.specs.Laws.{text_lawful};
+
+    ghost form = { text };
+
+    ghost lawful = { text_lawful };
+
+    #[tactic(auto, unfolding(crate::specs::Combine::text))]
+    fn put(&self, out: &mut Vec<u8>) -> Result<(), NoMemory> {
+        let bytes = self.as_str().as_bytes();
+        (bytes.len() as u64).put(out)?;
+        put_each(bytes, out)?;
+        Ok(())
+    }
+
+    #[tactic(auto, unfolding(crate::specs::Combine::text))]
+    fn take(alloc: Global, source: &mut Source<'_>) -> Result<Text, SnapFault> {
+        let bytes: Rows<u8> = Spelled::take(alloc, source)?;
+        match str::from_utf8(bytes.items()) {
+            Ok(text) => Ok(Text::of(alloc, text)?),
+            Err(_) => Err(SnapFault::Bad),
+        }
+    }
+}

@@ -1,0 +1,5 @@
+//! Tests of spellings.
+#![tactic(auto)]
+
+#[cfg(test)]
+mod spellings;
