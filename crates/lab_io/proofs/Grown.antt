@@ -1,6 +1,6 @@
 -- How a list that may be untold grows, piece by piece.
-use Rattle.std.proofs.Common.{◌≡◌, ℕ, ◌+◌, ◌-◌, List, ◌++◌, length, take, drop, Option, None, Some, refl}
-use Rattle.std.proofs.Common.{append_assoc}
+use Rattle.std.proofs.Common.{◌≡◌, ℕ, ◌+◌, ◌-◌, List, [], ◌++◌, length, take, drop, Option, None, Some, refl}
+use Rattle.std.proofs.Common.{append_assoc, append-nil}
 use Rattle.std.proofs.Math.Seq.{take-add}
 use Rattle.std.proofs.lemmas.List.{take_rest}
 use Rattle.lab_io.specs.Known.{grown}
@@ -10,6 +10,11 @@ pub grown-append :
     {A : Type 0} (told : Option (List A)) (xs ys : List A) → grown (grown told xs) ys ≡ grown told (xs ++ ys)
 grown-append None xs ys = refl
 grown-append (Some told) xs ys = rw append_assoc refl
+
+-- growing by nothing changes nothing
+pub grown-nil : {A : Type 0} (told : Option (List A)) → grown told [] ≡ told
+grown-nil None = refl
+grown-nil (Some told) = rw append-nil refl
 
 -- a list that has grown by the first `i` grows by `n` of the rest, and so by the first `i + n`
 pub grown-take : {A : Type 0} (told now next : Option (List A)) (i n : ℕ) (xs : List A) →

@@ -1,4 +1,5 @@
-//! Files and outputs that count their faults: the real ones, and ones in memory for tests.
+//! Files and outputs that count their faults, the real ones and ones in memory for tests; and the read of
+//! a whole file, as bytes or as a text.
 #![tactic(auto)]
 
 mod disk_files;
@@ -7,10 +8,12 @@ mod mem_files;
 mod mem_sink;
 mod out_sink;
 mod sink;
+mod whole;
 
 pub use disk_files::DiskFiles;
 pub use files::{Files, ReadAnswer};
 pub use mem_files::MemFiles;
 pub use mem_sink::MemSink;
 pub use out_sink::OutSink;
-pub use sink::{Sink, WriteFault, Wrote, write_whole};
+pub use sink::{Sink, WriteFault, Wrote};
+pub use whole::{ReadFault, TextFault, line_at, read_file, read_text, text_of, write_whole};

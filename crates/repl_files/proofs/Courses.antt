@@ -5,11 +5,12 @@ use Rattle.repl_read.specs.declared.entry.Entry.{Entry}
 use Rattle.repl_files.specs.declared.fault.LoadFault.{LoadFault}
 use Rattle.repl_files.specs.declared.fault.LoadFault.TheVariants.{At, TooLarge, Unread, Memory}
 use Rattle.repl_files.specs.declared.load.Loaded.{Loaded}
-use Rattle.repl_files.specs.Asked.{Log}
+use Rattle.lab_io.specs.Asked.{Log}
 use Rattle.repl_files.specs.Loaded.{IsStopped}
 use Rattle.repl_files.specs.Loading.{Gives, Loading, Outcome, Joined, Refused, Oversized, Absent, go_on, one, in_order}
 use Rattle.repl_files.specs.Inner.Course.{Adds, IsCourse}
-use Rattle.repl_files.proofs.Grown.{grown-append, grown-nil, up_to_more, some_more, up_to_behind, some_behind}
+use Rattle.lab_io.proofs.Asking.{up_to_more, some_more, up_to_behind, some_behind}
+use Rattle.lab_io.proofs.Grown.{grown-append, grown-nil}
 
 -- after the names of the first part come others, or none
 rest_names : (names : List (List ℕ)) (outcome : Outcome) (rest : Loading) →

@@ -1,7 +1,6 @@
 -- Lemmas of repl_files.
 pub mod Contents
 pub mod Courses
-pub mod Grown
 pub mod LoadingLaws
 pub mod OneEntry
 pub mod Uses

@@ -9,10 +9,12 @@ use Rattle.std.specs.FinMap.{get}
 use Rattle.std.proofs.lemmas.Bool.Decides.{nat_tests}
 use Rattle.std.proofs.lemmas.List.Elements.{All-nil, All-cons, All-append}
 use Rattle.lab_io.specs.Held.{Held}
+use Rattle.lab_io.specs.Whole.{bad_line}
+use Rattle.lab_io.specs.Whole as text
 use Rattle.repl_read.specs.declared.entry.Entry.{Entry}
 use Rattle.repl_read.specs.Platform.{LineFault, platform}
-use Rattle.repl_files.specs.declared.fault.FileCause.TheVariants.{Depth, Size, Utf8}
-use Rattle.repl_files.specs.Content.{Content, Missing, Large, Faulty, Readable, bad_line, text_content, content_of}
+use Rattle.repl_files.specs.declared.fault.FileCause.TheVariants.{Depth, Size}
+use Rattle.repl_files.specs.Content.{Content, Missing, Large, Faulty, Readable, content_by, text_content, content_of}
 use Rattle.repl_files.specs.Laws.{IsHeld, AllHeld, EndsBy, IsFrom, AllFrom}
 use Rattle.repl_files.specs.Loading.{Gives, Use, Loading, Outcome, Joined, Refused, Oversized, Absent, stopped}
 use Rattle.repl_files.specs.Loading.{refused_at, joined, go_on, used_file, one_by, one, in_order, file_read, used, load}
@@ -57,18 +59,22 @@ HeldBy Large there = IsSome there
 HeldBy (Faulty line cause) there = IsSome there
 HeldBy (Readable entries) there = IsSome there
 
-some_by : (a b : Bool) (read : Result (List Entry) LineFault) (line : ℕ) (bytes : List ℕ) →
-    HeldBy (if a then Large else if b then text_content read else Faulty line Utf8) (Some bytes)
+by_read : (read : Result (List Entry) LineFault) (bytes : List ℕ) → HeldBy (text_content read) (Some bytes)
 unfolding HeldBy
-some_by true b read line bytes = refl
-some_by false true (Ok entries) line bytes = refl
-some_by false true (Err fault) line bytes = refl
-some_by false false read line bytes = refl
+by_read (Ok entries) bytes = refl
+by_read (Err fault) bytes = refl
+
+by_text : (a b : Bool) (line : ℕ) (bytes : List ℕ) →
+    HeldBy (content_by (if a then text.Large else if b then text.Readable bytes else text.Broken line)) (Some bytes)
+unfolding HeldBy
+by_text true b line bytes = refl
+by_text false true line bytes = by_read (platform bytes) bytes
+by_text false false line bytes = refl
 
 held_by : (there : Option (List ℕ)) → HeldBy (content_of there) there
 unfolding HeldBy
 held_by None = refl
-held_by (Some bytes) = some_by (nat_lt 16777216 (length bytes)) (is_utf8 bytes) (platform bytes) (bad_line bytes) bytes
+held_by (Some bytes) = by_text (nat_lt 16777216 (length bytes)) (is_utf8 bytes) (bad_line bytes) bytes
 
 module _ (held : Held) where
   -- What holds of a loading after so many names: the whole loading has at most 64 names, and ends as it says; and its

@@ -1,19 +1,15 @@
 -- How one entry goes by its course.
-use Rattle.std.proofs.Common.{◌≡◌, ◌∷◌, ◌++◌, ◌≤◌, ℕ, List, [], Option, None, Some, Result, Ok, Err, OnOk, IfErr}
-use Rattle.std.proofs.Common.{sym, refl, subst, append-nil, arith}
-use Rattle.lab_io.specs.Known.{Rose}
+use Rattle.std.proofs.Common.{◌≡◌, ◌∷◌, ◌++◌, ℕ, List, [], Option, None, Some, Result, Ok, Err, OnOk, IfErr}
+use Rattle.std.proofs.Common.{sym, refl, subst, append-nil}
 use Rattle.repl_read.specs.declared.entry.Entry.{Entry}
 use Rattle.repl_files.specs.declared.fault.LoadFault.{LoadFault}
 use Rattle.repl_files.specs.declared.fault.LoadFault.TheVariants.{At, TooLarge, Unread, Memory}
 use Rattle.repl_files.specs.declared.load.Loaded.{Loaded}
-use Rattle.repl_files.specs.Asked.{Log}
+use Rattle.lab_io.specs.Asked.{Log}
 use Rattle.repl_files.specs.Loading.{Gives, used_file, one_by, one}
 use Rattle.repl_files.specs.Inner.Course.{IsCourse}
-use Rattle.repl_files.proofs.Grown.{grown-nil, asks_none}
-
--- a rise that began later is one from before
-pub rose_from : (before between now : ℕ) → before ≤ between → Rose between now → Rose before now
-rose_from before between now less rose = omega (arith, less, rose)
+use Rattle.lab_io.proofs.Asking.{asks_none}
+use Rattle.lab_io.proofs.Grown.{grown-nil}
 
 module _ (gives : Gives) (file : List ℕ) (number count : ℕ) (entry : Entry) where
   -- a `using` head went by the course of its file

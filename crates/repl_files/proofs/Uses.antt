@@ -13,12 +13,13 @@ use Rattle.repl_files.specs.declared.fault.LoadFault.TheVariants.{At, TooLarge, 
 use Rattle.repl_files.specs.declared.load.Loaded.{Loaded}
 use Rattle.repl_files.specs.Content.{Content, Missing, Large, Faulty, Readable, content_of}
 use Rattle.repl_files.specs.Loaded.{IsStopped, IsLoaded, IsCut}
-use Rattle.repl_files.specs.Asked.{Log}
+use Rattle.lab_io.specs.Asked.{Log}
 use Rattle.repl_files.specs.Loading.{Gives, Use, Loading, Outcome, Joined, Refused, Oversized, Absent}
 use Rattle.repl_files.specs.Loading.{in_order, stopped, refused_at, file_read, used}
 use Rattle.repl_files.specs.Inner.Course.{Adds, IsCourse, IsFaultAt, IsStoppedAt}
 use Rattle.repl_files.proofs.Courses.{course_after}
-use Rattle.repl_files.proofs.Grown.{grown-nil, asks_all, up_to_more, some_more}
+use Rattle.lab_io.proofs.Asking.{asks_all, asks_one, up_to_more, some_more}
+use Rattle.lab_io.proofs.Grown.{grown-nil}
 
 -- a head that is one too many
 used-refused : (room : ℕ) (held : Held) (count : ℕ) (at : Use) → (room ≡ 0) ⊎ (64 ≤ count) →
@@ -66,7 +67,7 @@ module _ (gives : Gives) (large : Outcome) (name : List ℕ) where
   file_stopped number content Unread log log' asked =
       let more = file_names gives large name number content in
       up_to_more (name ∷ []) more.0 _ log log' more.1
-      (record { earlier = []; name = name; coming = []; all = refl; asked = asked })
+      (asks_one name log log' asked)
   file_stopped number content Memory log log' asks =
       let more = file_names gives large name number content in some_more (name ∷ []) more.0 _ log log' more.1 asks
 

@@ -3,11 +3,11 @@ use Rattle.std.proofs.Common.{◌≡◌, Result, Err}
 use Rattle.repl_files.specs.declared.fault.FileFault.{FileFault}
 use Rattle.repl_files.specs.declared.fault.LoadFault.{LoadFault}
 use Rattle.repl_files.specs.declared.fault.LoadFault.TheVariants.{Unread, Memory}
-use Rattle.repl_files.specs.Asked.{Log}
+use Rattle.lab_io.specs.Asked.{Log}
 use Rattle.repl_files.specs.Loaded.{IsStopped}
 use Rattle.repl_files.specs.Loading.{Loading}
 use Rattle.repl_files.specs.Inner.Course.{IsFaultAt}
-use Rattle.repl_files.proofs.Grown.{asks_none}
+use Rattle.lab_io.proofs.Asking.{asks_none}
 
 -- memory was wanting before a name was asked for
 pub wanting : (loading : Loading) (fault : LoadFault) (log : Log) → fault ≡ Memory → IsStopped loading fault log log

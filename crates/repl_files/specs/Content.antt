@@ -1,8 +1,8 @@
 -- What a file is to a loading.
-use Rattle.std.specs.Prelude.{ℕ, ◌+◌, ◌==◌, nat_lt, if◌then◌else◌, List, length, take, count_by, Option, None, Some}
-use Rattle.std.specs.Prelude.{Result, Ok, Err}
-use Rattle.std.specs.Str.{is_utf8, byte}
-use Rattle.std.specs.Str.Lossy.{utf8_valid_len}
+pub use Rattle.lab_io.specs.Whole.{bad_line}
+use Rattle.std.specs.Prelude.{ℕ, List, Option, Result, Ok, Err}
+use Rattle.lab_io.specs.Whole.{FileText, file_text}
+use Rattle.lab_io.specs.Whole as text
 use Rattle.repl_read.specs.declared.entry.Entry.{Entry}
 use Rattle.repl_read.specs.Platform.{LineFault, platform}
 use Rattle.repl_files.specs.declared.fault.FileCause.{FileCause}
@@ -15,18 +15,17 @@ pub data Content : Type 0 where
   Faulty : ℕ → FileCause → Content
   Readable : List Entry → Content
 
--- the line of the first byte after the longest prefix that is UTF-8
-unfoldable pub bad_line : List ℕ → ℕ
-bad_line bytes = count_by (λ b. b == byte "\n") (take (utf8_valid_len bytes) bytes) + 1
-
 abbrev pub text_content : Result (List Entry) LineFault → Content
 text_content (Ok entries) = Readable entries
 text_content (Err fault) = Faulty fault.0 (Platform fault.1)
 
+-- what a file is, by its text
+abbrev pub content_by : FileText → Content
+content_by text.Missing = Missing
+content_by text.Large = Large
+content_by (text.Broken line) = Faulty line Utf8
+content_by (text.Readable bytes) = text_content (platform bytes)
+
 -- what a name holds: first whether it holds anything, then its size, then UTF-8, then its text
 abbrev pub content_of : Option (List ℕ) → Content
-content_of None = Missing
-content_of (Some bytes) =
-    if nat_lt 16777216 (length bytes) then Large
-    else if is_utf8 bytes then text_content (platform bytes)
-    else Faulty (bad_line bytes) Utf8
+content_of there = content_by (file_text there)

@@ -4,7 +4,7 @@ use Rattle.lab_io.specs.Known.{grown}
 use Rattle.repl_files.specs.declared.fault.LoadFault.{LoadFault}
 use Rattle.repl_files.specs.declared.fault.LoadFault.TheVariants.{At, TooLarge, Unread, Memory}
 use Rattle.repl_files.specs.declared.load.Loaded.{Loaded}
-use Rattle.repl_files.specs.Asked.{Log, AsksSome, AsksUpTo}
+use Rattle.lab_io.specs.Asked.{Log, AsksSome, AsksUpTo}
 use Rattle.repl_files.specs.Loading.{Joined, Refused, Oversized, Loading}
 
 -- a loading was stopped as it says and has asked for its names, or was cut short

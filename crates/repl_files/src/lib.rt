@@ -6,7 +6,7 @@ mod fault;
 mod laws;
 mod load;
 
-pub use content::line_at;
 pub use fault::{FileCause, FileFault, LoadFault};
+pub use lab_io::line_at;
 pub use laws::loading_laws;
 pub use load::{Loaded, load_platform};

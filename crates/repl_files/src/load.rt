@@ -1,12 +1,12 @@
 //! Loading the platform file that a command names, with all that its `using` lines name.
 ghost use Rattle.std.specs.Prelude.{◌≡◌, ◌≤◌, ◌<◌, ◌++◌, ◌∷◌, [], length, Err, IfSome, IfOk, IfErr, OnOk, IsTrue};
 ghost use Rattle.std.specs.List.{list_all};
-ghost use Rattle.std.specs.Option.{option_map};
-ghost use Rattle.lab_io.specs.Known.{Rose};
+ghost use Rattle.std.specs.Option.{ForSome, option_map};
+ghost use Rattle.lab_io.specs.Frame.{OnlyReads};
 ghost use Rattle.repl_read.specs.Entries.{is_entry};
 ghost use Rattle.repl_files.specs.Loading.{Absent, load, loaded, used, used_file, one, in_order};
 ghost use Rattle.repl_files.specs.Loaded.{IsLoaded, IsCut};
-ghost use Rattle.repl_files.specs.Inner.Course.{Told, IsCourse};
+ghost use Rattle.repl_files.specs.Inner.Course.{IsCourse};
 
 use crate::content::{Opened, open};
 use crate::fault::{FileCause, LoadFault, fault_at};
@@ -62,10 +62,8 @@ pub fn load_platform<F: Files>(
     // Each entry has its form, whatever the files hold.
     ensures entries { IfOk result (λ loaded. IsTrue (list_all is_entry loaded.entries.items)) }
 
-    // Only a fault that was counted makes it unread.
-    ensures unread { result ≡ Err LoadFault.Unread → Rose (F.faults files.old) (F.faults files.new) }
-    ensures held { F.held files.new ≡ F.held files.old }
-    ensures faults { F.faults files.old ≤ F.faults files.new }
+    // What the files hold stays, and only a fault that was counted makes it unread.
+    ensures files { OnlyReads F.Files (result ≡ Err LoadFault.Unread) files.old files.new }
 {
     load_beside(alloc, files, bodies, name)
 }
@@ -78,14 +76,12 @@ fn load_beside<F: Files>(
     name: &str,
 ) -> Result<Loaded, LoadFault>
     requires { bodies ≤ 8 }
-    ensures loaded { Told (F.held files.old) (λ held.
+    ensures loaded { ForSome (F.held files.old) (λ held.
         IsLoaded (load held bodies name.now) result (F.asked files.old) (F.asked files.new)) }
-    ensures absent { Told (F.held files.old) (λ held.
+    ensures absent { ForSome (F.held files.old) (λ held.
         (load held bodies name.now).outcome ≡ Absent → IsCut result) }
     ensures entries { IfOk result (λ loaded. IsTrue (list_all is_entry loaded.entries.items)) }
-    ensures unread { result ≡ Err LoadFault.Unread → Rose (F.faults files.old) (F.faults files.new) }
-    ensures held { F.held files.new ≡ F.held files.old }
-    ensures faults { F.faults files.old ≤ F.faults files.new }
+    ensures files { OnlyReads F.Files (result ≡ Err LoadFault.Unread) files.old files.new }
 {
     load_file(alloc, files, MOST_BODIES - bodies, name)
 }
@@ -97,12 +93,10 @@ fn load_file<F: Files>(
     room: u8,
     name: &str,
 ) -> Result<Loaded, LoadFault>
-    ensures loaded { Told (F.held files.old) (λ held.
+    ensures loaded { ForSome (F.held files.old) (λ held.
         IsLoaded (loaded held room name.now) result (F.asked files.old) (F.asked files.new)) }
     ensures entries { IfOk result (λ loaded. IsTrue (list_all is_entry loaded.entries.items)) }
-    ensures unread { result ≡ Err LoadFault.Unread → Rose (F.faults files.old) (F.faults files.new) }
-    ensures held { F.held files.new ≡ F.held files.old }
-    ensures faults { F.faults files.old ≤ F.faults files.new }
+    ensures files { OnlyReads F.Files (result ≡ Err LoadFault.Unread) files.old files.new }
 {
     let mut all = Loaded {
         names: Vec::new(alloc),
@@ -137,14 +131,12 @@ fn join_entries<F: Files>(
     requires few { length all.old.names.items ≤ 64 }
     requires good { IsTrue (list_all is_entry all.old.entries.items) }
     requires coming { IsTrue (list_all is_entry entries.items) }
-    ensures course { Told (F.held files.old) (λ held.
+    ensures course { ForSome (F.held files.old) (λ held.
         IsCourse (in_order (used room held) file.now number (length all.old.names.items) entries.items)
         result all.old all.new (F.asked files.old) (F.asked files.new)) }
     ensures few { length all.new.names.items ≤ 64 }
     ensures good { OnOk result (IsTrue (list_all is_entry all.new.entries.items)) }
-    ensures unread { result ≡ Err LoadFault.Unread → Rose (F.faults files.old) (F.faults files.new) }
-    ensures held { F.held files.new ≡ F.held files.old }
-    ensures faults { F.faults files.old ≤ F.faults files.new }
+    ensures files { OnlyReads F.Files (result ≡ Err LoadFault.Unread) files.old files.new }
 {
     for entry in entries {
         if let Err(fault) = join_entry(alloc, files, room, file, number, entry, all) {
@@ -168,14 +160,12 @@ fn join_entry<F: Files>(
     requires few { length all.old.names.items ≤ 64 }
     requires good { IsTrue (list_all is_entry all.old.entries.items) }
     requires coming { IsTrue (is_entry entry) }
-    ensures course { Told (F.held files.old) (λ held.
+    ensures course { ForSome (F.held files.old) (λ held.
         IsCourse (one (used room held) file.now number (length all.old.names.items) entry)
         result all.old all.new (F.asked files.old) (F.asked files.new)) }
     ensures few { length all.new.names.items ≤ 64 }
     ensures good { OnOk result (IsTrue (list_all is_entry all.new.entries.items)) }
-    ensures unread { result ≡ Err LoadFault.Unread → Rose (F.faults files.old) (F.faults files.new) }
-    ensures held { F.held files.new ≡ F.held files.old }
-    ensures faults { F.faults files.old ≤ F.faults files.new }
+    ensures files { OnlyReads F.Files (result ≡ Err LoadFault.Unread) files.old files.new }
 {
     match used_name(&entry.head) {
         Some(name) => join_file(alloc, files, room, file, entry.line, name, all),
@@ -196,15 +186,13 @@ fn join_file<F: Files>(
 ) -> Result<(), LoadFault>
     requires few { length all.old.names.items ≤ 64 }
     requires good { IsTrue (list_all is_entry all.old.entries.items) }
-    ensures course { Told (F.held files.old) (λ held.
+    ensures course { ForSome (F.held files.old) (λ held.
         IsCourse (used room held (length all.old.names.items)
         (record { file = file.now; line = line; name = name.now }))
         result all.old all.new (F.asked files.old) (F.asked files.new)) }
     ensures few { length all.new.names.items ≤ 64 }
     ensures good { OnOk result (IsTrue (list_all is_entry all.new.entries.items)) }
-    ensures unread { result ≡ Err LoadFault.Unread → Rose (F.faults files.old) (F.faults files.new) }
-    ensures held { F.held files.new ≡ F.held files.old }
-    ensures faults { F.faults files.old ≤ F.faults files.new }
+    ensures files { OnlyReads F.Files (result ≡ Err LoadFault.Unread) files.old files.new }
 {
     if room == 0 || all.names.len() >= MOST_FILES {
         return Err(fault_at(alloc, file, line, FileCause::Depth));

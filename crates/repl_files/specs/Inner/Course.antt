@@ -1,5 +1,5 @@
 -- How far a loading has gone along its definition.
-use Rattle.std.specs.Prelude.{◌≡◌, ℕ, IsTrue, List, [], ◌∷◌, ◌++◌, Option, Some, Result, Ok, Err}
+use Rattle.std.specs.Prelude.{◌≡◌, ℕ, IsTrue, List, [], ◌∷◌, ◌++◌, Result, Ok, Err}
 use Rattle.std.specs.List.{list_all}
 use Rattle.lab_io.specs.Known.{grown}
 use Rattle.repl_read.specs.declared.entry.Entry.{Entry}
@@ -10,14 +10,10 @@ use Rattle.repl_files.specs.declared.fault.FileFault.{FileFault}
 use Rattle.repl_files.specs.declared.fault.LoadFault.{LoadFault}
 use Rattle.repl_files.specs.declared.fault.LoadFault.TheVariants.{At, TooLarge, Unread, Memory}
 use Rattle.repl_files.specs.declared.load.Loaded.{Loaded}
-use Rattle.repl_files.specs.Asked.{Log, AsksSome}
+use Rattle.lab_io.specs.Asked.{Log, AsksSome}
 use Rattle.repl_files.specs.Content.{Content, Large, Faulty, Readable}
 use Rattle.repl_files.specs.Loaded.{IsStopped}
 use Rattle.repl_files.specs.Loading.{Joined, Loading}
-
--- this holds of the value, where one is told
-abbrev pub Told : {A : Type 0} → Option A → (A → Type 0) → Type 0
-Told {A} told P = (x : A) → told ≡ Some x → P x
 
 -- this fault was told, or memory was wanting
 abbrev pub IsFaultAt : FileFault → LoadFault → Type 0

@@ -7,7 +7,8 @@ use Rattle.repl_files.specs.declared.fault.FileCause.TheVariants.{Size}
 use Rattle.repl_files.specs.Content.{content_of}
 use Rattle.repl_files.specs.Loading.{Use, used, refused_at}
 use Rattle.repl_files.proofs.Courses.{course_step, stopped_step, course_end}
-use Rattle.repl_files.proofs.OneEntry.{rose_from, one_used, one_kept}
+use Rattle.lab_io.proofs.Frames.{reads_as, reads_none, reads_on}
+use Rattle.repl_files.proofs.OneEntry.{one_used, one_kept}
 use Rattle.repl_files.proofs.Uses.{use_refused, use_large, use_goes, file_goes, file_stopped}
 use Rattle.repl_files.proofs.Wanting.{wanting, told_read}
 use Rattle.repl_files.proofs.load.+joining.Goals.{join_file-then-room-eq0-via-then-room-eq0}
@@ -21,7 +22,7 @@ join_entries-returns-in-Err-clause-course g t c = λ held is.
     (stopped_step (used c.args.room held) c.args.file.now c.args.number (length at.all.names.items)
     (into_iter_items at.entry-iterator) c.in-Some.entry (into_iter_items c.next.new.self) c.in-Err.fault
     (g.F.Files.asked at.files) (g.F.Files.asked c.join_entry.new.files)
-    c.in-Some.ensures.steps.0 (c.in-Err.ensures.course held (at.invariant.held ∙ is)))
+    c.in-Some.ensures.steps.0 (c.in-Err.ensures.course held (at.invariant.files.held ∙ is)))
 
 pub join_entries-loop-entry-preserved : goal.join_entries-loop-entry-preserved
 join_entries-loop-entry-preserved g t c =
@@ -34,7 +35,7 @@ join_entries-loop-entry-preserved g t c =
           (course_step (used c.args.room held) c.args.file.now c.args.number (into_iter_items at.entry-iterator)
           c.in-Some.entry (into_iter_items c.next.new.self) result at.all c.join_entry.new.all new
           (g.F.Files.asked at.files) (g.F.Files.asked c.join_entry.new.files) log steps
-          (c.in_default.ensures.course held (at.invariant.held ∙ is)) course);
+          (c.in_default.ensures.course held (at.invariant.files.held ∙ is)) course);
       left =
           let was = at.invariant.left in
           let gone = c.in-Some.ensures.steps.1 in
@@ -43,8 +44,7 @@ join_entries-loop-entry-preserved g t c =
       few = c.join_entry.ensures.few;
       good = c.in_default.ensures.good;
       coming = (and_parts _ _ (rw steps at at.invariant.coming)).1;
-      held = c.join_entry.ensures.held ∙ at.invariant.held;
-      faults = omega (arith, c.join_entry.ensures.faults, at.invariant.faults);
+      files = reads_on at.invariant.files (reads_as (λ none. absurd none) c.join_entry.ensures.files);
     }
 
 pub join_entries-returns-clause-course : goal.join_entries-returns-clause-course
@@ -82,7 +82,7 @@ join_file-returns-in-Entries-clause-course g t c = λ held is.
     old c.note.new.all c.join_entries.new.all
     (g.F.Files.asked c.args.files.now) (g.F.Files.asked c.open.new.files) (g.F.Files.asked c.join_entries.new.files)
     opened.0 numbered c.in_default.ensures.names c.in_default.ensures.entries opened.1
-    (c.join_entries.ensures.course held (c.open.ensures.held ∙ is)))
+    (c.join_entries.ensures.course held (c.open.ensures.files.held ∙ is)))
 
 pub join_file-returns-in-TooLarge-clause-course : goal.join_file-returns-in-TooLarge-clause-course
 join_file-returns-in-TooLarge-clause-course g t c = λ held is.
@@ -109,28 +109,11 @@ join_file-returns-in-Stopped-clause-course g t c = λ held is.
 pub join_entries-returns-in-Err-clause-few : goal.join_entries-returns-in-Err-clause-few
 join_entries-returns-in-Err-clause-few g t c = c.join_entry.ensures.few
 
-pub join_entries-returns-in-Err-clause-unread : goal.join_entries-returns-in-Err-clause-unread
-join_entries-returns-in-Err-clause-unread g t c =
-    λ is. rose_from _ _ _ c.loop-entry.invariant.faults (c.in-Err.ensures.unread is)
-
-pub join_entries-returns-in-Err-clause-held : goal.join_entries-returns-in-Err-clause-held
-join_entries-returns-in-Err-clause-held g t c = c.join_entry.ensures.held ∙ c.loop-entry.invariant.held
-
-pub join_entries-returns-in-Err-clause-faults : goal.join_entries-returns-in-Err-clause-faults
-join_entries-returns-in-Err-clause-faults g t c =
-    omega (arith, c.join_entry.ensures.faults, c.loop-entry.invariant.faults)
-
 pub join_entries-returns-clause-few : goal.join_entries-returns-clause-few
 join_entries-returns-clause-few g t c = c.loop-entry.invariant.few
 
 pub join_entries-returns-clause-good : goal.join_entries-returns-clause-good
 join_entries-returns-clause-good g t c = c.loop-entry.invariant.good
-
-pub join_entries-returns-clause-held : goal.join_entries-returns-clause-held
-join_entries-returns-clause-held g t c = c.loop-entry.invariant.held
-
-pub join_entries-returns-clause-faults : goal.join_entries-returns-clause-faults
-join_entries-returns-clause-faults g t c = c.loop-entry.invariant.faults
 
 pub join_entry-returns-in-Some-clause-course : goal.join_entry-returns-in-Some-clause-course
 join_entry-returns-in-Some-clause-course g t c = λ held is.
@@ -144,15 +127,6 @@ join_entry-returns-in-Some-clause-few g t c = c.join_file.ensures.few
 pub join_entry-returns-in-Some-clause-good : goal.join_entry-returns-in-Some-clause-good
 join_entry-returns-in-Some-clause-good g t c = c.join_file.ensures.good
 
-pub join_entry-returns-in-Some-clause-unread : goal.join_entry-returns-in-Some-clause-unread
-join_entry-returns-in-Some-clause-unread g t c = c.join_file.ensures.unread
-
-pub join_entry-returns-in-Some-clause-held : goal.join_entry-returns-in-Some-clause-held
-join_entry-returns-in-Some-clause-held g t c = c.join_file.ensures.held
-
-pub join_entry-returns-in-Some-clause-faults : goal.join_entry-returns-in-Some-clause-faults
-join_entry-returns-in-Some-clause-faults g t c = c.join_file.ensures.faults
-
 pub join_entry-returns-in-None-clause-course : goal.join_entry-returns-in-None-clause-course
 join_entry-returns-in-None-clause-course g t c = λ held is.
     one_kept (used c.args.room held) c.args.file.now c.args.number (length c.args.all.now.names.items) c.args.entry
@@ -165,34 +139,26 @@ join_file-returns-in-Entries-clause-few g t c = c.join_entries.ensures.few
 pub join_file-returns-in-Entries-clause-good : goal.join_file-returns-in-Entries-clause-good
 join_file-returns-in-Entries-clause-good g t c = c.join_entries.ensures.good
 
-pub join_file-returns-in-Entries-clause-unread : goal.join_file-returns-in-Entries-clause-unread
-join_file-returns-in-Entries-clause-unread g t c =
-    λ is. rose_from _ _ _ c.open.ensures.faults (c.join_entries.ensures.unread is)
-
-pub join_file-returns-in-Entries-clause-held : goal.join_file-returns-in-Entries-clause-held
-join_file-returns-in-Entries-clause-held g t c = c.join_entries.ensures.held ∙ c.open.ensures.held
-
-pub join_file-returns-in-Entries-clause-faults : goal.join_file-returns-in-Entries-clause-faults
-join_file-returns-in-Entries-clause-faults g t c = omega (arith, c.join_entries.ensures.faults, c.open.ensures.faults)
-
-pub join_file-returns-in-TooLarge-clause-held : goal.join_file-returns-in-TooLarge-clause-held
-join_file-returns-in-TooLarge-clause-held g t c = c.open.ensures.held
-
-pub join_file-returns-in-TooLarge-clause-faults : goal.join_file-returns-in-TooLarge-clause-faults
-join_file-returns-in-TooLarge-clause-faults g t c = c.open.ensures.faults
-
-pub join_file-returns-in-Stopped-clause-held : goal.join_file-returns-in-Stopped-clause-held
-join_file-returns-in-Stopped-clause-held g t c = c.open.ensures.held
-
-pub join_file-returns-in-Stopped-clause-faults : goal.join_file-returns-in-Stopped-clause-faults
-join_file-returns-in-Stopped-clause-faults g t c = c.open.ensures.faults
-
 pub join_file-returns-in-Err-clause-course : goal.join_file-returns-in-Err-clause-course
 join_file-returns-in-Err-clause-course g t c = λ held is. wanting _ _ _ c.in-Err.ensures.err
 
-pub join_file-returns-then-room-eq0-clause-unread : goal.join_file-returns-then-room-eq0-clause-unread
-join_file-returns-then-room-eq0-clause-unread g t c = λ is. absurd (told_read _ _ _ refl c.fault_at.ensures is)
+pub join_entries-returns-in-Err-clause-files : goal.join_entries-returns-in-Err-clause-files
+join_entries-returns-in-Err-clause-files g t c =
+    reads_on c.loop-entry.invariant.files c.in-Err.ensures.files
 
-pub join_file-returns-in-TooLarge-clause-unread : goal.join_file-returns-in-TooLarge-clause-unread
-join_file-returns-in-TooLarge-clause-unread g t c =
-    λ is. absurd (told_read _ _ _ refl c.fault_at-in-TooLarge.ensures is)
+pub join_entries-returns-clause-files : goal.join_entries-returns-clause-files
+join_entries-returns-clause-files g t c = reads_as (λ is. cc) c.loop-entry.invariant.files
+
+pub join_entry-returns-in-Some-clause-files : goal.join_entry-returns-in-Some-clause-files
+join_entry-returns-in-Some-clause-files g t c = c.join_file.ensures.files
+
+pub join_file-returns-in-Entries-clause-files : goal.join_file-returns-in-Entries-clause-files
+join_file-returns-in-Entries-clause-files g t c = reads_on c.open.ensures.files c.join_entries.ensures.files
+
+pub join_file-returns-in-TooLarge-clause-files : goal.join_file-returns-in-TooLarge-clause-files
+join_file-returns-in-TooLarge-clause-files g t c =
+    reads_as (λ is. absurd (told_read _ _ _ refl c.fault_at-in-TooLarge.ensures is)) c.open.ensures.files
+
+pub join_file-returns-then-room-eq0-clause-files : goal.join_file-returns-then-room-eq0-clause-files
+join_file-returns-then-room-eq0-clause-files g t c =
+    reads_none (λ is. told_read _ _ _ refl c.fault_at.ensures is)

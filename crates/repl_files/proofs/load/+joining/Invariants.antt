@@ -1,13 +1,15 @@
 use Rattle.std.proofs.Common.{◌≡◌, ◌≤◌, ◌+◌, ◌*◌, length, Result}
 use Rattle.std.specs.Bool.{IsTrue}
 use Rattle.std.specs.List.{list_all}
+use Rattle.std.specs.Option.{ForSome}
 use Rattle.std.specs.Vec.Iter.{into_iter_items, into_iter_len}
 use Rattle.repl_read.specs.Entries.{is_entry}
 use Rattle.repl_files.specs.declared.fault.LoadFault.{LoadFault}
 use Rattle.repl_files.specs.declared.load.Loaded.{Loaded}
-use Rattle.repl_files.specs.Asked.{Log}
+use Rattle.lab_io.specs.Asked.{Log}
+use Rattle.lab_io.specs.Frame.{OnlyReads}
 use Rattle.repl_files.specs.Loading.{used, in_order}
-use Rattle.repl_files.specs.Inner.Course.{Told, IsCourse}
+use Rattle.repl_files.specs.Inner.Course.{IsCourse}
 use Rattle.repl_files.proofs.load.+joining.Given as goal
 
 abbrev pub decreases-join_file : goal.decreases-join_file
@@ -23,7 +25,7 @@ decreases-join_entries g l = 3 * l.room + 2
 abbrev pub invariant-join_entries-loop-entry : goal.invariant-join_entries-loop-entry
 invariant-join_entries-loop-entry g l = record {
   course :
-      Told (g.F.Files.held l.fn.files) (λ held.
+      ForSome (g.F.Files.held l.fn.files) (λ held.
       (result : Result (Unit {0}) LoadFault) (new : Loaded) (log : Log) →
       IsCourse
       (in_order (used l.room held) l.file l.number (length l.all.names.items) (into_iter_items l.entry-iterator))
@@ -34,6 +36,5 @@ invariant-join_entries-loop-entry g l = record {
   few : length l.all.names.items ≤ 64;
   good : IsTrue (list_all is_entry l.all.entries.items);
   coming : IsTrue (list_all is_entry (into_iter_items l.entry-iterator));
-  held : g.F.Files.held l.files ≡ g.F.Files.held l.fn.files;
-  faults : g.F.Files.faults l.fn.files ≤ g.F.Files.faults l.files;
+  files : OnlyReads g.F.Files ⊥ l.fn.files l.files;
 }

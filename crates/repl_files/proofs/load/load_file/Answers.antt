@@ -1,10 +1,10 @@
-use Rattle.std.proofs.Common.{◌≡◌, ◌∙◌, length, Ok, Err, sym, ap, arith}
+use Rattle.std.proofs.Common.{◌≡◌, ◌∙◌, length, Ok, Err, sym, ap}
 use Rattle.std.specs.FinMap.{get}
 use Rattle.repl_files.specs.declared.fault.LoadFault.TheVariants.{Unread}
 use Rattle.repl_files.specs.declared.load.Loaded.{Loaded}
 use Rattle.repl_files.specs.Content.{content_of}
 use Rattle.repl_files.specs.Loading.{loaded, used, Oversized}
-use Rattle.repl_files.proofs.OneEntry.{rose_from}
+use Rattle.lab_io.proofs.Frames.{reads_as, reads_on}
 use Rattle.repl_files.proofs.Uses.{file_stopped, file_goes, oversized, loaded_whole}
 use Rattle.repl_files.proofs.Wanting.{wanting}
 use Rattle.repl_files.proofs.load.load_file.Goals as goal
@@ -20,7 +20,7 @@ returns-in-Ok-clause-loaded g c = λ held is.
     c.in-Entries.entries.items (Ok tt) old c.note.new.all c.join_entries.new.all
     (g.F.Files.asked c.args.files.now) (g.F.Files.asked c.open.new.files) (g.F.Files.asked c.join_entries.new.files)
     opened.0 (sym (ap length c.new.ensures.items)) c.in_default.ensures.names c.in_default.ensures.entries opened.1
-    (c.in-Ok.ensures.course held (c.open.ensures.held ∙ is)))
+    (c.in-Ok.ensures.course held (c.open.ensures.files.held ∙ is)))
 
 pub returns-in-Err-join_entries-clause-loaded : goal.returns-in-Err-join_entries-clause-loaded
 returns-in-Err-join_entries-clause-loaded g c = λ held is.
@@ -30,7 +30,7 @@ returns-in-Err-join_entries-clause-loaded g c = λ held is.
     c.in-Entries.entries.items (Err c.in-Err-join_entries.fault) old c.note.new.all c.join_entries.new.all
     (g.F.Files.asked c.args.files.now) (g.F.Files.asked c.open.new.files) (g.F.Files.asked c.join_entries.new.files)
     opened.0 (sym (ap length c.new.ensures.items)) c.in_default.ensures.names c.in_default.ensures.entries opened.1
-    (c.in-Err-join_entries.ensures.course held (c.open.ensures.held ∙ is))
+    (c.in-Err-join_entries.ensures.course held (c.open.ensures.files.held ∙ is))
 
 pub returns-in-TooLarge-clause-loaded : goal.returns-in-TooLarge-clause-loaded
 returns-in-TooLarge-clause-loaded g c = λ held is.
@@ -47,34 +47,10 @@ returns-in-Stopped-clause-loaded g c = λ held is.
 pub returns-in-Ok-clause-entries : goal.returns-in-Ok-clause-entries
 returns-in-Ok-clause-entries g c = c.in-Ok.ensures.good
 
-pub returns-in-Ok-clause-held : goal.returns-in-Ok-clause-held
-returns-in-Ok-clause-held g c = c.join_entries.ensures.held ∙ c.open.ensures.held
-
-pub returns-in-Ok-clause-faults : goal.returns-in-Ok-clause-faults
-returns-in-Ok-clause-faults g c = omega (arith, c.join_entries.ensures.faults, c.open.ensures.faults)
-
-pub returns-in-Err-join_entries-clause-unread : goal.returns-in-Err-join_entries-clause-unread
-returns-in-Err-join_entries-clause-unread g c = λ is.
-    let same : c.in-Err-join_entries.fault ≡ Unread = cc in
-    rose_from _ _ _ c.open.ensures.faults (c.in-Err-join_entries.ensures.unread (ap Err same))
-
-pub returns-in-Err-join_entries-clause-held : goal.returns-in-Err-join_entries-clause-held
-returns-in-Err-join_entries-clause-held g c = c.join_entries.ensures.held ∙ c.open.ensures.held
-
-pub returns-in-Err-join_entries-clause-faults : goal.returns-in-Err-join_entries-clause-faults
-returns-in-Err-join_entries-clause-faults g c = omega (arith, c.join_entries.ensures.faults, c.open.ensures.faults)
-
-pub returns-in-TooLarge-clause-held : goal.returns-in-TooLarge-clause-held
-returns-in-TooLarge-clause-held g c = c.open.ensures.held
-
-pub returns-in-TooLarge-clause-faults : goal.returns-in-TooLarge-clause-faults
-returns-in-TooLarge-clause-faults g c = c.open.ensures.faults
-
-pub returns-in-Stopped-clause-held : goal.returns-in-Stopped-clause-held
-returns-in-Stopped-clause-held g c = c.open.ensures.held
-
-pub returns-in-Stopped-clause-faults : goal.returns-in-Stopped-clause-faults
-returns-in-Stopped-clause-faults g c = c.open.ensures.faults
+pub returns-in-Err-join_entries-clause-files : goal.returns-in-Err-join_entries-clause-files
+returns-in-Err-join_entries-clause-files g c =
+    reads_as (λ is. let same : c.in-Err-join_entries.fault ≡ Unread = cc in ap Err same)
+    (reads_on c.open.ensures.files c.in-Err-join_entries.ensures.files)
 
 pub returns-in-Err-clause-loaded : goal.returns-in-Err-clause-loaded
 returns-in-Err-clause-loaded g c = λ held is. wanting _ _ _ c.in-Err.ensures.err

@@ -1,16 +1,8 @@
--- Which names have been asked for, part by part.
-use Rattle.std.proofs.Common.{◌≡◌, ◌∷◌, ◌++◌, ◌∙◌, ℕ, List, [], Option, None, Some, refl, sym, append_assoc, append-nil}
+-- Which names have been asked for, list after list.
+use Rattle.std.proofs.Common.{◌≡◌, ◌∷◌, ◌++◌, ◌∙◌, ℕ, List, [], refl, sym, append_assoc, append-nil}
 use Rattle.lab_io.specs.Known.{grown}
-use Rattle.repl_files.specs.Asked.{Log, AsksSome, AsksUpTo}
-
-pub grown-append :
-    {A : Type 0} (told : Option (List A)) (xs ys : List A) → grown (grown told xs) ys ≡ grown told (xs ++ ys)
-grown-append None xs ys = refl
-grown-append (Some told) xs ys = rw append_assoc refl
-
-pub grown-nil : {A : Type 0} (told : Option (List A)) → grown told [] ≡ told
-grown-nil None = refl
-grown-nil (Some told) = rw append-nil refl
+use Rattle.lab_io.specs.Asked.{Log, AsksSome, AsksUpTo}
+use Rattle.lab_io.proofs.Grown.{grown-append, grown-nil}
 
 -- none of these names has been asked for
 pub asks_none : (names : List (List ℕ)) (log : Log) → AsksSome names log log
@@ -19,6 +11,10 @@ asks_none names log = record { passed = []; coming = names; all = refl; asked = 
 -- all of these names have been asked for
 pub asks_all : (names : List (List ℕ)) (log log' : Log) → log' ≡ grown log names → AsksSome names log log'
 asks_all names log log' asked = record { passed = names; coming = []; all = sym (append-nil names); asked = asked }
+
+-- this name has been asked for
+pub asks_one : (name : List ℕ) (log log' : Log) → log' ≡ grown log (name ∷ []) → AsksUpTo (name ∷ []) log log'
+asks_one name log log' asked = record { earlier = []; name = name; coming = []; all = refl; asked = asked }
 
 -- further names are still to come
 pub up_to_more : (names more all : List (List ℕ)) (log log' : Log) →

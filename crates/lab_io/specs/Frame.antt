@@ -1,0 +1,21 @@
+-- What a call has done to the files and the output that it was lent. A function says it in one clause for each, where
+-- `F: Files`, `K: Sink`, and P and Q are when a read, or a write, has failed:
+--     ensures files { OnlyReads F.Files P files.old files.new }
+--     ensures output { OnlyWrites K.Sink Q out.old out.new }
+-- A proof joins such facts by the lemmas of `Rattle.lab_io.proofs.Frames`: `reads_on` and `writes_on` for one call after
+-- another, `reads_as` and `writes_as` where P says the same in other words, `reads_none` and `writes_none` for no call.
+use Rattle.std.specs.Prelude.{◌≡◌, ◌≤◌}
+use Rattle.lab_io.specs.Known.{Rose}
+use Rattle.lab_io.specs.declared.files.Files.{Ghosts}
+use Rattle.lab_io.specs.declared.sink.Sink.{Ghosts as SinkGhosts}
+
+-- What files hold has stayed, and no fault of theirs is forgotten. Where a read has failed, one more was counted.
+pub record OnlyReads {F : Type 0} (files : Ghosts F) (failed : Type 0) (old new : F) : Type 0 where
+  pub held : files.held new ≡ files.held old
+  pub faults : files.faults old ≤ files.faults new
+  pub counted : failed → Rose (files.faults old) (files.faults new)
+
+-- No fault of an output is forgotten. Where a write has failed, one more was counted.
+pub record OnlyWrites {K : Type 0} (out : SinkGhosts K) (failed : Type 0) (old new : K) : Type 0 where
+  pub faults : out.faults old ≤ out.faults new
+  pub counted : failed → Rose (out.faults old) (out.faults new)
