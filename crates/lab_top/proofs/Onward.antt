@@ -1,6 +1,5 @@
 -- One step of a run, in its transcript and in its course.
-use Rattle.std.proofs.Common.{◌≡◌, ℕ, suc, ◌+◌, ◌-◌, ◌≤◌, List, [], Option, Vec, refl, arith}
-use Rattle.std.specs.Global.{Global}
+use Rattle.std.proofs.Common.{◌≡◌, ℕ, suc, ◌+◌, ◌-◌, ◌≤◌, List, [], Option, refl, arith}
 use Rattle.lab_io.specs.Held.{Held}
 use Rattle.lab_io.specs.Known.{grown}
 use Rattle.lab_io.specs.Sink.{IsPartWritten}
@@ -42,25 +41,25 @@ onward_faults further s done fault is = rw is refl
 
 -- a command has printed a text, which was written whole, and then the rest went by its course
 pub step_says :
-    (more : ℕ) (held : Held) (s next : State) (text : Vec ℕ Global) (status : Status)
+    (more : ℕ) (held : Held) (s next : State) (text : List ℕ) (status : Status)
     (out mid out' : Option (List ℕ)) (log between log' : Option (List (List ℕ))) →
-    IsStep (did run held s) (Text text) next log between → mid ≡ grown out text.items →
+    IsStep (did run held s) (Text text) next log between → mid ≡ grown out text →
     Course (from more run held next) status mid out' between log' →
     Course (from (suc more) run held s) status out out' log log'
 step_says more held s next text status out mid out' log between log' step wrote course =
-    rw (from_suc more held s, onward_goes (from more run held) s (did run held s) text.items next step.0)
-    (course_after (did run held s).names text.items (from more run held next) status out mid out' log between log' wrote
+    rw (from_suc more held s, onward_goes (from more run held) s (did run held s) text next step.0)
+    (course_after (did run held s).names text (from more run held next) status out mid out' log between log' wrote
     step.1 course)
 
 -- a part of it was written
 pub step_cut :
-    (more : ℕ) (held : Held) (s next : State) (text : Vec ℕ Global) (fault : WriteFault)
+    (more : ℕ) (held : Held) (s next : State) (text : List ℕ) (fault : WriteFault)
     (out out' : Option (List ℕ)) (log log' : Option (List (List ℕ))) →
-    IsStep (did run held s) (Text text) next log log' → IsPartWritten out text.items out' →
+    IsStep (did run held s) (Text text) next log log' → IsPartWritten out text out' →
     Course (from (suc more) run held s) (refusal fault) out out' log log'
 step_cut more held s next text fault out out' log log' step part =
-    rw (from_suc more held s, onward_goes (from more run held) s (did run held s) text.items next step.0)
-    (course_cut (did run held s).names text.items (from more run held next) fault out out' log log' part step.1)
+    rw (from_suc more held s, onward_goes (from more run held) s (did run held s) text next step.0)
+    (course_cut (did run held s).names text (from more run held next) fault out out' log log' part step.1)
 
 -- what is printed where a script is over
 abbrev pub left : Running → List ℕ

@@ -237,7 +237,7 @@ fn take_commands<D: Device, F: Files, K: Sink>(
     'commands: for _turn in 0..MOST_STEPS {
         match monitor.step(files) {
             Step::Text(text) => {
-                if let Err(fault) = write_whole(out, &text) {
+                if let Err(fault) = write_whole(out, text.items()) {
                     return Status::from(fault);
                 }
             }

@@ -16,7 +16,7 @@ returns-in-Err-clause-course g c = λ held is.
       c.from.ensures,
     )
     (step_cut (100000 - now._turn) held now.monitor.state c.step.new.self.state c.in-Text.text c.in-Err.fault _ _ _ _
-    step (rw (← c.deref.ensures.value) c.in-Err.ensures.part)))
+    step (rw (← c.items.ensures) c.in-Err.ensures.part)))
 
 pub returns-in-End-clause-course : goal.returns-in-End-clause-course
 returns-in-End-clause-course g c = λ held is.
@@ -62,13 +62,13 @@ commands-preserved g c =
           now.invariant.course held is status out log
           (rw (at_turn now._turn held now.monitor.state (omega (arith, now.invariant.counted, now.invariant.few)))
           (step_says (100000 - now._turn) held now.monitor.state c.step.new.self.state c.in-Text.text status _ _ out _ _
-          log step (rw (← c.deref.ensures.value) c.in_default.ensures.whole)
+          log step (rw (← c.items.ensures) c.in_default.ensures.whole)
           (rw (next_turn now._turn held c.step.new.self.state) at going)));
       goes_on = c.in-Text.ensures.next.1;
       unspent = c.in-Text.ensures.next.0;
       counted = omega (arith, now.invariant.counted, c.in-Text.ensures.counted);
       few = c.in-Text.ensures.counted.1;
-      held = c.step.ensures.held ∙ now.invariant.held;
-      read_faults = omega (arith, c.step.ensures.faults, now.invariant.read_faults);
+      held = c.step.ensures.files.held ∙ now.invariant.held;
+      read_faults = omega (arith, c.step.ensures.files.faults, now.invariant.read_faults);
       write_faults = omega (arith, c.write_whole.ensures.faults, now.invariant.write_faults);
     }
