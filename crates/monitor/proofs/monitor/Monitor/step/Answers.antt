@@ -1,4 +1,5 @@
 use Rattle.lab_state.specs.Run.{run}
+use Rattle.monitor.specs.declared.step.Step.TheVariants.{End}
 use Rattle.monitor.proofs.Steps.{line_step, end_is, fault_is, step_absent}
 use Rattle.monitor.proofs.monitor.Monitor.step.Goals as goal
 
@@ -17,18 +18,20 @@ returns-in-Line-clause-absent g c =
 pub returns-in-End-clause-step : goal.returns-in-End-clause-step
 returns-in-End-clause-step g c =
     rw (← c.self.view_is)
-    (end_is run _ _ c.next.new.self (g.F.Files.held c.args.files.now) _ c.in-End.ensures.says)
+    (end_is run _ c.args.self.now.state c.next.new.self (g.F.Files.held c.args.files.now) _ c.in-End.ensures.says)
 
 pub returns-in-End-clause-absent : goal.returns-in-End-clause-absent
 returns-in-End-clause-absent g c =
-    step_absent run c.args.self.now.state _ (g.F.Files.held c.args.files.now) _ _ _ (returns-in-End-clause-step g c)
+    step_absent run c.args.self.now.state c.args.self.now.state (g.F.Files.held c.args.files.now) End
+    (g.F.Files.asked c.args.files.now) (g.F.Files.asked c.args.files.now) (returns-in-End-clause-step g c)
 
 pub returns-in-Fault-clause-step : goal.returns-in-Fault-clause-step
 returns-in-Fault-clause-step g c =
     rw (← c.self.view_is, c.fault_at.ensures)
-    (fault_is run _ _ c.next.new.self (g.F.Files.held c.args.files.now) c.in-Fault.file c.in-Fault.line c.in-Fault.cause
+    (fault_is run _ c.args.self.now.state c.next.new.self (g.F.Files.held c.args.files.now) c.in-Fault.file c.in-Fault.line c.in-Fault.cause
     _ c.in-Fault.ensures.says)
 
 pub returns-in-Fault-clause-absent : goal.returns-in-Fault-clause-absent
 returns-in-Fault-clause-absent g c =
-    step_absent run c.args.self.now.state _ (g.F.Files.held c.args.files.now) _ _ _ (returns-in-Fault-clause-step g c)
+    step_absent run c.args.self.now.state _ (g.F.Files.held c.args.files.now) c.fault_at.result _ _
+    (returns-in-Fault-clause-step g c)

@@ -4,13 +4,14 @@ use Rattle.lab_state.specs.Run.{run}
 use Rattle.resc_read.specs.Line.{line_of}
 use Rattle.monitor.specs.Command.{done_by}
 use Rattle.monitor.specs.State.{Place}
+use Rattle.monitor.specs.Step.{Running}
 use Rattle.monitor.proofs.Ruled.{stop_is_step, stop_unread}
 use Rattle.monitor.proofs.monitor.Monitor.take_line.Goals as goal
 
 pub returns-in-Ok-clause-step : goal.returns-in-Ok-clause-step
 returns-in-Ok-clause-step g c = λ held is.
     let place : Place = record { file = c.args.file; number = c.args.line } in
-    rw c.of.ensures (c.in-Ok.ensures.carried place held is)
+    rw (c.of.ensures, ap (λ (r : Running). r.state) c.self.view_is) (c.in-Ok.ensures.carried place held is)
 
 pub returns-in-Ok-clause-files : goal.returns-in-Ok-clause-files
 returns-in-Ok-clause-files g c = reads_as (λ same. cc same) c.carry_out_line.ensures.reads
