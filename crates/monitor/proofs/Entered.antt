@@ -1,81 +1,81 @@
--- What comes of a body that a command enters.
-use Rattle.std.proofs.Common.{◌≡◌, ◌∙◌, ℕ, ◌<◌, ◌≤◌, nat_lt, true, List}
-use Rattle.std.proofs.Common.{[], ◌∷◌, length, Option, Some, Result, Vec}
-use Rattle.std.proofs.Common.{Ok, Err, String, string_bytes, refl, sym, ap, arith, subst}
+-- What comes of a file that a command enters.
+use Rattle.std.proofs.Common.{◌≡◌, ℕ, ◌<◌, nat_lt, true, List, ◌∷◌, [], length, Option, Result, Ok, Err, Vec}
+use Rattle.std.proofs.Common.{String, string_bytes, refl, sym, ap, subst, arith}
 use Rattle.std.specs.FinMap.{get}
 use Rattle.std.specs.Global.{Global}
 use Rattle.std.proofs.lemmas.Bool.Decides.{nat_tests}
+use Rattle.lab_io.specs.declared.whole.TextFault.{TextFault}
+use Rattle.lab_io.specs.declared.whole.TextFault.TheVariants as text_fault
+use Rattle.lab_io.specs.Asked.{Log}
 use Rattle.lab_io.specs.Held.{Held}
 use Rattle.lab_io.specs.Known.{grown}
-use Rattle.resc_vars.specs.Bodies.{enter, source_of, depth_limit}
+use Rattle.lab_io.specs.Whole.{IsTextRead, file_text}
+use Rattle.lab_io.proofs.Asking.{asks_all, asks_one}
+use Rattle.resc_vars.specs.declared.cause.ScriptCause.TheVariants.{Size, Utf8}
+use Rattle.resc_vars.specs.Bodies.{depth_limit, enter, source_of}
+use Rattle.monitor.specs.declared.fault.Cause.TheVariants.{Script}
+use Rattle.monitor.specs.declared.fault.ScriptFault.{ScriptFault}
 use Rattle.monitor.specs.declared.stop.Stop.{Stop}
 use Rattle.monitor.specs.declared.stop.Stop.TheVariants.{Quit, Line, File, Content, Unread, Memory}
-use Rattle.monitor.specs.Answer.{Did, Faults, answer_at, with_file}
-use Rattle.monitor.specs.Bodies.{entered, include, include_bytes}
+use Rattle.monitor.specs.Answer.{Did, Faults, answer_at}
+use Rattle.monitor.specs.Bodies.{entered, include, include_text}
 use Rattle.monitor.specs.State.{State, Place}
-use Rattle.monitor.specs.Step.{Running}
-use Rattle.monitor.specs.Inner.Reading.{IsTextRead}
-use Rattle.monitor.specs.Inner.Ruling.{IsCarried, IsFile, IsRuled, IsText}
-use Rattle.monitor.proofs.Ruled.{file_stops, fits, ruled_answer}
+use Rattle.monitor.specs.Inner.Ruling.{IsCarried, IsFileStop, IsTextStop}
 
--- fewer than 8 bodies are open
-pub include_reads :
-    (held : Held) (s : State) (place : Place) (path : List ℕ) → length s.flow.outer < 8 →
-    include held s place path
-    ≡ record { names = path ∷ []; answer = with_file place (get held path) (include_bytes s place path) }
-include_reads held s place path room =
-    let yes : nat_lt (length s.flow.outer) depth_limit ≡ true = grind (arith, nat_tests) in rw yes refl
+-- a command that stops at a place of a file, or for want of memory
+file_carried :
+    (did : Did) (place : Place) (fault : ScriptFault) (stop : Stop) (after : State) (log log' : Log) →
+    did.answer ≡ Faults fault → log' ≡ grown log did.names → IsFileStop fault stop →
+    IsCarried did place (Err stop) after log log'
+file_carried did place fault Quit after log log' answer asked is = absurd is
+file_carried did place fault (Line cause) after log log' answer asked is = absurd is
+file_carried did place fault (File told) after log log' answer asked is = (rw is answer, asked)
+file_carried did place fault (Content cause) after log log' answer asked is = absurd is
+file_carried did place fault Unread after log log' answer asked is = absurd is
+file_carried did place fault Memory after log log' answer asked is = asks_all did.names log log' asked
 
--- a file was read and is this text, or is none
-pub text_read :
-    (held : Option (List ℕ)) (path bytes : List ℕ) (result : Result (String Global) Stop)
-    (log log' : Option (List (List ℕ))) → held ≡ Some bytes → length bytes ≤ 16777216 → log' ≡ grown log (path ∷ []) →
-    IsText path bytes result → IsTextRead held path result log log'
-text_read held path bytes (Ok text) log log' there few asked is = (rw is.1 there, rw is.1 is.0, asked)
-text_read held path bytes (Err Quit) log log' there few asked is = absurd is
-text_read held path bytes (Err (Line cause)) log log' there few asked is = absurd is
-text_read held path bytes (Err (File fault)) log log' there few asked is = λ s after place.
-    let use_ = include_bytes s place path in
-    let none : include_bytes s place path bytes ≡ Faults fault = rw (is.0, is.1) refl in
-    (ap (λ content. with_file place content use_) there ∙ fits place bytes use_ few ∙ none, asked)
-text_read held path bytes (Err (Content cause)) log log' there few asked is = absurd is
-text_read held path bytes (Err Unread) log log' there few asked is = absurd is
-text_read held path bytes (Err Memory) log log' there few asked is = λ s after place.
-    record { passed = path ∷ []; coming = []; all = refl; asked = asked }
+file_unread : (fault : ScriptFault) (stop : Stop) → IsFileStop fault stop → stop ≡ Unread → ⊥
+file_unread fault stop is same = rw same at is
 
--- a file was not read in full
-pub text_stops :
-    (held : Option (List ℕ)) (path : List ℕ) (stop : Stop) (log log' : Option (List (List ℕ))) →
-    IsFile held path (Err stop) log log' → IsTextRead held path (Err stop) log log'
-text_stops held path stop log log' is = λ s after place.
-    let use_ = include_bytes s place path in
-    file_stops (record { names = path ∷ []; answer = with_file place held use_ }) place path held use_ stop after log
-    log' refl refl is
+pub text_unread :
+    (name : List ℕ) (fault : TextFault) (stop : Stop) → IsTextStop name fault stop → stop ≡ Unread →
+    fault ≡ text_fault.Unread
+text_unread name text_fault.Unread stop is same = refl
+text_unread name text_fault.TooLarge stop is same = cc (is, same)
+text_unread name (text_fault.NotText line) stop is same = absurd (file_unread _ stop is same)
+text_unread name text_fault.Memory stop is same = cc (is, same)
 
--- an `include` of a file that stops it
-pub include_stops :
-    (held : Held) (s after : State) (place : Place) (path : List ℕ) (stop : Stop) (log log' : Option (List (List ℕ))) →
-    length s.flow.outer < 8 → IsTextRead (get held path) path (Err stop) log log' →
-    IsCarried (include held s place path) place (Err stop) after log log'
-include_stops held s after place path stop log log' room read =
-    subst (λ did. IsCarried did place (Err stop) after log log') (sym (include_reads held s place path room))
-    (read s after place)
+module _ (held : Held) (s : State) (place : Place) (path : List ℕ) (room : length s.flow.outer < 8)
+    (log log' : Log) where
+  -- fewer than 8 bodies are open
+  include_reads :
+      include held s place path
+      ≡ record { names = path ∷ []; answer = include_text s place path (file_text (get held path)) }
+  include_reads = let yes : nat_lt (length s.flow.outer) depth_limit ≡ true = grind (arith, nat_tests, room) in rw yes refl
 
--- a file was read as this text, and is entered or not
-pub include_goes :
-    (held : Held) (place : Place) (path : List ℕ) (text : String Global) (result : Result (Vec ℕ Global) Stop)
-    (old new : Running) (log log' : Option (List (List ℕ))) →
-    length old.state.flow.outer < 8 → IsTextRead (get held path) path (Ok text) log log' →
-    length (string_bytes text) ≤ 16777216 →
-    IsRuled (entered old.state (enter old.state.flow (source_of path (string_bytes text)))) result old new →
-    IsCarried (include held old.state place path) place result new.state log log'
-include_goes held place path text result old new log log' room read few ruled =
-    let s = old.state in
-    let bytes = string_bytes text in
-    let use_ = include_bytes s place path in
-    let says = entered s (enter s.flow (source_of path bytes)) in
-    let is_text : include_bytes s place path bytes ≡ answer_at place says = rw read.1 refl in
-    let did : Did = record { names = path ∷ []; answer = with_file place (get held path) use_ } in
-    subst (λ did. IsCarried did place result new.state log log') (sym (include_reads held s place path room))
-    (ruled_answer did place says result old new log log'
-    (ap (λ content. with_file place content use_) read.0 ∙ fits place bytes use_ few ∙ is_text) read.2 ruled)
+  stops :
+      (fault : TextFault) (stop : Stop) (after : State) → IsTextRead (get held path) path (Err fault) log log' →
+      IsTextStop path fault stop →
+      IsCarried (record { names = path ∷ []; answer = include_text s place path (file_text (get held path)) }) place
+      (Err stop) after log log'
+  stops text_fault.Unread stop after read is = rw is (asks_one path log log' read)
+  stops text_fault.TooLarge stop after read is = rw is (ap (include_text s place path) read.0, read.1)
+  stops (text_fault.NotText line) stop after read is =
+      file_carried (record { names = path ∷ []; answer = include_text s place path (file_text (get held path)) }) place _
+      stop after log log' (ap (include_text s place path) read.0) read.1 is
+  stops text_fault.Memory stop after read is = rw is read
+
+  -- the text is not read
+  pub include_stops :
+      (fault : TextFault) (stop : Stop) (after : State) → IsTextRead (get held path) path (Err fault) log log' →
+      IsTextStop path fault stop → IsCarried (include held s place path) place (Err stop) after log log'
+  include_stops fault stop after read is =
+      subst (λ did. IsCarried did place (Err stop) after log log') (sym include_reads) (stops fault stop after read is)
+
+  -- this is its text
+  pub include_goes :
+      (text : String Global) → IsTextRead (get held path) path (Ok text) log log' →
+      ((include held s place path).answer
+      ≡ answer_at place (entered s (enter s.flow (source_of path (string_bytes text)))))
+      × (log' ≡ grown log (include held s place path).names)
+  include_goes text read = rw include_reads (ap (include_text s place path) read.0, read.1)

@@ -1,12 +1,10 @@
 -- Images that commands load.
 use Rattle.std.proofs.Common.{◌≡◌, ◌∙◌, ℕ, zero, suc, ◌+◌, ◌<◌, ◌≤◌, ◌^◌, ◌&&◌, nat_lt, nat_le}
 use Rattle.std.proofs.Common.{Bool, true, false, List, [], ◌∷◌}
-use Rattle.std.proofs.Common.{◌++◌, length, take, get_or, replicate, Option, None, Some, Result, Ok}
-use Rattle.std.proofs.Common.{Err, Vec, refl, sym, ap}
+use Rattle.std.proofs.Common.{◌++◌, length, take, get_or, replicate, Option, None, Some, Ok}
+use Rattle.std.proofs.Common.{refl, sym, ap}
 use Rattle.std.proofs.Common.{append-nil, subst, arith}
 use Rattle.std.specs.Prelude.{IsSome}
-use Rattle.std.specs.FinMap.{get}
-use Rattle.std.specs.Global.{Global}
 use Rattle.std.specs.List.{list_all, range_with_len}
 use Rattle.std.specs.Option.{ForSome, option_map}
 use Rattle.std.proofs.lemmas.Bool.{and_parts}
@@ -15,8 +13,6 @@ use Rattle.std.proofs.lemmas.List.Sums.{fold_more}
 use Rattle.elf_load.specs.declared.image.Image.{Image}
 use Rattle.elf_load.specs.declared.image.Part.{Part}
 use Rattle.elf_load.specs.Map.{contents}
-use Rattle.lab_io.specs.Held.{Held}
-use Rattle.lab_io.specs.Known.{grown}
 use Rattle.sys_bus.specs.declared.region.Target.{Target}
 use Rattle.sys_bus.specs.declared.region.Target.TheVariants.{Ram, Clint, Plic, Dev, Nothing}
 use Rattle.sys_bus.specs.Region.{target_of}
@@ -27,98 +23,9 @@ use Rattle.lab_state.specs.Board.{Board}
 use Rattle.lab_num.specs.Change.{change_at}
 use Rattle.lab_state.specs.Lab.{Lab}
 use Rattle.lab_state.specs.One.{changed, view_at, view_of, with_view}
-use Rattle.monitor.specs.declared.fault.Cause.{Cause}
-use Rattle.monitor.specs.declared.stop.Stop.{Stop}
-use Rattle.monitor.specs.declared.stop.Stop.TheVariants.{Quit, Line, File, Content, Unread, Memory}
-use Rattle.monitor.specs.Answer.{Answer, reads, with_file}
-use Rattle.monitor.specs.Images.{holds_part, is_entry, load_file, load_image, load_read, size, with_entry, with_part}
-use Rattle.monitor.specs.Images.{with_parts}
-use Rattle.monitor.specs.Inner.Ruling.{IsBoard, IsCarried, IsChanged, IsFile, IsImage, IsOnward, IsRuled}
-use Rattle.monitor.specs.Selected.{Equipped, equipped}
-use Rattle.monitor.specs.State.{State, Place}
+use Rattle.monitor.specs.Images.{holds_part, is_entry, load_image, size, with_entry, with_part, with_parts}
+use Rattle.monitor.specs.Inner.Ruling.{IsChanged, IsOnward}
 use Rattle.monitor.specs.Step.{Running}
-use Rattle.monitor.proofs.Ruled.{file_stops, fits, ruled_answer}
-
--- how a board goes on with the bytes of a file
-abbrev use_bytes :
-    (List ℕ → Result Image Cause) → State → Place → Equipped → List ℕ → Answer
-use_bytes image_of s place on bytes = load_read s place on (image_of bytes)
-
-abbrev use_on :
-    (List ℕ → Result Image Cause) → Held → State → Place → List ℕ → Equipped → Answer
-use_on image_of held s place path on = with_file place (get held path) (use_bytes image_of s place on)
-
--- the file was not read in full
-pub image_stops :
-    (image_of : List ℕ → Result Image Cause) (held : Held) (s : State) (place : Place)
-    (path : List ℕ) (b : ℕ) (stop : Stop) (after : State) (log log' : Option (List (List ℕ))) →
-    IsBoard s (equipped s) b → IsFile (get held path) path (Err stop) log log' →
-    IsCarried (load_file image_of held s place path) place (Err stop) after log log'
-image_stops image_of held s place path b stop after log log' is file =
-    let on : Equipped = record { number = b; view = is.view } in
-    let use_ = use_on image_of held s place path in
-    subst (λ meant. IsCarried (reads place path meant use_) place (Err stop) after log log') (sym is.on)
-    (file_stops (reads place path (Ok on) use_) place path (get held path) (use_bytes image_of s place on) stop
-    after log log' refl refl file)
-
--- what is answered to a file that was read in full
-read_answer :
-    (image_of : List ℕ → Result Image Cause) (held : Held) (s : State) (place : Place)
-    (path : List ℕ) (on : Equipped) (bytes : List ℕ) (meant : Result Image Cause) →
-    get held path ≡ Some bytes → length bytes ≤ 16777216 → image_of bytes ≡ meant →
-    use_on image_of held s place path on ≡ load_read s place on meant
-read_answer image_of held s place path on bytes meant there few is =
-    ap (λ content. with_file place content (use_bytes image_of s place on)) there
-    ∙ fits place bytes (use_bytes image_of s place on) few
-    ∙ ap (load_read s place on) is
-
--- the file was read, and is refused for what stands in it
-refused_on :
-    (image_of : List ℕ → Result Image Cause) (held : Held) (s : State) (place : Place)
-    (path : List ℕ) (on : Equipped) (bytes : List ℕ) (stop : Stop) (after : State)
-    (log log' : Option (List (List ℕ))) →
-    get held path ≡ Some bytes → length bytes ≤ 16777216 → log' ≡ grown log (path ∷ []) →
-    IsImage (image_of bytes) (Err stop) →
-    IsCarried (reads place path (Ok on) (use_on image_of held s place path)) place (Err stop) after log log'
-refused_on image_of held s place path on bytes Quit after log log' there few asked is = absurd is
-refused_on image_of held s place path on bytes (Line told) after log log' there few asked is = absurd is
-refused_on image_of held s place path on bytes (File told) after log log' there few asked is = absurd is
-refused_on image_of held s place path on bytes (Content told) after log log' there few asked is = (
-  read_answer image_of held s place path on bytes (Err told) there few is,
-  asked,
-)
-refused_on image_of held s place path on bytes Unread after log log' there few asked is = absurd is
-refused_on image_of held s place path on bytes Memory after log log' there few asked is =
-    record { passed = path ∷ []; coming = []; all = refl; asked = asked }
-
-pub image_refused :
-    (image_of : List ℕ → Result Image Cause) (held : Held) (s : State) (place : Place)
-    (path : List ℕ) (b : ℕ) (bytes : List ℕ) (stop : Stop) (after : State) (log log' : Option (List (List ℕ))) →
-    IsBoard s (equipped s) b → get held path ≡ Some bytes → length bytes ≤ 16777216 → log' ≡ grown log (path ∷ []) →
-    IsImage (image_of bytes) (Err stop) →
-    IsCarried (load_file image_of held s place path) place (Err stop) after log log'
-image_refused image_of held s place path b bytes stop after log log' is there few asked image =
-    let on : Equipped = record { number = b; view = is.view } in
-    let use_ = use_on image_of held s place path in
-    subst (λ meant. IsCarried (reads place path meant use_) place (Err stop) after log log') (sym is.on)
-    (refused_on image_of held s place path on bytes stop after log log' there few asked image)
-
--- the file was read as an image, and that is loaded, or not
-pub image_goes :
-    (image_of : List ℕ → Result Image Cause) (held : Held) (s : State) (place : Place)
-    (path : List ℕ) (b : ℕ) (bytes : List ℕ) (image : Image) (result : Result (Vec ℕ Global) Stop) (old new : Running)
-    (log log' : Option (List (List ℕ))) →
-    IsBoard s (equipped s) b → get held path ≡ Some bytes → length bytes ≤ 16777216 → log' ≡ grown log (path ∷ []) →
-    image_of bytes ≡ Ok image →
-    ForSome (view_of s.lab b) (λ v. IsRuled (load_image s (record { number = b; view = v }) image) result old new) →
-    IsCarried (load_file image_of held s place path) place result new.state log log'
-image_goes image_of held s place path b bytes image result old new log log' is there few asked meant ruled =
-    let on : Equipped = record { number = b; view = is.view } in
-    let use_ = use_on image_of held s place path in
-    subst (λ meant. IsCarried (reads place path meant use_) place result new.state log log') (sym is.on)
-    (ruled_answer (reads place path (Ok on) use_) place (load_image s on image) result old new log log'
-    (read_answer image_of held s place path on bytes (Ok image) there few meant) asked
-    (ruled is.view is.seen))
 
 -- a place of a list that is changed twice
 change_twice :

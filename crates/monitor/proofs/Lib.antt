@@ -3,11 +3,11 @@ pub mod Entered
 pub mod Equipping
 pub mod ImageLemmas
 pub mod Joining
+pub mod Loads
 pub mod MachineNames
 pub mod MapLemmas
 pub mod MemoryLemmas
 pub mod PlaceLemmas
 pub mod Ruled
 pub mod Steps
-pub mod Texts
 pub mod Within

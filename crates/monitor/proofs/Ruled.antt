@@ -1,63 +1,48 @@
--- How a command is carried out that is ruled as its definition says.
-use Rattle.std.proofs.Common.{◌≡◌, ◌∙◌, ℕ, ◌<◌, ◌≤◌, List, [], ◌∷◌, length, Option, Some, None, Result, Ok, Err, Vec}
-use Rattle.std.proofs.Common.{refl, sym, ap, nat_lt, true, false, Bool, cond, append-nil, arith}
-use Rattle.std.specs.Prelude.{IfSome, IsSomeAnd}
+-- What a command has done, by what its parts have done.
+use Rattle.std.proofs.Common.{◌≡◌, ℕ, List, [], ◌∷◌, Option, Some, Result, Ok, Err, Vec, refl, sym, ap}
+use Rattle.std.specs.Prelude.{IfSome}
 use Rattle.std.specs.Global.{Global}
-use Rattle.std.proofs.lemmas.Bool.Decides.{nat_tests}
+use Rattle.std.specs.Option.{ForSome}
+use Rattle.lab_io.specs.declared.files.Files.{Ghosts}
+use Rattle.lab_io.specs.Asked.{Log}
+use Rattle.lab_io.specs.Frame.{OnlyReads}
 use Rattle.lab_io.specs.Held.{Held}
 use Rattle.lab_io.specs.Known.{grown}
+use Rattle.lab_io.proofs.Asking.{asks_all, asks_none}
+use Rattle.lab_io.proofs.Frames.{reads_as, reads_none}
+use Rattle.lab_io.proofs.Grown.{grown-nil}
 use Rattle.lab_state.specs.Run.{Play}
 use Rattle.resc_read.specs.declared.command.Command.{Command}
-use Rattle.resc_read.specs.declared.command.Command.TheVariants as command
+use Rattle.resc_read.specs.declared.command.LineCause.{LineCause}
+use Rattle.resc_read.specs.declared.command.LineFault.{LineFault}
+use Rattle.resc_read.specs.declared.command.LineFault.TheVariants as line_fault
+use Rattle.resc_read.specs.Line.{IsReadAs}
 use Rattle.resc_vars.specs.declared.cause.ScriptCause.{ScriptCause}
-use Rattle.resc_vars.specs.declared.cause.ScriptCause.TheVariants.{Size}
-use Rattle.monitor.specs.declared.step.Step.{Step}
-use Rattle.monitor.specs.declared.step.Step.TheVariants as step
+use Rattle.resc_vars.specs.declared.cause.ScriptCause.TheVariants.{Unknown, Arguments, Time}
 use Rattle.monitor.specs.declared.stop.Stop.{Stop}
 use Rattle.monitor.specs.declared.stop.Stop.TheVariants.{Quit, Line, File, Content, Unread, Memory}
-use Rattle.monitor.specs.Answer.{Answer, Misses, Did, Done, answer_at, refused, unread, with_file}
-use Rattle.monitor.specs.Command.{carried, ruled}
+use Rattle.monitor.specs.declared.step.Step.TheVariants as step
+use Rattle.monitor.specs.Answer.{Answer, Did, Done, answer_at, unread}
+use Rattle.monitor.specs.Command.{Work, OnFiles, OnState, Quits, does, done_by}
 use Rattle.monitor.specs.State.{State, Place}
-use Rattle.monitor.specs.Step.{Running, IsStep, IsCut}
-use Rattle.monitor.specs.Inner.Ruling.{IsCarried, IsFile, IsRuled, Leaves, Told, step_of}
+use Rattle.monitor.specs.Step.{Running, IsStep}
+use Rattle.monitor.specs.Inner.Ruling.{IsCarried, IsDone, IsRuled, IsTold, IsWorked, Leaves, line_stop, step_of}
 
--- what holds if a value is told holds of the value that is told, and the other way round
-pub told : {A : Type 0} {o : Option A} (P : A → Type 0) → IfSome o P → Told o P
+-- what holds if a value is told holds of the value that is told
+pub told : {A : Type 0} {o : Option A} (P : A → Type 0) → IfSome o P → ForSome o P
 told P fact x is = rw is at fact
 
-pub if_told : {A : Type 0} (o : Option A) (P : A → Type 0) → Told o P → IfSome o P
-if_told None P holds = tt
-if_told (Some x) P holds = holds x refl
-
--- where no name was asked for, what was asked for stays
-pub grown_by_none : (log : Option (List (List ℕ))) → log ≡ grown log []
-grown_by_none None = refl
-grown_by_none (Some names) = ap Some (sym (append-nil names))
-
--- a command that asks for these names and then comes to a ruling
-pub ruled_answer :
-    (did : Did) (place : Place) (ruling : Result Done ScriptCause) (result : Result (Vec ℕ Global) Stop)
-    (old new : Running) (log log' : Option (List (List ℕ))) →
-    did.answer ≡ answer_at place ruling → log' ≡ grown log did.names → IsRuled ruling result old new →
-    IsCarried did place result new.state log log'
-ruled_answer did place ruling (Ok text) old new log log' answer asked is =
-    (answer ∙ ap (answer_at place) is.0, asked)
-ruled_answer did place ruling (Err Quit) old new log log' answer asked is = absurd is
-ruled_answer did place ruling (Err (Line cause)) old new log log' answer asked is =
-    (answer ∙ ap (answer_at place) is.0, asked)
-ruled_answer did place ruling (Err (File fault)) old new log log' answer asked is = absurd is
-ruled_answer did place ruling (Err (Content cause)) old new log log' answer asked is = absurd is
-ruled_answer did place ruling (Err Unread) old new log log' answer asked is = absurd is
-ruled_answer did place ruling (Err Memory) old new log log' answer asked is =
-    record { passed = did.names; coming = []; all = sym (append-nil did.names); asked = asked }
-
--- a command that reads no file
-pub ruled_is_carried :
-    (ruling : Result Done ScriptCause) (place : Place) (result : Result (Vec ℕ Global) Stop) (old new : Running)
-    (log : Option (List (List ℕ))) →
-    IsRuled ruling result old new → IsCarried (unread place ruling) place result new.state log log
-ruled_is_carried ruling place result old new log is =
-    ruled_answer (unread place ruling) place ruling result old new log log refl (grown_by_none log) is
+-- how a command is answered that is ruled so
+pub ruled_told :
+    (place : Place) (ruling : Result Done ScriptCause) (result : Result (Vec ℕ Global) Stop) (old new : Running) →
+    IsRuled ruling result old new → IsTold place (answer_at place ruling) result new.state
+ruled_told place ruling (Ok text) old new is = ap (answer_at place) is.0
+ruled_told place ruling (Err Quit) old new is = absurd is
+ruled_told place ruling (Err (Line cause)) old new is = ap (answer_at place) is.0
+ruled_told place ruling (Err (File fault)) old new is = absurd is
+ruled_told place ruling (Err (Content cause)) old new is = absurd is
+ruled_told place ruling (Err Unread) old new is = absurd is
+ruled_told place ruling (Err Memory) old new is = tt
 
 pub ruled_leaves :
     (ruling : Result Done ScriptCause) (result : Result (Vec ℕ Global) Stop) (old new : Running) →
@@ -70,56 +55,110 @@ ruled_leaves ruling (Err (Content cause)) old new is = absurd is
 ruled_leaves ruling (Err Unread) old new is = absurd is
 ruled_leaves ruling (Err Memory) old new is = is
 
-pub ruled_read :
-    (ruling : Result Done ScriptCause) (result : Result (Vec ℕ Global) Stop) (old new : Running) →
-    IsRuled ruling result old new → result ≡ Err Unread → ⊥
-ruled_read ruling (Ok text) old new is same = cc same
-ruled_read ruling (Err Quit) old new is same = cc same
-ruled_read ruling (Err (Line cause)) old new is same = cc same
-ruled_read ruling (Err (File fault)) old new is same = cc same
-ruled_read ruling (Err (Content cause)) old new is same = cc same
-ruled_read ruling (Err Unread) old new is same = is
-ruled_read ruling (Err Memory) old new is same = cc same
+stop_leaves : (stop : Stop) (old : Running) → Leaves (Err stop) old old
+stop_leaves Quit old = refl
+stop_leaves (Line cause) old = refl
+stop_leaves (File fault) old = refl
+stop_leaves (Content cause) old = refl
+stop_leaves Unread old = refl
+stop_leaves Memory old = refl
 
-too_large :
-    (place : Place) (content : Option (List ℕ)) (use_ : List ℕ → Answer) →
-    IsSomeAnd content (λ bytes. 16777216 < length bytes) → with_file place content use_ ≡ refused place Size
-too_large place None use_ is = absurd is
-too_large place (Some bytes) use_ is = tested (nat_lt 16777216 (length bytes)) refl
-  where
-    tested : (b : Bool) → nat_lt 16777216 (length bytes) ≡ b →
-        cond b (refused place Size) (use_ bytes) ≡ refused place Size
-    tested true over = refl
-    tested false over = absurd (grind (arith, nat_tests, over, is))
+-- a command that has asked for its names and is answered so
+told_carried :
+    (did : Did) (place : Place) (result : Result (Vec ℕ Global) Stop) (after : State) (log log' : Log) →
+    log' ≡ grown log did.names → IsTold place did.answer result after → IsCarried did place result after log log'
+told_carried did place (Ok text) after log log' asked told = (told, asked)
+told_carried did place (Err Quit) after log log' asked told = (told, asked)
+told_carried did place (Err (Line cause)) after log log' asked told = (told, asked)
+told_carried did place (Err (File fault)) after log log' asked told = (told, asked)
+told_carried did place (Err (Content cause)) after log log' asked told = (told, asked)
+told_carried did place (Err Unread) after log log' asked told = absurd told
+told_carried did place (Err Memory) after log log' asked told = asks_all did.names log log' asked
 
--- a file that has no more bytes than it may have is used
-pub fits :
-    (place : Place) (bytes : List ℕ) (use_ : List ℕ → Answer) → length bytes ≤ 16777216 →
-    with_file place (Some bytes) use_ ≡ use_ bytes
-fits place bytes use_ few = tested (nat_lt 16777216 (length bytes)) refl
-  where
-    tested : (b : Bool) → nat_lt 16777216 (length bytes) ≡ b → cond b (refused place Size) (use_ bytes) ≡ use_ bytes
-    tested true over = absurd (grind (arith, nat_tests, over, few))
-    tested false over = refl
+told_read :
+    (place : Place) (answer : Answer) (result : Result (Vec ℕ Global) Stop) (after : State) →
+    IsTold place answer result after → result ≡ Err Unread → ⊥
+told_read place answer result after told same = rw same at told
 
--- a command whose file is not read in full
-pub file_stops :
-    (did : Did) (place : Place) (name : List ℕ) (content : Option (List ℕ)) (use_ : List ℕ → Answer) (stop : Stop)
-    (after : State) (log log' : Option (List (List ℕ))) →
-    did.names ≡ name ∷ [] → did.answer ≡ with_file place content use_ → IsFile content name (Err stop) log log' →
-    IsCarried did place (Err stop) after log log'
-file_stops did place name content use_ Quit after log log' names answer is = absurd is
-file_stops did place name content use_ (Line cause) after log log' names answer is =
-    (answer ∙ too_large place content use_ is.1 ∙ ap (refused place) (sym is.0), rw names is.2)
-file_stops did place name content use_ (File fault) after log log' names answer is = absurd is
-file_stops did place name content use_ (Content cause) after log log' names answer is = absurd is
-file_stops did place name content use_ Unread after log log' names answer is =
-    record { earlier = []; name = name; coming = []; all = names; asked = is }
-file_stops did place name content use_ Memory after log log' names answer is = rw names is
+module _ {F : Type 0} {files : Ghosts F} {P : Type 0} where
+  -- a command has read what it reads, and is answered so
+  pub done_told :
+      (by : Held → Place → Did) (answer : Place → Answer) (result : Result (Vec ℕ Global) Stop) (old new : Running)
+      (before after : F) →
+      ((place : Place) → ForSome (files.held before)
+      (λ held. ((by held place).answer ≡ answer place)
+      × (files.asked after ≡ grown (files.asked before) (by held place).names))) →
+      ((place : Place) → IsTold place (answer place) result new.state) → Leaves result old new →
+      OnlyReads files P before after → IsDone files by result old new before after
+  done_told by answer result old new before after read told leaves reads = record {
+    carried = λ place held is.
+        let asked = read place held is in
+        told_carried (by held place) place result new.state (files.asked before) (files.asked after) asked.1
+        (rw asked.0 (told place));
+    leaves = leaves;
+    reads = reads_as
+        (λ same. absurd (told_read (record { file = []; number = 0 }) _ result new.state (told _) same)) reads;
+  }
+
+  -- a command was stopped where it reads
+  pub done_stopped :
+      (by : Held → Place → Did) (stop : Stop) (old : Running) (before after : F) →
+      ((place : Place) → ForSome (files.held before)
+      (λ held. IsCarried (by held place) place (Err stop) old.state (files.asked before) (files.asked after))) →
+      (stop ≡ Unread → P) → OnlyReads files P before after →
+      IsDone files by (Err stop) old old before after
+  done_stopped by stop old before after carried told reads =
+      record { carried = carried; leaves = stop_leaves stop old; reads = reads_as (λ same. told (cc same)) reads }
+
+module _ {F : Type 0} {files : Ghosts F} where
+  -- a command that reads no file
+  pub done_alone :
+      (ruling : Result Done ScriptCause) (result : Result (Vec ℕ Global) Stop) (old new : Running) (before : F) →
+      IsRuled ruling result old new → IsDone files (λ held place. unread place ruling) result old new before before
+  done_alone ruling result old new before is =
+      done_told {P = ⊥} (λ held place. unread place ruling) (λ place. answer_at place ruling) result old new before before
+      (λ place held told. (refl, sym (grown-nil (files.asked before))))
+      (λ place. ruled_told place ruling result old new is) (ruled_leaves ruling result old new is)
+      (reads_none (λ none. none))
+
+  -- a command that is refused before it reads a file
+  pub done_refused :
+      (cause : ScriptCause) (old : Running) (before : F) →
+      IsDone files (λ held place. unread place (Err cause)) (Err (Line cause)) old old before before
+  done_refused cause old before = done_alone (Err cause) (Err (Line cause)) old old before (refl, refl)
+
+  -- a command of each sort
+  pub worked_done :
+      (work : Work) (result : Result (Vec ℕ Global) Stop) (old new : Running) (before after : F) →
+      IsWorked files work result old new before after →
+      IsDone files (λ held place. does held place work) result old new before after
+  worked_done (OnFiles by) result old new before after is = is
+  worked_done (OnState ruling) result old new before after is =
+      rw is.1 (done_alone ruling result old new before is.0)
+  worked_done Quits result old new before after (quits, same, still) =
+      rw (quits, same, still) (record {
+        carried = λ place held told. (refl, sym (grown-nil (files.asked before)));
+        leaves = refl;
+        reads = reads_none (λ same. cc same);
+      })
+
+  -- a line that is no command
+  pub line_refused :
+      (play : Play) (line : Result Command LineCause) (fault : LineFault) (old : Running) (before : F) →
+      IsReadAs line (Err fault) →
+      IsDone files (λ held place. done_by play held old.state place line) (Err (line_stop fault)) old old before before
+  line_refused play line line_fault.Unknown old before is = rw is (done_refused Unknown old before)
+  line_refused play line line_fault.Arguments old before is = rw is (done_refused Arguments old before)
+  line_refused play line line_fault.Time old before is = rw is (done_refused Time old before)
+  line_refused play line line_fault.Memory old before is = record {
+    carried = λ place held told. asks_none (done_by play held old.state place line).names (files.asked before);
+    leaves = refl;
+    reads = reads_none (λ same. cc same);
+  }
 
 -- a line after which the script does not go on
 pub stop_is_step :
-    (did : Did) (place : Place) (stop : Stop) (after : State) (log log' : Option (List (List ℕ))) →
+    (did : Did) (place : Place) (stop : Stop) (after : State) (log log' : Log) →
     IsCarried did place (Err stop) after log log' → IsStep did (step_of place stop) after log log'
 stop_is_step did place Quit after log log' is = is
 stop_is_step did place (Line cause) after log log' is = is
@@ -128,30 +167,10 @@ stop_is_step did place (Content cause) after log log' is = is
 stop_is_step did place Unread after log log' is = is
 stop_is_step did place Memory after log log' is = is
 
--- where a name holds nothing, a step is cut short
-pub absent_is_cut :
-    (did : Did) (answered : Step) (after : State) (log log' : Option (List (List ℕ))) →
-    IsStep did answered after log log' → did.answer ≡ Misses → IsCut answered
-absent_is_cut did (step.Text text) after log log' is misses = cc (is.0, misses)
-absent_is_cut did step.End after log log' is misses = cc (is.0, misses)
-absent_is_cut did (step.Fault fault) after log log' is misses = cc (is.0, misses)
-absent_is_cut did step.Unread after log log' is misses = tt
-absent_is_cut did step.Memory after log log' is misses = tt
-
--- a command that reads no file and does not end the script
-pub carried_alone :
-    (play : Play) (held : Held) (s : State) (place : Place) (c : Command) →
-    ((path : List ℕ) → c ≡ command.LoadPlatform path → ⊥) →
-    ((path : List ℕ) (at : ℕ) → c ≡ command.LoadBinary path at → ⊥) →
-    ((path : List ℕ) → c ≡ command.LoadElf path → ⊥) → ((path : List ℕ) → c ≡ command.LoadHex path → ⊥) →
-    ((path : List ℕ) → c ≡ command.Include path → ⊥) → (c ≡ command.Quit → ⊥) →
-    carried play held s place c ≡ unread place (ruled play s c)
-carried_alone play held s place (command.LoadPlatform path) platform binary elf hex file quit =
-    absurd (platform path refl)
-carried_alone play held s place (command.LoadBinary path at) platform binary elf hex file quit =
-    absurd (binary path at refl)
-carried_alone play held s place (command.LoadElf path) platform binary elf hex file quit = absurd (elf path refl)
-carried_alone play held s place (command.LoadHex path) platform binary elf hex file quit = absurd (hex path refl)
-carried_alone play held s place (command.Include path) platform binary elf hex file quit = absurd (file path refl)
-carried_alone play held s place command.Quit platform binary elf hex file quit = absurd (quit refl)
-carried_alone play held s place _ platform binary elf hex file quit = refl
+pub stop_unread : (place : Place) (stop : Stop) → step_of place stop ≡ step.Unread → stop ≡ Unread
+stop_unread place Quit is = cc is
+stop_unread place (Line cause) is = cc is
+stop_unread place (File fault) is = cc is
+stop_unread place (Content cause) is = cc is
+stop_unread place Unread is = refl
+stop_unread place Memory is = cc is

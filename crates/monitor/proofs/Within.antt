@@ -8,8 +8,8 @@ use Rattle.lab_num.specs.declared.number.Micros.{Micros}
 use Rattle.lab_num.specs.Name.{is_name}
 use Rattle.resc_read.specs.declared.command.Command.{Command}
 use Rattle.resc_read.specs.declared.command.Command.TheVariants as command
-use Rattle.resc_read.specs.declared.command.LineFault.{LineFault}
-use Rattle.resc_read.specs.declared.command.LineFault.TheVariants.{Unknown, Arguments, Time}
+use Rattle.resc_read.specs.declared.command.LineCause.{LineCause}
+use Rattle.resc_read.specs.declared.command.LineCause.TheVariants.{Unknown, Arguments, Time}
 use Rattle.resc_read.specs.Words as of_text
 use Rattle.resc_read.specs.Arguments.{◌>>=◌, none, one, optional, two, processor, name, entry, path, variable, number}
 use Rattle.resc_read.specs.Arguments.{truth, speed, time, quantum}
@@ -20,7 +20,7 @@ use Rattle.resc_read.specs.Table.{memory_rows, emulation_rows, by_all_rows, by_w
 use Rattle.resc_read.specs.Table.{by_memory_rows, by_emulation_rows}
 use Rattle.monitor.specs.Inner.Ruling.{IsWithin}
 
-abbrev IsGood : Result Command LineFault → Type 0
+abbrev IsGood : Result Command LineCause → Type 0
 IsGood (Ok command) = IsWithin command
 IsGood (Err fault) = Unit {0}
 
@@ -29,12 +29,12 @@ abbrev AreGood : List Row → Type 0
 AreGood [] = Unit {0}
 AreGood (row ∷ rows) = ((first : List ℕ) (line : List (List ℕ)) → IsGood (row.command first line)) × AreGood rows
 
-either : (b : Bool) (x y : Result Command LineFault) → IsGood x → IsGood y → IsGood (cond b x y)
+either : (b : Bool) (x y : Result Command LineCause) → IsGood x → IsGood y → IsGood (cond b x y)
 either true x y good other = good
 either false x y good other = other
 
 good_rows :
-    (rows : List Row) (line : List (List ℕ)) (otherwise : Result Command LineFault) →
+    (rows : List Row) (line : List (List ℕ)) (otherwise : Result Command LineCause) →
     AreGood rows → IsGood otherwise → IsGood (by_rows rows line otherwise)
 good_rows [] line otherwise good other = other
 good_rows (row ∷ rows) line otherwise good other =
@@ -46,27 +46,27 @@ good_none c [] within = within
 good_none c (word ∷ line) within = tt
 
 good_sort :
-    {A : Type 0} (read : Result A LineFault) (make : A → Command) →
+    {A : Type 0} (read : Result A LineCause) (make : A → Command) →
     ((x : A) → read ≡ Ok x → IsWithin (make x)) → IsGood (read >>= λ x. Ok (make x))
 good_sort (Ok x) make within = within x refl
 good_sort (Err fault) make within = tt
 
 good_one :
-    {A : Type 0} (sort : List ℕ → Result A LineFault) (make : A → Command) (line : List (List ℕ)) →
+    {A : Type 0} (sort : List ℕ → Result A LineCause) (make : A → Command) (line : List (List ℕ)) →
     ((word : List ℕ) (x : A) → sort word ≡ Ok x → IsWithin (make x)) → IsGood (one sort make line)
 good_one sort make [] within = tt
 good_one sort make (word ∷ []) within = good_sort (sort word) make (within word)
 good_one sort make (word ∷ other ∷ line) within = tt
 
 good_optional :
-    {A : Type 0} (sort : List ℕ → Result A LineFault) (make : Option A → Command) (line : List (List ℕ)) →
+    {A : Type 0} (sort : List ℕ → Result A LineCause) (make : Option A → Command) (line : List (List ℕ)) →
     IsWithin (make None) → ((word : List ℕ) (x : A) → sort word ≡ Ok x → IsWithin (make (Some x))) →
     IsGood (optional sort make line)
 good_optional sort make [] without within = without
 good_optional sort make (word ∷ []) without within = good_some (sort word) make (within word)
   where
     good_some :
-        {A : Type 0} (read : Result A LineFault) (make : Option A → Command) →
+        {A : Type 0} (read : Result A LineCause) (make : Option A → Command) →
         ((x : A) → read ≡ Ok x → IsWithin (make (Some x))) →
         IsGood ((read >>= λ x. Ok (Some x)) >>= λ x. Ok (make x))
     good_some (Ok x) make within = within x refl
@@ -74,14 +74,14 @@ good_optional sort make (word ∷ []) without within = good_some (sort word) mak
 good_optional sort make (word ∷ other ∷ line) without within = tt
 
 good_two :
-    {A B : Type 0} (sort : List ℕ → Result A LineFault) (other : List ℕ → Result B LineFault) (make : A → B → Command)
+    {A B : Type 0} (sort : List ℕ → Result A LineCause) (other : List ℕ → Result B LineCause) (make : A → B → Command)
     (line : List (List ℕ)) → ((x : A) (y : B) → IsWithin (make x y)) → IsGood (two sort other make line)
 good_two sort other make [] within = tt
 good_two sort other make (word ∷ []) within = tt
 good_two sort other make (word ∷ next ∷ []) within = good_both (sort word) (other next) make within
   where
     good_both :
-        {A B : Type 0} (first : Result A LineFault) (second : Result B LineFault) (make : A → B → Command) →
+        {A B : Type 0} (first : Result A LineCause) (second : Result B LineCause) (make : A → B → Command) →
         ((x : A) (y : B) → IsWithin (make x y)) → IsGood (first >>= λ x. second >>= λ y. Ok (make x y))
     good_both (Err fault) second make within = tt
     good_both (Ok x) (Err fault) make within = tt
@@ -89,13 +89,13 @@ good_two sort other make (word ∷ next ∷ []) within = good_both (sort word) (
 good_two sort other make (word ∷ next ∷ third ∷ line) within = tt
 
 good_processor :
-    {A : Type 0} (sort : List ℕ → Result A LineFault) (make : List ℕ → Option A → Command) (cpu : List ℕ)
+    {A : Type 0} (sort : List ℕ → Result A LineCause) (make : List ℕ → Option A → Command) (cpu : List ℕ)
     (line : List (List ℕ)) → ((name : List ℕ) → IsWithin (make name None)) →
     ((name word : List ℕ) (x : A) → sort word ≡ Ok x → IsWithin (make name (Some x))) →
     IsGood (processor sort make cpu line)
 good_processor sort make cpu line without within = good_named (entry cpu)
   where
-    good_named : (read : Result (List ℕ) LineFault) → IsGood (read >>= λ name. optional sort (make name) line)
+    good_named : (read : Result (List ℕ) LineCause) → IsGood (read >>= λ name. optional sort (make name) line)
     good_named (Err fault) = tt
     good_named (Ok name) = good_optional sort (make name) line (without name) (within name)
 
@@ -109,25 +109,25 @@ name_is (Some text) x is = tested (is_name text) refl is
     tested true named is = let same : text ≡ x = cc is in rw (← same) named
     tested false named is = cc is
 
-speed_is : (read : Result ℕ LineFault) (n : ℕ) →
+speed_is : (read : Result ℕ LineCause) (n : ℕ) →
     (read >>= λ m. cond (nat_le 1 m && nat_le m 1000) (Ok m) (Err Arguments)) ≡ Ok n → (1 ≤ n) × (n ≤ 1000)
 speed_is (Err fault) n is = cc is
 speed_is (Ok m) n is = tested (nat_le 1 m && nat_le m 1000) refl is
   where
     tested : (b : Bool) → (nat_le 1 m && nat_le m 1000) ≡ b →
-        cond {A = Result ℕ LineFault} b (Ok m) (Err Arguments) ≡ Ok n →
+        cond {A = Result ℕ LineCause} b (Ok m) (Err Arguments) ≡ Ok n →
         (1 ≤ n) × (n ≤ 1000)
     tested true within is = grind (arith, nat_tests, within, is)
     tested false within is = cc is
 
-quantum_is : (read : Result Micros LineFault) (q : Micros) →
+quantum_is : (read : Result Micros LineCause) (q : Micros) →
     (read >>= λ m. cond (nat_le 1 m.0 && nat_le m.0 (10 ^ 6)) (Ok m) (Err Time)) ≡ Ok q →
     (1 ≤ q.0) × (q.0 ≤ 1000000)
 quantum_is (Err fault) q is = cc is
 quantum_is (Ok m) q is = tested (nat_le 1 m.0 && nat_le m.0 (10 ^ 6)) refl is
   where
     tested : (b : Bool) → (nat_le 1 m.0 && nat_le m.0 (10 ^ 6)) ≡ b →
-        cond {A = Result Micros LineFault} b (Ok m) (Err Time) ≡ Ok q → (1 ≤ q.0) × (q.0 ≤ 1000000)
+        cond {A = Result Micros LineCause} b (Ok m) (Err Time) ≡ Ok q → (1 ≤ q.0) × (q.0 ≤ 1000000)
     tested true within is = grind (arith, nat_tests, within, is)
     tested false within is = cc is
 

@@ -1,5 +1,7 @@
 -- What a command does.
 use Rattle.std.specs.Prelude.{ℕ, nat_lt, if◌then◌else◌, List, [], ◌∷◌, length, Option, None, Some, Result, Ok, Err}
+use Rattle.std.specs.FinMap.{get}
+use Rattle.lab_io.specs.Held.{Held}
 use Rattle.resc_vars.specs.declared.cause.ScriptCause.{ScriptCause}
 use Rattle.resc_vars.specs.declared.cause.ScriptCause.TheVariants.{Size}
 use Rattle.monitor.specs.declared.fault.Cause.{Cause}
@@ -63,3 +65,8 @@ reads place name (Err cause) answer = record { names = []; answer = refused plac
 abbrev pub with_file : Place → Option (List ℕ) → (List ℕ → Answer) → Answer
 with_file place None answer = Misses
 with_file place (Some bytes) answer = if nat_lt 16777216 (length bytes) then refused place Size else answer bytes
+
+-- a command that goes on with the bytes of a file of this name, unless it is refused before
+abbrev pub loads :
+    {A : Type 0} → Held → Place → List ℕ → Result A ScriptCause → (A → List ℕ → Answer) → Did
+loads held place name before answer = reads place name before (λ x. with_file place (get held name) (answer x))

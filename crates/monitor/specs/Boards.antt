@@ -74,10 +74,14 @@ cause_of (file_cause.Platform cause) = Plat cause
 abbrev pub file_fault : FileFault → ScriptFault
 file_fault fault = record { file = fault.file; line = fault.line; cause = cause_of fault.cause }
 
+-- a board is made by its plan
+abbrev pub made : State → ℕ → BoardPlan → Done
+made s b plan = leaves (record s { lab = fitted s.lab b (new_board b plan) })
+
 -- a board is made by its plan, or refused in the file with the number that the fault names; a definition has no want of
 -- memory
 abbrev pub equip : State → ℕ → List (List ℕ) → Result BoardPlan PlatFault → Answer
-equip s b names (Ok plan) = Goes [] (record s { lab = fitted s.lab b (new_board b plan) })
+equip s b names (Ok plan) = Goes [] (made s b plan).state
 equip s b names (Err (plat_fault.At file line cause)) =
     Faults (record { file = slice_index_or names file []; line = line; cause = Plat cause })
 equip s b names (Err plat_fault.Memory) = Misses

@@ -1,19 +1,17 @@
 -- What the next command of a script does. The refusals of one command stand in its definition in their order.
-use Rattle.std.specs.Prelude.{ℕ, List, [], Option, None, Some, Result, Ok, Err}
+use Rattle.std.specs.Prelude.{ℕ, List, [], Result, Ok, Err}
 use Rattle.lab_io.specs.Held.{Held}
 use Rattle.lab_state.specs.Run.{Play}
 use Rattle.resc_read.specs.declared.command.Command.{Command}
 use Rattle.resc_read.specs.declared.command.Command.TheVariants as command
-use Rattle.resc_read.specs.declared.command.LineFault.{LineFault}
-use Rattle.resc_read.specs.declared.command.LineFault.TheVariants as line_fault
+use Rattle.resc_read.specs.declared.command.LineCause.{LineCause}
+use Rattle.resc_read.specs.declared.command.LineCause.TheVariants as line_cause
 use Rattle.resc_read.specs.Line.{line_of}
-use Rattle.resc_vars.specs.declared.answer.Next.{Next}
-use Rattle.resc_vars.specs.declared.answer.Next.TheVariants as next
 use Rattle.resc_vars.specs.declared.cause.ScriptCause.{ScriptCause}
 use Rattle.resc_vars.specs.declared.cause.ScriptCause.TheVariants.{Unknown, Arguments, Time}
+use Rattle.resc_vars.specs.Script.{Outcome, next_of}
 use Rattle.resc_vars.specs.Script as script
-use Rattle.resc_vars.specs.Script.{next_of}
-use Rattle.monitor.specs.Answer.{Answer, Ends, Faults, Misses, Did, Done, leaves, fault_at, unread}
+use Rattle.monitor.specs.Answer.{Answer, Ends, Did, Done, leaves, refused, unread}
 use Rattle.monitor.specs.Bodies.{include, run_macro}
 use Rattle.monitor.specs.Boards.{create, select, load_platform, reset_board}
 use Rattle.monitor.specs.Hubs.{uart_hub, can_hub, connect, show}
@@ -23,73 +21,68 @@ use Rattle.monitor.specs.Processor.{pc, halted, mips}
 use Rattle.monitor.specs.Runs.{quantum, run_for, start}
 use Rattle.monitor.specs.State.{State, Place}
 
+-- what a command is: one that reads files, one that changes the laboratory or the bodies alone, or one that ends
+pub data Work : Type 0 where
+  OnFiles : (Held → Place → Did) → Work
+  OnState : Result Done ScriptCause → Work
+  Quits : Work
+
+-- each command, and what it is
+abbrev pub work : Play → State → Command → Work
+work play s (command.LoadPlatform path) = OnFiles (λ held place. load_platform held s place path)
+work play s (command.LoadElf path) = OnFiles (λ held place. load_elf held s place path)
+work play s (command.LoadBinary path at) = OnFiles (λ held place. load_binary held s place path at)
+work play s (command.LoadHex path) = OnFiles (λ held place. load_hex held s place path)
+work play s (command.Include path) = OnFiles (λ held place. include held s place path)
+work play s (command.Create name) = OnState (create s name)
+work play s (command.Select name) = OnState (select s name)
+work play s command.Reset = OnState (reset_board s)
+work play s (command.ReadWord at) = OnState (read_word s at)
+work play s (command.WriteWord at value) = OnState (write_word s at value)
+work play s (command.Pc cpu value) = OnState (pc s cpu value)
+work play s (command.Halted cpu value) = OnState (halted s cpu value)
+work play s (command.Mips cpu value) = OnState (mips s cpu value)
+work play s (command.Quantum length) = OnState (Ok (quantum s length.0))
+work play s (command.RunFor length) = OnState (run_for play s length.0)
+work play s (command.UartHub name) = OnState (uart_hub s name)
+work play s (command.CanHub name) = OnState (can_hub s name)
+work play s (command.Connect dev hub) = OnState (connect s dev hub)
+work play s (command.Show dev) = OnState (show s dev)
+work play s (command.RunMacro name) = OnState (run_macro s name)
+work play s command.UsingSysbus = OnState (Ok (leaves s))
+work play s command.Pause = OnState (Ok (leaves s))
+work play s command.Start = OnState (start play s)
+work play s command.Quit = Quits
+
 -- no file is read
 abbrev pub without_files : Answer → Did
 without_files answer = record { names = []; answer = answer }
 
--- what a command comes to that reads no file and does not end the script; the others are unknown here, and stand below
-abbrev pub ruled : Play → State → Command → Result Done ScriptCause
-ruled play s (command.Create name) = create s name
-ruled play s (command.Select name) = select s name
-ruled play s command.Reset = reset_board s
-ruled play s (command.ReadWord at) = read_word s at
-ruled play s (command.WriteWord at value) = write_word s at value
-ruled play s (command.Pc cpu value) = pc s cpu value
-ruled play s (command.Halted cpu value) = halted s cpu value
-ruled play s (command.Mips cpu value) = mips s cpu value
-ruled play s (command.Quantum length) = Ok (quantum s length.0)
-ruled play s (command.RunFor length) = run_for play s length.0
-ruled play s (command.UartHub name) = uart_hub s name
-ruled play s (command.CanHub name) = can_hub s name
-ruled play s (command.Connect dev hub) = connect s dev hub
-ruled play s (command.Show dev) = show s dev
-ruled play s (command.RunMacro name) = run_macro s name
-ruled play s command.UsingSysbus = Ok (leaves s)
-ruled play s command.Pause = Ok (leaves s)
-ruled play s command.Start = start play s
-ruled play s (command.LoadPlatform path) = Err Unknown
-ruled play s (command.LoadElf path) = Err Unknown
-ruled play s (command.LoadBinary path at) = Err Unknown
-ruled play s (command.LoadHex path) = Err Unknown
-ruled play s (command.Include path) = Err Unknown
-ruled play s command.Quit = Err Unknown
+-- what a command does, at a line of this place
+abbrev pub does : Held → Place → Work → Did
+does held place (OnFiles by) = by held place
+does held place (OnState ruling) = unread place ruling
+does held place Quits = without_files Ends
 
--- what a command does
-abbrev pub carried : Play → Held → State → Place → Command → Did
-carried play held s place (command.LoadPlatform path) = load_platform held s place path
-carried play held s place (command.LoadElf path) = load_elf held s place path
-carried play held s place (command.LoadBinary path at) = load_binary held s place path at
-carried play held s place (command.LoadHex path) = load_hex held s place path
-carried play held s place (command.Include path) = include held s place path
-carried play held s place command.Quit = without_files Ends
-carried play held s place command = unread place (ruled play s command)
-
--- the cause of a line that is no command; want of memory is none of a definition
-abbrev pub line_cause : LineFault → ScriptCause
-line_cause line_fault.Unknown = Unknown
-line_cause line_fault.Arguments = Arguments
-line_cause line_fault.Time = Time
-line_cause line_fault.Memory = Unknown
+-- the cause of a line that is no command
+abbrev pub cause_of : LineCause → ScriptCause
+cause_of line_cause.Unknown = Unknown
+cause_of line_cause.Arguments = Arguments
+cause_of line_cause.Time = Time
 
 -- what a line does
-abbrev pub done_by : Play → Held → State → Place → Result Command LineFault → Did
-done_by play held s place (Ok command) = carried play held s place command
-done_by play held s place (Err fault) = unread place (Err (line_cause fault))
+abbrev pub done_by : Play → Held → State → Place → Result Command LineCause → Did
+done_by play held s place (Ok command) = does held place (work play s command)
+done_by play held s place (Err cause) = unread place (Err (cause_of cause))
 
--- what a line of a script does, where the flow is this after it
-abbrev pub after_line : Play → Held → State → Place → List ℕ → Option script.State → Did
-after_line play held s place text None = without_files Misses
-after_line play held s place text (Some flow) = done_by play held (record s { flow = flow }) place (line_of text)
-
--- what comes of the next line
-abbrev pub by_next : Play → Held → State → Option script.State → Next → Did
-by_next play held s after (next.Line file n text) =
-    after_line play held s (record { file = file; number = n }) text after
-by_next play held s after next.End = without_files Ends
-by_next play held s after (next.Fault file n cause) =
-    without_files (Faults (fault_at (record { file = file; number = n }) cause))
-by_next play held s after next.Memory = without_files Misses
+-- what comes of what is next in the script
+abbrev pub by_next : Play → Held → State → Outcome → Did
+by_next play held s (script.Gives file n text flow) =
+    done_by play held (record s { flow = flow }) (record { file = file; number = n }) (line_of text)
+by_next play held s (script.Ends kept) = without_files Ends
+by_next play held s (script.Refuses file n cause kept) =
+    without_files (refused (record { file = file; number = n }) cause)
 
 -- what the next command does, where files hold this and a laboratory plays a run so
 unfoldable pub did : Play → Held → State → Did
-did play held s = by_next play held s (next_of s.flow).1 (next_of s.flow).0
+did play held s = by_next play held s (next_of s.flow)

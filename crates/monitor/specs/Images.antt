@@ -1,7 +1,6 @@
 -- Commands that load images.
 use Rattle.std.specs.Prelude.{ℕ, ◌+◌, ◌%◌, ◌^◌, ◌==◌, ◌&&◌, nat_le, nat_lt, Bool, true, List, length}
 use Rattle.std.specs.Prelude.{Option, None, Some, Result, Ok, Err}
-use Rattle.std.specs.FinMap.{get}
 use Rattle.std.specs.List.{fold, list_all, slice_get}
 use Rattle.std.specs.Result.{result_map_both}
 use Rattle.elf_load.specs.declared.image.Image.{Image}
@@ -19,7 +18,7 @@ use Rattle.resc_vars.specs.declared.cause.ScriptCause.{ScriptCause}
 use Rattle.resc_vars.specs.declared.cause.ScriptCause.TheVariants.{Address}
 use Rattle.monitor.specs.declared.fault.Cause.{Cause}
 use Rattle.monitor.specs.declared.fault.Cause.TheVariants.{Elf, Hex}
-use Rattle.monitor.specs.Answer.{Answer, Faults, Did, Done, leaves, told_at, answer_at, reads, with_file}
+use Rattle.monitor.specs.Answer.{Answer, Faults, Did, Done, leaves, told_at, answer_at, loads}
 use Rattle.monitor.specs.Refusal.{◌>>=◌, require}
 use Rattle.monitor.specs.Selected.{Equipped, equipped, with_board}
 use Rattle.monitor.specs.State.{State, Place}
@@ -70,18 +69,15 @@ abbrev pub load_read : State → Place → Equipped → Result Image Cause → A
 load_read s place on (Ok image) = answer_at place (load_image s on image)
 load_read s place on (Err cause) = Faults (told_at place cause)
 
-abbrev pub load_file : (List ℕ → Result Image Cause) → Held → State → Place → List ℕ → Did
-load_file image_of held s place path =
-    reads place path (equipped s) (λ on.
-    with_file place (get held path) (λ bytes. load_read s place on (image_of bytes)))
-
 -- sysbus LoadELF @path
 abbrev pub load_elf : Held → State → Place → List ℕ → Did
-load_elf held s place path = load_file elf_image held s place path
+load_elf held s place path =
+    loads held place path (equipped s) (λ on bytes. load_read s place on (elf_image bytes))
 
 -- sysbus LoadHEX @path: such an image has no entry, and the address of the next instruction stays
 abbrev pub load_hex : Held → State → Place → List ℕ → Did
-load_hex held s place path = load_file hex_image held s place path
+load_hex held s place path =
+    loads held place path (equipped s) (λ on bytes. load_read s place on (hex_image bytes))
 
 -- the byte of memory at an address, if a memory has it
 abbrev pub byte_of : Space → Target → Option ℕ

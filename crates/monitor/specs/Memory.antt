@@ -1,6 +1,5 @@
 -- Commands that read and write the memories of the selected board.
 use Rattle.std.specs.Prelude.{ℕ, ◌%◌, ◌==◌, ◌&&◌, Bool, List, ◌++◌, length, codes, Result, Ok}
-use Rattle.std.specs.FinMap.{get}
 use Rattle.std.specs.Option.{ok_or}
 use Rattle.lab_io.specs.Held.{Held}
 use Rattle.log_text.specs.Number.{word}
@@ -9,7 +8,7 @@ use Rattle.board.specs.Changes.{holds_each, with_bytes, word_held}
 use Rattle.board.specs.View.{View}
 use Rattle.resc_vars.specs.declared.cause.ScriptCause.{ScriptCause}
 use Rattle.resc_vars.specs.declared.cause.ScriptCause.TheVariants.{Address}
-use Rattle.monitor.specs.Answer.{Did, Done, says, leaves, answer_at, reads, with_file}
+use Rattle.monitor.specs.Answer.{Did, Done, says, leaves, answer_at, loads}
 use Rattle.monitor.specs.Refusal.{◌>>=◌, require}
 use Rattle.monitor.specs.Selected.{Equipped, equipped, with_board}
 use Rattle.monitor.specs.State.{State, Place}
@@ -45,5 +44,4 @@ write_bytes s on at bytes = do
 -- sysbus LoadBinary @path at
 abbrev pub load_binary : Held → State → Place → List ℕ → ℕ → Did
 load_binary held s place path at =
-    reads place path (equipped s) (λ on.
-    with_file place (get held path) (λ bytes. answer_at place (write_bytes s on at bytes)))
+    loads held place path (equipped s) (λ on bytes. answer_at place (write_bytes s on at bytes))

@@ -1,8 +1,9 @@
 -- What one step of a monitor has done.
-use Rattle.std.specs.Prelude.{◌≡◌, ℕ, ◌<◌, ◌≤◌, Bool, true, false, List, Option, IfSome}
+use Rattle.std.specs.Prelude.{◌≡◌, ℕ, ◌<◌, ◌≤◌, Bool, true, false}
+use Rattle.lab_io.specs.Asked.{Log, AsksSome, AsksUpTo}
 use Rattle.lab_io.specs.Known.{grown}
-use Rattle.repl_files.specs.Asked.{AsksSome, AsksUpTo}
-use Rattle.resc_vars.specs.Script.{next_of}
+use Rattle.resc_vars.specs.Script.{Outcome, next_of}
+use Rattle.resc_vars.specs.Script as script
 use Rattle.monitor.specs.declared.step.Step.{Step}
 use Rattle.monitor.specs.declared.step.Step.TheVariants.{Text, End, Fault, Unread, Memory}
 use Rattle.monitor.specs.Answer.{Goes, Ends, Faults, Did}
@@ -19,8 +20,8 @@ abbrev pub going : State → Running
 going s = record { state = s; spent = false; ended = false }
 
 -- a step has done what a command does and has asked for the names that it reads, or was cut short
-abbrev pub IsStep : Did → Step → State → Option (List (List ℕ)) → Option (List (List ℕ)) → Type 0
-IsStep did (Text text) after log log' = (did.answer ≡ Goes text.items after) × (log' ≡ grown log did.names)
+abbrev pub IsStep : Did → Step → State → Log → Log → Type 0
+IsStep did (Text text) after log log' = (did.answer ≡ Goes text after) × (log' ≡ grown log did.names)
 IsStep did End after log log' = (did.answer ≡ Ends) × (log' ≡ grown log did.names)
 IsStep did (Fault fault) after log log' = (did.answer ≡ Faults fault) × (log' ≡ grown log did.names)
 IsStep did Unread after log log' = AsksUpTo did.names log log'
@@ -34,13 +35,20 @@ IsCut (Fault fault) = ⊥
 IsCut Unread = Unit {0}
 IsCut Memory = Unit {0}
 
--- The laboratory, the selected board and the open lines of the log are as they were. Bodies, variables and macros are
--- as the line found them that was taken, if one was. The script has ended.
+-- A flow is as what is next in the script leaves it: a line that is given leaves all of it, an end and a refused line
+-- the variables and the macros.
+abbrev pub IsLeft : Outcome → script.State → Type 0
+IsLeft (script.Gives file n text flow) now = now ≡ flow
+IsLeft (script.Ends kept) now = now.kept ≡ kept
+IsLeft (script.Refuses file n cause kept) now = now.kept ≡ kept
+
+-- The laboratory, the selected board and the open lines of the log are as they were. Variables and macros, and of a
+-- line that was taken the bodies too, are as it found them. The script has ended.
 pub record IsOver (old new : Running) : Type 0 where
   pub lab : new.state.lab ≡ old.state.lab
   pub selected : new.state.selected ≡ old.state.selected
   pub lines : new.state.lines ≡ old.state.lines
-  pub flow : IfSome (next_of old.state.flow).1 (λ flow. new.state.flow ≡ flow)
+  pub flow : IsLeft (next_of old.state.flow) new.state.flow
   pub spent : new.spent ≡ false
   pub ended : new.ended ≡ true
 

@@ -1,23 +1,22 @@
 //! Commands that make, select, equip and reset boards.
-ghost use Rattle.std.specs.Prelude.{◌≡◌, ◌≤◌, ◌<◌, [], length, slice_index_or, false, Err, None, IfOk, IfSome, IsTrue};
-ghost use Rattle.std.specs.Option.{option_map};
+ghost use Rattle.std.specs.Prelude.{◌≡◌, ◌≤◌, ◌<◌, [], length, slice_index_or, false, Ok, Err, None, IfOk, IfSome};
+ghost use Rattle.std.specs.Prelude.{IsTrue};
+ghost use Rattle.std.specs.Option.{ForSome, option_map};
 ghost use Rattle.std.specs.List.{list_all};
-ghost use Rattle.lab_io.specs.Known.{Rose};
+ghost use Rattle.lab_io.specs.Frame.{OnlyReads};
 ghost use Rattle.lab_num.specs.Name.{is_name};
 ghost use Rattle.lab_state.specs.One.{view_of};
 ghost use Rattle.repl_files.specs.Loading.{load};
 ghost use Rattle.repl_read.specs.Entries.{is_entry};
 ghost use Rattle.sys_bus.specs.Plan.{IsValid};
 ghost use Rattle.monitor.specs.Boards as boards;
-ghost use Rattle.monitor.specs.State.{Place};
 ghost use Rattle.monitor.specs.Inner.Reading.{IsPlanRead};
 ghost use Rattle.monitor.specs.Inner.Ruling as ruling;
-ghost use Rattle.monitor.specs.Inner.Ruling.{IsCarried, IsFileStop, IsFitted, IsPlan, IsRuled};
-ghost use Rattle.monitor.specs.Inner.Ruling.{Leaves, Told};
+ghost use Rattle.monitor.specs.Inner.Ruling.{IsDone, IsFileStop, IsPlan, IsRuled};
 
 use crate::fault::{Cause, ScriptFault};
 use crate::monitor::Monitor;
-use crate::stop::Stop;
+use crate::stop::{Stop, file_stop};
 use dev_core::Device;
 use lab_io::Files;
 use lab_num::{BoardNo, Text, number_of};
@@ -117,13 +116,9 @@ impl<D: Device> Monitor<D> {
         path: &str,
     ) -> Result<Vec<u8>, Stop>
         requires unspent { self.old.spent ≡ false }
-        ensures carried { (place : Place) → Told (F.held files.old) (λ held.
-            IsCarried (boards.load_platform held self.old.state place path.now) place
-            result self.new.state (F.asked files.old) (F.asked files.new)) }
-        ensures leaves { Leaves result self.old self.new }
-        ensures unread { result ≡ Err Stop.Unread → Rose (F.faults files.old) (F.faults files.new) }
-        ensures held { F.held files.new ≡ F.held files.old }
-        ensures faults { F.faults files.old ≤ F.faults files.new }
+        ensures { IsDone F.Files
+            (λ held place. boards.load_platform held self.old.state place path.now)
+            result self.old self.new files.old files.new }
     {
         let b = self.bare()?;
         let plan = read_plan(self.alloc, files, self.flow.depth(), path)?;
@@ -136,7 +131,7 @@ impl<D: Device> Monitor<D> {
         requires exists { b.0 < length self.old.state.lab.boards }
         requires bare { view_of self.old.state.lab b.0 ≡ None }
         requires plan { IsValid plan }
-        ensures { IsFitted b.0 plan result self.old self.new }
+        ensures { IsRuled (Ok (boards.made self.old.state b.0 plan)) result self.old self.new }
     {
         match self.lab.fit(b, plan) {
             Ok(()) => Ok(Vec::new(self.alloc)),
@@ -182,12 +177,10 @@ fn read_plan<F: Files>(
     path: &str,
 ) -> Result<BoardPlan, Stop>
     requires { bodies ≤ 8 }
-    ensures read { Told (F.held files.old) (λ held.
+    ensures read { ForSome (F.held files.old) (λ held.
         IsPlanRead (load held bodies path.now) result (F.asked files.old) (F.asked files.new)) }
     ensures valid { IfOk result IsValid }
-    ensures unread { result ≡ Err Stop.Unread → Rose (F.faults files.old) (F.faults files.new) }
-    ensures held { F.held files.new ≡ F.held files.old }
-    ensures faults { F.faults files.old ≤ F.faults files.new }
+    ensures files { OnlyReads F.Files (result ≡ Err Stop.Unread) files.old files.new }
 {
     match load_platform(alloc, files, bodies, path) {
         Ok(loaded) => plan_of(alloc, loaded),
@@ -221,12 +214,5 @@ fn plat_stop(alloc: Global, names: &[Text], file: u32, line: u32, cause: PlatCau
         Some(name) => name.as_str(),
         None => "",
     };
-    match Text::of(alloc, name) {
-        Ok(file) => Stop::File(ScriptFault {
-            file,
-            line,
-            cause: Cause::Plat(cause),
-        }),
-        Err(_) => Stop::Memory,
-    }
+    file_stop(alloc, name, line, Cause::Plat(cause))
 }

@@ -1,21 +1,34 @@
 //! Commands that enter a body.
-ghost use Rattle.std.specs.Prelude.{◌≡◌, ◌≤◌, length, false, Err};
+ghost use Rattle.std.specs.Prelude.{◌≡◌, ◌≤◌, length, false};
 ghost use Rattle.std.specs.String.{string_bytes};
-ghost use Rattle.lab_io.specs.Known.{Rose};
 ghost use Rattle.resc_vars.specs.Bodies.{enter, source_of};
 ghost use Rattle.monitor.specs.Bodies as bodies;
-ghost use Rattle.monitor.specs.State.{Place};
-ghost use Rattle.monitor.specs.Inner.Ruling.{IsCarried, IsRuled, Leaves, Told};
+ghost use Rattle.monitor.specs.Inner.Ruling.{IsDone, IsRuled, IsTextStop};
 
+use crate::fault::Cause;
 use crate::monitor::Monitor;
-use crate::read::read_text;
-use crate::stop::Stop;
+use crate::stop::{Stop, file_stop};
 use dev_core::Device;
-use lab_io::Files;
+use lab_io::{Files, TextFault, read_text};
 use resc_vars::ScriptCause;
+use std::alloc::Global;
 
 /// How many bodies may be open beside the script.
 const DEPTH: u8 = 8;
+
+/// Why a script stops where the text of a file of this name is not read.
+fn text_stop(alloc: Global, name: &str, fault: TextFault) -> Stop
+    ensures { IsTextStop name.now fault result }
+{
+    match fault {
+        TextFault::Unread => Stop::Unread,
+        TextFault::TooLarge => Stop::Line(ScriptCause::Size),
+        TextFault::NotText { line } => {
+            file_stop(alloc, name, line, Cause::Script(ScriptCause::Utf8))
+        }
+        TextFault::Memory => Stop::Memory,
+    }
+}
 
 impl<D: Device> Monitor<D> {
     /// Enters the body of a macro.
@@ -32,19 +45,17 @@ impl<D: Device> Monitor<D> {
     pub(crate) fn include<F: Files>(&mut self, files: &mut F, path: &str) -> Result<Vec<u8>, Stop>
         requires unspent { self.old.spent ≡ false }
         requires goes_on { self.old.state.flow.ended ≡ false }
-        ensures carried { (place : Place) → Told (F.held files.old) (λ held.
-            IsCarried (bodies.include held self.old.state place path.now) place
-            result self.new.state (F.asked files.old) (F.asked files.new)) }
-        ensures leaves { Leaves result self.old self.new }
-        ensures unread { result ≡ Err Stop.Unread → Rose (F.faults files.old) (F.faults files.new) }
-        ensures held { F.held files.new ≡ F.held files.old }
-        ensures faults { F.faults files.old ≤ F.faults files.new }
+        ensures { IsDone F.Files
+            (λ held place. bodies.include held self.old.state place path.now)
+            result self.old self.new files.old files.new }
     {
         if self.flow.depth() >= DEPTH {
             return Err(Stop::Line(ScriptCause::Depth));
         }
-        let text = read_text(self.alloc, files, path)?;
-        self.enter(path, text)
+        match read_text(self.alloc, files, path) {
+            Ok(text) => self.enter(path, text),
+            Err(fault) => Err(text_stop(self.alloc, path, fault)),
+        }
     }
 
     /// Enters the text of a file.

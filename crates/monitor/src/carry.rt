@@ -1,12 +1,11 @@
 //! Each command is carried out.
-ghost use Rattle.std.specs.Prelude.{◌≡◌, ◌≤◌, false, Err};
-ghost use Rattle.lab_io.specs.Known.{Rose};
+ghost use Rattle.std.specs.Prelude.{◌≡◌, false};
 ghost use Rattle.lab_state.specs.Run.{run};
-ghost use Rattle.monitor.specs.Command.{carried, ruled};
-ghost use Rattle.monitor.specs.State.{Place};
-ghost use Rattle.monitor.specs.Inner.Ruling.{IsCarried, IsRuled, IsWithin, Leaves, Told};
+ghost use Rattle.monitor.specs.Command.{work};
+ghost use Rattle.monitor.specs.Inner.Ruling.{IsWithin, IsWorked};
 
 use crate::images::Format;
+use crate::load::Load;
 use crate::monitor::Monitor;
 use crate::stop::Stop;
 use dev_core::Device;
@@ -40,33 +39,18 @@ impl<D: Device> Monitor<D> {
         requires unspent { self.old.spent ≡ false }
         requires goes_on { self.old.state.flow.ended ≡ false }
         requires within { IsWithin command }
-        ensures carried { (place : Place) → Told (F.held files.old) (λ held.
-            IsCarried (carried run held self.old.state place command) place
-            result self.new.state (F.asked files.old) (F.asked files.new)) }
-        ensures leaves { Leaves result self.old self.new }
-        ensures unread { result ≡ Err Stop.Unread → Rose (F.faults files.old) (F.faults files.new) }
-        ensures held { F.held files.new ≡ F.held files.old }
-        ensures faults { F.faults files.old ≤ F.faults files.new }
+        ensures { IsWorked F.Files (work run self.old.state command)
+            result self.old self.new files.old files.new }
     {
         match command {
+            // Those that read files.
             Command::LoadPlatform { path } => self.load_platform(files, path.as_str()),
-            Command::LoadElf { path } => self.load_file(files, Format::Elf, path.as_str()),
-            Command::LoadBinary { path, at } => self.load_binary(files, path.as_str(), at),
-            Command::LoadHex { path } => self.load_file(files, Format::Hex, path.as_str()),
+            Command::LoadElf { path } => self.load(files, Load::Image(Format::Elf), path.as_str()),
+            Command::LoadBinary { path, at } => self.load(files, Load::Bytes(at), path.as_str()),
+            Command::LoadHex { path } => self.load(files, Load::Image(Format::Hex), path.as_str()),
             Command::Include { path } => self.include(files, path.as_str()),
-            Command::Quit => Err(Stop::Quit),
-            other => self.carry_out_alone(other),
-        }
-    }
 
-    /// Carries out a command that reads no file and does not end the script.
-    fn carry_out_alone(&mut self, command: Command) -> Result<Vec<u8>, Stop>
-        requires unspent { self.old.spent ≡ false }
-        requires goes_on { self.old.state.flow.ended ≡ false }
-        requires within { IsWithin command }
-        ensures { IsRuled (ruled run self.old.state command) result self.old self.new }
-    {
-        match command {
+            // Those that change the laboratory or the bodies alone.
             Command::Create { name } => self.create(name),
             Command::Select { name } => self.select(name.as_str()),
             Command::Reset => self.reset_board(),
@@ -82,14 +66,11 @@ impl<D: Device> Monitor<D> {
             Command::Connect { dev, hub } => self.connect(dev.as_str(), hub.as_str()),
             Command::Show { dev } => self.show(dev.as_str()),
             Command::RunMacro { name } => self.run_macro(name.as_str()),
-            Command::Start => self.start(),
             Command::UsingSysbus | Command::Pause => Ok(Vec::new(self.alloc)),
-            Command::LoadPlatform { .. }
-            | Command::LoadElf { .. }
-            | Command::LoadBinary { .. }
-            | Command::LoadHex { .. }
-            | Command::Include { .. }
-            | Command::Quit => Err(Stop::Line(ScriptCause::Unknown)),
+            Command::Start => self.start(),
+
+            // The one that ends the script.
+            Command::Quit => Err(Stop::Quit),
         }
     }
 }

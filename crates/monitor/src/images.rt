@@ -1,21 +1,17 @@
 //! Commands that load images.
-ghost use Rattle.std.specs.Prelude.{◌≡◌, ◌≤◌, false, Err, IfErr, IsSome, IsTrue, OnOk};
+ghost use Rattle.std.specs.Prelude.{◌≡◌, false, IfErr, IsSome, IsTrue, OnOk};
 ghost use Rattle.std.specs.List.{list_all};
 ghost use Rattle.std.specs.Option.{ForSome};
-ghost use Rattle.lab_io.specs.Known.{Rose};
 ghost use Rattle.lab_state.specs.One.{view_of};
 ghost use Rattle.monitor.specs.Images as images;
-ghost use Rattle.monitor.specs.State.{Place};
-ghost use Rattle.monitor.specs.Inner.Ruling.{IsCarried, IsChanged, IsImage, IsRuled, Leaves, Told, image_by};
+ghost use Rattle.monitor.specs.Inner.Ruling.{IsChanged, IsImage, IsRuled, image_by};
 
 use crate::fault::Cause;
 use crate::monitor::Monitor;
-use crate::read::read_file;
 use crate::stop::Stop;
 use dev_core::Device;
 use elf_load::{ElfFault, Image, Part, read_elf};
 use ihex_load::{HexFault, read_hex};
-use lab_io::Files;
 use lab_num::BoardNo;
 use resc_vars::ScriptCause;
 use std::alloc::Global;
@@ -50,7 +46,7 @@ fn hex_image(alloc: Global, file: &[u8]) -> Result<Image, Stop>
 }
 
 /// The image of a file of a format.
-fn read_image(alloc: Global, format: Format, file: &[u8]) -> Result<Image, Stop>
+pub(crate) fn read_image(alloc: Global, format: Format, file: &[u8]) -> Result<Image, Stop>
     ensures { IsImage (image_by format file.now) result }
 {
     match format {
@@ -148,7 +144,11 @@ impl<D: Device> Monitor<D> {
     }
 
     /// Loads an image, and goes on at its entry if it has one.
-    fn load_image(&mut self, b: BoardNo, image: &Image) -> Result<Vec<u8>, Stop>
+    pub(crate) fn load_image(
+        &mut self,
+        b: BoardNo,
+        image: &Image,
+    ) -> Result<Vec<u8>, Stop>
         requires unspent { self.old.spent ≡ false }
         requires has_plan { IsSome (view_of self.old.state.lab b.0) }
         ensures { ForSome (view_of self.old.state.lab b.0) (λ v. IsRuled
@@ -162,27 +162,5 @@ impl<D: Device> Monitor<D> {
         self.load_parts(b, parts)?;
         self.set_entry(b, image.entry);
         Ok(Vec::new(self.alloc))
-    }
-
-    /// Loads the image of a file.
-    pub(crate) fn load_file<F: Files>(
-        &mut self,
-        files: &mut F,
-        format: Format,
-        path: &str,
-    ) -> Result<Vec<u8>, Stop>
-        requires unspent { self.old.spent ≡ false }
-        ensures carried { (place : Place) → Told (F.held files.old) (λ held.
-            IsCarried (images.load_file (image_by format) held self.old.state place path.now) place
-            result self.new.state (F.asked files.old) (F.asked files.new)) }
-        ensures leaves { Leaves result self.old self.new }
-        ensures unread { result ≡ Err Stop.Unread → Rose (F.faults files.old) (F.faults files.new) }
-        ensures held { F.held files.new ≡ F.held files.old }
-        ensures faults { F.faults files.old ≤ F.faults files.new }
-    {
-        let b = self.equipped()?;
-        let bytes = read_file(self.alloc, files, path)?;
-        let image = read_image(self.alloc, format, &bytes)?;
-        self.load_image(b, &image)
     }
 }

@@ -1,17 +1,13 @@
 //! Commands that read and write the memories of the selected board.
-ghost use Rattle.std.specs.Prelude.{◌≡◌, ◌≤◌, length, false, IsSome, IfOk, IfErr, Err};
+ghost use Rattle.std.specs.Prelude.{◌≡◌, ◌≤◌, length, false, IsSome, IfOk, IfErr};
 ghost use Rattle.std.specs.Option.{ForSome};
-ghost use Rattle.lab_io.specs.Known.{Rose};
 ghost use Rattle.lab_state.specs.One.{view_of};
 ghost use Rattle.monitor.specs.Memory as memory;
-ghost use Rattle.monitor.specs.State.{Place};
-ghost use Rattle.monitor.specs.Inner.Ruling.{IsCarried, IsRuled, Leaves, Told};
+ghost use Rattle.monitor.specs.Inner.Ruling.{IsRuled};
 
 use crate::monitor::Monitor;
-use crate::read::read_file;
 use crate::stop::Stop;
 use dev_core::Device;
-use lab_io::Files;
 use lab_num::BoardNo;
 use log_text::Word;
 use resc_vars::ScriptCause;
@@ -63,7 +59,12 @@ impl<D: Device> Monitor<D> {
     }
 
     /// Writes bytes from an address on.
-    fn write_bytes(&mut self, b: BoardNo, at: u32, bytes: &[u8]) -> Result<Vec<u8>, Stop>
+    pub(crate) fn write_bytes(
+        &mut self,
+        b: BoardNo,
+        at: u32,
+        bytes: &[u8],
+    ) -> Result<Vec<u8>, Stop>
         requires unspent { self.old.spent ≡ false }
         requires has_plan { IsSome (view_of self.old.state.lab b.0) }
         requires few { length bytes.now ≤ 16777216 }
@@ -76,26 +77,5 @@ impl<D: Device> Monitor<D> {
         }
         self.lab.copy_in(b, at, bytes)?;
         Ok(Vec::new(self.alloc))
-    }
-
-    /// Loads the bytes of a file.
-    pub(crate) fn load_binary<F: Files>(
-        &mut self,
-        files: &mut F,
-        path: &str,
-        at: u32,
-    ) -> Result<Vec<u8>, Stop>
-        requires unspent { self.old.spent ≡ false }
-        ensures carried { (place : Place) → Told (F.held files.old) (λ held.
-            IsCarried (memory.load_binary held self.old.state place path.now at) place
-            result self.new.state (F.asked files.old) (F.asked files.new)) }
-        ensures leaves { Leaves result self.old self.new }
-        ensures unread { result ≡ Err Stop.Unread → Rose (F.faults files.old) (F.faults files.new) }
-        ensures held { F.held files.new ≡ F.held files.old }
-        ensures faults { F.faults files.old ≤ F.faults files.new }
-    {
-        let b = self.equipped()?;
-        let bytes = read_file(self.alloc, files, path)?;
-        self.write_bytes(b, at, &bytes)
     }
 }

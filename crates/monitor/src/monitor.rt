@@ -1,18 +1,19 @@
 //! A script and the laboratory that its commands work on.
-ghost use Rattle.std.specs.Prelude.{◌≡◌, ◌≤◌, ◌^◌, [], length, map, true, false, Err, IfOk, IfSome};
+ghost use Rattle.std.specs.Prelude.{◌≡◌, ◌≤◌, ◌^◌, [], length, map, true, false, IfOk, IfSome};
 ghost use Rattle.std.specs.Prelude.{OnOk, OnErr};
+ghost use Rattle.std.specs.Option.{ForSome};
 ghost use Rattle.std.specs.String.{string_bytes};
 ghost use Rattle.dev_core.specs.Stock.{IsFull};
-ghost use Rattle.lab_io.specs.Known.{Rose};
+ghost use Rattle.lab_io.specs.Frame.{OnlyReads};
 ghost use Rattle.lab_state.specs.Names.{names};
 ghost use Rattle.lab_state.specs.Run.{run};
 ghost use Rattle.log_text.specs.Log.{rest};
 ghost use Rattle.resc_read.specs.Line.{line_of};
-ghost use Rattle.monitor.specs.Command.{did, done_by};
-ghost use Rattle.monitor.specs.State.{Place, started};
-ghost use Rattle.monitor.specs.Step.{going, IsStep, IsNext, IsCut, IsCounted};
 ghost use Rattle.monitor.specs.Answer.{Misses};
-ghost use Rattle.monitor.specs.Inner.Ruling.{IsAfterLine, IsCarried, Leaves, Told, step_of};
+ghost use Rattle.monitor.specs.Command.{did, done_by};
+ghost use Rattle.monitor.specs.State.{started};
+ghost use Rattle.monitor.specs.Step.{going, IsStep, IsNext, IsCut, IsCounted};
+ghost use Rattle.monitor.specs.Inner.Ruling.{IsAfterLine, IsDone, step_of};
 
 use crate::fault::{Cause, ScriptFault};
 use crate::setting::Setting;
@@ -20,7 +21,7 @@ use crate::step::Step;
 use crate::stop::Stop;
 use dev_core::{Device, Stock};
 use lab_io::Files;
-use lab_num::{BoardNo, Micros, NoMemory, Text};
+use lab_num::{BoardNo, Micros, NoMemory, Rows, Text};
 use lab_state::Lab;
 use log_text::Lines;
 use resc_read::read_line;
@@ -119,10 +120,8 @@ impl<D: Device> Monitor<D> {
         // A step that says something takes a command or more, of 100,000.
         ensures counted { IsCounted result self.old.state self.new.state }
 
-        // Only a fault that was counted makes it unread.
-        ensures unread { result ≡ Step.Unread → Rose (F.faults files.old) (F.faults files.new) }
-        ensures held { F.held files.new ≡ F.held files.old }
-        ensures faults { F.faults files.old ≤ F.faults files.new }
+        // Of files it only reads, and only a fault that was counted makes it unread.
+        ensures files { OnlyReads F.Files (result ≡ Step.Unread) files.old files.new }
     {
         self.ended = true;
         match self.flow.next() {
@@ -138,18 +137,16 @@ impl<D: Device> Monitor<D> {
         requires goes_on { self.old.state.flow.ended ≡ false }
         requires unspent { self.old.spent ≡ false }
         requires waits { self.old.ended ≡ true }
-        ensures step { Told (F.held files.old) (λ held. IsStep
+        ensures step { ForSome (F.held files.old) (λ held. IsStep
             (done_by run held self.old.state (record { file = file; number = line }) (line_of text.now))
             result self.new.state (F.asked files.old) (F.asked files.new)) }
         ensures next { IsAfterLine result self.old self.new }
-        ensures unread { result ≡ Step.Unread → Rose (F.faults files.old) (F.faults files.new) }
-        ensures held { F.held files.new ≡ F.held files.old }
-        ensures faults { F.faults files.old ≤ F.faults files.new }
+        ensures files { OnlyReads F.Files (result ≡ Step.Unread) files.old files.new }
     {
         match self.carry_out_line(files, text) {
             Ok(text) => {
                 self.ended = false;
-                Step::Text(text)
+                Step::Text(Rows::of(text))
             }
             Err(stop) => stopped(file, line, stop),
         }
@@ -159,13 +156,9 @@ impl<D: Device> Monitor<D> {
     fn carry_out_line<F: Files>(&mut self, files: &mut F, text: &str) -> Result<Vec<u8>, Stop>
         requires goes_on { self.old.state.flow.ended ≡ false }
         requires unspent { self.old.spent ≡ false }
-        ensures carried { (place : Place) → Told (F.held files.old) (λ held. IsCarried
-            (done_by run held self.old.state place (line_of text.now)) place
-            result self.new.state (F.asked files.old) (F.asked files.new)) }
-        ensures leaves { Leaves result self.old self.new }
-        ensures unread { result ≡ Err Stop.Unread → Rose (F.faults files.old) (F.faults files.new) }
-        ensures held { F.held files.new ≡ F.held files.old }
-        ensures faults { F.faults files.old ≤ F.faults files.new }
+        ensures { IsDone F.Files
+            (λ held place. done_by run held self.old.state place (line_of text.now))
+            result self.old self.new files.old files.new }
     {
         let command = read_line(self.alloc, text)?;
         self.carry_out(files, command)

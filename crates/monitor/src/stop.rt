@@ -1,10 +1,12 @@
 //! Why a script does not go on after a command.
 ghost use Rattle.std.specs.Prelude.{◌≡◌};
+ghost use Rattle.monitor.specs.Inner.Ruling.{IsFileStop};
 
 use crate::fault::{Cause, ScriptFault};
-use lab_num::NoMemory;
+use lab_io::ReadFault;
+use lab_num::{NoMemory, Text};
 use resc_vars::{FlowFault, ScriptCause};
-use std::alloc::{AllocError, AllocFailed};
+use std::alloc::{AllocError, AllocFailed, Global};
 
 /// Why a script does not go on after a command.
 #[derive(Drop, Debug)]
@@ -79,5 +81,30 @@ impl From<FlowFault> for Stop {
             FlowFault::Variable => Stop::Line(ScriptCause::Variable),
             FlowFault::Memory => Stop::Memory,
         }
+    }
+}
+
+impl From<ReadFault> for Stop {
+    ghost use Rattle.std.specs.Prelude.{◌≡◌};
+    ghost use Rattle.monitor.specs.Inner.Ruling.{read_stop};
+
+    ghost from_gives = { λ fault stop. stop ≡ read_stop fault };
+
+    fn from(fault: ReadFault) -> Stop {
+        match fault {
+            ReadFault::Unread => Stop::Unread,
+            ReadFault::TooLarge => Stop::Line(ScriptCause::Size),
+            ReadFault::Memory => Stop::Memory,
+        }
+    }
+}
+
+/// A line is refused for what stands in a line of a file of this name.
+pub(crate) fn file_stop(alloc: Global, name: &str, line: u32, cause: Cause) -> Stop
+    ensures { IsFileStop (record { file = name.now; line = line; cause = cause }) result }
+{
+    match Text::of(alloc, name) {
+        Ok(file) => Stop::File(ScriptFault { file, line, cause }),
+        Err(_) => Stop::Memory,
     }
 }

@@ -8,83 +8,83 @@ use Rattle.lab_num.specs.declared.time.TimeFault.{TimeFault}
 use Rattle.lab_num.specs.Numeral.{number_of}
 use Rattle.lab_num.specs.Time.{time_of}
 use Rattle.resc_read.specs.declared.command.Command.{Command}
-use Rattle.resc_read.specs.declared.command.LineFault.{LineFault}
-use Rattle.resc_read.specs.declared.command.LineFault.TheVariants.{Arguments, Time}
+use Rattle.resc_read.specs.declared.command.LineCause.{LineCause}
+use Rattle.resc_read.specs.declared.command.LineCause.TheVariants.{Arguments, Time}
 use Rattle.resc_read.specs.Sorts.{text_of, path_of, name_of, truth_of}
 use Rattle.resc_read.specs.Variable.{variable_of}
 
 -- a step of a `do` block: the first fault is the fault of all
 infixl 10 ◌>>=◌
-abbrev pub ◌>>=◌ : {A B : Type 0} → Result A LineFault → (A → Result B LineFault) → Result B LineFault
+abbrev pub ◌>>=◌ : {A B : Type 0} → Result A LineCause → (A → Result B LineCause) → Result B LineCause
 (Ok x) >>= f = f x
 (Err fault) >>= f = Err fault
 
 -- the value in a result
-abbrev pub map_ok : {A B : Type 0} → (A → B) → Result A LineFault → Result B LineFault
+abbrev pub map_ok : {A B : Type 0} → (A → B) → Result A LineCause → Result B LineCause
 map_ok f (Ok x) = Ok (f x)
 map_ok f (Err fault) = Err fault
 
 -- a board or a hub
-abbrev pub name : List ℕ → Result (List ℕ) LineFault
+abbrev pub name : List ℕ → Result (List ℕ) LineCause
 name word = ok_or (name_of word) Arguments
 
 -- a device or a processor, whatever its name
-abbrev pub entry : List ℕ → Result (List ℕ) LineFault
+abbrev pub entry : List ℕ → Result (List ℕ) LineCause
 entry word = ok_or (text_of word) Arguments
 
 -- a file
-abbrev pub path : List ℕ → Result (List ℕ) LineFault
+abbrev pub path : List ℕ → Result (List ℕ) LineCause
 path word = ok_or (path_of word) Arguments
 
 -- a macro, as `$name`
-abbrev pub variable : List ℕ → Result (List ℕ) LineFault
+abbrev pub variable : List ℕ → Result (List ℕ) LineCause
 variable word = ok_or (variable_of word) Arguments
 
-abbrev pub number : List ℕ → Result ℕ LineFault
+abbrev pub number : List ℕ → Result ℕ LineCause
 number word = ok_or (number_of word) Arguments
 
-abbrev pub truth : List ℕ → Result Bool LineFault
+abbrev pub truth : List ℕ → Result Bool LineCause
 truth word = ok_or (truth_of word) Arguments
 
 -- a processor's speed, in instructions a microsecond
-abbrev pub speed : List ℕ → Result ℕ LineFault
+abbrev pub speed : List ℕ → Result ℕ LineCause
 speed word = do
   n ← number word
   if nat_le 1 n && nat_le n 1000 then Ok n else Err Arguments
 
 -- a time, with or without quotes
-abbrev pub time : List ℕ → Result Micros LineFault
+abbrev pub time : List ℕ → Result Micros LineCause
 time word = do
   text ← entry word
   timed (time_of text)
   where
-    timed : Result Micros TimeFault → Result Micros LineFault
+    timed : Result Micros TimeFault → Result Micros LineCause
     timed (Ok length) = Ok length
     timed (Err fault) = Err Time
 
 -- a quantum: a time of at least a microsecond and at most a second
-abbrev pub quantum : List ℕ → Result Micros LineFault
+abbrev pub quantum : List ℕ → Result Micros LineCause
 quantum word = do
   length ← time word
   if nat_le 1 length.0 && nat_le length.0 (10 ^ 6) then Ok length else Err Time
 
 -- no word
-abbrev pub no_word : List (List ℕ) → Result (Unit {0}) LineFault
+abbrev pub no_word : List (List ℕ) → Result (Unit {0}) LineCause
 no_word [] = Ok tt
 no_word others = Err Arguments
 
 -- one word
-abbrev pub one_word : List (List ℕ) → Result (List ℕ) LineFault
+abbrev pub one_word : List (List ℕ) → Result (List ℕ) LineCause
 one_word (word ∷ []) = Ok word
 one_word others = Err Arguments
 
 -- two words
-abbrev pub two_words : List (List ℕ) → Result (List ℕ × List ℕ) LineFault
+abbrev pub two_words : List (List ℕ) → Result (List ℕ × List ℕ) LineCause
 two_words (first ∷ second ∷ []) = Ok (first, second)
 two_words others = Err Arguments
 
 -- what the one word says, or nothing where there is none
-abbrev pub at_most_one : {A : Type 0} → (List ℕ → Result A LineFault) → List (List ℕ) → Result (Option A) LineFault
+abbrev pub at_most_one : {A : Type 0} → (List ℕ → Result A LineCause) → List (List ℕ) → Result (Option A) LineCause
 at_most_one sort [] = Ok None
 at_most_one sort (word ∷ []) = do
   x ← sort word
@@ -92,13 +92,13 @@ at_most_one sort (word ∷ []) = do
 at_most_one sort others = Err Arguments
 
 -- a command without arguments
-abbrev pub none : Command → List (List ℕ) → Result Command LineFault
+abbrev pub none : Command → List (List ℕ) → Result Command LineCause
 none command words = do
   _ ← no_word words
   Ok command
 
 -- a command of one argument
-abbrev pub one : {A : Type 0} → (List ℕ → Result A LineFault) → (A → Command) → List (List ℕ) → Result Command LineFault
+abbrev pub one : {A : Type 0} → (List ℕ → Result A LineCause) → (A → Command) → List (List ℕ) → Result Command LineCause
 one sort make words = do
   word ← one_word words
   x ← sort word
@@ -106,15 +106,15 @@ one sort make words = do
 
 -- a command of one argument or none
 abbrev pub optional :
-    {A : Type 0} → (List ℕ → Result A LineFault) → (Option A → Command) → List (List ℕ) → Result Command LineFault
+    {A : Type 0} → (List ℕ → Result A LineCause) → (Option A → Command) → List (List ℕ) → Result Command LineCause
 optional sort make words = do
   x ← at_most_one sort words
   Ok (make x)
 
 -- a command of two arguments
 abbrev pub two :
-    {A B : Type 0} → (List ℕ → Result A LineFault) → (List ℕ → Result B LineFault) → (A → B → Command) →
-    List (List ℕ) → Result Command LineFault
+    {A B : Type 0} → (List ℕ → Result A LineCause) → (List ℕ → Result B LineCause) → (A → B → Command) →
+    List (List ℕ) → Result Command LineCause
 two sort other make words = do
   both ← two_words words
   x ← sort both.0
@@ -123,8 +123,8 @@ two sort other make words = do
 
 -- a command to a processor, with one more argument or none
 abbrev pub processor :
-    {A : Type 0} → (List ℕ → Result A LineFault) → (List ℕ → Option A → Command) →
-    List ℕ → List (List ℕ) → Result Command LineFault
+    {A : Type 0} → (List ℕ → Result A LineCause) → (List ℕ → Option A → Command) →
+    List ℕ → List (List ℕ) → Result Command LineCause
 processor sort make cpu words = do
   name ← entry cpu
   x ← at_most_one sort words

@@ -3,8 +3,8 @@ use Rattle.std.specs.Prelude.{ℕ, Bool, ◌&&◌, if◌then◌else◌, List, []
 use Rattle.std.specs.Str.{bytes_eq}
 use Rattle.resc_read.specs.declared.command.Command.{Command}
 use Rattle.resc_read.specs.declared.command.Command.TheVariants as commands
-use Rattle.resc_read.specs.declared.command.LineFault.{LineFault}
-use Rattle.resc_read.specs.declared.command.LineFault.TheVariants.{Unknown}
+use Rattle.resc_read.specs.declared.command.LineCause.{LineCause}
+use Rattle.resc_read.specs.declared.command.LineCause.TheVariants.{Unknown}
 use Rattle.resc_read.specs.Arguments.{none, one, optional, two, processor, name, entry, path, variable, number, truth}
 use Rattle.resc_read.specs.Arguments.{speed, time, quantum}
 
@@ -32,12 +32,12 @@ opening_len (Second b) = 2
 -- how a command begins, and what it is with the words after its opening; a processor is the first word
 pub record Row : Type 0 where
   pub opening : Opening
-  pub command : List ℕ → List (List ℕ) → Result Command LineFault
+  pub command : List ℕ → List (List ℕ) → Result Command LineCause
 
-abbrev pub row : Opening → (List (List ℕ) → Result Command LineFault) → Row
+abbrev pub row : Opening → (List (List ℕ) → Result Command LineCause) → Row
 row opening command = record { opening = opening; command = λ first words. command words }
 
-abbrev pub processor_row : List ℕ → (List ℕ → List (List ℕ) → Result Command LineFault) → Row
+abbrev pub processor_row : List ℕ → (List ℕ → List (List ℕ) → Result Command LineCause) → Row
 processor_row second command = record { opening = Second second; command = command }
 
 -- commands to a processor, whose name may be any word
@@ -90,7 +90,7 @@ emulation_rows =
     []
 
 -- by the first row that a line's words begin, and otherwise this
-abbrev pub by_rows : List Row → List (List ℕ) → Result Command LineFault → Result Command LineFault
+abbrev pub by_rows : List Row → List (List ℕ) → Result Command LineCause → Result Command LineCause
 by_rows [] words otherwise = otherwise
 by_rows (r ∷ rows) words otherwise =
     if begins r.opening (word_at words 0) (word_at words 1)
@@ -98,17 +98,17 @@ by_rows (r ∷ rows) words otherwise =
     else by_rows rows words otherwise
 
 -- the command of the words that begin a row, from each part of the table on, or the fault of words that begin none
-unfoldable pub by_emulation_rows : List (List ℕ) → Result Command LineFault
+unfoldable pub by_emulation_rows : List (List ℕ) → Result Command LineCause
 by_emulation_rows words = by_rows emulation_rows words (Err Unknown)
 
-unfoldable pub by_memory_rows : List (List ℕ) → Result Command LineFault
+unfoldable pub by_memory_rows : List (List ℕ) → Result Command LineCause
 by_memory_rows words = by_rows memory_rows words (by_emulation_rows words)
 
-unfoldable pub by_machine_rows : List (List ℕ) → Result Command LineFault
+unfoldable pub by_machine_rows : List (List ℕ) → Result Command LineCause
 by_machine_rows words = by_rows machine_rows words (by_memory_rows words)
 
-unfoldable pub by_word_rows : List (List ℕ) → Result Command LineFault
+unfoldable pub by_word_rows : List (List ℕ) → Result Command LineCause
 by_word_rows words = by_rows word_rows words (by_machine_rows words)
 
-unfoldable pub by_all_rows : List (List ℕ) → Result Command LineFault
+unfoldable pub by_all_rows : List (List ℕ) → Result Command LineCause
 by_all_rows words = by_rows processor_rows words (by_word_rows words)

@@ -56,7 +56,18 @@ pub enum Command {
     Quit,
 }
 
-/// Why a line is no command.
+/// What is wrong with a line that is no command.
+#[derive(Clone, Copy)]
+pub enum LineCause {
+    /// Its first words are no command.
+    Unknown,
+    /// The number, the sort or the range of its other words is wrong.
+    Arguments,
+    /// A time is not of its form, or too long, or no quantum.
+    Time,
+}
+
+/// Why a line is not read as a command.
 #[derive(Clone, Copy, PartialEq, Eq, Debug)]
 pub enum LineFault {
     /// Its first words are no command.
@@ -67,6 +78,21 @@ pub enum LineFault {
     Time,
     /// Memory ran out.
     Memory,
+}
+
+impl From<LineCause> for LineFault {
+    ghost use Rattle.std.specs.Prelude.{◌≡◌};
+    ghost use Rattle.resc_read.specs.Line.{fault_of};
+
+    ghost from_gives = { λ cause fault. fault ≡ fault_of cause };
+
+    fn from(cause: LineCause) -> LineFault {
+        match cause {
+            LineCause::Unknown => LineFault::Unknown,
+            LineCause::Arguments => LineFault::Arguments,
+            LineCause::Time => LineFault::Time,
+        }
+    }
 }
 
 impl From<NoMemory> for LineFault {

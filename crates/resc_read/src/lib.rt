@@ -9,7 +9,7 @@ mod sorts;
 mod variable;
 mod words;
 
-pub use command::{Command, LineFault};
+pub use command::{Command, LineCause, LineFault};
 pub use laws::{line_laws, prefix_law};
 pub use read::read_line;
 pub use sorts::{cut, path_of, text_of};

@@ -1,7 +1,6 @@
 -- How many commands a script has taken where it comes to a line.
 use Rattle.std.proofs.Common.{◌≡◌, ℕ, ◌<◌, ◌≤◌, nat_lt, Bool, true, false, cond, List, [], ◌∷◌}
 use Rattle.std.proofs.Common.{Option, None, Some, refl, arith, subst}
-use Rattle.std.specs.Prelude.{IfSome}
 use Rattle.std.specs.Option.{option_map}
 use Rattle.std.proofs.lemmas.Bool.Decides.{nat_tests}
 use Rattle.resc_vars.specs.declared.answer.Next.{Next}
@@ -9,13 +8,15 @@ use Rattle.resc_vars.specs.declared.answer.Next.TheVariants as next
 use Rattle.resc_vars.specs.declared.cause.ScriptCause.TheVariants as causes
 use Rattle.resc_vars.specs.declared.item.Item.{Item}
 use Rattle.resc_vars.specs.declared.item.Item.TheVariants.{Command, Malformed, Assign, Define, Unclosed}
-use Rattle.resc_vars.specs.Script.{Open, Kept, State, Outcome, command_limit, fault, counted, given, defined, onward}
+use Rattle.resc_vars.specs.Script.{Open, Kept, State, Outcome, Gives, Ends, Refuses, command_limit, counted, given, defined, onward}
 use Rattle.resc_vars.specs.Script.{within_limit, state_of, in_body, in_bodies, next_of, Says, TakesCommands}
 use Rattle.resc_vars.specs.Variables.{command_text, stands_for, with_value}
 
 -- where a line comes, more than so many commands were taken, and at most 100,000
 abbrev Counts : ℕ → Outcome → Type 0
-Counts n said = IfSome said.1 (λ after. (n < after.kept.taken) × (after.kept.taken ≤ 100000))
+Counts n (Gives file at text after) = (n < after.kept.taken) × (after.kept.taken ≤ 100000)
+Counts n (Ends kept) = Unit {0}
+Counts n (Refuses file at cause kept) = Unit {0}
 
 limited :
     (n : ℕ) (file : List ℕ) (at : ℕ) (kept : Kept) (outcome : Outcome) →
@@ -24,21 +25,22 @@ limited n file at kept outcome counts =
     tested (nat_lt kept.taken command_limit) (λ less. counts (grind (arith, nat_tests, less)))
   where
     tested :
-        (b : Bool) → (b ≡ true → Counts n outcome) → Counts n (cond b outcome (fault file at causes.Commands))
+        (b : Bool) → (b ≡ true → Counts n outcome) → Counts n (cond b outcome (Refuses file at causes.Commands kept))
     tested true is = is refl
     tested false is = tt
 
 given_counts :
-    (n : ℕ) (file : List ℕ) (at : ℕ) (text : Option (List ℕ)) (after : State) →
-    n < after.kept.taken → after.kept.taken ≤ 100000 → Counts n (given file at text after)
-given_counts n file at None after more most = tt
-given_counts n file at (Some text) after more most = (more, most)
+    (n : ℕ) (file : List ℕ) (at : ℕ) (kept : Kept) (text : Option (List ℕ)) (after : State) →
+    n < after.kept.taken → after.kept.taken ≤ 100000 → Counts n (given file at kept text after)
+given_counts n file at kept None after more most = tt
+given_counts n file at kept (Some text) after more most = (more, most)
 
 onward_counts :
-    {A : Type 0} (n : ℕ) (file : List ℕ) (at : ℕ) (value : Option A) (kept : A → Kept) (rest : Kept → Outcome) →
-    ((x : A) → Counts n (rest (kept x))) → Counts n (onward file at (option_map kept value) rest)
-onward_counts n file at None kept rest counts = tt
-onward_counts n file at (Some x) kept rest counts = counts x
+    {A : Type 0} (n : ℕ) (file : List ℕ) (at : ℕ) (kept : Kept) (value : Option A) (after : A → Kept)
+    (rest : Kept → Outcome) →
+    ((x : A) → Counts n (rest (after x))) → Counts n (onward file at kept (option_map after value) rest)
+onward_counts n file at kept None after rest counts = tt
+onward_counts n file at kept (Some x) after rest counts = counts x
 
 body_counts :
     (n : ℕ) (file : List ℕ) (items : List Item) (outer : List Open) (kept : Kept) (around : Kept → Outcome) →
@@ -48,15 +50,13 @@ body_counts n file [] outer kept around least counts = counts kept least
 body_counts n file (Unclosed at ∷ items) outer kept around least counts = tt
 body_counts n file (Command line ∷ items) outer kept around least counts =
     limited n file line.number kept _ (λ less.
-    given_counts n file line.number (command_text kept.variables line.text)
+    given_counts n file line.number kept (command_text kept.variables line.text)
     (state_of file items outer (counted kept)) (omega arith) (omega arith))
 body_counts n file (Malformed line ∷ items) outer kept around least counts =
-    limited n file line.number kept _ (λ less.
-    given_counts n file line.number (Some line.text)
-    (state_of file items outer (counted kept)) (omega arith) (omega arith))
+    limited n file line.number kept _ (λ less. (omega arith, omega arith))
 body_counts n file (Assign at assignment ∷ items) outer kept around least counts =
     limited n file at kept _ (λ less.
-    onward_counts n file at (stands_for kept.variables assignment.value)
+    onward_counts n file at kept (stands_for kept.variables assignment.value)
     (λ value. record (counted kept) {
       variables = with_value kept.variables assignment.name assignment.only_if_unset value;
     })

@@ -8,7 +8,9 @@ use Rattle.std.specs.Str.Lines.{lines}
 use Rattle.resc_vars.specs.declared.item.Line.{Line}
 use Rattle.resc_vars.specs.declared.item.Source.{Source}
 use Rattle.resc_vars.specs.declared.answer.FlowFault.{FlowFault}
-use Rattle.resc_vars.specs.declared.answer.FlowFault.TheVariants.{Depth, Variable, Memory}
+use Rattle.resc_vars.specs.declared.answer.FlowFault.TheVariants as fault
+use Rattle.resc_vars.specs.declared.cause.ScriptCause.{ScriptCause}
+use Rattle.resc_vars.specs.declared.cause.ScriptCause.TheVariants.{Depth, Variable}
 use Rattle.resc_vars.specs.Items.{items}
 use Rattle.resc_vars.specs.Script.{State, Open}
 
@@ -39,23 +41,23 @@ abbrev pub depth_limit : ℕ
 depth_limit = 8
 
 -- a body opened within the others, unless there are too many
-abbrev pub enter : State → Source → Result State FlowFault
+abbrev pub enter : State → Source → Result State ScriptCause
 enter s source =
     if nat_lt (length s.outer) depth_limit
     then Ok (record s { current = opened source; outer = s.current ∷ s.outer })
     else Err Depth
 
 -- the body of a macro opened, if there is one of this name
-abbrev pub run_of : State → List ℕ → Result State FlowFault
+abbrev pub run_of : State → List ℕ → Result State ScriptCause
 run_of s name = enter_macro (lookup (pointwise nat_eq name) s.kept.macros)
   where
-    enter_macro : Option Source → Result State FlowFault
+    enter_macro : Option Source → Result State ScriptCause
     enter_macro None = Err Variable
     enter_macro (Some source) = enter s source
 
 -- what a call leaves: the state said, or the state before
-abbrev pub Leaves : Result (Unit {0}) FlowFault → State → State → Result State FlowFault → Type 0
+abbrev pub Leaves : Result (Unit {0}) FlowFault → State → State → Result State ScriptCause → Type 0
 Leaves (Ok done) before after said = said ≡ Ok after
-Leaves (Err Memory) before after said = after ≡ before
-Leaves (Err Depth) before after said = (said ≡ Err Depth) × (after ≡ before)
-Leaves (Err Variable) before after said = (said ≡ Err Variable) × (after ≡ before)
+Leaves (Err fault.Depth) before after said = (said ≡ Err Depth) × (after ≡ before)
+Leaves (Err fault.Variable) before after said = (said ≡ Err Variable) × (after ≡ before)
+Leaves (Err fault.Memory) before after said = after ≡ before

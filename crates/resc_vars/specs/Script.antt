@@ -41,21 +41,21 @@ pub record State : Type 0 where
 abbrev pub command_limit : ℕ
 command_limit = 100000
 
--- the next answer, and the state after a line; no other answer is followed by one
-abbrev pub Outcome : Type 0
-Outcome = Next × Option State
-
-abbrev pub fault : List ℕ → ℕ → ScriptCause → Outcome
-fault file n cause = (next.Fault file n cause, None)
+-- what comes next in a script: a line with a command, and the state after it; the end; or a line that is refused. An
+-- end and a refused line come with what was kept until there.
+pub data Outcome : Type 0 where
+  Gives : List ℕ → ℕ → List ℕ → State → Outcome
+  Ends : Kept → Outcome
+  Refuses : List ℕ → ℕ → ScriptCause → Kept → Outcome
 
 -- one more command is taken
 abbrev pub counted : Kept → Kept
 counted kept = record kept { taken = kept.taken + 1 }
 
 -- a line that is handed on, where it has a text
-abbrev pub given : List ℕ → ℕ → Option (List ℕ) → State → Outcome
-given file n None after = fault file n causes.Variable
-given file n (Some text) after = (next.Line file n text, Some after)
+abbrev pub given : List ℕ → ℕ → Kept → Option (List ℕ) → State → Outcome
+given file n kept None after = Refuses file n causes.Variable kept
+given file n kept (Some text) after = Gives file n text after
 
 -- after an assignment, whose value is replaced first, whether it is used or not
 abbrev pub assigned : Kept → Assignment → Option Kept
@@ -72,14 +72,14 @@ defined kept file name lines =
     }
 
 -- on from an assignment, unless its value is a variable that is unset
-abbrev pub onward : List ℕ → ℕ → Option Kept → (Kept → Outcome) → Outcome
-onward file n None rest = fault file n causes.Variable
-onward file n (Some kept) rest = rest kept
+abbrev pub onward : List ℕ → ℕ → Kept → Option Kept → (Kept → Outcome) → Outcome
+onward file n kept None rest = Refuses file n causes.Variable kept
+onward file n kept (Some after) rest = rest after
 
 -- one more command, unless there were too many before
 abbrev pub within_limit : List ℕ → ℕ → Kept → Outcome → Outcome
 within_limit file n kept outcome =
-    if nat_lt kept.taken command_limit then outcome else fault file n causes.Commands
+    if nat_lt kept.taken command_limit then outcome else Refuses file n causes.Commands kept
 
 abbrev pub state_of : List ℕ → List Item → List Open → Kept → State
 state_of file items outer kept =
@@ -88,31 +88,32 @@ state_of file items outer kept =
 -- the next line of a body, or of those around it where it has none
 abbrev pub in_body : List ℕ → List Item → List Open → Kept → (Kept → Outcome) → Outcome
 in_body file [] outer kept around = around kept
-in_body file (Unclosed n ∷ items) outer kept around = fault file n causes.Unclosed
+in_body file (Unclosed n ∷ items) outer kept around = Refuses file n causes.Unclosed kept
 in_body file (Command line ∷ items) outer kept around =
     within_limit file line.number kept
-    (given file line.number (command_text kept.variables line.text) (state_of file items outer (counted kept)))
+    (given file line.number kept (command_text kept.variables line.text) (state_of file items outer (counted kept)))
 in_body file (Malformed line ∷ items) outer kept around =
     within_limit file line.number kept
-    (given file line.number (Some line.text) (state_of file items outer (counted kept)))
+    (Gives file line.number line.text (state_of file items outer (counted kept)))
 in_body file (Assign n assignment ∷ items) outer kept around =
-    within_limit file n kept (onward file n (assigned kept assignment) (λ after. in_body file items outer after around))
+    within_limit file n kept
+    (onward file n kept (assigned kept assignment) (λ after. in_body file items outer after around))
 in_body file (Define n name lines ∷ items) outer kept around =
     within_limit file n kept (in_body file items outer (defined kept file name lines) around)
 
 abbrev pub in_bodies : List Open → Kept → Outcome
-in_bodies [] kept = (next.End, None)
+in_bodies [] kept = Ends kept
 in_bodies (body ∷ outer) kept = in_body body.file body.items outer kept (in_bodies outer)
 
 -- the next line of a script that has not ended
 abbrev pub next_of : State → Outcome
 next_of s = in_bodies (s.current ∷ s.outer) s.kept
 
--- an answer and the state after it are those, unless memory was wanting
+-- an answer is that, with that state after it or that kept, unless memory was wanting
 abbrev pub Says : Next → State → Outcome → Type 0
-Says (next.Line file n text) after said = said ≡ (next.Line file n text, Some after)
-Says next.End after said = said ≡ (next.End, None)
-Says (next.Fault file n cause) after said = said ≡ fault file n cause
+Says (next.Line file n text) after said = said ≡ Gives file n text after
+Says next.End after said = said ≡ Ends after.kept
+Says (next.Fault file n cause) after said = said ≡ Refuses file n cause after.kept
 Says next.Memory after said = Unit {0}
 
 abbrev pub is_line : Next → Bool

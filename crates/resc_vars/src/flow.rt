@@ -4,10 +4,10 @@ ghost use Rattle.std.specs.Cmp.Lexicographic.{pointwise};
 ghost use Rattle.std.specs.Map.{lookup};
 ghost use Rattle.std.specs.String.{string_bytes};
 ghost use Rattle.resc_vars.specs.declared.item.Item.TheVariants as items;
-ghost use Rattle.resc_vars.specs.Script.{command_limit, given, defined, next_of, Says, is_line};
+ghost use Rattle.resc_vars.specs.Script.{command_limit, Gives, Refuses, defined, next_of, Says, is_line};
 ghost use Rattle.resc_vars.specs.Script.{TakesCommands};
 ghost use Rattle.resc_vars.specs.Bodies.{begun, source_of, enter, run_of, Leaves};
-ghost use Rattle.resc_vars.specs.Inner.Steps.{Takes, Closes, IsFault, Sets};
+ghost use Rattle.resc_vars.specs.Inner.Steps.{Takes, Closes, Sets};
 ghost use Rattle.resc_vars.specs.Inner.Steps.{next_with, with_counted, Acts, IsSameBodies};
 
 use crate::answer::{FlowFault, Next};
@@ -176,7 +176,8 @@ impl Flow {
     }
 
     fn fault(&self, line: u32, cause: ScriptCause) -> Next
-        ensures { IsFault result self.now.current.file line cause }
+        ensures { Says result self.now
+            (Refuses self.now.current.file line cause self.now.kept) }
     {
         match Text::of(self.alloc, self.body.file().as_str()) {
             Ok(file) => Next::Fault { file, line, cause },
@@ -189,7 +190,7 @@ impl Flow {
         requires goes_on { self.old.ended ≡ false }
         requires within { self.old.kept.taken < command_limit }
         ensures says { Says result self.new
-            (given self.old.current.file line (Some text) (with_counted self.old)) }
+            (Gives self.old.current.file line text (with_counted self.old)) }
         ensures bodies { IsSameBodies self.old self.new }
     {
         match Text::of(self.alloc, self.body.file().as_str()) {

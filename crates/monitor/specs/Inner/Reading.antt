@@ -1,7 +1,6 @@
 -- What the parts of a command have read of files and of the laboratory.
-use Rattle.std.specs.Prelude.{◌≡◌, ℕ, true, List, [], ◌∷◌, Option, Some, is_some, Result, Ok, Err, String, string_bytes}
-use Rattle.std.specs.Global.{Global}
-use Rattle.std.specs.Str.{is_utf8}
+use Rattle.std.specs.Prelude.{◌≡◌, ℕ, List, is_some, Result, Ok, Err}
+use Rattle.lab_io.specs.Asked.{Log}
 use Rattle.lab_io.specs.Known.{grown}
 use Rattle.lab_num.specs.declared.key.Member.{Member}
 use Rattle.lab_state.specs.Names.{hub_named}
@@ -12,8 +11,6 @@ use Rattle.resc_vars.specs.declared.cause.ScriptCause.{ScriptCause}
 use Rattle.resc_vars.specs.declared.cause.ScriptCause.TheVariants.{Name}
 use Rattle.sys_bus.specs.declared.plan.BoardPlan.{BoardPlan}
 use Rattle.monitor.specs.declared.stop.Stop.{Stop}
-use Rattle.monitor.specs.Answer.{with_file}
-use Rattle.monitor.specs.Bodies.{include_bytes}
 use Rattle.monitor.specs.Boards.{load_onto}
 use Rattle.monitor.specs.Inner.Ruling.{IsCarried}
 use Rattle.monitor.specs.Refusal.{◌>>=◌, require}
@@ -28,19 +25,9 @@ joining s dev hub = do
   there ← require (is_some (hub_named s.lab hub)) Name
   speaker s on.number what
 
--- a file of this name was read as this text, or an `include` of it stops so
-abbrev pub IsTextRead :
-    Option (List ℕ) → List ℕ → Result (String Global) Stop → Option (List (List ℕ)) → Option (List (List ℕ)) → Type 0
-IsTextRead held name (Ok text) log log' =
-    (held ≡ Some (string_bytes text)) × (is_utf8 (string_bytes text) ≡ true) × (log' ≡ grown log (name ∷ []))
-IsTextRead held name (Err stop) log log' =
-    (s after : State) (place : Place) →
-    IsCarried (record { names = name ∷ []; answer = with_file place held (include_bytes s place name) }) place
-    (Err stop) after log log'
-
 -- the files of a platform were read as this plan, or stop a command that loads them so
 abbrev pub IsPlanRead :
-    Loading → Result BoardPlan Stop → Option (List (List ℕ)) → Option (List (List ℕ)) → Type 0
+    Loading → Result BoardPlan Stop → Log → Log → Type 0
 IsPlanRead loading (Ok plan) log log' =
     (entries : List Entry)
     × (loading.outcome ≡ Joined entries)

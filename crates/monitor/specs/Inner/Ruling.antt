@@ -1,53 +1,61 @@
 -- What the part of a step that carries out a command has done.
-use Rattle.std.specs.Prelude.{◌≡◌, ℕ, ◌<◌, ◌≤◌, true, false, List, [], ◌∷◌, length, Option, Some, Result, Ok, Err}
-use Rattle.std.specs.Prelude.{Vec, String, IfSome, IsSome, IsSomeAnd, IsTrue, string_bytes}
+use Rattle.std.specs.Prelude.{◌≡◌, ℕ, ◌<◌, ◌≤◌, true, false, List, length, Option, Some, Result, Ok, Err, Vec}
+use Rattle.std.specs.Prelude.{IfSome, IsSome, IsTrue}
+use Rattle.std.specs.Global.{Global}
 use Rattle.std.specs.Option.{ForSome}
-use Rattle.std.specs.Str.{is_utf8}
+use Rattle.lab_io.specs.declared.files.Files.{Ghosts}
+use Rattle.lab_io.specs.declared.whole.ReadFault.{ReadFault}
+use Rattle.lab_io.specs.declared.whole.ReadFault.TheVariants as read_fault
+use Rattle.lab_io.specs.declared.whole.TextFault.{TextFault}
+use Rattle.lab_io.specs.declared.whole.TextFault.TheVariants as text_fault
+use Rattle.lab_io.specs.Asked.{Log, AsksSome, AsksUpTo}
+use Rattle.lab_io.specs.Frame.{OnlyReads}
+use Rattle.lab_io.specs.Held.{Held}
+use Rattle.lab_io.specs.Known.{grown}
 use Rattle.lab_num.specs.declared.key.Member.{Member}
+use Rattle.lab_num.specs.Name.{is_name}
 use Rattle.sys_bus.specs.declared.plan.BoardPlan.{BoardPlan}
 use Rattle.board.specs.Changes.{may_be_shown}
 use Rattle.board.specs.View.{View}
-use Rattle.lab_state.specs.Lab.{Lab}
-use Rattle.board.specs.New.{new_board}
-use Rattle.lab_state.specs.One.{changed, fitted, kind_at, view_of}
-use Rattle.elf_load.specs.declared.image.Image.{Image}
-use Rattle.monitor.specs.declared.fault.Cause.{Cause}
-use Rattle.monitor.specs.declared.fault.ScriptFault.{ScriptFault}
-use Rattle.repl_build.specs.Plan.{built}
-use Rattle.repl_files.specs.declared.fault.LoadFault.{LoadFault}
-use Rattle.repl_files.specs.declared.fault.LoadFault.TheVariants as load_fault
-use Rattle.repl_files.specs.declared.load.Loaded.{Loaded}
-use Rattle.repl_files.specs.Content.{bad_line}
-use Rattle.monitor.specs.declared.fault.Cause.TheVariants.{Script}
-use Rattle.monitor.specs.Boards.{equip, file_fault}
-use Rattle.monitor.specs.Images.{elf_image, hex_image}
-use Rattle.monitor.specs.Selected.{Equipped}
-use Rattle.std.specs.Global.{Global}
-use Rattle.lab_io.specs.Known.{grown}
 use Rattle.lab_state.specs.declared.faults.AddFault.{AddFault}
 use Rattle.lab_state.specs.declared.faults.AddFault.TheVariants as add_fault
 use Rattle.lab_state.specs.declared.faults.ConnectFault.{ConnectFault}
 use Rattle.lab_state.specs.declared.faults.ConnectFault.TheVariants as connect_fault
 use Rattle.lab_state.specs.declared.faults.HubNameFault.{HubNameFault}
 use Rattle.lab_state.specs.declared.faults.HubNameFault.TheVariants as hub_fault
-use Rattle.repl_files.specs.Asked.{AsksSome, AsksUpTo}
+use Rattle.lab_state.specs.Lab.{Lab}
+use Rattle.lab_state.specs.One.{changed, kind_at, view_of}
+use Rattle.elf_load.specs.declared.image.Image.{Image}
+use Rattle.repl_build.specs.Plan.{built}
+use Rattle.repl_files.specs.declared.fault.LoadFault.{LoadFault}
+use Rattle.repl_files.specs.declared.fault.LoadFault.TheVariants as load_fault
+use Rattle.repl_files.specs.declared.load.Loaded.{Loaded}
+use Rattle.resc_read.specs.declared.command.Command.{Command}
+use Rattle.resc_read.specs.declared.command.Command.TheVariants as command
 use Rattle.resc_read.specs.declared.command.LineFault.{LineFault}
 use Rattle.resc_read.specs.declared.command.LineFault.TheVariants as line_fault
 use Rattle.resc_vars.specs.declared.answer.FlowFault.{FlowFault}
 use Rattle.resc_vars.specs.declared.answer.FlowFault.TheVariants as flow_fault
 use Rattle.resc_vars.specs.declared.cause.ScriptCause.{ScriptCause}
 use Rattle.resc_vars.specs.declared.cause.ScriptCause.TheVariants as script_cause
+use Rattle.monitor.specs.declared.fault.Cause.{Cause}
+use Rattle.monitor.specs.declared.fault.Cause.TheVariants.{Script}
+use Rattle.monitor.specs.declared.fault.ScriptFault.{ScriptFault}
 use Rattle.monitor.specs.declared.images.Format.{Format}
 use Rattle.monitor.specs.declared.images.Format.TheVariants as format
-use Rattle.monitor.specs.declared.stop.Stop.{Stop}
-use Rattle.monitor.specs.declared.stop.Stop.TheVariants.{Quit, Line, File, Content, Unread, Memory}
-use Rattle.monitor.specs.Answer.{Goes, Ends, Faults, Did, Done, fault_at, told_at}
-use Rattle.monitor.specs.State.{State, Place}
-use Rattle.resc_read.specs.declared.command.Command.{Command}
-use Rattle.resc_read.specs.declared.command.Command.TheVariants as command
-use Rattle.lab_num.specs.Name.{is_name}
+use Rattle.monitor.specs.declared.load.Load.{Load}
+use Rattle.monitor.specs.declared.load.Load.TheVariants as load
 use Rattle.monitor.specs.declared.step.Step.{Step}
 use Rattle.monitor.specs.declared.step.Step.TheVariants as step
+use Rattle.monitor.specs.declared.stop.Stop.{Stop}
+use Rattle.monitor.specs.declared.stop.Stop.TheVariants.{Quit, Line, File, Content, Unread, Memory}
+use Rattle.monitor.specs.Answer.{Answer, Goes, Ends, Faults, Did, Done, answer_at, fault_at, told_at}
+use Rattle.monitor.specs.Boards.{equip, file_fault}
+use Rattle.monitor.specs.Command.{Work, OnFiles, OnState, Quits}
+use Rattle.monitor.specs.Images.{elf_image, hex_image, load_read}
+use Rattle.monitor.specs.Memory.{write_bytes}
+use Rattle.monitor.specs.Selected.{Equipped}
+use Rattle.monitor.specs.State.{State, Place}
 use Rattle.monitor.specs.Step.{Running}
 
 -- why a script stops where a call is refused
@@ -90,37 +98,28 @@ pub record IsSpeaker (lab : Lab) (b : ℕ) (m : Member) : Type 0 where
   pub dev : ForSome (view_of lab b) (λ v. m.dev < length v.space.devices)
   pub shown : ForSome (view_of lab b) (λ v. IsTrue (may_be_shown v m.dev))
 
--- a file of this name was read as what it holds, or is refused, or the read was cut short
-abbrev pub IsFile :
-    Option (List ℕ) → List ℕ → Result (Vec ℕ Global) Stop → Option (List (List ℕ)) → Option (List (List ℕ)) → Type 0
-IsFile held name (Ok bytes) log log' = (held ≡ Some bytes.items) × (log' ≡ grown log (name ∷ []))
-IsFile held name (Err Quit) log log' = ⊥
-IsFile held name (Err (Line cause)) log log' =
-    (cause ≡ script_cause.Size) × IsSomeAnd held (λ bytes. 16777216 < length bytes) × (log' ≡ grown log (name ∷ []))
-IsFile held name (Err (File fault)) log log' = ⊥
-IsFile held name (Err (Content cause)) log log' = ⊥
-IsFile held name (Err Unread) log log' = log' ≡ grown log (name ∷ [])
-IsFile held name (Err Memory) log log' = AsksSome (name ∷ []) log log'
+-- a script stops at this place of a file, or memory ran out
+abbrev pub IsFileStop : ScriptFault → Stop → Type 0
+IsFileStop fault Quit = ⊥
+IsFileStop fault (Line cause) = ⊥
+IsFileStop fault (File told) = told ≡ fault
+IsFileStop fault (Content cause) = ⊥
+IsFileStop fault Unread = ⊥
+IsFileStop fault Memory = Unit {0}
 
--- why a file is not read
-abbrev pub IsFileError : Stop → Type 0
-IsFileError Quit = ⊥
-IsFileError (Line cause) = cause ≡ script_cause.Size
-IsFileError (File fault) = ⊥
-IsFileError (Content cause) = ⊥
-IsFileError Unread = Unit {0}
-IsFileError Memory = Unit {0}
+-- why a script stops where a file is not read
+abbrev pub read_stop : ReadFault → Stop
+read_stop read_fault.Unread = Unread
+read_stop read_fault.TooLarge = Line script_cause.Size
+read_stop read_fault.Memory = Memory
 
--- the text of a file of this name, or where it is none, or memory ran out
-abbrev pub IsText : List ℕ → List ℕ → Result (String Global) Stop → Type 0
-IsText name bytes (Ok text) = (is_utf8 bytes ≡ true) × (string_bytes text ≡ bytes)
-IsText name bytes (Err Quit) = ⊥
-IsText name bytes (Err (Line cause)) = ⊥
-IsText name bytes (Err (File fault)) =
-    (is_utf8 bytes ≡ false) × (fault ≡ record { file = name; line = bad_line bytes; cause = Script script_cause.Utf8 })
-IsText name bytes (Err (Content cause)) = ⊥
-IsText name bytes (Err Unread) = ⊥
-IsText name bytes (Err Memory) = Unit {0}
+-- why a script stops where the text of a file of this name is not read
+abbrev pub IsTextStop : List ℕ → TextFault → Stop → Type 0
+IsTextStop name text_fault.Unread stop = stop ≡ Unread
+IsTextStop name text_fault.TooLarge stop = stop ≡ Line script_cause.Size
+IsTextStop name (text_fault.NotText line) stop =
+    IsFileStop (record { file = name; line = line; cause = Script script_cause.Utf8 }) stop
+IsTextStop name text_fault.Memory stop = stop ≡ Memory
 
 -- why a script stops where a platform's files are not loaded
 abbrev pub load_stop : LoadFault → Stop
@@ -133,6 +132,11 @@ load_stop load_fault.Memory = Memory
 abbrev pub image_by : Format → List ℕ → Result Image Cause
 image_by format.Elf bytes = elf_image bytes
 image_by format.Hex bytes = hex_image bytes
+
+-- what comes of bytes that are loaded so onto a board
+abbrev pub loaded_by : Load → State → Place → Equipped → List ℕ → Answer
+loaded_by (load.Image format) s place on bytes = load_read s place on (image_by format bytes)
+loaded_by (load.Bytes at) s place on bytes = answer_at place (write_bytes s on at bytes)
 
 -- a file was read as the image that its bytes mean, or is refused for their fault, or memory ran out
 abbrev pub IsImage : Result Image Cause → Result Image Stop → Type 0
@@ -159,27 +163,6 @@ IsPlan loaded (Err (Content cause)) = ⊥
 IsPlan loaded (Err Unread) = ⊥
 IsPlan loaded (Err Memory) = Unit {0}
 
--- a script stops at this place of a file, or memory ran out
-abbrev pub IsFileStop : ScriptFault → Stop → Type 0
-IsFileStop fault Quit = ⊥
-IsFileStop fault (Line cause) = ⊥
-IsFileStop fault (File told) = told ≡ fault
-IsFileStop fault (Content cause) = ⊥
-IsFileStop fault Unread = ⊥
-IsFileStop fault Memory = Unit {0}
-
--- a board was made by its plan, or memory ran out
-abbrev pub IsFitted : ℕ → BoardPlan → Result (Vec ℕ Global) Stop → Running → Running → Type 0
-IsFitted b plan (Ok text) old new =
-    (text.items ≡ [])
-    × (new ≡ record old { state = record old.state { lab = fitted old.state.lab b (new_board b plan) } })
-IsFitted b plan (Err Quit) old new = ⊥
-IsFitted b plan (Err (Line cause)) old new = ⊥
-IsFitted b plan (Err (File fault)) old new = ⊥
-IsFitted b plan (Err (Content cause)) old new = ⊥
-IsFitted b plan (Err Unread) old new = ⊥
-IsFitted b plan (Err Memory) old new = new ≡ old
-
 -- a monitor that goes on as it did
 pub record IsOnward (old new : Running) : Type 0 where
   pub spent : new.spent ≡ false
@@ -198,9 +181,18 @@ IsRuled ruling (Err (Content cause)) old new = ⊥
 IsRuled ruling (Err Unread) old new = ⊥
 IsRuled ruling (Err Memory) old new = new.ended ≡ old.ended
 
+-- a command is answered so, or memory ran out
+abbrev pub IsTold : Place → Answer → Result (Vec ℕ Global) Stop → State → Type 0
+IsTold place answer (Ok text) after = answer ≡ Goes text.items after
+IsTold place answer (Err Quit) after = answer ≡ Ends
+IsTold place answer (Err (Line cause)) after = answer ≡ Faults (fault_at place cause)
+IsTold place answer (Err (File fault)) after = answer ≡ Faults fault
+IsTold place answer (Err (Content cause)) after = answer ≡ Faults (told_at place cause)
+IsTold place answer (Err Unread) after = ⊥
+IsTold place answer (Err Memory) after = Unit {0}
+
 -- a command was carried out or refused as it is and has asked for the names that it reads, or was cut short
-abbrev pub IsCarried :
-    Did → Place → Result (Vec ℕ Global) Stop → State → Option (List (List ℕ)) → Option (List (List ℕ)) → Type 0
+abbrev pub IsCarried : Did → Place → Result (Vec ℕ Global) Stop → State → Log → Log → Type 0
 IsCarried did place (Ok text) after log log' = (did.answer ≡ Goes text.items after) × (log' ≡ grown log did.names)
 IsCarried did place (Err Quit) after log log' = (did.answer ≡ Ends) × (log' ≡ grown log did.names)
 IsCarried did place (Err (Line cause)) after log log' =
@@ -220,6 +212,23 @@ Leaves (Err (File fault)) old new = new ≡ old
 Leaves (Err (Content cause)) old new = new ≡ old
 Leaves (Err Unread) old new = new ≡ old
 Leaves (Err Memory) old new = new.ended ≡ old.ended
+
+-- What a command has done: it is answered as it should be and asked for the names that it reads, or was cut short; if
+-- it stops the script it has changed nothing, unless memory ran out; and of files it has only read.
+pub record IsDone
+    {F : Type 0} (files : Ghosts F) (by : Held → Place → Did) (result : Result (Vec ℕ Global) Stop) (old new : Running)
+    (before after : F) : Type 0 where
+  pub carried : (place : Place) → ForSome (files.held before)
+      (λ held. IsCarried (by held place) place result new.state (files.asked before) (files.asked after))
+  pub leaves : Leaves result old new
+  pub reads : OnlyReads files (result ≡ Err Unread) before after
+
+-- the same of each sort of command
+abbrev pub IsWorked :
+    {F : Type 0} → Ghosts F → Work → Result (Vec ℕ Global) Stop → Running → Running → F → F → Type 0
+IsWorked files (OnFiles by) result old new before after = IsDone files by result old new before after
+IsWorked files (OnState ruling) result old new before after = IsRuled ruling result old new × (after ≡ before)
+IsWorked files Quits result old new before after = (result ≡ Err Quit) × (new ≡ old) × (after ≡ before)
 
 -- what a step answers at a line after which the script does not go on
 abbrev pub step_of : Place → Stop → Step
@@ -247,7 +256,3 @@ IsWithin (command.CanHub name) = IsTrue (is_name name)
 IsWithin (command.Mips cpu value) = IfSome value (λ n. (1 ≤ n) × (n ≤ 1000))
 IsWithin (command.Quantum length) = (1 ≤ length.0) × (length.0 ≤ 1000000)
 IsWithin _ = Unit {0}
-
--- this holds of the value, where one is told
-abbrev pub Told : {A : Type 0} → Option A → (A → Type 0) → Type 0
-Told {A} told P = (x : A) → told ≡ Some x → P x

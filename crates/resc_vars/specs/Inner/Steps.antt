@@ -1,10 +1,8 @@
 -- What one step of a script's flow leaves.
 use Rattle.std.specs.Prelude.{◌≡◌, ℕ, ◌≤◌, Bool, true, false, List, [], ◌∷◌, length, drop, Option, Some, None}
-use Rattle.resc_vars.specs.declared.cause.ScriptCause.{ScriptCause}
 use Rattle.resc_vars.specs.declared.item.Line.{Line}
 use Rattle.resc_vars.specs.declared.item.Item.{Item}
 use Rattle.resc_vars.specs.declared.answer.Next.{Next}
-use Rattle.resc_vars.specs.declared.answer.Next.TheVariants as next
 use Rattle.std.specs.Option.{option_map}
 use Rattle.resc_vars.specs.Items.{items}
 use Rattle.resc_vars.specs.Variables.{Variables, stands_for, with_value}
@@ -27,13 +25,6 @@ Closes before true after =
     (before.outer ≡ after.current ∷ after.outer)
     × (after ≡ record before { current = after.current; outer = after.outer })
 Closes before false after = (before.outer ≡ []) × (after ≡ before)
-
--- a fault, or memory was wanting
-abbrev pub IsFault : Next → List ℕ → ℕ → ScriptCause → Type 0
-IsFault (next.Line a b c) file n cause = ⊥
-IsFault next.End file n cause = ⊥
-IsFault (next.Fault a b c) file n cause = next.Fault a b c ≡ next.Fault file n cause
-IsFault next.Memory file n cause = Unit {0}
 
 -- the bodies stay, and the script goes on
 pub record IsSameBodies (before after : State) : Type 0 where
@@ -58,9 +49,9 @@ with_counted s = record s { kept = counted s.kept }
 abbrev pub SetsVariable : Assignment → Variables → Bool → Variables → Type 0
 SetsVariable a before true after =
     option_map (λ value. with_value before a.name a.only_if_unset value) (stands_for before a.value) ≡ Some after
-SetsVariable a before false after = stands_for before a.value ≡ None
+SetsVariable a before false after = (stands_for before a.value ≡ None) × (after ≡ before)
 
 -- an assignment, made or refused
 abbrev pub Sets : Assignment → State → Bool → State → Type 0
 Sets a before true after = assigned before.kept a ≡ Some after.kept
-Sets a before false after = assigned before.kept a ≡ None
+Sets a before false after = (assigned before.kept a ≡ None) × (after.kept ≡ before.kept)

@@ -1,21 +1,29 @@
-use Rattle.std.proofs.Common.{◌∙◌, ap, arith, length}
-use Rattle.std.proofs.lemmas.Result.{err_from_is_err_and}
+use Rattle.std.proofs.Common.{◌∙◌, Err, ap, arith, length, string_bytes}
+use Rattle.resc_vars.specs.Bodies.{enter, source_of}
+use Rattle.monitor.specs.Answer.{answer_at}
+use Rattle.monitor.specs.Bodies.{entered}
 use Rattle.monitor.specs.Step.{Running}
-use Rattle.monitor.proofs.Entered.{include_goes, include_stops}
+use Rattle.monitor.proofs.Entered.{include_goes, include_stops, text_unread}
+use Rattle.monitor.proofs.Ruled.{done_stopped, done_told, ruled_leaves, ruled_told}
 use Rattle.monitor.proofs.monitor.Monitor.include.Goals as goal
 
-pub returns-in_err-text-clause-carried : goal.returns-in_err-text-clause-carried
-returns-in_err-text-clause-carried g c = λ place held told.
-    let exit = err_from_is_err_and c.from_residual.result c.from_residual.ensures.1 in
+pub returns-in-Ok : goal.returns-in-Ok
+returns-in-Ok g c =
+    let s = c.args.self.now.state in
     let depth = c.depth.ensures.value ∙ ap (λ (r : Running). length r.state.flow.outer) c.self.view_is in
-    rw (exit.1, exit.2)
-    (include_stops held c.args.self.now.state c.args.self.now.state place c.args.path.now c.in_err-text.field-0.0
-    (g.F.Files.asked c.args.files.now) (g.F.Files.asked c.read_text.new.files) (omega (arith, depth))
-    (c.in_err-text.ensures.read held told))
+    let ruling = entered s (enter s.flow (source_of c.args.path.now (string_bytes c.in-Ok.text))) in
+    done_told _ (λ place. answer_at place ruling) c.enter.result c.args.self.now c.enter.new.self c.args.files.now
+    c.read_text.new.files
+    (λ place held told. include_goes held s place c.args.path.now (omega (arith, depth)) _ _ c.in-Ok.text
+    (c.in-Ok.ensures.read held told))
+    (λ place. ruled_told place ruling c.enter.result c.args.self.now c.enter.new.self c.enter.ensures)
+    (ruled_leaves ruling c.enter.result c.args.self.now c.enter.new.self c.enter.ensures) c.in-Ok.ensures.files
 
-pub returns-clause-carried : goal.returns-clause-carried
-returns-clause-carried g c = λ place held told.
+pub returns-in-Err : goal.returns-in-Err
+returns-in-Err g c =
+    let s = c.args.self.now.state in
     let depth = c.depth.ensures.value ∙ ap (λ (r : Running). length r.state.flow.outer) c.self.view_is in
-    include_goes held place c.args.path.now c.in_ok-text.text c.enter.result c.args.self.now c.enter.new.self
-    (g.F.Files.asked c.args.files.now) (g.F.Files.asked c.read_text.new.files) (omega (arith, depth))
-    (c.in_ok-text.ensures.read held told) c.in_ok-text.ensures.few c.enter.ensures
+    done_stopped _ c.text_stop.result c.args.self.now c.args.files.now c.read_text.new.files
+    (λ place held told. include_stops held s place c.args.path.now (omega (arith, depth)) _ _ c.in-Err.fault
+    c.text_stop.result s (c.in-Err.ensures.read held told) c.text_stop.ensures)
+    (λ same. ap Err (text_unread c.args.path.now c.in-Err.fault c.text_stop.result c.text_stop.ensures same)) c.in-Err.ensures.files
