@@ -176,7 +176,7 @@ no_board f boards g hubs i name are is =
     let here = get_or_from_slice_get (map g hubs) i name name at in
     not_found f boards name
     (λ k d below. nat_list_eq_equiv.symm (get_or (map f boards) k d) name
-        ∙ rw here at (are.apart k d below i name (slice_get_within (map g hubs) i name at)))
+    ∙ rw here at (are.apart k d below i name (slice_get_within (map g hubs) i name at)))
 
 -- ---- a board that has a plan
 

@@ -30,7 +30,11 @@ fn numbers_and_options_have_their_bytes(rt: HostRuntime) -> Result<(), Fail> {
     let half = is_spelled(alloc, &0x1234_u16, &[0x34, 0x12])?;
     let word = is_spelled(alloc, &0x1234_5678_u32, &[0x78, 0x56, 0x34, 0x12])?;
     let long = is_spelled(alloc, &100_u64, &[100, 0, 0, 0, 0, 0, 0, 0])?;
-    let wide = is_spelled(alloc, &1_u128, &[1, 0, 0, 0, 0, 0, 0, 0, 0, 0, 0, 0, 0, 0, 0, 0])?;
+    let wide = is_spelled(
+        alloc,
+        &1_u128,
+        &[1, 0, 0, 0, 0, 0, 0, 0, 0, 0, 0, 0, 0, 0, 0, 0],
+    )?;
     assert!(rt; half && word && long && wide);
     let yes = is_spelled(alloc, &true, &[1])?;
     let none = is_spelled(alloc, &None::<u8>, &[0])?;
@@ -45,7 +49,11 @@ fn lists_and_texts_have_their_bytes(rt: HostRuntime) -> Result<(), Fail> {
     let mut items = Vec::new(alloc);
     items.push(1_u16)?;
     items.push(0x0203)?;
-    let list = is_spelled(alloc, &Rows::of(items), &[2, 0, 0, 0, 0, 0, 0, 0, 1, 0, 3, 2])?;
+    let list = is_spelled(
+        alloc,
+        &Rows::of(items),
+        &[2, 0, 0, 0, 0, 0, 0, 0, 1, 0, 3, 2],
+    )?;
     let text = Text::of(alloc, "a\u{e9}")?;
     let text = is_spelled(alloc, &text, &[3, 0, 0, 0, 0, 0, 0, 0, b'a', 0xc3, 0xa9])?;
     let array = is_spelled(alloc, &[5_u8, 6, 7], &[5, 6, 7])?;
