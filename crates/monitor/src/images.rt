@@ -144,11 +144,7 @@ impl<D: Device> Monitor<D> {
     }
 
     /// Loads an image, and goes on at its entry if it has one.
-    pub(crate) fn load_image(
-        &mut self,
-        b: BoardNo,
-        image: &Image,
-    ) -> Result<Vec<u8>, Stop>
+    pub(crate) fn load_image(&mut self, b: BoardNo, image: &Image) -> Result<Vec<u8>, Stop>
         requires unspent { self.old.spent ≡ false }
         requires has_plan { IsSome (view_of self.old.state.lab b.0) }
         ensures { ForSome (view_of self.old.state.lab b.0) (λ v. IsRuled

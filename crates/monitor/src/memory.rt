@@ -59,12 +59,7 @@ impl<D: Device> Monitor<D> {
     }
 
     /// Writes bytes from an address on.
-    pub(crate) fn write_bytes(
-        &mut self,
-        b: BoardNo,
-        at: u32,
-        bytes: &[u8],
-    ) -> Result<Vec<u8>, Stop>
+    pub(crate) fn write_bytes(&mut self, b: BoardNo, at: u32, bytes: &[u8]) -> Result<Vec<u8>, Stop>
         requires unspent { self.old.spent ≡ false }
         requires has_plan { IsSome (view_of self.old.state.lab b.0) }
         requires few { length bytes.now ≤ 16777216 }
