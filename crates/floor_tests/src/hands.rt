@@ -2,7 +2,7 @@
 ghost use Rattle.std.specs.Prelude.{◌≡◌, [], All, IfSome, length};
 ghost use Rattle.floor_run.specs.Turns.{IsTurned};
 
-use crate::toy::toys;
+use crate::toy::idle_toy;
 use floor_core::{Job, Turn};
 use floor_run::Bench;
 use lab_num::BoardNo;
@@ -55,6 +55,8 @@ fn two_hands<R: Threads + Wait + Abort + Copy + Send + Sync, J: Job>(
 
 #[test]
 fn a_board_goes_from_hand_to_hand(rt: HostRuntime) -> Result<(), Fail> {
-    let jobs = toys(rt.alloc(), &[0, 5, 5_000])?;
-    two_hands(&rt, rt.alloc(), jobs)
+    let alloc = rt.alloc();
+    let jobs =
+        vec![in alloc; idle_toy(alloc, 0)?, idle_toy(alloc, 5)?, idle_toy(alloc, 5_000)?]?;
+    two_hands(&rt, alloc, jobs)
 }

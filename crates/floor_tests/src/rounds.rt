@@ -1,25 +1,27 @@
 //! Rounds of toys on threads.
 use crate::gates::{Counter, Meeting};
-use crate::toy::toys;
+use crate::toy::{Toy, idle_toy};
 use floor_core::Job;
 use floor_run::{NoGate, run_round};
 use std::test::Fail;
 
 #[test]
 fn jobs_come_back_finished_and_in_their_order(rt: HostRuntime) -> Result<(), Fail> {
-    let jobs = toys(rt.alloc(), &[0, 5, 9])?;
-    let done = run_round(&rt, rt.alloc(), jobs, 8, &NoGate)?;
+    let alloc = rt.alloc();
+    let jobs =
+        vec![in alloc; idle_toy(alloc, 0)?, idle_toy(alloc, 5)?, idle_toy(alloc, 9)?]?;
+    let done = run_round(&rt, alloc, jobs, 8, &NoGate)?;
     assert_eq!(rt; done.len(), 3);
-    for (job, slots) in done.iter().zip([0_u64, 5, 9].iter()) {
-        assert_eq!(rt; (job.left(), job.taken()), (0, *slots));
-    }
+    assert_eq!(rt; (done[0].taken(), done[1].taken(), done[2].taken()), (0, 5, 9));
+    assert_eq!(rt; (done[0].left(), done[1].left(), done[2].left()), (0, 0, 0));
     Ok(())
 }
 
 #[test]
 fn a_round_of_no_jobs_gives_none_back(rt: HostRuntime) -> Result<(), Fail> {
     for workers in 1..9_u8 {
-        let done = run_round(&rt, rt.alloc(), toys(rt.alloc(), &[])?, workers, &NoGate)?;
+        let none: Vec<Toy> = Vec::new(rt.alloc());
+        let done = run_round(&rt, rt.alloc(), none, workers, &NoGate)?;
         assert!(rt; done.is_empty());
     }
     Ok(())
@@ -28,7 +30,9 @@ fn a_round_of_no_jobs_gives_none_back(rt: HostRuntime) -> Result<(), Fail> {
 #[test]
 fn ten_thousand_slots_are_three_turns(rt: HostRuntime) -> Result<(), Fail> {
     let gate = Counter::new();
-    let done = run_round(&rt, rt.alloc(), toys(rt.alloc(), &[10_000])?, 2, &gate)?;
+    let alloc = rt.alloc();
+    let jobs = vec![in alloc; idle_toy(alloc, 10_000)?]?;
+    let done = run_round(&rt, alloc, jobs, 2, &gate)?;
     assert_eq!(rt; (done.len(), gate.entered()), (1, 3));
     Ok(())
 }
@@ -36,7 +40,9 @@ fn ten_thousand_slots_are_three_turns(rt: HostRuntime) -> Result<(), Fail> {
 #[test]
 fn two_workers_are_at_work_at_once(rt: HostRuntime) -> Result<(), Fail> {
     let gate = Meeting::new(2);
-    let _done = run_round(&rt, rt.alloc(), toys(rt.alloc(), &[3, 3])?, 2, &gate)?;
+    let alloc = rt.alloc();
+    let jobs = vec![in alloc; idle_toy(alloc, 3)?, idle_toy(alloc, 3)?]?;
+    let _done = run_round(&rt, alloc, jobs, 2, &gate)?;
     assert!(rt; !gate.gave_up());
     Ok(())
 }

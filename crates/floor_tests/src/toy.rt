@@ -1,6 +1,6 @@
 //! A job of the tests: a list with a post or none for each slot.
-ghost use Rattle.std.specs.Prelude.{◌≡◌, ◌+◌, ◌<◌, ◌++◌, [], length, take, drop, vec_len};
-ghost use Rattle.std.specs.Prelude.{All, IfOk, OnOk, OnErr, option_to_list};
+ghost use Rattle.std.specs.Prelude.{◌≡◌, ◌+◌, ◌<◌, ◌++◌, [], take, drop, vec_len, IfOk, OnOk, OnErr};
+ghost use Rattle.std.specs.Prelude.{option_to_list};
 ghost use Rattle.floor_core.specs.Job.{posts};
 
 use dev_core::Post;
@@ -116,14 +116,9 @@ impl Job for Toy {
     ghost rests = { λ s l. add-zero s };
 }
 
-/// Toys that have so many slots and make no posts.
-pub fn toys(alloc: Global, slots: &[usize]) -> Result<Vec<Toy>, NoMemory>
-    ensures count { IfOk result (λ toys. length toys.items ≡ length slots.now) }
-    ensures sent { IfOk result (λ toys. All (λ toy. toy.unsent.items ≡ []) toys.items) }
+/// A toy that has so many slots and makes no posts.
+pub fn idle_toy(alloc: Global, slots: usize) -> Result<Toy, NoMemory>
+    ensures { IfOk result (λ toy. toy.unsent.items ≡ []) }
 {
-    let mut toys = Vec::new(alloc);
-    for count in slots {
-        toys.push(Toy::new(alloc, vec![in alloc; None; *count]?))?;
-    }
-    Ok(toys)
+    Ok(Toy::new(alloc, vec![in alloc; None; slots]?))
 }
