@@ -16,4 +16,4 @@ pub use mem_files::MemFiles;
 pub use mem_sink::MemSink;
 pub use out_sink::OutSink;
 pub use sink::{Sink, WriteFault, Wrote};
-pub use whole::{ReadFault, TextFault, line_at, read_file, read_text, text_of, write_whole};
+pub use whole::{ReadFault, TextFault, read_file, read_text, write_whole};

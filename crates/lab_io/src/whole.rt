@@ -100,7 +100,7 @@ pub fn read_text<F: Files>(alloc: Global, files: &mut F, name: &str) -> Result<S
 
 /// The text that these bytes are, or the line, counted from 1, of the first byte after their longest
 /// prefix that is UTF-8.
-pub fn text_of(bytes: &[u8]) -> Result<&str, u32>
+fn text_of(bytes: &[u8]) -> Result<&str, u32>
     requires { length bytes.now ≤ 16777216 }
     ensures same { IfOk result (λ text. text.now ≡ bytes.now) }
     ensures text { IfOk result (λ text. bytes_text bytes.now ≡ Readable text.now) }
@@ -113,7 +113,7 @@ pub fn text_of(bytes: &[u8]) -> Result<&str, u32>
 }
 
 /// The line of the byte at this place, counted from 1: how many line feeds come before it, and one.
-pub fn line_at(bytes: &[u8], at: usize) -> u32
+fn line_at(bytes: &[u8], at: usize) -> u32
     requires few { length bytes.now ≤ 16777216 }
     requires inside { at ≤ length bytes.now }
     ensures { result ≡ count_by (λ byte. byte == 10) (take at bytes.now) + 1 }

@@ -1,5 +1,4 @@
 -- What a file is to a loading.
-pub use Rattle.lab_io.specs.Whole.{bad_line}
 use Rattle.std.specs.Prelude.{ℕ, List, Option, Result, Ok, Err}
 use Rattle.lab_io.specs.Whole.{FileText, file_text}
 use Rattle.lab_io.specs.Whole as text

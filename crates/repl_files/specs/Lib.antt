@@ -1,5 +1,4 @@
 -- What contracts of repl_files and of the crates above cite.
-pub mod Asked
 pub mod Content
 pub mod Laws
 pub mod Loaded

@@ -7,6 +7,5 @@ mod laws;
 mod load;
 
 pub use fault::{FileCause, FileFault, LoadFault};
-pub use lab_io::line_at;
 pub use laws::loading_laws;
 pub use load::{Loaded, load_platform};
