@@ -135,14 +135,16 @@ numbered_later board first key [] below are = tt
 numbered_later board first key (p ∷ ps) below are =
     (numbers_apart key p.key (λ h. omega (arith, are.1)), numbered_later board (first + 1) key ps (omega arith) are.2)
 
-numbered_differ : (board first : ℕ) (ps : List Post) → AreNumbered board first (map post_key ps) → KeysDiffer post_key ps
+numbered_differ :
+    (board first : ℕ) (ps : List Post) → AreNumbered board first (map post_key ps) → KeysDiffer post_key ps
 unfolding IsDistinct
 numbered_differ board first [] are = tt
 numbered_differ board first (p ∷ ps) are =
     (numbered_later board (first + 1) p.key ps (omega (arith, are.1)) are.2, numbered_differ board (first + 1) ps are.2)
 
 numbered_boards :
-    (board first : ℕ) (ps : List Post) → AreNumbered board first (map post_key ps) → AllByRecursion (λ p. p.key.board.0 ≡ board) ps
+    (board first : ℕ) (ps : List Post) → AreNumbered board first (map post_key ps) →
+    AllByRecursion (λ p. p.key.board.0 ≡ board) ps
 numbered_boards board first [] are = tt
 numbered_boards board first (p ∷ ps) are = (are.0, numbered_boards board (first + 1) ps are.2)
 
@@ -231,8 +233,11 @@ same_listing total is_listing only {S} state_after starts f g members over membe
     let each : Numbered n g.mail =
     λ i below.
     let start = item_at starts i below in
-    let first = numbered i start.0 start.1 in
-    (first.0, subst (λ (l : List Post). AreNumbered i first.0 (map post_key l)) (sym (over_too.posts i start.0 start.1)) first.1) in
+    let first = numbered i start.0 start.1 in (
+      first.0,
+      subst (λ (l : List Post). AreNumbered i first.0 (map post_key l)) (sym (over_too.posts i start.0 start.1))
+          first.1,
+    ) in
     let back : IsPermutation (gathered n g.mail) (mailed g) =
     IsPermutation-sym (mailed g) (gathered n g.mail) (mail_gathered n g.mail members_too) in
     let there : IsPermutation (mailed f) (gathered n g.mail) =

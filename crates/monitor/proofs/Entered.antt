@@ -51,7 +51,8 @@ module _ (held : Held) (s : State) (place : Place) (path : List ℕ) (room : len
   include_reads :
       include held s place path
       ≡ record { names = path ∷ []; answer = include_text s place path (file_text (get held path)) }
-  include_reads = let yes : nat_lt (length s.flow.outer) depth_limit ≡ true = grind (arith, nat_tests, room) in rw yes refl
+  include_reads =
+      let yes : nat_lt (length s.flow.outer) depth_limit ≡ true = grind (arith, nat_tests, room) in rw yes refl
 
   stops :
       (fault : TextFault) (stop : Stop) (after : State) → IsTextRead (get held path) path (Err fault) log log' →

@@ -19,4 +19,5 @@ returns-in-Err-clause-read g c = λ held is.
     (load_stops (load held c.args.bodies c.args.path.now) c.in-Err.fault _ _ (told _ c.in-Err.ensures.loaded held is))
 
 pub returns-in-Err-clause-files : goal.returns-in-Err-clause-files
-returns-in-Err-clause-files g c = rw c.load_stop.ensures (reads_as (λ same. ap Err (load_unread c.in-Err.fault (cc same))) c.in-Err.ensures.files)
+returns-in-Err-clause-files g c =
+    rw c.load_stop.ensures (reads_as (λ same. ap Err (load_unread c.in-Err.fault (cc same))) c.in-Err.ensures.files)

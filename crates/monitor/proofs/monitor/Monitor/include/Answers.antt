@@ -26,4 +26,5 @@ returns-in-Err g c =
     done_stopped _ c.text_stop.result c.args.self.now c.args.files.now c.read_text.new.files
     (λ place held told. include_stops held s place c.args.path.now (omega (arith, depth)) _ _ c.in-Err.fault
     c.text_stop.result s (c.in-Err.ensures.read held told) c.text_stop.ensures)
-    (λ same. ap Err (text_unread c.args.path.now c.in-Err.fault c.text_stop.result c.text_stop.ensures same)) c.in-Err.ensures.files
+    (λ same. ap Err (text_unread c.args.path.now c.in-Err.fault c.text_stop.result c.text_stop.ensures same))
+    c.in-Err.ensures.files
