@@ -2,7 +2,7 @@
 ghost use Rattle.std.specs.Prelude.{◌≡◌, [], All, IfSome, length};
 ghost use Rattle.floor_run.specs.Turns.{IsTurned};
 
-use crate::toy::idle_toy;
+use crate::toys::even_toy;
 use floor_core::{Job, Turn};
 use floor_run::Bench;
 use lab_num::BoardNo;
@@ -56,7 +56,10 @@ fn two_hands<R: Threads + Wait + Abort + Copy + Send + Sync, J: Job>(
 #[test]
 fn a_board_goes_from_hand_to_hand(rt: HostRuntime) -> Result<(), Fail> {
     let alloc = rt.alloc();
-    let jobs =
-        vec![in alloc; idle_toy(alloc, 0)?, idle_toy(alloc, 5)?, idle_toy(alloc, 5_000)?]?;
+    let jobs = vec![in alloc;
+        even_toy(alloc, 0, None)?,
+        even_toy(alloc, 5, None)?,
+        even_toy(alloc, 5_000, None)?,
+    ]?;
     two_hands(&rt, alloc, jobs)
 }

@@ -1,5 +1,5 @@
 //! Toys on a floor: lists of events that stop, and all orders of what three workers do.
-ghost use Rattle.std.specs.Prelude.{◌≡◌, ◌<◌, length, IfOk};
+ghost use Rattle.std.specs.Prelude.{◌≡◌, ◌<◌, [], length, IfOk};
 
 use crate::toy::Toy;
 use crate::words::{event, events_of};
@@ -22,6 +22,13 @@ fn post(board: u8, at: u64, number: u64) -> Post {
         from: Member { board, dev: 0 },
         payload: Payload::Byte(b'A'),
     }
+}
+
+/// A toy that has so many slots, each of which makes the same.
+pub fn even_toy(alloc: Global, slots: usize, each: Option<Post>) -> Result<Toy, NoMemory>
+    ensures { IfOk result (λ toy. toy.unsent.items ≡ []) }
+{
+    Ok(Toy::new(alloc, vec![in alloc; each; slots]?))
 }
 
 /// Two boards of ten slots: the first makes one post in its last slot, the second makes none.
