@@ -1,7 +1,7 @@
 //! Rounds of toys on threads.
 use crate::gates::{Counter, Meeting};
 use crate::toy::Toy;
-use crate::toys::even_toy;
+use crate::toys::late_toy;
 use floor_core::Job;
 use floor_run::{NoGate, run_round};
 use std::test::Fail;
@@ -10,9 +10,9 @@ use std::test::Fail;
 fn jobs_come_back_finished_and_in_their_order(rt: HostRuntime) -> Result<(), Fail> {
     let alloc = rt.alloc();
     let jobs = vec![in alloc;
-        even_toy(alloc, 0, None)?,
-        even_toy(alloc, 5, None)?,
-        even_toy(alloc, 9, None)?,
+        Toy::new(alloc, Vec::new(alloc)),
+        late_toy(alloc, 1, 4)?,
+        late_toy(alloc, 2, 8)?,
     ]?;
     let done = run_round(&rt, alloc, jobs, 8, &NoGate)?;
     assert_eq!(rt; done.len(), 3);
@@ -38,7 +38,7 @@ fn a_round_of_no_jobs_gives_none_back(rt: HostRuntime) -> Result<(), Fail> {
 fn ten_thousand_slots_are_three_turns(rt: HostRuntime) -> Result<(), Fail> {
     let gate = Counter::new();
     let alloc = rt.alloc();
-    let jobs = vec![in alloc; even_toy(alloc, 10_000, None)?]?;
+    let jobs = vec![in alloc; late_toy(alloc, 0, 9_999)?]?;
     let done = run_round(&rt, alloc, jobs, 2, &gate)?;
     assert_eq!(rt; (done.len(), gate.entered()), (1, 3));
     Ok(())
@@ -48,7 +48,7 @@ fn ten_thousand_slots_are_three_turns(rt: HostRuntime) -> Result<(), Fail> {
 fn two_workers_are_at_work_at_once(rt: HostRuntime) -> Result<(), Fail> {
     let gate = Meeting::new(2);
     let alloc = rt.alloc();
-    let jobs = vec![in alloc; even_toy(alloc, 3, None)?, even_toy(alloc, 3, None)?]?;
+    let jobs = vec![in alloc; late_toy(alloc, 0, 2)?, late_toy(alloc, 1, 2)?]?;
     let _done = run_round(&rt, alloc, jobs, 2, &gate)?;
     assert!(rt; !gate.gave_up());
     Ok(())

@@ -24,11 +24,13 @@ fn post(board: u8, at: u64, number: u64) -> Post {
     }
 }
 
-/// A toy that has so many slots, each of which makes the same.
-pub fn even_toy(alloc: Global, slots: usize, each: Option<Post>) -> Result<Toy, NoMemory>
+/// A toy with so many slots that make nothing, and then one that makes a post.
+pub fn late_toy(alloc: Global, board: u8, idle: usize) -> Result<Toy, NoMemory>
     ensures { IfOk result (λ toy. toy.unsent.items ≡ []) }
 {
-    Ok(Toy::new(alloc, vec![in alloc; each; slots]?))
+    let mut slots = vec![in alloc; None; idle]?;
+    slots.push(Some(post(board, 9, 0)))?;
+    Ok(Toy::new(alloc, slots))
 }
 
 /// Two boards of ten slots: the first makes one post in its last slot, the second makes none.
