@@ -2,7 +2,8 @@
 ghost use Rattle.std.specs.Prelude.{◌≡◌, [], All, IfSome, length};
 ghost use Rattle.floor_run.specs.Turns.{IsTurned};
 
-use crate::toy::idle_toy;
+use crate::toy::Toy;
+use crate::toys::late_toy;
 use floor_core::{Job, Turn};
 use floor_run::Bench;
 use lab_num::BoardNo;
@@ -56,7 +57,10 @@ fn two_hands<R: Threads + Wait + Abort + Copy + Send + Sync, J: Job>(
 #[test]
 fn a_board_goes_from_hand_to_hand(rt: HostRuntime) -> Result<(), Fail> {
     let alloc = rt.alloc();
-    let jobs =
-        vec![in alloc; idle_toy(alloc, 0)?, idle_toy(alloc, 5)?, idle_toy(alloc, 5_000)?]?;
+    let jobs = vec![in alloc;
+        Toy::new(alloc, Vec::new(alloc)),
+        late_toy(alloc, 1, 4)?,
+        late_toy(alloc, 2, 4_999)?,
+    ]?;
     two_hands(&rt, alloc, jobs)
 }

@@ -1,5 +1,5 @@
 //! A job of the tests: a list with a post or none for each slot.
-ghost use Rattle.std.specs.Prelude.{◌≡◌, ◌+◌, ◌<◌, ◌++◌, [], take, drop, vec_len, IfOk, OnOk, OnErr};
+ghost use Rattle.std.specs.Prelude.{◌≡◌, ◌+◌, ◌<◌, ◌++◌, [], take, drop, vec_len, OnOk, OnErr};
 ghost use Rattle.std.specs.Prelude.{option_to_list};
 ghost use Rattle.floor_core.specs.Job.{posts};
 
@@ -114,11 +114,4 @@ impl Job for Toy {
     ghost adds = { λ s l a b _. add_assoc s a b };
 
     ghost rests = { λ s l. add-zero s };
-}
-
-/// A toy that has so many slots and makes no posts.
-pub fn idle_toy(alloc: Global, slots: usize) -> Result<Toy, NoMemory>
-    ensures { IfOk result (λ toy. toy.unsent.items ≡ []) }
-{
-    Ok(Toy::new(alloc, vec![in alloc; None; slots]?))
 }

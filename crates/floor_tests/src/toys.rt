@@ -1,5 +1,5 @@
 //! Toys on a floor: lists of events that stop, and all orders of what three workers do.
-ghost use Rattle.std.specs.Prelude.{◌≡◌, ◌<◌, length, IfOk};
+ghost use Rattle.std.specs.Prelude.{◌≡◌, ◌<◌, [], length, IfOk};
 
 use crate::toy::Toy;
 use crate::words::{event, events_of};
@@ -22,6 +22,15 @@ fn post(board: u8, at: u64, number: u64) -> Post {
         from: Member { board, dev: 0 },
         payload: Payload::Byte(b'A'),
     }
+}
+
+/// A toy with so many slots that make nothing, and then one that makes a post.
+pub fn late_toy(alloc: Global, board: u8, idle: usize) -> Result<Toy, NoMemory>
+    ensures { IfOk result (λ toy. toy.unsent.items ≡ []) }
+{
+    let mut slots = vec![in alloc; None; idle]?;
+    slots.push(Some(post(board, 9, 0)))?;
+    Ok(Toy::new(alloc, slots))
 }
 
 /// Two boards of ten slots: the first makes one post in its last slot, the second makes none.
