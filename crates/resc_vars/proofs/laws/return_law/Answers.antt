@@ -4,4 +4,4 @@ use Rattle.resc_vars.proofs.laws.return_law.Goals as goal
 
 pub returns : goal.returns
 returns c = λ file text none.
-    ap (λ lines. record { file = file; lines = numbered 1 lines }) (c.lines_return_law.ensures text none)
+    ap (λ lines. record { file = file; lines = numbered 1 lines }) (c.return_law.ensures text none)
