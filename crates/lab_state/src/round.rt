@@ -21,9 +21,12 @@ use crate::lab::Lab;
 use crate::named_board::{Made, NamedBoard};
 use board::{stretches_keep_plans, stretches_number};
 use dev_core::{Device, Entry, Post};
+use floor_run::Gate;
 use lab_num::{BoardNo, Key, Micros, NoMemory, Rows};
 use log_merge::{LogItem, Member0, merge_entries, merge_posts};
 use std::alloc::Global;
+use std::sync::Wait;
+use std::thread::Threads;
 use time_source::Source;
 
 /// What a round or a run has come to.
@@ -203,10 +206,17 @@ fn play<D: Device>(
     })
 }
 
-impl<D: Device> Lab<D> {
+impl<D: Device + Send> Lab<D> {
     /// Runs one round of `q` microseconds. `LabFault::Memory` spends the laboratory.
-    pub fn round(&mut self, q: u64) -> Result<RoundLog, LabFault>
+    pub fn round<R: Threads + Wait + Copy + Send + Sync, G: Gate>(
+        &mut self,
+        _rt: &R,
+        q: u64,
+        workers: u8,
+        _gate: &G,
+    ) -> Result<RoundLog, LabFault>
         requires some { 0 < q }
+        requires workers { (1 ≤ workers) × (workers ≤ 8) }
         requires plans { self.old.spent ≡ false → HaveAllPlans self.old.lab }
         requires within { self.old.spent ≡ false → self.old.lab.now + q ≤ 10000000000 }
         ensures lab { OnOk result (self.new
