@@ -4,7 +4,7 @@ use Rattle.std.proofs.Common.{refl, sym, ap, ◌∙◌, subst, arith}
 use Rattle.std.proofs.Math.Nat.{div-lt_iff_lt-mul, le-div_iff_mul-le, div-mul-le_self}
 use Rattle.std.proofs.lemmas.List.{append-nil}
 use Rattle.lab_num.specs.Paid.{slot_at}
-use Rattle.rv_hart.specs.Core.{Core, ticked}
+use Rattle.rv_hart.specs.Core.{ticked}
 use Rattle.rv_hart.specs.Trap.{is_ready}
 use Rattle.rv_hart.specs.declared.csr.Lines.{Lines}
 use Rattle.board.specs.Idle.{IsIdle, IsStillFor, passed, is_idle}
@@ -12,7 +12,6 @@ use Rattle.board.specs.Lines.{sampled, lines_of, timer_up, mip_of}
 use Rattle.board.specs.Slot.{slot}
 use Rattle.board.specs.Stretch.{stretch}
 use Rattle.board.specs.View.{View, State, quiet, after}
-use Rattle.board.proofs.StretchLemmas.{stretch-add, after-after}
 
 -- a slot of a processor that goes on waiting: its cycle passes
 slot-idle :
@@ -42,17 +41,6 @@ stretch-idle v timer from a (suc n) fits idle line =
     record { runs = idle.runs; waits = idle.waits; settled = idle.settled; rests = idle.rests } in
     let last = slot-idle (passed v n) t timer still (line n (omega arith)) in
     rw (before, last) (ap quiet (tick-passed v n))
-
--- a stretch after a stretch, of boards that have made something before
-pub after_passed :
-    (s mid new : State) (from a m n : ℕ) →
-    mid ≡ after s (stretch s.view from a m) → new ≡ after mid (stretch mid.view from (a + m) n) →
-    new ≡ after s (stretch s.view from a (m + n))
-after_passed s mid new from a m n reached passed_on =
-    let first = stretch s.view from a m in
-    passed_on
-    ∙ rw reached (after-after s first (stretch first.view from (a + m) n))
-    ∙ ap (after s) (sym (stretch-add s.view from a m n))
 
 three : (a b c : Bool) → not a && b && not c ≡ true → (a ≡ false) × (b ≡ true) × (c ≡ false)
 three false true false e = (refl, refl, refl)
