@@ -13,6 +13,7 @@ use Rattle.rv_hart.specs.declared.csr.Lines.{Lines}
 use Rattle.rv_hart.specs.declared.numbers.Counter.{Counter}
 use Rattle.rv_hart.specs.Cause.{illegal_instruction}
 use Rattle.rv_hart.specs.Core.{Core, reg, next, finish, jump}
+use Rattle.rv_hart.specs.Trap as trap
 use Rattle.rv_hart.specs.Trap.{enter, leave}
 use Rattle.rv_hart.specs.Csr.{csr_read, csr_written, counter_of}
 use Rattle.rv_exec.specs.declared.access.Shape.{Shape}
@@ -45,7 +46,7 @@ same_branch core size false imm aligned = refl
 same_load :
     (core : Core) (i : Instr) (size width : ℕ) (shape : Shape) →
     IsSame (loads (with_c core false) i size width shape) (loads (with_c core true) i size width shape)
-unfolding finish enter
+unfolding finish enter trap.target
 same_load core i size width shape =
     elim (cases_Bool (address core i % width == 0)) [
       | inl on ↦ rw on (refl, refl, λ answer. refl)
@@ -55,7 +56,7 @@ same_load core i size width shape =
 same_store :
     (core : Core) (i : Instr) (size width : ℕ) →
     IsSame (stores (with_c core false) i size width) (stores (with_c core true) i size width)
-unfolding next enter
+unfolding next enter trap.target
 same_store core i size width =
     elim (cases_Bool (address core i % width == 0)) [
       | inl on ↦ rw on refl
@@ -106,7 +107,7 @@ same_ending :
     (unwrap_or
     (option_map (λ after. outcome (finish after size rd old) (Retired counter)) written)
     (traps (with_c core false) illegal_instruction word))
-unfolding finish enter
+unfolding finish enter trap.target
 same_ending core size rd old word counter None with_written is = rw is refl
 same_ending core size rd old word counter (Some after) with_written is = rw is refl
 
@@ -117,7 +118,7 @@ same_reading :
     ≡ outcome_with_c (unwrap_or (a value) (traps (with_c core false) illegal_instruction word))) →
     unwrap_or (option_and_then b old) (traps (with_c core true) illegal_instruction word)
     ≡ outcome_with_c (unwrap_or (option_and_then a old) (traps (with_c core false) illegal_instruction word))
-unfolding enter
+unfolding enter trap.target
 same_reading core word a b None each = refl
 same_reading core word a b (Some value) each = each value
 
@@ -136,7 +137,7 @@ by_op :
     IfSome (target_by op core i) (λ target. target % 4 ≡ 0) →
     (accesses_csr op ≡ true → i.imm ≢ MISA) → (accesses_csr op ≡ true → i.imm ≢ MEPC) →
     IsSame (effect_by op (with_c core false) i size word lines) (effect_by op (with_c core true) i size word lines)
-unfolding effect_by next finish leave enter
+unfolding effect_by next finish leave enter trap.target
 by_op Jal core i size word lines target misa mepc = ap Done (same_jump core size i.rd _ target)
 by_op Jalr core i size word lines target misa mepc = ap Done (same_jump core size i.rd _ target)
 by_op Beq core i size word lines target misa mepc = ap Done (same_branch core size _ i.imm target)
