@@ -7,6 +7,7 @@ ghost use Rattle.sys_bus.specs.Plan.{IsValid};
 use board::Board;
 use dev_core::{Device, Kind};
 use lab_num::{BoardNo, Rows, Text};
+use rv_hart::Letters;
 use std::alloc::Global;
 use sys_bus::{BoardPlan, Named, NamedWhat, PlicSize, Region, RegionKind, Wire, WireFrom, WirePin};
 
@@ -98,6 +99,7 @@ fn plan(alloc: Global, wired: bool) -> Option<BoardPlan>
         wires: Rows::of(wires(alloc, wired)?),
         speed: 25,
         cpu: Text::of(alloc, "cpu").ok()?,
+        letters: Letters { a: false, c: false },
     })
 }
 
