@@ -155,7 +155,7 @@ is_compressed_core text =
 abbrev pub is_core : List ℕ → Bool
 is_core text =
     bytes_eq text (codes "rv32im") || bytes_eq text (codes "rv32im_zicsr")
-    || bytes_eq text (codes "rv32im_zicsr_zifencei")
+    || bytes_eq text (codes "rv32im_zicsr_zifencei") || is_compressed_core text
 
 -- whether a processor of these attributes has compressed instructions, by its cpuType
 abbrev pub is_compressed : ItemWhat → Bool

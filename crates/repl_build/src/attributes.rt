@@ -247,7 +247,10 @@ pub(crate) fn has_compressed(items: &[PlacedItem]) -> bool
 fn is_core(text: &str) -> bool
     ensures { result ≡ attribute.is_core text.now }
 {
-    text == "rv32im" || text == "rv32im_zicsr" || text == "rv32im_zicsr_zifencei"
+    text == "rv32im"
+        || text == "rv32im_zicsr"
+        || text == "rv32im_zicsr_zifencei"
+        || is_compressed_core(text)
 }
 
 /// Whether this is a `cpuType` that is not built.

@@ -168,11 +168,14 @@ effect core (Fault at) lines = Done (traps core instruction_access_fault at)
 effect core (Bad word) lines = Done (traps core illegal_instruction word)
 effect core (Good i size word) lines = effect_by i.op core i size word lines
 
--- what a fetch of the word at an address has found: nothing, a word that means no instruction, or an instruction of four
--- bytes
+-- what a word is: an instruction of four bytes, or none
+abbrev pub of_word : ℕ → Fetched
+of_word word = option_map_or (λ i. Good i 4 word) (means word) (Bad word)
+
+-- what a fetch of the word at an address has found
 abbrev pub found_at : ℕ → Option ℕ → Fetched
 found_at at None = Fault at
-found_at at (Some word) = option_map_or (λ i. Good i 4 word) (means word) (Bad word)
+found_at at (Some word) = of_word word
 
 -- what a slot does by what the fetch of its word answers
 unfoldable pub effect_of_fetch : Core → Option ℕ → Lines → Effect
