@@ -43,17 +43,6 @@ stretch-idle v timer from a (suc n) fits idle line =
     let last = slot-idle (passed v n) t timer still (line n (omega arith)) in
     rw (before, last) (ap quiet (tick-passed v n))
 
--- a stretch after a stretch, of boards that have made something before
-pub after_passed :
-    (s mid new : State) (from a m n : ℕ) →
-    mid ≡ after s (stretch s.view from a m) → new ≡ after mid (stretch mid.view from (a + m) n) →
-    new ≡ after s (stretch s.view from a (m + n))
-after_passed s mid new from a m n reached passed_on =
-    let first = stretch s.view from a m in
-    passed_on
-    ∙ rw reached (after-after s first (stretch first.view from (a + m) n))
-    ∙ ap (after s) (sym (stretch-add s.view from a m n))
-
 three : (a b c : Bool) → not a && b && not c ≡ true → (a ≡ false) × (b ≡ true) × (c ≡ false)
 three false true false e = (refl, refl, refl)
 three true b c e = absurd (cc)

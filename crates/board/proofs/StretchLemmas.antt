@@ -1,5 +1,5 @@
 -- Laws of slots one after another.
-use Rattle.std.proofs.Common.{◌≡◌, ℕ, true, zero, suc, ◌+◌, ◌*◌, ◌/◌, ◌<◌, List, [], ◌∷◌, sum, refl, sym, ap, ◌∙◌}
+use Rattle.std.proofs.Common.{◌≡◌, ℕ, true, zero, suc, ◌+◌, ◌*◌, ◌/◌, ◌<◌, ◌≤◌, List, [], ◌∷◌, sum, refl, sym, ap, ◌∙◌}
 use Rattle.std.proofs.Common.{append_assoc, add-one, add-zero, add-suc, add_assoc, arith}
 use Rattle.std.proofs.lemmas.List.Sums.{sum_by-cons}
 use Rattle.std.proofs.lemmas.Nat.{div-mul-add}
@@ -42,12 +42,9 @@ unfolding stretch
 after_more s mid new from a i t reached slotted time =
     slotted ∙ rw (reached, time, add-one) (after-after s (stretch s.view from a i) _)
 
--- the next slot lies in the same microsecond, or begins the next one
-pub slot_within : (a i q r w : ℕ) → a + i ≡ q * r + w → a + (i + 1) ≡ q * r + (w + 1)
-slot_within a i q r w here = omega (arith, here)
-
-pub slot_begins : (a i q r w : ℕ) → a + i ≡ q * r + w → w + 1 ≡ r → a + (i + 1) ≡ (q + 1) * r + 0
-slot_begins a i q r w here full =
+-- where all slots of a microsecond are behind, the next one begins another
+pub micros_begins : (k q r w : ℕ) → k ≡ q * r + w → w ≡ r → k ≡ (q + 1) * r + 0
+micros_begins k q r w here full =
     let more : (q + 1) * r ≡ q * r + r = rw (add-one) (suc-mul q r) in
     omega (arith, here, full, more)
 
@@ -79,3 +76,51 @@ pub slot_time :
 slot_time from a i q r w speed here within is =
     let quotient : (a + i) / r ≡ q = ap (λ x. x / r) here ∙ div-mul-add _ _ _ within in
     ap (λ x. from + x) (sym quotient ∙ ap (λ s. (a + i) / s) is)
+
+-- slots that lie in the same microseconds, whatever the grant that they are counted from
+stretch-same :
+    (v : View) (from a from' a' n : ℕ) →
+    ((j : ℕ) → j < n → slot_at from v.numbers.speed (a + j) ≡ slot_at from' v.numbers.speed (a' + j)) →
+    stretch v from a n ≡ stretch v from' a' n
+unfolding stretch
+stretch-same v from a from' a' zero same = refl
+stretch-same v from a from' a' (suc n) same =
+    rw (stretch-same v from a from' a' n (λ j h. same j (omega arith)), same n (omega arith)) refl
+
+-- a stretch after a stretch, of boards that have made something before
+pub after_stretch :
+    (s mid new : State) (from a m n : ℕ) →
+    mid ≡ after s (stretch s.view from a m) → new ≡ after mid (stretch mid.view from (a + m) n) →
+    new ≡ after s (stretch s.view from a (m + n))
+after_stretch s mid new from a m n reached passed_on =
+    let first = stretch s.view from a m in
+    passed_on
+    ∙ rw reached (after-after s first (stretch first.view from (a + m) n))
+    ∙ ap (after s) (sym (stretch-add s.view from a m n))
+
+-- slots more, all in the microsecond of the next one
+pub after_slots :
+    (s mid new : State) (from a i q r w m now : ℕ) →
+    mid ≡ after s (stretch s.view from a i) → new ≡ after mid (stretch mid.view now 0 m) →
+    a + i ≡ q * r + w → w + m ≤ r → r ≡ s.view.numbers.speed → now ≡ from + q →
+    new ≡ after s (stretch s.view from a (i + m))
+after_slots s mid new from a i q r w m now reached taken here within is time =
+    let kept : mid.view.numbers.speed ≡ s.view.numbers.speed =
+    ap {A = State} (λ b. b.view.numbers.speed) reached ∙ speed-stretch _ _ _ _ in
+    let speed : r ≡ mid.view.numbers.speed = is ∙ sym kept in
+    let same : (j : ℕ) → j < m →
+    slot_at now mid.view.numbers.speed (0 + j) ≡ slot_at from mid.view.numbers.speed (a + i + j) =
+    λ j h. sym (slot_time now 0 j 0 r j mid.view.numbers.speed (omega arith) (omega (arith, h, within)) speed)
+    ∙ omega (arith, time)
+    ∙ slot_time from (a + i) j q r (w + j) mid.view.numbers.speed (omega (arith, here)) (omega (arith, h, within)) speed in
+    after_stretch s mid new from a i m reached (taken ∙ ap (after mid) (stretch-same mid.view now 0 from (a + i) m same))
+
+-- one slot more of the same microsecond
+pub after_next :
+    (s mid new : State) (t i : ℕ) →
+    mid ≡ after s (stretch s.view t 0 i) → new ≡ after mid (slot mid.view t) → i < s.view.numbers.speed →
+    new ≡ after s (stretch s.view t 0 (i + 1))
+after_next s mid new t i reached slotted within =
+    let time : t ≡ slot_at t s.view.numbers.speed (0 + i) =
+    omega arith ∙ slot_time t 0 i 0 s.view.numbers.speed i s.view.numbers.speed (omega arith) within refl in
+    after_more s mid new t 0 i t reached slotted time

@@ -1,4 +1,5 @@
 pub mod Copies
+pub mod Ended
 pub mod Fit
 pub mod Made
 pub mod Remembers

@@ -39,6 +39,16 @@ pub enum Turn {
     Starved(u64),
 }
 
+/// How slots of one microsecond have ended.
+enum Ended {
+    /// All were taken.
+    All,
+    /// So many were taken, and in the last one the processor went on waiting.
+    Idle(u64),
+    /// So many were taken, since memory ran out.
+    Starved(u64),
+}
+
 /// A board, which takes one slot after another. Its devices are those that it was made with: they
 /// are seen as their states, in the order of the plan.
 #[derive(Drop)]
@@ -70,6 +80,7 @@ impl<D: Device> Board<D> {
     ghost use Rattle.board.specs.Inner.Fit.{IsStateOf, with_controller};
     ghost use Rattle.board.specs.Lines.{sampled, lines_of, timer_up};
     ghost use Rattle.board.specs.Slot.{slot, running, sampling, awake, asleep, cycle};
+    ghost use Rattle.board.specs.Inner.Ended.{HasEnded, taken_of};
     ghost use Rattle.board.specs.Inner.Remembers.{is_wired};
     ghost use Rattle.rv_hart.specs.Trap.{interrupt};
     ghost use Rattle.page_ram.specs.Bytes.{zeros};
@@ -166,22 +177,44 @@ impl<D: Device> Board<D> {
         let mut within = at.first % speed;
         let mut i = 0;
         while i < n {
-            let Ok(idle) = self.slot::<COPY>(wired, Micros(at.from.0 + micros)) else {
-                return Turn::Starved(i);
-            };
-            i += 1;
-            within += 1;
-            if within == speed {
-                within = 0;
-                micros += 1;
-            }
-            if idle {
-                i += self.pass_idle(wired, at, i, n);
-                micros = (at.first + i) / speed;
-                within = (at.first + i) % speed;
+            let count = u64::min(speed - within, n - i);
+            match self.slots_of::<COPY>(wired, Micros(at.from.0 + micros), count) {
+                Ended::All => {
+                    i += count;
+                    within += count;
+                    if within == speed {
+                        within = 0;
+                        micros += 1;
+                    }
+                }
+                Ended::Idle(taken) => {
+                    i += taken;
+                    i += self.pass_idle(wired, at, i, n);
+                    micros = (at.first + i) / speed;
+                    within = (at.first + i) % speed;
+                }
+                Ended::Starved(taken) => return Turn::Starved(i + taken),
             }
         }
         Turn::Used(n)
+    }
+
+    /// The next `count` slots, all in this microsecond, or those up to an idle one.
+    fn slots_of<const COPY: u8>(&mut self, wired: bool, now: Micros, count: u64) -> Ended
+        requires wired { wired ≡ is_wired self.old.view.space.plan }
+        requires most { count ≤ self.old.view.numbers.speed }
+        ensures ended { HasEnded count result }
+        ensures run { self.new ≡ after self.old (stretch self.old.view now.0 0 (taken_of count result)) }
+    {
+        for i in 0..count {
+            let Ok(idle) = self.slot::<COPY>(wired, now) else {
+                return Ended::Starved(i);
+            };
+            if idle {
+                return Ended::Idle(i + 1);
+            }
+        }
+        Ended::All
     }
 
     /// Passes over idle slots, of those from slot `i` of the call on: up to the first one in the

@@ -186,7 +186,7 @@ impl<D: Device> Space<D> {
         ensures same { self.new ≡ self.old }
     {
         match self.regions.near_code(at) {
-            Some(place) => Some(self.load_memory(place.part, place.at, 4)),
+            Some(place) => Some(self.word_of_memory(place.part, place.at)),
             // taken apart, so that no tag is tested where a memory is near
             None => Some(self.fetch_anew(at)?),
         }
@@ -200,7 +200,7 @@ impl<D: Device> Space<D> {
         ensures same { self.new ≡ self.old }
     {
         match self.find_code(at) {
-            Target::Ram { part, at } => Some(self.load_memory(part, at, 4)),
+            Target::Ram { part, at } => Some(self.word_of_memory(part, at)),
             _ => None,
         }
     }
@@ -244,15 +244,26 @@ impl<D: Device> Space<D> {
         self.regions.find(at, width)
     }
 
+    /// The word at a place of a memory, which may lie in two pages.
+    #[inline(always)]
+    fn word_of_memory(&self, part: u8, at: u32) -> u32
+        requires part { part < length self.now.memories }
+        requires lies { at + 4 ≤ length (memory_at self.now part) }
+        ensures { result ≡ value_at (memory_at self.now part) at 4 }
+    {
+        self.memories[usize::from(part)].load(at, 4)
+    }
+
     #[inline(always)]
     pub fn load_memory(&self, part: u8, at: u32, width: u8) -> u32
         requires width { IsWidth width }
         requires part { part < length self.now.memories }
         requires lies { at + width ≤ length (memory_at self.now part) }
+        requires page { IsInOnePage at width }
         ensures value { result ≡ value_at (memory_at self.now part) at width }
         ensures fits { result < 256 ^ width }
     {
-        self.memories[usize::from(part)].load(at, width)
+        self.memories[usize::from(part)].load_in_page(at, width)
     }
 
     #[inline(always)]

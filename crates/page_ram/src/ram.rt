@@ -52,14 +52,26 @@ impl PageRam {
         ensures value { result ≡ value_at self.now at width }
         ensures fits { result < 256 ^ width }
     {
-        let i = at as usize;
-        let offset = i % PAGE;
-        if PAGE - offset < width as usize {
-            return self.load_across(at, width);
+        if PAGE - at as usize % PAGE < width as usize {
+            self.load_across(at, width)
+        } else {
+            self.load_in_page(at, width)
         }
+    }
+
+    /// The same, of bytes that lie in one page.
+    #[inline]
+    pub fn load_in_page(&self, at: u32, width: u8) -> u32
+        requires width { IsWidth width }
+        requires fits { at + width ≤ length self.now }
+        requires page { IsInOnePage at width }
+        ensures value { result ≡ value_at self.now at width }
+        ensures fits { result < 256 ^ width }
+    {
+        let i = at as usize;
         match self.pages[i / PAGE].load() {
             None => 0,
-            Some(page) => number_at(page, offset, width),
+            Some(page) => number_at(page, i % PAGE, width),
         }
     }
 

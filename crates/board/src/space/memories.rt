@@ -58,7 +58,7 @@ impl<D: Device> Space<D> {
         ensures { result ≡ word_in self.now at }
     {
         match self.find(at, 4) {
-            Target::Ram { part, at } => Some(self.load_memory(part, at, 4)),
+            Target::Ram { part, at } => Some(self.word_of_memory(part, at)),
             _ => None,
         }
     }

@@ -1,13 +1,10 @@
-use Rattle.std.proofs.Common.{◌≡◌, ◌∙◌, ap, sym, subst, arith, add-zero, ℕ, ◌+◌, ◌/◌, ◌≤◌}
+use Rattle.std.proofs.Common.{◌≡◌, ◌∙◌, ap, sym, subst, refl, arith, add-zero, add_assoc, ℕ, ◌+◌, ◌/◌, ◌≤◌}
 use Rattle.std.proofs.lemmas.Nat.{div-add-mod', mod_below}
-use Rattle.board.proofs.IdleLemmas.{after_passed}
 use Rattle.board.proofs.NumberLemmas.{plan-stretch, speed-stretch}
-use Rattle.board.proofs.StretchLemmas.{after_none, after_more, slot_time, slot_within, slot_begins}
+use Rattle.board.proofs.StretchLemmas.{after_none, after_stretch, after_slots, micros_begins}
 use Rattle.board.specs.Inner.Remembers.{is_wired}
-use Rattle.board.specs.Stretch.{stretch}
-use Rattle.board.specs.View.{State, after}
+use Rattle.board.specs.View.{State}
 use Rattle.board.proofs.board.Board.slots.Goals as goal
-use Rattle.board.proofs.board.Board.slots.Goals.{then-within-speed, else-within-speed}
 
 pub loop-i-init : goal.loop-i-init
 loop-i-init g c = record {
@@ -17,53 +14,75 @@ loop-i-init g c = record {
   most = omega arith;
 }
 
+pub slots_of-requires-clause-wired : goal.slots_of-requires-clause-wired
+slots_of-requires-clause-wired g c =
+    let kept = ap {A = State} (λ s. s.view.space.plan) c.loop-i.invariant.run ∙ plan-stretch _ _ _ _ in
+    c.requires.wired ∙ ap is_wired (sym kept)
+
+pub slots_of-requires-clause-most : goal.slots_of-requires-clause-most
+slots_of-requires-clause-most g c =
+    let kept = ap {A = State} (λ s. s.view.numbers.speed) c.loop-i.invariant.run ∙ speed-stretch _ _ _ _ in
+    omega (arith, kept, c.from-speed.ensures, c.speed.ensures.value, c.min-count.ensures)
+
+pub loop-i-preserved-then-within-speed : goal.loop-i-preserved-then-within-speed
+loop-i-preserved-then-within-speed g c =
+    let now = c.loop-i.invariant in
+    let speed = c.from-speed.ensures ∙ c.speed.ensures.value in
+    let next = sym (add_assoc _ _ _) ∙ ap (λ k. k + c.min-count.result) now.next ∙ add_assoc _ _ _ in
+    record {
+      run =
+          after_slots _ _ _ _ _ _ _ _ _ _ _ now.run c.in-All.ensures.run now.next
+          (omega (arith, c.min-count.ensures, now.within)) speed refl;
+      next = micros_begins _ _ _ _ next c.if-within-speed.true;
+      within = omega (arith, now.within);
+      most = omega (arith, c.min-count.ensures, now.most);
+    }
+
+pub loop-i-preserved-else-within-speed : goal.loop-i-preserved-else-within-speed
+loop-i-preserved-else-within-speed g c =
+    let now = c.loop-i.invariant in
+    let speed = c.from-speed.ensures ∙ c.speed.ensures.value in
+    record {
+      run =
+          after_slots _ _ _ _ _ _ _ _ _ _ _ now.run c.in-All.ensures.run now.next
+          (omega (arith, c.min-count.ensures, now.within)) speed refl;
+      next = omega (arith, now.next);
+      within = omega (arith, c.if-within-speed.false, c.min-count.ensures, now.within);
+      most = omega (arith, c.min-count.ensures, now.most);
+    }
+
 pub pass_idle-i-requires-clause-time : goal.pass_idle-i-requires-clause-time
 pass_idle-i-requires-clause-time g c =
-    let now = c.loop-i.invariant in
-    let time = slot_time _ _ _ _ _ _ _ now.next now.within (c.from-speed.ensures ∙ c.speed.ensures.value) in
-    let run = after_more _ _ _ _ _ _ _ now.run c.in-Ok.ensures.ok time in
-    let kept = ap {A = State} (λ s. s.view.numbers.speed) run ∙ speed-stretch _ _ _ _ in
-    subst (λ (q : ℕ). c.args.at.from.0 + (c.args.at.first + c.args.n) / q ≤ 10000000000) (sym kept) c.requires.time
+    let taken = ap {A = State} (λ s. s.view.numbers.speed) c.in-Idle.ensures.run ∙ speed-stretch _ _ _ _ in
+    let kept = ap {A = State} (λ s. s.view.numbers.speed) c.loop-i.invariant.run ∙ speed-stretch _ _ _ _ in
+    subst (λ (q : ℕ). c.args.at.from.0 + (c.args.at.first + c.args.n) / q ≤ 10000000000) (sym (taken ∙ kept))
+    c.requires.time
 
 pub pass_idle-i-requires-clause-wired : goal.pass_idle-i-requires-clause-wired
 pass_idle-i-requires-clause-wired g c =
-    let now = c.loop-i.invariant in
-    let time = slot_time _ _ _ _ _ _ _ now.next now.within (c.from-speed.ensures ∙ c.speed.ensures.value) in
-    let run = after_more _ _ _ _ _ _ _ now.run c.in-Ok.ensures.ok time in
-    let kept = ap {A = State} (λ s. s.view.space.plan) run ∙ plan-stretch _ _ _ _ in
-    c.requires.wired ∙ ap is_wired (sym kept)
+    let taken = ap {A = State} (λ s. s.view.space.plan) c.in-Idle.ensures.run ∙ plan-stretch _ _ _ _ in
+    let kept = ap {A = State} (λ s. s.view.space.plan) c.loop-i.invariant.run ∙ plan-stretch _ _ _ _ in
+    c.requires.wired ∙ ap is_wired (sym (taken ∙ kept))
 
-pub loop-i-preserved-then-idle : goal.loop-i-preserved-then-idle
-loop-i-preserved-then-idle g c =
+pub loop-i-preserved : goal.loop-i-preserved
+loop-i-preserved g c =
     let now = c.loop-i.invariant in
-    let time = slot_time _ _ _ _ _ _ _ now.next now.within (c.from-speed.ensures ∙ c.speed.ensures.value) in
-    let run = after_more _ _ _ _ _ _ _ now.run c.in-Ok.ensures.ok time in
+    let speed = c.from-speed.ensures ∙ c.speed.ensures.value in
+    let run = after_slots _ _ _ _ _ _ _ _ _ _ _ now.run c.in-Idle.ensures.run now.next
+    (omega (arith, c.in-Idle.ensures.ended, c.min-count.ensures, now.within)) speed refl in
     record {
-      run = after_passed _ _ _ _ _ _ _ run c.pass_idle-i.ensures.run;
+      run = after_stretch _ _ _ _ _ _ _ run c.pass_idle-i.ensures.run;
       next = sym (div-add-mod' _ _);
       within = mod_below _ _ (omega (arith, c.from-speed.ensures, c.speed.ensures.least));
       most = c.pass_idle-i.ensures.most;
     }
 
-pub loop-i-preserved : goal.loop-i-preserved
-loop-i-preserved g c =
+pub returns-in-Starved : goal.returns-in-Starved
+returns-in-Starved g c =
     let now = c.loop-i.invariant in
-    let time = slot_time _ _ _ _ _ _ _ now.next now.within (c.from-speed.ensures ∙ c.speed.ensures.value) in
-    record {
-      run = after_more _ _ _ _ _ _ _ now.run c.in-Ok.ensures.ok time;
-      next = elim c.if-within-speed.branch [
-        | then-within-speed w ↦
-            rw (w.micros-is, w.within-is) (slot_begins _ _ _ _ _ now.next (omega (arith, w.if-within-speed)))
-        | else-within-speed w ↦ rw (w.micros-is, w.within-is) (slot_within _ _ _ _ _ now.next)
-      ];
-      within = elim c.if-within-speed.branch [
-        | then-within-speed w ↦ rw (w.within-is) (omega (arith, w.if-within-speed))
-        | else-within-speed w ↦ rw (w.within-is) (omega (arith, w.if-within-speed, now.within))
-      ];
-      most = omega (arith, c.loop-i-test.true);
-    }
-
-pub slot-requires : goal.slot-requires
-slot-requires g c =
-    let kept = ap {A = State} (λ s. s.view.space.plan) c.loop-i.invariant.run ∙ plan-stretch _ _ _ _ in
-    c.requires.wired ∙ ap is_wired (sym kept)
+    let speed = c.from-speed.ensures ∙ c.speed.ensures.value in
+    (
+      omega (arith, c.in-Starved.ensures.ended, c.min-count.ensures),
+      after_slots _ _ _ _ _ _ _ _ _ _ _ now.run c.in-Starved.ensures.run now.next
+      (omega (arith, c.in-Starved.ensures.ended, c.min-count.ensures, now.within)) speed refl,
+    )
