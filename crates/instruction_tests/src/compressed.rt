@@ -1,4 +1,5 @@
 //! Half-words and words done by a hart with compressed instructions, at a pc that is divisible by 2 alone.
+ghost use Rattle.std.specs.Prelude.{false, true};
 ghost use Rattle.rv_exec.specs.Fetched.{IsPerformable};
 
 use crate::step::memory::Memory;
