@@ -9,11 +9,12 @@ use Rattle.lab_num.specs.Paid.{slot_at}
 use Rattle.rv_hart.specs.declared.csr.Lines.{Lines}
 use Rattle.rv_hart.specs.Core.{Core, ticked}
 use Rattle.rv_hart.specs.Trap.{chosen, interrupt, is_ready}
-use Rattle.rv_exec.specs.Effect.{effect_of_fetch, core_after}
+use Rattle.rv_exec.specs.Effect.{core_after}
+use Rattle.board.specs.Fetch.{effect_on}
 use Rattle.sys_bus.specs.declared.plan.BoardPlan.{BoardPlan}
 use Rattle.board.specs.Lines.{sampled, lines_of}
 use Rattle.board.specs.Numbers.{Numbers, one_more}
-use Rattle.board.specs.Wires.{fetched, answer}
+use Rattle.board.specs.Wires.{answer}
 use Rattle.board.specs.View.{View, State, quiet, wires_of, state_of, after}
 use Rattle.board.specs.Slot.{slot, running, sampling, awake, asleep, woken, cycle, instruction}
 use Rattle.board.specs.Stretch.{stretch}
@@ -117,7 +118,7 @@ run_awake v t lines = by_chosen (chosen v.core lines.mip)
         IsRun v.space.plan v.numbers 1
         (option_map_or (λ n. cycle v (interrupt v.core n)) taken (instruction v t lines))
     by_chosen None =
-        let effect = effect_of_fetch v.core (fetched (wires_of v t) v.core.pc) lines in
+        let effect = effect_on v.core (wires_of v t) lines in
         let core = core_after answer (wires_of v t) effect in
         by_effect (λ f. IsRun v.space.plan v.numbers 1 (state_of core (f [] []))) (wires_of v t) effect (each core)
     by_chosen (Some n) = run_none (record v { core = ticked (interrupt v.core n) }) 1

@@ -15,9 +15,10 @@ use Rattle.dev_core.specs.declared.post.What.TheVariants as what
 use Rattle.sys_bus.specs.declared.region.Target.{Target}
 use Rattle.sys_bus.specs.declared.region.Target.TheVariants.{Ram, Clint, Plic, Dev, Nothing}
 use Rattle.board.specs.Space.{Space, device_at, target_at, device_store, after_load, after_store}
-use Rattle.board.specs.Wires.{Wires, posted, entered, entered_if, note_if, sent, acted, fetched, answer, loaded, stored}
+use Rattle.board.specs.Wires.{Wires, posted, entered, entered_if, note_if, sent, acted, answer, loaded, stored}
 use Rattle.board.specs.Wires.{loaded_from, stored_to}
-use Rattle.rv_exec.specs.Effect.{Effect, Done, Load, Store, effect_of_fetch, core_after, bus_after}
+use Rattle.rv_exec.specs.Effect.{Effect, Done, Load, Store, core_after, bus_after}
+use Rattle.board.specs.Fetch.{effect_on}
 use Rattle.board.specs.View.{View, State, quiet, state_of, after}
 use Rattle.board.specs.Slot.{slot, awake}
 
@@ -107,13 +108,13 @@ quiet-behind s = sym (simp append-nil)
 pub awake-instruction :
     (core core' : Core) (w begun w' : Wires) (t : ℕ) (lines : Lines) →
     chosen core lines.mip ≡ None → begun ≡ record w { at = t } →
-    core' ≡ core_after answer begun (effect_of_fetch core (fetched begun core.pc) lines) →
-    w' ≡ bus_after loaded stored begun (effect_of_fetch core (fetched begun core.pc) lines) →
+    core' ≡ core_after answer begun (effect_on core begun lines) →
+    w' ≡ bus_after loaded stored begun (effect_on core begun lines) →
     state_of core' w' ≡ after (state_of core w) (awake (state_of core w).view t lines)
 unfolding awake
 awake-instruction core core' w begun w' t lines none begins core_is wires_is =
     let begun' : Wires = record w { at = t } in
-    let effect = effect_of_fetch core (fetched begun' core.pc) lines in
+    let effect = effect_on core begun' lines in
     rw (core_is, wires_is, begins, none)
     (ap (λ now. state_of (core_after answer begun' effect) now) (effect-behind begun' effect))
 

@@ -2,6 +2,7 @@ pub mod Numbers
 pub mod Space
 pub mod Lines
 pub mod Wires
+pub mod Fetch
 pub mod View
 pub mod Slot
 pub mod Stretch

@@ -10,7 +10,7 @@ use Rattle.dev_core.specs.Device.{dev_reset, kind_of}
 use Rattle.dev_core.specs.Uart.{uart_reset}
 use Rattle.page_ram.specs.Bytes.{zeros}
 use Rattle.plic.specs.State.{Controller, plic_reset}
-use Rattle.rv_hart.specs.Core.{initial}
+use Rattle.rv_hart.specs.Core.{initial_with}
 use Rattle.sys_bus.specs.declared.plan.BoardPlan.{BoardPlan}
 use Rattle.sys_bus.specs.declared.plan.PlicSize.{PlicSize}
 use Rattle.board.specs.Numbers.{Numbers}
@@ -48,13 +48,13 @@ new_space plan = record {
   devices = map hidden (first_states plan);
 }
 
--- a new board has made nothing yet, and goes at the speed of its plan
+-- a new board has made nothing yet, goes at the speed of its plan, and has a processor of the plan's letters
 abbrev pub new_numbers : ℕ → BoardPlan → Numbers
 new_numbers number plan = record { number = number; speed = plan.speed; posted = 0; entered = 0 }
 
 abbrev pub new_board : ℕ → BoardPlan → View
 new_board number plan =
-    record { numbers = new_numbers number plan; core = initial; space = new_space plan }
+    record { numbers = new_numbers number plan; core = initial_with plan.letters 0; space = new_space plan }
 
 -- a device after a reset, which stays shown
 abbrev pub reset_device : Fitted → Fitted
@@ -77,7 +77,11 @@ reset_space s = record s {
 -- a board after a reset: its processor, its timer, its interrupt controller and its devices are in their first states,
 -- and all else is as before, the halted processor too
 abbrev pub reset : View → View
-reset v = record v { core = record initial { halted = v.core.halted }; space = reset_space v.space }
+reset v =
+    record v {
+      core = record (initial_with v.space.plan.letters 0) { halted = v.core.halted };
+      space = reset_space v.space;
+    }
 
 -- what a reset keeps of an interrupt controller
 abbrev pub size_of : Controller → PlicSize

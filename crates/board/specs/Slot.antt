@@ -4,9 +4,10 @@ use Rattle.std.specs.Option.{option_map_or}
 use Rattle.rv_hart.specs.declared.csr.Lines.{Lines}
 use Rattle.rv_hart.specs.Core.{Core, ticked}
 use Rattle.rv_hart.specs.Trap.{chosen, interrupt, is_ready}
-use Rattle.rv_exec.specs.Effect.{Effect, effect_of_fetch, core_after, bus_after}
+use Rattle.rv_exec.specs.Effect.{Effect, core_after, bus_after}
 use Rattle.board.specs.Lines.{sampled, lines_of}
-use Rattle.board.specs.Wires.{Wires, fetched, answer, loaded, stored}
+use Rattle.board.specs.Fetch.{effect_on}
+use Rattle.board.specs.Wires.{Wires, answer, loaded, stored}
 use Rattle.board.specs.View.{View, State, quiet, wires_of, state_of}
 
 -- a slot that leaves the processor like this, but for its cycle, which is counted
@@ -20,7 +21,7 @@ carried_out w effect = state_of (core_after answer w effect) (bus_after loaded s
 -- one instruction, or its exception entry
 abbrev pub instruction : View → ℕ → Lines → State
 instruction v t lines =
-    carried_out (wires_of v t) (effect_of_fetch v.core (fetched (wires_of v t) v.core.pc) lines)
+    carried_out (wires_of v t) (effect_on v.core (wires_of v t) lines)
 
 -- a slot of a processor that does not wait: the entry of the interrupt that is taken now, or with none an instruction
 unfoldable pub awake : View → ℕ → Lines → State

@@ -1,13 +1,13 @@
 //! The board: its slots, and what they make.
-ghost use Rattle.std.specs.Prelude.{◌≡◌, ◌≢◌, ℕ, ◌+◌, ◌/◌, ◌%◌, ◌<◌, ◌≤◌, ◌^◌, [], true, length, drop, map, All};
+ghost use Rattle.std.specs.Prelude.{◌≡◌, ◌≢◌, ℕ, ◌+◌, ◌/◌, ◌%◌, ◌==◌, ◌<◌, ◌≤◌, ◌^◌, [], true, length, drop, map, All};
 ghost use Rattle.std.specs.Prelude.{slice_get, slice_index_or, OnOk, OnErr, IfOk, IfErr, IfSome, IsTrue};
 ghost use Rattle.rv_hart.specs.Trap.{chosen};
 
+use crate::instruction::instruction;
 use crate::wires::{Rooms, Wires};
 use dev_core::{Device, Entry, Payload, Post, Taken};
 use lab_num::{BoardNo, Micros, NoMemory};
 use plic::PlicState;
-use rv_exec::step;
 use rv_hart::{Hart, Lines};
 use std::alloc::Global;
 use std::marker::Model;
@@ -84,7 +84,7 @@ impl<D: Device> Board<D> {
     ghost use Rattle.board.specs.Inner.Remembers.{is_wired};
     ghost use Rattle.rv_hart.specs.Trap.{interrupt};
     ghost use Rattle.page_ram.specs.Bytes.{zeros};
-    ghost use Rattle.rv_hart.specs.Core.{reg};
+    ghost use Rattle.rv_hart.specs.Core.{alignment, reg};
     ghost use Rattle.board.specs.Stretch.{IsTurn, stretch};
     ghost use Rattle.board.specs.Idle.{passed, is_idle};
 
@@ -105,8 +105,9 @@ impl<D: Device> Board<D> {
         let Ok(rooms) = Rooms::new(alloc, number, &plan, devices.len()) else {
             return Err(devices);
         };
+        let letters = plan.letters;
         Ok(Board {
-            hart: Hart::new(),
+            hart: Hart::with(letters, 0),
             wires: Wires::new(plan, rooms, devices),
         })
     }
@@ -380,7 +381,7 @@ impl<D: Device> Board<D> {
             return Ok(());
         }
         self.wires.begin_slot(at);
-        let Ok(()) = step(&mut self.hart, &mut self.wires, lines) else {
+        let Ok(()) = instruction(&mut self.hart, &mut self.wires, lines) else {
             return Err(NoMemory);
         };
         Ok(())
@@ -485,17 +486,25 @@ impl<D: Device> Board<D> {
         ensures { self.new ≡ record self.old { view = reset self.old.view } }
     {
         let halted = self.hart.halted();
-        self.hart = Hart::new();
+        self.hart = Hart::with(self.wires.space.plan().letters, 0);
         self.hart.set_halted(halted);
         self.wires.space.reset();
     }
 
-    /// Sets the address of the next instruction.
+    /// Sets the address of the next instruction, which is divisible by 4, or with compressed
+    /// instructions by 2.
     pub fn set_pc(&mut self, pc: u32)
-        requires { pc % 4 ≡ 0 }
+        requires { pc % alignment self.old.view.core.letters ≡ 0 }
         ensures { self.new ≡ record self.old { view = with_pc self.old.view pc } }
     {
         self.hart.set_pc(pc);
+    }
+
+    /// Whether the next instruction may lie at an address.
+    pub fn aligns(&self, pc: u32) -> bool
+        ensures { result ≡ (pc % alignment self.now.view.core.letters == 0) }
+    {
+        self.hart.letters().aligns(pc)
     }
 
     /// The address of the next instruction.

@@ -4,6 +4,7 @@
 
 mod board;
 mod fitted;
+mod instruction;
 mod laws;
 mod made;
 mod numbers;

@@ -15,6 +15,7 @@ ghost use Rattle.board.specs.Inner.Fit.{IsFit, LiesIn, IsInPage, HoldsAccesses};
 ghost use Rattle.board.specs.Inner.Remembers.{is_wired};
 
 mod devices;
+mod halves;
 mod interrupts;
 mod lines;
 mod memories;

@@ -4,6 +4,8 @@
 #[cfg(test)]
 mod boards;
 #[cfg(test)]
+mod halves;
+#[cfg(test)]
 mod parts;
 #[cfg(test)]
 mod plans;

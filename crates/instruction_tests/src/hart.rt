@@ -1,5 +1,5 @@
 //! Rows from the manuals.
-use rv_hart::{CsrFault, Exception, Hart, HartState, Lines};
+use rv_hart::{CsrFault, Exception, Hart, HartState, Letters, Lines};
 use std::test::Fail;
 
 const LINES: Lines = Lines {
@@ -257,12 +257,12 @@ fn moves((rd, value, read): (u8, u32, u32)) -> bool {
     let mut hart = Hart::new();
     hart.set_register(rd, value);
     let set = hart.register(rd);
-    hart.finish(rd, value);
-    hart.advance();
+    hart.finish(4, rd, value);
+    hart.advance(4);
     let finished = (hart.register(rd), hart.pc());
-    hart.jump(rd, 0xFFFF_FFFC);
+    hart.jump(4, rd, 0xFFFF_FFFC);
     let linked = hart.register(rd);
-    hart.advance();
+    hart.advance(4);
     set == read
         && finished == (read, 8)
         && linked == (if rd == 0 { 0 } else { 12 })
@@ -286,4 +286,51 @@ fn an_instruction_moves_the_hart(rt: HostRuntime) {
         assert!(rt; moves(*row), "{row:?}");
     }
     assert!(rt; counts_and_waits());
+}
+
+/// The letters A and C, the number, and what misa reads, and mepc where all its bits were written.
+static LETTERS: [(bool, bool, u8, u32, u32); 4] = [
+    (false, false, 0, 0x4000_1100, 0xFFFF_FFFC),
+    (false, true, 0, 0x4000_1104, 0xFFFF_FFFE),
+    (true, false, 3, 0x4000_1101, 0xFFFF_FFFC),
+    (true, true, 1, 0x4000_1105, 0xFFFF_FFFE),
+];
+
+fn reads_its_letters((a, c, number, misa, mepc): (bool, bool, u8, u32, u32)) -> bool {
+    let letters = Letters { a, c };
+    let mut hart = Hart::with(letters, number);
+    hart.csr_write(0x341, 0xFFFF_FFFF).is_ok()
+        && hart.csr_read(0x301, LINES) == Ok(misa)
+        && hart.csr_read(0x341, LINES) == Ok(mepc)
+        && hart.csr_read(0xF14, LINES) == Ok(u32::from(number))
+        && hart.letters() == letters
+}
+
+/// Whether there are compressed instructions, mepc, the pc, and whether a hart can have them.
+static PLACES: [(bool, u32, u32, bool); 6] = [
+    (true, 0x102, 0x106, true),
+    (true, 0x101, 0, false),
+    (true, 0, 0x103, false),
+    (false, 0x104, 0x108, true),
+    (false, 0x102, 0, false),
+    (false, 0, 0x106, false),
+];
+
+fn is_placed((c, mepc, pc, is_valid): (bool, u32, u32, bool)) -> bool {
+    let state = HartState {
+        mepc,
+        pc,
+        ..Hart::with(Letters { a: false, c }, 2).state()
+    };
+    Hart::of(&state).is_some() == is_valid
+}
+
+#[test]
+fn letters_are_read_and_say_where_instructions_lie(rt: HostRuntime) {
+    for row in &LETTERS {
+        assert!(rt; reads_its_letters(*row), "{row:?}");
+    }
+    for row in &PLACES {
+        assert!(rt; is_placed(*row), "{row:?}");
+    }
 }

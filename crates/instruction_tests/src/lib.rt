@@ -4,6 +4,8 @@
 #[cfg(test)]
 mod assembler;
 #[cfg(test)]
+mod compressed;
+#[cfg(test)]
 mod decoder;
 #[cfg(test)]
 mod encoder;

@@ -4,7 +4,7 @@ use rv_exec::{NoMemory, step};
 use rv_hart::{Hart, HartState, Lines};
 use std::process::Abort;
 
-mod memory;
+pub mod memory;
 
 const LINES: Lines = Lines {
     mip: 0,

@@ -1,5 +1,5 @@
 -- The plan of every generated board.
-use Rattle.std.specs.Prelude.{List, [], ◌∷◌, codes, None}
+use Rattle.std.specs.Prelude.{List, [], ◌∷◌, codes, false, None}
 use Rattle.dev_core.specs.declared.kind.Kind.TheVariants.{Uart}
 use Rattle.sys_bus.specs.declared.plan.BoardPlan.{BoardPlan}
 use Rattle.sys_bus.specs.declared.plan.Named.{Named}
@@ -21,7 +21,7 @@ regions =
     ∷ record { base = 0x10000000; size = 0x100; kind = Dev 0; step = 1 }
     ∷ []
 
--- 10 instructions in a microsecond, and no wires
+-- 10 instructions in a microsecond, no wires, and a processor without optional extensions
 abbrev pub plan : BoardPlan
 plan = record {
   names = names;
@@ -33,4 +33,5 @@ plan = record {
   wires = [];
   speed = 10;
   cpu = codes "cpu";
+  letters = record { a = false; c = false };
 }

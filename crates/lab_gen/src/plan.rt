@@ -4,6 +4,7 @@ ghost use Rattle.lab_gen.specs.Plan as plan_spec;
 
 use dev_core::Kind;
 use lab_num::{NoMemory, Rows, Text};
+use rv_hart::Letters;
 use std::alloc::Global;
 use sys_bus::{BoardPlan, Named, NamedWhat, Region, RegionKind};
 
@@ -55,5 +56,6 @@ pub(crate) fn plan(alloc: Global) -> Result<BoardPlan, NoMemory>
         wires: Rows::of(Vec::new(alloc)),
         speed: 10,
         cpu: Text::of(alloc, "cpu")?,
+        letters: Letters { a: false, c: false },
     })
 }

@@ -64,6 +64,40 @@ pub const LOOPS: [(&str, &str); 7] = [
     ),
 ];
 
+/// Loops of half-words, as an assembler for RV32IMC gives them.
+pub const HALF_WORDS: [(&str, &str); 4] = [
+    // c.j and c.jal, each to the next half-word, and c.j to the first
+    (
+        "jumps",
+        ".word 0x2009A009\n.word 0xA009A009\n.word 0xA0092009\n.word 0x2009A009\n\
+            .word 0xB7FDA009\n",
+    ),
+    // c.li x8, 17; c.li x9, -3; then in the loop c.addi x8, 5; c.add x10, x8; c.sub x10, x9; c.xor x11, x10;
+    // c.or x11, x8; c.and x11, x10; c.slli x11, 3; c.srli x11, 2; c.srai x10, 1; c.andi x10, 15; c.mv x12, x11;
+    // c.li x13, 7; c.add x12, x13; c.lui x14, 5; c.sub x14, x12; c.xor x14, x13; c.addi x14, -1; c.j
+    (
+        "additions",
+        ".word 0x54F54445\n.word 0x95220415\n.word 0x8DA98D05\n.word 0x8DE98DC1\n\
+            .word 0x8189058E\n.word 0x893D8505\n.word 0x469D862E\n.word 0x67159636\n\
+            .word 0x8F358F11\n.word 0xBFF9177D\n",
+    ),
+    // auipc x8, 1; c.mv x2, x8; c.li x9, -7; then in the loop pairs of c.sw and c.lw by x8, and of c.swsp and
+    // c.lwsp; c.j
+    (
+        "memory",
+        ".word 0x00001417\n.word 0x54E58122\n.word 0x4008C004\n.word 0x404CC048\n\
+            .word 0x4622C42E\n.word 0x4454C450\n.word 0x4742C836\n.word 0x485CC858\n\
+            .word 0x0001B7E5\n",
+    ),
+    // c.li x8, 0; c.li x9, 1; then in the loop c.beqz and c.bnez of x8 and x9, half of them taken, each to the
+    // next half-word; c.j
+    (
+        "branches",
+        ".word 0x44854401\n.word 0xFC7DC009\n.word 0xE089DCF5\n.word 0xF87DC009\n\
+            .word 0xE089D8F5\n.word 0x0001BFC5\n",
+    ),
+];
+
 /// What stands before a loop on a wired board: the handler of the timer interrupt, which sets the
 /// next one, and what turns it on.
 pub const INTERRUPTS: &str = "jal x0, begin\naddi x28, x28, 100\nsw x28, 0(x29)\nmret\n\

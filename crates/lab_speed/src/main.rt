@@ -1,6 +1,8 @@
 //! How fast a board runs: `lab_speed LOOP SLOTS` runs a board over a loop of instructions for so many
 //! slots, and prints the loop's name, the slots and minstret. With the word `wired` the board has a
-//! timer, an interrupt controller and wires, and the timer interrupts the loop each 100 microseconds.
+//! timer, an interrupt controller and wires, and the timer interrupts the loop each 100 microseconds. With
+//! `compressed` its processor has compressed instructions, and the loop is one of half-words; with `long` the processor
+//! is the same, and the loop is one of words.
 #![tactic(auto)]
 
 ghost use Rattle.std.specs.Prelude.{◌≡◌};
@@ -13,9 +15,10 @@ mod platform;
 use board::{Board, SlotAt};
 use dev_core::Device;
 use lab_num::Micros;
-use loops::{INTERRUPTS, LOOPS};
+use loops::{HALF_WORDS, INTERRUPTS, LOOPS};
 use platform::board_of;
 use rv_asm::assemble;
+use rv_hart::Letters;
 use std::alloc::Global;
 use std::process::ExitCode;
 use std::rt::Env;
@@ -25,7 +28,8 @@ use uart_16550::Uart;
 
 /// How the program is called.
 const USAGE: &str =
-    "lab_speed LOOP SLOTS [wired], where LOOP is jumps, additions, products, memory, branches, csr or uart";
+    "lab_speed LOOP SLOTS [wired|compressed|long], where LOOP is jumps, additions, products, memory, branches, csr or \
+        uart";
 
 /// Where the memory begins.
 const START: u32 = 0x8000_0000;
@@ -40,27 +44,39 @@ struct Task {
     text: &'static str,
     slots: u64,
     wired: bool,
+    compressed: bool,
 }
 
-/// The loop of this name, with its text.
-fn loop_named(name: &str) -> Option<(&'static str, &'static str)> {
-    LOOPS.into_iter().find(|l| l.0 == name)
+/// The loop of this name, of words or of half-words, with its text.
+fn loop_named(name: &str, half_words: bool) -> Option<(&'static str, &'static str)> {
+    if half_words {
+        HALF_WORDS.into_iter().find(|l| l.0 == name)
+    } else {
+        LOOPS.into_iter().find(|l| l.0 == name)
+    }
 }
 
 /// What the words after the program's name ask for.
 fn asked(words: &[String]) -> Option<Task> {
-    let (name, slots, wired) = match words {
-        [name, slots] => (name, slots, false),
-        [name, slots, wired] if wired.as_str() == "wired" => (name, slots, true),
+    let (name, slots, form) = match words {
+        [name, slots] => (name, slots, ""),
+        [name, slots, form] => (name, slots, form.as_str()),
+        _ => return None,
+    };
+    let (wired, compressed) = match form {
+        "" => (false, false),
+        "wired" => (true, false),
+        "compressed" | "long" => (false, true),
         _ => return None,
     };
     let slots = slots.parse::<u64>().ok()?;
-    let (name, text) = loop_named(name.as_str())?;
+    let (name, text) = loop_named(name.as_str(), form == "compressed")?;
     Some(Task {
         name,
         text,
         slots,
         wired,
+        compressed,
     })
 }
 
@@ -132,7 +148,11 @@ fn run<D: Device>(alloc: Global, task: Task, uart: D, finisher: D) -> Option<u64
     requires uart { D.meaning uart ≡ first_state Kind.Uart }
     requires finisher { D.meaning finisher ≡ first_state Kind.Finisher }
 {
-    let mut board = board_of(alloc, task.wired, uart, finisher)?;
+    let letters = Letters {
+        a: false,
+        c: task.compressed,
+    };
+    let mut board = board_of(alloc, task.wired, letters, uart, finisher)?;
     run_on(alloc, task, &mut board)
 }
 

@@ -7,6 +7,7 @@ ghost use Rattle.sys_bus.specs.Plan.{IsValid};
 use board::Board;
 use dev_core::{Device, Kind};
 use lab_num::{BoardNo, Rows, Text};
+use rv_hart::Letters;
 use std::alloc::Global;
 use sys_bus::{BoardPlan, Named, NamedWhat, PlicSize, Region, RegionKind, Wire, WireFrom, WirePin};
 
@@ -82,7 +83,7 @@ fn wires(alloc: Global, wired: bool) -> Option<Vec<Wire>> {
 }
 
 /// The plan of the board, which takes 25 instructions a microsecond.
-fn plan(alloc: Global, wired: bool) -> Option<BoardPlan>
+fn plan(alloc: Global, wired: bool, letters: Letters) -> Option<BoardPlan>
     ensures { IfSome result (λ plan. plan.kinds ≡ Uart ∷ Finisher ∷ []) }
 {
     Some(BoardPlan {
@@ -98,15 +99,16 @@ fn plan(alloc: Global, wired: bool) -> Option<BoardPlan>
         wires: Rows::of(wires(alloc, wired)?),
         speed: 25,
         cpu: Text::of(alloc, "cpu").ok()?,
+        letters,
     })
 }
 
 /// The plan of the board, if it is one that a board can have.
-fn valid_plan(alloc: Global, wired: bool) -> Option<BoardPlan>
+fn valid_plan(alloc: Global, wired: bool, letters: Letters) -> Option<BoardPlan>
     ensures kinds { IfSome result (λ plan. plan.kinds ≡ Uart ∷ Finisher ∷ []) }
     ensures valid { IfSome result (λ plan. IsValid plan) }
 {
-    let plan = plan(alloc, wired)?;
+    let plan = plan(alloc, wired, letters)?;
     plan.is_valid().then_some(plan)
 }
 
@@ -120,12 +122,19 @@ fn both<D: Device>(alloc: Global, uart: D, finisher: D) -> Option<Vec<D>>
     Some(devices)
 }
 
-/// A new board with these devices, which may have a timer, an interrupt controller and wires.
-pub fn board_of<D: Device>(alloc: Global, wired: bool, uart: D, finisher: D) -> Option<Board<D>>
+/// A new board with these devices and extensions of its processor, which may have a timer, an
+/// interrupt controller and wires.
+pub fn board_of<D: Device>(
+    alloc: Global,
+    wired: bool,
+    letters: Letters,
+    uart: D,
+    finisher: D,
+) -> Option<Board<D>>
     requires uart { D.meaning uart ≡ first_state Uart }
     requires finisher { D.meaning finisher ≡ first_state Finisher }
 {
     let devices = both(alloc, uart, finisher)?;
-    let plan = valid_plan(alloc, wired)?;
+    let plan = valid_plan(alloc, wired, letters)?;
     Board::new(alloc, BoardNo(0), plan, devices).ok()
 }

@@ -2,6 +2,7 @@
 ghost use Rattle.std.specs.Prelude.{◌≡◌, ◌≤◌, ◌<◌, ◌%◌, length, false, IsSome, IsTrue, OnOk, OnErr};
 ghost use Rattle.std.specs.Option.{ForSome};
 ghost use Rattle.page_ram.specs.Bytes.{zeros};
+ghost use Rattle.rv_hart.specs.Core.{alignment};
 ghost use Rattle.board.specs.Changes.{with_pc, with_halted, with_speed, with_shown, with_bytes, may_be_shown};
 ghost use Rattle.board.specs.Changes.{holds_each};
 ghost use Rattle.board.specs.New as board_spec;
@@ -54,11 +55,13 @@ impl<D: Device> Lab<D> {
         self.change(b, Change::Zero { at, count });
     }
 
-    /// Sets the address of a board's next instruction.
+    /// Sets the address of a board's next instruction, which is divisible by 4, or with compressed
+    /// instructions by 2.
     pub fn set_pc(&mut self, b: BoardNo, pc: u32)
         requires unspent { self.old.spent ≡ false }
         requires has_plan { IsSome (view_of self.old.lab b.0) }
-        requires aligned { pc % 4 ≡ 0 }
+        requires aligned { ForSome (view_of self.old.lab b.0) (λ v.
+            pc % alignment v.core.letters ≡ 0) }
         ensures { self.new ≡ record self.old {
           lab = changed self.old.lab b.0 (λ v. with_pc v pc);
         } }

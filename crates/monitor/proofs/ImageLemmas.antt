@@ -1,5 +1,5 @@
 -- Images that commands load.
-use Rattle.std.proofs.Common.{◌≡◌, ◌∙◌, ℕ, zero, suc, ◌+◌, ◌<◌, ◌≤◌, ◌^◌, ◌&&◌, nat_lt, nat_le}
+use Rattle.std.proofs.Common.{◌≡◌, ◌∙◌, ℕ, zero, suc, ◌+◌, ◌<◌, ◌≤◌, ◌%◌, ◌^◌, ◌==◌, ◌&&◌, nat_lt, nat_le}
 use Rattle.std.proofs.Common.{Bool, true, false, List, [], ◌∷◌}
 use Rattle.std.proofs.Common.{◌++◌, length, take, get_or, replicate, Option, None, Some, Ok}
 use Rattle.std.proofs.Common.{refl, sym, ap}
@@ -19,6 +19,7 @@ use Rattle.sys_bus.specs.Region.{target_of}
 use Rattle.board.specs.Changes.{copied, holds_each, in_memory, is_memory, put_byte, put_in, with_bytes}
 use Rattle.board.specs.Space.{Space, target_at}
 use Rattle.board.specs.View.{View}
+use Rattle.rv_hart.specs.Core.{Core, alignment}
 use Rattle.lab_state.specs.Board.{Board}
 use Rattle.lab_num.specs.Change.{change_at}
 use Rattle.lab_state.specs.Lab.{Lab}
@@ -240,10 +241,20 @@ pub parts_still :
 parts_still [] v other = refl
 parts_still (part ∷ parts) v other = parts_still parts (with_part v part) other ∙ part_still v part other
 
+-- parts leave the processor, and so what may be an entry
+core_parts : (parts : List Part) (v : View) → (with_parts v parts).core ≡ v.core
+core_parts [] v = refl
+core_parts (part ∷ parts) v = core_parts parts (with_part v part)
+
+pub entry_still :
+    (parts : List Part) (v : View) (entry : Option ℕ) → is_entry (with_parts v parts) entry ≡ is_entry v entry
+entry_still parts v None = refl
+entry_still parts v (Some pc) = ap (λ core. pc % alignment core.letters == 0) (core_parts parts v)
+
 -- an image that has its places was loaded
 pub image_rules :
     (old new : Running) (b : ℕ) (view : View) (image : Image) (text : List ℕ) → old.spent ≡ false →
-    (list_all (holds_part view) image.parts && is_entry image.entry) ≡ true →
+    (list_all (holds_part view) image.parts && is_entry view image.entry) ≡ true →
     IsChanged b (λ v. with_entry (with_parts v image.parts) image.entry) old new → text ≡ [] →
     (load_image old.state (record { number = b; view = view }) image ≡ Ok (record { text = text; state = new.state }))
     × IsOnward old new

@@ -14,6 +14,7 @@ use Rattle.sys_bus.specs.declared.region.Target.TheVariants.{Ram, Clint, Plic, D
 use Rattle.board.specs.Changes.{holds_each, with_bytes, with_pc}
 use Rattle.board.specs.Space.{Space, memory_at, target_at}
 use Rattle.board.specs.View.{View}
+use Rattle.rv_hart.specs.Core.{alignment}
 use Rattle.resc_vars.specs.declared.cause.ScriptCause.{ScriptCause}
 use Rattle.resc_vars.specs.declared.cause.ScriptCause.TheVariants.{Address}
 use Rattle.monitor.specs.declared.fault.Cause.{Cause}
@@ -33,10 +34,10 @@ abbrev pub holds_part : View → Part → Bool
 holds_part v part =
     nat_lt (size part) (2 ^ 32) && nat_le (part.at + size part) (2 ^ 32) && holds_each v.space part.at (size part)
 
--- execution may begin at the entry, if there is one
-abbrev pub is_entry : Option ℕ → Bool
-is_entry None = true
-is_entry (Some pc) = pc % 4 == 0
+-- execution may begin at the entry, if there is one: it is divisible by 4, or with compressed instructions by 2
+abbrev pub is_entry : View → Option ℕ → Bool
+is_entry v None = true
+is_entry v (Some pc) = pc % alignment v.core.letters == 0
 
 -- a board with the bytes and the zeros of a part in its memories
 abbrev pub with_part : View → Part → View
@@ -54,7 +55,7 @@ with_entry v (Some pc) = with_pc v pc
 -- an image is loaded, unless a byte, a zero or the entry is refused; then nothing is
 abbrev pub load_image : State → Equipped → Image → Result Done ScriptCause
 load_image s on image = do
-  fits ← require (list_all (holds_part on.view) image.parts && is_entry image.entry) Address
+  fits ← require (list_all (holds_part on.view) image.parts && is_entry on.view image.entry) Address
   Ok (leaves (with_board s on (λ v. with_entry (with_parts v image.parts) image.entry)))
 
 -- the image of a file, or the fault that is told of it

@@ -2,6 +2,7 @@
 use Rattle.std.specs.Prelude.{ℕ, ◌%◌, ◌==◌, Bool, true, false, List, ◌++◌, codes, Option, None, Some, Result, Ok}
 use Rattle.std.specs.Fmt.{decimal}
 use Rattle.board.specs.Changes.{with_pc, with_halted, with_speed}
+use Rattle.rv_hart.specs.Core.{alignment}
 use Rattle.resc_vars.specs.declared.cause.ScriptCause.{ScriptCause}
 use Rattle.resc_vars.specs.declared.cause.ScriptCause.TheVariants.{Address}
 use Rattle.monitor.specs.Answer.{Done, says, leaves}
@@ -14,11 +15,11 @@ abbrev pub truth_line : Bool → List ℕ
 truth_line true = codes "true\n"
 truth_line false = codes "false\n"
 
--- on a board, the address of the next instruction
+-- on a board, the address of the next instruction, which is divisible by 4, or with compressed instructions by 2
 abbrev pub pc_on : State → Equipped → Option ℕ → Result Done ScriptCause
 pc_on s on None = Ok (says s (word_line on.view.core.pc))
 pc_on s on (Some value) = do
-  is ← require (value % 4 == 0) Address
+  is ← require (value % alignment on.view.core.letters == 0) Address
   Ok (leaves (with_board s on (λ v. with_pc v value)))
 
 -- cpu PC [value]

@@ -55,16 +55,6 @@ pub(crate) fn read_image(alloc: Global, format: Format, file: &[u8]) -> Result<I
     }
 }
 
-/// Whether execution may begin at an image's entry.
-fn is_entry(entry: Option<u32>) -> bool
-    ensures { result ≡ images.is_entry entry }
-{
-    match entry {
-        None => true,
-        Some(pc) => pc % 4 == 0,
-    }
-}
-
 impl<D: Device> Monitor<D> {
     /// Whether each byte and each zero of a part has its place in a memory.
     fn holds_part(&self, b: BoardNo, part: &Part) -> bool
@@ -131,11 +121,25 @@ impl<D: Device> Monitor<D> {
         Ok(())
     }
 
+    /// Whether execution may begin at an image's entry.
+    fn is_entry(&self, b: BoardNo, entry: Option<u32>) -> bool
+        requires unspent { self.now.spent ≡ false }
+        requires has_plan { IsSome (view_of self.now.state.lab b.0) }
+        ensures { ForSome (view_of self.now.state.lab b.0) (λ v.
+            result ≡ images.is_entry v entry) }
+    {
+        match entry {
+            None => true,
+            Some(pc) => self.lab.board(b).aligns(pc),
+        }
+    }
+
     /// Goes on at the entry of an image, if it has one.
     fn set_entry(&mut self, b: BoardNo, entry: Option<u32>)
         requires unspent { self.old.spent ≡ false }
         requires has_plan { IsSome (view_of self.old.state.lab b.0) }
-        requires is_entry { IsTrue (images.is_entry entry) }
+        requires is_entry { ForSome (view_of self.old.state.lab b.0) (λ v.
+            IsTrue (images.is_entry v entry)) }
         ensures { IsChanged b.0 (λ v. images.with_entry v entry) self.old self.new }
     {
         if let Some(pc) = entry {
@@ -152,7 +156,7 @@ impl<D: Device> Monitor<D> {
             result self.old self.new) }
     {
         let parts = image.parts.items();
-        if !self.holds_parts(b, parts) || !is_entry(image.entry) {
+        if !self.holds_parts(b, parts) || !self.is_entry(b, image.entry) {
             return Err(Stop::Line(ScriptCause::Address));
         }
         self.load_parts(b, parts)?;

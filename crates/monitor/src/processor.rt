@@ -52,7 +52,7 @@ impl<D: Device> Monitor<D> {
             IsRuled (processor.pc_on self.old.state (record { number = b.0; view = v }) (Some value))
             result self.old self.new) }
     {
-        if value % 4 != 0 {
+        if !self.lab.board(b).aligns(value) {
             return Err(Stop::Line(ScriptCause::Address));
         }
         self.lab.set_pc(b, value);

@@ -63,7 +63,14 @@ fn show_numbers(out: &mut String, plan: &BoardPlan) -> Result<(), AllocError> {
         write!(out, "{sources}x{contexts} ")?;
     }
     let speed = plan.speed;
-    write!(out, "speed{speed} cpu={}", plan.cpu.as_str())
+    write!(out, "speed{speed} cpu={}", plan.cpu.as_str())?;
+    if plan.letters.a {
+        out.push_str(" with a")?;
+    }
+    if plan.letters.c {
+        out.push_str(" with c")?;
+    }
+    Ok(())
 }
 
 fn show_names(out: &mut String, names: &[Named]) -> Result<(), AllocError> {
@@ -201,8 +208,18 @@ spare: CAN.SJA1000 @ sysbus <0x10020000, +0x20>
 cpu: CPU.RiscV32 @ sysbus { cpuType: \"rv32im\" }
 ";
 
+/// A board whose processor has compressed instructions.
+const COMPRESSED_BOARD: &str = "\
+ram: Memory.MappedMemory @ sysbus 0x80000000 { size: 0x10000 }
+cpu: CPU.RiscV32 @ sysbus { cpuType: \"rv32imc\" }
+";
+
 /// Each row: a text, and what is built of it.
-static WHOLE: [(&str, &str); 3] = [
+static WHOLE: [(&str, &str); 4] = [
+    (
+        COMPRESSED_BOARD,
+        "ram=ram0 cpu=cpu ram0@80000000+10000/1 10000 speed100 cpu=cpu with c",
+    ),
     (
         ONE_BOARD,
         "ram=ram0 uart=dev0 fin=dev1 cpu=cpu ram0@80000000+10000/1 dev0@10000000+100/1 \
@@ -287,7 +304,7 @@ static NAMES_AND_TYPES: [(&str, &str); 30] = [
 
 /// Lines after those of a memory and a processor, and their first fault: what is missing, and the values of
 /// processors and memories.
-static MISSING_AND_VALUES: [(&str, &str); 40] = [
+static MISSING_AND_VALUES: [(&str, &str); 43] = [
     ("u: UART.NS16550\n", "P6 2:3"),
     ("u: UART.NS16550 @ sysbus\n", "P6 2:3"),
     (
@@ -330,6 +347,9 @@ static MISSING_AND_VALUES: [(&str, &str); 40] = [
     ("cpu: { PerformanceInMips: \"1\" }\n", "P5 2:3"),
     ("cpu: { cpuType: rv32im }\n", "P5 2:3"),
     ("cpu: { cpuType: 1 }\n", "P5 2:3"),
+    ("cpu: { cpuType: \"rv32imc_zicsr_zifencei\" }\n", "accepted"),
+    ("cpu: { cpuType: \"rv32imc_zifencei\" }\n", "P12 2:3"),
+    ("cpu: { cpuType: \"rv32imac\" }\n", "P12 2:3"),
     ("cpu: { timeProvider: \"x\" }\n", "P5 2:3"),
     ("cpu: { timeProvider: true }\n", "P5 2:3"),
     ("cpu: { privilegeArchitecture: Priv1_10 }\n", "accepted"),

@@ -145,11 +145,32 @@ is_true_in (Some item) = is_true item.what
 abbrev pub is_set : List ℕ → List PlacedItem → Bool
 is_set key items = is_true_in (item_of key items)
 
+-- the processors with compressed instructions
+abbrev pub is_compressed_core : List ℕ → Bool
+is_compressed_core text =
+    bytes_eq text (codes "rv32imc") || bytes_eq text (codes "rv32imc_zicsr")
+    || bytes_eq text (codes "rv32imc_zicsr_zifencei")
+
 -- the processors that are built
 abbrev pub is_core : List ℕ → Bool
 is_core text =
     bytes_eq text (codes "rv32im") || bytes_eq text (codes "rv32im_zicsr")
-    || bytes_eq text (codes "rv32im_zicsr_zifencei")
+    || bytes_eq text (codes "rv32im_zicsr_zifencei") || is_compressed_core text
+
+-- whether a processor of these attributes has compressed instructions, by its cpuType
+abbrev pub is_compressed : ItemWhat → Bool
+is_compressed (Attribute key (Words text)) = is_compressed_core text
+is_compressed (Attribute key (Number n)) = false
+is_compressed (Attribute key (Truth truth)) = false
+is_compressed (Attribute key (Name name)) = false
+is_compressed (Wire from to pins) = false
+
+abbrev pub is_compressed_in : Option PlacedItem → Bool
+is_compressed_in None = false
+is_compressed_in (Some item) = is_compressed item.what
+
+abbrev pub has_compressed : List PlacedItem → Bool
+has_compressed items = is_compressed_in (item_of (codes "cpuType") items)
 
 -- test 7: another cpuType
 abbrev pub is_other_core : ItemWhat → Bool

@@ -1,6 +1,6 @@
 -- The plan of the board that entries describe, or their first fault.
 use Rattle.std.specs.Prelude.{◌≡◌, ℕ, List, [], ◌∷◌, ◌++◌, Option, Some, None, Result, Ok, Err, find}
-use Rattle.std.specs.Prelude.{codes, map, filter}
+use Rattle.std.specs.Prelude.{codes, map, filter, false}
 use Rattle.std.specs.List.{filter_map}
 use Rattle.std.specs.Option.{option_map}
 use Rattle.dev_core.specs.declared.kind.Kind.{Kind}
@@ -9,6 +9,7 @@ use Rattle.repl_read.specs.declared.entry.Entry.{Entry}
 use Rattle.repl_read.specs.declared.fault.PlatCause.TheVariants.{Count}
 use Rattle.repl_read.specs.declared.fault.PlatFault.{PlatFault}
 use Rattle.repl_read.specs.declared.fault.PlatFault.TheVariants.{At, Memory}
+use Rattle.rv_hart.specs.declared.letters.Letters.{Letters}
 use Rattle.sys_bus.specs.declared.plan.BoardPlan.{BoardPlan}
 use Rattle.sys_bus.specs.declared.plan.Named.{Named}
 use Rattle.sys_bus.specs.declared.plan.NamedWhat.{NamedWhat}
@@ -21,7 +22,7 @@ use Rattle.repl_build.specs.declared.rules.Rule.TheVariants.{Types, Attributes, 
 use Rattle.repl_build.specs.declared.rules.Rule.TheVariants.{References}
 use Rattle.repl_build.specs.declared.types.PeripheralType.{PeripheralType}
 use Rattle.repl_build.specs.declared.types.PeripheralType.TheVariants as kind
-use Rattle.repl_build.specs.Attributes.{number_of}
+use Rattle.repl_build.specs.Attributes.{number_of, has_compressed}
 use Rattle.repl_build.specs.Counts.{is_bare}
 use Rattle.repl_build.specs.First.{◌>>=◌, refuse, fault_if}
 use Rattle.repl_build.specs.Merge.{merged}
@@ -99,6 +100,14 @@ cpu_name_in (Some p) = p.name
 abbrev pub cpu_name_of : List Peripheral → List ℕ
 cpu_name_of all = cpu_name_in (first_with kind.Cpu all)
 
+-- the optional extensions of the processor
+abbrev pub letters_in : Option Peripheral → Letters
+letters_in None = record { a = false; c = false }
+letters_in (Some p) = record { a = false; c = has_compressed p.items }
+
+abbrev pub letters_of : List Peripheral → Letters
+letters_of all = letters_in (first_with kind.Cpu all)
+
 -- test 11, and the wires in the order of peripherals, items and pairs
 abbrev pub wires_from : Option PlicSize → List Peripheral → List Peripheral → List Peripheral →
     Result (List Wire) PlatFault
@@ -123,6 +132,7 @@ plan_with all wires =
       wires = wires;
       speed = speed_of all;
       cpu = cpu_name_of all;
+      letters = letters_of all;
     }
 
 -- tests 3 to 10, in their order

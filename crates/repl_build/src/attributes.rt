@@ -214,11 +214,43 @@ pub(crate) fn is_set(key: &str, items: &[PlacedItem]) -> bool
     }
 }
 
+/// Whether a processor of this type has compressed instructions.
+fn is_compressed_core(text: &str) -> bool
+    ensures { result ≡ attribute.is_compressed_core text.now }
+{
+    text == "rv32imc" || text == "rv32imc_zicsr" || text == "rv32imc_zicsr_zifencei"
+}
+
+fn is_compressed(what: &ItemWhat) -> bool
+    ensures { result ≡ attribute.is_compressed what.now }
+{
+    match what {
+        ItemWhat::Attribute {
+            value: Value::Words(text),
+            ..
+        } => is_compressed_core(text.as_str()),
+        _ => false,
+    }
+}
+
+/// Whether a processor of these attributes has compressed instructions.
+pub(crate) fn has_compressed(items: &[PlacedItem]) -> bool
+    ensures { result ≡ attribute.has_compressed items.now }
+{
+    match item_of("cpuType", items) {
+        Some(item) => is_compressed(&item.what),
+        None => false,
+    }
+}
+
 /// Whether a processor of this type is built.
 fn is_core(text: &str) -> bool
     ensures { result ≡ attribute.is_core text.now }
 {
-    text == "rv32im" || text == "rv32im_zicsr" || text == "rv32im_zicsr_zifencei"
+    text == "rv32im"
+        || text == "rv32im_zicsr"
+        || text == "rv32im_zicsr_zifencei"
+        || is_compressed_core(text)
 }
 
 /// Whether this is a `cpuType` that is not built.

@@ -5,7 +5,7 @@ ghost use Rattle.repl_build.specs.Inner.Tested.{IsTested};
 ghost use Rattle.repl_build.specs.Numbers.{AreFew};
 ghost use Rattle.repl_build.specs.Plan as plan_spec;
 
-use crate::attributes::number_of;
+use crate::attributes::{has_compressed, number_of};
 use crate::merge::Peripheral;
 use crate::numbers::what_of;
 use crate::places::{base_of, size_of, step_of};
@@ -14,6 +14,7 @@ use crate::wires::wires_of;
 use dev_core::Kind;
 use lab_num::{Rows, Text};
 use repl_read::PlatFault;
+use rv_hart::Letters;
 use std::alloc::Global;
 use sys_bus::{BoardPlan, Named, NamedWhat, PlicSize, Region};
 
@@ -160,6 +161,17 @@ fn cpu_name_of(all: &[Peripheral]) -> &str
     }
 }
 
+/// The optional extensions of the processor.
+fn letters_of(all: &[Peripheral]) -> Letters
+    ensures { result ≡ plan_spec.letters_of all.now }
+{
+    let c = match first_with(PeripheralType::Cpu, all) {
+        Some(cpu) => has_compressed(cpu.items.items()),
+        None => false,
+    };
+    Letters { a: false, c }
+}
+
 /// The lists of a plan, apart from its wires.
 #[derive(Drop)]
 struct Lists {
@@ -209,5 +221,6 @@ pub(crate) fn plan_of(alloc: Global, all: &[Peripheral]) -> Result<BoardPlan, Pl
         wires,
         speed: speed_of(all),
         cpu,
+        letters: letters_of(all),
     })
 }

@@ -4,5 +4,6 @@ pub mod Masks
 pub mod Sole
 pub mod Rows
 pub mod FitLemmas
+pub mod OffsetLemmas
 pub mod Formats
 mod KnownWords

@@ -1,7 +1,8 @@
 -- What a word means: the row of the table that it matches, with the fields of the row's format.
-use Rattle.std.specs.Prelude.{◌≡◌, ℕ, ◌^◌, ◌<◌, Option, Some}
+use Rattle.std.specs.Prelude.{◌≡◌, ℕ, ◌^◌, ◌<◌, Bool, true, false, Option, Some}
 use Rattle.std.specs.Option.{option_map}
 use Rattle.rv_decode.specs.declared.instruction.Op.{Op}
+use Rattle.rv_decode.specs.declared.instruction.Op.TheVariants.{Jal, Beq, Bne, Blt, Bge, Bltu, Bgeu}
 use Rattle.rv_decode.specs.declared.instruction.Instr.{Instr}
 use Rattle.rv_decode.specs.declared.instruction.Format.{Format}
 use Rattle.rv_decode.specs.declared.instruction.Format.TheVariants.{R, I, IShift, IUnsigned, S, B, U, J, Fixed}
@@ -49,3 +50,15 @@ pub record IsInstr (i : Instr) : Type 0 where
 -- an instruction that some word means
 abbrev pub IsValid : Instr → Type 0
 IsValid i = (word : ℕ) × (word < 2 ^ 32) × (means word ≡ Some i)
+
+-- whether the immediate of an instruction is an offset from its own place: of JAL and of the conditional branches
+-- (section 2.5)
+abbrev pub is_relative : Op → Bool
+is_relative Jal = true
+is_relative Beq = true
+is_relative Bne = true
+is_relative Blt = true
+is_relative Bge = true
+is_relative Bltu = true
+is_relative Bgeu = true
+is_relative _ = false

@@ -1,10 +1,10 @@
 //! From a word to the instruction that it means.
-ghost use Rattle.std.specs.Prelude.{◌≡◌, ℕ, ◌^◌, ◌<◌, ◌≤◌, ◌↔◌, Some, IfSome, Contains};
+ghost use Rattle.std.specs.Prelude.{◌≡◌, ℕ, ◌^◌, ◌<◌, ◌≤◌, ◌↔◌, ◌%◌, true, Some, IfSome, Contains};
 ghost use Rattle.std.specs.Prelude.{count_by};
 ghost use Rattle.std.specs.Option.{option_map};
 ghost use Rattle.rv_decode.specs.Table.{Row, table, matches, matched_row, row_of};
 ghost use Rattle.rv_decode.specs.FixedBits.{fixed_of};
-ghost use Rattle.rv_decode.specs.Means.{means, fields_by, IsInstr, IsValid};
+ghost use Rattle.rv_decode.specs.Means.{means, fields_by, is_relative, IsInstr, IsValid};
 
 use crate::immediate::{
     bits, immediate_b, immediate_i, immediate_j, immediate_s, immediate_u, register,
@@ -69,4 +69,9 @@ pub fn rows_match_fields()
 /// The fields of a valid instruction fit.
 pub fn valid_fits()
     ensures { (i : Instr) → IsValid i → IsInstr i }
+{}
+
+/// The offset of a valid jump or branch is even.
+pub fn offsets_are_even()
+    ensures { (i : Instr) → IsValid i → is_relative i.op ≡ true → i.imm % 2 ≡ 0 }
 {}

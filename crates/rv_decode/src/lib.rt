@@ -6,6 +6,6 @@ mod immediate;
 mod instruction;
 mod opcodes;
 
-pub use decoder::{decode, rows_differ, rows_match_fields, valid_fits};
+pub use decoder::{decode, offsets_are_even, rows_differ, rows_match_fields, valid_fits};
 pub use immediate::bits;
 pub use instruction::{Format, Instr, Op};

@@ -1,5 +1,5 @@
--- No instruction changes a counter but by writing a half of it.
-use Rattle.std.proofs.Common.{◌≡◌, ◌≢◌, ℕ, ◌+◌, ◌%◌, ◌^◌, ◌==◌, Bool, true, false, arith, inl, inr, refl, ap}
+-- No instruction changes a counter but by writing a half of it, and none the letters or the number.
+use Rattle.std.proofs.Common.{◌≡◌, ◌≢◌, ℕ, ◌+◌, ◌%◌, ◌^◌, ◌==◌, ◌||◌, Bool, true, false, arith, inl, inr, refl, ap}
 use Rattle.std.specs.Prelude.{Option, Some, None, if◌then◌else◌, option_map, option_and_then, unwrap_or}
 use Rattle.std.specs.Option.{option_map_or}
 use Rattle.std.proofs.lemmas.Bool.{cases_Bool}
@@ -22,51 +22,59 @@ use Rattle.rv_exec.specs.declared.csr.Change.{Change}
 use Rattle.rv_exec.specs.declared.csr.Change.TheVariants.{Write, Set, Clear}
 use Rattle.rv_exec.specs.declared.ending.Ending.{Ending}
 use Rattle.rv_exec.specs.declared.ending.Ending.TheVariants.{Retired, Trapped}
+use Rattle.rv_exec.specs.declared.fetched.Fetched.{Fetched}
+use Rattle.rv_exec.specs.declared.fetched.Fetched.TheVariants.{Fault, Bad, Good}
 use Rattle.rv_exec.specs.Outcome.{Outcome, outcome, traps, counted, counted_by}
 use Rattle.rv_exec.specs.Csr.{changed, old_value, writes}
-use Rattle.rv_exec.specs.Effect.{Done, address, branches, changes, effect, effect_by, effect_of_fetch, jumps, loads}
+use Rattle.rv_exec.specs.Effect.{Done, address, branches, changes, effect, effect_by, jumps, loads}
 use Rattle.rv_exec.specs.Effect.{outcome_with, stores}
-use Rattle.rv_exec.specs.Laws.{RaisesMcycle, RaisesMinstret, KeepsMinstret}
+use Rattle.rv_exec.specs.Laws.{IsSameHart, RaisesMcycle, RaisesMinstret, KeepsMinstret}
 
 -- the counters that the instruction has not written are as before
 record KeepsCounters (core : Core) (result : Outcome) : Type 0 where
   pub mcycle : result.ending ≢ Retired (Some Mcycle) → result.core.mcycle ≡ core.mcycle
   pub minstret : result.ending ≢ Retired (Some Minstret) → result.core.minstret ≡ core.minstret
+  pub same : IsSameHart core result.core
+
+-- a hart that is the same
+same_hart : (core : Core) → IsSameHart core core
+same_hart core = record { letters = refl; number = refl }
 
 traps-keeps : (core : Core) (cause value : ℕ) → KeepsCounters core (traps core cause value)
 unfolding enter
-traps-keeps core cause value = record { mcycle = λ _. refl; minstret = λ _. refl }
+traps-keeps core cause value = record { mcycle = λ _. refl; minstret = λ _. refl; same = record { letters = refl; number = refl } }
 
-jumps-keeps : (core : Core) (rd target : ℕ) → KeepsCounters core (jumps core rd target)
+jumps-keeps : (core : Core) (size rd target : ℕ) → KeepsCounters core (jumps core size rd target)
 unfolding jump
-jumps-keeps core rd target =
-    elim (cases_Bool (target % 4 == 0)) [
-      | inl on ↦ rw on (record { mcycle = λ _. refl; minstret = λ _. refl })
+jumps-keeps core size rd target =
+    elim (cases_Bool (core.letters.c || target % 4 == 0)) [
+      | inl on ↦ rw on (record { mcycle = λ _. refl; minstret = λ _. refl; same = record { letters = refl; number = refl } })
       | inr off ↦ rw off (traps-keeps core _ target)
     ]
 
-branches-keeps : (core : Core) (taken : Bool) (imm : ℕ) → KeepsCounters core (branches core taken imm)
+branches-keeps :
+    (core : Core) (size : ℕ) (taken : Bool) (imm : ℕ) → KeepsCounters core (branches core size taken imm)
 unfolding next
-branches-keeps core true imm = jumps-keeps core 0 _
-branches-keeps core false imm = record { mcycle = λ _. refl; minstret = λ _. refl }
+branches-keeps core size true imm = jumps-keeps core size 0 _
+branches-keeps core size false imm = record { mcycle = λ _. refl; minstret = λ _. refl; same = record { letters = refl; number = refl } }
 
 loads-keeps :
-    (core : Core) (i : Instr) (width : ℕ) (shape : Shape) (answer : ℕ → ℕ → ℕ) →
-    KeepsCounters core (outcome_with answer (loads core i width shape))
+    (core : Core) (i : Instr) (size width : ℕ) (shape : Shape) (answer : ℕ → ℕ → ℕ) →
+    KeepsCounters core (outcome_with answer (loads core i size width shape))
 unfolding finish
-loads-keeps core i width shape answer =
+loads-keeps core i size width shape answer =
     elim (cases_Bool (address core i % width == 0)) [
-      | inl on ↦ rw on (record { mcycle = λ _. refl; minstret = λ _. refl })
+      | inl on ↦ rw on (record { mcycle = λ _. refl; minstret = λ _. refl; same = record { letters = refl; number = refl } })
       | inr off ↦ rw off (traps-keeps core _ _)
     ]
 
 stores-keeps :
-    (core : Core) (i : Instr) (width : ℕ) (answer : ℕ → ℕ → ℕ) →
-    KeepsCounters core (outcome_with answer (stores core i width))
+    (core : Core) (i : Instr) (size width : ℕ) (answer : ℕ → ℕ → ℕ) →
+    KeepsCounters core (outcome_with answer (stores core i size width))
 unfolding next
-stores-keeps core i width answer =
+stores-keeps core i size width answer =
     elim (cases_Bool (address core i % width == 0)) [
-      | inl on ↦ rw on (record { mcycle = λ _. refl; minstret = λ _. refl })
+      | inl on ↦ rw on (record { mcycle = λ _. refl; minstret = λ _. refl; same = record { letters = refl; number = refl } })
       | inr off ↦ rw off (traps-keeps core _ _)
     ]
 
@@ -83,32 +91,39 @@ written-minstret :
 unfolding csr_written
 written-minstret core number value other = grind (arith, common_steps)
 
+written-same :
+    (core : Core) (number value : ℕ) → IsSameHart core (unwrap_or (csr_written core number value) core)
+unfolding csr_written
+written-same core number value = record { letters = grind (arith, common_steps); number = grind (arith, common_steps) }
+
 -- an access of a CSR: what was written goes on to a register, or the access is illegal
 finished-keeps :
-    (core : Core) (cause word rd old : ℕ) (counter : Option Counter) (written : Option Core) →
+    (core : Core) (cause word size rd old : ℕ) (counter : Option Counter) (written : Option Core) →
     (counter ≢ Some Mcycle → (unwrap_or written core).mcycle ≡ core.mcycle) →
     (counter ≢ Some Minstret → (unwrap_or written core).minstret ≡ core.minstret) →
+    IsSameHart core (unwrap_or written core) →
     KeepsCounters core
     (unwrap_or
-    (option_map (λ after. outcome (finish after rd old) (Retired counter)) written) (traps core cause word))
+    (option_map (λ after. outcome (finish after size rd old) (Retired counter)) written) (traps core cause word))
 unfolding finish
-finished-keeps core cause word rd old counter None mcycle minstret = traps-keeps core cause word
-finished-keeps core cause word rd old counter (Some after) mcycle minstret = record {
+finished-keeps core cause word size rd old counter None mcycle minstret same = traps-keeps core cause word
+finished-keeps core cause word size rd old counter (Some after) mcycle minstret same = record {
   mcycle = λ other. mcycle (λ same. other (ap (λ (c : Option Counter). Retired c) same));
   minstret = λ other. minstret (λ same. other (ap (λ (c : Option Counter). Retired c) same));
+  same = record { letters = same.letters; number = same.number };
 }
 
 write-keeps :
-    (is_write : Bool) (core : Core) (number value cause word rd old : ℕ) →
+    (is_write : Bool) (core : Core) (number value cause word size rd old : ℕ) →
     KeepsCounters core
     (unwrap_or
-    (option_map (λ after. outcome (finish after rd old) (Retired (if is_write then counter_of number else None)))
+    (option_map (λ after. outcome (finish after size rd old) (Retired (if is_write then counter_of number else None)))
     (if is_write then csr_written core number value else Some core)) (traps core cause word))
-write-keeps true core number value cause word rd old =
-    finished-keeps core cause word rd old (counter_of number) (csr_written core number value)
-    (written-mcycle core number value) (written-minstret core number value)
-write-keeps false core number value cause word rd old =
-    finished-keeps core cause word rd old None (Some core) (λ _. refl) (λ _. refl)
+write-keeps true core number value cause word size rd old =
+    finished-keeps core cause word size rd old (counter_of number) (csr_written core number value)
+    (written-mcycle core number value) (written-minstret core number value) (written-same core number value)
+write-keeps false core number value cause word size rd old =
+    finished-keeps core cause word size rd old None (Some core) (λ _. refl) (λ _. refl) (same_hart core)
 
 read-keeps :
     (core : Core) (cause word : ℕ) (then_write : ℕ → Option Outcome) (old : Option ℕ) →
@@ -118,57 +133,49 @@ read-keeps core cause word then_write None kept = traps-keeps core cause word
 read-keeps core cause word then_write (Some value) kept = kept value
 
 changes-keeps :
-    (change : Change) (operand : ℕ) (core : Core) (i : Instr) (word : ℕ) (lines : Lines) →
-    KeepsCounters core (changes change operand core i word lines)
-changes-keeps change operand core i word lines =
+    (change : Change) (operand : ℕ) (core : Core) (i : Instr) (size word : ℕ) (lines : Lines) →
+    KeepsCounters core (changes change operand core i size word lines)
+changes-keeps change operand core i size word lines =
     read-keeps core _ word _ (old_value change core i lines)
-    (λ old. write-keeps (writes change i) core i.imm (changed change old operand) _ word i.rd old)
+    (λ old. write-keeps (writes change i) core i.imm (changed change old operand) _ word size i.rd old)
 
 -- each instruction
 effect_by-keeps :
-    (op : Op) (core : Core) (i : Instr) (word : ℕ) (lines : Lines) (answer : ℕ → ℕ → ℕ) →
-    KeepsCounters core (outcome_with answer (effect_by op core i word lines))
+    (op : Op) (core : Core) (i : Instr) (size word : ℕ) (lines : Lines) (answer : ℕ → ℕ → ℕ) →
+    KeepsCounters core (outcome_with answer (effect_by op core i size word lines))
 unfolding effect_by next finish leave enter
-effect_by-keeps Jal core i word lines answer = jumps-keeps core _ _
-effect_by-keeps Jalr core i word lines answer = jumps-keeps core _ _
-effect_by-keeps Beq core i word lines answer = branches-keeps core _ _
-effect_by-keeps Bne core i word lines answer = branches-keeps core _ _
-effect_by-keeps Blt core i word lines answer = branches-keeps core _ _
-effect_by-keeps Bge core i word lines answer = branches-keeps core _ _
-effect_by-keeps Bltu core i word lines answer = branches-keeps core _ _
-effect_by-keeps Bgeu core i word lines answer = branches-keeps core _ _
-effect_by-keeps Lb core i word lines answer = loads-keeps core i 1 SignedByte answer
-effect_by-keeps Lh core i word lines answer = loads-keeps core i 2 SignedHalf answer
-effect_by-keeps Lw core i word lines answer = loads-keeps core i 4 Unsigned answer
-effect_by-keeps Lbu core i word lines answer = loads-keeps core i 1 Unsigned answer
-effect_by-keeps Lhu core i word lines answer = loads-keeps core i 2 Unsigned answer
-effect_by-keeps Sb core i word lines answer = stores-keeps core i 1 answer
-effect_by-keeps Sh core i word lines answer = stores-keeps core i 2 answer
-effect_by-keeps Sw core i word lines answer = stores-keeps core i 4 answer
-effect_by-keeps Csrrw core i word lines answer = changes-keeps Write (reg core i.rs1) core i word lines
-effect_by-keeps Csrrs core i word lines answer = changes-keeps Set (reg core i.rs1) core i word lines
-effect_by-keeps Csrrc core i word lines answer = changes-keeps Clear (reg core i.rs1) core i word lines
-effect_by-keeps Csrrwi core i word lines answer = changes-keeps Write i.rs1 core i word lines
-effect_by-keeps Csrrsi core i word lines answer = changes-keeps Set i.rs1 core i word lines
-effect_by-keeps Csrrci core i word lines answer = changes-keeps Clear i.rs1 core i word lines
-effect_by-keeps _ core i word lines answer = record { mcycle = λ _. refl; minstret = λ _. refl }
-
--- each word
-meaning-keeps :
-    (core : Core) (cause word : ℕ) (lines : Lines) (answer : ℕ → ℕ → ℕ) (meaning : Option Instr) →
-    KeepsCounters core
-    (outcome_with answer
-    (option_map_or (λ i. effect_by i.op core i word lines) meaning (Done (traps core cause word))))
-meaning-keeps core cause word lines answer None = traps-keeps core cause word
-meaning-keeps core cause word lines answer (Some i) = effect_by-keeps i.op core i word lines answer
+effect_by-keeps Jal core i size word lines answer = jumps-keeps core size _ _
+effect_by-keeps Jalr core i size word lines answer = jumps-keeps core size _ _
+effect_by-keeps Beq core i size word lines answer = branches-keeps core size _ _
+effect_by-keeps Bne core i size word lines answer = branches-keeps core size _ _
+effect_by-keeps Blt core i size word lines answer = branches-keeps core size _ _
+effect_by-keeps Bge core i size word lines answer = branches-keeps core size _ _
+effect_by-keeps Bltu core i size word lines answer = branches-keeps core size _ _
+effect_by-keeps Bgeu core i size word lines answer = branches-keeps core size _ _
+effect_by-keeps Lb core i size word lines answer = loads-keeps core i size 1 SignedByte answer
+effect_by-keeps Lh core i size word lines answer = loads-keeps core i size 2 SignedHalf answer
+effect_by-keeps Lw core i size word lines answer = loads-keeps core i size 4 Unsigned answer
+effect_by-keeps Lbu core i size word lines answer = loads-keeps core i size 1 Unsigned answer
+effect_by-keeps Lhu core i size word lines answer = loads-keeps core i size 2 Unsigned answer
+effect_by-keeps Sb core i size word lines answer = stores-keeps core i size 1 answer
+effect_by-keeps Sh core i size word lines answer = stores-keeps core i size 2 answer
+effect_by-keeps Sw core i size word lines answer = stores-keeps core i size 4 answer
+effect_by-keeps Csrrw core i size word lines answer = changes-keeps Write (reg core i.rs1) core i size word lines
+effect_by-keeps Csrrs core i size word lines answer = changes-keeps Set (reg core i.rs1) core i size word lines
+effect_by-keeps Csrrc core i size word lines answer = changes-keeps Clear (reg core i.rs1) core i size word lines
+effect_by-keeps Csrrwi core i size word lines answer = changes-keeps Write i.rs1 core i size word lines
+effect_by-keeps Csrrsi core i size word lines answer = changes-keeps Set i.rs1 core i size word lines
+effect_by-keeps Csrrci core i size word lines answer = changes-keeps Clear i.rs1 core i size word lines
+effect_by-keeps _ core i size word lines answer = record { mcycle = λ _. refl; minstret = λ _. refl; same = record { letters = refl; number = refl } }
 
 -- each slot
-effect_of_fetch-keeps :
-    (core : Core) (fetched : Option ℕ) (lines : Lines) (answer : ℕ → ℕ → ℕ) →
-    KeepsCounters core (outcome_with answer (effect_of_fetch core fetched lines))
-unfolding effect effect_of_fetch
-effect_of_fetch-keeps core None lines answer = traps-keeps core _ core.pc
-effect_of_fetch-keeps core (Some word) lines answer = meaning-keeps core _ word lines answer (means word)
+effect-keeps :
+    (core : Core) (what : Fetched) (lines : Lines) (answer : ℕ → ℕ → ℕ) →
+    KeepsCounters core (outcome_with answer (effect core what lines))
+unfolding effect
+effect-keeps core (Fault at) lines answer = traps-keeps core _ at
+effect-keeps core (Bad word) lines answer = traps-keeps core _ word
+effect-keeps core (Good i size word) lines answer = effect_by-keeps i.op core i size word lines answer
 
 -- one more, where the number was the same
 next_count : {n k : ℕ} → n ≡ k → (n + 1) % 2 ^ 64 ≡ (k + 1) % 2 ^ 64
@@ -200,21 +207,31 @@ unfolding ticked retired
 trapped-counted (Retired counter) core left kept = λ trapped. absurd (cc)
 trapped-counted Trapped core left kept = λ trapped. kept.minstret (λ same. absurd (cc))
 
--- what a slot leaves of the counters
+same-counted :
+    (ending : Ending) (core left : Core) → IsSameHart core left → IsSameHart core (counted_by ending left)
+unfolding ticked retired
+same-counted (Retired None) core left same = record { letters = same.letters; number = same.number }
+same-counted (Retired (Some Mcycle)) core left same = record { letters = same.letters; number = same.number }
+same-counted (Retired (Some Minstret)) core left same = record { letters = same.letters; number = same.number }
+same-counted Trapped core left same = record { letters = same.letters; number = same.number }
+
+-- what a slot leaves of the counters, the letters and the number
 pub record IsCounted (core : Core) (result : Outcome) (after : Core) : Type 0 where
   pub mcycle : RaisesMcycle core result after
   pub minstret : RaisesMinstret core result after
   pub trapped : KeepsMinstret core result after
+  pub same : IsSameHart core after
 
 pub is_counted :
-    (core : Core) (fetched : Option ℕ) (lines : Lines) (answer : ℕ → ℕ → ℕ) (after : Core) →
-    let result = outcome_with answer (effect_of_fetch core fetched lines) in
+    (core : Core) (what : Fetched) (lines : Lines) (answer : ℕ → ℕ → ℕ) (after : Core) →
+    let result = outcome_with answer (effect core what lines) in
     after ≡ counted result → IsCounted core result after
-is_counted core fetched lines answer after counts =
-    let result = outcome_with answer (effect_of_fetch core fetched lines) in
-    let kept = effect_of_fetch-keeps core fetched lines answer in
+is_counted core what lines answer after counts =
+    let result = outcome_with answer (effect core what lines) in
+    let kept = effect-keeps core what lines answer in
     rw counts (record {
       mcycle = mcycle-counted result.ending core result.core kept;
       minstret = minstret-counted result.ending core result.core kept;
       trapped = trapped-counted result.ending core result.core kept;
+      same = same-counted result.ending core result.core kept.same;
     })

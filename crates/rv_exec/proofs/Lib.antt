@@ -1,2 +1,3 @@
 -- Lemmas of `rv_exec`.
 pub mod CounterLemmas
+pub mod CompressedLemmas

@@ -43,10 +43,10 @@ abbrev pub counter_written : Change → Instr → Option Counter
 counter_written change i = if writes change i then counter_of i.imm else None
 
 -- the access, which puts the value that was read into a register; there is none where it is illegal
-abbrev pub accessed : Change → ℕ → Core → Instr → Lines → Option Outcome
-accessed change operand core i lines =
+abbrev pub accessed : Change → ℕ → Core → Instr → ℕ → Lines → Option Outcome
+accessed change operand core i size lines =
     option_and_then
     (λ old. option_map
-    (λ after. outcome (finish after i.rd old) (Retired (counter_written change i)))
+    (λ after. outcome (finish after size i.rd old) (Retired (counter_written change i)))
     (after_write change (changed change old operand) core i))
     (old_value change core i lines)

@@ -1,5 +1,5 @@
--- What a slot does by its word: the core after it, how its instruction ends, and what it asks of the bus.
-use Rattle.std.specs.Prelude.{ℕ, ◌*◌, ◌/◌, ◌%◌, ◌^◌, ◌==◌, not, Bool, true, if◌then◌else◌, Option, nat_lt, int_lt}
+-- What a slot does by what was fetched: the core after it, how its instruction ends, and what it asks of the bus.
+use Rattle.std.specs.Prelude.{ℕ, ◌*◌, ◌/◌, ◌%◌, ◌^◌, ◌==◌, ◌||◌, not, Bool, true, if◌then◌else◌, Option, Some, None, nat_lt, int_lt}
 use Rattle.std.specs.Prelude.{unwrap_or, bit_and, bit_or, bit_xor}
 use Rattle.std.specs.Option.{option_map_or}
 use Rattle.rv_decode.specs.declared.instruction.Op.{Op}
@@ -21,6 +21,8 @@ use Rattle.rv_exec.specs.declared.access.Shape.{Shape}
 use Rattle.rv_exec.specs.declared.access.Shape.TheVariants.{Unsigned, SignedByte, SignedHalf}
 use Rattle.rv_exec.specs.declared.csr.Change.{Change}
 use Rattle.rv_exec.specs.declared.csr.Change.TheVariants.{Write, Set, Clear}
+use Rattle.rv_exec.specs.declared.fetched.Fetched.{Fetched}
+use Rattle.rv_exec.specs.declared.fetched.Fetched.TheVariants.{Fault, Bad, Good}
 use Rattle.rv_exec.specs.Word.{signed, add, sub, shift_left, shift_right, shift_right_signed, less, less_unsigned}
 use Rattle.rv_exec.specs.Word.{product, upper_signed, upper_mixed, upper_unsigned, quotient, remainder}
 use Rattle.rv_exec.specs.Word.{quotient_unsigned, remainder_unsigned}
@@ -36,46 +38,47 @@ pub data Effect : Type 0 where
   Store : ℕ → ℕ → ℕ → Outcome → Effect
 
 -- an operation on a register and an immediate, and one on two registers (Unprivileged ISA 2.4)
-abbrev pub with_immediate : (ℕ → ℕ → ℕ) → Core → Instr → Effect
-with_immediate f core i = Done (retires (finish core i.rd (f (reg core i.rs1) i.imm)))
+abbrev pub with_immediate : (ℕ → ℕ → ℕ) → Core → Instr → ℕ → Effect
+with_immediate f core i size = Done (retires (finish core size i.rd (f (reg core i.rs1) i.imm)))
 
-abbrev pub with_registers : (ℕ → ℕ → ℕ) → Core → Instr → Effect
-with_registers f core i = Done (retires (finish core i.rd (f (reg core i.rs1) (reg core i.rs2))))
+abbrev pub with_registers : (ℕ → ℕ → ℕ) → Core → Instr → ℕ → Effect
+with_registers f core i size = Done (retires (finish core size i.rd (f (reg core i.rs1) (reg core i.rs2))))
 
 -- a jump, with the pc of the next instruction in a register, or an exception where its target is not divisible by 4
--- (Unprivileged ISA 2.2, 2.5)
-abbrev pub jumps : Core → ℕ → ℕ → Outcome
-jumps core rd target =
-    if target % 4 == 0 then retires (jump core rd target) else traps core instruction_address_misaligned target
+-- and the hart has no compressed instructions (Unprivileged ISA 2.2, 2.5, 16.1)
+abbrev pub jumps : Core → ℕ → ℕ → ℕ → Outcome
+jumps core size rd target =
+    if core.letters.c || target % 4 == 0 then retires (jump core size rd target)
+    else traps core instruction_address_misaligned target
 
 -- a conditional branch: where it is taken, a jump that writes no register (Unprivileged ISA 2.5)
-abbrev pub branches : Core → Bool → ℕ → Outcome
-branches core taken imm = if taken then jumps core 0 (add core.pc imm) else retires (next core)
+abbrev pub branches : Core → ℕ → Bool → ℕ → Outcome
+branches core size taken imm = if taken then jumps core size 0 (add core.pc imm) else retires (next core size)
 
 -- the address of a load or a store (Unprivileged ISA 2.6)
 abbrev pub address : Core → Instr → ℕ
 address core i = add (reg core i.rs1) i.imm
 
 -- a load, or an exception where its address is not divisible by its width (Unprivileged ISA 2.6)
-abbrev pub loads : Core → Instr → ℕ → Shape → Effect
-loads core i width shape =
+abbrev pub loads : Core → Instr → ℕ → ℕ → Shape → Effect
+loads core i size width shape =
     if address core i % width == 0 then
-    Load (address core i) width (λ answer. retires (finish core i.rd (shaped shape answer)))
+    Load (address core i) width (λ answer. retires (finish core size i.rd (shaped shape answer)))
     else Done (traps core load_address_misaligned (address core i))
 
 -- a store of the lower bytes of a register, or an exception where its address is not divisible by its width
 -- (Unprivileged ISA 2.6)
-abbrev pub stores : Core → Instr → ℕ → Effect
-stores core i width =
+abbrev pub stores : Core → Instr → ℕ → ℕ → Effect
+stores core i size width =
     if address core i % width == 0 then
-    Store (address core i) width (reg core i.rs2 % 256 ^ width) (retires (next core))
+    Store (address core i) width (reg core i.rs2 % 256 ^ width) (retires (next core size))
     else Done (traps core store_address_misaligned (address core i))
 
 -- an access of a CSR, or an exception where it is illegal, which changes nothing else (Unprivileged ISA 9.1, Privileged
 -- ISA 2.1)
-abbrev pub changes : Change → ℕ → Core → Instr → ℕ → Lines → Outcome
-changes change operand core i word lines =
-    unwrap_or (accessed change operand core i lines) (traps core illegal_instruction word)
+abbrev pub changes : Change → ℕ → Core → Instr → ℕ → ℕ → Lines → Outcome
+changes change operand core i size word lines =
+    unwrap_or (accessed change operand core i size lines) (traps core illegal_instruction word)
 
 -- the comparisons of two registers: as equal, by their signed and by their unsigned numbers (Unprivileged ISA 2.5)
 abbrev pub equal : Core → Instr → Bool
@@ -87,86 +90,96 @@ below core i = int_lt (signed (reg core i.rs1)) (signed (reg core i.rs2))
 abbrev pub below_unsigned : Core → Instr → Bool
 below_unsigned core i = nat_lt (reg core i.rs1) (reg core i.rs2)
 
--- what each instruction does; the word is that of the instruction
-unfoldable pub effect_by : Op → Core → Instr → ℕ → Lines → Effect
+-- what each instruction does, by its size in bytes and its word
+unfoldable pub effect_by : Op → Core → Instr → ℕ → ℕ → Lines → Effect
 -- upper immediates (2.4)
-effect_by Lui core i word lines = Done (retires (finish core i.rd i.imm))
-effect_by Auipc core i word lines = Done (retires (finish core i.rd (add core.pc i.imm)))
+effect_by Lui core i size word lines = Done (retires (finish core size i.rd i.imm))
+effect_by Auipc core i size word lines = Done (retires (finish core size i.rd (add core.pc i.imm)))
 -- unconditional jumps; JALR sets the lowest bit of its target to zero (2.5)
-effect_by Jal core i word lines = Done (jumps core i.rd (add core.pc i.imm))
-effect_by Jalr core i word lines = Done (jumps core i.rd (add (reg core i.rs1) i.imm / 2 * 2))
+effect_by Jal core i size word lines = Done (jumps core size i.rd (add core.pc i.imm))
+effect_by Jalr core i size word lines = Done (jumps core size i.rd (add (reg core i.rs1) i.imm / 2 * 2))
 -- conditional branches (2.5)
-effect_by Beq core i word lines = Done (branches core (equal core i) i.imm)
-effect_by Bne core i word lines = Done (branches core (not (equal core i)) i.imm)
-effect_by Blt core i word lines = Done (branches core (below core i) i.imm)
-effect_by Bge core i word lines = Done (branches core (not (below core i)) i.imm)
-effect_by Bltu core i word lines = Done (branches core (below_unsigned core i) i.imm)
-effect_by Bgeu core i word lines = Done (branches core (not (below_unsigned core i)) i.imm)
+effect_by Beq core i size word lines = Done (branches core size (equal core i) i.imm)
+effect_by Bne core i size word lines = Done (branches core size (not (equal core i)) i.imm)
+effect_by Blt core i size word lines = Done (branches core size (below core i) i.imm)
+effect_by Bge core i size word lines = Done (branches core size (not (below core i)) i.imm)
+effect_by Bltu core i size word lines = Done (branches core size (below_unsigned core i) i.imm)
+effect_by Bgeu core i size word lines = Done (branches core size (not (below_unsigned core i)) i.imm)
 -- loads and stores (2.6)
-effect_by Lb core i word lines = loads core i 1 SignedByte
-effect_by Lh core i word lines = loads core i 2 SignedHalf
-effect_by Lw core i word lines = loads core i 4 Unsigned
-effect_by Lbu core i word lines = loads core i 1 Unsigned
-effect_by Lhu core i word lines = loads core i 2 Unsigned
-effect_by Sb core i word lines = stores core i 1
-effect_by Sh core i word lines = stores core i 2
-effect_by Sw core i word lines = stores core i 4
+effect_by Lb core i size word lines = loads core i size 1 SignedByte
+effect_by Lh core i size word lines = loads core i size 2 SignedHalf
+effect_by Lw core i size word lines = loads core i size 4 Unsigned
+effect_by Lbu core i size word lines = loads core i size 1 Unsigned
+effect_by Lhu core i size word lines = loads core i size 2 Unsigned
+effect_by Sb core i size word lines = stores core i size 1
+effect_by Sh core i size word lines = stores core i size 2
+effect_by Sw core i size word lines = stores core i size 4
 -- a register and an immediate (2.4)
-effect_by Addi core i word lines = with_immediate add core i
-effect_by Slti core i word lines = with_immediate less core i
-effect_by Sltiu core i word lines = with_immediate less_unsigned core i
-effect_by Xori core i word lines = with_immediate bit_xor core i
-effect_by Ori core i word lines = with_immediate bit_or core i
-effect_by Andi core i word lines = with_immediate bit_and core i
-effect_by Slli core i word lines = with_immediate shift_left core i
-effect_by Srli core i word lines = with_immediate shift_right core i
-effect_by Srai core i word lines = with_immediate shift_right_signed core i
+effect_by Addi core i size word lines = with_immediate add core i size
+effect_by Slti core i size word lines = with_immediate less core i size
+effect_by Sltiu core i size word lines = with_immediate less_unsigned core i size
+effect_by Xori core i size word lines = with_immediate bit_xor core i size
+effect_by Ori core i size word lines = with_immediate bit_or core i size
+effect_by Andi core i size word lines = with_immediate bit_and core i size
+effect_by Slli core i size word lines = with_immediate shift_left core i size
+effect_by Srli core i size word lines = with_immediate shift_right core i size
+effect_by Srai core i size word lines = with_immediate shift_right_signed core i size
 -- two registers (2.4)
-effect_by Add core i word lines = with_registers add core i
-effect_by Sub core i word lines = with_registers sub core i
-effect_by Sll core i word lines = with_registers shift_left core i
-effect_by Slt core i word lines = with_registers less core i
-effect_by Sltu core i word lines = with_registers less_unsigned core i
-effect_by Xor core i word lines = with_registers bit_xor core i
-effect_by Srl core i word lines = with_registers shift_right core i
-effect_by Sra core i word lines = with_registers shift_right_signed core i
-effect_by Or core i word lines = with_registers bit_or core i
-effect_by And core i word lines = with_registers bit_and core i
+effect_by Add core i size word lines = with_registers add core i size
+effect_by Sub core i size word lines = with_registers sub core i size
+effect_by Sll core i size word lines = with_registers shift_left core i size
+effect_by Slt core i size word lines = with_registers less core i size
+effect_by Sltu core i size word lines = with_registers less_unsigned core i size
+effect_by Xor core i size word lines = with_registers bit_xor core i size
+effect_by Srl core i size word lines = with_registers shift_right core i size
+effect_by Sra core i size word lines = with_registers shift_right_signed core i size
+effect_by Or core i size word lines = with_registers bit_or core i size
+effect_by And core i size word lines = with_registers bit_and core i size
 -- fences, which order nothing here: each access is done before the next instruction (2.7, chapter 3)
-effect_by Fence core i word lines = Done (retires (next core))
-effect_by FenceI core i word lines = Done (retires (next core))
+effect_by Fence core i size word lines = Done (retires (next core size))
+effect_by FenceI core i size word lines = Done (retires (next core size))
 -- environment call and breakpoint (2.8)
-effect_by Ecall core i word lines = Done (traps core environment_call 0)
-effect_by Ebreak core i word lines = Done (traps core breakpoint core.pc)
+effect_by Ecall core i size word lines = Done (traps core environment_call 0)
+effect_by Ebreak core i size word lines = Done (traps core breakpoint core.pc)
 -- control and status registers; the operand is a register, or the number in its place (9.1)
-effect_by Csrrw core i word lines = Done (changes Write (reg core i.rs1) core i word lines)
-effect_by Csrrs core i word lines = Done (changes Set (reg core i.rs1) core i word lines)
-effect_by Csrrc core i word lines = Done (changes Clear (reg core i.rs1) core i word lines)
-effect_by Csrrwi core i word lines = Done (changes Write i.rs1 core i word lines)
-effect_by Csrrsi core i word lines = Done (changes Set i.rs1 core i word lines)
-effect_by Csrrci core i word lines = Done (changes Clear i.rs1 core i word lines)
+effect_by Csrrw core i size word lines = Done (changes Write (reg core i.rs1) core i size word lines)
+effect_by Csrrs core i size word lines = Done (changes Set (reg core i.rs1) core i size word lines)
+effect_by Csrrc core i size word lines = Done (changes Clear (reg core i.rs1) core i size word lines)
+effect_by Csrrwi core i size word lines = Done (changes Write i.rs1 core i size word lines)
+effect_by Csrrsi core i size word lines = Done (changes Set i.rs1 core i size word lines)
+effect_by Csrrci core i size word lines = Done (changes Clear i.rs1 core i size word lines)
 -- products and quotients (7.1, 7.2)
-effect_by Mul core i word lines = with_registers product core i
-effect_by Mulh core i word lines = with_registers upper_signed core i
-effect_by Mulhsu core i word lines = with_registers upper_mixed core i
-effect_by Mulhu core i word lines = with_registers upper_unsigned core i
-effect_by Div core i word lines = with_registers quotient core i
-effect_by Divu core i word lines = with_registers quotient_unsigned core i
-effect_by Rem core i word lines = with_registers remainder core i
-effect_by Remu core i word lines = with_registers remainder_unsigned core i
+effect_by Mul core i size word lines = with_registers product core i size
+effect_by Mulh core i size word lines = with_registers upper_signed core i size
+effect_by Mulhsu core i size word lines = with_registers upper_mixed core i size
+effect_by Mulhu core i size word lines = with_registers upper_unsigned core i size
+effect_by Div core i size word lines = with_registers quotient core i size
+effect_by Divu core i size word lines = with_registers quotient_unsigned core i size
+effect_by Rem core i size word lines = with_registers remainder core i size
+effect_by Remu core i size word lines = with_registers remainder_unsigned core i size
 -- return from a trap, and wait for an interrupt (Privileged ISA 3.3.2, 3.3.3)
-effect_by Mret core i word lines = Done (retires (leave core))
-effect_by Wfi core i word lines = Done (retires (next (record core { waiting = true })))
+effect_by Mret core i size word lines = Done (retires (leave core))
+effect_by Wfi core i size word lines = Done (retires (next (record core { waiting = true }) size))
 
--- what a word does; one that means no instruction is an exception (Privileged ISA 3.1.15)
-unfoldable pub effect : Core → ℕ → Lines → Effect
-effect core word lines =
-    option_map_or (λ i. effect_by i.op core i word lines) (means word) (Done (traps core illegal_instruction word))
+-- what a slot does by what was fetched: an instruction, or an exception where nothing is at an address or what is there
+-- is no instruction (Privileged ISA 3.1.15, 3.1.16)
+unfoldable pub effect : Core → Fetched → Lines → Effect
+effect core (Fault at) lines = Done (traps core instruction_access_fault at)
+effect core (Bad word) lines = Done (traps core illegal_instruction word)
+effect core (Good i size word) lines = effect_by i.op core i size word lines
 
--- what a slot does by what its fetch answers; where no memory holds the word it is an exception (Privileged ISA 3.1.15)
+-- what a word is: an instruction of four bytes, or none
+abbrev pub of_word : ℕ → Fetched
+of_word word = option_map_or (λ i. Good i 4 word) (means word) (Bad word)
+
+-- what a fetch of the word at an address has found
+abbrev pub found_at : ℕ → Option ℕ → Fetched
+found_at at None = Fault at
+found_at at (Some word) = of_word word
+
+-- what a slot does by what the fetch of its word answers
 unfoldable pub effect_of_fetch : Core → Option ℕ → Lines → Effect
-effect_of_fetch core fetched lines =
-    option_map_or (λ word. effect core word lines) fetched (Done (traps core instruction_access_fault core.pc))
+effect_of_fetch core fetched lines = effect core (found_at core.pc fetched) lines
 
 -- whether an effect asks the bus for a load or a store, which may be refused
 abbrev pub AsksBus : Effect → Type 0

@@ -1,4 +1,4 @@
--- What each slot leaves of the counters.
+-- What each slot leaves of the counters, of the letters and of the number.
 use Rattle.std.specs.Prelude.{◌≡◌, ◌≢◌, ◌+◌, ◌%◌, ◌^◌, Some}
 use Rattle.rv_hart.specs.declared.numbers.Counter.TheVariants.{Mcycle, Minstret}
 use Rattle.rv_hart.specs.Core.{Core}
@@ -19,3 +19,8 @@ RaisesMinstret core outcome after =
 -- minstret stays in an exception
 abbrev pub KeepsMinstret : Core → Outcome → Core → Type 0
 KeepsMinstret core outcome after = outcome.ending ≡ Trapped → after.minstret ≡ core.minstret
+
+-- the letters and the number stay
+pub record IsSameHart (core after : Core) : Type 0 where
+  pub letters : after.letters ≡ core.letters
+  pub number : after.number ≡ core.number

@@ -2,6 +2,7 @@
 ghost use Rattle.std.specs.Prelude.{◌≡◌, ◌==◌, ◌%◌, ◌^◌, ◌<◌, OnOk, OnErr};
 ghost use Rattle.std.specs.Int.{w8, w16};
 ghost use Rattle.rv_decode.specs.Means.{IsInstr};
+ghost use Rattle.rv_hart.specs.Core.{IsSize};
 ghost use Rattle.rv_exec.specs.Word.{extended};
 ghost use Rattle.rv_exec.specs.Access.{IsWidth, shaped};
 ghost use Rattle.rv_exec.specs.Inner.Widths.{IsWidthOf};
@@ -83,16 +84,18 @@ pub fn load<B: Bus>(
     hart: &mut Hart,
     bus: &mut B,
     i: &Instr,
+    size: u8,
     width: u8,
     shape: Shape,
 ) -> Result<(), NoMemory>
     requires fields { IsInstr i.now }
+    requires size { IsSize hart.old.letters size }
     requires width { IsWidthOf shape width }
-    ensures core { let effect = loads hart.old i.now width shape in
+    ensures core { let effect = loads hart.old i.now size width shape in
         OnOk result (hart.new ≡ core_after B.answer bus.old effect) }
-    ensures bus { let effect = loads hart.old i.now width shape in
+    ensures bus { let effect = loads hart.old i.now size width shape in
         OnOk result (bus.new ≡ bus_after B.loaded B.stored bus.old effect) }
-    ensures asked { OnErr result (AsksBus (loads hart.old i.now width shape)) }
+    ensures asked { OnErr result (AsksBus (loads hart.old i.now size width shape)) }
     ensures core_err { OnErr result (hart.new ≡ hart.old) }
     ensures bus_err { OnErr result (bus.new ≡ bus.old) }
 {
@@ -102,20 +105,27 @@ pub fn load<B: Bus>(
         return Ok(());
     }
     let answer = bus.load(at, width)?;
-    finish(hart, i.rd, shape_word(shape, width, answer));
+    finish(hart, size, i.rd, shape_word(shape, width, answer));
     Ok(())
 }
 
 /// Stores the lower bytes of a register.
 #[inline(always)]
-pub fn store<B: Bus>(hart: &mut Hart, bus: &mut B, i: &Instr, width: u8) -> Result<(), NoMemory>
+pub fn store<B: Bus>(
+    hart: &mut Hart,
+    bus: &mut B,
+    i: &Instr,
+    size: u8,
+    width: u8,
+) -> Result<(), NoMemory>
     requires fields { IsInstr i.now }
+    requires size { IsSize hart.old.letters size }
     requires width { IsWidth width }
-    ensures core { let effect = stores hart.old i.now width in
+    ensures core { let effect = stores hart.old i.now size width in
         OnOk result (hart.new ≡ core_after B.answer bus.old effect) }
-    ensures bus { let effect = stores hart.old i.now width in
+    ensures bus { let effect = stores hart.old i.now size width in
         OnOk result (bus.new ≡ bus_after B.loaded B.stored bus.old effect) }
-    ensures asked { OnErr result (AsksBus (stores hart.old i.now width)) }
+    ensures asked { OnErr result (AsksBus (stores hart.old i.now size width)) }
     ensures core_err { OnErr result (hart.new ≡ hart.old) }
     ensures bus_err { OnErr result (bus.new ≡ bus.old) }
 {
@@ -125,6 +135,6 @@ pub fn store<B: Bus>(hart: &mut Hart, bus: &mut B, i: &Instr, width: u8) -> Resu
         return Ok(());
     }
     bus.store(at, width, low_bytes(hart.register(i.rs2), width))?;
-    advance(hart);
+    advance(hart, size);
     Ok(())
 }

@@ -1,6 +1,7 @@
 //! The instructions that read and change a CSR (RISC-V Unprivileged ISA 20191213, section 9.1).
 ghost use Rattle.std.specs.Prelude.{◌≡◌, IfOk, OnErr, is_ok, is_some, ok_or, unwrap_or};
 ghost use Rattle.rv_decode.specs.Means.{IsInstr};
+ghost use Rattle.rv_hart.specs.Core.{IsSize};
 ghost use Rattle.rv_exec.specs.Csr.{
   accessed,
   after_write,
@@ -83,6 +84,7 @@ fn write(
 ) -> Result<Option<Counter>, CsrFault>
     ensures core { hart.new ≡ unwrap_or (after_write change value hart.old i.now) hart.old }
     ensures answer { is_ok result ≡ is_some (after_write change value hart.old i.now) }
+    ensures letters { hart.new.letters ≡ hart.old.letters }
     ensures counter { IfOk result (λ counter. counter ≡ counter_written change i.now) }
 {
     if change.writes(i) {
@@ -100,27 +102,38 @@ fn access(
     change: Change,
     operand: u32,
     i: &Instr,
+    size: u8,
     lines: Lines,
 ) -> Result<Ending, CsrFault>
-    requires { IsInstr i.now }
+    requires fields { IsInstr i.now }
+    requires size { IsSize hart.old.letters size }
     ensures ok { IfOk result (λ ending.
-        accessed change operand hart.old i.now lines ≡ Some (outcome hart.new ending)) }
-    ensures err { OnErr result (accessed change operand hart.old i.now lines ≡ None) }
+        accessed change operand hart.old i.now size lines ≡ Some (outcome hart.new ending)) }
+    ensures err { OnErr result (accessed change operand hart.old i.now size lines ≡ None) }
     ensures same { OnErr result (hart.new ≡ hart.old) }
 {
     let old = read(hart, change, i, lines)?;
     let counter = write(hart, change, change.of(old, operand), i)?;
-    hart.finish(i.rd, old);
+    hart.finish(size, i.rd, old);
     Ok(Ending::Retired(counter))
 }
 
 /// Reads a CSR into a register and changes it, or enters the trap of an illegal access.
 #[inline(always)]
-pub fn change_csr(hart: &mut Hart, change: Change, operand: u32, i: &Instr, word: u32, lines: Lines)
-    requires { IsInstr i.now }
-    ensures { hart.new ≡ counted (changes change operand hart.old i.now word lines) }
+pub fn change_csr(
+    hart: &mut Hart,
+    change: Change,
+    operand: u32,
+    i: &Instr,
+    size: u8,
+    word: u32,
+    lines: Lines,
+)
+    requires fields { IsInstr i.now }
+    requires size { IsSize hart.old.letters size }
+    ensures { hart.new ≡ counted (changes change operand hart.old i.now size word lines) }
 {
-    match access(hart, change, operand, i, lines) {
+    match access(hart, change, operand, i, size, lines) {
         Ok(ending) => count(hart, ending),
         Err(_) => trap(hart, Exception::IllegalInstruction, word),
     }

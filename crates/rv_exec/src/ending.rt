@@ -1,7 +1,7 @@
 //! How an instruction ends: by retiring or by an exception, and what the counters then are.
-ghost use Rattle.std.specs.Prelude.{◌≡◌, ◌<◌, true};
+ghost use Rattle.std.specs.Prelude.{◌≡◌, ◌<◌, ◌%◌, true};
 ghost use Rattle.rv_hart.specs.Cause.{cause_of};
-ghost use Rattle.rv_hart.specs.Core.{finish, next};
+ghost use Rattle.rv_hart.specs.Core.{IsSize, finish, next};
 ghost use Rattle.rv_hart.specs.Trap.{leave};
 ghost use Rattle.rv_exec.specs.Effect.{branches, jumps};
 ghost use Rattle.rv_exec.specs.Outcome.{counted, counted_by, retires, traps};
@@ -42,45 +42,50 @@ pub fn trap(hart: &mut Hart, exception: Exception, value: u32)
     count(hart, Ending::Trapped);
 }
 
-/// Goes on to the next instruction.
-pub fn advance(hart: &mut Hart)
-    ensures { hart.new ≡ counted (retires (next hart.old)) }
+/// Goes on to the next instruction after one of so many bytes.
+pub fn advance(hart: &mut Hart, size: u8)
+    requires { IsSize hart.old.letters size }
+    ensures { hart.new ≡ counted (retires (next hart.old size)) }
 {
-    hart.advance();
+    hart.advance(size);
     count(hart, Ending::Retired(None));
 }
 
 /// Writes a register, and goes on to the next instruction.
-pub fn finish(hart: &mut Hart, rd: u8, value: u32)
-    requires { rd < 32 }
-    ensures { hart.new ≡ counted (retires (finish hart.old rd value)) }
+pub fn finish(hart: &mut Hart, size: u8, rd: u8, value: u32)
+    requires size { IsSize hart.old.letters size }
+    requires register { rd < 32 }
+    ensures { hart.new ≡ counted (retires (finish hart.old size rd value)) }
 {
-    hart.finish(rd, value);
+    hart.finish(size, rd, value);
     count(hart, Ending::Retired(None));
 }
 
 /// Jumps, with the pc of the next instruction in a register, or enters the trap of a misaligned
 /// target.
-pub fn jump(hart: &mut Hart, rd: u8, target: u32)
-    requires { rd < 32 }
-    ensures { hart.new ≡ counted (jumps hart.old rd target) }
+pub fn jump(hart: &mut Hart, size: u8, rd: u8, target: u32)
+    requires register { rd < 32 }
+    requires even { target % 2 ≡ 0 }
+    ensures { hart.new ≡ counted (jumps hart.old size rd target) }
 {
-    if target % 4 != 0 {
+    if target % 4 != 0 && !hart.letters().c {
         trap(hart, Exception::InstructionAddressMisaligned, target);
     } else {
-        hart.jump(rd, target);
+        hart.jump(size, rd, target);
         count(hart, Ending::Retired(None));
     }
 }
 
 /// Jumps by an offset where the branch is taken, or else goes on to the next instruction.
-pub fn branch(hart: &mut Hart, taken: bool, offset: u32)
-    ensures { hart.new ≡ counted (branches hart.old taken offset) }
+pub fn branch(hart: &mut Hart, size: u8, taken: bool, offset: u32)
+    requires size { IsSize hart.old.letters size }
+    requires even { offset % 2 ≡ 0 }
+    ensures { hart.new ≡ counted (branches hart.old size taken offset) }
 {
     if taken {
-        jump(hart, 0, add(hart.pc(), offset));
+        jump(hart, size, 0, add(hart.pc(), offset));
     } else {
-        advance(hart);
+        advance(hart, size);
     }
 }
 
@@ -93,9 +98,10 @@ pub fn leave(hart: &mut Hart)
 }
 
 /// Goes on to the next instruction, where the hart waits for an interrupt.
-pub fn wait(hart: &mut Hart)
-    ensures { hart.new ≡ counted (retires (next (record hart.old { waiting = true }))) }
+pub fn wait(hart: &mut Hart, size: u8)
+    requires { IsSize hart.old.letters size }
+    ensures { hart.new ≡ counted (retires (next (record hart.old { waiting = true }) size)) }
 {
     hart.set_waiting(true);
-    advance(hart);
+    advance(hart, size);
 }

@@ -8,7 +8,11 @@ mod condition;
 mod csr;
 mod ending;
 mod execute;
+mod fetched;
+mod laws;
 mod operation;
 
 pub use bus::{Bus, NoMemory};
-pub use execute::step;
+pub use execute::{perform, step};
+pub use fetched::Fetched;
+pub use laws::long_instructions_agree;

@@ -1,11 +1,13 @@
 -- The state of one hart as contracts see it, and the words that an instruction is made of.
 use Rattle.std.specs.Prelude.{◌≡◌, ℕ, ◌+◌, ◌%◌, ◌^◌, ◌==◌, Bool, false, if◌then◌else◌, List, slice_index, slice_set}
-use Rattle.std.specs.Prelude.{replicate, bit_and}
+use Rattle.std.specs.Prelude.{replicate, bit_and, true, ◌⊎◌}
 use Rattle.std.specs.Int.{bit_at}
+use Rattle.rv_hart.specs.declared.letters.Letters.{Letters}
 use Rattle.rv_hart.specs.Cause.{interrupt_bits}
 
 -- the registers x0 to x31 and the pc (Unprivileged ISA 2.1), the CSRs of machine mode (Privileged ISA
--- 3.1), of mstatus the bits MIE (`on`) and MPIE (`before`), and whether the hart waits or is halted
+-- 3.1), of mstatus the bits MIE (`on`) and MPIE (`before`), whether the hart waits or is halted, the letters of its
+-- optional extensions and its number
 pub record Core : Type 0 where
   pub x : List ℕ
   pub pc : ℕ
@@ -21,10 +23,12 @@ pub record Core : Type 0 where
   pub minstret : ℕ
   pub waiting : Bool
   pub halted : Bool
+  pub letters : Letters
+  pub number : ℕ
 
--- the core of a new hart
-abbrev pub initial : Core
-initial = record {
+-- the core of a new hart of these letters and this number
+abbrev pub initial_with : Letters → ℕ → Core
+initial_with letters number = record {
   x = replicate 32 0;
   pc = 0;
   on = false;
@@ -39,7 +43,21 @@ initial = record {
   minstret = 0;
   waiting = false;
   halted = false;
+  letters = letters;
+  number = number;
 }
+
+-- the core of a new hart of no letters and the number 0
+abbrev pub initial : Core
+initial = initial_with (record { a = false; c = false }) 0
+
+-- what the place of an instruction is divisible by: 4, and with compressed instructions 2 (Unprivileged ISA 1.5, 16.1)
+abbrev pub alignment : Letters → ℕ
+alignment letters = if letters.c then 2 else 4
+
+-- the sizes of instructions in bytes: 4, and with compressed instructions 2 too (Unprivileged ISA 16.1)
+abbrev pub IsSize : Letters → ℕ → Type 0
+IsSize letters size = (size ≡ 4) ⊎ ((size ≡ 2) × (letters.c ≡ true))
 
 -- a register's word
 abbrev pub reg : Core → ℕ → ℕ
@@ -49,21 +67,21 @@ reg core n = slice_index core.x n
 abbrev pub put : List ℕ → ℕ → ℕ → List ℕ
 put xs n value = if n == 0 then xs else slice_set xs n value
 
--- the pc of the instruction that follows
-abbrev pub next_pc : Core → ℕ
-next_pc core = (core.pc + 4) % 2 ^ 32
+-- the pc of the instruction that follows one of this size
+abbrev pub next_pc : Core → ℕ → ℕ
+next_pc core size = (core.pc + size) % 2 ^ 32
 
--- on to the next instruction
-unfoldable pub next : Core → Core
-next core = record core { pc = next_pc core }
+-- on to the next instruction after one of this size
+unfoldable pub next : Core → ℕ → Core
+next core size = record core { pc = next_pc core size }
 
--- on to the next instruction, with this word in the register
-unfoldable pub finish : Core → ℕ → ℕ → Core
-finish core rd value = record core { x = put core.x rd value; pc = next_pc core }
+-- on to the next instruction after one of this size, with this word in the register
+unfoldable pub finish : Core → ℕ → ℕ → ℕ → Core
+finish core size rd value = record core { x = put core.x rd value; pc = next_pc core size }
 
--- a jump, with the pc of the next instruction in the register (Unprivileged ISA 2.5)
-unfoldable pub jump : Core → ℕ → ℕ → Core
-jump core rd target = record core { x = put core.x rd (next_pc core); pc = target }
+-- a jump of this size, with the pc of the next instruction in the register (Unprivileged ISA 2.5, 16.4)
+unfoldable pub jump : Core → ℕ → ℕ → ℕ → Core
+jump core size rd target = record core { x = put core.x rd (next_pc core size); pc = target }
 
 -- one cycle more (Privileged ISA 3.1.10)
 unfoldable pub ticked : Core → Core
@@ -74,10 +92,10 @@ unfoldable pub retired : Core → Core
 retired core = record core { minstret = (core.minstret + 1) % 2 ^ 64 }
 
 -- what holds of the core of every hart: x0 is 0, mie has only the bits of the interrupts that there are, mtvec has
--- mode 0 or 1, and mepc and the pc are divisible by 4
+-- mode 0 or 1, and mepc and the pc are places of instructions
 pub record IsSound (core : Core) : Type 0 where
   pub zero : reg core 0 ≡ 0
   pub enables : bit_and core.mie interrupt_bits ≡ core.mie
   pub mode : bit_at core.mtvec 1 ≡ 0
-  pub return_pc : core.mepc % 4 ≡ 0
-  pub aligned : core.pc % 4 ≡ 0
+  pub return_pc : core.mepc % alignment core.letters ≡ 0
+  pub aligned : core.pc % alignment core.letters ≡ 0

@@ -5,6 +5,7 @@ use Prim.Native.String.{String}
 use Rattle.lab_num.specs.Halves.{low, high, with_low, with_high}
 use Rattle.rv_hart.specs.declared.numbers.TheConstants.{MCYCLE, MCYCLEH, MINSTRET, MINSTRETH}
 use Rattle.rv_hart.specs.declared.csr.Lines.{Lines}
+use Rattle.rv_hart.specs.declared.letters.Letters.{Letters}
 use Rattle.rv_hart.specs.declared.numbers.Counter.{Counter}
 use Rattle.rv_hart.specs.declared.numbers.Counter.TheVariants.{Mcycle, Minstret}
 use Rattle.rv_hart.specs.Cause.{interrupt_bits}
@@ -19,10 +20,15 @@ flag bit = if bit then 1 else 0
 abbrev pub status : Core → ℕ
 status core = flag core.on * 2 ^ 3 + flag core.before * 2 ^ 7 + 3 * 2 ^ 11
 
--- misa: 32 bits wide, with the base instructions and the extension M, which are the letters I and M (Privileged ISA
--- 3.1.1)
-abbrev pub rv32im : ℕ
-rv32im = 2 ^ 30 + 2 ^ 8 + 2 ^ 12
+-- misa: 32 bits wide, with the base instructions and the extension M, which are the letters I and M, and with the
+-- letters A and C that the hart has (Privileged ISA 3.1.1)
+abbrev pub extensions : Letters → ℕ
+extensions letters = 2 ^ 30 + 2 ^ 8 + 2 ^ 12 + flag letters.a * 2 ^ 0 + flag letters.c * 2 ^ 2
+
+-- the bits that mepc holds: all but the lowest two, and with compressed instructions all but the lowest (Privileged ISA
+-- 3.1.14)
+abbrev pub return_bits : Letters → ℕ
+return_bits letters = if letters.c then 0xFFFFFFFE else 0xFFFFFFFC
 
 -- one CSR: its number, its name, what it reads, and the core after a write, where it can be written
 pub record Row : Type 0 where
@@ -51,12 +57,12 @@ rows =
     -- machine trap setup
     read_write 0x300 "mstatus" (λ c l. status c) (λ c v. record c { on = is_set v 3; before = is_set v 7 }) ∷
     read_write 0x310 "mstatush" zero_word ignored ∷
-    read_write 0x301 "misa" (λ c l. rv32im) ignored ∷
+    read_write 0x301 "misa" (λ c l. extensions c.letters) ignored ∷
     read_write 0x304 "mie" (λ c l. c.mie) (λ c v. record c { mie = bit_and v interrupt_bits }) ∷
     read_write 0x305 "mtvec" (λ c l. c.mtvec) (λ c v. record c { mtvec = bit_and v 0xFFFFFFFD }) ∷
     -- machine trap handling
     read_write 0x340 "mscratch" (λ c l. c.mscratch) (λ c v. record c { mscratch = v }) ∷
-    read_write 0x341 "mepc" (λ c l. c.mepc) (λ c v. record c { mepc = bit_and v 0xFFFFFFFC }) ∷
+    read_write 0x341 "mepc" (λ c l. c.mepc) (λ c v. record c { mepc = bit_and v (return_bits c.letters) }) ∷
     read_write 0x342 "mcause" (λ c l. c.mcause) (λ c v. record c { mcause = v }) ∷
     read_write 0x343 "mtval" (λ c l. c.mtval) (λ c v. record c { mtval = v }) ∷
     read_write 0x344 "mip" (λ c l. bit_and l.mip interrupt_bits) ignored ∷
@@ -76,7 +82,7 @@ rows =
     read_only 0xF11 "mvendorid" zero_word ∷
     read_only 0xF12 "marchid" zero_word ∷
     read_only 0xF13 "mimpid" zero_word ∷
-    read_only 0xF14 "mhartid" zero_word ∷
+    read_only 0xF14 "mhartid" (λ c l. c.number) ∷
     []
 
 -- the row of a number, if there is one

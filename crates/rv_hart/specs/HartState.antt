@@ -19,6 +19,8 @@ core_of s = record {
   minstret = s.minstret;
   waiting = s.waiting;
   halted = s.halted;
+  letters = s.letters;
+  number = s.number;
 }
 
 -- the state of a core
@@ -38,6 +40,8 @@ state_of core = record {
   minstret = core.minstret;
   waiting = core.waiting;
   halted = core.halted;
+  letters = core.letters;
+  number = core.number;
 }
 
 -- a state that a hart can have

@@ -1,10 +1,10 @@
 -- Laws of the definitions, over every core.
 use Rattle.std.specs.Prelude.{◌≡◌, ◌≢◌, ℕ, ◌<◌, ◌^◌, Some, option_and_then, unwrap_or, IsSomeAnd, bit_and}
-use Rattle.rv_hart.specs.declared.numbers.TheConstants.{MSTATUS}
+use Rattle.rv_hart.specs.declared.numbers.TheConstants.{MSTATUS, MEPC}
 use Rattle.rv_hart.specs.declared.csr.Lines.{Lines}
 use Rattle.rv_hart.specs.declared.numbers.Counter.TheVariants.{Mcycle, Minstret}
 use Rattle.rv_hart.specs.Core.{Core}
-use Rattle.rv_hart.specs.Csr.{csr_read, csr_written, counter_of}
+use Rattle.rv_hart.specs.Csr.{csr_read, csr_written, counter_of, return_bits}
 use Rattle.rv_hart.specs.Trap.{enter, is_set, leave}
 
 -- a return after an entry is back at the pc
@@ -21,6 +21,14 @@ ReadsBack number mask =
     (core : Core) (lines : Lines) (value : ℕ) →
     value < 2 ^ 32 →
     option_and_then (λ after. csr_read after lines number) (csr_written core number value) ≡ Some (bit_and value mask)
+
+-- mepc reads back what was written, under the mask of the bits that it holds in this hart
+abbrev pub MepcReadsBack : Type 0
+MepcReadsBack =
+    (core : Core) (lines : Lines) (value : ℕ) →
+    value < 2 ^ 32 →
+    option_and_then (λ after. csr_read after lines MEPC) (csr_written core MEPC value)
+    ≡ Some (bit_and value (return_bits core.letters))
 
 -- mstatus reads back what was written of this bit
 abbrev pub StatusReadsBack : ℕ → Type 0

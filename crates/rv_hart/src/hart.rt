@@ -1,15 +1,17 @@
 //! The hart: its registers and switches, and its state as a whole.
 ghost use Rattle.std.specs.Prelude.{◌≡◌, ◌%◌, ◌<◌, SomeIff};
-ghost use Rattle.rv_hart.specs.Core.{initial, reg, put, next, finish, jump, ticked, retired};
+ghost use Rattle.rv_hart.specs.Core.{IsSize, alignment, initial, initial_with, reg, put, next, finish, jump};
+ghost use Rattle.rv_hart.specs.Core.{ticked, retired};
 ghost use Rattle.rv_hart.specs.HartState.{IsHartState, core_of, state_of};
 
 mod csr;
 mod trap;
 
+use crate::letters::Letters;
 use crate::state::{HartState, is_hart_state};
 use std::marker::Model;
 
-/// A hart of RV32IM with machine mode alone.
+/// A hart of RV32IM, with the extensions of its letters, with machine mode alone.
 #[derive(Clone, Copy, PartialEq, Eq, Debug)]
 pub struct Hart {
     state: HartState,
@@ -29,9 +31,18 @@ impl Model for Hart {
 }
 
 impl Hart {
-    /// A hart with all registers and CSRs 0, which neither waits nor is halted.
+    /// A hart of no letters and the number 0, with all registers and CSRs 0, which neither waits nor
+    /// is halted.
     pub fn new() -> Hart
         ensures { result ≡ initial }
+    {
+        Hart::with(Letters { a: false, c: false }, 0)
+    }
+
+    /// A hart of these letters and this number, with all other registers and CSRs 0, which neither
+    /// waits nor is halted.
+    pub fn with(letters: Letters, number: u8) -> Hart
+        ensures { result ≡ initial_with letters number }
     {
         Hart {
             state: HartState {
@@ -49,8 +60,17 @@ impl Hart {
                 minstret: 0,
                 waiting: false,
                 halted: false,
+                letters,
+                number,
             },
         }
+    }
+
+    /// The optional extensions.
+    pub fn letters(&self) -> Letters
+        ensures { result ≡ self.now.letters }
+    {
+        self.state.letters
     }
 
     /// The word of a register.
@@ -76,14 +96,15 @@ impl Hart {
     /// Where the hart is.
     pub fn pc(&self) -> u32
         ensures value { result ≡ self.now.pc }
-        ensures aligned { result % 4 ≡ 0 }
+        ensures aligned { result % alignment self.now.letters ≡ 0 }
+        ensures even { result % 2 ≡ 0 }
     {
         self.state.pc
     }
 
-    /// Moves the hart to a place that is divisible by 4.
+    /// Moves the hart to a place that is divisible by 4, or with compressed instructions by 2.
     pub fn set_pc(&mut self, pc: u32)
-        requires { pc % 4 ≡ 0 }
+        requires { pc % alignment self.old.letters ≡ 0 }
         ensures { self.new ≡ record self.old { pc = pc } }
     {
         self.state.pc = pc;
@@ -133,34 +154,36 @@ impl Hart {
         self.state.minstret = self.state.minstret.wrapping_add(1);
     }
 
-    /// Goes on to the next instruction. The counters stay.
+    /// Goes on to the next instruction after one of so many bytes. The counters stay.
     #[tactic(auto, unfolding(crate::specs::Core::next))]
-    pub fn advance(&mut self)
-        ensures { self.new ≡ next self.old }
+    pub fn advance(&mut self, size: u8)
+        requires { IsSize self.old.letters size }
+        ensures { self.new ≡ next self.old size }
     {
-        self.state.pc = self.state.pc.wrapping_add(4);
+        self.state.pc = self.state.pc.wrapping_add(u32::from(size));
     }
 
-    /// Writes a register, but for register 0, and goes on to the next instruction. The counters
-    /// stay.
+    /// Writes a register, but for register 0, and goes on to the next instruction after one of so
+    /// many bytes. The counters stay.
     #[tactic(auto, unfolding(crate::specs::Core::finish, crate::specs::Core::next))]
-    pub fn finish(&mut self, rd: u8, value: u32)
-        requires { rd < 32 }
-        ensures { self.new ≡ finish self.old rd value }
+    pub fn finish(&mut self, size: u8, rd: u8, value: u32)
+        requires size { IsSize self.old.letters size }
+        requires register { rd < 32 }
+        ensures { self.new ≡ finish self.old size rd value }
     {
         self.set_register(rd, value);
-        self.advance();
+        self.advance(size);
     }
 
-    /// Jumps to the target, with the pc of the next instruction in a register, but for register 0.
-    /// The counters stay.
+    /// Jumps to the target, with the pc of the instruction after this one of so many bytes in a
+    /// register, but for register 0. The counters stay.
     #[tactic(auto, unfolding(crate::specs::Core::jump))]
-    pub fn jump(&mut self, rd: u8, target: u32)
+    pub fn jump(&mut self, size: u8, rd: u8, target: u32)
         requires register { rd < 32 }
-        requires aligned { target % 4 ≡ 0 }
-        ensures { self.new ≡ jump self.old rd target }
+        requires aligned { target % alignment self.old.letters ≡ 0 }
+        ensures { self.new ≡ jump self.old size rd target }
     {
-        self.set_register(rd, self.pc().wrapping_add(4));
+        self.set_register(rd, self.pc().wrapping_add(u32::from(size)));
         self.set_pc(target);
     }
 
@@ -173,7 +196,8 @@ impl Hart {
     }
 
     /// The hart of a state. There is none where register 0 is not 0, mie has a bit other than 3, 7
-    /// and 11, bit 1 of mtvec is set, or mepc or pc is not divisible by 4.
+    /// and 11, bit 1 of mtvec is set, or mepc or pc is not divisible by 4, or with compressed
+    /// instructions by 2.
     pub fn of(s: &HartState) -> Option<Hart>
         ensures { SomeIff result (IsHartState s.now) (core_of s.now) }
     {

@@ -4,6 +4,7 @@ ghost use Rattle.rv_hart.specs.Core.{reg};
 ghost use Rattle.rv_hart.specs.Laws.{
   KeepsMcycle,
   KeepsMinstret,
+  MepcReadsBack,
   ReadsBack,
   ReturnsMie,
   ReturnsToPc,
@@ -12,9 +13,7 @@ ghost use Rattle.rv_hart.specs.Laws.{
 
 use crate::cause::INTERRUPT_BITS;
 use crate::hart::Hart;
-use crate::numbers::{
-    MCAUSE, MCYCLE, MCYCLEH, MEPC, MIE, MINSTRET, MINSTRETH, MSCRATCH, MTVAL, MTVEC,
-};
+use crate::numbers::{MCAUSE, MCYCLE, MCYCLEH, MIE, MINSTRET, MINSTRETH, MSCRATCH, MTVAL, MTVEC};
 
 /// A return after the entry of a trap goes on as if there had been none.
 #[tactic(auto, unfolding(crate::specs::Trap::enter, crate::specs::Trap::leave))]
@@ -38,7 +37,7 @@ pub fn read_back()
     ensures mie { ReadsBack MIE INTERRUPT_BITS }
     ensures mtvec { ReadsBack MTVEC 0xFFFFFFFD }
     ensures mscratch { ReadsBack MSCRATCH 0xFFFFFFFF }
-    ensures mepc { ReadsBack MEPC 0xFFFFFFFC }
+    ensures mepc { MepcReadsBack }
     ensures mcause { ReadsBack MCAUSE 0xFFFFFFFF }
     ensures mtval { ReadsBack MTVAL 0xFFFFFFFF }
     ensures mcycle { ReadsBack MCYCLE 0xFFFFFFFF }

@@ -6,6 +6,7 @@ mod cause;
 mod csr;
 mod hart;
 mod laws;
+mod letters;
 mod numbers;
 mod state;
 
@@ -13,5 +14,6 @@ pub use cause::Exception;
 pub use csr::{CsrFault, Lines};
 pub use hart::Hart;
 pub use laws::{counters_stay, read_back, return_after_entry, zero_register};
+pub use letters::Letters;
 pub use numbers::{Counter, counter_of};
 pub use state::HartState;

@@ -4,14 +4,15 @@ ghost use Rattle.rv_hart.specs.HartState.{IsHartState};
 
 use crate::bits::is_set;
 use crate::cause::INTERRUPT_BITS;
+use crate::letters::Letters;
 
-/// All that a hart holds: its registers, the fields of the CSRs that hold a value, and two
-/// switches.
+/// All that a hart holds: its registers, the fields of the CSRs that hold a value, two switches, its
+/// optional extensions and its number.
 #[derive(Clone, Copy, PartialEq, Eq, Debug)]
 pub struct HartState {
     /// x0 to x31, of which x0 is 0.
     pub registers: [u32; 32],
-    /// Divisible by 4.
+    /// Divisible by 4, or with compressed instructions by 2.
     pub pc: u32,
     /// The bit MIE of mstatus: interrupts are enabled.
     pub on: bool,
@@ -22,7 +23,7 @@ pub struct HartState {
     /// The base of the traps, and the mode at bit 0; bit 1 is 0.
     pub mtvec: u32,
     pub mscratch: u32,
-    /// Divisible by 4.
+    /// Divisible by 4, or with compressed instructions by 2.
     pub mepc: u32,
     pub mcause: u32,
     pub mtval: u32,
@@ -32,6 +33,10 @@ pub struct HartState {
     pub waiting: bool,
     /// The board lets the hart do nothing.
     pub halted: bool,
+    /// The optional extensions.
+    pub letters: Letters,
+    /// What mhartid reads.
+    pub number: u8,
 }
 
 /// Whether a hart can have this state.
@@ -41,6 +46,6 @@ pub fn is_hart_state(s: &HartState) -> bool
     s.registers[0] == 0
         && s.mie & INTERRUPT_BITS == s.mie
         && !is_set(s.mtvec, 1)
-        && s.mepc % 4 == 0
-        && s.pc % 4 == 0
+        && s.letters.aligns(s.mepc)
+        && s.letters.aligns(s.pc)
 }

@@ -1,6 +1,7 @@
 //! Plans of two boards, and their parts.
 use dev_core::Kind;
 use lab_num::{NoMemory, Rows, Text};
+use rv_hart::Letters;
 use std::alloc::Global;
 use sys_bus::{BoardPlan, Named, NamedWhat, PlicSize, Region, RegionKind};
 
@@ -114,6 +115,7 @@ fn board_of(
         wires: Rows::of(Vec::new(alloc)),
         speed: 1,
         cpu,
+        letters: Letters { a: false, c: false },
     })
 }
 

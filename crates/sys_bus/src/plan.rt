@@ -11,6 +11,7 @@ use crate::regions::{are_addressed, are_apart};
 use crate::wire::{Wire, are_wires};
 use dev_core::Kind;
 use lab_num::{Rows, Text};
+use rv_hart::Letters;
 
 /// What a name of a platform stands for.
 #[derive(Clone, Copy, PartialEq, Eq, Debug)]
@@ -52,6 +53,8 @@ pub struct BoardPlan {
     pub speed: u32,
     /// The name of the processor.
     pub cpu: Text,
+    /// The optional extensions of the processor.
+    pub letters: Letters,
 }
 
 impl BoardPlan {

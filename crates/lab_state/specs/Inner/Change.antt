@@ -3,6 +3,7 @@ use Rattle.std.specs.Prelude.{◌≡◌, ◌<◌, ◌%◌, length, IsTrue}
 use Rattle.page_ram.specs.Bytes.{zeros}
 use Rattle.board.specs.Changes.{with_pc, with_halted, with_shown, with_bytes, may_be_shown, holds_each}
 use Rattle.board.specs.New.{reset}
+use Rattle.rv_hart.specs.Core.{alignment}
 use Rattle.board.specs.View.{View}
 use Rattle.lab_state.specs.declared.change.Change.{Change}
 use Rattle.lab_state.specs.declared.change.Change.TheVariants as change
@@ -16,7 +17,7 @@ changed_by change.Reset v = reset v
 
 -- when it may be
 abbrev pub MayChange : Change → View → Type 0
-MayChange (change.Pc pc) v = pc % 4 ≡ 0
+MayChange (change.Pc pc) v = pc % alignment v.core.letters ≡ 0
 MayChange (change.Halted on) v = Unit {0}
 MayChange (change.Shown dev) v = (dev < length v.space.devices) × IsTrue (may_be_shown v dev)
 MayChange (change.Zero at count) v = IsTrue (holds_each v.space at count)

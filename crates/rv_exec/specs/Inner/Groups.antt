@@ -14,13 +14,13 @@ use Rattle.rv_exec.specs.Outcome.{retires}
 
 -- an instruction whose registers hold these numbers puts a value into its register, and does nothing else
 abbrev pub Gives : Instr → ℕ → ℕ → ℕ → Type 0
-Gives i a b value = (core : Core) → (word : ℕ) → (lines : Lines) → reg core i.rs1 ≡ a → reg core i.rs2 ≡ b
-    → effect_by i.op core i word lines ≡ Done (retires (finish core i.rd value))
+Gives i a b value = (core : Core) → (size word : ℕ) → (lines : Lines) → reg core i.rs1 ≡ a → reg core i.rs2 ≡ b
+    → effect_by i.op core i size word lines ≡ Done (retires (finish core size i.rd value))
 
 -- an instruction whose registers hold these numbers is a branch that is taken or not
 abbrev pub IsTaken : Instr → ℕ → ℕ → Bool → Type 0
-IsTaken i a b taken = (core : Core) → (word : ℕ) → (lines : Lines) → reg core i.rs1 ≡ a → reg core i.rs2 ≡ b
-    → effect_by i.op core i word lines ≡ Done (branches core taken i.imm)
+IsTaken i a b taken = (core : Core) → (size word : ℕ) → (lines : Lines) → reg core i.rs1 ≡ a → reg core i.rs2 ≡ b
+    → effect_by i.op core i size word lines ≡ Done (branches core size taken i.imm)
 
 -- the conditional branches
 abbrev pub is_branch : Op → Bool

@@ -9,9 +9,6 @@ use crate::hart::Hart;
 use crate::numbers;
 use lab_num::{high_half, low_half, with_high_half, with_low_half};
 
-/// 32 bits wide, with the base instructions and M.
-const RV32IM: u32 = 1 << 30 | 1 << 12 | 1 << 8;
-
 impl Hart {
     /// mstatus: MIE, MPIE, and MPP, which is always machine mode.
     fn mstatus(&self) -> u32
@@ -29,7 +26,7 @@ impl Hart {
         match number {
             numbers::MSTATUS => Ok(self.mstatus()),
             numbers::MSTATUSH => Ok(0),
-            numbers::MISA => Ok(RV32IM),
+            numbers::MISA => Ok(self.state.letters.misa()),
             numbers::MIE => Ok(self.state.mie),
             numbers::MTVEC => Ok(self.state.mtvec),
             numbers::MSCRATCH => Ok(self.state.mscratch),
@@ -43,7 +40,8 @@ impl Hart {
             numbers::MINSTRETH | numbers::INSTRETH => Ok(high_half(self.state.minstret)),
             numbers::TIME => Ok(low_half(lines.mtime)),
             numbers::TIMEH => Ok(high_half(lines.mtime)),
-            numbers::MVENDORID | numbers::MARCHID | numbers::MIMPID | numbers::MHARTID => Ok(0),
+            numbers::MVENDORID | numbers::MARCHID | numbers::MIMPID => Ok(0),
+            numbers::MHARTID => Ok(u32::from(self.state.number)),
             _ => Err(CsrFault::Illegal),
         }
     }
@@ -55,6 +53,7 @@ impl Hart {
         ensures written { self.new ≡ unwrap_or (csr_written self.old number value) self.old }
         ensures answer { is_ok result ≡ is_some (csr_written self.old number value) }
         ensures refused { OnErr result (self.new ≡ self.old) }
+        ensures letters { self.new.letters ≡ self.old.letters }
         ensures writable { is_ok result ≡ (is_listed number && not (is_read_only number)) }
     {
         match number {
@@ -66,7 +65,7 @@ impl Hart {
             numbers::MIE => self.state.mie = value & INTERRUPT_BITS,
             numbers::MTVEC => self.state.mtvec = value & !0b10,
             numbers::MSCRATCH => self.state.mscratch = value,
-            numbers::MEPC => self.state.mepc = value & !0b11,
+            numbers::MEPC => self.state.mepc = value & self.state.letters.return_bits(),
             numbers::MCAUSE => self.state.mcause = value,
             numbers::MTVAL => self.state.mtval = value,
             numbers::MCYCLE => self.state.mcycle = with_low_half(self.state.mcycle, value),

@@ -1,15 +1,5 @@
--- What each slot leaves of the counters follows from what its instruction leaves of them.
-use Rattle.rv_exec.proofs.CounterLemmas.{is_counted}
+-- What is found may be performed.
 use Rattle.rv_exec.proofs.execute.step.Goals as goal
 
-pub returns-clause-mcycle : goal.returns-clause-mcycle
-returns-clause-mcycle g c =
-    (is_counted _ _ _ _ _ c.in_ok-fetch_and_execute.ensures.core).mcycle
-
-pub returns-clause-minstret : goal.returns-clause-minstret
-returns-clause-minstret g c =
-    (is_counted _ _ _ _ _ c.in_ok-fetch_and_execute.ensures.core).minstret
-
-pub returns-clause-trapped : goal.returns-clause-trapped
-returns-clause-trapped g c =
-    (is_counted _ _ _ _ _ c.in_ok-fetch_and_execute.ensures.core).trapped
+pub perform-requires : goal.perform-requires
+perform-requires g c = c.find-what.ensures.performable c.args.hart.now.letters

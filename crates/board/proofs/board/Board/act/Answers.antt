@@ -11,5 +11,5 @@ pub returns-clause-ok : goal.returns-clause-ok
 returns-clause-ok g c =
     let ok = c.in-Ok.ensures {u = tt} in
     rw (← c.self.view_is)
-    (awake-instruction c.self.inside.hart c.step.new.hart c.self.inside.wires c.begin_slot.new.self c.step.new.bus
-    c.args.at.0 c.args.lines (sym c.taken.ensures ∙ c.in_default.is) c.begin_slot.ensures ok.core ok.bus)
+    (awake-instruction c.self.inside.hart c.instruction.new.hart c.self.inside.wires c.begin_slot.new.self
+    c.instruction.new.wires c.args.at.0 c.args.lines (sym c.taken.ensures ∙ c.in_default.is) c.begin_slot.ensures ok.core ok.bus)

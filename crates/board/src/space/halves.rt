@@ -1,0 +1,91 @@
+//! What lies in the memories of a board by half-words.
+ghost use Rattle.std.specs.Prelude.{◌≡◌, ◌+◌, ◌<◌, ◌≤◌, ◌%◌, length, true};
+ghost use Rattle.page_ram.specs.Bytes.{value_at};
+ghost use Rattle.rv_hart.specs.declared.letters.Letters.{Letters};
+ghost use Rattle.rv_exec.specs.Fetched.{IsPerformable};
+ghost use Rattle.board.specs.Fetch.{half_in, halves_at, of_half};
+ghost use Rattle.board.specs.Space.{memory_at};
+
+use super::Space;
+use dev_core::Device;
+use rv_exec::Fetched;
+use rvc_decode::expand;
+use sys_bus::Target;
+
+/// What a half-word is: an instruction of two bytes, or none.
+#[inline(always)]
+fn of_half(half: u16) -> Fetched
+    ensures value { result ≡ of_half half }
+    ensures performable { (letters : Letters) → letters.c ≡ true → IsPerformable letters result }
+{
+    let word = u32::from(half);
+    match expand(half) {
+        Some(instr) => Fetched::Good {
+            instr,
+            size: 2,
+            word,
+        },
+        None => Fetched::Bad(word),
+    }
+}
+
+impl<D: Device> Space<D> {
+    /// What lies at an address, by half-words.
+    #[inline(always)]
+    pub fn fetch_halves(&mut self, at: u32) -> Fetched
+        requires { at % 2 ≡ 0 }
+        ensures value { result ≡ halves_at self.old at }
+        ensures performable { (letters : Letters) → letters.c ≡ true → IsPerformable letters result }
+        ensures same { self.new ≡ self.old }
+    {
+        let Some(half) = self.half(at) else {
+            return Fetched::Fault(at);
+        };
+        if half % 4 != 3 {
+            return of_half(half);
+        }
+        let next = at.wrapping_add(2);
+        match self.half(next) {
+            Some(upper) => Fetched::of_word(u32::from(half) + u32::from(upper) * 0x1_0000),
+            None => Fetched::Fault(next),
+        }
+    }
+
+    /// The half-word at an address, where a memory holds both bytes.
+    #[inline(always)]
+    fn half(&mut self, at: u32) -> Option<u16>
+        requires { at % 2 ≡ 0 }
+        ensures value { result ≡ half_in self.old at }
+        ensures same { self.new ≡ self.old }
+    {
+        match self.regions.near_code(at) {
+            Some(place) => Some(self.half_of_memory(place.part, place.at)),
+            None => Some(self.half_anew(at)?),
+        }
+    }
+
+    /// The same, by a search of all regions.
+    #[cold]
+    #[inline(never)]
+    fn half_anew(&mut self, at: u32) -> Option<u16>
+        requires { at % 2 ≡ 0 }
+        ensures value { result ≡ half_in self.old at }
+        ensures same { self.new ≡ self.old }
+    {
+        // the memory of the word there is near from now on
+        let _ = self.find_code(at);
+        match self.find(at, 2) {
+            Target::Ram { part, at } => Some(self.half_of_memory(part, at)),
+            _ => None,
+        }
+    }
+
+    #[inline(always)]
+    fn half_of_memory(&self, part: u8, at: u32) -> u16
+        requires part { part < length self.now.memories }
+        requires lies { at + 2 ≤ length (memory_at self.now part) }
+        ensures { result ≡ value_at (memory_at self.now part) at 2 }
+    {
+        self.memories[usize::from(part)].load(at, 2) as u16
+    }
+}
