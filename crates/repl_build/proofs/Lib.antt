@@ -2,6 +2,7 @@
 pub mod ConnectionLemmas
 pub mod CountLemmas
 pub mod EntryLemmas
+mod FoundLemmas
 pub mod ListLemmas
 pub mod LoopLemmas
 pub mod NameLemmas
@@ -13,6 +14,7 @@ pub mod PlanCounts
 pub mod QuestionLemmas
 pub mod RangeLemmas
 pub mod RegionLemmas
+mod SeenLemmas
 pub mod SoundLemmas
 pub mod TestedLemmas
 pub mod TypeLemmas

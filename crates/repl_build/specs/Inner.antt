@@ -1,2 +1,4 @@
 -- What serves private contracts and proofs alone.
+pub mod Found
+pub mod Seen
 pub mod Tested

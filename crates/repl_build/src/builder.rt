@@ -18,8 +18,8 @@ use sys_bus::BoardPlan;
 fn plan_or_fault(alloc: Global, entries: &[Entry]) -> Result<BoardPlan, PlatFault>
     ensures { Builds entries.now result }
 {
-    refuse(repeated(entries))?;
-    refuse(untyped(entries))?;
+    refuse(repeated(alloc, entries)?)?;
+    refuse(untyped(alloc, entries)?)?;
     let all = merged(alloc, entries)?;
     tested(&all)?;
     plan_of(alloc, &all)

@@ -13,6 +13,7 @@ mod places;
 mod plan;
 mod references;
 mod rules;
+mod seen;
 mod types;
 mod wires;
 

@@ -1,14 +1,18 @@
 //! Peripherals: the entries that have types, each with the further items that other entries give
 //! it.
-ghost use Rattle.std.specs.Prelude.{◌≡◌, ◌++◌, ◌<◌, IfOk, IfErr, IfSome, OnOk, length, position};
-ghost use Rattle.std.specs.List.{fold};
+ghost use Rattle.std.specs.Prelude.{◌≡◌, ◌++◌, ◌<◌, ℕ, IfOk, IfErr, IfSome, List, OnOk, length, map, position};
+ghost use Rattle.std.specs.List.{flat_map, fold};
+ghost use Rattle.repl_read.specs.declared.entry.Entry.{Entry};
+ghost use Rattle.repl_build.specs.Inner.Found.{HasUpdates, found, update_of};
 ghost use Rattle.repl_build.specs.Merge as merge_spec;
+ghost use Rattle.repl_build.specs.Names.{has_key};
 
 use crate::names::has_key;
 use crate::types::{PeripheralType, type_of};
 use lab_num::{Rows, Text};
 use repl_read::{Entry, Head, Item, ItemWhat, Place, PlatFault};
 use std::alloc::Global;
+use std::collections::BTreeMap;
 
 /// An item, and where it stands.
 #[derive(Drop)]
@@ -55,13 +59,11 @@ fn own_items(alloc: Global, entry: &Entry) -> Result<Vec<PlacedItem>, PlatFault>
     Ok(items)
 }
 
-fn has_same_key(what: &ItemWhat, item: &PlacedItem) -> bool
-    ensures { result ≡ merge_spec.has_same_key what.now item.now }
+fn key_place(items: &[PlacedItem], key: &str) -> Option<usize>
+    ensures place { result ≡ position (λ item. has_key key.now item.what) items.now }
+    ensures inside { IfSome result (λ at. at < length items.now) }
 {
-    match what {
-        ItemWhat::Attribute { key, .. } => has_key(key.as_str(), &item.what),
-        ItemWhat::Wire { .. } => false,
-    }
+    items.iter().position(|item| has_key(key, &item.what))
 }
 
 /// Where an attribute stands already.
@@ -69,7 +71,10 @@ fn place_of(items: &[PlacedItem], what: &ItemWhat) -> Option<usize>
     ensures place { result ≡ position (merge_spec.has_same_key what.now) items.now }
     ensures inside { IfSome result (λ at. at < length items.now) }
 {
-    items.iter().position(|item| has_same_key(what, item))
+    match what {
+        ItemWhat::Attribute { key, .. } => key_place(items, key.as_str()),
+        ItemWhat::Wire { .. } => None,
+    }
 }
 
 /// Puts a further attribute in the place of the one that was there, and all else at the end.
@@ -97,32 +102,75 @@ fn add_items(items: &mut Vec<PlacedItem>, entry: &Entry) -> Result<(), PlatFault
     Ok(())
 }
 
-fn is_update(name: &str, head: &Head) -> bool
-    ensures { result ≡ merge_spec.updates name.now head.now }
+/// The entries with further items, by the name of which these are.
+type Updates<'a> = BTreeMap<&'a str, Vec<&'a Entry>>;
+
+/// Puts an entry after others of its name, if it has further items.
+fn add_update<'a>(updates: &mut Updates<'a>, entry: &'a Entry) -> Result<(), PlatFault>
+    ensures ok { OnOk result ((q : List ℕ) →
+        found updates.new q ≡ found updates.old q ++ update_of q entry.now) }
+    ensures err { IfErr result (λ fault. fault ≡ PlatFault.Memory) }
 {
-    match head {
-        Head::Update { name: updated } => updated.as_str() == name,
-        Head::Using(_) | Head::Typed { .. } => false,
+    if let Head::Update { name } = &entry.head {
+        updates.entry(name.as_str())?.or_default().push(entry)?;
+    }
+    Ok(())
+}
+
+/// The entries with further items.
+fn updates_of(alloc: Global, entries: &[Entry]) -> Result<Updates<'_>, PlatFault>
+    ensures ok { IfOk result (λ updates. HasUpdates updates entries.now) }
+    ensures err { IfErr result (λ fault. fault ≡ PlatFault.Memory) }
+{
+    let mut updates: Updates<'_> = BTreeMap::new(alloc);
+    for entry in entries {
+        add_update(&mut updates, entry)?;
+    }
+    Ok(updates)
+}
+
+/// Adds the items of entries.
+fn add_all(items: &mut Vec<PlacedItem>, entries: &[&Entry]) -> Result<(), PlatFault>
+    ensures ok { OnOk result (items.new.items
+        ≡ fold merge_spec.with_item items.old.items
+        (flat_map merge_spec.own_items (map (λ entry. entry.now) entries.now))) }
+    ensures err { IfErr result (λ fault. fault ≡ PlatFault.Memory) }
+{
+    for entry in entries {
+        add_items(items, entry)?;
+    }
+    Ok(())
+}
+
+/// Adds the further items that entries give a name.
+fn add_further(
+    items: &mut Vec<PlacedItem>,
+    updates: &Updates<'_>,
+    name: &str,
+) -> Result<(), PlatFault>
+    ensures ok { OnOk result (items.new.items ≡ fold merge_spec.with_item items.old.items
+        (flat_map merge_spec.own_items (found updates.now name.now))) }
+    ensures err { IfErr result (λ fault. fault ≡ PlatFault.Memory) }
+{
+    match updates.get(name) {
+        Some(entries) => add_all(items, entries),
+        None => Ok(()),
     }
 }
 
 /// The items of an entry, with the further items that other entries give its name.
 fn merged_items(
     alloc: Global,
-    entries: &[Entry],
+    updates: &Updates<'_>,
     name: &str,
     entry: &Entry,
 ) -> Result<Vec<PlacedItem>, PlatFault>
-    ensures ok { IfOk result
-        (λ items. items.items ≡ merge_spec.merged_items entries.now name.now entry.now) }
+    ensures ok { (entries : List Entry) → HasUpdates updates.now entries → IfOk result
+        (λ items. items.items ≡ merge_spec.merged_items entries name.now entry.now) }
     ensures err { IfErr result (λ fault. fault ≡ PlatFault.Memory) }
 {
     let mut items = own_items(alloc, entry)?;
-    for further in entries {
-        if is_update(name, &further.head) {
-            add_items(&mut items, further)?;
-        }
-    }
+    add_further(&mut items, updates, name)?;
     Ok(items)
 }
 
@@ -130,17 +178,17 @@ fn merged_items(
 fn add_peripheral(
     alloc: Global,
     peripherals: &mut Vec<Peripheral>,
-    entries: &[Entry],
+    updates: &Updates<'_>,
     entry: &Entry,
 ) -> Result<(), PlatFault>
-    ensures ok { OnOk result (peripherals.new.items
-        ≡ peripherals.old.items ++ merge_spec.peripheral_of entries.now entry.now) }
+    ensures ok { (entries : List Entry) → HasUpdates updates.now entries → OnOk result
+        (peripherals.new.items ≡ peripherals.old.items ++ merge_spec.peripheral_of entries entry.now) }
     ensures err { IfErr result (λ fault. fault ≡ PlatFault.Memory) }
 {
     let Head::Typed { name, kind, at } = &entry.head else {
         return Ok(());
     };
-    let items = merged_items(alloc, entries, name.as_str(), entry)?;
+    let items = merged_items(alloc, updates, name.as_str(), entry)?;
     peripherals.push(Peripheral {
         file: entry.file,
         line: entry.line,
@@ -157,9 +205,10 @@ pub(crate) fn merged(alloc: Global, entries: &[Entry]) -> Result<Vec<Peripheral>
     ensures ok { IfOk result (λ all. all.items ≡ merge_spec.merged entries.now) }
     ensures err { IfErr result (λ fault. fault ≡ PlatFault.Memory) }
 {
+    let updates = updates_of(alloc, entries)?;
     let mut peripherals = Vec::new(alloc);
     for entry in entries {
-        add_peripheral(alloc, &mut peripherals, entries, entry)?;
+        add_peripheral(alloc, &mut peripherals, &updates, entry)?;
     }
     Ok(peripherals)
 }

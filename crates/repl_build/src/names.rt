@@ -1,34 +1,34 @@
 //! What the entries are called.
-ghost use Rattle.std.specs.Prelude.{◌≡◌, []};
-ghost use Rattle.std.specs.List.{list_any};
+ghost use Rattle.std.specs.Prelude.{◌≡◌, ℕ, [], IfErr, IfOk, List, OnOk, ◌||◌};
+ghost use Rattle.repl_read.specs.declared.entry.Entry.{Entry};
 ghost use Rattle.repl_build.specs.First.{first_fault};
+ghost use Rattle.repl_build.specs.Inner.Seen as seen;
 ghost use Rattle.repl_build.specs.Names as names_spec;
 
 use crate::fault::fault_if;
+use crate::seen::{Seen, add_word, has_word};
 use repl_read::{Entry, Head, Item, ItemWhat, PlatCause, PlatFault};
+use std::alloc::Global;
 
-fn types_name(name: &str, head: &Head) -> bool
-    ensures { result ≡ names_spec.types_name name.now head.now }
+/// Whether a name is given a type that was given one before.
+fn repeats_name(names: &Seen<'_>, head: &Head) -> bool
+    ensures { result ≡ seen.types_again names.now head.now }
 {
     match head {
-        Head::Typed { name: typed, .. } => typed.as_str() == name,
+        Head::Typed { name, .. } => has_word(names, name.as_str()),
         Head::Using(_) | Head::Update { .. } => false,
     }
 }
 
-/// Whether some entry gives the name a type.
-fn is_typed(entries: &[Entry], name: &str) -> bool
-    ensures { result ≡ names_spec.is_typed entries.now name.now }
-{
-    entries.iter().any(|entry| types_name(name, &entry.head))
-}
-
-fn repeats_name(before: &[Entry], head: &Head) -> bool
-    ensures { result ≡ names_spec.repeats_name before.now head.now }
+/// Keeps the name that is given a type.
+fn add_name<'a>(names: &mut Seen<'a>, head: &'a Head) -> Result<(), PlatFault>
+    ensures ok { OnOk result ((q : List ℕ) →
+        seen.has_word names.new q ≡ (names_spec.types_name q head.now || seen.has_word names.old q)) }
+    ensures err { IfErr result (λ fault. fault ≡ PlatFault.Memory) }
 {
     match head {
-        Head::Typed { name, .. } => is_typed(before, name.as_str()),
-        Head::Using(_) | Head::Update { .. } => false,
+        Head::Typed { name, .. } => add_word(names, name.as_str()),
+        Head::Using(_) | Head::Update { .. } => Ok(()),
     }
 }
 
@@ -42,79 +42,101 @@ pub(crate) fn has_key(key: &str, what: &ItemWhat) -> bool
     }
 }
 
-/// Whether an attribute of that key stands there.
-fn has_any_key(key: &str, items: &[Item]) -> bool
-    ensures { result ≡ list_any (λ item. names_spec.has_key key.now item.what) items.now }
-{
-    items.iter().any(|item| has_key(key, &item.what))
-}
-
-fn repeats_key(before: &[Item], what: &ItemWhat) -> bool
-    ensures { result ≡ names_spec.repeats_key before.now what.now }
+/// Whether an attribute stands there that stood there before.
+fn repeats_key(keys: &Seen<'_>, what: &ItemWhat) -> bool
+    ensures { result ≡ seen.stands_again keys.now what.now }
 {
     match what {
-        ItemWhat::Attribute { key, .. } => has_any_key(key.as_str(), before),
+        ItemWhat::Attribute { key, .. } => has_word(keys, key.as_str()),
         ItemWhat::Wire { .. } => false,
     }
 }
 
-/// The fault of the first attribute that stands there twice.
-fn repeated_item(file: u32, items: &[Item]) -> Option<PlatFault>
-    ensures { result ≡ first_fault (names_spec.repeated_item file) [] items.now }
+/// Keeps the key of an attribute.
+fn add_key<'a>(keys: &mut Seen<'a>, what: &'a ItemWhat) -> Result<(), PlatFault>
+    ensures ok { OnOk result ((q : List ℕ) →
+        seen.has_word keys.new q ≡ (names_spec.has_key q what.now || seen.has_word keys.old q)) }
+    ensures err { IfErr result (λ fault. fault ≡ PlatFault.Memory) }
 {
-    for (i, item) in items.iter().enumerate() {
-        let repeats = repeats_key(&items[..i], &item.what);
-        let fault = fault_if(repeats, file, item.line, PlatCause::Twice);
-        if fault.is_some() {
-            return fault;
-        }
+    match what {
+        ItemWhat::Attribute { key, .. } => add_word(keys, key.as_str()),
+        ItemWhat::Wire { .. } => Ok(()),
     }
-    None
 }
 
-fn repeated_in(before: &[Entry], entry: &Entry) -> Option<PlatFault>
-    ensures { result ≡ names_spec.repeated_in before.now entry.now }
+/// The fault of the first attribute that stands there twice.
+fn repeated_item(alloc: Global, file: u32, items: &[Item]) -> Result<Option<PlatFault>, PlatFault>
+    ensures ok { IfOk result (λ fault. fault ≡ first_fault (names_spec.repeated_item file) [] items.now) }
+    ensures err { IfErr result (λ fault. fault ≡ PlatFault.Memory) }
 {
-    let repeats = repeats_name(before, &entry.head);
+    let mut keys = Seen::new(alloc);
+    for item in items {
+        let repeats = repeats_key(&keys, &item.what);
+        let fault = fault_if(repeats, file, item.line, PlatCause::Twice);
+        if fault.is_some() {
+            return Ok(fault);
+        }
+        add_key(&mut keys, &item.what)?;
+    }
+    Ok(None)
+}
+
+fn repeated_in(
+    alloc: Global,
+    names: &Seen<'_>,
+    entry: &Entry,
+) -> Result<Option<PlatFault>, PlatFault>
+    ensures ok { (before : List Entry) → seen.HasTyped names.now before →
+        IfOk result (λ fault. fault ≡ names_spec.repeated_in before entry.now) }
+    ensures err { IfErr result (λ fault. fault ≡ PlatFault.Memory) }
+{
+    let repeats = repeats_name(names, &entry.head);
     match fault_if(repeats, entry.file, entry.line, PlatCause::Twice) {
-        Some(fault) => Some(fault),
-        None => repeated_item(entry.file, entry.items.items()),
+        Some(fault) => Ok(Some(fault)),
+        None => repeated_item(alloc, entry.file, entry.items.items()),
     }
 }
 
 /// The fault of the first name that is given a type twice, or attribute that stands twice in an
 /// entry.
-pub(crate) fn repeated(entries: &[Entry]) -> Option<PlatFault>
-    ensures { result ≡ names_spec.repeated entries.now }
+pub(crate) fn repeated(alloc: Global, entries: &[Entry]) -> Result<Option<PlatFault>, PlatFault>
+    ensures ok { IfOk result (λ fault. fault ≡ names_spec.repeated entries.now) }
+    ensures err { IfErr result (λ fault. fault ≡ PlatFault.Memory) }
 {
-    for (i, entry) in entries.iter().enumerate() {
-        let fault = repeated_in(&entries[..i], entry);
+    let mut names = Seen::new(alloc);
+    for entry in entries {
+        let fault = repeated_in(alloc, &names, entry)?;
         if fault.is_some() {
-            return fault;
+            return Ok(fault);
         }
+        add_name(&mut names, &entry.head)?;
     }
-    None
+    Ok(None)
 }
 
-fn lacks_type(before: &[Entry], head: &Head) -> bool
-    ensures { result ≡ names_spec.lacks_type before.now head.now }
+/// Whether a name is given further items that was given no type before.
+fn lacks_type(names: &Seen<'_>, head: &Head) -> bool
+    ensures { result ≡ seen.updates_none names.now head.now }
 {
     match head {
-        Head::Update { name } => !is_typed(before, name.as_str()),
+        Head::Update { name } => !has_word(names, name.as_str()),
         Head::Using(_) | Head::Typed { .. } => false,
     }
 }
 
 /// The fault of the first entry with further items of a name that is not typed before.
-pub(crate) fn untyped(entries: &[Entry]) -> Option<PlatFault>
-    ensures { result ≡ names_spec.untyped entries.now }
+pub(crate) fn untyped(alloc: Global, entries: &[Entry]) -> Result<Option<PlatFault>, PlatFault>
+    ensures ok { IfOk result (λ fault. fault ≡ names_spec.untyped entries.now) }
+    ensures err { IfErr result (λ fault. fault ≡ PlatFault.Memory) }
 {
-    for (i, entry) in entries.iter().enumerate() {
-        let lacks = lacks_type(&entries[..i], &entry.head);
+    let mut names = Seen::new(alloc);
+    for entry in entries {
+        let lacks = lacks_type(&names, &entry.head);
         let fault = fault_if(lacks, entry.file, entry.line, PlatCause::Reference);
         if fault.is_some() {
-            return fault;
+            return Ok(fault);
         }
+        add_name(&mut names, &entry.head)?;
     }
-    None
+    Ok(None)
 }

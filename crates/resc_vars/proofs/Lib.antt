@@ -1,5 +1,7 @@
 pub mod ItemLemmas
 mod FlowLemmas
 mod LengthLemmas
+mod LineLemmas
+mod RestLemmas
 mod VariableLemmas
 pub mod Counts

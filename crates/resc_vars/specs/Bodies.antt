@@ -1,23 +1,18 @@
 -- The bodies that a script opens: its own, files that it includes, and macros.
-use Rattle.std.specs.Prelude.{◌≡◌, ℕ, ◌+◌, nat_eq, nat_lt, if◌then◌else◌, false, List, [], ◌∷◌, length, Option, Some}
+use Rattle.std.specs.Prelude.{◌≡◌, ℕ, nat_eq, nat_lt, if◌then◌else◌, false, List, [], ◌∷◌, length, Option, Some}
 use Rattle.std.specs.Prelude.{None}
 use Rattle.std.specs.Prelude.{Result, Ok, Err}
 use Rattle.std.specs.Cmp.Lexicographic.{pointwise}
 use Rattle.std.specs.Map.{lookup}
 use Rattle.std.specs.Str.Lines.{lines}
-use Rattle.resc_vars.specs.declared.item.Line.{Line}
 use Rattle.resc_vars.specs.declared.item.Source.{Source}
 use Rattle.resc_vars.specs.declared.answer.FlowFault.{FlowFault}
 use Rattle.resc_vars.specs.declared.answer.FlowFault.TheVariants as fault
 use Rattle.resc_vars.specs.declared.cause.ScriptCause.{ScriptCause}
 use Rattle.resc_vars.specs.declared.cause.ScriptCause.TheVariants.{Depth, Variable}
 use Rattle.resc_vars.specs.Items.{items}
+use Rattle.resc_vars.specs.Numbered.{numbered}
 use Rattle.resc_vars.specs.Script.{State, Open}
-
--- lines with their numbers, from n on
-abbrev pub numbered : ℕ → List (List ℕ) → List Line
-numbered n [] = []
-numbered n (text ∷ texts) = record { number = n; text = text } ∷ numbered (n + 1) texts
 
 -- a file with this text
 abbrev pub source_of : List ℕ → List ℕ → Source

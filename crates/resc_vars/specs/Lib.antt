@@ -1,6 +1,7 @@
 -- What contracts of resc_vars and of the crates above cite.
 pub mod Cause
 pub mod Form
+pub mod Numbered
 pub mod Items
 pub mod Variables
 pub mod Script

@@ -3,38 +3,31 @@ ghost use Rattle.std.specs.Prelude.{◌≡◌, ◌∷◌, ◌++◌, [], IfOk, On
 ghost use Rattle.resc_vars.specs.Inner.Steps.{Takes};
 ghost use Rattle.resc_vars.specs.Bodies.{opened};
 
-use crate::item::{Item, Source, first_item};
+use crate::item::{Item, Source};
 use lab_num::{NoMemory, Text};
 use std::alloc::Global;
 use std::marker::Model;
 
-/// The lines of a body, of which the first `taken` are done.
+/// The lines of a body that are not taken yet.
 #[derive(Drop)]
 pub(crate) struct Body {
     source: Source,
-    taken: usize,
 }
 
 impl Model for Body {
-    ghost use Rattle.std.specs.Prelude.{drop, length, ◌≤◌};
     ghost use Rattle.resc_vars.specs.Script.{Open};
-    ghost use Rattle.resc_vars.specs.Items.{items};
+    ghost use Rattle.resc_vars.specs.Bodies.{opened};
 
     ghost Value = { Open };
 
-    ghost view = { λ b. record {
-      file = b.source.file;
-      items = items 0 (drop b.taken b.source.lines);
-    } };
-
-    ghost invariant = { λ b. b.taken ≤ length b.source.lines };
+    ghost view = { λ b. opened b.source };
 }
 
 impl Body {
     pub(crate) fn of(source: Source) -> Body
         ensures { result ≡ opened source }
     {
-        Body { source, taken: 0 }
+        Body { source }
     }
 
     pub(crate) fn file(&self) -> &Text
@@ -48,13 +41,7 @@ impl Body {
         ensures took { IfOk result (λ item. Takes self.old.items item self.new.items) }
         ensures file { self.new.file ≡ self.old.file }
     {
-        match first_item(alloc, &self.source.lines.items()[self.taken..])? {
-            None => Ok(None),
-            Some((item, n)) => {
-                self.taken += n;
-                Ok(Some(item))
-            }
-        }
+        self.source.lines.take_item(alloc)
     }
 
     /// Opens the body of a file, and puts the one that was open on those around it.

@@ -15,10 +15,11 @@ use crate::body::Body;
 use crate::cause::ScriptCause;
 use crate::form::Assignment;
 use crate::item::{Item, Line, Source, copy_source, source_of};
+use crate::lines::Lines;
 use crate::name::{Name, put};
 use crate::variables::{Variables, command_text, set_variable};
 use indexmap::IndexMap;
-use lab_num::{NoMemory, Rows, Text};
+use lab_num::{NoMemory, Text};
 use std::alloc::Global;
 use std::marker::Model;
 
@@ -66,7 +67,7 @@ impl Flow {
         requires { length (string_bytes text) ≤ 2 ^ 24 }
         ensures { IfOk result (λ flow. flow ≡ begun (source_of name.now (string_bytes text))) }
     {
-        let source = source_of(alloc, name, text.as_str())?;
+        let source = source_of(alloc, name, text)?;
         Ok(Flow {
             alloc,
             body: Body::of(source),
@@ -257,7 +258,7 @@ impl Flow {
     }
 
     /// Keeps a macro.
-    fn keep(&mut self, name: Name, lines: Rows<Line>) -> Result<(), NoMemory>
+    fn keep(&mut self, name: Name, lines: Lines) -> Result<(), NoMemory>
         requires { self.old.kept.taken < command_limit }
         ensures ok { OnOk result (self.new ≡ record self.old {
           kept = defined self.old.kept self.old.current.file name lines;
@@ -270,7 +271,7 @@ impl Flow {
         Ok(())
     }
 
-    fn define(&mut self, line: u32, name: Name, lines: Rows<Line>) -> Option<Next>
+    fn define(&mut self, line: u32, name: Name, lines: Lines) -> Option<Next>
         requires { self.old.ended ≡ false }
         ensures acts { Acts result self.new (next_with (items.Define line name lines) self.old) }
         ensures bodies { IsSameBodies self.old self.new }
@@ -310,7 +311,7 @@ impl Flow {
             (enter self.old (source_of name.now (string_bytes text))) }
         ensures goes_on { self.new.ended ≡ false }
     {
-        let source = source_of(self.alloc, name, text.as_str())?;
+        let source = source_of(self.alloc, name, text)?;
         self.enter(source)
     }
 

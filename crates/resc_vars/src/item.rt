@@ -1,15 +1,17 @@
 //! What stands in the lines of a body.
-ghost use Rattle.std.specs.Prelude.{◌≡◌, ◌+◌, ◌≤◌, ◌^◌, [], length, map, position, IfOk, IfSome};
-ghost use Rattle.std.specs.Str.Lines.{lines};
-ghost use Rattle.resc_vars.specs.Bodies.{numbered, source_of};
-ghost use Rattle.resc_vars.specs.Form as forms;
+ghost use Rattle.std.specs.Prelude.{◌≡◌, ◌+◌, ◌≤◌, ◌^◌, length, position, IfOk, IfNone, IfSome, None, Some};
+ghost use Rattle.std.specs.String.{string_bytes};
+ghost use Rattle.resc_vars.specs.Bodies.{source_of};
 ghost use Rattle.resc_vars.specs.Items as items;
-ghost use Rattle.resc_vars.specs.Inner.Steps.{First};
+ghost use Rattle.resc_vars.specs.Inner.Rest.{Begins, EndsWith, First, IsItem, IsMacro, Skips, lines_of};
+ghost use Rattle.resc_vars.specs.Numbered.{numbers_fit};
 
 use crate::form::{Assignment, Form, form_of, is_fence, is_passed};
+use crate::lines::{Lines, Rest, lines_at};
 use crate::name::Name;
-use lab_num::{NoMemory, Rows, Text};
-use std::alloc::{AllocError, Global};
+use lab_num::{NoMemory, Text};
+use std::alloc::Global;
+use std::rc::Rc;
 
 /// A line and its number, counted from 1 in its file.
 #[derive(Drop)]
@@ -22,7 +24,7 @@ pub(crate) struct Line {
 #[derive(Drop)]
 pub(crate) struct Source {
     pub(crate) file: Text,
-    pub(crate) lines: Rows<Line>,
+    pub(crate) lines: Lines,
 }
 
 /// What a line asks for, or a macro's lines together. Each counts as a command.
@@ -32,59 +34,14 @@ pub(crate) enum Item {
     Command(Line),
     /// A `macro` line or an assignment that is not of its form, which stays as it is.
     Malformed(Line),
-    Assign {
-        line: u32,
-        assignment: Assignment,
-    },
-    Define {
-        line: u32,
-        name: Name,
-        lines: Rows<Line>,
-    },
+    Assign { line: u32, assignment: Assignment },
+    Define { line: u32, name: Name, lines: Lines },
     /// A macro at this line whose body does not end.
     Unclosed(u32),
 }
 
-/// A copy of a line.
-fn copy_line(alloc: Global, line: &Line) -> Result<Line, NoMemory>
-    ensures { IfOk result (λ made. made ≡ line.now) }
-{
-    Ok(Line {
-        number: line.number,
-        text: Text::of(alloc, line.text.as_str())?,
-    })
-}
-
-/// A copy of lines.
-fn copy_lines(alloc: Global, lines: &[Line]) -> Result<Rows<Line>, NoMemory>
-    ensures { IfOk result (λ made. made ≡ lines.now) }
-{
-    let mut made = Vec::new(alloc);
-    for line in lines.iter() {
-        made.push(copy_line(alloc, line)?)?;
-    }
-    Ok(Rows::of(made))
-}
-
-/// A copy of a file's lines.
-pub(crate) fn copy_source(alloc: Global, source: &Source) -> Result<Source, NoMemory>
-    ensures { IfOk result (λ made. made ≡ source.now) }
-{
-    Ok(Source {
-        file: Text::of(alloc, source.file.as_str())?,
-        lines: copy_lines(alloc, source.lines.items())?,
-    })
-}
-
-/// The lines of a text.
-fn lines_of(alloc: Global, text: &str) -> Result<Vec<&str>, AllocError>
-    ensures { IfOk result (λ made. map (λ line. line.now) made.items ≡ lines text.now) }
-{
-    text.lines().collect(alloc)
-}
-
 /// A line with its number.
-fn line_at(alloc: Global, number: u32, text: &str) -> Result<Line, NoMemory>
+fn line_of(alloc: Global, number: u32, text: &str) -> Result<Line, NoMemory>
     ensures { IfOk result (λ made. made ≡ record { number = number; text = text.now }) }
 {
     Ok(Line {
@@ -93,111 +50,139 @@ fn line_at(alloc: Global, number: u32, text: &str) -> Result<Line, NoMemory>
     })
 }
 
-/// The lines with their numbers.
-fn numbered(alloc: Global, texts: &[&str]) -> Result<Rows<Line>, NoMemory>
-    requires { length texts.now ≤ 2 ^ 24 + 1 }
-    ensures { IfOk result (λ made. made ≡ numbered 1 (map (λ text. text.now) texts.now)) }
+/// The same lines of the same file.
+pub(crate) fn copy_source(alloc: Global, source: &Source) -> Result<Source, NoMemory>
+    ensures { IfOk result (λ made. made ≡ source.now) }
 {
-    let mut made = Vec::new(alloc);
-    for (i, text) in texts.iter().enumerate() {
-        made.push(line_at(alloc, i as u32 + 1, text)?)?;
-    }
-    Ok(Rows::of(made))
-}
-
-/// The lines of a text with their numbers.
-fn numbered_lines(alloc: Global, text: &str) -> Result<Rows<Line>, NoMemory>
-    requires { length text.now ≤ 2 ^ 24 }
-    ensures { IfOk result (λ made. made ≡ numbered 1 (lines text.now)) }
-{
-    let texts = lines_of(alloc, text)?;
-    numbered(alloc, &texts)
+    Ok(Source {
+        file: Text::of(alloc, source.file.as_str())?,
+        lines: source.lines.share()?,
+    })
 }
 
 /// A file of this name with this text.
-pub(crate) fn source_of(alloc: Global, name: &str, text: &str) -> Result<Source, NoMemory>
-    requires { length text.now ≤ 2 ^ 24 }
-    ensures { IfOk result (λ made. made ≡ source_of name.now text.now) }
+pub(crate) fn source_of(alloc: Global, name: &str, text: String) -> Result<Source, NoMemory>
+    requires { length (string_bytes text) ≤ 2 ^ 24 }
+    ensures { IfOk result (λ made. made ≡ source_of name.now (string_bytes text)) }
 {
     let file = Text::of(alloc, name)?;
-    let lines = numbered_lines(alloc, text)?;
+    let lines = Lines::of(alloc, text)?;
     Ok(Source { file, lines })
 }
 
-fn first_fence(lines: &[Line]) -> Option<usize>
-    ensures { result ≡ position items.is_fence_line lines.now }
+/// How many lines stand before the first `"""`, and what follows that.
+fn before_fence(body: Rest<'_>) -> Option<(usize, Rest<'_>)>
+    requires { numbers_fit body.number body.text.now }
+    ensures none { IfNone result (position items.is_fence_line (lines_of body.entry) ≡ None) }
+    ensures some { IfSome result (λ found. position items.is_fence_line (lines_of body.entry) ≡ Some found.0) }
+    ensures after { IfSome result (λ found. Skips (found.0 + 1) body.entry found.1) }
 {
-    lines.iter().position(|line| is_fence(line.text.as_str()))
-}
-
-/// How many lines stand between a `macro` line and its body.
-fn begin(opened: bool, lines: &[Line]) -> Option<usize>
-    ensures value { result ≡ items.begin opened lines.now }
-    ensures within { IfSome result (λ from. from ≤ length lines.now) }
-{
-    match lines {
-        _ if opened => Some(0),
-        [] => Some(0),
-        [first, ..] if is_fence(first.text.as_str()) => Some(1),
-        _ => None,
+    let mut rest = body;
+    let mut n = 0;
+    loop {
+        let (line, later) = rest.split_first()?;
+        if is_fence(line) {
+            return Some((n, later));
+        }
+        n += 1;
+        rest = later;
     }
 }
 
-/// A macro whose body begins after `from` of the lines that follow, and how many are its own.
-fn macro_item(
-    alloc: Global,
-    line: &Line,
-    name: Name,
-    lines: &[Line],
-    from: usize,
-) -> Result<(Item, usize), NoMemory>
-    requires { from ≤ length lines.now }
-    ensures value { IfOk result (λ found. found ≡ items.macro_item line.now name lines.now from) }
-    ensures within { IfOk result (λ found. found.1 ≤ length lines.now) }
+/// The body of a macro and what follows it, if a body begins after the `macro` line.
+fn begun(opened: bool, rest: Rest<'_>) -> Option<Rest<'_>>
+    requires { numbers_fit rest.number rest.text.now }
+    ensures { Begins (items.begin opened (lines_of rest.entry)) rest.entry result }
 {
-    let (_, inside) = lines.split_at(from);
-    let Some(k) = first_fence(inside) else {
-        return Ok((Item::Unclosed(line.number), lines.len()));
-    };
-    let (body, _) = inside.split_at(k);
-    let define = Item::Define {
-        line: line.number,
-        name,
-        lines: copy_lines(alloc, body)?,
-    };
-    Ok((define, from + k + 1))
+    if opened {
+        return Some(rest);
+    }
+    match rest.split_first() {
+        None => Some(rest),
+        Some((line, body)) if is_fence(line) => Some(body),
+        Some(_) => None,
+    }
 }
 
-/// The item at a line, and how many of the lines that follow are its own.
-#[tactic(auto, unfolding(crate::specs::Items::item_at))]
-fn item_at(alloc: Global, line: &Line, lines: &[Line]) -> Result<(Item, usize), NoMemory>
-    ensures value { IfOk result (λ found. found ≡ items.item_at line.now lines.now) }
-    ensures within { IfOk result (λ found. found.1 ≤ length lines.now) }
+/// The macro whose body begins there, and what follows it.
+fn macro_item<'a>(
+    text: &Rc<String>,
+    number: u32,
+    name: Name,
+    body: Rest<'a>,
+) -> Result<(Item, Rest<'a>), NoMemory>
+    requires ends { EndsWith (string_bytes text.now.value) body.text.now }
+    requires fit { numbers_fit body.number body.text.now }
+    ensures { IfOk result (λ found. IsMacro number name body.entry found) }
 {
-    match form_of(alloc, line.text.as_str())? {
-        Form::Command => Ok((Item::Command(copy_line(alloc, line)?), 0)),
-        Form::Malformed => Ok((Item::Malformed(copy_line(alloc, line)?), 0)),
-        Form::Assign(assignment) => {
-            let line = line.number;
-            Ok((Item::Assign { line, assignment }, 0))
+    match before_fence(body) {
+        None => {
+            let none = Rest {
+                text: body.text,
+                number: body.number,
+                most: 0,
+            };
+            Ok((Item::Unclosed(number), none))
         }
-        Form::Macro { name, opened } => match begin(opened, lines) {
-            None => Ok((Item::Malformed(copy_line(alloc, line)?), 0)),
-            Some(from) => macro_item(alloc, line, name, lines, from),
+        Some((n, rest)) => {
+            let lines = lines_at(text, body.text, body.number, n)?;
+            Ok((
+                Item::Define {
+                    line: number,
+                    name,
+                    lines,
+                },
+                rest,
+            ))
+        }
+    }
+}
+
+/// The item at a line, and what follows it.
+#[tactic(auto, unfolding(crate::specs::Items::item_at))]
+fn item_at<'a>(
+    alloc: Global,
+    text: &Rc<String>,
+    number: u32,
+    line: &str,
+    rest: Rest<'a>,
+) -> Result<(Item, Rest<'a>), NoMemory>
+    requires ends { EndsWith (string_bytes text.now.value) rest.text.now }
+    requires fit { numbers_fit rest.number rest.text.now }
+    ensures { IfOk result (λ found. IsItem (record { number = number; text = line.now }) rest.entry found) }
+{
+    match form_of(alloc, line)? {
+        Form::Command => Ok((Item::Command(line_of(alloc, number, line)?), rest)),
+        Form::Malformed => Ok((Item::Malformed(line_of(alloc, number, line)?), rest)),
+        Form::Assign(assignment) => {
+            let line = number;
+            Ok((Item::Assign { line, assignment }, rest))
+        }
+        Form::Macro { name, opened } => match begun(opened, rest) {
+            None => Ok((Item::Malformed(line_of(alloc, number, line)?), rest)),
+            Some(body) => macro_item(text, number, name, body),
         },
     }
 }
 
-/// The first item of lines, and how many lines end with it.
-pub(crate) fn first_item(alloc: Global, lines: &[Line]) -> Result<Option<(Item, usize)>, NoMemory>
-    ensures { IfOk result (λ found. First lines.now found) }
+/// The first item of lines at the end of a text, and what follows it.
+pub(crate) fn first_item<'a>(
+    alloc: Global,
+    text: &Rc<String>,
+    lines: Rest<'a>,
+) -> Result<Option<(Item, Rest<'a>)>, NoMemory>
+    requires ends { EndsWith (string_bytes text.now.value) lines.text.now }
+    requires fit { numbers_fit lines.number lines.text.now }
+    ensures { IfOk result (λ found. First lines.entry found) }
 {
-    for (i, line) in lines.iter().enumerate() {
-        if !is_passed(line.text.as_str()) {
-            let (_, rest) = lines.split_at(i + 1);
-            let (item, own) = item_at(alloc, line, rest)?;
-            return Ok(Some((item, i + 1 + own)));
+    let mut rest = lines;
+    loop {
+        let Some((line, later)) = rest.split_first() else {
+            return Ok(None);
+        };
+        if !is_passed(line) {
+            return Ok(Some(item_at(alloc, text, rest.number, line, later)?));
         }
+        rest = later;
     }
-    Ok(None)
 }

@@ -9,6 +9,7 @@ mod flow;
 mod form;
 mod item;
 mod laws;
+mod lines;
 mod name;
 mod variables;
 

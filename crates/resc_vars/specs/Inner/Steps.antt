@@ -1,18 +1,11 @@
 -- What one step of a script's flow leaves.
-use Rattle.std.specs.Prelude.{◌≡◌, ℕ, ◌≤◌, Bool, true, false, List, [], ◌∷◌, length, drop, Option, Some, None}
-use Rattle.resc_vars.specs.declared.item.Line.{Line}
+use Rattle.std.specs.Prelude.{◌≡◌, Bool, true, false, List, [], ◌∷◌, Option, Some, None}
 use Rattle.resc_vars.specs.declared.item.Item.{Item}
 use Rattle.resc_vars.specs.declared.answer.Next.{Next}
 use Rattle.std.specs.Option.{option_map}
-use Rattle.resc_vars.specs.Items.{items}
 use Rattle.resc_vars.specs.Variables.{Variables, stands_for, with_value}
 use Rattle.resc_vars.specs.declared.form.Assignment.{Assignment}
 use Rattle.resc_vars.specs.Script.{State, Outcome, Says, assigned, counted, in_body, in_bodies, next_of}
-
--- the first item of lines, and how many lines end with it
-abbrev pub First : List Line → Option (Item × ℕ) → Type 0
-First lines None = items 0 lines ≡ []
-First lines (Some found) = (found.1 ≤ length lines) × (items 0 lines ≡ found.0 ∷ items 0 (drop found.1 lines))
 
 -- what the first item was, if there was one
 abbrev pub Takes : List Item → Option Item → List Item → Type 0

@@ -1,20 +1,15 @@
--- An entry more, with items of the name or none.
-use Rattle.std.proofs.Common.{◌≡◌, ◌∙◌, sym, true, false}
-use Rattle.repl_build.specs.Merge.{updates, further_of, with_item}
-use Rattle.repl_build.proofs.LoopLemmas.{fold_flat_more}
+-- The further items of a name are those of the entries found.
+use Rattle.std.proofs.Common.{◌∙◌, ap}
+use Rattle.std.specs.List.{flat_map, fold}
+use Rattle.repl_build.specs.Inner.Found.{found}
+use Rattle.repl_build.specs.Merge.{own_items, with_item}
+use Rattle.repl_build.proofs.FoundLemmas.{further_found}
 use Rattle.repl_build.proofs.merge.merged_items.Goals as goal
-use Rattle.repl_build.proofs.merge.merged_items.Goals.{then-is_update+in_ok-add_items, else-is_update}
 
-pub loop-further-preserved : goal.loop-further-preserved
-loop-further-preserved c =
-    let further = c.further-item.result in
-    let read = fold_flat_more with_item (further_of c.args.name.now) c.args.entries.now c.loop-further.further-index
-    further c.loop-further.items.items _ c.loop-further-test.true c.further-item.is c.loop-further.invariant in
-    elim c.if-is_update.branch [
-      | then-is_update+in_ok-add_items w ↦
-          let same : updates c.args.name.now further.head ≡ true = sym c.is_update.ensures ∙ w.if-is_update.true in
-          rw (w.items-is, (w.in_ok-add_items.ensures {u = tt}).ok) (rw same at read)
-      | else-is_update w ↦
-          let other : updates c.args.name.now further.head ≡ false = sym c.is_update.ensures ∙ w.if-is_update.false in
-          rw w.items-is (rw other at read)
-    ]
+pub returns-clause-ok : goal.returns-clause-ok
+returns-clause-ok c = λ entries has.
+    let name = c.args.name.now in
+    (c.in_ok-add_further.ensures {u = tt}).ok
+    ∙ (ap (λ items. fold with_item items (flat_map own_items (found c.args.updates.now name))) (c.in_ok-items.ensures {u = tt}).ok
+    ∙ ap (fold with_item (own_items c.args.entry.now))
+    (further_found entries (found c.args.updates.now name) name (has name)))

@@ -1,5 +1,5 @@
 use Rattle.std.proofs.Common.{ap}
-use Rattle.resc_vars.specs.Bodies.{numbered}
+use Rattle.resc_vars.specs.Numbered.{numbered}
 use Rattle.resc_vars.proofs.laws.return_law.Goals as goal
 
 pub returns : goal.returns
