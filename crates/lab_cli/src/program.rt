@@ -5,12 +5,15 @@ ghost use Rattle.lab_top.specs.Headline.{exit_number};
 
 use can_sja1000::Can;
 use dev_core::{Device, Stock};
+use floor_run::NoGate;
 use lab_io::{DiskFiles, OutSink, Sink};
 use lab_num::NoMemory;
 use lab_top::{Status, command_words, exit_code, run_lab};
 use std::alloc::Global;
 use std::process::{ExitCode, Termination};
 use std::rt::{Env, Files};
+use std::sync::Wait;
+use std::thread::Threads;
 use test_finisher::Finisher;
 use uart_16550::Uart;
 
@@ -37,7 +40,9 @@ impl Termination for Ended {
 }
 
 /// Runs the program over the files of the machine and its standard output.
-pub fn run<R: Env + Files + Print + AllocGlobal>(rt: &R) -> Ended {
+pub fn run<R: Env + Files + Print + AllocGlobal + Threads + Wait + Copy + Send + Sync>(
+    rt: &R,
+) -> Ended {
     let mut files = DiskFiles::new(rt);
     let mut out = OutSink::new(rt);
     Ended {
@@ -46,18 +51,19 @@ pub fn run<R: Env + Files + Print + AllocGlobal>(rt: &R) -> Ended {
 }
 
 /// Runs the program by the words that it was started with, over these files and this output.
-fn run_over<R: Env + AllocGlobal, F: lab_io::Files, K: Sink>(
+fn run_over<R: Env + AllocGlobal + Threads + Wait + Copy + Send + Sync, F: lab_io::Files, K: Sink>(
     rt: &R,
     files: &mut F,
     out: &mut K,
 ) -> Result<Status, NoMemory> {
     let words = command_words(rt)?;
-    run_on_boxes(rt.alloc(), &words, files, out)
+    run_on_boxes(rt, rt.alloc(), &words, files, out)
 }
 
 /// Runs the program by these words, on devices enough for each board that a laboratory can have,
 /// each in a box of its own.
-fn run_on_boxes<F: lab_io::Files, K: Sink>(
+fn run_on_boxes<R: Threads + Wait + Copy + Send + Sync, F: lab_io::Files, K: Sink>(
+    rt: &R,
     alloc: Global,
     words: &[String],
     files: &mut F,
@@ -80,19 +86,18 @@ fn run_on_boxes<F: lab_io::Files, K: Sink>(
         cans,
         finishers,
     };
-    Ok(run_on_stock(alloc, words, files, out, stock))
+    Ok(run_on_stock(rt, alloc, words, files, out, stock))
 }
 
 /// Runs the program by these words, on the devices of a full stock.
-fn run_on_stock<D: Device, F: lab_io::Files, K: Sink>(
-    alloc: Global,
-    words: &[String],
-    files: &mut F,
-    out: &mut K,
-    stock: Stock<D>,
-) -> Status {
+fn run_on_stock<
+    R: Threads + Wait + Copy + Send + Sync,
+    D: Device + Send,
+    F: lab_io::Files,
+    K: Sink,
+>(rt: &R, alloc: Global, words: &[String], files: &mut F, out: &mut K, stock: Stock<D>) -> Status {
     if !stock.is_full() {
         return Status::Memory;
     }
-    run_lab(alloc, words, files, out, stock)
+    run_lab(rt, alloc, words, files, out, stock, &NoGate)
 }

@@ -8,21 +8,30 @@ ghost use Rattle.lab_gen.specs.Summary.{summary_of};
 use crate::boards::laboratory;
 use crate::summary::summary;
 use dev_core::{Device, Stock};
+use floor_run::Gate;
 use lab_num::{Micros, NoMemory};
 use lab_state::{Lab, RunFault};
 use std::alloc::Global;
+use std::sync::Wait;
+use std::thread::Threads;
 
 /// How long the laboratory is run.
 const LENGTH: Micros = Micros(100_000);
 
 /// Runs a laboratory that stands at time 0, each of whose boards has a plan.
-fn play<D: Device>(lab: &mut Lab<D>) -> Result<(), NoMemory>
+fn play<R: Threads + Wait + Copy + Send + Sync, D: Device + Send, G: Gate>(
+    rt: &R,
+    lab: &mut Lab<D>,
+    workers: u8,
+    gate: &G,
+) -> Result<(), NoMemory>
     requires plans { first_without lab.old.lab.boards ≡ None }
     requires start { lab.old.lab.now ≡ 0 }
+    requires workers { (1 ≤ workers) × (workers ≤ 8) }
     ensures { OnOk result (lab.new
         ≡ record { lab = (run lab.old.lab 100000).lab; spent = false }) }
 {
-    match lab.run_for(LENGTH) {
+    match lab.run_for(rt, LENGTH, workers, gate) {
         Ok(_log) => Ok(()),
         Err(RunFault::NoPlan(_)) => unreachable!(),
         Err(RunFault::TooLong) => unreachable!(),
@@ -30,22 +39,27 @@ fn play<D: Device>(lab: &mut Lab<D>) -> Result<(), NoMemory>
     }
 }
 
-/// Makes the laboratory of a seed, of 1 to 16 boards, runs it for 100,000 microseconds, and answers the
-/// bytes of its summary: a line for each board and one for all, each with its line feed.
+/// Makes the laboratory of a seed, of 1 to 16 boards, has 1 to 8 workers run it for 100,000 microseconds,
+/// and answers the bytes of its summary: a line for each board and one for all, each with its line feed.
+/// The number of workers changes nothing in them. The workers enter the gate before each turn.
 #[tactic(auto, unfolding(crate::specs::Summary::summary_of))]
-pub fn generate<D: Device>(
+pub fn generate<R: Threads + Wait + Copy + Send + Sync, D: Device + Send, G: Gate>(
+    rt: &R,
     alloc: Global,
     seed: u64,
     boards: u8,
+    workers: u8,
     stock: Stock<D>,
+    gate: &G,
 ) -> Result<Vec<u8>, NoMemory>
     requires some { 1 ≤ boards }
     requires few { boards ≤ 16 }
+    requires workers { (1 ≤ workers) × (workers ≤ 8) }
     requires full { IsFull (map D.meaning stock.uarts.items) (map D.meaning stock.cans.items)
         (map D.meaning stock.finishers.items) }
     ensures { IfOk result (λ bytes. bytes.items ≡ summary_of run seed boards) }
 {
     let mut lab = laboratory(alloc, seed, boards, stock)?;
-    play(&mut lab)?;
+    play(rt, &mut lab, workers, gate)?;
     summary(alloc, &lab)
 }

@@ -9,17 +9,28 @@ use crate::faults::{LabFault, RunFault};
 use crate::lab::Lab;
 use crate::round::RoundLog;
 use dev_core::Device;
+use floor_run::Gate;
 use lab_num::{BoardNo, Key, Micros, Rows};
 use log_merge::LogItem;
+use std::sync::Wait;
+use std::thread::Threads;
 
 /// The last microsecond that a laboratory has: ten thousand seconds.
 const LAST: u64 = 10_000_000_000;
 
-impl<D: Device> Lab<D> {
+impl<D: Device + Send> Lab<D> {
     /// Runs one round, and puts its items at the end of these. Gives its pause, if it has one.
-    fn round_onto(&mut self, lines: &mut Vec<LogItem>, q: u64) -> Result<Option<Key>, LabFault>
+    fn round_onto<R: Threads + Wait + Copy + Send + Sync, G: Gate>(
+        &mut self,
+        rt: &R,
+        lines: &mut Vec<LogItem>,
+        q: u64,
+        workers: u8,
+        gate: &G,
+    ) -> Result<Option<Key>, LabFault>
         requires unspent { self.old.spent ≡ false }
         requires some { 0 < q }
+        requires workers { (1 ≤ workers) × (workers ≤ 8) }
         requires plans { HaveAllPlans self.old.lab }
         requires within { self.old.lab.now + q ≤ 10000000000 }
         ensures lab { OnOk result (self.new
@@ -30,7 +41,7 @@ impl<D: Device> Lab<D> {
         ensures plans { OnOk result (HaveAllPlans self.new.lab) }
         ensures err { OnErr result (self.new.spent ≡ true) }
     {
-        let log = self.round(q)?;
+        let log = self.round(rt, q, workers, gate)?;
         if lines.extend_from_slice(log.lines.items()).is_err() {
             self.spent = true;
             return Err(LabFault::Memory);
@@ -39,8 +50,15 @@ impl<D: Device> Lab<D> {
     }
 
     /// The rounds of a run.
-    fn rounds(&mut self, d: u64) -> Result<RoundLog, LabFault>
+    fn rounds<R: Threads + Wait + Copy + Send + Sync, G: Gate>(
+        &mut self,
+        rt: &R,
+        d: u64,
+        workers: u8,
+        gate: &G,
+    ) -> Result<RoundLog, LabFault>
         requires unspent { self.old.spent ≡ false }
+        requires workers { (1 ≤ workers) × (workers ≤ 8) }
         requires plans { HaveAllPlans self.old.lab }
         requires within { self.old.lab.now + d ≤ 10000000000 }
         ensures lab { OnOk result (self.new
@@ -55,7 +73,7 @@ impl<D: Device> Lab<D> {
         let mut left = d;
         'rounds: while left > 0 && paused.is_none() {
             let q = left.min(quantum);
-            paused = self.round_onto(&mut lines, q)?;
+            paused = self.round_onto(rt, &mut lines, q, workers, gate)?;
             left -= q;
         }
         Ok(RoundLog {
@@ -66,7 +84,14 @@ impl<D: Device> Lab<D> {
 
     /// Runs for `d` microseconds: rounds of one quantum each, and then a shorter one if the quanta
     /// do not fill `d`. A run of 0 changes nothing. `RunFault::Memory` spends the laboratory.
-    pub fn run_for(&mut self, d: Micros) -> Result<RoundLog, RunFault>
+    pub fn run_for<R: Threads + Wait + Copy + Send + Sync, G: Gate>(
+        &mut self,
+        rt: &R,
+        d: Micros,
+        workers: u8,
+        gate: &G,
+    ) -> Result<RoundLog, RunFault>
+        requires workers { (1 ≤ workers) × (workers ≤ 8) }
         ensures lab { OnOk result (self.new
             ≡ record { lab = (run_spec.run self.old.lab d.0).lab; spent = false }) }
         ensures lines { IfOk result (λ log. log.lines ≡ (run_spec.run self.old.lab d.0).items) }
@@ -91,7 +116,7 @@ impl<D: Device> Lab<D> {
         if d.0 > LAST - self.source.elapsed().0 {
             return Err(RunFault::TooLong);
         }
-        let run = self.rounds(d.0)?;
+        let run = self.rounds(rt, d.0, workers, gate)?;
         Ok(run)
     }
 }

@@ -1,10 +1,13 @@
 //! Runs of the program over files and an output in memory.
 use can_sja1000::Can;
 use dev_core::{Device, Stock};
+use floor_run::Gate;
 use lab_io::{MemFiles, MemSink};
 use lab_num::NoMemory;
 use lab_top::{Status, run_lab};
 use std::alloc::Global;
+use std::sync::Wait;
+use std::thread::Threads;
 use test_finisher::Finisher;
 use uart_16550::Uart;
 
@@ -51,9 +54,6 @@ pub fn files(alloc: Global, script: &str) -> Result<MemFiles, NoMemory> {
     Ok(files)
 }
 
-/// The words of each run.
-static WORDS: [&str; 4] = ["run", "s.resc", "--until", "0.000003"];
-
 fn words_of(alloc: Global, words: &[&str]) -> Result<Vec<String>, NoMemory> {
     let mut list = Vec::new(alloc);
     for word in words {
@@ -62,22 +62,32 @@ fn words_of(alloc: Global, words: &[&str]) -> Result<Vec<String>, NoMemory> {
     Ok(list)
 }
 
-/// A run on the devices of a full stock: how it ends.
-fn run_on<D: Device>(
+/// A run by these words on the devices of a full stock: how it ends.
+fn run_on<R: Threads + Wait + Copy + Send + Sync, D: Device + Send, G: Gate>(
+    rt: &R,
     alloc: Global,
+    words: &[&str],
     files: &mut MemFiles,
     out: &mut MemSink,
     stock: Stock<D>,
+    gate: &G,
 ) -> Result<Status, NoMemory> {
     if !stock.is_full() {
         return Err(NoMemory);
     }
-    let words = words_of(alloc, &WORDS)?;
-    Ok(run_lab(alloc, &words, files, out, stock))
+    let words = words_of(alloc, words)?;
+    Ok(run_lab(rt, alloc, &words, files, out, stock, gate))
 }
 
-/// A run of `s.resc` to microsecond 3, on devices enough for every laboratory: how it ends.
-pub fn run(alloc: Global, files: &mut MemFiles, out: &mut MemSink) -> Result<Status, NoMemory> {
+/// A run by these words, on devices enough for every laboratory: how it ends.
+pub fn run<R: Threads + Wait + Copy + Send + Sync, G: Gate>(
+    rt: &R,
+    alloc: Global,
+    words: &[&str],
+    files: &mut MemFiles,
+    out: &mut MemSink,
+    gate: &G,
+) -> Result<Status, NoMemory> {
     let mut uarts: Vec<Box<dyn Device + Send>> = Vec::new(alloc);
     for _ in 0..64 {
         uarts.push(Box::new(alloc, Uart::new())?)?;
@@ -95,5 +105,5 @@ pub fn run(alloc: Global, files: &mut MemFiles, out: &mut MemSink) -> Result<Sta
         cans,
         finishers,
     };
-    run_on(alloc, files, out, stock)
+    run_on(rt, alloc, words, files, out, stock, gate)
 }

@@ -1,10 +1,13 @@
 //! Reads, writes and allocations that fail.
 use crate::bench::{files, run};
+use floor_run::NoGate;
 use lab_io::{MemFiles, MemSink};
 use lab_num::NoMemory;
 use lab_top::Status;
 use std::alloc::Global;
+use std::sync::Wait;
 use std::test::Fail;
+use std::thread::Threads;
 
 /// A board that sends a letter, which is written once the script ends.
 const LETTER: &str = "mach create \"m0\"\nmachine LoadPlatformDescription @p.repl\n\
@@ -52,29 +55,37 @@ static READS: [Cut; 12] = [
     (LATE, 4, 3, LATE_LOG),
 ];
 
+/// The words of each run.
+static WORDS: [&str; 4] = ["run", "s.resc", "--until", "0.000003"];
+
 /// The run over these files and this output ends with this number, and has written this.
-fn ends(
+fn ends<R: Threads + Wait + Copy + Send + Sync>(
+    rt: &R,
     alloc: Global,
     mut files: MemFiles,
     mut out: MemSink,
     number: u8,
     written: &str,
 ) -> Result<bool, NoMemory> {
-    let status = run(alloc, &mut files, &mut out)?;
+    let status = run(rt, alloc, &WORDS, &mut files, &mut out, &NoGate)?;
     Ok(status.number() == number && out.bytes() == written.as_bytes())
 }
 
-fn is_cut_at_its_read(alloc: Global, cut: &Cut) -> Result<bool, NoMemory> {
+fn is_cut_at_its_read<R: Threads + Wait + Copy + Send + Sync>(
+    rt: &R,
+    alloc: Global,
+    cut: &Cut,
+) -> Result<bool, NoMemory> {
     let (script, call, number, written) = *cut;
     let mut files = files(alloc, script)?;
     files.fail_at(call)?;
-    ends(alloc, files, MemSink::new(alloc, 4096), number, written)
+    ends(rt, alloc, files, MemSink::new(alloc, 4096), number, written)
 }
 
 #[test]
 fn a_failed_read_cuts_a_run_short(rt: HostRuntime) -> Result<(), Fail> {
     for cut in &READS {
-        let is_cut = is_cut_at_its_read(rt.alloc(), cut)?;
+        let is_cut = is_cut_at_its_read(&rt, rt.alloc(), cut)?;
         assert!(rt; is_cut, "{cut:?}");
     }
     Ok(())
@@ -92,17 +103,22 @@ static WRITES: [Cut; 7] = [
 ];
 
 /// Whether this holds where the output takes so many bytes at a time.
-fn is_cut_at_its_write(alloc: Global, most: usize, cut: &Cut) -> Result<bool, NoMemory> {
+fn is_cut_at_its_write<R: Threads + Wait + Copy + Send + Sync>(
+    rt: &R,
+    alloc: Global,
+    most: usize,
+    cut: &Cut,
+) -> Result<bool, NoMemory> {
     let (script, call, number, written) = *cut;
     let mut out = MemSink::new(alloc, most.max(1));
     out.fail_at(call)?;
-    ends(alloc, files(alloc, script)?, out, number, written)
+    ends(rt, alloc, files(alloc, script)?, out, number, written)
 }
 
 #[test]
 fn a_failed_write_cuts_a_run_short(rt: HostRuntime) -> Result<(), Fail> {
     for cut in &WRITES {
-        let is_cut = is_cut_at_its_write(rt.alloc(), 4096, cut)?;
+        let is_cut = is_cut_at_its_write(&rt, rt.alloc(), 4096, cut)?;
         assert!(rt; is_cut, "{cut:?}");
     }
     Ok(())
@@ -113,24 +129,25 @@ static LOGS: [(&str, &str); 2] = [(HOLE, HOLE_LOG), (BODIES, BODIES_LOG)];
 
 /// Where the output takes one byte at a time, a run is cut short at each byte, and is whole where no
 /// write fails.
-fn is_cut_at_each_byte(
+fn is_cut_at_each_byte<R: Threads + Wait + Copy + Send + Sync>(
+    rt: &R,
     alloc: Global,
     script: &'static str,
     log: &'static str,
 ) -> Result<bool, NoMemory> {
     for count in 0..log.len() {
         let written = log.get(..count).unwrap_or("?");
-        if !is_cut_at_its_write(alloc, 1, &(script, count as u64, 5, written))? {
+        if !is_cut_at_its_write(rt, alloc, 1, &(script, count as u64, 5, written))? {
             return Ok(false);
         }
     }
-    is_cut_at_its_write(alloc, 1, &(script, log.len() as u64, 0, log))
+    is_cut_at_its_write(rt, alloc, 1, &(script, log.len() as u64, 0, log))
 }
 
 #[test]
 fn a_failed_write_of_one_byte_cuts_a_run_short(rt: HostRuntime) -> Result<(), Fail> {
     for (script, log) in &LOGS {
-        let is_cut = is_cut_at_each_byte(rt.alloc(), script, log)?;
+        let is_cut = is_cut_at_each_byte(&rt, rt.alloc(), script, log)?;
         assert!(rt; is_cut);
     }
     Ok(())
@@ -138,19 +155,25 @@ fn a_failed_write_of_one_byte_cuts_a_run_short(rt: HostRuntime) -> Result<(), Fa
 
 /// Whether a run has done all and written the whole log, or has found no memory and written a front
 /// of it.
-fn is_whole_or_starved(alloc: Global, log: &[u8]) -> Result<bool, NoMemory> {
+fn is_whole_or_starved<R: Threads + Wait + Copy + Send + Sync>(
+    rt: &R,
+    alloc: Global,
+    log: &[u8],
+) -> Result<bool, NoMemory> {
     let mut files = files(alloc, LETTER)?;
     let mut out = MemSink::new(alloc, 4096);
-    Ok(match run(alloc, &mut files, &mut out)? {
-        Status::Done => out.bytes() == log,
-        Status::Memory => log.starts_with(out.bytes()),
-        _ => false,
-    })
+    Ok(
+        match run(rt, alloc, &WORDS, &mut files, &mut out, &NoGate)? {
+            Status::Done => out.bytes() == log,
+            Status::Memory => log.starts_with(out.bytes()),
+            _ => false,
+        },
+    )
 }
 
 #[test]
 fn a_run_that_finds_no_memory_has_written_a_front_of_the_log(rt: HostRuntime) {
     // By `rt try --test --fail-alloc N` the Nth allocation fails.
-    let found = is_whole_or_starved(rt.alloc(), b"[0.000002] m0/uart: A\n");
+    let found = is_whole_or_starved(&rt, rt.alloc(), b"[0.000002] m0/uart: A\n");
     assert!(rt; found.unwrap_or(true));
 }

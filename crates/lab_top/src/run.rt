@@ -20,22 +20,34 @@ use crate::script::{Opened, open};
 use crate::status::Status;
 use crate::words::{Asked, ScriptRun, read_request};
 use dev_core::{Device, Stock};
+use floor_run::Gate;
 use lab_gen::generate;
 use lab_io::{Files, Sink, write_whole};
 use lab_words::{UsageCause, WordsFault, usage_line};
-use monitor::{Monitor, ScriptFault, Setting, Step};
+use monitor::{Monitor, ScriptFault, Step};
 use std::alloc::Global;
+use std::sync::Wait;
+use std::thread::Threads;
 
 /// How many lines a run takes at most: 100,000 commands, and one line that ends it.
 const MOST_STEPS: u32 = 100_001;
 
-/// Runs the program for its command words, reading from `files` and writing to `out`.
-pub fn run_lab<D: Device, F: Files, K: Sink>(
+/// Runs the program for its command words, reading from `files` and writing to `out`. Boards are run by
+/// as many workers as the words name, each of which enters the gate before each turn.
+pub fn run_lab<
+    R: Threads + Wait + Copy + Send + Sync,
+    D: Device + Send,
+    F: Files,
+    K: Sink,
+    G: Gate,
+>(
+    rt: &R,
     alloc: Global,
     words: &[String],
     files: &mut F,
     out: &mut K,
     stock: Stock<D>,
+    gate: &G,
 ) -> Status
     requires { IsFull (map D.meaning stock.uarts.items) (map D.meaning stock.cans.items)
         (map D.meaning stock.finishers.items) }
@@ -74,16 +86,18 @@ pub fn run_lab<D: Device, F: Files, K: Sink>(
     ensures files { OnlyReads F.Files (result ≡ Status.Unread) files.old files.new }
     ensures output { OnlyWrites K.Sink (result ≡ Status.Unwritten) out.old out.new }
 {
-    run_words(alloc, words, files, out, stock)
+    run_words(rt, alloc, words, files, out, stock, gate)
 }
 
 /// Does what the words ask for.
-fn run_words<D: Device, F: Files, K: Sink>(
+fn run_words<R: Threads + Wait + Copy + Send + Sync, D: Device + Send, F: Files, K: Sink, G: Gate>(
+    rt: &R,
     alloc: Global,
     words: &[String],
     files: &mut F,
     out: &mut K,
     stock: Stock<D>,
+    gate: &G,
 ) -> Status
     requires { IsFull (map D.meaning stock.uarts.items) (map D.meaning stock.cans.items)
         (map D.meaning stock.finishers.items) }
@@ -98,8 +112,14 @@ fn run_words<D: Device, F: Files, K: Sink>(
     ensures output { OnlyWrites K.Sink (result ≡ Status.Unwritten) out.old out.new }
 {
     match read_request(alloc, words) {
-        Ok(Asked::Script(request)) => run_file(alloc, request, files, out, stock),
-        Ok(Asked::Generated { seed, boards }) => run_generated(alloc, seed, boards, out, stock),
+        Ok(Asked::Script(request)) => run_file(rt, alloc, request, files, out, stock, gate),
+        Ok(
+            Asked::Generated {
+                seed,
+                boards,
+                workers,
+            },
+        ) => run_generated(rt, alloc, seed, boards, workers, out, stock, gate),
         Err(WordsFault::Usage(cause)) => refuse_words(cause, out),
         Err(WordsFault::Memory) => Status::Memory,
     }
@@ -118,15 +138,19 @@ fn refuse_words<K: Sink>(cause: UsageCause, out: &mut K) -> Status
 }
 
 /// Runs the laboratory of a seed and writes its summary.
-fn run_generated<D: Device, K: Sink>(
+fn run_generated<R: Threads + Wait + Copy + Send + Sync, D: Device + Send, K: Sink, G: Gate>(
+    rt: &R,
     alloc: Global,
     seed: u64,
     boards: u8,
+    workers: u8,
     out: &mut K,
     stock: Stock<D>,
+    gate: &G,
 ) -> Status
     requires some { 1 ≤ boards }
     requires few { boards ≤ 16 }
+    requires workers { (1 ≤ workers) × (workers ≤ 8) }
     requires full { IsFull (map D.meaning stock.uarts.items) (map D.meaning stock.cans.items)
         (map D.meaning stock.finishers.items) }
     ensures course { IsEnd (summary_of run seed boards) Done
@@ -135,7 +159,7 @@ fn run_generated<D: Device, K: Sink>(
     ensures never { result ≢ Status.Unread }
     ensures output { OnlyWrites K.Sink (result ≡ Status.Unwritten) out.old out.new }
 {
-    let Ok(text) = generate(alloc, seed, boards, stock) else {
+    let Ok(text) = generate(rt, alloc, seed, boards, workers, stock, gate) else {
         return Status::Memory;
     };
     match write_whole(out, &text) {
@@ -145,12 +169,14 @@ fn run_generated<D: Device, K: Sink>(
 }
 
 /// Reads a script and runs it.
-fn run_file<D: Device, F: Files, K: Sink>(
+fn run_file<R: Threads + Wait + Copy + Send + Sync, D: Device + Send, F: Files, K: Sink, G: Gate>(
+    rt: &R,
     alloc: Global,
     request: ScriptRun,
     files: &mut F,
     out: &mut K,
     stock: Stock<D>,
+    gate: &G,
 ) -> Status
     requires full { IsFull (map D.meaning stock.uarts.items) (map D.meaning stock.cans.items)
         (map D.meaning stock.finishers.items) }
@@ -163,9 +189,8 @@ fn run_file<D: Device, F: Files, K: Sink>(
     ensures files { OnlyReads F.Files (result ≡ Status.Unread) files.old files.new }
     ensures output { OnlyWrites K.Sink (result ≡ Status.Unwritten) out.old out.new }
 {
-    let ScriptRun { script, setting } = request;
-    match open(alloc, files, script.as_str()) {
-        Opened::Text(text) => run_script(alloc, script.as_str(), text, setting, files, out, stock),
+    match open(alloc, files, request.script.as_str()) {
+        Opened::Text(text) => run_script(rt, alloc, request, text, files, out, stock, gate),
         Opened::Refused(fault) => tell(alloc, fault, out),
         Opened::Unread => Status::Unread,
         Opened::Memory => Status::Memory,
@@ -173,41 +198,44 @@ fn run_file<D: Device, F: Files, K: Sink>(
 }
 
 /// Runs a script with this text, in a laboratory without boards.
-fn run_script<D: Device, F: Files, K: Sink>(
+fn run_script<R: Threads + Wait + Copy + Send + Sync, D: Device + Send, F: Files, K: Sink, G: Gate>(
+    rt: &R,
     alloc: Global,
-    script: &str,
+    request: ScriptRun,
     text: String,
-    setting: Setting,
     files: &mut F,
     out: &mut K,
     stock: Stock<D>,
+    gate: &G,
 ) -> Status
     requires full { IsFull (map D.meaning stock.uarts.items) (map D.meaning stock.cans.items)
         (map D.meaning stock.finishers.items) }
     requires short { length (string_bytes text) ≤ 2 ^ 24 }
-    requires some_worker { 1 ≤ setting.workers }
-    requires few_workers { setting.workers ≤ 8 }
+    requires some_worker { 1 ≤ request.setting.workers }
+    requires few_workers { request.setting.workers ≤ 8 }
     ensures course { ForSome (F.held files.old) (λ held.
-        Course (rest_of run held (started script.now (string_bytes text) setting)) result
+        Course (rest_of run held (started request.script (string_bytes text) request.setting)) result
         (K.written out.old) (K.written out.new) (F.asked files.old) (F.asked files.new)) }
     ensures usage { IsNoUsage result }
     ensures files { OnlyReads F.Files (result ≡ Status.Unread) files.old files.new }
     ensures output { OnlyWrites K.Sink (result ≡ Status.Unwritten) out.old out.new }
 {
-    let Ok(mut monitor) = Monitor::new(alloc, script, text, stock, setting) else {
+    let ScriptRun { script, setting } = request;
+    let Ok(mut monitor) = Monitor::new(alloc, script.as_str(), text, stock, setting) else {
         return Status::Memory;
     };
-    take_commands(alloc, &mut monitor, files, out)
+    take_commands(rt, alloc, &mut monitor, files, out, gate)
 }
 
 /// Takes the commands of a script to its end or the first fault, and writes what each prints before
 /// the next is taken.
-fn take_commands<D: Device, F: Files, K: Sink>(
-    alloc: Global,
-    monitor: &mut Monitor<D>,
-    files: &mut F,
-    out: &mut K,
-) -> Status
+fn take_commands<
+    R: Threads + Wait + Copy + Send + Sync,
+    D: Device + Send,
+    F: Files,
+    K: Sink,
+    G: Gate,
+>(rt: &R, alloc: Global, monitor: &mut Monitor<D>, files: &mut F, out: &mut K, gate: &G) -> Status
     requires goes_on { monitor.old.ended ≡ false }
     requires unspent { monitor.old.spent ≡ false }
     requires few { monitor.old.state.flow.kept.taken ≤ 100000 }
@@ -219,7 +247,7 @@ fn take_commands<D: Device, F: Files, K: Sink>(
     ensures output { OnlyWrites K.Sink (result ≡ Status.Unwritten) out.old out.new }
 {
     'commands: for _turn in 0..MOST_STEPS {
-        match monitor.step(files) {
+        match monitor.step(rt, files, gate) {
             Step::Text(text) => {
                 if let Err(fault) = write_whole(out, text.items()) {
                     return Status::from(fault);

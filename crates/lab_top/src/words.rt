@@ -20,8 +20,8 @@ pub(crate) struct ScriptRun {
 #[derive(Drop)]
 pub(crate) enum Asked {
     Script(ScriptRun),
-    /// The laboratory of a seed.
-    Generated { seed: u64, boards: u8 },
+    /// The laboratory of a seed, and how many workers run it.
+    Generated { seed: u64, boards: u8, workers: u8 },
 }
 
 /// What the words ask for.
@@ -35,8 +35,7 @@ pub(crate) fn read_request(alloc: Global, words: &[String]) -> Result<Asked, Wor
     }
 }
 
-/// What is to be done for a request. The number of workers is that of a script's setting, and none of
-/// a generated laboratory's.
+/// What is to be done for a request.
 fn asked_by(request: Request) -> Asked
     requires { IsWithin request }
     ensures read { IsAsked (by_reading (Ok request)) (Ok result) }
@@ -63,6 +62,14 @@ fn asked_by(request: Request) -> Asked
                 dry: true,
             },
         }),
-        Request::Gen { seed, boards, .. } => Asked::Generated { seed, boards },
+        Request::Gen {
+            seed,
+            boards,
+            workers,
+        } => Asked::Generated {
+            seed,
+            boards,
+            workers,
+        },
     }
 }

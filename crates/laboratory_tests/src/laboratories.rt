@@ -6,13 +6,16 @@ mod chip;
 
 use chip::{Counts, stock};
 use dev_core::{Device, Finish, Kind, Stock, What};
+use floor_run::NoGate;
 use lab_num::{BoardNo, Key, Member, Micros, NoMemory, PostNo, is_name};
 use lab_state::{Lab, LabFault, RoundLog};
 use log_merge::{LogItem, Member0, Names};
 use sample_boards::small_board;
 use std::alloc::Global;
-use std::cell::Cell;
+use std::sync::Wait;
+use std::sync::atomic::{AtomicU32, Ordering};
 use std::test::Fail;
+use std::thread::Threads;
 
 /// Where a board's memory begins.
 const START: u32 = 0x8000_0000;
@@ -142,33 +145,44 @@ const PASS: Key = Key {
     number: PostNo(1),
 };
 
-/// A round, which is asked for once more where the first found no memory.
-fn round_again<D: Device>(lab: &mut Lab<D>, q: u64) -> Result<RoundLog, LabFault>
+/// A round on two workers, which is asked for once more where the first found no memory.
+fn round_again<R: Threads + Wait + Copy + Send + Sync, D: Device + Send>(
+    rt: &R,
+    lab: &mut Lab<D>,
+    q: u64,
+) -> Result<RoundLog, LabFault>
     requires some { 0 < q }
     requires plans { lab.old.spent ≡ false → HaveAllPlans lab.old.lab }
     requires within { lab.old.spent ≡ false → lab.old.lab.now + q ≤ 10000000000 }
     ensures spent { lab.old.spent ≡ true → result ≡ Err LabFault.Memory }
     ensures err { OnErr result (lab.new.spent ≡ true) }
 {
-    match lab.round(q) {
+    match lab.round(rt, q, 2, &NoGate) {
         Ok(log) => Ok(log),
-        Err(_) => lab.round(q),
+        Err(_) => lab.round(rt, q, 2, &NoGate),
     }
 }
 
 /// A round of 10 microseconds logs the lines, and the pass pauses it.
-fn plays<D: Device>(lab: &mut Lab<D>) -> bool {
+fn plays<R: Threads + Wait + Copy + Send + Sync, D: Device + Send>(
+    rt: &R,
+    lab: &mut Lab<D>,
+) -> bool {
     if lab.is_spent() || lab.first_without_plan().is_some() || lab.now().0 > 1_000_000 {
         return false;
     }
-    match round_again(lab, 10) {
+    match round_again(rt, lab, 10) {
         Ok(log) => log.lines.items() == &LINES[..] && log.paused == Some(PASS),
         Err(_) => false,
     }
 }
 
 /// Each call answers with success.
-fn succeeds<D: Device>(alloc: Global, lab: &mut Lab<D>) -> Result<bool, NoMemory> {
+fn succeeds<R: Threads + Wait + Copy + Send + Sync, D: Device + Send>(
+    rt: &R,
+    alloc: Global,
+    lab: &mut Lab<D>,
+) -> Result<bool, NoMemory> {
     Ok(
         adds(lab, "m0", M0)
             && adds(lab, "m1", M1)
@@ -184,30 +198,40 @@ fn succeeds<D: Device>(alloc: Global, lab: &mut Lab<D>) -> Result<bool, NoMemory
             && shows(lab)
             && starts(lab, M0)
             && starts(lab, M1)
-            && plays(lab),
+            && plays(rt, lab),
     )
 }
 
-fn succeeds_on<D: Device>(alloc: Global, stock: Stock<D>) -> Result<bool, NoMemory> {
+fn succeeds_on<R: Threads + Wait + Copy + Send + Sync, D: Device + Send>(
+    rt: &R,
+    alloc: Global,
+    stock: Stock<D>,
+) -> Result<bool, NoMemory> {
     if !stock.is_full() {
         return Ok(false);
     }
     let mut lab = Lab::new(alloc, stock)?;
-    succeeds(alloc, &mut lab)
+    succeeds(rt, alloc, &mut lab)
 }
 
-fn succeeds_counted(alloc: Global, counts: &Counts) -> Result<bool, NoMemory> {
+fn succeeds_counted<R: Threads + Wait + Copy + Send + Sync>(
+    rt: &R,
+    alloc: Global,
+    counts: &Counts,
+) -> Result<bool, NoMemory> {
     let stock = stock(alloc, counts)?;
-    succeeds_on(alloc, stock)
+    succeeds_on(rt, alloc, stock)
 }
 
 /// The first board stores once, and the second loads once and stores once; its finisher is called
 /// once.
 #[test]
 fn a_laboratory_calls_the_devices_of_its_stock_in_order(rt: HostRuntime) -> Result<(), Fail> {
-    let counts = [Cell::new(0), Cell::new(0), Cell::new(0)];
-    let has_succeeded = succeeds_counted(rt.alloc(), &counts)?;
+    let counts = [AtomicU32::new(0), AtomicU32::new(0), AtomicU32::new(0)];
+    let has_succeeded = succeeds_counted(&rt, rt.alloc(), &counts)?;
     assert!(rt; has_succeeded);
-    assert!(rt; counts[0].get() == 1 && counts[1].get() == 2 && counts[2].get() == 1);
+    for (count, calls) in counts.iter().zip([1, 2, 1]) {
+        assert_eq!(rt; count.load(Ordering::SeqCst), calls);
+    }
     Ok(())
 }

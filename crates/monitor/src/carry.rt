@@ -9,9 +9,12 @@ use crate::load::Load;
 use crate::monitor::Monitor;
 use crate::stop::Stop;
 use dev_core::Device;
+use floor_run::Gate;
 use lab_io::Files;
 use resc_read::{Command, LineFault};
 use resc_vars::ScriptCause;
+use std::sync::Wait;
+use std::thread::Threads;
 
 impl From<LineFault> for Stop {
     ghost use Rattle.std.specs.Prelude.{◌≡◌};
@@ -29,12 +32,14 @@ impl From<LineFault> for Stop {
     }
 }
 
-impl<D: Device> Monitor<D> {
+impl<D: Device + Send> Monitor<D> {
     /// Carries out a command.
-    pub(crate) fn carry_out<F: Files>(
+    pub(crate) fn carry_out<R: Threads + Wait + Copy + Send + Sync, F: Files, G: Gate>(
         &mut self,
+        rt: &R,
         files: &mut F,
         command: Command,
+        gate: &G,
     ) -> Result<Vec<u8>, Stop>
         requires unspent { self.old.spent ≡ false }
         requires goes_on { self.old.state.flow.ended ≡ false }
@@ -60,14 +65,14 @@ impl<D: Device> Monitor<D> {
             Command::Halted { cpu, value } => self.halted(cpu.as_str(), value),
             Command::Mips { cpu, value } => self.mips(cpu.as_str(), value),
             Command::Quantum { length } => Ok(self.quantum(length)),
-            Command::RunFor { length } => self.run_for(length),
+            Command::RunFor { length } => self.run_for(rt, length, gate),
             Command::UartHub { name } => self.uart_hub(name.as_str()),
             Command::CanHub { name } => self.can_hub(name.as_str()),
             Command::Connect { dev, hub } => self.connect(dev.as_str(), hub.as_str()),
             Command::Show { dev } => self.show(dev.as_str()),
             Command::RunMacro { name } => self.run_macro(name.as_str()),
             Command::UsingSysbus | Command::Pause => Ok(Vec::new(self.alloc)),
-            Command::Start => self.start(),
+            Command::Start => self.start(rt, gate),
 
             // The one that ends the script.
             Command::Quit => Err(Stop::Quit),

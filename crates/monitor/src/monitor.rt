@@ -20,6 +20,7 @@ use crate::setting::Setting;
 use crate::step::Step;
 use crate::stop::Stop;
 use dev_core::{Device, Stock};
+use floor_run::Gate;
 use lab_io::Files;
 use lab_num::{BoardNo, Micros, NoMemory, Rows, Text};
 use lab_state::Lab;
@@ -28,6 +29,8 @@ use resc_read::read_line;
 use resc_vars::{Flow, Next};
 use std::alloc::Global;
 use std::marker::Model;
+use std::sync::Wait;
+use std::thread::Threads;
 
 /// A script, between two of its commands, and the laboratory that they work on.
 #[derive(Drop)]
@@ -37,13 +40,14 @@ pub struct Monitor<D: Device> {
     pub(crate) lab: Lab<D>,
     pub(crate) selected: Option<BoardNo>,
     pub(crate) lines: Lines,
+    pub(crate) workers: u8,
     pub(crate) until: Micros,
     pub(crate) dry: bool,
     pub(crate) ended: bool,
 }
 
 impl<D: Device> Model for Monitor<D> {
-    ghost use Rattle.std.specs.Prelude.{◌≡◌, false};
+    ghost use Rattle.std.specs.Prelude.{◌≡◌, ◌≤◌, false};
     ghost use Rattle.std.specs.Option.{option_map};
     ghost use Rattle.monitor.specs.Step.{Running};
 
@@ -62,7 +66,8 @@ impl<D: Device> Model for Monitor<D> {
       ended = m.ended;
     } };
 
-    ghost invariant = { λ m. m.ended ≡ false → m.flow.ended ≡ false };
+    ghost invariant = { λ m. (m.ended ≡ false → m.flow.ended ≡ false)
+        × (1 ≤ m.workers) × (m.workers ≤ 8) };
 }
 
 impl<D: Device> Monitor<D> {
@@ -91,15 +96,36 @@ impl<D: Device> Monitor<D> {
             lab,
             selected: None,
             lines: Lines::new(alloc),
+            workers: setting.workers,
             until: setting.until,
             dry: setting.dry,
             ended: false,
         })
     }
 
+    /// What is printed of the lines that are open where the script ends. None is open afterwards.
+    pub fn rest(&mut self) -> Result<Vec<u8>, NoMemory>
+        requires { self.old.spent ≡ false }
+        ensures text { IfOk result (λ text. text.items
+            ≡ rest (names self.old.state.lab) self.old.state.lines) }
+        ensures ok { OnOk result (self.new
+            ≡ record self.old { state = record self.old.state { lines = [] } }) }
+        ensures err { OnErr result (self.new ≡ self.old) }
+    {
+        let names = self.lab.names()?;
+        self.lines.rest(&names)
+    }
+}
+
+impl<D: Device + Send> Monitor<D> {
     /// Carries out the next command of the script. Files that it names are read from `files`. Any
-    /// answer but `Text` ends the script.
-    pub fn step<F: Files>(&mut self, files: &mut F) -> Step
+    /// answer but `Text` ends the script. A run's workers enter the gate before each turn.
+    pub fn step<R: Threads + Wait + Copy + Send + Sync, F: Files, G: Gate>(
+        &mut self,
+        rt: &R,
+        files: &mut F,
+        gate: &G,
+    ) -> Step
         requires goes_on { self.old.ended ≡ false }
         requires unspent { self.old.spent ≡ false }
 
@@ -125,7 +151,9 @@ impl<D: Device> Monitor<D> {
     {
         self.ended = true;
         match self.flow.next() {
-            Next::Line { file, line, text } => self.take_line(files, file, line, text.as_str()),
+            Next::Line { file, line, text } => {
+                self.take_line(rt, files, file, line, text.as_str(), gate)
+            },
             Next::End => Step::End,
             Next::Fault { file, line, cause } => fault_at(file, line, Cause::Script(cause)),
             Next::Memory => Step::Memory,
@@ -133,7 +161,15 @@ impl<D: Device> Monitor<D> {
     }
 
     /// Does what a line asks for. The script goes on where it says something.
-    fn take_line<F: Files>(&mut self, files: &mut F, file: Text, line: u32, text: &str) -> Step
+    fn take_line<R: Threads + Wait + Copy + Send + Sync, F: Files, G: Gate>(
+        &mut self,
+        rt: &R,
+        files: &mut F,
+        file: Text,
+        line: u32,
+        text: &str,
+        gate: &G,
+    ) -> Step
         requires goes_on { self.old.state.flow.ended ≡ false }
         requires unspent { self.old.spent ≡ false }
         requires waits { self.old.ended ≡ true }
@@ -143,7 +179,7 @@ impl<D: Device> Monitor<D> {
         ensures next { IsAfterLine result self.old self.new }
         ensures files { OnlyReads F.Files (result ≡ Step.Unread) files.old files.new }
     {
-        match self.carry_out_line(files, text) {
+        match self.carry_out_line(rt, files, text, gate) {
             Ok(text) => {
                 self.ended = false;
                 Step::Text(Rows::of(text))
@@ -153,7 +189,13 @@ impl<D: Device> Monitor<D> {
     }
 
     /// Carries out the command of a line.
-    fn carry_out_line<F: Files>(&mut self, files: &mut F, text: &str) -> Result<Vec<u8>, Stop>
+    fn carry_out_line<R: Threads + Wait + Copy + Send + Sync, F: Files, G: Gate>(
+        &mut self,
+        rt: &R,
+        files: &mut F,
+        text: &str,
+        gate: &G,
+    ) -> Result<Vec<u8>, Stop>
         requires goes_on { self.old.state.flow.ended ≡ false }
         requires unspent { self.old.spent ≡ false }
         ensures { IsDone F.Files
@@ -161,20 +203,7 @@ impl<D: Device> Monitor<D> {
             result self.old self.new files.old files.new }
     {
         let command = read_line(self.alloc, text)?;
-        self.carry_out(files, command)
-    }
-
-    /// What is printed of the lines that are open where the script ends. None is open afterwards.
-    pub fn rest(&mut self) -> Result<Vec<u8>, NoMemory>
-        requires { self.old.spent ≡ false }
-        ensures text { IfOk result (λ text. text.items
-            ≡ rest (names self.old.state.lab) self.old.state.lines) }
-        ensures ok { OnOk result (self.new
-            ≡ record self.old { state = record self.old.state { lines = [] } }) }
-        ensures err { OnErr result (self.new ≡ self.old) }
-    {
-        let names = self.lab.names()?;
-        self.lines.rest(&names)
+        self.carry_out(rt, files, command, gate)
     }
 }
 

@@ -4,8 +4,7 @@ use lab_num::Micros;
 /// How a script is run.
 #[derive(Clone, Copy, PartialEq, Eq, Debug)]
 pub struct Setting {
-    /// How many workers take the slots of boards, 1 to 8. The number changes nothing that is seen;
-    /// one takes them all so far.
+    /// How many workers take the slots of boards, 1 to 8. The number changes nothing that is seen.
     pub workers: u8,
     /// The lab time to which `start` runs.
     pub until: Micros,

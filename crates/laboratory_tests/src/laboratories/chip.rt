@@ -3,20 +3,20 @@ use can_sja1000::Can;
 use dev_core::{DevState, Device, Effect, Kind, Payload, Stock, Taken};
 use lab_num::NoMemory;
 use std::alloc::Global;
-use std::cell::Cell;
+use std::sync::atomic::{AtomicU32, Ordering};
 use test_finisher::Finisher;
 use uart_16550::Uart;
 
-/// A device that counts its loads and stores. The count stands still at 2^32 - 1.
+/// A device that counts its loads and stores.
 #[derive(Drop)]
 pub struct Counted<'a, D> {
     device: D,
-    calls: &'a Cell<u32>,
+    calls: &'a AtomicU32,
 }
 
 impl<'a, D> Counted<'a, D> {
     fn count(&self) {
-        self.calls.set(self.calls.get().saturating_add(1));
+        self.calls.fetch_add(1, Ordering::SeqCst);
     }
 }
 
@@ -62,7 +62,7 @@ impl<'a, D: Device> Device for Counted<'a, D> {
 pub type Chip<'a> = Counted<'a, Box<dyn Device + Send>>;
 
 /// The calls of the first UART of a stock, of the second, and of all other devices.
-pub type Counts = [Cell<u32>; 3];
+pub type Counts = [AtomicU32; 3];
 
 fn device(alloc: Global, kind: Kind) -> Result<Box<dyn Device + Send>, NoMemory> {
     match kind {

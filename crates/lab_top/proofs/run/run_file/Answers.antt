@@ -5,7 +5,7 @@ use Rattle.lab_top.proofs.run.run_file.Goals as goal
 pub returns-in-Text-clause-course : goal.returns-in-Text-clause-course
 returns-in-Text-clause-course g c = λ held is.
     let opened = rw c.as_str.ensures at (c.in-Text.ensures.opened held is) in
-    let course = rw c.as_str-in-Text.ensures at (c.run_script.ensures.course held (c.open.ensures.files.held ∙ is)) in
+    let course = c.run_script.ensures.course held (c.open.ensures.files.held ∙ is) in
     opening_goes held _ _ c.args.request.setting _ _ _ _ _ _ opened.0 opened.1 course
 
 pub returns-in-Refused-clause-course : goal.returns-in-Refused-clause-course

@@ -5,4 +5,5 @@ pub returns-in_default-clause-course : goal.returns-in_default-clause-course
 returns-in_default-clause-course g c = λ held is. course_none _ _ _
 
 pub returns-clause-course : goal.returns-clause-course
-returns-clause-course g c = λ held is. rw c.in-Ok.ensures at (c.take_commands.ensures.course held is)
+returns-clause-course g c = λ held is.
+    rw (c.in-Ok.ensures, c.as_str.ensures) at (c.take_commands.ensures.course held is)
