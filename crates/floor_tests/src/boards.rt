@@ -1,9 +1,11 @@
 //! Boards that send one byte, each with a grant of ten slots.
-ghost use Rattle.std.specs.Prelude.{◌≡◌, ◌∷◌, [], IfOk};
+ghost use Rattle.std.specs.Prelude.{◌≡◌, ◌+◌, ◌<◌, ◌^◌, ◌∷◌, [], IfOk};
 ghost use Rattle.dev_core.specs.declared.kind.Kind.TheVariants.{Uart as uart};
+ghost use Rattle.time_handle.specs.Grant.{left};
 
 use board::Board;
 use dev_core::{Kind, Payload, Post};
+use hub_mail::Pass;
 use lab_num::{BoardNo, Key, Member, Micros, NoMemory, PostNo, Rows};
 use parcel::Parcel;
 use sample_boards::usual_board;
@@ -17,8 +19,13 @@ use uart_16550::Uart;
 /// Where a board's memory begins.
 const START: u32 = 0x8000_0000;
 
-/// lui x5, 0x10000; addi x6, x0, 65; sb x6, 0(x5); jal x0, 0. The third slot sends the byte 'A'.
-const PROGRAM: [u32; 4] = [0x1000_02B7, 0x0410_0313, 0x0062_8023, 0x0000_006F];
+/// The third of these instructions sends the byte 'A'.
+static PROGRAM: [u8; 16] = [
+    0xB7, 0x02, 0x00, 0x10, // lui x5, 0x10000
+    0x13, 0x03, 0x10, 0x04, // addi x6, x0, 65
+    0x23, 0x80, 0x62, 0x00, // sb x6, 0(x5)
+    0x6F, 0x00, 0x00, 0x00, // jal x0, 0
+];
 
 /// Two instructions a microsecond.
 fn plan(alloc: Global) -> Result<BoardPlan, Fail>
@@ -32,19 +39,21 @@ fn plan(alloc: Global) -> Result<BoardPlan, Fail>
 }
 
 /// Puts the program into a board.
-fn load(rt: &impl Abort, board: &mut Board<Uart>) -> Result<(), NoMemory> {
-    let mut at = START;
-    for word in PROGRAM {
-        assert!(rt; board.holds(at, 4));
-        board.copy_in(at, &word.to_le_bytes())?;
-        at = at.wrapping_add(4);
-    }
+fn load(rt: &impl Abort, board: &mut Board<Uart>) -> Result<(), NoMemory>
+    ensures numbers { IfOk result (λ _. board.new.view.numbers ≡ board.old.view.numbers) }
+    ensures posts { IfOk result (λ _. board.new.posts ≡ board.old.posts) }
+{
+    assert!(rt; board.holds(START, 16));
+    board.copy_in(START, &PROGRAM)?;
     board.set_pc(START);
     Ok(())
 }
 
 /// A board of the program.
-fn board(rt: &impl Abort, alloc: Global, number: BoardNo) -> Result<Board<Uart>, Fail> {
+fn board(rt: &impl Abort, alloc: Global, number: BoardNo) -> Result<Board<Uart>, Fail>
+    ensures number { IfOk result (λ board. board.view.numbers.number ≡ number.0) }
+    ensures posts { IfOk result (λ board. board.posts ≡ []) }
+{
     let devices = vec![in alloc; Uart::new()]?;
     let plan = plan(alloc)?;
     assert!(rt; plan.is_valid());
@@ -55,13 +64,25 @@ fn board(rt: &impl Abort, alloc: Global, number: BoardNo) -> Result<Board<Uart>,
     Ok(board)
 }
 
-/// The board, with a grant from microsecond 7 to 12.
-pub fn parcel(rt: &impl Abort, alloc: Global, number: BoardNo) -> Result<Parcel<Uart>, Fail> {
+/// The board of this pass, with a grant from microsecond 7 to 12.
+pub fn parcel(
+    rt: &impl Abort,
+    alloc: Global,
+    pass: Pass,
+    number: BoardNo,
+) -> Result<Parcel<Uart>, Fail>
+    requires own { pass.board ≡ number.0 }
+    requires new { pass.posted ≡ [] }
+    ensures pass { IfOk result (λ parcel. parcel.pass ≡ pass) }
+    ensures none { IfOk result (λ parcel. parcel.board.posts ≡ []) }
+    ensures posts { IfOk result (λ parcel. parcel.board.view.numbers.posted + left parcel.grant < 2 ^ 64) }
+    ensures entries { IfOk result (λ parcel. parcel.board.view.numbers.entered + left parcel.grant < 2 ^ 64) }
+{
     let board = board(rt, alloc, number)?;
     let handle = Handle::new(Micros(7), Micros(12), 2);
     assert!(rt; board.speed() == 2);
     assert!(rt; board.posted() == 0 && board.entered() == 0);
-    Ok(Parcel::new(alloc, board, handle))
+    Ok(Parcel::new(board, handle, pass))
 }
 
 /// What the board sends: the third slot lies in microsecond 8.

@@ -5,18 +5,21 @@ use crate::boards::{parcel, post};
 use crate::words::events_of;
 use dev_core::Post;
 use floor_core::{Floor, Job, Ran};
+use hub_mail::Mail;
 use lab_num::{BoardNo, Micros, NoMemory};
 use parcel::Parcel;
 use std::alloc::Global;
 use std::process::Abort;
+use std::sync::Wait;
 use std::test::Fail;
 use uart_16550::Uart;
 
-fn two_boards(rt: &impl Abort, alloc: Global) -> Result<Floor<Parcel<Uart>>, Fail>
+fn two_boards<R: Abort + Wait>(rt: &R, alloc: Global) -> Result<Floor<Parcel<Uart>>, Fail>
     ensures { IfOk result (λ floor. length floor.boards ≡ 2) }
 {
-    let first = parcel(rt, alloc, BoardNo(0))?;
-    let second = parcel(rt, alloc, BoardNo(1))?;
+    let (_, mut passes) = Mail::begin(rt, alloc, 2)?;
+    let second = parcel(rt, alloc, passes.pop().unwrap(), BoardNo(1))?;
+    let first = parcel(rt, alloc, passes.pop().unwrap(), BoardNo(0))?;
     let floor = Floor::begin(alloc, vec![in alloc; first, second]?)?;
     Ok(floor)
 }
@@ -59,7 +62,7 @@ static ROWS: [Row; 7] = [
     ("c003 r00", Ran::Stopped(1), &[]),
 ];
 
-fn assert_rows(rt: &impl Abort, alloc: Global, rows: &[Row]) -> Result<(), Fail> {
+fn assert_rows<R: Abort + Wait>(rt: &R, alloc: Global, rows: &[Row]) -> Result<(), Fail> {
     for (text, ran, boards) in rows {
         let events = events_of(alloc, text)?;
         let mut floor = two_boards(rt, alloc)?;
@@ -92,7 +95,7 @@ fn is_done(floor: &Floor<Parcel<Uart>>, board: u8) -> bool
 }
 
 /// The posts after an order of all that can be done with both boards, which are done then.
-fn posts_after(rt: &impl Abort, alloc: Global, text: &str) -> Result<Vec<Post>, Fail> {
+fn posts_after<R: Abort + Wait>(rt: &R, alloc: Global, text: &str) -> Result<Vec<Post>, Fail> {
     let events = events_of(alloc, text)?;
     let mut floor = two_boards(rt, alloc)?;
     assert!(rt; floor.run_events(&events) == Ran::All && floor.is_ended());
@@ -100,7 +103,7 @@ fn posts_after(rt: &impl Abort, alloc: Global, text: &str) -> Result<Vec<Post>, 
     Ok(posts_of(alloc, &floor)?)
 }
 
-fn assert_orders(rt: &impl Abort, alloc: Global, orders: &[&str]) -> Result<(), Fail> {
+fn assert_orders<R: Abort + Wait>(rt: &R, alloc: Global, orders: &[&str]) -> Result<(), Fail> {
     for text in orders {
         let posts = posts_after(rt, alloc, text)?;
         assert!(rt; posts.as_slice() == [post(0), post(1)].as_slice());

@@ -3,5 +3,6 @@ mod Begins
 mod Drains
 mod Gathered
 mod Keeps
+mod Lists
 mod OfBoard
 mod Places

@@ -1,16 +1,23 @@
 -- Boards that are lent come back as their slots have left them.
 use Rattle.std.proofs.Common.{◌≡◌, ◌∙◌, sym, ap, refl, ℕ, suc, ◌+◌, ◌*◌, ◌^◌, ◌<◌, ◌≤◌, List, [], ◌∷◌, ◌++◌, length}
-use Rattle.std.proofs.Common.{map, set, get_or, slice_get, Option, Some, None, false, add-zero, zero-add, arith}
+use Rattle.std.proofs.Common.{map, take, drop, set, get_or, append_assoc, subst, slice_get, Option, Some, None, false, add-zero, zero-add, arith}
 use Rattle.std.proofs.lemmas.Bool.Decides.{nat_tests}
+use Rattle.std.proofs.lemmas.List.{append-nil, length-map, map-append}
+use Rattle.std.proofs.Math.Seq.{take-length, drop-length}
 use Rattle.std.proofs.lemmas.Grind.{common_steps}
 use Rattle.std.proofs.lemmas.List.Elements.{All-from_recursion, All-head, All-tail}
+use Rattle.std.proofs.lemmas.List.FromFn.{get_or-map-range_with_len, length-range_with_len}
 use Rattle.std.proofs.lemmas.List.Sums.{fails_before_first}
 use Rattle.std.proofs.lemmas.Option.{slice_get-map, slice_get-get_or, same_Some}
 use Rattle.std.specs.Prelude.{is_none, IsSome}
-use Rattle.std.specs.List.{flat_map, All, AllByRecursion, position_or_len}
+use Rattle.std.specs.List.{flat_map, All, AllByRecursion, position_or_len, range_with_len}
 use Rattle.std.specs.Option.{option_map, option_map_or}
 use Rattle.lab_num.specs.Paid.{paid}
 use Rattle.board.specs.View.{View}
+use Rattle.dev_core.specs.declared.post.Post.{Post}
+use Rattle.hub_mail.specs.declared.view.Sent.{Sent}
+use Rattle.hub_mail.specs.Boss.{Boss, sent_by}
+use Rattle.hub_mail.specs.Pass.{MailId, Pass, fresh_passes, fresh as new_pass}
 use Rattle.parcel.specs.Parcel.{Parcel}
 use Rattle.parcel.specs.Ran.{ran}
 use Rattle.time_handle.specs.Grant.{Grant, fresh, left}
@@ -124,10 +131,10 @@ pub record HasRoom (p : Parcel) : Type 0 where
   pub entries : p.board.view.numbers.entered + left p.grant < 2 ^ 64
 
 pub all_have_room :
-    (from q : ℕ) → from + q ≤ 10000000000 → (boards : List Board) →
-    AreStanding (1000 * from) (numbers_of boards) → All HasRoom (flat_map (lent from (from + q)) boards)
-all_have_room from q within boards are =
-    All-from_recursion HasRoom (flat_map (lent from (from + q)) boards)
+    (mail : MailId) (from q : ℕ) → from + q ≤ 10000000000 → (boards : List Board) →
+    AreStanding (1000 * from) (numbers_of boards) → All HasRoom (flat_map (lent mail from (from + q)) boards)
+all_have_room mail from q within boards are =
+    All-from_recursion HasRoom (flat_map (lent mail from (from + q)) boards)
     (each 0 boards (λ k n at. rw zero-add (are k n at)))
   where
     place : (b k : ℕ) → b + 1 + k ≡ b + suc k
@@ -136,7 +143,7 @@ all_have_room from q within boards are =
     one :
         (b : ℕ) (o : Option View) → StandsAt (1000 * from) b (Some (option_map (λ v. v.numbers) o)) →
         (ps : List Parcel) → AllByRecursion HasRoom ps →
-        AllByRecursion HasRoom (option_map_or (λ v. parcel_of from (from + q) v ∷ []) o [] ++ ps)
+        AllByRecursion HasRoom (option_map_or (λ v. parcel_of mail from (from + q) v ∷ []) o [] ++ ps)
     one b None is ps rest = rest
     one b (Some v) is ps rest =
         let own = is v.numbers refl in
@@ -152,21 +159,29 @@ all_have_room from q within boards are =
     each :
         (b : ℕ) (boards : List Board) →
         ((k : ℕ) → StandsAt (1000 * from) (b + k) (slice_get (numbers_of boards) k)) →
-        AllByRecursion HasRoom (flat_map (lent from (from + q)) boards)
+        AllByRecursion HasRoom (flat_map (lent mail from (from + q)) boards)
     each b [] are = tt
     each b (board ∷ boards) are =
-        one b board.view (λ n at. rw add-zero at (are 0 n at)) (flat_map (lent from (from + q)) boards)
+        one b board.view (λ n at. rw add-zero at (are 0 n at)) (flat_map (lent mail from (from + q)) boards)
         (each (b + 1) boards (λ k n at. rw (place b k) (are (suc k) n at)))
 
 -- ---- what comes back of boards that are lent
 
-module _ (from to : ℕ) where
+-- what the board of a parcel has posted
+abbrev pub sent_of : Parcel → Sent
+sent_of p = sent_by p.pass
+
+-- all posts of some passes, one pass after another
+abbrev pub all_sent : List Parcel → List Post
+all_sent ps = flat_map (λ (s : Sent). s.posts) (map sent_of ps)
+
+module _ (mail : MailId) (from to : ℕ) where
   -- one board
   ran_is :
-      (v : View) → ran (parcel_of from to v) ≡ record {
+      (v : View) → ran (parcel_of mail from to v) ≡ record {
         board = record (granted from to v) { posts = [] };
         grant = used_up (fresh from to v.numbers.speed);
-        sent = (granted from to v).posts;
+        pass = record (new_pass mail v.numbers.number) { posted = (granted from to v).posts };
       }
   ran_is v =
       let whole : left (fresh from to v.numbers.speed) ≡ paid from to v.numbers.speed = omega arith in
@@ -177,29 +192,85 @@ module _ (from to : ℕ) where
   -- and all of them
   pub record Comes (boards : List Board) (ps : List Parcel) : Type 0 where
     pub back : each_by put_back (map away boards) ps ≡ map (stepped (granted from to)) boards
-    pub posts : flat_map (λ (p : Parcel). p.sent) ps ≡ flat_map (posts_made (granted from to)) boards
+    pub posts : all_sent ps ≡ flat_map (posts_made (granted from to)) boards
     pub entries : flat_map (λ (p : Parcel). p.board.entries) ps ≡ flat_map (entries_made (granted from to)) boards
     pub parts : map (part_of from to) boards ≡ map (λ (p : Parcel). unused p.grant) ps
     pub grants : each_by its_grant (map (part_of from to) boards) ps ≡ map used_up (map (part_of from to) boards)
+    pub mails : AllByRecursion (λ (p : Parcel). p.pass.mail ≡ mail) ps
     pub count : length ps ≡ length boards
 
-  pub come : (boards : List Board) → Planned boards → Comes boards (map ran (flat_map (lent from to) boards))
-  come [] all = record { back = refl; posts = refl; entries = refl; parts = refl; grants = refl; count = refl }
+  pub come : (boards : List Board) → Planned boards → Comes boards (map ran (flat_map (lent mail from to) boards))
+  come [] all =
+      record { back = refl; posts = refl; entries = refl; parts = refl; grants = refl; mails = tt; count = refl }
   come (board ∷ boards) all = one board.view all.0 (come boards all.1)
     where
       one :
           (o : Option View) → IsSome o →
-          Comes boards (map ran (flat_map (lent from to) boards)) →
+          Comes boards (map ran (flat_map (lent mail from to) boards)) →
           Comes (record { name = board.name; view = o } ∷ boards)
-          (map ran (flat_map (lent from to) (record { name = board.name; view = o } ∷ boards)))
+          (map ran (flat_map (lent mail from to) (record { name = board.name; view = o } ∷ boards)))
       one None some rest = absurd (cc)
       one (Some v) some rest =
           let is = ran_is v in
           record {
             back = λ i. record { name = board.name; view = Some (is i).board.view } ∷ rest.back i;
-            posts = λ i. (is i).sent ++ rest.posts i;
+            posts = λ i. (is i).pass.posted ++ rest.posts i;
             entries = λ i. (is i).board.entries ++ rest.entries i;
             parts = λ i. fresh from to v.numbers.speed ∷ rest.parts i;
             grants = λ i. (is i).grant ∷ rest.grants i;
+            mails = (refl, rest.mails);
             count = ap suc rest.count;
           }
+
+-- ---- the passes of a new mail
+
+pub count_of : (mail : MailId) (n : ℕ) → length (fresh_passes mail n) ≡ n
+count_of mail n = length-map (range_with_len 0 n) (new_pass mail) ∙ length-range_with_len 0 n
+
+-- each pass has its place as its board, and has posted nothing
+pub its_pass :
+    (mail : MailId) (count : ℕ) (pass : Pass) {passes : List Pass} {k n : ℕ} → n ≡ k → passes ≡ fresh_passes mail count →
+    k < length passes → pass ≡ get_or passes k pass → pass ≡ new_pass mail n
+its_pass mail count pass {k = k} {n = n} at are below here =
+    here ∙ ap (λ (l : List Pass). get_or l k pass) are
+    ∙ get_or-map-range_with_len (new_pass mail) 0 count k n pass
+    (omega (arith, below, ap length are, count_of mail count)) (omega (arith, at))
+
+-- ---- one pass more is taken in
+
+-- what holds of all parcels holds of the one at this place
+pub at_place :
+    (P : Parcel → Type 0) (items ps : List Parcel) (p : Parcel) → All P items → length ps < length items →
+    p ≡ get_or items (length ps) p → P p
+at_place P items ps p all below here = subst P (sym here) (all (length ps) p below)
+
+pub boss_more :
+    (ps : List Parcel) (p : Parcel) (first : Boss) {boss : Boss} →
+    boss ≡ record first { taken = first.taken ++ map sent_of ps } →
+    record boss { taken = boss.taken ++ sent_of p ∷ [] }
+    ≡ record first { taken = first.taken ++ map sent_of (ps ++ p ∷ []) }
+boss_more ps p first so_far =
+    ap (λ (b : Boss). record b { taken = b.taken ++ sent_of p ∷ [] }) so_far
+    ∙ ap (λ (sent : List Sent). record first { taken = sent })
+    (append_assoc first.taken (map sent_of ps) (sent_of p ∷ [])
+    ∙ ap (λ (sent : List Sent). first.taken ++ sent) (sym (map-append sent_of ps (p ∷ []))))
+
+-- in the end the boss has those of all parcels
+pub taken_are :
+    (ps : List Parcel) {first boss : Boss} → first.taken ≡ [] →
+    boss ≡ record first { taken = first.taken ++ map sent_of ps } → boss.taken ≡ map sent_of ps
+taken_are ps none is =
+    ap (λ (b : Boss). b.taken) is ∙ ap (λ (sent : List Sent). sent ++ map sent_of ps) none
+
+-- ---- the end
+
+-- where all are lent, none is left
+pub all_lent :
+    {A B : Type 0} (f : A → B) (xs : List A) (n : ℕ) → n ≡ length xs → map f (take n xs) ≡ map f xs
+all_lent f xs n all = ap (λ k. map f (take k xs)) all ∙ ap (map f) (take-length xs)
+
+pub none_stays : {A : Type 0} (f : A → A) (xs : List A) (n : ℕ) → n ≡ length xs →
+    map f (take n xs) ++ drop n xs ≡ map f xs
+none_stays f xs n all =
+    (λ i. all_lent f xs n all i ++ drop (all i) xs) ∙ ap (λ l. map f xs ++ l) (drop-length xs)
+    ∙ append-nil (map f xs)

@@ -1,6 +1,11 @@
 //! Boards that go to the workers of a round and come back.
-ghost use Rattle.std.specs.Prelude.{◌≡◌, ◌+◌, ◌*◌, ◌≤◌, [], true, map, length, All, None, IfOk, OnOk};
+ghost use Rattle.std.specs.Prelude.{◌≡◌, ◌+◌, ◌*◌, ◌≤◌, ◌++◌, [], true, map, length, All, None, IfOk, OnOk};
 ghost use Rattle.std.specs.List.{flat_map};
+ghost use Rattle.hub_mail.specs.Boss.{sent_by};
+ghost use Rattle.hub_mail.specs.Pass.{fresh_passes};
+ghost use Rattle.lab_num.specs.Key.{KeysDiffer};
+ghost use Rattle.lab_num.specs.Listing.{listing};
+ghost use Rattle.dev_core.specs.Post.{post_key};
 ghost use Rattle.log_merge.specs.Merge.{all_entries};
 ghost use Rattle.lab_state.specs.Inner.Lending.{lent, away, put_back, unused, each_by, its_grant};
 ghost use Rattle.lab_state.specs.Inner.End.{in_round};
@@ -9,8 +14,9 @@ ghost use Rattle.lab_state.specs.One.{first_without};
 ghost use Rattle.lab_state.specs.Round.{stepped, posts_made, entries_made};
 
 use crate::named_board::{Made, NamedBoard};
-use dev_core::Device;
+use dev_core::{Device, Entry};
 use floor_run::Gate;
+use hub_mail::{Boss, Mail, Pass, arrival_laws};
 use lab_num::{BoardNo, Micros, NoMemory};
 use parcel::{Parcel, run_parcels};
 use std::alloc::Global;
@@ -18,10 +24,13 @@ use std::sync::Wait;
 use std::thread::Threads;
 use time_source::Source;
 
-/// Lends every board for its part of the open grant, in order of board.
+/// Lends every board for its part of the open grant, in order of board, each with its pass of the
+/// boss's mail.
 pub(crate) fn lend_all<D: Device>(
     alloc: Global,
     boards: &mut [NamedBoard<D>],
+    boss: &Boss,
+    passes: Vec<Pass>,
     source: &Source,
     from: Micros,
     q: u64,
@@ -29,50 +38,57 @@ pub(crate) fn lend_all<D: Device>(
     requires within { from.0 + q ≤ 10000000000 }
     requires standing { AreStanding (1000 * from.0) (numbers_of boards.old) }
     requires few { length boards.old ≤ 16 }
+    requires passes { passes.items ≡ fresh_passes boss.now.mail (length boards.old) }
     requires opened { source.now.is_open ≡ true }
     requires parts { source.now.handles ≡ map (part_of from.0 (from.0 + q)) boards.old }
     ensures boards { OnOk result (boards.new ≡ map away boards.old) }
     ensures parcels { IfOk result (λ parcels.
-        parcels.items ≡ flat_map (lent from.0 (from.0 + q)) boards.old) }
+        parcels.items ≡ flat_map (lent boss.now.mail from.0 (from.0 + q)) boards.old) }
 {
     let mut parcels = Vec::new(alloc);
-    for (n, board) in boards.iter_mut().enumerate() {
+    let mut n = 0;
+    for pass in passes {
         let grant = source.handle(BoardNo(n as u8));
-        board.lend(alloc, grant, &mut parcels)?;
+        boards[n].lend(grant, pass, &mut parcels)?;
+        n += 1;
     }
     Ok(parcels)
 }
 
-/// Takes every board back that was lent, in order of board, with what it has made. The grants go back
-/// to the source, of which nothing was used while they were lent.
-pub(crate) fn take_all_back<D: Device>(
+/// Takes every board back that was lent, in order of board, with what it has noted and its pass. The
+/// grants go back to the source, of which nothing was used while they were lent.
+pub(crate) fn take_all_back<R: Wait, D: Device>(
+    rt: &R,
     alloc: Global,
     boards: &mut [NamedBoard<D>],
     source: &mut Source,
     parcels: Vec<Parcel<D>>,
-) -> Result<Made, NoMemory>
+    boss: &mut Boss,
+) -> Result<Vec<Vec<Entry>>, NoMemory>
     requires few { length boards.old ≤ 16 }
     requires count { length parcels.items ≡ length boards.old }
     requires opened { source.old.is_open ≡ true }
     requires parts { source.old.handles ≡ map (λ p. unused p.grant) parcels.items }
     requires quiet { All (λ p. p.board.posts ≡ []) parcels.items }
+    requires mail { All (λ p. p.pass.mail ≡ boss.old.mail) parcels.items }
     ensures source { OnOk result (source.new ≡ record source.old {
       handles = each_by its_grant source.old.handles parcels.items;
     }) }
     ensures boards { OnOk result (boards.new ≡ each_by put_back boards.old parcels.items) }
-    ensures posts { IfOk result (λ made.
-        made.posts.items ≡ flat_map (λ p. p.sent) parcels.items) }
-    ensures entries { IfOk result (λ made.
-        all_entries made.entries.items ≡ flat_map (λ p. p.board.entries) parcels.items) }
+    ensures posts { OnOk result (boss.new ≡ record boss.old {
+      taken = boss.old.taken ++ map (λ p. sent_by p.pass) parcels.items;
+    }) }
+    ensures entries { IfOk result (λ entries.
+        all_entries entries.items ≡ flat_map (λ p. p.board.entries) parcels.items) }
 {
-    let mut made = Made::new(alloc);
+    let mut entries = Vec::new(alloc);
     let mut n = 0;
     for parcel in parcels {
-        let grant = boards[n].take_back(parcel, &mut made)?;
+        let grant = boards[n].take_back(rt, parcel, boss, &mut entries)?;
         source.put(BoardNo(n as u8), grant);
         n += 1;
     }
-    Ok(made)
+    Ok(entries)
 }
 
 /// Who runs the boards of a round: so many workers, and the gate that they enter before each turn.
@@ -83,8 +99,8 @@ pub(crate) struct Crew<'a, R, G> {
     pub(crate) gate: &'a G,
 }
 
-/// Lends every board to the workers for the slots of its part of the open grant, and takes it back
-/// with what it has made.
+/// Lends every board to the workers for the slots of its part of the open grant, and takes it back.
+/// All that the boards have posted meanwhile is taken out of their mail.
 pub(crate) fn step_lent<R: Threads + Wait + Copy + Send + Sync, D: Device + Send, G: Gate>(
     crew: Crew<R, G>,
     alloc: Global,
@@ -97,17 +113,23 @@ pub(crate) fn step_lent<R: Threads + Wait + Copy + Send + Sync, D: Device + Send
     requires within { from.0 + q ≤ 10000000000 }
     requires plans { first_without boards.old ≡ None }
     requires standing { AreStanding (1000 * from.0) (numbers_of boards.old) }
+    requires some { 1 ≤ length boards.old }
     requires few { length boards.old ≤ 16 }
     requires opened { source.old.is_open ≡ true }
     requires parts { source.old.handles ≡ map (part_of from.0 (from.0 + q)) boards.old }
     ensures source { OnOk result (source.new ≡ record source.old { handles = map used_up source.old.handles }) }
     ensures boards { OnOk result (boards.new ≡ map (stepped (in_round from.0 q)) boards.old) }
-    ensures posts { IfOk result (λ made.
-        made.posts.items ≡ flat_map (posts_made (in_round from.0 q)) boards.old) }
+    ensures posts { IfOk result (λ made. listing post_key made.posts.items
+        ≡ listing post_key (flat_map (posts_made (in_round from.0 q)) boards.old)) }
+    ensures keys { IfOk result (λ made. KeysDiffer post_key made.posts.items) }
     ensures entries { IfOk result (λ made.
         all_entries made.entries.items ≡ flat_map (entries_made (in_round from.0 q)) boards.old) }
 {
-    let parcels = lend_all(alloc, boards, source, from, q)?;
+    arrival_laws();
+    let (mut boss, passes) = Mail::begin(crew.rt, alloc, boards.len() as u8)?;
+    let parcels = lend_all(alloc, boards, &boss, passes, source, from, q)?;
     let parcels = run_parcels(crew.rt, alloc, parcels, crew.workers, crew.gate)?;
-    take_all_back(alloc, boards, source, parcels)
+    let entries = take_all_back(crew.rt, alloc, boards, source, parcels, &mut boss)?;
+    let posts = boss.drain(crew.rt)?;
+    Ok(Made { posts, entries })
 }

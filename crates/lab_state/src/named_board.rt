@@ -1,7 +1,8 @@
 //! A board under its name.
-ghost use Rattle.std.specs.Prelude.{◌≡◌, ◌+◌, ◌≤◌, ◌<◌, ◌++◌, [], length, take, ℕ, IsTrue, Some, None};
+ghost use Rattle.std.specs.Prelude.{◌≡◌, ◌+◌, ◌≤◌, ◌<◌, ◌++◌, ◌∷◌, [], length, take, ℕ, IsTrue, Some, None};
 ghost use Rattle.std.specs.Prelude.{option_and_then, is_none, slice_get, IfOk, OnOk, OnErr};
 ghost use Rattle.std.specs.Option.{option_map, ForSome};
+ghost use Rattle.hub_mail.specs.Boss.{sent_by};
 ghost use Rattle.log_merge.specs.Merge.{all_entries};
 ghost use Rattle.board.specs.Changes.{with_bytes, with_speed, handed, holds_each};
 ghost use Rattle.board.specs.View.{quiet};
@@ -17,11 +18,13 @@ ghost use Rattle.lab_state.specs.Round.{granted, stepped, posts_made, entries_ma
 use crate::change::Change;
 use board::{Board, SlotAt, Turn};
 use dev_core::{Device, Entry, Kind, Payload, Post, Taken};
+use hub_mail::{Boss, Pass};
 use lab_num::{NoMemory, Text};
 use log_merge::Note;
 use parcel::Parcel;
 use std::alloc::Global;
 use std::marker::Model;
+use std::sync::Wait;
 use sys_bus::BoardPlan;
 use time_handle::Handle;
 
@@ -48,7 +51,7 @@ impl<D: Device> Model for NamedBoard<D> {
     ghost invariant = { λ n. n.board ≡ option_map (λ state. quiet state.view) n.board };
 }
 
-/// What the boards have made in a round, in order of the boards.
+/// What the boards have made in a round: the posts in any order, the entries in order of the boards.
 #[derive(Drop)]
 pub struct Made {
     pub posts: Vec<Post>,
@@ -128,31 +131,42 @@ fn step_board<D: Device>(
     taken
 }
 
-/// A board with a grant at its speed, as the workers take it.
-fn wrapped<D: Device>(alloc: Global, board: Board<D>, grant: Handle) -> Parcel<D>
+/// A board with a grant at its speed and a new pass, as the workers take it.
+fn wrapped<D: Device>(board: Board<D>, grant: Handle, pass: Pass) -> Parcel<D>
     requires within { grant.to ≤ 10000000000 }
     requires part { grant ≡ fresh grant.from grant.to board.view.numbers.speed }
     requires posts { board.view.numbers.posted ≤ 10000000000000 }
     requires entries { board.view.numbers.entered ≤ 10000000000000 }
-    ensures { result ≡ record { board = board; grant = grant; sent = [] } }
+    requires none { board.posts ≡ [] }
+    requires own { pass.board ≡ board.view.numbers.number }
+    requires new { pass.posted ≡ [] }
+    ensures { result ≡ record { board = board; grant = grant; pass = pass } }
 {
     // a grant has at most ten million million slots left
     let _left = grant.left();
-    Parcel::new(alloc, board, grant)
+    Parcel::new(board, grant, pass)
 }
 
-/// The board of a parcel and its grant, and what it has made put to the rest.
-fn unwrapped<D: Device>(parcel: Parcel<D>, made: &mut Made) -> Result<(Board<D>, Handle), NoMemory>
-    requires { parcel.board.posts ≡ [] }
+/// The board of a parcel and its grant. What the board has noted is put to the rest, and its pass is
+/// taken in.
+fn unwrapped<R: Wait, D: Device>(
+    rt: &R,
+    parcel: Parcel<D>,
+    boss: &mut Boss,
+    entries: &mut Vec<Vec<Entry>>,
+) -> Result<(Board<D>, Handle), NoMemory>
+    requires quiet { parcel.board.posts ≡ [] }
+    requires mail { parcel.pass.mail ≡ boss.old.mail }
     ensures board { IfOk result (λ both. both.0 ≡ quiet parcel.board.view) }
     ensures grant { IfOk result (λ both. both.1 ≡ parcel.grant) }
-    ensures posts { OnOk result (made.new.posts.items ≡ made.old.posts.items ++ parcel.sent) }
-    ensures entries { OnOk result (all_entries made.new.entries.items
-        ≡ all_entries made.old.entries.items ++ parcel.board.entries) }
+    ensures posts { boss.new
+        ≡ record boss.old { taken = boss.old.taken ++ sent_by parcel.pass ∷ [] } }
+    ensures entries { OnOk result (all_entries entries.new.items
+        ≡ all_entries entries.old.items ++ parcel.board.entries) }
 {
-    let (mut board, grant, mut sent) = parcel.into_parts();
-    made.posts.append(&mut sent)?;
-    made.entries.push(board.take_entries())?;
+    let (mut board, grant, pass) = parcel.into_parts();
+    boss.take_in(rt, pass);
+    entries.push(board.take_entries())?;
     Ok((board, grant))
 }
 
@@ -254,40 +268,49 @@ impl<D: Device> NamedBoard<D> {
         }
     }
 
-    /// Puts the board with a grant at the end of a list; its name stays. Without memory for that it
-    /// is lost. Where there is no board nothing is put there.
+    /// Puts the board with a grant and a new pass at the end of a list; its name stays. Without
+    /// memory for that it is lost. Where there is no board nothing is put there.
     pub fn lend(
         &mut self,
-        alloc: Global,
         grant: Handle,
+        pass: Pass,
         parcels: &mut Vec<Parcel<D>>,
     ) -> Result<(), NoMemory>
         requires within { grant.to ≤ 10000000000 }
         requires part { grant ≡ part_of grant.from grant.to self.old }
         requires made { ForSome self.old.view (λ v.
             (v.numbers.posted ≤ 10000000000000) × (v.numbers.entered ≤ 10000000000000)) }
+        requires own { ForSome self.old.view (λ v. pass.board ≡ v.numbers.number) }
+        requires new { pass.posted ≡ [] }
         ensures board { self.new ≡ away self.old }
         ensures parcels { OnOk result (parcels.new.items
-            ≡ parcels.old.items ++ lent grant.from grant.to self.old) }
+            ≡ parcels.old.items ++ lent pass.mail grant.from grant.to self.old) }
     {
         if let Some(board) = self.board.take() {
-            parcels.push(wrapped(alloc, board, grant))?;
+            parcels.push(wrapped(board, grant, pass))?;
         }
         Ok(())
     }
 
-    /// Puts a board back under the name, takes what it has made, and gives its grant back. Without
-    /// memory for that it is lost.
-    pub fn take_back(&mut self, parcel: Parcel<D>, made: &mut Made) -> Result<Handle, NoMemory>
-        requires { parcel.board.posts ≡ [] }
+    /// Puts a board back under the name, takes what it has noted and its pass, and gives its grant
+    /// back. Without memory for that it is lost.
+    pub fn take_back<R: Wait>(
+        &mut self,
+        rt: &R,
+        parcel: Parcel<D>,
+        boss: &mut Boss,
+        entries: &mut Vec<Vec<Entry>>,
+    ) -> Result<Handle, NoMemory>
+        requires quiet { parcel.board.posts ≡ [] }
+        requires mail { parcel.pass.mail ≡ boss.old.mail }
         ensures board { OnOk result (self.new ≡ put_back self.old parcel) }
         ensures grant { IfOk result (λ grant. grant ≡ parcel.grant) }
-        ensures posts { OnOk result (made.new.posts.items
-            ≡ made.old.posts.items ++ parcel.sent) }
-        ensures entries { OnOk result (all_entries made.new.entries.items
-            ≡ all_entries made.old.entries.items ++ parcel.board.entries) }
+        ensures posts { boss.new
+            ≡ record boss.old { taken = boss.old.taken ++ sent_by parcel.pass ∷ [] } }
+        ensures entries { OnOk result (all_entries entries.new.items
+            ≡ all_entries entries.old.items ++ parcel.board.entries) }
     {
-        let (board, grant) = unwrapped(parcel, made)?;
+        let (board, grant) = unwrapped(rt, parcel, boss, entries)?;
         self.fit(board);
         Ok(grant)
     }

@@ -172,11 +172,13 @@ fn step_boards<R: Threads + Wait + Copy + Send + Sync, D: Device + Send, G: Gate
     ensures source { OnOk result (source.new
         ≡ record source.old { handles = map used_up source.old.handles }) }
     ensures boards { OnOk result (boards.new ≡ map (stepped (in_round from.0 q)) boards.old) }
-    ensures posts { IfOk result (λ made.
-        made.posts.items ≡ flat_map (posts_made (in_round from.0 q)) boards.old) }
+    ensures posts { IfOk result (λ made. listing post_key made.posts.items
+        ≡ listing post_key (flat_map (posts_made (in_round from.0 q)) boards.old)) }
+    ensures keys { IfOk result (λ made. KeysDiffer post_key made.posts.items) }
     ensures entries { IfOk result (λ made. all_entries made.entries.items
         ≡ flat_map (entries_made (in_round from.0 q)) boards.old) }
 {
+    stretches_number();
     if crew.workers == 1 || boards.len() <= 1 {
         step_in_place(alloc, boards, source, from, q)
     } else {

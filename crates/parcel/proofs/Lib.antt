@@ -1,4 +1,5 @@
 -- Lemmas of parcel.
+pub mod PostLemmas
 pub mod RanLemmas
 pub mod SendLemmas
 pub mod SlotLemmas

@@ -7,10 +7,12 @@ use Rattle.dev_core.specs.declared.post.Post.{Post}
 use Rattle.board.specs.View.{View, State, quiet, after}
 use Rattle.board.specs.Stretch.{stretch}
 use Rattle.board.specs.Numbered.{IsNumbered}
+use Rattle.hub_mail.specs.Pass.{Pass}
 use Rattle.floor_core.specs.Job as job
 use Rattle.floor_core.specs.Job.{posts}
 use Rattle.time_handle.specs.Grant.{Grant, left}
-use Rattle.parcel.specs.Slots.{spent, stepped, next, slots_to_come, moved, moved_by, job_of, unposted, state_after}
+use Rattle.parcel.specs.Slots.{spent, stepped, next, slots_to_come, moved, moved_by, job_of, state_after}
+use Rattle.parcel.specs.Slots.{unposted, unused}
 
 -- a slot to come for each that is asked for
 pub length-coming : (v : View) (g : Grant) (n : ℕ) → length (slots_to_come v g n) ≡ n
@@ -100,10 +102,10 @@ coming-posts joins numbered v g (suc n) k posted entered =
 
 -- some slots of a board are those of its job
 pub turn_is :
-    Joins → AreAllNumbered → (b : State) (g : Grant) (n : ℕ) → n ≤ left g →
+    Joins → AreAllNumbered → (b : State) (g : Grant) (pass : Pass) (n : ℕ) → n ≤ left g →
     b.view.numbers.posted + n < 2 ^ 64 → b.view.numbers.entered + n < 2 ^ 64 →
-    job.after state_after (job_of b g) n ≡ job_of (stepped b g n) (spent g n)
-turn_is joins numbered b g n enough posted entered =
+    job.after state_after (job_of b g pass) n ≡ job_of (stepped b g n) (spent g n) pass
+turn_is joins numbered b g pass n enough posted entered =
     let all : left g ≡ n + (left g - n) = omega (arith, enough) in
     let rest : left g - n ≡ left (spent g n) = omega arith in
     let moves = moved_is joins (unposted b) g n in
@@ -117,4 +119,4 @@ turn_is joins numbered b g n enough posted entered =
     ap (λ (l : List Post). b.posts ++ l)
     (ap (λ (m : ℕ). posts (take n (slots_to_come b.view g m))) all ∙
     coming-posts joins numbered b.view g n (left g - n) posted entered) in
-    λ i. record { state = moves i; coming = coming_is i; unsent = unsent_is i }
+    λ i. record { state = (moves i, unused pass); coming = coming_is i; unsent = unsent_is i }

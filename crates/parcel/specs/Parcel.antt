@@ -1,11 +1,10 @@
--- A board with its grant.
-use Rattle.std.specs.Prelude.{List}
-use Rattle.dev_core.specs.declared.post.Post.{Post}
+-- A board with its grant and its pass.
 use Rattle.board.specs.View.{State}
 use Rattle.time_handle.specs.Grant.{Grant}
+use Rattle.hub_mail.specs.Pass.{Pass}
 
--- a board, the grant that pays its slots, and the posts of the board that were sent, oldest first
+-- a board, the grant that pays its slots, and the pass by which it posts
 pub record Parcel : Type 0 where
   pub board : State
   pub grant : Grant
-  pub sent : List Post
+  pub pass : Pass

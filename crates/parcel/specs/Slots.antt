@@ -4,6 +4,7 @@ use Rattle.dev_core.specs.declared.post.Post.{Post}
 use Rattle.board.specs.View.{View, State, after}
 use Rattle.board.specs.Stretch.{stretch}
 use Rattle.floor_core.specs.Job.{Job}
+use Rattle.hub_mail.specs.Pass.{Pass, fresh}
 use Rattle.time_handle.specs.Grant.{Grant, left}
 
 -- a grant of which so many slots more are used
@@ -27,10 +28,14 @@ slots_to_come v g (suc n) = slice_get (next v g).posts 0 ∷ slots_to_come (next
 abbrev pub unposted : State → State
 unposted b = record b { posts = [] }
 
--- the job of a board that has a grant
-abbrev pub job_of : State → Grant → Job (State × Grant)
-job_of b g = record {
-  state = (unposted b, g);
+-- a pass without what it has posted: its mail and its board
+abbrev pub unused : Pass → Pass
+unused pass = fresh pass.mail pass.board
+
+-- the job of a board that has a grant and a pass
+abbrev pub job_of : State → Grant → Pass → Job ((State × Grant) × Pass)
+job_of b g pass = record {
+  state = ((unposted b, g), unused pass);
   coming = slots_to_come b.view g (left g);
   unsent = b.posts;
 }
@@ -44,6 +49,6 @@ unfoldable pub moved_by : State × Grant → ℕ → State × Grant
 moved_by s zero = s
 moved_by s (suc n) = moved_by (moved s) n
 
--- the board and the grant say what comes; the list is not asked
-abbrev pub state_after : State × Grant → List (Option Post) → ℕ → State × Grant
-state_after s coming n = moved_by s n
+-- the board and the grant say what comes; the list is not asked. The pass stays that of its mail and board
+abbrev pub state_after : (State × Grant) × Pass → List (Option Post) → ℕ → (State × Grant) × Pass
+state_after s coming n = (moved_by s.0 n, s.1)

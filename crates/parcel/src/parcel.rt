@@ -1,47 +1,52 @@
-//! A board with its grant.
+//! A board with its grant and its pass.
 ghost use Rattle.std.specs.Prelude.{◌≡◌, ◌+◌, ◌<◌, ◌^◌, ◌++◌, List, [], IsTrue};
 ghost use Rattle.dev_core.specs.declared.post.Post as post;
+ghost use Rattle.parcel.specs.Inner.Posting.{MayPost};
 ghost use Rattle.time_handle.specs.Grant.{left as left_of};
 
 use crate::laws::turns_are_stretches;
 use board::{Board, SlotAt, Turn as Stretch, stretches_number};
 use dev_core::{Device, Post};
 use floor_core::{Job, Turn};
-use std::alloc::Global;
+use hub_mail::Pass;
 use std::marker::Model;
 use std::sync::Wait;
 use std::thread::Threads;
 use time_handle::Handle;
 
-/// A board, its grant, and the posts that it has sent itself.
+/// A board, its grant, and the pass by which its posts go out.
 #[derive(Drop)]
 pub struct Parcel<D: Device> {
     board: Board<D>,
     handle: Handle,
-    sent: Vec<Post>,
+    pass: Pass,
 }
 
 impl<D: Device> Model for Parcel<D> {
     ghost use Rattle.parcel.specs.Parcel.{Parcel};
+    ghost use Rattle.parcel.specs.Inner.Posting.{MayPost};
     ghost use Rattle.parcel.specs.Inner.Room.{IsPaid};
 
     ghost Value = { Parcel };
 
-    ghost view = { λ p. record { board = p.board; grant = p.handle; sent = p.sent.items } };
+    ghost view = { λ p. record { board = p.board; grant = p.handle; pass = p.pass } };
 
-    ghost invariant = { λ p. IsPaid p.board.view.numbers p.handle };
+    ghost invariant = { λ p. IsPaid p.board.view.numbers p.handle ×
+        MayPost p.board.view.numbers p.board.posts p.pass };
 }
 
-/// Moves the posts of a board to the end of a list, oldest first, and says whether all are there.
-fn send_posts<D: Device>(board: &mut Board<D>, sent: &mut Vec<Post>) -> bool
+/// Posts what a board has made and nobody has sent, oldest first, and says whether all is posted.
+fn send_posts<R: Wait, D: Device>(rt: &R, board: &mut Board<D>, pass: &mut Pass) -> bool
+    requires { MayPost board.old.view.numbers board.old.posts pass.old }
     ensures rest { board.new ≡ record board.old { posts = board.new.posts } }
     ensures front { (front : List post.Post) ×
         (board.old.posts ≡ front ++ board.new.posts) ×
-        (sent.new.items ≡ sent.old.items ++ front) }
+        (pass.new ≡ record pass.old { posted = pass.old.posted ++ front }) }
+    ensures may { MayPost board.new.view.numbers board.new.posts pass.new }
     ensures all { IsTrue result → board.new.posts ≡ [] }
 {
     while let Some(post) = board.next_post() {
-        let Ok(()) = sent.push(post) else {
+        let Ok(()) = pass.post(rt, post) else {
             return false;
         };
         board.drop_post();
@@ -51,17 +56,20 @@ fn send_posts<D: Device>(board: &mut Board<D>, sent: &mut Vec<Post>) -> bool
 
 impl<D: Device> Parcel<D> {
     /// A board that has a grant at its speed, and whose counts of posts and entries have room for
-    /// one of each slot that is left. It has sent nothing.
-    pub fn new(alloc: Global, board: Board<D>, handle: Handle) -> Parcel<D>
+    /// one of each slot that is left. All that it has made was taken, and its pass is new.
+    pub fn new(board: Board<D>, handle: Handle, pass: Pass) -> Parcel<D>
         requires speed { handle.speed ≡ board.view.numbers.speed }
         requires posts { board.view.numbers.posted + left_of handle < 2 ^ 64 }
         requires entries { board.view.numbers.entered + left_of handle < 2 ^ 64 }
-        ensures { result ≡ record { board = board; grant = handle; sent = [] } }
+        requires none { board.posts ≡ [] }
+        requires own { pass.board ≡ board.view.numbers.number }
+        requires new { pass.posted ≡ [] }
+        ensures { result ≡ record { board = board; grant = handle; pass = pass } }
     {
         Parcel {
             board,
             handle,
-            sent: Vec::new(alloc),
+            pass,
         }
     }
 
@@ -78,32 +86,25 @@ impl<D: Device> Parcel<D> {
         self.handle
     }
 
-    /// The posts that were sent, oldest first.
-    pub fn sent(&self) -> &[Post]
-        ensures { result.now ≡ self.now.sent }
-    {
-        &self.sent
-    }
-
-    /// The board, its grant, and the posts that were sent.
-    pub fn into_parts(self) -> (Board<D>, Handle, Vec<Post>)
+    /// The board, its grant, and its pass.
+    pub fn into_parts(self) -> (Board<D>, Handle, Pass)
         ensures board { result.0 ≡ self.board }
         ensures grant { result.1 ≡ self.grant }
-        ensures sent { result.2.items ≡ self.sent }
+        ensures pass { result.2 ≡ self.pass }
     {
-        (self.board, self.handle, self.sent)
+        (self.board, self.handle, self.pass)
     }
 }
 
 impl<D: Device + Send> Job for Parcel<D> {
     ghost use Rattle.parcel.specs.Slots as slots;
-    ghost use Rattle.parcel.specs.Inner.Moves.{moved-add, moved-none};
+    ghost use Rattle.parcel.specs.Inner.Moves.{state-add, state-none};
 
-    type State = (Board<D>, Handle);
+    type State = ((Board<D>, Handle), Pass);
 
-    ghost meaning = { λ p. slots.job_of p.board p.grant };
+    ghost meaning = { λ p. slots.job_of p.board p.grant p.pass };
 
-    ghost sent = { λ p. p.sent };
+    ghost sent = { λ p. p.pass.posted };
 
     ghost state_after = { slots.state_after };
 
@@ -139,11 +140,11 @@ impl<D: Device + Send> Job for Parcel<D> {
         self.board.drop_post();
     }
 
-    fn send_out<R: Threads + Wait + Copy + Send + Sync>(&mut self, _rt: &R) -> bool {
-        send_posts(&mut self.board, &mut self.sent)
+    fn send_out<R: Threads + Wait + Copy + Send + Sync>(&mut self, rt: &R) -> bool {
+        send_posts(rt, &mut self.board, &mut self.pass)
     }
 
-    ghost adds = { λ s _ a b _. moved-add s a b };
+    ghost adds = { λ s coming a b _. state-add s coming a b };
 
-    ghost rests = { λ s _. moved-none s };
+    ghost rests = { state-none };
 }

@@ -1,18 +1,24 @@
--- Boards that are lent to the workers of a round, each with its grant.
+-- Boards that are lent to the workers of a round, each with its grant and its pass.
 use Rattle.std.specs.Prelude.{ℕ, List, [], ◌∷◌, None, Some}
 use Rattle.std.specs.Option.{option_map_or}
 use Rattle.board.specs.View.{View, quiet}
+use Rattle.hub_mail.specs.Pass.{MailId, fresh as new_pass}
 use Rattle.time_handle.specs.Grant.{Grant, fresh}
 use Rattle.parcel.specs.Parcel.{Parcel}
 use Rattle.lab_state.specs.Board.{Board}
 
--- a board that has a plan, with its part of a grant of the time from one microsecond to another
-abbrev pub parcel_of : ℕ → ℕ → View → Parcel
-parcel_of from to v = record { board = quiet v; grant = fresh from to v.numbers.speed; sent = [] }
+-- a board that has a plan, with its part of a grant of the time from one microsecond to another, and with its pass of a
+-- mail
+abbrev pub parcel_of : MailId → ℕ → ℕ → View → Parcel
+parcel_of mail from to v = record {
+  board = quiet v;
+  grant = fresh from to v.numbers.speed;
+  pass = new_pass mail v.numbers.number;
+}
 
 -- what is lent of a board: nothing of one that has no plan
-abbrev pub lent : ℕ → ℕ → Board → List Parcel
-lent from to board = option_map_or (λ v. parcel_of from to v ∷ []) board.view []
+abbrev pub lent : MailId → ℕ → ℕ → Board → List Parcel
+lent mail from to board = option_map_or (λ v. parcel_of mail from to v ∷ []) board.view []
 
 -- what stays of a board that is lent
 abbrev pub away : Board → Board

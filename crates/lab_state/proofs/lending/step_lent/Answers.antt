@@ -1,14 +1,18 @@
--- What was lent comes back as the slots of the round have left it.
-use Rattle.std.proofs.Common.{◌≡◌, ◌∙◌, sym, ap, refl, ◌+◌, ◌<◌, ◌^◌, [], map, length, arith}
+-- What was lent comes back as the slots of the round have left it, and all that was posted is taken out.
+use Rattle.std.proofs.Common.{◌≡◌, ◌∙◌, sym, ap, refl, ◌+◌, ◌<◌, ◌^◌, [], ◌++◌, map, length, subst, arith}
 use Rattle.std.proofs.lemmas.List.{length-map}
-use Rattle.std.proofs.lemmas.List.Elements.{All-map, All-weaker}
-use Rattle.std.specs.List.{flat_map}
+use Rattle.std.proofs.lemmas.List.Elements.{All-from_recursion, All-map, All-weaker}
+use Rattle.std.specs.List.{flat_map, All}
+use Rattle.dev_core.specs.Post.{post_key}
+use Rattle.lab_num.specs.Listing.{listing}
+use Rattle.hub_mail.specs.declared.view.Sent.{Sent}
+use Rattle.hub_mail.specs.Boss.{Boss}
 use Rattle.parcel.specs.Parcel.{Parcel}
 use Rattle.parcel.specs.Ran.{ran}
 use Rattle.time_handle.specs.Grant.{left}
 use Rattle.lab_state.specs.Inner.Lending.{lent, away, put_back, each_by, its_grant, unused}
 use Rattle.lab_state.specs.Inner.Time.{used_up}
-use Rattle.lab_state.proofs.LendLemmas.{HasRoom, all_have_room, planned, come}
+use Rattle.lab_state.proofs.LendLemmas.{HasRoom, all_have_room, planned, come, sent_of, taken_are}
 use Rattle.lab_state.proofs.lending.step_lent.Goals as goal
 
 pub run_parcels-requires-clause-few : goal.run_parcels-requires-clause-few
@@ -16,11 +20,12 @@ run_parcels-requires-clause-few g c κs within =
     let boards = c.args.boards.now in
     let from = c.args.from.0 in
     let to = from + c.args.q in
+    let mail = c.in_ok-boss.boss.mail in
     omega (
       arith,
       ap length c.in_ok-parcels.ensures.parcels,
-      (come from to boards (planned boards c.requires.plans)).count,
-      length-map (flat_map (lent from to) boards) ran,
+      (come mail from to boards (planned boards c.requires.plans)).count,
+      length-map (flat_map (lent mail from to) boards) ran,
       c.requires.few,
     )
 
@@ -28,31 +33,31 @@ pub run_parcels-requires-clause-sent : goal.run_parcels-requires-clause-sent
 run_parcels-requires-clause-sent g c κs within =
     rw c.in_ok-parcels.ensures.parcels
     (All-weaker HasRoom (λ (p : Parcel). p.board.posts ≡ []) (λ p has. has.quiet) _
-    (all_have_room c.args.from.0 c.args.q c.requires.within c.args.boards.now c.requires.standing))
+    (all_have_room c.in_ok-boss.boss.mail c.args.from.0 c.args.q c.requires.within c.args.boards.now c.requires.standing))
 
 pub run_parcels-requires-clause-posts : goal.run_parcels-requires-clause-posts
 run_parcels-requires-clause-posts g c κs within =
     rw c.in_ok-parcels.ensures.parcels
     (All-weaker HasRoom (λ (p : Parcel). p.board.view.numbers.posted + left p.grant < 2 ^ 64) (λ p has. has.posts) _
-    (all_have_room c.args.from.0 c.args.q c.requires.within c.args.boards.now c.requires.standing))
+    (all_have_room c.in_ok-boss.boss.mail c.args.from.0 c.args.q c.requires.within c.args.boards.now c.requires.standing))
 
 pub run_parcels-requires-clause-entries : goal.run_parcels-requires-clause-entries
 run_parcels-requires-clause-entries g c κs within =
     rw c.in_ok-parcels.ensures.parcels
     (All-weaker HasRoom (λ (p : Parcel). p.board.view.numbers.entered + left p.grant < 2 ^ 64) (λ p has. has.entries) _
-    (all_have_room c.args.from.0 c.args.q c.requires.within c.args.boards.now c.requires.standing))
+    (all_have_room c.in_ok-boss.boss.mail c.args.from.0 c.args.q c.requires.within c.args.boards.now c.requires.standing))
 
 pub take_all_back-requires-clause-count : goal.take_all_back-requires-clause-count
 take_all_back-requires-clause-count g c =
     let boards = c.args.boards.now in
-    let comes = come c.args.from.0 (c.args.from.0 + c.args.q) boards (planned boards c.requires.plans) in
+    let comes = come c.in_ok-boss.boss.mail c.args.from.0 (c.args.from.0 + c.args.q) boards (planned boards c.requires.plans) in
     ap length (c.in_ok-parcels-2.ensures ∙ ap (map ran) c.in_ok-parcels.ensures.parcels) ∙ comes.count
     ∙ sym (ap length c.in_ok-parcels.ensures.boards ∙ length-map boards away)
 
 pub take_all_back-requires-clause-parts : goal.take_all_back-requires-clause-parts
 take_all_back-requires-clause-parts g c =
     let boards = c.args.boards.now in
-    let comes = come c.args.from.0 (c.args.from.0 + c.args.q) boards (planned boards c.requires.plans) in
+    let comes = come c.in_ok-boss.boss.mail c.args.from.0 (c.args.from.0 + c.args.q) boards (planned boards c.requires.plans) in
     c.requires.parts ∙ comes.parts
     ∙ sym
     (ap (map (λ (p : Parcel). unused p.grant))
@@ -66,35 +71,63 @@ take_all_back-requires-clause-quiet g c =
 pub returns-clause-source : goal.returns-clause-source
 returns-clause-source g c =
     let boards = c.args.boards.now in
-    let comes = come c.args.from.0 (c.args.from.0 + c.args.q) boards (planned boards c.requires.plans) in
+    let comes = come c.in_ok-boss.boss.mail c.args.from.0 (c.args.from.0 + c.args.q) boards (planned boards c.requires.plans) in
     let whole = c.in_ok-parcels-2.ensures ∙ ap (map ran) c.in_ok-parcels.ensures.parcels in
     let used : each_by its_grant c.args.source.now.handles c.in_ok-parcels-2.parcels.items
     ≡ map used_up c.args.source.now.handles =
     (λ k. each_by its_grant (c.requires.parts k) (whole k)) ∙ comes.grants ∙ sym (ap (map used_up) c.requires.parts) in
-    rw used at c.take_all_back.ensures.source
+    rw used at c.in_ok-entries.ensures.source
 
 pub returns-clause-boards : goal.returns-clause-boards
 returns-clause-boards g c =
     let boards = c.args.boards.now in
-    let comes = come c.args.from.0 (c.args.from.0 + c.args.q) boards (planned boards c.requires.plans) in
+    let comes = come c.in_ok-boss.boss.mail c.args.from.0 (c.args.from.0 + c.args.q) boards (planned boards c.requires.plans) in
     let whole = c.in_ok-parcels-2.ensures ∙ ap (map ran) c.in_ok-parcels.ensures.parcels in
     rw ((λ k. each_by put_back (c.in_ok-parcels.ensures.boards k) (whole k)) ∙ comes.back) at
-    c.take_all_back.ensures.boards
+    c.in_ok-entries.ensures.boards
+
+pub take_all_back-requires-clause-mail : goal.take_all_back-requires-clause-mail
+take_all_back-requires-clause-mail g c =
+    let boards = c.args.boards.now in
+    let comes = come c.in_ok-boss.boss.mail c.args.from.0 (c.args.from.0 + c.args.q) boards
+    (planned boards c.requires.plans) in
+    let whole = c.in_ok-parcels-2.ensures ∙ ap (map ran) c.in_ok-parcels.ensures.parcels in
+    let IsOurs : Parcel → Type 0 = λ (p : Parcel). p.pass.mail ≡ c.in_ok-boss.boss.mail in
+    subst (All IsOurs) (sym whole) (All-from_recursion IsOurs _ comes.mails)
+
+pub drain-requires : goal.drain-requires
+drain-requires g c =
+    let boards = c.args.boards.now in
+    let comes = come c.in_ok-boss.boss.mail c.args.from.0 (c.args.from.0 + c.args.q) boards
+    (planned boards c.requires.plans) in
+    let whole = c.in_ok-parcels-2.ensures ∙ ap (map ran) c.in_ok-parcels.ensures.parcels in
+    let taken = taken_are c.in_ok-parcels-2.parcels.items c.in_ok-boss.ensures.taken c.in_ok-entries.ensures.posts in
+    let count = ap (λ (b : Boss). b.count) c.in_ok-entries.ensures.posts ∙ c.in_ok-boss.ensures.count in
+    omega (
+      arith,
+      ap length taken,
+      length-map c.in_ok-parcels-2.parcels.items sent_of,
+      ap length whole,
+      comes.count,
+      count,
+      c.requires.few,
+    )
 
 pub returns-clause-posts : goal.returns-clause-posts
 returns-clause-posts g c =
     let boards = c.args.boards.now in
-    let comes = come c.args.from.0 (c.args.from.0 + c.args.q) boards (planned boards c.requires.plans) in
-    rw (ap (flat_map (λ (p : Parcel). p.sent))
-    (c.in_ok-parcels-2.ensures ∙ ap (map ran) c.in_ok-parcels.ensures.parcels)
-    ∙ comes.posts) at
-    c.take_all_back.ensures.posts
+    let comes = come c.in_ok-boss.boss.mail c.args.from.0 (c.args.from.0 + c.args.q) boards
+    (planned boards c.requires.plans) in
+    let whole = c.in_ok-parcels-2.ensures ∙ ap (map ran) c.in_ok-parcels.ensures.parcels in
+    let taken = taken_are c.in_ok-parcels-2.parcels.items c.in_ok-boss.ensures.taken c.in_ok-entries.ensures.posts in
+    c.arrival_laws.ensures.listing _ _ c.in_ok-posts.ensures.all c.in_ok-posts.ensures.keys
+    ∙ ap (listing post_key) (ap (flat_map (λ (s : Sent). s.posts)) (taken ∙ ap (map sent_of) whole) ∙ comes.posts)
 
 pub returns-clause-entries : goal.returns-clause-entries
 returns-clause-entries g c =
     let boards = c.args.boards.now in
-    let comes = come c.args.from.0 (c.args.from.0 + c.args.q) boards (planned boards c.requires.plans) in
+    let comes = come c.in_ok-boss.boss.mail c.args.from.0 (c.args.from.0 + c.args.q) boards (planned boards c.requires.plans) in
     rw (ap (flat_map (λ (p : Parcel). p.board.entries))
     (c.in_ok-parcels-2.ensures ∙ ap (map ran) c.in_ok-parcels.ensures.parcels)
     ∙ comes.entries) at
-    c.take_all_back.ensures.entries
+    c.in_ok-entries.ensures.entries

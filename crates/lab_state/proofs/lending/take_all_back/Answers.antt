@@ -1,12 +1,13 @@
 -- One board more is taken back.
-use Rattle.std.proofs.Common.{◌∙◌, sym, ap, refl, ◌<◌, [], ◌++◌, length, arith, rules}
-use Rattle.std.proofs.lemmas.List.{length-map, length_push, flat_map_more}
+use Rattle.std.proofs.Common.{◌≡◌, ◌∙◌, sym, ap, refl, ◌<◌, [], ◌++◌, length, arith, rules}
+use Rattle.std.proofs.lemmas.List.{append-nil, length-map, length_push, flat_map_more}
 use Rattle.std.proofs.lemmas.Iterator.Adapters.{YieldsList-from_vec}
 use Rattle.std.proofs.lemmas.Iterator.Consumers.{YieldsList-turn}
+use Rattle.hub_mail.specs.Boss.{Boss}
 use Rattle.parcel.specs.Parcel.{Parcel}
 use Rattle.time_source.specs.Tree.{Tree}
 use Rattle.lab_state.specs.Inner.Lending.{put_back, its_grant, unused}
-use Rattle.lab_state.proofs.LendLemmas.{none_by, length-by, came_later, source_more, boards_more}
+use Rattle.lab_state.proofs.LendLemmas.{at_place, boss_more, none_by, length-by, came_later, source_more, boards_more}
 use Rattle.lab_state.proofs.lending.take_all_back.Goals as goal
 
 pub loop-parcel-init : goal.loop-parcel-init
@@ -16,8 +17,9 @@ loop-parcel-init g c =
       n = refl;
       source = ap (λ handles. record source { handles = handles }) (sym (none_by its_grant source.handles));
       boards = sym (none_by put_back c.args.boards.now);
-      posts = c.new-made.ensures.posts;
-      entries = rw c.new-made.ensures.entries refl;
+      boss =
+          ap (λ sent. record c.args.boss.now { taken = sent }) (sym (append-nil c.args.boss.now.taken));
+      entries = rw c.new-entries.ensures.items refl;
     }
 
 pub put-requires-clause-member : goal.put-requires-clause-member
@@ -46,6 +48,25 @@ put-requires-clause-later g c =
     c.args.source.now.handles (ap (λ (t : Tree). t.handles) c.loop-parcel.invariant.source) c.requires.parts turn.0
     turn.1 c.in_ok-grant.ensures.grant
 
+pub take_back-requires-clause-quiet : goal.take_back-requires-clause-quiet
+take_back-requires-clause-quiet g c =
+    let turn = YieldsList-turn
+    (YieldsList-from_vec {s = c.into_iter-parcel-iterator.result} c.args.parcels.items (search rules) (search rules))
+    c.loop-parcel.yielded c.loop-parcel.parcel-iterator c.loop-parcel.yielded_by c.next.result c.next.new.self
+    c.in-Some.parcel c.in-Some.is c.next.ensures.steps in
+    at_place (λ (p : Parcel). p.board.posts ≡ []) c.args.parcels.items c.loop-parcel.yielded c.in-Some.parcel
+    c.requires.quiet turn.0 turn.1
+
+pub take_back-requires-clause-mail : goal.take_back-requires-clause-mail
+take_back-requires-clause-mail g c =
+    let turn = YieldsList-turn
+    (YieldsList-from_vec {s = c.into_iter-parcel-iterator.result} c.args.parcels.items (search rules) (search rules))
+    c.loop-parcel.yielded c.loop-parcel.parcel-iterator c.loop-parcel.yielded_by c.next.result c.next.new.self
+    c.in-Some.parcel c.in-Some.is c.next.ensures.steps in
+    at_place (λ (p : Parcel). p.pass.mail ≡ c.args.boss.now.mail) c.args.parcels.items c.loop-parcel.yielded
+    c.in-Some.parcel c.requires.mail turn.0 turn.1
+    ∙ sym (ap (λ (b : Boss). b.mail) c.loop-parcel.invariant.boss)
+
 pub loop-parcel-preserved : goal.loop-parcel-preserved
 loop-parcel-preserved g c =
     let turn = YieldsList-turn
@@ -70,9 +91,7 @@ loop-parcel-preserved g c =
       boards =
           boards_more ps p is.n c.args.boards.now c.index-boards-n.result is.boards
           (omega (arith, turn.0, c.requires.count)) c.in_ok-grant.ensures.board;
-      posts =
-          c.in_ok-grant.ensures.posts ∙ ap (λ posts. posts ++ p.sent) is.posts
-          ∙ flat_map_more (λ (p : Parcel). p.sent) [] ps p;
+      boss = c.in_ok-grant.ensures.posts ∙ boss_more ps p c.args.boss.now is.boss;
       entries =
           c.in_ok-grant.ensures.entries ∙ ap (λ entries. entries ++ p.board.entries) is.entries
           ∙ flat_map_more (λ (p : Parcel). p.board.entries) [] ps p;

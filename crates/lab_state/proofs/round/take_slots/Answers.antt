@@ -1,6 +1,6 @@
 -- The members use up their parts of a grant, and the keys of what the boards have made differ.
 use Rattle.std.proofs.Common.{◌∙◌, refl, Result, Ok, Err, OnOk}
-use Rattle.lab_state.proofs.RoundLemmas.{standing, speeds, posts_differ, entries_differ}
+use Rattle.lab_state.proofs.RoundLemmas.{standing, speeds, entries_differ}
 use Rattle.lab_state.proofs.TimeLemmas.{at_end, parts, done, timed-granted}
 use Rattle.lab_state.proofs.round.take_slots.Goals as goal
 
@@ -31,13 +31,6 @@ close-requires-clause-opened g c = rw (c.in_ok-made.ensures.source, c.grant.ensu
 pub close-requires-clause-done : goal.close-requires-clause-done
 close-requires-clause-done g c =
     rw (c.in_ok-made.ensures.source, c.grant.ensures) (done c.args.boards.now c.requires.timed c.args.q)
-
-pub in_order-requires-clause-posts : goal.in_order-requires-clause-posts
-in_order-requires-clause-posts g c =
-    let timed = c.requires.timed in
-    rw (c.in_ok-made.ensures.posts, c.elapsed-from.ensures.value ∙ at_end timed)
-    (posts_differ c.stretches_number.ensures c.args.source.now.end c.args.q c.requires.within c.args.boards.now
-    timed.standing)
 
 pub in_order-requires-clause-entries : goal.in_order-requires-clause-entries
 in_order-requires-clause-entries g c =

@@ -1,13 +1,20 @@
-use Rattle.std.proofs.Common.{◌≡◌, ◌++◌, ◌∷◌, List, [], None, slice_get, drop, ap, arith, rules}
-use Rattle.std.proofs.lemmas.Grind.{common_steps}
-use Rattle.std.proofs.lemmas.Option.{slice_get_cases}
-use Rattle.dev_core.specs.declared.post.Post.{Post}
+use Rattle.std.proofs.Common.{ap, rules}
 use Rattle.board.specs.View.{State}
-use Rattle.parcel.proofs.SendLemmas.{some_left, fewer_left, sent_more, kept_more, rest_kept}
+use Rattle.parcel.proofs.SendLemmas.{begins, fewer_left, goes, may_go, none_left, some_left}
 use Rattle.parcel.proofs.parcel.send_posts.Goals as goal
 
-none_left : (posts : List Post) → None ≡ slice_get posts 0 → posts ≡ []
-none_left posts is = grind (arith, common_steps, slice_get_cases posts 0)
+pub loop-post-init : goal.loop-post-init
+loop-post-init g c = begins c.args.board.now c.args.pass.now c.requires
+
+pub post-requires-clause-board : goal.post-requires-clause-board
+post-requires-clause-board g c =
+    (may_go c.args.board.now c.args.pass.now c.loop-post.board c.loop-post.pass c.in-Some.post c.in-Some.ensures
+    c.loop-post.invariant).0
+
+pub post-requires-clause-number : goal.post-requires-clause-number
+post-requires-clause-number g c =
+    (may_go c.args.board.now c.args.pass.now c.loop-post.board c.loop-post.pass c.in-Some.post c.in-Some.ensures
+    c.loop-post.invariant).1
 
 pub drop_post-requires : goal.drop_post-requires
 drop_post-requires g c = some_left c.loop-post.board.posts c.in-Some.post c.in-Some.ensures
@@ -19,24 +26,8 @@ loop-post-smaller g c =
 
 pub loop-post-preserved : goal.loop-post-preserved
 loop-post-preserved g c =
-    let was = c.loop-post.invariant.front in
-    record {
-      rest =
-          rest_kept c.args.board.now c.loop-post.board c.drop_post.new.self (drop 1 c.loop-post.board.posts)
-          c.loop-post.invariant.rest c.drop_post.ensures;
-      front = (
-        was.0 ++ c.in-Some.post ∷ [],
-        sent_more c.args.board.now.posts was.0 c.loop-post.board.posts c.drop_post.new.self.posts c.in-Some.post
-            was.1 c.in-Some.ensures (ap (λ (b : State). b.posts) c.drop_post.ensures),
-        kept_more c.args.sent.now.items c.loop-post.sent.items _ was.0 c.in-Some.post was.2 (search rules),
-      );
-    }
-
-pub returns-clause-rest : goal.returns-clause-rest
-returns-clause-rest g c = c.loop-post.invariant.rest
-
-pub returns-clause-front : goal.returns-clause-front
-returns-clause-front g c = c.loop-post.invariant.front
+    goes c.args.board.now c.args.pass.now c.loop-post.board c.loop-post.pass c.in-Some.post c.in-Some.ensures
+    c.loop-post.invariant c.drop_post.new.self c.post.new.self c.drop_post.ensures c.in-Ok.ensures.added
 
 -- no post is left
 pub returns-clause-all : goal.returns-clause-all
