@@ -6,5 +6,6 @@ pub mod SoundLemmas
 pub mod ChangeLemmas
 pub mod KeyLemmas
 pub mod TimeLemmas
+pub mod LendLemmas
 pub mod RoundLemmas
 pub mod RunLemmas

@@ -1,5 +1,5 @@
 -- What boards make in a round, and what handing over keeps.
-use Rattle.std.proofs.Common.{◌≡◌, ◌∙◌, sym, ap, refl, Bool, true, false, cond, not, ℕ, suc, ◌+◌, ◌-◌, ◌*◌, ◌^◌}
+use Rattle.std.proofs.Common.{◌≡◌, ◌∙◌, sym, ap, refl, Bool, true, false, cond, not, ℕ, suc, ◌+◌, ◌*◌, ◌^◌}
 use Rattle.std.proofs.Common.{◌<◌, ◌≤◌, List, [], ◌∷◌, ◌++◌, length, map, fold, find, unwrap_or, get_or, slice_get}
 use Rattle.std.proofs.Common.{Option, Some, None, take, drop, add-zero, zero-add, arith}
 use Rattle.std.specs.Prelude.{IsSome, is_none}
@@ -7,7 +7,6 @@ use Rattle.std.proofs.lemmas.List.{map-append}
 use Rattle.std.proofs.lemmas.List.Elements.{All-nil, All-filter, All-head, All-tail, All-weaker}
 use Rattle.std.proofs.lemmas.Grind.{common_steps}
 use Rattle.std.proofs.lemmas.Option.{slice_get_past, slice_get-map, slice_get-get_or}
-use Rattle.std.proofs.Math.Nat.{mul-le-mul_left}
 use Rattle.std.proofs.Math.Seq.{take-append_seam}
 use Rattle.std.specs.List.{flat_map, All, position}
 use Rattle.std.specs.Option.{option_map, option_map_or, ForSome}
@@ -35,6 +34,7 @@ use Rattle.lab_state.specs.Inner.Standing.{kind_of_outline, kind_in, IsDevice, A
 use Rattle.lab_state.specs.Inner.Time.{number_of, numbers_of, speed_of, IsStanding, StandsAt, AreStanding}
 use Rattle.lab_state.proofs.ListLemmas.{map-change, map-map_same, not_yet, position-map}
 use Rattle.lab_state.proofs.KeyLemmas.{Ascend, none_ascend, after_board}
+use Rattle.lab_state.proofs.TimeLemmas.{few_slots}
 use Rattle.lab_state.proofs.ChangeLemmas.{same_part, outline-view}
 
 -- ---- what handing over keeps
@@ -132,16 +132,11 @@ Numbering =
     IsNumbered v.numbers n (stretch v from a n)
 
 module _ (law : Numbering) (from q : ℕ) (within : from + q ≤ 10000000000) where
-  few : (speed : ℕ) → speed ≤ 1000 → paid from (from + q) speed ≤ 1000 * q
-  few speed fast =
-      let span : from + q - from ≡ q = omega arith in
-      rw span (omega (arith, mul-le-mul_left q fast))
-
   numbered :
       (b : ℕ) (v : View) → IsStanding (1000 * from) b v.numbers →
       IsNumbered v.numbers (paid from (from + q) v.numbers.speed) (in_round from q v)
   numbered b v is =
-      let count = few v.numbers.speed is.most_speed in
+      let count = few_slots from q v.numbers.speed is.most_speed in
       law v from 0 (paid from (from + q) v.numbers.speed) (omega (arith, count, is.few_posts))
       (omega (arith, count, is.few_entries))
 
@@ -150,7 +145,7 @@ module _ (law : Numbering) (from q : ℕ) (within : from + q ≤ 10000000000) wh
       IsStanding (1000 * (from + q)) b (in_round from q v).view.numbers
   stands b v is =
       let made = numbered b v is in
-      let count = few v.numbers.speed is.most_speed in
+      let count = few_slots from q v.numbers.speed is.most_speed in
       record {
         number = made.number ∙ is.number;
         least_speed = omega (arith, made.speed, is.least_speed);

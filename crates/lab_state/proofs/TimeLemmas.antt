@@ -1,6 +1,6 @@
 -- The members of the source of time are the boards.
-use Rattle.std.proofs.Common.{◌≡◌, ◌∙◌, sym, ap, refl, ℕ, ◌+◌, ◌*◌, ◌<◌, List, [], ◌∷◌, ◌++◌, length, map, set, get_or}
-use Rattle.std.proofs.Common.{false, take, drop, slice_get, Option, None, Some, arith}
+use Rattle.std.proofs.Common.{◌≡◌, ◌∙◌, sym, ap, refl, ℕ, ◌+◌, ◌-◌, ◌*◌, ◌<◌, ◌≤◌, List, [], ◌∷◌, ◌++◌, length}
+use Rattle.std.proofs.Common.{map, set, get_or, false, take, drop, slice_get, Option, None, Some, arith}
 use Rattle.std.specs.Prelude.{◌↔◌, IsNone, OnSome}
 use Rattle.lab_num.specs.declared.number.BoardNo.{BoardNo}
 use Rattle.std.proofs.lemmas.List.{length-map, map-append, map-set}
@@ -8,6 +8,8 @@ use Rattle.std.proofs.lemmas.List.Elements.{All-map}
 use Rattle.std.proofs.lemmas.Option.{slice_get-map, slice_get-get_or, same_Some}
 use Rattle.std.proofs.lemmas.Simd.{map-map}
 use Rattle.std.specs.Option.{option_map}
+use Rattle.std.proofs.Math.Nat.{mul-le-mul_left}
+use Rattle.lab_num.specs.Paid.{paid}
 use Rattle.board.specs.Numbers.{Numbers}
 use Rattle.time_handle.specs.Grant.{Grant, fresh, left}
 use Rattle.time_source.specs.Tree.{Tree, IsDone, elapsed, with_member, with_speed, granted}
@@ -18,6 +20,12 @@ use Rattle.lab_state.proofs.ListLemmas.{each-set, each-push, not_yet}
 
 abbrev speed : Grant → ℕ
 speed g = g.speed
+
+-- a board gets at most a thousand slots a microsecond
+pub few_slots : (from q speed : ℕ) → speed ≤ 1000 → paid from (from + q) speed ≤ 1000 * q
+few_slots from q speed fast =
+    let span : from + q - from ≡ q = omega arith in
+    rw span (omega (arith, mul-le-mul_left q fast))
 
 module _ {source : Tree} {numbers : List (Option Numbers)} (timed : IsTimed source numbers) where
   -- the time that has passed

@@ -3,6 +3,7 @@ pub mod Change
 pub mod End
 pub mod Fault
 pub mod Hubs
+pub mod Lending
 pub mod Spares
 pub mod Standing
 pub mod Time

@@ -1,4 +1,4 @@
-//! The laboratory: boards and the hubs between them, run round by round on one thread.
+//! The laboratory: boards and the hubs between them, run round by round by one worker or several.
 #![tactic(auto)]
 
 mod boards;
@@ -11,6 +11,7 @@ mod hub_list;
 mod hubs;
 mod lab;
 mod laws;
+mod lending;
 mod named_board;
 mod names;
 mod round;
@@ -19,5 +20,5 @@ mod spares;
 
 pub use faults::{AddFault, ConnectFault, FitFault, HubNameFault, LabFault, RunFault};
 pub use lab::Lab;
-pub use laws::{boundaries_agree, runs_end, runs_join, turns_agree};
+pub use laws::{any_workers_agree, boundaries_agree, runs_end, runs_join, turns_agree};
 pub use round::RoundLog;

@@ -9,6 +9,7 @@ ghost use Rattle.time_handle.specs.Grant.{fresh};
 ghost use Rattle.lab_state.specs.Boundary as boundary_spec;
 ghost use Rattle.lab_state.specs.Boundary.{note_by};
 ghost use Rattle.lab_state.specs.Inner.Change.{changed_by, MayChange};
+ghost use Rattle.lab_state.specs.Inner.Lending.{lent, away, put_back};
 ghost use Rattle.lab_state.specs.Inner.Time.{part_of};
 ghost use Rattle.lab_state.specs.One.{with_view};
 ghost use Rattle.lab_state.specs.Round.{granted, stepped, posts_made, entries_made};
@@ -18,6 +19,8 @@ use board::{Board, SlotAt, Turn};
 use dev_core::{Device, Entry, Kind, Payload, Post, Taken};
 use lab_num::{NoMemory, Text};
 use log_merge::Note;
+use parcel::Parcel;
+use std::alloc::Global;
 use std::marker::Model;
 use sys_bus::BoardPlan;
 use time_handle::Handle;
@@ -50,6 +53,18 @@ impl<D: Device> Model for NamedBoard<D> {
 pub struct Made {
     pub posts: Vec<Post>,
     pub entries: Vec<Vec<Entry>>,
+}
+
+impl Made {
+    pub fn new(alloc: Global) -> Made
+        ensures posts { result.posts.items ≡ [] }
+        ensures entries { result.entries.items ≡ [] }
+    {
+        Made {
+            posts: Vec::new(alloc),
+            entries: Vec::new(alloc),
+        }
+    }
 }
 
 /// Moves the posts of a board to the end of a list. Without memory for them they are lost.
@@ -111,6 +126,34 @@ fn step_board<D: Device>(
     made.entries.push(board.take_entries())?;
     stepped?;
     taken
+}
+
+/// A board with a grant at its speed, as the workers take it.
+fn wrapped<D: Device>(alloc: Global, board: Board<D>, grant: Handle) -> Parcel<D>
+    requires within { grant.to ≤ 10000000000 }
+    requires part { grant ≡ fresh grant.from grant.to board.view.numbers.speed }
+    requires posts { board.view.numbers.posted ≤ 10000000000000 }
+    requires entries { board.view.numbers.entered ≤ 10000000000000 }
+    ensures { result ≡ record { board = board; grant = grant; sent = [] } }
+{
+    // a grant has at most ten million million slots left
+    let _left = grant.left();
+    Parcel::new(alloc, board, grant)
+}
+
+/// The board of a parcel and its grant, and what it has made put to the rest.
+fn unwrapped<D: Device>(parcel: Parcel<D>, made: &mut Made) -> Result<(Board<D>, Handle), NoMemory>
+    requires { parcel.board.posts ≡ [] }
+    ensures board { IfOk result (λ both. both.0 ≡ quiet parcel.board.view) }
+    ensures grant { IfOk result (λ both. both.1 ≡ parcel.grant) }
+    ensures posts { OnOk result (made.new.posts.items ≡ made.old.posts.items ++ parcel.sent) }
+    ensures entries { OnOk result (all_entries made.new.entries.items
+        ≡ all_entries made.old.entries.items ++ parcel.board.entries) }
+{
+    let (mut board, grant, mut sent) = parcel.into_parts();
+    made.posts.append(&mut sent)?;
+    made.entries.push(board.take_entries())?;
+    Ok((board, grant))
 }
 
 /// What the log notes of a payload that a shown device was handed and answered so.
@@ -209,6 +252,44 @@ impl<D: Device> NamedBoard<D> {
             Some(board) => step_board(board, grant, made),
             None => Ok(()),
         }
+    }
+
+    /// Puts the board with a grant at the end of a list; its name stays. Without memory for that it
+    /// is lost. Where there is no board nothing is put there.
+    pub fn lend(
+        &mut self,
+        alloc: Global,
+        grant: Handle,
+        parcels: &mut Vec<Parcel<D>>,
+    ) -> Result<(), NoMemory>
+        requires within { grant.to ≤ 10000000000 }
+        requires part { grant ≡ part_of grant.from grant.to self.old }
+        requires made { ForSome self.old.view (λ v.
+            (v.numbers.posted ≤ 10000000000000) × (v.numbers.entered ≤ 10000000000000)) }
+        ensures board { self.new ≡ away self.old }
+        ensures parcels { OnOk result (parcels.new.items
+            ≡ parcels.old.items ++ lent grant.from grant.to self.old) }
+    {
+        if let Some(board) = self.board.take() {
+            parcels.push(wrapped(alloc, board, grant))?;
+        }
+        Ok(())
+    }
+
+    /// Puts a board back under the name, takes what it has made, and gives its grant back. Without
+    /// memory for that it is lost.
+    pub fn take_back(&mut self, parcel: Parcel<D>, made: &mut Made) -> Result<Handle, NoMemory>
+        requires { parcel.board.posts ≡ [] }
+        ensures board { OnOk result (self.new ≡ put_back self.old parcel) }
+        ensures grant { IfOk result (λ grant. grant ≡ parcel.grant) }
+        ensures posts { OnOk result (made.new.posts.items
+            ≡ made.old.posts.items ++ parcel.sent) }
+        ensures entries { OnOk result (all_entries made.new.entries.items
+            ≡ all_entries made.old.entries.items ++ parcel.board.entries) }
+    {
+        let (board, grant) = unwrapped(parcel, made)?;
+        self.fit(board);
+        Ok(grant)
     }
 
     /// Hands a payload to a device of the board, and gives what the log notes of it.

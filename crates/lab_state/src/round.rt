@@ -1,6 +1,6 @@
 //! One round: every board takes the slots that its grant pays, and then what they have sent is
 //! handed over.
-ghost use Rattle.std.specs.Prelude.{◌≡◌, ◌+◌, ◌*◌, ◌<◌, ◌≤◌, ◌++◌, map, length, true, false, IfOk, OnOk, OnErr};
+ghost use Rattle.std.specs.Prelude.{◌≡◌, ◌+◌, ◌*◌, ◌<◌, ◌≤◌, ◌++◌, map, length, true, false, None, IfOk, OnOk, OnErr};
 ghost use Rattle.std.specs.Option.{option_map};
 ghost use Rattle.std.specs.List.{flat_map};
 ghost use Rattle.lab_num.specs.Key.{KeysDiffer};
@@ -10,7 +10,7 @@ ghost use Rattle.log_merge.specs.Merge.{all_entries};
 ghost use Rattle.lab_state.specs.Inner.End.{Played, in_round, played};
 ghost use Rattle.lab_state.specs.Inner.Standing.{outlines, AreDevices};
 ghost use Rattle.lab_state.specs.Inner.Time.{numbers_of, AreStanding, IsTimed, part_of, used_up};
-ghost use Rattle.lab_state.specs.One.{HaveAllPlans};
+ghost use Rattle.lab_state.specs.One.{first_without, HaveAllPlans};
 ghost use Rattle.lab_state.specs.Round as round_spec;
 ghost use Rattle.lab_state.specs.Round.{stepped, posts_made, entries_made, slot_items};
 
@@ -18,6 +18,7 @@ use crate::boundary::{hand_over_all, pause_of, push_pause};
 use crate::faults::LabFault;
 use crate::hub_list::HubList;
 use crate::lab::Lab;
+use crate::lending::{Crew, step_lent};
 use crate::named_board::{Made, NamedBoard};
 use board::{stretches_keep_plans, stretches_number};
 use dev_core::{Device, Entry, Post};
@@ -123,14 +124,77 @@ fn in_order(alloc: Global, made: Made) -> Result<Slots, NoMemory>
     Ok(Slots { posts, items })
 }
 
+/// Gives every board the slots of its part of the open grant in its place, and takes what they have
+/// made.
+fn step_in_place<D: Device>(
+    alloc: Global,
+    boards: &mut [NamedBoard<D>],
+    source: &mut Source,
+    from: Micros,
+    q: u64,
+) -> Result<Made, NoMemory>
+    requires within { from.0 + q ≤ 10000000000 }
+    requires standing { AreStanding (1000 * from.0) (numbers_of boards.old) }
+    requires few { length boards.old ≤ 16 }
+    requires opened { source.old.is_open ≡ true }
+    requires parts { source.old.handles ≡ map (part_of from.0 (from.0 + q)) boards.old }
+    ensures source { OnOk result (source.new
+        ≡ record source.old { handles = map used_up source.old.handles }) }
+    ensures boards { OnOk result (boards.new ≡ map (stepped (in_round from.0 q)) boards.old) }
+    ensures posts { IfOk result (λ made.
+        made.posts.items ≡ flat_map (posts_made (in_round from.0 q)) boards.old) }
+    ensures entries { IfOk result (λ made. all_entries made.entries.items
+        ≡ flat_map (entries_made (in_round from.0 q)) boards.old) }
+{
+    let mut made = Made::new(alloc);
+    step_all(boards, source, from, q, &mut made)?;
+    use_up(source, boards.len());
+    Ok(made)
+}
+
+/// Gives every board the slots of its part of the open grant, and takes what they have made. One
+/// worker needs no thread, and one board no second worker: then the boards stay where they are.
+fn step_boards<R: Threads + Wait + Copy + Send + Sync, D: Device + Send, G: Gate>(
+    crew: Crew<R, G>,
+    alloc: Global,
+    boards: &mut [NamedBoard<D>],
+    source: &mut Source,
+    from: Micros,
+    q: u64,
+) -> Result<Made, NoMemory>
+    requires workers { (1 ≤ crew.workers) × (crew.workers ≤ 8) }
+    requires within { from.0 + q ≤ 10000000000 }
+    requires plans { first_without boards.old ≡ None }
+    requires standing { AreStanding (1000 * from.0) (numbers_of boards.old) }
+    requires few { length boards.old ≤ 16 }
+    requires opened { source.old.is_open ≡ true }
+    requires parts { source.old.handles ≡ map (part_of from.0 (from.0 + q)) boards.old }
+    ensures source { OnOk result (source.new
+        ≡ record source.old { handles = map used_up source.old.handles }) }
+    ensures boards { OnOk result (boards.new ≡ map (stepped (in_round from.0 q)) boards.old) }
+    ensures posts { IfOk result (λ made.
+        made.posts.items ≡ flat_map (posts_made (in_round from.0 q)) boards.old) }
+    ensures entries { IfOk result (λ made. all_entries made.entries.items
+        ≡ flat_map (entries_made (in_round from.0 q)) boards.old) }
+{
+    if crew.workers == 1 || boards.len() <= 1 {
+        step_in_place(alloc, boards, source, from, q)
+    } else {
+        step_lent(crew, alloc, boards, source, from, q)
+    }
+}
+
 /// Grants the boards `q` microseconds, and takes what they have made.
-fn take_slots<D: Device>(
+fn take_slots<R: Threads + Wait + Copy + Send + Sync, D: Device + Send, G: Gate>(
+    crew: Crew<R, G>,
     alloc: Global,
     boards: &mut [NamedBoard<D>],
     source: &mut Source,
     q: u64,
 ) -> Result<Slots, NoMemory>
     requires within { source.old.end + q ≤ 10000000000 }
+    requires workers { (1 ≤ crew.workers) × (crew.workers ≤ 8) }
+    requires plans { first_without boards.old ≡ None }
     requires few { length boards.old ≤ 16 }
     requires timed { IsTimed source.old (numbers_of boards.old) }
     ensures end { OnOk result (source.new.end ≡ source.old.end + q) }
@@ -143,14 +207,9 @@ fn take_slots<D: Device>(
         ≡ slot_items (in_round source.old.end q) boards.old) }
 {
     stretches_number();
-    let mut made = Made {
-        posts: Vec::new(alloc),
-        entries: Vec::new(alloc),
-    };
     let from = source.elapsed();
     source.grant(q);
-    step_all(boards, source, from, q, &mut made)?;
-    use_up(source, boards.len());
+    let made = step_boards(crew, alloc, boards, source, from, q)?;
     source.close();
     in_order(alloc, made)
 }
@@ -176,14 +235,17 @@ fn push_end(
 }
 
 /// Runs the boards for a round of `q` microseconds, and hands over what they have sent.
-fn play<D: Device>(
+fn play<R: Threads + Wait + Copy + Send + Sync, D: Device + Send, G: Gate>(
+    crew: Crew<R, G>,
     alloc: Global,
     boards: &mut [NamedBoard<D>],
     source: &mut Source,
     hubs: &HubList,
     q: u64,
 ) -> Result<RoundLog, NoMemory>
+    requires workers { (1 ≤ crew.workers) × (crew.workers ≤ 8) }
     requires within { source.old.end + q ≤ 10000000000 }
+    requires plans { first_without boards.old ≡ None }
     requires few { length boards.old ≤ 16 }
     requires timed { IsTimed source.old (numbers_of boards.old) }
     requires devices { AreDevices (outlines boards.old) hubs.now }
@@ -195,7 +257,7 @@ fn play<D: Device>(
         (played source.old.end q hubs.now boards.old)) }
 {
     stretches_keep_plans();
-    let Slots { posts, mut items } = take_slots(alloc, boards, source, q)?;
+    let Slots { posts, mut items } = take_slots(crew, alloc, boards, source, q)?;
     let at = source.elapsed();
     let notes = hand_over_all(alloc, boards, hubs, &posts, at)?;
     let pause = pause_of(&posts);
@@ -210,10 +272,10 @@ impl<D: Device + Send> Lab<D> {
     /// Runs one round of `q` microseconds. `LabFault::Memory` spends the laboratory.
     pub fn round<R: Threads + Wait + Copy + Send + Sync, G: Gate>(
         &mut self,
-        _rt: &R,
+        rt: &R,
         q: u64,
         workers: u8,
-        _gate: &G,
+        gate: &G,
     ) -> Result<RoundLog, LabFault>
         requires some { 0 < q }
         requires workers { (1 ≤ workers) × (workers ≤ 8) }
@@ -231,7 +293,9 @@ impl<D: Device + Send> Lab<D> {
         if self.spent {
             return Err(LabFault::Memory);
         }
+        let crew = Crew { rt, workers, gate };
         let Ok(log) = play(
+            crew,
             self.alloc,
             &mut self.boards,
             &mut self.source,

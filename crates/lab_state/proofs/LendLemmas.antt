@@ -1,0 +1,205 @@
+-- Boards that are lent come back as their slots have left them.
+use Rattle.std.proofs.Common.{◌≡◌, ◌∙◌, sym, ap, refl, ℕ, suc, ◌+◌, ◌*◌, ◌^◌, ◌<◌, ◌≤◌, List, [], ◌∷◌, ◌++◌, length}
+use Rattle.std.proofs.Common.{map, set, get_or, slice_get, Option, Some, None, false, add-zero, zero-add, arith}
+use Rattle.std.proofs.lemmas.Bool.Decides.{nat_tests}
+use Rattle.std.proofs.lemmas.Grind.{common_steps}
+use Rattle.std.proofs.lemmas.List.Elements.{All-from_recursion, All-head, All-tail}
+use Rattle.std.proofs.lemmas.List.Sums.{fails_before_first}
+use Rattle.std.proofs.lemmas.Option.{slice_get-map, slice_get-get_or, same_Some}
+use Rattle.std.specs.Prelude.{is_none, IsSome}
+use Rattle.std.specs.List.{flat_map, All, AllByRecursion, position_or_len}
+use Rattle.std.specs.Option.{option_map, option_map_or}
+use Rattle.lab_num.specs.Paid.{paid}
+use Rattle.board.specs.View.{View}
+use Rattle.parcel.specs.Parcel.{Parcel}
+use Rattle.parcel.specs.Ran.{ran}
+use Rattle.time_handle.specs.Grant.{Grant, fresh, left}
+use Rattle.time_source.specs.Tree.{Tree, IsLater}
+use Rattle.lab_state.specs.Board.{Board}
+use Rattle.lab_state.specs.One.{first_without}
+use Rattle.lab_state.specs.Round.{granted, stepped, posts_made, entries_made}
+use Rattle.lab_state.specs.Inner.Lending.{parcel_of, lent, away, put_back, unused, each_by, its_grant}
+use Rattle.lab_state.specs.Inner.Time.{part_of, used_up, numbers_of, StandsAt, AreStanding}
+use Rattle.lab_state.proofs.TimeLemmas.{few_slots}
+
+-- ---- items changed one after another
+
+module _ {A P : Type 0} (f : A → P → A) where
+  -- the item that comes next is as it was
+  pub next_by : (xs : List A) (ps : List P) (d : A) → get_or (each_by f xs ps) (length ps) d ≡ get_or xs (length ps) d
+  next_by [] ps d = refl
+  next_by (x ∷ xs) [] d = refl
+  next_by (x ∷ xs) (p ∷ ps) d = next_by xs ps d
+
+  pub next_at : (xs : List A) (ps : List P) → slice_get (each_by f xs ps) (length ps) ≡ slice_get xs (length ps)
+  next_at [] ps = refl
+  next_at (x ∷ xs) [] = refl
+  next_at (x ∷ xs) (p ∷ ps) = next_at xs ps
+
+  -- and then one item more is changed
+  pub by_more :
+      (xs : List A) (ps : List P) (p : P) (d : A) → length ps < length xs →
+      set (each_by f xs ps) (length ps) (f (get_or xs (length ps) d) p) ≡ each_by f xs (ps ++ p ∷ [])
+  by_more [] ps p d below = absurd (omega arith)
+  by_more (x ∷ []) [] p d below = refl
+  by_more (x ∷ y ∷ xs) [] p d below = refl
+  by_more (x ∷ xs) (q ∷ ps) p d below = ap (λ ys. f x q ∷ ys) (by_more xs ps p d (omega arith))
+
+  pub length-by : (xs : List A) (ps : List P) → length (each_by f xs ps) ≡ length xs
+  length-by [] ps = refl
+  length-by (x ∷ xs) [] = refl
+  length-by (x ∷ xs) (p ∷ ps) = ap suc (length-by xs ps)
+
+  -- by nothing, nothing
+  pub none_by : (xs : List A) → each_by f xs [] ≡ xs
+  none_by [] = refl
+  none_by (x ∷ xs) = refl
+
+-- ---- one parcel more
+
+module _ (ps : List Parcel) (p : Parcel) {n : ℕ} (at : n ≡ length ps) where
+  -- its grant is that of the member, of which nothing was used before
+  pub came_later :
+      (items : List Parcel) (first : List Grant) {handles : List Grant} {grant : Grant} →
+      handles ≡ each_by its_grant first ps → first ≡ map (λ (p : Parcel). unused p.grant) items →
+      length ps < length items → p ≡ get_or items (length ps) p → grant ≡ p.grant → (old : Grant) →
+      slice_get handles n ≡ Some old → IsLater old grant
+  came_later items first so_far parts below here given old found =
+      let free : Parcel → Grant = λ (p : Parcel). unused p.grant in
+      let is : old ≡ unused p.grant =
+      same_Some old (unused p.grant)
+      (sym found ∙ (λ k. slice_get (so_far k) (at k)) ∙ next_at its_grant first ps
+      ∙ ap (λ (gs : List Grant). slice_get gs (length ps)) parts ∙ slice_get-map free items (length ps)
+      ∙ ap (option_map free) (slice_get-get_or items (length ps) p below)
+      ∙ ap (λ (q : Parcel). Some (free q)) (sym here))
+      in
+      rw (is, given) (record { from = refl; to = refl; speed = refl; used = omega arith })
+
+  pub source_more :
+      (first : Tree) {source next : Tree} {grant : Grant} →
+      source ≡ record first { handles = each_by its_grant first.handles ps } → length ps < length first.handles →
+      grant ≡ p.grant → next ≡ record source { handles = set source.handles n grant } →
+      next ≡ record first { handles = each_by its_grant first.handles (ps ++ p ∷ []) }
+  source_more first {grant = grant} so_far below given placed =
+      placed ∙ (λ k. record (so_far k) { handles = set (so_far k).handles (at k) (given k) })
+      ∙ ap (λ (handles : List Grant). record first { handles = handles })
+      (by_more its_grant first.handles ps p grant below)
+
+  pub boards_more :
+      (first : List Board) {boards : List Board} (item : Board) {new : Board} → boards ≡ each_by put_back first ps →
+      length ps < length first → new ≡ put_back (get_or boards n item) p →
+      set boards n new ≡ each_by put_back first (ps ++ p ∷ [])
+  boards_more first item so_far below made =
+      let same = made ∙ (λ k. put_back (get_or (so_far k) (at k) item) p)
+      ∙ ap (λ (board : Board). put_back board p) (next_by put_back first ps item) in
+      (λ k. set (so_far k) (at k) (same k)) ∙ by_more put_back first ps p item below
+
+-- ---- all boards have plans
+
+abbrev pub Planned : List Board → Type 0
+Planned boards = AllByRecursion (λ board. IsSome board.view) boards
+
+pub planned : (boards : List Board) → first_without boards ≡ None → Planned boards
+planned boards none =
+    let past : length boards ≤ position_or_len (λ (board : Board). is_none board.view) boards =
+    grind (arith, nat_tests, none) in
+    each boards
+    (λ k d below. fails_before_first (λ (board : Board). is_none board.view) boards k d (omega (arith, past, below)))
+  where
+    some : (o : Option View) → is_none o ≡ false → IsSome o
+    some o is = grind (arith, common_steps)
+
+    each : (boards : List Board) → All (λ (board : Board). is_none board.view ≡ false) boards → Planned boards
+    each [] all = tt
+    each (board ∷ boards) all = (
+      some board.view (All-head (λ (board : Board). is_none board.view ≡ false) board boards all),
+      each boards (All-tail (λ (board : Board). is_none board.view ≡ false) board boards all),
+    )
+
+-- ---- a board that is lent has room for what it makes
+
+pub record HasRoom (p : Parcel) : Type 0 where
+  pub quiet : p.board.posts ≡ []
+  pub posts : p.board.view.numbers.posted + left p.grant < 2 ^ 64
+  pub entries : p.board.view.numbers.entered + left p.grant < 2 ^ 64
+
+pub all_have_room :
+    (from q : ℕ) → from + q ≤ 10000000000 → (boards : List Board) →
+    AreStanding (1000 * from) (numbers_of boards) → All HasRoom (flat_map (lent from (from + q)) boards)
+all_have_room from q within boards are =
+    All-from_recursion HasRoom (flat_map (lent from (from + q)) boards)
+    (each 0 boards (λ k n at. rw zero-add (are k n at)))
+  where
+    place : (b k : ℕ) → b + 1 + k ≡ b + suc k
+    place b k = omega arith
+
+    one :
+        (b : ℕ) (o : Option View) → StandsAt (1000 * from) b (Some (option_map (λ v. v.numbers) o)) →
+        (ps : List Parcel) → AllByRecursion HasRoom ps →
+        AllByRecursion HasRoom (option_map_or (λ v. parcel_of from (from + q) v ∷ []) o [] ++ ps)
+    one b None is ps rest = rest
+    one b (Some v) is ps rest =
+        let own = is v.numbers refl in
+        let count = few_slots from q v.numbers.speed own.most_speed in (
+          record {
+            quiet = refl;
+            posts = omega (arith, count, own.few_posts, within);
+            entries = omega (arith, count, own.few_entries, within);
+          },
+          rest,
+        )
+
+    each :
+        (b : ℕ) (boards : List Board) →
+        ((k : ℕ) → StandsAt (1000 * from) (b + k) (slice_get (numbers_of boards) k)) →
+        AllByRecursion HasRoom (flat_map (lent from (from + q)) boards)
+    each b [] are = tt
+    each b (board ∷ boards) are =
+        one b board.view (λ n at. rw add-zero at (are 0 n at)) (flat_map (lent from (from + q)) boards)
+        (each (b + 1) boards (λ k n at. rw (place b k) (are (suc k) n at)))
+
+-- ---- what comes back of boards that are lent
+
+module _ (from to : ℕ) where
+  -- one board
+  ran_is :
+      (v : View) → ran (parcel_of from to v) ≡ record {
+        board = record (granted from to v) { posts = [] };
+        grant = used_up (fresh from to v.numbers.speed);
+        sent = (granted from to v).posts;
+      }
+  ran_is v =
+      let whole : left (fresh from to v.numbers.speed) ≡ paid from to v.numbers.speed = omega arith in
+      let used : 0 + paid from to v.numbers.speed ≡ paid from to v.numbers.speed =
+      zero-add (paid from to v.numbers.speed) in
+      rw (whole, used) refl
+
+  -- and all of them
+  pub record Comes (boards : List Board) (ps : List Parcel) : Type 0 where
+    pub back : each_by put_back (map away boards) ps ≡ map (stepped (granted from to)) boards
+    pub posts : flat_map (λ (p : Parcel). p.sent) ps ≡ flat_map (posts_made (granted from to)) boards
+    pub entries : flat_map (λ (p : Parcel). p.board.entries) ps ≡ flat_map (entries_made (granted from to)) boards
+    pub parts : map (part_of from to) boards ≡ map (λ (p : Parcel). unused p.grant) ps
+    pub grants : each_by its_grant (map (part_of from to) boards) ps ≡ map used_up (map (part_of from to) boards)
+    pub count : length ps ≡ length boards
+
+  pub come : (boards : List Board) → Planned boards → Comes boards (map ran (flat_map (lent from to) boards))
+  come [] all = record { back = refl; posts = refl; entries = refl; parts = refl; grants = refl; count = refl }
+  come (board ∷ boards) all = one board.view all.0 (come boards all.1)
+    where
+      one :
+          (o : Option View) → IsSome o →
+          Comes boards (map ran (flat_map (lent from to) boards)) →
+          Comes (record { name = board.name; view = o } ∷ boards)
+          (map ran (flat_map (lent from to) (record { name = board.name; view = o } ∷ boards)))
+      one None some rest = absurd (cc)
+      one (Some v) some rest =
+          let is = ran_is v in
+          record {
+            back = λ i. record { name = board.name; view = Some (is i).board.view } ∷ rest.back i;
+            posts = λ i. (is i).sent ++ rest.posts i;
+            entries = λ i. (is i).board.entries ++ rest.entries i;
+            parts = λ i. fresh from to v.numbers.speed ∷ rest.parts i;
+            grants = λ i. (is i).grant ∷ rest.grants i;
+            count = ap suc rest.count;
+          }
