@@ -32,8 +32,8 @@ use std::thread::Threads;
 /// How many lines a run takes at most: 100,000 commands, and one line that ends it.
 const MOST_STEPS: u32 = 100_001;
 
-/// Runs the program for its command words, reading from `files` and writing to `out`. Boards are run by
-/// as many workers as the words name, each of which enters the gate before each turn.
+/// Runs the program for its command words, reading from `files` and writing to `out`. As many workers as
+/// the words name run the boards. Where several run several boards, each enters the gate before each turn.
 pub fn run_lab<
     R: Threads + Wait + Copy + Send + Sync,
     D: Device + Send,

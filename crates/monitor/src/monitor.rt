@@ -119,7 +119,8 @@ impl<D: Device> Monitor<D> {
 
 impl<D: Device + Send> Monitor<D> {
     /// Carries out the next command of the script. Files that it names are read from `files`. Any
-    /// answer but `Text` ends the script. A run's workers enter the gate before each turn.
+    /// answer but `Text` ends the script. Where several workers run several boards, each enters the gate
+    /// before each turn.
     pub fn step<R: Threads + Wait + Copy + Send + Sync, F: Files, G: Gate>(
         &mut self,
         rt: &R,
