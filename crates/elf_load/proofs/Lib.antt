@@ -2,3 +2,4 @@
 mod PartLemmas
 mod LawLemmas
 mod Examples
+mod PieceLemmas

@@ -1,5 +1,6 @@
 //! What a file gives a board to load, and why an ELF file gives nothing.
-use lab_num::Rows;
+use crate::bytes::Bytes;
+use lab_num::{NoMemory, Rows};
 use std::alloc::{AllocError, AllocFailed};
 
 /// Bytes that stand one after another from an address on, and zeros after them.
@@ -7,7 +8,7 @@ use std::alloc::{AllocError, AllocFailed};
 pub struct Part {
     /// The address of the first byte.
     pub at: u32,
-    pub bytes: Rows<u8>,
+    pub bytes: Bytes,
     /// How many bytes of 0 follow.
     pub zeros: u32,
 }
@@ -63,6 +64,17 @@ impl<T: Drop> From<AllocFailed<T>> for ElfFault {
     ghost from_gives = { λ _ fault. fault ≡ Memory };
 
     fn from(_error: AllocFailed<T>) -> ElfFault {
+        ElfFault::Memory
+    }
+}
+
+impl From<NoMemory> for ElfFault {
+    ghost use Rattle.std.specs.Prelude.{◌≡◌};
+    ghost use Rattle.elf_load.specs.declared.image.ElfFault.TheVariants.{Memory};
+
+    ghost from_gives = { λ _ fault. fault ≡ Memory };
+
+    fn from(_fault: NoMemory) -> ElfFault {
         ElfFault::Memory
     }
 }

@@ -1,5 +1,5 @@
 //! From the bytes of an ELF file to its image.
-ghost use Rattle.std.specs.Prelude.{◌≡◌, ◌≤◌, ◌+◌, ◌*◌, length, true, false, Some, None, Ok, OnOk, IfErr};
+ghost use Rattle.std.specs.Prelude.{◌≡◌, ◌≤◌, ◌+◌, ◌*◌, length, true, false, Some, None, Ok, OnOk, IfErr, IfOk};
 ghost use Rattle.std.specs.Prelude.{if◌then◌else◌};
 ghost use Rattle.elf_load.specs.declared.image.ElfFault.TheVariants as fault;
 ghost use Rattle.elf_load.specs.Header.{header_size, e_phoff};
@@ -9,6 +9,7 @@ ghost use Rattle.elf_load.specs.Inner.Parts.{Gives, part_told, parts_told};
 ghost use Rattle.elf_load.specs.Segment as segments;
 ghost use Rattle.elf_load.specs.Segment.{program_header, program_header_size};
 
+use crate::bytes::Bytes;
 use crate::fields::{half, word};
 use crate::image::{ElfFault, Image, Part};
 use lab_num::Rows;
@@ -113,33 +114,33 @@ fn is_sound(file: &[u8], header: &[u8]) -> bool
 }
 
 /// The bytes of a segment, with zeros for what it has in memory alone.
-fn segment(alloc: Global, file: &[u8], header: &[u8]) -> Result<Part, ElfFault>
+fn segment(file: &Bytes, header: &[u8]) -> Result<Part, ElfFault>
     requires header { program_header_size ≤ length header.now }
     requires sound { segments.is_sound file.now header.now ≡ true }
     ensures { Gives (λ part. part) (Ok (segments.part_of file.now header.now)) result }
 {
     let offset = word(header, OFFSET) as usize;
     let file_size = word(header, FILE_SIZE);
-    let bytes = Vec::from_slice(alloc, &file[offset..offset + file_size as usize])?;
+    let bytes = file.piece(offset, file_size as usize)?;
     Ok(Part {
         at: word(header, PHYSICAL_ADDRESS),
-        bytes: Rows::of(bytes),
+        bytes,
         zeros: word(header, MEMORY_SIZE) - file_size,
     })
 }
 
 /// The part of a program header, if its segment is loaded.
-fn part_of(alloc: Global, file: &[u8], header: &[u8]) -> Result<Option<Part>, ElfFault>
+fn part_of(file: &Bytes, header: &[u8]) -> Result<Option<Part>, ElfFault>
     requires { program_header_size ≤ length header.now }
     ensures { Gives (λ part. part) (part_told file.now header.now) result }
 {
     if word(header, SEGMENT_TYPE) != LOADED {
         return Ok(None);
     }
-    if !is_sound(file, header) {
+    if !is_sound(file.items(), header) {
         return Err(ElfFault::Segment);
     }
-    let part = segment(alloc, file, header)?;
+    let part = segment(file, header)?;
     Ok(Some(part))
 }
 
@@ -156,20 +157,29 @@ fn program_header(file: &[u8], n: u16) -> &[u8]
 }
 
 /// The parts of the segments that are loaded.
-fn parts_of(alloc: Global, file: &[u8]) -> Result<Vec<Part>, ElfFault>
+fn parts_of(alloc: Global, file: &Bytes) -> Result<Vec<Part>, ElfFault>
     requires long { header_size ≤ length file.now }
     requires headers { images.has_wrong_headers file.now ≡ false }
     ensures { Gives (λ parts. parts.items) (parts_told file.now) result }
 {
     let mut parts = Vec::new(alloc);
-    let count = half(file, HEADERS_COUNT);
+    let count = half(file.items(), HEADERS_COUNT);
     for n in 0..count {
-        let header = program_header(file, n);
-        if let Some(part) = part_of(alloc, file, header)? {
+        let header = program_header(file.items(), n);
+        if let Some(part) = part_of(file, header)? {
             parts.push(part)?;
         }
     }
     Ok(parts)
+}
+
+/// A copy of a file, which parts can share.
+fn copy_of(alloc: Global, file: &[u8]) -> Result<Bytes, ElfFault>
+    ensures ok { IfOk result (λ shared. shared ≡ file.now) }
+    ensures err { IfErr result (λ e. e ≡ fault.Memory) }
+{
+    let bytes = Vec::from_slice(alloc, file)?;
+    Ok(Bytes::of(alloc, bytes)?)
 }
 
 /// The image of an ELF executable for RISC-V: one part for each program header of the type
@@ -183,7 +193,8 @@ pub fn read_elf(alloc: Global, file: &[u8]) -> Result<Image, ElfFault>
     ensures read { IsReadAs (image_of file.now) result }
 {
     check_header(file)?;
-    let parts = parts_of(alloc, file)?;
+    let shared = copy_of(alloc, file)?;
+    let parts = parts_of(alloc, &shared)?;
     Ok(Image {
         entry: Some(word(file, ENTRY)),
         parts: Rows::of(parts),

@@ -1,4 +1,5 @@
 //! Why an Intel HEX file is refused.
+use lab_num::NoMemory;
 use std::alloc::{AllocError, AllocFailed};
 
 /// Why an Intel HEX file is refused. The first line that has a fault tells it. Of one line a wrong
@@ -38,6 +39,17 @@ impl<T: Drop> From<AllocFailed<T>> for HexFault {
     ghost from_gives = { λ _ fault. fault ≡ Memory };
 
     fn from(_error: AllocFailed<T>) -> HexFault {
+        HexFault::Memory
+    }
+}
+
+impl From<NoMemory> for HexFault {
+    ghost use Rattle.std.specs.Prelude.{◌≡◌};
+    ghost use Rattle.ihex_load.specs.declared.fault.HexFault.TheVariants.{Memory};
+
+    ghost from_gives = { λ _ fault. fault ≡ Memory };
+
+    fn from(_fault: NoMemory) -> HexFault {
         HexFault::Memory
     }
 }

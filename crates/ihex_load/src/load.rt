@@ -9,7 +9,7 @@ ghost use Rattle.ihex_load.specs.Inner.Gives.{Gives};
 use crate::fault::HexFault;
 use crate::lines::first_line;
 use crate::record::{Record, read_line};
-use elf_load::{Image, Part};
+use elf_load::{Bytes, Image, Part};
 use lab_num::Rows;
 use std::alloc::Global;
 
@@ -17,10 +17,10 @@ use std::alloc::Global;
 fn part(alloc: Global, at: u32, bytes: &[u8]) -> Result<Part, HexFault>
     ensures { Gives (λ part. part) (Ok (images.part at bytes.now)) result }
 {
-    let bytes = Rows::of(Vec::from_slice(alloc, bytes)?);
+    let bytes = Vec::from_slice(alloc, bytes)?;
     Ok(Part {
         at,
-        bytes,
+        bytes: Bytes::of(alloc, bytes)?,
         zeros: 0,
     })
 }
