@@ -83,7 +83,8 @@ impl<D: Device + Send> Lab<D> {
     }
 
     /// Runs for `d` microseconds: rounds of one quantum each, and then a shorter one if the quanta
-    /// do not fill `d`. A run of 0 changes nothing. `RunFault::Memory` spends the laboratory.
+    /// do not fill `d`. A run of 0 changes nothing. The boards are run by so many workers, who enter
+    /// the gate as in a round. `RunFault::Memory` spends the laboratory.
     pub fn run_for<R: Threads + Wait + Copy + Send + Sync, G: Gate>(
         &mut self,
         rt: &R,
