@@ -1,6 +1,7 @@
 -- Boards that are lent come back as their slots have left them.
 use Rattle.std.proofs.Common.{◌≡◌, ◌∙◌, sym, ap, refl, ℕ, suc, ◌+◌, ◌*◌, ◌^◌, ◌<◌, ◌≤◌, List, [], ◌∷◌, ◌++◌, length}
-use Rattle.std.proofs.Common.{map, take, drop, set, get_or, append_assoc, subst, slice_get, Option, Some, None, false, add-zero, zero-add, arith}
+use Rattle.std.proofs.Common.{map, take, drop, set, get_or, append_assoc, subst, slice_get, Option, Some, None, false}
+use Rattle.std.proofs.Common.{add-zero, zero-add, arith}
 use Rattle.std.proofs.lemmas.Bool.Decides.{nat_tests}
 use Rattle.std.proofs.lemmas.List.{append-nil, length-map, map-append}
 use Rattle.std.proofs.Math.Seq.{take-length, drop-length}
@@ -229,8 +230,8 @@ count_of mail n = length-map (range_with_len 0 n) (new_pass mail) ∙ length-ran
 
 -- each pass has its place as its board, and has posted nothing
 pub its_pass :
-    (mail : MailId) (count : ℕ) (pass : Pass) {passes : List Pass} {k n : ℕ} → n ≡ k → passes ≡ fresh_passes mail count →
-    k < length passes → pass ≡ get_or passes k pass → pass ≡ new_pass mail n
+    (mail : MailId) (count : ℕ) (pass : Pass) {passes : List Pass} {k n : ℕ} → n ≡ k →
+    passes ≡ fresh_passes mail count → k < length passes → pass ≡ get_or passes k pass → pass ≡ new_pass mail n
 its_pass mail count pass {k = k} {n = n} at are below here =
     here ∙ ap (λ (l : List Pass). get_or l k pass) are
     ∙ get_or-map-range_with_len (new_pass mail) 0 count k n pass

@@ -39,6 +39,7 @@ pub(crate) fn lend_all<D: Device>(
     requires standing { AreStanding (1000 * from.0) (numbers_of boards.old) }
     requires few { length boards.old ≤ 16 }
     requires passes { passes.items ≡ fresh_passes boss.now.mail (length boards.old) }
+    requires count { length passes.items ≡ length boards.old }
     requires opened { source.now.is_open ≡ true }
     requires parts { source.now.handles ≡ map (part_of from.0 (from.0 + q)) boards.old }
     ensures boards { OnOk result (boards.new ≡ map away boards.old) }

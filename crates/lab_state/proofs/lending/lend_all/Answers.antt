@@ -12,27 +12,11 @@ use Rattle.hub_mail.specs.Pass.{Pass, fresh as new_pass}
 use Rattle.lab_state.specs.Board.{Board}
 use Rattle.lab_state.specs.Inner.Lending.{lent, away}
 use Rattle.lab_state.specs.Inner.Time.{part_of}
-use Rattle.lab_state.proofs.LendLemmas.{count_of, its_pass, none_stays}
+use Rattle.lab_state.proofs.LendLemmas.{its_pass, none_stays}
 use Rattle.lab_state.proofs.ListLemmas.{not_yet, one_more}
 use Rattle.lab_state.proofs.RoundLemmas.{standing_next}
 use Rattle.lab_state.proofs.TimeLemmas.{part_at}
 use Rattle.lab_state.proofs.lending.lend_all.Goals as goal
-
-pub overflow_cast-n : goal.overflow_cast-n
-overflow_cast-n g c =
-    let turn = YieldsList-turn
-    (YieldsList-from_vec {s = c.into_iter-pass-iterator.result} c.args.passes.items (search rules) (search rules))
-    c.loop-pass.yielded c.loop-pass.pass-iterator c.loop-pass.yielded_by c.next.result c.next.new.self
-    c.in-Some.pass c.in-Some.is c.next.ensures.steps in
-    let boards = c.args.boards.now in
-    let below : c.loop-pass.n < length boards = omega (
-      arith,
-      turn.0,
-      c.loop-pass.invariant.n,
-      ap length c.requires.passes,
-      count_of c.args.boss.now.mail (length boards),
-    ) in
-    omega (arith, below, c.requires.few)
 
 pub handle-grant-requires-clause-member : goal.handle-grant-requires-clause-member
 handle-grant-requires-clause-member g c =
@@ -41,51 +25,13 @@ handle-grant-requires-clause-member g c =
     c.loop-pass.yielded c.loop-pass.pass-iterator c.loop-pass.yielded_by c.next.result c.next.new.self
     c.in-Some.pass c.in-Some.is c.next.ensures.steps in
     let boards = c.args.boards.now in
-    let below : c.loop-pass.n < length boards = omega (
-      arith,
-      turn.0,
-      c.loop-pass.invariant.n,
-      ap length c.requires.passes,
-      count_of c.args.boss.now.mail (length boards),
-    ) in
+    let below : c.loop-pass.n < length boards = omega (arith, turn.0, c.loop-pass.invariant.n, c.requires.count) in
     omega (
       arith,
       below,
       ap length c.requires.parts,
       length-map boards (part_of c.args.from.0 (c.args.from.0 + c.args.q)),
     )
-
-pub bounds-boards-n : goal.bounds-boards-n
-bounds-boards-n g c =
-    let turn = YieldsList-turn
-    (YieldsList-from_vec {s = c.into_iter-pass-iterator.result} c.args.passes.items (search rules) (search rules))
-    c.loop-pass.yielded c.loop-pass.pass-iterator c.loop-pass.yielded_by c.next.result c.next.new.self
-    c.in-Some.pass c.in-Some.is c.next.ensures.steps in
-    let boards = c.args.boards.now in
-    let below : c.loop-pass.n < length boards = omega (
-      arith,
-      turn.0,
-      c.loop-pass.invariant.n,
-      ap length c.requires.passes,
-      count_of c.args.boss.now.mail (length boards),
-    ) in
-    omega (arith, below, c.loop-pass.auto.boards)
-
-pub offset_bounds-boards-n : goal.offset_bounds-boards-n
-offset_bounds-boards-n g c =
-    let turn = YieldsList-turn
-    (YieldsList-from_vec {s = c.into_iter-pass-iterator.result} c.args.passes.items (search rules) (search rules))
-    c.loop-pass.yielded c.loop-pass.pass-iterator c.loop-pass.yielded_by c.next.result c.next.new.self
-    c.in-Some.pass c.in-Some.is c.next.ensures.steps in
-    let boards = c.args.boards.now in
-    let below : c.loop-pass.n < length boards = omega (
-      arith,
-      turn.0,
-      c.loop-pass.invariant.n,
-      ap length c.requires.passes,
-      count_of c.args.boss.now.mail (length boards),
-    ) in
-    omega (arith, below, c.requires.few, c.loop-pass.auto.boards)
 
 pub lend-requires-clause-part : goal.lend-requires-clause-part
 lend-requires-clause-part g c =
@@ -94,13 +40,7 @@ lend-requires-clause-part g c =
     c.loop-pass.yielded c.loop-pass.pass-iterator c.loop-pass.yielded_by c.next.result c.next.new.self
     c.in-Some.pass c.in-Some.is c.next.ensures.steps in
     let boards = c.args.boards.now in
-    let below : c.loop-pass.n < length boards = omega (
-      arith,
-      turn.0,
-      c.loop-pass.invariant.n,
-      ap length c.requires.passes,
-      count_of c.args.boss.now.mail (length boards),
-    ) in
+    let below : c.loop-pass.n < length boards = omega (arith, turn.0, c.loop-pass.invariant.n, c.requires.count) in
     let part = part_at boards (part_of c.args.from.0 (c.args.from.0 + c.args.q)) away c.loop-pass.n
     c.index-boards-n.result c.requires.parts c.loop-pass.invariant.boards below c.handle-grant.ensures in
     rw part refl
@@ -112,13 +52,7 @@ lend-requires-clause-made g c =
     c.loop-pass.yielded c.loop-pass.pass-iterator c.loop-pass.yielded_by c.next.result c.next.new.self
     c.in-Some.pass c.in-Some.is c.next.ensures.steps in
     let boards = c.args.boards.now in
-    let below : c.loop-pass.n < length boards = omega (
-      arith,
-      turn.0,
-      c.loop-pass.invariant.n,
-      ap length c.requires.passes,
-      count_of c.args.boss.now.mail (length boards),
-    ) in
+    let below : c.loop-pass.n < length boards = omega (arith, turn.0, c.loop-pass.invariant.n, c.requires.count) in
     let stands = standing_next away (1000 * c.args.from.0) boards c.loop-pass.boards c.loop-pass.n
     c.index-boards-n.result c.loop-pass.invariant.boards below c.requires.standing in
     λ v at. let is = stands v.numbers (ap (option_map (λ (v : View). v.numbers)) at) in (
@@ -133,13 +67,7 @@ lend-requires-clause-own g c =
     c.loop-pass.yielded c.loop-pass.pass-iterator c.loop-pass.yielded_by c.next.result c.next.new.self
     c.in-Some.pass c.in-Some.is c.next.ensures.steps in
     let boards = c.args.boards.now in
-    let below : c.loop-pass.n < length boards = omega (
-      arith,
-      turn.0,
-      c.loop-pass.invariant.n,
-      ap length c.requires.passes,
-      count_of c.args.boss.now.mail (length boards),
-    ) in
+    let below : c.loop-pass.n < length boards = omega (arith, turn.0, c.loop-pass.invariant.n, c.requires.count) in
     let is : c.in-Some.pass ≡ new_pass c.args.boss.now.mail c.loop-pass.n =
     its_pass c.args.boss.now.mail (length boards) c.in-Some.pass c.loop-pass.invariant.n c.requires.passes turn.0 turn.1
     in
@@ -155,13 +83,7 @@ lend-requires-clause-new g c =
     c.loop-pass.yielded c.loop-pass.pass-iterator c.loop-pass.yielded_by c.next.result c.next.new.self
     c.in-Some.pass c.in-Some.is c.next.ensures.steps in
     let boards = c.args.boards.now in
-    let below : c.loop-pass.n < length boards = omega (
-      arith,
-      turn.0,
-      c.loop-pass.invariant.n,
-      ap length c.requires.passes,
-      count_of c.args.boss.now.mail (length boards),
-    ) in
+    let below : c.loop-pass.n < length boards = omega (arith, turn.0, c.loop-pass.invariant.n, c.requires.count) in
     let is : c.in-Some.pass ≡ new_pass c.args.boss.now.mail c.loop-pass.n =
     its_pass c.args.boss.now.mail (length boards) c.in-Some.pass c.loop-pass.invariant.n c.requires.passes turn.0 turn.1
     in
@@ -174,13 +96,7 @@ loop-pass-preserved g c =
     c.loop-pass.yielded c.loop-pass.pass-iterator c.loop-pass.yielded_by c.next.result c.next.new.self
     c.in-Some.pass c.in-Some.is c.next.ensures.steps in
     let boards = c.args.boards.now in
-    let below : c.loop-pass.n < length boards = omega (
-      arith,
-      turn.0,
-      c.loop-pass.invariant.n,
-      ap length c.requires.passes,
-      count_of c.args.boss.now.mail (length boards),
-    ) in
+    let below : c.loop-pass.n < length boards = omega (arith, turn.0, c.loop-pass.invariant.n, c.requires.count) in
     let is : c.in-Some.pass ≡ new_pass c.args.boss.now.mail c.loop-pass.n =
     its_pass c.args.boss.now.mail (length boards) c.in-Some.pass c.loop-pass.invariant.n c.requires.passes turn.0 turn.1
     in
@@ -212,13 +128,7 @@ returns-clause-boards g c =
     c.loop-pass.yielded c.loop-pass.pass-iterator c.loop-pass.yielded_by c.next.result c.next.new.self c.in-None.is
     c.next.ensures.steps in
     let boards = c.args.boards.now in
-    let all : c.loop-pass.n ≡ length boards = omega (
-      arith,
-      end.1,
-      c.loop-pass.invariant.n,
-      ap length c.requires.passes,
-      count_of c.args.boss.now.mail (length boards),
-    ) in
+    let all : c.loop-pass.n ≡ length boards = omega (arith, end.1, c.loop-pass.invariant.n, c.requires.count) in
     c.loop-pass.invariant.boards ∙ none_stays away boards c.loop-pass.n all
 
 pub returns-clause-parcels : goal.returns-clause-parcels
@@ -228,13 +138,7 @@ returns-clause-parcels g c =
     c.loop-pass.yielded c.loop-pass.pass-iterator c.loop-pass.yielded_by c.next.result c.next.new.self c.in-None.is
     c.next.ensures.steps in
     let boards = c.args.boards.now in
-    let all : c.loop-pass.n ≡ length boards = omega (
-      arith,
-      end.1,
-      c.loop-pass.invariant.n,
-      ap length c.requires.passes,
-      count_of c.args.boss.now.mail (length boards),
-    ) in
+    let all : c.loop-pass.n ≡ length boards = omega (arith, end.1, c.loop-pass.invariant.n, c.requires.count) in
     c.loop-pass.invariant.parcels
     ∙ ap (flat_map (lent c.args.boss.now.mail c.args.from.0 (c.args.from.0 + c.args.q)))
     (ap (λ n. take n boards) all ∙ take-length boards)

@@ -12,8 +12,12 @@ use Rattle.parcel.specs.Ran.{ran}
 use Rattle.time_handle.specs.Grant.{left}
 use Rattle.lab_state.specs.Inner.Lending.{lent, away, put_back, each_by, its_grant, unused}
 use Rattle.lab_state.specs.Inner.Time.{used_up}
-use Rattle.lab_state.proofs.LendLemmas.{HasRoom, all_have_room, planned, come, sent_of, taken_are}
+use Rattle.lab_state.proofs.LendLemmas.{HasRoom, all_have_room, planned, come, count_of, sent_of, taken_are}
 use Rattle.lab_state.proofs.lending.step_lent.Goals as goal
+
+pub lend_all-requires-clause-count : goal.lend_all-requires-clause-count
+lend_all-requires-clause-count g c =
+    ap length c.in_ok-boss.ensures.passes ∙ count_of c.in_ok-boss.boss.mail (length c.args.boards.now)
 
 pub run_parcels-requires-clause-few : goal.run_parcels-requires-clause-few
 run_parcels-requires-clause-few g c κs within =
@@ -33,31 +37,36 @@ pub run_parcels-requires-clause-sent : goal.run_parcels-requires-clause-sent
 run_parcels-requires-clause-sent g c κs within =
     rw c.in_ok-parcels.ensures.parcels
     (All-weaker HasRoom (λ (p : Parcel). p.board.posts ≡ []) (λ p has. has.quiet) _
-    (all_have_room c.in_ok-boss.boss.mail c.args.from.0 c.args.q c.requires.within c.args.boards.now c.requires.standing))
+    (all_have_room c.in_ok-boss.boss.mail c.args.from.0 c.args.q c.requires.within c.args.boards.now
+    c.requires.standing))
 
 pub run_parcels-requires-clause-posts : goal.run_parcels-requires-clause-posts
 run_parcels-requires-clause-posts g c κs within =
     rw c.in_ok-parcels.ensures.parcels
     (All-weaker HasRoom (λ (p : Parcel). p.board.view.numbers.posted + left p.grant < 2 ^ 64) (λ p has. has.posts) _
-    (all_have_room c.in_ok-boss.boss.mail c.args.from.0 c.args.q c.requires.within c.args.boards.now c.requires.standing))
+    (all_have_room c.in_ok-boss.boss.mail c.args.from.0 c.args.q c.requires.within c.args.boards.now
+    c.requires.standing))
 
 pub run_parcels-requires-clause-entries : goal.run_parcels-requires-clause-entries
 run_parcels-requires-clause-entries g c κs within =
     rw c.in_ok-parcels.ensures.parcels
     (All-weaker HasRoom (λ (p : Parcel). p.board.view.numbers.entered + left p.grant < 2 ^ 64) (λ p has. has.entries) _
-    (all_have_room c.in_ok-boss.boss.mail c.args.from.0 c.args.q c.requires.within c.args.boards.now c.requires.standing))
+    (all_have_room c.in_ok-boss.boss.mail c.args.from.0 c.args.q c.requires.within c.args.boards.now
+    c.requires.standing))
 
 pub take_all_back-requires-clause-count : goal.take_all_back-requires-clause-count
 take_all_back-requires-clause-count g c =
     let boards = c.args.boards.now in
-    let comes = come c.in_ok-boss.boss.mail c.args.from.0 (c.args.from.0 + c.args.q) boards (planned boards c.requires.plans) in
+    let comes = come c.in_ok-boss.boss.mail c.args.from.0 (c.args.from.0 + c.args.q) boards
+    (planned boards c.requires.plans) in
     ap length (c.in_ok-parcels-2.ensures ∙ ap (map ran) c.in_ok-parcels.ensures.parcels) ∙ comes.count
     ∙ sym (ap length c.in_ok-parcels.ensures.boards ∙ length-map boards away)
 
 pub take_all_back-requires-clause-parts : goal.take_all_back-requires-clause-parts
 take_all_back-requires-clause-parts g c =
     let boards = c.args.boards.now in
-    let comes = come c.in_ok-boss.boss.mail c.args.from.0 (c.args.from.0 + c.args.q) boards (planned boards c.requires.plans) in
+    let comes = come c.in_ok-boss.boss.mail c.args.from.0 (c.args.from.0 + c.args.q) boards
+    (planned boards c.requires.plans) in
     c.requires.parts ∙ comes.parts
     ∙ sym
     (ap (map (λ (p : Parcel). unused p.grant))
@@ -71,7 +80,8 @@ take_all_back-requires-clause-quiet g c =
 pub returns-clause-source : goal.returns-clause-source
 returns-clause-source g c =
     let boards = c.args.boards.now in
-    let comes = come c.in_ok-boss.boss.mail c.args.from.0 (c.args.from.0 + c.args.q) boards (planned boards c.requires.plans) in
+    let comes = come c.in_ok-boss.boss.mail c.args.from.0 (c.args.from.0 + c.args.q) boards
+    (planned boards c.requires.plans) in
     let whole = c.in_ok-parcels-2.ensures ∙ ap (map ran) c.in_ok-parcels.ensures.parcels in
     let used : each_by its_grant c.args.source.now.handles c.in_ok-parcels-2.parcels.items
     ≡ map used_up c.args.source.now.handles =
@@ -81,7 +91,8 @@ returns-clause-source g c =
 pub returns-clause-boards : goal.returns-clause-boards
 returns-clause-boards g c =
     let boards = c.args.boards.now in
-    let comes = come c.in_ok-boss.boss.mail c.args.from.0 (c.args.from.0 + c.args.q) boards (planned boards c.requires.plans) in
+    let comes = come c.in_ok-boss.boss.mail c.args.from.0 (c.args.from.0 + c.args.q) boards
+    (planned boards c.requires.plans) in
     let whole = c.in_ok-parcels-2.ensures ∙ ap (map ran) c.in_ok-parcels.ensures.parcels in
     rw ((λ k. each_by put_back (c.in_ok-parcels.ensures.boards k) (whole k)) ∙ comes.back) at
     c.in_ok-entries.ensures.boards
@@ -126,7 +137,8 @@ returns-clause-posts g c =
 pub returns-clause-entries : goal.returns-clause-entries
 returns-clause-entries g c =
     let boards = c.args.boards.now in
-    let comes = come c.in_ok-boss.boss.mail c.args.from.0 (c.args.from.0 + c.args.q) boards (planned boards c.requires.plans) in
+    let comes = come c.in_ok-boss.boss.mail c.args.from.0 (c.args.from.0 + c.args.q) boards
+    (planned boards c.requires.plans) in
     rw (ap (flat_map (λ (p : Parcel). p.board.entries))
     (c.in_ok-parcels-2.ensures ∙ ap (map ran) c.in_ok-parcels.ensures.parcels)
     ∙ comes.entries) at
