@@ -6,10 +6,11 @@ ghost use Rattle.lab_io.specs.Sink.{IsTaken, taken, write_faults};
 
 use crate::sink::{Sink, Wrote};
 use std::io;
-use std::io::Write;
+use std::io::{ErrorKind, Write};
 use std::marker::Model;
 
-/// Writes some of the piece, and says how much was taken. An output that takes nothing has failed.
+/// Writes some of the piece, and says how much was taken. An output that takes nothing has failed; a
+/// write that a signal interrupts is made again.
 fn write_some<W: Write>(out: &mut W, piece: &[u8]) -> Wrote
     requires { piece.now ≢ [] }
     ensures taken { IsTaken result (length piece.now) }
@@ -17,10 +18,14 @@ fn write_some<W: Write>(out: &mut W, piece: &[u8]) -> Wrote
         (take (taken result) piece.now) }
     ensures never_memory { result ≢ Wrote.Memory }
 {
-    match out.write(piece) {
-        Ok(count) if count > 0 => Wrote::Took(count),
-        _ => Wrote::Failed,
+    for _ in 0..u64::MAX {
+        match out.write(piece) {
+            Ok(count) if count > 0 => return Wrote::Took(count),
+            Err(error) if error.kind() == ErrorKind::Interrupted => {}
+            _ => return Wrote::Failed,
+        }
     }
+    Wrote::Failed
 }
 
 /// The standard output. What has been written is not told: of it contracts see how many faults
