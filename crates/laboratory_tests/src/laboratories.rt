@@ -3,6 +3,7 @@ ghost use Rattle.std.specs.Prelude.{◌≡◌, ◌+◌, ◌<◌, ◌≤◌, true
 ghost use Rattle.lab_state.specs.One.{view_of, HaveAllPlans};
 
 mod chip;
+mod workers;
 
 use chip::{Counts, stock};
 use dev_core::{Device, Finish, Kind, Stock, What};

@@ -1,0 +1,134 @@
+//! One round of four boards, by one worker and by several.
+use super::chip::{Counts, stock};
+use super::{SENDS, adds, fits, is_planned, loads, starts};
+use dev_core::{Device, Kind, Stock, What};
+use floor_run::NoGate;
+use lab_num::{BoardNo, Member, Micros, NoMemory};
+use lab_state::Lab;
+use log_merge::{LogItem, Member0};
+use std::alloc::Global;
+use std::sync::Wait;
+use std::sync::atomic::AtomicU32;
+use std::test::Fail;
+use std::thread::Threads;
+
+static NAMES: [&str; 4] = ["m0", "m1", "m2", "m3"];
+
+/// A board sends `A` in its third slot. At a thousand slots a microsecond that lies in the first.
+fn sent(board: u8) -> LogItem {
+    LogItem::Slot(
+        Member0 {
+            at: Micros(0),
+            board: BoardNo(board),
+        },
+        What::Byte {
+            dev: 0,
+            value: b'A',
+        },
+    )
+}
+
+/// A board runs at a thousand slots a microsecond, and its UART is shown.
+fn is_set<D: Device>(lab: &mut Lab<D>, b: BoardNo) -> bool {
+    if !is_planned(lab, b) {
+        return false;
+    }
+    lab.set_speed(b, 1000);
+    shows(lab, Member { board: b, dev: 0 })
+}
+
+fn shows<D: Device>(lab: &mut Lab<D>, uart: Member) -> bool {
+    if !is_planned(lab, uart.board) || lab.device_kind(uart) != Some(Kind::Uart) {
+        return false;
+    }
+    if !matches!(
+        lab.board(uart.board).plan().kinds.items().get(0),
+        Some(Kind::Uart | Kind::Can)
+    ) {
+        return false;
+    }
+    lab.show(uart);
+    true
+}
+
+fn stands<D: Device>(alloc: Global, lab: &mut Lab<D>, n: u8) -> Result<bool, NoMemory> {
+    let b = BoardNo(n);
+    let Some(name) = NAMES.get(n as usize) else {
+        return Ok(false);
+    };
+    Ok(
+        adds(lab, name, b)
+            && fits(alloc, lab, b)?
+            && loads(lab, b, SENDS)
+            && is_set(lab, b)
+            && starts(lab, b),
+    )
+}
+
+/// One line of each board, in order of board.
+fn logs_all(lines: &[LogItem]) -> bool {
+    lines == &[sent(0), sent(1), sent(2), sent(3)][..]
+}
+
+/// A round of 100 microseconds logs a line of each board.
+fn plays<R: Threads + Wait + Copy + Send + Sync, D: Device + Send>(
+    rt: &R,
+    lab: &mut Lab<D>,
+    workers: u8,
+) -> bool {
+    if workers < 1 || workers > 8 || lab.is_spent() || lab.first_without_plan().is_some() {
+        return false;
+    }
+    if lab.now().0 > 1_000_000 {
+        return false;
+    }
+    match lab.round(rt, 100, workers, &NoGate) {
+        Ok(log) => logs_all(log.lines.items()) && log.paused.is_none(),
+        Err(_) => false,
+    }
+}
+
+/// A board has taken 100,000 slots, an instruction each.
+fn has_run<D: Device>(lab: &Lab<D>, b: BoardNo) -> bool {
+    is_planned(lab, b) && lab.board(b).retired() == 100_000
+}
+
+fn runs_on<R: Threads + Wait + Copy + Send + Sync, D: Device + Send>(
+    rt: &R,
+    alloc: Global,
+    stock: Stock<D>,
+    workers: u8,
+) -> Result<bool, NoMemory> {
+    if !stock.is_full() {
+        return Ok(false);
+    }
+    let mut lab = Lab::new(alloc, stock)?;
+    for n in 0..4 {
+        if !stands(alloc, &mut lab, n)? {
+            return Ok(false);
+        }
+    }
+    if !plays(rt, &mut lab, workers) {
+        return Ok(false);
+    }
+    Ok((0..4).all(|n| has_run(&lab, BoardNo(n))))
+}
+
+fn runs<R: Threads + Wait + Copy + Send + Sync>(
+    rt: &R,
+    alloc: Global,
+    workers: u8,
+) -> Result<bool, NoMemory> {
+    let counts: Counts = [AtomicU32::new(0), AtomicU32::new(0), AtomicU32::new(0)];
+    let stock = stock(alloc, &counts)?;
+    runs_on(rt, alloc, stock, workers)
+}
+
+#[test]
+fn a_round_logs_the_same_whatever_the_number_of_workers(rt: HostRuntime) -> Result<(), Fail> {
+    for workers in [1, 2, 8] {
+        let same = runs(&rt, rt.alloc(), workers)?;
+        assert!(rt; same);
+    }
+    Ok(())
+}
