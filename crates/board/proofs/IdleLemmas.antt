@@ -4,7 +4,7 @@ use Rattle.std.proofs.Common.{refl, sym, ap, ◌∙◌, subst, arith}
 use Rattle.std.proofs.Math.Nat.{div-lt_iff_lt-mul, le-div_iff_mul-le, div-mul-le_self}
 use Rattle.std.proofs.lemmas.List.{append-nil}
 use Rattle.lab_num.specs.Paid.{slot_at}
-use Rattle.rv_hart.specs.Core.{Core, ticked}
+use Rattle.rv_hart.specs.Core.{ticked}
 use Rattle.rv_hart.specs.Trap.{is_ready}
 use Rattle.rv_hart.specs.declared.csr.Lines.{Lines}
 use Rattle.board.specs.Idle.{IsIdle, IsStillFor, passed, is_idle}
@@ -12,7 +12,6 @@ use Rattle.board.specs.Lines.{sampled, lines_of, timer_up, mip_of}
 use Rattle.board.specs.Slot.{slot}
 use Rattle.board.specs.Stretch.{stretch}
 use Rattle.board.specs.View.{View, State, quiet, after}
-use Rattle.board.proofs.StretchLemmas.{stretch-add, after-after}
 
 -- a slot of a processor that goes on waiting: its cycle passes
 slot-idle :

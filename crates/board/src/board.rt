@@ -149,6 +149,7 @@ impl<D: Device> Board<D> {
     /// Takes the next `n` slots. Slot `i` of the call lies in microsecond
     /// `at.from + (at.first + i) / speed`. A halted board's slots pass and change nothing.
     /// `Starved` is for want of memory alone.
+    #[tactic(auto, using(crate::proofs::StretchLemmas::after_halted))]
     pub fn turn(&mut self, at: SlotAt, n: u64) -> Turn
         requires time { at.from.0 + (at.first + n) / self.old.view.numbers.speed ≤ 10000000000 }
         requires posts { self.old.view.numbers.posted + n < 2 ^ 64 }

@@ -1,6 +1,4 @@
-use Rattle.std.proofs.Common.{◌≡◌, ◌+◌, ◌∙◌, sym, arith}
-use Rattle.board.specs.View.{State, after}
-use Rattle.board.specs.Stretch.{stretch}
+use Rattle.std.proofs.Common.{◌+◌, ◌∙◌, sym, arith}
 use Rattle.board.proofs.IdleLemmas.{passes}
 use Rattle.board.proofs.StretchLemmas.{after_none}
 use Rattle.board.proofs.board.Board.pass_idle.Goals as goal

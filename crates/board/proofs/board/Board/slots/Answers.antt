@@ -1,4 +1,4 @@
-use Rattle.std.proofs.Common.{◌≡◌, ◌∙◌, ap, sym, subst, refl, arith, add-zero, add_assoc, ℕ, ◌+◌, ◌/◌, ◌≤◌}
+use Rattle.std.proofs.Common.{◌∙◌, ap, sym, subst, refl, arith, add-zero, add_assoc, ℕ, ◌+◌, ◌/◌, ◌≤◌}
 use Rattle.std.proofs.lemmas.Nat.{div-add-mod', mod_below}
 use Rattle.board.proofs.NumberLemmas.{plan-stretch, speed-stretch}
 use Rattle.board.proofs.StretchLemmas.{after_none, after_stretch, after_slots, micros_begins}
@@ -80,9 +80,8 @@ loop-i-preserved g c =
 pub returns-in-Starved : goal.returns-in-Starved
 returns-in-Starved g c =
     let now = c.loop-i.invariant in
-    let speed = c.from-speed.ensures ∙ c.speed.ensures.value in
-    (
+    let speed = c.from-speed.ensures ∙ c.speed.ensures.value in (
       omega (arith, c.in-Starved.ensures.ended, c.min-count.ensures),
       after_slots _ _ _ _ _ _ _ _ _ _ _ now.run c.in-Starved.ensures.run now.next
-      (omega (arith, c.in-Starved.ensures.ended, c.min-count.ensures, now.within)) speed refl,
+          (omega (arith, c.in-Starved.ensures.ended, c.min-count.ensures, now.within)) speed refl,
     )
