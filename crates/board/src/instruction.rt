@@ -31,11 +31,7 @@ pub fn instruction<D: Device>(
 
 /// The same of a processor with compressed instructions.
 #[inline(never)]
-fn by_halves<D: Device>(
-    hart: &mut Hart,
-    wires: &mut Wires<D>,
-    lines: Lines,
-) -> Result<(), NoMemory>
+fn by_halves<D: Device>(hart: &mut Hart, wires: &mut Wires<D>, lines: Lines) -> Result<(), NoMemory>
     requires { hart.old.letters.c ≡ true }
     ensures core { OnOk result (hart.new ≡ core_after answer wires.old (effect_on hart.old wires.old lines)) }
     ensures bus { OnOk result (wires.new ≡ bus_after loaded stored wires.old (effect_on hart.old wires.old lines)) }
