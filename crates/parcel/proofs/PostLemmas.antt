@@ -1,5 +1,5 @@
 -- A board's posts go out by its pass.
-use Rattle.std.proofs.Common.{◌≡◌, ◌∙◌, ℕ, zero, suc, ◌+◌, ◌-◌, ◌<◌, List, [], ◌∷◌, ◌++◌, length, get_or, map, drop}
+use Rattle.std.proofs.Common.{◌≡◌, ◌∙◌, ℕ, ◌+◌, ◌-◌, ◌<◌, List, [], ◌∷◌, ◌++◌, length, get_or, map, drop}
 use Rattle.std.proofs.Common.{All, Option, Some, None, IfSome, refl, sym, ap, subst, append_assoc, arith}
 use Rattle.std.specs.List.{last_or, remove}
 use Rattle.std.proofs.lemmas.List.{append-nil, length-append}

@@ -1,4 +1,4 @@
-use Rattle.std.proofs.Common.{ap, rules}
+use Rattle.std.proofs.Common.{ap}
 use Rattle.board.specs.View.{State}
 use Rattle.parcel.proofs.SendLemmas.{begins, fewer_left, goes, may_go, none_left, some_left}
 use Rattle.parcel.proofs.parcel.send_posts.Goals as goal
