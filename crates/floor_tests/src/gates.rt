@@ -1,6 +1,7 @@
 //! Gates of the tests.
 use floor_run::Gate;
 use lab_num::BoardNo;
+use std::hint::spin_loop;
 use std::sync::atomic::{AtomicBool, AtomicU64, Ordering};
 
 /// A gate that counts how often it is entered.
@@ -59,6 +60,7 @@ impl Gate for Meeting {
             if self.entered.load(Ordering::SeqCst) >= self.boards {
                 return;
             }
+            spin_loop();
         }
         self.gave_up.store(true, Ordering::SeqCst);
     }

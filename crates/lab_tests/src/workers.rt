@@ -3,6 +3,7 @@ use crate::bench::{files, run};
 use floor_run::Gate;
 use lab_io::MemSink;
 use lab_num::BoardNo;
+use std::hint::spin_loop;
 use std::sync::atomic::{AtomicBool, AtomicU64, Ordering};
 use std::test::Fail;
 
@@ -35,6 +36,7 @@ impl Gate for Meeting {
             if self.entered.load(Ordering::SeqCst) >= 8 {
                 return;
             }
+            spin_loop();
         }
         self.gave_up.store(true, Ordering::SeqCst);
     }
