@@ -17,9 +17,7 @@ set_entry-requires-clause-is_entry g c =
     let parts = c.items-parts.result.now in
     for_changed c.args.self.now.state.lab c.load_parts.new.self.state.lab c.args.b.0 (λ v. with_parts v parts)
     (λ v. IsTrue (is_entry v entry)) (ap (λ running. running.state.lab) c.in_ok-load_parts.ensures.ok)
-    (λ v seen.
-    let begins : is_entry v entry ≡ true = sym (c.is_entry.ensures v seen) ∙ c.if-not-is_entry.false in
-    rw (entry_still parts v entry, begins) tt)
+    (λ v seen. entry_still parts v entry ∙ (sym (c.is_entry.ensures v seen) ∙ c.if-not-is_entry.false))
 
 pub returns : goal.returns
 returns g c = λ v seen.
