@@ -1,9 +1,11 @@
-//! Tests of the whole program, over files and an output in memory that fail where they are told to, and
-//! with workers that wait for each other.
+//! Tests of the whole program, over files and an output in memory that fail where they are told to, with
+//! workers that wait for each other, and of its words and its exit code.
 #![tactic(auto)]
 
 #[cfg(test)]
 mod bench;
+#[cfg(test)]
+mod edge;
 #[cfg(test)]
 mod outside;
 #[cfg(test)]
