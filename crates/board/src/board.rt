@@ -1,5 +1,5 @@
 //! The board: its slots, and what they make.
-ghost use Rattle.std.specs.Prelude.{◌≡◌, ◌≢◌, ℕ, ◌+◌, ◌/◌, ◌%◌, ◌==◌, ◌<◌, ◌≤◌, ◌^◌, [], true, length, drop, map, All};
+ghost use Rattle.std.specs.Prelude.{◌≡◌, ◌≢◌, ℕ, ◌+◌, ◌/◌, ◌%◌, ◌==◌, ◌<◌, ◌≤◌, ◌^◌, ◌||◌, [], true, length, drop, map, All};
 ghost use Rattle.std.specs.Prelude.{slice_get, slice_index_or, OnOk, OnErr, IfOk, IfErr, IfSome, IsTrue};
 ghost use Rattle.rv_hart.specs.Trap.{chosen};
 
@@ -519,6 +519,13 @@ impl<D: Device> Board<D> {
         ensures { result ≡ self.now.view.core.halted }
     {
         self.hart.halted()
+    }
+
+    /// Whether the processor is halted or waits for an interrupt: then its next slot may pass idle.
+    pub fn is_asleep(&self) -> bool
+        ensures { result ≡ (self.now.view.core.halted || self.now.view.core.waiting) }
+    {
+        self.hart.halted() || self.hart.waiting()
     }
 
     /// Halts the processor, or lets it run.
