@@ -1,5 +1,5 @@
 //! A device of a board.
-ghost use Rattle.std.specs.Prelude.{◌≡◌, ◌^◌, ◌%◌, ◌<◌, true};
+ghost use Rattle.std.specs.Prelude.{◌≡◌, ◌^◌, ◌<◌, true};
 ghost use Rattle.rv_exec.specs.Access.{IsWidth};
 ghost use Rattle.dev_core.specs.Device.{dev_line, dev_take, kind_of, IsValid};
 ghost use Rattle.board.specs.Space.{register_load, register_store};
@@ -8,6 +8,7 @@ ghost use Rattle.board.specs.Inner.Remembers.{still};
 
 use crate::remembered::{Remembered, forget_if_changed};
 use dev_core::{DevState, Device, Effect, Payload, Taken};
+use rv_exec::low_bytes;
 use std::marker::Model;
 
 /// A device of a board, and whether it is shown.
@@ -73,7 +74,7 @@ impl<D: Device> Fitted<D> {
     {
         self.up = None;
         match register {
-            Some(register) => lowest_bytes(self.device.load(register, width), width),
+            Some(register) => low_bytes(self.device.load(register, width), width),
             None => 0,
         }
     }
@@ -211,18 +212,5 @@ impl<D: Device> Fitted<D> {
         let up = self.device.line();
         self.up = Some(up);
         up
-    }
-}
-
-/// The lowest 1, 2 or 4 bytes of a value.
-fn lowest_bytes(value: u32, width: u8) -> u32
-    requires { IsWidth width }
-    ensures value { result ≡ value % 256 ^ width }
-    ensures fits { result < 256 ^ width }
-{
-    match width {
-        1 => value % 0x100,
-        2 => value % 0x1_0000,
-        _ => value,
     }
 }

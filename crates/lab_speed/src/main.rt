@@ -2,7 +2,8 @@
 //! slots, and prints the loop's name, the slots and minstret. With the word `wired` the board has a
 //! timer, an interrupt controller and wires, and the timer interrupts the loop each 100 microseconds. With
 //! `compressed` its processor has compressed instructions, and the loop is one of half-words; with `long` the processor
-//! is the same, and the loop is one of words.
+//! is the same, and the loop is one of words. `plain` is none of these. A number after such a word is the board's speed
+//! in instructions a microsecond, else 25.
 #![tactic(auto)]
 
 ghost use Rattle.std.specs.Prelude.{◌≡◌};
@@ -28,8 +29,11 @@ use uart_16550::Uart;
 
 /// How the program is called.
 const USAGE: &str =
-    "lab_speed LOOP SLOTS [wired|compressed|long], where LOOP is jumps, additions, products, memory, branches, csr or \
-        uart";
+    "lab_speed LOOP SLOTS [plain|wired|compressed|long [SPEED]], where LOOP is jumps, additions, products, memory, \
+        branches, csr or uart";
+
+/// Instructions a microsecond where no word says so.
+const USUAL_SPEED: u32 = 25;
 
 /// Where the memory begins.
 const START: u32 = 0x8000_0000;
@@ -45,6 +49,8 @@ struct Task {
     slots: u64,
     wired: bool,
     compressed: bool,
+    /// Instructions a microsecond.
+    speed: u32,
 }
 
 /// The loop of this name, of words or of half-words, with its text.
@@ -58,13 +64,14 @@ fn loop_named(name: &str, half_words: bool) -> Option<(&'static str, &'static st
 
 /// What the words after the program's name ask for.
 fn asked(words: &[String]) -> Option<Task> {
-    let (name, slots, form) = match words {
-        [name, slots] => (name, slots, ""),
-        [name, slots, form] => (name, slots, form.as_str()),
+    let (name, slots, form, speed) = match words {
+        [name, slots] => (name, slots, "plain", USUAL_SPEED),
+        [name, slots, form] => (name, slots, form.as_str(), USUAL_SPEED),
+        [name, slots, form, speed] => (name, slots, form.as_str(), speed.parse::<u32>().ok()?),
         _ => return None,
     };
     let (wired, compressed) = match form {
-        "" => (false, false),
+        "plain" => (false, false),
         "wired" => (true, false),
         "compressed" | "long" => (false, true),
         _ => return None,
@@ -77,6 +84,7 @@ fn asked(words: &[String]) -> Option<Task> {
         slots,
         wired,
         compressed,
+        speed,
     })
 }
 
@@ -137,6 +145,10 @@ fn program_for(alloc: Global, task: Task) -> Option<Vec<u8>> {
 
 /// Runs a task on a new board, and answers how many instructions were retired.
 fn run_on<D: Device>(alloc: Global, task: Task, board: &mut Board<D>) -> Option<u64> {
+    if task.speed < 1 || task.speed > 1000 {
+        return None;
+    }
+    board.set_speed(task.speed);
     let program = program_for(alloc, task)?;
     load(board, &program)?;
     retired_in(board, task.slots)

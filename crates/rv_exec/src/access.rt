@@ -9,7 +9,7 @@ ghost use Rattle.rv_exec.specs.Inner.Widths.{IsWidthOf};
 ghost use Rattle.rv_exec.specs.Effect.{AsksBus, bus_after, core_after, loads, stores};
 
 use crate::alu::add;
-use crate::bus::{Bus, NoMemory};
+use crate::bus::{Bus, NoMemory, low_bytes};
 use crate::ending::{advance, finish, trap};
 use rv_decode::Instr;
 use rv_hart::{Exception, Hart};
@@ -63,18 +63,6 @@ fn is_aligned(at: u32, width: u8) -> bool
         1 => true,
         2 => at % 2 == 0,
         _ => at % 4 == 0,
-    }
-}
-
-/// The lower bytes of a word.
-fn low_bytes(value: u32, width: u8) -> u32
-    requires { IsWidth width }
-    ensures { result ≡ value % 256 ^ width }
-{
-    match width {
-        1 => value % 256,
-        2 => value % 65536,
-        _ => value,
     }
 }
 

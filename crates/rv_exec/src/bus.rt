@@ -1,6 +1,6 @@
 //! What a hart is wired to.
-ghost use Rattle.std.specs.Prelude.{◌≡◌, ℕ, ◌^◌, ◌<◌, Option, IfOk, OnOk, OnErr};
-ghost use Rattle.rv_exec.specs.Access.{IsAccess};
+ghost use Rattle.std.specs.Prelude.{◌≡◌, ℕ, ◌%◌, ◌^◌, ◌<◌, Option, IfOk, OnOk, OnErr};
+ghost use Rattle.rv_exec.specs.Access.{IsAccess, IsWidth};
 
 /// Memory ran out.
 #[derive(Clone, Copy, PartialEq, Eq, Debug)]
@@ -40,4 +40,18 @@ pub trait Bus {
         requires fits { value < 256 ^ width }
         ensures ok { OnOk result (self.new ≡ stored self.old at width value) }
         ensures err { OnErr result (self.new ≡ self.old) };
+}
+
+/// The lowest 1, 2 or 4 bytes of a value: what an access of this width has of it.
+#[inline]
+pub fn low_bytes(value: u32, width: u8) -> u32
+    requires { IsWidth width }
+    ensures value { result ≡ value % 256 ^ width }
+    ensures fits { result < 256 ^ width }
+{
+    match width {
+        1 => value % 0x100,
+        2 => value % 0x1_0000,
+        _ => value,
+    }
 }
