@@ -1,9 +1,9 @@
-//! A board that waits for its timer.
+//! A board that waits for its timer or its UART.
 ghost use Rattle.std.specs.Prelude.{◌≡◌, ◌∷◌, [], IfOk};
 ghost use Rattle.dev_core.specs.declared.kind.Kind.TheVariants.{Uart as uart};
 
 use board::{Board, SlotAt, Turn};
-use dev_core::Kind;
+use dev_core::{Kind, Payload, Taken};
 use lab_num::{BoardNo, Micros, NoMemory, Rows};
 use sample_boards::usual_board;
 use std::alloc::Global;
@@ -14,16 +14,28 @@ use uart_16550::Uart;
 
 const BASE: u32 = 0x8000_0000;
 
-/// The usual board, whose timer interrupt is wired.
+/// The timer interrupt, and the UART's as that of source 10 of the interrupt controller.
+const WIRES: [Wire; 3] = [
+    Wire {
+        from: WireFrom::Timer,
+        pin: WirePin::Cpu(7),
+    },
+    Wire {
+        from: WireFrom::Dev(0),
+        pin: WirePin::Source(10),
+    },
+    Wire {
+        from: WireFrom::Context(0),
+        pin: WirePin::Cpu(11),
+    },
+];
+
+/// The usual board, whose interrupts are wired.
 fn plan(alloc: Global) -> Result<BoardPlan, NoMemory>
     ensures { IfOk result (λ plan. plan.kinds ≡ uart ∷ []) }
 {
     let kinds = Rows::of(vec![in alloc; Kind::Uart]?);
-    let wire = Wire {
-        from: WireFrom::Timer,
-        pin: WirePin::Cpu(7),
-    };
-    let wires = Rows::of(vec![in alloc; wire]?);
+    let wires = Rows::of(WIRES.to_vec(alloc)?);
     let mut plan = usual_board(alloc)?;
     plan.kinds = kinds;
     plan.wires = wires;
@@ -41,7 +53,7 @@ fn start(rt: &impl Abort, alloc: Global) -> Result<Board<Uart>, Fail> {
 }
 
 /// wfi, and a jump to itself.
-const SLEEP: [u8; 8] = [0x73, 0x00, 0x50, 0x10, 0x6F, 0x00, 0x00, 0x00];
+const SLEEP: [u32; 2] = [0x1050_0073, 0x0000_006F];
 
 /// Enables the timer interrupt in mie while MIE is 0, puts 100 in mtimecmp and waits. Woken, it
 /// reads mcycle to x8 and mtime to x10, and jumps to itself.
@@ -50,25 +62,127 @@ const SLEEP: [u8; 8] = [0x73, 0x00, 0x50, 0x10, 0x6F, 0x00, 0x00, 0x00];
 ///     csrrw x0, mie, x5     addi x7, x0, 100     csrrs x8, mcycle, x0 jal x0, 0
 ///                           sw x0, 4(x6)         lui x9, 0x200C
 ///                           sw x7, 0(x6)
-const ALARM: [u8; 44] = [
-    0x93, 0x02, 0x00, 0x08, 0x73, 0x90, 0x42, 0x30, 0x37, 0x43, 0x00, 0x02, 0x93, 0x03, 0x40, 0x06,
-    0x23, 0x22, 0x03, 0x00, 0x23, 0x20, 0x73, 0x00, 0x73, 0x00, 0x50, 0x10, 0x73, 0x24, 0x00, 0xB0,
-    0xB7, 0xC4, 0x00, 0x02, 0x03, 0xA5, 0x84, 0xFF, 0x6F, 0x00, 0x00, 0x00,
+const ALARM: &[u32] = &[
+    0x0800_0293,
+    0x3042_9073,
+    0x0200_4337,
+    0x0640_0393,
+    0x0003_2223,
+    0x0073_2023,
+    0x1050_0073,
+    0xB000_2473,
+    0x0200_C4B7,
+    0xFF84_A503,
+    0x0000_006F,
+];
+
+/// The same with 0 in mtimecmp: `addi x7, x0, 0`. The line is up before the wait.
+const AT_ONCE: &[u32] = &[
+    0x0800_0293,
+    0x3042_9073,
+    0x0200_4337,
+    0x0000_0393,
+    0x0003_2223,
+    0x0073_2023,
+    0x1050_0073,
+    0xB000_2473,
+    0x0200_C4B7,
+    0xFF84_A503,
+    0x0000_006F,
+];
+
+/// The same as the first with 0 in mie: `addi x5, x0, 0`.
+const NOT_ENABLED: &[u32] = &[
+    0x0000_0293,
+    0x3042_9073,
+    0x0200_4337,
+    0x0640_0393,
+    0x0003_2223,
+    0x0073_2023,
+    0x1050_0073,
+    0xB000_2473,
+    0x0200_C4B7,
+    0xFF84_A503,
+    0x0000_006F,
+];
+
+/// Puts 2^64 - 40 in mtime and 2^64 - 20 in mtimecmp, waits, and reads mcycle to x8. Then it puts 3 in
+/// mtimecmp, looks at mip until the line has fallen, since mtime is 0 again, waits once more, and reads
+/// mcycle to x10.
+///
+///     addi x5, x0, 0x80     sw x7, 4(x6)         csrrs x8, mcycle, x0  bne x11, x0, -8
+///     csrrw x0, mie, x5     addi x7, x0, -40     addi x7, x0, 3        wfi
+///     lui x6, 0x2004        sw x7, -8(x9)        sw x0, 4(x6)          csrrs x10, mcycle, x0
+///     lui x9, 0x200C        addi x7, x0, -20     sw x7, 0(x6)          jal x0, 0
+///     addi x7, x0, -1       sw x7, 0(x6)         csrrs x11, mip, x0
+///     sw x7, -4(x9)         wfi                  andi x11, x11, 0x80
+const WRAP: &[u32] = &[
+    0x0800_0293,
+    0x3042_9073,
+    0x0200_4337,
+    0x0200_C4B7,
+    0xFFF0_0393,
+    0xFE74_AE23,
+    0x0073_2223,
+    0xFD80_0393,
+    0xFE74_AC23,
+    0xFEC0_0393,
+    0x0073_2023,
+    0x1050_0073,
+    0xB000_2473,
+    0x0030_0393,
+    0x0003_2223,
+    0x0073_2023,
+    0x3440_25F3,
+    0x0805_F593,
+    0xFE05_9CE3,
+    0x1050_0073,
+    0xB000_2573,
+    0x0000_006F,
+];
+
+/// Turns the interrupt of received bytes on in the UART, in the interrupt controller and in mie while MIE
+/// is 0, and waits. Woken, it reads mcycle to x8 and mip to x10, and jumps to itself.
+///
+///     lui x6, 0xC000        lui x8, 0xC002       lui x5, 0x10000      csrrw x0, mie, x9    csrrs x8, mcycle, x0
+///     addi x7, x0, 1        addi x9, x0, 1024    sb x7, 1(x5)         addi x8, x0, 0       csrrs x10, mip, x0
+///     sw x7, 40(x6)         sw x9, 0(x8)         lui x9, 1            wfi                  jal x0, 0
+///                                                addi x9, x9, -2048
+const LISTEN: &[u32] = &[
+    0x0C00_0337,
+    0x0010_0393,
+    0x0273_2423,
+    0x0C00_2437,
+    0x4000_0493,
+    0x0094_2023,
+    0x1000_02B7,
+    0x0072_80A3,
+    0x0000_14B7,
+    0x8004_8493,
+    0x3044_9073,
+    0x0000_0413,
+    0x1050_0073,
+    0xB000_2473,
+    0x3440_2573,
+    0x0000_006F,
 ];
 
 /// Makes a program the next to run, at a speed in instructions a microsecond.
-fn load(
-    rt: &impl Abort,
-    board: &mut Board<Uart>,
-    program: &[u8],
-    speed: u32,
-) -> Result<(), NoMemory> {
-    assert!(rt; program.len() < 0x1000 && board.holds(BASE, program.len() as u32));
-    board.copy_in(BASE, program)?;
-    board.set_pc(BASE);
-    assert!(rt; 1 <= speed && speed <= 1000);
+fn is_loaded(board: &mut Board<Uart>, program: &[u32], speed: u32) -> Result<bool, NoMemory> {
+    if speed < 1 || speed > 1000 {
+        return Ok(false);
+    }
     board.set_speed(speed);
-    Ok(())
+    board.set_pc(BASE);
+    let mut at = BASE;
+    for word in program {
+        if at > BASE + 0x1000 || !board.holds(at, 4) {
+            return Ok(false);
+        }
+        board.copy_in(at, &word.to_le_bytes())?;
+        at += 4;
+    }
+    Ok(true)
 }
 
 /// Whether the board takes so many slots, from one of the grant that begins with the laboratory on.
@@ -89,49 +203,78 @@ fn takes(board: &mut Board<Uart>, first: u64, n: u64) -> bool {
     board.turn(at, n) == Turn::Used(n)
 }
 
+/// Whether the UART takes a byte.
+fn receives(board: &mut Board<Uart>) -> bool {
+    !board.plan().kinds.items().is_empty() && board.deliver(0, &Payload::Byte(65)) == Taken::Kept
+}
+
 /// 10,000 seconds at 1,000 instructions a microsecond are 10^13 slots. Only passed over are they
 /// taken in the time that a test has.
 #[test]
 fn a_board_that_waits_or_is_halted_passes_over_its_slots(rt: HostRuntime) -> Result<(), Fail> {
     let mut board = start(&rt, rt.alloc())?;
-    load(&rt, &mut board, &SLEEP, 1000)?;
-    assert!(rt; takes(&mut board, 0, 10_000_000_000_000));
+    let is_so = is_loaded(&mut board, &SLEEP, 1000)?;
+    assert!(rt; is_so && !board.is_asleep());
+    assert!(rt; takes(&mut board, 0, 10_000_000_000_000) && board.is_asleep());
     assert!(rt; board.retired() == 1 && board.pc() == BASE + 4);
     board.set_halted(true);
-    assert!(rt; takes(&mut board, 0, 10_000_000_000_000));
+    assert!(rt; takes(&mut board, 0, 10_000_000_000_000) && board.is_asleep());
     assert!(rt; board.retired() == 1 && board.pc() == BASE + 4);
     Ok(())
 }
 
-/// A speed, the slots of two turns, and then minstret, mcycle as the first instruction after the
-/// wait read it, and mtime as the third one did.
-static ALARMS: [(u32, u64, u64, u64, u32, u32); 7] = [
-    (1000, 100_000, 0, 7, 0, 0),
-    (1000, 100_000, 3, 10, 100_000, 100),
-    (1000, 100_001, 2, 10, 100_000, 100),
-    (1000, 50_500, 49_503, 10, 100_000, 100),
-    (3, 299, 4, 10, 300, 100),
-    (1, 7, 96, 10, 100, 102),
-    (1, 103, 0, 10, 100, 102),
+type Wait = (&'static [u32], u32, u64, bool, u64, u64, u32, u32);
+
+/// Each row: a program, a speed, the slots of a first turn, whether the UART then takes a byte, the slots of a
+/// second turn, and what is in minstret, x8 and x10 after it. mcycle in x8 is the slot in which the board was woken.
+static WAITS: [Wait; 18] = [
+    // woken in the first slot of a microsecond, at both sides of a turn's end
+    (ALARM, 1000, 100_000, false, 0, 7, 0, 0),
+    (ALARM, 1000, 100_000, false, 3, 10, 100_000, 100),
+    (ALARM, 1000, 100_001, false, 2, 10, 100_000, 100),
+    (ALARM, 1000, 50_500, false, 49_503, 10, 100_000, 100),
+    (ALARM, 3, 299, false, 4, 10, 300, 100),
+    (ALARM, 1, 7, false, 96, 10, 100, 102),
+    (ALARM, 1, 103, false, 0, 10, 100, 102),
+    // the line is up before the wait: woken in the first, a middle and the last slot of a microsecond
+    (AT_ONCE, 7, 7, false, 4, 11, 7, 1),
+    (AT_ONCE, 10, 7, false, 4, 11, 7, 0),
+    (AT_ONCE, 8, 7, false, 4, 11, 7, 1),
+    // an interrupt that is not enabled wakes nobody
+    (NOT_ENABLED, 25, 2_500, false, 100_000, 7, 0, 0),
+    // the line rises in slot 2000, falls in slot 4000 and rises in slot 4300; turns end beside each
+    (WRAP, 100, 4_310, false, 0, 2_028, 2_000, 4_300),
+    (WRAP, 100, 1_999, false, 2_311, 2_028, 2_000, 4_300),
+    (WRAP, 100, 4_299, false, 11, 2_028, 2_000, 4_300),
+    // a byte comes before the wait, and in the first, a middle and the last slot of a microsecond
+    (LISTEN, 25, 12, true, 8, 20, 13, 0x800),
+    (LISTEN, 25, 1_000, true, 10, 23, 1_000, 0x800),
+    (LISTEN, 25, 1_012, true, 10, 23, 1_012, 0x800),
+    (LISTEN, 25, 1_024, true, 10, 23, 1_024, 0x800),
 ];
 
-fn wakes(board: &mut Board<Uart>, row: &(u32, u64, u64, u64, u32, u32)) -> bool {
-    let &(_, first, second, retired, mcycle, mtime) = row;
-    takes(board, 0, first)
-        && takes(board, first, second)
-        && board.retired() == retired
-        && board.register(8) == mcycle
-        && board.register(10) == mtime
+fn is_woken(board: &mut Board<Uart>, row: &Wait) -> Result<bool, NoMemory> {
+    let &(program, speed, first, byte, second, retired, x8, x10) = row;
+    let is_so = is_loaded(board, program, speed)?;
+    Ok(
+        is_so
+            && takes(board, 0, first)
+            && (!byte || receives(board))
+            && takes(board, first, second)
+            && board.retired() == retired
+            && board.register(8) == x8
+            && board.register(10) == x10,
+    )
 }
 
 #[test]
-fn a_waiting_board_is_woken_in_the_first_slot_of_its_microsecond(
+fn a_waiting_board_is_woken_in_the_slot_in_which_its_interrupt_comes(
     rt: HostRuntime,
 ) -> Result<(), Fail> {
-    for row in &ALARMS {
+    for row in &WAITS {
         let mut board = start(&rt, rt.alloc())?;
-        load(&rt, &mut board, &ALARM, row.0)?;
-        assert!(rt; wakes(&mut board, row), "{row:?}");
+        let is_so = is_woken(&mut board, row)?;
+        assert!(rt; is_so, "{row:?}");
     }
     Ok(())
 }
