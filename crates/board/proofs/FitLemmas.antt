@@ -137,19 +137,7 @@ in_page s at width target fit access one_page is =
     by_kind kind.Plic place page = tt
     by_kind (kind.Dev dev) place page = tt
 
--- the place of a word, of a half-word and of each access, in a memory that is known
-pub word_lies :
-    (s : Space) (regions : List Region) (at : ℕ) (place : Place) → IsFit s → regions ≡ s.plan.regions →
-    IsPlace regions at place → LiesIn s 4 (Ram place.part place.at)
-word_lies s regions at place fit same is =
-    lies s 4 (Ram place.part place.at) fit (rw same at (is 4 (inr (inr refl))).1)
-
-pub half_lies :
-    (s : Space) (regions : List Region) (at : ℕ) (place : Place) → IsFit s → regions ≡ s.plan.regions →
-    IsPlace regions at place → LiesIn s 2 (Ram place.part place.at)
-half_lies s regions at place fit same is =
-    lies s 2 (Ram place.part place.at) fit (rw same at (is 2 (inr (inl refl))).1)
-
+-- the place of each access in a memory that is known
 pub accesses_lie :
     (s : Space) (regions : List Region) (at : ℕ) (place : Option Place) → IsFit s → regions ≡ s.plan.regions →
     ((place width : ℕ) → IsWidth width → place % width ≡ 0 → IsInOnePage place width) →

@@ -1,14 +1,9 @@
 -- What words of memories are, and what a store in a memory leaves.
-use Rattle.std.proofs.Common.{◌≡◌, ℕ, ◌<◌, List, [], Some, inr, length, refl, ap, sym, ◌∙◌}
+use Rattle.std.proofs.Common.{◌≡◌, ℕ, ◌<◌, List, [], length, ap, ◌∙◌}
 use Rattle.std.specs.Prelude.{Result, Ok, Err, slice_index_or}
 use Rattle.std.specs.Result.{OnOk, OnErr}
 use Rattle.std.proofs.lemmas.List.{get_or_default, set-get_or}
-use Rattle.page_ram.specs.Bytes.{value_at}
-use Rattle.sys_bus.specs.declared.near.Place.{Place}
-use Rattle.sys_bus.specs.declared.region.Region.{Region}
-use Rattle.sys_bus.specs.Place.{IsPlace}
 use Rattle.board.specs.Space.{Space, memory_at, with_memory}
-use Rattle.board.specs.Wires.{word_at, word_in}
 
 -- the memory of a number
 memory-is :
@@ -33,11 +28,3 @@ same_on_err s from d memory new (Ok x) is new_is = tt
 same_on_err s from d memory new (Err e) is new_is =
     ap (with_memory s from) (new_is ∙ is)
     ∙ ap (λ memories. record s { memories = memories }) (set-get_or s.memories from d)
-
--- the word at a place that is known
-pub word_is :
-    (s : Space) (regions : List Region) (at : ℕ) (place : Place) (word : ℕ) → regions ≡ s.plan.regions →
-    IsPlace regions at place → word ≡ value_at (memory_at s place.part) place.at 4 → Some word ≡ word_in s at
-word_is s regions at place word same is value_is =
-    let here = rw same at (is 4 (inr (inr refl))).0 in
-    ap Some value_is ∙ ap (word_at s) (sym here)

@@ -15,12 +15,17 @@ use std::mem;
 use sys_bus::BoardPlan;
 
 /// The copies of the interpreter, of which each is called from one place, so that it is inlined
-/// there: those in the two loops of a turn, and one for slots that sample or wait.
+/// there: those in the four loops of a turn, of boards that are wired or not and whose processors
+/// have compressed instructions or not, and one for slots that sample or wait.
 const UNWIRED: u8 = 0;
 
 const WIRED: u8 = 1;
 
-const APART: u8 = 2;
+const UNWIRED_HALVES: u8 = 2;
+
+const WIRED_HALVES: u8 = 3;
+
+const APART: u8 = 4;
 
 /// Where a turn begins: slot `first` of the grant that begins at microsecond `from`.
 #[derive(Clone, Copy, PartialEq, Eq, Debug)]
@@ -159,18 +164,22 @@ impl<D: Device> Board<D> {
         if self.halted() {
             return Turn::Used(n);
         }
-        // two loops, so that a board without timer, interrupt controller and wires asks in no slot for its lines
-        if self.wires.space.is_wired() {
-            self.slots::<WIRED>(true, at, n)
-        } else {
-            self.slots::<UNWIRED>(false, at, n)
+        // four loops, so that a board without timer, interrupt controller and wires asks in no slot for its lines, and
+        // none asks whether its processor has compressed instructions
+        match (self.wires.space.is_wired(), self.hart.letters().c) {
+            (false, false) => self.slots::<UNWIRED>(false, false, at, n),
+            (true, false) => self.slots::<WIRED>(true, false, at, n),
+            (false, true) => self.slots::<UNWIRED_HALVES>(false, true, at, n),
+            (true, true) => self.slots::<WIRED_HALVES>(true, true, at, n),
         }
     }
 
-    /// The next `n` slots of a board that is wired or not.
-    fn slots<const COPY: u8>(&mut self, wired: bool, at: SlotAt, n: u64) -> Turn
+    /// The next `n` slots of a board that is wired or not, and whose processor has compressed
+    /// instructions or not.
+    fn slots<const COPY: u8>(&mut self, wired: bool, halves: bool, at: SlotAt, n: u64) -> Turn
         requires time { at.from.0 + (at.first + n) / self.old.view.numbers.speed ≤ 10000000000 }
         requires wired { wired ≡ is_wired self.old.view.space.plan }
+        requires halves { halves ≡ self.old.view.core.letters.c }
         ensures { IsTurn self.old at.from.0 at.first n result self.new }
     {
         let speed = u64::from(self.speed());
@@ -179,7 +188,7 @@ impl<D: Device> Board<D> {
         let mut i = 0;
         while i < n {
             let count = u64::min(speed - within, n - i);
-            match self.slots_of::<COPY>(wired, Micros(at.from.0 + micros), count) {
+            match self.slots_of::<COPY>(wired, halves, Micros(at.from.0 + micros), count) {
                 Ended::All => {
                     i += count;
                     within += count;
@@ -201,14 +210,22 @@ impl<D: Device> Board<D> {
     }
 
     /// The next `count` slots, all in this microsecond, or those up to an idle one.
-    fn slots_of<const COPY: u8>(&mut self, wired: bool, now: Micros, count: u64) -> Ended
+    fn slots_of<const COPY: u8>(
+        &mut self,
+        wired: bool,
+        halves: bool,
+        now: Micros,
+        count: u64,
+    ) -> Ended
         requires wired { wired ≡ is_wired self.old.view.space.plan }
+        requires halves { halves ≡ self.old.view.core.letters.c }
         requires most { count ≤ self.old.view.numbers.speed }
         ensures ended { HasEnded count result }
         ensures run { self.new ≡ after self.old (stretch self.old.view now.0 0 (taken_of count result)) }
+        ensures letters { self.new.view.core.letters ≡ self.old.view.core.letters }
     {
         for i in 0..count {
-            let Ok(idle) = self.slot::<COPY>(wired, now) else {
+            let Ok(idle) = self.slot::<COPY>(wired, halves, now) else {
                 return Ended::Starved(i);
             };
             if idle {
@@ -230,6 +247,7 @@ impl<D: Device> Board<D> {
         ensures most { i + result ≤ n }
         ensures run { self.new ≡ after self.old
             (stretch self.old.view at.from.0 (at.first + i) result) }
+        ensures letters { self.new.view.core.letters ≡ self.old.view.core.letters }
     {
         let speed = u64::from(self.speed());
         let next = at.first + i;
@@ -292,19 +310,27 @@ impl<D: Device> Board<D> {
         self.hart = hart;
     }
 
-    /// One slot, in this microsecond, of a board that is wired or not. The answer is whether it was
-    /// idle: the processor goes on waiting. After an `Err` the board is as before.
+    /// One slot, in this microsecond, of a board that is wired or not, and whose processor has
+    /// compressed instructions or not. The answer is whether it was idle: the processor goes on
+    /// waiting. After an `Err` the board is as before.
     #[tactic(auto, unfolding(crate::specs::Slot::slot))]
-    fn slot<const COPY: u8>(&mut self, wired: bool, at: Micros) -> Result<bool, NoMemory>
-        requires { wired ≡ is_wired self.old.view.space.plan }
+    fn slot<const COPY: u8>(
+        &mut self,
+        wired: bool,
+        halves: bool,
+        at: Micros,
+    ) -> Result<bool, NoMemory>
+        requires wired { wired ≡ is_wired self.old.view.space.plan }
+        requires halves { halves ≡ self.old.view.core.letters.c }
         ensures ok { OnOk result (self.new ≡ after self.old (slot self.old.view at.0)) }
+        ensures letters { OnOk result (self.new.view.core.letters ≡ self.old.view.core.letters) }
         ensures err { OnErr result (self.new ≡ self.old) }
     {
         if self.hart.halted() {
             return Ok(false);
         }
         match self.wires.space.known_lines(wired, at) {
-            Some(lines) => self.run::<COPY>(at, lines),
+            Some(lines) => self.run::<COPY>(halves, at, lines),
             None => Ok(self.sample_and_run(at)?),
         }
     }
@@ -325,10 +351,12 @@ impl<D: Device> Board<D> {
         ensures ok { OnOk result (self.new ≡ after self.old
             (running (sampling self.old.view) at.0 (lines_of (sampled self.old.view.space) at.0))) }
         ensures err { OnErr result (self.new ≡ self.old) }
+        ensures letters { OnOk result (self.new.view.core.letters ≡ self.old.view.core.letters) }
     {
         let before = self.wires.space.controller_state();
         let lines = self.wires.space.sample(at);
-        let Ok(idle) = self.run::<APART>(at, lines) else {
+        let halves = self.hart.letters().c;
+        let Ok(idle) = self.run::<APART>(halves, at, lines) else {
             self.put_controller(&before);
             return Err(NoMemory);
         };
@@ -336,15 +364,22 @@ impl<D: Device> Board<D> {
     }
 
     /// The rest of a slot whose lines are these. After an `Err` the board is as before.
-    fn run<const COPY: u8>(&mut self, at: Micros, lines: Lines) -> Result<bool, NoMemory>
+    fn run<const COPY: u8>(
+        &mut self,
+        halves: bool,
+        at: Micros,
+        lines: Lines,
+    ) -> Result<bool, NoMemory>
+        requires { halves ≡ self.old.view.core.letters.c }
         ensures ok { OnOk result (self.new ≡ after self.old (running self.old.view at.0 lines)) }
         ensures err { OnErr result (self.new ≡ self.old) }
+        ensures letters { OnOk result (self.new.view.core.letters ≡ self.old.view.core.letters) }
     {
         if self.hart.waiting() {
             // taken apart, so that other slots test no answer of it
             return Ok(self.wait(at, lines)?);
         }
-        self.act::<COPY>(at, lines)?;
+        self.act::<COPY>(halves, at, lines)?;
         Ok(false)
     }
 
@@ -356,13 +391,15 @@ impl<D: Device> Board<D> {
         requires { self.old.view.core.waiting ≡ true }
         ensures ok { OnOk result (self.new ≡ after self.old (asleep self.old.view at.0 lines)) }
         ensures err { OnErr result (self.new ≡ self.old) }
+        ensures letters { OnOk result (self.new.view.core.letters ≡ self.old.view.core.letters) }
     {
         if !self.hart.is_ready(lines.mip) {
             self.hart.tick();
             return Ok(true);
         }
         self.hart.set_waiting(false);
-        let Ok(()) = self.act::<APART>(at, lines) else {
+        let halves = self.hart.letters().c;
+        let Ok(()) = self.act::<APART>(halves, at, lines) else {
             self.hart.set_waiting(true);
             return Err(NoMemory);
         };
@@ -372,16 +409,23 @@ impl<D: Device> Board<D> {
     /// Enters the interrupt that is taken now, or else does one instruction. After an `Err` the
     /// board is as before.
     #[tactic(auto, unfolding(crate::specs::Slot::awake))]
-    fn act<const COPY: u8>(&mut self, at: Micros, lines: Lines) -> Result<(), NoMemory>
+    fn act<const COPY: u8>(
+        &mut self,
+        halves: bool,
+        at: Micros,
+        lines: Lines,
+    ) -> Result<(), NoMemory>
+        requires { halves ≡ self.old.view.core.letters.c }
         ensures ok { OnOk result (self.new ≡ after self.old (awake self.old.view at.0 lines)) }
         ensures err { OnErr result (self.new ≡ self.old) }
+        ensures letters { OnOk result (self.new.view.core.letters ≡ self.old.view.core.letters) }
     {
         if let Some(n) = taken(&self.hart, lines.mip) {
             self.interrupt(n);
             return Ok(());
         }
         self.wires.begin_slot(at);
-        let Ok(()) = instruction(&mut self.hart, &mut self.wires, lines) else {
+        let Ok(()) = instruction(&mut self.hart, &mut self.wires, halves, lines) else {
             return Err(NoMemory);
         };
         Ok(())
@@ -391,7 +435,8 @@ impl<D: Device> Board<D> {
     #[cold]
     #[inline(never)]
     fn interrupt(&mut self, n: u8)
-        ensures { self.new ≡ after self.old (cycle self.old.view (interrupt self.old.view.core n)) }
+        ensures after { self.new ≡ after self.old (cycle self.old.view (interrupt self.old.view.core n)) }
+        ensures letters { self.new.view.core.letters ≡ self.old.view.core.letters }
     {
         self.hart.enter_interrupt(n);
         self.hart.tick();

@@ -1,6 +1,6 @@
 //! All that the loads and stores of a board's processor reach: memories, a timer, an interrupt
 //! controller and devices.
-ghost use Rattle.std.specs.Prelude.{◌≡◌, ◌≤◌, ◌+◌, ◌<◌, ◌^◌, [], length, map, option_map, All, IsTrue, IfOk, IfSome};
+ghost use Rattle.std.specs.Prelude.{◌≡◌, ◌≤◌, ◌+◌, ◌<◌, ◌^◌, ◌%◌, [], length, map, option_map, All, IsTrue, IfOk, IfSome};
 ghost use Rattle.std.specs.Prelude.{OnOk, OnErr};
 ghost use Rattle.std.specs.Vec.{vec_len, vec_capacity};
 ghost use Rattle.rv_exec.specs.Access.{IsAccess, IsWidth};
@@ -15,7 +15,7 @@ ghost use Rattle.board.specs.Inner.Fit.{IsFit, LiesIn, IsInPage, HoldsAccesses};
 ghost use Rattle.board.specs.Inner.Remembers.{is_wired};
 
 mod devices;
-mod halves;
+pub mod halves;
 mod interrupts;
 mod lines;
 mod memories;
@@ -179,23 +179,24 @@ impl<D: Device> Space<D> {
         &self.plan
     }
 
-    /// The word at an address, where a memory holds all four bytes.
+    /// The word at an address that is divisible by 4, where a memory holds all four bytes.
     #[inline(always)]
-    pub fn fetch(&mut self, at: u32) -> Option<u32>
+    pub fn fetch_aligned(&mut self, at: u32) -> Option<u32>
+        requires { at % 4 ≡ 0 }
         ensures value { result ≡ word_in self.old at }
         ensures same { self.new ≡ self.old }
     {
-        match self.regions.near_code(at) {
-            Some(place) => Some(self.word_of_memory(place.part, place.at)),
+        match self.near_code(at) {
+            Some(place) => Some(self.load_memory(place.part, place.at, 4)),
             // taken apart, so that no tag is tested where a memory is near
-            None => Some(self.fetch_anew(at)?),
+            None => Some(self.fetch(at)?),
         }
     }
 
-    /// The same, by a search of all regions.
+    /// The word at an address, where a memory holds all four bytes, by a search of all regions.
     #[cold]
     #[inline(never)]
-    fn fetch_anew(&mut self, at: u32) -> Option<u32>
+    pub fn fetch(&mut self, at: u32) -> Option<u32>
         ensures value { result ≡ word_in self.old at }
         ensures same { self.new ≡ self.old }
     {
@@ -212,6 +213,15 @@ impl<D: Device> Space<D> {
         ensures same { self.new ≡ self.old }
     {
         self.regions.find_code(at)
+    }
+
+    /// The place of an address in the memory of the last fetch. `None` says nothing.
+    #[inline(always)]
+    pub fn near_code(&self, at: u32) -> Option<Place>
+        ensures { IfSome result (HoldsAccesses self.now at) }
+    {
+        aligned_numbers_lie_in_one_page();
+        self.regions.near_code(at)
     }
 
     /// The place of an address in the memory of the last load or store. `None` says nothing.

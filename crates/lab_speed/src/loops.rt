@@ -2,7 +2,7 @@
 
 /// Each loop by its name, in the order of docs/SPEED.md: instructions of one kind that run for ever,
 /// from address 0x80000000 on.
-pub const LOOPS: [(&str, &str); 7] = [
+pub const LOOPS: [(&str, &str); 8] = [
     (
         "jumps",
         "auipc x1, 0\n\
@@ -61,6 +61,15 @@ pub const LOOPS: [(&str, &str); 7] = [
             loop: sb x2, 7(x1)\nlbu x3, 7(x1)\nlbu x4, 5(x1)\nsb x3, 3(x1)\nlbu x5, 3(x1)\n\
             sb x0, 1(x1)\nlbu x6, 1(x1)\nlbu x7, 2(x1)\nlbu x8, 5(x1)\nsb x2, 7(x1)\n\
             lbu x9, 0(x1)\nlbu x10, 4(x1)\njal x0, loop\n",
+    ),
+    // a sequence of numbers, and the UART asked for a byte in each turn
+    (
+        "polls",
+        "lui x8, 0x10000\nlui x21, 0x196\naddi x21, x21, 0x60D\n\
+            lui x22, 0x3C6EF\naddi x22, x22, 0x35F\nloop: mul x20, x20, x21\n\
+            add x20, x20, x22\nlbu x10, 5(x8)\nandi x10, x10, 1\nbeq x10, x0, skip\n\
+            lbu x11, 0(x8)\nskip: srli x12, x20, 24\nandi x13, x12, 15\n\
+            bne x13, x0, loop\nsb x12, 7(x8)\njal x0, loop\n",
     ),
 ];
 

@@ -30,7 +30,7 @@ use uart_16550::Uart;
 /// How the program is called.
 const USAGE: &str =
     "lab_speed LOOP SLOTS [plain|wired|compressed|long [SPEED]], where LOOP is jumps, additions, products, memory, \
-        branches, csr or uart";
+        branches, csr, uart or polls";
 
 /// Instructions a microsecond where no word says so.
 const USUAL_SPEED: u32 = 25;

@@ -78,6 +78,7 @@ fn shift(op: Op, rd: u8, half: u32) -> Option<Instr>
 }
 
 /// C.ADDI4SPN.
+#[inline(always)]
 fn add_to_stack(half: u32) -> Option<Instr>
     ensures { result ≡ expansion_by 0 0 half }
 {
@@ -88,6 +89,7 @@ fn add_to_stack(half: u32) -> Option<Instr>
 }
 
 /// Quadrant 0, by funct3.
+#[inline(always)]
 fn quadrant_0(half: u32, funct3: u32) -> Option<Instr>
     ensures { result ≡ expansion_by 0 funct3 half }
 {
@@ -102,6 +104,7 @@ fn quadrant_0(half: u32, funct3: u32) -> Option<Instr>
 }
 
 /// C.ADDI16SP and C.LUI.
+#[inline(always)]
 fn stack_or_upper(half: u32) -> Option<Instr>
     ensures { result ≡ expansion_by 1 3 half }
 {
@@ -118,6 +121,7 @@ fn stack_or_upper(half: u32) -> Option<Instr>
 }
 
 /// C.SUB, C.XOR, C.OR and C.AND.
+#[inline(always)]
 fn two_short_registers(half: u32) -> Option<Instr>
     requires { field half 10 2 ≡ 3 }
     ensures { result ≡ expansion_by 1 4 half }
@@ -134,6 +138,7 @@ fn two_short_registers(half: u32) -> Option<Instr>
 }
 
 /// Quadrant 1 with funct3 4: operations on x8 to x15.
+#[inline(always)]
 fn short_operation(half: u32) -> Option<Instr>
     ensures { result ≡ expansion_by 1 4 half }
 {
@@ -164,6 +169,7 @@ fn branch(op: Op, half: u32) -> Instr
 }
 
 /// Quadrant 1, by funct3.
+#[inline(always)]
 fn quadrant_1(half: u32, funct3: u32) -> Option<Instr>
     ensures { result ≡ expansion_by 1 funct3 half }
 {
@@ -182,6 +188,7 @@ fn quadrant_1(half: u32, funct3: u32) -> Option<Instr>
 }
 
 /// C.LWSP.
+#[inline(always)]
 fn load_from_stack(half: u32) -> Option<Instr>
     ensures { result ≡ expansion_by 2 2 half }
 {
@@ -193,6 +200,7 @@ fn load_from_stack(half: u32) -> Option<Instr>
 }
 
 /// C.JR and C.MV.
+#[inline(always)]
 fn jump_or_move(half: u32) -> Option<Instr>
     requires { field half 12 1 ≡ 0 }
     ensures { result ≡ expansion_by 2 4 half }
@@ -205,6 +213,7 @@ fn jump_or_move(half: u32) -> Option<Instr>
 }
 
 /// C.EBREAK, C.JALR and C.ADD.
+#[inline(always)]
 fn break_call_or_add(half: u32) -> Instr
     requires { field half 12 1 ≡ 1 }
     ensures { Some result ≡ expansion_by 2 4 half }
@@ -217,6 +226,7 @@ fn break_call_or_add(half: u32) -> Instr
 }
 
 /// Quadrant 2, by funct3.
+#[inline(always)]
 fn quadrant_2(half: u32, funct3: u32) -> Option<Instr>
     ensures { result ≡ expansion_by 2 funct3 half }
 {
@@ -233,6 +243,7 @@ fn quadrant_2(half: u32, funct3: u32) -> Option<Instr>
 }
 
 /// The instruction of the row that the half-word matches, by quadrant.
+#[inline(always)]
 fn by_quadrant(half: u32) -> Option<Instr>
     ensures { result ≡ expansion_by (field half 0 2) (field half 13 3) half }
 {
@@ -249,6 +260,7 @@ fn by_quadrant(half: u32) -> Option<Instr>
 /// the immediate that the row says. `None` exactly where no row matches: at a form that is reserved or is of
 /// floating-point numbers, and at the lower half of an instruction of four bytes, whose low two bits are 11.
 #[tactic(auto)]
+#[inline(always)]
 pub fn expand(half: u16) -> Option<Instr>
     ensures value { result ≡ expansion half }
     ensures valid { IfSome result IsValid }

@@ -3,7 +3,7 @@ ghost use Rattle.std.specs.Prelude.{◌≡◌, ◌+◌, ◌<◌, ◌≤◌, ◌%
 ghost use Rattle.page_ram.specs.Bytes.{value_at};
 ghost use Rattle.rv_hart.specs.declared.letters.Letters.{Letters};
 ghost use Rattle.rv_exec.specs.Fetched.{IsPerformable};
-ghost use Rattle.board.specs.Fetch.{half_in, halves_at, of_half};
+ghost use Rattle.board.specs.Fetch.{half_in, begun_by, of_half};
 ghost use Rattle.board.specs.Space.{memory_at};
 
 use super::Space;
@@ -14,7 +14,7 @@ use sys_bus::Target;
 
 /// What a half-word is: an instruction of two bytes, or none.
 #[inline(always)]
-fn of_half(half: u16) -> Fetched
+pub fn of_half(half: u16) -> Fetched
     ensures value { result ≡ of_half half }
     ensures performable { (letters : Letters) → letters.c ≡ true → IsPerformable letters result }
 {
@@ -30,20 +30,15 @@ fn of_half(half: u16) -> Fetched
 }
 
 impl<D: Device> Space<D> {
-    /// What lies at an address, by half-words.
+    /// What the word is whose lower half is this one, which lies at an address.
     #[inline(always)]
-    pub fn fetch_halves(&mut self, at: u32) -> Fetched
-        requires { at % 2 ≡ 0 }
-        ensures value { result ≡ halves_at self.old at }
-        ensures performable { (letters : Letters) → letters.c ≡ true → IsPerformable letters result }
+    pub fn begun_by(&mut self, half: u16, at: u32) -> Fetched
+        requires even { at % 2 ≡ 0 }
+        requires long { half % 4 ≡ 3 }
+        ensures value { result ≡ begun_by self.old at half }
+        ensures performable { (letters : Letters) → IsPerformable letters result }
         ensures same { self.new ≡ self.old }
     {
-        let Some(half) = self.half(at) else {
-            return Fetched::Fault(at);
-        };
-        if half % 4 != 3 {
-            return of_half(half);
-        }
         let next = at.wrapping_add(2);
         match self.half(next) {
             Some(upper) => Fetched::of_word(u32::from(half) + u32::from(upper) * 0x1_0000),
@@ -53,13 +48,13 @@ impl<D: Device> Space<D> {
 
     /// The half-word at an address, where a memory holds both bytes.
     #[inline(always)]
-    fn half(&mut self, at: u32) -> Option<u16>
+    pub fn half(&mut self, at: u32) -> Option<u16>
         requires { at % 2 ≡ 0 }
         ensures value { result ≡ half_in self.old at }
         ensures same { self.new ≡ self.old }
     {
-        match self.regions.near_code(at) {
-            Some(place) => Some(self.half_of_memory(place.part, place.at)),
+        match self.near_code(at) {
+            Some(place) => Some(self.load_memory(place.part, place.at, 2) as u16),
             None => Some(self.half_anew(at)?),
         }
     }
@@ -80,7 +75,6 @@ impl<D: Device> Space<D> {
         }
     }
 
-    #[inline(always)]
     fn half_of_memory(&self, part: u8, at: u32) -> u16
         requires part { part < length self.now.memories }
         requires lies { at + 2 ≤ length (memory_at self.now part) }

@@ -3,6 +3,9 @@ use Rattle.board.specs.View.{after}
 use Rattle.board.specs.Stretch.{stretch}
 use Rattle.board.proofs.board.Board.slots_of.Given as goal
 
--- The board is as after the slots so far.
+-- The board is as after the slots so far, and has its letters.
 abbrev pub invariant-loop-i : goal.invariant-loop-i
-invariant-loop-i g l = record { run : l.self ≡ after l.fn.self (stretch l.fn.self.view l.now.0 0 l.i) }
+invariant-loop-i g l = record {
+  run : l.self ≡ after l.fn.self (stretch l.fn.self.view l.now.0 0 l.i);
+  letters : l.self.view.core.letters ≡ l.fn.self.view.core.letters;
+}
