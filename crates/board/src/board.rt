@@ -425,7 +425,7 @@ impl<D: Device> Board<D> {
             return Ok(());
         }
         self.wires.begin_slot(at);
-        let Ok(()) = instruction(&mut self.hart, &mut self.wires, halves, lines) else {
+        let Ok(()) = instruction::<COPY, D>(&mut self.hart, &mut self.wires, halves, lines) else {
             return Err(NoMemory);
         };
         Ok(())

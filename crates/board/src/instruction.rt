@@ -13,7 +13,7 @@ use rv_hart::{Hart, Lines};
 /// Does the instruction at the processor's pc, or enters the trap of its exception. `halves` is
 /// whether the processor has compressed instructions.
 #[inline(always)]
-pub fn instruction<D: Device>(
+pub fn instruction<const COPY: u8, D: Device>(
     hart: &mut Hart,
     wires: &mut Wires<D>,
     halves: bool,
@@ -27,15 +27,19 @@ pub fn instruction<D: Device>(
     ensures letters { OnOk result (hart.new.letters ≡ hart.old.letters) }
 {
     if halves {
-        by_halves(hart, wires, lines)
+        by_halves::<COPY, D>(hart, wires, lines)
     } else {
-        by_words(hart, wires, lines)
+        by_words::<COPY, D>(hart, wires, lines)
     }
 }
 
 /// The same of a processor without compressed instructions.
 #[inline(always)]
-fn by_words<D: Device>(hart: &mut Hart, wires: &mut Wires<D>, lines: Lines) -> Result<(), NoMemory>
+fn by_words<const COPY: u8, D: Device>(
+    hart: &mut Hart,
+    wires: &mut Wires<D>,
+    lines: Lines,
+) -> Result<(), NoMemory>
     requires { hart.old.letters.c ≡ false }
     ensures core { OnOk result (hart.new ≡ core_after answer wires.old (effect_on hart.old wires.old lines)) }
     ensures bus { OnOk result (wires.new ≡ bus_after loaded stored wires.old (effect_on hart.old wires.old lines)) }
@@ -53,7 +57,11 @@ fn by_words<D: Device>(hart: &mut Hart, wires: &mut Wires<D>, lines: Lines) -> R
 /// The same of a processor with compressed instructions. Each size has a copy of `perform` of its
 /// own, so that no size is asked for in it.
 #[inline(always)]
-fn by_halves<D: Device>(hart: &mut Hart, wires: &mut Wires<D>, lines: Lines) -> Result<(), NoMemory>
+fn by_halves<const COPY: u8, D: Device>(
+    hart: &mut Hart,
+    wires: &mut Wires<D>,
+    lines: Lines,
+) -> Result<(), NoMemory>
     requires { hart.old.letters.c ≡ true }
     ensures core { OnOk result (hart.new ≡ core_after answer wires.old (effect_on hart.old wires.old lines)) }
     ensures bus { OnOk result (wires.new ≡ bus_after loaded stored wires.old (effect_on hart.old wires.old lines)) }
