@@ -175,7 +175,9 @@ impl<D: Device> Board<D> {
     }
 
     /// The next `n` slots of a board that is wired or not, and whose processor has compressed
-    /// instructions or not.
+    /// instructions or not. It is a function of its own, so that who calls `turn` makes no slot
+    /// dearer.
+    #[inline(never)]
     fn slots<const COPY: u8>(&mut self, wired: bool, halves: bool, at: SlotAt, n: u64) -> Turn
         requires time { at.from.0 + (at.first + n) / self.old.view.numbers.speed ≤ 10000000000 }
         requires wired { wired ≡ is_wired self.old.view.space.plan }
