@@ -1,6 +1,7 @@
 //! One round: every board takes the slots that its grant pays, and then what they have sent is
 //! handed over.
-ghost use Rattle.std.specs.Prelude.{◌≡◌, ◌+◌, ◌*◌, ◌<◌, ◌≤◌, ◌++◌, map, length, true, false, None, IfOk, OnOk, OnErr};
+ghost use Rattle.std.specs.Prelude.{◌≡◌, ◌+◌, ◌*◌, ◌<◌, ◌≤◌, ◌++◌, map, filter, length, true, false, None, IfOk, OnOk};
+ghost use Rattle.std.specs.Prelude.{OnErr};
 ghost use Rattle.std.specs.Option.{option_map};
 ghost use Rattle.std.specs.List.{flat_map};
 ghost use Rattle.lab_num.specs.Key.{KeysDiffer};
@@ -8,6 +9,7 @@ ghost use Rattle.lab_num.specs.Listing.{listing};
 ghost use Rattle.dev_core.specs.Post.{entry_key, post_key};
 ghost use Rattle.log_merge.specs.Merge.{all_entries};
 ghost use Rattle.lab_state.specs.Inner.End.{Played, in_round, played};
+ghost use Rattle.lab_state.specs.Inner.Lending.{is_awake};
 ghost use Rattle.lab_state.specs.Inner.Standing.{outlines, AreDevices};
 ghost use Rattle.lab_state.specs.Inner.Time.{numbers_of, AreStanding, IsTimed, part_of, used_up};
 ghost use Rattle.lab_state.specs.One.{first_without, HaveAllPlans};
@@ -152,8 +154,17 @@ fn step_in_place<D: Device>(
     Ok(made)
 }
 
+/// How many boards are awake.
+fn count_awake<D: Device>(boards: &[NamedBoard<D>]) -> usize
+    ensures value { result ≡ length (filter is_awake boards.now) }
+    ensures within { result ≤ length boards.now }
+{
+    boards.iter().filter(|board| board.is_awake()).count()
+}
+
 /// Gives every board the slots of its part of the open grant, and takes what they have made. One
-/// worker needs no thread, and one board no second worker: then the boards stay where they are.
+/// worker needs no thread, and one board that is awake no second worker: then the boards stay where
+/// they are. A board that is asleep passes over its slots in one step there, and not in turns.
 fn step_boards<R: Threads + Wait + Copy + Send + Sync, D: Device + Send, G: Gate>(
     crew: Crew<R, G>,
     alloc: Global,
@@ -179,7 +190,7 @@ fn step_boards<R: Threads + Wait + Copy + Send + Sync, D: Device + Send, G: Gate
         ≡ flat_map (entries_made (in_round from.0 q)) boards.old) }
 {
     stretches_number();
-    if crew.workers == 1 || boards.len() <= 1 {
+    if crew.workers == 1 || count_awake(boards) <= 1 {
         step_in_place(alloc, boards, source, from, q)
     } else {
         step_lent(crew, alloc, boards, source, from, q)
