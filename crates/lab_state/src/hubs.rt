@@ -122,7 +122,7 @@ impl<D: Device> Lab<D> {
         let Some(n) = self.hub_named(hub) else {
             return Err(ConnectFault::Name);
         };
-        if is_same(self.hubs.head(n).kind, kind) {
+        if is_same(self.hubs.kind(n), kind) {
             Ok(n)
         } else {
             Err(ConnectFault::Kind)
@@ -172,7 +172,7 @@ impl<D: Device> Lab<D> {
         ensures found { names_spec.hub_named self.now.lab result.now ≡ Some n }
         ensures no_board { names_spec.board_named self.now.lab result.now ≡ None }
     {
-        &self.hubs.head(n as usize).name
+        self.hubs.name(n as usize)
     }
 
     /// The kind of devices that a hub connects.
@@ -181,7 +181,7 @@ impl<D: Device> Lab<D> {
         requires exists { n < length self.now.lab.hubs }
         ensures { Some result ≡ option_map (λ hub. hub.kind) (slice_get self.now.lab.hubs n) }
     {
-        self.hubs.head(n as usize).kind
+        self.hubs.kind(n as usize)
     }
 
     /// How long a hub holds back what its members send, in microseconds.

@@ -1,29 +1,33 @@
 -- Hubs whose members and delays are kept apart from their names.
-use Rattle.std.specs.Prelude.{◌≡◌, List, [], ◌∷◌, length, map}
+use Rattle.std.specs.Prelude.{◌≡◌, ℕ, List, [], ◌∷◌, length, map}
 use Rattle.uart_hub.specs.Hub as uart_hub
-use Rattle.lab_state.specs.declared.hub_list.HubName.{HubName}
+use Rattle.dev_core.specs.declared.kind.Kind.{Kind}
 use Rattle.lab_state.specs.Hub.{Hub, members_of}
 
--- a hub of this name and kind, and of this delay and these members
-abbrev pub hub_by : HubName → uart_hub.Hub → Hub
-hub_by name part = record { name = name.name; kind = name.kind; delay = part.delay; members = part.members }
+-- the name of a hub, and the kind of devices that it connects
+abbrev pub Head : Type 0
+Head = List ℕ × Kind
 
-abbrev pub hubs_of : List HubName → List uart_hub.Hub → List Hub
+-- a hub of this name and kind, and of this delay and these members
+abbrev pub hub_by : Head → uart_hub.Hub → Hub
+hub_by head part = record { name = head.0; kind = head.1; delay = part.delay; members = part.members }
+
+abbrev pub hubs_of : List Head → List uart_hub.Hub → List Hub
 hubs_of [] parts = []
-hubs_of (name ∷ names) [] = []
-hubs_of (name ∷ names) (part ∷ parts) = hub_by name part ∷ hubs_of names parts
+hubs_of (head ∷ heads) [] = []
+hubs_of (head ∷ heads) (part ∷ parts) = hub_by head part ∷ hubs_of heads parts
 
 -- a hub apart from its delay and its members
-abbrev pub name_of : Hub → HubName
-name_of hub = record { name = hub.name; kind = hub.kind }
+abbrev pub head_of : Hub → Head
+head_of hub = (hub.name, hub.kind)
 
 -- and its delay and its members
 abbrev pub inside_of : Hub → uart_hub.Hub
 inside_of hub = record { delay = hub.delay; members = hub.members }
 
--- hubs, their names, and their delays and members
-pub record AreParts (names : List HubName) (parts : List uart_hub.Hub) (hubs : List Hub) : Type 0 where
-  pub names_are : map name_of hubs ≡ names
+-- hubs, their names and kinds, and their delays and members
+pub record AreParts (names : List Head) (parts : List uart_hub.Hub) (hubs : List Hub) : Type 0 where
+  pub names_are : map head_of hubs ≡ names
   pub parts_are : map inside_of hubs ≡ parts
   pub members_are : members_of hubs ≡ uart_hub.members_of parts
   pub names_long : length hubs ≡ length names
