@@ -10,7 +10,7 @@ ghost use Rattle.time_handle.specs.Grant.{fresh};
 ghost use Rattle.lab_state.specs.Boundary as boundary_spec;
 ghost use Rattle.lab_state.specs.Boundary.{note_by};
 ghost use Rattle.lab_state.specs.Inner.Change.{changed_by, MayChange};
-ghost use Rattle.lab_state.specs.Inner.Lending.{lent, away, put_back};
+ghost use Rattle.lab_state.specs.Inner.Lending.{is_awake, lent, away, put_back};
 ghost use Rattle.lab_state.specs.Inner.Time.{part_of};
 ghost use Rattle.lab_state.specs.One.{with_view};
 ghost use Rattle.lab_state.specs.Round.{granted, stepped, posts_made, entries_made};
@@ -235,6 +235,16 @@ impl<D: Device> NamedBoard<D> {
         ensures { result ≡ is_none self.now.view }
     {
         self.board.is_none()
+    }
+
+    /// Whether there is a board under the name whose processor neither waits nor is halted.
+    pub fn is_awake(&self) -> bool
+        ensures { result ≡ is_awake self.now }
+    {
+        match &self.board {
+            Some(board) => !board.is_asleep(),
+            None => false,
+        }
     }
 
     /// The kind of a device of the board, if there is one.
