@@ -1,0 +1,7 @@
+-- The definitions that the contracts of `rv_atomic` cite.
+pub mod Table
+pub mod Means
+pub mod Watch
+pub mod Span
+pub mod SharedEffect
+pub mod Inner

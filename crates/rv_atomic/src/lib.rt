@@ -1,0 +1,16 @@
+//! The atomic instructions on words, and the harts that share a memory by them.
+#![tactic(auto)]
+
+mod atomic;
+mod combination;
+mod decoder;
+mod ending;
+mod shared;
+mod span;
+
+mod watch;
+
+pub use atomic::{Atomic, AtomicOp};
+pub use decoder::{atomic_rows_differ, decode_atomic};
+pub use shared::Shared;
+pub use watch::Watch;
