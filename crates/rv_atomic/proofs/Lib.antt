@@ -2,4 +2,6 @@
 pub mod Masks
 pub mod Sole
 pub mod Rows
+pub mod WatchLemmas
+pub mod SpanLemmas
 mod KnownWords

@@ -1,6 +1,7 @@
 //! How an atomic instruction ends: by retiring or by an exception, and what the counters then are.
 ghost use Rattle.std.specs.Prelude.{◌≡◌, ◌<◌};
 ghost use Rattle.rv_hart.specs.Core.{finish};
+ghost use Rattle.rv_exec.specs.Laws.{IsSameHart};
 ghost use Rattle.rv_exec.specs.Outcome.{counted, retires, traps};
 ghost use Rattle.rv_atomic.specs.SharedEffect.{access_fault_cause, misaligned_cause};
 
@@ -35,9 +36,11 @@ pub fn access_fault_cause(op: AtomicOp) -> u32
 }
 
 /// Writes a register, goes on to the next instruction, and counts this one.
+#[tactic(auto, unfolding(rv_hart::specs::Core::finish, rv_hart::specs::Core::ticked, rv_hart::specs::Core::retired))]
 pub fn retire(hart: &mut Hart, rd: u8, value: u32)
     requires { rd < 32 }
-    ensures { hart.new ≡ counted (retires (finish hart.old 4 rd value)) }
+    ensures core { hart.new ≡ counted (retires (finish hart.old 4 rd value)) }
+    ensures same { IsSameHart hart.old hart.new }
 {
     hart.finish(4, rd, value);
     hart.retire();
@@ -47,8 +50,10 @@ pub fn retire(hart: &mut Hart, rd: u8, value: u32)
 /// Enters the trap of an exception, which is a cycle and no instruction.
 #[cold]
 #[inline(never)]
+#[tactic(auto, unfolding(rv_hart::specs::Trap::enter, rv_hart::specs::Core::ticked))]
 pub fn trap(hart: &mut Hart, cause: u32, value: u32)
-    ensures { hart.new ≡ counted (traps hart.old cause value) }
+    ensures core { hart.new ≡ counted (traps hart.old cause value) }
+    ensures same { IsSameHart hart.old hart.new }
 {
     hart.enter_trap(cause, value);
     hart.tick();

@@ -7,10 +7,11 @@ mod decoder;
 mod ending;
 mod shared;
 mod span;
-
+mod step;
 mod watch;
 
 pub use atomic::{Atomic, AtomicOp};
 pub use decoder::{atomic_rows_differ, decode_atomic};
 pub use shared::Shared;
+pub use step::step_shared;
 pub use watch::Watch;

@@ -18,13 +18,13 @@ pub struct Watch {
 }
 
 impl Model for Watch {
-    ghost use Rattle.std.specs.Prelude.{ℕ, ◌≤◌, List, Option, take};
+    ghost use Rattle.std.specs.Prelude.{◌≡◌, ℕ, ◌≤◌, List, Option, length, take};
 
     ghost Value = { List (Option ℕ) };
 
     ghost view = { λ w. take w.harts w.words };
 
-    ghost invariant = { λ w. w.harts ≤ 4 };
+    ghost invariant = { λ w. (w.harts ≤ 4) × (length w.words ≡ 4) };
 }
 
 /// Whether one of so many bytes from an address on is a byte of the word.
