@@ -4,4 +4,5 @@ pub mod Sole
 pub mod Rows
 pub mod WatchLemmas
 pub mod SpanLemmas
+pub mod ReservationLemmas
 mod KnownWords

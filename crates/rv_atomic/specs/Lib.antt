@@ -4,4 +4,6 @@ pub mod Means
 pub mod Watch
 pub mod Span
 pub mod SharedEffect
+pub mod History
+pub mod Laws
 pub mod Inner

@@ -5,6 +5,7 @@ mod atomic;
 mod combination;
 mod decoder;
 mod ending;
+mod laws;
 mod shared;
 mod span;
 mod step;
@@ -12,6 +13,7 @@ mod watch;
 
 pub use atomic::{Atomic, AtomicOp};
 pub use decoder::{atomic_rows_differ, decode_atomic};
+pub use laws::{alone_as_performed, success_needs_reservation};
 pub use shared::Shared;
 pub use step::step_shared;
 pub use watch::Watch;
