@@ -1,7 +1,7 @@
 -- What each step leaves of a reservation.
-use Rattle.std.proofs.Common.{◌≡◌, ◌≢◌, ◌⊎◌, ℕ, zero, suc, ◌+◌, ◌%◌, ◌<◌, ◌==◌, ◌&&◌, Bool, true, false, inl, inr, refl, ap}
-use Rattle.std.proofs.Common.{◌∙◌, sym, subst, List, [], ◌∷◌, ◌++◌, length, map, set, get_or, arith}
-use Rattle.std.specs.Prelude.{Option, Some, None, IsSome, nat_lt, if◌then◌else◌}
+use Rattle.std.proofs.Common.{◌≡◌, ◌≢◌, ◌⊎◌, ℕ, zero, suc, ◌%◌, ◌<◌, ◌==◌, true, false, inl, inr, refl, ap}
+use Rattle.std.proofs.Common.{◌∙◌, sym, List, [], ◌∷◌, length, map, set, arith}
+use Rattle.std.specs.Prelude.{Option, Some, None, IsSome}
 use Rattle.std.specs.Option.{option_map_or}
 use Rattle.std.proofs.Math.ListN.{get_or-map}
 use Rattle.std.proofs.lemmas.Bool.{both_ways, cases_Bool, eq-eqb, eqb-true}

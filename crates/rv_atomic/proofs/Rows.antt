@@ -1,7 +1,7 @@
 -- The test of a row's mask is a test of the fields that the mask covers, for each row of the table.
-use Rattle.std.proofs.Common.{◌≡◌, ◌⊎◌, ℕ, ◌+◌, ◌*◌, ◌^◌, ◌<◌, Bool, true, ◌&&◌, ◌||◌, ◌==◌, refl, ap, ◌∙◌, sym, List, []}
+use Rattle.std.proofs.Common.{◌≡◌, ℕ, ◌+◌, ◌*◌, ◌^◌, ◌<◌, Bool, true, ◌&&◌, ◌||◌, ◌==◌, refl, ap, ◌∙◌, sym, List, []}
 use Rattle.std.proofs.Common.{◌∷◌, inl, inr, arith, rules}
-use Rattle.std.specs.Prelude.{bit_and, find, Option, Some, None, IfSome}
+use Rattle.std.specs.Prelude.{bit_and, find, Option, Some, None}
 use Rattle.std.specs.Option.{option_map}
 use Rattle.std.specs.List.{list_all}
 use Rattle.std.proofs.lemmas.Bool.{eqb-true, and_parts, cases_Bool}

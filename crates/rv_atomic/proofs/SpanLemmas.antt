@@ -1,5 +1,5 @@
 -- The stores alone store, and what they store is aligned.
-use Rattle.std.proofs.Common.{◌≡◌, ℕ, ◌%◌, ◌==◌, ◌||◌, Bool, true, false, inl, inr, refl}
+use Rattle.std.proofs.Common.{◌≡◌, ℕ, ◌%◌, ◌==◌, inl, inr, refl}
 use Rattle.std.specs.Prelude.{None, option_and_then}
 use Rattle.std.proofs.lemmas.Bool.{cases_Bool}
 use Rattle.rv_decode.specs.declared.instruction.Op.{Op}

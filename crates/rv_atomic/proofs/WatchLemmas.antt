@@ -1,5 +1,5 @@
 -- What the list of the reservations that there are becomes, where it is the first part of a longer one.
-use Rattle.std.proofs.Common.{◌≡◌, ℕ, ◌<◌, ◌≤◌, ap, ◌∙◌, sym, subst, List, length, map, take, set, replicate, get_or, arith}
+use Rattle.std.proofs.Common.{◌≡◌, ℕ, ◌<◌, ◌≤◌, ap, ◌∙◌, sym, List, length, map, take, set, replicate, get_or, arith}
 use Rattle.std.specs.Prelude.{Option, None}
 use Rattle.std.proofs.lemmas.List.{length-take-le, take-map, take-replicate, get_or-take}
 use Rattle.std.proofs.Math.Seq.{take-set-lt}

@@ -1,5 +1,5 @@
 -- What the harts that share a memory do one after another, and what a reservation says of it.
-use Rattle.std.specs.Prelude.{◌≡◌, ◌≢◌, ℕ, ◌%◌, Bool, false, List, [], ◌∷◌, ◌++◌, Option, Some, None, IsSome}
+use Rattle.std.specs.Prelude.{◌≡◌, ◌≢◌, ℕ, ◌%◌, Bool, false, List, [], ◌∷◌, ◌++◌, Option, None, IsSome}
 use Rattle.std.specs.Option.{option_map_or}
 use Rattle.rv_hart.specs.declared.csr.Lines.{Lines}
 use Rattle.rv_hart.specs.Core.{Core}

@@ -1,5 +1,5 @@
 -- What a hart that shares its memory with no other does.
-use Rattle.std.specs.Prelude.{◌≡◌, ℕ, List, [], ◌∷◌, Option}
+use Rattle.std.specs.Prelude.{◌≡◌, ℕ, [], ◌∷◌, Option}
 use Rattle.rv_hart.specs.declared.csr.Lines.{Lines}
 use Rattle.rv_hart.specs.Core.{Core}
 use Rattle.rv_exec.specs.declared.fetched.Fetched.{Fetched}

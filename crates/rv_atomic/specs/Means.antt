@@ -1,5 +1,5 @@
 -- What a word means as an atomic instruction: the row of the table that it matches, with its registers.
-use Rattle.std.specs.Prelude.{◌≡◌, ℕ, ◌<◌, Option}
+use Rattle.std.specs.Prelude.{ℕ, ◌<◌, Option}
 use Rattle.std.specs.Option.{option_map}
 use Rattle.rv_decode.specs.Immediate.{field}
 use Rattle.rv_atomic.specs.declared.atomic.AtomicOp.{AtomicOp}

@@ -1,13 +1,12 @@
 -- What a slot of one of the harts that share a memory does to its core, to the bus and to the reservations
 -- (RISC-V Unprivileged ISA 20191213, sections 8.2 and 8.4).
-use Rattle.std.specs.Prelude.{ℕ, ◌%◌, ◌==◌, Bool, if◌then◌else◌, List, Option, Some, None, slice_set}
+use Rattle.std.specs.Prelude.{ℕ, ◌%◌, ◌==◌, if◌then◌else◌, List, Option, Some, None, slice_set}
 use Rattle.std.specs.Prelude.{int_lt, nat_lt, bit_and, bit_or, bit_xor}
 use Rattle.std.specs.Option.{option_map_or}
 use Rattle.rv_hart.specs.declared.csr.Lines.{Lines}
 use Rattle.rv_hart.specs.declared.letters.Letters.{Letters}
 use Rattle.rv_hart.specs.Cause.{load_address_misaligned, store_address_misaligned}
 use Rattle.rv_hart.specs.Core.{Core, reg, finish}
-use Rattle.rv_exec.specs.declared.fetched.Fetched.{Fetched}
 use Rattle.rv_exec.specs.Effect.{Effect, Done, Store, effect}
 use Rattle.rv_exec.specs.Fetched.{IsPerformable}
 use Rattle.rv_exec.specs.Outcome.{retires, traps}

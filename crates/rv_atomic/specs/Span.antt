@@ -1,5 +1,5 @@
 -- The bytes that the effect of an instruction stores.
-use Rattle.std.specs.Prelude.{ℕ, Option, Some, None}
+use Rattle.std.specs.Prelude.{Option, Some, None}
 use Rattle.rv_exec.specs.Effect.{Effect, Done, Load, Store}
 use Rattle.rv_atomic.specs.declared.span.Span.{Span}
 

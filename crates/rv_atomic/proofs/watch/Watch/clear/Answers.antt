@@ -1,5 +1,4 @@
 -- A part of a list of nothing.
-use Rattle.std.proofs.Common.{◌≡◌}
 use Rattle.rv_atomic.proofs.WatchLemmas.{none-first}
 use Rattle.rv_atomic.proofs.watch.Watch.clear.Goals as goal
 

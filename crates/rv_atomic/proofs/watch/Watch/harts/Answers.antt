@@ -1,5 +1,4 @@
 -- The harts that there are come first.
-use Rattle.std.proofs.Common.{◌≡◌}
 use Rattle.rv_atomic.proofs.WatchLemmas.{length-first}
 use Rattle.rv_atomic.proofs.watch.Watch.harts.Goals as goal
 

@@ -1,5 +1,4 @@
 -- A part of a list in which one is set.
-use Rattle.std.proofs.Common.{◌≡◌}
 use Rattle.rv_atomic.proofs.WatchLemmas.{set-first}
 use Rattle.rv_atomic.proofs.watch.Watch.put.Goals as goal
 

@@ -1,5 +1,4 @@
 -- A part of a list of which each is looked at.
-use Rattle.std.proofs.Common.{◌≡◌}
 use Rattle.rv_atomic.proofs.WatchLemmas.{store-first}
 use Rattle.rv_atomic.proofs.watch.Watch.stored.Goals as goal
 
