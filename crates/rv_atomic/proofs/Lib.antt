@@ -2,6 +2,7 @@
 pub mod Masks
 pub mod Sole
 pub mod Rows
+pub mod Opcodes
 pub mod WatchLemmas
 pub mod SpanLemmas
 pub mod ReservationLemmas

@@ -3,6 +3,7 @@ ghost use Rattle.std.specs.Prelude.{◌≡◌, ℕ, ◌+◌, ◌<◌, ◌≤◌,
 ghost use Rattle.rv_decode.specs.Immediate.{field};
 ghost use Rattle.rv_atomic.specs.Table.{matches, table};
 ghost use Rattle.rv_atomic.specs.Means.{IsAtomic, atomic_of};
+ghost use Rattle.rv_atomic.specs.Laws.{MeansNoOther};
 ghost use Rattle.rv_atomic.specs.Inner.ByFields.{op_by};
 
 use crate::atomic::{Atomic, AtomicOp};
@@ -73,4 +74,10 @@ pub fn decode_atomic(word: u32) -> Option<Atomic>
 /// No word matches two rows of the table.
 pub fn atomic_rows_differ()
     ensures { (word : ℕ) → count_by (matches word) table ≤ 1 }
+{}
+
+/// A word of an atomic instruction means no other instruction, so that of `decode` and
+/// `decode_atomic` either may come first.
+pub fn atomic_words_mean_no_other()
+    ensures { MeansNoOther }
 {}

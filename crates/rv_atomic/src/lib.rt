@@ -12,7 +12,7 @@ mod step;
 mod watch;
 
 pub use atomic::{Atomic, AtomicOp};
-pub use decoder::{atomic_rows_differ, decode_atomic};
+pub use decoder::{atomic_rows_differ, atomic_words_mean_no_other, decode_atomic};
 pub use laws::{alone_as_performed, success_needs_reservation};
 pub use shared::Shared;
 pub use step::step_shared;

@@ -14,7 +14,7 @@ use rv_exec::Fetched;
 use rv_hart::Hart;
 
 /// So many bytes from an address on.
-#[derive(Clone, Copy, PartialEq, Eq, Debug)]
+#[derive(Clone, Copy)]
 pub struct Span {
     pub at: u32,
     pub width: u8,
