@@ -1,8 +1,8 @@
 //! Atomic instructions, each by itself: their words, what they do and how they trap.
-use crate::reservations::meaning;
+use crate::reservations::{do_word, put, reserved};
 use crate::step::memory::Memory;
-use crate::step::{GREATEST, LEAST, LINES, MINUS_ONE, hart_with, retired};
-use rv_atomic::{Atomic, AtomicOp, Watch, decode_atomic, step_shared};
+use crate::step::{GREATEST, LEAST, MINUS_ONE, hart_with, retired};
+use rv_atomic::{Atomic, AtomicOp, Watch, decode_atomic};
 use rv_exec::NoMemory;
 use rv_hart::{Hart, HartState};
 use std::process::Abort;
@@ -76,17 +76,16 @@ fn run(
     rt: &impl Abort,
     state: HartState,
     there: u32,
-    reserved: Option<u32>,
+    before: Option<u32>,
     word: u32,
 ) -> (HartState, Memory, Option<u32>) {
     let mut hart = Hart::of(&state).unwrap_or_default();
     let mut memory = memory_with(there);
     let mut watch = Watch::new(1);
-    watch.put(0, reserved);
-    let answer = step_shared(&mut hart, 0, &mut watch, meaning(word), &mut memory, LINES);
-    assert_eq!(rt; answer, Ok(()), "{word:x}");
-    assert_eq!(rt; watch.harts(), 1);
-    (hart.state(), memory, watch.reserved(0))
+    put(&mut watch, 0, before);
+    let answer = do_word(&mut hart, 0, &mut watch, &mut memory, word);
+    assert_eq!(rt; answer, Some(Ok(())), "{word:x}");
+    (hart.state(), memory, reserved(&watch, 0))
 }
 
 /// A word with rd x3, rs2 x2 and rs1 x1, which is 4; the word there, and the operand; and the word
@@ -253,19 +252,19 @@ static REFUSED: [(u32, Option<u32>, Result<(), NoMemory>); 6] = [
 ];
 
 /// Whether the word ends so, and then has changed nothing.
-fn is_refused((word, reserved, answer): (u32, Option<u32>, Result<(), NoMemory>)) -> bool {
+fn is_refused((word, before, answer): (u32, Option<u32>, Result<(), NoMemory>)) -> bool {
     let mut hart = Hart::of(&hart_with(4, 9)).unwrap_or_default();
-    let before = hart;
+    let old = hart;
     let mut memory = memory_with(0x11);
     memory.is_full = true;
     let full = memory;
     let mut watch = Watch::new(2);
-    watch.put(0, reserved);
-    watch.put(1, Some(4));
-    step_shared(&mut hart, 0, &mut watch, meaning(word), &mut memory, LINES) == answer
+    put(&mut watch, 0, before);
+    put(&mut watch, 1, Some(4));
+    do_word(&mut hart, 0, &mut watch, &mut memory, word) == Some(answer)
         && memory == full
-        && watch.reserved(1) == Some(4)
-        && (answer.is_ok() || hart == before && watch.reserved(0) == reserved)
+        && reserved(&watch, 1) == Some(4)
+        && (answer.is_ok() || hart == old && reserved(&watch, 0) == before)
 }
 
 #[test]

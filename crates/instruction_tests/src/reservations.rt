@@ -5,7 +5,7 @@ ghost use Rattle.rv_atomic.specs.SharedEffect.{IsSharable};
 use crate::step::LINES;
 use crate::step::memory::Memory;
 use rv_atomic::{Shared, Watch, decode_atomic, step_shared};
-use rv_exec::Fetched;
+use rv_exec::{Fetched, NoMemory};
 use rv_hart::Hart;
 
 /// What a word is on a hart with atomic instructions.
@@ -15,6 +15,38 @@ pub fn meaning(word: u32) -> Shared
     match decode_atomic(word) {
         Some(atomic) => Shared::Atomic(atomic),
         None => Shared::Plain(Fetched::of_word(word)),
+    }
+}
+
+/// Does a word on a hart of the watch. `None` where there is no such hart.
+pub fn do_word(
+    hart: &mut Hart,
+    number: u8,
+    watch: &mut Watch,
+    memory: &mut Memory,
+    word: u32,
+) -> Option<Result<(), NoMemory>> {
+    if number < watch.harts() {
+        let what = meaning(word);
+        Some(step_shared(hart, number, watch, what, memory, LINES))
+    } else {
+        None
+    }
+}
+
+/// The word that a hart has reserved.
+pub fn reserved(watch: &Watch, number: u8) -> Option<u32> {
+    if number < watch.harts() {
+        watch.reserved(number)
+    } else {
+        None
+    }
+}
+
+/// Sets the reservation of a hart of the watch.
+pub fn put(watch: &mut Watch, number: u8, word: Option<u32>) {
+    if number < watch.harts() {
+        watch.put(number, word);
     }
 }
 
@@ -106,83 +138,87 @@ fn do_step(watch: &mut Watch, memory: &mut Memory, (number, word, at): Step) -> 
     hart.set_register(1, at);
     hart.set_register(2, 5);
     hart.set_register(3, 0x55);
-    if number < watch.harts()
-        && step_shared(&mut hart, number, watch, meaning(word), memory, LINES).is_ok()
-    {
-        Some(hart.register(3))
-    } else {
-        None
-    }
+    do_word(&mut hart, number, watch, memory, word)?.ok()?;
+    Some(hart.register(3))
 }
 
-/// What the SC of hart 0 gives after its LR and what is done between.
-fn given(between: &[Step]) -> Option<u32> {
+/// Does the steps one after another, and gives the word of x3 after the last.
+fn do_steps(watch: &mut Watch, memory: &mut Memory, steps: &[Step]) -> Option<u32> {
+    let mut last = None;
+    for step in steps {
+        last = do_step(watch, memory, *step);
+    }
+    last
+}
+
+/// Whether the SC of hart 0 gives this after its LR and what is done between, and ends its
+/// reservation.
+fn gives((between, wanted): (&[Step], u32)) -> bool {
     let mut watch = Watch::new(4);
     let mut memory = Memory {
         words: [0x7777_7777; 16],
         is_full: false,
     };
-    do_step(&mut watch, &mut memory, (0, LR, 8))?;
-    for step in between {
-        do_step(&mut watch, &mut memory, *step)?;
-    }
-    let given = do_step(&mut watch, &mut memory, (0, SC, 8))?;
-    if watch.reserved(0).is_none() {
-        Some(given)
-    } else {
-        None
-    }
+    let _ = do_step(&mut watch, &mut memory, (0, LR, 8));
+    let _ = do_steps(&mut watch, &mut memory, between);
+    let given = do_step(&mut watch, &mut memory, (0, SC, 8));
+    given == Some(wanted) && reserved(&watch, 0).is_none()
 }
 
 #[test]
 fn sc_stores_where_no_other_hart_has_stored_since_lr(rt: HostRuntime) {
-    for &(between, wanted) in &BETWEEN {
-        let found = given(between);
-        assert!(rt; found == Some(wanted), "{between:?}: {found:?}");
+    for row in &BETWEEN {
+        assert!(rt; gives(*row), "{row:?}");
     }
 }
 
-/// Two harts at one word: what the word and x3 of the SC are, where hart 1 has stored 5 between, or
-/// has not.
+/// Whether hart 0, which reserves a word and stores 9 there by SC, gets this answer and leaves this
+/// word, where hart 1 has done this between.
+fn leaves((between, x3, word): (&[Step], u32, u32)) -> bool {
+    let mut watch = Watch::new(2);
+    let mut memory = Memory {
+        words: [0; 16],
+        is_full: false,
+    };
+    let _ = do_step(&mut watch, &mut memory, (0, LR, 8));
+    let _ = do_steps(&mut watch, &mut memory, between);
+    let mut hart = Hart::new();
+    hart.set_register(1, 8);
+    hart.set_register(2, 9);
+    let _ = do_word(&mut hart, 0, &mut watch, &mut memory, SC);
+    hart.register(3) == x3 && memory.words[2] == word
+}
+
+/// Two harts at one word, of which the other stores 5 between, or does nothing.
+static TWO_HARTS: [(&[Step], u32, u32); 2] = [(&[(1, SW, 8)], 1, 5), (&[], 0, 9)];
+
 #[test]
 fn a_reservation_is_lost_by_the_store_of_the_other_hart(rt: HostRuntime) {
-    for &(stores, x3, word) in &[(true, 1, 5), (false, 0, 9)] {
-        let mut watch = Watch::new(2);
-        let mut memory = Memory {
-            words: [0; 16],
-            is_full: false,
-        };
-        let _ = do_step(&mut watch, &mut memory, (0, LR, 8));
-        if stores {
-            let _ = do_step(&mut watch, &mut memory, (1, SW, 8));
-        }
-        let mut hart = Hart::new();
-        hart.set_register(1, 8);
-        hart.set_register(2, 9);
-        if watch.harts() == 2 {
-            let _ = step_shared(&mut hart, 0, &mut watch, meaning(SC), &mut memory, LINES);
-        }
-        assert!(rt;
-            hart.register(3) == x3 && memory.words[2] == word,
-            "{hart:?} {memory:?}"
-        );
+    for row in &TWO_HARTS {
+        assert!(rt; leaves(*row), "{row:?}");
     }
 }
 
+/// What three harts have reserved.
+fn all(watch: &Watch) -> [Option<u32>; 3] {
+    [reserved(watch, 0), reserved(watch, 1), reserved(watch, 2)]
+}
+
 #[test]
-fn reservations_end_by_clear_and_by_stores_of_others(rt: HostRuntime) {
+fn reservations_end_by_stores_of_others_and_by_clear(rt: HostRuntime) {
     let mut watch = Watch::new(3);
-    assert_eq!(rt; watch.harts(), 3);
-    for hart in 0..3 {
-        assert_eq!(rt; watch.reserved(hart), None);
-        watch.put(hart, Some(0xFFFF_FFFC));
+    let none = all(&watch);
+    watch.put(0, Some(0xFFFF_FFFC));
+    put(&mut watch, 1, Some(0));
+    put(&mut watch, 2, Some(0xFFFF_FFFC));
+    let set = all(&watch);
+    if 0 < watch.harts() {
+        watch.stored(0, 0xFFFF_FFFF, 1);
     }
-    watch.put(1, Some(0));
-    watch.stored(0, 0xFFFF_FFFF, 1);
-    assert_eq!(rt; watch.reserved(0), Some(0xFFFF_FFFC));
-    assert_eq!(rt; watch.reserved(1), Some(0));
-    assert_eq!(rt; watch.reserved(2), None);
+    let left = all(&watch);
     watch.clear();
-    assert_eq!(rt; watch.reserved(0), None);
-    assert_eq!(rt; watch.reserved(1), None);
+    assert!(rt; none == [None, None, None]);
+    assert!(rt; set == [Some(0xFFFF_FFFC), Some(0), Some(0xFFFF_FFFC)]);
+    assert!(rt; left == [Some(0xFFFF_FFFC), Some(0), None]);
+    assert!(rt; all(&watch) == [None, None, None]);
 }

@@ -1,5 +1,5 @@
 -- The opcode of the atomic instructions is no other's.
-use Rattle.std.proofs.Common.{◌≡◌, ℕ, ◌-◌, ◌^◌, ◌<◌, ◌/◌, ◌%◌, ◌&&◌, ◌==◌, Bool, true, false, not, refl, ap, ◌∙◌, sym, List, []}
+use Rattle.std.proofs.Common.{◌≡◌, ℕ, ◌^◌, ◌/◌, ◌%◌, ◌&&◌, ◌==◌, Bool, true, not, refl, ap, ◌∙◌, sym, List, []}
 use Rattle.std.proofs.Common.{◌∷◌, inl, inr, arith}
 use Rattle.std.specs.Prelude.{Option, Some, None, IsSome, bit_and, find}
 use Rattle.std.specs.Option.{option_map}

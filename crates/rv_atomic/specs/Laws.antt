@@ -1,5 +1,5 @@
 -- Laws of the words of atomic instructions, and of a hart that shares its memory with no other.
-use Rattle.std.specs.Prelude.{◌≡◌, ℕ, List, [], ◌∷◌, Option, None, IsSome}
+use Rattle.std.specs.Prelude.{◌≡◌, ℕ, [], ◌∷◌, Option, None, IsSome}
 use Rattle.rv_decode.specs.Means.{means}
 use Rattle.rv_hart.specs.declared.csr.Lines.{Lines}
 use Rattle.rv_hart.specs.Core.{Core}
