@@ -5,5 +5,8 @@ pub mod Rows
 pub mod Opcodes
 pub mod WatchLemmas
 pub mod SpanLemmas
-pub mod ReservationLemmas
+pub mod OtherHarts
+pub mod OwnSteps
+pub mod HistoryLemmas
+pub mod AloneLemmas
 mod KnownWords

@@ -8,7 +8,8 @@ use Rattle.rv_atomic.specs.declared.atomic.AtomicOp.TheVariants.{Lr, Sc}
 use Rattle.rv_atomic.specs.declared.atomic.Atomic.{Atomic}
 use Rattle.rv_atomic.specs.declared.shared.Shared.{Shared}
 use Rattle.rv_atomic.specs.declared.shared.Shared.TheVariants as shared
-use Rattle.rv_atomic.specs.SharedEffect.{SharedEffect, address, shared_effect}
+use Rattle.rv_atomic.specs.AtomicEffect.{SharedEffect, address}
+use Rattle.rv_atomic.specs.SharedEffect.{shared_effect}
 use Rattle.rv_atomic.specs.Span.{span_of}
 use Rattle.rv_atomic.specs.Watch.{reaches, reserved}
 

@@ -7,7 +7,8 @@ use Rattle.rv_exec.specs.declared.fetched.Fetched.{Fetched}
 use Rattle.rv_exec.specs.Effect.{effect}
 use Rattle.rv_atomic.specs.declared.shared.Shared.TheVariants as shared
 use Rattle.rv_atomic.specs.Means.{atomic_of}
-use Rattle.rv_atomic.specs.SharedEffect.{leaves, shared_effect}
+use Rattle.rv_atomic.specs.AtomicEffect.{leaves}
+use Rattle.rv_atomic.specs.SharedEffect.{shared_effect}
 
 -- what is no atomic instruction does what it does by the rules of a hart alone, and the reservation stays
 abbrev pub PlainAlone : Type 0

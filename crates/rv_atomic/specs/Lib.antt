@@ -3,6 +3,8 @@ pub mod Table
 pub mod Means
 pub mod Watch
 pub mod Span
+pub mod Combined
+pub mod AtomicEffect
 pub mod SharedEffect
 pub mod History
 pub mod Laws

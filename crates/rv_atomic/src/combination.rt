@@ -1,6 +1,6 @@
 //! What an atomic memory operation stores (RISC-V Unprivileged ISA 20191213, section 8.4).
 ghost use Rattle.std.specs.Prelude.{◌≡◌};
-ghost use Rattle.rv_atomic.specs.SharedEffect.{combined, greatest, greatest_unsigned, least, least_unsigned};
+ghost use Rattle.rv_atomic.specs.Combined.{combined, greatest, greatest_unsigned, least, least_unsigned};
 
 use crate::atomic::AtomicOp;
 

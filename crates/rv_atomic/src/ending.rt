@@ -3,7 +3,7 @@ ghost use Rattle.std.specs.Prelude.{◌≡◌, ◌<◌};
 ghost use Rattle.rv_hart.specs.Core.{finish};
 ghost use Rattle.rv_exec.specs.Laws.{IsSameHart};
 ghost use Rattle.rv_exec.specs.Outcome.{counted, retires, traps};
-ghost use Rattle.rv_atomic.specs.SharedEffect.{access_fault_cause, misaligned_cause};
+ghost use Rattle.rv_atomic.specs.AtomicEffect.{access_fault_cause, misaligned_cause};
 
 use crate::atomic::AtomicOp;
 use rv_hart::{Exception, Hart};

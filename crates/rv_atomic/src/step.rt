@@ -7,15 +7,13 @@ ghost use Rattle.rv_exec.specs.Outcome.{counted, retires};
 ghost use Rattle.rv_hart.specs.Core.{finish, reg};
 ghost use Rattle.rv_atomic.specs.Means.{IsAtomic};
 ghost use Rattle.rv_atomic.specs.Watch.{after_store, has_reserved};
-ghost use Rattle.rv_atomic.specs.SharedEffect.{
-  IsSharable,
+ghost use Rattle.rv_atomic.specs.AtomicEffect.{
   address,
-  after_effect,
   atomic_effect,
   gives_and_stores,
-  shared_effect,
   store_conditional,
 };
+ghost use Rattle.rv_atomic.specs.SharedEffect.{IsSharable, after_effect, shared_effect};
 
 use crate::atomic::{Atomic, AtomicOp};
 use crate::combination::combined;
@@ -102,7 +100,7 @@ fn store_conditional<B: Bus>(
 }
 
 /// Does an atomic instruction, or enters the trap of its exception.
-#[tactic(auto, unfolding(crate::specs::SharedEffect::atomic_effect))]
+#[tactic(auto, unfolding(crate::specs::AtomicEffect::atomic_effect))]
 fn step_atomic<B: Bus>(
     hart: &mut Hart,
     number: u8,

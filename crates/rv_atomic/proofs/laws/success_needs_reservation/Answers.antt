@@ -1,5 +1,5 @@
 -- By the steps one after another.
-use Rattle.rv_atomic.proofs.ReservationLemmas.{needs_reservation}
+use Rattle.rv_atomic.proofs.HistoryLemmas.{needs_reservation}
 use Rattle.rv_atomic.proofs.laws.success_needs_reservation.Goals as goal
 
 pub returns : goal.returns
