@@ -8,5 +8,6 @@ pub mod SpanLemmas
 pub mod OtherHarts
 pub mod OwnSteps
 pub mod HistoryLemmas
+pub mod StayLemmas
 pub mod AloneLemmas
 mod KnownWords

@@ -65,7 +65,7 @@ after_effect-other number hart word effect watch other = by_span (span_of effect
     by_span None is = (is, refl)
     by_span (Some span) is = after_store-other number span.at span.width hart word watch other is
 
-put-other :
+pub put-other :
     (number hart : ℕ) (word : Option ℕ) (watch : List (Option ℕ)) → number ≢ hart →
     reserved (set watch number word) hart ≡ reserved watch hart
 put-other number hart word watch other = get_or-set_other watch number hart word None (λ same. other (sym same))

@@ -21,7 +21,7 @@ use Rattle.rv_atomic.specs.Span.{span_of}
 use Rattle.rv_atomic.specs.Watch.{after_store, has_reserved, kept, reserved}
 
 -- a reservation is one of a hart that there is
-inside : (watch : List (Option ℕ)) (hart word : ℕ) → reserved watch hart ≡ Some word → hart < length watch
+pub inside : (watch : List (Option ℕ)) (hart word : ℕ) → reserved watch hart ≡ Some word → hart < length watch
 inside [] hart word is = cc
 inside (w ∷ ws) zero word is = omega arith
 inside (w ∷ ws) (suc hart) word is = omega (arith, inside ws hart word is)

@@ -1,9 +1,11 @@
 -- What the harts that share a memory do one after another, and what a reservation says of it.
-use Rattle.std.specs.Prelude.{◌≡◌, ◌≢◌, ℕ, ◌%◌, Bool, false, List, [], ◌∷◌, ◌++◌, Option, None, IsSome}
+use Rattle.std.specs.Prelude.{◌≡◌, ◌≢◌, ℕ, ◌%◌, Bool, true, false, List, [], ◌∷◌, ◌++◌, Option, Some, None}
+use Rattle.std.specs.Prelude.{IsSome}
 use Rattle.std.specs.Option.{option_map_or}
 use Rattle.rv_hart.specs.declared.csr.Lines.{Lines}
 use Rattle.rv_hart.specs.Core.{Core}
 use Rattle.rv_exec.specs.Effect.{Effect}
+use Rattle.rv_atomic.specs.declared.atomic.AtomicOp.{AtomicOp}
 use Rattle.rv_atomic.specs.declared.atomic.AtomicOp.TheVariants.{Lr, Sc}
 use Rattle.rv_atomic.specs.declared.atomic.Atomic.{Atomic}
 use Rattle.rv_atomic.specs.declared.shared.Shared.{Shared}
@@ -74,3 +76,26 @@ SuccessNeedsReservation =
     (watch : List (Option ℕ)) (steps : List Step) (sc : Step) (a : Atomic) →
     reserved watch sc.number ≡ None → Succeeds a (watch_after watch steps) sc →
     ReservedSince sc.number (address sc.core a) watch steps
+
+-- whether a step is an LR or an SC
+abbrev pub pairs_by : AtomicOp → Bool
+pairs_by Lr = true
+pairs_by Sc = true
+pairs_by _ = false
+
+abbrev pub pairs : Shared → Bool
+pairs (shared.Plain what) = false
+pairs (shared.Atomic a) = pairs_by a.op
+
+-- none of the steps is an LR or an SC of this hart
+abbrev pub NoOwnPairs : ℕ → List Step → Type 0
+NoOwnPairs hart [] = Unit {0}
+NoOwnPairs hart (step ∷ steps) = (step.number ≡ hart → pairs step.what ≡ false) × NoOwnPairs hart steps
+
+-- A reservation stays where no other hart stores in the word, and its hart does no LR and no SC: so the SC after these
+-- steps succeeds.
+abbrev pub ReservationsStay : Type 0
+ReservationsStay =
+    (hart word : ℕ) (watch : List (Option ℕ)) (steps : List Step) →
+    reserved watch hart ≡ Some word → NoOtherStores hart word watch steps → NoOwnPairs hart steps →
+    reserved (watch_after watch steps) hart ≡ Some word
