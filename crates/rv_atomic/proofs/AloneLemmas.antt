@@ -25,4 +25,5 @@ pub alone :
     (memory : ℕ → Option ℕ) (core : Core) (word : Option ℕ) (what : Fetched) (lines : Lines) →
     shared_effect memory core 0 (word ∷ []) (shared.Plain what) lines ≡ leaves (effect core what lines) (word ∷ [])
 unfolding shared_effect
-alone memory core word what lines = ap (leaves (effect core what lines)) (alone_by (span_of (effect core what lines)) word)
+alone memory core word what lines =
+    ap (leaves (effect core what lines)) (alone_by (span_of (effect core what lines)) word)

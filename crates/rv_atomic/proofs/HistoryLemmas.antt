@@ -17,7 +17,8 @@ use Rattle.rv_atomic.specs.AtomicEffect.{leaves, address, access_fault_cause, at
 use Rattle.rv_atomic.specs.SharedEffect.{shared_effect}
 use Rattle.rv_atomic.specs.Span.{span_of}
 use Rattle.rv_atomic.specs.Watch.{has_reserved, reserved}
-use Rattle.rv_atomic.specs.History.{Step, NoOtherStores, Reserves, ReservedSince, Succeeds, step_effect, stores_in, watch_after}
+use Rattle.rv_atomic.specs.History.{Step, NoOtherStores, Reserves, ReservedSince, Succeeds, step_effect, stores_in}
+use Rattle.rv_atomic.specs.History.{watch_after}
 use Rattle.rv_atomic.proofs.OtherHarts.{shared-other}
 use Rattle.rv_atomic.proofs.OwnSteps.{shared-own}
 
@@ -32,7 +33,8 @@ one_step step hart word watch is =
     elim (cases_Bool (step.number == hart)) [
       | inl on ↦
           let same : step.number ≡ hart = eqb-true _ _ on in
-          let own : reserved (shared_effect step.memory step.core hart watch step.what step.lines).watch hart ≡ Some word =
+          let left = shared_effect step.memory step.core hart watch step.what step.lines in
+          let own : reserved left.watch hart ≡ Some word =
           rw same at is in
           elim (shared-own step.what step.memory step.core hart word watch step.lines own) [
             | inl stays ↦ inl (stays, λ other. absurd (other same))

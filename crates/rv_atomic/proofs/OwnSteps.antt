@@ -32,7 +32,8 @@ after_store-own :
     reserved (after_store hart at width watch) hart ≡ Some word → reserved watch hart ≡ Some word
 after_store-own hart at width word watch is =
     let most = inside (after_store hart at width watch) hart word is in
-    let lengths = length-set (map (kept at width) watch) hart (reserved watch hart) ∙ length-map watch (kept at width) in
+    let lengths =
+    length-set (map (kept at width) watch) hart (reserved watch hart) ∙ length-map watch (kept at width) in
     let below : hart < length (map (kept at width) watch) =
     omega (arith, most, lengths, length-map watch (kept at width)) in
     sym (get_or-set_same (map (kept at width) watch) hart (reserved watch hart) None below) ∙ is
@@ -41,7 +42,8 @@ put-own :
     (hart word : ℕ) (new : Option ℕ) (watch : List (Option ℕ)) →
     reserved (set watch hart new) hart ≡ Some word → new ≡ Some word
 put-own hart word new watch is =
-    let below : hart < length watch = omega (arith, inside (set watch hart new) hart word is, length-set watch hart new) in
+    let below : hart < length watch =
+    omega (arith, inside (set watch hart new) hart word is, length-set watch hart new) in
     sym (get_or-set_same watch hart new None below) ∙ is
 
 after_effect-own :

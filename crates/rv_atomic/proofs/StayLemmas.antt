@@ -20,7 +20,8 @@ use Rattle.rv_atomic.specs.AtomicEffect.{SharedEffect, leaves, address, access_f
 use Rattle.rv_atomic.specs.SharedEffect.{after_effect, shared_effect}
 use Rattle.rv_atomic.specs.Span.{span_of}
 use Rattle.rv_atomic.specs.Watch.{after_store, has_reserved, kept, reaches, reserved}
-use Rattle.rv_atomic.specs.History.{Step, NoOtherStores, NoOwnPairs, pairs, pairs_by, step_effect, stores_in, watch_after}
+use Rattle.rv_atomic.specs.History.{Step, NoOtherStores, NoOwnPairs, pairs, pairs_by, step_effect, stores_in}
+use Rattle.rv_atomic.specs.History.{watch_after}
 use Rattle.rv_atomic.proofs.OtherHarts.{put-other}
 use Rattle.rv_atomic.proofs.OwnSteps.{inside}
 

@@ -15,8 +15,8 @@ use Rattle.rv_atomic.specs.SharedEffect.{shared_effect}
 use Rattle.rv_atomic.specs.Span.{span_of}
 use Rattle.rv_atomic.specs.Watch.{reaches, reserved}
 
--- one step: which hart does it, its core before, what it does, and what it sees of the interrupts, of the time and of the
--- words in memory
+-- one step: which hart does it, its core before, what it does, and what it sees of the interrupts, of the time and of
+-- the words in memory
 pub record Step : Type 0 where
   pub number : ℕ
   pub core : Core

@@ -1,5 +1,5 @@
--- The table of the atomic instructions on words (RISC-V Unprivileged ISA 20191213, chapter 24, RV32A), and its search by
--- masks.
+-- The table of the atomic instructions on words (RISC-V Unprivileged ISA 20191213, chapter 24, RV32A), and its search
+-- by masks.
 use Rattle.std.specs.Prelude.{ℕ, ◌==◌, Bool, List, [], ◌∷◌, Option, bit_and}
 use Rattle.std.specs.List.{find}
 use Rattle.rv_atomic.specs.declared.atomic.AtomicOp.{AtomicOp}
@@ -14,8 +14,8 @@ pub record Row : Type 0 where
 abbrev pub row : ℕ → ℕ → AtomicOp → Row
 row mask bits op = record { mask = mask; bits = bits; op = op }
 
--- all rows: mask, bits, instruction. A mask covers the opcode, funct3 and the five bits above aq and rl, which are free,
--- and of LR rs2 too, which is 0.
+-- all rows: mask, bits, instruction. A mask covers the opcode, funct3 and the five bits above aq and rl, which are
+-- free, and of LR rs2 too, which is 0.
 abbrev pub table : List Row
 table =
     -- load-reserved and store-conditional (section 8.2)

@@ -1,5 +1,5 @@
--- The reservations of the harts that share a memory: for each hart the address of the word that it has reserved, or none
--- (RISC-V Unprivileged ISA 20191213, section 8.2).
+-- The reservations of the harts that share a memory: for each hart the address of the word that it has reserved, or
+-- none (RISC-V Unprivileged ISA 20191213, section 8.2).
 use Rattle.std.specs.Prelude.{ℕ, ◌+◌, ◌==◌, ◌&&◌, Bool, false, if◌then◌else◌, List, map, Option, Some, None, nat_lt}
 use Rattle.std.specs.Prelude.{slice_index_or, slice_set}
 use Rattle.std.specs.Option.{option_map_or}
