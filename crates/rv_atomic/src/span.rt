@@ -4,8 +4,6 @@ ghost use Rattle.rv_hart.specs.declared.csr.Lines.{Lines};
 ghost use Rattle.rv_exec.specs.Effect.{effect, effect_by};
 ghost use Rattle.rv_decode.specs.Means.{IsInstr};
 ghost use Rattle.rv_exec.specs.Fetched.{IsPerformable};
-ghost use Rattle.rv_exec.specs.Word.{add};
-ghost use Rattle.rv_hart.specs.Core.{reg};
 ghost use Rattle.rv_atomic.specs.Span.{span_of};
 ghost use Rattle.rv_atomic.specs.Inner.StoreWidth.{aligned_span, store_width};
 

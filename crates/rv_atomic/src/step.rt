@@ -1,10 +1,9 @@
 //! A slot of one of the harts that share a memory.
-ghost use Rattle.std.specs.Prelude.{◌≡◌, ◌%◌, ◌<◌, ◌^◌, None, Some, length, slice_set, OnOk, OnErr};
+ghost use Rattle.std.specs.Prelude.{◌≡◌, ◌%◌, ◌<◌, length, OnOk, OnErr};
 ghost use Rattle.rv_exec.specs.Effect.{AsksBus, bus_after, core_after, effect};
 ghost use Rattle.rv_exec.specs.Fetched.{IsPerformable};
 ghost use Rattle.rv_exec.specs.Laws.{IsSameHart};
-ghost use Rattle.rv_exec.specs.Outcome.{counted, retires};
-ghost use Rattle.rv_hart.specs.Core.{finish, reg};
+ghost use Rattle.rv_hart.specs.Core.{reg};
 ghost use Rattle.rv_atomic.specs.Means.{IsAtomic};
 ghost use Rattle.rv_atomic.specs.Watch.{after_store, has_reserved};
 ghost use Rattle.rv_atomic.specs.AtomicEffect.{
