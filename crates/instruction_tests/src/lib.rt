@@ -1,8 +1,10 @@
-//! Tests of the decoders, the assembler, a hart and single instructions.
+//! Tests of the decoders, the assembler, a hart, single instructions and harts that share a memory.
 #![tactic(auto)]
 
 #[cfg(test)]
 mod assembler;
+#[cfg(test)]
+mod atomic;
 #[cfg(test)]
 mod compressed;
 #[cfg(test)]
@@ -13,5 +15,7 @@ mod encoder;
 mod half_words;
 #[cfg(test)]
 mod hart;
+#[cfg(test)]
+mod reservations;
 #[cfg(test)]
 mod step;

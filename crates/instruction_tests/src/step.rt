@@ -6,19 +6,19 @@ use std::process::Abort;
 
 pub mod memory;
 
-const LINES: Lines = Lines {
+pub const LINES: Lines = Lines {
     mip: 0,
     mtime: 0x1122_3344_5566_7788,
 };
 
-const MINUS_ONE: u32 = 0xFFFF_FFFF;
+pub const MINUS_ONE: u32 = 0xFFFF_FFFF;
 
-const LEAST: u32 = 0x8000_0000;
+pub const LEAST: u32 = 0x8000_0000;
 
-const GREATEST: u32 = 0x7FFF_FFFF;
+pub const GREATEST: u32 = 0x7FFF_FFFF;
 
 /// A hart at 0x20 with these words in x1 and x2, 0x55 in x3, and its traps at 0x80.
-fn hart_with(a: u32, b: u32) -> HartState {
+pub fn hart_with(a: u32, b: u32) -> HartState {
     let mut hart = Hart::new();
     hart.set_register(1, a);
     hart.set_register(2, b);
@@ -58,7 +58,7 @@ fn after(rt: &impl Abort, state: HartState, word: u32) -> HartState {
 }
 
 /// The state after an instruction that retires, with these words in x3 and the pc.
-fn retired(state: HartState, x3: u32, pc: u32) -> HartState {
+pub fn retired(state: HartState, x3: u32, pc: u32) -> HartState {
     let mut registers = state.registers;
     registers[3] = x3;
     HartState {
