@@ -59,6 +59,7 @@ pub device_lawful : IsLawful device_form
 unfolding device_form
 device_lawful =
     via_lawful _ _ device_again device_back
-    (choice_lawful 0 (avoids_choice _ _ 0 1 refl (avoids_tagged _ 0 2 refl)) uart_lawful
-    (choice_lawful 1 (avoids_tagged _ 1 2 refl) can_lawful
+    (choice_lawful 0 (avoids_choice can_form (tagged 2 nothing) 0 1 refl
+    (avoids_tagged nothing 0 2 refl)) uart_lawful
+    (choice_lawful 1 (avoids_tagged nothing 1 2 refl) can_lawful
     (tagged_lawful 2 nothing_lawful)))

@@ -43,8 +43,9 @@ pub kind_lawful : IsLawful kind_form
 unfolding kind_form
 kind_lawful =
     via_lawful _ _ kind_again kind_back
-    (choice_lawful 0 (avoids_choice _ _ 0 1 refl (avoids_tagged _ 0 2 refl)) nothing_lawful
-    (choice_lawful 1 (avoids_tagged _ 1 2 refl) nothing_lawful
+    (choice_lawful 0 (avoids_choice nothing (tagged 2 nothing) 0 1 refl
+    (avoids_tagged nothing 0 2 refl)) nothing_lawful
+    (choice_lawful 1 (avoids_tagged nothing 1 2 refl) nothing_lawful
     (tagged_lawful 2 nothing_lawful)))
 
 abbrev pub region_kind_to : RegionKind → ℕ ⊎ (Unit {0} ⊎ (Unit {0} ⊎ ℕ))
@@ -79,9 +80,12 @@ pub region_kind_lawful : IsLawful region_kind_form
 unfolding region_kind_form
 region_kind_lawful =
     via_lawful _ _ region_kind_again region_kind_back
-    (choice_lawful 0 (avoids_choice _ _ 0 1 refl (avoids_choice _ _ 0 2 refl (avoids_tagged _ 0 3 refl))) byte_lawful
-    (choice_lawful 1 (avoids_choice _ _ 1 2 refl (avoids_tagged _ 1 3 refl)) nothing_lawful
-    (choice_lawful 2 (avoids_tagged _ 2 3 refl) nothing_lawful
+    (choice_lawful 0 (avoids_choice nothing (choice 2 nothing (tagged 3 byte)) 0 1 refl
+    (avoids_choice nothing (tagged 3 byte) 0 2 refl
+    (avoids_tagged byte 0 3 refl))) byte_lawful
+    (choice_lawful 1 (avoids_choice nothing (tagged 3 byte) 1 2 refl
+    (avoids_tagged byte 1 3 refl)) nothing_lawful
+    (choice_lawful 2 (avoids_tagged byte 2 3 refl) nothing_lawful
     (tagged_lawful 3 byte_lawful))))
 
 -- base, size, what stands there and the step of its registers
@@ -119,7 +123,7 @@ pub named_what_lawful : IsLawful named_what_form
 unfolding named_what_form
 named_what_lawful =
     via_lawful _ _ named_what_again named_what_back
-    (choice_lawful 0 (avoids_tagged _ 0 1 refl) nothing_lawful
+    (choice_lawful 0 (avoids_tagged region_kind_form 0 1 refl) nothing_lawful
     (tagged_lawful 1 region_kind_lawful))
 
 -- a name, and what it stands for
@@ -176,7 +180,10 @@ pub wire_from_lawful : IsLawful wire_from_form
 unfolding wire_from_form
 wire_from_lawful =
     via_lawful _ _ wire_from_again wire_from_back
-    (choice_lawful 0 (avoids_choice _ _ 0 1 refl (avoids_choice _ _ 0 2 refl (avoids_tagged _ 0 3 refl))) nothing_lawful
-    (choice_lawful 1 (avoids_choice _ _ 1 2 refl (avoids_tagged _ 1 3 refl)) nothing_lawful
-    (choice_lawful 2 (avoids_tagged _ 2 3 refl) byte_lawful
+    (choice_lawful 0 (avoids_choice nothing (choice 2 byte (tagged 3 byte)) 0 1 refl
+    (avoids_choice byte (tagged 3 byte) 0 2 refl
+    (avoids_tagged byte 0 3 refl))) nothing_lawful
+    (choice_lawful 1 (avoids_choice byte (tagged 3 byte) 1 2 refl
+    (avoids_tagged byte 1 3 refl)) nothing_lawful
+    (choice_lawful 2 (avoids_tagged byte 2 3 refl) byte_lawful
     (tagged_lawful 3 byte_lawful))))

@@ -36,7 +36,7 @@ pub finish_lawful : IsLawful finish_form
 unfolding finish_form
 finish_lawful =
     via_lawful _ _ finish_again finish_back
-    (choice_lawful 0 (avoids_tagged _ 0 1 refl) nothing_lawful
+    (choice_lawful 0 (avoids_tagged (number 2) 0 1 refl) nothing_lawful
     (tagged_lawful 1 (number_lawful 2)))
 
 abbrev pub payload_to : Payload → ℕ ⊎ (FrameData ⊎ Finish)
@@ -67,8 +67,9 @@ pub payload_lawful : IsLawful payload_form
 unfolding payload_form
 payload_lawful =
     via_lawful _ _ payload_again payload_back
-    (choice_lawful 0 (avoids_choice _ _ 0 1 refl (avoids_tagged _ 0 2 refl)) byte_lawful
-    (choice_lawful 1 (avoids_tagged _ 1 2 refl) frame_lawful
+    (choice_lawful 0 (avoids_choice frame_form (tagged 2 finish_form) 0 1 refl
+    (avoids_tagged finish_form 0 2 refl)) byte_lawful
+    (choice_lawful 1 (avoids_tagged finish_form 1 2 refl) frame_lawful
     (tagged_lawful 2 finish_lawful)))
 
 -- the key, the sender and the payload
