@@ -1,0 +1,3 @@
+mod PageLoops
+mod RisingLemmas
+mod WholeLemmas
