@@ -1,3 +1,2 @@
 mod PageLoops
 mod RisingLemmas
-mod WholeLemmas

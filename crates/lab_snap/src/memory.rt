@@ -2,6 +2,7 @@
 ghost use Rattle.std.specs.Prelude.{◌≡◌, ◌≤◌, ◌<◌, ◌+◌, ◌*◌, length, take, drop, OnOk, IfOk, MatchResult, List, ℕ};
 ghost use Rattle.std.specs.List.{flat_map};
 ghost use Rattle.lab_spell.specs.Form.{IsBytes};
+ghost use Rattle.lab_spell.specs.Inner.Whole.{Gives, value_of};
 ghost use Rattle.lab_spell.specs.Reads.{Appends, Reads};
 ghost use Rattle.lab_snap.specs.Memory.{memory_form, used};
 ghost use Rattle.lab_snap.specs.Page.{page_form};
@@ -153,6 +154,19 @@ pub fn save_memory(alloc: Global, memory: &[u8], pages: u32) -> Result<Vec<u8>, 
     Ok(out)
 }
 
+/// The memory of so many pages that the bytes spell, all of them.
+fn read_memory(alloc: Global, bytes: &[u8], pages: u32) -> Result<Rows<u8>, SnapFault>
+    requires { pages ≤ 16384 }
+    ensures { Gives (value_of (memory_form pages) bytes.now) result }
+{
+    let mut source = Source::new(bytes);
+    let memory = take_memory(alloc, pages, &mut source)?;
+    if !source.is_empty() {
+        return Err(SnapFault::Bad);
+    }
+    Ok(memory)
+}
+
 /// The memory of so many pages that the bytes spell, all of them. What is loaded is spelled so
 /// (`found`), and what is spelled so is loaded, unless memory runs out (`only`).
 pub fn load_memory(alloc: Global, bytes: &[u8], pages: u32) -> Result<Rows<u8>, SnapFault>
@@ -163,10 +177,5 @@ pub fn load_memory(alloc: Global, bytes: &[u8], pages: u32) -> Result<Rows<u8>, 
         bytes.now ≡ (memory_form pages).spell memory →
         MatchResult result (λ loaded. loaded ≡ memory) (λ fault. fault ≡ SnapFault.Memory) }
 {
-    let mut source = Source::new(bytes);
-    let memory = take_memory(alloc, pages, &mut source)?;
-    if !source.is_empty() {
-        return Err(SnapFault::Bad);
-    }
-    Ok(memory)
+    read_memory(alloc, bytes, pages)
 }

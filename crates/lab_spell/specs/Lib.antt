@@ -12,3 +12,4 @@ pub mod OpenLines
 pub mod PlanParts
 pub mod Posts
 pub mod Reads
+pub mod WholeLaws
