@@ -4,8 +4,8 @@ use crate::source::Source;
 use crate::spelled::Spelled;
 use dev_core::Kind;
 use lab_num::NoMemory;
-use sys_bus::{Named, NamedWhat, PlicSize, Region, RegionKind, WireFrom};
 use std::alloc::Global;
+use sys_bus::{Named, NamedWhat, PlicSize, Region, RegionKind, WireFrom};
 
 impl Spelled for Kind {
     ghost use Rattle.lab_spell.specs.PlanParts.{kind_form, kind_lawful};
