@@ -57,12 +57,6 @@ rise_past posts i d e from within before so_far =
     let back : i + 1 - 1 ≡ i = omega arith in
     rw back (rise_here posts i d e from within so_far ∙ ap (λ b. b && rise (drop i posts)) before)
 
-pub rise_not : (posts : List Post) (i : ℕ) (d e : Post) → 1 ≤ i → i < length posts →
-    is_before (get_or posts (i - 1) d).key (get_or posts i e).key ≡ false →
-    rise posts ≡ rise (drop (i - 1) posts) → false ≡ rise posts
-rise_not posts i d e from within before so_far =
-    sym (rise_here posts i d e from within so_far ∙ ap (λ b. b && rise (drop i posts)) before)
-
 rise_end : (posts : List Post) (n : ℕ) → length posts ≤ n + 1 → rise (drop n posts) ≡ true
 rise_end [] zero past = refl
 rise_end [] (suc n) past = refl

@@ -1,7 +1,8 @@
--- How a memory is spelled: by the list of its pages that have a byte other than 0, each with its number, in rising order.
-use Rattle.std.specs.Prelude.{◌≡◌, ◌<◌, ◌*◌, ℕ, zero, suc, List, [], ◌∷◌, ◌++◌, length, take, drop, replicate, Bool}
-use Rattle.std.specs.Prelude.{◌==◌, if◌then◌else◌}
-use Rattle.std.specs.List.{flat_map, list_all, AllByRecursion}
+-- How a memory is spelled: by the list of its pages that have a byte other than 0, each with its number, in rising
+-- order.
+use Rattle.std.specs.Prelude.{◌≡◌, ◌<◌, ◌*◌, ℕ, zero, suc, List, [], ◌∷◌, ◌++◌, length, take, drop}
+use Rattle.std.specs.Prelude.{if◌then◌else◌}
+use Rattle.std.specs.List.{flat_map, AllByRecursion}
 use Rattle.byteorder.specs.Endian.{little_bytes}
 use Rattle.lab_spell.specs.Form.{Form}
 use Rattle.lab_spell.specs.Combine.{◌>>=◌, number}

@@ -1,5 +1,5 @@
 -- Posts in order.
-use Rattle.std.specs.Prelude.{ℕ, Bool, true, ◌==◌, nat_lt, ◌&&◌, ◌||◌, List, [], ◌∷◌}
+use Rattle.std.specs.Prelude.{Bool, true, ◌==◌, nat_lt, ◌&&◌, ◌||◌, List, [], ◌∷◌}
 use Rattle.std.specs.List.{list_all}
 use Rattle.lab_num.specs.declared.key.Key.{Key}
 use Rattle.dev_core.specs.declared.post.Post.{Post}

@@ -47,7 +47,7 @@ fn put_page(bytes: &mut [u8], k: usize, page: &[u8])
 }
 
 /// How many pages have a byte other than 0.
-#[tactic(auto, using(crate::proofs::PageLoops::left_zero, crate::proofs::PageLoops::left_used, crate::proofs::PageLoops::left_none))]
+#[tactic(auto, using(crate::proofs::PageLoops::left_lemmas))]
 fn used_count(bytes: &[u8], pages: u32) -> u64
     requires { length bytes.now ≡ 4096 * pages }
     ensures { result ≡ length (used 4096 pages bytes.now) }

@@ -7,29 +7,92 @@ use Rattle.dev_core.specs.declared.state.DevState.TheVariants as device
 use Rattle.lab_spell.specs.Frames.{byte_row_form, byte_row_lawful, frame_row_form, frame_row_lawful}
 use Rattle.lab_spell.specs.Form.{Form, IsLawful}
 use Rattle.lab_spell.specs.Combine.{byte, choice, flag, nothing, tagged, times, via, ◌⊗◌}
-use Rattle.lab_spell.specs.Laws.{avoids_choice, avoids_tagged, byte_lawful, choice_lawful, flag_lawful, next_lawful, nothing_lawful, tagged_lawful, times_lawful, via_lawful}
+use Rattle.lab_spell.specs.Laws.{avoids_choice, avoids_tagged, byte_lawful, choice_lawful, flag_lawful, next_lawful}
+use Rattle.lab_spell.specs.Laws.{nothing_lawful, tagged_lawful, times_lawful, via_lawful}
 
 -- the fields of a UART
 unfoldable pub uart_form : Form UartState
 uart_form =
-    via (λ s. (s.ier, (s.lcr, (s.mcr, (s.scr, (s.dll, (s.dlm, (s.fifos, (s.trigger, (s.received, (s.oe, s.thr)))))))))))
-    (λ (ier, (lcr, (mcr, (scr, (dll, (dlm, (fifos, (trigger, (received, (oe, thr)))))))))). record { ier = ier; lcr = lcr; mcr = mcr; scr = scr; dll = dll; dlm = dlm; fifos = fifos; trigger = trigger; received = received; oe = oe; thr = thr })
-    (byte ⊗ byte ⊗ byte ⊗ byte ⊗ byte ⊗ byte ⊗ flag ⊗ byte ⊗ byte_row_form ⊗ flag ⊗ flag)
+    via
+    (λ s. (s.ier, (s.lcr, (s.mcr, (s.scr, (s.dll, (s.dlm, (s.fifos, (s.trigger, (s.received, (s.oe,
+    s.thr)))))))))))
+    (λ (ier, (lcr, (mcr, (scr, (dll, (dlm, (fifos, (trigger, (received, (oe, thr)))))))))). record {
+      ier = ier;
+      lcr = lcr;
+      mcr = mcr;
+      scr = scr;
+      dll = dll;
+      dlm = dlm;
+      fifos = fifos;
+      trigger = trigger;
+      received = received;
+      oe = oe;
+      thr = thr;
+    })
+    (byte -- ier
+    ⊗ byte -- lcr
+    ⊗ byte -- mcr
+    ⊗ byte -- scr
+    ⊗ byte -- dll
+    ⊗ byte -- dlm
+    ⊗ flag -- fifos
+    ⊗ byte -- trigger
+    ⊗ byte_row_form -- received
+    ⊗ flag -- oe
+    ⊗ flag) -- thr
 
 pub uart_lawful : IsLawful uart_form
 unfolding uart_form
-uart_lawful = via_lawful _ _ (λ x. refl) (λ a. refl) (next_lawful byte_lawful (next_lawful byte_lawful (next_lawful byte_lawful (next_lawful byte_lawful (next_lawful byte_lawful (next_lawful byte_lawful (next_lawful flag_lawful (next_lawful byte_lawful (next_lawful byte_row_lawful (next_lawful flag_lawful flag_lawful))))))))))
+uart_lawful =
+    via_lawful _ _ (λ x. refl) (λ a. refl)
+    (next_lawful byte_lawful (next_lawful byte_lawful (next_lawful byte_lawful (next_lawful byte_lawful
+    (next_lawful byte_lawful (next_lawful byte_lawful (next_lawful flag_lawful (next_lawful byte_lawful
+    (next_lawful byte_row_lawful (next_lawful flag_lawful flag_lawful))))))))))
 
 -- the fields of a CAN controller
 unfoldable pub can_form : Form CanState
 can_form =
-    via (λ s. (s.control, (s.code, (s.mask, (s.timing0, (s.timing1, (s.output, (s.divider, (s.transmit, (s.received, (s.dos, (s.ri, (s.ti, s.doi)))))))))))))
-    (λ (control, (code, (mask, (timing0, (timing1, (output, (divider, (transmit, (received, (dos, (ri, (ti, doi)))))))))))). record { control = control; code = code; mask = mask; timing0 = timing0; timing1 = timing1; output = output; divider = divider; transmit = transmit; received = received; dos = dos; ri = ri; ti = ti; doi = doi })
-    (byte ⊗ byte ⊗ byte ⊗ byte ⊗ byte ⊗ byte ⊗ byte ⊗ times 10 byte ⊗ frame_row_form ⊗ flag ⊗ flag ⊗ flag ⊗ flag)
+    via
+    (λ s. (s.control, (s.code, (s.mask, (s.timing0, (s.timing1, (s.output, (s.divider, (s.transmit, (s.received,
+    (s.dos, (s.ri, (s.ti, s.doi)))))))))))))
+    (λ (control, (code, (mask, (timing0, (timing1, (output, (divider, (transmit, (received, (dos, (ri, (ti,
+    doi)))))))))))). record {
+      control = control;
+      code = code;
+      mask = mask;
+      timing0 = timing0;
+      timing1 = timing1;
+      output = output;
+      divider = divider;
+      transmit = transmit;
+      received = received;
+      dos = dos;
+      ri = ri;
+      ti = ti;
+      doi = doi;
+    })
+    (byte -- control
+    ⊗ byte -- code
+    ⊗ byte -- mask
+    ⊗ byte -- timing0
+    ⊗ byte -- timing1
+    ⊗ byte -- output
+    ⊗ byte -- divider
+    ⊗ times 10 byte -- transmit
+    ⊗ frame_row_form -- received
+    ⊗ flag -- dos
+    ⊗ flag -- ri
+    ⊗ flag -- ti
+    ⊗ flag) -- doi
 
 pub can_lawful : IsLawful can_form
 unfolding can_form
-can_lawful = via_lawful _ _ (λ x. refl) (λ a. refl) (next_lawful byte_lawful (next_lawful byte_lawful (next_lawful byte_lawful (next_lawful byte_lawful (next_lawful byte_lawful (next_lawful byte_lawful (next_lawful byte_lawful (next_lawful (times_lawful 10 byte_lawful) (next_lawful frame_row_lawful (next_lawful flag_lawful (next_lawful flag_lawful (next_lawful flag_lawful flag_lawful))))))))))))
+can_lawful =
+    via_lawful _ _ (λ x. refl) (λ a. refl)
+    (next_lawful byte_lawful (next_lawful byte_lawful (next_lawful byte_lawful (next_lawful byte_lawful
+    (next_lawful byte_lawful (next_lawful byte_lawful (next_lawful byte_lawful
+    (next_lawful (times_lawful 10 byte_lawful) (next_lawful frame_row_lawful (next_lawful flag_lawful
+    (next_lawful flag_lawful (next_lawful flag_lawful flag_lawful))))))))))))
 
 abbrev pub device_to : DevState → UartState ⊎ (CanState ⊎ Unit {0})
 device_to (device.Uart x) = inl x

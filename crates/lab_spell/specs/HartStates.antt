@@ -20,10 +20,51 @@ letters_lawful = via_lawful _ _ (λ x. refl) (λ a. refl) (next_lawful flag_lawf
 -- the fields of a processor
 unfoldable pub hart_form : Form HartState
 hart_form =
-    via (λ s. (s.registers, (s.pc, (s.on, (s.before, (s.mie, (s.mtvec, (s.mscratch, (s.mepc, (s.mcause, (s.mtval, (s.mcycle, (s.minstret, (s.waiting, (s.halted, (s.letters, s.number))))))))))))))))
-    (λ (registers, (pc, (on, (before, (mie, (mtvec, (mscratch, (mepc, (mcause, (mtval, (mcycle, (minstret, (waiting, (halted, (letters, number))))))))))))))). record { registers = registers; pc = pc; on = on; before = before; mie = mie; mtvec = mtvec; mscratch = mscratch; mepc = mepc; mcause = mcause; mtval = mtval; mcycle = mcycle; minstret = minstret; waiting = waiting; halted = halted; letters = letters; number = number })
-    (times 32 (number 4) ⊗ number 4 ⊗ flag ⊗ flag ⊗ number 4 ⊗ number 4 ⊗ number 4 ⊗ number 4 ⊗ number 4 ⊗ number 4 ⊗ number 8 ⊗ number 8 ⊗ flag ⊗ flag ⊗ letters_form ⊗ byte)
+    via
+    (λ s. (s.registers, (s.pc, (s.on, (s.before, (s.mie, (s.mtvec, (s.mscratch, (s.mepc, (s.mcause, (s.mtval,
+    (s.mcycle, (s.minstret, (s.waiting, (s.halted, (s.letters, s.number))))))))))))))))
+    (λ (registers, (pc, (on, (before, (mie, (mtvec, (mscratch, (mepc, (mcause, (mtval, (mcycle, (minstret,
+    (waiting, (halted, (letters, number))))))))))))))). record {
+      registers = registers;
+      pc = pc;
+      on = on;
+      before = before;
+      mie = mie;
+      mtvec = mtvec;
+      mscratch = mscratch;
+      mepc = mepc;
+      mcause = mcause;
+      mtval = mtval;
+      mcycle = mcycle;
+      minstret = minstret;
+      waiting = waiting;
+      halted = halted;
+      letters = letters;
+      number = number;
+    })
+    (times 32 (number 4) -- registers
+    ⊗ number 4 -- pc
+    ⊗ flag -- on
+    ⊗ flag -- before
+    ⊗ number 4 -- mie
+    ⊗ number 4 -- mtvec
+    ⊗ number 4 -- mscratch
+    ⊗ number 4 -- mepc
+    ⊗ number 4 -- mcause
+    ⊗ number 4 -- mtval
+    ⊗ number 8 -- mcycle
+    ⊗ number 8 -- minstret
+    ⊗ flag -- waiting
+    ⊗ flag -- halted
+    ⊗ letters_form -- letters
+    ⊗ byte) -- number
 
 pub hart_lawful : IsLawful hart_form
 unfolding hart_form
-hart_lawful = via_lawful _ _ (λ x. refl) (λ a. refl) (next_lawful (times_lawful 32 (number_lawful 4)) (next_lawful (number_lawful 4) (next_lawful flag_lawful (next_lawful flag_lawful (next_lawful (number_lawful 4) (next_lawful (number_lawful 4) (next_lawful (number_lawful 4) (next_lawful (number_lawful 4) (next_lawful (number_lawful 4) (next_lawful (number_lawful 4) (next_lawful (number_lawful 8) (next_lawful (number_lawful 8) (next_lawful flag_lawful (next_lawful flag_lawful (next_lawful letters_lawful byte_lawful)))))))))))))))
+hart_lawful =
+    via_lawful _ _ (λ x. refl) (λ a. refl)
+    (next_lawful (times_lawful 32 (number_lawful 4)) (next_lawful (number_lawful 4) (next_lawful flag_lawful
+    (next_lawful flag_lawful (next_lawful (number_lawful 4) (next_lawful (number_lawful 4)
+    (next_lawful (number_lawful 4) (next_lawful (number_lawful 4) (next_lawful (number_lawful 4)
+    (next_lawful (number_lawful 4) (next_lawful (number_lawful 8) (next_lawful (number_lawful 8)
+    (next_lawful flag_lawful (next_lawful flag_lawful (next_lawful letters_lawful byte_lawful)))))))))))))))

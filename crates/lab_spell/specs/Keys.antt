@@ -51,7 +51,8 @@ key_form =
 
 pub key_lawful : IsLawful key_form
 unfolding key_form
-key_lawful = via_lawful _ _ (λ x. refl) (λ a. refl) (next_lawful micros_lawful (next_lawful board_no_lawful post_no_lawful))
+key_lawful = via_lawful _ _ (λ x. refl) (λ a. refl)
+    (next_lawful micros_lawful (next_lawful board_no_lawful post_no_lawful))
 
 -- the board, and the place of the device on it
 unfoldable pub member_form : Form Member

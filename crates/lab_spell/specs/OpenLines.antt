@@ -17,7 +17,8 @@ open_line_form =
 pub open_line_lawful : IsLawful open_line_form
 unfolding open_line_form
 open_line_lawful =
-    via_lawful _ _ (λ x. refl) (λ a. refl) (next_lawful member_lawful (next_lawful micros_lawful (list_lawful byte_lawful)))
+    via_lawful _ _ (λ x. refl) (λ a. refl)
+    (next_lawful member_lawful (next_lawful micros_lawful (list_lawful byte_lawful)))
 
 -- lines that can stand open together
 unfoldable pub lines_form : Form (List OpenLine)

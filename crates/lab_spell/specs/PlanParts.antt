@@ -13,7 +13,8 @@ use Rattle.sys_bus.specs.declared.wire.WireFrom.{WireFrom}
 use Rattle.sys_bus.specs.declared.wire.WireFrom.TheVariants as wire
 use Rattle.lab_spell.specs.Form.{Form, IsLawful}
 use Rattle.lab_spell.specs.Combine.{byte, choice, nothing, number, tagged, text, via, ◌⊗◌}
-use Rattle.lab_spell.specs.Laws.{avoids_choice, avoids_tagged, byte_lawful, choice_lawful, next_lawful, nothing_lawful, number_lawful, tagged_lawful, text_lawful, via_lawful}
+use Rattle.lab_spell.specs.Laws.{avoids_choice, avoids_tagged, byte_lawful, choice_lawful, next_lawful, nothing_lawful}
+use Rattle.lab_spell.specs.Laws.{number_lawful, tagged_lawful, text_lawful, via_lawful}
 
 abbrev pub kind_to : Kind → Unit {0} ⊎ (Unit {0} ⊎ Unit {0})
 kind_to kind.Uart = inl tt
@@ -74,7 +75,8 @@ region_kind_back (inr (inr (inr x))) = refl
 
 -- 0 and the number of a memory, 1 for the timer, 2 for the interrupt controller, or 3 and the number of a device
 unfoldable pub region_kind_form : Form RegionKind
-region_kind_form = via region_kind_to region_kind_from (choice 0 byte (choice 1 nothing (choice 2 nothing (tagged 3 byte))))
+region_kind_form = via region_kind_to region_kind_from
+    (choice 0 byte (choice 1 nothing (choice 2 nothing (tagged 3 byte))))
 
 pub region_kind_lawful : IsLawful region_kind_form
 unfolding region_kind_form
@@ -97,7 +99,8 @@ region_form =
 
 pub region_lawful : IsLawful region_form
 unfolding region_form
-region_lawful = via_lawful _ _ (λ x. refl) (λ a. refl) (next_lawful (number_lawful 4) (next_lawful (number_lawful 4) (next_lawful region_kind_lawful byte_lawful)))
+region_lawful = via_lawful _ _ (λ x. refl) (λ a. refl)
+    (next_lawful (number_lawful 4) (next_lawful (number_lawful 4) (next_lawful region_kind_lawful byte_lawful)))
 
 abbrev pub named_what_to : NamedWhat → Unit {0} ⊎ RegionKind
 named_what_to named.Cpu = inl tt
