@@ -12,11 +12,7 @@ use std::test::Fail;
 use sys_bus::{Named, NamedWhat, PlicSize, Region, RegionKind, WireFrom};
 
 /// Whether a value is saved as these bytes, and what they spell is saved so again.
-fn is_spelled<T: Spelled + Drop>(
-    alloc: Global,
-    value: &T,
-    bytes: &[u8],
-) -> Result<bool, NoMemory> {
+fn is_spelled<T: Spelled + Drop>(alloc: Global, value: &T, bytes: &[u8]) -> Result<bool, NoMemory> {
     let saved = save(alloc, value)?;
     match load::<T>(alloc, bytes) {
         Ok(loaded) => {

@@ -237,13 +237,19 @@ fn posts_are_their_keys_senders_and_payloads(rt: HostRuntime) -> Result<(), Fail
         post(0x102, Payload::Byte(7)),
         post(0x103, Payload::Frame(Frame::new(0x123, &[0xAA]))),
         post(0x104, Payload::Finish(Finish::Pass)),
-        post(0x105, Payload::Finish(Finish::Fail(0x102)))
+        post(0x105, Payload::Finish(Finish::Fail(0x102))),
     ]?);
     assert!(rt; is_saved(alloc, &posts, &bytes)?);
     assert!(rt; are_exact::<Rows<Post>>(alloc, &bytes)?);
     // The first two in the other order, and the first twice.
-    let falling = joined(alloc, &[&[2, 0, 0, 0, 0, 0, 0, 0], &bytes[29..60], &bytes[8..29]])?;
-    let twice = joined(alloc, &[&[2, 0, 0, 0, 0, 0, 0, 0], &bytes[8..29], &bytes[8..29]])?;
+    let falling = joined(
+        alloc,
+        &[&[2, 0, 0, 0, 0, 0, 0, 0], &bytes[29..60], &bytes[8..29]],
+    )?;
+    let twice = joined(
+        alloc,
+        &[&[2, 0, 0, 0, 0, 0, 0, 0], &bytes[8..29], &bytes[8..29]],
+    )?;
     assert_eq!(rt; again::<Rows<Post>>(alloc, &falling), Again::Refused);
     assert_eq!(rt; again::<Rows<Post>>(alloc, &twice), Again::Refused);
     Ok(())
