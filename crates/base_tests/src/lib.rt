@@ -1,4 +1,4 @@
-//! Tests of what all crates stand on: numbers, names, files, outputs, states of devices, hubs and
+//! Tests of what all crates stand on: numbers, names, files, outputs, stores, states of devices, hubs and
 //! merged lists.
 #![tactic(auto)]
 
@@ -14,3 +14,5 @@ mod merge;
 mod numbers;
 #[cfg(test)]
 mod sinks;
+#[cfg(test)]
+mod stores;

@@ -5,3 +5,4 @@ pub mod Find
 pub mod Listed
 pub mod ReadLemmas
 pub mod Texts
+pub mod Told

@@ -7,3 +7,5 @@ pub mod Frame
 pub mod Whole
 pub mod FilesSeen
 pub mod SinkSeen
+pub mod Store
+pub mod StoreSeen

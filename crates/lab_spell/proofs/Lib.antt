@@ -1,3 +1,3 @@
+mod FrameLemmas
 mod ListLoops
 mod TextLemmas
-mod WholeLemmas

@@ -235,6 +235,15 @@ choice_lawful {A = A} {B = B} tag {f = f} {g = g} avoids f_law g_law = record {
         let b = bind_some (g.parse bytes) (λ b. Some (inr b.0, b.1)) y h.1 in
         subst (Spells (choice tag f g) bytes) (same_Some (inr b.0.0, b.0.1) y b.2) (g_law.takes bytes b.0 fits b.1)
 
+-- the spelling of a variant begins with its own place, and with no other
+pub avoids_tagged : {A : Type 0} (f : Form A) (tag other : ℕ) → eqb other tag ≡ false → Avoids tag (tagged other f)
+avoids_tagged f tag other apart a = (other, f.spell a, refl, apart)
+
+pub avoids_choice : {A B : Type 0} (f : Form A) (g : Form B) (tag other : ℕ) → eqb other tag ≡ false → Avoids tag g →
+    Avoids tag (choice other f g)
+avoids_choice f g tag other apart avoids (inl a) = (other, f.spell a, refl, apart)
+avoids_choice f g tag other apart avoids (inr b) = avoids b
+
 pub flag_lawful : IsLawful flag
 flag_lawful =
     via_lawful to_flag from_flag (elim [ true ↦ refl | false ↦ refl ]) (elim [ inl a ↦ refl | inr b ↦ refl ])

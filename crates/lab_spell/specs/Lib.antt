@@ -1,6 +1,15 @@
 -- What contracts of lab_spell and of the crates above cite.
 pub mod Combine
+pub mod DeviceStates
 pub mod Form
+pub mod Frames
+pub mod HartStates
 pub mod Inner
+pub mod InterruptStates
+pub mod Keys
 pub mod Laws
+pub mod OpenLines
+pub mod PlanParts
+pub mod Posts
 pub mod Reads
+pub mod WholeLaws

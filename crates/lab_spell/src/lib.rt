@@ -1,11 +1,21 @@
 //! Values spelled as bytes, and read again: each value has one spelling, no spelling begins another,
-//! and bytes that are no spelling are refused.
+//! and bytes that are no spelling are refused. Spelled are numbers, options, lists and texts, and what
+//! laboratories are made of: keys, posts, the states of devices, processors, timers and interrupt
+//! controllers, parts of plans, and open lines.
 #![tactic(auto)]
 
+mod device_states;
 mod fault;
+mod frames;
+mod hart_states;
+mod interrupt_states;
+mod keys;
 mod lists;
 mod numbers;
+mod open_lines;
 mod options;
+mod plan_parts;
+mod posts;
 mod source;
 mod spelled;
 mod texts;

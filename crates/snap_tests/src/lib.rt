@@ -2,4 +2,10 @@
 #![tactic(auto)]
 
 #[cfg(test)]
+mod bytes;
+#[cfg(test)]
+mod parts;
+#[cfg(test)]
 mod spellings;
+#[cfg(test)]
+mod states;

@@ -1,0 +1,2 @@
+mod PageLoops
+mod RisingLemmas

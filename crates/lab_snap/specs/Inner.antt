@@ -1,0 +1,3 @@
+-- What serves private contracts and proofs.
+pub mod Pages
+pub mod ReadsInto

@@ -1,0 +1,7 @@
+-- What contracts of lab_snap and of the crates above cite.
+pub mod Hub
+pub mod Inner
+pub mod Memory
+pub mod MemoryLaws
+pub mod Page
+pub mod Rising

@@ -1,0 +1,92 @@
+//! Hubs as a snapshot holds them.
+use crate::state::State;
+use lab_num::{Member, NoMemory, Rows, Text, is_name};
+use lab_spell::{SnapFault, Source, Spelled};
+use std::alloc::Global;
+
+/// The kinds of hubs.
+#[derive(Clone, Copy, PartialEq, Eq, Debug)]
+pub enum HubKind {
+    /// It connects UARTs.
+    Uart,
+    /// It connects CAN controllers.
+    Can,
+}
+
+/// The most microseconds that a hub delays what is sent.
+const MOST_DELAY: u32 = 1_000_000;
+
+/// A hub as a snapshot holds it.
+#[derive(PartialEq, Eq, Drop, Debug)]
+pub struct SavedHub {
+    pub kind: HubKind,
+    pub name: Text,
+    /// In microseconds.
+    pub delay: u32,
+    /// In order of connection.
+    pub members: Rows<Member>,
+}
+
+impl Spelled for HubKind {
+    ghost use Rattle.lab_snap.specs.Hub.{hub_kind_form, hub_kind_lawful};
+
+    ghost form = { hub_kind_form };
+
+    ghost lawful = { hub_kind_lawful };
+
+    #[tactic(auto, unfolding(crate::specs::Hub::hub_kind_form))]
+    fn put(&self, out: &mut Vec<u8>) -> Result<(), NoMemory> {
+        match self {
+            HubKind::Uart => out.push(0)?,
+            HubKind::Can => out.push(1)?,
+        }
+        Ok(())
+    }
+
+    #[tactic(auto, unfolding(crate::specs::Hub::hub_kind_form))]
+    fn take(_alloc: Global, source: &mut Source<'_>) -> Result<HubKind, SnapFault> {
+        match source.byte()? {
+            0 => Ok(HubKind::Uart),
+            1 => Ok(HubKind::Can),
+            _ => Err(SnapFault::Bad),
+        }
+    }
+}
+
+impl Spelled for SavedHub {
+    ghost use Rattle.lab_snap.specs.Hub.{hub_form, hub_lawful};
+
+    ghost form = { hub_form };
+
+    ghost lawful = { hub_lawful };
+
+    #[tactic(auto, unfolding(crate::specs::Hub::hub_form))]
+    fn put(&self, out: &mut Vec<u8>) -> Result<(), NoMemory> {
+        self.kind.put(out)?;
+        self.name.put(out)?;
+        self.delay.put(out)?;
+        self.members.put(out)?;
+        Ok(())
+    }
+
+    #[tactic(auto, unfolding(crate::specs::Hub::hub_form))]
+    fn take(alloc: Global, source: &mut Source<'_>) -> Result<SavedHub, SnapFault> {
+        Ok(SavedHub {
+            kind: Spelled::take(alloc, source)?,
+            name: Spelled::take(alloc, source)?,
+            delay: Spelled::take(alloc, source)?,
+            members: Spelled::take(alloc, source)?,
+        })
+    }
+}
+
+/// Hubs that have a name and no longer delay than a second.
+impl State for SavedHub {
+    ghost use Rattle.lab_snap.specs.Hub.{IsHub};
+
+    ghost Valid = { IsHub };
+
+    fn is_valid(&self) -> bool {
+        is_name(self.name.as_str()) && self.delay <= MOST_DELAY
+    }
+}

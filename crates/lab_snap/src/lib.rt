@@ -1,0 +1,13 @@
+//! What a snapshot holds, saved as bytes and loaded again: states of which not every value can stand
+//! in a laboratory, memories by the pages that are in use, and hubs.
+#![tactic(auto)]
+
+mod hub;
+mod memory;
+mod state;
+mod whole;
+
+pub use hub::{HubKind, SavedHub};
+pub use memory::{load_memory, put_memory, save_memory, take_memory};
+pub use state::State;
+pub use whole::{load_state, save_state};

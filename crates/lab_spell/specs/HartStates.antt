@@ -1,0 +1,70 @@
+-- How the states of processors are spelled: their fields in order.
+use Rattle.std.proofs.Common.{refl}
+use Rattle.rv_hart.specs.declared.letters.Letters.{Letters}
+use Rattle.rv_hart.specs.declared.state.HartState.{HartState}
+use Rattle.lab_spell.specs.Form.{Form, IsLawful}
+use Rattle.lab_spell.specs.Combine.{byte, flag, number, times, via, ◌⊗◌}
+use Rattle.lab_spell.specs.Laws.{byte_lawful, flag_lawful, next_lawful, number_lawful, times_lawful, via_lawful}
+
+-- the two letters
+unfoldable pub letters_form : Form Letters
+letters_form =
+    via (λ s. (s.a, s.c))
+    (λ (a, c). record { a = a; c = c })
+    (flag ⊗ flag)
+
+pub letters_lawful : IsLawful letters_form
+unfolding letters_form
+letters_lawful = via_lawful _ _ (λ x. refl) (λ a. refl) (next_lawful flag_lawful flag_lawful)
+
+-- the fields of a processor
+unfoldable pub hart_form : Form HartState
+hart_form =
+    via
+    (λ s. (s.registers, (s.pc, (s.on, (s.before, (s.mie, (s.mtvec, (s.mscratch, (s.mepc, (s.mcause, (s.mtval,
+    (s.mcycle, (s.minstret, (s.waiting, (s.halted, (s.letters, s.number))))))))))))))))
+    (λ (registers, (pc, (on, (before, (mie, (mtvec, (mscratch, (mepc, (mcause, (mtval, (mcycle, (minstret,
+    (waiting, (halted, (letters, number))))))))))))))). record {
+      registers = registers;
+      pc = pc;
+      on = on;
+      before = before;
+      mie = mie;
+      mtvec = mtvec;
+      mscratch = mscratch;
+      mepc = mepc;
+      mcause = mcause;
+      mtval = mtval;
+      mcycle = mcycle;
+      minstret = minstret;
+      waiting = waiting;
+      halted = halted;
+      letters = letters;
+      number = number;
+    })
+    (times 32 (number 4) -- registers
+    ⊗ number 4 -- pc
+    ⊗ flag -- on
+    ⊗ flag -- before
+    ⊗ number 4 -- mie
+    ⊗ number 4 -- mtvec
+    ⊗ number 4 -- mscratch
+    ⊗ number 4 -- mepc
+    ⊗ number 4 -- mcause
+    ⊗ number 4 -- mtval
+    ⊗ number 8 -- mcycle
+    ⊗ number 8 -- minstret
+    ⊗ flag -- waiting
+    ⊗ flag -- halted
+    ⊗ letters_form -- letters
+    ⊗ byte) -- number
+
+pub hart_lawful : IsLawful hart_form
+unfolding hart_form
+hart_lawful =
+    via_lawful _ _ (λ x. refl) (λ a. refl)
+    (next_lawful (times_lawful 32 (number_lawful 4)) (next_lawful (number_lawful 4) (next_lawful flag_lawful
+    (next_lawful flag_lawful (next_lawful (number_lawful 4) (next_lawful (number_lawful 4)
+    (next_lawful (number_lawful 4) (next_lawful (number_lawful 4) (next_lawful (number_lawful 4)
+    (next_lawful (number_lawful 4) (next_lawful (number_lawful 8) (next_lawful (number_lawful 8)
+    (next_lawful flag_lawful (next_lawful flag_lawful (next_lawful letters_lawful byte_lawful)))))))))))))))

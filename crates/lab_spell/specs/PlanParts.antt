@@ -1,0 +1,192 @@
+-- How the parts of the plan of a board are spelled.
+use Rattle.std.proofs.Common.{refl, ◌≡◌, ◌⊎◌, inl, inr, ℕ}
+use Rattle.dev_core.specs.declared.kind.Kind.{Kind}
+use Rattle.dev_core.specs.declared.kind.Kind.TheVariants as kind
+use Rattle.sys_bus.specs.declared.region.Region.{Region}
+use Rattle.sys_bus.specs.declared.region.RegionKind.{RegionKind}
+use Rattle.sys_bus.specs.declared.region.RegionKind.TheVariants as region
+use Rattle.sys_bus.specs.declared.plan.Named.{Named}
+use Rattle.sys_bus.specs.declared.plan.NamedWhat.{NamedWhat}
+use Rattle.sys_bus.specs.declared.plan.NamedWhat.TheVariants as named
+use Rattle.sys_bus.specs.declared.plan.PlicSize.{PlicSize}
+use Rattle.sys_bus.specs.declared.wire.WireFrom.{WireFrom}
+use Rattle.sys_bus.specs.declared.wire.WireFrom.TheVariants as wire
+use Rattle.lab_spell.specs.Form.{Form, IsLawful}
+use Rattle.lab_spell.specs.Combine.{byte, choice, nothing, number, tagged, text, via, ◌⊗◌}
+use Rattle.lab_spell.specs.Laws.{avoids_choice, avoids_tagged, byte_lawful, choice_lawful, next_lawful, nothing_lawful}
+use Rattle.lab_spell.specs.Laws.{number_lawful, tagged_lawful, text_lawful, via_lawful}
+
+abbrev pub kind_to : Kind → Unit {0} ⊎ (Unit {0} ⊎ Unit {0})
+kind_to kind.Uart = inl tt
+kind_to kind.Can = inr (inl tt)
+kind_to kind.Finisher = inr (inr tt)
+
+abbrev pub kind_from : Unit {0} ⊎ (Unit {0} ⊎ Unit {0}) → Kind
+kind_from (inl x) = kind.Uart
+kind_from (inr (inl x)) = kind.Can
+kind_from (inr (inr x)) = kind.Finisher
+
+kind_again : (x : Kind) → kind_from (kind_to x) ≡ x
+kind_again kind.Uart = refl
+kind_again kind.Can = refl
+kind_again kind.Finisher = refl
+
+kind_back : (a : Unit {0} ⊎ (Unit {0} ⊎ Unit {0})) → kind_to (kind_from a) ≡ a
+kind_back (inl x) = refl
+kind_back (inr (inl x)) = refl
+kind_back (inr (inr x)) = refl
+
+-- 0 for a UART, 1 for a CAN controller, 2 for a finisher
+unfoldable pub kind_form : Form Kind
+kind_form = via kind_to kind_from (choice 0 nothing (choice 1 nothing (tagged 2 nothing)))
+
+pub kind_lawful : IsLawful kind_form
+unfolding kind_form
+kind_lawful =
+    via_lawful _ _ kind_again kind_back
+    (choice_lawful 0 (avoids_choice nothing (tagged 2 nothing) 0 1 refl
+    (avoids_tagged nothing 0 2 refl)) nothing_lawful
+    (choice_lawful 1 (avoids_tagged nothing 1 2 refl) nothing_lawful
+    (tagged_lawful 2 nothing_lawful)))
+
+abbrev pub region_kind_to : RegionKind → ℕ ⊎ (Unit {0} ⊎ (Unit {0} ⊎ ℕ))
+region_kind_to (region.Ram x) = inl x
+region_kind_to region.Clint = inr (inl tt)
+region_kind_to region.Plic = inr (inr (inl tt))
+region_kind_to (region.Dev x) = inr (inr (inr x))
+
+abbrev pub region_kind_from : ℕ ⊎ (Unit {0} ⊎ (Unit {0} ⊎ ℕ)) → RegionKind
+region_kind_from (inl x) = region.Ram x
+region_kind_from (inr (inl x)) = region.Clint
+region_kind_from (inr (inr (inl x))) = region.Plic
+region_kind_from (inr (inr (inr x))) = region.Dev x
+
+region_kind_again : (x : RegionKind) → region_kind_from (region_kind_to x) ≡ x
+region_kind_again (region.Ram x) = refl
+region_kind_again region.Clint = refl
+region_kind_again region.Plic = refl
+region_kind_again (region.Dev x) = refl
+
+region_kind_back : (a : ℕ ⊎ (Unit {0} ⊎ (Unit {0} ⊎ ℕ))) → region_kind_to (region_kind_from a) ≡ a
+region_kind_back (inl x) = refl
+region_kind_back (inr (inl x)) = refl
+region_kind_back (inr (inr (inl x))) = refl
+region_kind_back (inr (inr (inr x))) = refl
+
+-- 0 and the number of a memory, 1 for the timer, 2 for the interrupt controller, or 3 and the number of a device
+unfoldable pub region_kind_form : Form RegionKind
+region_kind_form = via region_kind_to region_kind_from
+    (choice 0 byte (choice 1 nothing (choice 2 nothing (tagged 3 byte))))
+
+pub region_kind_lawful : IsLawful region_kind_form
+unfolding region_kind_form
+region_kind_lawful =
+    via_lawful _ _ region_kind_again region_kind_back
+    (choice_lawful 0 (avoids_choice nothing (choice 2 nothing (tagged 3 byte)) 0 1 refl
+    (avoids_choice nothing (tagged 3 byte) 0 2 refl
+    (avoids_tagged byte 0 3 refl))) byte_lawful
+    (choice_lawful 1 (avoids_choice nothing (tagged 3 byte) 1 2 refl
+    (avoids_tagged byte 1 3 refl)) nothing_lawful
+    (choice_lawful 2 (avoids_tagged byte 2 3 refl) nothing_lawful
+    (tagged_lawful 3 byte_lawful))))
+
+-- base, size, what stands there and the step of its registers
+unfoldable pub region_form : Form Region
+region_form =
+    via (λ s. (s.base, (s.size, (s.kind, s.step))))
+    (λ (base, (size, (kind, step))). record { base = base; size = size; kind = kind; step = step })
+    (number 4 ⊗ number 4 ⊗ region_kind_form ⊗ byte)
+
+pub region_lawful : IsLawful region_form
+unfolding region_form
+region_lawful = via_lawful _ _ (λ x. refl) (λ a. refl)
+    (next_lawful (number_lawful 4) (next_lawful (number_lawful 4) (next_lawful region_kind_lawful byte_lawful)))
+
+abbrev pub named_what_to : NamedWhat → Unit {0} ⊎ RegionKind
+named_what_to named.Cpu = inl tt
+named_what_to (named.Part x) = inr x
+
+abbrev pub named_what_from : Unit {0} ⊎ RegionKind → NamedWhat
+named_what_from (inl x) = named.Cpu
+named_what_from (inr x) = named.Part x
+
+named_what_again : (x : NamedWhat) → named_what_from (named_what_to x) ≡ x
+named_what_again named.Cpu = refl
+named_what_again (named.Part x) = refl
+
+named_what_back : (a : Unit {0} ⊎ RegionKind) → named_what_to (named_what_from a) ≡ a
+named_what_back (inl x) = refl
+named_what_back (inr x) = refl
+
+-- 0 for the processor, or 1 and a part
+unfoldable pub named_what_form : Form NamedWhat
+named_what_form = via named_what_to named_what_from (choice 0 nothing (tagged 1 region_kind_form))
+
+pub named_what_lawful : IsLawful named_what_form
+unfolding named_what_form
+named_what_lawful =
+    via_lawful _ _ named_what_again named_what_back
+    (choice_lawful 0 (avoids_tagged region_kind_form 0 1 refl) nothing_lawful
+    (tagged_lawful 1 region_kind_lawful))
+
+-- a name, and what it stands for
+unfoldable pub named_form : Form Named
+named_form =
+    via (λ s. (s.name, s.what))
+    (λ (name, what). record { name = name; what = what })
+    (text ⊗ named_what_form)
+
+pub named_lawful : IsLawful named_form
+unfolding named_form
+named_lawful = via_lawful _ _ (λ x. refl) (λ a. refl) (next_lawful text_lawful named_what_lawful)
+
+-- how many sources and contexts there are
+unfoldable pub plic_size_form : Form PlicSize
+plic_size_form =
+    via (λ s. (s.sources, s.contexts))
+    (λ (sources, contexts). record { sources = sources; contexts = contexts })
+    (byte ⊗ byte)
+
+pub plic_size_lawful : IsLawful plic_size_form
+unfolding plic_size_form
+plic_size_lawful = via_lawful _ _ (λ x. refl) (λ a. refl) (next_lawful byte_lawful byte_lawful)
+
+abbrev pub wire_from_to : WireFrom → Unit {0} ⊎ (Unit {0} ⊎ (ℕ ⊎ ℕ))
+wire_from_to wire.Soft = inl tt
+wire_from_to wire.Timer = inr (inl tt)
+wire_from_to (wire.Context x) = inr (inr (inl x))
+wire_from_to (wire.Dev x) = inr (inr (inr x))
+
+abbrev pub wire_from_from : Unit {0} ⊎ (Unit {0} ⊎ (ℕ ⊎ ℕ)) → WireFrom
+wire_from_from (inl x) = wire.Soft
+wire_from_from (inr (inl x)) = wire.Timer
+wire_from_from (inr (inr (inl x))) = wire.Context x
+wire_from_from (inr (inr (inr x))) = wire.Dev x
+
+wire_from_again : (x : WireFrom) → wire_from_from (wire_from_to x) ≡ x
+wire_from_again wire.Soft = refl
+wire_from_again wire.Timer = refl
+wire_from_again (wire.Context x) = refl
+wire_from_again (wire.Dev x) = refl
+
+wire_from_back : (a : Unit {0} ⊎ (Unit {0} ⊎ (ℕ ⊎ ℕ))) → wire_from_to (wire_from_from a) ≡ a
+wire_from_back (inl x) = refl
+wire_from_back (inr (inl x)) = refl
+wire_from_back (inr (inr (inl x))) = refl
+wire_from_back (inr (inr (inr x))) = refl
+
+-- 0 and 1 for the software and the timer interrupt, 2 and a context, or 3 and the number of a device
+unfoldable pub wire_from_form : Form WireFrom
+wire_from_form = via wire_from_to wire_from_from (choice 0 nothing (choice 1 nothing (choice 2 byte (tagged 3 byte))))
+
+pub wire_from_lawful : IsLawful wire_from_form
+unfolding wire_from_form
+wire_from_lawful =
+    via_lawful _ _ wire_from_again wire_from_back
+    (choice_lawful 0 (avoids_choice nothing (choice 2 byte (tagged 3 byte)) 0 1 refl
+    (avoids_choice byte (tagged 3 byte) 0 2 refl
+    (avoids_tagged byte 0 3 refl))) nothing_lawful
+    (choice_lawful 1 (avoids_choice byte (tagged 3 byte) 1 2 refl
+    (avoids_tagged byte 1 3 refl)) nothing_lawful
+    (choice_lawful 2 (avoids_tagged byte 2 3 refl) byte_lawful
+    (tagged_lawful 3 byte_lawful))))

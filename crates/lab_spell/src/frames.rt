@@ -1,0 +1,179 @@
+//! Frames, and what receivers hold: rows of bytes and of frames.
+ghost use Rattle.std.specs.Prelude.{◌≡◌, ◌<◌, ◌≤◌, ◌==◌, ◌-◌, ◌++◌, length, replicate, take, true, false, OnOk};
+ghost use Rattle.std.specs.List.{list_all};
+ghost use Rattle.dev_core.specs.Frame.{carried};
+ghost use Rattle.lab_spell.specs.Frames.{frame_form, frame_of, is_frame};
+ghost use Rattle.lab_spell.specs.Reads.{Appends};
+
+use crate::fault::SnapFault;
+use crate::lists::put_each;
+use crate::source::Source;
+use crate::spelled::Spelled;
+use dev_core::{ByteRow, Frame, FrameRow};
+use lab_num::{NoMemory, Rows};
+use std::alloc::Global;
+
+/// Eight bytes, of which these are the first and the others are 0.
+fn padded(carried: &[u8]) -> [u8; 8]
+    requires { length carried.now ≤ 8 }
+    ensures { result ≡ carried.now ++ replicate (8 - length carried.now) 0 }
+{
+    let mut bytes = [0; 8];
+    bytes[..carried.len()].copy_from_slice(carried);
+    bytes
+}
+
+fn are_zero(bytes: &[u8]) -> bool
+    ensures { result ≡ list_all (λ b. b == 0) bytes.now }
+{
+    bytes.iter().all(|&byte| byte == 0)
+}
+
+/// The remote frame of these fields, if there is one.
+fn remote_of(id: u16, len: u8, bytes: &[u8; 8]) -> Option<Frame>
+    requires id { id < 2048 }
+    requires len { len ≤ 8 }
+    ensures { result ≡ frame_of (record { id = id; remote = true; len = len; bytes = bytes.now }) }
+{
+    if !are_zero(bytes) {
+        return None;
+    }
+    Some(Frame::new_remote(id, len))
+}
+
+/// The data frame of these fields, if there is one.
+fn data_of(id: u16, len: u8, bytes: &[u8; 8]) -> Option<Frame>
+    requires id { id < 2048 }
+    requires len { len ≤ 8 }
+    ensures { result ≡ frame_of (record { id = id; remote = false; len = len; bytes = bytes.now }) }
+{
+    let (carried, others) = bytes.split_at(usize::from(len));
+    if !are_zero(others) {
+        return None;
+    }
+    Some(Frame::new(id, carried))
+}
+
+/// The frame of these fields, if there is one.
+fn frame_of(id: u16, remote: bool, len: u8, bytes: &[u8; 8]) -> Option<Frame>
+    ensures { result ≡ frame_of (record { id = id; remote = remote; len = len; bytes = bytes.now }) }
+{
+    if id >= 2048 || len > 8 {
+        return None;
+    }
+    if remote {
+        remote_of(id, len, bytes)
+    } else {
+        data_of(id, len, bytes)
+    }
+}
+
+/// The frame that has what the readers of a frame say.
+fn as_read(frame: &Frame) -> Frame
+    ensures frame { is_frame result ≡ true }
+    ensures bytes { result.bytes ≡ take (carried result) result.bytes ++ replicate (8 - carried result) 0 }
+{
+    if frame.is_remote() {
+        Frame::new_remote(frame.id(), frame.len())
+    } else {
+        Frame::new(frame.id(), frame.data())
+    }
+}
+
+/// Writes the fields of a frame.
+#[tactic(auto, unfolding(crate::specs::Frames::frame_form, crate::specs::Frames::frame_fields))]
+fn put_fields(frame: &Frame, out: &mut Vec<u8>) -> Result<(), NoMemory>
+    requires frame { is_frame frame.now ≡ true }
+    requires bytes { frame.now.bytes
+        ≡ take (carried frame.now) frame.now.bytes ++ replicate (8 - carried frame.now) 0 }
+    ensures spelled { OnOk result (Appends out.old.items out.new.items (frame_form.spell frame.now)) }
+    ensures fits { OnOk result (frame_form.Fits frame.now) }
+{
+    frame.id().put(out)?;
+    frame.is_remote().put(out)?;
+    frame.len().put(out)?;
+    padded(frame.data()).put(out)?;
+    Ok(())
+}
+
+/// The places of a frame that carry nothing are 0, which no reader tells: so a frame is compared with
+/// the one that its readers make. They never differ.
+impl Spelled for Frame {
+    ghost use Rattle.lab_spell.specs.Frames.{frame_form, frame_lawful};
+
+    ghost form = { frame_form };
+
+    ghost lawful = { frame_lawful };
+
+    fn put(&self, out: &mut Vec<u8>) -> Result<(), NoMemory> {
+        let frame = as_read(self);
+        if frame != *self {
+            return Err(NoMemory);
+        }
+        put_fields(&frame, out)
+    }
+
+    #[tactic(auto, unfolding(crate::specs::Frames::frame_form, crate::specs::Frames::frame_fields))]
+    fn take(alloc: Global, source: &mut Source<'_>) -> Result<Frame, SnapFault> {
+        let id = u16::take(alloc, source)?;
+        let remote = bool::take(alloc, source)?;
+        let len = u8::take(alloc, source)?;
+        let bytes: [u8; 8] = Spelled::take(alloc, source)?;
+        match frame_of(id, remote, len, &bytes) {
+            Some(frame) => Ok(frame),
+            None => Err(SnapFault::Bad),
+        }
+    }
+}
+
+impl Spelled for ByteRow {
+    ghost use Rattle.lab_spell.specs.Frames.{byte_row_form, byte_row_lawful};
+
+    ghost form = { byte_row_form };
+
+    ghost lawful = { byte_row_lawful };
+
+    #[tactic(auto, unfolding(crate::specs::Frames::byte_row_form))]
+    fn put(&self, out: &mut Vec<u8>) -> Result<(), NoMemory> {
+        let bytes = self.items();
+        (bytes.len() as u64).put(out)?;
+        put_each(bytes, out)?;
+        Ok(())
+    }
+
+    #[tactic(auto, unfolding(crate::specs::Frames::byte_row_form))]
+    fn take(alloc: Global, source: &mut Source<'_>) -> Result<ByteRow, SnapFault> {
+        let bytes: Rows<u8> = Spelled::take(alloc, source)?;
+        let bytes = bytes.items();
+        if bytes.len() > 16 {
+            return Err(SnapFault::Bad);
+        }
+        Ok(ByteRow::of(bytes))
+    }
+}
+
+impl Spelled for FrameRow {
+    ghost use Rattle.lab_spell.specs.Frames.{frame_row_form, frame_row_lawful};
+
+    ghost form = { frame_row_form };
+
+    ghost lawful = { frame_row_lawful };
+
+    #[tactic(auto, unfolding(crate::specs::Frames::frame_row_form))]
+    fn put(&self, out: &mut Vec<u8>) -> Result<(), NoMemory> {
+        let frames = self.items();
+        (frames.len() as u64).put(out)?;
+        put_each(frames, out)?;
+        Ok(())
+    }
+
+    #[tactic(auto, unfolding(crate::specs::Frames::frame_row_form))]
+    fn take(alloc: Global, source: &mut Source<'_>) -> Result<FrameRow, SnapFault> {
+        let frames: Rows<Frame> = Spelled::take(alloc, source)?;
+        let frames = frames.items();
+        if frames.len() > 32 {
+            return Err(SnapFault::Bad);
+        }
+        Ok(FrameRow::of(frames))
+    }
+}

@@ -1,0 +1,62 @@
+//! The states of timers and interrupt controllers.
+use crate::fault::SnapFault;
+use crate::source::Source;
+use crate::spelled::Spelled;
+use clint::ClintState;
+use lab_num::NoMemory;
+use plic::PlicState;
+use std::alloc::Global;
+
+impl Spelled for ClintState {
+    ghost use Rattle.lab_spell.specs.InterruptStates.{clint_form, clint_lawful};
+
+    ghost form = { clint_form };
+
+    ghost lawful = { clint_lawful };
+
+    #[tactic(auto, unfolding(crate::specs::InterruptStates::clint_form))]
+    fn put(&self, out: &mut Vec<u8>) -> Result<(), NoMemory> {
+        self.msip.put(out)?;
+        self.mtimecmp.put(out)?;
+        self.offset.put(out)?;
+        Ok(())
+    }
+
+    #[tactic(auto, unfolding(crate::specs::InterruptStates::clint_form))]
+    fn take(alloc: Global, source: &mut Source<'_>) -> Result<ClintState, SnapFault> {
+        Ok(ClintState {
+            msip: Spelled::take(alloc, source)?,
+            mtimecmp: Spelled::take(alloc, source)?,
+            offset: Spelled::take(alloc, source)?,
+        })
+    }
+}
+
+impl Spelled for PlicState {
+    ghost use Rattle.lab_spell.specs.InterruptStates.{plic_form, plic_lawful};
+
+    ghost form = { plic_form };
+
+    ghost lawful = { plic_lawful };
+
+    #[tactic(auto, unfolding(crate::specs::InterruptStates::plic_form))]
+    fn put(&self, out: &mut Vec<u8>) -> Result<(), NoMemory> {
+        self.priorities.put(out)?;
+        self.pending.put(out)?;
+        self.shut.put(out)?;
+        self.enables.put(out)?;
+        self.thresholds.put(out)?;
+        Ok(())
+    }
+
+    #[tactic(auto, unfolding(crate::specs::InterruptStates::plic_form))]
+    fn take(alloc: Global, source: &mut Source<'_>) -> Result<PlicState, SnapFault> {
+        Ok(PlicState {
+            priorities: Spelled::take(alloc, source)?,
+            pending: Spelled::take(alloc, source)?,
+            shut: Spelled::take(alloc, source)?,
+            enables: Spelled::take(alloc, source)?,
+            thresholds: Spelled::take(alloc, source)?,
+        })
+    }
+}

@@ -1,0 +1,60 @@
+//! The open lines of UARTs.
+ghost use Rattle.std.specs.Prelude.{◌≡◌};
+
+use crate::fault::SnapFault;
+use crate::lists::put_each;
+use crate::source::Source;
+use crate::spelled::Spelled;
+use lab_num::{NoMemory, Rows};
+use log_text::{Lines, OpenLine};
+use std::alloc::Global;
+
+impl Spelled for OpenLine {
+    ghost use Rattle.lab_spell.specs.OpenLines.{open_line_form, open_line_lawful};
+
+    ghost form = { open_line_form };
+
+    ghost lawful = { open_line_lawful };
+
+    #[tactic(auto, unfolding(crate::specs::OpenLines::open_line_form))]
+    fn put(&self, out: &mut Vec<u8>) -> Result<(), NoMemory> {
+        self.member.put(out)?;
+        self.at.put(out)?;
+        self.bytes.put(out)?;
+        Ok(())
+    }
+
+    #[tactic(auto, unfolding(crate::specs::OpenLines::open_line_form))]
+    fn take(alloc: Global, source: &mut Source<'_>) -> Result<OpenLine, SnapFault> {
+        Ok(OpenLine {
+            member: Spelled::take(alloc, source)?,
+            at: Spelled::take(alloc, source)?,
+            bytes: Spelled::take(alloc, source)?,
+        })
+    }
+}
+
+impl Spelled for Lines {
+    ghost use Rattle.lab_spell.specs.OpenLines.{lines_form, lines_lawful};
+
+    ghost form = { lines_form };
+
+    ghost lawful = { lines_lawful };
+
+    #[tactic(auto, unfolding(crate::specs::OpenLines::lines_form))]
+    fn put(&self, out: &mut Vec<u8>) -> Result<(), NoMemory> {
+        let lines = self.unended();
+        (lines.len() as u64).put(out)?;
+        put_each(lines, out)?;
+        Ok(())
+    }
+
+    #[tactic(auto, unfolding(crate::specs::OpenLines::lines_form))]
+    fn take(alloc: Global, source: &mut Source<'_>) -> Result<Lines, SnapFault> {
+        let lines: Rows<OpenLine> = Spelled::take(alloc, source)?;
+        match Lines::of(lines.into_items()) {
+            Some(lines) => Ok(lines),
+            None => Err(SnapFault::Bad),
+        }
+    }
+}

@@ -1,0 +1,210 @@
+//! The parts of the plan of a board.
+use crate::fault::SnapFault;
+use crate::source::Source;
+use crate::spelled::Spelled;
+use dev_core::Kind;
+use lab_num::NoMemory;
+use std::alloc::Global;
+use sys_bus::{Named, NamedWhat, PlicSize, Region, RegionKind, WireFrom};
+
+impl Spelled for Kind {
+    ghost use Rattle.lab_spell.specs.PlanParts.{kind_form, kind_lawful};
+
+    ghost form = { kind_form };
+
+    ghost lawful = { kind_lawful };
+
+    #[tactic(auto, unfolding(crate::specs::PlanParts::kind_form))]
+    fn put(&self, out: &mut Vec<u8>) -> Result<(), NoMemory> {
+        match self {
+            Kind::Uart => out.push(0)?,
+            Kind::Can => out.push(1)?,
+            Kind::Finisher => out.push(2)?,
+        }
+        Ok(())
+    }
+
+    #[tactic(auto, unfolding(crate::specs::PlanParts::kind_form))]
+    fn take(_alloc: Global, source: &mut Source<'_>) -> Result<Kind, SnapFault> {
+        match source.byte()? {
+            0 => Ok(Kind::Uart),
+            1 => Ok(Kind::Can),
+            2 => Ok(Kind::Finisher),
+            _ => Err(SnapFault::Bad),
+        }
+    }
+}
+
+impl Spelled for RegionKind {
+    ghost use Rattle.lab_spell.specs.PlanParts.{region_kind_form, region_kind_lawful};
+
+    ghost form = { region_kind_form };
+
+    ghost lawful = { region_kind_lawful };
+
+    #[tactic(auto, unfolding(crate::specs::PlanParts::region_kind_form))]
+    fn put(&self, out: &mut Vec<u8>) -> Result<(), NoMemory> {
+        match self {
+            RegionKind::Ram(part) => {
+                out.push(0)?;
+                part.put(out)?;
+            }
+            RegionKind::Clint => out.push(1)?,
+            RegionKind::Plic => out.push(2)?,
+            RegionKind::Dev(dev) => {
+                out.push(3)?;
+                dev.put(out)?;
+            }
+        }
+        Ok(())
+    }
+
+    #[tactic(auto, unfolding(crate::specs::PlanParts::region_kind_form))]
+    fn take(alloc: Global, source: &mut Source<'_>) -> Result<RegionKind, SnapFault> {
+        match source.byte()? {
+            0 => Ok(RegionKind::Ram(Spelled::take(alloc, source)?)),
+            1 => Ok(RegionKind::Clint),
+            2 => Ok(RegionKind::Plic),
+            3 => Ok(RegionKind::Dev(Spelled::take(alloc, source)?)),
+            _ => Err(SnapFault::Bad),
+        }
+    }
+}
+
+impl Spelled for Region {
+    ghost use Rattle.lab_spell.specs.PlanParts.{region_form, region_lawful};
+
+    ghost form = { region_form };
+
+    ghost lawful = { region_lawful };
+
+    #[tactic(auto, unfolding(crate::specs::PlanParts::region_form))]
+    fn put(&self, out: &mut Vec<u8>) -> Result<(), NoMemory> {
+        self.base.put(out)?;
+        self.size.put(out)?;
+        self.kind.put(out)?;
+        self.step.put(out)?;
+        Ok(())
+    }
+
+    #[tactic(auto, unfolding(crate::specs::PlanParts::region_form))]
+    fn take(alloc: Global, source: &mut Source<'_>) -> Result<Region, SnapFault> {
+        Ok(Region {
+            base: Spelled::take(alloc, source)?,
+            size: Spelled::take(alloc, source)?,
+            kind: Spelled::take(alloc, source)?,
+            step: Spelled::take(alloc, source)?,
+        })
+    }
+}
+
+impl Spelled for NamedWhat {
+    ghost use Rattle.lab_spell.specs.PlanParts.{named_what_form, named_what_lawful};
+
+    ghost form = { named_what_form };
+
+    ghost lawful = { named_what_lawful };
+
+    #[tactic(auto, unfolding(crate::specs::PlanParts::named_what_form))]
+    fn put(&self, out: &mut Vec<u8>) -> Result<(), NoMemory> {
+        match self {
+            NamedWhat::Cpu => out.push(0)?,
+            NamedWhat::Part(kind) => {
+                out.push(1)?;
+                kind.put(out)?;
+            }
+        }
+        Ok(())
+    }
+
+    #[tactic(auto, unfolding(crate::specs::PlanParts::named_what_form))]
+    fn take(alloc: Global, source: &mut Source<'_>) -> Result<NamedWhat, SnapFault> {
+        match source.byte()? {
+            0 => Ok(NamedWhat::Cpu),
+            1 => Ok(NamedWhat::Part(Spelled::take(alloc, source)?)),
+            _ => Err(SnapFault::Bad),
+        }
+    }
+}
+
+impl Spelled for Named {
+    ghost use Rattle.lab_spell.specs.PlanParts.{named_form, named_lawful};
+
+    ghost form = { named_form };
+
+    ghost lawful = { named_lawful };
+
+    #[tactic(auto, unfolding(crate::specs::PlanParts::named_form))]
+    fn put(&self, out: &mut Vec<u8>) -> Result<(), NoMemory> {
+        self.name.put(out)?;
+        self.what.put(out)?;
+        Ok(())
+    }
+
+    #[tactic(auto, unfolding(crate::specs::PlanParts::named_form))]
+    fn take(alloc: Global, source: &mut Source<'_>) -> Result<Named, SnapFault> {
+        Ok(Named {
+            name: Spelled::take(alloc, source)?,
+            what: Spelled::take(alloc, source)?,
+        })
+    }
+}
+
+impl Spelled for PlicSize {
+    ghost use Rattle.lab_spell.specs.PlanParts.{plic_size_form, plic_size_lawful};
+
+    ghost form = { plic_size_form };
+
+    ghost lawful = { plic_size_lawful };
+
+    #[tactic(auto, unfolding(crate::specs::PlanParts::plic_size_form))]
+    fn put(&self, out: &mut Vec<u8>) -> Result<(), NoMemory> {
+        self.sources.put(out)?;
+        self.contexts.put(out)?;
+        Ok(())
+    }
+
+    #[tactic(auto, unfolding(crate::specs::PlanParts::plic_size_form))]
+    fn take(alloc: Global, source: &mut Source<'_>) -> Result<PlicSize, SnapFault> {
+        Ok(PlicSize {
+            sources: Spelled::take(alloc, source)?,
+            contexts: Spelled::take(alloc, source)?,
+        })
+    }
+}
+
+impl Spelled for WireFrom {
+    ghost use Rattle.lab_spell.specs.PlanParts.{wire_from_form, wire_from_lawful};
+
+    ghost form = { wire_from_form };
+
+    ghost lawful = { wire_from_lawful };
+
+    #[tactic(auto, unfolding(crate::specs::PlanParts::wire_from_form))]
+    fn put(&self, out: &mut Vec<u8>) -> Result<(), NoMemory> {
+        match self {
+            WireFrom::Soft => out.push(0)?,
+            WireFrom::Timer => out.push(1)?,
+            WireFrom::Context(context) => {
+                out.push(2)?;
+                context.put(out)?;
+            }
+            WireFrom::Dev(dev) => {
+                out.push(3)?;
+                dev.put(out)?;
+            }
+        }
+        Ok(())
+    }
+
+    #[tactic(auto, unfolding(crate::specs::PlanParts::wire_from_form))]
+    fn take(alloc: Global, source: &mut Source<'_>) -> Result<WireFrom, SnapFault> {
+        match source.byte()? {
+            0 => Ok(WireFrom::Soft),
+            1 => Ok(WireFrom::Timer),
+            2 => Ok(WireFrom::Context(Spelled::take(alloc, source)?)),
+            3 => Ok(WireFrom::Dev(Spelled::take(alloc, source)?)),
+            _ => Err(SnapFault::Bad),
+        }
+    }
+}

@@ -1,0 +1,98 @@
+//! What is on its way from device to device.
+use crate::fault::SnapFault;
+use crate::source::Source;
+use crate::spelled::Spelled;
+use dev_core::{Finish, Payload, Post};
+use lab_num::NoMemory;
+use std::alloc::Global;
+
+impl Spelled for Finish {
+    ghost use Rattle.lab_spell.specs.Posts.{finish_form, finish_lawful};
+
+    ghost form = { finish_form };
+
+    ghost lawful = { finish_lawful };
+
+    #[tactic(auto, unfolding(crate::specs::Posts::finish_form))]
+    fn put(&self, out: &mut Vec<u8>) -> Result<(), NoMemory> {
+        match self {
+            Finish::Pass => out.push(0)?,
+            Finish::Fail(code) => {
+                out.push(1)?;
+                code.put(out)?;
+            }
+        }
+        Ok(())
+    }
+
+    #[tactic(auto, unfolding(crate::specs::Posts::finish_form))]
+    fn take(alloc: Global, source: &mut Source<'_>) -> Result<Finish, SnapFault> {
+        match source.byte()? {
+            0 => Ok(Finish::Pass),
+            1 => Ok(Finish::Fail(Spelled::take(alloc, source)?)),
+            _ => Err(SnapFault::Bad),
+        }
+    }
+}
+
+impl Spelled for Payload {
+    ghost use Rattle.lab_spell.specs.Posts.{payload_form, payload_lawful};
+
+    ghost form = { payload_form };
+
+    ghost lawful = { payload_lawful };
+
+    #[tactic(auto, unfolding(crate::specs::Posts::payload_form))]
+    fn put(&self, out: &mut Vec<u8>) -> Result<(), NoMemory> {
+        match self {
+            Payload::Byte(byte) => {
+                out.push(0)?;
+                byte.put(out)?;
+            }
+            Payload::Frame(frame) => {
+                out.push(1)?;
+                frame.put(out)?;
+            }
+            Payload::Finish(finish) => {
+                out.push(2)?;
+                finish.put(out)?;
+            }
+        }
+        Ok(())
+    }
+
+    #[tactic(auto, unfolding(crate::specs::Posts::payload_form))]
+    fn take(alloc: Global, source: &mut Source<'_>) -> Result<Payload, SnapFault> {
+        match source.byte()? {
+            0 => Ok(Payload::Byte(Spelled::take(alloc, source)?)),
+            1 => Ok(Payload::Frame(Spelled::take(alloc, source)?)),
+            2 => Ok(Payload::Finish(Spelled::take(alloc, source)?)),
+            _ => Err(SnapFault::Bad),
+        }
+    }
+}
+
+impl Spelled for Post {
+    ghost use Rattle.lab_spell.specs.Posts.{post_form, post_lawful};
+
+    ghost form = { post_form };
+
+    ghost lawful = { post_lawful };
+
+    #[tactic(auto, unfolding(crate::specs::Posts::post_form))]
+    fn put(&self, out: &mut Vec<u8>) -> Result<(), NoMemory> {
+        self.key.put(out)?;
+        self.from.put(out)?;
+        self.payload.put(out)?;
+        Ok(())
+    }
+
+    #[tactic(auto, unfolding(crate::specs::Posts::post_form))]
+    fn take(alloc: Global, source: &mut Source<'_>) -> Result<Post, SnapFault> {
+        Ok(Post {
+            key: Spelled::take(alloc, source)?,
+            from: Spelled::take(alloc, source)?,
+            payload: Spelled::take(alloc, source)?,
+        })
+    }
+}
