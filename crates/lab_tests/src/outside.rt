@@ -1,7 +1,7 @@
 //! Reads, writes and allocations that fail.
 use crate::bench::{files, run};
 use floor_run::NoGate;
-use lab_io::{MemFiles, MemSink};
+use lab_io::MemSink;
 use lab_num::NoMemory;
 use lab_top::Status;
 use std::alloc::Global;
@@ -35,97 +35,103 @@ machine LoadPlatformDescription @using.repl\nrunMacro $go\ncpu PC\n";
 
 const BODIES_LOG: &str = "0x80000000\n0x8000000c\n[0.000002] m0/uart: A\n";
 
-/// A script, the read or the write of its run that fails, the number with which it ends, and what it
-/// has written.
-type Cut = (&'static str, u64, u8, &'static str);
+/// A usual script, with variables and a macro that loads the image.
+const USUAL: &str =
+    ":name: One board\nusing sysbus\n$name?=\"m0\"\n$bin?=@a.bin\nmach create $name\n\
+machine LoadPlatformDescription @p.repl\nshowAnalyzer sysbus.uart\nmacro reset\n\"\"\"\n\
+    sysbus LoadBinary $bin 0x80000000\n    cpu PC 0x80000000\n\"\"\"\nrunMacro $reset\nstart\n";
 
-/// In the last row of each script no read has this number.
-static READS: [Cut; 12] = [
-    (HOLE, 0, 4, ""),
-    (HOLE, 1, 4, ""),
-    (HOLE, 2, 4, ""),
-    (HOLE, 3, 0, HOLE_LOG),
-    (BODIES, 0, 4, ""),
-    (BODIES, 1, 4, ""),
-    (BODIES, 2, 4, ""),
-    (BODIES, 3, 4, ""),
-    (BODIES, 4, 4, ""),
-    (BODIES, 5, 0, BODIES_LOG),
-    (LATE, 3, 4, "0x8000000c\n"),
-    (LATE, 4, 3, LATE_LOG),
+const USUAL_LOG: &str = "[0.000002] m0/uart: A\n";
+
+/// The words of each run, by one worker and by two.
+static BY_ONE: [&str; 6] = ["run", "s.resc", "--until", "0.000003", "--workers", "1"];
+
+static BY_TWO: [&str; 6] = ["run", "s.resc", "--until", "0.000003", "--workers", "2"];
+
+/// The call of a run that fails, each counted from 0: a read of a file, or a write of the output.
+#[derive(Copy, Clone, Debug)]
+enum Failing {
+    Read(u64),
+    Write(u64),
+}
+
+/// A script, the call of its run that fails, the number with which it ends, and what it has written.
+type Cut = (&'static str, Failing, u8, &'static str);
+
+/// In the last row of reads and of writes of each script no call has this number. Each line is one write.
+static CUTS: [Cut; 25] = [
+    (USUAL, Failing::Read(0), 4, ""),
+    (USUAL, Failing::Read(1), 4, ""),
+    (USUAL, Failing::Read(2), 4, ""),
+    (USUAL, Failing::Read(3), 0, USUAL_LOG),
+    (USUAL, Failing::Write(0), 5, ""),
+    (USUAL, Failing::Write(1), 0, USUAL_LOG),
+    (HOLE, Failing::Read(0), 4, ""),
+    (HOLE, Failing::Read(1), 4, ""),
+    (HOLE, Failing::Read(2), 4, ""),
+    (HOLE, Failing::Read(3), 0, HOLE_LOG),
+    (HOLE, Failing::Write(0), 5, ""),
+    (
+        HOLE,
+        Failing::Write(1),
+        5,
+        "[0.000001] m0/sysbus: read 4 at 0x90000000\n",
+    ),
+    (HOLE, Failing::Write(2), 0, HOLE_LOG),
+    (BODIES, Failing::Read(0), 4, ""),
+    (BODIES, Failing::Read(1), 4, ""),
+    (BODIES, Failing::Read(2), 4, ""),
+    (BODIES, Failing::Read(3), 4, ""),
+    (BODIES, Failing::Read(4), 4, ""),
+    (BODIES, Failing::Read(5), 0, BODIES_LOG),
+    (BODIES, Failing::Write(0), 5, ""),
+    (BODIES, Failing::Write(1), 5, "0x80000000\n"),
+    (BODIES, Failing::Write(2), 5, "0x80000000\n0x8000000c\n"),
+    (BODIES, Failing::Write(3), 0, BODIES_LOG),
+    (LATE, Failing::Read(3), 4, "0x8000000c\n"),
+    (LATE, Failing::Read(4), 3, LATE_LOG),
 ];
 
-/// The words of each run.
-static WORDS: [&str; 4] = ["run", "s.resc", "--until", "0.000003"];
-
-/// The run over these files and this output ends with this number, and has written this.
-fn ends<R: Threads + Wait + Copy + Send + Sync>(
+/// Whether a run by these words ends as the row says, where the output takes so many bytes at a time.
+fn is_cut_by<R: Threads + Wait + Copy + Send + Sync>(
     rt: &R,
     alloc: Global,
-    mut files: MemFiles,
-    mut out: MemSink,
-    number: u8,
-    written: &str,
+    words: &[&str],
+    most: usize,
+    cut: &Cut,
 ) -> Result<bool, NoMemory> {
-    let status = run(rt, alloc, &WORDS, &mut files, &mut out, &NoGate)?;
+    let (script, failing, number, written) = *cut;
+    let mut files = files(alloc, script)?;
+    let mut out = MemSink::new(alloc, most.max(1));
+    match failing {
+        Failing::Read(call) => files.fail_at(call)?,
+        Failing::Write(call) => out.fail_at(call)?,
+    }
+    let status = run(rt, alloc, words, &mut files, &mut out, &NoGate)?;
     Ok(status.number() == number && out.bytes() == written.as_bytes())
 }
 
-fn is_cut_at_its_read<R: Threads + Wait + Copy + Send + Sync>(
-    rt: &R,
-    alloc: Global,
-    cut: &Cut,
-) -> Result<bool, NoMemory> {
-    let (script, call, number, written) = *cut;
-    let mut files = files(alloc, script)?;
-    files.fail_at(call)?;
-    ends(rt, alloc, files, MemSink::new(alloc, 4096), number, written)
-}
-
-#[test]
-fn a_failed_read_cuts_a_run_short(rt: HostRuntime) -> Result<(), Fail> {
-    for cut in &READS {
-        let is_cut = is_cut_at_its_read(&rt, rt.alloc(), cut)?;
-        assert!(rt; is_cut, "{cut:?}");
-    }
-    Ok(())
-}
-
-/// Each line is one write. In the last row of each script no write has this number.
-static WRITES: [Cut; 7] = [
-    (HOLE, 0, 5, ""),
-    (HOLE, 1, 5, "[0.000001] m0/sysbus: read 4 at 0x90000000\n"),
-    (HOLE, 2, 0, HOLE_LOG),
-    (BODIES, 0, 5, ""),
-    (BODIES, 1, 5, "0x80000000\n"),
-    (BODIES, 2, 5, "0x80000000\n0x8000000c\n"),
-    (BODIES, 3, 0, BODIES_LOG),
-];
-
-/// Whether this holds where the output takes so many bytes at a time.
-fn is_cut_at_its_write<R: Threads + Wait + Copy + Send + Sync>(
+/// The same by one worker and by two.
+fn is_cut<R: Threads + Wait + Copy + Send + Sync>(
     rt: &R,
     alloc: Global,
     most: usize,
     cut: &Cut,
 ) -> Result<bool, NoMemory> {
-    let (script, call, number, written) = *cut;
-    let mut out = MemSink::new(alloc, most.max(1));
-    out.fail_at(call)?;
-    ends(rt, alloc, files(alloc, script)?, out, number, written)
+    Ok(is_cut_by(rt, alloc, &BY_ONE, most, cut)? && is_cut_by(rt, alloc, &BY_TWO, most, cut)?)
 }
 
 #[test]
-fn a_failed_write_cuts_a_run_short(rt: HostRuntime) -> Result<(), Fail> {
-    for cut in &WRITES {
-        let is_cut = is_cut_at_its_write(&rt, rt.alloc(), 4096, cut)?;
+fn a_failed_read_or_write_cuts_a_run_short(rt: HostRuntime) -> Result<(), Fail> {
+    for cut in &CUTS {
+        let is_cut = is_cut(&rt, rt.alloc(), 4096, cut)?;
         assert!(rt; is_cut, "{cut:?}");
     }
     Ok(())
 }
 
 /// Each row: a script, and what it writes.
-static LOGS: [(&str, &str); 2] = [(HOLE, HOLE_LOG), (BODIES, BODIES_LOG)];
+static LOGS: [(&str, &str); 3] = [(USUAL, USUAL_LOG), (HOLE, HOLE_LOG), (BODIES, BODIES_LOG)];
 
 /// Where the output takes one byte at a time, a run is cut short at each byte, and is whole where no
 /// write fails.
@@ -137,11 +143,21 @@ fn is_cut_at_each_byte<R: Threads + Wait + Copy + Send + Sync>(
 ) -> Result<bool, NoMemory> {
     for count in 0..log.len() {
         let written = log.get(..count).unwrap_or("?");
-        if !is_cut_at_its_write(rt, alloc, 1, &(script, count as u64, 5, written))? {
+        if !is_cut(
+            rt,
+            alloc,
+            1,
+            &(script, Failing::Write(count as u64), 5, written),
+        )? {
             return Ok(false);
         }
     }
-    is_cut_at_its_write(rt, alloc, 1, &(script, log.len() as u64, 0, log))
+    is_cut(
+        rt,
+        alloc,
+        1,
+        &(script, Failing::Write(log.len() as u64), 0, log),
+    )
 }
 
 #[test]
@@ -163,7 +179,7 @@ fn is_whole_or_starved<R: Threads + Wait + Copy + Send + Sync>(
     let mut files = files(alloc, LETTER)?;
     let mut out = MemSink::new(alloc, 4096);
     Ok(
-        match run(rt, alloc, &WORDS, &mut files, &mut out, &NoGate)? {
+        match run(rt, alloc, &BY_ONE, &mut files, &mut out, &NoGate)? {
             Status::Done => out.bytes() == log,
             Status::Memory => log.starts_with(out.bytes()),
             _ => false,

@@ -11,6 +11,7 @@ pub mod NumberLemmas
 pub mod PartCounts
 pub mod PartLemmas
 pub mod PlanCounts
+mod PlaceLemmas
 pub mod QuestionLemmas
 pub mod RangeLemmas
 pub mod RegionLemmas

@@ -1,13 +1,14 @@
 //! Peripherals: the entries that have types, each with the further items that other entries give
 //! it.
-ghost use Rattle.std.specs.Prelude.{◌≡◌, ◌++◌, ◌<◌, ℕ, IfOk, IfErr, IfSome, List, OnOk, length, map, position};
+ghost use Rattle.std.specs.Prelude.{◌≡◌, ◌++◌, ◌∷◌, [], ℕ, IfOk, IfErr, List, OnOk, map};
 ghost use Rattle.std.specs.List.{flat_map, fold};
+ghost use Rattle.std.specs.Str.{bytes_eq};
 ghost use Rattle.repl_read.specs.declared.entry.Entry.{Entry};
 ghost use Rattle.repl_build.specs.Inner.Found.{HasUpdates, found, update_of};
 ghost use Rattle.repl_build.specs.Merge as merge_spec;
-ghost use Rattle.repl_build.specs.Names.{has_key};
+ghost use Rattle.repl_build.specs.Inner.Places.{HasPlaces, place, place_told, with_place};
+ghost use Rattle.repl_build.specs.Names as names_spec;
 
-use crate::names::has_key;
 use crate::types::{PeripheralType, type_of};
 use lab_num::{Rows, Text};
 use repl_read::{Entry, Head, Item, ItemWhat, Place, PlatFault};
@@ -34,6 +35,16 @@ pub(crate) struct Peripheral {
     pub(crate) items: Rows<PlacedItem>,
 }
 
+/// Under its key, where an attribute first stands among items.
+type Places<'a> = BTreeMap<&'a str, usize>;
+
+/// The items of a peripheral so far, and where their attributes stand.
+#[derive(Drop)]
+struct Items<'a> {
+    all: Vec<PlacedItem>,
+    places: Places<'a>,
+}
+
 /// A copy of an item, with its file.
 fn placed(file: u32, item: &Item) -> Result<PlacedItem, PlatFault>
     ensures ok { IfOk result (λ made. made ≡ merge_spec.placed file item.now) }
@@ -47,57 +58,96 @@ fn placed(file: u32, item: &Item) -> Result<PlacedItem, PlatFault>
     })
 }
 
-/// The items that stand in an entry.
-fn own_items(alloc: Global, entry: &Entry) -> Result<Vec<PlacedItem>, PlatFault>
-    ensures ok { IfOk result (λ items. items.items ≡ merge_spec.own_items entry.now) }
+/// Keeps a place under a key that has none.
+fn keep_place<'a>(places: &mut Places<'a>, key: &'a str, at: usize) -> Result<(), PlatFault>
+    ensures ok { OnOk result ((q : List ℕ) →
+        place places.new q ≡ with_place (bytes_eq key.now q) (place places.old q) at) }
     ensures err { IfErr result (λ fault. fault ≡ PlatFault.Memory) }
 {
-    let mut items = Vec::new(alloc);
-    for item in entry.items.items() {
-        items.push(placed(entry.file, item)?)?;
-    }
-    Ok(items)
-}
-
-fn key_place(items: &[PlacedItem], key: &str) -> Option<usize>
-    ensures place { result ≡ position (λ item. has_key key.now item.what) items.now }
-    ensures inside { IfSome result (λ at. at < length items.now) }
-{
-    items.iter().position(|item| has_key(key, &item.what))
-}
-
-/// Where an attribute stands already.
-fn place_of(items: &[PlacedItem], what: &ItemWhat) -> Option<usize>
-    ensures place { result ≡ position (merge_spec.has_same_key what.now) items.now }
-    ensures inside { IfSome result (λ at. at < length items.now) }
-{
-    match what {
-        ItemWhat::Attribute { key, .. } => key_place(items, key.as_str()),
-        ItemWhat::Wire { .. } => None,
-    }
-}
-
-/// Puts a further attribute in the place of the one that was there, and all else at the end.
-fn add_item(items: &mut Vec<PlacedItem>, further: PlacedItem) -> Result<(), PlatFault>
-    ensures ok { OnOk result (items.new.items ≡ merge_spec.with_item items.old.items further) }
-    ensures err { IfErr result (λ fault. fault ≡ PlatFault.Memory) }
-{
-    match place_of(items, &further.what) {
-        Some(at) => items[at] = further,
-        None => items.push(further)?,
+    if places.get(key).is_none() {
+        places.insert(key, at)?;
     }
     Ok(())
 }
 
+/// Keeps the place of an attribute, if it is the first of its key.
+fn keep<'a>(places: &mut Places<'a>, what: &'a ItemWhat, at: usize) -> Result<(), PlatFault>
+    ensures ok { OnOk result ((q : List ℕ) →
+        place places.new q ≡ with_place (names_spec.has_key q what.now) (place places.old q) at) }
+    ensures err { IfErr result (λ fault. fault ≡ PlatFault.Memory) }
+{
+    match what {
+        ItemWhat::Attribute { key, .. } => keep_place(places, key.as_str(), at),
+        ItemWhat::Wire { .. } => Ok(()),
+    }
+}
+
+/// Where an attribute stands already.
+fn place_of(places: &Places<'_>, what: &ItemWhat) -> Option<usize>
+    ensures { result ≡ place_told places.now what.now }
+{
+    match what {
+        ItemWhat::Attribute { key, .. } => places.get(key.as_str()).copied(),
+        ItemWhat::Wire { .. } => None,
+    }
+}
+
+/// Puts an item at the end.
+fn push_item<'a>(items: &mut Items<'a>, file: u32, item: &'a Item) -> Result<(), PlatFault>
+    requires { HasPlaces items.old.places items.old.all.items }
+    ensures ok { OnOk result (items.new.all.items
+        ≡ items.old.all.items ++ merge_spec.placed file item.now ∷ []) }
+    ensures places { OnOk result (HasPlaces items.new.places items.new.all.items) }
+    ensures err { IfErr result (λ fault. fault ≡ PlatFault.Memory) }
+{
+    let at = items.all.len();
+    items.all.push(placed(file, item)?)?;
+    keep(&mut items.places, &item.what, at)
+}
+
+/// Puts a further attribute in the place of the one that was there, and all else at the end.
+fn add_item<'a>(items: &mut Items<'a>, file: u32, item: &'a Item) -> Result<(), PlatFault>
+    requires { HasPlaces items.old.places items.old.all.items }
+    ensures ok { OnOk result (items.new.all.items
+        ≡ merge_spec.with_item items.old.all.items (merge_spec.placed file item.now)) }
+    ensures places { OnOk result (HasPlaces items.new.places items.new.all.items) }
+    ensures err { IfErr result (λ fault. fault ≡ PlatFault.Memory) }
+{
+    match place_of(&items.places, &item.what) {
+        Some(at) => {
+            items.all[at] = placed(file, item)?;
+            Ok(())
+        }
+        None => push_item(items, file, item),
+    }
+}
+
+/// The items that stand in an entry.
+fn own_items(alloc: Global, entry: &Entry) -> Result<Items<'_>, PlatFault>
+    ensures ok { IfOk result (λ items. items.all.items ≡ merge_spec.own_items entry.now) }
+    ensures places { IfOk result (λ items. HasPlaces items.places items.all.items) }
+    ensures err { IfErr result (λ fault. fault ≡ PlatFault.Memory) }
+{
+    let mut items = Items {
+        all: Vec::new(alloc),
+        places: BTreeMap::new(alloc),
+    };
+    for item in entry.items.items() {
+        push_item(&mut items, entry.file, item)?;
+    }
+    Ok(items)
+}
+
 /// Adds the items of an entry.
-fn add_items(items: &mut Vec<PlacedItem>, entry: &Entry) -> Result<(), PlatFault>
-    ensures ok { OnOk result (items.new.items
-        ≡ fold merge_spec.with_item items.old.items (merge_spec.own_items entry.now)) }
+fn add_items<'a>(items: &mut Items<'a>, entry: &'a Entry) -> Result<(), PlatFault>
+    requires { HasPlaces items.old.places items.old.all.items }
+    ensures ok { OnOk result (items.new.all.items
+        ≡ fold merge_spec.with_item items.old.all.items (merge_spec.own_items entry.now)) }
+    ensures places { OnOk result (HasPlaces items.new.places items.new.all.items) }
     ensures err { IfErr result (λ fault. fault ≡ PlatFault.Memory) }
 {
     for item in entry.items.items() {
-        let further = placed(entry.file, item)?;
-        add_item(items, further)?;
+        add_item(items, entry.file, item)?;
     }
     Ok(())
 }
@@ -130,10 +180,12 @@ fn updates_of(alloc: Global, entries: &[Entry]) -> Result<Updates<'_>, PlatFault
 }
 
 /// Adds the items of entries.
-fn add_all(items: &mut Vec<PlacedItem>, entries: &[&Entry]) -> Result<(), PlatFault>
-    ensures ok { OnOk result (items.new.items
-        ≡ fold merge_spec.with_item items.old.items
+fn add_all<'a>(items: &mut Items<'a>, entries: &[&'a Entry]) -> Result<(), PlatFault>
+    requires { HasPlaces items.old.places items.old.all.items }
+    ensures ok { OnOk result (items.new.all.items
+        ≡ fold merge_spec.with_item items.old.all.items
         (flat_map merge_spec.own_items (map (λ entry. entry.now) entries.now))) }
+    ensures places { OnOk result (HasPlaces items.new.places items.new.all.items) }
     ensures err { IfErr result (λ fault. fault ≡ PlatFault.Memory) }
 {
     for entry in entries {
@@ -143,12 +195,13 @@ fn add_all(items: &mut Vec<PlacedItem>, entries: &[&Entry]) -> Result<(), PlatFa
 }
 
 /// Adds the further items that entries give a name.
-fn add_further(
-    items: &mut Vec<PlacedItem>,
-    updates: &Updates<'_>,
+fn add_further<'a>(
+    items: &mut Items<'a>,
+    updates: &Updates<'a>,
     name: &str,
 ) -> Result<(), PlatFault>
-    ensures ok { OnOk result (items.new.items ≡ fold merge_spec.with_item items.old.items
+    requires { HasPlaces items.old.places items.old.all.items }
+    ensures ok { OnOk result (items.new.all.items ≡ fold merge_spec.with_item items.old.all.items
         (flat_map merge_spec.own_items (found updates.now name.now))) }
     ensures err { IfErr result (λ fault. fault ≡ PlatFault.Memory) }
 {
@@ -159,11 +212,11 @@ fn add_further(
 }
 
 /// The items of an entry, with the further items that other entries give its name.
-fn merged_items(
+fn merged_items<'a>(
     alloc: Global,
-    updates: &Updates<'_>,
+    updates: &Updates<'a>,
     name: &str,
-    entry: &Entry,
+    entry: &'a Entry,
 ) -> Result<Vec<PlacedItem>, PlatFault>
     ensures ok { (entries : List Entry) → HasUpdates updates.now entries → IfOk result
         (λ items. items.items ≡ merge_spec.merged_items entries name.now entry.now) }
@@ -171,15 +224,15 @@ fn merged_items(
 {
     let mut items = own_items(alloc, entry)?;
     add_further(&mut items, updates, name)?;
-    Ok(items)
+    Ok(items.all)
 }
 
 /// Puts the peripheral that an entry gives its type after others, if it gives one.
-fn add_peripheral(
+fn add_peripheral<'a>(
     alloc: Global,
     peripherals: &mut Vec<Peripheral>,
-    updates: &Updates<'_>,
-    entry: &Entry,
+    updates: &Updates<'a>,
+    entry: &'a Entry,
 ) -> Result<(), PlatFault>
     ensures ok { (entries : List Entry) → HasUpdates updates.now entries → OnOk result
         (peripherals.new.items ≡ peripherals.old.items ++ merge_spec.peripheral_of entries entry.now) }

@@ -4,7 +4,9 @@ use Rattle.repl_build.proofs.LoopLemmas.{map_more}
 use Rattle.repl_build.proofs.merge.own_items.Goals as goal
 
 pub loop-item-preserved : goal.loop-item-preserved
-loop-item-preserved c =
-    rw ((c.in_ok-push.ensures {u = tt}).items, (c.in_ok-placed.ensures {u = tt}).ok)
-    (map_more (placed c.args.entry.now.file) c.items-item-items.result.now c.loop-item.item-index c.item-item.result
-    c.loop-item.items.items c.loop-item-test.true c.item-item.is c.loop-item.invariant)
+loop-item-preserved c = (
+  rw (c.in_ok-push_item.ensures {u = tt}).ok
+      (map_more (placed c.args.entry.now.file) c.items-item-items.result.now c.loop-item.item-index c.item-item.result
+      c.loop-item.items.all.items c.loop-item-test.true c.item-item.is c.loop-item.invariant.0),
+  (c.in_ok-push_item.ensures {u = tt}).places,
+)
