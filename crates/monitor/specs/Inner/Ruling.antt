@@ -251,8 +251,8 @@ IsAfterLine step.Memory old new = new.ended ≡ true
 -- names that a script's commands give are well formed, and numbers are within their limits
 abbrev pub IsWithin : Command → Type 0
 IsWithin (command.Create name) = IfSome name (λ text. IsTrue (is_name text))
-IsWithin (command.UartHub name) = IsTrue (is_name name)
-IsWithin (command.CanHub name) = IsTrue (is_name name)
+IsWithin (command.UartHub name delay) = IsTrue (is_name name) × (delay.0 ≤ 1000000)
+IsWithin (command.CanHub name delay) = IsTrue (is_name name) × (delay.0 ≤ 1000000)
 IsWithin (command.Mips cpu value) = IfSome value (λ n. (1 ≤ n) × (n ≤ 1000))
 IsWithin (command.Quantum length) = (1 ≤ length.0) × (length.0 ≤ 1000000)
 IsWithin _ = Unit {0}
