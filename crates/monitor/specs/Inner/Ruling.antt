@@ -23,6 +23,10 @@ use Rattle.lab_state.specs.declared.faults.ConnectFault.{ConnectFault}
 use Rattle.lab_state.specs.declared.faults.ConnectFault.TheVariants as connect_fault
 use Rattle.lab_state.specs.declared.faults.HubNameFault.{HubNameFault}
 use Rattle.lab_state.specs.declared.faults.HubNameFault.TheVariants as hub_fault
+use Rattle.lab_state.specs.declared.faults.RunCause.{RunCause}
+use Rattle.lab_state.specs.declared.faults.RunCause.TheVariants as run_cause
+use Rattle.lab_state.specs.declared.faults.RunFault.{RunFault}
+use Rattle.lab_state.specs.declared.faults.RunFault.TheVariants as run_fault
 use Rattle.lab_state.specs.Lab.{Lab}
 use Rattle.lab_state.specs.One.{changed, kind_at, view_of}
 use Rattle.elf_load.specs.declared.image.Image.{Image}
@@ -72,6 +76,15 @@ add_stop add_fault.Memory = Memory
 abbrev pub hub_stop : HubNameFault → Stop
 hub_stop hub_fault.Taken = Line script_cause.Taken
 hub_stop hub_fault.Memory = Memory
+
+abbrev pub may_stop : RunCause → Stop
+may_stop (run_cause.NoPlan board) = Line script_cause.Platform
+may_stop run_cause.TooLong = Line script_cause.LabTime
+
+abbrev pub run_stop : RunFault → Stop
+run_stop (run_fault.NoPlan board) = Line script_cause.Platform
+run_stop run_fault.TooLong = Line script_cause.LabTime
+run_stop run_fault.Memory = Memory
 
 abbrev pub connect_stop : ConnectFault → Stop
 connect_stop connect_fault.Name = Line script_cause.Name
