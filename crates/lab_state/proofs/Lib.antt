@@ -9,3 +9,4 @@ pub mod TimeLemmas
 pub mod LendLemmas
 pub mod RoundLemmas
 pub mod RunLemmas
+pub mod FaultLemmas

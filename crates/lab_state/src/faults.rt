@@ -51,6 +51,15 @@ pub enum LabFault {
     Memory,
 }
 
+/// Why a run may not be made.
+#[derive(Clone, Copy, PartialEq, Eq, Debug)]
+pub enum RunCause {
+    /// A board, the first of these, has no plan.
+    NoPlan(BoardNo),
+    /// It would go past the last microsecond that a laboratory has.
+    TooLong,
+}
+
 /// Why a run was not made.
 #[derive(Clone, Copy, PartialEq, Eq, Debug)]
 pub enum RunFault {
@@ -103,6 +112,20 @@ impl From<LabFault> for RunFault {
 
     fn from(_fault: LabFault) -> RunFault {
         RunFault::Memory
+    }
+}
+
+impl From<RunCause> for RunFault {
+    ghost use Rattle.std.specs.Prelude.{◌≡◌};
+    ghost use Rattle.lab_state.specs.Inner.Fault.{run_fault};
+
+    ghost from_gives = { λ cause fault. fault ≡ run_fault cause };
+
+    fn from(cause: RunCause) -> RunFault {
+        match cause {
+            RunCause::NoPlan(board) => RunFault::NoPlan(board),
+            RunCause::TooLong => RunFault::TooLong,
+        }
     }
 }
 

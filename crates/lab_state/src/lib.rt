@@ -19,7 +19,7 @@ mod round;
 mod run;
 mod spares;
 
-pub use faults::{AddFault, ConnectFault, FitFault, HubNameFault, LabFault, RunFault};
+pub use faults::{AddFault, ConnectFault, FitFault, HubNameFault, LabFault, RunCause, RunFault};
 pub use lab::Lab;
 pub use laws::{any_workers_agree, boundaries_agree, runs_end, runs_join, turns_agree};
 pub use round::RoundLog;

@@ -5,7 +5,7 @@ ghost use Rattle.lab_state.specs.One.{first_without, HaveAllPlans};
 ghost use Rattle.lab_state.specs.Round.{round};
 ghost use Rattle.lab_state.specs.Run as run_spec;
 
-use crate::faults::{LabFault, RunFault};
+use crate::faults::{LabFault, RunCause, RunFault};
 use crate::lab::Lab;
 use crate::round::RoundLog;
 use dev_core::Device;
@@ -17,6 +17,29 @@ use std::thread::Threads;
 
 /// The last microsecond that a laboratory has: ten thousand seconds.
 const LAST: u64 = 10_000_000_000;
+
+impl<D: Device> Lab<D> {
+    /// Whether a run of `d` microseconds may be made: every board has a plan, and the run ends within
+    /// the time that a laboratory has. The first board without a plan is named, even where the run would
+    /// be too long.
+    pub fn may_run(&self, d: Micros) -> Result<(), RunCause>
+        requires { self.now.spent ≡ false }
+        ensures ok { IfOk result (λ _. HaveAllPlans self.now.lab
+            × (self.now.lab.now + d.0 ≤ 10000000000)) }
+        ensures no_plan { (b : BoardNo) → (result ≡ Err (RunCause.NoPlan b))
+            ↔ (first_without self.now.lab.boards ≡ Some b.0) }
+        ensures too_long { (result ≡ Err RunCause.TooLong)
+            ↔ (HaveAllPlans self.now.lab × (10000000000 < self.now.lab.now + d.0)) }
+    {
+        if let Some(board) = self.first_without_plan() {
+            return Err(RunCause::NoPlan(board));
+        }
+        if d.0 > LAST - self.now().0 {
+            return Err(RunCause::TooLong);
+        }
+        Ok(())
+    }
+}
 
 impl<D: Device + Send> Lab<D> {
     /// Runs one round, and puts its items at the end of these. Gives its pause, if it has one.
@@ -111,12 +134,7 @@ impl<D: Device + Send> Lab<D> {
         if self.spent {
             return Err(RunFault::Memory);
         }
-        if let Some(board) = self.first_without_plan() {
-            return Err(RunFault::NoPlan(board));
-        }
-        if d.0 > LAST - self.source.elapsed().0 {
-            return Err(RunFault::TooLong);
-        }
+        self.may_run(d)?;
         let run = self.rounds(rt, d.0, workers, gate)?;
         Ok(run)
     }

@@ -1,7 +1,7 @@
 -- What a line asks for has names of their form and numbers within their limits.
 use Rattle.std.proofs.Common.{◌≡◌, ℕ, ◌≤◌, ◌&&◌, Bool, true, false, cond, List, [], ◌∷◌, drop, Option, None, Some}
 use Rattle.std.proofs.Common.{Result, Ok, Err, refl, nat_le, ◌^◌, arith}
-use Rattle.std.specs.Prelude.{option_and_then}
+use Rattle.std.specs.Prelude.{option_and_then, unwrap_or}
 use Rattle.std.specs.Option.{ok_or}
 use Rattle.std.proofs.lemmas.Bool.Decides.{nat_tests}
 use Rattle.lab_num.specs.declared.number.Micros.{Micros}
@@ -12,7 +12,7 @@ use Rattle.resc_read.specs.declared.command.LineCause.{LineCause}
 use Rattle.resc_read.specs.declared.command.LineCause.TheVariants.{Unknown, Arguments, Time}
 use Rattle.resc_read.specs.Words as of_text
 use Rattle.resc_read.specs.Arguments.{◌>>=◌, none, one, optional, two, processor, name, entry, path, variable, number}
-use Rattle.resc_read.specs.Arguments.{truth, speed, time, quantum}
+use Rattle.resc_read.specs.Arguments.{truth, speed, time, quantum, delay, at_most_one, hub}
 use Rattle.resc_read.specs.Line.{command_of, is_definition, line_of}
 use Rattle.resc_read.specs.Sorts.{if_name, text_of}
 use Rattle.resc_read.specs.Table.{Row, begins, by_rows, opening_len, word_at, processor_rows, word_rows, machine_rows}
@@ -131,6 +131,43 @@ quantum_is (Ok m) q is = tested (nat_le 1 m.0 && nat_le m.0 (10 ^ 6)) refl is
     tested true within is = grind (arith, nat_tests, within, is)
     tested false within is = cc is
 
+delay_is : (read : Result Micros LineCause) (d : Micros) →
+    (read >>= λ m. cond (nat_le m.0 (10 ^ 6)) (Ok m) (Err Time)) ≡ Ok d → d.0 ≤ 1000000
+delay_is (Err fault) d is = cc is
+delay_is (Ok m) d is = tested (nat_le m.0 (10 ^ 6)) refl is
+  where
+    tested : (b : Bool) → nat_le m.0 (10 ^ 6) ≡ b →
+        cond {A = Result Micros LineCause} b (Ok m) (Err Time) ≡ Ok d → d.0 ≤ 1000000
+    tested true within is = grind (arith, nat_tests, within, is)
+    tested false within is = cc is
+
+abbrev with_delay : List ℕ → Option Micros → List ℕ × Micros
+with_delay x d = (x, unwrap_or d (record { 0 = 0 }))
+
+-- of a hub that has no delay, and of one that has
+good_hub :
+    (make : List ℕ → Micros → Command) (line : List (List ℕ)) →
+    ((x : List ℕ) (d : Micros) → is_name x ≡ true → d.0 ≤ 1000000 → IsWithin (make x d)) → IsGood (hub make line)
+good_hub make [] within = tt
+good_hub make (word ∷ line) within = named (name word) (λ x is. name_is (text_of word) x is)
+  where
+    some : (x : List ℕ) → is_name x ≡ true → (read : Result Micros LineCause) →
+        ((d : Micros) → read ≡ Ok d → d.0 ≤ 1000000) →
+        IsGood (((read >>= λ d. Ok (Some d)) >>= λ d. Ok (with_delay x d)) >>= λ both. Ok (make both.0 both.1))
+    some x is (Ok d) short = within x d is (short d refl)
+    some x is (Err fault) short = tt
+
+    others : (x : List ℕ) → is_name x ≡ true → (line : List (List ℕ)) →
+        IsGood ((at_most_one delay line >>= λ d. Ok (with_delay x d)) >>= λ both. Ok (make both.0 both.1))
+    others x is [] = within x (record { 0 = 0 }) is (omega arith)
+    others x is (word ∷ []) = some x is (delay word) (λ d is. delay_is (time word) d is)
+    others x is (word ∷ next ∷ line) = tt
+
+    named : (read : Result (List ℕ) LineCause) → ((x : List ℕ) → read ≡ Ok x → is_name x ≡ true) →
+        IsGood ((read >>= λ x. at_most_one delay line >>= λ d. Ok (with_delay x d)) >>= λ both. Ok (make both.0 both.1))
+    named (Ok x) is = others x (is x refl) line
+    named (Err fault) is = tt
+
 emulation_good : (line : List (List ℕ)) → IsGood (by_emulation_rows line)
 unfolding by_emulation_rows
 emulation_good line =
@@ -139,9 +176,9 @@ emulation_good line =
       (
         (λ _ line. good_one time command.RunFor line (λ word x is. tt)),
         (
-          (λ _ line. good_one name command.UartHub line (λ word x is. name_is (text_of word) x is)),
+          (λ _ line. good_hub command.UartHub line (λ x length named short. (named, short))),
           (
-            (λ _ line. good_one name command.CanHub line (λ word x is. name_is (text_of word) x is)),
+            (λ _ line. good_hub command.CanHub line (λ x length named short. (named, short))),
             (
               (λ _ line. good_two entry name command.Connect line (λ x y. tt)),
               ((λ _ line. good_none command.UsingSysbus line tt), tt),

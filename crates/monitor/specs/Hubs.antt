@@ -16,24 +16,24 @@ use Rattle.monitor.specs.Refusal.{◌>>=◌, require}
 use Rattle.monitor.specs.Selected.{equipped, entry, speaker, with_board}
 use Rattle.monitor.specs.State.{State}
 
--- a laboratory with a hub more, which connects devices of this kind
-abbrev pub with_hub : Lab → List ℕ → Kind → Lab
-with_hub lab name devices =
-    record lab { hubs = lab.hubs ++ record { name = name; kind = devices; members = [] } ∷ [] }
+-- a laboratory with a hub more, which connects devices of this kind and holds back for so long what they send
+abbrev pub with_hub : Lab → List ℕ → Kind → ℕ → Lab
+with_hub lab name devices delay =
+    record lab { hubs = lab.hubs ++ record { name = name; kind = devices; delay = delay; members = [] } ∷ [] }
 
--- a hub for devices of this kind is made under this name
-abbrev pub hub_for : Kind → State → List ℕ → Result Done ScriptCause
-hub_for devices s name = do
+-- such a hub is made under this name
+abbrev pub hub_for : Kind → State → List ℕ → ℕ → Result Done ScriptCause
+hub_for devices s name delay = do
   free ← require (not (is_taken s.lab name)) cause.Taken
-  Ok (leaves (record s { lab = with_hub s.lab name devices }))
+  Ok (leaves (record s { lab = with_hub s.lab name devices delay }))
 
--- emulation CreateUARTHub name
-abbrev pub uart_hub : State → List ℕ → Result Done ScriptCause
-uart_hub s name = hub_for kind.Uart s name
+-- emulation CreateUARTHub name [delay]
+abbrev pub uart_hub : State → List ℕ → ℕ → Result Done ScriptCause
+uart_hub s name delay = hub_for kind.Uart s name delay
 
--- emulation CreateCANHub name
-abbrev pub can_hub : State → List ℕ → Result Done ScriptCause
-can_hub s name = hub_for kind.Can s name
+-- emulation CreateCANHub name [delay]
+abbrev pub can_hub : State → List ℕ → ℕ → Result Done ScriptCause
+can_hub s name delay = hub_for kind.Can s name delay
 
 -- whether both are there and the same
 abbrev pub agree : Option Kind → Option Kind → Bool

@@ -23,7 +23,7 @@ pub record Place : Type 0 where
 
 -- a laboratory in which nothing was made
 abbrev pub empty_lab : Lab
-empty_lab = record { boards = []; hubs = []; now = 0; quantum = 100 }
+empty_lab = record { boards = []; hubs = []; pending = []; now = 0; quantum = 100 }
 
 -- a monitor before the first line of a script
 abbrev pub started : List ℕ → List ℕ → Setting → State

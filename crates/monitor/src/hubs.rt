@@ -1,5 +1,5 @@
 //! Commands that make hubs, connect devices to them and show what devices send.
-ghost use Rattle.std.specs.Prelude.{◌≡◌, false, IfOk, IsSome, IsTrue};
+ghost use Rattle.std.specs.Prelude.{◌≡◌, ◌≤◌, false, IfOk, IsSome, IsTrue};
 ghost use Rattle.lab_num.specs.Name.{is_name};
 ghost use Rattle.lab_state.specs.One.{kind_at};
 ghost use Rattle.monitor.specs.Hubs as hubs;
@@ -9,7 +9,7 @@ ghost use Rattle.monitor.specs.Inner.Ruling.{IsRuled};
 use crate::monitor::Monitor;
 use crate::stop::Stop;
 use dev_core::Device;
-use lab_num::Member;
+use lab_num::{Member, Micros};
 use lab_state::{ConnectFault, HubNameFault};
 use resc_vars::ScriptCause;
 
@@ -47,29 +47,31 @@ impl From<ConnectFault> for Stop {
 }
 
 impl<D: Device> Monitor<D> {
-    /// Makes a hub of UARTs.
-    pub(crate) fn uart_hub(&mut self, name: &str) -> Result<Vec<u8>, Stop>
+    /// Makes a hub of UARTs, which holds back for this long what they send.
+    pub(crate) fn uart_hub(&mut self, name: &str, delay: Micros) -> Result<Vec<u8>, Stop>
         requires unspent { self.old.spent ≡ false }
         requires is_name { IsTrue (is_name name.now) }
-        ensures { IsRuled (hubs.uart_hub self.old.state name.now) result self.old self.new }
+        requires short { delay.0 ≤ 1000000 }
+        ensures { IsRuled (hubs.uart_hub self.old.state name.now delay.0) result self.old self.new }
     {
         if self.lab.hubs() >= MOST_HUBS {
             return Err(Stop::Memory);
         }
-        self.lab.create_uart_hub(name)?;
+        self.lab.create_uart_hub(name, delay.0)?;
         Ok(Vec::new(self.alloc))
     }
 
-    /// Makes a hub of CAN controllers.
-    pub(crate) fn can_hub(&mut self, name: &str) -> Result<Vec<u8>, Stop>
+    /// Makes a hub of CAN controllers, which holds back for this long what they send.
+    pub(crate) fn can_hub(&mut self, name: &str, delay: Micros) -> Result<Vec<u8>, Stop>
         requires unspent { self.old.spent ≡ false }
         requires is_name { IsTrue (is_name name.now) }
-        ensures { IsRuled (hubs.can_hub self.old.state name.now) result self.old self.new }
+        requires short { delay.0 ≤ 1000000 }
+        ensures { IsRuled (hubs.can_hub self.old.state name.now delay.0) result self.old self.new }
     {
         if self.lab.hubs() >= MOST_HUBS {
             return Err(Stop::Memory);
         }
-        self.lab.create_can_hub(name)?;
+        self.lab.create_can_hub(name, delay.0)?;
         Ok(Vec::new(self.alloc))
     }
 

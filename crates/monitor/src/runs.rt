@@ -1,7 +1,6 @@
 //! Commands that run the laboratory.
-ghost use Rattle.std.specs.Prelude.{◌≡◌, ◌≤◌, ◌+◌, false, Ok, IfOk, OnErr, OnOk};
+ghost use Rattle.std.specs.Prelude.{◌≡◌, ◌≤◌, false, IfOk, OnErr, OnOk};
 ghost use Rattle.lab_state.specs.Names.{names};
-ghost use Rattle.lab_state.specs.One.{HaveAllPlans};
 ghost use Rattle.lab_state.specs.Run.{run};
 ghost use Rattle.log_text.specs.Log.{open_lines, text};
 ghost use Rattle.monitor.specs.Runs as runs;
@@ -12,13 +11,40 @@ use crate::stop::Stop;
 use dev_core::Device;
 use floor_run::Gate;
 use lab_num::{Micros, NoMemory};
+use lab_state::{RunCause, RunFault};
 use log_merge::LogItem;
 use resc_vars::ScriptCause;
 use std::sync::Wait;
 use std::thread::Threads;
 
-/// The last microsecond that a laboratory has: ten thousand seconds.
-const LAST: u64 = 10_000_000_000;
+impl From<RunCause> for Stop {
+    ghost use Rattle.std.specs.Prelude.{◌≡◌};
+    ghost use Rattle.monitor.specs.Inner.Ruling.{may_stop};
+
+    ghost from_gives = { λ cause stop. stop ≡ may_stop cause };
+
+    fn from(cause: RunCause) -> Stop {
+        match cause {
+            RunCause::NoPlan(_) => Stop::Line(ScriptCause::Platform),
+            RunCause::TooLong => Stop::Line(ScriptCause::LabTime),
+        }
+    }
+}
+
+impl From<RunFault> for Stop {
+    ghost use Rattle.std.specs.Prelude.{◌≡◌};
+    ghost use Rattle.monitor.specs.Inner.Ruling.{run_stop};
+
+    ghost from_gives = { λ fault stop. stop ≡ run_stop fault };
+
+    fn from(fault: RunFault) -> Stop {
+        match fault {
+            RunFault::NoPlan(_) => Stop::Line(ScriptCause::Platform),
+            RunFault::TooLong => Stop::Line(ScriptCause::LabTime),
+            RunFault::Memory => Stop::Memory,
+        }
+    }
+}
 
 impl<D: Device> Monitor<D> {
     /// Sets the quantum of the runs to come.
@@ -50,7 +76,7 @@ impl<D: Device> Monitor<D> {
 }
 
 impl<D: Device + Send> Monitor<D> {
-    /// Runs the laboratory, and prints its log.
+    /// Runs the laboratory, and prints its log. Where runs have length 0 it has all its tests first.
     pub(crate) fn run_for<R: Threads + Wait + Copy + Send + Sync, G: Gate>(
         &mut self,
         rt: &R,
@@ -60,32 +86,9 @@ impl<D: Device + Send> Monitor<D> {
         requires unspent { self.old.spent ≡ false }
         ensures { IsRuled (runs.run_for run self.old.state length.0) result self.old self.new }
     {
-        if self.lab.first_without_plan().is_some() {
-            return Err(Stop::Line(ScriptCause::Platform));
-        }
-        if length.0 > LAST - self.lab.now().0 {
-            return Err(Stop::Line(ScriptCause::LabTime));
-        }
-        self.run(rt, if self.dry { Micros(0) } else { length }, gate)
-    }
-
-    /// Runs the laboratory, each of whose boards has its plan, and prints its log.
-    fn run<R: Threads + Wait + Copy + Send + Sync, G: Gate>(
-        &mut self,
-        rt: &R,
-        length: Micros,
-        gate: &G,
-    ) -> Result<Vec<u8>, Stop>
-        requires unspent { self.old.spent ≡ false }
-        requires plans { HaveAllPlans self.old.state.lab }
-        requires time { self.old.state.lab.now + length.0 ≤ 10000000000 }
-        ensures { IsRuled (Ok (runs.has_run self.old.state (run self.old.state.lab length.0)))
-            result self.old self.new }
-    {
-        // Of what refuses a run, want of memory is left.
-        let Ok(log) = self.lab.run_for(rt, length, self.workers, gate) else {
-            return Err(Stop::Memory);
-        };
+        self.lab.may_run(length)?;
+        let length = if self.dry { Micros(0) } else { length };
+        let log = self.lab.run_for(rt, length, self.workers, gate)?;
         Ok(self.print(log.lines.items())?)
     }
 

@@ -2,3 +2,4 @@ mod PieceLemmas
 mod LineLemmas
 mod WholeLemmas
 mod TableLemmas
+mod HubLemmas

@@ -1,7 +1,7 @@
 -- The arguments of a command: how many words there are, and of which sorts. A wrong number of words is told before the
 -- sort of a word, and every other fault before that of a time.
 use Rattle.std.specs.Prelude.{ℕ, ◌^◌, nat_le, Bool, ◌&&◌, if◌then◌else◌, List, [], ◌∷◌, Option, Some, None, Result, Ok}
-use Rattle.std.specs.Prelude.{Err}
+use Rattle.std.specs.Prelude.{Err, unwrap_or}
 use Rattle.std.specs.Option.{ok_or}
 use Rattle.lab_num.specs.declared.number.Micros.{Micros}
 use Rattle.lab_num.specs.declared.time.TimeFault.{TimeFault}
@@ -68,6 +68,12 @@ quantum word = do
   length ← time word
   if nat_le 1 length.0 && nat_le length.0 (10 ^ 6) then Ok length else Err Time
 
+-- how long a hub holds back what is sent: a time of at most a second
+abbrev pub delay : List ℕ → Result Micros LineCause
+delay word = do
+  length ← time word
+  if nat_le length.0 (10 ^ 6) then Ok length else Err Time
+
 -- no word
 abbrev pub no_word : List (List ℕ) → Result (Unit {0}) LineCause
 no_word [] = Ok tt
@@ -129,3 +135,17 @@ processor sort make cpu words = do
   name ← entry cpu
   x ← at_most_one sort words
   Ok (make name x)
+
+-- a hub's name, and its delay, which is 0 where no word says it
+abbrev pub name_and_delay : List (List ℕ) → Result (List ℕ × Micros) LineCause
+name_and_delay [] = Err Arguments
+name_and_delay (word ∷ others) = do
+  x ← name word
+  length ← at_most_one delay others
+  Ok (x, unwrap_or length (record { 0 = 0 }))
+
+-- a command of a hub
+abbrev pub hub : (List ℕ → Micros → Command) → List (List ℕ) → Result Command LineCause
+hub make words = do
+  both ← name_and_delay words
+  Ok (make both.0 both.1)

@@ -5,7 +5,7 @@ use Rattle.resc_read.specs.declared.command.Command.{Command}
 use Rattle.resc_read.specs.declared.command.Command.TheVariants as commands
 use Rattle.resc_read.specs.declared.command.LineCause.{LineCause}
 use Rattle.resc_read.specs.declared.command.LineCause.TheVariants.{Unknown}
-use Rattle.resc_read.specs.Arguments.{none, one, optional, two, processor, name, entry, path, variable, number, truth}
+use Rattle.resc_read.specs.Arguments.{none, one, optional, two, processor, hub, name, entry, path, variable, number, truth}
 use Rattle.resc_read.specs.Arguments.{speed, time, quantum}
 
 -- how a command begins: with two words, with one, or with any word and this one after it
@@ -83,8 +83,8 @@ abbrev pub emulation_rows : List Row
 emulation_rows =
     row (Two (codes "emulation") (codes "SetGlobalQuantum")) (one quantum commands.Quantum) ∷
     row (Two (codes "emulation") (codes "RunFor")) (one time commands.RunFor) ∷
-    row (Two (codes "emulation") (codes "CreateUARTHub")) (one name commands.UartHub) ∷
-    row (Two (codes "emulation") (codes "CreateCANHub")) (one name commands.CanHub) ∷
+    row (Two (codes "emulation") (codes "CreateUARTHub")) (hub commands.UartHub) ∷
+    row (Two (codes "emulation") (codes "CreateCANHub")) (hub commands.CanHub) ∷
     row (Two (codes "connector") (codes "Connect")) (two entry name commands.Connect) ∷
     row (Two (codes "using") (codes "sysbus")) (none commands.UsingSysbus) ∷
     []

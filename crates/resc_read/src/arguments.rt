@@ -13,6 +13,9 @@ const MOST_SPEED: u32 = 1000;
 /// The longest quantum, in microseconds.
 const MOST_QUANTUM: u64 = 1_000_000;
 
+/// The longest delay of a hub, in microseconds.
+const MOST_DELAY: u64 = 1_000_000;
+
 pub(crate) fn name(word: &str) -> Result<&str, LineCause>
     ensures { arguments.map_ok (λ text. text.now) result ≡ arguments.name word.now }
 {
@@ -80,6 +83,17 @@ pub(crate) fn quantum(word: &str) -> Result<Micros, LineCause>
     }
 }
 
+fn delay(word: &str) -> Result<Micros, LineCause>
+    ensures { result ≡ arguments.delay word.now }
+{
+    let length = time(word)?;
+    if length.0 <= MOST_DELAY {
+        Ok(length)
+    } else {
+        Err(LineCause::Time)
+    }
+}
+
 pub(crate) fn no_word(words: &[&str]) -> Result<(), LineCause>
     ensures { result ≡ arguments.no_word (map (λ word. word.now) words.now) }
 {
@@ -140,4 +154,28 @@ pub(crate) fn speed_or_none(words: &[&str]) -> Result<Option<u32>, LineCause>
         [word] => Ok(Some(speed(word)?)),
         _ => Err(LineCause::Arguments),
     }
+}
+
+fn delay_or_none(words: &[&str]) -> Result<Option<Micros>, LineCause>
+    ensures { result
+        ≡ arguments.at_most_one arguments.delay (map (λ word. word.now) words.now) }
+{
+    match words {
+        [] => Ok(None),
+        [word] => Ok(Some(delay(word)?)),
+        _ => Err(LineCause::Arguments),
+    }
+}
+
+/// The name of a hub, and its delay: 0 where no word says it.
+pub(crate) fn name_and_delay<'a>(words: &[&'a str]) -> Result<(&'a str, Micros), LineCause>
+    ensures { arguments.map_ok (λ both. (both.0.now, both.1)) result
+        ≡ arguments.name_and_delay (map (λ word. word.now) words.now) }
+{
+    let [word, others @ ..] = words else {
+        return Err(LineCause::Arguments);
+    };
+    let name = name(word)?;
+    let delay = delay_or_none(others)?;
+    Ok((name, delay.unwrap_or(Micros(0))))
 }

@@ -34,10 +34,11 @@ pub enum Command {
     Quantum { length: Micros },
     /// `emulation RunFor length`: run for this long, at most 10,000 s.
     RunFor { length: Micros },
-    /// `emulation CreateUARTHub name`: make a hub of UARTs.
-    UartHub { name: Text },
-    /// `emulation CreateCANHub name`: make a hub of CAN controllers.
-    CanHub { name: Text },
+    /// `emulation CreateUARTHub name [delay]`: make a hub of UARTs. It holds back what they send for
+    /// 0 to 1 s, and 0 where no delay is written.
+    UartHub { name: Text, delay: Micros },
+    /// `emulation CreateCANHub name [delay]`: make a hub of CAN controllers, likewise.
+    CanHub { name: Text, delay: Micros },
     /// `connector Connect dev hub`: put a device into a hub.
     Connect { dev: Text, hub: Text },
     /// `showAnalyzer dev`: show what a device sends.
@@ -63,7 +64,7 @@ pub enum LineCause {
     Unknown,
     /// The number, the sort or the range of its other words is wrong.
     Arguments,
-    /// A time is not of its form, or too long, or no quantum.
+    /// A time is not of its form, or too long, or no quantum, or no delay.
     Time,
 }
 
@@ -74,7 +75,7 @@ pub enum LineFault {
     Unknown,
     /// The number, the sort or the range of its other words is wrong.
     Arguments,
-    /// A time is not of its form, or too long, or no quantum.
+    /// A time is not of its form, or too long, or no quantum, or no delay.
     Time,
     /// Memory ran out.
     Memory,

@@ -8,8 +8,8 @@ ghost use Rattle.resc_read.specs.Line.{IsReadAs};
 ghost use Rattle.resc_read.specs.Table as table;
 
 use crate::arguments::{
-    entry, name, no_word, number, number_or_none, one_word, path, quantum, speed_or_none, time,
-    truth_or_none, two_words, variable,
+    entry, name, name_and_delay, no_word, number, number_or_none, one_word, path, quantum,
+    speed_or_none, time, truth_or_none, two_words, variable,
 };
 use crate::command::{Command, LineFault};
 use crate::variable::is_assignment;
@@ -161,21 +161,23 @@ fn run_for(words: &[&str]) -> Result<Command, LineFault>
 
 fn uart_hub(alloc: Global, words: &[&str]) -> Result<Command, LineFault>
     ensures { IsReadAs
-        (arguments.one arguments.name commands.UartHub (map (λ w. w.now) words.now)) result }
+        (arguments.hub commands.UartHub (map (λ w. w.now) words.now)) result }
 {
-    let name = name(one_word(words)?)?;
+    let (name, delay) = name_and_delay(words)?;
     Ok(Command::UartHub {
         name: Text::of(alloc, name)?,
+        delay,
     })
 }
 
 fn can_hub(alloc: Global, words: &[&str]) -> Result<Command, LineFault>
     ensures { IsReadAs
-        (arguments.one arguments.name commands.CanHub (map (λ w. w.now) words.now)) result }
+        (arguments.hub commands.CanHub (map (λ w. w.now) words.now)) result }
 {
-    let name = name(one_word(words)?)?;
+    let (name, delay) = name_and_delay(words)?;
     Ok(Command::CanHub {
         name: Text::of(alloc, name)?,
+        delay,
     })
 }
 

@@ -25,8 +25,8 @@ pub enum ScriptCause {
     Kind,
     /// S9: the device is in a hub.
     Connected,
-    /// S10: a time is of no form or above 10,000 seconds, or a quantum is not 1 to 1,000,000
-    /// microseconds.
+    /// S10: a time is of no form or above 10,000 seconds, a quantum is not 1 to 1,000,000
+    /// microseconds, or a delay is above 1,000,000 microseconds.
     Time,
     /// S11: 8 bodies are open beside the script, or 64 platform files were read.
     Depth,

@@ -16,7 +16,7 @@ fn asks_for(alloc: Global, line: &str, expected: &str) -> Result<bool, Fail> {
 }
 
 /// Each row: a line, and the command that it asks for.
-static COMMANDS: [(&str, &str); 71] = [
+static COMMANDS: [(&str, &str); 67] = [
     ("mach create", "Ok(Create { name: None })"),
     (
         "mach create m0",
@@ -191,22 +191,6 @@ static COMMANDS: [(&str, &str); 71] = [
         "Ok(RunFor { length: Micros(60000000) })",
     ),
     (
-        "emulation CreateUARTHub \"hub-1\"",
-        "Ok(UartHub { name: Text { text: \"hub-1\" } })",
-    ),
-    (
-        "emulation CreateUARTHub h",
-        "Ok(UartHub { name: Text { text: \"h\" } })",
-    ),
-    (
-        "emulation CreateCANHub \"bus\"",
-        "Ok(CanHub { name: Text { text: \"bus\" } })",
-    ),
-    (
-        "emulation  CreateCANHub bus_1-a",
-        "Ok(CanHub { name: Text { text: \"bus_1-a\" } })",
-    ),
-    (
         "connector Connect uart hub",
         "Ok(Connect { dev: Text { text: \"uart\" }, hub: Text { text: \"hub\" } })",
     ),
@@ -267,6 +251,73 @@ static COMMANDS: [(&str, &str); 71] = [
 #[test]
 fn each_command_is_read_in_each_of_its_forms(rt: HostRuntime) -> Result<(), Fail> {
     for (line, expected) in &COMMANDS {
+        let is_so = asks_for(rt.alloc(), line, expected)?;
+        assert!(rt; is_so, "{line}");
+    }
+    Ok(())
+}
+
+/// Each row: a line that makes a hub, and the answer to it.
+static HUBS: [(&str, &str); 24] = [
+    (
+        "emulation CreateUARTHub \"hub-1\"",
+        "Ok(UartHub { name: Text { text: \"hub-1\" }, delay: Micros(0) })",
+    ),
+    (
+        "emulation CreateUARTHub h",
+        "Ok(UartHub { name: Text { text: \"h\" }, delay: Micros(0) })",
+    ),
+    (
+        "emulation CreateCANHub \"bus\"",
+        "Ok(CanHub { name: Text { text: \"bus\" }, delay: Micros(0) })",
+    ),
+    (
+        "emulation  CreateCANHub bus_1-a",
+        "Ok(CanHub { name: Text { text: \"bus_1-a\" }, delay: Micros(0) })",
+    ),
+    (
+        "emulation CreateUARTHub h 0",
+        "Ok(UartHub { name: Text { text: \"h\" }, delay: Micros(0) })",
+    ),
+    (
+        "emulation CreateUARTHub h 0.000001",
+        "Ok(UartHub { name: Text { text: \"h\" }, delay: Micros(1) })",
+    ),
+    (
+        "emulation CreateUARTHub \"h\"\t\"0.0003\" ",
+        "Ok(UartHub { name: Text { text: \"h\" }, delay: Micros(300) })",
+    ),
+    (
+        "emulation CreateCANHub bus 0:0:0.5",
+        "Ok(CanHub { name: Text { text: \"bus\" }, delay: Micros(500000) })",
+    ),
+    (
+        "emulation CreateCANHub bus \"1\"",
+        "Ok(CanHub { name: Text { text: \"bus\" }, delay: Micros(1000000) })",
+    ),
+    (
+        "emulation CreateUARTHub h 1.000000",
+        "Ok(UartHub { name: Text { text: \"h\" }, delay: Micros(1000000) })",
+    ),
+    ("emulation CreateUARTHub h \"1.000001\"", "Err(Time)"),
+    ("emulation CreateCANHub bus 1.000001", "Err(Time)"),
+    ("emulation CreateUARTHub h 20000", "Err(Time)"),
+    ("emulation CreateUARTHub h 0.0000001", "Err(Time)"),
+    ("emulation CreateUARTHub h \"\"", "Err(Time)"),
+    ("emulation CreateCANHub bus b", "Err(Time)"),
+    ("emulation CreateCANHub bus $1", "Err(Time)"),
+    ("emulation CreateUARTHub h @1", "Err(Arguments)"),
+    ("emulation CreateCANHub bus @", "Err(Arguments)"),
+    ("emulation CreateUARTHub h a\"b\"", "Err(Arguments)"),
+    ("emulation CreateUARTHub h \"1", "Err(Arguments)"),
+    ("emulation CreateUARTHub h 0 0", "Err(Arguments)"),
+    ("emulation CreateCANHub bus b x", "Err(Arguments)"),
+    ("emulation CreateCANHub a.b 2", "Err(Arguments)"),
+];
+
+#[test]
+fn the_third_word_of_a_hub_is_its_delay(rt: HostRuntime) -> Result<(), Fail> {
+    for (line, expected) in &HUBS {
         let is_so = asks_for(rt.alloc(), line, expected)?;
         assert!(rt; is_so, "{line}");
     }
@@ -395,7 +446,7 @@ fn words_of_boards_memory_and_processors_have_their_number_sort_and_range(rt: Ho
 }
 
 /// Lines of other commands with a wrong number or sort of words.
-static OTHERS: [&str; 61] = [
+static OTHERS: [&str; 60] = [
     "emulation SetGlobalQuantum",
     "emulation SetGlobalQuantum @",
     "emulation SetGlobalQuantum abc x",
@@ -410,7 +461,6 @@ static OTHERS: [&str; 61] = [
     "emulation CreateUARTHub @n",
     "emulation CreateCANHub",
     "emulation CreateCANHub a.b",
-    "emulation CreateCANHub a b",
     "connector Connect uart",
     "connector Connect uart a!b",
     "connector Connect @uart hub",

@@ -23,6 +23,10 @@ use Rattle.lab_state.specs.declared.faults.ConnectFault.{ConnectFault}
 use Rattle.lab_state.specs.declared.faults.ConnectFault.TheVariants as connect_fault
 use Rattle.lab_state.specs.declared.faults.HubNameFault.{HubNameFault}
 use Rattle.lab_state.specs.declared.faults.HubNameFault.TheVariants as hub_fault
+use Rattle.lab_state.specs.declared.faults.RunCause.{RunCause}
+use Rattle.lab_state.specs.declared.faults.RunCause.TheVariants as run_cause
+use Rattle.lab_state.specs.declared.faults.RunFault.{RunFault}
+use Rattle.lab_state.specs.declared.faults.RunFault.TheVariants as run_fault
 use Rattle.lab_state.specs.Lab.{Lab}
 use Rattle.lab_state.specs.One.{changed, kind_at, view_of}
 use Rattle.elf_load.specs.declared.image.Image.{Image}
@@ -72,6 +76,15 @@ add_stop add_fault.Memory = Memory
 abbrev pub hub_stop : HubNameFault → Stop
 hub_stop hub_fault.Taken = Line script_cause.Taken
 hub_stop hub_fault.Memory = Memory
+
+abbrev pub may_stop : RunCause → Stop
+may_stop (run_cause.NoPlan board) = Line script_cause.Platform
+may_stop run_cause.TooLong = Line script_cause.LabTime
+
+abbrev pub run_stop : RunFault → Stop
+run_stop (run_fault.NoPlan board) = Line script_cause.Platform
+run_stop run_fault.TooLong = Line script_cause.LabTime
+run_stop run_fault.Memory = Memory
 
 abbrev pub connect_stop : ConnectFault → Stop
 connect_stop connect_fault.Name = Line script_cause.Name
@@ -251,8 +264,8 @@ IsAfterLine step.Memory old new = new.ended ≡ true
 -- names that a script's commands give are well formed, and numbers are within their limits
 abbrev pub IsWithin : Command → Type 0
 IsWithin (command.Create name) = IfSome name (λ text. IsTrue (is_name text))
-IsWithin (command.UartHub name) = IsTrue (is_name name)
-IsWithin (command.CanHub name) = IsTrue (is_name name)
+IsWithin (command.UartHub name delay) = IsTrue (is_name name) × (delay.0 ≤ 1000000)
+IsWithin (command.CanHub name delay) = IsTrue (is_name name) × (delay.0 ≤ 1000000)
 IsWithin (command.Mips cpu value) = IfSome value (λ n. (1 ≤ n) × (n ≤ 1000))
 IsWithin (command.Quantum length) = (1 ≤ length.0) × (length.0 ≤ 1000000)
 IsWithin _ = Unit {0}
