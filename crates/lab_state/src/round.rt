@@ -26,7 +26,7 @@ use crate::named_board::{Made, NamedBoard};
 use board::{stretches_keep_plans, stretches_keep_time, stretches_number};
 use dev_core::{Device, Entry, Post};
 use floor_run::Gate;
-use lab_num::{BoardNo, Key, Micros, NoMemory, Rows};
+use lab_num::{BoardNo, Key, Micros, NoMemory, Rows, listing_laws};
 use log_merge::{LogItem, Member0, merge_entries, merge_posts};
 use std::alloc::Global;
 use std::sync::Wait;
@@ -280,6 +280,8 @@ fn play<R: Threads + Wait + Copy + Send + Sync, D: Device + Send, G: Gate>(
 {
     stretches_keep_plans();
     stretches_keep_time();
+    stretches_number();
+    listing_laws::<Post>();
     let Slots { posts, mut items } = take_slots(crew, alloc, boards, source, q)?;
     let at = source.elapsed();
     join_pending(pending, hubs, &posts)?;
