@@ -10,3 +10,5 @@ pub mod TimeLemmas
 pub mod LendLemmas
 pub mod RoundLemmas
 pub mod RunLemmas
+pub mod UndelayedLemmas
+pub mod HandedLemmas
