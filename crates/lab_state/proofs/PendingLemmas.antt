@@ -201,7 +201,7 @@ module _ (p : Post → Bool) where
       by_test true step = IsPermutation-refl (filter p (x ∷ y ∷ ys))
       by_test false step = step
 
-  filter-listing : (posts : List Post) → IsPermutation (filter p posts) (filter p (listing post_key posts))
+  pub filter-listing : (posts : List Post) → IsPermutation (filter p posts) (filter p (listing post_key posts))
   unfolding listing
   filter-listing [] = IsPermutation-refl []
   filter-listing (x ∷ xs) =
