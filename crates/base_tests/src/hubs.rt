@@ -59,8 +59,8 @@ fn are_members(hubs: &UartHubs, members: &[Numbers]) -> bool {
 fn a_member_is_connected_once_and_reaches_the_others(rt: HostRuntime) -> Result<(), Fail> {
     let mut hubs = UartHubs::new(rt.alloc());
     assert!(rt; hubs.is_empty());
-    let first = hubs.create()?;
-    let second = hubs.create()?;
+    let first = hubs.create(1_000_000)?;
+    let second = hubs.create(7)?;
     assert_eq!(rt; (first, second), (0, 1));
     for connection in &CONNECTIONS {
         assert!(rt; connects(&mut hubs, *connection), "{connection:?}");

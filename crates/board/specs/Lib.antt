@@ -8,6 +8,7 @@ pub mod Slot
 pub mod Stretch
 pub mod Idle
 pub mod Numbered
+pub mod Sent
 pub mod New
 pub mod Changes
 pub mod Inner

@@ -1,6 +1,6 @@
 //! Laws of boards and of slots one after another. Each is the contract of a function that does
 //! nothing.
-ghost use Rattle.std.specs.Prelude.{◌≡◌, ℕ, ◌+◌, ◌<◌, ◌^◌, Bool, true, List, sum};
+ghost use Rattle.std.specs.Prelude.{◌≡◌, ℕ, ◌+◌, ◌<◌, ◌^◌, Bool, true, List, sum, All};
 ghost use Rattle.board.specs.View.{View, quiet, after};
 ghost use Rattle.board.specs.New.{IsSameKept, reset};
 ghost use Rattle.board.specs.Stretch.{stretch, in_turns};
@@ -8,6 +8,7 @@ ghost use Rattle.board.specs.Idle.{IsIdle, IsStillFor, passed};
 ghost use Rattle.board.specs.Lines.{sampled};
 ghost use Rattle.board.specs.Space.{Space};
 ghost use Rattle.board.specs.Numbered.{IsNumbered};
+ghost use Rattle.board.specs.Sent.{IsSentIn};
 
 use plic::second_samples_change_nothing;
 
@@ -31,6 +32,12 @@ pub fn stretches_number()
     ensures { (v : View) (from a n : ℕ) →
         v.numbers.posted + n < 2 ^ 64 → v.numbers.entered + n < 2 ^ 64 →
         IsNumbered v.numbers n (stretch v from a n) }
+{}
+
+/// What a stretch sends is sent in the microsecond of one of its slots.
+pub fn stretches_keep_time()
+    ensures { (v : View) (from a n : ℕ) →
+        All (IsSentIn from a n v.numbers.speed) (stretch v from a n).posts }
 {}
 
 /// A stretch keeps the plan of the board.

@@ -15,5 +15,5 @@ mod wires;
 pub use board::{Board, SlotAt, Turn};
 pub use laws::{
     halted_boards_stay, resets_agree, samples_settle, stretches_join, stretches_keep_plans,
-    stretches_number, turns_join, waiting_boards_count_cycles,
+    stretches_keep_time, stretches_number, turns_join, waiting_boards_count_cycles,
 };

@@ -1,6 +1,7 @@
 -- Lemmas of lab_state.
 pub mod ListLemmas
 pub mod HubLemmas
+pub mod PendingLemmas
 pub mod SpareLemmas
 pub mod SoundLemmas
 pub mod ChangeLemmas

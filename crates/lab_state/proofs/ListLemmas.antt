@@ -29,6 +29,11 @@ set-change F [] i is made = refl
 set-change F (x ∷ xs) zero is made = ap (λ y. y ∷ xs) (made ∙ ap F is)
 set-change F (x ∷ xs) (suc i) is made = ap (λ ys. x ∷ ys) (set-change F xs i is made)
 
+pub length-change : {A : Type 0} (F : A → A) (xs : List A) (i : ℕ) → length (change_at xs i F) ≡ length xs
+length-change F [] i = refl
+length-change F (x ∷ xs) zero = refl
+length-change F (x ∷ xs) (suc i) = ap suc (length-change F xs i)
+
 -- a change, and a map, of what a map does not look at
 pub map-change :
     {A B : Type 0} (g : A → B) (F : A → A) → ((x : A) → g (F x) ≡ g x) → (xs : List A) (i : ℕ) →

@@ -1,10 +1,12 @@
 -- What boards make in a round, and what handing over keeps.
-use Rattle.std.proofs.Common.{◌≡◌, ◌∙◌, sym, ap, refl, Bool, true, false, cond, not, ℕ, suc, ◌+◌, ◌*◌, ◌^◌}
+use Rattle.std.proofs.Common.{◌≡◌, ◌∙◌, sym, ap, refl, Bool, true, false, cond, not, ℕ, zero, suc, ◌+◌, ◌-◌, ◌*◌, ◌/◌}
+use Rattle.std.proofs.Common.{◌^◌}
+use Rattle.std.proofs.Math.Nat.{mul-zero}
 use Rattle.std.proofs.Common.{◌<◌, ◌≤◌, List, [], ◌∷◌, ◌++◌, length, map, fold, find, unwrap_or, get_or, slice_get}
 use Rattle.std.proofs.Common.{Option, Some, None, take, drop, add-zero, zero-add, arith}
 use Rattle.std.specs.Prelude.{IsSome, is_none}
 use Rattle.std.proofs.lemmas.List.{map-append}
-use Rattle.std.proofs.lemmas.List.Elements.{All-nil, All-filter, All-head, All-tail, All-weaker}
+use Rattle.std.proofs.lemmas.List.Elements.{All-nil, All-append, All-filter, All-head, All-tail, All-weaker}
 use Rattle.std.proofs.lemmas.Grind.{common_steps}
 use Rattle.std.proofs.lemmas.Option.{slice_get_past, slice_get-map, slice_get-get_or}
 use Rattle.std.proofs.Math.Seq.{take-append_seam}
@@ -13,7 +15,9 @@ use Rattle.std.specs.Option.{option_map, option_map_or, ForSome}
 use Rattle.lab_num.specs.declared.key.Key.{Key}
 use Rattle.lab_num.specs.declared.key.Member.{Member}
 use Rattle.lab_num.specs.Key.{same_member, KeysDiffer}
-use Rattle.lab_num.specs.Paid.{paid}
+use Rattle.lab_num.specs.Paid.{paid, slot_at}
+use Rattle.std.proofs.lemmas.Nat.{div_below}
+use Rattle.lab_state.proofs.PendingLemmas.{AreOfRound}
 use Rattle.lab_num.specs.Route.{route, hub_of, has_member}
 use Rattle.dev_core.specs.declared.payload.Payload.{Payload}
 use Rattle.dev_core.specs.declared.post.Post.{Post}
@@ -21,6 +25,7 @@ use Rattle.dev_core.specs.Post.{post_key, entry_key}
 use Rattle.board.specs.View.{View}
 use Rattle.board.specs.Stretch.{stretch}
 use Rattle.board.specs.Numbered.{IsNumbered}
+use Rattle.board.specs.Sent.{IsSentIn}
 use Rattle.board.specs.Changes.{handed}
 use Rattle.lab_state.specs.Board.{Board}
 use Rattle.lab_state.specs.Boundary.{Handed, to_member, to_route, to_routes}
@@ -56,9 +61,7 @@ module _ {X : Type 0} (g : Board → X)
       map g (fold (to_route at hubs) h posts).boards ≡ map g h.boards
   map-routes at hubs h [] = refl
   map-routes at hubs h (post ∷ posts) =
-      let one : map g (to_route at hubs h post).boards ≡ map g h.boards =
-      grind (arith, map-members at post.payload h (route hubs post.from)) in
-      map-routes at hubs (to_route at hubs h post) posts ∙ one
+      map-routes at hubs (to_route at hubs h post) posts ∙ map-members at post.payload h (route hubs post.from)
 
 handed-outline :
     (dev : ℕ) (payload : Payload) (board : Board) →
@@ -221,6 +224,45 @@ module _ (law : Numbering) (from q : ℕ) (within : from + q ≤ 10000000000) wh
     pub entries_differ : KeysDiffer entry_key (flat_map (entries_made (in_round from q)) boards)
     entries_differ = all.2.differ
 
+-- ---- when all boards send
+
+-- the law that a stretch sends in the microseconds of its slots
+abbrev pub Timing : Type 0
+Timing = (v : View) (from a n : ℕ) → All (IsSentIn from a n v.numbers.speed) (stretch v from a n).posts
+
+module _ (law : Timing) (from q : ℕ) where
+  slot_within : (speed slot : ℕ) → slot < paid from (from + q) speed → slot_at from speed (0 + slot) < from + q
+  slot_within zero slot within =
+      let none : paid from (from + q) 0 ≡ 0 = mul-zero _ in
+      absurd (omega (arith, within, none))
+  slot_within (suc n) slot within =
+      let span : from + q - from ≡ q = omega arith in
+      let few : slot < q * suc n = rw span at within in
+      let quotient : slot / suc n < q = div_below slot (suc n) q (omega arith) few in
+      rw zero-add (omega (arith, quotient))
+
+  sent_by_view : (v : View) → AreOfRound from (from + q) (in_round from q v).posts
+  sent_by_view v =
+      All-weaker (IsSentIn from 0 (paid from (from + q) v.numbers.speed) v.numbers.speed)
+      (λ post. (from ≤ post.key.at.0) × (post.key.at.0 < from + q))
+      (λ post sent. (
+        omega (arith, sent.at),
+        rw sent.at (slot_within v.numbers.speed sent.slot sent.within),
+      ))
+      (in_round from q v).posts (law v from 0 (paid from (from + q) v.numbers.speed))
+
+  -- what the boards send is of the round
+  pub sent_in_round : (boards : List Board) → AreOfRound from (from + q) (flat_map (posts_made (in_round from q)) boards)
+  sent_in_round [] = All-nil (λ (post : Post). (from ≤ post.key.at.0) × (post.key.at.0 < from + q))
+  sent_in_round (board ∷ boards) =
+      All-append (λ (post : Post). (from ≤ post.key.at.0) × (post.key.at.0 < from + q))
+      (posts_made (in_round from q) board) (flat_map (posts_made (in_round from q)) boards) (one board.view)
+      (sent_in_round boards)
+    where
+      one : (o : Option View) → AreOfRound from (from + q) (option_map_or (λ v. (in_round from q v).posts) o [])
+      one None = All-nil (λ (post : Post). (from ≤ post.key.at.0) × (post.key.at.0 < from + q))
+      one (Some v) = sent_by_view v
+
 -- a board that a loop has not come to stands as it stood
 pub standing_next :
     (step : Board → Board) (most : ℕ) (old boards : List Board) (i : ℕ) (item : Board) →
@@ -262,9 +304,13 @@ plans_kept boards others same =
 
 -- a round, as it is played
 pub round_is :
-    (lab : Lab) (q : ℕ) {p : Played} → p ≡ played lab.now q lab.hubs lab.boards →
+    (lab : Lab) (q : ℕ) {p : Played} → p ≡ played lab.now q lab.hubs lab.boards lab.pending →
     round lab q
-    ≡ record { lab = record lab { boards = p.boards; now = lab.now + q }; items = p.items; paused = p.paused }
+    ≡ record {
+      lab = record lab { boards = p.boards; pending = p.pending; now = lab.now + q };
+      items = p.items;
+      paused = p.paused;
+    }
 unfolding round_by
 round_is lab q is = rw is refl
 

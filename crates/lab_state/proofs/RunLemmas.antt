@@ -124,9 +124,9 @@ one_round_more q d run {n = n} some more unpaused least is =
 pub boundaries-agree :
     ((key : Post → Key) (items : List Post) → KeysDiffer key items → IsListing key items (listing key items)) →
     ((key : Post → Key) (items listed : List Post) → IsListing key items listed → listed ≡ listing key items) →
-    (at : ℕ) (hubs : List Hub) (boards : List Board) (posts others : List Post) → KeysDiffer post_key posts →
-    IsPermutation posts others →
-    boundary at hubs boards posts ≡ boundary at hubs boards others
+    (at : ℕ) (hubs : List Hub) (boards : List Board) (pending posts others : List Post) →
+    KeysDiffer post_key posts → IsPermutation posts others →
+    boundary at hubs boards pending posts ≡ boundary at hubs boards pending others
 unfolding boundary
 boundaries-agree is only at hubs boards posts others differ same =
     let listed = is post_key posts differ in

@@ -25,7 +25,8 @@ use Rattle.sys_bus.specs.Limits.{count_of}
 use Rattle.sys_bus.specs.Plan.{IsValid}
 use Rattle.lab_state.specs.Board.{Board}
 use Rattle.lab_num.specs.Change.{change_at}
-use Rattle.lab_state.specs.Hub.{Hub}
+use Rattle.lab_num.specs.Route.{is_connected}
+use Rattle.lab_state.specs.Hub.{Hub, members_of}
 use Rattle.lab_state.specs.Lab.{Lab, Seen}
 use Rattle.lab_state.specs.Names.{is_taken}
 use Rattle.lab_state.specs.One.{view_at, view_of, kind_at, with_view, with_member}
@@ -38,6 +39,7 @@ use Rattle.lab_state.specs.Inner.Time.{number_of}
 use Rattle.lab_state.proofs.ListLemmas.{set-change, map-change, All-change, each-set, each-push}
 use Rattle.lab_state.proofs.ListLemmas.{none_has, board_more, hub_more, planned_below}
 use Rattle.lab_state.proofs.ChangeLemmas.{same_part, outline-view, Leaves}
+use Rattle.lab_state.proofs.PendingLemmas.{none_pending, pending-hub, pending-member}
 use Rattle.lab_state.proofs.TimeLemmas.{timed-push, timed-set}
 
 -- what holds of a laboratory that is seen as not spent
@@ -64,15 +66,17 @@ seen_set {lab = lab} F i is at made = rw (← is, set-change F lab.boards i at m
 
 -- ---- a laboratory without boards and hubs
 
-pub sound-new : IsSound (record { boards = []; hubs = []; now = 0; quantum = 100 }) full tree.new
+pub sound-new : IsSound (record { boards = []; hubs = []; pending = []; now = 0; quantum = 100 }) full tree.new
 sound-new = record {
   shape = record {
     few = omega arith;
     devices = All-nil _;
+    delays = All-nil _;
     names = search rules;
     enough = search rules;
   };
   times = search rules;
+  pending = none_pending [] 0;
   timed = record { closed = refl; speeds = refl; standing = λ b n at. absurd (cc) };
 }
 
@@ -125,12 +129,14 @@ sound-push {lab = lab} name sound room free =
                 (λ b found. kind_of_outline dev (slice_get os b) ≡ Some kind → kind_of_outline dev found ≡ Some kind)
                 os o (λ at. absurd (cc (slice_get_past os (length os) (omega arith)))) (λ b at. at))
                 lab.hubs sound.shape.devices;
+            delays = sound.shape.delays;
             names =
                 rw (map-append, map-map)
                 (board_more name (unnamed lab name free).0 (unnamed lab name free).1 names);
             enough = rw (sum_by_push one_if os o ∙ add-zero _) sound.shape.enough;
           });
       times = sound.times;
+      pending = sound.pending;
       timed = rw (map-append number_of lab.boards (board ∷ [])) (timed-push sound.timed);
     }
 
@@ -139,8 +145,9 @@ sound-push {lab = lab} name sound room free =
 -- a laboratory with a hub more
 pub sound-hub :
     {lab : Lab} {spares : Spares} {source : Tree} (hub : Hub) → IsSound lab spares source → hub.members ≡ [] →
-    is_taken lab hub.name ≡ false → IsSound (record lab { hubs = lab.hubs ++ hub ∷ [] }) spares source
-sound-hub {lab = lab} hub sound none free =
+    hub.delay ≤ 1000000 → is_taken lab hub.name ≡ false →
+    IsSound (record lab { hubs = lab.hubs ++ hub ∷ [] }) spares source
+sound-hub {lab = lab} hub sound none short free =
     let os = outlines lab.boards in
     let names = rw map-map at sound.shape.names in
     record {
@@ -149,21 +156,24 @@ sound-hub {lab = lab} hub sound none free =
         devices =
             All-push (AreMembers os) lab.hubs hub sound.shape.devices
             (rw none (All-nil (λ m. kind_in os m ≡ Some hub.kind)));
+        delays = All-push (λ (hub : Hub). hub.delay ≤ 1000000) lab.hubs hub sound.shape.delays short;
         names =
             rw (map-append, map-map)
             (hub_more hub.name (unnamed lab hub.name free).0 (unnamed lab hub.name free).1 names);
         enough = sound.shape.enough;
       };
       times = sound.times;
+      pending = pending-hub lab.hubs hub lab.now lab.pending none sound.pending;
       timed = sound.timed;
     }
 
 -- a laboratory with a member more in one of its hubs, of which a hub that has this number has the kind
 pub sound-member :
     {lab : Lab} {spares : Spares} {source : Tree} (n : ℕ) (m : Member) → IsSound lab spares source →
+    is_connected (members_of lab.hubs) m ≡ false →
     ((hub : Hub) → slice_get lab.hubs n ≡ Some hub → kind_in (outlines lab.boards) m ≡ Some hub.kind) →
     IsSound (record lab { hubs = change_at lab.hubs n (with_member m) }) spares source
-sound-member {lab = lab} n m sound kind =
+sound-member {lab = lab} n m sound out kind =
     let os = outlines lab.boards in
     record {
       shape = record {
@@ -172,10 +182,14 @@ sound-member {lab = lab} n m sound kind =
             All-change (AreMembers os) (with_member m) lab.hubs n
             (λ hub at all. All-push (λ m. kind_in os m ≡ Some hub.kind) hub.members m all (kind hub at))
             sound.shape.devices;
+        delays =
+            All-change (λ (hub : Hub). hub.delay ≤ 1000000) (with_member m) lab.hubs n (λ hub at short. short)
+            sound.shape.delays;
         names = rw (map-change (λ (hub : Hub). hub.name) (with_member m) (λ hub. refl) lab.hubs n) sound.shape.names;
         enough = sound.shape.enough;
       };
       times = sound.times;
+      pending = pending-member lab.hubs n m lab.now lab.pending out sound.pending;
       timed = sound.timed;
     }
 
@@ -200,6 +214,7 @@ module _ {lab : Lab} {spares : Spares} {source : Tree} (i : ℕ) {old : Board} (
         (outline-view f (λ v. (leaves v).0) old ∙ ap outline is))
         sound.shape;
     times = sound.times;
+    pending = sound.pending;
     timed =
         rw (map-set_same number_of lab.boards i (with_view f old) old
         (same_part (λ v. v.numbers) f (λ v. (leaves v).1) old.view ∙ ap number_of is))
@@ -224,6 +239,7 @@ module _ {lab : Lab} {spares : Spares} {source : Tree} (i : ℕ) {old : Board} (
             (outline-view faster (λ v. refl) old ∙ ap outline is))
             sound.shape;
         times = sound.times;
+        pending = sound.pending;
         timed =
             rw (
               map-set number_of lab.boards i (with_view faster old),
@@ -333,6 +349,7 @@ module _ {lab : Lab} {spares : Spares} {source : Tree} (i : ℕ) (plan : BoardPl
                   (λ at. absurd (cc (at, ap (option_and_then (λ kinds. slice_get kinds dev)) no_kinds)))
                   (λ b at. at))
                   lab.hubs sound.shape.devices;
+              delays = sound.shape.delays;
               names =
                   rw (← map-set outline lab.boards i new, map-map, names) (rw map-map at sound.shape.names);
               enough = record {
@@ -343,6 +360,7 @@ module _ {lab : Lab} {spares : Spares} {source : Tree} (i : ℕ) (plan : BoardPl
               };
             });
         times = sound.times;
+        pending = sound.pending;
         timed =
             rw (map-set number_of lab.boards i new)
             (timed-set sound.timed i (new_numbers i plan)

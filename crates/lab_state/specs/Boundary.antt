@@ -1,11 +1,10 @@
--- The boundary between two rounds, at which what the boards have sent is handed over.
-use Rattle.std.specs.Prelude.{ℕ, Bool, if◌then◌else◌, List, [], ◌++◌, Option, None, Some, is_some, option_and_then}
-use Rattle.std.specs.Prelude.{fold, find}
+-- The boundary between two rounds, at which what the boards have sent is handed over as far as it is due.
+use Rattle.std.specs.Prelude.{ℕ, Bool, not, if◌then◌else◌, List, [], ◌++◌, Option, None, Some, option_and_then}
+use Rattle.std.specs.Prelude.{filter, fold, find}
 use Rattle.std.specs.Option.{option_map, option_to_list}
 use Rattle.lab_num.specs.declared.key.Member.{Member}
 use Rattle.lab_num.specs.Listing.{listing}
 use Rattle.lab_num.specs.Route.{route}
-use Rattle.dev_core.specs.declared.payload.Finish.{Finish}
 use Rattle.dev_core.specs.declared.payload.Payload.{Payload}
 use Rattle.dev_core.specs.declared.payload.Payload.TheVariants as payload
 use Rattle.dev_core.specs.declared.payload.Taken.{Taken}
@@ -21,6 +20,7 @@ use Rattle.board.specs.Space.{device_at}
 use Rattle.board.specs.View.{View}
 use Rattle.lab_state.specs.Board.{Board}
 use Rattle.lab_state.specs.Hub.{Hub, members_of}
+use Rattle.lab_state.specs.Pending.{is_finish, is_of_a_hub, is_due}
 use Rattle.lab_num.specs.Change.{change_at}
 use Rattle.lab_state.specs.One.{with_view, view_at}
 
@@ -61,34 +61,43 @@ to_member at payload h m =
       notes = h.notes ++ option_to_list (option_map (note_item at m) note);
     }
 
--- how a test ended, which a finisher's post tells
-abbrev pub finish_of : Payload → Option Finish
-finish_of (payload.Byte byte) = None
-finish_of (payload.Frame frame) = None
-finish_of (payload.Finish finish) = Some finish
-
-abbrev pub is_finish : Post → Bool
-is_finish post = is_some (finish_of post.payload)
-
--- a post is handed to each other member of its device's hub once, in order of connection, and a finisher's to nobody
+-- a post is handed to each other member of its device's hub once, in order of connection
 abbrev pub to_route : ℕ → List (List Member) → Handed → Post → Handed
-to_route at hubs h post =
-    if is_finish post then h else fold (to_member at post.payload) h (route hubs post.from)
+to_route at hubs h post = fold (to_member at post.payload) h (route hubs post.from)
 
 -- the posts one after another
 abbrev pub to_routes : ℕ → List Hub → List Board → List Post → Handed
 to_routes at hubs boards posts =
     fold (to_route at (members_of hubs)) (record { boards = boards; notes = [] }) posts
 
--- What a boundary comes to: the boards, what the log notes of what they were handed, and the post by which a pause was
--- asked for, if one was.
+-- the posts that wait once those of a round that are for other devices have joined, in rising order of key
+abbrev pub waiting : List Hub → List Post → List Post → List Post
+waiting hubs pending posts = listing post_key (pending ++ filter (is_of_a_hub hubs) posts)
+
+-- those that are due by a microsecond, and those that are not
+abbrev pub due : ℕ → List Hub → List Post → List Post
+due at hubs posts = filter (is_due at hubs) posts
+
+abbrev pub not_due : ℕ → List Hub → List Post → List Post
+not_due at hubs posts = filter (λ post. not (is_due at hubs post)) posts
+
+-- What a boundary comes to: the boards, what the log notes of what they were handed, the posts that go on waiting, and
+-- the post by which a pause was asked for, if one was.
 pub record Boundary : Type 0 where
   pub boards : List Board
   pub notes : List LogItem
+  pub pending : List Post
   pub pause : Option Post
 
--- All posts of a round are handed over, in rising order of key. The first that a finisher made asks for a pause.
-unfoldable pub boundary : ℕ → List Hub → List Board → List Post → Boundary
-boundary at hubs boards posts =
-    let handed = to_routes at hubs boards (listing post_key posts) in
-    record { boards = handed.boards; notes = handed.notes; pause = find is_finish (listing post_key posts) }
+-- The posts of a round join those that are pending. What is due by then is handed over, in rising order of key, and is
+-- pending no more. The first post that a finisher made in the round asks for a pause.
+unfoldable pub boundary : ℕ → List Hub → List Board → List Post → List Post → Boundary
+boundary at hubs boards pending posts =
+    let all = waiting hubs pending posts in
+    let handed = to_routes at hubs boards (due at hubs all) in
+    record {
+      boards = handed.boards;
+      notes = handed.notes;
+      pending = not_due at hubs all;
+      pause = find is_finish (listing post_key posts);
+    }

@@ -6,6 +6,8 @@ pub mod Inner
 pub mod Lab
 pub mod Names
 pub mod One
+pub mod Pending
 pub mod Round
 pub mod Run
 pub mod Turns
+pub mod Undelayed

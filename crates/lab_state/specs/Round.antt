@@ -15,7 +15,8 @@ use Rattle.board.specs.Stretch.{stretch}
 use Rattle.lab_state.specs.Board.{Board}
 use Rattle.lab_state.specs.Lab.{Lab}
 use Rattle.lab_state.specs.One.{with_view}
-use Rattle.lab_state.specs.Boundary.{Boundary, boundary, finish_of}
+use Rattle.lab_state.specs.Boundary.{Boundary, boundary}
+use Rattle.lab_state.specs.Pending.{finish_of}
 
 -- what boards make of grants of time, from one microsecond to another
 abbrev pub Grant : Type 0
@@ -37,7 +38,8 @@ entries_made grant board = option_map_or (λ v. (grant v).entries) board.view []
 
 -- the boundary at a microsecond, after all boards have taken their slots
 abbrev pub met : (View → State) → ℕ → Lab → Boundary
-met grant at lab = boundary at lab.hubs (map (stepped grant) lab.boards) (flat_map (posts_made grant) lab.boards)
+met grant at lab =
+    boundary at lab.hubs (map (stepped grant) lab.boards) lab.pending (flat_map (posts_made grant) lab.boards)
 
 -- an entry as an item of the log
 abbrev pub item_of : Entry → LogItem
@@ -60,16 +62,18 @@ pub record Rounded : Type 0 where
   pub items : List LogItem
   pub paused : Option Key
 
--- a round of this length, of which the boards make this: its items are the entries of the slots, what was noted at the
--- boundary, and the pause
+-- a round of this length, of which the boards make this, and that has this boundary: its items are the entries of the
+-- slots, what was noted at the boundary, and the pause
+abbrev pub ended : Grant → Boundary → Lab → ℕ → Rounded
+ended grant end lab q = record {
+  lab = record lab { boards = end.boards; pending = end.pending; now = lab.now + q };
+  items = slot_items (grant lab.now (lab.now + q)) lab.boards ++ end.notes ++ pause_items (lab.now + q) end.pause;
+  paused = option_map post_key end.pause;
+}
+
+-- a round of this length, of which the boards make this
 unfoldable pub round_by : Grant → Lab → ℕ → Rounded
-round_by grant lab q =
-    let end = met (grant lab.now (lab.now + q)) (lab.now + q) lab in
-    record {
-      lab = record lab { boards = end.boards; now = lab.now + q };
-      items = slot_items (grant lab.now (lab.now + q)) lab.boards ++ end.notes ++ pause_items (lab.now + q) end.pause;
-      paused = option_map post_key end.pause;
-    }
+round_by grant lab q = ended grant (met (grant lab.now (lab.now + q)) (lab.now + q) lab) lab q
 
 -- a round of this length
 abbrev pub round : Lab → ℕ → Rounded

@@ -1,8 +1,10 @@
-//! The boundary between two rounds: what the boards have sent is handed over.
-ghost use Rattle.std.specs.Prelude.{◌≡◌, ◌++◌, All, fold, find, OnOk, IfOk};
+//! The boundary between two rounds: what the boards have sent is handed over as far as it is due.
+ghost use Rattle.std.specs.Prelude.{◌≡◌, ◌++◌, All, filter, fold, find, OnOk, IfOk};
 ghost use Rattle.std.specs.Option.{option_map, option_to_list};
 ghost use Rattle.lab_state.specs.Boundary as boundary_spec;
-ghost use Rattle.lab_state.specs.Boundary.{Handed, note_item, to_member, to_route, to_routes, is_finish};
+ghost use Rattle.lab_state.specs.Boundary.{Handed, note_item, to_member, to_route, to_routes};
+ghost use Rattle.lab_state.specs.Pending as pending_spec;
+ghost use Rattle.lab_state.specs.Pending.{is_finish, is_of_a_hub};
 ghost use Rattle.lab_state.specs.Hub.{members_of};
 ghost use Rattle.lab_state.specs.Inner.Standing.{outlines, IsDevice, AreDevices};
 ghost use Rattle.lab_state.specs.Round as round_spec;
@@ -17,7 +19,7 @@ use std::slice;
 
 /// How a test ended, which a finisher's post tells.
 fn finish_of(payload: &Payload) -> Option<Finish>
-    ensures { result ≡ boundary_spec.finish_of payload.now }
+    ensures { result ≡ pending_spec.finish_of payload.now }
 {
     match payload {
         Payload::Finish(finish) => Some(*finish),
@@ -70,7 +72,7 @@ fn hand_over<D: Device>(
     Ok(())
 }
 
-/// Hands a post to the other members of its device's hub, unless a finisher made it.
+/// Hands a post to the other members of its device's hub.
 fn hand_post<D: Device>(
     boards: &mut [NamedBoard<D>],
     hubs: &HubList,
@@ -84,9 +86,6 @@ fn hand_post<D: Device>(
         (to_route at.0 (members_of hubs.now)
         (record { boards = boards.old; notes = notes.old.items }) post.now)) }
 {
-    if is_finish(post) {
-        return Ok(());
-    }
     let to = hubs.route(post.from)?;
     hand_over(boards, &to, &post.payload, at, notes)
 }
@@ -109,6 +108,56 @@ pub fn hand_over_all<D: Device>(
         hand_post(boards, hubs, post, at, &mut notes)?;
     }
     Ok(notes)
+}
+
+/// Whether a post is for other devices.
+fn is_of_a_hub(hubs: &HubList, post: &Post) -> bool
+    ensures { result ≡ is_of_a_hub hubs.now post.now }
+{
+    hubs.delay(post.from).is_some() && !is_finish(post)
+}
+
+/// Whether a post is due by now.
+fn is_due(hubs: &HubList, at: Micros, post: &Post) -> bool
+    ensures { result ≡ pending_spec.is_due at.0 hubs.now post.now }
+{
+    let delay = hubs.delay(post.from).unwrap_or(0);
+    let sent = post.key.at;
+    sent.0 <= at.0 && delay <= at.0 - sent.0
+}
+
+/// Puts the posts of a round that are for other devices at the end of those that wait.
+pub fn join_pending(pending: &mut Vec<Post>, hubs: &HubList, posts: &[Post]) -> Result<(), NoMemory>
+    ensures { OnOk result (pending.new.items
+        ≡ pending.old.items ++ filter (is_of_a_hub hubs.now) posts.now) }
+{
+    for post in posts {
+        if is_of_a_hub(hubs, post) {
+            pending.push(*post)?;
+        }
+    }
+    Ok(())
+}
+
+/// Takes the posts that are due by now out of those that wait. Both keep their order.
+pub fn take_due(
+    alloc: Global,
+    pending: &mut Vec<Post>,
+    hubs: &HubList,
+    at: Micros,
+) -> Result<Vec<Post>, NoMemory>
+    ensures due { IfOk result (λ taken.
+        taken.items ≡ boundary_spec.due at.0 hubs.now pending.old.items) }
+    ensures waiting { OnOk result (pending.new.items
+        ≡ boundary_spec.not_due at.0 hubs.now pending.old.items) }
+{
+    let taken = pending
+        .iter()
+        .copied()
+        .filter(|post| is_due(hubs, at, post))
+        .collect(alloc)?;
+    pending.retain(|post| !is_due(hubs, at, post));
+    Ok(taken)
 }
 
 /// The first post that a finisher made.

@@ -6,7 +6,7 @@ ghost use Rattle.std.specs.Str.{bytes_eq};
 ghost use Rattle.lab_num.specs.Route.{StandOnce, is_connected};
 ghost use Rattle.lab_num.specs.Route as routes;
 ghost use Rattle.lab_num.specs.Change.{change_at};
-ghost use Rattle.lab_state.specs.Hub.{members_of};
+ghost use Rattle.lab_state.specs.Hub.{members_of, delay_of};
 ghost use Rattle.lab_state.specs.One.{with_member};
 
 use dev_core::Kind;
@@ -27,7 +27,7 @@ pub struct HubName {
 #[derive(Drop)]
 pub struct HubList {
     names: Vec<HubName>,
-    members: UartHubs,
+    hubs: UartHubs,
 }
 
 impl Model for HubList {
@@ -37,11 +37,11 @@ impl Model for HubList {
 
     ghost Value = { List Hub };
 
-    ghost view = { λ h. hubs_of h.names.items h.members };
+    ghost view = { λ h. hubs_of h.names.items h.hubs };
 
     ghost invariant = { λ h.
-        AreParts h.names.items h.members (hubs_of h.names.items h.members)
-        × (length h.members < 2 ^ 32) };
+        AreParts h.names.items h.hubs (hubs_of h.names.items h.hubs)
+        × (length h.hubs < 2 ^ 32) };
 }
 
 /// The number of the first of these that has the name.
@@ -51,20 +51,22 @@ fn number_of(hubs: &[HubName], name: &str) -> Option<usize>
     hubs.iter().position(|hub| hub.name.as_str() == name)
 }
 
-/// Puts a name at the end of the names and makes a hub, or neither.
+/// Puts a name at the end of the names and makes a hub of this delay, or neither.
 fn create_both(
     names: &mut Vec<HubName>,
-    members: &mut UartHubs,
+    hubs: &mut UartHubs,
     name: HubName,
+    delay: u64,
 ) -> Result<(), NoMemory>
-    requires { length members.old + 1 < 2 ^ 32 }
+    requires { length hubs.old + 1 < 2 ^ 32 }
     ensures name { OnOk result (names.new.items ≡ names.old.items ++ name ∷ []) }
-    ensures hub { OnOk result (members.new ≡ members.old ++ [] ∷ []) }
+    ensures hub { OnOk result (hubs.new
+        ≡ hubs.old ++ record { delay = delay; members = [] } ∷ []) }
     ensures no_name { OnErr result (names.new.items ≡ names.old.items) }
-    ensures no_hub { OnErr result (members.new ≡ members.old) }
+    ensures no_hub { OnErr result (hubs.new ≡ hubs.old) }
 {
     names.push(name)?;
-    if members.create().is_err() {
+    if hubs.create(delay).is_err() {
         let _ = names.pop();
         return Err(NoMemory);
     }
@@ -77,7 +79,7 @@ impl HubList {
     {
         HubList {
             names: Vec::new(alloc),
-            members: UartHubs::new(alloc),
+            hubs: UartHubs::new(alloc),
         }
     }
 
@@ -112,18 +114,34 @@ impl HubList {
         ensures value { Some result.now ≡ option_map (λ hub. hub.members) (slice_get self.now n) }
         ensures once { StandOnce (members_of self.now) }
     {
-        self.members.members(n)
+        self.hubs.members(n)
     }
 
-    /// Creates a hub that connects devices of this kind, without members.
-    pub fn create(&mut self, name: Text, kind: Kind) -> Result<(), NoMemory>
+    /// How long a hub holds back what its members send, in microseconds.
+    pub fn hub_delay(&self, n: u32) -> u64
+        requires { n < length self.now }
+        ensures { Some result ≡ option_map (λ hub. hub.delay) (slice_get self.now n) }
+    {
+        self.hubs.hub_delay(n)
+    }
+
+    /// How long the hub of `from` holds back what it sends, in microseconds. None exactly where
+    /// `from` is in no hub.
+    pub fn delay(&self, from: Member) -> Option<u64>
+        ensures { result ≡ delay_of self.now from }
+    {
+        self.hubs.delay(from)
+    }
+
+    /// Creates a hub that connects devices of this kind, of this delay, without members.
+    pub fn create(&mut self, name: Text, kind: Kind, delay: u64) -> Result<(), NoMemory>
         requires { length self.old + 1 < 2 ^ 32 }
-        ensures ok { OnOk result (self.new
-            ≡ self.old ++ record { name = name; kind = kind; members = [] } ∷ []) }
+        ensures ok { OnOk result (self.new ≡ self.old
+            ++ record { name = name; kind = kind; delay = delay; members = [] } ∷ []) }
         ensures err { OnErr result (self.new ≡ self.old) }
     {
         let hub = HubName { name, kind };
-        create_both(&mut self.names, &mut self.members, hub)?;
+        create_both(&mut self.names, &mut self.hubs, hub, delay)?;
         Ok(())
     }
 
@@ -135,13 +153,13 @@ impl HubList {
             ↔ IsTrue (is_connected (members_of self.old) member) }
         ensures err { OnErr result (self.new ≡ self.old) }
     {
-        self.members.connect(n as u32, member)
+        self.hubs.connect(n as u32, member)
     }
 
     /// The other members of the hub of `from`, in order of connection.
     pub fn route(&self, from: Member) -> Result<Vec<Member>, NoMemory>
         ensures { IfOk result (λ list. list.items ≡ routes.route (members_of self.now) from) }
     {
-        self.members.route(from)
+        self.hubs.route(from)
     }
 }

@@ -1,5 +1,5 @@
 //! The hubs of a laboratory.
-ghost use Rattle.std.specs.Prelude.{◌≡◌, ◌+◌, ◌^◌, ◌<◌, ◌↔◌, ◌≢◌, ◌++◌, ◌∷◌, [], length, false, Some, None, slice_get};
+ghost use Rattle.std.specs.Prelude.{◌≡◌, ◌+◌, ◌^◌, ◌<◌, ◌≤◌, ◌↔◌, ◌≢◌, ◌++◌, ◌∷◌, [], length, false, Some, None, slice_get};
 ghost use Rattle.std.specs.Prelude.{IfSome, IfOk, IfErr, IsSome, IsTrue, OnOk, OnErr};
 ghost use Rattle.std.specs.Option.{option_map};
 ghost use Rattle.lab_num.specs.Name as name_spec;
@@ -41,14 +41,15 @@ impl<D: Device> Lab<D> {
     }
 
     /// Creates a hub that connects devices of this kind, without members.
-    fn create_hub(&mut self, name: &str, kind: Kind) -> Result<(), HubNameFault>
+    fn create_hub(&mut self, name: &str, kind: Kind, delay: u64) -> Result<(), HubNameFault>
         requires unspent { self.old.spent ≡ false }
         requires is_name { IsTrue (name_spec.is_name name.now) }
+        requires delay { delay ≤ 1000000 }
         requires room { length self.old.lab.hubs + 1 < 2 ^ 32 }
         ensures ok { OnOk result (self.new ≡ record self.old {
           lab = record self.old.lab {
             hubs = self.old.lab.hubs
-                ++ record { name = name.now; kind = kind; members = [] } ∷ [];
+                ++ record { name = name.now; kind = kind; delay = delay; members = [] } ∷ [];
           };
         }) }
         ensures taken { (result ≡ Err HubNameFault.Taken)
@@ -59,44 +60,48 @@ impl<D: Device> Lab<D> {
             return Err(HubNameFault::Taken);
         }
         let text = Text::of(self.alloc, name)?;
-        self.hubs.create(text, kind)?;
+        self.hubs.create(text, kind, delay)?;
         Ok(())
     }
 
-    /// Creates a hub that connects UARTs, without members.
-    pub fn create_uart_hub(&mut self, name: &str) -> Result<(), HubNameFault>
+    /// Creates a hub that connects UARTs, without members. It holds back what its members send for
+    /// `delay` microseconds, at most a second.
+    pub fn create_uart_hub(&mut self, name: &str, delay: u64) -> Result<(), HubNameFault>
         requires unspent { self.old.spent ≡ false }
         requires is_name { IsTrue (name_spec.is_name name.now) }
+        requires delay { delay ≤ 1000000 }
         requires room { length self.old.lab.hubs + 1 < 2 ^ 32 }
         ensures ok { OnOk result (self.new ≡ record self.old {
           lab = record self.old.lab {
             hubs = self.old.lab.hubs
-                ++ record { name = name.now; kind = Uart; members = [] } ∷ [];
+                ++ record { name = name.now; kind = Uart; delay = delay; members = [] } ∷ [];
           };
         }) }
         ensures taken { (result ≡ Err HubNameFault.Taken)
             ↔ IsTrue (names_spec.is_taken self.old.lab name.now) }
         ensures err { OnErr result (self.new ≡ self.old) }
     {
-        self.create_hub(name, Kind::Uart)
+        self.create_hub(name, Kind::Uart, delay)
     }
 
-    /// Creates a hub that connects CAN controllers, without members.
-    pub fn create_can_hub(&mut self, name: &str) -> Result<(), HubNameFault>
+    /// Creates a hub that connects CAN controllers, without members. It holds back what its members
+    /// send for `delay` microseconds, at most a second.
+    pub fn create_can_hub(&mut self, name: &str, delay: u64) -> Result<(), HubNameFault>
         requires unspent { self.old.spent ≡ false }
         requires is_name { IsTrue (name_spec.is_name name.now) }
+        requires delay { delay ≤ 1000000 }
         requires room { length self.old.lab.hubs + 1 < 2 ^ 32 }
         ensures ok { OnOk result (self.new ≡ record self.old {
           lab = record self.old.lab {
             hubs = self.old.lab.hubs
-                ++ record { name = name.now; kind = Can; members = [] } ∷ [];
+                ++ record { name = name.now; kind = Can; delay = delay; members = [] } ∷ [];
           };
         }) }
         ensures taken { (result ≡ Err HubNameFault.Taken)
             ↔ IsTrue (names_spec.is_taken self.old.lab name.now) }
         ensures err { OnErr result (self.new ≡ self.old) }
     {
-        self.create_hub(name, Kind::Can)
+        self.create_hub(name, Kind::Can, delay)
     }
 
     /// The number of the hub of this name, if it connects devices of this kind.
@@ -177,6 +182,17 @@ impl<D: Device> Lab<D> {
         ensures { Some result ≡ option_map (λ hub. hub.kind) (slice_get self.now.lab.hubs n) }
     {
         self.hubs.head(n as usize).kind
+    }
+
+    /// How long a hub holds back what its members send, in microseconds.
+    pub fn hub_delay(&self, n: u32) -> u64
+        requires unspent { self.now.spent ≡ false }
+        requires exists { n < length self.now.lab.hubs }
+        ensures value { Some result
+            ≡ option_map (λ hub. hub.delay) (slice_get self.now.lab.hubs n) }
+        ensures most { result ≤ 1000000 }
+    {
+        self.hubs.hub_delay(n)
     }
 
     /// The members of a hub, in order of connection.

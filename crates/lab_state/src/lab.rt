@@ -1,10 +1,15 @@
 //! The laboratory, its time and its quantum.
-ghost use Rattle.std.specs.Prelude.{◌≡◌, ◌≤◌, [], map, false, IfOk};
+ghost use Rattle.std.specs.Prelude.{◌≡◌, ◌<◌, ◌≤◌, [], map, false, IfOk, IsSome, All};
+ghost use Rattle.std.specs.List.Sorted.{IsStrictlySortedBy};
+ghost use Rattle.lab_num.specs.Key.{key_cmp};
+ghost use Rattle.dev_core.specs.Post.{post_key};
+ghost use Rattle.lab_state.specs.Hub.{delay_of};
+ghost use Rattle.lab_state.specs.Pending.{is_finish, due_at};
 
 use crate::hub_list::HubList;
 use crate::named_board::NamedBoard;
 use crate::spares::Spares;
-use dev_core::{Device, Stock};
+use dev_core::{Device, Post, Stock};
 use lab_num::{Micros, NoMemory};
 use std::alloc::Global;
 use std::marker::Model;
@@ -13,14 +18,15 @@ use time_source::Source;
 /// The quantum of a new laboratory, in microseconds.
 const QUANTUM: u64 = 100;
 
-/// Boards and the hubs between them, paused between two rounds. Each board is a member of the source
-/// of time, at the board's speed, and one without a plan at the least. It is spent once memory ran out
-/// inside a round.
+/// Boards and the hubs between them, paused between two rounds, with the posts that wait until they are
+/// due, in rising order of key. Each board is a member of the source of time, at the board's speed, and
+/// one without a plan at the least. It is spent once memory ran out inside a round.
 #[derive(Drop)]
 pub struct Lab<D: Device> {
     pub(crate) alloc: Global,
     pub(crate) boards: Vec<NamedBoard<D>>,
     pub(crate) hubs: HubList,
+    pub(crate) pending: Vec<Post>,
     pub(crate) spares: Spares<D>,
     pub(crate) source: Source,
     pub(crate) quantum: u64,
@@ -38,6 +44,7 @@ impl<D: Device> Model for Lab<D> {
       lab = record {
         boards = l.boards.items;
         hubs = l.hubs;
+        pending = l.pending.items;
         now = l.source.end;
         quantum = l.quantum;
       };
@@ -48,6 +55,7 @@ impl<D: Device> Model for Lab<D> {
         (record {
           boards = l.boards.items;
           hubs = l.hubs;
+          pending = l.pending.items;
           now = l.source.end;
           quantum = l.quantum;
         })
@@ -65,7 +73,7 @@ impl<D: Device> Lab<D> {
         requires { IsFull (map D.meaning stock.uarts.items) (map D.meaning stock.cans.items)
             (map D.meaning stock.finishers.items) }
         ensures { IfOk result (λ made. made ≡ record {
-          lab = record { boards = []; hubs = []; now = 0; quantum = 100 };
+          lab = record { boards = []; hubs = []; pending = []; now = 0; quantum = 100 };
           spent = false;
         }) }
     {
@@ -73,11 +81,26 @@ impl<D: Device> Lab<D> {
             alloc,
             boards: Vec::new(alloc),
             hubs: HubList::new(alloc),
+            pending: Vec::new(alloc),
             spares: Spares::of(stock),
             source: Source::new(),
             quantum: QUANTUM,
             spent: false,
         })
+    }
+
+    /// The posts that wait until they are due, in rising order of key: each of a device in a hub,
+    /// sent before now and due after it.
+    pub fn pending(&self) -> &[Post]
+        requires { self.now.spent ≡ false }
+        ensures value { result.now ≡ self.now.lab.pending }
+        ensures rising { IsStrictlySortedBy key_cmp (map post_key result.now) }
+        ensures in_hub { All (λ post. IsSome (delay_of self.now.lab.hubs post.from)) result.now }
+        ensures no_finish { All (λ post. is_finish post ≡ false) result.now }
+        ensures sent { All (λ post. post.key.at.0 < self.now.lab.now) result.now }
+        ensures due { All (λ post. self.now.lab.now < due_at self.now.lab.hubs post) result.now }
+    {
+        &self.pending
     }
 
     /// The time, in microseconds since the laboratory was made.

@@ -45,9 +45,9 @@ pub fn turns_agree()
 
 /// What a boundary comes to does not depend on the order in which the posts were gathered.
 pub fn boundaries_agree()
-    ensures { (at : ℕ) (hubs : List Hub) (boards : List Board) (posts others : List Post) →
+    ensures { (at : ℕ) (hubs : List Hub) (boards : List Board) (pending posts others : List Post) →
         KeysDiffer post_key posts → IsPermutation posts others →
-        boundary at hubs boards posts ≡ boundary at hubs boards others }
+        boundary at hubs boards pending posts ≡ boundary at hubs boards pending others }
 {
     listing_laws::<BoardPost>();
 }

@@ -1,5 +1,5 @@
 //! One round: every board takes the slots that its grant pays, and then what they have sent is
-//! handed over.
+//! handed over as far as it is due.
 ghost use Rattle.std.specs.Prelude.{◌≡◌, ◌+◌, ◌*◌, ◌<◌, ◌≤◌, ◌++◌, map, length, true, false, None, IfOk, OnOk, OnErr};
 ghost use Rattle.std.specs.Option.{option_map};
 ghost use Rattle.std.specs.List.{flat_map};
@@ -11,19 +11,20 @@ ghost use Rattle.lab_state.specs.Inner.End.{Played, in_round, played};
 ghost use Rattle.lab_state.specs.Inner.Standing.{outlines, AreDevices};
 ghost use Rattle.lab_state.specs.Inner.Time.{numbers_of, AreStanding, IsTimed, part_of, used_up};
 ghost use Rattle.lab_state.specs.One.{first_without, HaveAllPlans};
+ghost use Rattle.lab_state.specs.Pending.{ArePending};
 ghost use Rattle.lab_state.specs.Round as round_spec;
 ghost use Rattle.lab_state.specs.Round.{stepped, posts_made, entries_made, slot_items};
 
-use crate::boundary::{hand_over_all, pause_of, push_pause};
+use crate::boundary::{hand_over_all, join_pending, pause_of, push_pause, take_due};
 use crate::faults::LabFault;
 use crate::hub_list::HubList;
 use crate::lab::Lab;
 use crate::lending::{Crew, step_lent};
 use crate::named_board::{Made, NamedBoard};
-use board::{stretches_keep_plans, stretches_number};
+use board::{stretches_keep_plans, stretches_keep_time, stretches_number};
 use dev_core::{Device, Entry, Post};
 use floor_run::Gate;
-use lab_num::{BoardNo, Key, Micros, NoMemory, Rows};
+use lab_num::{BoardNo, Key, Micros, NoMemory, Rows, listing_laws};
 use log_merge::{LogItem, Member0, merge_entries, merge_posts};
 use std::alloc::Global;
 use std::sync::Wait;
@@ -236,13 +237,14 @@ fn push_end(
     push_pause(items, at, pause)
 }
 
-/// Runs the boards for a round of `q` microseconds, and hands over what they have sent.
+/// Runs the boards for a round of `q` microseconds, and hands over what is due by then.
 fn play<R: Threads + Wait + Copy + Send + Sync, D: Device + Send, G: Gate>(
     crew: Crew<R, G>,
     alloc: Global,
     boards: &mut [NamedBoard<D>],
     source: &mut Source,
     hubs: &HubList,
+    pending: &mut Vec<Post>,
     q: u64,
 ) -> Result<RoundLog, NoMemory>
     requires workers { (1 ≤ crew.workers) × (crew.workers ≤ 8) }
@@ -251,17 +253,29 @@ fn play<R: Threads + Wait + Copy + Send + Sync, D: Device + Send, G: Gate>(
     requires few { length boards.old ≤ 16 }
     requires timed { IsTimed source.old (numbers_of boards.old) }
     requires devices { AreDevices (outlines boards.old) hubs.now }
+    requires pending { ArePending hubs.now source.old.end pending.old.items }
     ensures end { OnOk result (source.new.end ≡ source.old.end + q) }
     ensures timed { OnOk result (IsTimed source.new (numbers_of boards.new)) }
     ensures outlines { OnOk result (outlines boards.new ≡ outlines boards.old) }
     ensures played { IfOk result (λ log. ◌≡◌ {A = Played}
-        (record { boards = boards.new; items = log.lines; paused = log.paused })
-        (played source.old.end q hubs.now boards.old)) }
+        (record {
+          boards = boards.new;
+          pending = pending.new.items;
+          items = log.lines;
+          paused = log.paused;
+        })
+        (played source.old.end q hubs.now boards.old pending.old.items)) }
+    ensures pending { OnOk result (ArePending hubs.now source.new.end pending.new.items) }
 {
     stretches_keep_plans();
+    stretches_keep_time();
+    stretches_number();
+    listing_laws::<Post>();
     let Slots { posts, mut items } = take_slots(crew, alloc, boards, source, q)?;
     let at = source.elapsed();
-    let notes = hand_over_all(alloc, boards, hubs, &posts, at)?;
+    join_pending(pending, hubs, &posts)?;
+    let due = take_due(alloc, pending, hubs, at)?;
+    let notes = hand_over_all(alloc, boards, hubs, &due, at)?;
     let pause = pause_of(&posts);
     push_end(&mut items, at, &notes, &pause)?;
     Ok(RoundLog {
@@ -304,6 +318,7 @@ impl<D: Device + Send> Lab<D> {
             &mut self.boards,
             &mut self.source,
             &self.hubs,
+            &mut self.pending,
             q,
         ) else {
             self.spent = true;

@@ -1,6 +1,8 @@
--- Where a member is connected that was in no hub, no member is in the hubs twice.
-use Rattle.std.proofs.Common.{◌≡◌, ◌∙◌, refl, ℕ, zero, suc, ◌<◌, false, ◌||◌, List, [], ◌∷◌, ◌++◌, length, append_assoc}
-use Rattle.std.proofs.Common.{arith}
+-- Hubs and the lists of their members. Where a member is connected that was in no hub, no member is in the hubs twice.
+use Rattle.std.proofs.Common.{◌≡◌, ◌∙◌, ap, refl, ℕ, zero, suc, ◌<◌, Bool, true, false, ◌||◌, List, [], ◌∷◌, ◌++◌, length}
+use Rattle.std.proofs.Common.{append_assoc, set, get_or, find, unwrap_or, cond, Some, arith}
+use Rattle.std.specs.Prelude.{is_some}
+use Rattle.std.specs.Option.{option_map_or}
 use Rattle.std.specs.Cmp.{IsEquivalence}
 use Rattle.std.specs.List.{list_any, flat_map}
 use Rattle.std.specs.List.Sorted.{IsPermutation}
@@ -10,7 +12,9 @@ use Rattle.std.proofs.lemmas.List.Sorted.{IsPermutation-to_front, IsPermutation-
 use Rattle.std.proofs.lemmas.Map.Keys.{IsDistinct-push, IsDistinct-IsPermutation}
 use Rattle.lab_num.specs.declared.key.Member.{Member}
 use Rattle.lab_num.specs.Key.{same_member}
-use Rattle.lab_num.specs.Route.{has_member, is_connected, connected, StandOnce}
+use Rattle.lab_num.specs.Change.{change_at}
+use Rattle.lab_num.specs.Route.{has_member, is_connected, connected, others, route, StandOnce}
+use Rattle.uart_hub.specs.Hub.{Hub, members_of, with_member}
 
 -- `same_member` is an equivalence
 member_equiv : IsEquivalence same_member
@@ -51,3 +55,54 @@ connected_once hubs hub m below absent once =
     (all_of (connected hubs hub m))
     (joined hubs hub m below)
     (IsDistinct-push member_equiv (all_of hubs) m once (among hubs m ∙ absent))
+
+-- ---- hubs, by the lists of their members
+
+-- a hub that has a member is found where some hub has it
+pub found-connected :
+    (hubs : List Hub) (m : Member) →
+    is_some (find (λ hub. has_member hub.members m) hubs) ≡ is_connected (members_of hubs) m
+found-connected [] m = refl
+found-connected (h ∷ hs) m = by_test (has_member h.members m) (found-connected hs m)
+  where
+    by_test :
+        (here : Bool) →
+        is_some (find (λ hub. has_member hub.members m) hs) ≡ is_connected (members_of hs) m →
+        is_some (cond here (Some h) (find (λ hub. has_member hub.members m) hs))
+        ≡ (here || is_connected (members_of hs) m)
+    by_test true rest = refl
+    by_test false rest = rest
+
+-- the route of a member of a hub that was found, and of one that was not
+pub route-found :
+    (hubs : List Hub) (m : Member) →
+    option_map_or (λ (hub : Hub). others hub.members m) (find (λ hub. has_member hub.members m) hubs) []
+    ≡ route (members_of hubs) m
+route-found [] m = refl
+route-found (h ∷ hs) m = by_test (has_member h.members m) (route-found hs m)
+  where
+    by_test :
+        (here : Bool) →
+        option_map_or (λ (hub : Hub). others hub.members m) (find (λ hub. has_member hub.members m) hs) []
+        ≡ route (members_of hs) m →
+        option_map_or (λ (hub : Hub). others hub.members m)
+        (cond here (Some h) (find (λ hub. has_member hub.members m) hs)) []
+        ≡ others (unwrap_or (cond here (Some h.members) (find (λ hub. has_member hub m) (members_of hs))) []) m
+    by_test true rest = refl
+    by_test false rest = rest
+
+-- a write of a hub with a member more
+pub set-member :
+    (hubs : List Hub) (i : ℕ) (m : Member) {old new : Hub} → old ≡ get_or hubs i old → new ≡ with_member m old →
+    set hubs i new ≡ change_at hubs i (with_member m)
+set-member [] i m is made = refl
+set-member (x ∷ xs) zero m is made = ap (λ y. y ∷ xs) (made ∙ ap (with_member m) is)
+set-member (x ∷ xs) (suc i) m is made = ap (λ ys. x ∷ ys) (set-member xs i m is made)
+
+-- and its members
+pub members-connected :
+    (hubs : List Hub) (i : ℕ) (m : Member) →
+    members_of (change_at hubs i (with_member m)) ≡ connected (members_of hubs) i m
+members-connected [] i m = refl
+members-connected (h ∷ hs) zero m = refl
+members-connected (h ∷ hs) (suc i) m = ap (λ rest. h.members ∷ rest) (members-connected hs i m)

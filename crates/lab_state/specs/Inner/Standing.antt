@@ -9,6 +9,7 @@ use Rattle.dev_core.specs.declared.kind.Kind.{Kind}
 use Rattle.lab_state.specs.Board.{Board}
 use Rattle.lab_state.specs.Hub.{Hub}
 use Rattle.lab_state.specs.Lab.{Lab}
+use Rattle.lab_state.specs.Pending.{ArePending}
 use Rattle.time_source.specs.Tree.{Tree}
 use Rattle.lab_state.specs.Inner.Spares.{Spares, left_of, full}
 use Rattle.lab_state.specs.Inner.Time.{numbers_of, IsTimed}
@@ -69,16 +70,22 @@ pub record IsEnough (spares : Spares) (plans : ℕ) : Type 0 where
   pub cans : 64 ≤ spares.cans + 4 * plans
   pub finishers : 16 ≤ spares.finishers + plans
 
--- at most 16 boards; hubs that connect devices of these boards; no name that two of the boards and hubs have; devices
--- for the boards that have no plan yet
+-- the hubs hold back for at most a second
+abbrev pub AreShort : List Hub → Type 0
+AreShort hubs = All (λ hub. hub.delay ≤ 1000000) hubs
+
+-- at most 16 boards; hubs that connect devices of these boards, with delays that a hub may have; no name that two of the
+-- boards and hubs have; devices for the boards that have no plan yet
 pub record IsShaped (boards : List Outline) (hubs : List Hub) (spares : Spares) : Type 0 where
   pub few : length boards ≤ 16
   pub devices : AreDevices boards hubs
+  pub delays : AreShort hubs
   pub names : AreNames (map (λ board. board.name) boards) (map (λ hub. hub.name) hubs)
   pub enough : IsEnough spares (count_of_plans boards)
 
--- such a laboratory, with a source of time for its boards
+-- such a laboratory, with posts that wait rightly and a source of time for its boards
 pub record IsSound (lab : Lab) (spares : Spares) (source : Tree) : Type 0 where
   pub shape : IsShaped (outlines lab.boards) lab.hubs spares
   pub times : AreTimes lab.now lab.quantum
+  pub pending : ArePending lab.hubs lab.now lab.pending
   pub timed : IsTimed source (numbers_of lab.boards)

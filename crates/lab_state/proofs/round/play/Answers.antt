@@ -1,9 +1,13 @@
 -- The slots and the boundary are the round.
-use Rattle.std.proofs.Common.{◌∙◌, ap, refl}
+use Rattle.std.proofs.Common.{◌∙◌, ap, refl, ◌+◌, ◌≤◌, arith}
+use Rattle.std.specs.List.{flat_map}
 use Rattle.lab_state.specs.Boundary.{Handed, boundary}
+use Rattle.lab_state.specs.Inner.End.{in_round}
 use Rattle.lab_state.specs.Inner.Standing.{outlines}
 use Rattle.lab_state.specs.Inner.Time.{numbers_of}
-use Rattle.lab_state.proofs.RoundLemmas.{outlines-stepped, outlines-routes, numbers-routes}
+use Rattle.lab_state.specs.Round.{posts_made}
+use Rattle.lab_state.proofs.PendingLemmas.{waiting-is, pending-after}
+use Rattle.lab_state.proofs.RoundLemmas.{outlines-stepped, outlines-routes, numbers-routes, posts_differ, sent_in_round}
 use Rattle.lab_state.proofs.TimeLemmas.{at_end}
 use Rattle.lab_state.proofs.round.play.Goals as goal
 
@@ -19,33 +23,69 @@ pub returns-clause-timed : goal.returns-clause-timed
 returns-clause-timed g c =
     rw (
       ap (λ (h : Handed). numbers_of h.boards) c.in_ok-notes.ensures,
-      numbers-routes c.elapsed-at.result.0 c.args.hubs.now c.take_slots.new.boards c.deref.result.now,
+      numbers-routes c.elapsed-at.result.0 c.args.hubs.now c.take_slots.new.boards c.deref-2.result.now,
     )
     c.in_ok-posts.ensures.timed
 
 pub returns-clause-outlines : goal.returns-clause-outlines
 returns-clause-outlines g c =
     ap (λ (h : Handed). outlines h.boards) c.in_ok-notes.ensures
-    ∙ outlines-routes c.elapsed-at.result.0 c.args.hubs.now c.take_slots.new.boards c.deref.result.now
+    ∙ outlines-routes c.elapsed-at.result.0 c.args.hubs.now c.take_slots.new.boards c.deref-2.result.now
     ∙ ap outlines c.in_ok-posts.ensures.boards
     ∙ outlines-stepped c.stretches_keep_plans.ensures c.args.source.now.end c.args.q c.args.boards.now
 
 pub returns-clause-played : goal.returns-clause-played
 unfolding boundary
 returns-clause-played g c =
+    let from = c.args.source.now.end in
+    let q = c.args.q in
+    let posts = flat_map (posts_made (in_round from q)) c.args.boards.now in
+    let differ = posts_differ c.stretches_number.ensures from q c.requires.within c.args.boards.now
+    c.requires.timed.standing in
+    let made = sent_in_round c.stretches_keep_time.ensures from q c.args.boards.now in
+    let joined = waiting-is c.listing_laws.ensures.is_listing c.listing_laws.ensures.only (from + q) posts
+    c.requires.pending differ made in
     rw (
       ap (λ (h : Handed). h.boards) c.in_ok-notes.ensures,
+      c.in_ok-due.ensures.waiting,
       c.of.ensures,
       c.in_ok-push_end.ensures,
-      c.deref-3.ensures.value,
+      c.deref-4.ensures.value,
       ap (λ (h : Handed). h.notes) c.in_ok-notes.ensures,
       c.key_of.ensures,
       c.pause_of-pause.ensures,
-      c.deref.ensures.value,
+      c.deref-3.ensures.value,
       c.deref-2.ensures.value,
+      c.in_ok-due.ensures.due,
+      c.in_ok-join_pending.ensures,
+      c.deref.ensures.value,
       c.elapsed-at.ensures.value ∙ at_end c.in_ok-posts.ensures.timed ∙ c.in_ok-posts.ensures.end,
       c.in_ok-posts.ensures.boards,
       c.in_ok-posts.ensures.items,
       c.in_ok-posts.ensures.posts,
+      joined,
     )
     refl
+
+pub returns-clause-pending : goal.returns-clause-pending
+returns-clause-pending g c =
+    let from = c.args.source.now.end in
+    let q = c.args.q in
+    let posts = flat_map (posts_made (in_round from q)) c.args.boards.now in
+    let differ = posts_differ c.stretches_number.ensures from q c.requires.within c.args.boards.now
+    c.requires.timed.standing in
+    let made = sent_in_round c.stretches_keep_time.ensures from q c.args.boards.now in
+    let joined = waiting-is c.listing_laws.ensures.is_listing c.listing_laws.ensures.only (from + q) posts
+    c.requires.pending differ made in
+    let before : c.args.source.now.end ≤ c.args.source.now.end + c.args.q = omega arith in
+    rw (
+      c.in_ok-due.ensures.waiting,
+      c.in_ok-join_pending.ensures,
+      c.deref.ensures.value,
+      c.elapsed-at.ensures.value ∙ at_end c.in_ok-posts.ensures.timed ∙ c.in_ok-posts.ensures.end,
+      c.in_ok-posts.ensures.end,
+      c.in_ok-posts.ensures.posts,
+      joined,
+    )
+    (pending-after c.listing_laws.ensures.is_listing c.listing_laws.ensures.only (from + q) posts c.requires.pending
+    differ made before)

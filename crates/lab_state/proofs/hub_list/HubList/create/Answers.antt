@@ -7,15 +7,15 @@ use Rattle.lab_state.proofs.hub_list.HubList.create.Goals as goal
 pub invariant_of-self-2 : goal.invariant_of-self-2
 invariant_of-self-2 c =
     let are = c.self.invariant.0 in
-    let more = length_push c.self.inside.members [] in
+    let more = length_push c.self.inside.hubs (record { delay = c.args.delay; members = [] }) in
     let few = ap length c.self.view_is in
     rw (c.in_ok-create_both.ensures.name, c.in_ok-create_both.ensures.hub) (
-      parts _ _ (omega (arith, length_push c.self.inside.names.items, more, are.names_long, are.members_long)),
-      omega (arith, more, few, are.members_long),
+      parts _ _ (omega (arith, length_push c.self.inside.names.items, more, are.names_long, are.parts_long)),
+      omega (arith, more, few, are.parts_long),
     )
 
 pub returns-clause-ok : goal.returns-clause-ok
 returns-clause-ok c =
     let are = c.self.invariant.0 in
     rw (c.in_ok-create_both.ensures.name, c.in_ok-create_both.ensures.hub, ← c.self.view_is)
-    (hubs-push c.self.inside.names.items c.self.inside.members _ (sym are.names_long ∙ are.members_long))
+    (hubs-push c.self.inside.names.items c.self.inside.hubs _ _ (sym are.names_long ∙ are.parts_long))

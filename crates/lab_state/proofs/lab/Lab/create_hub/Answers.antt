@@ -12,5 +12,10 @@ invariant_of-self-2 g c h =
     ap (λ (s : Seen). is_taken s.lab c.in_ok-text.text) c.self.view_is
     ∙ ap (is_taken c.args.self.now.lab) c.in_ok-text.ensures ∙ sym c.is_taken.ensures ∙ c.if-is_taken.false in
     rw c.in_ok-create.ensures.ok
-    (sound-hub (record { name = c.in_ok-text.text; kind = c.args.kind; members = [] }) sound refl
-    free)
+    (sound-hub (record {
+      name = c.in_ok-text.text;
+      kind = c.args.kind;
+      delay = c.args.delay;
+      members = [];
+    })
+    sound refl c.requires.delay free)

@@ -24,6 +24,7 @@ invariant_of-self g c h =
         least_quantum = sound.times.least_quantum;
         most_quantum = sound.times.most_quantum;
       };
+      pending = made.pending;
       timed = made.timed;
     })
 
@@ -32,6 +33,7 @@ returns g c =
     let before : Lab = record {
       boards = c.self.inside.boards.items;
       hubs = c.self.inside.hubs;
+      pending = c.self.inside.pending.items;
       now = c.self.inside.source.end;
       quantum = c.self.inside.quantum;
     } in
