@@ -9,5 +9,6 @@ pub mod MapLemmas
 pub mod MemoryLemmas
 pub mod PlaceLemmas
 pub mod Ruled
+pub mod RunLemmas
 pub mod Steps
 pub mod Within

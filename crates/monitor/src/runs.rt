@@ -60,6 +60,13 @@ impl<D: Device> Monitor<D> {
         Vec::new(self.alloc)
     }
 
+    /// The length of a run that is asked for, which is 0 where all runs are.
+    fn length_of(&self, length: Micros) -> Micros
+        ensures { result.0 ≡ runs.length_of self.now.state length.0 }
+    {
+        if self.dry { Micros(0) } else { length }
+    }
+
     /// What is printed of these items of the log.
     fn print(&mut self, items: &[LogItem]) -> Result<Vec<u8>, NoMemory>
         requires { self.old.spent ≡ false }
@@ -76,7 +83,7 @@ impl<D: Device> Monitor<D> {
 }
 
 impl<D: Device + Send> Monitor<D> {
-    /// Runs the laboratory, and prints its log. Where runs have length 0 it has all its tests first.
+    /// Runs the laboratory, and prints its log. Whether it may run goes by the length that is asked for.
     pub(crate) fn run_for<R: Threads + Wait + Copy + Send + Sync, G: Gate>(
         &mut self,
         rt: &R,
@@ -87,8 +94,8 @@ impl<D: Device + Send> Monitor<D> {
         ensures { IsRuled (runs.run_for run self.old.state length.0) result self.old self.new }
     {
         self.lab.may_run(length)?;
-        let length = if self.dry { Micros(0) } else { length };
-        let log = self.lab.run_for(rt, length, self.workers, gate)?;
+        let played = self.length_of(length);
+        let log = self.lab.run_for(rt, played, self.workers, gate)?;
         Ok(self.print(log.lines.items())?)
     }
 
