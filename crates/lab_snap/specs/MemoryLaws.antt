@@ -71,8 +71,14 @@ skip s (suc j) n k m =
     ap (λ (l : List ℕ). l ++ m) (zeros_more s j) ∙ append_assoc (zeros s) (zeros (s * j)) m in
     let len : length (zeros s) ≡ s = length-replicate s 0 in
     let k_is : suc k + j ≡ k + suc j = omega arith in
-    rw (suc-add j n, parts, take_at (zeros s) (zeros (s * j) ++ m) s len, drop_at (zeros s) (zeros (s * j) ++ m) s
-    len, is_zero-zeros s) (ih ∙ ap (λ i. used_pages i (pages s n m)) k_is)
+    rw (
+      suc-add j n,
+      parts,
+      take_at (zeros s) (zeros (s * j) ++ m) s len,
+      drop_at (zeros s) (zeros (s * j) ++ m) s
+          len,
+      is_zero-zeros s,
+    ) (ih ∙ ap (λ i. used_pages i (pages s n m)) k_is)
 
 -- a page that has another byte is listed
 listed : (s n k : ℕ) (page m : List ℕ) → length page ≡ s → is_zero page ≡ false →
@@ -157,10 +163,13 @@ loads_page s count low r top q page text after done y all from_low below_top oth
     record {
       others = zeros (s * j) ++ (page ++ rest);
       value = others.value ∙ append_assoc D page rest ∙ append_assoc done (zeros (s * j)) (page ++ rest);
-      fits = (whole_len, all_append (zeros (s * j)) (page ++ rest) (all_zeros (s * j))
-      (all_append page rest fits others.fits.1));
+      fits = (
+        whole_len,
+        all_append (zeros (s * j)) (page ++ rest) (all_zeros (s * j))
+            (all_append page rest fits others.fits.1),
+      );
       text_is = rw used_is (seam text ((page_form s).spell (q, page)) after
-      (flat_map (page_form s).spell (used_pages (suc q) (pages s r' rest))) y.1 front others.text_is);
+          (flat_map (page_form s).spell (used_pages (suc q) (pages s r' rest))) y.1 front others.text_is);
       count_is = rw used_is (ap suc others.count_is);
     }
   where
@@ -284,9 +293,11 @@ pages_lawful s n small = record {
       let t = (number_lawful 8).takes text c.0 fits c.1 in
       let l = loads s c.0.0 0 n n c.0.1 [] y (IsBytes-after text (little_bytes 8 c.0.0) c.0.1 t.0 fits)
       (sym (mul-zero s)) (zero-add n) c.2 in
-      (rw (l.value, l.count_is)
-      (seam text (little_bytes 8 c.0.0) c.0.1 (flat_map (page_form s).spell (used s n l.others)) y.1 t.0 l.text_is),
-      rw l.value l.fits);
+      let listed : List ℕ = flat_map (page_form s).spell (used s n l.others) in (
+        rw (l.value, l.count_is)
+            (seam text (little_bytes 8 c.0.0) c.0.1 listed y.1 t.0 l.text_is),
+        rw l.value l.fits,
+      );
   again = λ m rest fits.
       let few : length (used s n m) < 256 ^ 8 = let h = length-used_pages s n 0 m in omega arith in
       let read = (number_lawful 8).again (length (used s n m)) (flat_map (page_form s).spell (used s n m) ++ rest)

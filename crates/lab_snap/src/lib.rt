@@ -8,6 +8,6 @@ mod state;
 mod whole;
 
 pub use hub::{HubKind, SavedHub};
-pub use memory::{load_memory, put_memory, save_memory, take_memory};
+pub use memory::{load_memory, one_memory_spelling, put_memory, save_memory, take_memory};
 pub use state::State;
 pub use whole::{load_state, save_state};

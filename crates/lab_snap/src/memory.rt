@@ -1,5 +1,5 @@
 //! Memories of whole pages, of which those with a byte other than 0 are spelled.
-ghost use Rattle.std.specs.Prelude.{◌≡◌, ◌≤◌, ◌<◌, ◌+◌, ◌*◌, length, take, drop, OnOk, IfOk, MatchResult, List, ℕ};
+ghost use Rattle.std.specs.Prelude.{◌≡◌, ◌≤◌, ◌<◌, ◌+◌, ◌*◌, ◌++◌, length, take, drop, OnOk, IfOk, MatchResult, List, ℕ};
 ghost use Rattle.std.specs.List.{flat_map};
 ghost use Rattle.lab_spell.specs.Form.{IsBytes};
 ghost use Rattle.lab_spell.specs.Inner.Whole.{Gives, value_of};
@@ -179,3 +179,11 @@ pub fn load_memory(alloc: Global, bytes: &[u8], pages: u32) -> Result<Rows<u8>, 
 {
     read_memory(alloc, bytes, pages)
 }
+
+/// No spelling of a memory of so many pages begins another, and different memories have different
+/// spellings. This function does nothing when it runs: a proof that needs the law calls it.
+pub fn one_memory_spelling(pages: u32)
+    requires { pages ≤ 16384 }
+    ensures { (a b x y : List ℕ) → (memory_form pages).Fits a → (memory_form pages).Fits b →
+        (memory_form pages).spell a ++ x ≡ (memory_form pages).spell b ++ y → (a ≡ b) × (x ≡ y) }
+{}

@@ -1,5 +1,5 @@
 //! States that can stand in a laboratory, saved and loaded.
-ghost use Rattle.std.specs.Prelude.{◌≡◌, IfOk, MatchResult};
+ghost use Rattle.std.specs.Prelude.{◌≡◌, IfOk, MatchResult, OnOk};
 
 use crate::state::State;
 use lab_num::NoMemory;
@@ -10,6 +10,7 @@ use std::alloc::Global;
 pub fn save_state<T: State>(alloc: Global, state: &T) -> Result<Vec<u8>, NoMemory>
     requires { T.Valid state.now }
     ensures spelled { IfOk result (λ bytes. bytes.items ≡ T.form.spell state.now) }
+    ensures fits { OnOk result (T.form.Fits state.now) }
 {
     save(alloc, state)
 }

@@ -1,9 +1,10 @@
 -- How the states of devices are spelled: their fields in order.
-use Rattle.std.proofs.Common.{refl, ◌≡◌, ◌⊎◌, inl, inr}
+use Rattle.std.proofs.Common.{refl, ◌≡◌, ◌⊎◌, inl, inr, ℕ, List, Bool}
 use Rattle.dev_core.specs.declared.uart_state.UartState.{UartState}
 use Rattle.dev_core.specs.declared.can_state.CanState.{CanState}
 use Rattle.dev_core.specs.declared.state.DevState.{DevState}
 use Rattle.dev_core.specs.declared.state.DevState.TheVariants as device
+use Rattle.dev_core.specs.Frame.{FrameData}
 use Rattle.lab_spell.specs.Frames.{byte_row_form, byte_row_lawful, frame_row_form, frame_row_lawful}
 use Rattle.lab_spell.specs.Form.{Form, IsLawful}
 use Rattle.lab_spell.specs.Combine.{byte, choice, flag, nothing, tagged, times, via, ◌⊗◌}
@@ -14,8 +15,7 @@ use Rattle.lab_spell.specs.Laws.{nothing_lawful, tagged_lawful, times_lawful, vi
 unfoldable pub uart_form : Form UartState
 uart_form =
     via
-    (λ s. (s.ier, (s.lcr, (s.mcr, (s.scr, (s.dll, (s.dlm, (s.fifos, (s.trigger, (s.received, (s.oe,
-    s.thr)))))))))))
+    (λ s. (s.ier, (s.lcr, (s.mcr, (s.scr, (s.dll, (s.dlm, (s.fifos, (s.trigger, (s.received, (s.oe, s.thr)))))))))))
     (λ (ier, (lcr, (mcr, (scr, (dll, (dlm, (fifos, (trigger, (received, (oe, thr)))))))))). record {
       ier = ier;
       lcr = lcr;
@@ -29,17 +29,17 @@ uart_form =
       oe = oe;
       thr = thr;
     })
-    (byte -- ier
-    ⊗ byte -- lcr
-    ⊗ byte -- mcr
-    ⊗ byte -- scr
-    ⊗ byte -- dll
-    ⊗ byte -- dlm
-    ⊗ flag -- fifos
-    ⊗ byte -- trigger
-    ⊗ byte_row_form -- received
-    ⊗ flag -- oe
-    ⊗ flag) -- thr
+    (byte  -- ier
+    ⊗ byte  -- lcr
+    ⊗ byte  -- mcr
+    ⊗ byte  -- scr
+    ⊗ byte  -- dll
+    ⊗ byte  -- dlm
+    ⊗ flag  -- fifos
+    ⊗ byte  -- trigger
+    ⊗ byte_row_form  -- received
+    ⊗ flag  -- oe
+    ⊗ flag)  -- thr
 
 pub uart_lawful : IsLawful uart_form
 unfolding uart_form
@@ -53,10 +53,11 @@ uart_lawful =
 unfoldable pub can_form : Form CanState
 can_form =
     via
-    (λ s. (s.control, (s.code, (s.mask, (s.timing0, (s.timing1, (s.output, (s.divider, (s.transmit, (s.received,
-    (s.dos, (s.ri, (s.ti, s.doi)))))))))))))
-    (λ (control, (code, (mask, (timing0, (timing1, (output, (divider, (transmit, (received, (dos, (ri, (ti,
-    doi)))))))))))). record {
+    (λ s.
+    let more : List ℕ × (List FrameData × (Bool × (Bool × (Bool × Bool)))) =
+    (s.transmit, (s.received, (s.dos, (s.ri, (s.ti, s.doi))))) in
+    (s.control, (s.code, (s.mask, (s.timing0, (s.timing1, (s.output, (s.divider, more))))))))
+    (λ (control, (code, (mask, (timing0, (timing1, (output, (divider, more))))))). record {
       control = control;
       code = code;
       mask = mask;
@@ -64,26 +65,26 @@ can_form =
       timing1 = timing1;
       output = output;
       divider = divider;
-      transmit = transmit;
-      received = received;
-      dos = dos;
-      ri = ri;
-      ti = ti;
-      doi = doi;
+      transmit = more.0;
+      received = more.1.0;
+      dos = more.1.1.0;
+      ri = more.1.1.1.0;
+      ti = more.1.1.1.1.0;
+      doi = more.1.1.1.1.1;
     })
-    (byte -- control
-    ⊗ byte -- code
-    ⊗ byte -- mask
-    ⊗ byte -- timing0
-    ⊗ byte -- timing1
-    ⊗ byte -- output
-    ⊗ byte -- divider
-    ⊗ times 10 byte -- transmit
-    ⊗ frame_row_form -- received
-    ⊗ flag -- dos
-    ⊗ flag -- ri
-    ⊗ flag -- ti
-    ⊗ flag) -- doi
+    (byte  -- control
+    ⊗ byte  -- code
+    ⊗ byte  -- mask
+    ⊗ byte  -- timing0
+    ⊗ byte  -- timing1
+    ⊗ byte  -- output
+    ⊗ byte  -- divider
+    ⊗ times 10 byte  -- transmit
+    ⊗ frame_row_form  -- received
+    ⊗ flag  -- dos
+    ⊗ flag  -- ri
+    ⊗ flag  -- ti
+    ⊗ flag)  -- doi
 
 pub can_lawful : IsLawful can_form
 unfolding can_form

@@ -1,5 +1,5 @@
 -- How frames, rows of received bytes and rows of received frames are spelled.
-use Rattle.std.proofs.Common.{◌≡◌, refl, ℕ, List, length, drop, Bool}
+use Rattle.std.proofs.Common.{refl, ℕ, List, length, drop, Bool}
 use Rattle.std.specs.Prelude.{nat_lt, nat_le, ◌&&◌, ◌==◌, Option, Some, None, if◌then◌else◌}
 use Rattle.std.specs.List.{list_all}
 use Rattle.dev_core.specs.Frame.{FrameData, carried}

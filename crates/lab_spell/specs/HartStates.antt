@@ -1,5 +1,5 @@
 -- How the states of processors are spelled: their fields in order.
-use Rattle.std.proofs.Common.{refl}
+use Rattle.std.proofs.Common.{refl, ℕ, Bool}
 use Rattle.rv_hart.specs.declared.letters.Letters.{Letters}
 use Rattle.rv_hart.specs.declared.state.HartState.{HartState}
 use Rattle.lab_spell.specs.Form.{Form, IsLawful}
@@ -21,10 +21,11 @@ letters_lawful = via_lawful _ _ (λ x. refl) (λ a. refl) (next_lawful flag_lawf
 unfoldable pub hart_form : Form HartState
 hart_form =
     via
-    (λ s. (s.registers, (s.pc, (s.on, (s.before, (s.mie, (s.mtvec, (s.mscratch, (s.mepc, (s.mcause, (s.mtval,
-    (s.mcycle, (s.minstret, (s.waiting, (s.halted, (s.letters, s.number))))))))))))))))
-    (λ (registers, (pc, (on, (before, (mie, (mtvec, (mscratch, (mepc, (mcause, (mtval, (mcycle, (minstret,
-    (waiting, (halted, (letters, number))))))))))))))). record {
+    (λ s.
+    let more : ℕ × (ℕ × (ℕ × (ℕ × (Bool × (Bool × (Letters × ℕ)))))) =
+    (s.mcause, (s.mtval, (s.mcycle, (s.minstret, (s.waiting, (s.halted, (s.letters, s.number))))))) in
+    (s.registers, (s.pc, (s.on, (s.before, (s.mie, (s.mtvec, (s.mscratch, (s.mepc, more)))))))))
+    (λ (registers, (pc, (on, (before, (mie, (mtvec, (mscratch, (mepc, more)))))))). record {
       registers = registers;
       pc = pc;
       on = on;
@@ -33,31 +34,31 @@ hart_form =
       mtvec = mtvec;
       mscratch = mscratch;
       mepc = mepc;
-      mcause = mcause;
-      mtval = mtval;
-      mcycle = mcycle;
-      minstret = minstret;
-      waiting = waiting;
-      halted = halted;
-      letters = letters;
-      number = number;
+      mcause = more.0;
+      mtval = more.1.0;
+      mcycle = more.1.1.0;
+      minstret = more.1.1.1.0;
+      waiting = more.1.1.1.1.0;
+      halted = more.1.1.1.1.1.0;
+      letters = more.1.1.1.1.1.1.0;
+      number = more.1.1.1.1.1.1.1;
     })
-    (times 32 (number 4) -- registers
-    ⊗ number 4 -- pc
-    ⊗ flag -- on
-    ⊗ flag -- before
-    ⊗ number 4 -- mie
-    ⊗ number 4 -- mtvec
-    ⊗ number 4 -- mscratch
-    ⊗ number 4 -- mepc
-    ⊗ number 4 -- mcause
-    ⊗ number 4 -- mtval
-    ⊗ number 8 -- mcycle
-    ⊗ number 8 -- minstret
-    ⊗ flag -- waiting
-    ⊗ flag -- halted
-    ⊗ letters_form -- letters
-    ⊗ byte) -- number
+    (times 32 (number 4)  -- registers
+    ⊗ number 4  -- pc
+    ⊗ flag  -- on
+    ⊗ flag  -- before
+    ⊗ number 4  -- mie
+    ⊗ number 4  -- mtvec
+    ⊗ number 4  -- mscratch
+    ⊗ number 4  -- mepc
+    ⊗ number 4  -- mcause
+    ⊗ number 4  -- mtval
+    ⊗ number 8  -- mcycle
+    ⊗ number 8  -- minstret
+    ⊗ flag  -- waiting
+    ⊗ flag  -- halted
+    ⊗ letters_form  -- letters
+    ⊗ byte)  -- number
 
 pub hart_lawful : IsLawful hart_form
 unfolding hart_form

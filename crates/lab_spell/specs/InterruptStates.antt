@@ -16,9 +16,9 @@ clint_form =
       mtimecmp = mtimecmp;
       offset = offset;
     })
-    (flag -- msip
-    ⊗ number 8 -- mtimecmp
-    ⊗ number 8) -- offset
+    (flag  -- msip
+    ⊗ number 8  -- mtimecmp
+    ⊗ number 8)  -- offset
 
 pub clint_lawful : IsLawful clint_form
 unfolding clint_form
@@ -38,11 +38,11 @@ plic_form =
       enables = enables;
       thresholds = thresholds;
     })
-    (times 128 byte -- priorities
-    ⊗ number 16 -- pending
-    ⊗ number 16 -- shut
-    ⊗ times 15 (number 16) -- enables
-    ⊗ times 15 byte) -- thresholds
+    (times 128 byte  -- priorities
+    ⊗ number 16  -- pending
+    ⊗ number 16  -- shut
+    ⊗ times 15 (number 16)  -- enables
+    ⊗ times 15 byte)  -- thresholds
 
 pub plic_lawful : IsLawful plic_form
 unfolding plic_form

@@ -1,6 +1,14 @@
 -- Hubs whose members and delays are kept apart from their names.
 use Rattle.std.proofs.Common.{◌≡◌, ap, refl, Bool, true, false, cond, ℕ, zero, suc, List, [], ◌∷◌, ◌++◌, length, find, Some}
-use Rattle.std.proofs.Common.{not, position}
+use Rattle.std.proofs.Common.{is_some}
+use Rattle.std.proofs.Common.{not, map, nat_eq, position}
+use Rattle.std.specs.Cmp.Lexicographic.{pointwise, nat_list_eq_equiv}
+use Rattle.std.specs.Map.{keys_of}
+use Rattle.std.specs.Str.{bytes_eq}
+use Rattle.indexmap.specs.IndexMap.{IndexMap, get}
+use Rattle.indexmap.proofs.MapLemmas.{some_index}
+use Rattle.dev_core.specs.declared.kind.Kind.{Kind}
+use Rattle.lab_state.proofs.ListLemmas.{position-map}
 use Rattle.std.specs.List.{position_or_len}
 use Rattle.std.proofs.Common.{◌+◌, ◌∙◌, sym, slice_get, Option, None, arith}
 use Rattle.std.proofs.lemmas.Option.{slice_get-map}
@@ -11,7 +19,7 @@ use Rattle.lab_num.specs.Change.{change_at}
 use Rattle.uart_hub.specs.Hub as uart_hub
 use Rattle.lab_state.specs.Hub.{Hub, delay_of}
 use Rattle.lab_state.specs.One.{with_member}
-use Rattle.lab_state.specs.Inner.Hubs.{Head, hub_by, hubs_of, inside_of, AreParts}
+use Rattle.lab_state.specs.Inner.Hubs.{Head, head_of, hub_by, hubs_of, inside_of, AreParts}
 
 pub parts :
     (names : List Head) (hubs : List uart_hub.Hub) → length names ≡ length hubs →
@@ -87,3 +95,25 @@ position_or_len-agrees p q same (x ∷ xs) =
 pub position-agrees :
     {A : Type 0} (p q : A → Bool) → ((x : A) → p x ≡ q x) → (xs : List A) → position p xs ≡ position q xs
 position-agrees p q same xs = rw (position_or_len-agrees p q same xs) refl
+
+-- a name stands in the same place among the names and among the hubs
+pub named-at :
+    (name : List ℕ) (names : List Head) (hubs : List Hub) → map head_of hubs ≡ names →
+    position (bytes_eq name) (keys_of names) ≡ position (λ hub. bytes_eq hub.name name) hubs
+named-at name names hubs are =
+    let named : Head → Bool = λ head. bytes_eq head.0 name in
+    position-agrees (bytes_eq name) (λ k. bytes_eq k name) (nat_list_eq_equiv.symm name) (keys_of names)
+    ∙ position-map (λ (head : Head). head.0) (λ k. bytes_eq k name) names ∙ ap (position named) (sym are)
+    ∙ position-map head_of named hubs
+
+none_of : {A : Type 0} (o : Option A) → is_some o ≡ false → o ≡ None
+none_of None is = refl
+none_of (Some x) is = absurd cc
+
+-- a name that stands nowhere among the names has no kind there
+pub none-named :
+    {S : Type 0} (names : IndexMap (List ℕ) Kind S) (name : List ℕ) →
+    position (bytes_eq name) (keys_of names.entries) ≡ None → get (pointwise nat_eq) names name ≡ None
+none-named names name nowhere =
+    none_of (get (pointwise nat_eq) names name)
+    (sym (some_index (pointwise nat_eq name) names.entries) ∙ ap is_some nowhere)

@@ -10,7 +10,7 @@ use std::test::Fail;
 
 /// What loading the bytes and saving again came to.
 #[derive(Clone, Copy, PartialEq, Eq, Debug)]
-enum Again {
+enum Outcome {
     /// The same bytes.
     Same,
     /// Other bytes.
@@ -20,15 +20,15 @@ enum Again {
 }
 
 /// Loads a state, and saves it again.
-fn again<T: State + Drop>(alloc: Global, bytes: &[u8]) -> Again {
+fn again<T: State + Drop>(alloc: Global, bytes: &[u8]) -> Outcome {
     match load_state::<T>(alloc, bytes) {
         Ok(state) => match save_state(alloc, &state) {
-            Ok(saved) if saved.as_slice() == bytes => Again::Same,
-            Ok(_) => Again::Other,
-            Err(_) => Again::NoMemory,
+            Ok(saved) if saved.as_slice() == bytes => Outcome::Same,
+            Ok(_) => Outcome::Other,
+            Err(_) => Outcome::NoMemory,
         },
-        Err(SnapFault::Bad) => Again::Refused,
-        Err(SnapFault::Memory) => Again::NoMemory,
+        Err(SnapFault::Bad) => Outcome::Refused,
+        Err(SnapFault::Memory) => Outcome::NoMemory,
     }
 }
 
@@ -38,12 +38,12 @@ fn is_saved<T: State + Drop>(alloc: Global, state: &T, bytes: &[u8]) -> Result<b
         return Ok(false);
     }
     let saved = save_state(alloc, state)?;
-    Ok(saved.as_slice() == bytes && again::<T>(alloc, bytes) == Again::Same)
+    Ok(saved.as_slice() == bytes && again::<T>(alloc, bytes) == Outcome::Same)
 }
 
 /// Whether each front of the bytes is refused.
 fn are_fronts_refused<T: State + Drop>(alloc: Global, bytes: &[u8]) -> bool {
-    (0..bytes.len()).all(|len| again::<T>(alloc, &bytes[..len]) == Again::Refused)
+    (0..bytes.len()).all(|len| again::<T>(alloc, &bytes[..len]) == Outcome::Refused)
 }
 
 /// Whether the bytes with one of them changed are refused, or are the spelling of another state.
@@ -58,7 +58,7 @@ fn is_changed_exactly<T: State + Drop>(
         *byte ^= change;
     }
     let came = again::<T>(alloc, &changed);
-    Ok(came == Again::Same || came == Again::Refused)
+    Ok(came == Outcome::Same || came == Outcome::Refused)
 }
 
 /// Whether that holds of each byte, and of a byte more.
@@ -71,7 +71,7 @@ fn are_exact<T: State + Drop>(alloc: Global, bytes: &[u8]) -> Result<bool, Alloc
         }
     }
     let more = joined(alloc, &[bytes, &[0]])?;
-    Ok(again::<T>(alloc, &more) == Again::Refused && are_fronts_refused::<T>(alloc, bytes))
+    Ok(again::<T>(alloc, &more) == Outcome::Refused && are_fronts_refused::<T>(alloc, bytes))
 }
 
 /// A processor of which all that is not 0 is seen in its bytes.
@@ -250,8 +250,8 @@ fn posts_are_their_keys_senders_and_payloads(rt: HostRuntime) -> Result<(), Fail
         alloc,
         &[&[2, 0, 0, 0, 0, 0, 0, 0], &bytes[8..29], &bytes[8..29]],
     )?;
-    assert_eq!(rt; again::<Rows<Post>>(alloc, &falling), Again::Refused);
-    assert_eq!(rt; again::<Rows<Post>>(alloc, &twice), Again::Refused);
+    assert_eq!(rt; again::<Rows<Post>>(alloc, &falling), Outcome::Refused);
+    assert_eq!(rt; again::<Rows<Post>>(alloc, &twice), Outcome::Refused);
     Ok(())
 }
 
@@ -282,7 +282,7 @@ fn a_hub_is_its_kind_name_delay_and_members(rt: HostRuntime) -> Result<(), Fail>
     // A blank in the name, and a delay of a second and a microsecond.
     let blank = joined(alloc, &[&bytes[..9], b" us", &bytes[12..]])?;
     let late = joined(alloc, &[&bytes[..12], &[0x41, 0x42, 0x0F, 0], &bytes[16..]])?;
-    assert_eq!(rt; again::<SavedHub>(alloc, &blank), Again::Refused);
-    assert_eq!(rt; again::<SavedHub>(alloc, &late), Again::Refused);
+    assert_eq!(rt; again::<SavedHub>(alloc, &blank), Outcome::Refused);
+    assert_eq!(rt; again::<SavedHub>(alloc, &late), Outcome::Refused);
     Ok(())
 }

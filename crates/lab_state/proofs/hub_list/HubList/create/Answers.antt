@@ -1,7 +1,7 @@
 -- A hub more has a name and a list of members more.
 use Rattle.std.proofs.Common.{◌∙◌, sym, ap, [], length, arith}
 use Rattle.std.proofs.lemmas.List.{length_push}
-use Rattle.lab_state.proofs.HubLemmas.{parts, hubs-push}
+use Rattle.lab_state.proofs.HubLemmas.{named-at, none-named, parts, hubs-push}
 use Rattle.lab_state.proofs.hub_list.HubList.create.Goals as goal
 
 pub invariant_of-self-2 : goal.invariant_of-self-2
@@ -17,5 +17,12 @@ invariant_of-self-2 c =
 pub returns-clause-ok : goal.returns-clause-ok
 returns-clause-ok c =
     let are = c.self.invariant.0 in
-    rw (c.in_ok-create_both.ensures.name, c.in_ok-create_both.ensures.hub, ← c.self.view_is)
+    rw (c.in_ok-create_both.ensures.name, c.in_ok-create_both.ensures.hub, c.of-name.ensures, ← c.self.view_is)
     (hubs-push c.self.inside.names.entries c.self.inside.hubs _ _ (sym are.names_long ∙ are.parts_long))
+
+pub create_both-requires-clause-new : goal.create_both-requires-clause-new
+create_both-requires-clause-new c =
+    let are = rw c.self.view_is at c.self.invariant.0 in
+    rw c.of-name.ensures
+    (none-named c.self.inside.names c.args.name
+    (named-at c.args.name c.self.inside.names.entries c.args.self.now are.names_are ∙ c.requires.new))

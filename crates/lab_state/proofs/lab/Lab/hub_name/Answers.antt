@@ -10,12 +10,12 @@ pub returns-clause-found : goal.returns-clause-found
 returns-clause-found g c =
     let sound = unspent c.self.invariant c.self.view_is c.requires.unspent in
     rw (← c.self.view_is)
-    (named_at (λ (hub : Hub). hub.name) c.self.inside.hubs c.args.n c.head.result.now.name
-    sound.shape.names.hubs_differ c.head.ensures.name)
+    (named_at (λ (hub : Hub). hub.name) c.self.inside.hubs c.args.n c.name.result.now
+    sound.shape.names.hubs_differ c.name.ensures)
 
 pub returns-clause-no_board : goal.returns-clause-no_board
 returns-clause-no_board g c =
     let sound = unspent c.self.invariant c.self.view_is c.requires.unspent in
     rw (← c.self.view_is)
     (no_board (λ (board : Board). board.name) c.self.inside.boards.items (λ (hub : Hub). hub.name) c.self.inside.hubs
-    c.args.n c.head.result.now.name (rw map-map at sound.shape.names) c.head.ensures.name)
+    c.args.n c.name.result.now (rw map-map at sound.shape.names) c.name.ensures)
