@@ -1,7 +1,7 @@
 //! All that the loads and stores of a board's processor reach: memories, a timer, an interrupt
 //! controller and devices.
-ghost use Rattle.std.specs.Prelude.{◌≡◌, ◌≤◌, ◌+◌, ◌<◌, ◌^◌, ◌%◌, [], length, map, option_map, All, IsTrue, IfOk, IfSome};
-ghost use Rattle.std.specs.Prelude.{OnOk, OnErr};
+ghost use Rattle.std.specs.Prelude.{◌≡◌, ◌≤◌, ◌+◌, ◌<◌, ◌^◌, ◌%◌, [], length, map, option_map, All, IsTrue};
+ghost use Rattle.std.specs.Prelude.{IfOk, IfSome, OnOk, OnErr};
 ghost use Rattle.std.specs.Vec.{vec_len, vec_capacity};
 ghost use Rattle.rv_exec.specs.Access.{IsAccess, IsWidth};
 ghost use Rattle.page_ram.specs.Access.{IsInOnePage, IsRamSize};
