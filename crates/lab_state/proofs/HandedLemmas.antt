@@ -1,30 +1,27 @@
 -- What is handed over in rounds: when, once, and in which order.
 use Rattle.std.proofs.Common.{◌≡◌, ◌∙◌, sym, ap, subst, refl, Bool, true, false, not, cond, ℕ, suc, ◌+◌, ◌*◌, ◌<◌, ◌≤◌, List, []}
-use Rattle.std.proofs.Common.{◌∷◌, ◌++◌, map, find, length, get_or, slice_get, Option, None, Some, ◌⊎◌, inl, inr, arith}
+use Rattle.std.proofs.Common.{◌∷◌, ◌++◌, map, find, length, get_or, slice_get, Some, ◌⊎◌, inl, inr, arith}
 use Rattle.std.specs.Prelude.{filter, sum, unwrap_or}
 use Rattle.std.specs.Cmp.{IsTotalOrder, eq_by_cmp_equiv}
 use Rattle.std.specs.List.{All, AllByRecursion, IsDistinct, position_or_len}
 use Rattle.std.specs.List.Sorted.{IsStrictlySortedBy}
-use Rattle.std.specs.Option.{option_map, option_map_or}
+use Rattle.std.specs.Option.{option_map}
 use Rattle.std.specs.Ordering.{eq_by_cmp, is_eq}
 use Rattle.std.specs.declared.cmp.Ordering.TheVariants.{Less}
 use Rattle.std.proofs.lemmas.Bool.Decides.{nat_tests}
-use Rattle.std.proofs.lemmas.List.{map-append}
 use Rattle.std.proofs.lemmas.List.Elements.{All-nil, All-cons, All-append, All-filter, All-head, All-tail, All-weaker}
 use Rattle.std.proofs.lemmas.List.Elements.{filter-append, filter_passes}
 use Rattle.std.proofs.lemmas.List.Sorted.{All-permutation, IsPermutation-filter_both, IsPermutation-map}
 use Rattle.std.proofs.lemmas.List.Sums.{sum_by-cons}
 use Rattle.std.proofs.lemmas.Map.Keys.{IsDistinct-from_sorted, IsDistinct-IsPermutation}
 use Rattle.lab_num.specs.declared.key.Key.{Key}
-use Rattle.lab_num.specs.declared.key.Member.{Member}
 use Rattle.lab_num.specs.Key.{key_cmp, KeysDiffer}
 use Rattle.lab_num.specs.Listing.{IsListing, listing}
 use Rattle.lab_num.specs.Route.{has_member}
 use Rattle.dev_core.specs.declared.post.Post.{Post}
 use Rattle.dev_core.specs.Post.{post_key}
-use Rattle.lab_state.specs.Board.{Board}
-use Rattle.lab_state.specs.Boundary.{boundary, to_routes, waiting, due, not_due}
-use Rattle.lab_state.specs.Handed.{sent_in, handed_in, handed_over, hub_number, is_of_hub}
+use Rattle.lab_state.specs.Boundary.{boundary, waiting, due, not_due}
+use Rattle.lab_state.specs.Handed.{sent_in, handed_in, handed_over, is_of_hub}
 use Rattle.lab_state.specs.Hub.{Hub, delay_of}
 use Rattle.lab_state.specs.Lab.{Lab, Seen}
 use Rattle.time_source.specs.Tree.{Tree}
@@ -331,8 +328,12 @@ module _ (is : (key : Post → Key) (items : List Post) → KeysDiffer key items
       (sym (pending-next lab q reached short)) (parts k d inside))
       (λ y after.
       let before : x.key.at.0 < y.key.at.0 =
-      omega (arith, after, now-next lab q reached short,
-      All-filter by (λ post. post.key.at.0 < lab.now + q) all (all_sent lab q reached short) k d inside) in
+      omega (
+        arith,
+        after,
+        now-next lab q reached short,
+        All-filter by (λ post. post.key.at.0 < lab.now + q) all (all_sent lab q reached short) k d inside,
+      ) in
       ap is_eq (earlier x.key y.key before)))
       (IsDistinct-from_sorted key_cmp (map post_key first) (rising-filter by all (rise lab q reached short)))
       (handed-differ total (round lab q).lab qs (reached-next lab q reached short) (rest_so lab q qs within))

@@ -1,8 +1,8 @@
 -- Where no hub holds anything back and nothing waits, a boundary hands over all that was sent in its round.
-use Rattle.std.proofs.Common.{◌≡◌, ◌∙◌, sym, ap, subst, refl, Bool, true, false, not, cond, ◌&&◌, ℕ, ◌+◌, ◌<◌, ◌≤◌, List, []}
-use Rattle.std.proofs.Common.{◌∷◌, ◌++◌, map, fold, find, get_or, unwrap_or, Option, None, Some, arith}
+use Rattle.std.proofs.Common.{◌≡◌, ◌∙◌, sym, ap, subst, refl, Bool, true, false, not, cond, ◌&&◌, ℕ, ◌<◌, ◌≤◌, List, []}
+use Rattle.std.proofs.Common.{◌∷◌, fold, find, unwrap_or, Option, None, Some, arith}
 use Rattle.std.specs.Prelude.{filter, is_some, if◌then◌else◌}
-use Rattle.std.specs.List.{All, flat_map}
+use Rattle.std.specs.List.{All}
 use Rattle.std.specs.Option.{option_map}
 use Rattle.std.proofs.lemmas.Bool.Decides.{nat_tests}
 use Rattle.std.proofs.lemmas.List.Elements.{All-filter, All-head, All-tail, All-weaker}
@@ -15,7 +15,7 @@ use Rattle.lab_num.specs.Route.{route, others, hub_of, has_member}
 use Rattle.dev_core.specs.declared.post.Post.{Post}
 use Rattle.dev_core.specs.Post.{post_key}
 use Rattle.lab_state.specs.Board.{Board}
-use Rattle.lab_state.specs.Boundary.{Boundary, Handed, boundary, to_route, to_routes, waiting, due, not_due}
+use Rattle.lab_state.specs.Boundary.{Handed, boundary, to_route, to_routes, waiting, due, not_due}
 use Rattle.lab_state.specs.Hub.{Hub, members_of, delay_of}
 use Rattle.lab_state.specs.Pending.{is_finish, is_of_a_hub, due_at, is_due}
 use Rattle.lab_state.specs.Undelayed.{AreUndelayed, to_route_at_once, undelayed_boundary}
