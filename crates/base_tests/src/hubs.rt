@@ -50,6 +50,16 @@ fn reaches(hubs: &UartHubs, (from, others): Route) -> bool {
     }
 }
 
+/// Whether these are the delays of two hubs, and of members of both and of neither.
+fn holds_back(hubs: &UartHubs) -> bool {
+    hubs.len() == 2
+        && hubs.hub_delay(0) == 1_000_000
+        && hubs.hub_delay(1) == 7
+        && hubs.delay(device((1, 0))) == Some(1_000_000)
+        && hubs.delay(device((0, 0))) == Some(7)
+        && hubs.delay(device((1, 1))).is_none()
+}
+
 /// Whether these are the members of the second of two hubs.
 fn are_members(hubs: &UartHubs, members: &[Numbers]) -> bool {
     hubs.len() == 2 && are(hubs.members(1), members)
@@ -66,6 +76,7 @@ fn a_member_is_connected_once_and_reaches_the_others(rt: HostRuntime) -> Result<
         assert!(rt; connects(&mut hubs, *connection), "{connection:?}");
     }
     assert!(rt; are_members(&hubs, &[(2, 0), (0, 1), (0, 0)]));
+    assert!(rt; holds_back(&hubs));
     for route in &ROUTES {
         assert!(rt; reaches(&hubs, *route), "{route:?}");
     }

@@ -194,7 +194,8 @@ joined_last seed n s s' is so =
     (λ i. record {
       lab = record {
         boards = sym (map-range_with_len_more (board seed) 0 n n (zero-add n)) i;
-        hubs = record { name = codes "hub"; kind = Uart; members = more_members n i } ∷ [];
+        hubs = record { name = codes "hub"; kind = Uart; delay = 0; members = more_members n i } ∷ [];
+        pending = [];
         now = 0;
         quantum = 100;
       };

@@ -24,15 +24,17 @@ board seed i = record { name = codes "m" ++ decimal i; view = Some (view seed i)
 abbrev pub uart_of : ℕ → Member
 uart_of i = record { board = record { 0 = i }; dev = 0 }
 
--- all UARTs are on one hub, in order of their boards
+-- all UARTs are on one hub without delay, in order of their boards
 abbrev pub hub : ℕ → Hub
-hub boards = record { name = codes "hub"; kind = Uart; members = map uart_of (range_with_len 0 boards) }
+hub boards =
+    record { name = codes "hub"; kind = Uart; delay = 0; members = map uart_of (range_with_len 0 boards) }
 
 -- so many boards of a seed, at time 0 and with rounds of 100 microseconds
 abbrev pub generated : ℕ → ℕ → Lab
 generated seed boards = record {
   boards = map (board seed) (range_with_len 0 boards);
   hubs = hub boards ∷ [];
+  pending = [];
   now = 0;
   quantum = 100;
 }

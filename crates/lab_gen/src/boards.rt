@@ -116,7 +116,7 @@ fn create_hub<D: Device>(lab: &mut Lab<D>) -> Result<(), NoMemory>
     requires { lab.old ≡ record { lab = empty; spent = false } }
     ensures { OnOk result ((seed : ℕ) → IsGenerated seed 0 lab.new) }
 {
-    match lab.create_uart_hub(HUB) {
+    match lab.create_uart_hub(HUB, 0) {
         Ok(()) => Ok(()),
         Err(HubNameFault::Memory) => Err(NoMemory),
         Err(HubNameFault::Taken) => unreachable!(),

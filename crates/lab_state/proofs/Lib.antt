@@ -11,3 +11,5 @@ pub mod LendLemmas
 pub mod RoundLemmas
 pub mod RunLemmas
 pub mod FaultLemmas
+pub mod UndelayedLemmas
+pub mod HandedLemmas

@@ -1,8 +1,8 @@
 -- Posts that wait: what keeps them, and what joins them.
-use Rattle.std.proofs.Common.{◌≡◌, ◌∙◌, sym, ap, subst, refl, Bool, true, false, not, cond, ◌&&◌, ◌||◌, ℕ, zero, suc, ◌+◌}
-use Rattle.std.proofs.Common.{◌<◌, ◌≤◌, List, [], ◌∷◌, ◌++◌, map, find, get_or, Option, None, Some, arith}
+use Rattle.std.proofs.Common.{◌≡◌, ◌∙◌, sym, ap, subst, refl, Bool, true, false, not, cond, ◌&&◌, ◌||◌, ℕ, zero, suc}
+use Rattle.std.proofs.Common.{◌<◌, ◌≤◌, List, [], ◌∷◌, ◌++◌, map, find, get_or, None, Some, arith}
 use Rattle.std.specs.Prelude.{IsSome, filter, is_some}
-use Rattle.std.specs.List.{All, AllByRecursion, list_any}
+use Rattle.std.specs.List.{All, AllByRecursion}
 use Rattle.std.specs.List.Sorted.{IsPermutation, IsStrictlySortedBy}
 use Rattle.std.specs.Option.{option_map}
 use Rattle.std.specs.declared.cmp.Ordering.TheVariants.{Less}
@@ -20,7 +20,7 @@ use Rattle.lab_num.specs.Listing.{IsListing, insert_by_key, listing}
 use Rattle.lab_num.specs.Route.{has_member, is_connected}
 use Rattle.dev_core.specs.declared.post.Post.{Post}
 use Rattle.dev_core.specs.Post.{post_key}
-use Rattle.lab_state.specs.Boundary.{waiting, due, not_due}
+use Rattle.lab_state.specs.Boundary.{waiting, not_due}
 use Rattle.lab_state.specs.Hub.{Hub, members_of, delay_of}
 use Rattle.lab_state.specs.One.{with_member}
 use Rattle.lab_state.specs.Pending.{is_finish, is_of_a_hub, due_at, is_due, IsPending, ArePending}
@@ -201,7 +201,7 @@ module _ (p : Post → Bool) where
       by_test true step = IsPermutation-refl (filter p (x ∷ y ∷ ys))
       by_test false step = step
 
-  filter-listing : (posts : List Post) → IsPermutation (filter p posts) (filter p (listing post_key posts))
+  pub filter-listing : (posts : List Post) → IsPermutation (filter p posts) (filter p (listing post_key posts))
   unfolding listing
   filter-listing [] = IsPermutation-refl []
   filter-listing (x ∷ xs) =

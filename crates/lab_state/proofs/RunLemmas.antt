@@ -1,8 +1,8 @@
 -- Rounds one after another.
 use Rattle.std.proofs.Common.{◌≡◌, ◌∙◌, sym, ap, refl, eq-eqb, Bool, true, false, ℕ, ◌+◌, ◌-◌, ◌*◌, ◌/◌, ◌%◌, ◌<◌, inl}
-use Rattle.std.proofs.Common.{inr, List, [], ◌∷◌, ◌++◌, length, take, fold, None, add-one, append_assoc}
+use Rattle.std.proofs.Common.{inr, List, [], ◌∷◌, ◌++◌, length, take, fold, None, add-one, append_assoc, subst}
 use Rattle.std.proofs.Common.{arith}
-use Rattle.std.specs.Prelude.{if◌then◌else◌, min, is_some, IsSome, Option, Some}
+use Rattle.std.specs.Prelude.{if◌then◌else◌, filter, min, is_some, IsSome, Option, Some}
 use Rattle.std.proofs.lemmas.Bool.{cases_lt}
 use Rattle.std.proofs.lemmas.Bool.Decides.{nat_tests}
 use Rattle.std.proofs.lemmas.List.{append-nil, replicate-append-replicate}
@@ -14,12 +14,14 @@ use Rattle.std.proofs.lemmas.List.Sorted.{IsPermutation-sym, IsPermutation-trans
 use Rattle.lab_num.specs.declared.key.Key.{Key}
 use Rattle.dev_core.specs.declared.post.Post.{Post}
 use Rattle.lab_num.specs.Key.{KeysDiffer}
-use Rattle.lab_num.specs.Listing.{IsListing, listing}
+use Rattle.lab_num.specs.Listing.{IsListing, insert_by_key, listing}
 use Rattle.dev_core.specs.Post.{post_key}
 use Rattle.lab_state.specs.Board.{Board}
-use Rattle.lab_state.specs.Boundary.{boundary}
+use Rattle.lab_state.specs.Boundary.{boundary, waiting}
 use Rattle.lab_state.specs.Hub.{Hub}
 use Rattle.lab_state.specs.Lab.{Lab}
+use Rattle.lab_state.specs.Pending.{is_of_a_hub}
+use Rattle.lab_state.proofs.PendingLemmas.{filter-listing, rising-filter}
 use Rattle.lab_state.specs.Round.{Rounded, round_by, round}
 use Rattle.lab_state.specs.Run.{Play, rest_of, lengths, followed_by, go_on, still, EndsIn, run_by, run}
 
@@ -87,6 +89,10 @@ none_left q some =
     let rest : 0 % q ≡ 0 = omega (arith, div-add-mod 0 q) in
     rw (whole, rest) refl
 
+pub run-none : (lab : Lab) → 0 < lab.quantum → run lab 0 ≡ still lab
+unfolding run_by
+run-none lab some = ap (fold (go_on round) (still lab)) (none_left lab.quantum some)
+
 -- the first round of a run
 first_length :
     (q d : ℕ) {n : ℕ} → 0 < q → 0 < d → n ≡ min d q → lengths q d ≡ n ∷ lengths q (d - n)
@@ -121,6 +127,14 @@ one_round_more q d run {n = n} some more unpaused least is =
 
 -- ---- the order of the posts
 
+-- posts before which others come
+listing-append :
+    (front xs ys : List Post) → listing post_key xs ≡ listing post_key ys →
+    listing post_key (front ++ xs) ≡ listing post_key (front ++ ys)
+unfolding listing
+listing-append [] xs ys same = same
+listing-append (x ∷ front) xs ys same = ap (insert_by_key post_key x) (listing-append front xs ys same)
+
 pub boundaries-agree :
     ((key : Post → Key) (items : List Post) → KeysDiffer key items → IsListing key items (listing key items)) →
     ((key : Post → Key) (items listed : List Post) → IsListing key items listed → listed ≡ listing key items) →
@@ -128,14 +142,30 @@ pub boundaries-agree :
     KeysDiffer post_key posts → IsPermutation posts others →
     boundary at hubs boards pending posts ≡ boundary at hubs boards pending others
 unfolding boundary
-boundaries-agree is only at hubs boards posts others differ same =
+boundaries-agree is only at hubs boards pending posts others differ same =
     let listed = is post_key posts differ in
     let also : IsListing post_key others (listing post_key posts) = record {
       members = IsPermutation-trans others posts (listing post_key posts)
           (IsPermutation-sym posts others same) listed.members;
       rising = listed.rising;
     } in
-    rw (only post_key others (listing post_key posts) also) refl
+    let p = is_of_a_hub hubs in
+    let listings : listing post_key posts ≡ listing post_key others =
+    only post_key others (listing post_key posts) also in
+    let first : filter (is_of_a_hub hubs) (listing post_key posts) ≡ listing post_key (filter (is_of_a_hub hubs) posts) =
+    only post_key (filter p posts) (filter p (listing post_key posts))
+    (record { members = filter-listing p posts; rising = rising-filter p (listing post_key posts) listed.rising }) in
+    let second : filter (is_of_a_hub hubs) (listing post_key posts) ≡ listing post_key (filter (is_of_a_hub hubs) others) =
+    only post_key (filter p others) (filter p (listing post_key posts))
+    (record {
+      members =
+          subst (λ (l : List Post). IsPermutation (filter (is_of_a_hub hubs) others) (filter (is_of_a_hub hubs) l))
+          (sym listings) (filter-listing p others);
+      rising = rising-filter p (listing post_key posts) listed.rising;
+    }) in
+    let joined : waiting hubs pending posts ≡ waiting hubs pending others =
+    listing-append pending (filter p posts) (filter p others) (sym first ∙ second) in
+    rw (joined, listings) refl
 
 -- ---- the end of a run
 

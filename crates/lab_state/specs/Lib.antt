@@ -1,6 +1,7 @@
 -- What contracts of lab_state cite.
 pub mod Board
 pub mod Boundary
+pub mod Handed
 pub mod Hub
 pub mod Inner
 pub mod Lab

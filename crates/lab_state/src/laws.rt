@@ -1,23 +1,29 @@
-//! Laws of rounds and runs. Each is the contract of a function, which but for the last does nothing.
-ghost use Rattle.std.specs.Prelude.{◌≡◌, ℕ, ◌+◌, ◌%◌, ◌<◌, ◌≤◌, List, None, IsSome, IfOk, OnOk};
-ghost use Rattle.std.specs.List.Sorted.{IsPermutation};
+//! Laws of rounds and runs. Each is the contract of a function, which but for the last does nothing
+//! when it runs.
+ghost use Rattle.std.specs.Prelude.{◌≡◌, ℕ, ◌+◌, ◌%◌, ◌<◌, ◌≤◌, ◌⊎◌, false, List, [], map, filter, sum, All};
+ghost use Rattle.std.specs.Prelude.{None, IsSome, IfOk, OnOk};
+ghost use Rattle.std.specs.List.Sorted.{IsPermutation, IsStrictlySortedBy};
 ghost use Rattle.dev_core.specs.declared.post.Post.{Post};
-ghost use Rattle.lab_num.specs.Key.{KeysDiffer};
+ghost use Rattle.lab_num.specs.Key.{key_cmp, KeysDiffer};
 ghost use Rattle.dev_core.specs.Post.{post_key};
 ghost use Rattle.lab_state.specs.Board.{Board};
 ghost use Rattle.lab_state.specs.Boundary.{boundary};
+ghost use Rattle.lab_state.specs.Handed.{handed_in, handed_over, is_of_hub};
 ghost use Rattle.lab_state.specs.Hub.{Hub};
 ghost use Rattle.lab_state.specs.Lab.{Lab as Laboratory};
-ghost use Rattle.lab_state.specs.Run.{Play, run, run_by, followed_by, lengths, EndsIn};
+ghost use Rattle.lab_state.specs.Pending.{due_at};
+ghost use Rattle.lab_state.specs.Round.{round};
+ghost use Rattle.lab_state.specs.Run.{Play, run, run_by, followed_by, lengths, still, EndsIn};
 ghost use Rattle.lab_state.specs.Turns.{Cut, IsWhole, run_in_turns};
+ghost use Rattle.lab_state.specs.Undelayed.{AreUndelayed, undelayed_round};
 
 use crate::faults::RunFault;
 use crate::lab::Lab;
 use crate::round::RoundLog;
-use board::turns_join;
+use board::{stretches_keep_time, stretches_number, turns_join};
 use dev_core::{Device, Post as BoardPost};
 use floor_run::Gate;
-use lab_num::{Micros, listing_laws};
+use lab_num::{Micros, key_laws, listing_laws};
 use std::sync::Wait;
 use std::thread::Threads;
 
@@ -49,6 +55,63 @@ pub fn boundaries_agree()
         KeysDiffer post_key posts → IsPermutation posts others →
         boundary at hubs boards pending posts ≡ boundary at hubs boards pending others }
 {
+    listing_laws::<BoardPost>();
+}
+
+/// A run of no time has no boundary, so nothing is handed over by it: it changes nothing.
+pub fn runs_of_no_time_change_nothing()
+    ensures { (lab : Laboratory) → 0 < lab.quantum → run lab 0 ≡ still lab }
+{}
+
+/// Where no hub holds anything back and nothing waits, a round hands over at its end all that was sent
+/// in it, and nothing waits after it.
+pub fn undelayed_rounds_agree<D: Device>(lab: &Lab<D>)
+    requires { lab.now.spent ≡ false }
+    ensures round { (q : ℕ) → lab.now.lab.now + q ≤ 10000000000 →
+        AreUndelayed lab.now.lab.hubs → lab.now.lab.pending ≡ [] →
+        round lab.now.lab q ≡ undelayed_round lab.now.lab q }
+    ensures none { (q : ℕ) → lab.now.lab.now + q ≤ 10000000000 →
+        AreUndelayed lab.now.lab.hubs → lab.now.lab.pending ≡ [] →
+        (round lab.now.lab q).lab.pending ≡ [] }
+{
+    let _spent = lab.spent;
+    stretches_number();
+    stretches_keep_time();
+    listing_laws::<BoardPost>();
+}
+
+/// In rounds of any lengths, however a run is cut into them, what the devices of one hub have sent is
+/// handed over in rising order of key.
+pub fn hubs_keep_order<D: Device>(lab: &Lab<D>)
+    requires { lab.now.spent ≡ false }
+    ensures { (qs : List ℕ) → lab.now.lab.now + sum qs ≤ 10000000000 →
+        (n : ℕ) → IsStrictlySortedBy key_cmp (map post_key
+        (filter (is_of_hub lab.now.lab.hubs n) (handed_over lab.now.lab qs))) }
+{
+    let _spent = lab.spent;
+    stretches_number();
+    stretches_keep_time();
+    listing_laws::<BoardPost>();
+}
+
+/// In rounds of any lengths no post is handed over twice: the keys of what is handed over differ.
+/// What is handed over at the end of a round is due by then. It was sent in that round, or was not due
+/// when the round began.
+pub fn posts_are_handed_over_once<D: Device>(lab: &Lab<D>)
+    requires { lab.now.spent ≡ false }
+    ensures once { (qs : List ℕ) → lab.now.lab.now + sum qs ≤ 10000000000 →
+        KeysDiffer post_key (handed_over lab.now.lab qs) }
+    ensures due { (q : ℕ) →
+        All (λ post. due_at lab.now.lab.hubs post ≤ lab.now.lab.now + q)
+        (handed_in lab.now.lab q) }
+    ensures first { (q : ℕ) → lab.now.lab.now + q ≤ 10000000000 →
+        All (λ post. (lab.now.lab.now < due_at lab.now.lab.hubs post)
+        ⊎ (lab.now.lab.now ≤ post.key.at.0)) (handed_in lab.now.lab q) }
+{
+    let _spent = lab.spent;
+    key_laws();
+    stretches_number();
+    stretches_keep_time();
     listing_laws::<BoardPost>();
 }
 

@@ -20,5 +20,8 @@ mod spares;
 
 pub use faults::{AddFault, ConnectFault, FitFault, HubNameFault, LabFault, RunCause, RunFault};
 pub use lab::Lab;
-pub use laws::{any_workers_agree, boundaries_agree, runs_end, runs_join, turns_agree};
+pub use laws::{
+    any_workers_agree, boundaries_agree, hubs_keep_order, posts_are_handed_over_once, runs_end,
+    runs_join, runs_of_no_time_change_nothing, turns_agree, undelayed_rounds_agree,
+};
 pub use round::RoundLog;

@@ -3,6 +3,7 @@ ghost use Rattle.std.specs.Prelude.{◌≡◌, ◌+◌, ◌<◌, ◌≤◌, true
 ghost use Rattle.lab_state.specs.One.{view_of, HaveAllPlans};
 
 mod chip;
+mod delays;
 mod workers;
 
 use chip::{Counts, stock};
@@ -75,10 +76,10 @@ fn creates_hubs<D: Device>(lab: &mut Lab<D>) -> bool {
         && is_name("bus")
         && !lab.is_spent()
         && lab.hubs() == 0
-        && lab.create_uart_hub("hub").is_ok()
+        && lab.create_uart_hub("hub", 0).is_ok()
         && !lab.is_spent()
         && lab.hubs() == 1
-        && lab.create_can_hub("bus").is_ok()
+        && lab.create_can_hub("bus", 250).is_ok()
 }
 
 fn joins<D: Device>(lab: &mut Lab<D>, uart: Member) -> bool {
@@ -90,6 +91,7 @@ fn are_hubs<D: Device>(lab: &Lab<D>) -> bool {
         && lab.hubs() == 2
         && lab.hub_name(1).as_str() == "bus"
         && lab.hub_kind(1) == Kind::Can
+        && (lab.hub_delay(0), lab.hub_delay(1)) == (0, 250)
         && lab.hub_members(0) == &UARTS[..]
 }
 

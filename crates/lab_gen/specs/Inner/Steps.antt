@@ -8,7 +8,7 @@ use Rattle.lab_gen.specs.Generated.{board, generated}
 
 -- a laboratory in which nothing was made
 abbrev pub empty : Lab
-empty = record { boards = []; hubs = []; now = 0; quantum = 100 }
+empty = record { boards = []; hubs = []; pending = []; now = 0; quantum = 100 }
 
 -- the board of this number before it has a plan
 abbrev pub bare : ℕ → Board

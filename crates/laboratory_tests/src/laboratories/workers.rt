@@ -37,7 +37,7 @@ fn is_set<D: Device>(lab: &mut Lab<D>, b: BoardNo) -> bool {
     shows(lab, Member { board: b, dev: 0 })
 }
 
-fn shows<D: Device>(lab: &mut Lab<D>, uart: Member) -> bool {
+pub fn shows<D: Device>(lab: &mut Lab<D>, uart: Member) -> bool {
     if !is_planned(lab, uart.board) || lab.device_kind(uart) != Some(Kind::Uart) {
         return false;
     }

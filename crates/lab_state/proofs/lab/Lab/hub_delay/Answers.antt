@@ -1,5 +1,5 @@
 -- The hubs of a laboratory hold back for at most a second.
-use Rattle.std.proofs.Common.{◌≡◌, ◌∙◌, sym, ap, ◌≤◌, ℕ, List, slice_get, Option, None, Some, subst, refl}
+use Rattle.std.proofs.Common.{◌≡◌, ◌≤◌, ℕ, List, slice_get, Option, None, Some, subst, refl}
 use Rattle.std.specs.Option.{option_map}
 use Rattle.lab_state.specs.Hub.{Hub}
 use Rattle.lab_state.specs.Inner.Standing.{AreShort}
