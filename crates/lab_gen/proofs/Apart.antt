@@ -1,6 +1,6 @@
 -- A generated laboratory has no board yet of the next name, nor its UART in the hub, and each of its boards has a plan.
-use Rattle.std.proofs.Common.{◌≡◌, ◌∙◌, ℕ, zero, suc, ◌+◌, ◌<◌, ◌≤◌, ◌==◌, ◌^◌, ◌++◌, map, codes, Bool, true, false}
-use Rattle.std.proofs.Common.{None, refl, arith, List}
+use Rattle.std.proofs.Common.{◌≡◌, ◌∙◌, ℕ, zero, suc, ◌+◌, ◌<◌, ◌≤◌, ◌==◌, ◌++◌, map, codes, Bool, true, false}
+use Rattle.std.proofs.Common.{None, refl, arith}
 use Rattle.std.specs.Prelude.{is_none}
 use Rattle.std.specs.Fmt.{decimal}
 use Rattle.std.specs.List.{list_any, position, position_from, range_with_len}
@@ -9,9 +9,8 @@ use Rattle.std.proofs.lemmas.Bool.Decides.{nat_tests}
 use Rattle.std.proofs.lemmas.Fmt.{decimal_injective}
 use Rattle.std.proofs.lemmas.Iterator.Adapters.{position_from-zero}
 use Rattle.std.proofs.lemmas.Slice.Eq.{bytes_eq-Decides}
-use Rattle.dev_core.specs.declared.kind.Kind.TheVariants.{Uart}
 use Rattle.lab_num.specs.Key.{same_member}
-use Rattle.lab_num.specs.Route.{has_member, is_connected}
+use Rattle.lab_num.specs.Route.{is_connected}
 use Rattle.lab_state.specs.Board.{Board}
 use Rattle.lab_state.specs.Hub.{members_of}
 use Rattle.lab_state.specs.Lab.{Seen}

@@ -1,7 +1,7 @@
 -- A board more in a generated laboratory.
 use Rattle.std.proofs.Common.{◌≡◌, ◌∙◌, ℕ, zero, suc, ◌+◌, ◌<◌, ◌^◌, ◌%◌, List, [], ◌∷◌, ◌++◌, length, map, codes}
 use Rattle.std.proofs.Common.{Option, Some, None, slice_get, true, refl, sym, ap, subst, arith, zero-add}
-use Rattle.std.specs.Prelude.{IsTrue, IsSome, is_some}
+use Rattle.std.specs.Prelude.{IsTrue, IsSome}
 use Rattle.std.proofs.Common.{false, length-append}
 use Rattle.std.specs.Fmt.{decimal}
 use Rattle.std.specs.List.{list_all, range_with_len}
