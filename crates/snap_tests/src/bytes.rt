@@ -16,3 +16,9 @@ pub fn one<T: Drop>(alloc: Global, item: T) -> Result<Vec<T>, AllocError> {
     items.push(item)?;
     Ok(items)
 }
+
+/// The bytes from one place up to another, as far as there are any.
+pub fn part(bytes: &[u8], from: usize, to: usize) -> &[u8] {
+    let to = to.min(bytes.len());
+    &bytes[from.min(to)..to]
+}

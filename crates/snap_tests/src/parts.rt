@@ -1,5 +1,5 @@
 //! Parts of boards whose bytes are all the rules ask for, and memories.
-use crate::bytes::{joined, one};
+use crate::bytes::{joined, one, part};
 use clint::ClintState;
 use dev_core::Kind;
 use lab_num::{BoardNo, Member, Micros, NoMemory, Rows, Text};
@@ -142,7 +142,7 @@ fn open_lines_are_a_list_that_rises_by_member(rt: HostRuntime) -> Result<(), Fai
     assert!(rt; is_spelled(alloc, &lines, &whole)?);
     // One member twice, and a line that has ended.
     let twice = joined(alloc, &[&[2, 0, 0, 0, 0, 0, 0, 0], &bytes, &bytes])?;
-    let ended = joined(alloc, &[&count, &bytes[..19], b"\n"])?;
+    let ended = joined(alloc, &[&count, part(&bytes, 0, 19), b"\n"])?;
     assert!(rt; load::<Lines>(alloc, &twice).is_err() && load::<Lines>(alloc, &ended).is_err());
     Ok(())
 }
@@ -170,7 +170,9 @@ fn a_memory_is_its_pages_that_are_not_zero(rt: HostRuntime) -> Result<(), Fail> 
     assert!(rt; saved.as_slice() == bytes.as_slice());
     let loaded = load_memory(alloc, &bytes, 3)?;
     assert!(rt; loaded.items() == memory.as_slice());
-    assert!(rt; is_no_memory(alloc, &bytes[..8207]) && is_no_memory(alloc, &bytes[..9]));
+    assert!(rt;
+        is_no_memory(alloc, part(&bytes, 0, 8207)) && is_no_memory(alloc, part(&bytes, 0, 9))
+    );
     let more = joined(alloc, &[&bytes, &[0]])?;
     assert!(rt; is_no_memory(alloc, &more));
     Ok(())

@@ -1,5 +1,5 @@
 //! States and their bytes, written out by the rules of spelling, and bytes near them.
-use crate::bytes::{joined, one};
+use crate::bytes::{joined, one, part};
 use dev_core::{ByteRow, CanState, DevState, Finish, Frame, FrameRow, Payload, Post, UartState};
 use lab_num::{BoardNo, Key, Member, Micros, NoMemory, PostNo, Rows, Text};
 use lab_snap::{HubKind, SavedHub, State, load_state, save_state};
@@ -43,7 +43,7 @@ fn is_saved<T: State + Drop>(alloc: Global, state: &T, bytes: &[u8]) -> Result<b
 
 /// Whether each front of the bytes is refused.
 fn are_fronts_refused<T: State + Drop>(alloc: Global, bytes: &[u8]) -> bool {
-    (0..bytes.len()).all(|len| again::<T>(alloc, &bytes[..len]) == Outcome::Refused)
+    (0..bytes.len()).all(|len| again::<T>(alloc, part(bytes, 0, len)) == Outcome::Refused)
 }
 
 /// Whether the bytes with one of them changed are refused, or are the spelling of another state.
@@ -244,11 +244,19 @@ fn posts_are_their_keys_senders_and_payloads(rt: HostRuntime) -> Result<(), Fail
     // The first two in the other order, and the first twice.
     let falling = joined(
         alloc,
-        &[&[2, 0, 0, 0, 0, 0, 0, 0], &bytes[29..60], &bytes[8..29]],
+        &[
+            &[2, 0, 0, 0, 0, 0, 0, 0],
+            part(&bytes, 29, 60),
+            part(&bytes, 8, 29),
+        ],
     )?;
     let twice = joined(
         alloc,
-        &[&[2, 0, 0, 0, 0, 0, 0, 0], &bytes[8..29], &bytes[8..29]],
+        &[
+            &[2, 0, 0, 0, 0, 0, 0, 0],
+            part(&bytes, 8, 29),
+            part(&bytes, 8, 29),
+        ],
     )?;
     assert_eq!(rt; again::<Rows<Post>>(alloc, &falling), Outcome::Refused);
     assert_eq!(rt; again::<Rows<Post>>(alloc, &twice), Outcome::Refused);
@@ -280,8 +288,18 @@ fn a_hub_is_its_kind_name_delay_and_members(rt: HostRuntime) -> Result<(), Fail>
     assert!(rt; is_saved(alloc, &hub, &bytes)?);
     assert!(rt; are_exact::<SavedHub>(alloc, &bytes)?);
     // A blank in the name, and a delay of a second and a microsecond.
-    let blank = joined(alloc, &[&bytes[..9], b" us", &bytes[12..]])?;
-    let late = joined(alloc, &[&bytes[..12], &[0x41, 0x42, 0x0F, 0], &bytes[16..]])?;
+    let blank = joined(
+        alloc,
+        &[part(&bytes, 0, 9), b" us", part(&bytes, 12, bytes.len())],
+    )?;
+    let late = joined(
+        alloc,
+        &[
+            part(&bytes, 0, 12),
+            &[0x41, 0x42, 0x0F, 0],
+            part(&bytes, 16, bytes.len()),
+        ],
+    )?;
     assert_eq!(rt; again::<SavedHub>(alloc, &blank), Outcome::Refused);
     assert_eq!(rt; again::<SavedHub>(alloc, &late), Outcome::Refused);
     Ok(())
