@@ -1,5 +1,5 @@
 -- A run may be refused before it is made; when it is made memory alone can be wanting.
-use Rattle.std.proofs.Common.{◌≤◌, ⊥, refl, arith}
+use Rattle.std.proofs.Common.{◌≤◌, refl, arith}
 use Rattle.std.proofs.lemmas.Result.{err_from_is_err_and}
 use Rattle.lab_state.specs.Run.{run}
 use Rattle.monitor.specs.Runs.{length_of}
