@@ -14,7 +14,8 @@ use std::test::Fail;
 use std::thread::Threads;
 
 /// lui x5, 0x10000; addi x6, x0, 65; sb x6, 0(x5) twice; jal x0, 0: sends `A` in slots 2 and 3
-const SENDS_TWICE: &[u8] = b"\xB7\x02\x00\x10\x13\x03\x10\x04\x23\x80\x62\x00\x23\x80\x62\x00\x6F\x00\x00\x00";
+const SENDS_TWICE: &[u8] =
+    b"\xB7\x02\x00\x10\x13\x03\x10\x04\x23\x80\x62\x00\x23\x80\x62\x00\x6F\x00\x00\x00";
 
 /// jal x0, 0: sends nothing, and reads nothing
 const WAITS: &[u8] = b"\x6F\x00\x00\x00";
