@@ -1,5 +1,6 @@
 -- What is handed over in rounds: when, once, and in which order.
-use Rattle.std.proofs.Common.{◌≡◌, ◌∙◌, sym, ap, subst, refl, Bool, true, false, not, cond, ℕ, suc, ◌+◌, ◌*◌, ◌<◌, ◌≤◌, List, []}
+use Rattle.std.proofs.Common.{◌≡◌, ◌∙◌, sym, ap, subst, refl, Bool, true, false, not, cond, ℕ}
+use Rattle.std.proofs.Common.{suc, ◌+◌, ◌*◌, ◌<◌, ◌≤◌, List, []}
 use Rattle.std.proofs.Common.{◌∷◌, ◌++◌, map, find, length, get_or, slice_get, Some, ◌⊎◌, inl, inr, arith}
 use Rattle.std.specs.Prelude.{filter, sum, unwrap_or}
 use Rattle.std.specs.Cmp.{IsTotalOrder, eq_by_cmp_equiv}
@@ -131,7 +132,8 @@ module _ (is : (key : Post → Key) (items : List Post) → KeysDiffer key items
   unfolding round_by
   round-undelayed lab q reached within undelayed none =
       let boards = map (stepped (in_round lab.now q)) lab.boards in
-      let same : boundary (lab.now + q) lab.hubs (map (stepped (in_round lab.now q)) lab.boards) lab.pending (sent_in lab q)
+      let same : boundary (lab.now + q) lab.hubs (map (stepped (in_round lab.now q)) lab.boards) lab.pending
+      (sent_in lab q)
       ≡ undelayed_boundary (lab.now + q) lab.hubs (map (stepped (in_round lab.now q)) lab.boards) (sent_in lab q) =
       ap (λ pending. boundary (lab.now + q) lab.hubs boards pending (sent_in lab q)) none
       ∙ undelayed_is is only lab.now (lab.now + q) lab.hubs boards (sent_in lab q) undelayed
@@ -312,7 +314,8 @@ module _ (is : (key : Post → Key) (items : List Post) → KeysDiffer key items
       let first = due (lab.now + q) lab.hubs (all_at lab q) in
       let waits = not_due (lab.now + q) lab.hubs (all_at lab q) in
       let more = handed_over (round lab q).lab qs in
-      let distinct : KeysDiffer post_key (due (lab.now + q) lab.hubs (all_at lab q) ++ not_due (lab.now + q) lab.hubs (all_at lab q)) =
+      let distinct : KeysDiffer post_key (due (lab.now + q) lab.hubs (all_at lab q) ++ not_due (lab.now + q)
+      lab.hubs (all_at lab q)) =
       IsDistinct-IsPermutation (eq_by_cmp key_cmp) same_symm (map post_key all) (map post_key (first ++ waits))
       (IsPermutation-map post_key all (first ++ waits)
       (IsPermutation-filter_both by (λ post. not (by post)) (λ post. refl) all))

@@ -1,5 +1,6 @@
 -- Hubs whose members and delays are kept apart from their names.
-use Rattle.std.proofs.Common.{◌≡◌, ap, refl, Bool, true, false, cond, ℕ, zero, suc, List, [], ◌∷◌, ◌++◌, length, find, Some}
+use Rattle.std.proofs.Common.{◌≡◌, ap, refl, Bool, true, false, cond, ℕ, zero, suc, List, [], ◌∷◌, ◌++◌, length, find}
+use Rattle.std.proofs.Common.{Some}
 use Rattle.std.proofs.Common.{is_some}
 use Rattle.std.proofs.Common.{not, map, nat_eq, position}
 use Rattle.std.specs.Cmp.Lexicographic.{pointwise, nat_list_eq_equiv}
@@ -78,7 +79,8 @@ pub part-at :
     {X : Type 0} (f : uart_hub.Hub → X) (n : ℕ) →
     option_map f (slice_get parts n) ≡ option_map (λ hub. f (inside_of hub)) (slice_get hubs n)
 part-at {hubs = hubs} are f n =
-    ap (λ parts. option_map f (slice_get parts n)) (sym are.parts_are) ∙ ap (option_map f) (slice_get-map inside_of hubs n)
+    ap (λ parts. option_map f (slice_get parts n)) (sym are.parts_are)
+    ∙ ap (option_map f) (slice_get-map inside_of hubs n)
     ∙ two (slice_get hubs n)
   where
     two : (o : Option Hub) → option_map f (option_map inside_of o) ≡ option_map (λ hub. f (inside_of hub)) o

@@ -8,7 +8,8 @@ use Rattle.std.specs.Option.{option_map}
 use Rattle.std.specs.declared.cmp.Ordering.TheVariants.{Less}
 use Rattle.std.specs.Ordering.{is_lt}
 use Rattle.std.proofs.lemmas.Bool.Decides.{nat_tests}
-use Rattle.std.proofs.lemmas.List.Elements.{All-nil, All-filter, All-weaker, All-append, All-head, All-tail, filter_passes}
+use Rattle.std.proofs.lemmas.List.Elements.{All-nil, All-filter, All-weaker, All-append}
+use Rattle.std.proofs.lemmas.List.Elements.{All-head, All-tail, filter_passes}
 use Rattle.std.proofs.lemmas.List.Folds.{list_any-append}
 use Rattle.std.proofs.lemmas.List.Sorted.{IsPermutation-refl, IsPermutation-cons, IsPermutation-trans}
 use Rattle.std.proofs.lemmas.List.Sorted.{IsPermutation-middle, IsPermutation-append_right, All-permutation}
@@ -48,7 +49,8 @@ pub delay-member :
 delay-member [] n m other apart = refl
 delay-member (h ∷ hs) zero m other apart =
     let same : has_member (h.members ++ m ∷ []) other ≡ has_member h.members other =
-    list_any-append (λ x. same_member x other) h.members (m ∷ []) ∙ ap (λ b. has_member h.members other || b) (rest apart)
+    list_any-append (λ x. same_member x other) h.members (m ∷ [])
+    ∙ ap (λ b. has_member h.members other || b) (rest apart)
     ∙ or_false (has_member h.members other) in
     rw same (by_test (has_member h.members other))
   where
@@ -176,7 +178,8 @@ module _ (p : Post → Bool) where
       by_test false below rest = rest
 
   -- what a test passes of a listing is what it passes of the posts
-  filter-insert : (x : Post) (posts : List Post) → IsPermutation (filter p (x ∷ posts)) (filter p (insert_by_key post_key x posts))
+  filter-insert : (x : Post) (posts : List Post) →
+    IsPermutation (filter p (x ∷ posts)) (filter p (insert_by_key post_key x posts))
   filter-insert x [] = IsPermutation-refl (filter p (x ∷ []))
   filter-insert x (y ∷ ys) =
       by_test (is_lt (key_cmp x.key y.key))
@@ -232,7 +235,8 @@ rising-append t (x ∷ xs) ys before after up more = (
   rising-append t xs ys (All-tail (λ (post : Post). post.key.at.0 < t) x xs before) after up.1 more,
 )
   where
-    later : (ys : List Post) → All (λ post. t ≤ post.key.at.0) ys → AllByRecursion (λ y. key_cmp x.key y ≡ Less) (map post_key ys)
+    later : (ys : List Post) → All (λ post. t ≤ post.key.at.0) ys →
+    AllByRecursion (λ y. key_cmp x.key y ≡ Less) (map post_key ys)
     later [] after = tt
     later (y ∷ ys) after = (
       earlier x.key y.key

@@ -252,7 +252,8 @@ module _ (law : Timing) (from q : ℕ) where
       (in_round from q v).posts (law v from 0 (paid from (from + q) v.numbers.speed))
 
   -- what the boards send is of the round
-  pub sent_in_round : (boards : List Board) → AreOfRound from (from + q) (flat_map (posts_made (in_round from q)) boards)
+  pub sent_in_round : (boards : List Board) →
+      AreOfRound from (from + q) (flat_map (posts_made (in_round from q)) boards)
   sent_in_round [] = All-nil (λ (post : Post). (from ≤ post.key.at.0) × (post.key.at.0 < from + q))
   sent_in_round (board ∷ boards) =
       All-append (λ (post : Post). (from ≤ post.key.at.0) × (post.key.at.0 < from + q))

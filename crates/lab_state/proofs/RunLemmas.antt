@@ -152,10 +152,12 @@ boundaries-agree is only at hubs boards pending posts others differ same =
     let p = is_of_a_hub hubs in
     let listings : listing post_key posts ≡ listing post_key others =
     only post_key others (listing post_key posts) also in
-    let first : filter (is_of_a_hub hubs) (listing post_key posts) ≡ listing post_key (filter (is_of_a_hub hubs) posts) =
+    let first : filter (is_of_a_hub hubs) (listing post_key posts)
+    ≡ listing post_key (filter (is_of_a_hub hubs) posts) =
     only post_key (filter p posts) (filter p (listing post_key posts))
     (record { members = filter-listing p posts; rising = rising-filter p (listing post_key posts) listed.rising }) in
-    let second : filter (is_of_a_hub hubs) (listing post_key posts) ≡ listing post_key (filter (is_of_a_hub hubs) others) =
+    let second : filter (is_of_a_hub hubs) (listing post_key posts)
+    ≡ listing post_key (filter (is_of_a_hub hubs) others) =
     only post_key (filter p others) (filter p (listing post_key posts))
     (record {
       members =

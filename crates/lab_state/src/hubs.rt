@@ -1,5 +1,6 @@
 //! The hubs of a laboratory.
-ghost use Rattle.std.specs.Prelude.{◌≡◌, ◌+◌, ◌^◌, ◌<◌, ◌≤◌, ◌↔◌, ◌≢◌, ◌++◌, ◌∷◌, [], length, false, Some, None, slice_get};
+ghost use Rattle.std.specs.Prelude.{◌≡◌, ◌+◌, ◌^◌, ◌<◌, ◌≤◌, ◌↔◌, ◌≢◌, ◌++◌, ◌∷◌, []};
+ghost use Rattle.std.specs.Prelude.{length, false, Some, None, slice_get};
 ghost use Rattle.std.specs.Prelude.{IfSome, IfOk, IfErr, IsSome, IsTrue, OnOk, OnErr};
 ghost use Rattle.std.specs.Option.{option_map};
 ghost use Rattle.lab_num.specs.Name as name_spec;

@@ -74,7 +74,8 @@ pub record IsEnough (spares : Spares) (plans : ℕ) : Type 0 where
 abbrev pub AreShort : List Hub → Type 0
 AreShort hubs = All (λ hub. hub.delay ≤ 1000000) hubs
 
--- at most 16 boards; hubs that connect devices of these boards, with delays that a hub may have; no name that two of the
+-- at most 16 boards; hubs that connect devices of these boards, with delays that a hub may have; no name that two of
+-- the
 -- boards and hubs have; devices for the boards that have no plan yet
 pub record IsShaped (boards : List Outline) (hubs : List Hub) (spares : Spares) : Type 0 where
   pub few : length boards ≤ 16

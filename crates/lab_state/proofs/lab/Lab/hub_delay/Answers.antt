@@ -9,7 +9,8 @@ use Rattle.lab_state.proofs.lab.Lab.hub_delay.Goals as goal
 
 -- the delay that is read is that of one of the hubs
 short_at :
-    (hubs : List Hub) (n delay : ℕ) → AreShort hubs → Some delay ≡ option_map (λ (hub : Hub). hub.delay) (slice_get hubs n) →
+    (hubs : List Hub) (n delay : ℕ) → AreShort hubs →
+    Some delay ≡ option_map (λ (hub : Hub). hub.delay) (slice_get hubs n) →
     delay ≤ 1000000
 short_at hubs n delay all is = by_hub (slice_get hubs n) refl is
   where
