@@ -179,7 +179,7 @@ module _ (p : Post → Bool) where
 
   -- what a test passes of a listing is what it passes of the posts
   filter-insert : (x : Post) (posts : List Post) →
-    IsPermutation (filter p (x ∷ posts)) (filter p (insert_by_key post_key x posts))
+      IsPermutation (filter p (x ∷ posts)) (filter p (insert_by_key post_key x posts))
   filter-insert x [] = IsPermutation-refl (filter p (x ∷ []))
   filter-insert x (y ∷ ys) =
       by_test (is_lt (key_cmp x.key y.key))
@@ -235,8 +235,9 @@ rising-append t (x ∷ xs) ys before after up more = (
   rising-append t xs ys (All-tail (λ (post : Post). post.key.at.0 < t) x xs before) after up.1 more,
 )
   where
-    later : (ys : List Post) → All (λ post. t ≤ post.key.at.0) ys →
-    AllByRecursion (λ y. key_cmp x.key y ≡ Less) (map post_key ys)
+    later :
+        (ys : List Post) → All (λ post. t ≤ post.key.at.0) ys →
+        AllByRecursion (λ y. key_cmp x.key y ≡ Less) (map post_key ys)
     later [] after = tt
     later (y ∷ ys) after = (
       earlier x.key y.key
