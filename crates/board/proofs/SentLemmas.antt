@@ -76,6 +76,7 @@ sent-stretch v from a (suc n) =
     let t = slot_at from speed (a + n) in
     All-append (IsSentIn from a (suc n) speed) run.posts (slot run.view t).posts
     (All-weaker (IsSentIn from a n speed) (IsSentIn from a (suc n) speed)
-    (λ post sent. record { slot = sent.slot; within = omega (arith, sent.within); at = sent.at }) run.posts (sent-stretch v from a n))
+    (λ post sent. record { slot = sent.slot; within = omega (arith, sent.within); at = sent.at }) run.posts
+    (sent-stretch v from a n))
     (All-weaker (λ (post : Post). post.key.at.0 ≡ t) (IsSentIn from a (suc n) speed)
     (λ post sent. record { slot = n; within = omega arith; at = sent }) (slot run.view t).posts (sent_slot run.view t))
