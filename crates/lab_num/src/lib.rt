@@ -21,4 +21,4 @@ pub use numeral::number_of;
 pub use returns::return_law;
 pub use rows::Rows;
 pub use text::Text;
-pub use time::{TimeFault, read_time};
+pub use time::{LAST, TimeFault, read_time};

@@ -15,8 +15,9 @@ pub enum TimeFault {
     Limit,
 }
 
-/// The greatest time that a text may say, in microseconds.
-const LIMIT: u64 = 10_000_000_000;
+/// The last microsecond that a laboratory has, and the greatest time that a text may say: ten
+/// thousand seconds.
+pub const LAST: Micros = Micros(10_000_000_000);
 
 /// The text before the first `sign` and the text after it.
 fn cut(text: &str, sign: char) -> Option<(&str, &str)>
@@ -96,7 +97,7 @@ pub fn read_time(text: &str) -> Result<Micros, TimeFault>
     ensures { result ≡ times.time_of text.now }
 {
     let n = micros(text).ok_or(TimeFault::Form)?;
-    if n > LIMIT {
+    if n > LAST.0 {
         return Err(TimeFault::Limit);
     }
     Ok(Micros(n))

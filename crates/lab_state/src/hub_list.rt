@@ -11,7 +11,6 @@ ghost use Rattle.lab_num.specs.Change.{change_at};
 ghost use Rattle.lab_state.specs.Hub.{members_of, delay_of};
 ghost use Rattle.lab_state.specs.One.{with_member};
 
-use crate::hub_name::HubName;
 use dev_core::Kind;
 use indexmap::IndexMap;
 use lab_num::{Member, NoMemory, Text};
@@ -23,7 +22,7 @@ use uart_hub::{HubFault, UartHubs};
 /// two of these hubs, and each route is within one.
 #[derive(Drop)]
 pub struct HubList {
-    names: IndexMap<HubName, Kind>,
+    names: IndexMap<Text, Kind>,
     hubs: UartHubs,
 }
 
@@ -43,9 +42,9 @@ impl Model for HubList {
 
 /// Keeps a name with its kind and makes a hub of this delay, or neither.
 fn create_both(
-    names: &mut IndexMap<HubName, Kind>,
+    names: &mut IndexMap<Text, Kind>,
     hubs: &mut UartHubs,
-    name: HubName,
+    name: Text,
     kind: Kind,
     delay: u64,
 ) -> Result<(), NoMemory>
@@ -92,7 +91,7 @@ impl HubList {
         requires { n < length self.now }
         ensures { Some result.now ≡ option_map (λ hub. hub.name) (slice_get self.now n) }
     {
-        self.names.get_index(n).unwrap().0.text()
+        self.names.get_index(n).unwrap().0
     }
 
     /// The kind of devices that a hub connects.
@@ -137,7 +136,6 @@ impl HubList {
             ++ record { name = name; kind = kind; delay = delay; members = [] } ∷ []) }
         ensures err { OnErr result (self.new ≡ self.old) }
     {
-        let name = HubName::of(name);
         create_both(&mut self.names, &mut self.hubs, name, kind, delay)?;
         Ok(())
     }

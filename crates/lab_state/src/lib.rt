@@ -8,7 +8,6 @@ mod changes;
 mod faults;
 mod fit;
 mod hub_list;
-mod hub_name;
 mod hubs;
 mod lab;
 mod laws;

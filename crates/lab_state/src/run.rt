@@ -10,13 +10,10 @@ use crate::lab::Lab;
 use crate::round::RoundLog;
 use dev_core::Device;
 use floor_run::Gate;
-use lab_num::{BoardNo, Key, Micros, Rows};
+use lab_num::{BoardNo, Key, LAST, Micros, Rows};
 use log_merge::LogItem;
 use std::sync::Wait;
 use std::thread::Threads;
-
-/// The last microsecond that a laboratory has: ten thousand seconds.
-const LAST: u64 = 10_000_000_000;
 
 impl<D: Device> Lab<D> {
     /// Whether a run of `d` microseconds may be made: every board has a plan, and the run ends within
@@ -34,7 +31,7 @@ impl<D: Device> Lab<D> {
         if let Some(board) = self.first_without_plan() {
             return Err(RunCause::NoPlan(board));
         }
-        if d.0 > LAST - self.now().0 {
+        if d.0 > LAST.0 - self.now().0 {
             return Err(RunCause::TooLong);
         }
         Ok(())

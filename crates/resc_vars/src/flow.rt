@@ -16,8 +16,7 @@ use crate::cause::ScriptCause;
 use crate::form::Assignment;
 use crate::item::{Item, Line, Source, copy_source, source_of};
 use crate::lines::Lines;
-use crate::name::{Name, put};
-use crate::variables::{Variables, command_text, set_variable};
+use crate::variables::{Variables, command_text, put, set_variable};
 use indexmap::IndexMap;
 use lab_num::{NoMemory, Text};
 use std::alloc::Global;
@@ -36,7 +35,7 @@ pub struct Flow {
     body: Body,
     outer: Vec<Body>,
     variables: Variables,
-    macros: IndexMap<Name, Source>,
+    macros: IndexMap<Text, Source>,
     taken: u32,
     ended: bool,
 }
@@ -258,7 +257,7 @@ impl Flow {
     }
 
     /// Keeps a macro.
-    fn keep(&mut self, name: Name, lines: Lines) -> Result<(), NoMemory>
+    fn keep(&mut self, name: Text, lines: Lines) -> Result<(), NoMemory>
         requires { self.old.kept.taken < command_limit }
         ensures ok { OnOk result (self.new ≡ record self.old {
           kept = defined self.old.kept self.old.current.file name lines;
@@ -271,7 +270,7 @@ impl Flow {
         Ok(())
     }
 
-    fn define(&mut self, line: u32, name: Name, lines: Lines) -> Option<Next>
+    fn define(&mut self, line: u32, name: Text, lines: Lines) -> Option<Next>
         requires { self.old.ended ≡ false }
         ensures acts { Acts result self.new (next_with (items.Define line name lines) self.old) }
         ensures bodies { IsSameBodies self.old self.new }
@@ -334,8 +333,7 @@ impl Flow {
     fn macro_of(&self, name: &str) -> Result<Option<Source>, NoMemory>
         ensures { IfOk result (λ found. found ≡ lookup (pointwise nat_eq name.now) self.now.kept.macros) }
     {
-        let name = Name::of(self.alloc, name)?;
-        match self.macros.get(&name) {
+        match self.macros.get(name) {
             None => Ok(None),
             Some(source) => Ok(Some(copy_source(self.alloc, source)?)),
         }

@@ -5,7 +5,6 @@ ghost use Rattle.std.specs.Option.{option_map};
 ghost use Rattle.resc_read.specs.Words as words;
 ghost use Rattle.resc_vars.specs.Form as forms;
 
-use crate::name::Name;
 use lab_num::{NoMemory, Text};
 use resc_read::{cut, is_blank, is_variable_name, path_of, text_of, variable_of, words_of};
 use std::alloc::Global;
@@ -13,7 +12,7 @@ use std::alloc::Global;
 /// What `$name=VALUE` sets, or `$name?=VALUE` where the variable is unset.
 #[derive(Drop)]
 pub(crate) struct Assignment {
-    pub(crate) name: Name,
+    pub(crate) name: Text,
     pub(crate) only_if_unset: bool,
     pub(crate) value: Text,
 }
@@ -27,7 +26,7 @@ pub(crate) enum Form {
     Malformed,
     Assign(Assignment),
     /// `macro name`, with `"""` at its end or not.
-    Macro { name: Name, opened: bool },
+    Macro { name: Text, opened: bool },
 }
 
 fn first_ink(text: &str) -> Option<u8>
@@ -99,7 +98,7 @@ fn named(alloc: Global, front: &str, opened: bool) -> Result<Form, NoMemory>
     match macro_name(&words) {
         None => Ok(Form::Malformed),
         Some(name) => {
-            let name = Name::of(alloc, name)?;
+            let name = Text::of(alloc, name)?;
             Ok(Form::Macro { name, opened })
         }
     }
@@ -141,7 +140,7 @@ fn sides(text: &str) -> Option<(&str, bool, &str)>
 }
 
 /// The name in a text of one word, `$name`.
-fn assigned_name(alloc: Global, left: &str) -> Result<Option<Name>, NoMemory>
+fn assigned_name(alloc: Global, left: &str) -> Result<Option<Text>, NoMemory>
     ensures { IfOk result (λ name. name ≡ forms.assigned_name left.now) }
 {
     let words = words_of(alloc, left)?;
@@ -150,7 +149,7 @@ fn assigned_name(alloc: Global, left: &str) -> Result<Option<Name>, NoMemory>
     };
     match variable_of(word) {
         None => Ok(None),
-        Some(name) => Ok(Some(Name::of(alloc, name)?)),
+        Some(name) => Ok(Some(Text::of(alloc, name)?)),
     }
 }
 

@@ -8,7 +8,6 @@ ghost use Rattle.resc_vars.specs.Numbered.{numbers_fit};
 
 use crate::form::{Assignment, Form, form_of, is_fence, is_passed};
 use crate::lines::{Lines, Rest, lines_at};
-use crate::name::Name;
 use lab_num::{NoMemory, Text};
 use std::alloc::Global;
 use std::rc::Rc;
@@ -35,7 +34,7 @@ pub(crate) enum Item {
     /// A `macro` line or an assignment that is not of its form, which stays as it is.
     Malformed(Line),
     Assign { line: u32, assignment: Assignment },
-    Define { line: u32, name: Name, lines: Lines },
+    Define { line: u32, name: Text, lines: Lines },
     /// A macro at this line whose body does not end.
     Unclosed(u32),
 }
@@ -108,7 +107,7 @@ fn begun(opened: bool, rest: Rest<'_>) -> Option<Rest<'_>>
 fn macro_item<'a>(
     text: &Rc<String>,
     number: u32,
-    name: Name,
+    name: Text,
     body: Rest<'a>,
 ) -> Result<(Item, Rest<'a>), NoMemory>
     requires ends { EndsWith (string_bytes text.now.value) body.text.now }

@@ -10,7 +10,6 @@ mod form;
 mod item;
 mod laws;
 mod lines;
-mod name;
 mod variables;
 
 pub use answer::{FlowFault, Next};

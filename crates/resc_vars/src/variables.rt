@@ -1,20 +1,33 @@
 //! Lines with their variables replaced.
-ghost use Rattle.std.specs.Prelude.{◌≡◌, IfOk, OnOk};
+ghost use Rattle.std.specs.Prelude.{◌≡◌, nat_eq, IfOk, OnOk};
+ghost use Rattle.std.specs.Cmp.Lexicographic.{pointwise};
 ghost use Rattle.std.specs.Option.{option_map};
 ghost use Rattle.std.specs.String.{string_bytes};
+ghost use Rattle.indexmap.specs.IndexMap.{insert_entry};
 ghost use Rattle.resc_read.specs.Words as words;
 ghost use Rattle.resc_vars.specs.Inner.Steps.{SetsVariable};
 ghost use Rattle.resc_vars.specs.Variables.{stands_for, replaced, names_macro, after_name, command_text, with_value};
 
 use crate::form::Assignment;
-use crate::name::{Name, put};
 use indexmap::IndexMap;
 use lab_num::{NoMemory, Text};
 use resc_read::{cut, piece_len, variable_of, words_of};
 use std::alloc::Global;
 
 /// The variables by name.
-pub(crate) type Variables = IndexMap<Name, Text>;
+pub(crate) type Variables = IndexMap<Text, Text>;
+
+/// Keeps a value under a name, in place of the one that is there.
+pub(crate) fn put<V: Drop>(
+    map: &mut IndexMap<Text, V>,
+    name: Text,
+    value: V,
+) -> Result<(), NoMemory>
+    ensures { OnOk result (map.new.entries ≡ insert_entry (pointwise nat_eq) map.old.entries name value) }
+{
+    map.insert(name, value)?;
+    Ok(())
+}
 
 /// What stands for a word: the value of a variable that it names, or itself.
 fn stands_for<'a>(
@@ -28,8 +41,7 @@ fn stands_for<'a>(
     let Some(name) = variable_of(word) else {
         return Ok(Some(word));
     };
-    let name = Name::of(alloc, name)?;
-    match variables.get(&name) {
+    match variables.get(name) {
         None => Ok(None),
         Some(value) => Ok(Some(value.as_str())),
     }
@@ -48,7 +60,7 @@ fn value_for(alloc: Global, variables: &Variables, word: &str) -> Result<Option<
 /// Gives a variable a value, unless it is to be set only if it is unset, and has one.
 fn give(
     variables: &mut Variables,
-    name: Name,
+    name: Text,
     only_if_unset: bool,
     value: Text,
 ) -> Result<(), NoMemory>
