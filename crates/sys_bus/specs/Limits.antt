@@ -27,7 +27,11 @@ most_memories = 8
 abbrev pub most_memory : ℕ
 most_memory = 64 * 1024 * 1024
 
--- 1 to 1000 instructions in a microsecond,
+-- one to four processors, which together do
+abbrev pub most_processors : ℕ
+most_processors = 4
+
+-- 1 to 1000 instructions in a microsecond, each as many,
 abbrev pub most_speed : ℕ
 most_speed = 1000
 
@@ -92,9 +96,13 @@ abbrev pub are_few_memories : List ℕ → Bool
 are_few_memories memories =
     nat_le 1 (length memories) && nat_le (length memories) most_memories && nat_le (sum memories) most_memory
 
--- instructions in a microsecond
-abbrev pub is_speed : ℕ → Bool
-is_speed speed = nat_le 1 speed && nat_le speed most_speed
+-- how many processors a board has
+abbrev pub are_few_processors : List (List ℕ) → Bool
+are_few_processors cpus = nat_le 1 (length cpus) && nat_le (length cpus) most_processors
+
+-- the instructions in a microsecond of so many processors
+abbrev pub is_speed : ℕ → ℕ → Bool
+is_speed processors speed = nat_le 1 speed && nat_le speed most_speed && (speed % processors == 0)
 
 -- ticks of the timer in a second, where there is a timer
 abbrev pub is_frequency : Option ℕ → Bool

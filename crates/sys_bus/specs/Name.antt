@@ -1,5 +1,5 @@
 -- The names of a platform's entries.
-use Rattle.std.specs.Prelude.{ℕ, Bool, false, true, ◌==◌, ◌&&◌, ◌||◌, not, List, count_by}
+use Rattle.std.specs.Prelude.{ℕ, Bool, false, true, ◌==◌, List, count_by, filter, map}
 use Rattle.std.specs.List.{list_all}
 use Rattle.std.specs.Str.{bytes_eq}
 use Rattle.lab_num.specs.Name.{is_identifier}
@@ -19,12 +19,6 @@ abbrev pub is_processor : NamedWhat → Bool
 is_processor Cpu = true
 is_processor (Part kind) = false
 
--- one entry alone is a processor, and a processor has this name
-abbrev pub count_of_processors : List Named → ℕ
-count_of_processors names = count_by (λ n. is_processor n.what) names
-
-abbrev pub are_processors_named : List ℕ → List Named → Bool
-are_processors_named cpu names = list_all (λ n. not (is_processor n.what) || bytes_eq n.name cpu) names
-
-abbrev pub has_one_processor : List ℕ → List Named → Bool
-has_one_processor cpu names = (count_of_processors names == 1) && are_processors_named cpu names
+-- the names of the processors, in the order of their entries
+abbrev pub processors : List Named → List (List ℕ)
+processors names = map (λ n. n.name) (filter (λ n. is_processor n.what) names)

@@ -1,5 +1,5 @@
 -- The wires of interrupts: the CLINT's software and timer lines and the contexts of the PLIC lead to pins of the
--- processor; the line of a UART or a CAN controller to one of these, or to a source of the PLIC.
+-- processors; the line of a UART or a CAN controller to one of these, or to a source of the PLIC.
 use Rattle.std.specs.Prelude.{ℕ, ◌==◌, nat_lt, nat_le, Bool, true, false, ◌&&◌, ◌||◌, List, slice_get, Option, None}
 use Rattle.std.specs.Prelude.{Some}
 use Rattle.std.specs.List.{list_all}
@@ -45,12 +45,12 @@ is_from kinds regions plic Timer = has_region regions Clint
 is_from kinds regions plic (Context context) = is_context plic context
 is_from kinds regions plic (Dev dev) = has_line kinds dev
 
--- a wire from there may end here
-abbrev pub may_end : Option PlicSize → WireFrom → WirePin → Bool
-may_end plic from (Cpu pin) = is_pin pin
-may_end plic (Dev dev) (Source source) = is_source plic source
-may_end plic _ (Source source) = false
+-- a wire from there may end here, on a board of so many processors
+abbrev pub may_end : Option PlicSize → ℕ → WireFrom → WirePin → Bool
+may_end plic processors from (Cpu hart pin) = nat_lt hart processors && is_pin pin
+may_end plic processors (Dev dev) (Source source) = is_source plic source
+may_end plic processors _ (Source source) = false
 
-abbrev pub are_wires : List Kind → List Region → Option PlicSize → List Wire → Bool
-are_wires kinds regions plic wires =
-    list_all (λ wire. is_from kinds regions plic wire.from && may_end plic wire.from wire.pin) wires
+abbrev pub are_wires : List Kind → List Region → Option PlicSize → ℕ → List Wire → Bool
+are_wires kinds regions plic processors wires =
+    list_all (λ wire. is_from kinds regions plic wire.from && may_end plic processors wire.from wire.pin) wires

@@ -5,6 +5,7 @@ ghost use Rattle.sys_bus.specs.Limits as limit;
 use crate::plan::PlicSize;
 use crate::region::{Region, RegionKind};
 use dev_core::Kind;
+use lab_num::Text;
 
 pub const MOST_UARTS: usize = 4;
 
@@ -20,7 +21,9 @@ pub const MOST_MEMORY: u64 = 67_108_864;
 /// A memory has whole pages, at least one.
 pub const PAGE_SIZE: u32 = 4096;
 
-/// The most instructions in a microsecond.
+pub const MOST_PROCESSORS: usize = 4;
+
+/// The most instructions of all processors together in a microsecond.
 pub const MOST_SPEED: u32 = 1000;
 
 /// The most ticks of the timer in a second.
@@ -91,10 +94,20 @@ pub(crate) fn are_few_memories(memories: &[u32]) -> bool
     1 <= count && count <= MOST_MEMORIES && bytes_of(memories) <= MOST_MEMORY
 }
 
-pub(crate) fn is_speed(speed: u32) -> bool
-    ensures { result ≡ limit.is_speed speed }
+/// Whether there are one to four processors.
+pub(crate) fn are_few_processors(cpus: &[Text]) -> bool
+    ensures { result ≡ limit.are_few_processors cpus.now }
 {
-    1 <= speed && speed <= MOST_SPEED
+    1 <= cpus.len() && cpus.len() <= MOST_PROCESSORS
+}
+
+/// Whether so many processors may do so many instructions together in a microsecond: 1 to 1,000,
+/// each as many as the others.
+pub fn is_speed(processors: u32, speed: u32) -> bool
+    requires { 0 < processors }
+    ensures { result ≡ limit.is_speed processors speed }
+{
+    1 <= speed && speed <= MOST_SPEED && speed % processors == 0
 }
 
 pub(crate) fn is_frequency(frequency: Option<u32>) -> bool

@@ -1,10 +1,10 @@
 //! The names of a platform's entries.
-ghost use Rattle.std.specs.Prelude.{◌≡◌, count_by};
+ghost use Rattle.std.specs.Prelude.{◌≡◌, ◌↔◌, IsTrue, count_by};
 ghost use Rattle.std.specs.Str.{bytes_eq};
 ghost use Rattle.sys_bus.specs.Name as name;
 
 use crate::plan::{Named, NamedWhat};
-use lab_num::is_identifier;
+use lab_num::{Text, is_identifier};
 
 pub(crate) fn are_names(names: &[Named]) -> bool
     ensures { result ≡ name.are_names names.now }
@@ -34,23 +34,21 @@ fn is_processor(what: NamedWhat) -> bool
     }
 }
 
-fn count_of_processors(names: &[Named]) -> usize
-    ensures { result ≡ name.count_of_processors names.now }
+/// Whether these are the names of the processors, in the order of their entries.
+pub(crate) fn are_processors(names: &[Named], cpus: &[Text]) -> bool
+    ensures { IsTrue result ↔ cpus.now ≡ name.processors names.now }
 {
-    names.iter().filter(|n| is_processor(n.what)).count()
-}
-
-fn are_processors_named(names: &[Named], cpu: &str) -> bool
-    ensures { result ≡ name.are_processors_named cpu.now names.now }
-{
-    names
-        .iter()
-        .all(|n| !is_processor(n.what) || n.name.as_str() == cpu)
-}
-
-/// Whether one entry alone is a processor, and has this name.
-pub(crate) fn has_one_processor(names: &[Named], cpu: &str) -> bool
-    ensures { result ≡ name.has_one_processor cpu.now names.now }
-{
-    count_of_processors(names) == 1 && are_processors_named(names, cpu)
+    let mut rest = cpus;
+    for named in names {
+        if is_processor(named.what) {
+            let Some((first, others)) = rest.split_first() else {
+                return false;
+            };
+            if named.name.as_str() != first.as_str() {
+                return false;
+            }
+            rest = others;
+        }
+    }
+    rest.is_empty()
 }

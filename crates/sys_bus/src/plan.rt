@@ -2,9 +2,10 @@
 ghost use Rattle.std.specs.Prelude.{◌↔◌, IsTrue};
 
 use crate::limits::{
-    are_few_devices, are_few_memories, are_ranges, are_steps, is_frequency, is_plic_size, is_speed,
+    are_few_devices, are_few_memories, are_few_processors, are_ranges, are_steps, is_frequency,
+    is_plic_size, is_speed,
 };
-use crate::name::{are_names, do_names_differ, has_one_processor};
+use crate::name::{are_names, are_processors, do_names_differ};
 use crate::part::{has_no_others, has_parts, has_region, have_memory_sizes};
 use crate::region::{Region, RegionKind};
 use crate::regions::{are_addressed, are_apart};
@@ -16,7 +17,7 @@ use rv_hart::Letters;
 /// What a name of a platform stands for.
 #[derive(Clone, Copy, PartialEq, Eq, Debug)]
 pub enum NamedWhat {
-    /// The processor.
+    /// A processor.
     Cpu,
     Part(RegionKind),
 }
@@ -49,11 +50,11 @@ pub struct BoardPlan {
     /// Where there is an interrupt controller.
     pub plic: Option<PlicSize>,
     pub wires: Rows<Wire>,
-    /// Instructions in a microsecond.
+    /// Instructions in a microsecond, of all processors together.
     pub speed: u32,
-    /// The name of the processor.
-    pub cpu: Text,
-    /// The optional extensions of the processor.
+    /// The names of the processors. A processor's number is its place among them.
+    pub cpus: Rows<Text>,
+    /// The optional extensions of each processor.
     pub letters: Letters,
 }
 
@@ -65,7 +66,7 @@ impl BoardPlan {
         ensures { IsTrue result ↔ IsNamed self.now }
     {
         let names = self.names.items();
-        are_names(names) && do_names_differ(names) && has_one_processor(names, self.cpu.as_str())
+        are_names(names) && do_names_differ(names) && are_processors(names, self.cpus.items())
     }
 
     fn is_within_limits(&self) -> bool
@@ -73,7 +74,8 @@ impl BoardPlan {
     {
         are_few_devices(self.kinds.items())
             && are_few_memories(self.memories.items())
-            && is_speed(self.speed)
+            && are_few_processors(self.cpus.items())
+            && is_speed(self.cpus.items().len() as u32, self.speed)
             && is_frequency(self.frequency)
             && is_plic_size(self.plic)
             && are_ranges(self.kinds.items(), self.regions.items())
@@ -99,7 +101,13 @@ impl BoardPlan {
             && are_steps(kinds, regions)
             && are_apart(regions)
             && are_addressed(regions)
-            && are_wires(kinds, regions, self.plic, self.wires.items())
+            && are_wires(
+                kinds,
+                regions,
+                self.plic,
+                self.cpus.items().len(),
+                self.wires.items(),
+            )
     }
 
     /// Whether a board can be made by the plan.

@@ -23,8 +23,8 @@ pub enum WireFrom {
 /// Where a wire ends.
 #[derive(Clone, Copy, PartialEq, Eq, Debug)]
 pub enum WirePin {
-    /// A bit of the processor's `mip`.
-    Cpu(u8),
+    /// A bit of the `mip` of the processor of this number.
+    Cpu { hart: u8, pin: u8 },
     /// A source of the interrupt controller.
     Source(u8),
 }
@@ -35,7 +35,7 @@ pub struct Wire {
     pub pin: WirePin,
 }
 
-/// Whether this is a pin of the processor.
+/// Whether this is a pin of a processor.
 fn is_pin(pin: u8) -> bool
     ensures { result ≡ wire_spec.is_pin pin }
 {
@@ -81,12 +81,12 @@ fn is_from(kinds: &[Kind], regions: &[Region], plic: Option<PlicSize>, from: Wir
     }
 }
 
-/// Whether a wire from there may end at a pin.
-pub fn may_end(plic: Option<PlicSize>, from: WireFrom, pin: WirePin) -> bool
-    ensures { result ≡ wire_spec.may_end plic from pin }
+/// Whether a wire from there may end at a pin, on a board of so many processors.
+pub fn may_end(plic: Option<PlicSize>, processors: usize, from: WireFrom, pin: WirePin) -> bool
+    ensures { result ≡ wire_spec.may_end plic processors from pin }
 {
     match (from, pin) {
-        (_, WirePin::Cpu(number)) => is_pin(number),
+        (_, WirePin::Cpu { hart, pin }) => usize::from(hart) < processors && is_pin(pin),
         (WireFrom::Dev(_), WirePin::Source(source)) => is_source(plic, source),
         _ => false,
     }
@@ -97,11 +97,12 @@ pub(crate) fn are_wires(
     kinds: &[Kind],
     regions: &[Region],
     plic: Option<PlicSize>,
+    processors: usize,
     wires: &[Wire],
 ) -> bool
-    ensures { result ≡ wire_spec.are_wires kinds.now regions.now plic wires.now }
+    ensures { result ≡ wire_spec.are_wires kinds.now regions.now plic processors wires.now }
 {
     wires.iter().all(|wire| {
-        is_from(kinds, regions, plic, wire.from) && may_end(plic, wire.from, wire.pin)
+        is_from(kinds, regions, plic, wire.from) && may_end(plic, processors, wire.from, wire.pin)
     })
 }
