@@ -25,15 +25,15 @@ const PARTS: [(&str, RegionKind, u32, u32); 5] = [
 const WIRES: [Wire; 4] = [
     Wire {
         from: WireFrom::Soft,
-        pin: WirePin::Cpu(3),
+        pin: WirePin::Cpu { hart: 0, pin: 3 },
     },
     Wire {
         from: WireFrom::Timer,
-        pin: WirePin::Cpu(7),
+        pin: WirePin::Cpu { hart: 0, pin: 7 },
     },
     Wire {
         from: WireFrom::Context(0),
-        pin: WirePin::Cpu(11),
+        pin: WirePin::Cpu { hart: 0, pin: 11 },
     },
     Wire {
         from: WireFrom::Dev(0),
