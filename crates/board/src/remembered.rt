@@ -8,6 +8,8 @@ use rv_hart::Lines;
 /// What the lines were in a microsecond, after the interrupt controller had sampled its sources.
 #[derive(Clone, Copy)]
 pub struct Remembered {
+    /// The number of the processor.
+    pub hart: u8,
     pub at: Micros,
     /// Whether the line of the timer interrupt was up.
     pub timer: bool,

@@ -12,7 +12,7 @@ is_wired plan = is_some plan.frequency || is_some plan.plic || not (length plan.
 -- what is remembered is what sampling and reading the lines would give
 abbrev pub IsRight : Space → Option Remembered → Type 0
 IsRight s None = Unit {0}
-IsRight s (Some r) = (sampled s ≡ s) × (r.timer ≡ timer_up s.timer r.at.0) × (r.lines ≡ lines_of s r.at.0)
+IsRight s (Some r) = (sampled s ≡ s) × (r.timer ≡ timer_up s.timer r.at.0) × (r.lines ≡ lines_of s r.hart r.at.0)
 
 -- what is still remembered after the line of a device was up or not before and after something
 abbrev pub still : Option Remembered → Bool → Bool → Option Remembered
