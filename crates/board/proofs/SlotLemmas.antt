@@ -1,9 +1,9 @@
 -- What a slot makes comes after what was made before.
-use Rattle.std.proofs.Common.{◌≡◌, ℕ, true, List, [], ◌++◌, refl, sym, ap}
+use Rattle.std.proofs.Common.{◌≡◌, ℕ, true, List, [], ◌++◌, length, refl, sym, ap}
 use Rattle.std.specs.Prelude.{Option, None, Some}
-use Rattle.std.proofs.lemmas.List.{append-nil}
+use Rattle.std.proofs.lemmas.List.{append-nil, set-get_or}
 use Rattle.rv_hart.specs.declared.csr.Lines.{Lines}
-use Rattle.rv_hart.specs.Core.{Core}
+use Rattle.rv_hart.specs.Core.{Core, initial}
 use Rattle.rv_hart.specs.Trap.{chosen}
 use Rattle.dev_core.specs.declared.payload.Effect.{Effect as DeviceEffect}
 use Rattle.dev_core.specs.declared.payload.Effect.TheVariants.{Quiet, Send}
@@ -19,8 +19,9 @@ use Rattle.board.specs.Wires.{Wires, posted, entered, entered_if, note_if, sent,
 use Rattle.board.specs.Wires.{loaded_from, stored_to}
 use Rattle.rv_exec.specs.Effect.{Effect, Done, Load, Store, core_after, bus_after}
 use Rattle.board.specs.Fetch.{effect_on}
-use Rattle.board.specs.View.{View, State, quiet, state_of, after}
-use Rattle.board.specs.Slot.{slot, awake}
+use Rattle.board.specs.HartView.{hart_state}
+use Rattle.board.specs.View.{View, State, quiet, after, core_at}
+use Rattle.board.specs.Slot.{slot, hart_slot, awake, number_after}
 
 -- the wires with this space, by which all this was made before
 abbrev pub wires_by : Wires → Space → List Post → List Entry → Wires
@@ -104,21 +105,28 @@ effect-behind w effect =
 pub quiet-behind : (s : State) → s ≡ after s (quiet s.view)
 quiet-behind s = sym (simp append-nil)
 
--- a slot in which an instruction is done, of a board at the beginning and at the end of it
+-- a slot in which an instruction is done, of a processor at the beginning and at the end of it
 pub awake-instruction :
-    (core core' : Core) (w begun w' : Wires) (t : ℕ) (lines : Lines) →
+    (hart : ℕ) (core core' : Core) (watch watch' : List (Option ℕ)) (w begun w' : Wires) (t : ℕ) (lines : Lines) →
+    let v = (hart_state hart core watch w).view in
+    let shared = effect_on v begun lines in
+    let made = awake v t lines in
     chosen core lines.mip ≡ None → begun ≡ record w { at = t } →
-    core' ≡ core_after answer begun (effect_on core begun lines) →
-    w' ≡ bus_after loaded stored begun (effect_on core begun lines) →
-    state_of core' w' ≡ after (state_of core w) (awake (state_of core w).view t lines)
+    core' ≡ core_after answer begun shared.effect → watch' ≡ shared.watch →
+    w' ≡ bus_after loaded stored begun shared.effect →
+    hart_state hart core' watch' w'
+    ≡ record { view = made.view; posts = w.posts ++ made.posts; entries = w.entries ++ made.entries }
 unfolding awake
-awake-instruction core core' w begun w' t lines none begins core_is wires_is =
+awake-instruction hart core core' watch watch' w begun w' t lines none begins core_is watch_is wires_is =
     let begun' : Wires = record w { at = t } in
-    let effect = effect_on core begun' lines in
-    rw (core_is, wires_is, begins, none)
-    (ap (λ now. state_of (core_after answer begun' effect) now) (effect-behind begun' effect))
+    let shared = effect_on (hart_state hart core watch w).view begun' lines in
+    rw (core_is, watch_is, wires_is, begins, none)
+    (ap (λ now. hart_state hart (core_after answer begun' shared.effect) shared.watch now)
+    (effect-behind begun' shared.effect))
 
--- slots of a halted board change nothing
-pub slot-halted : (v : View) (t : ℕ) → v.core.halted ≡ true → slot v t ≡ quiet v
-unfolding slot
-slot-halted v t halted = rw halted refl
+-- a slot of a halted processor changes nothing but whose turn is next
+pub slot-halted :
+    (v : View) (t : ℕ) → (core_at v v.next).halted ≡ true →
+    slot v t ≡ quiet (record v { next = number_after (length v.cores) v.next })
+unfolding slot hart_slot
+slot-halted v t halted = rw (halted, set-get_or v.cores v.next initial) refl

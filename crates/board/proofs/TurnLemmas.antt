@@ -1,0 +1,187 @@
+-- How the processors of a board take its slots in turn. Of n slots from the one of `next` on, hart k of h takes
+-- `n / h`, and one more where `(k + (h - next)) % h < n % h`.
+use Rattle.std.proofs.Common.{◌≡◌, ℕ, zero, suc, ◌+◌, ◌-◌, ◌*◌, ◌/◌, ◌%◌, ◌<◌, ◌≤◌, ◌==◌, Bool, true, false, length, cond}
+use Rattle.std.proofs.Common.{nat_lt, refl, sym, ap, ◌∙◌, inl, inr, add-one, arith, count_by}
+use Rattle.std.specs.Prelude.{if◌then◌else◌, List, Option, slice_set}
+use Rattle.std.specs.List.{range_with_len}
+use Rattle.std.proofs.Math.Nat.{suc-mul, suc-mod, mod-eq_of_lt, mod_self}
+use Rattle.std.proofs.lemmas.Bool.{cases_eq, cases_lt}
+use Rattle.std.proofs.lemmas.Bool.Decides.{nat_tests}
+use Rattle.std.proofs.lemmas.List.{length-set, map-id}
+use Rattle.std.proofs.lemmas.List.FromFn.{sum_by-map-range_with_len_more}
+use Rattle.std.proofs.lemmas.Nat.{div-add-mod', div-mul-add, mod-mul-add, mod_below}
+use Rattle.lab_num.specs.Paid.{slot_at}
+use Rattle.board.specs.Idle.{turns_of}
+use Rattle.board.specs.Slot.{slot, number_after}
+use Rattle.board.specs.Stretch.{stretch}
+use Rattle.board.specs.View.{View}
+
+-- ---- whose turn is next
+
+pub number_after_is : (harts hart : ℕ) → hart < harts → number_after harts hart ≡ (hart + 1) % harts
+number_after_is harts hart below = elim (cases_eq (hart + 1) harts) [
+  | inl last ↦ rw last (grind (arith, nat_tests, mod_self harts))
+  | inr other ↦
+      let next : hart + 1 < harts = omega (arith, below, other) in
+      let same : (hart + 1) % harts ≡ hart + 1 = mod-eq_of_lt next in
+      grind (arith, nat_tests, next, same)
+]
+
+pub cores-slot : (v : View) (t : ℕ) → length (slot v t).view.cores ≡ length v.cores
+unfolding slot
+cores-slot v t = length-set v.cores v.next _
+
+pub next-slot : (v : View) (t : ℕ) → (slot v t).view.next ≡ number_after (length v.cores) v.next
+unfolding slot
+next-slot v t = refl
+
+pub cores-stretch : (v : View) (from a n : ℕ) → length (stretch v from a n).view.cores ≡ length v.cores
+unfolding stretch
+cores-stretch v from a zero = refl
+cores-stretch v from a (suc n) =
+    cores-slot (stretch v from a n).view (slot_at from v.numbers.speed (a + n)) ∙ cores-stretch v from a n
+
+pub next-stretch :
+    (v : View) (from a n : ℕ) → v.next < length v.cores →
+    (stretch v from a n).view.next ≡ (v.next + n) % length v.cores
+unfolding stretch
+next-stretch v from a zero below =
+    let none : v.next + zero ≡ v.next = omega arith in
+    rw none (sym (mod-eq_of_lt below))
+next-stretch v from a (suc n) below =
+    let harts = length v.cores in
+    let run = (stretch v from a n).view in
+    let t = slot_at from v.numbers.speed (a + n) in
+    let is = next-stretch v from a n below in
+    let within : (v.next + n) % harts < harts = mod_below _ _ (omega (arith, below)) in
+    let more : v.next + suc n ≡ suc (v.next + n) = omega arith in
+    next-slot run t
+    ∙ rw (cores-stretch v from a n, is, number_after_is harts _ within, more, suc-mod (v.next + n) harts, add-one) refl
+
+-- the one that takes the next slot is one of the processors
+pub below-stretch :
+    (v : View) (from a n : ℕ) → v.next < length v.cores →
+    (stretch v from a n).view.next < length (stretch v from a n).view.cores
+below-stretch v from a n below =
+    rw (cores-stretch v from a n, next-stretch v from a n below) (mod_below _ _ (omega (arith, below)))
+
+-- ---- how many slots each takes
+
+pub turns_none : (harts next hart : ℕ) → turns_of harts next 0 hart ≡ 0
+turns_none harts next hart = refl
+
+pub turns_more :
+    (harts next n hart : ℕ) →
+    turns_of harts next (suc n) hart
+    ≡ turns_of harts next n hart + (if (next + n) % harts == hart then 1 else 0)
+turns_more harts next n hart =
+    rw (add-one, map-id, map-id) at
+    (sum_by-map-range_with_len_more (λ i. if (next + i) % harts == hart then 1 else 0) (λ i. i) 0 n n (omega arith))
+
+-- the first of its slots that a processor takes, where all take one of each so many in turn from `next` on
+abbrev pub first_turn : ℕ → ℕ → ℕ → ℕ
+first_turn harts next hart = (hart + (harts - next)) % harts
+
+first_is :
+    (harts next hart : ℕ) → next < harts → hart < harts →
+    first_turn harts next hart ≡ (if nat_lt hart next then hart + (harts - next) else hart - next)
+first_is harts next hart below there = elim (cases_lt hart next) [
+  | inl before ↦
+      let same : (hart + (harts - next)) % harts ≡ hart + (harts - next) = mod-eq_of_lt (omega (arith, before, below)) in
+      grind (arith, nat_tests, before, same)
+  | inr after ↦
+      let sum : hart + (harts - next) ≡ 1 * harts + (hart - next) = omega (arith, after, below) in
+      let same : (hart + (harts - next)) % harts ≡ hart - next =
+      rw sum (mod-mul-add 1 harts (hart - next) (omega (arith, there))) in
+      grind (arith, nat_tests, after, same)
+]
+
+-- whose turn it is after so many slots
+turn_is :
+    (harts next n : ℕ) → next < harts →
+    (next + n) % harts
+    ≡ (if nat_lt (next + n % harts) harts then next + n % harts else next + n % harts - harts)
+turn_is harts next n below =
+    let q = n / harts in
+    let r = n % harts in
+    let split : n ≡ q * harts + r = sym (div-add-mod' n harts) in
+    let small : r < harts = mod_below n harts (omega (arith, below)) in
+    elim (cases_lt (next + r) harts) [
+      | inl within ↦
+          let sum : next + n ≡ q * harts + (next + r) = omega (arith, split) in
+          let same : (next + n) % harts ≡ next + r = rw sum (mod-mul-add q harts (next + r) within) in
+          grind (arith, nat_tests, within, same)
+      | inr past ↦
+          let more : (q + 1) * harts ≡ q * harts + harts = rw (add-one) (suc-mul q harts) in
+          let sum : next + n ≡ (q + 1) * harts + (next + r - harts) = omega (arith, split, past, more) in
+          let same : (next + n) % harts ≡ next + r - harts =
+          rw sum (mod-mul-add (q + 1) harts (next + r - harts) (omega (arith, small, below))) in
+          grind (arith, nat_tests, past, same)
+    ]
+
+-- a processor's turn comes where its first one does
+turn_comes :
+    (harts next n hart : ℕ) → next < harts → hart < harts →
+    ((next + n) % harts == hart) ≡ (first_turn harts next hart == n % harts)
+turn_comes harts next n hart below there =
+    let small : n % harts < harts = mod_below n harts (omega (arith, below)) in
+    rw (turn_is harts next n below, first_is harts next hart below there)
+    (by_places harts next (n % harts) hart below there small)
+  where
+    by_places :
+        (harts next r hart : ℕ) → next < harts → hart < harts → r < harts →
+        ((if nat_lt (next + r) harts then next + r else next + r - harts) == hart)
+        ≡ ((if nat_lt hart next then hart + (harts - next) else hart - next) == r)
+    by_places harts next r hart below there small = grind (arith, nat_tests, below, there, small)
+
+-- what one more slot adds to quotient and remainder
+one_more :
+    (harts n first : ℕ) → first < harts →
+    n / harts + (if nat_lt first (n % harts) then 1 else 0) + (if first == n % harts then 1 else 0)
+    ≡ suc n / harts + (if nat_lt first (suc n % harts) then 1 else 0)
+one_more harts n first below =
+    let q = n / harts in
+    let r = n % harts in
+    let split : n ≡ q * harts + r = sym (div-add-mod' n harts) in
+    let small : r < harts = mod_below n harts (omega (arith, below)) in
+    elim (cases_eq (r + 1) harts) [
+      | inl last ↦
+          let more : (q + 1) * harts ≡ q * harts + harts = rw (add-one) (suc-mul q harts) in
+          let sum : suc n ≡ (q + 1) * harts + 0 = omega (arith, split, last, more) in
+          let quotient : suc n / harts ≡ q + 1 = rw sum (div-mul-add (q + 1) harts 0 (omega (arith, below))) in
+          let rest : suc n % harts ≡ 0 = rw sum (mod-mul-add (q + 1) harts 0 (omega (arith, below))) in
+          rw (quotient, rest) (grind (arith, nat_tests, below, last))
+      | inr other ↦
+          let sum : suc n ≡ q * harts + (r + 1) = omega (arith, split) in
+          let within : r + 1 < harts = omega (arith, small, other) in
+          let quotient : suc n / harts ≡ q = rw sum (div-mul-add q harts (r + 1) within) in
+          let rest : suc n % harts ≡ r + 1 = rw sum (mod-mul-add q harts (r + 1) within) in
+          rw (quotient, rest) (grind (arith, nat_tests, below, small))
+    ]
+
+pub turns_are :
+    (harts next n hart : ℕ) → next < harts → hart < harts →
+    turns_of harts next n hart
+    ≡ n / harts + (if nat_lt (first_turn harts next hart) (n % harts) then 1 else 0)
+turns_are harts next zero hart below there = grind (arith, nat_tests, below)
+turns_are harts next (suc n) hart below there =
+    let first = first_turn harts next hart in
+    let small : first < harts = mod_below _ _ (omega (arith, below)) in
+    turns_more harts next n hart
+    ∙ rw (turns_are harts next n hart below there, turn_comes harts next n hart below there)
+    (one_more harts n first small)
+
+-- each takes its share, or one more
+pub turns_fair :
+    (harts next n hart : ℕ) → next < harts → hart < harts →
+    (n / harts ≤ turns_of harts next n hart) × (turns_of harts next n hart ≤ n / harts + 1)
+turns_fair harts next n hart below there =
+    rw (turns_are harts next n hart below there) (share (nat_lt (first_turn harts next hart) (n % harts)))
+  where
+    share : (b : Bool) → (n / harts ≤ n / harts + (if b then 1 else 0)) × (n / harts + (if b then 1 else 0) ≤ n / harts + 1)
+    share true = (omega arith, omega arith)
+    share false = (omega arith, omega arith)
+
+-- a board of one processor has no other to take its slots
+pub next_alone : (v : View) (t : ℕ) → length v.cores ≡ 1 → v.next ≡ 0 → (slot v t).view.next ≡ 0
+next_alone v t one first = next-slot v t ∙ rw (one, first) refl
