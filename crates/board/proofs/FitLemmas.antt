@@ -365,8 +365,10 @@ same_cores (x ∷ xs) (y ∷ ys) halted letters number =
     let halted' : x.halted ≡ y.halted = cc in
     let letters' : x.letters ≡ y.letters = cc in
     let number' : x.number ≡ y.number = cc in
-    let rest = same_cores xs ys cc cc cc in
-    rw (halted', letters', number', rest) refl
+    let halteds : map (λ core. core.halted) xs ≡ map (λ core. core.halted) ys = cc in
+    let lettersets : map (λ core. core.letters) xs ≡ map (λ core. core.letters) ys = cc in
+    let numbers : map (λ core. core.number) xs ≡ map (λ core. core.number) ys = cc in
+    rw (halted', letters', number', same_cores xs ys halteds lettersets numbers) refl
 
 -- or of a timer or of an interrupt controller
 pub same_timers :

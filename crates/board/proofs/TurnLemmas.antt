@@ -1,9 +1,8 @@
 -- How the processors of a board take its slots in turn. Of n slots from the one of `next` on, hart k of h takes
 -- `n / h`, and one more where `(k + (h - next)) % h < n % h`.
-use Rattle.std.proofs.Common.{◌≡◌, ℕ, zero, suc, ◌+◌, ◌-◌, ◌*◌, ◌/◌, ◌%◌, ◌<◌, ◌≤◌, ◌==◌, Bool, true, false, length, cond}
-use Rattle.std.proofs.Common.{nat_lt, refl, sym, ap, ◌∙◌, inl, inr, add-one, arith, count_by}
-use Rattle.std.specs.Prelude.{if◌then◌else◌, List, Option, slice_set}
-use Rattle.std.specs.List.{range_with_len}
+use Rattle.std.proofs.Common.{◌≡◌, ℕ, zero, suc, ◌+◌, ◌-◌, ◌*◌, ◌/◌, ◌%◌, ◌<◌, ◌≤◌, ◌==◌, Bool, true, false, length}
+use Rattle.std.proofs.Common.{nat_lt, refl, sym, ◌∙◌, inl, inr, add-one, arith}
+use Rattle.std.specs.Prelude.{if◌then◌else◌}
 use Rattle.std.proofs.Math.Nat.{suc-mul, suc-mod, mod-eq_of_lt, mod_self}
 use Rattle.std.proofs.lemmas.Bool.{cases_eq, cases_lt}
 use Rattle.std.proofs.lemmas.Bool.Decides.{nat_tests}

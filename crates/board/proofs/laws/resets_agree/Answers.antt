@@ -1,5 +1,4 @@
-use Rattle.std.proofs.Common.{ap, refl}
-use Rattle.std.specs.Prelude.{replicate, None}
+use Rattle.std.proofs.Common.{refl}
 use Rattle.board.proofs.FitLemmas.{same_resets, same_timers, same_controllers, same_cores}
 use Rattle.board.proofs.laws.resets_agree.Goals as goal
 
