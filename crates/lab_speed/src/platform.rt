@@ -98,7 +98,7 @@ fn plan(alloc: Global, wired: bool, letters: Letters) -> Option<BoardPlan>
         }),
         wires: Rows::of(wires(alloc, wired)?),
         speed: 25,
-        cpu: Text::of(alloc, "cpu").ok()?,
+        cpus: Rows::of(vec![in alloc; Text::of(alloc, "cpu").ok()?].ok()?),
         letters,
     })
 }
