@@ -1,10 +1,8 @@
 -- What a slot makes comes after what was made before.
-use Rattle.std.proofs.Common.{◌≡◌, ℕ, true, List, [], ◌++◌, length, refl, sym, ap}
+use Rattle.std.proofs.Common.{◌≡◌, ℕ, true, List, [], ◌++◌, length, refl, sym}
 use Rattle.std.specs.Prelude.{Option, None, Some}
 use Rattle.std.proofs.lemmas.List.{append-nil, set-get_or}
-use Rattle.rv_hart.specs.declared.csr.Lines.{Lines}
-use Rattle.rv_hart.specs.Core.{Core, initial}
-use Rattle.rv_hart.specs.Trap.{chosen}
+use Rattle.rv_hart.specs.Core.{initial}
 use Rattle.dev_core.specs.declared.payload.Effect.{Effect as DeviceEffect}
 use Rattle.dev_core.specs.declared.payload.Effect.TheVariants.{Quiet, Send}
 use Rattle.dev_core.specs.declared.payload.Payload.{Payload}
@@ -15,13 +13,11 @@ use Rattle.dev_core.specs.declared.post.What.TheVariants as what
 use Rattle.sys_bus.specs.declared.region.Target.{Target}
 use Rattle.sys_bus.specs.declared.region.Target.TheVariants.{Ram, Clint, Plic, Dev, Nothing}
 use Rattle.board.specs.Space.{Space, device_at, target_at, device_store, after_load, after_store}
-use Rattle.board.specs.Wires.{Wires, posted, entered, entered_if, note_if, sent, acted, answer, loaded, stored}
+use Rattle.board.specs.Wires.{Wires, posted, entered, entered_if, note_if, sent, acted, loaded, stored}
 use Rattle.board.specs.Wires.{loaded_from, stored_to}
-use Rattle.rv_exec.specs.Effect.{Effect, Done, Load, Store, core_after, bus_after}
-use Rattle.board.specs.Fetch.{effect_on}
-use Rattle.board.specs.HartView.{hart_state}
+use Rattle.rv_exec.specs.Effect.{Effect, Done, Load, Store, bus_after}
 use Rattle.board.specs.View.{View, State, quiet, after, core_at}
-use Rattle.board.specs.Slot.{slot, hart_slot, awake, number_after}
+use Rattle.board.specs.Slot.{slot, hart_slot, number_after}
 
 -- the wires with this space, by which all this was made before
 abbrev pub wires_by : Wires → Space → List Post → List Entry → Wires
@@ -88,7 +84,7 @@ speed-effect w effect =
 abbrev behind : Wires → Wires → Wires
 behind front w = record w { posts = front.posts ++ w.posts; entries = front.entries ++ w.entries }
 
-effect-behind :
+pub effect-behind :
     (w : Wires) (effect : Effect) →
     bus_after loaded stored w effect
     ≡ behind w (bus_after loaded stored (record w { posts = []; entries = [] }) effect)
@@ -104,25 +100,6 @@ effect-behind w effect =
 -- a slot in which nothing is made
 pub quiet-behind : (s : State) → s ≡ after s (quiet s.view)
 quiet-behind s = sym (simp append-nil)
-
--- a slot in which an instruction is done, of a processor at the beginning and at the end of it
-pub awake-instruction :
-    (hart : ℕ) (core core' : Core) (watch watch' : List (Option ℕ)) (w begun w' : Wires) (t : ℕ) (lines : Lines) →
-    let v = (hart_state hart core watch w).view in
-    let shared = effect_on v begun lines in
-    let made = awake v t lines in
-    chosen core lines.mip ≡ None → begun ≡ record w { at = t } →
-    core' ≡ core_after answer begun shared.effect → watch' ≡ shared.watch →
-    w' ≡ bus_after loaded stored begun shared.effect →
-    hart_state hart core' watch' w'
-    ≡ record { view = made.view; posts = w.posts ++ made.posts; entries = w.entries ++ made.entries }
-unfolding awake
-awake-instruction hart core core' watch watch' w begun w' t lines none begins core_is watch_is wires_is =
-    let begun' : Wires = record w { at = t } in
-    let shared = effect_on (hart_state hart core watch w).view begun' lines in
-    rw (core_is, watch_is, wires_is, begins, none)
-    (ap (λ now. hart_state hart (core_after answer begun' shared.effect) shared.watch now)
-    (effect-behind begun' shared.effect))
 
 -- a slot of a halted processor changes nothing but whose turn is next
 pub slot-halted :
