@@ -10,3 +10,4 @@ pub mod SentLemmas
 pub mod SlotLemmas
 pub mod SourceLemmas
 pub mod StretchLemmas
+pub mod TurnLemmas
