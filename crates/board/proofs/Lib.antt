@@ -1,6 +1,7 @@
 pub mod CopyLemmas
 pub mod DeviceLemmas
 pub mod FitLemmas
+pub mod HartLemmas
 pub mod IdleLemmas
 pub mod LineLemmas
 pub mod ListLemmas
