@@ -19,8 +19,8 @@ use Rattle.board.specs.Wires.{Wires, posted, entered, entered_if, note_if, sent,
 use Rattle.board.specs.Wires.{loaded_from, stored_to}
 use Rattle.rv_exec.specs.Effect.{Effect, Done, Load, Store, core_after, bus_after}
 use Rattle.board.specs.Fetch.{effect_on}
-use Rattle.board.specs.View.{View, State, quiet, state_of, after}
-use Rattle.board.specs.Slot.{slot, awake}
+use Rattle.board.specs.View.{View, State, quiet, after}
+use Rattle.board.specs.Slot.{slot}
 
 -- the wires with this space, by which all this was made before
 abbrev pub wires_by : Wires → Space → List Post → List Entry → Wires
@@ -87,7 +87,7 @@ speed-effect w effect =
 abbrev behind : Wires → Wires → Wires
 behind front w = record w { posts = front.posts ++ w.posts; entries = front.entries ++ w.entries }
 
-effect-behind :
+pub effect-behind :
     (w : Wires) (effect : Effect) →
     bus_after loaded stored w effect
     ≡ behind w (bus_after loaded stored (record w { posts = []; entries = [] }) effect)
@@ -103,20 +103,6 @@ effect-behind w effect =
 -- a slot in which nothing is made
 pub quiet-behind : (s : State) → s ≡ after s (quiet s.view)
 quiet-behind s = sym (simp append-nil)
-
--- a slot in which an instruction is done, of a board at the beginning and at the end of it
-pub awake-instruction :
-    (core core' : Core) (w begun w' : Wires) (t : ℕ) (lines : Lines) →
-    chosen core lines.mip ≡ None → begun ≡ record w { at = t } →
-    core' ≡ core_after answer begun (effect_on core begun lines) →
-    w' ≡ bus_after loaded stored begun (effect_on core begun lines) →
-    state_of core' w' ≡ after (state_of core w) (awake (state_of core w).view t lines)
-unfolding awake
-awake-instruction core core' w begun w' t lines none begins core_is wires_is =
-    let begun' : Wires = record w { at = t } in
-    let effect = effect_on core begun' lines in
-    rw (core_is, wires_is, begins, none)
-    (ap (λ now. state_of (core_after answer begun' effect) now) (effect-behind begun' effect))
 
 -- slots of a halted board change nothing
 pub slot-halted : (v : View) (t : ℕ) → v.core.halted ≡ true → slot v t ≡ quiet v

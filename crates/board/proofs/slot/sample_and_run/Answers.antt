@@ -1,23 +1,27 @@
-use Rattle.std.proofs.Common.{◌≡◌, ◌∙◌, ap, refl}
-use Rattle.board.specs.Inner.Fit.{with_controller}
-use Rattle.board.specs.Slot.{sampling}
-use Rattle.board.specs.View.{State}
+use Rattle.std.proofs.Common.{◌≡◌, ◌∙◌, ap, refl, sym, length}
+use Rattle.sys_bus.specs.declared.plan.BoardPlan.{BoardPlan}
+use Rattle.board.specs.HartView.{HartState, hart_state}
+use Rattle.board.specs.Inner.Fit.{in_state}
+use Rattle.board.specs.Inner.Seat.{ways_of}
+use Rattle.board.specs.Lines.{sampled}
+use Rattle.board.specs.Space.{Space}
 use Rattle.board.proofs.LineLemmas.{still_state, undone}
 use Rattle.board.proofs.slot.sample_and_run.Goals as goal
 
-pub put_controller-requires : goal.put_controller-requires
-put_controller-requires g c =
-    rw ((c.in_default.ensures {u = tt}).err, c.sample-lines.ensures.space)
-    (still_state _ _ c.controller_state-before.ensures.valid)
+plan_sampled : (now old : Space) → now ≡ sampled old → now.plan ≡ old.plan
+unfolding sampled
+plan_sampled now old is = ap {A = Space} (λ s. s.plan) is
 
-pub returns-in_default-clause-err : goal.returns-in_default-clause-err
-returns-in_default-clause-err g c =
-    let old = c.args.self.now in
-    let before = c.controller_state-before.result in
-    let sampled : c.run.new.self ≡ record old { view = sampling old.view } =
-    rw ((c.in_default.ensures {u = tt}).err, c.sample-lines.ensures.space, ← c.self.view_is, ← c.self-inside.view_is)
-    refl in
-    c.put_controller.ensures
-    ∙ ap {A = State} (λ s. record s { view = with_controller s.view before }) sampled
-    ∙ ap (λ v. record old { view = v })
-    (undone old.view before (rw (← c.self.view_is, ← c.self-inside.view_is) c.controller_state-before.ensures.value))
+pub run-requires-clause-ways : goal.run-requires-clause-ways
+run-requires-clause-ways g c =
+    c.requires.ways ∙ ap ways_of (sym (plan_sampled _ _ c.sample-lines.ensures.space))
+
+pub run-requires-clause-letters : goal.run-requires-clause-letters
+run-requires-clause-letters g c =
+    c.requires.letters
+    ∙ ap {A = BoardPlan} (λ plan. plan.letters) (sym (plan_sampled _ _ c.sample-lines.ensures.space))
+
+pub run-requires-clause-harts : goal.run-requires-clause-harts
+run-requires-clause-harts g c =
+    c.requires.harts
+    ∙ ap {A = BoardPlan} (λ plan. length plan.cpus) (sym (plan_sampled _ _ c.sample-lines.ensures.space))
