@@ -1,32 +1,34 @@
 -- What a processor does in its slot, as its board has it.
-use Rattle.std.proofs.Common.{◌≡◌, ◌∙◌, ℕ, ◌<◌, ◌==◌, Bool, true, false, not, ◌||◌, List, [], ◌∷◌, length, map, refl, sym}
+use Rattle.std.proofs.Common.{◌≡◌, ◌∙◌, ℕ, ◌%◌, ◌<◌, ◌==◌, Bool, true, false, not, ◌||◌, List, [], ◌∷◌, length, map, set, refl, sym}
 use Rattle.std.proofs.Common.{ap, arith}
 use Rattle.std.specs.Prelude.{Option, None, Some, if◌then◌else◌}
-use Rattle.std.specs.Option.{option_map_or}
-use Rattle.std.proofs.lemmas.Bool.{eqb-true, not-flip, or_parts}
+use Rattle.std.specs.Option.{option_and_then, option_map_or}
+use Rattle.std.proofs.lemmas.Bool.{eqb-true, or_parts}
 use Rattle.std.proofs.lemmas.List.{length-map, length-set}
 use Rattle.rv_hart.specs.declared.csr.Lines.{Lines}
-use Rattle.rv_hart.specs.Core.{Core}
+use Rattle.rv_hart.specs.Core.{Core, reg}
 use Rattle.rv_hart.specs.Trap.{chosen}
-use Rattle.rv_exec.specs.Effect.{Effect, effect, core_after, bus_after}
-use Rattle.rv_exec.specs.Outcome.{Outcome}
+use Rattle.rv_exec.specs.Effect.{Effect, Done, effect, core_after, bus_after}
+use Rattle.rv_exec.specs.Outcome.{traps}
 use Rattle.rv_atomic.specs.declared.atomic.AtomicOp.{AtomicOp}
 use Rattle.rv_atomic.specs.declared.atomic.AtomicOp.TheVariants.{Lr, Sc, Swap, Add, Xor, And, Or, Min, Max, Minu, Maxu}
 use Rattle.rv_atomic.specs.declared.atomic.Atomic.{Atomic}
 use Rattle.rv_atomic.specs.declared.shared.Shared.{Shared}
 use Rattle.rv_atomic.specs.declared.shared.Shared.TheVariants as shared
 use Rattle.rv_atomic.specs.declared.span.Span.{Span}
-use Rattle.rv_atomic.specs.AtomicEffect.{SharedEffect, address, atomic_effect, leaves, store_conditional, with_word}
+use Rattle.rv_atomic.specs.AtomicEffect.{SharedEffect, address, atomic_effect, gives, gives_and_stores, leaves}
+use Rattle.rv_atomic.specs.AtomicEffect.{access_fault_cause, misaligned_cause, store_conditional, with_word}
+use Rattle.rv_atomic.specs.Means.{atomic_of}
 use Rattle.rv_atomic.specs.Laws.{PlainAlone}
 use Rattle.rv_atomic.specs.SharedEffect.{after_effect, shared_effect}
 use Rattle.rv_atomic.specs.Span.{span_of}
 use Rattle.rv_atomic.specs.Watch.{after_store, has_reserved, kept, reserved}
 use Rattle.sys_bus.specs.declared.plan.BoardPlan.{BoardPlan}
-use Rattle.board.specs.Fetch.{effect_on, fetched_by}
+use Rattle.board.specs.Fetch.{effect_on, fetched_by, shared_by, word_at_pc}
 use Rattle.board.specs.HartView.{HartView, HartState, hart_state}
 use Rattle.board.specs.Inner.Seat.{behind, is_shared, seen}
 use Rattle.board.specs.Slot.{awake}
-use Rattle.board.specs.Wires.{Wires, answer, loaded, stored}
+use Rattle.board.specs.Wires.{Wires, answer, fetched, loaded, stored}
 use Rattle.board.proofs.SlotLemmas.{effect-behind}
 
 -- a slot in which an instruction is done, at the beginning and at the end of it
@@ -64,10 +66,18 @@ length-effect hart effect watch = by_span (span_of effect)
 length-conditional :
     (core : Core) (hart : ℕ) (watch : List (Option ℕ)) (a : Atomic) →
     length (store_conditional core hart watch a).watch ≡ length watch
-length-conditional core hart watch a with has_reserved watch hart (address core a)
-... | true =
-    length-set (after_store hart (address core a) 4 watch) hart None ∙ length-stored hart (address core a) 4 watch
-... | false = length-set watch hart None
+length-conditional core hart watch a = by_test (has_reserved watch hart (address core a))
+  where
+    by_test :
+        (b : Bool) →
+        length
+        (if b then
+        leaves (gives_and_stores core a 0 (reg core a.rs2))
+        (set (after_store hart (address core a) 4 watch) hart None)
+        else leaves (gives core a 1) (set watch hart None)).watch ≡ length watch
+    by_test true =
+        length-set (after_store hart (address core a) 4 watch) hart None ∙ length-stored hart (address core a) 4 watch
+    by_test false = length-set watch hart None
 
 length-word :
     (op : AtomicOp) (core : Core) (hart : ℕ) (watch : List (Option ℕ)) (a : Atomic) (word : ℕ) →
@@ -84,13 +94,37 @@ length-word Max core hart watch a word = length-stored hart (address core a) 4 w
 length-word Minu core hart watch a word = length-stored hart (address core a) 4 watch
 length-word Maxu core hart watch a word = length-stored hart (address core a) 4 watch
 
+length-atomic :
+    (memory : ℕ → Option ℕ) (core : Core) (hart : ℕ) (watch : List (Option ℕ)) (a : Atomic) →
+    length (atomic_effect memory core hart watch a).watch ≡ length watch
+unfolding atomic_effect
+length-atomic memory core hart watch a = by_test (address core a % 4 == 0)
+  where
+    by_word :
+        (o : Option ℕ) →
+        length
+        (option_map_or (with_word a.op core hart watch a) o
+        (leaves (Done (traps core (access_fault_cause a.op) (address core a))) watch)).watch ≡ length watch
+    by_word None = refl
+    by_word (Some word) = length-word a.op core hart watch a word
+
+    by_test :
+        (b : Bool) →
+        length
+        (if b then
+        option_map_or (with_word a.op core hart watch a) (memory (address core a))
+        (leaves (Done (traps core (access_fault_cause a.op) (address core a))) watch)
+        else leaves (Done (traps core (misaligned_cause a.op) (address core a))) watch).watch ≡ length watch
+    by_test true = by_word (memory (address core a))
+    by_test false = refl
+
 -- what a slot does keeps the number of those that may have a reservation
 pub length-shared :
     (memory : ℕ → Option ℕ) (core : Core) (hart : ℕ) (watch : List (Option ℕ)) (what : Shared) (lines : Lines) →
     length (shared_effect memory core hart watch what lines).watch ≡ length watch
-unfolding shared_effect atomic_effect
+unfolding shared_effect
 length-shared memory core hart watch (shared.Plain what) lines = length-effect hart (effect core what lines) watch
-length-shared memory core hart watch (shared.Atomic a) lines = grind (length-word)
+length-shared memory core hart watch (shared.Atomic a) lines = length-atomic memory core hart watch a
 
 -- ---- a processor alone
 
@@ -104,6 +138,17 @@ not-shared plan none =
     one : (b : Bool) → not b ≡ false → b ≡ true
     one true is = refl
     one false is = absurd (cc)
+
+-- without atomic instructions it does what it fetches
+plain_by : (core : Core) (w : Wires) → core.letters.a ≡ false → shared_by core w ≡ shared.Plain (fetched_by core w)
+plain_by core w plain = by_letter core.letters.a plain
+  where
+    by_letter :
+        (b : Bool) → b ≡ false →
+        option_map_or shared.Atomic (if b then option_and_then atomic_of (word_at_pc core w) else None)
+        (shared.Plain (fetched_by core w)) ≡ shared.Plain (fetched_by core w)
+    by_letter false is = refl
+    by_letter true is = absurd (cc)
 
 -- it does what it does by the rules of a hart alone
 pub alone_effect :
@@ -121,5 +166,7 @@ alone_effect law hart core watch w lines shares letters below harts =
     by_watch [] one below plain = absurd (omega (arith, one))
     by_watch (word ∷ []) one below plain =
         let first : hart ≡ 0 = omega (arith, below) in
-        rw (first, plain) (law _ core word (fetched_by core w) lines)
+        rw first
+        (ap (λ what. shared_effect (fetched w) core 0 (word ∷ []) what lines) (plain_by core w plain)
+        ∙ law (fetched w) core word (fetched_by core w) lines)
     by_watch (word ∷ other ∷ words) one below plain = absurd (omega (arith, one))

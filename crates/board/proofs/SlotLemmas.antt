@@ -103,8 +103,3 @@ effect-behind w effect =
 -- a slot in which nothing is made
 pub quiet-behind : (s : State) → s ≡ after s (quiet s.view)
 quiet-behind s = sym (simp append-nil)
-
--- slots of a halted board change nothing
-pub slot-halted : (v : View) (t : ℕ) → v.core.halted ≡ true → slot v t ≡ quiet v
-unfolding slot
-slot-halted v t halted = rw halted refl
