@@ -11,3 +11,4 @@ pub mod SentLemmas
 pub mod SlotLemmas
 pub mod SourceLemmas
 pub mod StretchLemmas
+pub mod TurnLemmas

@@ -1,10 +1,8 @@
 -- What a slot makes comes after what was made before.
-use Rattle.std.proofs.Common.{◌≡◌, ℕ, true, List, [], ◌++◌, refl, sym, ap}
+use Rattle.std.proofs.Common.{◌≡◌, ℕ, true, List, [], ◌++◌, length, refl, sym}
 use Rattle.std.specs.Prelude.{Option, None, Some}
-use Rattle.std.proofs.lemmas.List.{append-nil}
-use Rattle.rv_hart.specs.declared.csr.Lines.{Lines}
-use Rattle.rv_hart.specs.Core.{Core}
-use Rattle.rv_hart.specs.Trap.{chosen}
+use Rattle.std.proofs.lemmas.List.{append-nil, set-get_or}
+use Rattle.rv_hart.specs.Core.{initial}
 use Rattle.dev_core.specs.declared.payload.Effect.{Effect as DeviceEffect}
 use Rattle.dev_core.specs.declared.payload.Effect.TheVariants.{Quiet, Send}
 use Rattle.dev_core.specs.declared.payload.Payload.{Payload}
@@ -15,12 +13,11 @@ use Rattle.dev_core.specs.declared.post.What.TheVariants as what
 use Rattle.sys_bus.specs.declared.region.Target.{Target}
 use Rattle.sys_bus.specs.declared.region.Target.TheVariants.{Ram, Clint, Plic, Dev, Nothing}
 use Rattle.board.specs.Space.{Space, device_at, target_at, device_store, after_load, after_store}
-use Rattle.board.specs.Wires.{Wires, posted, entered, entered_if, note_if, sent, acted, answer, loaded, stored}
+use Rattle.board.specs.Wires.{Wires, posted, entered, entered_if, note_if, sent, acted, loaded, stored}
 use Rattle.board.specs.Wires.{loaded_from, stored_to}
-use Rattle.rv_exec.specs.Effect.{Effect, Done, Load, Store, core_after, bus_after}
-use Rattle.board.specs.Fetch.{effect_on}
-use Rattle.board.specs.View.{View, State, quiet, after}
-use Rattle.board.specs.Slot.{slot}
+use Rattle.rv_exec.specs.Effect.{Effect, Done, Load, Store, bus_after}
+use Rattle.board.specs.View.{View, State, quiet, after, core_at}
+use Rattle.board.specs.Slot.{slot, hart_slot, number_after}
 
 -- the wires with this space, by which all this was made before
 abbrev pub wires_by : Wires → Space → List Post → List Entry → Wires
@@ -103,3 +100,10 @@ effect-behind w effect =
 -- a slot in which nothing is made
 pub quiet-behind : (s : State) → s ≡ after s (quiet s.view)
 quiet-behind s = sym (simp append-nil)
+
+-- a slot of a halted processor changes nothing but whose turn is next
+pub slot-halted :
+    (v : View) (t : ℕ) → (core_at v v.next).halted ≡ true →
+    slot v t ≡ quiet (record v { next = number_after (length v.cores) v.next })
+unfolding slot hart_slot
+slot-halted v t halted = rw (halted, set-get_or v.cores v.next initial) refl
