@@ -4,7 +4,7 @@ use Rattle.std.proofs.Common.{replicate, refl, sym, ap, subst, arith}
 use Rattle.std.specs.Prelude.{Option, None, if◌then◌else◌, slice_set, slice_index_or}
 use Rattle.std.specs.List.{range_with_len}
 use Rattle.std.proofs.Math.Seq.{map-set_same}
-use Rattle.std.proofs.lemmas.List.{length-map, length-set, length-replicate, map-map, map-id}
+use Rattle.std.proofs.lemmas.List.{length-map, length-set, length-replicate}
 use Rattle.std.proofs.lemmas.List.{get_or-map as get_or-map'}
 use Rattle.std.proofs.lemmas.List.Elements.{All-set, All-get_or, All-map, All-from_get_or}
 use Rattle.std.proofs.lemmas.List.FromFn.{fill_by_all, length-map-range_with_len, get_or-map-range_with_len}
@@ -65,6 +65,10 @@ pub holds_watch :
 holds_watch v watch space holds plan harts =
     holds_kept v _ holds refl plan harts holds.next refl holds.letters refl
 
+same_numbers : (cores : List Core) → map (λ core. core.number) (map reset_core cores) ≡ map (λ core. core.number) cores
+same_numbers [] = refl
+same_numbers (core ∷ cores) = ap (λ numbers. core.number ∷ numbers) (same_numbers cores)
+
 -- all processors are in their first states
 pub holds_reset :
     (v : View) (watch : List (Option ℕ)) (space : Space) → Holds v → space.plan ≡ v.space.plan →
@@ -73,7 +77,7 @@ pub holds_reset :
 holds_reset v watch space holds plan harts =
     holds_kept v _ holds refl plan harts (omega (arith, holds.next)) (length-map v.cores reset_core)
     (All-map (λ core. core.letters ≡ v.space.plan.letters) reset_core v.cores holds.letters)
-    (map-map reset_core (λ core. core.number) v.cores)
+    (same_numbers v.cores)
 
 -- cycles of the processors have passed
 letters-passed : (n : ℕ) (core : Core) → (core_passed n core).letters ≡ core.letters
