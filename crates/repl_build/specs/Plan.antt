@@ -85,7 +85,7 @@ plic_of peripherals = option_map plic_size_of (first_with kind.Plic peripherals)
 
 -- the letters of the processors, which all have the same
 abbrev pub letters_of : List Peripheral → Letters
-letters_of all = unwrap_or (record { a = false; c = false }) (first_letters all)
+letters_of all = unwrap_or (first_letters all) (record { a = false; c = false })
 
 -- test 11, and the wires in the order of peripherals, items and pairs
 abbrev pub wires_from : Option PlicSize → List Peripheral → List Peripheral → List Peripheral →

@@ -166,7 +166,10 @@ fn speed_of_all(all: &[Peripheral]) -> u32
 fn letters_of(all: &[Peripheral]) -> Letters
     ensures { result ≡ plan_spec.letters_of all.now }
 {
-    first_letters(all).unwrap_or(Letters { a: false, c: false })
+    match first_letters(all) {
+        Some(letters) => letters,
+        None => Letters { a: false, c: false },
+    }
 }
 
 /// The lists of a plan, apart from its wires.

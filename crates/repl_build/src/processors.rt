@@ -1,9 +1,8 @@
 //! The processors: their numbers, speeds and optional extensions.
 ghost use Rattle.std.specs.Prelude.{◌≡◌, ◌+◌, ◌<◌, nat_lt};
 ghost use Rattle.std.specs.List.{sum_by};
-ghost use Rattle.std.specs.Option.{option_map};
 ghost use Rattle.sys_bus.specs.Limits as limit;
-ghost use Rattle.repl_build.specs.Counts.{count_of};
+ghost use Rattle.repl_build.specs.Counts.{count_of, first_with};
 ghost use Rattle.repl_build.specs.Processors as processor;
 
 use crate::attributes::{is_refused, item_of, number_of};
@@ -22,10 +21,13 @@ pub(crate) fn hart_of(all: &[Peripheral], name: &str) -> Option<u8>
     requires { count_of all.now PeripheralType.Cpu < 256 }
     ensures { result ≡ processor.hart_of all.now name.now }
 {
-    let at = all
+    let found = all
         .iter()
-        .position(|p| is_type(PeripheralType::Cpu, p.kind) && p.name.as_str() == name)?;
-    Some(count_of(&all[..at], PeripheralType::Cpu) as u8)
+        .position(|p| is_type(PeripheralType::Cpu, p.kind) && p.name.as_str() == name);
+    match found {
+        Some(at) => Some(count_of(&all[..at], PeripheralType::Cpu) as u8),
+        None => None,
+    }
 }
 
 /// The instructions of a processor in a microsecond, and 0 of all else.
@@ -52,10 +54,11 @@ fn has_no_speed(before: &[Peripheral], p: &Peripheral) -> bool
     }
 }
 
-fn has_other_speed(first: Option<&Peripheral>, p: &Peripheral) -> bool
-    ensures { result ≡ processor.has_other_speed (option_map (λ first. first.now) first) p.now }
+/// Whether a peripheral has another speed than the first processor.
+fn has_other_speed(before: &[Peripheral], p: &Peripheral) -> bool
+    ensures { result ≡ processor.has_other_speed (first_with PeripheralType.Cpu before.now) p.now }
 {
-    match first {
+    match first_with(PeripheralType::Cpu, before) {
         Some(first) => speed_of(p) != speed_of(first),
         None => false,
     }
@@ -83,7 +86,7 @@ pub(crate) fn is_out_of_step(before: &[Peripheral], p: &Peripheral) -> bool
 {
     is_type(PeripheralType::Cpu, p.kind)
         && !has_no_speed(before, p)
-        && (has_other_speed(first_with(PeripheralType::Cpu, before), p)
+        && (has_other_speed(before, p)
             || are_too_fast(speed_of(p), before))
 }
 
