@@ -165,8 +165,10 @@ ending all to (Some h) b c hart cpu plic refers =
     let stands = named_at all found.before found.p found.ps what.Cpu found.whole
     (ap (what_of found.before) found.kind) in
     let at : slice_get (cpus_of all) h ≡ Some to =
-    rw (found.whole, found.number, ← found.called)
-    (cpu_at found.before found.p found.ps (ap (is_type Cpu) found.kind)) in
+    ap (λ ps. slice_get (cpus_of ps) h) found.whole
+    ∙ ap (λ n. slice_get (cpus_of (found.before ++ found.p ∷ found.ps)) n) found.number
+    ∙ cpu_at found.before found.p found.ps (ap (is_type Cpu) found.kind)
+    ∙ ap (λ name. Some name) found.called in
     (what.Cpu, (subst (λ name. StandsFor (each name_of [] all) name what.Cpu) found.called stands,
     λ pin. (at, refl)))
 ending all to None b true hart cpu plic refers =

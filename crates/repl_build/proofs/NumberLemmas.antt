@@ -101,7 +101,7 @@ memory_found :
     item_of (codes "size") p.items ≡ found →
     p.kind ≡ Some Memory → items_fault Values all before p ≡ None → (found ≡ None → ⊥) →
     is_memory_size (number_in 0 found) ≡ true
-memory_found p all None is kind none there = absurd (there refl)
+memory_found p all before None is kind none there = absurd (there refl)
 memory_found p all before (Some item) is kind none there =
     let sound = found_sound (item_fault Values all before p) (λ i. has_key (codes "size") i.what) [] p.items item none is in
     value_sized (count_of before Cpu) p.at item.what (sym (ap (λ t. is_refused t (count_of before Cpu) p.at item.what) kind) ∙ no_fault _ _ sound.1.1) sound.0

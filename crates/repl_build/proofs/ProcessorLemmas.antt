@@ -16,7 +16,7 @@ use Rattle.repl_build.specs.declared.types.PeripheralType.TheVariants.{Cpu}
 use Rattle.repl_build.specs.Counts.{count_of}
 use Rattle.repl_build.specs.Numbers.{what_of}
 use Rattle.repl_build.specs.Plan.{each, name_by, name_of}
-use Rattle.repl_build.specs.Processors.{cpus_of, hart_of}
+use Rattle.repl_build.specs.Processors.{cpus_of, hart_of, is_cpu}
 use Rattle.repl_build.specs.References.{names_a}
 use Rattle.repl_build.specs.Types.{is_type}
 use Rattle.repl_build.proofs.ListLemmas.{count_cons}
@@ -104,9 +104,6 @@ pub record IsHart (all : List Peripheral) (name : List ℕ) (hart : ℕ) : Type 
   pub called : p.name ≡ name
   pub number : hart ≡ count_of before Cpu
 
-abbrev is_cpu : List ℕ → Peripheral → Bool
-is_cpu name p = is_type Cpu p.kind && bytes_eq p.name name
-
 same_number : (m n : ℕ) → (let o : Option ℕ = Some m in o) ≡ Some n → n ≡ m
 same_number m n is = cc
 
@@ -123,7 +120,7 @@ hart_found (q ∷ qs) name hart is = by_place (position (is_cpu name) (q ∷ qs)
         let all = q ∷ qs in
         let there = position-Some (is_cpu name) all i q found in
         let p = get_or all i q in
-        let parts = and_true (is_type Cpu p.kind) (bytes_eq p.name name) there.1.0 in
+        let parts = and_true (is_type Cpu p.kind) (bytes_eq p.name name) there.1 in
         record {
           before = take i all;
           p = p;
@@ -153,9 +150,9 @@ hart_absent all name none =
           let low : nat_lt (position_or_len (is_cpu name) all) (length all) ≡ true = grind (arith, nat_tests) in
           let found : position (is_cpu name) all ≡ Some (position_or_len (is_cpu name) all) =
           ap (λ (b : Bool). cond b (Some (position_or_len (is_cpu name) all)) None) low in
-          absurd (some_none _ _ (sym (ap (option_map (λ i. count_of (take i all) Cpu)) found) ∙ none))
+          absurd (some_none _ (sym (ap (option_map (λ i. count_of (take i all) Cpu)) found) ∙ none))
       | false ↦ λ there. refl
     ] refl
   where
-    some_none : (n : ℕ) (P : Type 0) → (let o : Option ℕ = Some n in o) ≡ None → ⊥
-    some_none n P is = cc
+    some_none : (n : ℕ) → (let o : Option ℕ = Some n in o) ≡ None → ⊥
+    some_none n is = cc

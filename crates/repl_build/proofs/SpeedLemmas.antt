@@ -1,6 +1,6 @@
 -- The processors of peripherals that keep all rules are equally fast.
 use Rattle.std.proofs.Common.{◌≡◌, ◌∙◌, ℕ, ◌+◌, ◌*◌, ◌%◌, ◌==◌, ◌≤◌, ◌<◌, Bool, true, false, not, ◌&&◌, ◌||◌, refl, sym, ap}
-use Rattle.std.proofs.Common.{List, [], ◌∷◌, ◌++◌, Option, None, Some, arith, cond, codes, nat_le, nat_lt, suc, append_assoc}
+use Rattle.std.proofs.Common.{List, [], ◌∷◌, ◌++◌, Option, None, Some, arith, cond, codes, nat_le, nat_lt, suc, append_assoc, subst}
 use Rattle.std.proofs.lemmas.Bool.Decides.{nat_tests}
 use Rattle.std.proofs.lemmas.List.{append-nil}
 use Rattle.std.proofs.lemmas.List.Folds.{find-append}
@@ -158,3 +158,13 @@ pub speed_good : (all : List Peripheral) → Sound all [] all → 1 ≤ count_of
 speed_good all sound some =
     let even = even all sound in
     speed_within (first_with Cpu all) (count_of all Cpu) (sum_by speed_of all) even.0 even.1 some
+
+-- together they are as fast as the first, so many times
+pub speed_product : (all : List Peripheral) (first : Peripheral) → Sound all [] all → first_with Cpu all ≡ Some first →
+    sum_by speed_of all ≡ count_of all Cpu * speed_of first
+speed_product all first sound is =
+    (subst (λ o. AreEven o (count_of all Cpu) (sum_by speed_of all)) is (even all sound).0).0
+
+pub speed_nothing : (all : List Peripheral) → Sound all [] all → first_with Cpu all ≡ None → sum_by speed_of all ≡ 0
+speed_nothing all sound is =
+    (subst (λ o. AreEven o (count_of all Cpu) (sum_by speed_of all)) is (even all sound).0).1

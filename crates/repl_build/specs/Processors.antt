@@ -23,10 +23,13 @@ use Rattle.repl_build.specs.Types.{is_type}
 abbrev pub cpus_of : List Peripheral → List (List ℕ)
 cpus_of all = map (λ p. p.name) (filter (λ p. is_type Cpu p.kind) all)
 
--- the number of the processor of this name: how many processors stand before it
+-- the processor of this name
+abbrev pub is_cpu : List ℕ → Peripheral → Bool
+is_cpu name p = is_type Cpu p.kind && bytes_eq p.name name
+
+-- its number: how many processors stand before it
 abbrev pub hart_of : List Peripheral → List ℕ → Option ℕ
-hart_of all name =
-    option_map (λ i. count_of (take i all) Cpu) (position (λ p. is_type Cpu p.kind && bytes_eq p.name name) all)
+hart_of all name = option_map (λ i. count_of (take i all) Cpu) (position (is_cpu name) all)
 
 -- ---- speeds
 

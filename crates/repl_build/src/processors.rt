@@ -1,5 +1,5 @@
 //! The processors: their numbers, speeds and optional extensions.
-ghost use Rattle.std.specs.Prelude.{◌≡◌, ◌+◌, ◌<◌, nat_lt};
+ghost use Rattle.std.specs.Prelude.{◌≡◌, ◌+◌, ◌<◌, nat_lt, position};
 ghost use Rattle.std.specs.List.{sum_by};
 ghost use Rattle.sys_bus.specs.Limits as limit;
 ghost use Rattle.repl_build.specs.Counts.{count_of, first_with};
@@ -16,15 +16,20 @@ use sys_bus::MOST_SPEED;
 /// The instructions of a processor in a microsecond where its entry says none.
 const USUAL_SPEED: u32 = 100;
 
+/// Where the processor of this name stands, if one has it.
+fn place_of(all: &[Peripheral], name: &str) -> Option<usize>
+    ensures { result ≡ position (λ p. processor.is_cpu name.now p) all.now }
+{
+    all.iter()
+        .position(|p| is_type(PeripheralType::Cpu, p.kind) && p.name.as_str() == name)
+}
+
 /// The number of the processor of this name, if one has it.
 pub(crate) fn hart_of(all: &[Peripheral], name: &str) -> Option<u8>
     requires { count_of all.now PeripheralType.Cpu < 256 }
     ensures { result ≡ processor.hart_of all.now name.now }
 {
-    let found = all
-        .iter()
-        .position(|p| is_type(PeripheralType::Cpu, p.kind) && p.name.as_str() == name);
-    match found {
+    match place_of(all, name) {
         Some(at) => Some(count_of(&all[..at], PeripheralType::Cpu) as u8),
         None => None,
     }

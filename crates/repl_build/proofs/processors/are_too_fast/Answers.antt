@@ -15,5 +15,5 @@ more m a b n t passes is le =
 pub returns-then-total-from : goal.returns-then-total-from
 returns-then-total-from c =
     more most_speed (sum_by speed_of (take c.loop-p.p-index c.args.before.now)) (sum_by speed_of c.args.before.now)
-    c.args.speed c.loop-p.total c.if-total-from.true c.loop-p.invariant
+    c.args.speed c.loop-p.total (rw c.from.ensures at c.if-total-from.true) c.loop-p.invariant
     (sum_by-take-le speed_of c.args.before.now c.loop-p.p-index)
