@@ -168,9 +168,13 @@ ending all to (Some h) b c hart cpu plic refers =
     ap (λ ps. slice_get (cpus_of ps) h) found.whole
     ∙ ap (λ n. slice_get (cpus_of (found.before ++ found.p ∷ found.ps)) n) found.number
     ∙ cpu_at found.before found.p found.ps (ap (is_type Cpu) found.kind)
-    ∙ ap (λ name. Some name) found.called in
-    (what.Cpu, (subst (λ name. StandsFor (each name_of [] all) name what.Cpu) found.called stands,
-    λ pin. (at, refl)))
+    ∙ ap (λ name. Some name) found.called in (
+      what.Cpu,
+      (
+        subst (λ name. StandsFor (each name_of [] all) name what.Cpu) found.called stands,
+        λ pin. (at, refl),
+      ),
+    )
 ending all to None b true hart cpu plic refers =
     (what.Part part.Plic, (stands_of all [] all Plic (what.Part part.Plic) to (λ others. refl) refl plic, λ pin. refl))
 ending all to None true false hart cpu plic refers =

@@ -1,5 +1,5 @@
 -- The names of a plan, and what stands for what.
-use Rattle.std.proofs.Common.{◌≡◌, ℕ, ◌+◌, ◌<◌, ◌≤◌, ◌==◌, ◌∙◌, Bool, true, false, ◌||◌, refl, sym, ap, List, []}
+use Rattle.std.proofs.Common.{◌≡◌, ℕ, ◌<◌, ◌==◌, ◌∙◌, Bool, true, false, ◌||◌, refl, sym, ap, List, []}
 use Rattle.std.proofs.Common.{◌∷◌, ◌++◌, Option, None, Some, nat_lt, cond, count_by, arith, is_some, append_assoc}
 use Rattle.std.proofs.Common.{subst}
 use Rattle.std.proofs.lemmas.Bool.Decides.{nat_tests}

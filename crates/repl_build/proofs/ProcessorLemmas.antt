@@ -1,5 +1,5 @@
 -- The names and numbers of the processors.
-use Rattle.std.proofs.Common.{◌≡◌, ◌∙◌, ℕ, ◌+◌, ◌<◌, Bool, true, false, not, ◌&&◌, ◌||◌, refl, sym, ap, List, [], ◌∷◌, ◌++◌}
+use Rattle.std.proofs.Common.{◌≡◌, ◌∙◌, ℕ, ◌+◌, ◌<◌, Bool, true, false, not, ◌||◌, refl, sym, ap, List, [], ◌∷◌, ◌++◌}
 use Rattle.std.proofs.Common.{Option, None, Some, arith, cond, suc, nat_lt, length, map, filter, slice_get, position}
 use Rattle.std.proofs.Common.{take, drop, get_or, option_map}
 use Rattle.std.proofs.lemmas.Bool.Decides.{nat_tests}

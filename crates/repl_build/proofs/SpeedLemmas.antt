@@ -1,5 +1,5 @@
 -- The processors of peripherals that keep all rules are equally fast.
-use Rattle.std.proofs.Common.{◌≡◌, ◌∙◌, ℕ, ◌+◌, ◌*◌, ◌%◌, ◌==◌, ◌≤◌, ◌<◌, Bool, true, false, not, ◌&&◌, ◌||◌, refl, sym, ap}
+use Rattle.std.proofs.Common.{◌≡◌, ◌∙◌, ℕ, ◌+◌, ◌*◌, ◌%◌, ◌==◌, ◌≤◌, Bool, true, false, not, ◌&&◌, ◌||◌, refl, sym, ap}
 use Rattle.std.proofs.Common.{List, [], ◌∷◌, ◌++◌, Option, None, Some, arith, cond, codes, nat_le, nat_lt, suc, append_assoc, subst}
 use Rattle.std.proofs.lemmas.Bool.Decides.{nat_tests}
 use Rattle.std.proofs.lemmas.List.{append-nil}
@@ -14,13 +14,13 @@ use Rattle.repl_build.specs.declared.merge.Peripheral.{Peripheral}
 use Rattle.repl_build.specs.declared.merge.PlacedItem.{PlacedItem}
 use Rattle.repl_build.specs.declared.rules.Rule.TheVariants.{Values}
 use Rattle.repl_build.specs.declared.types.PeripheralType.TheVariants.{Cpu}
-use Rattle.repl_build.specs.Attributes.{item_of, number_of, sort_of}
+use Rattle.repl_build.specs.Attributes.{item_of, sort_of}
 use Rattle.repl_build.specs.Counts.{count_of, first_with}
 use Rattle.repl_build.specs.Names.{has_key}
-use Rattle.repl_build.specs.Processors.{speed_of, is_refused_in, has_no_speed, has_other_speed, is_out_of_step}
+use Rattle.repl_build.specs.Processors.{speed_of, is_refused_in, has_no_speed, has_other_speed}
 use Rattle.repl_build.specs.Rules.{item_fault, items_fault}
 use Rattle.repl_build.specs.Types.{is_type}
-use Rattle.repl_build.proofs.ListLemmas.{both_true, count_push, or_false}
+use Rattle.repl_build.proofs.ListLemmas.{both_true, count_push}
 use Rattle.repl_build.proofs.NoneLemmas.{no_fault, found_sound}
 use Rattle.repl_build.proofs.NumberLemmas.{IsBetween, number_within}
 use Rattle.repl_build.proofs.SoundLemmas.{Fits, Sound}
@@ -149,6 +149,7 @@ speed_within (Some first) count sum even few some =
   where
     at_most : (m n : ℕ) → m ≤ n → nat_le m n ≡ true
     at_most m n le = grind (arith, nat_tests)
+
     positive : (m n : ℕ) → 1 ≤ m → 1 ≤ n → 1 ≤ m * n
     positive m n one two = grind arith
 

@@ -1,6 +1,6 @@
 -- The processors: their numbers, speeds and optional extensions.
 use Rattle.std.specs.Prelude.{ℕ, ◌+◌, ◌==◌, ◌++◌, nat_lt, Bool, true, false, not, ◌&&◌, ◌||◌, if◌then◌else◌, List}
-use Rattle.std.specs.Prelude.{Option, Some, None, is_none, codes, filter, map, position, take, option_map}
+use Rattle.std.specs.Prelude.{Option, Some, None, codes, filter, map, position, take, option_map}
 use Rattle.std.specs.Prelude.{option_and_then}
 use Rattle.std.specs.Bool.{beq}
 use Rattle.std.specs.List.{sum_by}

@@ -8,9 +8,7 @@ ghost use Rattle.repl_build.specs.Counts as counts_spec;
 use crate::merge::Peripheral;
 use crate::places::size_of;
 use crate::types::{PeripheralType, is_type};
-use sys_bus::{
-    MOST_CANS, MOST_FINISHERS, MOST_MEMORIES, MOST_MEMORY, MOST_PROCESSORS, MOST_UARTS,
-};
+use sys_bus::{MOST_CANS, MOST_FINISHERS, MOST_MEMORIES, MOST_MEMORY, MOST_PROCESSORS, MOST_UARTS};
 
 fn most_of(kind: PeripheralType) -> usize
     ensures { result ≡ counts_spec.most_of kind }

@@ -20,8 +20,7 @@ const USUAL_SPEED: u32 = 100;
 fn place_of(all: &[Peripheral], name: &str) -> Option<usize>
     ensures { result ≡ position (λ p. processor.is_cpu name.now p) all.now }
 {
-    all.iter()
-        .position(|p| is_type(PeripheralType::Cpu, p.kind) && p.name.as_str() == name)
+    all.iter().position(|p| is_type(PeripheralType::Cpu, p.kind) && p.name.as_str() == name)
 }
 
 /// The number of the processor of this name, if one has it.
@@ -91,8 +90,7 @@ pub(crate) fn is_out_of_step(before: &[Peripheral], p: &Peripheral) -> bool
 {
     is_type(PeripheralType::Cpu, p.kind)
         && !has_no_speed(before, p)
-        && (has_other_speed(before, p)
-            || are_too_fast(speed_of(p), before))
+        && (has_other_speed(before, p) || are_too_fast(speed_of(p), before))
 }
 
 /// The optional extensions of a core, if it is one that is built.
