@@ -1118,7 +1118,8 @@ clint: { [0,1] -> d@[3,7] }\n\
 clint: { [0,1] -> cpu@[3,7] }\n\
 plic: { [0,1] -> d@[11,3] }\n\
 u: { -> d@7 }\n",
-        "soft>cpu1.pin3 timer>cpu1.pin7 soft>cpu0.pin3 timer>cpu0.pin7 context0>cpu1.pin11 context1>cpu1.pin3 dev1>cpu1.pin7",
+        "soft>cpu1.pin3 timer>cpu1.pin7 soft>cpu0.pin3 timer>cpu0.pin7 \
+context0>cpu1.pin11 context1>cpu1.pin3 dev1>cpu1.pin7",
     ),
     (
         "clint: { 0 -> e@11 }\n\

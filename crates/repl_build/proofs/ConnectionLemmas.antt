@@ -62,8 +62,8 @@ use Rattle.repl_build.proofs.WireValid.{ok_then, same_ok, same_some, given}
 -- ---- lists of connections
 
 connected-append :
-    (names : List Named) (cpus : List (List ℕ)) (cs ds : List Connection) (ws vs : List Wire) → AreConnected names cpus cs ws →
-    AreConnected names cpus ds vs → AreConnected names cpus (cs ++ ds) (ws ++ vs)
+    (names : List Named) (cpus : List (List ℕ)) (cs ds : List Connection) (ws vs : List Wire) →
+    AreConnected names cpus cs ws → AreConnected names cpus ds vs → AreConnected names cpus (cs ++ ds) (ws ++ vs)
 connected-append names cpus [] ds ws vs one two = rw one two
 connected-append names cpus (c ∷ cs) ds ws vs one two =
     let mine = one.0 in
@@ -80,7 +80,8 @@ connected-append names cpus (c ∷ cs) ds ws vs one two =
     )
 
 one_connected :
-    (names : List Named) (cpus : List (List ℕ)) (c : Connection) (ws : List Wire) → AreLed names cpus c.source c.target c.lines c.pins ws →
+    (names : List Named) (cpus : List (List ℕ)) (c : Connection) (ws : List Wire) →
+    AreLed names cpus c.source c.target c.lines c.pins ws →
     AreConnected names cpus (c ∷ []) ws
 one_connected names cpus c ws led = (ws, ([], (sym (append-nil ws), (led, refl))))
 
@@ -216,7 +217,8 @@ Leading names cpus source target f =
     (line pin : ℕ) (wire : Wire) → f line pin ≡ Some wire → Leads names cpus source line target pin wire
 
 put_led :
-    (names : List Named) (cpus : List (List ℕ)) (source target : List ℕ) (line pin : ℕ) (lines pins : List ℕ) (o : Option Wire)
+    (names : List Named) (cpus : List (List ℕ)) (source target : List ℕ) (line pin : ℕ) (lines pins : List ℕ)
+    (o : Option Wire)
     (more : Option (List Wire)) (wires : List Wire) →
     ((wire : Wire) → o ≡ Some wire → Leads names cpus source line target pin wire) →
     ((ws : List Wire) → more ≡ Some ws → AreLed names cpus source target lines pins ws) →
@@ -227,7 +229,8 @@ put_led names cpus source target line pin lines pins (Some wire) (Some ws) wires
     rw (← same_some _ _ is) (one wire refl, rest ws refl)
 
 wired_led :
-    (names : List Named) (cpus : List (List ℕ)) (source target : List ℕ) (f : ℕ → ℕ → Option Wire) → Leading names cpus source target f →
+    (names : List Named) (cpus : List (List ℕ)) (source target : List ℕ) (f : ℕ → ℕ → Option Wire) →
+    Leading names cpus source target f →
     (lines pins : List ℕ) (wires : List Wire) → wired f lines pins ≡ Some wires →
     AreLed names cpus source target lines pins wires
 wired_led names cpus source target f one [] [] wires is = rw (← same_some _ _ is) tt
@@ -246,7 +249,8 @@ ends_numbers (Spans spans) ns is =
     ns ≡ flat_map numbers_of spans) [ true ↦ λ is. sym (same_some _ _ is) | false ↦ λ is. absurd (cc) ] is
 
 ends_led :
-    (names : List Named) (cpus : List (List ℕ)) (source target : List ℕ) (f : ℕ → ℕ → Option Wire) → Leading names cpus source target f →
+    (names : List Named) (cpus : List (List ℕ)) (source target : List ℕ) (f : ℕ → ℕ → Option Wire) →
+    Leading names cpus source target f →
     (a b : Option (List ℕ)) (lines pins : List ℕ) (wires : List Wire) →
     ((ns : List ℕ) → a ≡ Some ns → ns ≡ lines) → ((ns : List ℕ) → b ≡ Some ns → ns ≡ pins) →
     wired_ends f a b ≡ Some wires → AreLed names cpus source target lines pins wires

@@ -51,17 +51,20 @@ value_within type_ before at key (Attribute k value) least most default sort fit
 number_found :
     (p : Peripheral) (all before : List Peripheral) (key : List ℕ) (least most default : ℕ)
     (found : Option PlacedItem) →
-    item_of key p.items ≡ found → sort_of p.kind key ≡ Some (Within least most) → items_fault Values all before p ≡ None →
+    item_of key p.items ≡ found → sort_of p.kind key ≡ Some (Within least most) →
+    items_fault Values all before p ≡ None →
     (found ≡ None → IsBetween least most default) → IsBetween least most (number_in default found)
 number_found p all before key least most default None is sort none absent = absent refl
 number_found p all before key least most default (Some item) is sort none absent =
     let sound = found_sound (item_fault Values all before p) (λ i. has_key key i.what) [] p.items item none is in
-    value_within p.kind (count_of before Cpu) p.at key item.what least most default sort (no_fault _ _ sound.1.1) sound.0
+    value_within p.kind (count_of before Cpu) p.at key item.what least most default sort (no_fault _ _ sound.1.1)
+    sound.0
 
 -- the number of an attribute, or its default
 pub number_within :
     (p : Peripheral) (all before : List Peripheral) (key : List ℕ) (least most default : ℕ) →
-    sort_of p.kind key ≡ Some (Within least most) → items_fault Values all before p ≡ None →
+    sort_of p.kind key ≡ Some (Within least most) →
+    items_fault Values all before p ≡ None →
     (item_of key p.items ≡ None → IsBetween least most default) → IsBetween least most (number_of key default p.items)
 number_within p all before key least most default sort none absent =
     number_found p all before key least most default (item_of key p.items) refl sort none absent
@@ -103,8 +106,10 @@ memory_found :
     is_memory_size (number_in 0 found) ≡ true
 memory_found p all before None is kind none there = absurd (there refl)
 memory_found p all before (Some item) is kind none there =
-    let sound = found_sound (item_fault Values all before p) (λ i. has_key (codes "size") i.what) [] p.items item none is in
-    value_sized (count_of before Cpu) p.at item.what (sym (ap (λ t. is_refused t (count_of before Cpu) p.at item.what) kind) ∙ no_fault _ _ sound.1.1) sound.0
+    let n = count_of before Cpu in
+    let sound = found_sound (item_fault Values all before p) (λ i. has_key (codes "size") i.what) [] p.items item none
+    is in
+    value_sized n p.at item.what (sym (ap (λ t. is_refused t n p.at item.what) kind) ∙ no_fault _ _ sound.1.1) sound.0
 
 -- the size of a memory that has no range
 pub memory_sized :

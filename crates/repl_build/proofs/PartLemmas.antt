@@ -67,5 +67,6 @@ pub clint_number :
 clint_number all p keeps found =
     let values = found_values all Clint p keeps.values found in
     let required = found_required all Clint p keeps.required found values.0 in
-    number_within p all values.1.0 (codes "frequency") 1 1000000000 0 (ap (λ o. sort_of o (codes "frequency")) values.0) values.1.1
+    number_within p all values.1.0 (codes "frequency") 1 1000000000 0 (ap (λ o. sort_of o (codes "frequency")) values.0)
+    values.1.1
     (λ none. absurd (any_found _ p.items required none))
