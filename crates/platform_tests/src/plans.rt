@@ -906,7 +906,7 @@ static CAN_WIRES: [(&str, &str); 14] = [
 ];
 
 /// Lines after those of a memory and a processor, and their first fault: further processors.
-static PROCESSORS: [(&str, &str); 40] = [
+static PROCESSORS: [(&str, &str); 42] = [
     (
         "c: CPU.RiscV32 @ sysbus { cpuType: \"rv32im\" }\n",
         "accepted",
@@ -960,7 +960,16 @@ c: { hartId: 0 }\n",
         "accepted",
     ),
     (
+        "c: CPU.RiscV32 @ sysbus { cpuType: \"rv32im\"; PerformanceInMips: 99 }\n",
+        "P5 2:3",
+    ),
+    (
         "c: CPU.RiscV32 @ sysbus\n cpuType: \"rv32im\"\n PerformanceInMips: 99\n",
+        "P5 2:3",
+    ),
+    (
+        "c: CPU.RiscV32 @ sysbus { cpuType: \"rv32im\" }\n\
+c: { PerformanceInMips: 99 }\n",
         "P5 2:3",
     ),
     (
