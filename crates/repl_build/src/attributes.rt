@@ -2,8 +2,10 @@
 ghost use Rattle.std.specs.Prelude.{◌≡◌, find};
 ghost use Rattle.std.specs.Option.{option_map};
 ghost use Rattle.repl_build.specs.Attributes as attribute;
+ghost use Rattle.repl_build.specs.Counts.{count_of};
 
-use crate::merge::PlacedItem;
+use crate::counts::count_of;
+use crate::merge::{Peripheral, PlacedItem};
 use crate::names::has_key;
 use crate::types::PeripheralType;
 use repl_read::{ItemWhat, Place, Value};
@@ -132,35 +134,35 @@ fn fits_range(at: Place, n: u32) -> bool
     }
 }
 
-/// Whether an attribute of what stands at a place takes a value, after so many processors.
-fn takes(sort: Sort, processors: usize, at: Place, value: &Value) -> bool
-    ensures { result ≡ attribute.takes sort processors at value.now }
+/// Whether an attribute of what stands at a place, after these, takes a value.
+fn takes(sort: Sort, before: &[Peripheral], at: Place, value: &Value) -> bool
+    ensures { result ≡ attribute.takes sort (count_of before.now PeripheralType.Cpu) at value.now }
 {
     match (sort, value) {
         (Sort::Quoted, Value::Words(_)) => true,
         (Sort::Reference, Value::Name(_)) => true,
         (Sort::Flag, Value::Truth(_)) => true,
         (Sort::Yes, Value::Truth(truth)) => *truth,
-        (Sort::Hart, Value::Number(n)) => *n as usize == processors,
+        (Sort::Hart, Value::Number(n)) => *n as usize == count_of(before, PeripheralType::Cpu),
         (Sort::Within { least, most }, Value::Number(n)) => least <= *n && *n <= most,
         (Sort::Size, Value::Number(n)) => is_memory_size(*n) && fits_range(at, *n),
         _ => false,
     }
 }
 
-/// Whether an attribute's value is of another sort than it takes, or out of range, after so many
-/// processors.
+/// Whether an attribute's value is of another sort than it takes, or out of range, where these stand
+/// before it.
 pub(crate) fn is_refused(
     kind: Option<PeripheralType>,
-    processors: usize,
+    before: &[Peripheral],
     at: Place,
     what: &ItemWhat,
 ) -> bool
-    ensures { result ≡ attribute.is_refused kind processors at what.now }
+    ensures { result ≡ attribute.is_refused kind (count_of before.now PeripheralType.Cpu) at what.now }
 {
     match what {
         ItemWhat::Attribute { key, value } => match sort_of(kind, key.as_str()) {
-            Some(sort) => !takes(sort, processors, at, value),
+            Some(sort) => !takes(sort, before, at, value),
             None => false,
         },
         ItemWhat::Wire { .. } => false,

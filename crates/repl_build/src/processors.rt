@@ -50,10 +50,7 @@ fn has_no_speed(before: &[Peripheral], p: &Peripheral) -> bool
     ensures { result ≡ processor.has_no_speed before.now p.now }
 {
     match item_of("PerformanceInMips", p.items.items()) {
-        Some(item) => {
-            let processors = count_of(before, PeripheralType::Cpu);
-            is_refused(p.kind, processors, p.at, &item.what)
-        }
+        Some(item) => is_refused(p.kind, before, p.at, &item.what),
         None => false,
     }
 }

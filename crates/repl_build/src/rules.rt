@@ -4,13 +4,12 @@ ghost use Rattle.repl_build.specs.Plan.{tested};
 ghost use Rattle.repl_build.specs.Rules as rules_spec;
 
 use crate::attributes::{is_refused, is_unknown};
-use crate::counts::{count_of, is_bare, is_one_too_many};
+use crate::counts::{is_bare, is_one_too_many};
 use crate::fault::{fault_if, refuse};
 use crate::merge::{Peripheral, PlacedItem};
 use crate::places::{collides, is_lacking, is_misplaced};
 use crate::processors::{is_other_core, is_out_of_step};
 use crate::references::refers_to_none;
-use crate::types::PeripheralType;
 use repl_read::{PlatCause, PlatFault};
 
 /// What each peripheral and each item meets.
@@ -75,10 +74,7 @@ fn item_breaks(
 {
     match rule {
         Rule::Attributes => is_unknown(p.kind, &item.what),
-        Rule::Values => {
-            let processors = count_of(before, PeripheralType::Cpu);
-            is_refused(p.kind, processors, p.at, &item.what)
-        }
+        Rule::Values => is_refused(p.kind, before, p.at, &item.what),
         Rule::Core => is_other_core(before, &item.what),
         Rule::References => refers_to_none(all, &item.what),
         Rule::Types | Rule::Required | Rule::Counts | Rule::Apart => false,
