@@ -9,6 +9,7 @@ pub mod InterruptStates
 pub mod Keys
 pub mod Laws
 pub mod OpenLines
+pub mod Plan
 pub mod PlanParts
 pub mod Posts
 pub mod Reads
