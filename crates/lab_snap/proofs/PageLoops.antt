@@ -14,7 +14,7 @@ use Rattle.page_ram.specs.Pages.{is_zero}
 use Rattle.lab_spell.specs.declared.fault.SnapFault.{SnapFault}
 use Rattle.lab_spell.specs.declared.fault.SnapFault.TheVariants.{Bad, Memory}
 use Rattle.lab_spell.specs.Combine.{◌>>=◌, bytes, number, parse_times}
-use Rattle.lab_spell.specs.Laws.{bind_some, chosen}
+use Rattle.lab_spell.specs.Inner.Laws.{bind_some, chosen}
 use Rattle.lab_spell.specs.Reads.{Reads}
 use Rattle.lab_snap.specs.Inner.Pages.{is_next, memory_read, spell_used}
 use Rattle.lab_snap.specs.Inner.ReadsInto.{ReadsInto}

@@ -1,4 +1,4 @@
-use Rattle.lab_spell.specs.Laws.{all_bytes}
+use Rattle.lab_spell.specs.Inner.Laws.{all_bytes}
 use Rattle.page_ram.specs.Pages.{page_of}
 use Rattle.lab_snap.proofs.MemoryLaws.{zeros_are_bytes}
 use Rattle.lab_snap.proofs.memory.put_used.Goals as goal

@@ -1,4 +1,4 @@
-use Rattle.lab_spell.specs.Laws.{appended}
+use Rattle.lab_spell.specs.Inner.Laws.{appended}
 use Rattle.lab_spell.specs.Plan.{plan_form}
 use Rattle.lab_spell.proofs.plan.BoardPlanSpelled.put.Goals as goal
 
