@@ -1,5 +1,5 @@
 -- What may be changed of a board from outside.
-use Rattle.std.specs.Prelude.{◌≡◌, ℕ, ◌+◌, ◌%◌, ◌≤◌, ◌==◌, length, take, Bool, true, false, if◌then◌else◌, List, []}
+use Rattle.std.specs.Prelude.{◌≡◌, ℕ, ◌+◌, ◌%◌, ◌≤◌, ◌==◌, length, replicate, take, Bool, true, false, if◌then◌else◌, List, []}
 use Rattle.std.specs.Prelude.{◌∷◌, Option, None}
 use Rattle.std.specs.List.{list_all, range_with_len}
 use Rattle.dev_core.specs.declared.kind.Kind.{Kind}
@@ -14,15 +14,15 @@ use Rattle.sys_bus.specs.declared.region.Target.{Target}
 use Rattle.sys_bus.specs.declared.region.Target.TheVariants.{Ram, Clint, Plic, Dev, Nothing}
 use Rattle.board.specs.Space.{Space, memory_at, with_memory, device_at, with_device, with_state, target_at}
 use Rattle.board.specs.Wires.{word_in}
-use Rattle.board.specs.View.{View, State}
+use Rattle.board.specs.View.{View, State, core_at, with_core}
 
--- a board whose next instruction is at this address
-abbrev pub with_pc : View → ℕ → View
-with_pc v pc = record v { core = record v.core { pc = pc } }
+-- a board of which a processor's next instruction is at this address
+abbrev pub with_pc : View → ℕ → ℕ → View
+with_pc v hart pc = with_core v hart (record (core_at v hart) { pc = pc })
 
--- a board whose processor is halted, or runs
-abbrev pub with_halted : View → Bool → View
-with_halted v on = record v { core = record v.core { halted = on } }
+-- a board of which a processor is halted, or runs
+abbrev pub with_halted : View → ℕ → Bool → View
+with_halted v hart on = with_core v hart (record (core_at v hart) { halted = on })
 
 -- a board of so many instructions a microsecond
 abbrev pub with_speed : View → ℕ → View
@@ -83,15 +83,19 @@ abbrev pub copied : Space → ℕ → List ℕ → Space
 copied s at [] = s
 copied s at (byte ∷ bytes) = copied (put_byte s at byte) (at + 1) bytes
 
--- a board whose memories have these bytes from an address on
+-- no reservations of so many processors
+abbrev pub cleared : List (Option ℕ) → List (Option ℕ)
+cleared watch = replicate (length watch) None
+
+-- a board whose memories have these bytes from an address on, and on which nothing is reserved
 abbrev pub with_bytes : View → ℕ → List ℕ → View
-with_bytes v at bytes = record v { space = copied v.space at bytes }
+with_bytes v at bytes = record v { watch = cleared v.watch; space = copied v.space at bytes }
 
 -- the word of memory at an address that is a multiple of 4
 abbrev pub word_held : View → ℕ → Option ℕ
 word_held v at = if at % 4 == 0 then word_in v.space at else None
 
--- a board in whose memories some of the first of these bytes were written
+-- a board in whose memories some of the first of these bytes were written, and on which nothing is reserved
 abbrev pub WritesPrefix : State → State → ℕ → List ℕ → Type 0
 WritesPrefix old new at bytes =
     (n : ℕ) × ((n ≤ length bytes) × (new ≡ record old { view = with_bytes old.view at (take n bytes) }))

@@ -1,18 +1,25 @@
 -- What a slot fetches at the pc: a word, and on a processor with compressed instructions one or two half-words
--- (RISC-V Unprivileged ISA 20191213, sections 1.5 and 16.1).
-use Rattle.std.specs.Prelude.{ℕ, ◌+◌, ◌*◌, ◌%◌, ◌^◌, ◌==◌, if◌then◌else◌, Option, None, Some}
-use Rattle.std.specs.Option.{option_map, option_map_or}
+-- (RISC-V Unprivileged ISA 20191213, sections 1.5 and 16.1), and what it does by that.
+use Rattle.std.specs.Prelude.{ℕ, ◌+◌, ◌*◌, ◌%◌, ◌^◌, ◌==◌, Bool, if◌then◌else◌, Option, None, Some}
+use Rattle.std.specs.Option.{option_and_then, option_map, option_map_or}
 use Rattle.rvc_decode.specs.Means.{expansion}
 use Rattle.page_ram.specs.Bytes.{value_at}
 use Rattle.rv_hart.specs.declared.csr.Lines.{Lines}
 use Rattle.rv_hart.specs.Core.{Core}
 use Rattle.rv_exec.specs.declared.fetched.Fetched.{Fetched}
 use Rattle.rv_exec.specs.declared.fetched.Fetched.TheVariants.{Fault, Bad, Good}
-use Rattle.rv_exec.specs.Effect.{Effect, effect, found_at}
+use Rattle.rv_exec.specs.Effect.{found_at}
+use Rattle.rv_atomic.specs.declared.atomic.Atomic.{Atomic}
+use Rattle.rv_atomic.specs.declared.shared.Shared.{Shared}
+use Rattle.rv_atomic.specs.declared.shared.Shared.TheVariants as shared
+use Rattle.rv_atomic.specs.AtomicEffect.{SharedEffect}
+use Rattle.rv_atomic.specs.Means.{atomic_of}
+use Rattle.rv_atomic.specs.SharedEffect.{shared_effect}
 use Rattle.sys_bus.specs.declared.region.Target.{Target}
 use Rattle.sys_bus.specs.declared.region.Target.TheVariants.{Ram, Clint, Plic, Dev, Nothing}
 use Rattle.board.specs.Space.{Space, memory_at, target_at}
 use Rattle.board.specs.Wires.{Wires, fetched}
+use Rattle.board.specs.HartView.{HartView}
 
 -- the half-word at an address, if a memory holds it
 abbrev pub half_at : Space → Target → Option ℕ
@@ -33,12 +40,16 @@ of_half half = option_map_or (λ i. Good i 2 half) (expansion half) (Bad half)
 abbrev pub second : ℕ → ℕ
 second at = (at + 2) % 2 ^ 32
 
+-- the word whose lower half is this half-word, if a memory holds the other
+abbrev pub word_begun : Space → ℕ → ℕ → Option ℕ
+word_begun s at half = option_map (λ upper. half + upper * 2 ^ 16) (half_in s (second at))
+
 -- what begins with a half-word: where its low two bits are 11, it is the lower half of a word
+abbrev pub is_lower : ℕ → Bool
+is_lower half = half % 4 == 3
+
 abbrev pub begun_by : Space → ℕ → ℕ → Fetched
-begun_by s at half =
-    if half % 4 == 3 then
-    found_at (second at) (option_map (λ upper. half + upper * 2 ^ 16) (half_in s (second at)))
-    else of_half half
+begun_by s at half = if is_lower half then found_at (second at) (word_begun s at half) else of_half half
 
 abbrev pub halves_from : Space → ℕ → Option ℕ → Fetched
 halves_from s at None = Fault at
@@ -53,6 +64,22 @@ abbrev pub fetched_by : Core → Wires → Fetched
 fetched_by core w =
     if core.letters.c then halves_at w.space core.pc else found_at core.pc (fetched w core.pc)
 
--- what it does by that
-abbrev pub effect_on : Core → Wires → Lines → Effect
-effect_on core w lines = effect core (fetched_by core w) lines
+-- the word that a core fetches, if it is one that memories hold, and no half-word by itself
+abbrev pub word_by_halves : Space → ℕ → ℕ → Option ℕ
+word_by_halves s at half = if is_lower half then word_begun s at half else None
+
+abbrev pub word_at_pc : Core → Wires → Option ℕ
+word_at_pc core w =
+    if core.letters.c then option_and_then (word_by_halves w.space core.pc) (half_in w.space core.pc)
+    else fetched w core.pc
+
+-- the atomic instruction that this word is, on a core that has them
+abbrev pub atomic_by : Core → Wires → Option Atomic
+atomic_by core w = if core.letters.a then option_and_then atomic_of (word_at_pc core w) else None
+
+-- what a core does by what it fetches: an atomic instruction, or anything else
+abbrev pub shared_by : Core → Wires → Shared
+shared_by core w = option_map_or shared.Atomic (shared.Plain (fetched_by core w)) (atomic_by core w)
+
+abbrev pub effect_on : HartView → Wires → Lines → SharedEffect
+effect_on v w lines = shared_effect (fetched w) v.core v.hart v.watch (shared_by v.core w) lines

@@ -4,6 +4,7 @@ pub mod Lines
 pub mod Wires
 pub mod Fetch
 pub mod View
+pub mod HartView
 pub mod Slot
 pub mod Stretch
 pub mod Idle

@@ -1,5 +1,5 @@
--- The interrupt lines of a board, and what its processor sees of them (RISC-V Privileged Architecture 20211203, 3.1.9).
--- A wire leads from where a line begins to a pin of the processor or to a source of the interrupt controller. Several
+-- The interrupt lines of a board, and what a processor sees of them (RISC-V Privileged Architecture 20211203, 3.1.9).
+-- A wire leads from where a line begins to a pin of a processor or to a source of the interrupt controller. Several
 -- wires may lead to one place, which is up where the line of any of them is.
 use Rattle.std.specs.Prelude.{ℕ, ◌+◌, ◌^◌, ◌==◌, ◌&&◌, nat_lt, Bool, false, if◌then◌else◌, Option, None, Some}
 use Rattle.std.specs.List.{list_any}
@@ -54,7 +54,7 @@ is_from_device s _ = false
 
 abbrev pub ends_at_source : ℕ → WirePin → Bool
 ends_at_source n (Source source) = source == n
-ends_at_source n (Cpu pin) = false
+ends_at_source n (Cpu hart pin) = false
 
 abbrev pub brings_source_up : Space → ℕ → Wire → Bool
 brings_source_up s source wire = ends_at_source source wire.pin && is_from_device s wire.from
@@ -73,30 +73,31 @@ sampled_by (Some c) lines = Some (record c { state = sample c.sources c.state li
 unfoldable pub sampled : Space → Space
 sampled s = record s { controller = sampled_by s.controller (sources_up s) }
 
--- ---- what the processor sees
+-- ---- what a processor sees
 
-abbrev pub ends_at_pin : ℕ → WirePin → Bool
-ends_at_pin n (Cpu pin) = pin == n
-ends_at_pin n (Source source) = false
+abbrev pub ends_at_pin : ℕ → ℕ → WirePin → Bool
+ends_at_pin hart n (Cpu number pin) = (number == hart) && (pin == n)
+ends_at_pin hart n (Source source) = false
 
-abbrev pub brings_pin_up : Space → Bool → ℕ → Wire → Bool
-brings_pin_up s timer pin wire = ends_at_pin pin wire.pin && is_up s timer wire.from
+abbrev pub brings_pin_up : Space → Bool → ℕ → ℕ → Wire → Bool
+brings_pin_up s timer hart pin wire = ends_at_pin hart pin wire.pin && is_up s timer wire.from
 
-abbrev pub pin_up : Space → Bool → ℕ → Bool
-pin_up s timer pin = list_any (brings_pin_up s timer pin) s.plan.wires
+abbrev pub pin_up : Space → Bool → ℕ → ℕ → Bool
+pin_up s timer hart pin = list_any (brings_pin_up s timer hart pin) s.plan.wires
 
 -- a pin that is up is pending in mip, at the bit of its number
-abbrev pub pending : Space → Bool → ℕ → ℕ
-pending s timer pin = if pin_up s timer pin then 2 ^ pin else 0
+abbrev pub pending : Space → Bool → ℕ → ℕ → ℕ
+pending s timer hart pin = if pin_up s timer hart pin then 2 ^ pin else 0
 
-unfoldable pub mip_of : Space → Bool → ℕ
-mip_of s timer =
-    pending s timer software_interrupt + pending s timer timer_interrupt + pending s timer external_interrupt
+unfoldable pub mip_of : Space → Bool → ℕ → ℕ
+mip_of s timer hart =
+    pending s timer hart software_interrupt + pending s timer hart timer_interrupt
+    + pending s timer hart external_interrupt
 
--- the time that the processor reads: the timer's, and 0 where there is none
+-- the time that a processor reads: the timer's, and 0 where there is none
 abbrev pub mtime_of : Option Timer → ℕ → ℕ
 mtime_of None t = 0
 mtime_of (Some timer) t = mtime timer t
 
-unfoldable pub lines_of : Space → ℕ → Lines
-lines_of s t = record { mip = mip_of s (timer_up s.timer t); mtime = mtime_of s.timer t }
+unfoldable pub lines_of : Space → ℕ → ℕ → Lines
+lines_of s hart t = record { mip = mip_of s (timer_up s.timer t) hart; mtime = mtime_of s.timer t }

@@ -1,5 +1,6 @@
 -- A board at lab time 0, and one that was reset.
-use Rattle.std.specs.Prelude.{◌≡◌, ℕ, false, List, map, option_map}
+use Rattle.std.specs.Prelude.{◌≡◌, ℕ, false, List, length, map, option_map, replicate, None}
+use Rattle.std.specs.List.{range_with_len}
 use Rattle.clint.specs.Clint.{Timer, clint_reset}
 use Rattle.dev_core.specs.declared.kind.Kind.{Kind}
 use Rattle.dev_core.specs.declared.kind.Kind.TheVariants as kind
@@ -10,11 +11,13 @@ use Rattle.dev_core.specs.Device.{dev_reset, kind_of}
 use Rattle.dev_core.specs.Uart.{uart_reset}
 use Rattle.page_ram.specs.Bytes.{zeros}
 use Rattle.plic.specs.State.{Controller, plic_reset}
-use Rattle.rv_hart.specs.Core.{initial_with}
+use Rattle.rv_hart.specs.Core.{Core, initial_with}
+use Rattle.rv_hart.specs.declared.letters.Letters.{Letters}
 use Rattle.sys_bus.specs.declared.plan.BoardPlan.{BoardPlan}
 use Rattle.sys_bus.specs.declared.plan.PlicSize.{PlicSize}
 use Rattle.board.specs.Numbers.{Numbers}
 use Rattle.board.specs.Space.{Space, Fitted}
+use Rattle.board.specs.Changes.{cleared}
 use Rattle.board.specs.View.{View}
 
 -- the reset state of a device of a kind
@@ -48,13 +51,23 @@ new_space plan = record {
   devices = map hidden (first_states plan);
 }
 
--- a new board has made nothing yet, goes at the speed of its plan, and has a processor of the plan's letters
+-- a new board has made nothing yet, and goes at the speed of its plan
 abbrev pub new_numbers : ℕ → BoardPlan → Numbers
 new_numbers number plan = record { number = number; speed = plan.speed; posted = 0; entered = 0 }
 
+-- so many processors of these letters, whose numbers are their places
+abbrev pub new_cores : ℕ → Letters → List Core
+new_cores harts letters = map (initial_with letters) (range_with_len 0 harts)
+
+-- a new board has the processors of its plan, of which the first takes the first slot, and none has a reservation
 abbrev pub new_board : ℕ → BoardPlan → View
-new_board number plan =
-    record { numbers = new_numbers number plan; core = initial_with plan.letters 0; space = new_space plan }
+new_board number plan = record {
+  numbers = new_numbers number plan;
+  cores = new_cores (length plan.cpus) plan.letters;
+  next = 0;
+  watch = replicate (length plan.cpus) None;
+  space = new_space plan;
+}
 
 -- a device after a reset, which stays shown
 abbrev pub reset_device : Fitted → Fitted
@@ -74,12 +87,18 @@ reset_space s = record s {
   devices = map reset_device s.devices;
 }
 
--- a board after a reset: its processor, its timer, its interrupt controller and its devices are in their first states,
--- and all else is as before, the halted processor too
+-- a processor after a reset, which keeps its letters and its number, and stays halted
+abbrev pub reset_core : Core → Core
+reset_core core = record (initial_with core.letters core.number) { halted = core.halted }
+
+-- a board after a reset: its processors, its timer, its interrupt controller and its devices are in their first states,
+-- nothing is reserved, the first processor takes the next slot, and all else is as before
 abbrev pub reset : View → View
 reset v =
     record v {
-      core = record (initial_with v.space.plan.letters 0) { halted = v.core.halted };
+      cores = map reset_core v.cores;
+      next = 0;
+      watch = cleared v.watch;
       space = reset_space v.space;
     }
 
@@ -91,7 +110,10 @@ size_of c = record { sources = c.sources; contexts = c.contexts }
 -- to
 pub record IsSameKept (v w : View) : Type 0 where
   pub numbers : v.numbers ≡ w.numbers
-  pub halted : v.core.halted ≡ w.core.halted
+  pub halted : map (λ core. core.halted) v.cores ≡ map (λ core. core.halted) w.cores
+  pub letters : map (λ core. core.letters) v.cores ≡ map (λ core. core.letters) w.cores
+  pub own_numbers : map (λ core. core.number) v.cores ≡ map (λ core. core.number) w.cores
+  pub harts : length v.watch ≡ length w.watch
   pub plan : v.space.plan ≡ w.space.plan
   pub memories : v.space.memories ≡ w.space.memories
   pub timer : option_map (λ c. c.frequency) v.space.timer ≡ option_map (λ c. c.frequency) w.space.timer

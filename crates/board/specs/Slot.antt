@@ -1,54 +1,84 @@
 -- One slot of a board.
-use Rattle.std.specs.Prelude.{ℕ, false, if◌then◌else◌}
+use Rattle.std.specs.Prelude.{ℕ, ◌+◌, ◌==◌, false, if◌then◌else◌, length, slice_set}
 use Rattle.std.specs.Option.{option_map_or}
 use Rattle.rv_hart.specs.declared.csr.Lines.{Lines}
 use Rattle.rv_hart.specs.Core.{Core, ticked}
 use Rattle.rv_hart.specs.Trap.{chosen, interrupt, is_ready}
-use Rattle.rv_exec.specs.Effect.{Effect, core_after, bus_after}
+use Rattle.rv_exec.specs.Effect.{core_after, bus_after}
+use Rattle.rv_atomic.specs.AtomicEffect.{SharedEffect}
 use Rattle.board.specs.Lines.{sampled, lines_of}
 use Rattle.board.specs.Fetch.{effect_on}
 use Rattle.board.specs.Wires.{Wires, answer, loaded, stored}
-use Rattle.board.specs.View.{View, State, quiet, wires_of, state_of}
+use Rattle.board.specs.View.{View, State}
+use Rattle.board.specs.HartView.{HartView, HartState, hart_view, hart_state, still, wires_of}
+
+-- ---- of the processor that takes it
 
 -- a slot that leaves the processor like this, but for its cycle, which is counted
-abbrev pub cycle : View → Core → State
-cycle v core = quiet (record v { core = ticked core })
+abbrev pub cycle : HartView → Core → HartState
+cycle v core = still (record v { core = ticked core })
 
 -- an effect is carried out
-abbrev pub carried_out : Wires → Effect → State
-carried_out w effect = state_of (core_after answer w effect) (bus_after loaded stored w effect)
+abbrev pub carried_out : ℕ → Wires → SharedEffect → HartState
+carried_out hart w shared =
+    hart_state hart (core_after answer w shared.effect) shared.watch (bus_after loaded stored w shared.effect)
 
 -- one instruction, or its exception entry
-abbrev pub instruction : View → ℕ → Lines → State
-instruction v t lines =
-    carried_out (wires_of v t) (effect_on v.core (wires_of v t) lines)
+abbrev pub instruction : HartView → ℕ → Lines → HartState
+instruction v t lines = carried_out v.hart (wires_of v t) (effect_on v (wires_of v t) lines)
 
 -- a slot of a processor that does not wait: the entry of the interrupt that is taken now, or with none an instruction
-unfoldable pub awake : View → ℕ → Lines → State
-awake v t lines = option_map_or (λ n. cycle v (interrupt v.core n)) (chosen v.core lines.mip) (instruction v t lines)
+unfoldable pub awake : HartView → ℕ → Lines → HartState
+awake v t lines =
+    option_map_or (λ n. cycle v (interrupt v.core n)) (chosen v.core lines.mip) (instruction v t lines)
 
--- a board whose processor waits no more
-abbrev pub woken : View → View
+-- a processor that waits no more
+abbrev pub woken : HartView → HartView
 woken v = record v { core = record v.core { waiting = false } }
 
 -- a slot of a processor that waits: it is woken where an interrupt is pending and enabled, and else its cycle passes
-abbrev pub asleep : View → ℕ → Lines → State
+abbrev pub asleep : HartView → ℕ → Lines → HartState
 asleep v t lines =
     if is_ready v.core lines.mip then awake (woken v) t lines else cycle v v.core
 
--- a board whose interrupt controller has sampled its sources
-abbrev pub sampling : View → View
+-- the interrupt controller has sampled its sources
+abbrev pub sampling : HartView → HartView
 sampling v = record v { space = sampled v.space }
 
 -- The steps of a slot at a microsecond, in their order:
 -- 1. a halted processor's slot changes nothing;
 -- 2. the interrupt controller samples its sources;
--- 3. the lines are read;
+-- 3. the lines of the processor are read;
 -- 4. a processor that waits goes on waiting, or waits no more;
 -- 5. an interrupt is entered,
 -- 6. or else one instruction is done.
-abbrev pub running : View → ℕ → Lines → State
+abbrev pub running : HartView → ℕ → Lines → HartState
 running v t lines = if v.core.waiting then asleep v t lines else awake v t lines
 
+unfoldable pub hart_slot : HartView → ℕ → HartState
+hart_slot v t =
+    if v.core.halted then still v else running (sampling v) t (lines_of (sampled v.space) v.hart t)
+
+-- ---- of the board
+
+-- the number after a processor's, or 0 after the last
+abbrev pub number_after : ℕ → ℕ → ℕ
+number_after harts hart = if hart + 1 == harts then 0 else hart + 1
+
+-- a board whose processor `next` has done this in its slot: the next slot is another's
+abbrev pub in_turn : View → HartState → State
+in_turn v run = record {
+  view = record {
+    numbers = run.view.numbers;
+    cores = slice_set v.cores v.next run.view.core;
+    next = number_after (length v.cores) v.next;
+    watch = run.view.watch;
+    space = run.view.space;
+  };
+  posts = run.posts;
+  entries = run.entries;
+}
+
+-- the processors take the slots of a board in turn
 unfoldable pub slot : View → ℕ → State
-slot v t = if v.core.halted then quiet v else running (sampling v) t (lines_of (sampled v.space) t)
+slot v t = in_turn v (hart_slot (hart_view v v.next) t)

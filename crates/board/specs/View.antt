@@ -1,16 +1,18 @@
 -- What a board is, apart from what it has made and nobody has taken.
-use Rattle.std.specs.Prelude.{ℕ, List, [], ◌++◌}
+use Rattle.std.specs.Prelude.{ℕ, List, [], ◌++◌, Option, slice_index_or, slice_set}
 use Rattle.dev_core.specs.declared.post.Post.{Post}
 use Rattle.dev_core.specs.declared.post.Entry.{Entry}
-use Rattle.rv_hart.specs.Core.{Core}
+use Rattle.rv_hart.specs.Core.{Core, initial}
 use Rattle.board.specs.Numbers.{Numbers}
 use Rattle.board.specs.Space.{Space}
-use Rattle.board.specs.Wires.{Wires}
 
--- a board's numbers, its processor, and what that reaches, which has the board's plan
+-- a board's numbers, its processors, the number of the one that takes the next slot, the words that they have
+-- reserved, and what they reach, which has the board's plan
 pub record View : Type 0 where
   pub numbers : Numbers
-  pub core : Core
+  pub cores : List Core
+  pub next : ℕ
+  pub watch : List (Option ℕ)
   pub space : Space
 
 -- a board, with the posts and the entries that nobody has taken yet
@@ -23,17 +25,12 @@ pub record State : Type 0 where
 abbrev pub quiet : View → State
 quiet v = record { view = v; posts = []; entries = [] }
 
--- what the processor of a board is wired to in a slot at this microsecond, in which nothing was made yet
-abbrev pub wires_of : View → ℕ → Wires
-wires_of v t = record { numbers = v.numbers; space = v.space; at = t; posts = []; entries = [] }
+-- the processor of a number
+abbrev pub core_at : View → ℕ → Core
+core_at v hart = slice_index_or v.cores hart initial
 
--- a board of this processor and these wires
-abbrev pub state_of : Core → Wires → State
-state_of core w = record {
-  view = record { numbers = w.numbers; core = core; space = w.space };
-  posts = w.posts;
-  entries = w.entries;
-}
+abbrev pub with_core : View → ℕ → Core → View
+with_core v hart core = record v { cores = slice_set v.cores hart core }
 
 -- a board that has made something more
 abbrev pub after : State → State → State

@@ -129,31 +129,39 @@ impl<D: Device> Board<D> {
             kind_of (device_at self.now.view.space dev).state
             ≡ slice_index_or result.now.kinds dev Finisher }
         ensures sizes { map length self.now.view.space.memories ≡ result.now.memories }
+        ensures harts { length self.now.view.cores ≡ length result.now.cpus }
+        ensures next { self.now.view.next < length result.now.cpus }
+        ensures reservations { length self.now.view.watch ≡ length result.now.cpus }
+        ensures letters { All (λ core. core.letters ≡ result.now.letters) self.now.view.cores }
+        ensures numbers { map (λ core. core.number) self.now.view.cores
+            ≡ range_with_len 0 (length result.now.cpus) }
     {
         self.wires.space.plan()
     }
 
-    /// Instructions a microsecond, 1 to 1,000.
+    /// Instructions a microsecond of all processors together, 1 to 1,000.
     pub fn speed(&self) -> u32
         ensures value { result ≡ self.now.view.numbers.speed }
         ensures least { 1 ≤ result }
         ensures most { result ≤ 1000 }
+        ensures shared { result % length self.now.view.cores ≡ 0 }
     {
         self.wires.made.numbers.speed
     }
 
-    /// Sets the speed, in instructions a microsecond.
+    /// Sets the speed, in instructions a microsecond of all processors together.
     pub fn set_speed(&mut self, speed: u32)
         requires least { 1 ≤ speed }
         requires most { speed ≤ 1000 }
+        requires shared { speed % length self.old.view.cores ≡ 0 }
         ensures { self.new ≡ record self.old { view = with_speed self.old.view speed } }
     {
         self.wires.made.numbers.speed = speed;
     }
 
-    /// Takes the next `n` slots. Slot `i` of the call lies in microsecond
-    /// `at.from + (at.first + i) / speed`. A halted board's slots pass and change nothing.
-    /// `Starved` is for want of memory alone.
+    /// Takes the next `n` slots, which the processors take in turn. Slot `i` of the call lies in
+    /// microsecond `at.from + (at.first + i) / speed`. A slot of a halted processor passes and
+    /// changes nothing but whose turn is next. `Starved` is for want of memory alone.
     #[tactic(auto, using(crate::proofs::StretchLemmas::after_halted))]
     pub fn turn(&mut self, at: SlotAt, n: u64) -> Turn
         requires time { at.from.0 + (at.first + n) / self.old.view.numbers.speed ≤ 10000000000 }
@@ -507,8 +515,8 @@ impl<D: Device> Board<D> {
         self.wires.space.holds(at, count)
     }
 
-    /// Writes bytes into the memories from an address on. After an `Err` some of the first of them
-    /// are written.
+    /// Writes bytes into the memories from an address on, and ends all reservations, where there are
+    /// no bytes too. After an `Err` some of the first of them are written.
     pub fn copy_in(&mut self, at: u32, bytes: &[u8]) -> Result<(), NoMemory>
         requires { IsTrue (holds_each self.old.view.space at (length bytes.now)) }
         ensures ok { OnOk result
@@ -518,7 +526,7 @@ impl<D: Device> Board<D> {
         self.wires.space.copy_in(at, bytes)
     }
 
-    /// Puts 0 into `count` bytes of the memories from an address on.
+    /// Puts 0 into `count` bytes of the memories from an address on, and ends all reservations.
     pub fn zero(&mut self, at: u32, count: u32)
         requires { IsTrue (holds_each self.old.view.space at count) }
         ensures { self.new ≡ record self.old { view = with_bytes self.old.view at (zeros count) } }
@@ -526,9 +534,10 @@ impl<D: Device> Board<D> {
         self.wires.space.zero(at, count);
     }
 
-    /// Brings the processor, the timer, the interrupt controller and the devices into their first
-    /// states, with the pc at 0. Memories, speed, whether the processor is halted, which devices are
-    /// shown, and the counts of posts and entries stay.
+    /// Brings the processors, the timer, the interrupt controller and the devices into their first
+    /// states, with each pc at 0. All reservations end, and the first processor takes the next slot.
+    /// Memories, speed, which processors are halted, which devices are shown, and the counts of posts
+    /// and entries stay.
     pub fn reset(&mut self)
         ensures { self.new ≡ record self.old { view = reset self.old.view } }
     {
@@ -538,54 +547,59 @@ impl<D: Device> Board<D> {
         self.wires.space.reset();
     }
 
-    /// Sets the address of the next instruction, which is divisible by 4, or with compressed
-    /// instructions by 2.
-    pub fn set_pc(&mut self, pc: u32)
-        requires { pc % alignment self.old.view.core.letters ≡ 0 }
-        ensures { self.new ≡ record self.old { view = with_pc self.old.view pc } }
+    /// Sets the address of a processor's next instruction, which is divisible by 4, or with
+    /// compressed instructions by 2.
+    pub fn set_pc(&mut self, hart: u8, pc: u32)
+        requires hart { hart < length self.old.view.cores }
+        requires aligned { pc % alignment self.old.view.space.plan.letters ≡ 0 }
+        ensures { self.new ≡ record self.old { view = with_pc self.old.view hart pc } }
     {
         self.hart.set_pc(pc);
     }
 
     /// Whether the next instruction may lie at an address.
     pub fn aligns(&self, pc: u32) -> bool
-        ensures { result ≡ (pc % alignment self.now.view.core.letters == 0) }
+        ensures { result ≡ (pc % alignment self.now.view.space.plan.letters == 0) }
     {
         self.hart.letters().aligns(pc)
     }
 
-    /// The address of the next instruction.
-    pub fn pc(&self) -> u32
-        ensures { result ≡ self.now.view.core.pc }
+    /// The address of a processor's next instruction.
+    pub fn pc(&self, hart: u8) -> u32
+        requires { hart < length self.now.view.cores }
+        ensures { result ≡ (core_at self.now.view hart).pc }
     {
         self.hart.pc()
     }
 
-    /// Whether the processor is halted: its slots pass and change nothing.
-    pub fn halted(&self) -> bool
-        ensures { result ≡ self.now.view.core.halted }
+    /// Whether a processor is halted: its slots pass and change nothing.
+    pub fn halted(&self, hart: u8) -> bool
+        requires { hart < length self.now.view.cores }
+        ensures { result ≡ (core_at self.now.view hart).halted }
     {
         self.hart.halted()
     }
 
-    /// Whether the processor is halted or waits for an interrupt: then its next slot may pass idle.
+    /// Whether each processor is halted or waits for an interrupt: then the next slots may pass idle.
     pub fn is_asleep(&self) -> bool
-        ensures { result ≡ (self.now.view.core.halted || self.now.view.core.waiting) }
+        ensures { result ≡ list_all (λ core. core.halted || core.waiting) self.now.view.cores }
     {
         self.hart.halted() || self.hart.waiting()
     }
 
-    /// Halts the processor, or lets it run.
-    pub fn set_halted(&mut self, on: bool)
-        ensures { self.new ≡ record self.old { view = with_halted self.old.view on } }
+    /// Halts a processor, or lets it run.
+    pub fn set_halted(&mut self, hart: u8, on: bool)
+        requires { hart < length self.old.view.cores }
+        ensures { self.new ≡ record self.old { view = with_halted self.old.view hart on } }
     {
         self.hart.set_halted(on);
     }
 
-    /// What a register reads.
-    pub fn register(&self, n: u8) -> u32
-        requires { n < 32 }
-        ensures { result ≡ reg self.now.view.core n }
+    /// What a register of a processor reads.
+    pub fn register(&self, hart: u8, n: u8) -> u32
+        requires hart { hart < length self.now.view.cores }
+        requires register { n < 32 }
+        ensures { result ≡ reg (core_at self.now.view hart) n }
     {
         self.hart.register(n)
     }
@@ -604,9 +618,10 @@ impl<D: Device> Board<D> {
         self.wires.made.numbers.entered
     }
 
-    /// How many instructions the processor has retired, by its CSR minstret.
-    pub fn retired(&self) -> u64
-        ensures { result ≡ self.now.view.core.minstret }
+    /// How many instructions a processor has retired, by its CSR minstret.
+    pub fn retired(&self, hart: u8) -> u64
+        requires { hart < length self.now.view.cores }
+        ensures { result ≡ (core_at self.now.view hart).minstret }
     {
         self.hart.state().minstret
     }

@@ -45,16 +45,38 @@ pub fn stretches_keep_plans()
     ensures { (v : View) (from a n : ℕ) → (stretch v from a n).view.space.plan ≡ v.space.plan }
 {}
 
-/// A board whose processor goes on waiting as long as the timer's line is up, or is not, is after n
-/// slots in which that is so itself, with mcycle raised by n.
+/// A board whose processors go on waiting, or are halted, as long as the timer's line is up, or is
+/// not, is after n slots in which that is so itself, with mcycle of each processor that is not
+/// halted raised by how many of the slots it takes, and the turn moved on.
 pub fn waiting_boards_count_cycles()
-    ensures { (v : View) (timer : Bool) (from a n : ℕ) → v.core.mcycle < 2 ^ 64 →
+    ensures { (v : View) (timer : Bool) (from a n : ℕ) → v.next < length v.cores →
+        All (λ core. core.mcycle < 2 ^ 64) v.cores →
         IsIdle v timer → IsStillFor v timer from a n → stretch v from a n ≡ quiet (passed v n) }
 {}
 
-/// A board whose processor is halted is itself after any slots.
+/// A board whose processors are all halted is after any slots itself, with the turn moved on.
 pub fn halted_boards_stay()
-    ensures { (v : View) (from a n : ℕ) → v.core.halted ≡ true → stretch v from a n ≡ quiet v }
+    ensures { (v : View) (from a n : ℕ) → v.next < length v.cores → all_halted v.cores ≡ true →
+        stretch v from a n ≡ quiet (record v { next = (v.next + n) % length v.cores }) }
+{}
+
+/// The processors of a board take its slots in turn: the turn has moved on by each slot, and of n
+/// slots each processor takes n divided by their number, or one more.
+pub fn harts_take_turns()
+    ensures turn { (v : View) (from a n : ℕ) → v.next < length v.cores →
+        (stretch v from a n).view.next ≡ (v.next + n) % length v.cores }
+    ensures fair { (harts next n hart : ℕ) → next < harts → hart < harts →
+        (n / harts ≤ turns_of harts next n hart) × (turns_of harts next n hart ≤ n / harts + 1) }
+{}
+
+/// On a board of one processor without atomic instructions each instruction does what it does on a
+/// hart alone, reservations stay, and the one processor takes every slot.
+pub fn one_hart_goes_on_alone()
+    ensures effect { (v : HartView) (w : Wires) (lines : Lines) (word : Option ℕ) →
+        v.core.letters.a ≡ false → v.hart ≡ 0 → v.watch ≡ word ∷ [] →
+        effect_on v w lines ≡ leaves (effect v.core (fetched_by v.core w) lines) v.watch }
+    ensures turn { (v : View) (t : ℕ) (core : Core) → v.cores ≡ core ∷ [] → v.next ≡ 0 →
+        (slot v t).view.next ≡ 0 }
 {}
 
 /// A second sample of the same lines changes nothing.

@@ -1,6 +1,6 @@
 //! Changes of plans, one part at a time.
 use dev_core::Kind;
-use lab_num::{NoMemory, Rows};
+use lab_num::{NoMemory, Rows, Text};
 use sample_boards::names_of;
 use std::alloc::Global;
 use sys_bus::{BoardPlan, NamedWhat, Region, Wire};
@@ -11,6 +11,15 @@ pub fn set_names(
     names: &[(&str, NamedWhat)],
 ) -> Result<(), NoMemory> {
     plan.names = names_of(alloc, names)?;
+    Ok(())
+}
+
+pub fn set_cpus(plan: &mut BoardPlan, alloc: Global, names: &[&str]) -> Result<(), NoMemory> {
+    let mut cpus = Vec::new(alloc);
+    for &name in names {
+        cpus.push(Text::of(alloc, name)?)?;
+    }
+    plan.cpus = Rows::of(cpus);
     Ok(())
 }
 

@@ -1,9 +1,11 @@
 //! Plans of two boards and of boards that are nearly right, and accesses at the ends of regions.
-use crate::parts::{set_kinds, set_memories, set_names, set_regions, set_wires};
+use crate::parts::{set_cpus, set_kinds, set_memories, set_names, set_regions, set_wires};
 use dev_core::Kind;
-use lab_num::{NoMemory, Text};
+use lab_num::NoMemory;
+use rv_hart::Letters;
 use sample_boards::{
-    MEMORIES, SMALL_KINDS, SMALL_NAMES, SMALL_REGIONS, USUAL_REGIONS, small_board, usual_board,
+    HARTS_NAMES, MEMORIES, SMALL_KINDS, SMALL_NAMES, SMALL_REGIONS, USUAL_REGIONS, harts_board,
+    small_board, usual_board,
 };
 use std::alloc::Global;
 use std::process::Abort;
@@ -61,6 +63,25 @@ static NAMES: [(usize, &str, NamedWhat, &str, bool); 11] = [
     (1, "uart", NamedWhat::Part(RegionKind::Clint), "cpu", false),
 ];
 
+/// Each row: how many processors have entries, the names of those that there are, and the speed of
+/// all together.
+static PROCESSORS: [(usize, &[&str], u32, bool); 14] = [
+    (1, &["cpu0"], 1000, true),
+    (1, &["cpu0"], 1001, false),
+    (1, &[], 1, false),
+    (2, &["cpu0", "cpu1"], 2, true),
+    (2, &["cpu0", "cpu1"], 1000, true),
+    (2, &["cpu0", "cpu1"], 3, false),
+    (2, &["cpu1", "cpu0"], 2, false),
+    (2, &["cpu0"], 2, false),
+    (2, &["cpu0", "cpu1", "cpu2"], 6, false),
+    (3, &["cpu0", "cpu1", "cpu2"], 999, true),
+    (3, &["cpu0", "cpu1", "cpu2"], 1000, false),
+    (4, &["cpu0", "cpu1", "cpu2", "cpu3"], 4, true),
+    (4, &["cpu0", "cpu1", "cpu2", "cpu2"], 4, false),
+    (4, &["cpu0", "cpu1", "cpu2", "cpu3"], 0, false),
+];
+
 /// Whether a plan is valid with so many names, regions, memories and devices of the small board.
 fn are_counts_valid(
     plan: &mut BoardPlan,
@@ -93,10 +114,10 @@ fn are_names_valid(
     plan: &mut BoardPlan,
     alloc: Global,
     names: &[(&str, NamedWhat)],
-    cpu: &str,
+    cpus: &[&str],
 ) -> Result<bool, NoMemory> {
     set_names(plan, alloc, names)?;
-    plan.cpu = Text::of(alloc, cpu)?;
+    set_cpus(plan, alloc, cpus)?;
     Ok(plan.is_valid())
 }
 
@@ -110,7 +131,30 @@ fn is_named(
     let mut names = SMALL_NAMES;
     names[i % 4] = (name, what);
     let mut plan = small_board(alloc)?;
-    are_names_valid(&mut plan, alloc, &names, cpu)
+    are_names_valid(&mut plan, alloc, &names, &[cpu])
+}
+
+/// Whether a plan is valid with so many processors, of these names and this speed.
+fn are_processors(
+    alloc: Global,
+    harts: usize,
+    cpus: &[&str],
+    speed: u32,
+) -> Result<bool, NoMemory> {
+    let letters = Letters { a: false, c: false };
+    let mut plan = harts_board(alloc, harts, letters, speed)?;
+    are_names_valid(&mut plan, alloc, &HARTS_NAMES[..3 + harts.min(4)], cpus)
+}
+
+fn assert_processors(
+    rt: &impl Abort,
+    alloc: Global,
+    rows: &[(usize, &[&str], u32, bool)],
+) -> Result<(), NoMemory> {
+    for (harts, cpus, speed, valid) in rows {
+        assert!(rt; are_processors(alloc, *harts, cpus, *speed)? == *valid);
+    }
+    Ok(())
 }
 
 fn assert_counts(
@@ -141,6 +185,7 @@ fn assert_names(
 fn each_part_has_one_name_and_one_region(rt: HostRuntime) -> Result<(), Fail> {
     assert_counts(&rt, rt.alloc(), &COUNTS)?;
     assert_names(&rt, rt.alloc(), &NAMES)?;
+    assert_processors(&rt, rt.alloc(), &PROCESSORS)?;
     Ok(())
 }
 
@@ -266,22 +311,23 @@ static NUMBERS: [(Option<u32>, u8, u8, u32, bool); 12] = [
 ];
 
 /// Each row: a wire, and whether the usual board and the small one may have it.
-static WIRES: [(WireFrom, WirePin, bool, bool); 15] = [
-    (WireFrom::Soft, WirePin::Cpu(3), true, false),
-    (WireFrom::Timer, WirePin::Cpu(7), true, false),
-    (WireFrom::Timer, WirePin::Cpu(8), false, false),
+static WIRES: [(WireFrom, WirePin, bool, bool); 16] = [
+    (WireFrom::Soft, WirePin::Cpu { hart: 0, pin: 3 }, true, false),
+    (WireFrom::Timer, WirePin::Cpu { hart: 0, pin: 7 }, true, false),
+    (WireFrom::Timer, WirePin::Cpu { hart: 0, pin: 8 }, false, false),
+    (WireFrom::Soft, WirePin::Cpu { hart: 1, pin: 3 }, false, false),
     (WireFrom::Soft, WirePin::Source(1), false, false),
     (WireFrom::Timer, WirePin::Source(1), false, false),
-    (WireFrom::Context(0), WirePin::Cpu(11), true, false),
-    (WireFrom::Context(1), WirePin::Cpu(11), false, false),
+    (WireFrom::Context(0), WirePin::Cpu { hart: 0, pin: 11 }, true, false),
+    (WireFrom::Context(1), WirePin::Cpu { hart: 0, pin: 11 }, false, false),
     (WireFrom::Context(0), WirePin::Source(1), false, false),
-    (WireFrom::Dev(0), WirePin::Cpu(11), true, true),
-    (WireFrom::Dev(0), WirePin::Cpu(0), false, false),
+    (WireFrom::Dev(0), WirePin::Cpu { hart: 0, pin: 11 }, true, true),
+    (WireFrom::Dev(0), WirePin::Cpu { hart: 0, pin: 0 }, false, false),
     (WireFrom::Dev(0), WirePin::Source(1), true, false),
     (WireFrom::Dev(0), WirePin::Source(31), true, false),
     (WireFrom::Dev(0), WirePin::Source(0), false, false),
     (WireFrom::Dev(0), WirePin::Source(32), false, false),
-    (WireFrom::Dev(1), WirePin::Cpu(3), false, false),
+    (WireFrom::Dev(1), WirePin::Cpu { hart: 0, pin: 3 }, false, false),
 ];
 
 /// The kinds of the small board's devices.

@@ -18,7 +18,7 @@ const BASE: u32 = 0x8000_0000;
 const WIRES: [Wire; 3] = [
     Wire {
         from: WireFrom::Timer,
-        pin: WirePin::Cpu(7),
+        pin: WirePin::Cpu { hart: 0, pin: 7 },
     },
     Wire {
         from: WireFrom::Dev(0),
@@ -26,7 +26,7 @@ const WIRES: [Wire; 3] = [
     },
     Wire {
         from: WireFrom::Context(0),
-        pin: WirePin::Cpu(11),
+        pin: WirePin::Cpu { hart: 0, pin: 11 },
     },
 ];
 

@@ -107,7 +107,7 @@ abbrev load : ℕ → ℕ → View → View
 load seed n v = with_bytes v 0x80000000 (program seed n)
 
 abbrev begin : View → View
-begin v = with_pc v 0x80000000
+begin v = with_pc v 0 0x80000000
 
 more_members :
     (n : ℕ) → map uart_of (range_with_len 0 n) ++ uart_of n ∷ [] ≡ map uart_of (range_with_len 0 (n + 1))
@@ -158,7 +158,7 @@ fitted_holds seed n s bytes is are =
 pub loaded_last :
     (seed n : ℕ) (s s' : Seen) (bytes : List ℕ) → IsWith seed n (equip n (bare n)) s → bytes ≡ program seed n →
     s' ≡ record s {
-      lab = changed (changed s.lab n (λ v. with_bytes v 0x80000000 bytes)) n (λ v. with_pc v 0x80000000);
+      lab = changed (changed s.lab n (λ v. with_bytes v 0x80000000 bytes)) n (λ v. with_pc v 0 0x80000000);
     } →
     IsWith seed n (board seed n) s'
 loaded_last seed n s s' bytes is are so =

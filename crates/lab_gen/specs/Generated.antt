@@ -15,7 +15,7 @@ use Rattle.lab_gen.specs.Plan.{plan}
 
 -- a new board with its program at the start of its memory, whose next instruction is the first of it
 abbrev pub view : ℕ → ℕ → View
-view seed i = with_pc (with_bytes (new_board i plan) 0x80000000 (program seed i)) 0x80000000
+view seed i = with_pc (with_bytes (new_board i plan) 0x80000000 (program seed i)) 0 0x80000000
 
 -- the boards are called `m0`, `m1` and so on
 abbrev pub board : ℕ → ℕ → Board

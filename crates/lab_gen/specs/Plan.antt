@@ -32,6 +32,6 @@ plan = record {
   plic = None;
   wires = [];
   speed = 10;
-  cpu = codes "cpu";
+  cpus = codes "cpu" ∷ [];
   letters = record { a = false; c = false };
 }

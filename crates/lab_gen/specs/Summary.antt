@@ -4,7 +4,7 @@ use Rattle.std.specs.Fmt.{decimal}
 use Rattle.std.specs.List.{flat_map}
 use Rattle.std.specs.Option.{option_map_or}
 use Rattle.rv_hart.specs.Core.{reg}
-use Rattle.board.specs.View.{View}
+use Rattle.board.specs.View.{View, core_at}
 use Rattle.log_text.specs.Number.{word}
 use Rattle.lab_state.specs.Board.{Board}
 use Rattle.lab_state.specs.Lab.{Lab}
@@ -23,8 +23,8 @@ abbrev pub line_by : List ℕ → View → List ℕ
 line_by name v =
     name
     ++ codes " posts " ++ decimal v.numbers.posted
-    ++ codes " retired " ++ decimal v.core.minstret
-    ++ codes " sum " ++ word (reg v.core 18)
+    ++ codes " retired " ++ decimal (core_at v 0).minstret
+    ++ codes " sum " ++ word (reg (core_at v 0) 18)
     ++ codes "\n"
 
 -- a board without a plan has no line

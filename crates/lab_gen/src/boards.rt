@@ -74,11 +74,11 @@ fn load<D: Device>(lab: &mut Lab<D>, b: BoardNo, program: &[u8]) -> Result<(), N
     ensures { OnOk result (lab.new ≡ record lab.old {
       lab = changed
           (changed lab.old.lab b.0 (λ v. with_bytes v 0x80000000 program.now))
-          b.0 (λ v. with_pc v 0x80000000);
+          b.0 (λ v. with_pc v 0 0x80000000);
     }) }
 {
     lab.copy_in(b, START, program)?;
-    lab.set_pc(b, START);
+    lab.set_pc(b, 0, START);
     Ok(())
 }
 

@@ -55,7 +55,7 @@ pub(crate) fn plan(alloc: Global) -> Result<BoardPlan, NoMemory>
         plic: None,
         wires: Rows::of(Vec::new(alloc)),
         speed: 10,
-        cpu: Text::of(alloc, "cpu")?,
+        cpus: Rows::of(vec![in alloc; Text::of(alloc, "cpu")?]?),
         letters: Letters { a: false, c: false },
     })
 }

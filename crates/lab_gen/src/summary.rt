@@ -19,8 +19,8 @@ fn print_line<D: Device>(text: &mut String, name: &str, board: &Board<D>) -> Res
         ++ summary_spec.line_by name.now board.now.view) }
 {
     let posts = board.posted();
-    let retired = board.retired();
-    let sum = Word(board.register(SUM));
+    let retired = board.retired(0);
+    let sum = Word(board.register(0, SUM));
     writeln!(text, "{name} posts {posts} retired {retired} sum {sum}")?;
     Ok(posts)
 }

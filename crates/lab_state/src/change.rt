@@ -9,9 +9,10 @@ use dev_core::Device;
 /// stay.
 #[derive(Drop)]
 pub enum Change {
-    /// The address of the next instruction.
-    Pc(u32),
-    Halted(bool),
+    /// The address of a processor's next instruction.
+    Pc { hart: u8, pc: u32 },
+    /// Whether a processor is halted.
+    Halted { hart: u8, on: bool },
     /// A device is shown.
     Shown(u8),
     /// Bytes of the memories become 0.
@@ -26,8 +27,8 @@ impl Change {
         ensures { board.new ≡ record board.old { view = changed_by self board.old.view } }
     {
         match self {
-            Change::Pc(pc) => board.set_pc(pc),
-            Change::Halted(on) => board.set_halted(on),
+            Change::Pc { hart, pc } => board.set_pc(hart, pc),
+            Change::Halted { hart, on } => board.set_halted(hart, on),
             Change::Shown(dev) => board.show(dev),
             Change::Zero { at, count } => board.zero(at, count),
             Change::Reset => board.reset(),

@@ -55,38 +55,42 @@ impl<D: Device> Lab<D> {
         self.change(b, Change::Zero { at, count });
     }
 
-    /// Sets the address of a board's next instruction, which is divisible by 4, or with compressed
-    /// instructions by 2.
-    pub fn set_pc(&mut self, b: BoardNo, pc: u32)
+    /// Sets the address of the next instruction of a board's processor, which is divisible by 4, or
+    /// with compressed instructions by 2.
+    pub fn set_pc(&mut self, b: BoardNo, hart: u8, pc: u32)
         requires unspent { self.old.spent ≡ false }
         requires has_plan { IsSome (view_of self.old.lab b.0) }
+        requires hart { ForSome (view_of self.old.lab b.0) (λ v. hart < length v.cores) }
         requires aligned { ForSome (view_of self.old.lab b.0) (λ v.
-            pc % alignment v.core.letters ≡ 0) }
+            pc % alignment v.space.plan.letters ≡ 0) }
         ensures { self.new ≡ record self.old {
-          lab = changed self.old.lab b.0 (λ v. with_pc v pc);
+          lab = changed self.old.lab b.0 (λ v. with_pc v hart pc);
         } }
     {
-        self.change(b, Change::Pc(pc));
+        self.change(b, Change::Pc { hart, pc });
     }
 
-    /// Halts the processor of a board, or lets it run. The slots of a halted one pass and change
+    /// Halts a processor of a board, or lets it run. The slots of a halted one pass and change
     /// nothing.
-    pub fn set_halted(&mut self, b: BoardNo, on: bool)
+    pub fn set_halted(&mut self, b: BoardNo, hart: u8, on: bool)
         requires unspent { self.old.spent ≡ false }
         requires has_plan { IsSome (view_of self.old.lab b.0) }
+        requires hart { ForSome (view_of self.old.lab b.0) (λ v. hart < length v.cores) }
         ensures { self.new ≡ record self.old {
-          lab = changed self.old.lab b.0 (λ v. with_halted v on);
+          lab = changed self.old.lab b.0 (λ v. with_halted v hart on);
         } }
     {
-        self.change(b, Change::Halted(on));
+        self.change(b, Change::Halted { hart, on });
     }
 
-    /// Sets the speed of a board for the rounds to come, in instructions a microsecond.
+    /// Sets the speed of a board for the rounds to come, in instructions a microsecond of all its
+    /// processors together.
     pub fn set_speed(&mut self, b: BoardNo, speed: u32)
         requires unspent { self.old.spent ≡ false }
         requires has_plan { IsSome (view_of self.old.lab b.0) }
         requires least { 1 ≤ speed }
         requires most { speed ≤ 1000 }
+        requires shared { ForSome (view_of self.old.lab b.0) (λ v. speed % length v.cores ≡ 0) }
         ensures { self.new ≡ record self.old {
           lab = changed self.old.lab b.0 (λ v. with_speed v speed);
         } }
@@ -111,9 +115,9 @@ impl<D: Device> Lab<D> {
         self.change(member.board, Change::Shown(member.dev));
     }
 
-    /// Brings the processor and the devices of a board into their first states, with the pc at 0.
-    /// Memories, speed, whether the processor is halted, which devices are shown, and the counts of
-    /// posts and entries stay.
+    /// Brings the processors and the devices of a board into their first states, with each pc at 0.
+    /// Memories, speed, which processors are halted, which devices are shown, and the counts of posts
+    /// and entries stay.
     pub fn reset(&mut self, b: BoardNo)
         requires unspent { self.old.spent ≡ false }
         requires has_plan { IsSome (view_of self.old.lab b.0) }

@@ -237,7 +237,7 @@ impl<D: Device> NamedBoard<D> {
         self.board.is_none()
     }
 
-    /// Whether there is a board under the name whose processor neither waits nor is halted.
+    /// Whether there is a board under the name with a processor that neither waits nor is halted.
     pub fn is_awake(&self) -> bool
         ensures { result ≡ is_awake self.now }
     {

@@ -6,6 +6,6 @@ mod plans;
 
 pub use counted::CountedUart;
 pub use plans::{
-    MEMORIES, SMALL_KINDS, SMALL_NAMES, SMALL_REGIONS, USUAL_REGIONS, names_of, small_board,
-    usual_board,
+    HARTS_NAMES, MEMORIES, SMALL_KINDS, SMALL_NAMES, SMALL_REGIONS, USUAL_REGIONS, harts_board,
+    names_of, small_board, usual_board,
 };

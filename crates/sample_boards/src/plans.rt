@@ -1,4 +1,4 @@
-//! Plans of two boards, and their parts.
+//! Plans of boards, and their parts.
 use dev_core::Kind;
 use lab_num::{NoMemory, Rows, Text};
 use rv_hart::Letters;
@@ -47,6 +47,17 @@ pub const SMALL_NAMES: [(&str, NamedWhat); 4] = [
     ("cpu", NamedWhat::Cpu),
 ];
 
+/// Those of the small board, with four processors.
+pub const HARTS_NAMES: [(&str, NamedWhat); 7] = [
+    ("ram", NamedWhat::Part(RegionKind::Ram(0))),
+    ("uart", NamedWhat::Part(RegionKind::Dev(0))),
+    ("fin", NamedWhat::Part(RegionKind::Dev(1))),
+    ("cpu0", NamedWhat::Cpu),
+    ("cpu1", NamedWhat::Cpu),
+    ("cpu2", NamedWhat::Cpu),
+    ("cpu3", NamedWhat::Cpu),
+];
+
 pub const SMALL_REGIONS: [Region; 3] = [RAM, UART, FINISHER];
 
 pub const SMALL_KINDS: [Kind; 2] = [Kind::Uart, Kind::Finisher];
@@ -73,6 +84,17 @@ pub fn names_of(alloc: Global, names: &[(&str, NamedWhat)]) -> Result<Rows<Named
         list.push(Named { name, what })?;
     }
     Ok(Rows::of(list))
+}
+
+/// The names of the processors among these.
+pub fn cpus_of(alloc: Global, names: &[(&str, NamedWhat)]) -> Result<Rows<Text>, NoMemory> {
+    let mut cpus = Vec::new(alloc);
+    for &(name, what) in names {
+        if what == NamedWhat::Cpu {
+            cpus.push(Text::of(alloc, name)?)?;
+        }
+    }
+    Ok(Rows::of(cpus))
 }
 
 /// What stands at the addresses of a board.
@@ -102,7 +124,7 @@ fn board_of(
     regions: &[Region],
     kinds: &[Kind],
 ) -> Result<BoardPlan, NoMemory> {
-    let cpu = Text::of(alloc, "cpu")?;
+    let cpus = cpus_of(alloc, names)?;
     let names = names_of(alloc, names)?;
     let parts = parts_of(alloc, regions, kinds)?;
     Ok(BoardPlan {
@@ -114,7 +136,7 @@ fn board_of(
         plic: None,
         wires: Rows::of(Vec::new(alloc)),
         speed: 1,
-        cpu,
+        cpus,
         letters: Letters { a: false, c: false },
     })
 }
@@ -134,5 +156,19 @@ pub fn usual_board(alloc: Global) -> Result<BoardPlan, NoMemory> {
         contexts: 1,
     });
     plan.speed = 25;
+    Ok(plan)
+}
+
+/// The small board with one to four processors of these letters, at so many instructions a microsecond of all together.
+pub fn harts_board(
+    alloc: Global,
+    harts: usize,
+    letters: Letters,
+    speed: u32,
+) -> Result<BoardPlan, NoMemory> {
+    let names = &HARTS_NAMES[..3 + harts.min(4)];
+    let mut plan = board_of(alloc, names, &SMALL_REGIONS, &SMALL_KINDS)?;
+    plan.letters = letters;
+    plan.speed = speed;
     Ok(plan)
 }

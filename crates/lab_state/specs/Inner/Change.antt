@@ -9,16 +9,16 @@ use Rattle.lab_state.specs.declared.change.Change.{Change}
 use Rattle.lab_state.specs.declared.change.Change.TheVariants as change
 
 abbrev pub changed_by : Change → View → View
-changed_by (change.Pc pc) v = with_pc v pc
-changed_by (change.Halted on) v = with_halted v on
+changed_by (change.Pc hart pc) v = with_pc v hart pc
+changed_by (change.Halted hart on) v = with_halted v hart on
 changed_by (change.Shown dev) v = with_shown v dev
 changed_by (change.Zero at count) v = with_bytes v at (zeros count)
 changed_by change.Reset v = reset v
 
 -- when it may be
 abbrev pub MayChange : Change → View → Type 0
-MayChange (change.Pc pc) v = pc % alignment v.core.letters ≡ 0
-MayChange (change.Halted on) v = Unit {0}
+MayChange (change.Pc hart pc) v = (hart < length v.cores) × (pc % alignment v.space.plan.letters ≡ 0)
+MayChange (change.Halted hart on) v = hart < length v.cores
 MayChange (change.Shown dev) v = (dev < length v.space.devices) × IsTrue (may_be_shown v dev)
 MayChange (change.Zero at count) v = IsTrue (holds_each v.space at count)
 MayChange change.Reset v = Unit {0}
