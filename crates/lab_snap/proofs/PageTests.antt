@@ -5,7 +5,8 @@ use Rattle.std.specs.List.{list_all}
 use Rattle.std.proofs.lemmas.Bool.{and_parts, and_from, leb-true, ltb-true, le-leb, lt-ltb}
 use Rattle.page_ram.specs.Pages.{is_zero}
 use Rattle.lab_snap.specs.Inner.Pages.{is_next}
-use Rattle.lab_snap.specs.Memory.{are_used, rise}
+use Rattle.lab_snap.specs.Memory.{are_used}
+use Rattle.lab_snap.specs.Rising.{rise_by}
 
 pub all_weaker : {A : Type 0} (p q : A → Bool) → ((x : A) → p x ≡ true → q x ≡ true) → (xs : List A) →
     list_all p xs ≡ true → list_all q xs ≡ true
@@ -52,6 +53,10 @@ rise_lower low low' top (page ∷ others) le e =
 -- all numbers are from low on
 abbrev all_from : ℕ → List (ℕ × List ℕ) → Bool
 all_from low ps = list_all (λ page. leb low page.0) ps
+
+-- their numbers rise
+abbrev rise : List (ℕ × List ℕ) → Bool
+rise ps = rise_by (λ page later. ltb page.0 later.0) ps
 
 abbrev used_page : ℕ → ℕ × List ℕ → Bool
 used_page top page = ltb page.0 top && not (is_zero page.1)

@@ -1,13 +1,14 @@
 -- How a memory is spelled: by the list of its pages that have a byte other than 0, each with its number, in rising
 -- order.
 use Rattle.std.specs.Prelude.{◌≡◌, ◌<◌, ◌*◌, ℕ, zero, suc, List, [], ◌∷◌, ◌++◌, length, take, drop}
-use Rattle.std.specs.Prelude.{Bool, true, not, nat_lt, ◌==◌, ◌&&◌, if◌then◌else◌}
+use Rattle.std.specs.Prelude.{Bool, not, nat_lt, ◌==◌, ◌&&◌, if◌then◌else◌}
 use Rattle.std.specs.List.{list_all, AllByRecursion}
 use Rattle.page_ram.specs.Bytes.{zeros}
 use Rattle.page_ram.specs.Pages.{is_zero}
 use Rattle.lab_spell.specs.Form.{Form}
 use Rattle.lab_spell.specs.Combine.{list, only, shown}
 use Rattle.lab_snap.specs.Page.{page_form}
+use Rattle.lab_snap.specs.Rising.{rise_by}
 
 -- n pages of s bytes
 abbrev pub IsMemory : ℕ → ℕ → List ℕ → Type 0
@@ -31,22 +32,19 @@ used s n m = used_pages 0 (pages s n m)
 
 -- ---- the memory of which pages are used
 
--- the number of each page is below those of all pages after it
-abbrev pub rise : List (ℕ × List ℕ) → Bool
-rise [] = true
-rise (page ∷ others) = list_all (λ later. nat_lt page.0 later.0) others && rise others
-
 -- pages that can be the used ones of a memory of n pages: they rise, and each lies in the memory and has a byte other
 -- than 0
 abbrev pub are_used : ℕ → List (ℕ × List ℕ) → Bool
-are_used n ps = list_all (λ page. nat_lt page.0 n && not (is_zero page.1)) ps && rise ps
+are_used n ps =
+    list_all (λ page. nat_lt page.0 n && not (is_zero page.1)) ps
+    && rise_by (λ page later. nat_lt page.0 later.0) ps
 
--- the page of a number, which is 0 where it does not stand there
+-- the page that stands there under a number, or one of zeros
 unfoldable pub page_at : ℕ → ℕ → List (ℕ × List ℕ) → List ℕ
 page_at s k [] = zeros s
 page_at s k (page ∷ others) = if page.0 == k then page.1 else page_at s k others
 
--- so many pages from one on
+-- the pages of so many numbers from k on, one after the other
 unfoldable pub pages_from : ℕ → ℕ → ℕ → List (ℕ × List ℕ) → List ℕ
 pages_from s k zero ps = []
 pages_from s k (suc count) ps = page_at s k ps ++ pages_from s (suc k) count ps

@@ -21,11 +21,12 @@ fn a_memory_is_its_pages_that_are_not_zero(rt: HostRuntime) -> Result<(), Fail> 
     let alloc = rt.alloc();
     let two = [2, 0, 0, 0, 0, 0, 0, 0];
     let (first, last) = (page(alloc, 0, 5)?, page(alloc, 2, 6)?);
+    let mut written = vec![in alloc; 0u8; 12288]?;
+    written[0] = 5;
+    written[8192] = 6;
+    // This gives the page between them its memory too.
     let mut memory = PageRam::new(alloc, 12288)?;
-    memory.store(0, 1, 5)?;
-    memory.store(8192, 1, 6)?;
-    // This gives the page between them its memory, and leaves it all 0.
-    memory.store(4096, 4, 0)?;
+    memory.copy_in(0, &written)?;
     let bytes = joined(alloc, &[&two, &first, &last])?;
     let saved = save_memory(alloc, &memory, 3)?;
     assert!(rt; saved.as_slice() == bytes.as_slice());
@@ -36,6 +37,17 @@ fn a_memory_is_its_pages_that_are_not_zero(rt: HostRuntime) -> Result<(), Fail> 
     );
     let more = joined(alloc, &[&bytes, &[0]])?;
     assert!(rt; is_no_memory(alloc, &more));
+    Ok(())
+}
+
+#[test]
+fn a_memory_that_nothing_was_stored_in_has_no_pages(rt: HostRuntime) -> Result<(), Fail> {
+    let alloc = rt.alloc();
+    let memory = PageRam::new(alloc, 12288)?;
+    let saved = save_memory(alloc, &memory, 3)?;
+    assert!(rt; saved.as_slice() == [0; 8]);
+    let loaded = load_memory(alloc, &[0; 8], 3)?;
+    assert!(rt; loaded.load(12284, 4) == 0);
     Ok(())
 }
 
