@@ -120,13 +120,7 @@ impl PageRam {
     {
         match self.pages[number as usize].load() {
             None => None,
-            Some(page) => {
-                if is_zero(page) {
-                    None
-                } else {
-                    Some(page)
-                }
-            }
+            Some(page) => { if is_zero(page) { None } else { Some(page) } }
         }
     }
 
