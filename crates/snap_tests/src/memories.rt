@@ -45,7 +45,7 @@ fn a_memory_that_nothing_was_stored_in_has_no_pages(rt: HostRuntime) -> Result<(
     let alloc = rt.alloc();
     let memory = PageRam::new(alloc, 12288)?;
     let saved = save_memory(alloc, &memory, 3)?;
-    assert!(rt; saved.as_slice() == [0; 8]);
+    assert!(rt; saved.as_slice() == [0; 8].as_slice());
     let loaded = load_memory(alloc, &[0; 8], 3)?;
     assert!(rt; loaded.load(12284, 4) == 0);
     Ok(())
