@@ -1,6 +1,6 @@
 //! The frames of a CAN bus.
 ghost use Rattle.std.specs.Prelude.{◌≡◌, ◌<◌, ◌≤◌, length, take};
-ghost use Rattle.dev_core.specs.Frame.{data_frame, remote_frame, carried, held_size};
+ghost use Rattle.dev_core.specs.Frame.{data_frame, remote_frame, carried, held_size, IsFrame};
 
 use std::marker::Model;
 
@@ -88,6 +88,14 @@ impl Frame {
     {
         let carried = if self.remote { 0 } else { self.len as usize };
         &self.bytes[..carried]
+    }
+
+    /// All eight places for bytes. Those that carry nothing are 0, as in each frame.
+    pub fn places(&self) -> [u8; 8]
+        ensures value { result ≡ self.now.bytes }
+        ensures valid { IsFrame self.now }
+    {
+        self.bytes
     }
 
     /// How many bytes the frame takes in the receive FIFO of a CAN controller.

@@ -1,2 +1,5 @@
+mod Fronts
+mod MemoryLaws
 mod PageLoops
+mod PageTests
 mod RisingLemmas

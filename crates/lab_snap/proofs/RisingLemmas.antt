@@ -3,21 +3,15 @@ use Rattle.std.proofs.Common.{◌≡◌, ◌∙◌, ℕ, zero, suc, ◌+◌, ◌
 use Rattle.std.proofs.Common.{length, get_or, drop, refl, sym, ap, subst, arith}
 use Rattle.std.proofs.lemmas.List.{drop_more, get_or_default}
 use Rattle.std.specs.List.{list_all}
-use Rattle.std.proofs.lemmas.Bool.{and_parts, and_from, false≢true}
+use Rattle.std.proofs.lemmas.Bool.{false≢true}
 use Rattle.std.proofs.lemmas.Bool.Decides.{nat_tests}
 use Rattle.lab_num.specs.declared.key.Key.{Key}
 use Rattle.dev_core.specs.declared.post.Post.{Post}
 use Rattle.lab_snap.specs.Rising.{is_before, rise}
+use Rattle.lab_snap.proofs.PageTests.{all_weaker}
 
 before_trans : (a b c : Key) → is_before a b ≡ true → is_before b c ≡ true → is_before a c ≡ true
 before_trans a b c first second = grind (arith, nat_tests)
-
-all_weaker : (p q : Post → Bool) → ((x : Post) → p x ≡ true → q x ≡ true) → (xs : List Post) →
-    list_all p xs ≡ true → list_all q xs ≡ true
-all_weaker p q more [] e = refl
-all_weaker p q more (x ∷ xs) e =
-    let parts = and_parts (p x) (list_all p xs) e in
-    and_from (q x) (list_all q xs) (more x parts.0) (all_weaker p q more xs parts.1)
 
 -- a test that follows from two others is no more
 implied : (p q r s : Bool) → (p ≡ true → r ≡ true → q ≡ true) → ((p && q) && (r && s)) ≡ (p && (r && s))

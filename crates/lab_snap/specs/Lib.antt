@@ -2,6 +2,5 @@
 pub mod Hub
 pub mod Inner
 pub mod Memory
-pub mod MemoryLaws
 pub mod Page
 pub mod Rising

@@ -1,60 +1,52 @@
-//! Memories of whole pages, of which those with a byte other than 0 are spelled.
-ghost use Rattle.std.specs.Prelude.{◌≡◌, ◌≤◌, ◌<◌, ◌+◌, ◌*◌, ◌++◌, length, take, drop, OnOk, IfOk, MatchResult, List, ℕ};
-ghost use Rattle.std.specs.List.{flat_map};
-ghost use Rattle.lab_spell.specs.Form.{IsBytes};
-ghost use Rattle.lab_spell.specs.Inner.Whole.{Gives, value_of};
+//! Memories, of which the pages with a byte other than 0 are spelled.
+ghost use Rattle.std.specs.Prelude.{
+  ◌≡◌,
+  ◌≤◌,
+  ◌<◌,
+  ◌+◌,
+  ◌*◌,
+  ◌++◌,
+  length,
+  OnOk,
+  IfOk,
+  MatchResult,
+  List,
+  ℕ,
+};
+ghost use Rattle.std.specs.List.{flat_map, AllByRecursion};
+ghost use Rattle.page_ram.specs.Bytes.{zeros};
+ghost use Rattle.page_ram.specs.Pages.{page_of};
+ghost use Rattle.page_ram.specs.Pages as pages_spec;
+ghost use Rattle.lab_spell.specs.Form.{IsBytes, Spells};
 ghost use Rattle.lab_spell.specs.Reads.{Appends, Reads};
+ghost use Rattle.lab_snap.specs.Inner.Pages.{memory_read, spell_used};
+ghost use Rattle.lab_snap.specs.Inner.Pages as inner;
+ghost use Rattle.lab_snap.specs.Inner.ReadsInto.{ReadsInto};
 ghost use Rattle.lab_snap.specs.Memory.{memory_form, used};
 ghost use Rattle.lab_snap.specs.Page.{page_form};
-ghost use Rattle.lab_snap.specs.Page as page_spec;
-ghost use Rattle.lab_snap.specs.Inner.Pages.{load_pages, put_bytes, spell_used};
-ghost use Rattle.lab_snap.specs.Inner.Pages as pages_spec;
-ghost use Rattle.lab_snap.specs.Inner.ReadsInto.{ReadsInto};
 
-use lab_num::{NoMemory, Rows};
+use lab_num::NoMemory;
 use lab_spell::{SnapFault, Source, Spelled};
+use page_ram::PageRam;
 use std::alloc::Global;
 
 /// The bytes of a page.
-const PAGE: usize = 4096;
+const PAGE: u32 = 4096;
 
 /// Each item is a byte: a proof that needs this calls it.
 fn are_bytes(bytes: &[u8])
     ensures { IsBytes bytes.now }
 {}
 
-fn is_zero(page: &[u8]) -> bool
-    ensures { result ≡ page_spec.is_zero page.now }
-{
-    page.iter().all(|&byte| byte == 0)
-}
-
-/// The page of this number.
-fn page_at(bytes: &[u8], k: usize) -> &[u8]
-    requires { 4096 * (k + 1) ≤ length bytes.now }
-    ensures { result.now ≡ take 4096 (drop (4096 * k) bytes.now) }
-{
-    &bytes[PAGE * k..PAGE * k + PAGE]
-}
-
-/// Puts a page in its place.
-fn put_page(bytes: &mut [u8], k: usize, page: &[u8])
-    requires within { 4096 * (k + 1) ≤ length bytes.old }
-    requires size { length page.now ≡ 4096 }
-    ensures { bytes.new ≡ put_bytes bytes.old (4096 * k) page.now }
-{
-    bytes[PAGE * k..PAGE * k + PAGE].copy_from_slice(page);
-}
-
 /// How many pages have a byte other than 0.
 #[tactic(auto, using(crate::proofs::PageLoops::left_lemmas))]
-fn used_count(bytes: &[u8], pages: u32) -> u64
-    requires { length bytes.now ≡ 4096 * pages }
-    ensures { result ≡ length (used 4096 pages bytes.now) }
+fn used_count(memory: &PageRam, pages: u32) -> u64
+    requires { length memory.now ≡ 4096 * pages }
+    ensures { result ≡ length (used 4096 pages memory.now) }
 {
     let mut count = 0;
     for k in 0..pages {
-        if !is_zero(page_at(bytes, k as usize)) {
+        if memory.used_page(k).is_some() {
             count += 1;
         }
     }
@@ -62,10 +54,14 @@ fn used_count(bytes: &[u8], pages: u32) -> u64
 }
 
 /// Writes the number of a page and the page, if it has a byte other than 0.
-fn put_used(number: u32, page: &[u8], out: &mut Vec<u8>) -> Result<(), NoMemory>
-    ensures { OnOk result (Appends out.old.items out.new.items (spell_used 4096 number page.now)) }
+fn put_used(memory: &PageRam, number: u32, out: &mut Vec<u8>) -> Result<(), NoMemory>
+    requires { 4096 * (number + 1) ≤ length memory.now }
+    ensures spelled { OnOk result
+        (Appends out.old.items out.new.items (spell_used 4096 number (page_of memory.now number))) }
+    ensures bytes { OnOk result (AllByRecursion (λ b. b < 256) (page_of memory.now number)) }
 {
-    if !is_zero(page) {
+    if let Some(page) = memory.used_page(number) {
+        are_bytes(page);
         number.put(out)?;
         out.extend_from_slice(page)?;
     }
@@ -73,78 +69,98 @@ fn put_used(number: u32, page: &[u8], out: &mut Vec<u8>) -> Result<(), NoMemory>
 }
 
 /// Writes all pages that have a byte other than 0.
-fn put_pages(bytes: &[u8], pages: u32, out: &mut Vec<u8>) -> Result<(), NoMemory>
-    requires { length bytes.now ≡ 4096 * pages }
-    ensures { OnOk result (Appends out.old.items out.new.items
-        (flat_map (page_form 4096).spell (used 4096 pages bytes.now))) }
+fn put_pages(memory: &PageRam, pages: u32, out: &mut Vec<u8>) -> Result<(), NoMemory>
+    requires { length memory.now ≡ 4096 * pages }
+    ensures spelled { OnOk result (Appends out.old.items out.new.items
+        (flat_map (page_form 4096).spell (used 4096 pages memory.now))) }
+    ensures bytes { OnOk result (AllByRecursion (λ b. b < 256) memory.now) }
 {
     for k in 0..pages {
-        put_used(k, page_at(bytes, k as usize), out)?;
+        put_used(memory, k, out)?;
     }
     Ok(())
 }
 
+fn is_zero(page: &[u8]) -> bool
+    ensures { result ≡ pages_spec.is_zero page.now }
+{
+    page.iter().all(|&byte| byte == 0)
+}
+
 /// Whether a page may come next: its number is not below `low`, and it has a byte other than 0.
 fn is_next(pages: u32, low: u32, number: u32, page: &[u8]) -> bool
-    ensures { result ≡ pages_spec.is_next pages low (number, page.now) }
+    ensures { result ≡ inner.is_next pages low (number, page.now) }
 {
     low <= number && number < pages && !is_zero(page)
 }
 
-/// Reads so many pages into a memory.
+/// Reads so many pages into a memory of 0.
 fn take_pages(
     alloc: Global,
     source: &mut Source<'_>,
     count: u64,
     pages: u32,
-    bytes: &mut [u8],
+    memory: &mut PageRam,
 ) -> Result<(), SnapFault>
-    requires { length bytes.old ≡ 4096 * pages }
-    ensures { ReadsInto (load_pages 4096 pages 0 count source.old bytes.old) bytes.new source.new result }
+    requires { memory.old ≡ zeros (4096 * pages) }
+    ensures { ReadsInto (memory_read 4096 pages count source.old) memory.new source.new result }
 {
     let mut low = 0;
     for _ in 0..count {
         let number = u32::take(alloc, source)?;
-        let page = source.front(PAGE)?;
+        let page = source.front(PAGE as usize)?;
         if !is_next(pages, low, number, page) {
             return Err(SnapFault::Bad);
         }
-        put_page(bytes, number as usize, page);
+        memory.put_page(number, page)?;
         low = number + 1;
     }
     Ok(())
 }
 
+/// Reads the memory of so many pages that is spelled at the front, as a part of a larger value.
+fn take_as_part(alloc: Global, pages: u32, source: &mut Source<'_>) -> Result<PageRam, SnapFault>
+    requires some { 1 ≤ pages }
+    requires few { pages ≤ 16384 }
+    ensures { Reads ((memory_form pages).parse source.old) source.new result }
+{
+    let count = u64::take(alloc, source)?;
+    let mut memory = PageRam::new(alloc, PAGE * pages)?;
+    take_pages(alloc, source, count, pages, &mut memory)?;
+    Ok(memory)
+}
+
 /// Writes the spelling of a memory of so many pages at the end. Where memory runs out a part of it may
 /// stand there.
-pub fn put_memory(memory: &[u8], pages: u32, out: &mut Vec<u8>) -> Result<(), NoMemory>
+pub fn put_memory(memory: &PageRam, pages: u32, out: &mut Vec<u8>) -> Result<(), NoMemory>
     requires { length memory.now ≡ 4096 * pages }
     ensures spelled { OnOk result (Appends out.old.items out.new.items ((memory_form pages).spell memory.now)) }
     ensures fits { OnOk result ((memory_form pages).Fits memory.now) }
 {
-    are_bytes(memory);
     used_count(memory, pages).put(out)?;
     put_pages(memory, pages, out)?;
     Ok(())
 }
 
-/// Reads the memory of so many pages that is spelled at the front. `Bad` comes where none is.
-pub fn take_memory(
-    alloc: Global,
-    pages: u32,
-    source: &mut Source<'_>,
-) -> Result<Rows<u8>, SnapFault>
-    requires { pages ≤ 16384 }
-    ensures { Reads ((memory_form pages).parse source.old) source.new result }
+/// Reads the memory of so many pages that is spelled at the front. What is read is spelled so (`found`),
+/// and what is spelled so is read, whatever follows it, unless memory runs out (`only`): so `Bad` comes
+/// only where no memory is spelled there. `part` says the same for a memory that is read as a part of
+/// a larger value.
+pub fn take_memory(alloc: Global, pages: u32, source: &mut Source<'_>) -> Result<PageRam, SnapFault>
+    requires some { 1 ≤ pages }
+    requires few { pages ≤ 16384 }
+    ensures found { IfOk result (λ memory.
+        IsBytes source.old → Spells (memory_form pages) source.old (memory, source.new)) }
+    ensures only { (memory rest : List ℕ) → (memory_form pages).Fits memory →
+        source.old ≡ (memory_form pages).spell memory ++ rest →
+        MatchResult result (λ loaded. (loaded ≡ memory) × (source.new ≡ rest)) (λ fault. fault ≡ SnapFault.Memory) }
+    ensures part { Reads ((memory_form pages).parse source.old) source.new result }
 {
-    let count = u64::take(alloc, source)?;
-    let mut bytes = vec![in alloc; 0u8; PAGE * pages as usize]?;
-    take_pages(alloc, source, count, pages, &mut bytes)?;
-    Ok(Rows::of(bytes))
+    take_as_part(alloc, pages, source)
 }
 
 /// The spelling of a memory of so many pages.
-pub fn save_memory(alloc: Global, memory: &[u8], pages: u32) -> Result<Vec<u8>, NoMemory>
+pub fn save_memory(alloc: Global, memory: &PageRam, pages: u32) -> Result<Vec<u8>, NoMemory>
     requires { length memory.now ≡ 4096 * pages }
     ensures spelled { IfOk result (λ bytes. bytes.items ≡ (memory_form pages).spell memory.now) }
     ensures fits { OnOk result ((memory_form pages).Fits memory.now) }
@@ -154,10 +170,16 @@ pub fn save_memory(alloc: Global, memory: &[u8], pages: u32) -> Result<Vec<u8>, 
     Ok(out)
 }
 
-/// The memory of so many pages that the bytes spell, all of them.
-fn read_memory(alloc: Global, bytes: &[u8], pages: u32) -> Result<Rows<u8>, SnapFault>
-    requires { pages ≤ 16384 }
-    ensures { Gives (value_of (memory_form pages) bytes.now) result }
+/// The memory of so many pages that the bytes spell, all of them. What is loaded is spelled so
+/// (`found`), and what is spelled so is loaded, unless memory runs out (`only`).
+pub fn load_memory(alloc: Global, bytes: &[u8], pages: u32) -> Result<PageRam, SnapFault>
+    requires some { 1 ≤ pages }
+    requires few { pages ≤ 16384 }
+    ensures found { IfOk result (λ memory.
+        (memory_form pages).Fits memory × (bytes.now ≡ (memory_form pages).spell memory)) }
+    ensures only { (memory : List ℕ) → (memory_form pages).Fits memory →
+        bytes.now ≡ (memory_form pages).spell memory →
+        MatchResult result (λ loaded. loaded ≡ memory) (λ fault. fault ≡ SnapFault.Memory) }
 {
     let mut source = Source::new(bytes);
     let memory = take_memory(alloc, pages, &mut source)?;
@@ -165,19 +187,6 @@ fn read_memory(alloc: Global, bytes: &[u8], pages: u32) -> Result<Rows<u8>, Snap
         return Err(SnapFault::Bad);
     }
     Ok(memory)
-}
-
-/// The memory of so many pages that the bytes spell, all of them. What is loaded is spelled so
-/// (`found`), and what is spelled so is loaded, unless memory runs out (`only`).
-pub fn load_memory(alloc: Global, bytes: &[u8], pages: u32) -> Result<Rows<u8>, SnapFault>
-    requires { pages ≤ 16384 }
-    ensures found { IfOk result (λ memory.
-        (memory_form pages).Fits memory × (bytes.now ≡ (memory_form pages).spell memory)) }
-    ensures only { (memory : List ℕ) → (memory_form pages).Fits memory →
-        bytes.now ≡ (memory_form pages).spell memory →
-        MatchResult result (λ loaded. loaded ≡ memory) (λ fault. fault ≡ SnapFault.Memory) }
-{
-    read_memory(alloc, bytes, pages)
 }
 
 /// No spelling of a memory of so many pages begins another, and different memories have different

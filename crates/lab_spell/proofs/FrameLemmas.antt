@@ -4,8 +4,8 @@ use Rattle.std.proofs.Common.{replicate, Bool, true, false, eqb, ◌&&◌, Some,
 use Rattle.std.specs.List.{list_all}
 use Rattle.std.specs.Prelude.{◌==◌}
 use Rattle.std.proofs.lemmas.Bool.{eqb-true, le-leb, lt-ltb}
-use Rattle.std.proofs.lemmas.List.{take-append-drop, length-drop, length-take, drop_at}
-use Rattle.dev_core.specs.Frame.{FrameData, carried, data_frame, remote_frame}
+use Rattle.std.proofs.lemmas.List.{take-append-drop, length-drop, length-take}
+use Rattle.dev_core.specs.Frame.{FrameData, IsFrame, carried, data_frame, remote_frame}
 use Rattle.lab_spell.specs.Frames.{frame_of, is_frame}
 
 and_true : (a b : Bool) → (a && b) ≡ true → (a ≡ true) × (b ≡ true)
@@ -57,8 +57,7 @@ remote_found id len bytes size below few none =
     ap (λ (l : List ℕ). Some (record { id = id; remote = true; len = len; bytes = l })) whole
     ∙ sym (frame_found frame (frame_is frame below few none))
 
--- a data frame that is made is a frame
-pub data_is_frame : (id : ℕ) (bytes : List ℕ) → id < 2048 → length bytes ≤ 8 → is_frame (data_frame id bytes) ≡ true
-data_is_frame id bytes below few =
-    frame_is (data_frame id bytes) below few
-    (rw (drop_at bytes (replicate (8 - length bytes) 0) (length bytes) refl) (are_zeros (8 - length bytes)))
+-- each frame passes
+pub frame_passes : (frame : FrameData) → IsFrame frame → is_frame frame ≡ true
+frame_passes frame is =
+    frame_is frame is.id is.len (ap (list_all (λ b. b == 0)) is.rest ∙ are_zeros (8 - carried frame))

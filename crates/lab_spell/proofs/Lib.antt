@@ -1,3 +1,4 @@
 mod FrameLemmas
 mod ListLoops
 mod TextLemmas
+mod WholeLaws

@@ -5,8 +5,8 @@ use Rattle.std.specs.List.{list_all}
 use Rattle.dev_core.specs.Frame.{FrameData, carried}
 use Rattle.lab_spell.specs.Form.{Form, IsLawful}
 use Rattle.lab_spell.specs.Combine.{byte, flag, list, number, only, times, via, ◌⊗◌}
-use Rattle.lab_spell.specs.Laws.{byte_lawful, flag_lawful, list_lawful, next_lawful, number_lawful, only_lawful}
-use Rattle.lab_spell.specs.Laws.{times_lawful, via_lawful}
+use Rattle.lab_spell.specs.Inner.Laws.{byte_lawful, flag_lawful, list_lawful, next_lawful, number_lawful, only_lawful}
+use Rattle.lab_spell.specs.Inner.Laws.{times_lawful, via_lawful}
 
 -- the fields of a frame
 unfoldable pub frame_fields : Form FrameData

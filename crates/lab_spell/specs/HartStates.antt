@@ -4,7 +4,7 @@ use Rattle.rv_hart.specs.declared.letters.Letters.{Letters}
 use Rattle.rv_hart.specs.declared.state.HartState.{HartState}
 use Rattle.lab_spell.specs.Form.{Form, IsLawful}
 use Rattle.lab_spell.specs.Combine.{byte, flag, number, times, via, ◌⊗◌}
-use Rattle.lab_spell.specs.Laws.{byte_lawful, flag_lawful, next_lawful, number_lawful, times_lawful, via_lawful}
+use Rattle.lab_spell.specs.Inner.Laws.{byte_lawful, flag_lawful, next_lawful, number_lawful, times_lawful, via_lawful}
 
 -- the two letters
 unfoldable pub letters_form : Form Letters

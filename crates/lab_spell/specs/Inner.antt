@@ -1,2 +1,3 @@
--- What serves private contracts.
+-- What serves private contracts and proofs.
+pub mod Laws
 pub mod Whole

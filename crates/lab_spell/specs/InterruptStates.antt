@@ -4,7 +4,7 @@ use Rattle.clint.specs.declared.state.ClintState.{ClintState}
 use Rattle.plic.specs.declared.state.PlicState.{PlicState}
 use Rattle.lab_spell.specs.Form.{Form, IsLawful}
 use Rattle.lab_spell.specs.Combine.{byte, flag, number, times, via, ◌⊗◌}
-use Rattle.lab_spell.specs.Laws.{byte_lawful, flag_lawful, next_lawful, number_lawful, times_lawful, via_lawful}
+use Rattle.lab_spell.specs.Inner.Laws.{byte_lawful, flag_lawful, next_lawful, number_lawful, times_lawful, via_lawful}
 
 -- the fields of a timer
 unfoldable pub clint_form : Form ClintState

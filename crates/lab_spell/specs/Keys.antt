@@ -7,7 +7,7 @@ use Rattle.lab_num.specs.declared.key.Key.{Key}
 use Rattle.lab_num.specs.declared.key.Member.{Member}
 use Rattle.lab_spell.specs.Form.{Form, IsLawful}
 use Rattle.lab_spell.specs.Combine.{byte, number, via, ◌⊗◌}
-use Rattle.lab_spell.specs.Laws.{byte_lawful, next_lawful, number_lawful, via_lawful}
+use Rattle.lab_spell.specs.Inner.Laws.{byte_lawful, next_lawful, number_lawful, via_lawful}
 
 -- a time in 8 bytes
 unfoldable pub micros_form : Form Micros

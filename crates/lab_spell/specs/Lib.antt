@@ -1,4 +1,5 @@
 -- What contracts of lab_spell and of the crates above cite.
+pub mod BoardState
 pub mod Combine
 pub mod DeviceStates
 pub mod Form
@@ -7,9 +8,8 @@ pub mod HartStates
 pub mod Inner
 pub mod InterruptStates
 pub mod Keys
-pub mod Laws
 pub mod OpenLines
+pub mod Plan
 pub mod PlanParts
 pub mod Posts
 pub mod Reads
-pub mod WholeLaws

@@ -5,7 +5,7 @@ use Rattle.log_text.specs.Line.{are_unended}
 use Rattle.lab_spell.specs.Form.{Form, IsLawful}
 use Rattle.lab_spell.specs.Combine.{byte, list, only, via, ◌⊗◌}
 use Rattle.lab_spell.specs.Keys.{member_form, member_lawful, micros_form, micros_lawful}
-use Rattle.lab_spell.specs.Laws.{byte_lawful, list_lawful, next_lawful, only_lawful, via_lawful}
+use Rattle.lab_spell.specs.Inner.Laws.{byte_lawful, list_lawful, next_lawful, only_lawful, via_lawful}
 
 -- the member, the time of its last byte and the bytes
 unfoldable pub open_line_form : Form OpenLine

@@ -11,10 +11,13 @@ use Rattle.sys_bus.specs.declared.plan.NamedWhat.TheVariants as named
 use Rattle.sys_bus.specs.declared.plan.PlicSize.{PlicSize}
 use Rattle.sys_bus.specs.declared.wire.WireFrom.{WireFrom}
 use Rattle.sys_bus.specs.declared.wire.WireFrom.TheVariants as wire
+use Rattle.sys_bus.specs.declared.wire.WirePin.{WirePin}
+use Rattle.sys_bus.specs.declared.wire.WirePin.TheVariants as pin
+use Rattle.sys_bus.specs.declared.wire.Wire.{Wire}
 use Rattle.lab_spell.specs.Form.{Form, IsLawful}
 use Rattle.lab_spell.specs.Combine.{byte, choice, nothing, number, tagged, text, via, ◌⊗◌}
-use Rattle.lab_spell.specs.Laws.{avoids_choice, avoids_tagged, byte_lawful, choice_lawful, next_lawful, nothing_lawful}
-use Rattle.lab_spell.specs.Laws.{number_lawful, tagged_lawful, text_lawful, via_lawful}
+use Rattle.lab_spell.specs.Inner.Laws.{avoids_choice, avoids_tagged, byte_lawful, choice_lawful, next_lawful, nothing_lawful}
+use Rattle.lab_spell.specs.Inner.Laws.{number_lawful, tagged_lawful, text_lawful, via_lawful}
 
 abbrev pub kind_to : Kind → Unit {0} ⊎ (Unit {0} ⊎ Unit {0})
 kind_to kind.Uart = inl tt
@@ -190,3 +193,41 @@ wire_from_lawful =
     (avoids_tagged byte 1 3 refl)) nothing_lawful
     (choice_lawful 2 (avoids_tagged byte 2 3 refl) byte_lawful
     (tagged_lawful 3 byte_lawful))))
+
+abbrev pub wire_pin_to : WirePin → (ℕ × ℕ) ⊎ ℕ
+wire_pin_to (pin.Cpu hart bit) = inl (hart, bit)
+wire_pin_to (pin.Source x) = inr x
+
+abbrev pub wire_pin_from : (ℕ × ℕ) ⊎ ℕ → WirePin
+wire_pin_from (inl x) = pin.Cpu x.0 x.1
+wire_pin_from (inr x) = pin.Source x
+
+wire_pin_again : (x : WirePin) → wire_pin_from (wire_pin_to x) ≡ x
+wire_pin_again (pin.Cpu hart bit) = refl
+wire_pin_again (pin.Source x) = refl
+
+wire_pin_back : (a : (ℕ × ℕ) ⊎ ℕ) → wire_pin_to (wire_pin_from a) ≡ a
+wire_pin_back (inl x) = refl
+wire_pin_back (inr x) = refl
+
+-- 0, the number of a processor and a pin of it, or 1 and a source
+unfoldable pub wire_pin_form : Form WirePin
+wire_pin_form = via wire_pin_to wire_pin_from (choice 0 (byte ⊗ byte) (tagged 1 byte))
+
+pub wire_pin_lawful : IsLawful wire_pin_form
+unfolding wire_pin_form
+wire_pin_lawful =
+    via_lawful _ _ wire_pin_again wire_pin_back
+    (choice_lawful 0 (avoids_tagged byte 0 1 refl) (next_lawful byte_lawful byte_lawful)
+    (tagged_lawful 1 byte_lawful))
+
+-- where it begins and where it ends
+unfoldable pub wire_form : Form Wire
+wire_form =
+    via (λ s. (s.from, s.pin))
+    (λ (from, pin). record { from = from; pin = pin })
+    (wire_from_form ⊗ wire_pin_form)
+
+pub wire_lawful : IsLawful wire_form
+unfolding wire_form
+wire_lawful = via_lawful _ _ (λ x. refl) (λ a. refl) (next_lawful wire_from_lawful wire_pin_lawful)

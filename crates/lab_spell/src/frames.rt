@@ -1,9 +1,7 @@
 //! Frames, and what receivers hold: rows of bytes and of frames.
-ghost use Rattle.std.specs.Prelude.{◌≡◌, ◌<◌, ◌≤◌, ◌==◌, ◌-◌, ◌++◌, length, replicate, take, true, false, OnOk};
+ghost use Rattle.std.specs.Prelude.{◌≡◌, ◌<◌, ◌≤◌, ◌==◌, true, false};
 ghost use Rattle.std.specs.List.{list_all};
-ghost use Rattle.dev_core.specs.Frame.{carried};
-ghost use Rattle.lab_spell.specs.Frames.{frame_form, frame_of, is_frame};
-ghost use Rattle.lab_spell.specs.Reads.{Appends};
+ghost use Rattle.lab_spell.specs.Frames.{frame_of};
 
 use crate::fault::SnapFault;
 use crate::lists::put_each;
@@ -12,16 +10,6 @@ use crate::spelled::Spelled;
 use dev_core::{ByteRow, Frame, FrameRow};
 use lab_num::{NoMemory, Rows};
 use std::alloc::Global;
-
-/// Eight bytes, of which these are the first and the others are 0.
-fn padded(carried: &[u8]) -> [u8; 8]
-    requires { length carried.now ≤ 8 }
-    ensures { result ≡ carried.now ++ replicate (8 - length carried.now) 0 }
-{
-    let mut bytes = [0; 8];
-    bytes[..carried.len()].copy_from_slice(carried);
-    bytes
-}
 
 fn are_zero(bytes: &[u8]) -> bool
     ensures { result ≡ list_all (λ b. b == 0) bytes.now }
@@ -68,36 +56,6 @@ fn frame_of(id: u16, remote: bool, len: u8, bytes: &[u8; 8]) -> Option<Frame>
     }
 }
 
-/// The frame that has what the readers of a frame say.
-fn as_read(frame: &Frame) -> Frame
-    ensures frame { is_frame result ≡ true }
-    ensures bytes { result.bytes ≡ take (carried result) result.bytes ++ replicate (8 - carried result) 0 }
-{
-    if frame.is_remote() {
-        Frame::new_remote(frame.id(), frame.len())
-    } else {
-        Frame::new(frame.id(), frame.data())
-    }
-}
-
-/// Writes the fields of a frame.
-#[tactic(auto, unfolding(crate::specs::Frames::frame_form, crate::specs::Frames::frame_fields))]
-fn put_fields(frame: &Frame, out: &mut Vec<u8>) -> Result<(), NoMemory>
-    requires frame { is_frame frame.now ≡ true }
-    requires bytes { frame.now.bytes
-        ≡ take (carried frame.now) frame.now.bytes ++ replicate (8 - carried frame.now) 0 }
-    ensures spelled { OnOk result (Appends out.old.items out.new.items (frame_form.spell frame.now)) }
-    ensures fits { OnOk result (frame_form.Fits frame.now) }
-{
-    frame.id().put(out)?;
-    frame.is_remote().put(out)?;
-    frame.len().put(out)?;
-    padded(frame.data()).put(out)?;
-    Ok(())
-}
-
-/// The places of a frame that carry nothing are 0, which no reader tells: so a frame is compared with
-/// the one that its readers make. They never differ.
 impl Spelled for Frame {
     ghost use Rattle.lab_spell.specs.Frames.{frame_form, frame_lawful};
 
@@ -105,12 +63,13 @@ impl Spelled for Frame {
 
     ghost lawful = { frame_lawful };
 
+    #[tactic(auto, unfolding(crate::specs::Frames::frame_form, crate::specs::Frames::frame_fields))]
     fn put(&self, out: &mut Vec<u8>) -> Result<(), NoMemory> {
-        let frame = as_read(self);
-        if frame != *self {
-            return Err(NoMemory);
-        }
-        put_fields(&frame, out)
+        self.id().put(out)?;
+        self.is_remote().put(out)?;
+        self.len().put(out)?;
+        self.places().put(out)?;
+        Ok(())
     }
 
     #[tactic(auto, unfolding(crate::specs::Frames::frame_form, crate::specs::Frames::frame_fields))]

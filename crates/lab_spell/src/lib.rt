@@ -14,6 +14,7 @@ mod lists;
 mod numbers;
 mod open_lines;
 mod options;
+mod plan;
 mod plan_parts;
 mod posts;
 mod source;

@@ -3,7 +3,7 @@ ghost use Rattle.std.specs.Prelude.{OnOk};
 ghost use Rattle.std.specs.List.{AllByRecursion, flat_map};
 ghost use Rattle.lab_spell.specs.Combine.{list, parse_times, times};
 ghost use Rattle.lab_spell.specs.Reads.{Appends, Reads};
-ghost use Rattle.lab_spell.specs.Laws.{list_lawful, times_lawful};
+ghost use Rattle.lab_spell.specs.Inner.Laws.{list_lawful, times_lawful};
 
 use crate::fault::SnapFault;
 use crate::source::Source;

@@ -1,6 +1,6 @@
 //! Numbers stand little-endian in their type's width, and a flag is 0 or 1.
 ghost use Rattle.lab_spell.specs.Combine.{byte, flag, number};
-ghost use Rattle.lab_spell.specs.Laws.{byte_lawful, flag_lawful, number_lawful};
+ghost use Rattle.lab_spell.specs.Inner.Laws.{byte_lawful, flag_lawful, number_lawful};
 
 use crate::fault::SnapFault;
 use crate::source::Source;

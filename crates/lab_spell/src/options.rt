@@ -1,6 +1,6 @@
 //! An option is 0, or 1 and the value.
 ghost use Rattle.lab_spell.specs.Combine.{option};
-ghost use Rattle.lab_spell.specs.Laws.{option_lawful};
+ghost use Rattle.lab_spell.specs.Inner.Laws.{option_lawful};
 
 use crate::fault::SnapFault;
 use crate::source::Source;

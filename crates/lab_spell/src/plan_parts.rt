@@ -5,7 +5,7 @@ use crate::spelled::Spelled;
 use dev_core::Kind;
 use lab_num::NoMemory;
 use std::alloc::Global;
-use sys_bus::{Named, NamedWhat, PlicSize, Region, RegionKind, WireFrom};
+use sys_bus::{Named, NamedWhat, PlicSize, Region, RegionKind, Wire, WireFrom, WirePin};
 
 impl Spelled for Kind {
     ghost use Rattle.lab_spell.specs.PlanParts.{kind_form, kind_lawful};
@@ -206,5 +206,64 @@ impl Spelled for WireFrom {
             3 => Ok(WireFrom::Dev(Spelled::take(alloc, source)?)),
             _ => Err(SnapFault::Bad),
         }
+    }
+}
+
+impl Spelled for WirePin {
+    ghost use Rattle.lab_spell.specs.PlanParts.{wire_pin_form, wire_pin_lawful};
+
+    ghost form = { wire_pin_form };
+
+    ghost lawful = { wire_pin_lawful };
+
+    #[tactic(auto, unfolding(crate::specs::PlanParts::wire_pin_form))]
+    fn put(&self, out: &mut Vec<u8>) -> Result<(), NoMemory> {
+        match self {
+            WirePin::Cpu { hart, pin } => {
+                out.push(0)?;
+                hart.put(out)?;
+                pin.put(out)?;
+            }
+            WirePin::Source(source) => {
+                out.push(1)?;
+                source.put(out)?;
+            }
+        }
+        Ok(())
+    }
+
+    #[tactic(auto, unfolding(crate::specs::PlanParts::wire_pin_form))]
+    fn take(alloc: Global, source: &mut Source<'_>) -> Result<WirePin, SnapFault> {
+        match source.byte()? {
+            0 => Ok(WirePin::Cpu {
+                hart: Spelled::take(alloc, source)?,
+                pin: Spelled::take(alloc, source)?,
+            }),
+            1 => Ok(WirePin::Source(Spelled::take(alloc, source)?)),
+            _ => Err(SnapFault::Bad),
+        }
+    }
+}
+
+impl Spelled for Wire {
+    ghost use Rattle.lab_spell.specs.PlanParts.{wire_form, wire_lawful};
+
+    ghost form = { wire_form };
+
+    ghost lawful = { wire_lawful };
+
+    #[tactic(auto, unfolding(crate::specs::PlanParts::wire_form))]
+    fn put(&self, out: &mut Vec<u8>) -> Result<(), NoMemory> {
+        self.from.put(out)?;
+        self.pin.put(out)?;
+        Ok(())
+    }
+
+    #[tactic(auto, unfolding(crate::specs::PlanParts::wire_form))]
+    fn take(alloc: Global, source: &mut Source<'_>) -> Result<Wire, SnapFault> {
+        Ok(Wire {
+            from: Spelled::take(alloc, source)?,
+            pin: Spelled::take(alloc, source)?,
+        })
     }
 }

@@ -8,7 +8,7 @@ use std::alloc::Global;
 
 impl Spelled for Text {
     ghost use Rattle.lab_spell.specs.Combine.{text};
-    ghost use Rattle.lab_spell.specs.Laws.{text_lawful};
+    ghost use Rattle.lab_spell.specs.Inner.Laws.{text_lawful};
 
     ghost form = { text };
 

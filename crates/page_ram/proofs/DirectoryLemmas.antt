@@ -1,10 +1,11 @@
 -- A directory of pages is the list of its bytes.
 use Rattle.std.proofs.Common.{◌≡◌, ℕ, zero, suc, ◌+◌, ◌*◌, ◌/◌, ◌%◌, ◌<◌, ◌≤◌, List, [], ◌∷◌, ◌++◌, length, take, drop}
-use Rattle.std.proofs.Common.{get_or, refl, sym, ap, ◌∙◌, subst, arith, append_assoc, length-append, append-nil}
+use Rattle.std.proofs.Common.{get_or, refl, sym, ap, ◌∙◌, subst, arith, append_assoc, length-append, append-nil, true}
 use Rattle.std.specs.Prelude.{Option, Some, None, slice_set}
-use Rattle.std.proofs.lemmas.List.{replicate-append-replicate}
+use Rattle.std.proofs.lemmas.List.{replicate-append-replicate, take_all}
 use Rattle.page_ram.specs.Access.{page_size}
 use Rattle.page_ram.specs.Bytes.{zeros, value_at, put_bytes}
+use Rattle.page_ram.specs.Pages.{is_zero, page_of}
 use Rattle.page_ram.specs.LittleEndian.{number_of}
 use Rattle.page_ram.specs.Inner.Lent.{with_held}
 use Rattle.page_ram.specs.Inner.Directory.{Page, zero_page, page_bytes, bytes_of, IsPaged}
@@ -178,3 +179,32 @@ module _
   pub stored-length :
       length (bytes_of (slice_set ps (at / page_size) (with_held present (Some new)))) ≡ length ram
   stored-length = ap length stored-bytes ∙ length-put_bytes ram part at (omega arith)
+
+-- whole pages
+
+pub page-there :
+    (ps : List Page) (ram : List ℕ) (i count : ℕ) → count ≡ length ps → bytes_of ps ≡ ram → IsPaged ps →
+    page_size * (i + 1) ≤ length ram → i < count
+page-there ps ram i count is view paged fits =
+    let long : page_size * (i + 1) ≤ length (bytes_of ps) = rw view fits in
+    omega (arith, length-bytes_of ps paged)
+
+pub whole-page :
+    (ps : List Page) (ram : List ℕ) (i : ℕ) (p : Page) → bytes_of ps ≡ ram → IsPaged ps →
+    page_size * (i + 1) ≤ length ram → p ≡ get_or ps i p → page_of ram i ≡ page_bytes p.held
+whole-page ps ram i p view paged fits is =
+    let within = page-there ps ram i (length ps) refl view paged fits in
+    let at : page_size * i ≡ i * page_size + 0 = omega arith in
+    let whole : length (page_bytes p.held) ≤ page_size = omega (arith, IsPaged-get ps i p paged within is) in
+    rw (← view, at) (take-page ps i 0 page_size p paged within (omega arith) is ∙ take_all page_size (page_bytes p.held) whole)
+
+is_zero-zeros : (n : ℕ) → is_zero (zeros n) ≡ true
+is_zero-zeros zero = refl
+is_zero-zeros (suc n) = is_zero-zeros n
+
+-- a page without memory is all 0
+pub absent-is_zero :
+    (ps : List Page) (ram : List ℕ) (i : ℕ) (p : Page) → bytes_of ps ≡ ram → IsPaged ps →
+    page_size * (i + 1) ≤ length ram → p ≡ get_or ps i p → p.held ≡ None → is_zero (page_of ram i) ≡ true
+absent-is_zero ps ram i p view paged fits is absent =
+    ap is_zero (whole-page ps ram i p view paged fits is ∙ ap page_bytes absent ∙ zero_page-is) ∙ is_zero-zeros page_size

@@ -2,4 +2,5 @@
 pub mod LittleEndian
 pub mod Bytes
 pub mod Access
+pub mod Pages
 pub mod Inner

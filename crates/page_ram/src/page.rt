@@ -1,6 +1,7 @@
 //! Pages of a memory.
 ghost use Rattle.std.specs.Prelude.{◌≡◌, Some, None, OnOk, OnErr};
 ghost use Rattle.page_ram.specs.Inner.Directory.{zero_page, page_bytes};
+ghost use Rattle.page_ram.specs.Pages as pages;
 
 use crate::maybe_box::MaybeBox;
 use lab_num::NoMemory;
@@ -35,4 +36,11 @@ fn allocate(page: &mut MaybeBox<Page>, alloc: Global) -> Result<(), NoMemory>
     let zeros = Box::new(alloc, [0; PAGE])?;
     *page = MaybeBox::make(alloc, Some(zeros));
     Ok(())
+}
+
+/// Whether all bytes of a page are 0.
+pub fn is_zero(page: &[u8]) -> bool
+    ensures { result ≡ pages.is_zero page.now }
+{
+    page.iter().all(|&byte| byte == 0)
 }

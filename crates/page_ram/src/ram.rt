@@ -1,11 +1,12 @@
 //! The memory.
-ghost use Rattle.std.specs.Prelude.{◌≡◌, ◌+◌, ◌^◌, ◌<◌, ◌≤◌, length, IfOk, OnOk, OnErr};
-ghost use Rattle.page_ram.specs.Access.{IsRamSize, IsWidth, IsInOnePage};
+ghost use Rattle.std.specs.Prelude.{◌≡◌, ◌+◌, ◌*◌, ◌^◌, ◌<◌, ◌≤◌, length, true, false, IfOk, OnOk, OnErr, IfSome, IfNone};
+ghost use Rattle.page_ram.specs.Access.{IsRamSize, IsWidth, IsInOnePage, page_size};
 ghost use Rattle.page_ram.specs.Bytes.{zeros, value_at, put_value, put_bytes, WritesPrefix};
+ghost use Rattle.page_ram.specs.Pages as pages;
 
 use crate::maybe_box::MaybeBox;
 use crate::number::{number_at, put_number, put_part, put_zeros};
-use crate::page::{PAGE, Page, make_present};
+use crate::page::{PAGE, Page, is_zero, make_present};
 use lab_num::NoMemory;
 use std::alloc::Global;
 use std::marker::Model;
@@ -110,6 +111,19 @@ impl PageRam {
         }
     }
 
+    /// The page of this number, if it has a byte other than 0. A page without memory is not read.
+    pub fn used_page(&self, number: u32) -> Option<&[u8]>
+        requires { page_size * (number + 1) ≤ length self.now }
+        ensures page { IfSome result (λ page. page.now ≡ pages.page_of self.now number) }
+        ensures used { IfSome result (λ page. pages.is_zero page.now ≡ false) }
+        ensures zero { IfNone result (pages.is_zero (pages.page_of self.now number) ≡ true) }
+    {
+        match self.pages[number as usize].load() {
+            None => None,
+            Some(page) => { if is_zero(page) { None } else { Some(page) } }
+        }
+    }
+
     /// Stores the lowest 1, 2 or 4 bytes of a value from a place on. No memory for the page leaves
     /// all as it was.
     #[inline]
@@ -162,6 +176,17 @@ impl PageRam {
         make_present(page, alloc)?;
         put_part(page.store(), offset, part);
         Ok(())
+    }
+
+    /// Writes the page of this number. No memory for it leaves all as it was.
+    pub fn put_page(&mut self, number: u32, page: &[u8]) -> Result<(), NoMemory>
+        requires fits { page_size * (number + 1) ≤ length self.old }
+        requires size { length page.now ≡ page_size }
+        ensures ok { OnOk result (self.new ≡ put_bytes self.old (page_size * number) page.now) }
+        ensures err { OnErr result (self.new ≡ self.old) }
+        ensures size { length self.new ≡ length self.old }
+    {
+        self.copy_part(PAGE * number as usize, page)
     }
 
     /// Puts 0 into so many bytes from a place on.

@@ -5,7 +5,6 @@ use crate::best::{best_ready, source_to_claim};
 use crate::register::{Register, reached};
 use crate::sources::{has, raised, union, with_word, without, word_of};
 use crate::state::PlicState;
-use crate::valid::is_valid;
 use std::marker::Model;
 
 /// The bits of a priority or a threshold.
@@ -211,10 +210,10 @@ impl Plic {
         ensures valid { IsTrue result ↔ IsPlicState self.old.sources self.old.contexts state.now }
         ensures after { self.new ≡ (if result then record self.old { state = state.now } else self.old) }
     {
-        let is_valid = is_valid(state, u32::from(self.sources), usize::from(self.contexts));
-        if is_valid {
+        let fits = state.fits(self.sources, self.contexts);
+        if fits {
             self.state = *state;
         }
-        is_valid
+        fits
     }
 }

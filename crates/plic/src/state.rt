@@ -1,6 +1,8 @@
 //! The state of a PLIC.
-ghost use Rattle.std.specs.Prelude.{◌≡◌};
-ghost use Rattle.plic.specs.State.{plic_reset};
+ghost use Rattle.std.specs.Prelude.{◌≡◌, ◌≤◌, ◌↔◌, IsTrue};
+ghost use Rattle.plic.specs.State.{IsPlicState, plic_reset};
+
+use crate::valid::is_valid;
 
 /// All of a PLIC that changes. What is said of a source stands at the bit or place of its number.
 #[derive(Clone, Copy, PartialEq, Eq, Debug)]
@@ -29,5 +31,14 @@ impl PlicState {
             enables: [0; 15],
             thresholds: [0; 15],
         }
+    }
+
+    /// Whether a PLIC of so many sources and contexts can have this state. `Plic::put` asks it.
+    pub fn fits(&self, sources: u8, contexts: u8) -> bool
+        requires sources { sources ≤ 127 }
+        requires contexts { contexts ≤ 15 }
+        ensures { IsTrue result ↔ IsPlicState sources contexts self.now }
+    {
+        is_valid(self, u32::from(sources), usize::from(contexts))
     }
 }

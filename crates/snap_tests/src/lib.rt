@@ -4,7 +4,13 @@
 #[cfg(test)]
 mod bytes;
 #[cfg(test)]
+mod memories;
+#[cfg(test)]
 mod parts;
+#[cfg(test)]
+mod plans;
+#[cfg(test)]
+mod spelled;
 #[cfg(test)]
 mod spellings;
 #[cfg(test)]

@@ -1,28 +1,15 @@
-//! Parts of boards whose bytes are all the rules ask for, and memories.
+//! Parts of boards whose bytes are all the rules ask for.
 use crate::bytes::{joined, one, part};
+use crate::spelled::is_spelled;
 use clint::ClintState;
-use dev_core::Kind;
-use lab_num::{BoardNo, Member, Micros, NoMemory, Rows, Text};
-use lab_snap::{load_memory, save_memory};
-use lab_spell::{SnapFault, Spelled, load, save};
+use dev_core::{DevState, Kind};
+use lab_num::{BoardNo, Member, Micros, Rows, Text};
+use lab_spell::load;
 use log_text::{Lines, OpenLine};
 use plic::PlicState;
 use std::alloc::Global;
 use std::test::Fail;
-use sys_bus::{Named, NamedWhat, PlicSize, Region, RegionKind, WireFrom};
-
-/// Whether a value is saved as these bytes, and what they spell is saved so again.
-fn is_spelled<T: Spelled + Drop>(alloc: Global, value: &T, bytes: &[u8]) -> Result<bool, NoMemory> {
-    let saved = save(alloc, value)?;
-    match load::<T>(alloc, bytes) {
-        Ok(loaded) => {
-            let again = save(alloc, &loaded)?;
-            Ok(saved.as_slice() == bytes && again.as_slice() == bytes)
-        }
-        Err(SnapFault::Bad) => Ok(false),
-        Err(SnapFault::Memory) => Err(NoMemory),
-    }
-}
+use sys_bus::{Named, NamedWhat, PlicSize, Region, RegionKind, Wire, WireFrom, WirePin};
 
 #[test]
 fn timers_and_interrupt_controllers_are_their_fields(rt: HostRuntime) -> Result<(), Fail> {
@@ -76,6 +63,11 @@ static WIRES: [(WireFrom, &[u8]); 4] = [
     (WireFrom::Dev(1), &[3, 1]),
 ];
 
+static PINS: [(WirePin, &[u8]); 2] = [
+    (WirePin::Cpu { hart: 3, pin: 11 }, &[0, 3, 11]),
+    (WirePin::Source(53), &[1, 53]),
+];
+
 /// Whether a region of this kind, and a name of it, have their bytes.
 fn is_region(alloc: Global, kind: RegionKind, bytes: &[u8]) -> Result<bool, Fail> {
     let region = Region {
@@ -105,6 +97,14 @@ fn parts_of_plans_have_their_bytes(rt: HostRuntime) -> Result<(), Fail> {
     for (from, bytes) in &WIRES {
         assert!(rt; is_spelled(alloc, from, bytes)?, "{from:?}");
     }
+    for (pin, bytes) in &PINS {
+        let wire = Wire {
+            from: WireFrom::Timer,
+            pin: *pin,
+        };
+        let whole = joined(alloc, &[&[1], bytes])?;
+        assert!(rt; is_spelled(alloc, &wire, &whole)?, "{pin:?}");
+    }
     let size = PlicSize {
         sources: 53,
         contexts: 2,
@@ -116,6 +116,30 @@ fn parts_of_plans_have_their_bytes(rt: HostRuntime) -> Result<(), Fail> {
     };
     let bytes = [3, 0, 0, 0, 0, 0, 0, 0, b'c', b'p', b'u', 0];
     assert!(rt; is_spelled(alloc, &processor, &bytes)?);
+    Ok(())
+}
+
+#[test]
+fn lists_and_options_of_a_state_have_their_bytes(rt: HostRuntime) -> Result<(), Fail> {
+    let alloc = rt.alloc();
+    let count = [2, 0, 0, 0, 0, 0, 0, 0];
+    let reserved = Rows::of(vec![in alloc; Some(0x8000_0104_u32), None]?);
+    let bytes = joined(alloc, &[&count, &[1, 4, 1, 0, 0x80], &[0]])?;
+    assert!(rt; is_spelled(alloc, &reserved, &bytes)?);
+    let shown = Rows::of(vec![in alloc; true, false]?);
+    let bytes = joined(alloc, &[&count, &[1, 0]])?;
+    assert!(rt; is_spelled(alloc, &shown, &bytes)?);
+    let devices = Rows::of(vec![in alloc; DevState::Finisher, DevState::Finisher]?);
+    let bytes = joined(alloc, &[&count, &[2, 2]])?;
+    assert!(rt; is_spelled(alloc, &devices, &bytes)?);
+    let timer = Some(ClintState {
+        msip: false,
+        mtimecmp: 2,
+        offset: 3,
+    });
+    let bytes = [1, 0, 2, 0, 0, 0, 0, 0, 0, 0, 3, 0, 0, 0, 0, 0, 0, 0];
+    assert!(rt; is_spelled(alloc, &timer, &bytes)?);
+    assert!(rt; is_spelled(alloc, &None::<PlicState>, &[0])?);
     Ok(())
 }
 
@@ -144,56 +168,6 @@ fn open_lines_are_a_list_that_rises_by_member(rt: HostRuntime) -> Result<(), Fai
     let twice = joined(alloc, &[&[2, 0, 0, 0, 0, 0, 0, 0], &bytes, &bytes])?;
     let ended = joined(alloc, &[&count, part(&bytes, 0, 19), b"\n"])?;
     assert!(rt; load::<Lines>(alloc, &twice).is_err() && load::<Lines>(alloc, &ended).is_err());
-    Ok(())
-}
-
-/// A page whose first byte this is, and all others 0.
-fn page(alloc: Global, number: u8, first: u8) -> Result<Vec<u8>, Fail> {
-    Ok(joined(alloc, &[&[number, 0, 0, 0], &[first], &[0; 4095]])?)
-}
-
-/// Whether bytes are no memory of three pages.
-fn is_no_memory(alloc: Global, bytes: &[u8]) -> bool {
-    matches!(load_memory(alloc, bytes, 3), Err(SnapFault::Bad))
-}
-
-#[test]
-fn a_memory_is_its_pages_that_are_not_zero(rt: HostRuntime) -> Result<(), Fail> {
-    let alloc = rt.alloc();
-    let two = [2, 0, 0, 0, 0, 0, 0, 0];
-    let (first, last) = (page(alloc, 0, 5)?, page(alloc, 2, 6)?);
-    let mut memory = vec![in alloc; 0; 12288]?;
-    memory[0] = 5;
-    memory[8192] = 6;
-    let bytes = joined(alloc, &[&two, &first, &last])?;
-    let saved = save_memory(alloc, &memory, 3)?;
-    assert!(rt; saved.as_slice() == bytes.as_slice());
-    let loaded = load_memory(alloc, &bytes, 3)?;
-    assert!(rt; loaded.items() == memory.as_slice());
-    assert!(rt;
-        is_no_memory(alloc, part(&bytes, 0, 8207)) && is_no_memory(alloc, part(&bytes, 0, 9))
-    );
-    let more = joined(alloc, &[&bytes, &[0]])?;
-    assert!(rt; is_no_memory(alloc, &more));
-    Ok(())
-}
-
-#[test]
-fn other_lists_of_pages_are_no_memory(rt: HostRuntime) -> Result<(), Fail> {
-    let alloc = rt.alloc();
-    let (one, two) = ([1, 0, 0, 0, 0, 0, 0, 0], [2, 0, 0, 0, 0, 0, 0, 0]);
-    let (first, last) = (page(alloc, 0, 5)?, page(alloc, 2, 6)?);
-    // A page of zeros, falling numbers, a number twice, a page past the last, and a count beyond them.
-    let rows = [
-        joined(alloc, &[&one, &page(alloc, 1, 0)?])?,
-        joined(alloc, &[&two, &last, &first])?,
-        joined(alloc, &[&two, &first, &first])?,
-        joined(alloc, &[&one, &page(alloc, 3, 5)?])?,
-        joined(alloc, &[&[0xFF; 8], &first, &last])?,
-    ];
-    for bytes in &rows {
-        assert!(rt; is_no_memory(alloc, bytes));
-    }
     Ok(())
 }
 

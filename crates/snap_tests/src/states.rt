@@ -302,5 +302,11 @@ fn a_hub_is_its_kind_name_delay_and_members(rt: HostRuntime) -> Result<(), Fail>
     )?;
     assert_eq!(rt; again::<SavedHub>(alloc, &blank), Outcome::Refused);
     assert_eq!(rt; again::<SavedHub>(alloc, &late), Outcome::Refused);
+    // A name and a list of members of 2^64 - 1.
+    let most = [0xFF; 8];
+    let name = joined(alloc, &[&[1], &most, part(&bytes, 9, bytes.len())])?;
+    let members = joined(alloc, &[part(&bytes, 0, 16), &most, &[3, 1]])?;
+    assert_eq!(rt; again::<SavedHub>(alloc, &name), Outcome::Refused);
+    assert_eq!(rt; again::<SavedHub>(alloc, &members), Outcome::Refused);
     Ok(())
 }

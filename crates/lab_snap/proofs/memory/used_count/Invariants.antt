@@ -6,5 +6,5 @@ use Rattle.lab_snap.proofs.memory.used_count.Given as goal
 abbrev pub invariant-loop-k : goal.invariant-loop-k
 invariant-loop-k l = record {
   small : l.count ≤ l.k;
-  sum : l.count + length (left 4096 l.pages l.k l.bytes) ≡ length (used 4096 l.pages l.bytes);
+  sum : l.count + length (left 4096 l.pages l.k l.memory) ≡ length (used 4096 l.pages l.memory);
 }

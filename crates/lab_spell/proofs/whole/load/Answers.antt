@@ -1,5 +1,5 @@
 use Rattle.std.proofs.Common.{arith}
-use Rattle.lab_spell.specs.WholeLaws.{found, only}
+use Rattle.lab_spell.proofs.WholeLaws.{found, only}
 use Rattle.lab_spell.proofs.whole.load.Goals as goal
 
 pub returns-clause-found : goal.returns-clause-found

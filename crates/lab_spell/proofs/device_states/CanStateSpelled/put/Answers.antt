@@ -1,4 +1,4 @@
-use Rattle.lab_spell.specs.Laws.{appended}
+use Rattle.lab_spell.specs.Inner.Laws.{appended}
 use Rattle.lab_spell.specs.DeviceStates.{can_form}
 use Rattle.lab_spell.proofs.device_states.CanStateSpelled.put.Goals as goal
 

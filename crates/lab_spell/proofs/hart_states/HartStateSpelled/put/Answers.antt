@@ -1,4 +1,4 @@
-use Rattle.lab_spell.specs.Laws.{appended}
+use Rattle.lab_spell.specs.Inner.Laws.{appended}
 use Rattle.lab_spell.specs.HartStates.{hart_form}
 use Rattle.lab_spell.proofs.hart_states.HartStateSpelled.put.Goals as goal
 

@@ -1,4 +1,4 @@
-use Rattle.lab_spell.specs.Laws.{appended}
+use Rattle.lab_spell.specs.Inner.Laws.{appended}
 use Rattle.lab_spell.specs.InterruptStates.{plic_form}
 use Rattle.lab_spell.proofs.interrupt_states.PlicStateSpelled.put.Goals as goal
 

@@ -9,7 +9,7 @@ use Rattle.lab_spell.specs.declared.fault.SnapFault.{SnapFault}
 use Rattle.lab_spell.specs.declared.fault.SnapFault.TheVariants.{Bad, Memory}
 use Rattle.lab_spell.specs.Form.{Form, IsBytes, IsLawful, Spells}
 use Rattle.lab_spell.specs.Inner.Whole.{Gives, value_of, whole}
-use Rattle.lab_spell.specs.Laws.{bind_some}
+use Rattle.lab_spell.specs.Inner.Laws.{bind_some}
 
 kept : {X : Type 0} (ended : Bool) (read x : X) → cond ended (Some read) None ≡ Some x → (ended ≡ true) × (read ≡ x)
 kept true read x e = (refl, same_Some read x e)
