@@ -1,8 +1,8 @@
 -- What interrupt lines depend on, and what a second sample changes.
 use Rattle.std.proofs.Common.{◌≡◌, ℕ, false, List, [], length, Option, Some, None, is_some, refl, ap, ◌∙◌}
-use Rattle.std.proofs.Common.{◌^◌, ◌<◌, ◌==◌, ◌||◌, ◌∷◌, inl, inr, not, arith}
+use Rattle.std.proofs.Common.{◌^◌, ◌<◌, ◌≤◌, ◌==◌, ◌||◌, ◌∷◌, inl, inr, not, arith}
 use Rattle.std.proofs.Common.{Bool, true, false, ◌&&◌, sym}
-use Rattle.std.specs.Prelude.{option_map, slice_index_or}
+use Rattle.std.specs.Prelude.{option_map, slice_index, slice_index_or}
 use Rattle.std.specs.List.{list_any}
 use Rattle.std.proofs.Math.Path.{fun_ext}
 use Rattle.std.proofs.lemmas.Bool.{cases_eq}
@@ -24,14 +24,12 @@ use Rattle.sys_bus.specs.declared.wire.Wire.{Wire}
 use Rattle.sys_bus.specs.declared.wire.WireFrom.{WireFrom}
 use Rattle.sys_bus.specs.declared.wire.WireFrom.TheVariants.{Soft, Timer as TimerLine, Context, Dev}
 use Rattle.board.specs.declared.remembered.Remembered.{Remembered}
-use Rattle.board.specs.Inner.Fit.{IsFit, IsStateOf, in_state, with_controller}
-use Rattle.board.specs.Inner.Remembers.{is_wired, still, IsRight}
+use Rattle.board.specs.Inner.Fit.{IsFit, IsStateOf, in_state}
+use Rattle.board.specs.Inner.Remembers.{is_wired, still, remembered_lines, AreMips, IsRead, IsRight}
 use Rattle.board.specs.Lines.{sampled, sampled_by, sources_up, timer_up, device_up, mip_of}
 use Rattle.board.specs.Lines.{mtime_of, lines_of, is_up, is_from_device, ends_at_source, ends_at_pin, pin_up}
 use Rattle.board.specs.New.{size_of}
-use Rattle.board.specs.Slot.{sampling}
 use Rattle.board.specs.Space.{Space, Fitted, with_device}
-use Rattle.board.specs.View.{View}
 
 -- lines do not depend on what memories hold
 pub right_memories :
@@ -39,8 +37,10 @@ pub right_memories :
     IsRight (record s { memories = memories }) r
 unfolding sampled lines_of mip_of
 right_memories s memories None right = tt
-right_memories s memories (Some r) right =
-    (ap {A = Space} (λ now. record now { memories = memories }) right.0, right.1, right.2)
+right_memories s memories (Some r) right = (
+  ap {A = Space} (λ now. record now { memories = memories }) right.0,
+  record { timer = right.1.timer; mips = right.1.mips; mtime = right.1.mtime },
+)
 
 -- words alone reach a register of a timer or of an interrupt controller
 pub timer_fits :
@@ -76,10 +76,10 @@ none-size None h = refl
 none-size (Some c) h = absurd (cc)
 
 pub unwired_lines :
-    (s : Space) (t : ℕ) → IsFit s → is_wired s.plan ≡ false →
-    (sampled s ≡ s) × (record { mip = 0; mtime = 0 } ≡ lines_of s t)
+    (s : Space) (hart t : ℕ) → IsFit s → is_wired s.plan ≡ false →
+    (sampled s ≡ s) × (record { mip = 0; mtime = 0 } ≡ lines_of s hart t)
 unfolding sampled lines_of mip_of
-unwired_lines s t fit none =
+unwired_lines s hart t fit none =
     let all = unwired s.plan.frequency s.plan.plic s.plan.wires none in
     let timer = none-frequency s.timer (fit.timer ∙ all.0) in
     let controller = none-size s.controller (fit.controller ∙ all.1) in
@@ -117,25 +117,28 @@ same_sources s dev fitted d there same =
     ap (λ up. ends_at_source source wire.pin && up) (same_wire s dev fitted d false wire.from there same).1))))
 
 same_mip :
-    (s : Space) (dev : ℕ) (fitted d : Fitted) (timer : Bool) → dev < length s.devices →
+    (s : Space) (dev : ℕ) (fitted d : Fitted) (timer : Bool) (hart : ℕ) → dev < length s.devices →
     dev_line fitted.state ≡ dev_line (slice_index_or s.devices dev d).state →
-    mip_of (with_device s dev fitted) timer ≡ mip_of s timer
+    mip_of (with_device s dev fitted) timer hart ≡ mip_of s timer hart
 unfolding mip_of
-same_mip s dev fitted d timer there same =
-    let pin : (n : ℕ) → pin_up (with_device s dev fitted) timer n ≡ pin_up s timer n = λ n.
+same_mip s dev fitted d timer hart there same =
+    let pin : (n : ℕ) → pin_up (with_device s dev fitted) timer hart n ≡ pin_up s timer hart n = λ n.
     ap (λ test. list_any test s.plan.wires) (fun_ext (λ wire.
-    ap (λ up. ends_at_pin n wire.pin && up) (same_wire s dev fitted d timer wire.from there same).0)) in
+    ap (λ up. ends_at_pin hart n wire.pin && up) (same_wire s dev fitted d timer wire.from there same).0)) in
     rw (pin software_interrupt, pin timer_interrupt, pin external_interrupt) refl
 
 right_same :
     (s : Space) (dev : ℕ) (fitted d : Fitted) (r : Remembered) → IsRight s (Some r) → dev < length s.devices →
     dev_line fitted.state ≡ dev_line (slice_index_or s.devices dev d).state →
     IsRight (with_device s dev fitted) (Some r)
-unfolding sampled lines_of
+unfolding sampled
 right_same s dev fitted d r right there same = (
   rw (same_sources s dev fitted d there same) (ap {A = Space} (λ now. with_device now dev fitted) right.0),
-  right.1,
-  right.2 ∙ rw (same_mip s dev fitted d (timer_up s.timer r.at.0) there same) refl,
+  record {
+    timer = right.1.timer;
+    mips = λ hart below. right.1.mips hart below ∙ sym (same_mip s dev fitted d r.timer hart there same);
+    mtime = right.1.mtime;
+  },
 )
 
 pub right_device :
@@ -156,27 +159,44 @@ right_device s dev old new d r before after right there at was is =
     by_lines (Some r) true true right was is = right_same s dev new d r right there (sym is ∙ was)
     by_lines (Some r) false false right was is = right_same s dev new d r right there (sym is ∙ was)
 
+-- the lines that are read of a processor
+pub lines_are_read :
+    (s : Space) (r : Remembered) (hart : ℕ) → IsRead s r → hart < length s.plan.cpus →
+    remembered_lines r hart ≡ lines_of s hart r.at.0
+unfolding lines_of
+lines_are_read s r hart read below =
+    rw (read.mtime, ← read.timer)
+    (ap {A = ℕ} (λ mip. record { mip = mip; mtime = mtime_of s.timer r.at.0 }) (read.mips hart below))
+
+pub lines_are_remembered :
+    (s : Space) (o : Option Remembered) (r : Remembered) (hart : ℕ) → IsRight s o → o ≡ Some r →
+    hart < length s.plan.cpus → (sampled s ≡ s) × (remembered_lines r hart ≡ lines_of s hart r.at.0)
+lines_are_remembered s None r hart right is below = absurd (cc)
+lines_are_remembered s (Some q) r hart right is below =
+    let kept : q ≡ r = cc in
+    (right.0, lines_are_read s r hart (rw kept at right.1) below)
+
 -- of all lines the timer's alone goes by the time
 pub later_lines :
-    (s : Space) (old now mtime : ℕ) (up up' : Bool) (lines : Lines) → up ≡ timer_up s.timer old →
-    lines ≡ lines_of s old → up' ≡ timer_up s.timer now → up' ≡ up → mtime ≡ mtime_of s.timer now →
-    record { mip = lines.mip; mtime = mtime } ≡ lines_of s now
-unfolding lines_of
-later_lines s old now mtime up up' lines was read is same time =
-    let mip : lines.mip ≡ mip_of s (timer_up s.timer now) =
-    ap {A = Lines} (λ l. l.mip) read ∙ ap (mip_of s) (sym was ∙ sym same ∙ is) in
-    rw (mip, time) refl
-
-pub right_later :
-    (s : Space) (o : Option Remembered) (r : Remembered) (now mtime : ℕ) (up : Bool) → IsRight s o → o ≡ Some r →
-    up ≡ timer_up s.timer now → up ≡ r.timer → mtime ≡ mtime_of s.timer now →
-    (sampled s ≡ s) × (record { mip = r.lines.mip; mtime = mtime } ≡ lines_of s now)
-right_later s None r now mtime up right is timer same time = absurd (cc)
-right_later s (Some q) r now mtime up right is timer same time =
+    (s : Space) (o : Option Remembered) (r later : Remembered) (hart : ℕ) → IsRight s o → o ≡ Some r →
+    later.timer ≡ r.timer → later.timer ≡ timer_up s.timer later.at.0 → later.mips ≡ r.mips →
+    later.mtime ≡ mtime_of s.timer later.at.0 → hart < length s.plan.cpus →
+    remembered_lines later hart ≡ lines_of s hart later.at.0
+later_lines s None r later hart right is same timer mips time below = absurd (cc)
+later_lines s (Some q) r later hart right is same timer mips time below =
     let kept : q ≡ r = cc in
-    let was : r.timer ≡ timer_up s.timer r.at.0 = rw kept at right.1 in
-    let read : r.lines ≡ lines_of s r.at.0 = rw kept at right.2 in
-    (right.0, later_lines s r.at.0 now mtime r.timer up r.lines was read timer same time)
+    let read : IsRead s r = rw kept at right.1 in
+    lines_are_read s later hart (record { timer = timer; mips = rw (mips, same) read.mips; mtime = time }) below
+
+-- a board has at most four processors
+pub few_harts : (s : Space) → IsFit s → length s.plan.cpus ≤ 4
+few_harts s fit = grind (arith, nat_tests, fit.plan.few_processors)
+
+-- to sample keeps the plan
+pub still_has :
+    (s now : Space) (hart : ℕ) → now ≡ sampled s → hart < length s.plan.cpus → hart < length now.plan.cpus
+unfolding sampled
+still_has s now hart is below = rw is below
 
 -- what sampling leaves
 pub sampled_is :
@@ -213,16 +233,15 @@ still_state s state is = by_controller s.controller is
         by_state (Some state) is = is
 
 pub undone :
-    (v : View) (state : Option PlicState) → state ≡ option_map (λ c. c.state) v.space.controller →
-    with_controller (sampling v) state ≡ v
+    (s : Space) (state : Option PlicState) → state ≡ option_map (λ c. c.state) s.controller →
+    record s { controller = in_state (sampled s).controller state } ≡ s
 unfolding sampled
-undone v state is =
+undone s state is =
     rw is
-    (ap {A = Option Controller} (λ controller. record v { space = record v.space { controller = controller } })
-    (back v.space.controller))
+    (ap {A = Option Controller} (λ controller. record s { controller = controller }) (back s.controller))
   where
     back :
         (o : Option Controller) →
-        in_state (sampled_by o (sources_up v.space)) (option_map (λ c. c.state) o) ≡ o
+        in_state (sampled_by o (sources_up s)) (option_map (λ c. c.state) o) ≡ o
     back None = refl
     back (Some c) = refl

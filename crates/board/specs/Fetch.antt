@@ -79,7 +79,7 @@ atomic_by core w = if core.letters.a then option_and_then atomic_of (word_at_pc 
 
 -- what a core does by what it fetches: an atomic instruction, or anything else
 abbrev pub shared_by : Core → Wires → Shared
-shared_by core w = option_map_or shared.Atomic (shared.Plain (fetched_by core w)) (atomic_by core w)
+shared_by core w = option_map_or shared.Atomic (atomic_by core w) (shared.Plain (fetched_by core w))
 
 abbrev pub effect_on : HartView → Wires → Lines → SharedEffect
 effect_on v w lines = shared_effect (fetched w) v.core v.hart v.watch (shared_by v.core w) lines

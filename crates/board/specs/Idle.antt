@@ -39,6 +39,6 @@ core_passed n core = if core.halted then core else record core { mcycle = (core.
 abbrev pub passed : View → ℕ → View
 passed v n = record v {
   cores = map (λ hart. core_passed (turns_of (length v.cores) v.next n hart) (core_at v hart))
-    (range_with_len 0 (length v.cores));
+      (range_with_len 0 (length v.cores));
   next = (v.next + n) % length v.cores;
 }

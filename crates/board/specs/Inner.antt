@@ -1,5 +1,7 @@
 pub mod Copies
 pub mod Ended
 pub mod Fit
+pub mod Holds
 pub mod Made
 pub mod Remembers
+pub mod Seat

@@ -1,31 +1,23 @@
-//! The board: its slots, and what they make.
+//! The board, and what may be asked and changed of it.
 ghost use Rattle.std.specs.Prelude.{◌≡◌, ◌≢◌, ℕ, ◌+◌, ◌/◌, ◌%◌, ◌==◌, ◌<◌, ◌≤◌, ◌^◌, ◌||◌, [], true, length, drop};
 ghost use Rattle.std.specs.Prelude.{map, All, slice_get, slice_index_or, OnOk, OnErr, IfOk, IfErr, IfSome, IsTrue};
 ghost use Rattle.rv_hart.specs.Trap.{chosen};
 
-use crate::instruction::instruction;
+mod idle;
+mod slots;
+
+use crate::harts::{all_asleep, all_halted, new_harts, reset_all};
+use crate::slot::Ways;
 use crate::wires::{Rooms, Wires};
 use dev_core::{Device, Entry, Payload, Post, Taken};
 use lab_num::{BoardNo, Micros, NoMemory};
-use plic::PlicState;
-use rv_hart::{Hart, Lines};
+use rv_atomic::Watch;
+use rv_hart::Hart;
 use std::alloc::Global;
 use std::marker::Model;
 use std::mem;
 use sys_bus::BoardPlan;
-
-/// The copies of the interpreter, of which each is called from one place, so that it is inlined
-/// there: those in the four loops of a turn, of boards that are wired or not and whose processors
-/// have compressed instructions or not, and one for slots that sample or wait.
-const UNWIRED: u8 = 0;
-
-const WIRED: u8 = 1;
-
-const UNWIRED_HALVES: u8 = 2;
-
-const WIRED_HALVES: u8 = 3;
-
-const APART: u8 = 4;
+use slots::{SHARED, UNWIRED, UNWIRED_HALVES, WIRED, WIRED_HALVES};
 
 /// Where a turn begins: slot `first` of the grant that begins at microsecond `from`.
 #[derive(Clone, Copy, PartialEq, Eq, Debug)]
@@ -44,33 +36,27 @@ pub enum Turn {
     Starved(u64),
 }
 
-/// How slots of one microsecond have ended.
-enum Ended {
-    /// All were taken.
-    All,
-    /// So many were taken, and in the last one the processor went on waiting.
-    Idle(u64),
-    /// So many were taken, since memory ran out.
-    Starved(u64),
-}
-
 /// A board, which takes one slot after another. Its devices are those that it was made with: they
 /// are seen as their states, in the order of the plan.
 #[derive(Drop)]
 pub struct Board<D: Device> {
-    hart: Hart,
+    /// The processors of the plan, in its order.
+    harts: Vec<Hart>,
+    /// The number of the one that takes the next slot.
+    next: u8,
+    watch: Watch,
     wires: Wires<D>,
 }
 
 impl<D: Device> Model for Board<D> {
-    ghost use Rattle.std.specs.Prelude.{◌≤◌};
-    ghost use Rattle.board.specs.View.{State, state_of};
+    ghost use Rattle.board.specs.Inner.Holds.{Holds, state_of};
+    ghost use Rattle.board.specs.View.{State};
 
     ghost Value = { State };
 
-    ghost view = { λ b. state_of b.hart b.wires };
+    ghost view = { λ b. state_of b.harts.items b.next b.watch b.wires };
 
-    ghost invariant = { λ b. (1 ≤ b.wires.numbers.speed) × (b.wires.numbers.speed ≤ 1000) };
+    ghost invariant = { λ b. Holds (state_of b.harts.items b.next b.watch b.wires).view };
 }
 
 impl<D: Device> Board<D> {
@@ -107,12 +93,17 @@ impl<D: Device> Board<D> {
         ensures state { IfOk result (λ board. board ≡ quiet (new_board number.0 plan)) }
         ensures back { IfErr result (λ back. back.items ≡ devices.items) }
     {
+        let count = plan.cpus.items().len() as u8;
+        let Ok(harts) = new_harts(alloc, count, plan.letters) else {
+            return Err(devices);
+        };
         let Ok(rooms) = Rooms::new(alloc, number, &plan, devices.len()) else {
             return Err(devices);
         };
-        let letters = plan.letters;
         Ok(Board {
-            hart: Hart::with(letters, 0),
+            harts,
+            next: 0,
+            watch: Watch::new(count),
             wires: Wires::new(plan, rooms, devices),
         })
     }
@@ -169,287 +160,25 @@ impl<D: Device> Board<D> {
         requires entries { self.old.view.numbers.entered + n < 2 ^ 64 }
         ensures { IsTurn self.old at.from.0 at.first n result self.new }
     {
-        if self.halted() {
+        if all_halted(&self.harts) {
+            self.skip(n);
             return Turn::Used(n);
         }
-        // four loops, so that a board without timer, interrupt controller and wires asks in no slot for its lines, and
-        // none asks whether its processor has compressed instructions
-        match (self.wires.space.is_wired(), self.hart.letters().c) {
-            (false, false) => self.slots::<UNWIRED>(false, false, at, n),
-            (true, false) => self.slots::<WIRED>(true, false, at, n),
-            (false, true) => self.slots::<UNWIRED_HALVES>(false, true, at, n),
-            (true, true) => self.slots::<WIRED_HALVES>(true, true, at, n),
+        // loops of their own, so that a board of one processor without atomic instructions asks in no slot whose turn is
+        // next and what is reserved, one without timer, interrupt controller and wires asks for no lines, and none asks
+        // whether there are compressed instructions
+        let Ways {
+            shared,
+            wired,
+            halves,
+        } = self.ways();
+        match (shared, wired, halves) {
+            (false, false, false) => self.slots::<UNWIRED>(false, false, false, at, n),
+            (false, true, false) => self.slots::<WIRED>(false, true, false, at, n),
+            (false, false, true) => self.slots::<UNWIRED_HALVES>(false, false, true, at, n),
+            (false, true, true) => self.slots::<WIRED_HALVES>(false, true, true, at, n),
+            (true, _, _) => self.slots::<SHARED>(true, wired, halves, at, n),
         }
-    }
-
-    /// The next `n` slots of a board that is wired or not, and whose processor has compressed
-    /// instructions or not. It is a function of its own, so that who calls `turn` makes no slot
-    /// dearer.
-    #[inline(never)]
-    fn slots<const COPY: u8>(&mut self, wired: bool, halves: bool, at: SlotAt, n: u64) -> Turn
-        requires time { at.from.0 + (at.first + n) / self.old.view.numbers.speed ≤ 10000000000 }
-        requires wired { wired ≡ is_wired self.old.view.space.plan }
-        requires halves { halves ≡ self.old.view.core.letters.c }
-        ensures { IsTurn self.old at.from.0 at.first n result self.new }
-    {
-        let speed = u64::from(self.speed());
-        let mut micros = at.first / speed;
-        let mut within = at.first % speed;
-        let mut i = 0;
-        while i < n {
-            let count = u64::min(speed - within, n - i);
-            match self.slots_of::<COPY>(wired, halves, Micros(at.from.0 + micros), count) {
-                Ended::All => {
-                    i += count;
-                    within += count;
-                    if within == speed {
-                        within = 0;
-                        micros += 1;
-                    }
-                }
-                Ended::Idle(taken) => {
-                    i += taken;
-                    i += self.pass_idle(wired, at, i, n);
-                    micros = (at.first + i) / speed;
-                    within = (at.first + i) % speed;
-                }
-                Ended::Starved(taken) => return Turn::Starved(i + taken),
-            }
-        }
-        Turn::Used(n)
-    }
-
-    /// The next `count` slots, all in this microsecond, or those up to an idle one.
-    fn slots_of<const COPY: u8>(
-        &mut self,
-        wired: bool,
-        halves: bool,
-        now: Micros,
-        count: u64,
-    ) -> Ended
-        requires wired { wired ≡ is_wired self.old.view.space.plan }
-        requires halves { halves ≡ self.old.view.core.letters.c }
-        requires most { count ≤ self.old.view.numbers.speed }
-        ensures ended { HasEnded count result }
-        ensures run { self.new ≡ after self.old (stretch self.old.view now.0 0 (taken_of count result)) }
-        ensures letters { self.new.view.core.letters ≡ self.old.view.core.letters }
-    {
-        for i in 0..count {
-            let Ok(idle) = self.slot::<COPY>(wired, halves, now) else {
-                return Ended::Starved(i);
-            };
-            if idle {
-                return Ended::Idle(i + 1);
-            }
-        }
-        Ended::All
-    }
-
-    /// Passes over idle slots, of those from slot `i` of the call on: up to the first one in the
-    /// microsecond in which the line of the timer interrupt changes, or to the end of the call. The
-    /// answer is how many, and 0 where the next slot may not be idle.
-    #[cold]
-    #[inline(never)]
-    fn pass_idle(&mut self, wired: bool, at: SlotAt, i: u64, n: u64) -> u64
-        requires time { at.from.0 + (at.first + n) / self.old.view.numbers.speed ≤ 10000000000 }
-        requires wired { wired ≡ is_wired self.old.view.space.plan }
-        requires within { i ≤ n }
-        ensures most { i + result ≤ n }
-        ensures run { self.new ≡ after self.old
-            (stretch self.old.view at.from.0 (at.first + i) result) }
-        ensures letters { self.new.view.core.letters ≡ self.old.view.core.letters }
-    {
-        let speed = u64::from(self.speed());
-        let next = at.first + i;
-        let now = Micros(at.from.0 + next / speed);
-        let Some(lines) = self.known_lines(wired, now) else {
-            return 0;
-        };
-        if !self.is_idle(lines.mip) {
-            return 0;
-        }
-        // the microsecond after the last one, so that the slots of the last one are passed over too
-        let end = Micros(at.from.0 + (at.first + n) / speed + 1);
-        let until = self.timer_stays_until(now, end);
-        let stop = u64::min((until.0 - at.from.0) * speed, at.first + n);
-        if stop < next {
-            return 0;
-        }
-        self.pass(stop - next);
-        stop - next
-    }
-
-    /// The lines in a microsecond, where they are known without sampling.
-    fn known_lines(&mut self, wired: bool, now: Micros) -> Option<Lines>
-        requires { wired ≡ is_wired self.old.view.space.plan }
-        ensures settled { IfSome result (λ lines. sampled self.old.view.space ≡ self.old.view.space) }
-        ensures lines { IfSome result (λ lines. lines ≡ lines_of self.old.view.space now.0) }
-        ensures same { self.new ≡ self.old }
-    {
-        self.wires.space.known_lines(wired, now)
-    }
-
-    /// Whether the processor goes on waiting where these interrupts are pending.
-    fn is_idle(&self, mip: u32) -> bool
-        ensures { result ≡ is_idle self.now.view.core mip }
-    {
-        !self.hart.halted() && self.hart.waiting() && !self.hart.is_ready(mip)
-    }
-
-    /// A microsecond until which the line of the timer interrupt is as it is now.
-    fn timer_stays_until(&self, now: Micros, last: Micros) -> Micros
-        requires { now.0 ≤ last.0 }
-        ensures from { now.0 ≤ result.0 }
-        ensures until { result.0 ≤ last.0 }
-        ensures still { (t : ℕ) → now.0 ≤ t → t < result.0 →
-            timer_up self.now.view.space.timer t ≡ timer_up self.now.view.space.timer now.0 }
-    {
-        self.wires.space.timer_stays_until(now, last)
-    }
-
-    /// Lets cycles of the processor pass.
-    fn pass(&mut self, cycles: u64)
-        ensures after { self.new ≡ record self.old { view = passed self.old.view cycles } }
-        ensures fits { self.old.view.core.mcycle < 2 ^ 64 }
-    {
-        let mut state = self.hart.state();
-        state.mcycle = state.mcycle.wrapping_add(cycles);
-        let Some(hart) = Hart::of(&state) else {
-            unreachable!()
-        };
-        self.hart = hart;
-    }
-
-    /// One slot, in this microsecond, of a board that is wired or not, and whose processor has
-    /// compressed instructions or not. The answer is whether it was idle: the processor goes on
-    /// waiting. After an `Err` the board is as before.
-    #[tactic(auto, unfolding(crate::specs::Slot::slot))]
-    fn slot<const COPY: u8>(
-        &mut self,
-        wired: bool,
-        halves: bool,
-        at: Micros,
-    ) -> Result<bool, NoMemory>
-        requires wired { wired ≡ is_wired self.old.view.space.plan }
-        requires halves { halves ≡ self.old.view.core.letters.c }
-        ensures ok { OnOk result (self.new ≡ after self.old (slot self.old.view at.0)) }
-        ensures letters { OnOk result (self.new.view.core.letters ≡ self.old.view.core.letters) }
-        ensures err { OnErr result (self.new ≡ self.old) }
-    {
-        if self.hart.halted() {
-            return Ok(false);
-        }
-        match self.wires.space.known_lines(wired, at) {
-            Some(lines) => self.run::<COPY>(halves, at, lines),
-            None => Ok(self.sample_and_run(at)?),
-        }
-    }
-
-    /// Puts the interrupt controller back into a state that it had.
-    fn put_controller(&mut self, state: &Option<PlicState>)
-        requires { IsStateOf self.old.view.space.controller state.now }
-        ensures { self.new ≡ record self.old { view = with_controller self.old.view state.now } }
-    {
-        self.wires.space.put_controller(state);
-    }
-
-    /// The rest of a slot in which the interrupt controller has to sample. After an `Err` the
-    /// board is as before, the controller too.
-    #[cold]
-    #[inline(never)]
-    fn sample_and_run(&mut self, at: Micros) -> Result<bool, NoMemory>
-        ensures ok { OnOk result (self.new ≡ after self.old
-            (running (sampling self.old.view) at.0 (lines_of (sampled self.old.view.space) at.0))) }
-        ensures err { OnErr result (self.new ≡ self.old) }
-        ensures letters { OnOk result (self.new.view.core.letters ≡ self.old.view.core.letters) }
-    {
-        let before = self.wires.space.controller_state();
-        let lines = self.wires.space.sample(at);
-        let halves = self.hart.letters().c;
-        let Ok(idle) = self.run::<APART>(halves, at, lines) else {
-            self.put_controller(&before);
-            return Err(NoMemory);
-        };
-        Ok(idle)
-    }
-
-    /// The rest of a slot whose lines are these. After an `Err` the board is as before.
-    fn run<const COPY: u8>(
-        &mut self,
-        halves: bool,
-        at: Micros,
-        lines: Lines,
-    ) -> Result<bool, NoMemory>
-        requires { halves ≡ self.old.view.core.letters.c }
-        ensures ok { OnOk result (self.new ≡ after self.old (running self.old.view at.0 lines)) }
-        ensures err { OnErr result (self.new ≡ self.old) }
-        ensures letters { OnOk result (self.new.view.core.letters ≡ self.old.view.core.letters) }
-    {
-        if self.hart.waiting() {
-            // taken apart, so that other slots test no answer of it
-            return Ok(self.wait(at, lines)?);
-        }
-        self.act::<COPY>(halves, at, lines)?;
-        Ok(false)
-    }
-
-    /// A slot of a processor that waits: it goes on waiting, or is woken. After an `Err` the board
-    /// is as before.
-    #[cold]
-    #[inline(never)]
-    fn wait(&mut self, at: Micros, lines: Lines) -> Result<bool, NoMemory>
-        requires { self.old.view.core.waiting ≡ true }
-        ensures ok { OnOk result (self.new ≡ after self.old (asleep self.old.view at.0 lines)) }
-        ensures err { OnErr result (self.new ≡ self.old) }
-        ensures letters { OnOk result (self.new.view.core.letters ≡ self.old.view.core.letters) }
-    {
-        if !self.hart.is_ready(lines.mip) {
-            self.hart.tick();
-            return Ok(true);
-        }
-        self.hart.set_waiting(false);
-        let halves = self.hart.letters().c;
-        let Ok(()) = self.act::<APART>(halves, at, lines) else {
-            self.hart.set_waiting(true);
-            return Err(NoMemory);
-        };
-        Ok(false)
-    }
-
-    /// Enters the interrupt that is taken now, or else does one instruction. After an `Err` the
-    /// board is as before.
-    #[tactic(auto, unfolding(crate::specs::Slot::awake))]
-    fn act<const COPY: u8>(
-        &mut self,
-        halves: bool,
-        at: Micros,
-        lines: Lines,
-    ) -> Result<(), NoMemory>
-        requires { halves ≡ self.old.view.core.letters.c }
-        ensures ok { OnOk result (self.new ≡ after self.old (awake self.old.view at.0 lines)) }
-        ensures err { OnErr result (self.new ≡ self.old) }
-        ensures letters { OnOk result (self.new.view.core.letters ≡ self.old.view.core.letters) }
-    {
-        if let Some(n) = taken(&self.hart, lines.mip) {
-            self.interrupt(n);
-            return Ok(());
-        }
-        self.wires.begin_slot(at);
-        let Ok(()) = instruction::<COPY, D>(&mut self.hart, &mut self.wires, halves, lines) else {
-            return Err(NoMemory);
-        };
-        Ok(())
-    }
-
-    /// A slot in which an interrupt is entered.
-    #[cold]
-    #[inline(never)]
-    fn interrupt(&mut self, n: u8)
-        ensures after { self.new ≡ after self.old (cycle self.old.view (interrupt self.old.view.core n)) }
-        ensures letters { self.new.view.core.letters ≡ self.old.view.core.letters }
-    {
-        self.hart.enter_interrupt(n);
-        self.hart.tick();
     }
 
     /// Hands a device what another board has sent.
@@ -523,6 +252,7 @@ impl<D: Device> Board<D> {
             (self.new ≡ record self.old { view = with_bytes self.old.view at bytes.now }) }
         ensures err { OnErr result (WritesPrefix self.old self.new at bytes.now) }
     {
+        self.watch.clear();
         self.wires.space.copy_in(at, bytes)
     }
 
@@ -531,6 +261,7 @@ impl<D: Device> Board<D> {
         requires { IsTrue (holds_each self.old.view.space at count) }
         ensures { self.new ≡ record self.old { view = with_bytes self.old.view at (zeros count) } }
     {
+        self.watch.clear();
         self.wires.space.zero(at, count);
     }
 
@@ -541,9 +272,9 @@ impl<D: Device> Board<D> {
     pub fn reset(&mut self)
         ensures { self.new ≡ record self.old { view = reset self.old.view } }
     {
-        let halted = self.hart.halted();
-        self.hart = Hart::with(self.wires.space.plan().letters, 0);
-        self.hart.set_halted(halted);
+        reset_all(&mut self.harts);
+        self.next = 0;
+        self.watch.clear();
         self.wires.space.reset();
     }
 
@@ -554,14 +285,14 @@ impl<D: Device> Board<D> {
         requires aligned { pc % alignment self.old.view.space.plan.letters ≡ 0 }
         ensures { self.new ≡ record self.old { view = with_pc self.old.view hart pc } }
     {
-        self.hart.set_pc(pc);
+        self.harts[usize::from(hart)].set_pc(pc);
     }
 
     /// Whether the next instruction may lie at an address.
     pub fn aligns(&self, pc: u32) -> bool
         ensures { result ≡ (pc % alignment self.now.view.space.plan.letters == 0) }
     {
-        self.hart.letters().aligns(pc)
+        self.wires.space.plan().letters.aligns(pc)
     }
 
     /// The address of a processor's next instruction.
@@ -569,7 +300,7 @@ impl<D: Device> Board<D> {
         requires { hart < length self.now.view.cores }
         ensures { result ≡ (core_at self.now.view hart).pc }
     {
-        self.hart.pc()
+        self.harts[usize::from(hart)].pc()
     }
 
     /// Whether a processor is halted: its slots pass and change nothing.
@@ -577,14 +308,14 @@ impl<D: Device> Board<D> {
         requires { hart < length self.now.view.cores }
         ensures { result ≡ (core_at self.now.view hart).halted }
     {
-        self.hart.halted()
+        self.harts[usize::from(hart)].halted()
     }
 
     /// Whether each processor is halted or waits for an interrupt: then the next slots may pass idle.
     pub fn is_asleep(&self) -> bool
         ensures { result ≡ list_all (λ core. core.halted || core.waiting) self.now.view.cores }
     {
-        self.hart.halted() || self.hart.waiting()
+        all_asleep(&self.harts)
     }
 
     /// Halts a processor, or lets it run.
@@ -592,7 +323,7 @@ impl<D: Device> Board<D> {
         requires { hart < length self.old.view.cores }
         ensures { self.new ≡ record self.old { view = with_halted self.old.view hart on } }
     {
-        self.hart.set_halted(on);
+        self.harts[usize::from(hart)].set_halted(on);
     }
 
     /// What a register of a processor reads.
@@ -601,7 +332,7 @@ impl<D: Device> Board<D> {
         requires register { n < 32 }
         ensures { result ≡ reg (core_at self.now.view hart) n }
     {
-        self.hart.register(n)
+        self.harts[usize::from(hart)].register(n)
     }
 
     /// How many posts the board has made so far.
@@ -623,7 +354,7 @@ impl<D: Device> Board<D> {
         requires { hart < length self.now.view.cores }
         ensures { result ≡ (core_at self.now.view hart).minstret }
     {
-        self.hart.state().minstret
+        self.harts[usize::from(hart)].state().minstret
     }
 
     /// The word of memory at an address. None exactly where the address is not a multiple of 4 or
@@ -635,18 +366,5 @@ impl<D: Device> Board<D> {
             return None;
         }
         self.wires.space.word(at)
-    }
-}
-
-/// The interrupt that is taken now, of those whose lines are set in `mip`. In most slots none is
-/// ready, and then none is sought.
-#[inline(always)]
-fn taken(hart: &Hart, mip: u32) -> Option<u8>
-    ensures { result ≡ chosen hart.now mip }
-{
-    if hart.is_ready(mip) {
-        hart.pending(mip)
-    } else {
-        None
     }
 }

@@ -1,39 +1,56 @@
-//! One instruction of a board's processor.
-ghost use Rattle.std.specs.Prelude.{◌≡◌, true, false, OnOk, OnErr};
-ghost use Rattle.rv_exec.specs.Effect.{bus_after, core_after};
-ghost use Rattle.board.specs.Fetch.{effect_on};
+//! One instruction of one of a board's processors.
+ghost use Rattle.std.specs.Prelude.{◌≡◌, ◌<◌, length, true, false, OnOk, OnErr};
+ghost use Rattle.rv_atomic.specs.SharedEffect.{IsSharable};
+ghost use Rattle.rv_exec.specs.Effect.{bus_after, core_after, effect};
+ghost use Rattle.rv_exec.specs.Laws.{IsSameHart};
+ghost use Rattle.board.specs.Fetch.{effect_on, fetched_by, shared_by};
+ghost use Rattle.board.specs.Inner.Seat.{seen, shared_of_word, ways_of};
 ghost use Rattle.board.specs.Wires.{answer, loaded, stored};
 
+use crate::slot::Ways;
 use crate::space::halves::of_half;
 use crate::wires::Wires;
 use dev_core::Device;
+use rv_atomic::{Shared, Watch, decode_atomic, step_shared};
 use rv_exec::{Fetched, NoMemory, perform};
 use rv_hart::{Hart, Lines};
 
-/// Does the instruction at the processor's pc, or enters the trap of its exception. `halves` is
-/// whether the processor has compressed instructions.
+/// Does the instruction at the processor's pc, or enters the trap of its exception.
 #[inline(always)]
 pub fn instruction<const COPY: u8, D: Device>(
     hart: &mut Hart,
+    number: u8,
+    watch: &mut Watch,
     wires: &mut Wires<D>,
-    halves: bool,
+    ways: Ways,
     lines: Lines,
 ) -> Result<(), NoMemory>
-    requires { halves ≡ hart.old.letters.c }
-    ensures core { OnOk result (hart.new ≡ core_after answer wires.old (effect_on hart.old wires.old lines)) }
-    ensures bus { OnOk result (wires.new ≡ bus_after loaded stored wires.old (effect_on hart.old wires.old lines)) }
+    requires ways { ways ≡ ways_of wires.old.space.plan }
+    requires letters { hart.old.letters ≡ wires.old.space.plan.letters }
+    requires number { number < length watch.old }
+    requires harts { length watch.old ≡ length wires.old.space.plan.cpus }
+    ensures core { let shared = effect_on (seen number hart.old watch.old wires.old) wires.old lines in
+        OnOk result (hart.new ≡ core_after answer wires.old shared.effect) }
+    ensures watch { let shared = effect_on (seen number hart.old watch.old wires.old) wires.old lines in
+        OnOk result (watch.new ≡ shared.watch) }
+    ensures bus { let shared = effect_on (seen number hart.old watch.old wires.old) wires.old lines in
+        OnOk result (wires.new ≡ bus_after loaded stored wires.old shared.effect) }
+    ensures same { OnOk result (IsSameHart hart.old hart.new) }
     ensures core_err { OnErr result (hart.new ≡ hart.old) }
+    ensures watch_err { OnErr result (watch.new ≡ watch.old) }
     ensures bus_err { OnErr result (wires.new ≡ wires.old) }
-    ensures letters { OnOk result (hart.new.letters ≡ hart.old.letters) }
 {
-    if halves {
+    if ways.shared {
+        return by_sharing::<COPY, D>(hart, number, watch, wires, lines);
+    }
+    if ways.halves {
         by_halves::<COPY, D>(hart, wires, lines)
     } else {
         by_words::<COPY, D>(hart, wires, lines)
     }
 }
 
-/// The same of a processor without compressed instructions.
+/// The same of a processor alone, without atomic and without compressed instructions.
 #[inline(always)]
 fn by_words<const COPY: u8, D: Device>(
     hart: &mut Hart,
@@ -41,11 +58,13 @@ fn by_words<const COPY: u8, D: Device>(
     lines: Lines,
 ) -> Result<(), NoMemory>
     requires { hart.old.letters.c ≡ false }
-    ensures core { OnOk result (hart.new ≡ core_after answer wires.old (effect_on hart.old wires.old lines)) }
-    ensures bus { OnOk result (wires.new ≡ bus_after loaded stored wires.old (effect_on hart.old wires.old lines)) }
+    ensures core { let effect = effect hart.old (fetched_by hart.old wires.old) lines in
+        OnOk result (hart.new ≡ core_after answer wires.old effect) }
+    ensures bus { let effect = effect hart.old (fetched_by hart.old wires.old) lines in
+        OnOk result (wires.new ≡ bus_after loaded stored wires.old effect) }
+    ensures same { OnOk result (IsSameHart hart.old hart.new) }
     ensures core_err { OnErr result (hart.new ≡ hart.old) }
     ensures bus_err { OnErr result (wires.new ≡ wires.old) }
-    ensures letters { OnOk result (hart.new.letters ≡ hart.old.letters) }
 {
     let at = hart.pc();
     let Some(word) = wires.space.fetch_aligned(at) else {
@@ -54,8 +73,8 @@ fn by_words<const COPY: u8, D: Device>(
     perform(hart, Fetched::of_word(word), wires, lines)
 }
 
-/// The same of a processor with compressed instructions. Each size has a copy of `perform` of its
-/// own, so that no size is asked for in it.
+/// The same of a processor alone, without atomic instructions and with compressed ones. Each size
+/// has a copy of `perform` of its own, so that no size is asked for in it.
 #[inline(always)]
 fn by_halves<const COPY: u8, D: Device>(
     hart: &mut Hart,
@@ -63,11 +82,13 @@ fn by_halves<const COPY: u8, D: Device>(
     lines: Lines,
 ) -> Result<(), NoMemory>
     requires { hart.old.letters.c ≡ true }
-    ensures core { OnOk result (hart.new ≡ core_after answer wires.old (effect_on hart.old wires.old lines)) }
-    ensures bus { OnOk result (wires.new ≡ bus_after loaded stored wires.old (effect_on hart.old wires.old lines)) }
+    ensures core { let effect = effect hart.old (fetched_by hart.old wires.old) lines in
+        OnOk result (hart.new ≡ core_after answer wires.old effect) }
+    ensures bus { let effect = effect hart.old (fetched_by hart.old wires.old) lines in
+        OnOk result (wires.new ≡ bus_after loaded stored wires.old effect) }
+    ensures same { OnOk result (IsSameHart hart.old hart.new) }
     ensures core_err { OnErr result (hart.new ≡ hart.old) }
     ensures bus_err { OnErr result (wires.new ≡ wires.old) }
-    ensures letters { OnOk result (hart.new.letters ≡ hart.old.letters) }
 {
     let at = hart.pc();
     let Some(half) = wires.space.half(at) else {
@@ -79,4 +100,83 @@ fn by_halves<const COPY: u8, D: Device>(
     } else {
         perform(hart, of_half(half), wires, lines)
     }
+}
+
+/// The same of a processor that may share words of memory.
+#[inline(always)]
+fn by_sharing<const COPY: u8, D: Device>(
+    hart: &mut Hart,
+    number: u8,
+    watch: &mut Watch,
+    wires: &mut Wires<D>,
+    lines: Lines,
+) -> Result<(), NoMemory>
+    requires number { number < length watch.old }
+    ensures core { let shared = effect_on (seen number hart.old watch.old wires.old) wires.old lines in
+        OnOk result (hart.new ≡ core_after answer wires.old shared.effect) }
+    ensures watch { let shared = effect_on (seen number hart.old watch.old wires.old) wires.old lines in
+        OnOk result (watch.new ≡ shared.watch) }
+    ensures bus { let shared = effect_on (seen number hart.old watch.old wires.old) wires.old lines in
+        OnOk result (wires.new ≡ bus_after loaded stored wires.old shared.effect) }
+    ensures same { OnOk result (IsSameHart hart.old hart.new) }
+    ensures core_err { OnErr result (hart.new ≡ hart.old) }
+    ensures watch_err { OnErr result (watch.new ≡ watch.old) }
+    ensures bus_err { OnErr result (wires.new ≡ wires.old) }
+{
+    let what = if hart.letters().c {
+        shared_by_halves(hart, wires)
+    } else {
+        shared_by_words(hart, wires)
+    };
+    step_shared(hart, number, watch, what, wires, lines)
+}
+
+/// What a processor without compressed instructions does at its pc.
+#[inline(always)]
+fn shared_by_words<D: Device>(hart: &Hart, wires: &mut Wires<D>) -> Shared
+    requires { hart.now.letters.c ≡ false }
+    ensures value { result ≡ shared_by hart.now wires.old }
+    ensures sharable { IsSharable hart.now.letters result }
+    ensures same { wires.new ≡ wires.old }
+{
+    let at = hart.pc();
+    match wires.space.fetch_aligned(at) {
+        Some(word) => of_word(hart, word),
+        None => Shared::Plain(Fetched::Fault(at)),
+    }
+}
+
+/// What a processor with compressed instructions does at its pc.
+#[inline(always)]
+fn shared_by_halves<D: Device>(hart: &Hart, wires: &mut Wires<D>) -> Shared
+    requires { hart.now.letters.c ≡ true }
+    ensures value { result ≡ shared_by hart.now wires.old }
+    ensures sharable { IsSharable hart.now.letters result }
+    ensures same { wires.new ≡ wires.old }
+{
+    let at = hart.pc();
+    let Some(half) = wires.space.half(at) else {
+        return Shared::Plain(Fetched::Fault(at));
+    };
+    if half % 4 != 3 {
+        return Shared::Plain(of_half(half));
+    }
+    match wires.space.word_begun(half, at) {
+        Some(word) => of_word(hart, word),
+        None => Shared::Plain(Fetched::Fault(at.wrapping_add(2))),
+    }
+}
+
+/// What a word is on a processor: an atomic instruction, where it has those, or anything else.
+#[inline(always)]
+fn of_word(hart: &Hart, word: u32) -> Shared
+    ensures value { result ≡ shared_of_word hart.now.letters word }
+    ensures sharable { IsSharable hart.now.letters result }
+{
+    if hart.letters().a {
+        if let Some(atomic) = decode_atomic(word) {
+            return Shared::Atomic(atomic);
+        }
+    }
+    Shared::Plain(Fetched::of_word(word))
 }

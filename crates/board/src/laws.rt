@@ -1,10 +1,19 @@
 //! Laws of boards and of slots one after another. Each is the contract of a function that does
 //! nothing.
-ghost use Rattle.std.specs.Prelude.{◌≡◌, ℕ, ◌+◌, ◌<◌, ◌^◌, Bool, true, List, sum, All};
+ghost use Rattle.std.specs.Prelude.{◌≡◌, ℕ, ◌+◌, ◌/◌, ◌%◌, ◌<◌, ◌≤◌, ◌^◌, Bool, true, false, List, [], ◌∷◌, sum};
+ghost use Rattle.std.specs.Prelude.{All, Option, length};
+ghost use Rattle.rv_atomic.specs.AtomicEffect.{leaves};
+ghost use Rattle.rv_exec.specs.Effect.{effect};
+ghost use Rattle.rv_hart.specs.Core.{Core};
+ghost use Rattle.rv_hart.specs.declared.csr.Lines.{Lines};
+ghost use Rattle.board.specs.Fetch.{effect_on, fetched_by};
+ghost use Rattle.board.specs.HartView.{HartView};
+ghost use Rattle.board.specs.Slot.{slot};
+ghost use Rattle.board.specs.Wires.{Wires};
 ghost use Rattle.board.specs.View.{View, quiet, after};
 ghost use Rattle.board.specs.New.{IsSameKept, reset};
 ghost use Rattle.board.specs.Stretch.{stretch, in_turns};
-ghost use Rattle.board.specs.Idle.{IsIdle, IsStillFor, passed};
+ghost use Rattle.board.specs.Idle.{IsIdle, IsStillFor, all_halted, passed, turns_of};
 ghost use Rattle.board.specs.Lines.{sampled};
 ghost use Rattle.board.specs.Space.{Space};
 ghost use Rattle.board.specs.Numbered.{IsNumbered};

@@ -1,19 +1,21 @@
-//! One emulated board: a processor, and the memories and devices of its plan, run slot by slot on
+//! One emulated board: one to four processors, and the memories and devices of its plan, run slot by slot on
 //! virtual time.
 #![tactic(auto)]
 
 mod board;
 mod fitted;
+mod harts;
 mod instruction;
 mod laws;
 mod made;
 mod numbers;
 mod remembered;
+mod slot;
 mod space;
 mod wires;
 
 pub use board::{Board, SlotAt, Turn};
 pub use laws::{
-    halted_boards_stay, resets_agree, samples_settle, stretches_join, stretches_keep_plans,
+    halted_boards_stay, harts_take_turns, one_hart_goes_on_alone, resets_agree, samples_settle, stretches_join, stretches_keep_plans,
     stretches_keep_time, stretches_number, turns_join, waiting_boards_count_cycles,
 };

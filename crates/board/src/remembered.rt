@@ -1,9 +1,12 @@
 //! What a board remembers of its interrupt lines.
-ghost use Rattle.std.specs.Prelude.{◌≡◌};
-ghost use Rattle.board.specs.Inner.Remembers.{still};
+ghost use Rattle.std.specs.Prelude.{◌≡◌, ◌<◌};
+ghost use Rattle.board.specs.Inner.Remembers.{still, remembered_lines};
 
 use lab_num::Micros;
 use rv_hart::Lines;
+
+/// How many processors a board has at most.
+pub const MOST_PROCESSORS: usize = 4;
 
 /// What the lines were in a microsecond, after the interrupt controller had sampled its sources.
 #[derive(Clone, Copy)]
@@ -11,7 +14,23 @@ pub struct Remembered {
     pub at: Micros,
     /// Whether the line of the timer interrupt was up.
     pub timer: bool,
-    pub lines: Lines,
+    /// What each processor of the board sees in its `mip`, and 0 for those that it does not have.
+    pub mips: [u32; MOST_PROCESSORS],
+    pub mtime: u64,
+}
+
+impl Remembered {
+    /// The lines of a processor.
+    #[inline(always)]
+    pub fn lines(&self, hart: u8) -> Lines
+        requires { hart < 4 }
+        ensures { result ≡ remembered_lines self.now hart }
+    {
+        Lines {
+            mip: self.mips[usize::from(hart)],
+            mtime: self.mtime,
+        }
+    }
 }
 
 /// Forgets what is remembered, where the line of a device was up or not before something and is not

@@ -1,7 +1,7 @@
 -- How slots of one microsecond end.
 use Rattle.std.specs.Prelude.{ℕ, ◌<◌, ◌≤◌}
-use Rattle.board.specs.declared.board.Ended.{Ended}
-use Rattle.board.specs.declared.board.Ended.TheVariants.{All, Idle, Starved}
+use Rattle.board.specs.declared.board.slots.Ended.{Ended}
+use Rattle.board.specs.declared.board.slots.Ended.TheVariants.{All, Idle, Starved}
 
 -- how many were taken, of those that were asked for
 abbrev pub taken_of : ℕ → Ended → ℕ

@@ -3,7 +3,7 @@ ghost use Rattle.std.specs.Prelude.{◌≡◌, ◌+◌, ◌<◌, ◌≤◌, ◌%
 ghost use Rattle.page_ram.specs.Bytes.{value_at};
 ghost use Rattle.rv_hart.specs.declared.letters.Letters.{Letters};
 ghost use Rattle.rv_exec.specs.Fetched.{IsPerformable};
-ghost use Rattle.board.specs.Fetch.{half_in, begun_by, of_half};
+ghost use Rattle.board.specs.Fetch.{half_in, begun_by, of_half, word_begun};
 ghost use Rattle.board.specs.Space.{memory_at};
 
 use super::Space;
@@ -39,11 +39,22 @@ impl<D: Device> Space<D> {
         ensures performable { (letters : Letters) → IsPerformable letters result }
         ensures same { self.new ≡ self.old }
     {
-        let next = at.wrapping_add(2);
-        match self.half(next) {
-            Some(upper) => Fetched::of_word(u32::from(half) + u32::from(upper) * 0x1_0000),
-            None => Fetched::Fault(next),
+        match self.word_begun(half, at) {
+            Some(word) => Fetched::of_word(word),
+            None => Fetched::Fault(at.wrapping_add(2)),
         }
+    }
+
+    /// The word whose lower half is this half-word, which lies at an address, where a memory holds
+    /// the other.
+    #[inline(always)]
+    pub fn word_begun(&mut self, half: u16, at: u32) -> Option<u32>
+        requires { at % 2 ≡ 0 }
+        ensures value { result ≡ word_begun self.old at half }
+        ensures same { self.new ≡ self.old }
+    {
+        let upper = self.half(at.wrapping_add(2))?;
+        Some(u32::from(half) + u32::from(upper) * 0x1_0000)
     }
 
     /// The half-word at an address, where a memory holds both bytes.

@@ -1,14 +1,14 @@
-//! The interrupt lines of a board: what its controller samples, and what its processor sees.
-ghost use Rattle.std.specs.Prelude.{◌≡◌, ◌<◌, ◌≤◌, ◌^◌, ◌==◌, ◌||◌, ℕ, false, IfSome};
+//! The interrupt lines of a board: what its controller samples, and what its processors see.
+ghost use Rattle.std.specs.Prelude.{◌≡◌, ◌<◌, ◌≤◌, ◌^◌, ◌==◌, ◌||◌, ℕ, false, length, IfSome};
 ghost use Rattle.plic.specs.Sources.{has};
 ghost use Rattle.board.specs.Lines.{software_up, timer_up, context_up, device_up, is_up, pin_up, pending, mip_of};
 ghost use Rattle.board.specs.Lines.{mtime_of, lines_of, ends_at_pin, is_from_device, brings_source_up};
 ghost use Rattle.board.specs.Lines.{sources_up, sampled};
-ghost use Rattle.board.specs.Inner.Remembers.{is_wired};
+ghost use Rattle.board.specs.Inner.Remembers.{is_wired, AreMips, IsRead};
 
 use super::Space;
 use super::interrupts::sample;
-use crate::remembered::Remembered;
+use crate::remembered::{MOST_PROCESSORS, Remembered};
 use dev_core::Device;
 use lab_num::Micros;
 use plic::{second_samples_change_nothing, sets_have_what_passes};
@@ -29,12 +29,12 @@ fn with_source(set: u128, source: u8) -> u128
     if source < 128 { set | 1 << source } else { set }
 }
 
-/// Whether a wire ends at a pin of the processor.
-fn ends_at_pin(number: u8, pin: WirePin) -> bool
-    ensures { result ≡ ends_at_pin number pin }
+/// Whether a wire ends at this pin of this processor.
+fn ends_at_pin(hart: u8, number: u8, end: WirePin) -> bool
+    ensures { result ≡ ends_at_pin hart number end }
 {
-    match pin {
-        WirePin::Cpu(pin) => pin == number,
+    match end {
+        WirePin::Cpu { hart: other, pin } => other == hart && pin == number,
         WirePin::Source(_) => false,
     }
 }
@@ -105,19 +105,19 @@ impl<D: Device> Space<D> {
         }
     }
 
-    fn is_pin_up(&self, timer: bool, pin: u8) -> bool
-        ensures { result ≡ pin_up self.now timer pin }
+    fn is_pin_up(&self, timer: bool, hart: u8, pin: u8) -> bool
+        ensures { result ≡ pin_up self.now timer hart pin }
     {
         let wires = self.plan.wires.items();
-        wires.iter().any(|wire| ends_at_pin(pin, wire.pin) && self.is_up(timer, wire.from))
+        wires.iter().any(|wire| ends_at_pin(hart, pin, wire.pin) && self.is_up(timer, wire.from))
     }
 
-    fn pending(&self, timer: bool, pin: u8) -> u32
+    fn pending(&self, timer: bool, hart: u8, pin: u8) -> u32
         requires { pin < 32 }
-        ensures value { result ≡ pending self.now timer pin }
+        ensures value { result ≡ pending self.now timer hart pin }
         ensures most { result ≤ 2 ^ pin }
     {
-        if self.is_pin_up(timer, pin) {
+        if self.is_pin_up(timer, hart, pin) {
             1 << pin
         } else {
             0
@@ -125,10 +125,24 @@ impl<D: Device> Space<D> {
     }
 
     #[tactic(auto, unfolding(crate::specs::Lines::mip_of))]
-    fn mip(&self, timer: bool) -> u32
-        ensures { result ≡ mip_of self.now timer }
+    fn mip(&self, timer: bool, hart: u8) -> u32
+        ensures { result ≡ mip_of self.now timer hart }
     {
-        self.pending(timer, SOFTWARE) + self.pending(timer, TIMER) + self.pending(timer, EXTERNAL)
+        self.pending(timer, hart, SOFTWARE)
+            + self.pending(timer, hart, TIMER)
+            + self.pending(timer, hart, EXTERNAL)
+    }
+
+    /// What each processor of the board sees in its `mip`.
+    fn mips(&self, timer: bool) -> [u32; MOST_PROCESSORS]
+        ensures { AreMips self.now timer result }
+    {
+        let harts = self.plan().cpus.items().len();
+        let mut mips = [0; MOST_PROCESSORS];
+        for hart in 0..harts {
+            mips[hart] = self.mip(timer, hart as u8);
+        }
+        mips
     }
 
     fn mtime(&self, now: Micros) -> u64
@@ -183,30 +197,32 @@ impl<D: Device> Space<D> {
         sample(&mut self.controller, sources);
     }
 
-    #[tactic(auto, unfolding(crate::specs::Lines::lines_of))]
-    pub fn lines_at(&self, now: Micros) -> Lines
-        ensures { result ≡ lines_of self.now now.0 }
+    /// Reads the lines of all processors.
+    fn read_lines(&self, now: Micros) -> Remembered
+        ensures read { IsRead self.now result }
+        ensures at { result.at ≡ now }
     {
-        Lines {
-            mip: self.mip(self.is_timer_up(now)),
-            mtime: self.mtime(now),
+        let timer = self.is_timer_up(now);
+        let mips = self.mips(timer);
+        let mtime = self.mtime(now);
+        Remembered {
+            at: now,
+            timer,
+            mips,
+            mtime,
         }
     }
 
-    /// Samples and reads the lines, and remembers them.
-    pub fn sample(&mut self, now: Micros) -> Lines
+    /// Samples and reads the lines, and remembers them. The answer is those of a processor.
+    pub fn sample(&mut self, hart: u8, now: Micros) -> Lines
+        requires { hart < length self.old.plan.cpus }
         ensures space { self.new ≡ sampled self.old }
-        ensures lines { result ≡ lines_of self.new now.0 }
+        ensures lines { result ≡ lines_of self.new hart now.0 }
     {
         self.sample_sources();
-        let timer = self.is_timer_up(now);
-        let lines = self.lines_at(now);
-        self.remembered = Some(Remembered {
-            at: now,
-            timer,
-            lines,
-        });
-        lines
+        let remembered = self.read_lines(now);
+        self.remembered = Some(remembered);
+        remembered.lines(hart)
     }
 
     /// Whether there is a line that may be up.
@@ -222,24 +238,25 @@ impl<D: Device> Space<D> {
     fn no_lines(&self) -> Lines
         requires { is_wired self.now.plan ≡ false }
         ensures settled { sampled self.now ≡ self.now }
-        ensures lines { (t : ℕ) → result ≡ lines_of self.now t }
+        ensures lines { (hart t : ℕ) → result ≡ lines_of self.now hart t }
     {
         // a plan that is asked for is the one of the parts
         let _plan = self.plan();
         Lines { mip: 0, mtime: 0 }
     }
 
-    /// The lines, where they are known without sampling: then to sample would change nothing. Those
-    /// of a board that is not wired always are.
+    /// The lines of a processor, where they are known without sampling: then to sample would change
+    /// nothing. Those of a board that is not wired always are.
     #[inline(always)]
-    pub fn known_lines(&mut self, wired: bool, now: Micros) -> Option<Lines>
-        requires { wired ≡ is_wired self.old.plan }
+    pub fn known_lines(&mut self, wired: bool, hart: u8, now: Micros) -> Option<Lines>
+        requires wired { wired ≡ is_wired self.old.plan }
+        requires hart { hart < length self.old.plan.cpus }
         ensures settled { IfSome result (λ lines. sampled self.old ≡ self.old) }
-        ensures lines { IfSome result (λ lines. lines ≡ lines_of self.old now.0) }
+        ensures lines { IfSome result (λ lines. lines ≡ lines_of self.old hart now.0) }
         ensures same { self.new ≡ self.old }
     {
         if wired {
-            self.settled_lines(now)
+            self.settled_lines(hart, now)
         } else {
             Some(self.no_lines())
         }
@@ -247,24 +264,28 @@ impl<D: Device> Space<D> {
 
     /// The same of a wired board.
     #[inline(always)]
-    fn settled_lines(&mut self, now: Micros) -> Option<Lines>
+    fn settled_lines(&mut self, hart: u8, now: Micros) -> Option<Lines>
+        requires { hart < length self.old.plan.cpus }
         ensures settled { IfSome result (λ lines. sampled self.old ≡ self.old) }
-        ensures lines { IfSome result (λ lines. lines ≡ lines_of self.old now.0) }
+        ensures lines { IfSome result (λ lines. lines ≡ lines_of self.old hart now.0) }
         ensures same { self.new ≡ self.old }
     {
-        let remembered = self.remembered?;
+        let Some(remembered) = &self.remembered else {
+            return None;
+        };
         if remembered.at == now {
-            return Some(remembered.lines);
+            return Some(remembered.lines(hart));
         }
         // taken apart, so that no tag is tested in the same microsecond
-        Some(self.lines_later(now)?)
+        Some(self.lines_later(hart, now)?)
     }
 
     /// The same in another microsecond than that of which they were remembered: they are known
     /// where the line of the timer interrupt is as it was.
-    fn lines_later(&mut self, now: Micros) -> Option<Lines>
+    fn lines_later(&mut self, hart: u8, now: Micros) -> Option<Lines>
+        requires { hart < length self.old.plan.cpus }
         ensures settled { IfSome result (λ lines. sampled self.old ≡ self.old) }
-        ensures lines { IfSome result (λ lines. lines ≡ lines_of self.old now.0) }
+        ensures lines { IfSome result (λ lines. lines ≡ lines_of self.old hart now.0) }
         ensures same { self.new ≡ self.old }
     {
         let remembered = self.remembered?;
@@ -272,15 +293,14 @@ impl<D: Device> Space<D> {
         if timer != remembered.timer {
             return None;
         }
-        let lines = Lines {
-            mip: remembered.lines.mip,
-            mtime: self.mtime(now),
-        };
-        self.remembered = Some(Remembered {
+        let mips = remembered.mips;
+        let later = Remembered {
             at: now,
             timer,
-            lines,
-        });
-        Some(lines)
+            mips,
+            mtime: self.mtime(now),
+        };
+        self.remembered = Some(later);
+        Some(later.lines(hart))
     }
 }

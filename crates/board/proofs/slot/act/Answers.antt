@@ -1,6 +1,6 @@
 use Rattle.std.proofs.Common.{◌∙◌, sym}
 use Rattle.board.proofs.SlotLemmas.{awake-instruction, speed-effect}
-use Rattle.board.proofs.board.Board.act.Goals as goal
+use Rattle.board.proofs.slot.act.Goals as goal
 
 pub invariant_of-self-2 : goal.invariant_of-self-2
 invariant_of-self-2 g c =

@@ -4,7 +4,7 @@ use Rattle.std.proofs.lemmas.Bool.{eqb-true}
 use Rattle.std.proofs.lemmas.Bool.Decides.{nat_tests}
 use Rattle.rv_hart.specs.Core.{Core}
 use Rattle.rv_hart.specs.Trap.{chosen, is_ready, most_urgent}
-use Rattle.board.proofs.board.taken.Goals as goal
+use Rattle.board.proofs.slot.taken.Goals as goal
 
 -- where no interrupt is ready, none is taken
 none-ready : (core : Core) (mip : ℕ) → is_ready core mip ≡ false → chosen core mip ≡ None

@@ -2,7 +2,7 @@
 use Rattle.std.proofs.Common.{◌∙◌, ap}
 use Rattle.rv_hart.specs.Core.{Core, ticked}
 use Rattle.board.specs.View.{State}
-use Rattle.board.proofs.board.Board.wait.Goals as goal
+use Rattle.board.proofs.slot.wait.Goals as goal
 
 pub returns-then-not-is_ready-clause-letters : goal.returns-then-not-is_ready-clause-letters
 unfolding ticked

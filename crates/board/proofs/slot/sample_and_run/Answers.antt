@@ -3,7 +3,7 @@ use Rattle.board.specs.Inner.Fit.{with_controller}
 use Rattle.board.specs.Slot.{sampling}
 use Rattle.board.specs.View.{State}
 use Rattle.board.proofs.LineLemmas.{still_state, undone}
-use Rattle.board.proofs.board.Board.sample_and_run.Goals as goal
+use Rattle.board.proofs.slot.sample_and_run.Goals as goal
 
 pub put_controller-requires : goal.put_controller-requires
 put_controller-requires g c =

@@ -1,0 +1,212 @@
+//! The slots of a turn.
+ghost use Rattle.std.specs.Prelude.{◌≡◌, ◌+◌, ◌/◌, ◌<◌, ◌≤◌, false, length, OnOk, OnErr};
+ghost use Rattle.rv_exec.specs.Laws.{IsSameHart};
+ghost use Rattle.board.specs.Inner.Ended.{HasEnded, taken_of};
+ghost use Rattle.board.specs.Inner.Holds.{state_alone};
+ghost use Rattle.board.specs.Inner.Seat.{ways_of};
+ghost use Rattle.board.specs.Slot.{slot, number_after};
+ghost use Rattle.board.specs.Stretch.{IsTurn, stretch};
+ghost use Rattle.board.specs.View.{after};
+
+use super::{Board, SlotAt, Turn};
+use crate::harts::all_asleep;
+use crate::slot::{Ways, slot};
+use crate::wires::Wires;
+use dev_core::Device;
+use lab_num::{Micros, NoMemory};
+use rv_atomic::Watch;
+use rv_hart::Hart;
+use sys_bus::BoardPlan;
+
+/// The copies of the interpreter in the loops of a turn, of which each is called from one place, so
+/// that it is inlined there: those of boards of one processor without atomic instructions, which are
+/// wired or not and have compressed instructions or not, and one of all other boards.
+pub const UNWIRED: u8 = 0;
+
+pub const WIRED: u8 = 1;
+
+pub const UNWIRED_HALVES: u8 = 2;
+
+pub const WIRED_HALVES: u8 = 3;
+
+pub const SHARED: u8 = 4;
+
+/// How slots of one microsecond have ended.
+enum Ended {
+    /// All were taken.
+    All,
+    /// So many were taken, and the next ones may pass by themselves.
+    Idle(u64),
+    /// So many were taken, since memory ran out.
+    Starved(u64),
+}
+
+fn ways_of(plan: &BoardPlan) -> Ways
+    ensures { result ≡ ways_of plan.now }
+{
+    Ways {
+        shared: plan.cpus.items().len() != 1 || plan.letters.a,
+        wired: plan.frequency.is_some() || plan.plic.is_some() || !plan.wires.items().is_empty(),
+        halves: plan.letters.c,
+    }
+}
+
+/// The number of the processor after this one, of so many.
+fn number_after(harts: usize, number: u8) -> u8
+    requires { number < harts }
+    ensures { result ≡ number_after harts number }
+{
+    if usize::from(number) + 1 == harts {
+        0
+    } else {
+        number + 1
+    }
+}
+
+/// The next `count` slots of a board of one processor without atomic instructions, all in this
+/// microsecond, or those up to an idle one.
+#[inline(always)]
+fn slots_alone<const COPY: u8, D: Device>(
+    hart: &mut Hart,
+    watch: &mut Watch,
+    wires: &mut Wires<D>,
+    ways: Ways,
+    now: Micros,
+    count: u64,
+) -> Ended
+    requires alone { ways.shared ≡ false }
+    requires ways { ways ≡ ways_of wires.old.space.plan }
+    requires letters { hart.old.letters ≡ wires.old.space.plan.letters }
+    requires harts { length watch.old ≡ length wires.old.space.plan.cpus }
+    requires most { count ≤ wires.old.numbers.speed }
+    ensures ended { HasEnded count result }
+    ensures run { let old = state_alone hart.old watch.old wires.old in
+        state_alone hart.new watch.new wires.new ≡ after old (stretch old.view now.0 0 (taken_of count result)) }
+    ensures same { IsSameHart hart.old hart.new }
+    ensures watch { length watch.new ≡ length watch.old }
+{
+    for i in 0..count {
+        let Ok(idle) = slot::<COPY, D>(hart, 0, watch, wires, ways, now) else {
+            return Ended::Starved(i);
+        };
+        if idle {
+            return Ended::Idle(i + 1);
+        }
+    }
+    Ended::All
+}
+
+impl<D: Device> Board<D> {
+    /// What is asked of the plan once in a turn.
+    pub(super) fn ways(&self) -> Ways
+        ensures { result ≡ ways_of self.now.view.space.plan }
+    {
+        ways_of(self.wires.space.plan())
+    }
+
+    /// The next `n` slots of a board whose ways are these. It is a function of its own, so that who
+    /// calls `turn` makes no slot dearer.
+    #[inline(never)]
+    pub(super) fn slots<const COPY: u8>(
+        &mut self,
+        shared: bool,
+        wired: bool,
+        halves: bool,
+        at: SlotAt,
+        n: u64,
+    ) -> Turn
+        requires time { at.from.0 + (at.first + n) / self.old.view.numbers.speed ≤ 10000000000 }
+        requires ways { record { shared = shared; wired = wired; halves = halves }
+            ≡ ways_of self.old.view.space.plan }
+        ensures { IsTurn self.old at.from.0 at.first n result self.new }
+    {
+        let ways = Ways {
+            shared,
+            wired,
+            halves,
+        };
+        let speed = u64::from(self.speed());
+        let mut micros = at.first / speed;
+        let mut within = at.first % speed;
+        let mut i = 0;
+        while i < n {
+            let count = u64::min(speed - within, n - i);
+            match self.slots_of::<COPY>(ways, Micros(at.from.0 + micros), count) {
+                Ended::All => {
+                    i += count;
+                    within += count;
+                    if within == speed {
+                        within = 0;
+                        micros += 1;
+                    }
+                }
+                Ended::Idle(taken) => {
+                    i += taken;
+                    i += self.pass_idle(wired, at, i, n);
+                    micros = (at.first + i) / speed;
+                    within = (at.first + i) % speed;
+                }
+                Ended::Starved(taken) => return Turn::Starved(i + taken),
+            }
+        }
+        Turn::Used(n)
+    }
+
+    /// The next `count` slots, all in this microsecond, or those up to one after which the next ones
+    /// may pass by themselves.
+    #[inline(always)]
+    fn slots_of<const COPY: u8>(&mut self, ways: Ways, now: Micros, count: u64) -> Ended
+        requires ways { ways ≡ ways_of self.old.view.space.plan }
+        requires most { count ≤ self.old.view.numbers.speed }
+        ensures ended { HasEnded count result }
+        ensures run { self.new ≡ after self.old (stretch self.old.view now.0 0 (taken_of count result)) }
+    {
+        if ways.shared {
+            self.slots_in_turn::<COPY>(ways, now, count)
+        } else {
+            slots_alone::<COPY, D>(
+                &mut self.harts[0],
+                &mut self.watch,
+                &mut self.wires,
+                ways,
+                now,
+                count,
+            )
+        }
+    }
+
+    /// The same of a board whose processors take the slots in turn.
+    #[inline(always)]
+    fn slots_in_turn<const COPY: u8>(&mut self, ways: Ways, now: Micros, count: u64) -> Ended
+        requires ways { ways ≡ ways_of self.old.view.space.plan }
+        requires most { count ≤ self.old.view.numbers.speed }
+        ensures ended { HasEnded count result }
+        ensures run { self.new ≡ after self.old (stretch self.old.view now.0 0 (taken_of count result)) }
+    {
+        for i in 0..count {
+            let Ok(idle) = self.slot_in_turn::<COPY>(ways, now) else {
+                return Ended::Starved(i);
+            };
+            if idle && all_asleep(&self.harts) {
+                return Ended::Idle(i + 1);
+            }
+        }
+        Ended::All
+    }
+
+    /// One slot of the processor whose turn is next, in this microsecond. The answer is whether it
+    /// passed by itself. After an `Err` the board is as before.
+    #[inline(always)]
+    #[tactic(auto, unfolding(crate::specs::Slot::slot))]
+    fn slot_in_turn<const COPY: u8>(&mut self, ways: Ways, now: Micros) -> Result<bool, NoMemory>
+        requires ways { ways ≡ ways_of self.old.view.space.plan }
+        ensures ok { OnOk result (self.new ≡ after self.old (slot self.old.view now.0)) }
+        ensures err { OnErr result (self.new ≡ self.old) }
+    {
+        let number = self.next;
+        let hart = &mut self.harts[usize::from(number)];
+        let idle = slot::<COPY, D>(hart, number, &mut self.watch, &mut self.wires, ways, now)?;
+        self.next = number_after(self.harts.len(), number);
+        Ok(idle)
+    }
+}
