@@ -3,6 +3,7 @@ use crate::samples::{ONE_BOARD, USUAL_BOARD};
 use dev_core::Kind;
 use repl_build::build;
 use repl_read::{PlatCause, PlatFault, read_platform};
+use rv_hart::Letters;
 use std::alloc::{AllocError, Global};
 use std::fmt::Write;
 use std::process::Abort;
@@ -49,9 +50,28 @@ fn show_wire(out: &mut String, wire: &Wire) -> Result<(), AllocError> {
         WireFrom::Dev(i) => write!(out, "dev{i}")?,
     }
     match wire.pin {
-        WirePin::Cpu(pin) => write!(out, ">pin{pin} "),
+        WirePin::Cpu { hart, pin } => write!(out, ">cpu{hart}.pin{pin} "),
         WirePin::Source(source) => write!(out, ">source{source} "),
     }
+}
+
+fn show_letters(out: &mut String, letters: Letters) -> Result<(), AllocError> {
+    if letters.a {
+        out.push_str(" with a")?;
+    }
+    if letters.c {
+        out.push_str(" with c")?;
+    }
+    Ok(())
+}
+
+fn show_processors(out: &mut String, plan: &BoardPlan) -> Result<(), AllocError> {
+    let speed = plan.speed;
+    write!(out, "speed{speed} of")?;
+    for cpu in plan.cpus.items() {
+        write!(out, " {}", cpu.as_str())?;
+    }
+    show_letters(out, plan.letters)
 }
 
 fn show_numbers(out: &mut String, plan: &BoardPlan) -> Result<(), AllocError> {
@@ -62,15 +82,7 @@ fn show_numbers(out: &mut String, plan: &BoardPlan) -> Result<(), AllocError> {
         let (sources, contexts) = (size.sources, size.contexts);
         write!(out, "{sources}x{contexts} ")?;
     }
-    let speed = plan.speed;
-    write!(out, "speed{speed} cpu={}", plan.cpu.as_str())?;
-    if plan.letters.a {
-        out.push_str(" with a")?;
-    }
-    if plan.letters.c {
-        out.push_str(" with c")?;
-    }
-    Ok(())
+    show_processors(out, plan)
 }
 
 fn show_names(out: &mut String, names: &[Named]) -> Result<(), AllocError> {
@@ -214,28 +226,75 @@ ram: Memory.MappedMemory @ sysbus 0x80000000 { size: 0x10000 }
 cpu: CPU.RiscV32 @ sysbus { cpuType: \"rv32imc\" }
 ";
 
+/// A board with two processors, each with a pin for the interrupt controller.
+const TWO_PROCESSORS: &str = "\
+ram: Memory.MappedMemory @ sysbus 0x80000000 { size: 0x10000 }
+clint: IRQControllers.CoreLevelInterruptor @ sysbus 0x2000000
+    frequency: 1000000
+    [0,1] -> cpu0@[3,7]
+plic: IRQControllers.PlatformLevelInterruptController @ sysbus 0xC000000
+    numberOfSources: 31
+    numberOfContexts: 2
+    0 -> cpu0@11
+    1 -> cpu1@11
+uart: UART.NS16550 @ sysbus 0x10000000
+    -> plic@10
+cpu0: CPU.RiscV32 @ sysbus
+    cpuType: \"rv32ima\"
+    hartId: 0
+    PerformanceInMips: 25
+cpu1: CPU.RiscV32 @ sysbus
+    cpuType: \"rv32ima\"
+    hartId: 1
+    PerformanceInMips: 25
+";
+
+/// A board with four processors, whose numbers follow neither their names nor their updates.
+const FOUR_PROCESSORS: &str = "\
+d: CPU.RiscV32 @ sysbus { cpuType: \"rv32imac\"; PerformanceInMips: 250 }
+u: UART.NS16550 @ sysbus 0x10000000 { -> c@11; -> d@3 }
+b: CPU.RiscV32 @ sysbus { cpuType: \"rv32imac_zicsr\"; PerformanceInMips: 250 }
+ram: Memory.MappedMemory @ sysbus 0x80000000 { size: 0x10000 }
+c: CPU.RiscV32 @ sysbus { cpuType: \"rv32imac_zicsr_zifencei\"; PerformanceInMips: 250 }
+a: CPU.RiscV32 @ sysbus { cpuType: \"rv32imac\"; PerformanceInMips: 250 }
+a: { hartId: 3 }
+c: { hartId: 2 }
+u: { [0,0] -> a@[7,11]; -> b@7 }
+";
+
 /// Each row: a text, and what is built of it.
-static WHOLE: [(&str, &str); 4] = [
+static WHOLE: [(&str, &str); 6] = [
+    (
+        TWO_PROCESSORS,
+        "ram=ram0 clint=clint plic=plic uart=dev0 cpu0=cpu cpu1=cpu ram0@80000000+10000/1 \
+clint@2000000+10000/1 plic@c000000+4000000/1 dev0@10000000+100/1 10000 uart soft>cpu0.pin3 timer>cpu0.pin7 \
+context0>cpu0.pin11 context1>cpu1.pin11 dev0>source10 1000000Hz 31x2 speed50 of cpu0 cpu1 with a",
+    ),
+    (
+        FOUR_PROCESSORS,
+        "d=cpu u=dev0 b=cpu ram=ram0 c=cpu a=cpu dev0@10000000+100/1 ram0@80000000+10000/1 10000 uart \
+dev0>cpu2.pin11 dev0>cpu0.pin3 dev0>cpu3.pin7 dev0>cpu3.pin11 dev0>cpu1.pin7 speed1000 of d b c a with a with c",
+    ),
     (
         COMPRESSED_BOARD,
-        "ram=ram0 cpu=cpu ram0@80000000+10000/1 10000 speed100 cpu=cpu with c",
+        "ram=ram0 cpu=cpu ram0@80000000+10000/1 10000 speed100 of cpu with c",
     ),
     (
         ONE_BOARD,
         "ram=ram0 uart=dev0 fin=dev1 cpu=cpu ram0@80000000+10000/1 dev0@10000000+100/1 \
-dev1@100000+1000/1 10000 uart finisher speed1 cpu=cpu",
+dev1@100000+1000/1 10000 uart finisher speed1 of cpu",
     ),
     (
         USUAL_BOARD,
         "ram=ram0 clint=clint plic=plic uart=dev0 cpu=cpu ram0@80000000+10000/1 \
-clint@2000000+10000/1 plic@c000000+4000000/1 dev0@10000000+100/1 10000 uart soft>pin3 timer>pin7 \
-context0>pin11 dev0>source10 1000000Hz 31x1 speed25 cpu=cpu",
+clint@2000000+10000/1 plic@c000000+4000000/1 dev0@10000000+100/1 10000 uart soft>cpu0.pin3 timer>cpu0.pin7 \
+context0>cpu0.pin11 dev0>source10 1000000Hz 31x1 speed25 of cpu",
     ),
     (
         CAN_BOARD,
         "ram=ram0 plic=plic can=dev0 uart=dev1 spare=dev2 cpu=cpu ram0@80000000+10000/1 \
 plic@c000000+4000000/1 dev0@10010000+100/1 dev1@10000000+100/1 dev2@10020000+20/1 10000 can uart can \
-context0>pin11 dev0>source5 31x1 speed100 cpu=cpu",
+context0>cpu0.pin11 dev0>source5 31x1 speed100 of cpu",
     ),
 ];
 
@@ -304,7 +363,7 @@ static NAMES_AND_TYPES: [(&str, &str); 30] = [
 
 /// Lines after those of a memory and a processor, and their first fault: what is missing, and the values of
 /// processors and memories.
-static MISSING_AND_VALUES: [(&str, &str); 43] = [
+static MISSING_AND_VALUES: [(&str, &str); 42] = [
     ("u: UART.NS16550\n", "P6 2:3"),
     ("u: UART.NS16550 @ sysbus\n", "P6 2:3"),
     (
@@ -349,7 +408,6 @@ static MISSING_AND_VALUES: [(&str, &str); 43] = [
     ("cpu: { cpuType: 1 }\n", "P5 2:3"),
     ("cpu: { cpuType: \"rv32imc_zicsr_zifencei\" }\n", "accepted"),
     ("cpu: { cpuType: \"rv32imc_zifencei\" }\n", "P12 2:3"),
-    ("cpu: { cpuType: \"rv32imac\" }\n", "P12 2:3"),
     ("cpu: { timeProvider: \"x\" }\n", "P5 2:3"),
     ("cpu: { timeProvider: true }\n", "P5 2:3"),
     ("cpu: { privilegeArchitecture: Priv1_10 }\n", "accepted"),
@@ -553,7 +611,7 @@ numberOfSources: 1 }\n",
 
 /// Lines after those of a memory and a processor, and their first fault: processors that are not built, counts,
 /// places and names that are meant.
-static COUNTS_AND_PLACES: [(&str, &str); 42] = [
+static COUNTS_AND_PLACES: [(&str, &str); 41] = [
     ("cpu: { cpuType: \"rv32im_zicsr\" }\n", "accepted"),
     ("cpu: { cpuType: \"rv32im_zicsr_zifencei\" }\n", "accepted"),
     ("cpu: { cpuType: \"rv64gc\" }\n", "P12 2:3"),
@@ -570,10 +628,6 @@ static COUNTS_AND_PLACES: [(&str, &str); 42] = [
         "P5 2:4",
     ),
     ("init:\n", "P2 0:3"),
-    (
-        "c: CPU.RiscV32 @ sysbus { cpuType: \"rv32im\" }\n",
-        "P11 2:3",
-    ),
     (
         "u0: UART.NS16550 @ sysbus 256\nu1: UART.NS16550 @ sysbus 512\n\
 u2: UART.NS16550 @ sysbus 768\nu3: UART.NS16550 @ sysbus 1024\n",
@@ -750,24 +804,30 @@ f: Miscellaneous.SiFiveTest @ sysbus 0x1000\n",
 
 /// Each row: lines after those of a whole board, and its wires or the first fault.
 static WIRES: [(&str, &str); 36] = [
-    ("clint: { 0 -> cpu@3 }\n", "soft>pin3"),
-    ("clint: { 1 -> cpu@11 }\n", "timer>pin11"),
-    ("clint: { -> cpu@7 }\n", "soft>pin7"),
-    ("clint: { [0,1] -> cpu@[3,7] }\n", "soft>pin3 timer>pin7"),
-    ("clint: { [0-1] -> cpu@[7,11] }\n", "soft>pin7 timer>pin11"),
-    ("plic: { 0 -> cpu@11 }\n", "context0>pin11"),
+    ("clint: { 0 -> cpu@3 }\n", "soft>cpu0.pin3"),
+    ("clint: { 1 -> cpu@11 }\n", "timer>cpu0.pin11"),
+    ("clint: { -> cpu@7 }\n", "soft>cpu0.pin7"),
+    (
+        "clint: { [0,1] -> cpu@[3,7] }\n",
+        "soft>cpu0.pin3 timer>cpu0.pin7",
+    ),
+    (
+        "clint: { [0-1] -> cpu@[7,11] }\n",
+        "soft>cpu0.pin7 timer>cpu0.pin11",
+    ),
+    ("plic: { 0 -> cpu@11 }\n", "context0>cpu0.pin11"),
     (
         "plic: { [0-1] -> cpu@[3,7] }\n",
-        "context0>pin3 context1>pin7",
+        "context0>cpu0.pin3 context1>cpu0.pin7",
     ),
-    ("plic: { -> cpu@3 }\n", "context0>pin3"),
+    ("plic: { -> cpu@3 }\n", "context0>cpu0.pin3"),
     ("u: { IRQ -> plic@31 }\n", "dev1>source31"),
-    ("u: { -> cpu@3 }\n", "dev1>pin3"),
+    ("u: { -> cpu@3 }\n", "dev1>cpu0.pin3"),
     ("u: { 0 -> plic@1 }\n", "dev1>source1"),
     ("u: { [0,0] -> plic@[1,1] }\n", "dev1>source1 dev1>source1"),
     (
         "u: { -> cpu@7 }\nclint: { 0 -> cpu@3 }\nu: { -> plic@2 }\n",
-        "soft>pin3 dev1>pin7 dev1>source2",
+        "soft>cpu0.pin3 dev1>cpu0.pin7 dev1>source2",
     ),
     ("cpu: { timeProvider: clint }\n", ""),
     ("clint: { 2 -> cpu@3 }\n", "P10 2:7"),
@@ -796,14 +856,17 @@ static WIRES: [(&str, &str); 36] = [
 
 /// The same of a CAN controller.
 static CAN_WIRES: [(&str, &str); 14] = [
-    ("c: CAN.SJA1000 @ sysbus 0x2000 { -> cpu@3 }\n", "dev2>pin3"),
+    (
+        "c: CAN.SJA1000 @ sysbus 0x2000 { -> cpu@3 }\n",
+        "dev2>cpu0.pin3",
+    ),
     (
         "c: CAN.SJA1000 @ sysbus 0x2000 { 0 -> cpu@7 }\n",
-        "dev2>pin7",
+        "dev2>cpu0.pin7",
     ),
     (
         "c: CAN.SJA1000 @ sysbus 0x2000 { IRQ -> cpu@11 }\n",
-        "dev2>pin11",
+        "dev2>cpu0.pin11",
     ),
     (
         "c: CAN.SJA1000 @ sysbus 0x2000 { IRQ -> plic@31 }\n",
@@ -842,6 +905,282 @@ static CAN_WIRES: [(&str, &str); 14] = [
     ("c: CAN.SJA1000 @ sysbus 0x2000 { -> c@3 }\n", "P8 2:7"),
 ];
 
+/// Lines after those of a memory and a processor, and their first fault: further processors.
+static PROCESSORS: [(&str, &str); 42] = [
+    (
+        "c: CPU.RiscV32 @ sysbus { cpuType: \"rv32im\" }\n",
+        "accepted",
+    ),
+    (
+        "c: CPU.RiscV32 @ sysbus { cpuType: \"rv32im\" }\n\
+d: CPU.RiscV32 @ sysbus { cpuType: \"rv32im\" }\n\
+e: CPU.RiscV32 @ sysbus { cpuType: \"rv32im\" }\n",
+        "accepted",
+    ),
+    (
+        "c: CPU.RiscV32 @ sysbus { cpuType: \"rv32im\"; hartId: 1 }\n",
+        "accepted",
+    ),
+    (
+        "c: CPU.RiscV32 @ sysbus { cpuType: \"rv32im\"; hartId: 0 }\n",
+        "P5 2:3",
+    ),
+    (
+        "c: CPU.RiscV32 @ sysbus\n cpuType: \"rv32im\"\n hartId: 2\n",
+        "P5 2:5",
+    ),
+    (
+        "c: CPU.RiscV32 @ sysbus\n cpuType: \"rv32im\"\n hartId: \"1\"\n",
+        "P5 2:5",
+    ),
+    (
+        "c: CPU.RiscV32 @ sysbus { cpuType: \"rv32im\" }\n\
+d: CPU.RiscV32 @ sysbus { cpuType: \"rv32im\"; hartId: 2 }\n",
+        "accepted",
+    ),
+    (
+        "c: CPU.RiscV32 @ sysbus { cpuType: \"rv32im\" }\n\
+d: CPU.RiscV32 @ sysbus { cpuType: \"rv32im\"; hartId: 1 }\n",
+        "P5 2:4",
+    ),
+    (
+        "c: CPU.RiscV32 @ sysbus { cpuType: \"rv32im\" }\n\
+c: { hartId: 1 }\n\
+cpu: { hartId: 0 }\n",
+        "accepted",
+    ),
+    (
+        "c: CPU.RiscV32 @ sysbus { cpuType: \"rv32im\" }\n\
+cpu: { hartId: 1 }\n\
+c: { hartId: 0 }\n",
+        "P5 2:4",
+    ),
+    (
+        "c: CPU.RiscV32 @ sysbus { cpuType: \"rv32im\"; PerformanceInMips: 100 }\n",
+        "accepted",
+    ),
+    (
+        "c: CPU.RiscV32 @ sysbus { cpuType: \"rv32im\"; PerformanceInMips: 99 }\n",
+        "P5 2:3",
+    ),
+    (
+        "c: CPU.RiscV32 @ sysbus\n cpuType: \"rv32im\"\n PerformanceInMips: 99\n",
+        "P5 2:3",
+    ),
+    (
+        "c: CPU.RiscV32 @ sysbus { cpuType: \"rv32im\" }\n\
+c: { PerformanceInMips: 99 }\n",
+        "P5 2:3",
+    ),
+    (
+        "c: CPU.RiscV32 @ sysbus\n cpuType: \"rv32im\"\n hartId: 7\n PerformanceInMips: 99\n",
+        "P5 2:3",
+    ),
+    (
+        "c: CPU.RiscV32 @ sysbus\n cpuType: \"rv32im\"\n PerformanceInMips: 0\n",
+        "P5 2:5",
+    ),
+    (
+        "c: CPU.RiscV32 @ sysbus\n cpuType: \"rv32im\"\n PerformanceInMips: 1001\n",
+        "P5 2:5",
+    ),
+    (
+        "c: CPU.RiscV32 @ sysbus\n cpuType: \"rv32im\"\n PerformanceInMips: \"99\"\n",
+        "P5 2:5",
+    ),
+    (
+        "c: CPU.RiscV32 @ sysbus\n hartId: 7\n cpuType: \"rv32im\"\n PerformanceInMips: 1001\n",
+        "P5 2:4",
+    ),
+    (
+        "cpu: { PerformanceInMips: 500 }\n\
+c: CPU.RiscV32 @ sysbus { cpuType: \"rv32im\"; PerformanceInMips: 500 }\n",
+        "accepted",
+    ),
+    (
+        "cpu: { PerformanceInMips: 501 }\n\
+c: CPU.RiscV32 @ sysbus { cpuType: \"rv32im\"; PerformanceInMips: 501 }\n",
+        "P5 2:4",
+    ),
+    (
+        "cpu: { PerformanceInMips: 333 }\n\
+c: CPU.RiscV32 @ sysbus { cpuType: \"rv32im\"; PerformanceInMips: 333 }\n\
+d: CPU.RiscV32 @ sysbus { cpuType: \"rv32im\"; PerformanceInMips: 333 }\n",
+        "accepted",
+    ),
+    (
+        "cpu: { PerformanceInMips: 334 }\n\
+c: CPU.RiscV32 @ sysbus { cpuType: \"rv32im\"; PerformanceInMips: 334 }\n\
+d: CPU.RiscV32 @ sysbus\n cpuType: \"rv32im\"\n PerformanceInMips: 334\n",
+        "P5 2:5",
+    ),
+    (
+        "cpu: { PerformanceInMips: 2 }\n\
+c: CPU.RiscV32 @ sysbus { cpuType: \"rv32im\"; PerformanceInMips: 1 }\n\
+d: CPU.RiscV32 @ sysbus { cpuType: \"rv32im\"; PerformanceInMips: 2 }\n",
+        "P5 2:4",
+    ),
+    (
+        "c: CPU.RiscV32 @ sysbus { cpuType: \"rv32im\"; PerformanceInMips: 99 }\n\
+c: { PerformanceInMips: 100 }\n",
+        "accepted",
+    ),
+    (
+        "c: CPU.RiscV32 @ sysbus { cpuType: \"rv32im\" }\n\
+d: CPU.RiscV32 @ sysbus { cpuType: \"rv32im\" }\n\
+e: CPU.RiscV32 @ sysbus { cpuType: \"rv32im\" }\n\
+f: CPU.RiscV32 @ sysbus { cpuType: \"rv32im\" }\n",
+        "P11 2:6",
+    ),
+    (
+        "cpu: { PerformanceInMips: 250 }\n\
+c: CPU.RiscV32 @ sysbus { cpuType: \"rv32im\"; PerformanceInMips: 250 }\n\
+d: CPU.RiscV32 @ sysbus { cpuType: \"rv32im\"; PerformanceInMips: 250 }\n\
+e: CPU.RiscV32 @ sysbus { cpuType: \"rv32im\"; PerformanceInMips: 250 }\n\
+f: CPU.RiscV32 @ sysbus { cpuType: \"rv32im\"; PerformanceInMips: 250 }\n",
+        "P5 2:7",
+    ),
+    (
+        "c: CPU.RiscV32 @ sysbus { cpuType: \"rv32im_zicsr\" }\n",
+        "accepted",
+    ),
+    (
+        "c: CPU.RiscV32 @ sysbus { cpuType: \"rv32imc\" }\n",
+        "P12 2:3",
+    ),
+    (
+        "c: CPU.RiscV32 @ sysbus\n hartId: 1\n cpuType: \"rv32ima\"\n",
+        "P12 2:5",
+    ),
+    (
+        "cpu: { cpuType: \"rv32imac\" }\n\
+c: CPU.RiscV32 @ sysbus { cpuType: \"rv32imac_zicsr\" }\n",
+        "accepted",
+    ),
+    (
+        "cpu: { cpuType: \"rv32imac\" }\n\
+c: CPU.RiscV32 @ sysbus { cpuType: \"rv32ima\" }\n",
+        "P12 2:4",
+    ),
+    (
+        "cpu: { cpuType: \"rv32imac\" }\n\
+c: CPU.RiscV32 @ sysbus { cpuType: \"rv32imc\" }\n",
+        "P12 2:4",
+    ),
+    (
+        "c: CPU.RiscV32 @ sysbus { cpuType: \"rv32im\" }\n\
+cpu: { cpuType: \"rv32imc\" }\n",
+        "P12 2:3",
+    ),
+    (
+        "c: CPU.RiscV32 @ sysbus { cpuType: \"rv32imc\" }\n\
+c: { cpuType: \"rv32im\" }\n",
+        "accepted",
+    ),
+    (
+        "c: CPU.RiscV32 @ sysbus { cpuType: \"rv32im\" }\n\
+c: { cpuType: \"rv32imc\" }\n",
+        "P12 2:4",
+    ),
+    (
+        "c: CPU.RiscV32 @ sysbus { cpuType: \"rv32imc\" }\n\
+d: CPU.RiscV32 @ sysbus { cpuType: \"rv32imafc\" }\n",
+        "P12 2:3",
+    ),
+    (
+        "c: CPU.RiscV32 @ sysbus { cpuType: \"rv32imafc\" }\n\
+d: CPU.RiscV32 @ sysbus { cpuType: \"rv32imc\" }\n",
+        "P12 2:3",
+    ),
+    (
+        "c: CPU.RiscV32 @ sysbus\n cpuType: \"rv32imc\"\n PerformanceInMips: 99\n",
+        "P5 2:3",
+    ),
+    (
+        "c: CPU.RiscV32 @ sysbus { cpuType: \"rv32im\" }\n\
+d: CPU.RiscV32 @ sysbus { cpuType: \"rv32im\" }\n\
+e: CPU.RiscV32 @ sysbus { cpuType: \"rv32im\" }\n\
+f: CPU.RiscV32 @ sysbus { cpuType: \"rv32imc\" }\n",
+        "P12 2:6",
+    ),
+    (
+        "f: Miscellaneous.SiFiveTest @ sysbus 0\n\
+g: Miscellaneous.SiFiveTest @ sysbus 0\n\
+c: CPU.RiscV32 @ sysbus { cpuType: \"rv32imc\" }\n",
+        "P12 2:5",
+    ),
+    (
+        "c: CPU.RiscV32 @ sysbus { cpuType: \"rv32im\" }\n\
+d: CPU.RiscV32 @ sysbus { cpuType: \"rv32im\" }\n\
+e: CPU.RiscV32 @ sysbus { cpuType: \"rv32im\" }\n\
+f: CPU.RiscV32 @ sysbus { cpuType: \"rv32im\" }\n\
+u: UART.NS16550 @ sysbus 0x80000000\n",
+        "P11 2:6",
+    ),
+];
+
+/// Lines after those of a whole board, and its wires or the first fault: further processors.
+static PROCESSOR_WIRES: [(&str, &str); 5] = [
+    (
+        "d: CPU.RiscV32 @ sysbus { cpuType: \"rv32im\" }\n\
+clint: { [0,1] -> d@[3,7] }\n\
+clint: { [0,1] -> cpu@[3,7] }\n\
+plic: { [0,1] -> d@[11,3] }\n\
+u: { -> d@7 }\n",
+        "soft>cpu1.pin3 timer>cpu1.pin7 soft>cpu0.pin3 timer>cpu0.pin7 \
+context0>cpu1.pin11 context1>cpu1.pin3 dev1>cpu1.pin7",
+    ),
+    (
+        "clint: { 0 -> e@11 }\n\
+d: CPU.RiscV32 @ sysbus { cpuType: \"rv32im\" }\n\
+e: CPU.RiscV32 @ sysbus { cpuType: \"rv32im\" }\n\
+f: CPU.RiscV32 @ sysbus { cpuType: \"rv32im\" }\n\
+plic: { 0 -> f@11; 1 -> d@11 }\n",
+        "soft>cpu2.pin11 context0>cpu3.pin11 context1>cpu1.pin11",
+    ),
+    (
+        "d: CPU.RiscV32 @ sysbus { cpuType: \"rv32im\" }\n\
+u: { -> d@4 }\n",
+        "P10 2:8",
+    ),
+    (
+        "d: CPU.RiscV32 @ sysbus { cpuType: \"rv32im\" }\n\
+u: { -> e@3 }\n",
+        "P8 2:8",
+    ),
+    (
+        "d: CPU.RiscV32 @ sysbus { cpuType: \"rv32im\" }\n\
+d: { -> cpu@3 }\n",
+        "P10 2:8",
+    ),
+];
+
+/// A `cpuType`, and the letters that it tells or the fault.
+static CORES: [(&str, &str); 22] = [
+    ("rv32im", ""),
+    ("rv32im_zicsr", ""),
+    ("rv32im_zicsr_zifencei", ""),
+    ("rv32imc", " with c"),
+    ("rv32imc_zicsr", " with c"),
+    ("rv32imc_zicsr_zifencei", " with c"),
+    ("rv32ima", " with a"),
+    ("rv32ima_zicsr", " with a"),
+    ("rv32ima_zicsr_zifencei", " with a"),
+    ("rv32imac", " with a with c"),
+    ("rv32imac_zicsr", " with a with c"),
+    ("rv32imac_zicsr_zifencei", " with a with c"),
+    ("rv32imafc", "P12 2:2"),
+    ("rv32imca", "P12 2:2"),
+    ("rv32ia", "P12 2:2"),
+    ("rv32imaa", "P12 2:2"),
+    ("rv64imac", "P12 2:2"),
+    ("RV32IMA", "P12 2:2"),
+    ("rv32ima ", "P12 2:2"),
+    ("rv32ima_zifencei", "P12 2:2"),
+    ("rv32imac_zicsr_", "P12 2:2"),
+    ("rv32imac_zifencei_zicsr", "P12 2:2"),
+];
+
 /// Each row: a text, and its first fault.
 static BARE: [(&str, &str); 8] = [
     ("", "P11 0:0"),
@@ -861,7 +1200,7 @@ u: UART.NS16550 @ sysbus 0xFFFFFFFC\n",
     (
         "c: CPU.RiscV32 @ sysbus { cpuType: \"rv32im\" }\n\
 d: CPU.RiscV32 @ sysbus { cpuType: \"rv32im\" }\n",
-        "P11 2:2",
+        "P11 0:0",
     ),
     (
         "m: Memory.MappedMemory @ sysbus <0, +0x4001000>\n",
@@ -924,6 +1263,19 @@ fn assert_wires(rt: &impl Abort, alloc: Global, rows: &[(&str, &str)]) -> Result
     Ok(())
 }
 
+/// The letters of a board whose one processor is of this type, or its first fault.
+fn letters_of(alloc: Global, core: &str) -> Result<String, AllocError> {
+    let text = format!(in alloc;
+        "ram: Memory.MappedMemory @ sysbus <0, +0x1000>\ncpu: CPU.RiscV32 @ sysbus {{ cpuType: \"{core}\" }}\n"
+    )?;
+    let mut out = String::new(alloc);
+    match built(alloc, text.as_str()) {
+        Ok(plan) => show_letters(&mut out, plan.letters)?,
+        Err(fault) => show_fault(&mut out, fault)?,
+    }
+    Ok(out)
+}
+
 #[test]
 fn whole_platforms_are_built(rt: HostRuntime) -> Result<(), Fail> {
     assert_plans(&rt, rt.alloc(), &WHOLE)
@@ -963,4 +1315,19 @@ fn wires_lead_as_they_are_written(rt: HostRuntime) -> Result<(), Fail> {
 #[test]
 fn platforms_without_their_parts_are_refused(rt: HostRuntime) -> Result<(), Fail> {
     assert_outcomes(&rt, rt.alloc(), "", &BARE)
+}
+
+#[test]
+fn further_processors_are_judged(rt: HostRuntime) -> Result<(), Fail> {
+    assert_outcomes(&rt, rt.alloc(), SMALL, &PROCESSORS)?;
+    assert_wires(&rt, rt.alloc(), &PROCESSOR_WIRES)
+}
+
+#[test]
+fn processors_have_the_letters_of_their_type(rt: HostRuntime) -> Result<(), Fail> {
+    for (core, expected) in &CORES {
+        let made = letters_of(rt.alloc(), core)?;
+        assert!(&rt; made.as_str() == *expected, "{core}");
+    }
+    Ok(())
 }

@@ -34,14 +34,16 @@ use Rattle.repl_build.specs.declared.rules.Rule.TheVariants.{References}
 use Rattle.repl_build.specs.declared.types.PeripheralType.{PeripheralType}
 use Rattle.repl_build.specs.declared.types.PeripheralType.TheVariants.{Cpu, Memory, Clint, Plic, Uart, Can, Finisher}
 use Rattle.repl_build.specs.Connections.{Connection, numbers, connection, connections_in, further_connections}
-use Rattle.repl_build.specs.Connections.{connections_by, connections, line_from, pin_at, StandsFor, Leads, AreLed}
+use Rattle.repl_build.specs.Connections.{connections_by, connections, line_from, IsPin, StandsFor, Leads, AreLed}
 use Rattle.repl_build.specs.Connections.{AreConnected}
+use Rattle.repl_build.specs.Counts.{count_of}
 use Rattle.repl_build.specs.First.{first_fault}
 use Rattle.repl_build.specs.Merge.{placed, own_items, has_same_key, put_at, with_item, updates, further_of}
 use Rattle.repl_build.specs.Merge.{further_items, merged_items, peripheral_by, merged}
 use Rattle.repl_build.specs.Names.{has_key}
 use Rattle.repl_build.specs.Numbers.{devices_of, what_of}
 use Rattle.repl_build.specs.Plan.{each, name_of, plic_of, wires_from, built}
+use Rattle.repl_build.specs.Processors.{cpus_of, hart_of}
 use Rattle.repl_build.specs.References.{names_a, refers_to_none}
 use Rattle.repl_build.specs.Rules.{item_fault, peripheral_fault}
 use Rattle.repl_build.specs.Types.{is_type}
@@ -49,6 +51,7 @@ use Rattle.repl_build.specs.Wires.{is_low, numbers_of, ends_of, line_of, pin_by,
 use Rattle.repl_build.specs.Wires.{wired_ends, has_ends, item_wires, placed_wires, items_wires}
 use Rattle.repl_build.proofs.EntryLemmas.{entries_tell}
 use Rattle.repl_build.proofs.NoneLemmas.{no_fault, first_none, unbroken}
+use Rattle.repl_build.proofs.ProcessorLemmas.{cpu_at, hart_absent, hart_found}
 use Rattle.repl_build.proofs.RangeLemmas.{and_true}
 use Rattle.repl_build.proofs.RegionLemmas.{each_append}
 use Rattle.repl_build.proofs.SoundLemmas.{Sound, sound}
@@ -59,10 +62,10 @@ use Rattle.repl_build.proofs.WireValid.{ok_then, same_ok, same_some, given}
 -- ---- lists of connections
 
 connected-append :
-    (names : List Named) (cs ds : List Connection) (ws vs : List Wire) → AreConnected names cs ws →
-    AreConnected names ds vs → AreConnected names (cs ++ ds) (ws ++ vs)
-connected-append names [] ds ws vs one two = rw one two
-connected-append names (c ∷ cs) ds ws vs one two =
+    (names : List Named) (cpus : List (List ℕ)) (cs ds : List Connection) (ws vs : List Wire) →
+    AreConnected names cpus cs ws → AreConnected names cpus ds vs → AreConnected names cpus (cs ++ ds) (ws ++ vs)
+connected-append names cpus [] ds ws vs one two = rw one two
+connected-append names cpus (c ∷ cs) ds ws vs one two =
     let mine = one.0 in
     let others = one.1.0 in
     let parts = one.1.1 in (
@@ -71,15 +74,16 @@ connected-append names (c ∷ cs) ds ws vs one two =
         others ++ vs,
         (
           ap (λ wires. wires ++ vs) parts.0 ∙ append_assoc mine others vs,
-          (parts.1.0, connected-append names cs ds others vs parts.1.1 two),
+          (parts.1.0, connected-append names cpus cs ds others vs parts.1.1 two),
         ),
       ),
     )
 
 one_connected :
-    (names : List Named) (c : Connection) (ws : List Wire) → AreLed names c.source c.target c.lines c.pins ws →
-    AreConnected names (c ∷ []) ws
-one_connected names c ws led = (ws, ([], (sym (append-nil ws), (led, refl))))
+    (names : List Named) (cpus : List (List ℕ)) (c : Connection) (ws : List Wire) →
+    AreLed names cpus c.source c.target c.lines c.pins ws →
+    AreConnected names cpus (c ∷ []) ws
+one_connected names cpus c ws led = (ws, ([], (sym (append-nil ws), (led, refl))))
 
 -- ---- what names stand for
 
@@ -149,26 +153,43 @@ begins names plic (Some Can) before name known stands =
     (what.Part (part.Dev (devices_of before)), (stands _ refl, λ line from is. is))
 
 -- what a wire ends at
-abbrev Ending : List Named → List ℕ → Bool → Type 0
-Ending names to to_cpu =
-    (w : NamedWhat) × (StandsFor names to w × ((pin : ℕ) → pin_at w pin ≡ Some (pin_by to_cpu pin)))
+abbrev Ending : List Named → List (List ℕ) → List ℕ → Option ℕ → Type 0
+Ending names cpus to hart =
+    (w : NamedWhat) × (StandsFor names to w × ((pin : ℕ) → IsPin cpus to w pin (pin_by hart pin)))
 
 ending :
-    (all : List Peripheral) (to : List ℕ) (b c : Bool) → names_a Cpu all to ≡ b → names_a Plic all to ≡ c →
-    not (b || c) ≡ false → Ending (each name_of [] all) to b
-ending all to true c cpu plic refers =
-    (what.Cpu, (stands_of all [] all Cpu what.Cpu to (λ others. refl) refl cpu, λ pin. refl))
-ending all to false true cpu plic refers =
+    (all : List Peripheral) (to : List ℕ) (hart : Option ℕ) (b c : Bool) → hart_of all to ≡ hart →
+    names_a Cpu all to ≡ b → names_a Plic all to ≡ c → not (b || c) ≡ false →
+    Ending (each name_of [] all) (cpus_of all) to hart
+ending all to (Some h) b c hart cpu plic refers =
+    let found = hart_found all to h hart in
+    let stands = named_at all found.before found.p found.ps what.Cpu found.whole
+    (ap (what_of found.before) found.kind) in
+    let at : slice_get (cpus_of all) h ≡ Some to =
+    ap (λ ps. slice_get (cpus_of ps) h) found.whole
+    ∙ ap (λ n. slice_get (cpus_of (found.before ++ found.p ∷ found.ps)) n) found.number
+    ∙ cpu_at found.before found.p found.ps (ap (is_type Cpu) found.kind)
+    ∙ ap (λ name. Some name) found.called in (
+      what.Cpu,
+      (
+        subst (λ name. StandsFor (each name_of [] all) name what.Cpu) found.called stands,
+        λ pin. (at, refl),
+      ),
+    )
+ending all to None b true hart cpu plic refers =
     (what.Part part.Plic, (stands_of all [] all Plic (what.Part part.Plic) to (λ others. refl) refl plic, λ pin. refl))
-ending all to false false cpu plic refers = absurd (cc)
+ending all to None true false hart cpu plic refers =
+    let none = hart_absent all to hart in
+    absurd (cc)
+ending all to None false false hart cpu plic refers = absurd (cc)
 
 -- ---- the wires of an item
 
-wire_is : (plic : Option PlicSize) (o : Option WireFrom) (pin : WirePin) (wire : Wire) →
-    wire_by plic o pin ≡ Some wire → (o ≡ Some wire.from) × (pin ≡ wire.pin)
-wire_is plic None pin wire is = absurd (cc)
-wire_is plic (Some from) pin wire is =
-    elim (may_end plic from pin) as (λ b.
+wire_is : (plic : Option PlicSize) (n : ℕ) (o : Option WireFrom) (pin : WirePin) (wire : Wire) →
+    wire_by plic n o pin ≡ Some wire → (o ≡ Some wire.from) × (pin ≡ wire.pin)
+wire_is plic n None pin wire is = absurd (cc)
+wire_is plic n (Some from) pin wire is =
+    elim (may_end plic n from pin) as (λ b.
     cond {A = Option Wire} b (Some (record { from = from; pin = pin })) None ≡ Some wire →
     (let o : Option WireFrom = Some from in o ≡ Some wire.from) × (pin ≡ wire.pin)) [
       | true ↦ λ is. rw (← same_some _ _ is) (refl, refl)
@@ -176,45 +197,48 @@ wire_is plic (Some from) pin wire is =
     ] is
 
 leads :
-    (names : List Named) (plic : Option PlicSize) (t : Option PeripheralType) (dev : ℕ) (source target : List ℕ)
-    (to_cpu : Bool) (line pin : ℕ) (wire : Wire) → Begins names plic t dev source → Ending names target to_cpu →
-    wire_at plic t dev to_cpu line pin ≡ Some wire → Leads names source line target pin wire
-leads names plic t dev source target to_cpu line pin wire begin end is =
-    let ends = wire_is plic (line_of plic t dev line) (pin_by to_cpu pin) wire is in
+    (names : List Named) (cpus : List (List ℕ)) (plic : Option PlicSize) (n : ℕ) (t : Option PeripheralType) (dev : ℕ)
+    (source target : List ℕ) (hart : Option ℕ) (line pin : ℕ) (wire : Wire) → Begins names plic t dev source →
+    Ending names cpus target hart →
+    wire_at plic n t dev hart line pin ≡ Some wire → Leads names cpus source line target pin wire
+leads names cpus plic n t dev source target hart line pin wire begin end is =
+    let ends = wire_is plic n (line_of plic t dev line) (pin_by hart pin) wire is in
     record {
       first = begin.0;
       is_source = begin.1.0;
       begins = begin.1.1 line wire.from ends.0;
       last = end.0;
       is_target = end.1.0;
-      ends = end.1.1 pin ∙ ap (λ p. Some p) ends.1;
+      ends = subst (λ p. IsPin cpus target end.0 pin p) ends.1 (end.1.1 pin);
     }
 
-abbrev Leading : List Named → List ℕ → List ℕ → (ℕ → ℕ → Option Wire) → Type 0
-Leading names source target f =
-    (line pin : ℕ) (wire : Wire) → f line pin ≡ Some wire → Leads names source line target pin wire
+abbrev Leading : List Named → List (List ℕ) → List ℕ → List ℕ → (ℕ → ℕ → Option Wire) → Type 0
+Leading names cpus source target f =
+    (line pin : ℕ) (wire : Wire) → f line pin ≡ Some wire → Leads names cpus source line target pin wire
 
 put_led :
-    (names : List Named) (source target : List ℕ) (line pin : ℕ) (lines pins : List ℕ) (o : Option Wire)
+    (names : List Named) (cpus : List (List ℕ)) (source target : List ℕ) (line pin : ℕ) (lines pins : List ℕ)
+    (o : Option Wire)
     (more : Option (List Wire)) (wires : List Wire) →
-    ((wire : Wire) → o ≡ Some wire → Leads names source line target pin wire) →
-    ((ws : List Wire) → more ≡ Some ws → AreLed names source target lines pins ws) →
-    in_front o more ≡ Some wires → AreLed names source target (line ∷ lines) (pin ∷ pins) wires
-put_led names source target line pin lines pins None more wires one rest is = absurd (cc)
-put_led names source target line pin lines pins (Some wire) None wires one rest is = absurd (cc)
-put_led names source target line pin lines pins (Some wire) (Some ws) wires one rest is =
+    ((wire : Wire) → o ≡ Some wire → Leads names cpus source line target pin wire) →
+    ((ws : List Wire) → more ≡ Some ws → AreLed names cpus source target lines pins ws) →
+    in_front o more ≡ Some wires → AreLed names cpus source target (line ∷ lines) (pin ∷ pins) wires
+put_led names cpus source target line pin lines pins None more wires one rest is = absurd (cc)
+put_led names cpus source target line pin lines pins (Some wire) None wires one rest is = absurd (cc)
+put_led names cpus source target line pin lines pins (Some wire) (Some ws) wires one rest is =
     rw (← same_some _ _ is) (one wire refl, rest ws refl)
 
 wired_led :
-    (names : List Named) (source target : List ℕ) (f : ℕ → ℕ → Option Wire) → Leading names source target f →
+    (names : List Named) (cpus : List (List ℕ)) (source target : List ℕ) (f : ℕ → ℕ → Option Wire) →
+    Leading names cpus source target f →
     (lines pins : List ℕ) (wires : List Wire) → wired f lines pins ≡ Some wires →
-    AreLed names source target lines pins wires
-wired_led names source target f one [] [] wires is = rw (← same_some _ _ is) tt
-wired_led names source target f one [] (pin ∷ pins) wires is = absurd (cc)
-wired_led names source target f one (line ∷ lines) [] wires is = absurd (cc)
-wired_led names source target f one (line ∷ lines) (pin ∷ pins) wires is =
-    put_led names source target line pin lines pins (f line pin) (wired f lines pins) wires (one line pin)
-    (λ ws same. wired_led names source target f one lines pins ws same) is
+    AreLed names cpus source target lines pins wires
+wired_led names cpus source target f one [] [] wires is = rw (← same_some _ _ is) tt
+wired_led names cpus source target f one [] (pin ∷ pins) wires is = absurd (cc)
+wired_led names cpus source target f one (line ∷ lines) [] wires is = absurd (cc)
+wired_led names cpus source target f one (line ∷ lines) (pin ∷ pins) wires is =
+    put_led names cpus source target line pin lines pins (f line pin) (wired f lines pins) wires (one line pin)
+    (λ ws same. wired_led names cpus source target f one lines pins ws same) is
 
 ends_numbers : (e : Ends) (ns : List ℕ) → ends_of e ≡ Some ns → ns ≡ numbers e
 ends_numbers Absent ns is = sym (same_some _ _ is)
@@ -225,33 +249,36 @@ ends_numbers (Spans spans) ns is =
     ns ≡ flat_map numbers_of spans) [ true ↦ λ is. sym (same_some _ _ is) | false ↦ λ is. absurd (cc) ] is
 
 ends_led :
-    (names : List Named) (source target : List ℕ) (f : ℕ → ℕ → Option Wire) → Leading names source target f →
+    (names : List Named) (cpus : List (List ℕ)) (source target : List ℕ) (f : ℕ → ℕ → Option Wire) →
+    Leading names cpus source target f →
     (a b : Option (List ℕ)) (lines pins : List ℕ) (wires : List Wire) →
     ((ns : List ℕ) → a ≡ Some ns → ns ≡ lines) → ((ns : List ℕ) → b ≡ Some ns → ns ≡ pins) →
-    wired_ends f a b ≡ Some wires → AreLed names source target lines pins wires
-ends_led names source target f one None b lines pins wires la pb is = absurd (cc)
-ends_led names source target f one (Some ls) None lines pins wires la pb is = absurd (cc)
-ends_led names source target f one (Some ls) (Some ps) lines pins wires la pb is =
-    rw (← la ls refl, ← pb ps refl) (wired_led names source target f one ls ps wires is)
+    wired_ends f a b ≡ Some wires → AreLed names cpus source target lines pins wires
+ends_led names cpus source target f one None b lines pins wires la pb is = absurd (cc)
+ends_led names cpus source target f one (Some ls) None lines pins wires la pb is = absurd (cc)
+ends_led names cpus source target f one (Some ls) (Some ps) lines pins wires la pb is =
+    rw (← la ls refl, ← pb ps refl) (wired_led names cpus source target f one ls ps wires is)
 
 item_connected :
     (all : List Peripheral) (plic : Option PlicSize) (t : Option PeripheralType) (dev : ℕ) (name : List ℕ)
     (what : ItemWhat) (wires : List Wire) → Begins (each name_of [] all) plic t dev name →
     refers_to_none all what ≡ false → item_wires plic all t dev what ≡ Some wires →
-    AreConnected (each name_of [] all) (connection name what) wires
+    AreConnected (each name_of [] all) (cpus_of all) (connection name what) wires
 item_connected all plic t dev name (item.Attribute key value) wires begin refers is = sym (same_some _ _ is)
 item_connected all plic t dev name (item.Wire from to pins) wires begin refers is =
     let names = each name_of [] all in
-    let to_cpu = names_a Cpu all to in
-    let f = wire_at plic t dev to_cpu in
-    let end = ending all to to_cpu (names_a Plic all to) refl refl refers in
+    let cpus = cpus_of all in
+    let n = count_of all Cpu in
+    let hart = hart_of all to in
+    let f = wire_at plic n t dev hart in
+    let end = ending all to hart (names_a Cpu all to) (names_a Plic all to) refl refl refl refers in
     elim (has_ends t from) as (λ b. cond {A = Option (List Wire)} b (wired_ends f (ends_of from) (ends_of pins)) None
-    ≡ Some wires → AreConnected names (connection name (item.Wire from to pins)) wires) [
+    ≡ Some wires → AreConnected names cpus (connection name (item.Wire from to pins)) wires) [
       | true ↦ λ is.
-          one_connected names
+          one_connected names cpus
           (record { source = name; lines = numbers from; target = to; pins = numbers pins }) wires
-          (ends_led names name to f
-          (λ line pin wire same. leads names plic t dev name to to_cpu line pin wire begin end same)
+          (ends_led names cpus name to f
+          (λ line pin wire same. leads names cpus plic n t dev name to hart line pin wire begin end same)
           (ends_of from) (ends_of pins) (numbers from) (numbers pins) wires (ends_numbers from) (ends_numbers pins) is)
       | false ↦ λ is. absurd (cc)
     ] is
@@ -262,43 +289,44 @@ abbrev told : Peripheral → List Connection
 told p = flat_map (λ i. connection p.name i.what) p.items
 
 items_connected :
-    (all : List Peripheral) (plic : Option PlicSize) (dev : ℕ) (p : Peripheral) (before items : List PlacedItem)
-    (wires : List Wire) → Begins (each name_of [] all) plic p.kind dev p.name →
-    first_fault (item_fault References all p) before items ≡ None →
+    (all others : List Peripheral) (plic : Option PlicSize) (dev : ℕ) (p : Peripheral)
+    (before items : List PlacedItem) (wires : List Wire) → Begins (each name_of [] all) plic p.kind dev p.name →
+    first_fault (item_fault References all others p) before items ≡ None →
     items_wires (placed_wires plic all p.kind dev) items ≡ Ok wires →
-    AreConnected (each name_of [] all) (flat_map (λ i. connection p.name i.what) items) wires
-items_connected all plic dev p before [] wires begin none is = sym (same_ok _ _ is)
-items_connected all plic dev p before (i ∷ items) wires begin none is =
+    AreConnected (each name_of [] all) (cpus_of all) (flat_map (λ i. connection p.name i.what) items) wires
+items_connected all others plic dev p before [] wires begin none is = sym (same_ok _ _ is)
+items_connected all others plic dev p before (i ∷ items) wires begin none is =
     let f = placed_wires plic all p.kind dev in
     let parts = first_none _ _ none in
     let first = ok_then (f i) _ wires is in
     let rest = ok_then (items_wires f items) _ wires first.1.1 in
     let here = item_connected all plic p.kind dev p.name i.what first.0 begin (no_fault _ _ parts.0)
     (given _ _ first.0 first.1.0) in
-    let later = items_connected all plic dev p (before ++ i ∷ []) items rest.0 begin parts.1 rest.1.0 in
+    let later = items_connected all others plic dev p (before ++ i ∷ []) items rest.0 begin parts.1 rest.1.0 in
     rw (← same_ok _ _ rest.1.1)
-    (connected-append (each name_of [] all) (connection p.name i.what)
+    (connected-append (each name_of [] all) (cpus_of all) (connection p.name i.what)
     (flat_map (λ i. connection p.name i.what) items) first.0 rest.0 here later)
 
 from_connected :
     (plic : Option PlicSize) (all before xs : List Peripheral) (wires : List Wire) → all ≡ before ++ xs →
     Sound all before xs → first_fault (peripheral_fault References all) before xs ≡ None →
-    wires_from plic all before xs ≡ Ok wires → AreConnected (each name_of [] all) (flat_map told xs) wires
+    wires_from plic all before xs ≡ Ok wires → AreConnected (each name_of [] all) (cpus_of all) (flat_map told xs) wires
 from_connected plic all before [] wires whole sound none is = sym (same_ok _ _ is)
 from_connected plic all before (p ∷ ps) wires whole sound none is =
     let names = each name_of [] all in
+    let cpus = cpus_of all in
     let f = placed_wires plic all p.kind (devices_of before) in
     let parts = first_none _ _ none in
     let first = ok_then (items_wires f p.items) _ wires is in
     let rest = ok_then (wires_from plic all (before ++ p ∷ []) ps) _ wires first.1.1 in
     let begin = begins names plic p.kind before p.name sound.0.known
     (λ w stands. named_at all before p ps w whole stands) in
-    let here = items_connected all plic (devices_of before) p [] p.items first.0 begin
+    let here = items_connected all before plic (devices_of before) p [] p.items first.0 begin
     (unbroken References all before p parts.0).1 first.1.0 in
     let later = from_connected plic all (before ++ p ∷ []) ps rest.0 (whole ∙ sym (append_assoc before (p ∷ []) ps))
     sound.1 parts.1 rest.1.0 in
     rw (← same_ok _ _ rest.1.1)
-    (connected-append names (told p) (flat_map told ps) first.0 rest.0 here later)
+    (connected-append names cpus (told p) (flat_map told ps) first.0 rest.0 here later)
 
 -- ---- further items
 
@@ -376,12 +404,12 @@ text_said all e (Using file) = refl
 text_said all e (Update name) = refl
 
 pub wires_told : (entries : List Entry) (plan : BoardPlan) → built entries ≡ Ok plan →
-    AreConnected plan.names (connections entries) plan.wires
+    AreConnected plan.names plan.cpus (connections entries) plan.wires
 wires_told entries plan is =
     let made = made entries plan is in
     let all = merged entries in
     let text : flat_map told all ≡ connections entries =
     entries_tell told (λ e. connections_by entries e e.head) entries entries (λ e. text_said entries e e.head) in
     rw (← made.is)
-    (subst (λ cs. AreConnected (each name_of [] all) cs made.wires) text
+    (subst (λ cs. AreConnected (each name_of [] all) (cpus_of all) cs made.wires) text
     (from_connected (plic_of all) all [] all made.wires refl (sound all made.keeps) made.keeps.references made.wired))

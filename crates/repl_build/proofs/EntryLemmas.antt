@@ -1,6 +1,6 @@
 -- What the entries with types tell, and what a plan has.
 use Rattle.std.proofs.Common.{◌≡◌, ◌∙◌, ℕ, true, false, refl, sym, ap, List, [], ◌∷◌, ◌++◌, map, append_assoc}
-use Rattle.std.proofs.Common.{Option, None, Some, Ok, is_none, slice_get}
+use Rattle.std.proofs.Common.{Option, None, Some, Ok, is_none, slice_get, cond}
 use Rattle.std.proofs.lemmas.Grind.{flat_map-append}
 use Rattle.std.proofs.lemmas.List.{append-nil, map-append}
 use Rattle.std.specs.List.{flat_map}
@@ -16,12 +16,16 @@ use Rattle.sys_bus.specs.declared.plan.NamedWhat.TheVariants as what
 use Rattle.repl_build.specs.declared.merge.Peripheral.{Peripheral}
 use Rattle.repl_build.specs.declared.types.PeripheralType.{PeripheralType}
 use Rattle.repl_build.specs.declared.types.PeripheralType.TheVariants.{Cpu, Uart, Can, Finisher}
-use Rattle.repl_build.specs.Laws.{typed_name, typed_type, place_at, typed_place, place_in, part_of, type_by, type_in}
+use Rattle.repl_build.specs.Laws.{typed_name, typed_type, processor_name, place_at, typed_place, place_in, part_of}
+use Rattle.repl_build.specs.Laws.{type_by, type_in}
 use Rattle.repl_build.specs.Merge.{peripheral_by, peripheral_of, merged}
 use Rattle.repl_build.specs.Numbers.{devices_of, what_of}
 use Rattle.repl_build.specs.Places.{is_registered}
 use Rattle.repl_build.specs.Plan.{each, name_by, name_of, region_by, region_of, kinds_of, kind_by, built}
+use Rattle.repl_build.specs.Processors.{cpus_of}
+use Rattle.repl_build.specs.Types.{is_type}
 use Rattle.repl_build.proofs.PartCounts.{is_device}
+use Rattle.repl_build.proofs.ProcessorLemmas.{cpus_cons}
 use Rattle.repl_build.proofs.SoundLemmas.{Fits, Sound, sound}
 use Rattle.repl_build.proofs.ValidLemmas.{made}
 use Rattle.repl_build.proofs.WhatLemmas.{kind_at}
@@ -102,6 +106,29 @@ types_told entries plan is =
     refl (sound all made.keeps)
     ∙ entries_tell (λ p. p.kind ∷ []) (λ e. typed_type e.head) entries entries
     (λ e. type_said entries e e.head))
+
+-- processors
+abbrev told_processor : Peripheral → List (List ℕ)
+told_processor p = cond {A = List (List ℕ)} (is_type Cpu p.kind) (p.name ∷ []) []
+
+cpus_told : (all : List Peripheral) → cpus_of all ≡ flat_map told_processor all
+cpus_told [] = refl
+cpus_told (p ∷ ps) = cpus_cons p ps ∙ ap (λ rest. told_processor p ++ rest) (cpus_told ps)
+
+processor_said : (all : List Entry) (e : Entry) (head : Head) →
+    flat_map told_processor (peripheral_by all e head) ≡ processor_name head
+processor_said all e (Typed name type_name at) = append-nil _
+processor_said all e (Using file) = refl
+processor_said all e (Update name) = refl
+
+pub processors_told : (entries : List Entry) (plan : BoardPlan) → built entries ≡ Ok plan →
+    plan.cpus ≡ flat_map (λ e. processor_name e.head) entries
+processors_told entries plan is =
+    let made = made entries plan is in
+    let all = merged entries in
+    rw (← made.is)
+    (cpus_told all
+    ∙ entries_tell told_processor (λ e. processor_name e.head) entries entries (λ e. processor_said entries e e.head))
 
 -- places
 place_one :

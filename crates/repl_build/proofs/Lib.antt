@@ -12,11 +12,13 @@ pub mod PartCounts
 pub mod PartLemmas
 pub mod PlanCounts
 mod PlaceLemmas
+pub mod ProcessorLemmas
 pub mod QuestionLemmas
 pub mod RangeLemmas
 pub mod RegionLemmas
 mod SeenLemmas
 pub mod SoundLemmas
+pub mod SpeedLemmas
 pub mod TestedLemmas
 pub mod TypeLemmas
 pub mod UpdateLemmas

@@ -1,5 +1,5 @@
 -- The names of a plan, and what stands for what.
-use Rattle.std.proofs.Common.{◌≡◌, ℕ, ◌+◌, ◌<◌, ◌≤◌, ◌==◌, ◌∙◌, Bool, true, false, ◌||◌, refl, sym, ap, List, []}
+use Rattle.std.proofs.Common.{◌≡◌, ℕ, ◌<◌, ◌==◌, ◌∙◌, Bool, true, false, ◌||◌, refl, sym, ap, List, []}
 use Rattle.std.proofs.Common.{◌∷◌, ◌++◌, Option, None, Some, nat_lt, cond, count_by, arith, is_some, append_assoc}
 use Rattle.std.proofs.Common.{subst}
 use Rattle.std.proofs.lemmas.Bool.Decides.{nat_tests}
@@ -21,19 +21,18 @@ use Rattle.sys_bus.specs.declared.plan.NamedWhat.{NamedWhat}
 use Rattle.sys_bus.specs.declared.plan.NamedWhat.TheVariants as what
 use Rattle.sys_bus.specs.declared.region.RegionKind.{RegionKind}
 use Rattle.sys_bus.specs.declared.region.RegionKind.TheVariants as part
-use Rattle.sys_bus.specs.Name.{are_names, names_differ, is_processor, count_of_processors}
-use Rattle.sys_bus.specs.Name.{are_processors_named, has_one_processor}
+use Rattle.sys_bus.specs.Name.{are_names, names_differ}
 use Rattle.sys_bus.specs.Part.{is_part, names_part, has_no_others, has_region}
 use Rattle.sys_bus.specs.Region.{same_part}
 use Rattle.repl_build.specs.declared.merge.Peripheral.{Peripheral}
 use Rattle.repl_build.specs.declared.types.PeripheralType.{PeripheralType}
 use Rattle.repl_build.specs.declared.types.PeripheralType.TheVariants.{Cpu, Memory, Clint, Plic, Uart, Can, Finisher}
-use Rattle.repl_build.specs.Counts.{count_of, has_type}
+use Rattle.repl_build.specs.Counts.{count_of, first_with, has_type}
 use Rattle.repl_build.specs.First.{first_fault}
 use Rattle.repl_build.specs.Merge.{peripheral_by, peripheral_of, merged}
 use Rattle.repl_build.specs.Names.{is_named, are_named, types_name, is_typed, repeats_name, repeated_in, repeated}
 use Rattle.repl_build.specs.Numbers.{devices_of, what_of}
-use Rattle.repl_build.specs.Plan.{each, name_by, name_of, region_by, region_of, first_with, cpu_name_in, cpu_name_of}
+use Rattle.repl_build.specs.Plan.{each, name_by, name_of, region_by, region_of}
 use Rattle.repl_build.specs.Types.{is_type}
 use Rattle.repl_build.proofs.ListLemmas.{count_cons, count_append, both_true, all_append, or_false, NoneBefore}
 use Rattle.repl_build.proofs.ListLemmas.{self_alone}
@@ -163,73 +162,6 @@ found_type {X} f k (p ∷ ps) =
     elim (is_type k p.kind) as (λ b. is_some (option_map f (cond {A = Option Peripheral} b (Some p)
     (first_with k ps)))
     ≡ (b || has_type k ps)) [ true ↦ refl | false ↦ found_type f k ps ]
-
--- the processor
-processor_one : (t : Option PeripheralType) (name : List ℕ) (before : List Peripheral) →
-    count_of_processors (name_by name (what_of before t)) ≡ cond {A = ℕ} (is_type Cpu t) 1 0
-processor_one None name before = refl
-processor_one (Some Cpu) name before = refl
-processor_one _ name before = refl
-
-processors : (before xs : List Peripheral) → count_of_processors (each name_of before xs) ≡ count_of xs Cpu
-processors before [] = refl
-processors before (p ∷ ps) =
-    let two = count_append (λ (n : Named). is_processor n.what) (name_of before p) (each name_of
-    (before ++ p ∷ []) ps) in
-    let one = processor_one p.kind p.name before in
-    let rest = processors (before ++ p ∷ []) ps in
-    let sum = count_cons (λ q. is_type Cpu q.kind) p ps in
-    omega (arith, one, two, rest, sum)
-
-abbrev AreNamed : List ℕ → List Peripheral → Type 0
-AreNamed cpu [] = Unit {0}
-AreNamed cpu (p ∷ ps) = (is_type Cpu p.kind ≡ true → p.name ≡ cpu) × AreNamed cpu ps
-
-no_more : (cpu : List ℕ) (xs : List Peripheral) → count_of xs Cpu ≡ 0 → AreNamed cpu xs
-no_more cpu [] none = tt
-no_more cpu (p ∷ ps) none =
-    let sum : count_of (p ∷ ps) Cpu ≡ cond {A = ℕ} (is_type Cpu p.kind) 1 0 + count_of ps Cpu =
-    count_cons (λ q. is_type Cpu q.kind) p ps in (
-      λ is. let one : cond {A = ℕ} (is_type Cpu p.kind) 1 0 ≡ 1 =
-          rw is refl in absurd (omega (arith, one, sum, none)),
-      no_more cpu ps (omega (arith, sum, none)),
-    )
-
-sole : (xs : List Peripheral) → count_of xs Cpu ≤ 1 → AreNamed (cpu_name_of xs) xs
-sole [] few = tt
-sole (p ∷ ps) few =
-    let sum : count_of (p ∷ ps) Cpu ≡ cond {A = ℕ} (is_type Cpu p.kind) 1 0 + count_of ps Cpu =
-    count_cons (λ q. is_type Cpu q.kind) p ps in
-    elim (is_type Cpu p.kind) as (λ b. is_type Cpu p.kind ≡ b →
-    count_of (p ∷ ps) Cpu ≡ cond {A = ℕ} b 1 0 + count_of ps Cpu →
-    AreNamed (cpu_name_in (cond {A = Option Peripheral} b (Some p) (first_with Cpu ps))) (p ∷ ps)) [
-      | true ↦ λ is sum. (λ same. refl, no_more p.name ps (omega (arith, sum, few)))
-      | false ↦ λ is sum. (λ same. absurd (cc), sole ps (omega (arith, sum, few)))
-    ] refl sum
-
-named_one : (t : Option PeripheralType) (name cpu : List ℕ) (before : List Peripheral) → (is_type Cpu t ≡ true →
-    name ≡ cpu) →
-    are_processors_named cpu (name_by name (what_of before t)) ≡ true
-named_one (Some Cpu) name cpu before same = both_true _ _ ((bytes_eq-Decides name cpu).1 (same refl)) refl
-named_one _ name cpu before same = refl
-
-named : (cpu : List ℕ) (before xs : List Peripheral) → AreNamed cpu xs →
-    are_processors_named cpu (each name_of before xs) ≡ true
-named cpu before [] same = refl
-named cpu before (p ∷ ps) same =
-    all_append _ (name_of before p) (each name_of (before ++ p ∷ []) ps) (named_one p.kind p.name cpu before same.0)
-    (named cpu (before ++ p ∷ []) ps same.1)
-
--- one entry alone is the processor, and has its name
-pub processor :
-    (all : List Peripheral) → count_of all Cpu ≡ 1 → has_one_processor (cpu_name_of all) (each name_of [] all) ≡ true
-processor all one =
-    let count = processors [] all in
-    both_true _ _ (is_one (count_of_processors (each name_of [] all)) (count ∙ one))
-    (named (cpu_name_of all) [] all (sole all (omega (arith, one))))
-  where
-    is_one : (n : ℕ) → n ≡ 1 → (n == 1) ≡ true
-    is_one n is = rw is refl
 
 -- names
 abbrev same_name : Named → Named → Bool

@@ -18,7 +18,7 @@ first_none (Some fault) b is = absurd (cc)
 -- a peripheral without a fault
 pub unbroken :
     (rule : Rule) (all before : List Peripheral) (p : Peripheral) → peripheral_fault rule all before p ≡ None →
-    (breaks rule before p ≡ false) × (items_fault rule all p ≡ None)
+    (breaks rule before p ≡ false) × (items_fault rule all before p ≡ None)
 unbroken rule all before p none =
     let parts = first_none _ _ none in
     (no_fault (breaks rule before p) _ parts.0, parts.1)

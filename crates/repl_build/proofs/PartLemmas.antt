@@ -1,14 +1,14 @@
--- The processor, the CLINT and the PLIC of peripherals that keep all rules.
+-- The CLINT and the PLIC of peripherals that keep all rules.
 use Rattle.std.proofs.Common.{◌≡◌, ◌∙◌, Bool, true, false, not, ◌&&◌, ◌||◌, refl, sym, ap, List, [], ◌∷◌, Option}
 use Rattle.std.proofs.Common.{None, Some, arith, codes, find, cond}
 use Rattle.std.specs.List.{list_any}
 use Rattle.repl_build.specs.declared.merge.Peripheral.{Peripheral}
 use Rattle.repl_build.specs.declared.rules.Rule.TheVariants.{Required}
 use Rattle.repl_build.specs.declared.types.PeripheralType.{PeripheralType}
-use Rattle.repl_build.specs.declared.types.PeripheralType.TheVariants.{Cpu, Clint, Plic}
+use Rattle.repl_build.specs.declared.types.PeripheralType.TheVariants.{Clint, Plic}
 use Rattle.repl_build.specs.Attributes.{sort_of, number_of}
+use Rattle.repl_build.specs.Counts.{first_with}
 use Rattle.repl_build.specs.Places.{is_registered, has_required, is_lacking}
-use Rattle.repl_build.specs.Plan.{first_with}
 use Rattle.repl_build.specs.Rules.{peripheral_fault, broken}
 use Rattle.repl_build.specs.Types.{is_type}
 use Rattle.repl_build.proofs.NoneLemmas.{unbroken, found_sound}
@@ -52,11 +52,11 @@ pub plic_numbers :
 plic_numbers all p keeps found =
     let values = found_values all Plic p keeps.values found in
     let required = found_required all Plic p keeps.required found values.0 in (
-      number_within p all (codes "numberOfSources") 1 127 0 (ap (λ o. sort_of o
-          (codes "numberOfSources")) values.0) values.1
+      number_within p all values.1.0 (codes "numberOfSources") 1 127 0 (ap (λ o. sort_of o
+          (codes "numberOfSources")) values.0) values.1.1
           (λ none. absurd (any_found _ p.items required none)),
-      number_within p all (codes "numberOfContexts") 1 15 1 (ap (λ o. sort_of o
-          (codes "numberOfContexts")) values.0) values.1
+      number_within p all values.1.0 (codes "numberOfContexts") 1 15 1 (ap (λ o. sort_of o
+          (codes "numberOfContexts")) values.0) values.1.1
           (λ none. (omega arith, omega arith)),
     )
 
@@ -67,15 +67,6 @@ pub clint_number :
 clint_number all p keeps found =
     let values = found_values all Clint p keeps.values found in
     let required = found_required all Clint p keeps.required found values.0 in
-    number_within p all (codes "frequency") 1 1000000000 0 (ap (λ o. sort_of o (codes "frequency")) values.0) values.1
+    number_within p all values.1.0 (codes "frequency") 1 1000000000 0 (ap (λ o. sort_of o (codes "frequency")) values.0)
+    values.1.1
     (λ none. absurd (any_found _ p.items required none))
-
--- the speed of the processor
-pub cpu_number :
-    (all : List Peripheral) (p : Peripheral) → Keeps all → first_with Cpu all ≡ Some p →
-    IsBetween 1 1000 (number_of (codes "PerformanceInMips") 100 p.items)
-cpu_number all p keeps found =
-    let values = found_values all Cpu p keeps.values found in
-    number_within p all (codes "PerformanceInMips") 1 1000 100 (ap (λ o. sort_of o
-    (codes "PerformanceInMips")) values.0)
-    values.1 (λ none. (omega arith, omega arith))

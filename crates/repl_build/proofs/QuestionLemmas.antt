@@ -127,7 +127,7 @@ rule_is r all =
         peripheral_fault r all before p ≡ told (peripheral_asked r all before p)
     items_are before p =
         ap (λ rest. first_of (fault_if (breaks r before p) (At p.file p.line (cause_of r))) rest)
-        (each_asked (λ (item : PlacedItem). ask (cause_of r) item.file item.line (item_breaks r all p item)) []
+        (each_asked (λ (item : PlacedItem). ask (cause_of r) item.file item.line (item_breaks r all before p item)) []
         p.items)
 
 -- ---- what is answered, by the questions

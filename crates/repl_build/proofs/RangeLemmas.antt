@@ -120,7 +120,7 @@ ranged_one all before p ps (Some (what.Part part)) fits whole is =
     is_memory_size (number_of (codes "size") 0 p.items) ≡ true =
     λ memory range.
     let kind = is_type_same Memory p.kind memory in
-    memory_sized p all kind fits.values
+    memory_sized p all before kind fits.values
     (required_size p.at p.items (sym (ap (λ t. has_required t p.at p.items) kind) ∙ fits.required) range) in
     let good = placed p.kind p.at p.items before part is memory fits.registered fits.placed in
     let found : is_device p.kind ≡ true → slice_get (kinds_of all) (devices_of before) ≡ kind_by p.kind =

@@ -5,7 +5,8 @@ use Rattle.repl_build.specs.declared.merge.Peripheral.{Peripheral}
 use Rattle.repl_build.specs.declared.rules.Rule.TheVariants.{Types, Required, Values, Counts, Apart}
 use Rattle.repl_build.specs.Counts.{passes_memory, are_as_many_as_may_be}
 use Rattle.repl_build.specs.First.{first_fault}
-use Rattle.repl_build.specs.Places.{is_registered, has_required, is_place, step_of, overlaps, end_of}
+use Rattle.repl_build.specs.Places.{is_registered, has_required, is_place, is_misplaced, step_of, overlaps, end_of}
+use Rattle.repl_build.specs.Processors.{is_out_of_step}
 use Rattle.repl_build.specs.Rules.{items_fault, peripheral_fault}
 use Rattle.repl_build.proofs.ListLemmas.{or_false}
 use Rattle.repl_build.proofs.NoneLemmas.{first_none, unbroken}
@@ -17,7 +18,8 @@ pub record Fits (all before : List Peripheral) (p : Peripheral) : Type 0 where
   pub registered : is_registered p.kind p.at ≡ true
   pub required : has_required p.kind p.at p.items ≡ true
   pub placed : is_place p.kind (step_of p.kind p.items) p.at ≡ true
-  pub values : items_fault Values all p ≡ None
+  pub values : items_fault Values all before p ≡ None
+  pub step : is_out_of_step before p ≡ false
   pub few : passes_memory before p ≡ false
   pub apart : list_any (overlaps p) before ≡ false
   pub addressed : nat_lt (2 ^ 32) (end_of p) ≡ false
@@ -45,6 +47,7 @@ sound_from all before (p ∷ ps) types required values counts apart =
     let a = first_none _ _ apart in
     let whole = complete p (unbroken Required all before p r.0).0 in
     let value = unbroken Values all before p v.0 in
+    let parts = or_false (is_misplaced p) (is_out_of_step before p) value.0 in
     let collides = or_false (nat_lt (2 ^ 32) (end_of p)) (list_any (overlaps p) before)
     (unbroken Apart all before p a.0).0 in
     let fits : Fits all before p =
@@ -52,8 +55,9 @@ sound_from all before (p ∷ ps) types required values counts apart =
       known = (unbroken Types all before p t.0).0;
       registered = whole.0;
       required = whole.1;
-      placed = not_false (is_place p.kind (step_of p.kind p.items) p.at) value.0;
+      placed = not_false (is_place p.kind (step_of p.kind p.items) p.at) parts.0;
       values = value.1;
+      step = parts.1;
       few = (or_false (are_as_many_as_may_be before p.kind) (passes_memory before p)
           (unbroken Counts all before p c.0).0).1;
       apart = collides.1;

@@ -14,23 +14,26 @@ use Rattle.sys_bus.specs.Plan.{IsValid}
 use Rattle.sys_bus.specs.Region.{are_apart}
 use Rattle.repl_build.specs.declared.merge.Peripheral.{Peripheral}
 use Rattle.repl_build.specs.declared.types.PeripheralType.TheVariants.{Cpu, Memory, Clint, Plic, Uart, Can, Finisher}
-use Rattle.repl_build.specs.Counts.{count_of, has_type}
+use Rattle.repl_build.specs.Counts.{count_of, first_with, has_type}
 use Rattle.repl_build.specs.Merge.{merged}
+use Rattle.repl_build.specs.Processors.{cpus_of}
 use Rattle.repl_build.specs.Names.{are_named, repeated, untyped}
-use Rattle.repl_build.specs.Plan.{memories_of, kinds_of, first_with, clint_frequency, plic_size_of}
-use Rattle.repl_build.specs.Plan.{speed_in, wires_of, plan_with, tested, built, Gives}
+use Rattle.repl_build.specs.Plan.{memories_of, kinds_of, clint_frequency, plic_size_of}
+use Rattle.repl_build.specs.Plan.{wires_of, plan_with, tested, built, Gives}
 use Rattle.repl_build.proofs.CountLemmas.{few_of}
 use Rattle.repl_build.proofs.ListLemmas.{both_true}
-use Rattle.repl_build.proofs.NameLemmas.{names_good, differ, distinct, processor, no_others, clint_there, plic_there}
+use Rattle.repl_build.proofs.NameLemmas.{names_good, differ, distinct, no_others, clint_there, plic_there}
 use Rattle.repl_build.proofs.NameLemmas.{found_type}
 use Rattle.repl_build.proofs.NumberLemmas.{IsBetween}
-use Rattle.repl_build.proofs.PartLemmas.{both, plic_numbers, clint_number, cpu_number}
+use Rattle.repl_build.proofs.PartLemmas.{both, plic_numbers, clint_number}
 use Rattle.repl_build.proofs.PlanCounts.{memories_count, memories_sum, few_bytes, counted_type, uarts_count}
 use Rattle.repl_build.proofs.PlanCounts.{finishers_count}
 use Rattle.repl_build.proofs.PlanCounts.{cans_count, devices_count, parts}
+use Rattle.repl_build.proofs.ProcessorLemmas.{cpus_count, cpus_named}
 use Rattle.repl_build.proofs.RangeLemmas.{ranges}
 use Rattle.repl_build.proofs.RegionLemmas.{addressed, memory_sizes, steps, apart}
 use Rattle.repl_build.proofs.SoundLemmas.{sound}
+use Rattle.repl_build.proofs.SpeedLemmas.{speed_good}
 use Rattle.repl_build.proofs.TestedLemmas.{Keeps, keeps, passed}
 use Rattle.repl_build.proofs.WireValid.{ok_then, same_ok, wires_good}
 
@@ -40,10 +43,13 @@ at_most m n le = grind (arith, nat_tests)
 within : (least most n : ℕ) → IsBetween least most n → (nat_le least n && nat_le n most) ≡ true
 within least most n is = both_true _ _ (at_most least n is.0) (at_most n most is.1)
 
-speed_good : (all : List Peripheral) (o : Option Peripheral) → Keeps all → first_with Cpu all ≡ o →
-    limit.is_speed (speed_in o) ≡ true
-speed_good all None keeps found = refl
-speed_good all (Some p) keeps found = within 1 1000 _ (cpu_number all p keeps found)
+processors_few : (all : List Peripheral) → Keeps all → 1 ≤ count_of all Cpu →
+    limit.are_few_processors (cpus_of all) ≡ true
+processors_few all keeps some =
+    let few = few_of all Cpu keeps.counts in
+    let count = cpus_count all in
+    both_true _ _ (at_most 1 (length (cpus_of all)) (omega (arith, some, count)))
+    (at_most (length (cpus_of all)) 4 (omega (arith, few, count)))
 
 frequency_good : (all : List Peripheral) (o : Option Peripheral) → Keeps all → first_with Clint all ≡ o →
     limit.is_frequency (option_map clint_frequency o) ≡ true
@@ -87,13 +93,11 @@ plan_valid entries wires good once keeps is =
     let all = merged entries in
     let there = both (has_type Cpu all) (has_type Memory all) keeps.whole in
     let sound = sound all keeps in
-    let few = few_of all Cpu keeps.counts in
     let some = counted_type Cpu all there.0 in
-    let one : count_of all Cpu ≡ 1 = omega (arith, few, some) in
     record {
       are_names = names_good entries good;
       names_differ = differ all (distinct entries once);
-      processor = processor all one;
+      processors = cpus_named [] all;
       parts = parts all (few_of all Clint keeps.counts) (few_of all Plic keeps.counts);
       no_others = rw (memories_count all, devices_count all) (no_others all sound);
       timer = found_type clint_frequency Clint all ∙ sym (clint_there [] all);
@@ -102,7 +106,8 @@ plan_valid entries wires good once keeps is =
       steps = steps all sound;
       few_devices = devices_few all keeps;
       few_memories = memories_few all keeps there.1;
-      speed = speed_good all (first_with Cpu all) keeps refl;
+      few_processors = processors_few all keeps some;
+      speed = rw (cpus_count all) (speed_good all sound some);
       frequency = frequency_good all (first_with Clint all) keeps refl;
       plic = plic_good all (first_with Plic all) keeps refl;
       ranges = ranges all sound;

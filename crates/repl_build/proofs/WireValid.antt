@@ -1,7 +1,7 @@
 -- Wires that are given are wires that a board may have.
 use Rattle.std.proofs.Common.{◌≡◌, ℕ, ◌==◌, ◌∙◌, Bool, true, false, ◌&&◌, ◌||◌, refl, sym, ap, List, [], ◌∷◌, ◌++◌}
 use Rattle.std.proofs.Common.{Option}
-use Rattle.std.proofs.Common.{None, Some, Result, Ok, Err, cond, slice_get, append_assoc}
+use Rattle.std.proofs.Common.{None, Some, Result, Ok, Err, cond, slice_get, append_assoc, length}
 use Rattle.std.specs.List.{list_all}
 use Rattle.dev_core.specs.declared.kind.Kind.{Kind}
 use Rattle.repl_read.specs.declared.entry.ItemWhat.{ItemWhat}
@@ -20,17 +20,18 @@ use Rattle.repl_build.specs.declared.merge.Peripheral.{Peripheral}
 use Rattle.repl_build.specs.declared.merge.PlacedItem.{PlacedItem}
 use Rattle.repl_build.specs.declared.types.PeripheralType.{PeripheralType}
 use Rattle.repl_build.specs.declared.types.PeripheralType.TheVariants.{Cpu, Clint, Plic, Uart, Can}
-use Rattle.repl_build.specs.Counts.{has_type}
+use Rattle.repl_build.specs.Counts.{count_of, has_type}
 use Rattle.repl_build.specs.First.{◌>>=◌}
 use Rattle.repl_build.specs.Numbers.{devices_of}
 use Rattle.repl_build.specs.Plan.{each, region_of, kinds_of, kind_by, plic_of, wires_from, wires_of}
-use Rattle.repl_build.specs.References.{names_a}
+use Rattle.repl_build.specs.Processors.{cpus_of, hart_of}
 use Rattle.repl_build.specs.Types.{is_type}
 use Rattle.repl_build.specs.Wires.{ends_of, line_of, pin_by, wire_by, wire_at, in_front, wired, wired_ends, has_ends}
 use Rattle.repl_build.specs.Wires.{item_wires, wires_or, placed_wires, items_wires}
 use Rattle.repl_build.proofs.ListLemmas.{both_true, all_append}
 use Rattle.repl_build.proofs.NameLemmas.{clint_there}
 use Rattle.repl_build.proofs.PartCounts.{is_device}
+use Rattle.repl_build.proofs.ProcessorLemmas.{cpus_count}
 use Rattle.repl_build.proofs.WhatLemmas.{kind_at}
 
 -- a step of a `do` block that gives a value
@@ -46,8 +47,8 @@ same_ok x y is = cc
 pub same_some : {A : Type 0} (x y : A) → (let r : Option A = Some x in r) ≡ Some y → x ≡ y
 same_some x y is = cc
 
-abbrev good : List Kind → List Region → Option PlicSize → Wire → Bool
-good kinds regions plic wire = is_from kinds regions plic wire.from && may_end plic wire.from wire.pin
+abbrev good : List Kind → List Region → Option PlicSize → ℕ → Wire → Bool
+good kinds regions plic n wire = is_from kinds regions plic wire.from && may_end plic n wire.from wire.pin
 
 -- what begins at a line that is there
 abbrev LinesAre : List Kind → List Region → Option PlicSize → Option PeripheralType → ℕ → Type 0
@@ -55,18 +56,18 @@ LinesAre kinds regions plic t dev =
     (line : ℕ) (from : WireFrom) → line_of plic t dev line ≡ Some from → is_from kinds regions plic from ≡ true
 
 wire_good :
-    (kinds : List Kind) (regions : List Region) (plic : Option PlicSize) (o : Option WireFrom) (pin : WirePin)
+    (kinds : List Kind) (regions : List Region) (plic : Option PlicSize) (n : ℕ) (o : Option WireFrom) (pin : WirePin)
     (wire : Wire) →
-    ((from : WireFrom) → o ≡ Some from → is_from kinds regions plic from ≡ true) → wire_by plic o pin ≡ Some wire →
-    good kinds regions plic wire ≡ true
-wire_good kinds regions plic None pin wire lines is = absurd (cc)
-wire_good kinds regions plic (Some from) pin wire lines is =
-    elim (may_end plic from pin) as (λ b. may_end plic from pin ≡ b →
+    ((from : WireFrom) → o ≡ Some from → is_from kinds regions plic from ≡ true) → wire_by plic n o pin ≡ Some wire →
+    good kinds regions plic n wire ≡ true
+wire_good kinds regions plic n None pin wire lines is = absurd (cc)
+wire_good kinds regions plic n (Some from) pin wire lines is =
+    elim (may_end plic n from pin) as (λ b. may_end plic n from pin ≡ b →
     cond {A = Option Wire} b (Some (record { from = from; pin = pin })) None ≡ Some wire →
-    good kinds regions plic wire ≡ true) [
+    good kinds regions plic n wire ≡ true) [
       | true ↦ λ ends is.
           let same = same_some _ _ is in
-          rw (← same) (both_true (is_from kinds regions plic from) (may_end plic from pin) (lines from refl) ends)
+          rw (← same) (both_true (is_from kinds regions plic from) (may_end plic n from pin) (lines from refl) ends)
       | false ↦ λ ends is. absurd (cc)
     ] refl is
 
@@ -105,17 +106,18 @@ item_good :
     (kinds : List Kind) (regions : List Region) (plic : Option PlicSize) (all : List Peripheral)
     (t : Option PeripheralType)
     (dev : ℕ) (what : ItemWhat) (wires : List Wire) → LinesAre kinds regions plic t dev →
-    item_wires plic all t dev what ≡ Some wires → list_all (good kinds regions plic) wires ≡ true
+    item_wires plic all t dev what ≡ Some wires → list_all (good kinds regions plic (count_of all Cpu)) wires ≡ true
 item_good kinds regions plic all t dev (item.Attribute key value) wires lines is = rw (← same_some _ _ is) refl
 item_good kinds regions plic all t dev (item.Wire from to pins) wires lines is =
-    let f = wire_at plic t dev (names_a Cpu all to) in
+    let n = count_of all Cpu in
+    let hart = hart_of all to in
+    let f = wire_at plic n t dev hart in
     elim (has_ends t from) as (λ b. cond {A = Option (List Wire)} b (wired_ends f (ends_of from)
     (ends_of pins)) None ≡ Some wires →
-    list_all (good kinds regions plic) wires ≡ true) [
+    list_all (good kinds regions plic n) wires ≡ true) [
       | true ↦ λ is.
-          ends_good (good kinds regions plic) f
-          (λ line pin wire same. wire_good kinds regions plic (line_of plic t dev line) (pin_by
-          (names_a Cpu all to) pin) wire
+          ends_good (good kinds regions plic n) f
+          (λ line pin wire same. wire_good kinds regions plic n (line_of plic t dev line) (pin_by hart pin) wire
           (λ from there. lines line from there) same)
           (ends_of from) (ends_of pins) wires is
       | false ↦ λ is. absurd (cc)
@@ -186,7 +188,7 @@ lines_by _ kinds regions plic dev clint device line from is = absurd (cc)
 from_good :
     (plic : Option PlicSize) (all before xs : List Peripheral) (wires : List Wire) → all ≡ before ++ xs →
     wires_from plic all before xs ≡ Ok wires →
-    list_all (good (kinds_of all) (each region_of [] all) plic) wires ≡ true
+    list_all (good (kinds_of all) (each region_of [] all) plic (count_of all Cpu)) wires ≡ true
 from_good plic all before [] wires whole is = rw (← same_ok _ _ is) refl
 from_good plic all before (p ∷ ps) wires whole is =
     let kinds = kinds_of all in
@@ -199,15 +201,16 @@ from_good plic all before (p ∷ ps) wires whole is =
     let device : is_device p.kind ≡ true → slice_get kinds (devices_of before) ≡ kind_by p.kind =
     λ is. ap (λ ps. slice_get (kinds_of ps) (devices_of before)) whole ∙ kind_at before p ps is in
     let lines = lines_by p.kind kinds regions plic (devices_of before) clint device in
-    let mine = items_good (good kinds regions plic) f
+    let n = count_of all Cpu in
+    let mine = items_good (good kinds regions plic n) f
     (λ i ws same. item_good kinds regions plic all p.kind (devices_of before) i.what ws lines (given _ _ ws same))
     p.items first.0 first.1.0 in
     let later = from_good plic all (before ++ p ∷ []) ps rest.0 (whole
     ∙ sym (append_assoc before (p ∷ []) ps)) rest.1.0 in
-    rw (← same_ok _ _ rest.1.1) (all_append (good kinds regions plic) first.0 rest.0 mine later)
+    rw (← same_ok _ _ rest.1.1) (all_append (good kinds regions plic n) first.0 rest.0 mine later)
 
 -- each wire is one that a board may have
 pub wires_good :
     (all : List Peripheral) (wires : List Wire) → wires_of all ≡ Ok wires →
-    are_wires (kinds_of all) (each region_of [] all) (plic_of all) wires ≡ true
-wires_good all wires is = from_good (plic_of all) all [] all wires refl is
+    are_wires (kinds_of all) (each region_of [] all) (plic_of all) (length (cpus_of all)) wires ≡ true
+wires_good all wires is = rw (cpus_count all) (from_good (plic_of all) all [] all wires refl is)

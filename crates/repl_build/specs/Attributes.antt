@@ -1,5 +1,5 @@
 -- The attributes that each type has, and the values that they take.
-use Rattle.std.specs.Prelude.{ℕ, ◌%◌, ◌==◌, nat_le, Bool, true, false, not, ◌&&◌, ◌||◌, if◌then◌else◌, List, Option}
+use Rattle.std.specs.Prelude.{ℕ, ◌%◌, ◌==◌, nat_le, Bool, true, false, not, ◌&&◌, if◌then◌else◌, List, Option}
 use Rattle.std.specs.Prelude.{Some, None, is_none, find, codes}
 use Rattle.std.specs.List.{list_any}
 use Rattle.std.specs.Str.{bytes_eq}
@@ -11,7 +11,7 @@ use Rattle.repl_read.specs.declared.entry.Value.{Value}
 use Rattle.repl_read.specs.declared.entry.Value.TheVariants.{Number, Words, Truth, Name}
 use Rattle.sys_bus.specs.Limits.{most_speed, most_frequency, most_sources, most_contexts, page_size}
 use Rattle.repl_build.specs.declared.attributes.Sort.{Sort}
-use Rattle.repl_build.specs.declared.attributes.Sort.TheVariants.{Quoted, Reference, Flag, Yes, Within, Size}
+use Rattle.repl_build.specs.declared.attributes.Sort.TheVariants.{Quoted, Reference, Flag, Yes, Hart, Within, Size}
 use Rattle.repl_build.specs.declared.merge.PlacedItem.{PlacedItem}
 use Rattle.repl_build.specs.declared.types.PeripheralType.{PeripheralType}
 use Rattle.repl_build.specs.declared.types.PeripheralType.TheVariants as kind
@@ -21,7 +21,7 @@ abbrev pub cpu_sort : List ℕ → Option Sort
 cpu_sort key =
     if bytes_eq key (codes "cpuType") then Some Quoted
     else if bytes_eq key (codes "timeProvider") then Some Reference
-    else if bytes_eq key (codes "hartId") then Some (Within 0 0)
+    else if bytes_eq key (codes "hartId") then Some Hart
     else if bytes_eq key (codes "PerformanceInMips") then Some (Within 1 most_speed)
     else if bytes_eq key (codes "privilegeArchitecture") then Some Reference
     else if bytes_eq key (codes "privilegedArchitecture") then Some Reference
@@ -73,40 +73,45 @@ fits_range (Address base) n = true
 fits_range Bus n = true
 fits_range Absent n = true
 
-abbrev pub takes : Sort → Place → Value → Bool
-takes Quoted at (Words text) = true
-takes Quoted at (Name name) = false
-takes Quoted at (Truth truth) = false
-takes Quoted at (Number n) = false
-takes Reference at (Words text) = false
-takes Reference at (Name name) = true
-takes Reference at (Truth truth) = false
-takes Reference at (Number n) = false
-takes Flag at (Words text) = false
-takes Flag at (Name name) = false
-takes Flag at (Truth truth) = true
-takes Flag at (Number n) = false
-takes Yes at (Words text) = false
-takes Yes at (Name name) = false
-takes Yes at (Truth truth) = truth
-takes Yes at (Number n) = false
-takes (Within least most) at (Words text) = false
-takes (Within least most) at (Name name) = false
-takes (Within least most) at (Truth truth) = false
-takes (Within least most) at (Number n) = nat_le least n && nat_le n most
-takes Size at (Words text) = false
-takes Size at (Name name) = false
-takes Size at (Truth truth) = false
-takes Size at (Number n) = is_memory_size n && fits_range at n
+-- a value that an attribute takes, of what stands there and has so many processors before it
+abbrev pub takes : Sort → ℕ → Place → Value → Bool
+takes Quoted before at (Words text) = true
+takes Quoted before at (Name name) = false
+takes Quoted before at (Truth truth) = false
+takes Quoted before at (Number n) = false
+takes Reference before at (Words text) = false
+takes Reference before at (Name name) = true
+takes Reference before at (Truth truth) = false
+takes Reference before at (Number n) = false
+takes Flag before at (Words text) = false
+takes Flag before at (Name name) = false
+takes Flag before at (Truth truth) = true
+takes Flag before at (Number n) = false
+takes Yes before at (Words text) = false
+takes Yes before at (Name name) = false
+takes Yes before at (Truth truth) = truth
+takes Yes before at (Number n) = false
+takes Hart before at (Words text) = false
+takes Hart before at (Name name) = false
+takes Hart before at (Truth truth) = false
+takes Hart before at (Number n) = n == before
+takes (Within least most) before at (Words text) = false
+takes (Within least most) before at (Name name) = false
+takes (Within least most) before at (Truth truth) = false
+takes (Within least most) before at (Number n) = nat_le least n && nat_le n most
+takes Size before at (Words text) = false
+takes Size before at (Name name) = false
+takes Size before at (Truth truth) = false
+takes Size before at (Number n) = is_memory_size n && fits_range at n
 
-abbrev pub takes_by : Option Sort → Place → Value → Bool
-takes_by (Some sort) at value = takes sort at value
-takes_by None at value = true
+abbrev pub takes_by : Option Sort → ℕ → Place → Value → Bool
+takes_by (Some sort) before at value = takes sort before at value
+takes_by None before at value = true
 
 -- test 6, of an item: a value of another sort or out of range
-abbrev pub is_refused : Option PeripheralType → Place → ItemWhat → Bool
-is_refused type_ at (Attribute key value) = not (takes_by (sort_of type_ key) at value)
-is_refused type_ at (Wire from to pins) = false
+abbrev pub is_refused : Option PeripheralType → ℕ → Place → ItemWhat → Bool
+is_refused type_ before at (Attribute key value) = not (takes_by (sort_of type_ key) before at value)
+is_refused type_ before at (Wire from to pins) = false
 
 -- an attribute's item, if it stands there
 abbrev pub item_of : List ℕ → List PlacedItem → Option PlacedItem
@@ -144,38 +149,3 @@ is_true_in (Some item) = is_true item.what
 -- whether an attribute stands there and is true
 abbrev pub is_set : List ℕ → List PlacedItem → Bool
 is_set key items = is_true_in (item_of key items)
-
--- the processors with compressed instructions
-abbrev pub is_compressed_core : List ℕ → Bool
-is_compressed_core text =
-    bytes_eq text (codes "rv32imc") || bytes_eq text (codes "rv32imc_zicsr")
-    || bytes_eq text (codes "rv32imc_zicsr_zifencei")
-
--- the processors that are built
-abbrev pub is_core : List ℕ → Bool
-is_core text =
-    bytes_eq text (codes "rv32im") || bytes_eq text (codes "rv32im_zicsr")
-    || bytes_eq text (codes "rv32im_zicsr_zifencei") || is_compressed_core text
-
--- whether a processor of these attributes has compressed instructions, by its cpuType
-abbrev pub is_compressed : ItemWhat → Bool
-is_compressed (Attribute key (Words text)) = is_compressed_core text
-is_compressed (Attribute key (Number n)) = false
-is_compressed (Attribute key (Truth truth)) = false
-is_compressed (Attribute key (Name name)) = false
-is_compressed (Wire from to pins) = false
-
-abbrev pub is_compressed_in : Option PlacedItem → Bool
-is_compressed_in None = false
-is_compressed_in (Some item) = is_compressed item.what
-
-abbrev pub has_compressed : List PlacedItem → Bool
-has_compressed items = is_compressed_in (item_of (codes "cpuType") items)
-
--- test 7: another cpuType
-abbrev pub is_other_core : ItemWhat → Bool
-is_other_core (Attribute key (Words text)) = bytes_eq key (codes "cpuType") && not (is_core text)
-is_other_core (Attribute key (Number n)) = false
-is_other_core (Attribute key (Truth truth)) = false
-is_other_core (Attribute key (Name name)) = false
-is_other_core (Wire from to pins) = false

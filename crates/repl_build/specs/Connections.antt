@@ -65,38 +65,37 @@ line_from (what.Part part.Clint) line = if line == 0 then Some Soft else if line
 line_from (what.Part part.Plic) line = Some (Context line)
 line_from (what.Part (part.Dev i)) line = if line == 0 then Some (Dev i) else None
 
--- its pin of this number
-abbrev pub pin_at : NamedWhat → ℕ → Option WirePin
-pin_at what.Cpu pin = Some (Cpu pin)
-pin_at (what.Part (part.Ram i)) pin = None
-pin_at (what.Part part.Clint) pin = None
-pin_at (what.Part part.Plic) pin = Some (Source pin)
-pin_at (what.Part (part.Dev i)) pin = None
+-- the end is the pin of this number: of the processor that has the name, or of the interrupt controller
+abbrev pub IsPin : List (List ℕ) → List ℕ → NamedWhat → ℕ → WirePin → Type 0
+IsPin cpus name what.Cpu pin (Cpu hart n) = (slice_get cpus hart ≡ Some name) × (n ≡ pin)
+IsPin cpus name what.Cpu pin (Source n) = ⊥
+IsPin cpus name (what.Part part.Plic) pin (Source n) = n ≡ pin
+IsPin cpus name (what.Part _) pin _ = ⊥
 
 -- a name stands for this
 abbrev pub StandsFor : List Named → List ℕ → NamedWhat → Type 0
 StandsFor names name what = (i : ℕ) × (slice_get names i ≡ Some (record { name = name; what = what }))
 
 -- a wire leads from a line of what one name stands for to a pin of what another stands for
-pub record Leads (names : List Named) (source : List ℕ) (line : ℕ) (target : List ℕ) (pin : ℕ) (wire : Wire) :
-    Type 0 where
+pub record Leads (names : List Named) (cpus : List (List ℕ)) (source : List ℕ) (line : ℕ) (target : List ℕ) (pin : ℕ)
+    (wire : Wire) : Type 0 where
   pub first : NamedWhat
   pub is_source : StandsFor names source first
   pub begins : line_from first line ≡ Some wire.from
   pub last : NamedWhat
   pub is_target : StandsFor names target last
-  pub ends : pin_at last pin ≡ Some wire.pin
+  pub ends : IsPin cpus target last pin wire.pin
 
 -- a wire for each line and pin
-abbrev pub AreLed : List Named → List ℕ → List ℕ → List ℕ → List ℕ → List Wire → Type 0
-AreLed names source target [] [] [] = Unit {0}
-AreLed names source target (line ∷ lines) (pin ∷ pins) (wire ∷ wires) =
-    Leads names source line target pin wire × AreLed names source target lines pins wires
-AreLed names source target _ _ _ = ⊥
+abbrev pub AreLed : List Named → List (List ℕ) → List ℕ → List ℕ → List ℕ → List ℕ → List Wire → Type 0
+AreLed names cpus source target [] [] [] = Unit {0}
+AreLed names cpus source target (line ∷ lines) (pin ∷ pins) (wire ∷ wires) =
+    Leads names cpus source line target pin wire × AreLed names cpus source target lines pins wires
+AreLed names cpus source target _ _ _ = ⊥
 
 -- these are the wires of the connections in their order, and no others
-abbrev pub AreConnected : List Named → List Connection → List Wire → Type 0
-AreConnected names [] wires = wires ≡ []
-AreConnected names (c ∷ cs) wires =
+abbrev pub AreConnected : List Named → List (List ℕ) → List Connection → List Wire → Type 0
+AreConnected names cpus [] wires = wires ≡ []
+AreConnected names cpus (c ∷ cs) wires =
     (mine : List Wire) × ((others : List Wire) × ((wires ≡ mine ++ others)
-    × (AreLed names c.source c.target c.lines c.pins mine × AreConnected names cs others)))
+    × (AreLed names cpus c.source c.target c.lines c.pins mine × AreConnected names cpus cs others)))

@@ -1,8 +1,8 @@
--- How many peripherals of a type a board has.
+-- The peripherals of a type: how many a board has, and the first.
 use Rattle.std.specs.Prelude.{ℕ, ◌+◌, nat_le, nat_lt, Bool, false, not, ◌&&◌, ◌||◌, List, Option, Some, None}
-use Rattle.std.specs.Prelude.{count_by, if◌then◌else◌}
+use Rattle.std.specs.Prelude.{count_by, find, if◌then◌else◌}
 use Rattle.std.specs.List.{list_any, sum_by}
-use Rattle.sys_bus.specs.Limits.{most_memories, most_memory, most_uarts, most_cans, most_finishers}
+use Rattle.sys_bus.specs.Limits.{most_processors, most_memories, most_memory, most_uarts, most_cans, most_finishers}
 use Rattle.repl_build.specs.declared.merge.Peripheral.{Peripheral}
 use Rattle.repl_build.specs.declared.types.PeripheralType.{PeripheralType}
 use Rattle.repl_build.specs.declared.types.PeripheralType.TheVariants.{Cpu, Memory, Clint, Plic, Uart, Can, Finisher}
@@ -10,7 +10,7 @@ use Rattle.repl_build.specs.Places.{size_of}
 use Rattle.repl_build.specs.Types.{is_type}
 
 abbrev pub most_of : PeripheralType → ℕ
-most_of Cpu = 1
+most_of Cpu = most_processors
 most_of Memory = most_memories
 most_of Clint = 1
 most_of Plic = 1
@@ -20,6 +20,10 @@ most_of Finisher = most_finishers
 
 abbrev pub count_of : List Peripheral → PeripheralType → ℕ
 count_of peripherals type_ = count_by (λ p. is_type type_ p.kind) peripherals
+
+-- the first peripheral of a type
+abbrev pub first_with : PeripheralType → List Peripheral → Option Peripheral
+first_with type_ peripherals = find (λ p. is_type type_ p.kind) peripherals
 
 abbrev pub are_as_many_as_may_be : List Peripheral → Option PeripheralType → Bool
 are_as_many_as_may_be before (Some type_) = nat_le (most_of type_) (count_of before type_)

@@ -1,5 +1,5 @@
 -- Words in which the laws of plans are said: what the entries with types tell, and what a plan has.
-use Rattle.std.specs.Prelude.{ℕ, List, [], ◌∷◌, Option, None, Some, slice_get}
+use Rattle.std.specs.Prelude.{ℕ, List, [], ◌∷◌, Option, None, Some, slice_get, if◌then◌else◌}
 use Rattle.dev_core.specs.declared.kind.Kind.{Kind}
 use Rattle.dev_core.specs.declared.kind.Kind.TheVariants as device
 use Rattle.repl_read.specs.declared.entry.Entry.{Entry}
@@ -18,7 +18,7 @@ use Rattle.repl_build.specs.declared.types.PeripheralType.{PeripheralType}
 use Rattle.repl_build.specs.declared.types.PeripheralType.TheVariants.{Cpu, Memory, Clint, Plic, Uart, Can, Finisher}
 use Rattle.repl_build.specs.Merge.{merged_items}
 use Rattle.repl_build.specs.Places.{usual_size}
-use Rattle.repl_build.specs.Types.{type_of}
+use Rattle.repl_build.specs.Types.{is_type, type_of}
 
 -- the name of an entry with a type
 abbrev pub typed_name : Head → List (List ℕ)
@@ -31,6 +31,12 @@ abbrev pub typed_type : Head → List (Option PeripheralType)
 typed_type (Typed name type_name at) = type_of type_name ∷ []
 typed_type (Using file) = []
 typed_type (Update name) = []
+
+-- its name, if it is a processor
+abbrev pub processor_name : Head → List (List ℕ)
+processor_name (Typed name type_name at) = if is_type Cpu (type_of type_name) then name ∷ [] else []
+processor_name (Using file) = []
+processor_name (Update name) = []
 
 -- The first address and the size of what is registered at an address. Where no range says the size, it is that of the
 -- type, or a memory's attribute.
@@ -50,7 +56,7 @@ typed_place entries entry (Update name) = []
 abbrev pub place_in : Region → ℕ × ℕ
 place_in region = (region.base, region.size)
 
--- the part that a name stands for, unless it is the processor's
+-- the part that a name stands for, unless it is a processor's
 abbrev pub part_by : NamedWhat → List RegionKind
 part_by what.Cpu = []
 part_by (what.Part part) = part ∷ []

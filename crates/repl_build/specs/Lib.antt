@@ -9,6 +9,7 @@ pub mod Names
 pub mod Numbers
 pub mod Places
 pub mod Plan
+pub mod Processors
 pub mod Questions
 pub mod References
 pub mod Rules

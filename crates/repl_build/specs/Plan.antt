@@ -1,7 +1,7 @@
 -- The plan of the board that entries describe, or their first fault.
-use Rattle.std.specs.Prelude.{◌≡◌, ℕ, List, [], ◌∷◌, ◌++◌, Option, Some, None, Result, Ok, Err, find}
+use Rattle.std.specs.Prelude.{◌≡◌, ℕ, List, [], ◌∷◌, ◌++◌, Option, Some, None, Result, Ok, Err, unwrap_or}
 use Rattle.std.specs.Prelude.{codes, map, filter, false}
-use Rattle.std.specs.List.{filter_map}
+use Rattle.std.specs.List.{filter_map, sum_by}
 use Rattle.std.specs.Option.{option_map}
 use Rattle.dev_core.specs.declared.kind.Kind.{Kind}
 use Rattle.dev_core.specs.declared.kind.Kind.TheVariants as device
@@ -22,13 +22,14 @@ use Rattle.repl_build.specs.declared.rules.Rule.TheVariants.{Types, Attributes, 
 use Rattle.repl_build.specs.declared.rules.Rule.TheVariants.{References}
 use Rattle.repl_build.specs.declared.types.PeripheralType.{PeripheralType}
 use Rattle.repl_build.specs.declared.types.PeripheralType.TheVariants as kind
-use Rattle.repl_build.specs.Attributes.{number_of, has_compressed}
-use Rattle.repl_build.specs.Counts.{is_bare}
+use Rattle.repl_build.specs.Attributes.{number_of}
+use Rattle.repl_build.specs.Counts.{first_with, is_bare}
 use Rattle.repl_build.specs.First.{◌>>=◌, refuse, fault_if}
 use Rattle.repl_build.specs.Merge.{merged}
 use Rattle.repl_build.specs.Names.{repeated, untyped}
 use Rattle.repl_build.specs.Numbers.{devices_of, what_of}
 use Rattle.repl_build.specs.Places.{base_of, size_of, step_of}
+use Rattle.repl_build.specs.Processors.{cpus_of, first_letters, speed_of}
 use Rattle.repl_build.specs.Rules.{broken}
 use Rattle.repl_build.specs.Types.{is_type}
 use Rattle.repl_build.specs.Wires.{placed_wires, items_wires}
@@ -66,10 +67,6 @@ kind_by _ = None
 abbrev pub kinds_of : List Peripheral → List Kind
 kinds_of all = filter_map (λ p. kind_by p.kind) all
 
--- the first peripheral of a type
-abbrev pub first_with : PeripheralType → List Peripheral → Option Peripheral
-first_with type_ peripherals = find (λ p. is_type type_ p.kind) peripherals
-
 abbrev pub clint_frequency : Peripheral → ℕ
 clint_frequency p = number_of (codes "frequency") 0 p.items
 
@@ -86,27 +83,9 @@ plic_size_of p =
 abbrev pub plic_of : List Peripheral → Option PlicSize
 plic_of peripherals = option_map plic_size_of (first_with kind.Plic peripherals)
 
-abbrev pub speed_in : Option Peripheral → ℕ
-speed_in None = 100
-speed_in (Some p) = number_of (codes "PerformanceInMips") 100 p.items
-
-abbrev pub speed_of : List Peripheral → ℕ
-speed_of all = speed_in (first_with kind.Cpu all)
-
-abbrev pub cpu_name_in : Option Peripheral → List ℕ
-cpu_name_in None = []
-cpu_name_in (Some p) = p.name
-
-abbrev pub cpu_name_of : List Peripheral → List ℕ
-cpu_name_of all = cpu_name_in (first_with kind.Cpu all)
-
--- the optional extensions of the processor
-abbrev pub letters_in : Option Peripheral → Letters
-letters_in None = record { a = false; c = false }
-letters_in (Some p) = record { a = false; c = has_compressed p.items }
-
+-- the letters of the processors, which all have the same
 abbrev pub letters_of : List Peripheral → Letters
-letters_of all = letters_in (first_with kind.Cpu all)
+letters_of all = unwrap_or (first_letters all) (record { a = false; c = false })
 
 -- test 11, and the wires in the order of peripherals, items and pairs
 abbrev pub wires_from : Option PlicSize → List Peripheral → List Peripheral → List Peripheral →
@@ -130,8 +109,8 @@ plan_with all wires =
       frequency = frequency_of all;
       plic = plic_of all;
       wires = wires;
-      speed = speed_of all;
-      cpu = cpu_name_of all;
+      speed = sum_by speed_of all;
+      cpus = cpus_of all;
       letters = letters_of all;
     }
 

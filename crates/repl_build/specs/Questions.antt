@@ -40,7 +40,7 @@ typed_asked before entry = ask Reference entry.file entry.line (lacks_type befor
 abbrev pub peripheral_asked : Rule → List Peripheral → List Peripheral → Peripheral → List Question
 peripheral_asked r all before p =
     ask (cause_of r) p.file p.line (breaks r before p)
-    ∷ map (λ item. ask (cause_of r) item.file item.line (item_breaks r all p item)) p.items
+    ∷ map (λ item. ask (cause_of r) item.file item.line (item_breaks r all before p item)) p.items
 
 abbrev pub rule_asked : Rule → List Peripheral → List Question
 rule_asked r all = each (peripheral_asked r all) [] all

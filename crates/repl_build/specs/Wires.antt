@@ -1,5 +1,5 @@
--- The wires: interrupt lines, connected one by one with pins of the processor or sources of the PLIC.
-use Rattle.std.specs.Prelude.{ℕ, ◌+◌, ◌-◌, ◌==◌, nat_le, Bool, true, false, ◌||◌, if◌then◌else◌, List, []}
+-- The wires: interrupt lines, connected one by one with pins of the processors or sources of the PLIC.
+use Rattle.std.specs.Prelude.{ℕ, ◌+◌, ◌-◌, ◌==◌, nat_le, Bool, true, ◌||◌, if◌then◌else◌, List, []}
 use Rattle.std.specs.Prelude.{◌∷◌, ◌++◌, Option, Some, None, Result, Ok, Err}
 use Rattle.std.specs.List.{list_all, flat_map, range_with_len}
 use Rattle.repl_read.specs.declared.entry.Ends.{Ends}
@@ -22,8 +22,9 @@ use Rattle.repl_build.specs.declared.merge.Peripheral.{Peripheral}
 use Rattle.repl_build.specs.declared.merge.PlacedItem.{PlacedItem}
 use Rattle.repl_build.specs.declared.types.PeripheralType.{PeripheralType}
 use Rattle.repl_build.specs.declared.types.PeripheralType.TheVariants as kind
+use Rattle.repl_build.specs.Counts.{count_of}
 use Rattle.repl_build.specs.First.{◌>>=◌}
-use Rattle.repl_build.specs.References.{names_a}
+use Rattle.repl_build.specs.Processors.{hart_of}
 use Rattle.repl_build.specs.Types.{is_type}
 
 abbrev pub numbers_of : Span → List ℕ
@@ -48,20 +49,23 @@ line_of plic (Some kind.Uart) dev line = if line == 0 then Some (Dev dev) else N
 line_of plic (Some kind.Can) dev line = if line == 0 then Some (Dev dev) else None
 line_of plic _ dev line = None
 
-abbrev pub pin_by : Bool → ℕ → WirePin
-pin_by true pin = Cpu pin
-pin_by false pin = Source pin
+-- the pin of the processor of this number, or else a source of the PLIC
+abbrev pub pin_by : Option ℕ → ℕ → WirePin
+pin_by (Some hart) pin = Cpu hart pin
+pin_by None pin = Source pin
 
-abbrev pub wire_if : Option PlicSize → WireFrom → WirePin → Option Wire
-wire_if plic from pin = if may_end plic from pin then Some (record { from = from; pin = pin }) else None
+abbrev pub wire_if : Option PlicSize → ℕ → WireFrom → WirePin → Option Wire
+wire_if plic processors from pin =
+    if may_end plic processors from pin then Some (record { from = from; pin = pin }) else None
 
-abbrev pub wire_by : Option PlicSize → Option WireFrom → WirePin → Option Wire
-wire_by plic None pin = None
-wire_by plic (Some from) pin = wire_if plic from pin
+abbrev pub wire_by : Option PlicSize → ℕ → Option WireFrom → WirePin → Option Wire
+wire_by plic processors None pin = None
+wire_by plic processors (Some from) pin = wire_if plic processors from pin
 
--- the wire from a line to a pin, if it is one that a board may have
-abbrev pub wire_at : Option PlicSize → Option PeripheralType → ℕ → Bool → ℕ → ℕ → Option Wire
-wire_at plic type_ dev to_cpu line pin = wire_by plic (line_of plic type_ dev line) (pin_by to_cpu pin)
+-- the wire from a line to a pin, if it is one that a board of so many processors may have
+abbrev pub wire_at : Option PlicSize → ℕ → Option PeripheralType → ℕ → Option ℕ → ℕ → ℕ → Option Wire
+wire_at plic processors type_ dev hart line pin =
+    wire_by plic processors (line_of plic type_ dev line) (pin_by hart pin)
 
 abbrev pub in_front : Option Wire → Option (List Wire) → Option (List Wire)
 in_front (Some wire) (Some wires) = Some (wire ∷ wires)
@@ -82,17 +86,18 @@ abbrev pub has_ends : Option PeripheralType → Ends → Bool
 has_ends type_ Irq = is_type kind.Uart type_ || is_type kind.Can type_
 has_ends type_ _ = true
 
-abbrev pub wires_between : Option PlicSize → Option PeripheralType → ℕ → Bool → Ends → Ends → Option (List Wire)
-wires_between plic type_ dev to_cpu from pins =
+abbrev pub wires_between : Option PlicSize → ℕ → Option PeripheralType → ℕ → Option ℕ → Ends → Ends →
+    Option (List Wire)
+wires_between plic processors type_ dev hart from pins =
     if has_ends type_ from
-    then wired_ends (wire_at plic type_ dev to_cpu) (ends_of from) (ends_of pins)
+    then wired_ends (wire_at plic processors type_ dev hart) (ends_of from) (ends_of pins)
     else None
 
 -- the wires of an item of the device with this number
 abbrev pub item_wires : Option PlicSize → List Peripheral → Option PeripheralType → ℕ → ItemWhat → Option (List Wire)
 item_wires plic all type_ dev (item.Attribute key value) = Some []
 item_wires plic all type_ dev (item.Wire from to pins) =
-    wires_between plic type_ dev (names_a kind.Cpu all to) from pins
+    wires_between plic (count_of all kind.Cpu) type_ dev (hart_of all to) from pins
 
 abbrev pub wires_or : PlatFault → Option (List Wire) → Result (List Wire) PlatFault
 wires_or fault (Some wires) = Ok wires

@@ -2,8 +2,10 @@
 ghost use Rattle.std.specs.Prelude.{◌≡◌, find};
 ghost use Rattle.std.specs.Option.{option_map};
 ghost use Rattle.repl_build.specs.Attributes as attribute;
+ghost use Rattle.repl_build.specs.Counts.{count_of};
 
-use crate::merge::PlacedItem;
+use crate::counts::count_of;
+use crate::merge::{Peripheral, PlacedItem};
 use crate::names::has_key;
 use crate::types::PeripheralType;
 use repl_read::{ItemWhat, Place, Value};
@@ -20,6 +22,8 @@ pub(crate) enum Sort {
     Flag,
     /// `true` alone.
     Yes,
+    /// The number of the processor itself.
+    Hart,
     /// A number from the least to the most.
     Within { least: u32, most: u32 },
     /// The size of a memory in bytes.
@@ -32,7 +36,7 @@ fn cpu_sort(key: &str) -> Option<Sort>
     match key {
         "cpuType" => Some(Sort::Quoted),
         "timeProvider" => Some(Sort::Reference),
-        "hartId" => Some(Sort::Within { least: 0, most: 0 }),
+        "hartId" => Some(Sort::Hart),
         "PerformanceInMips" => Some(Sort::Within {
             least: 1,
             most: MOST_SPEED,
@@ -130,34 +134,43 @@ fn fits_range(at: Place, n: u32) -> bool
     }
 }
 
-fn takes(sort: Sort, at: Place, value: &Value) -> bool
-    ensures { result ≡ attribute.takes sort at value.now }
+/// Whether an attribute of what stands at a place, after these, takes a value.
+fn takes(sort: Sort, before: &[Peripheral], at: Place, value: &Value) -> bool
+    ensures { result ≡ attribute.takes sort (count_of before.now PeripheralType.Cpu) at value.now }
 {
     match (sort, value) {
         (Sort::Quoted, Value::Words(_)) => true,
         (Sort::Reference, Value::Name(_)) => true,
         (Sort::Flag, Value::Truth(_)) => true,
         (Sort::Yes, Value::Truth(truth)) => *truth,
+        (Sort::Hart, Value::Number(n)) => *n as usize == count_of(before, PeripheralType::Cpu),
         (Sort::Within { least, most }, Value::Number(n)) => least <= *n && *n <= most,
         (Sort::Size, Value::Number(n)) => is_memory_size(*n) && fits_range(at, *n),
         _ => false,
     }
 }
 
-/// Whether an attribute's value is of another sort than it takes, or out of range.
-pub(crate) fn is_refused(kind: Option<PeripheralType>, at: Place, what: &ItemWhat) -> bool
-    ensures { result ≡ attribute.is_refused kind at what.now }
+/// Whether an attribute's value is of another sort than it takes, or out of range, where these stand
+/// before it.
+pub(crate) fn is_refused(
+    kind: Option<PeripheralType>,
+    before: &[Peripheral],
+    at: Place,
+    what: &ItemWhat,
+) -> bool
+    ensures { result ≡ attribute.is_refused kind (count_of before.now PeripheralType.Cpu) at what.now }
 {
     match what {
         ItemWhat::Attribute { key, value } => match sort_of(kind, key.as_str()) {
-            Some(sort) => !takes(sort, at, value),
+            Some(sort) => !takes(sort, before, at, value),
             None => false,
         },
         ItemWhat::Wire { .. } => false,
     }
 }
 
-fn item_of<'a>(key: &str, items: &'a [PlacedItem]) -> Option<&'a PlacedItem>
+/// An attribute's item, if it stands there.
+pub(crate) fn item_of<'a>(key: &str, items: &'a [PlacedItem]) -> Option<&'a PlacedItem>
     ensures { option_map (λ item. item.now) result ≡ attribute.item_of key.now items.now }
 {
     items.iter().find(|item| has_key(key, &item.what))
@@ -211,57 +224,5 @@ pub(crate) fn is_set(key: &str, items: &[PlacedItem]) -> bool
     match item_of(key, items) {
         Some(item) => is_true(&item.what),
         None => false,
-    }
-}
-
-/// Whether a processor of this type has compressed instructions.
-fn is_compressed_core(text: &str) -> bool
-    ensures { result ≡ attribute.is_compressed_core text.now }
-{
-    text == "rv32imc" || text == "rv32imc_zicsr" || text == "rv32imc_zicsr_zifencei"
-}
-
-fn is_compressed(what: &ItemWhat) -> bool
-    ensures { result ≡ attribute.is_compressed what.now }
-{
-    match what {
-        ItemWhat::Attribute {
-            value: Value::Words(text),
-            ..
-        } => is_compressed_core(text.as_str()),
-        _ => false,
-    }
-}
-
-/// Whether a processor of these attributes has compressed instructions.
-pub(crate) fn has_compressed(items: &[PlacedItem]) -> bool
-    ensures { result ≡ attribute.has_compressed items.now }
-{
-    match item_of("cpuType", items) {
-        Some(item) => is_compressed(&item.what),
-        None => false,
-    }
-}
-
-/// Whether a processor of this type is built.
-fn is_core(text: &str) -> bool
-    ensures { result ≡ attribute.is_core text.now }
-{
-    text == "rv32im"
-        || text == "rv32im_zicsr"
-        || text == "rv32im_zicsr_zifencei"
-        || is_compressed_core(text)
-}
-
-/// Whether this is a `cpuType` that is not built.
-pub(crate) fn is_other_core(what: &ItemWhat) -> bool
-    ensures { result ≡ attribute.is_other_core what.now }
-{
-    match what {
-        ItemWhat::Attribute {
-            key,
-            value: Value::Words(text),
-        } => key.as_str() == "cpuType" && !is_core(text.as_str()),
-        _ => false,
     }
 }

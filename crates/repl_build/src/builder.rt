@@ -34,10 +34,13 @@ fn plan_or_fault(alloc: Global, entries: &[Entry]) -> Result<BoardPlan, PlatFaul
 /// name typed before, or an attribute twice in one entry), `Reference` (further items of a name that
 /// is not typed before), `TypeName`, `Attribute` (one that the type does not have), `Missing` (a
 /// required attribute or registration), `Value` (of another sort or out of range, an address or a
-/// size too), `Core` (a processor that is not built), `Count` (an entry too many, or a memory by which
-/// all have more than 64 MiB; in file 0 and line 0 where there is no processor or no memory),
-/// `Overlap` (also an entry that ends past 2^32), `Reference` (a time provider that is no CLINT, or a
-/// wire to neither the processor nor a PLIC) and `Line` (lines and pins of a wire that do not fit).
+/// size too, or a `hartId` other than the processor's place among the processors; at a processor's
+/// entry, before its items, a speed other than the first processor's, or by which all do more than
+/// 1000 instructions in a microsecond), `Core` (a processor that is not built, or of other letters
+/// than the first), `Count` (an entry too many, or a memory by which all have more than 64 MiB; in
+/// file 0 and line 0 where there is no processor or no memory), `Overlap` (also an entry that ends
+/// past 2^32), `Reference` (a time provider that is no CLINT, or a wire to neither a processor nor a
+/// PLIC) and `Line` (lines and pins of a wire that do not fit).
 /// From `TypeName` on, the further items of an entry stand in the entry that gives the name its type.
 /// `Memory` is answered where memory is wanting alone.
 ///

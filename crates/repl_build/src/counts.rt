@@ -1,19 +1,20 @@
-//! How many peripherals of a type a board has.
+//! The peripherals of a type: how many a board has, and the first.
 ghost use Rattle.std.specs.Prelude.{◌≡◌, ◌+◌, nat_lt};
 ghost use Rattle.std.specs.List.{sum_by};
+ghost use Rattle.std.specs.Option.{option_map};
 ghost use Rattle.sys_bus.specs.Limits as limit;
 ghost use Rattle.repl_build.specs.Counts as counts_spec;
 
 use crate::merge::Peripheral;
 use crate::places::size_of;
 use crate::types::{PeripheralType, is_type};
-use sys_bus::{MOST_CANS, MOST_FINISHERS, MOST_MEMORIES, MOST_MEMORY, MOST_UARTS};
+use sys_bus::{MOST_CANS, MOST_FINISHERS, MOST_MEMORIES, MOST_MEMORY, MOST_PROCESSORS, MOST_UARTS};
 
 fn most_of(kind: PeripheralType) -> usize
     ensures { result ≡ counts_spec.most_of kind }
 {
     match kind {
-        PeripheralType::Cpu => 1,
+        PeripheralType::Cpu => MOST_PROCESSORS,
         PeripheralType::Memory => MOST_MEMORIES,
         PeripheralType::Clint => 1,
         PeripheralType::Plic => 1,
@@ -27,6 +28,13 @@ pub(crate) fn count_of(peripherals: &[Peripheral], kind: PeripheralType) -> usiz
     ensures { result ≡ counts_spec.count_of peripherals.now kind }
 {
     peripherals.iter().filter(|p| is_type(kind, p.kind)).count()
+}
+
+/// The first peripheral of a type.
+pub(crate) fn first_with(kind: PeripheralType, all: &[Peripheral]) -> Option<&Peripheral>
+    ensures { option_map (λ p. p.now) result ≡ counts_spec.first_with kind all.now }
+{
+    all.iter().find(|p| is_type(kind, p.kind))
 }
 
 fn are_as_many_as_may_be(before: &[Peripheral], kind: Option<PeripheralType>) -> bool

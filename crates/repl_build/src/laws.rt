@@ -11,7 +11,8 @@ ghost use Rattle.sys_bus.specs.declared.plan.BoardPlan.{BoardPlan};
 ghost use Rattle.sys_bus.specs.declared.region.Region.{Region};
 ghost use Rattle.sys_bus.specs.Region.{HasByte};
 ghost use Rattle.repl_build.specs.Connections.{AreConnected, connections};
-ghost use Rattle.repl_build.specs.Laws.{part_of, place_in, type_in, typed_name, typed_place, typed_type};
+ghost use Rattle.repl_build.specs.Laws.{part_of, place_in, processor_name, type_in, typed_name, typed_place};
+ghost use Rattle.repl_build.specs.Laws.{typed_type};
 ghost use Rattle.repl_build.specs.Names.{are_named, is_typed};
 ghost use Rattle.repl_build.specs.Plan.{built};
 ghost use Rattle.repl_build.specs.Questions.{IsFirstBroken, is_kept, questions};
@@ -44,14 +45,17 @@ pub fn an_address_has_one_part()
 }
 
 /// The names of a plan are those of the entries with types, in the order of the text, and each stands
-/// for the processor or a part of its entry's type. The regions are those of the named parts, in the
-/// same order, and each has the address and the size of its entry.
+/// for a processor or a part of its entry's type. The processors are those of the text, in its order.
+/// The regions are those of the named parts, in the same order, and each has the address and the size
+/// of its entry.
 pub fn each_typed_entry_has_its_part()
     ensures names { (entries : List Entry) (plan : BoardPlan) → built entries ≡ Ok plan →
         map (λ named. named.name) plan.names ≡ flat_map (λ entry. typed_name entry.head) entries }
     ensures types { (entries : List Entry) (plan : BoardPlan) → built entries ≡ Ok plan →
         map (λ named. type_in plan.kinds named.what) plan.names
         ≡ flat_map (λ entry. typed_type entry.head) entries }
+    ensures processors { (entries : List Entry) (plan : BoardPlan) → built entries ≡ Ok plan →
+        plan.cpus ≡ flat_map (λ entry. processor_name entry.head) entries }
     ensures parts { (entries : List Entry) (plan : BoardPlan) → built entries ≡ Ok plan →
         map (λ region. region.kind) plan.regions ≡ flat_map part_of plan.names }
     ensures places { (entries : List Entry) (plan : BoardPlan) → built entries ≡ Ok plan →
@@ -60,10 +64,11 @@ pub fn each_typed_entry_has_its_part()
 
 /// The wires of a plan are those that the text tells and no others, in the order of the entries with
 /// types: those of the items in the entry, and then those of its further items. Each leads from the
-/// line of what the one name stands for in the plan to the pin of what the other stands for.
+/// line of what the one name stands for in the plan to the pin of what the other stands for: to a
+/// processor under the number of the one that has the name.
 pub fn each_wire_is_one_of_the_text()
     ensures { (entries : List Entry) (plan : BoardPlan) → built entries ≡ Ok plan →
-        AreConnected plan.names (connections entries) plan.wires }
+        AreConnected plan.names plan.cpus (connections entries) plan.wires }
 {}
 
 /// The first further items of a name count like the same items written in the entry that gives the

@@ -11,6 +11,7 @@ mod names;
 mod numbers;
 mod places;
 mod plan;
+mod processors;
 mod references;
 mod rules;
 mod seen;

@@ -1,14 +1,17 @@
 //! The plan of peripherals that keep all rules.
 ghost use Rattle.std.specs.Prelude.{◌≡◌, ◌<◌, [], IfOk, IfErr, option_to_list};
-ghost use Rattle.std.specs.Option.{option_map};
+ghost use Rattle.std.specs.List.{sum_by};
 ghost use Rattle.repl_build.specs.Inner.Tested.{IsTested};
 ghost use Rattle.repl_build.specs.Numbers.{AreFew};
 ghost use Rattle.repl_build.specs.Plan as plan_spec;
+ghost use Rattle.repl_build.specs.Processors as processor;
 
-use crate::attributes::{has_compressed, number_of};
+use crate::attributes::number_of;
+use crate::counts::{count_of, first_with};
 use crate::merge::Peripheral;
 use crate::numbers::what_of;
 use crate::places::{base_of, size_of, step_of};
+use crate::processors::{first_letters, speed_of};
 use crate::types::{PeripheralType, is_type};
 use crate::wires::wires_of;
 use dev_core::Kind;
@@ -33,7 +36,7 @@ fn names_of(alloc: Global, all: &[Peripheral]) -> Result<Rows<Named>, PlatFault>
     Ok(Rows::of(names))
 }
 
-/// The region of a peripheral, unless it is the processor.
+/// The region of a peripheral, unless it is a processor.
 fn region_by(p: &Peripheral, what: Option<NamedWhat>) -> Option<Region>
     ensures { option_to_list result ≡ plan_spec.region_by p.now what }
 {
@@ -87,6 +90,20 @@ fn kind_by(kind: Option<PeripheralType>) -> Option<Kind>
     }
 }
 
+/// The names of the processors.
+fn cpus_of(alloc: Global, all: &[Peripheral]) -> Result<Rows<Text>, PlatFault>
+    ensures ok { IfOk result (λ names. names ≡ processor.cpus_of all.now) }
+    ensures err { IfErr result (λ fault. fault ≡ PlatFault.Memory) }
+{
+    let mut names = Vec::new(alloc);
+    for p in all {
+        if is_type(PeripheralType::Cpu, p.kind) {
+            names.push(p.name.clone()?)?;
+        }
+    }
+    Ok(Rows::of(names))
+}
+
 /// The kinds of the devices.
 fn kinds_of(alloc: Global, all: &[Peripheral]) -> Result<Rows<Kind>, PlatFault>
     ensures ok { IfOk result (λ kinds. kinds ≡ plan_spec.kinds_of all.now) }
@@ -99,13 +116,6 @@ fn kinds_of(alloc: Global, all: &[Peripheral]) -> Result<Rows<Kind>, PlatFault>
         }
     }
     Ok(Rows::of(kinds))
-}
-
-/// The first peripheral of a type.
-fn first_with(kind: PeripheralType, all: &[Peripheral]) -> Option<&Peripheral>
-    ensures { option_map (λ p. p.now) result ≡ plan_spec.first_with kind all.now }
-{
-    all.iter().find(|p| is_type(kind, p.kind))
 }
 
 /// Ticks of the timer in a second, where there is a timer.
@@ -141,35 +151,25 @@ fn plic_of(all: &[Peripheral]) -> Option<PlicSize>
     }
 }
 
-/// Instructions in a microsecond.
-fn speed_of(all: &[Peripheral]) -> u32
-    ensures { result ≡ plan_spec.speed_of all.now }
+/// Instructions in a microsecond of all processors, which are equally fast.
+fn speed_of_all(all: &[Peripheral]) -> u32
+    requires { IsTested all.now }
+    ensures { result ≡ sum_by processor.speed_of all.now }
 {
     match first_with(PeripheralType::Cpu, all) {
-        Some(cpu) => number_of("PerformanceInMips", 100, cpu.items.items()),
-        None => 100,
+        Some(first) => count_of(all, PeripheralType::Cpu) as u32 * speed_of(first),
+        None => 0,
     }
 }
 
-/// The name of the processor.
-fn cpu_name_of(all: &[Peripheral]) -> &str
-    ensures { result.now ≡ plan_spec.cpu_name_of all.now }
-{
-    match first_with(PeripheralType::Cpu, all) {
-        Some(cpu) => cpu.name.as_str(),
-        None => "",
-    }
-}
-
-/// The optional extensions of the processor.
+/// The optional extensions of the processors.
 fn letters_of(all: &[Peripheral]) -> Letters
     ensures { result ≡ plan_spec.letters_of all.now }
 {
-    let c = match first_with(PeripheralType::Cpu, all) {
-        Some(cpu) => has_compressed(cpu.items.items()),
-        None => false,
-    };
-    Letters { a: false, c }
+    match first_letters(all) {
+        Some(letters) => letters,
+        None => Letters { a: false, c: false },
+    }
 }
 
 /// The lists of a plan, apart from its wires.
@@ -179,6 +179,7 @@ struct Lists {
     regions: Rows<Region>,
     memories: Rows<u32>,
     kinds: Rows<Kind>,
+    cpus: Rows<Text>,
 }
 
 fn lists_of(alloc: Global, all: &[Peripheral]) -> Result<Lists, PlatFault>
@@ -188,17 +189,20 @@ fn lists_of(alloc: Global, all: &[Peripheral]) -> Result<Lists, PlatFault>
         (λ lists. lists.regions ≡ plan_spec.each plan_spec.region_of [] all.now) }
     ensures memories { IfOk result (λ lists. lists.memories ≡ plan_spec.memories_of all.now) }
     ensures kinds { IfOk result (λ lists. lists.kinds ≡ plan_spec.kinds_of all.now) }
+    ensures cpus { IfOk result (λ lists. lists.cpus ≡ processor.cpus_of all.now) }
     ensures err { IfErr result (λ fault. fault ≡ PlatFault.Memory) }
 {
     let names = names_of(alloc, all)?;
     let regions = regions_of(alloc, all)?;
     let memories = memories_of(alloc, all)?;
     let kinds = kinds_of(alloc, all)?;
+    let cpus = cpus_of(alloc, all)?;
     Ok(Lists {
         names,
         regions,
         memories,
         kinds,
+        cpus,
     })
 }
 
@@ -209,7 +213,6 @@ pub(crate) fn plan_of(alloc: Global, all: &[Peripheral]) -> Result<BoardPlan, Pl
 {
     let plic = plic_of(all);
     let wires = wires_of(alloc, plic, all)?;
-    let cpu = Text::of(alloc, cpu_name_of(all))?;
     let lists = lists_of(alloc, all)?;
     Ok(BoardPlan {
         names: lists.names,
@@ -219,8 +222,8 @@ pub(crate) fn plan_of(alloc: Global, all: &[Peripheral]) -> Result<BoardPlan, Pl
         frequency: frequency_of(all),
         plic,
         wires,
-        speed: speed_of(all),
-        cpu,
+        speed: speed_of_all(all),
+        cpus: lists.cpus,
         letters: letters_of(all),
     })
 }

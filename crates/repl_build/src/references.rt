@@ -15,7 +15,7 @@ pub(crate) fn names_a(kind: PeripheralType, peripherals: &[Peripheral], name: &s
         .any(|p| is_type(kind, p.kind) && p.name.as_str() == name)
 }
 
-/// Whether an item names a time provider that is no CLINT, or a destination that is neither the
+/// Whether an item names a time provider that is no CLINT, or a destination that is neither a
 /// processor nor a PLIC.
 pub(crate) fn refers_to_none(all: &[Peripheral], what: &ItemWhat) -> bool
     ensures { result ≡ reference.refers_to_none all.now what.now }

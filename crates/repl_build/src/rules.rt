@@ -3,11 +3,12 @@ ghost use Rattle.std.specs.Prelude.{◌≡◌};
 ghost use Rattle.repl_build.specs.Plan.{tested};
 ghost use Rattle.repl_build.specs.Rules as rules_spec;
 
-use crate::attributes::{is_other_core, is_refused, is_unknown};
+use crate::attributes::{is_refused, is_unknown};
 use crate::counts::{is_bare, is_one_too_many};
 use crate::fault::{fault_if, refuse};
 use crate::merge::{Peripheral, PlacedItem};
 use crate::places::{collides, is_lacking, is_misplaced};
+use crate::processors::{is_other_core, is_out_of_step};
 use crate::references::refers_to_none;
 use repl_read::{PlatCause, PlatFault};
 
@@ -20,9 +21,9 @@ pub(crate) enum Rule {
     Attributes,
     /// What a type requires is there.
     Required,
-    /// Values, addresses and sizes are of their sort and in range.
+    /// Values, addresses and sizes are of their sort and in range, and processors equally fast.
     Values,
-    /// The processor is one that is built.
+    /// The processors are some that are built, all with the same letters.
     Core,
     /// There are no more of a type, and no more bytes of memory, than a board may have.
     Counts,
@@ -54,31 +55,42 @@ fn breaks(rule: Rule, before: &[Peripheral], p: &Peripheral) -> bool
     match rule {
         Rule::Types => p.kind.is_none(),
         Rule::Required => is_lacking(p),
-        Rule::Values => is_misplaced(p),
+        Rule::Values => is_misplaced(p) || is_out_of_step(before, p),
         Rule::Counts => is_one_too_many(before, p),
         Rule::Apart => collides(before, p),
         Rule::Attributes | Rule::Core | Rule::References => false,
     }
 }
 
-/// Whether an item of a peripheral breaks the rule, among all peripherals.
-fn item_breaks(rule: Rule, all: &[Peripheral], p: &Peripheral, item: &PlacedItem) -> bool
-    ensures { result ≡ rules_spec.item_breaks rule all.now p.now item.now }
+/// Whether an item of a peripheral breaks the rule, after those before it and among all.
+fn item_breaks(
+    rule: Rule,
+    all: &[Peripheral],
+    before: &[Peripheral],
+    p: &Peripheral,
+    item: &PlacedItem,
+) -> bool
+    ensures { result ≡ rules_spec.item_breaks rule all.now before.now p.now item.now }
 {
     match rule {
         Rule::Attributes => is_unknown(p.kind, &item.what),
-        Rule::Values => is_refused(p.kind, p.at, &item.what),
-        Rule::Core => is_other_core(&item.what),
+        Rule::Values => is_refused(p.kind, before, p.at, &item.what),
+        Rule::Core => is_other_core(before, &item.what),
         Rule::References => refers_to_none(all, &item.what),
         Rule::Types | Rule::Required | Rule::Counts | Rule::Apart => false,
     }
 }
 
-fn items_fault(rule: Rule, all: &[Peripheral], p: &Peripheral) -> Option<PlatFault>
-    ensures { result ≡ rules_spec.items_fault rule all.now p.now }
+fn items_fault(
+    rule: Rule,
+    all: &[Peripheral],
+    before: &[Peripheral],
+    p: &Peripheral,
+) -> Option<PlatFault>
+    ensures { result ≡ rules_spec.items_fault rule all.now before.now p.now }
 {
     for item in p.items.items() {
-        let breaks = item_breaks(rule, all, p, item);
+        let breaks = item_breaks(rule, all, before, p, item);
         let fault = fault_if(breaks, item.file, item.line, cause_of(rule));
         if fault.is_some() {
             return fault;
@@ -97,7 +109,7 @@ fn peripheral_fault(
 {
     match fault_if(breaks(rule, before, p), p.file, p.line, cause_of(rule)) {
         Some(fault) => Some(fault),
-        None => items_fault(rule, all, p),
+        None => items_fault(rule, all, before, p),
     }
 }
 

@@ -1,13 +1,15 @@
 //! The wires: interrupt lines, connected one by one with pins.
 ghost use Rattle.std.specs.Prelude.{◌≡◌, ◌+◌, ◌++◌, ◌<◌, [], IfOk, IfErr, OnOk, IsTrue, true};
 ghost use Rattle.std.specs.List.{list_all, flat_map};
+ghost use Rattle.repl_build.specs.Counts as counts_spec;
 ghost use Rattle.repl_build.specs.Numbers.{devices_of};
 ghost use Rattle.repl_build.specs.Plan.{Gives, wires_from};
 ghost use Rattle.repl_build.specs.Wires as wires_spec;
 
+use crate::counts::count_of;
 use crate::merge::{Peripheral, PlacedItem};
 use crate::numbers::device_number;
-use crate::references::names_a;
+use crate::processors::hart_of;
 use crate::types::{PeripheralType, is_type};
 use lab_num::Rows;
 use repl_read::{Ends, ItemWhat, PlatCause, PlatFault, Span};
@@ -84,13 +86,12 @@ fn line_of(
     }
 }
 
-fn pin_by(to_cpu: bool, pin: u8) -> WirePin
-    ensures { result ≡ wires_spec.pin_by to_cpu pin }
+fn pin_by(hart: Option<u8>, pin: u8) -> WirePin
+    ensures { result ≡ wires_spec.pin_by hart pin }
 {
-    if to_cpu {
-        WirePin::Cpu(pin)
-    } else {
-        WirePin::Source(pin)
+    match hart {
+        Some(hart) => WirePin::Cpu { hart, pin },
+        None => WirePin::Source(pin),
     }
 }
 
@@ -98,20 +99,25 @@ fn pin_by(to_cpu: bool, pin: u8) -> WirePin
 #[derive(Clone, Copy)]
 struct Between {
     plic: Option<PlicSize>,
+    /// How many processors there are.
+    processors: usize,
     kind: Option<PeripheralType>,
     /// The number of the device at which it begins.
     dev: u8,
-    /// It ends at the processor, otherwise at the interrupt controller.
-    to_cpu: bool,
+    /// The processor at which it ends, or `None` where that is the interrupt controller.
+    hart: Option<u8>,
 }
 
 /// The wire from a line to a pin, if it is one that a board may have.
 fn wire_at(between: Between, line: u8, pin: u8) -> Option<Wire>
-    ensures { result ≡ wires_spec.wire_at between.plic between.kind between.dev between.to_cpu line pin }
+    ensures { result ≡ wires_spec.wire_at
+        between.plic between.processors between.kind between.dev between.hart line pin }
 {
-    let pin = pin_by(between.to_cpu, pin);
+    let pin = pin_by(between.hart, pin);
     match line_of(between.plic, between.kind, between.dev, line) {
-        Some(from) if may_end(between.plic, from, pin) => Some(Wire { from, pin }),
+        Some(from) if may_end(between.plic, between.processors, from, pin) => {
+            Some(Wire { from, pin })
+        }
         _ => None,
     }
 }
@@ -124,7 +130,8 @@ fn wired(
     pins: &[u8],
 ) -> Result<Option<Rows<Wire>>, PlatFault>
     ensures ok { IfOk result (λ made. made ≡ wires_spec.wired
-        (wires_spec.wire_at between.plic between.kind between.dev between.to_cpu) lines.now pins.now) }
+        (wires_spec.wire_at between.plic between.processors between.kind between.dev between.hart)
+        lines.now pins.now) }
     ensures err { IfErr result (λ fault. fault ≡ PlatFault.Memory) }
 {
     let mut wires = Vec::new(alloc);
@@ -157,8 +164,8 @@ fn wires_between(
     from: &Ends,
     pins: &Ends,
 ) -> Result<Option<Rows<Wire>>, PlatFault>
-    ensures ok { IfOk result (λ made. made
-        ≡ wires_spec.wires_between between.plic between.kind between.dev between.to_cpu from.now pins.now) }
+    ensures ok { IfOk result (λ made. made ≡ wires_spec.wires_between
+        between.plic between.processors between.kind between.dev between.hart from.now pins.now) }
     ensures err { IfErr result (λ fault. fault ≡ PlatFault.Memory) }
 {
     if !has_ends(between.kind, from) {
@@ -182,6 +189,7 @@ fn item_wires(
     dev: u8,
     what: &ItemWhat,
 ) -> Result<Option<Rows<Wire>>, PlatFault>
+    requires { counts_spec.count_of all.now PeripheralType.Cpu < 256 }
     ensures ok { IfOk result (λ made. made
         ≡ wires_spec.item_wires plic all.now kind dev what.now) }
     ensures err { IfErr result (λ fault. fault ≡ PlatFault.Memory) }
@@ -189,12 +197,12 @@ fn item_wires(
     match what {
         ItemWhat::Attribute { .. } => Ok(Some(Rows::of(Vec::new(alloc)))),
         ItemWhat::Wire { from, to, pins } => {
-            let to_cpu = names_a(PeripheralType::Cpu, all, to.as_str());
             let between = Between {
                 plic,
+                processors: count_of(all, PeripheralType::Cpu),
                 kind,
                 dev,
-                to_cpu,
+                hart: hart_of(all, to.as_str()),
             };
             wires_between(alloc, between, from, pins)
         }
@@ -210,6 +218,7 @@ fn placed_wires(
     dev: u8,
     item: &PlacedItem,
 ) -> Result<Rows<Wire>, PlatFault>
+    requires { counts_spec.count_of all.now PeripheralType.Cpu < 256 }
     ensures { Gives result (wires_spec.placed_wires plic all.now kind dev item.now) }
 {
     match item_wires(alloc, plic, all, kind, dev, &item.what)? {
@@ -241,6 +250,7 @@ fn peripheral_wires(
     p: &Peripheral,
     dev: u8,
 ) -> Result<Rows<Wire>, PlatFault>
+    requires { counts_spec.count_of all.now PeripheralType.Cpu < 256 }
     ensures { Gives result (wires_spec.items_wires
         (wires_spec.placed_wires plic all.now p.now.kind dev) p.now.items) }
 {
@@ -258,7 +268,8 @@ pub(crate) fn wires_of(
     plic: Option<PlicSize>,
     all: &[Peripheral],
 ) -> Result<Rows<Wire>, PlatFault>
-    requires { devices_of all.now < 256 }
+    requires devices { devices_of all.now < 256 }
+    requires processors { counts_spec.count_of all.now PeripheralType.Cpu < 256 }
     ensures { Gives result (wires_from plic all.now [] all.now) }
 {
     let mut wires = Vec::new(alloc);

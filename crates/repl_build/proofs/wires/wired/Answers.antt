@@ -13,5 +13,5 @@ loop-i-preserved c =
     let b = c.args.between in
     let pins : c.loop-i.i < length c.args.pins.now = omega arith in
     rw (c.in_ok-push.ensures {u = tt}).items
-    (wired_more (wire_at b.plic b.kind b.dev b.to_cpu) c.args.lines.now c.args.pins.now c.loop-i.i c.in-Some.wire
-    c.loop-i.wires.items _ c.loop-i-test.true pins (sym (c.in-Some.ensures {u = tt})) c.loop-i.invariant)
+    (wired_more (wire_at b.plic b.processors b.kind b.dev b.hart) c.args.lines.now c.args.pins.now c.loop-i.i
+    c.in-Some.wire c.loop-i.wires.items _ c.loop-i-test.true pins (sym (c.in-Some.ensures {u = tt})) c.loop-i.invariant)

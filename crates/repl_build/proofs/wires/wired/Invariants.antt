@@ -6,5 +6,5 @@ use Rattle.repl_build.proofs.wires.wired.Given as goal
 
 abbrev pub invariant-loop-i : goal.invariant-loop-i
 invariant-loop-i l =
-    let wire = wire_at l.between.plic l.between.kind l.between.dev l.between.to_cpu in
+    let wire = wire_at l.between.plic l.between.processors l.between.kind l.between.dev l.between.hart in
     onto_some l.wires.items (wired wire (drop l.i l.lines) (drop l.i l.pins)) ≡ wired wire l.lines l.pins
