@@ -81,6 +81,17 @@ changed_has boards b f is = rw (view_changed boards b f) (still_some (view_at bo
 for_some : {A : Type 0} (a : A) (P : A → Type 0) → P a → ForSome (Some a) P
 for_some a P holds = λ other is. let same : a ≡ other = cc in subst P same holds
 
+for_map :
+    (o : Option View) (f : View → View) (P : View → Type 0) → ForSome o (λ v. P (f v)) → ForSome (option_map f o) P
+for_map (Some v) f P holds = for_some (f v) P (holds v refl)
+for_map None f P holds = λ v is. absurd (cc)
+
+-- what holds of a board that was changed
+pub changed_for :
+    (boards : List Board) (b : ℕ) (f : View → View) (P : View → Type 0) →
+    ForSome (view_at boards b) (λ v. P (f v)) → ForSome (view_at (change_at boards b (with_view f)) b) P
+changed_for boards b f P holds = rw (view_changed boards b f) (for_map (view_at boards b) f P holds)
+
 -- bytes that are copied leave the plan
 plan_put : (s : Space) (byte : ℕ) (target : Target) → (put_in s byte target).plan ≡ s.plan
 plan_put s byte (Ram part at) = refl
@@ -146,6 +157,13 @@ fitted_last seed n s s' is so =
 
 pub fitted_has : (seed n : ℕ) (s : Seen) → IsWith seed n (equip n (bare n)) s → IsSome (view_of s.lab n)
 fitted_has seed n s is = rw (is, last_view seed n (equip n (bare n))) refl
+
+pub fitted_processor :
+    (seed n : ℕ) (s : Seen) → IsWith seed n (equip n (bare n)) s →
+    ForSome (view_of s.lab n) (λ v. 0 < length v.cores)
+fitted_processor seed n s is =
+    rw (is, last_view seed n (equip n (bare n)))
+    (for_some (new_board n plan) (λ v. 0 < length v.cores) (omega arith))
 
 pub fitted_holds :
     (seed n : ℕ) (s : Seen) (bytes : List ℕ) → IsWith seed n (equip n (bare n)) s → bytes ≡ program seed n →

@@ -7,7 +7,7 @@ pub plan_valid : IsValid plan
 plan_valid = record {
   are_names = refl;
   names_differ = refl;
-  processor = refl;
+  processors = refl;
   parts = refl;
   no_others = refl;
   timer = refl;
@@ -16,6 +16,7 @@ plan_valid = record {
   steps = refl;
   few_devices = refl;
   few_memories = refl;
+  few_processors = refl;
   speed = refl;
   frequency = refl;
   plic = refl;

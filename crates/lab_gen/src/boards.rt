@@ -65,10 +65,11 @@ fn fit_plan<D: Device>(alloc: Global, lab: &mut Lab<D>, b: BoardNo) -> Result<()
     }
 }
 
-/// Puts a program at the start of a board's memory, which is to begin with it.
+/// Puts a program at the start of a board's memory, whose first processor is to begin with it.
 fn load<D: Device>(lab: &mut Lab<D>, b: BoardNo, program: &[u8]) -> Result<(), NoMemory>
     requires unspent { lab.old.spent ≡ false }
     requires has_plan { IsSome (view_of lab.old.lab b.0) }
+    requires has_processor { ForSome (view_of lab.old.lab b.0) (λ v. 0 < length v.cores) }
     requires holds { ForSome (view_of lab.old.lab b.0) (λ v.
         IsTrue (holds_each v.space 0x80000000 (length program.now))) }
     ensures { OnOk result (lab.new ≡ record lab.old {

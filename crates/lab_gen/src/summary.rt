@@ -18,6 +18,7 @@ fn print_line<D: Device>(text: &mut String, name: &str, board: &Board<D>) -> Res
     ensures text { OnOk result (string_bytes text.new ≡ string_bytes text.old
         ++ summary_spec.line_by name.now board.now.view) }
 {
+    prove!(!board.plan().cpus.items().is_empty());
     let posts = board.posted();
     let retired = board.retired(0);
     let sum = Word(board.register(0, SUM));

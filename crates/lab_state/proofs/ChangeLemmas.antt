@@ -48,8 +48,8 @@ pub bytes-leave : (at : ℕ) (bytes : List ℕ) → Leaves (λ v. with_bytes v a
 bytes-leave at bytes v = (copied-plan v.space at bytes, refl)
 
 pub change-leaves : (c : Change) → Leaves (changed_by c)
-change-leaves (change.Pc pc) v = (refl, refl)
-change-leaves (change.Halted on) v = (refl, refl)
+change-leaves (change.Pc hart pc) v = (refl, refl)
+change-leaves (change.Halted hart on) v = (refl, refl)
 change-leaves (change.Shown dev) v = (refl, refl)
 change-leaves (change.Zero at count) v = bytes-leave at (zeros count) v
 change-leaves change.Reset v = (refl, refl)

@@ -27,8 +27,8 @@ impl<D: Device> Lab<D> {
         self.boards[b.0 as usize].change(change);
     }
 
-    /// Writes bytes into the memories of a board from an address on. After an `Err` some of the
-    /// first of them are written.
+    /// Writes bytes into the memories of a board from an address on, and ends its reservations, where
+    /// there are no bytes too. After an `Err` some of the first of them are written.
     pub fn copy_in(&mut self, b: BoardNo, at: u32, bytes: &[u8]) -> Result<(), NoMemory>
         requires unspent { self.old.spent ≡ false }
         requires has_plan { IsSome (view_of self.old.lab b.0) }
@@ -42,7 +42,8 @@ impl<D: Device> Lab<D> {
         self.boards[b.0 as usize].copy_in(at, bytes)
     }
 
-    /// Puts 0 into `count` bytes of the memories of a board from an address on.
+    /// Puts 0 into `count` bytes of the memories of a board from an address on, and ends its
+    /// reservations.
     pub fn zero(&mut self, b: BoardNo, at: u32, count: u32)
         requires unspent { self.old.spent ≡ false }
         requires has_plan { IsSome (view_of self.old.lab b.0) }

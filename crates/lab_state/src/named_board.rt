@@ -1,5 +1,5 @@
 //! A board under its name.
-ghost use Rattle.std.specs.Prelude.{◌≡◌, ◌+◌, ◌≤◌, ◌<◌, ◌++◌, ◌∷◌, [], length, take, ℕ, IsTrue, Some, None};
+ghost use Rattle.std.specs.Prelude.{◌≡◌, ◌+◌, ◌%◌, ◌≤◌, ◌<◌, ◌++◌, ◌∷◌, [], length, take, ℕ, IsTrue, Some, None};
 ghost use Rattle.std.specs.Prelude.{option_and_then, is_none, slice_get, IfOk, OnOk, OnErr};
 ghost use Rattle.std.specs.Option.{option_map, ForSome};
 ghost use Rattle.hub_mail.specs.Boss.{sent_by};
@@ -351,6 +351,7 @@ impl<D: Device> NamedBoard<D> {
     pub fn set_speed(&mut self, speed: u32)
         requires least { 1 ≤ speed }
         requires most { speed ≤ 1000 }
+        requires shared { ForSome self.old.view (λ v. speed % length v.cores ≡ 0) }
         ensures { self.new ≡ with_view (λ v. with_speed v speed) self.old }
     {
         if let Some(board) = &mut self.board {
@@ -358,8 +359,8 @@ impl<D: Device> NamedBoard<D> {
         }
     }
 
-    /// Writes bytes into the memories from an address on. After an `Err` some of the first of them
-    /// are written.
+    /// Writes bytes into the memories from an address on, and ends all reservations. After an `Err`
+    /// some of the first of them are written.
     pub fn copy_in(&mut self, at: u32, bytes: &[u8]) -> Result<(), NoMemory>
         requires { ForSome self.old.view (λ v.
             IsTrue (holds_each v.space at (length bytes.now))) }

@@ -1,5 +1,6 @@
 //! The calls of a laboratory, on two boards with a memory, a UART and a finisher, whose devices count.
-ghost use Rattle.std.specs.Prelude.{◌≡◌, ◌+◌, ◌<◌, ◌≤◌, true, false, IsSome, OnErr};
+ghost use Rattle.std.specs.Prelude.{◌≡◌, ◌+◌, ◌<◌, ◌≤◌, length, true, false, IsSome, OnErr};
+ghost use Rattle.std.specs.Option.{ForSome};
 ghost use Rattle.lab_state.specs.One.{view_of, HaveAllPlans};
 
 mod chip;
@@ -40,8 +41,13 @@ static UARTS: [Member; 2] = [Member { board: M0, dev: 0 }, Member { board: M1, d
 fn is_planned<D: Device>(lab: &Lab<D>, b: BoardNo) -> bool
     ensures unspent { result ≡ true → lab.now.spent ≡ false }
     ensures planned { result ≡ true → IsSome (view_of lab.now.lab b.0) }
+    ensures processor { result ≡ true →
+        ForSome (view_of lab.now.lab b.0) (λ v. 0 < length v.cores) }
 {
-    !lab.is_spent() && b.0 < lab.boards() && lab.has_plan(b)
+    !lab.is_spent()
+        && b.0 < lab.boards()
+        && lab.has_plan(b)
+        && !lab.board(b).plan().cpus.items().is_empty()
 }
 
 fn adds<D: Device>(lab: &mut Lab<D>, name: &str, b: BoardNo) -> bool {
@@ -67,7 +73,7 @@ fn starts<D: Device>(lab: &mut Lab<D>, b: BoardNo) -> bool {
     if !is_planned(lab, b) {
         return false;
     }
-    lab.set_pc(b, START);
+    lab.set_pc(b, 0, START);
     true
 }
 

@@ -11,7 +11,7 @@ use Rattle.resc_vars.specs.declared.cause.ScriptCause.TheVariants.{Name}
 use Rattle.monitor.specs.Answer.{leaves}
 use Rattle.monitor.specs.Inner.Ruling.{IsBoard, IsOnward}
 use Rattle.monitor.specs.Refusal.{◌>>=◌, require}
-use Rattle.monitor.specs.Selected.{Equipped, entry, entry_name, with_board}
+use Rattle.monitor.specs.Selected.{Equipped, entry, entry_name, equipped, processor, with_board}
 use Rattle.monitor.specs.Step.{Running}
 
 pub of_some : {A : Type 0} {x y : A} → Some x ≡ Some y → x ≡ y
@@ -33,6 +33,17 @@ pub changed_rules :
     × IsOnward old new
 changed_rules old new meant b f text unspent is same none =
     rw (same, none, is.on) (refl, record { spent = unspent; ended = refl; flow = refl; kept = refl })
+
+-- a command has changed the selected board, of which it names a processor
+pub processor_rules :
+    (old new : Running) (b hart : ℕ) (cpu : List ℕ) (f : ℕ → View → View) (text : List ℕ) → old.spent ≡ false →
+    (is : IsBoard old.state (equipped old.state) b) → Ok hart ≡ processor (record { number = b; view = is.view }) cpu →
+    new ≡ record old { state = record old.state { lab = changed old.state.lab b (f hart) } } → text ≡ [] →
+    ((equipped old.state >>= λ on. processor on cpu >>= λ hart. Ok (leaves (with_board old.state on (f hart))))
+    ≡ Ok (record { text = text; state = new.state }))
+    × IsOnward old new
+processor_rules old new b hart cpu f text unspent is named same none =
+    rw (same, none, is.on, ← named) (refl, record { spent = unspent; ended = refl; flow = refl; kept = refl })
 
 -- a command has changed the selected board, of which it asks something
 pub tested_rules :

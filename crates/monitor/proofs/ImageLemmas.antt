@@ -5,10 +5,11 @@ use Rattle.std.proofs.Common.{◌++◌, length, take, get_or, replicate, Option,
 use Rattle.std.proofs.Common.{refl, sym, ap}
 use Rattle.std.proofs.Common.{append-nil, subst, arith}
 use Rattle.std.specs.Prelude.{IsSome}
-use Rattle.std.specs.List.{list_all, range_with_len}
+use Rattle.std.specs.List.{fold, list_all, range_with_len}
 use Rattle.std.specs.Option.{ForSome, option_map}
 use Rattle.std.proofs.lemmas.Bool.{and_parts}
 use Rattle.std.proofs.lemmas.Bool.Decides.{nat_tests}
+use Rattle.std.proofs.lemmas.List.{length-replicate}
 use Rattle.std.proofs.lemmas.List.Sums.{fold_more}
 use Rattle.elf_load.specs.declared.image.Image.{Image}
 use Rattle.elf_load.specs.declared.image.Part.{Part}
@@ -16,15 +17,16 @@ use Rattle.elf_load.specs.Map.{contents}
 use Rattle.sys_bus.specs.declared.region.Target.{Target}
 use Rattle.sys_bus.specs.declared.region.Target.TheVariants.{Ram, Clint, Plic, Dev, Nothing}
 use Rattle.sys_bus.specs.Region.{target_of}
-use Rattle.board.specs.Changes.{copied, holds_each, in_memory, is_memory, put_byte, put_in, with_bytes}
+use Rattle.board.specs.Changes.{cleared, copied, holds_each, in_memory, is_memory, put_byte, put_in, with_bytes}
 use Rattle.board.specs.Space.{Space, target_at}
 use Rattle.board.specs.View.{View}
-use Rattle.rv_hart.specs.Core.{Core, alignment}
+use Rattle.rv_hart.specs.Core.{alignment}
 use Rattle.lab_state.specs.Board.{Board}
 use Rattle.lab_num.specs.Change.{change_at}
 use Rattle.lab_state.specs.Lab.{Lab}
 use Rattle.lab_state.specs.One.{changed, view_at, view_of, with_view}
-use Rattle.monitor.specs.Images.{holds_part, is_entry, load_image, size, with_entry, with_part, with_parts}
+use Rattle.monitor.specs.Images.{holds_part, is_entry, load_image, size, unreserved, with_entry, with_part}
+use Rattle.monitor.specs.Images.{with_parts}
 use Rattle.monitor.specs.Inner.Ruling.{IsChanged, IsOnward}
 use Rattle.monitor.specs.Step.{Running}
 
@@ -108,6 +110,28 @@ changed_same b f g old new same is =
     ∙ ap (λ boards. record old { state = record old.state { lab = record old.state.lab { boards = boards } } })
     (change_same old.state.lab.boards b (with_view f) (with_view g)
     (λ board. ap (λ view. record board { view = view }) (map_same board.view f g same)))
+
+map_seen :
+    {A : Type 0} (x : Option A) (f g : A → A) → ForSome x (λ a. f a ≡ g a) → option_map f x ≡ option_map g x
+map_seen None f g same = refl
+map_seen (Some a) f g same = ap Some (same a refl)
+
+change_seen :
+    (boards : List Board) (b : ℕ) (f g : View → View) → ForSome (view_at boards b) (λ v. f v ≡ g v) →
+    change_at boards b (with_view f) ≡ change_at boards b (with_view g)
+change_seen [] b f g same = refl
+change_seen (board ∷ boards) zero f g same =
+    ap (λ view. record board { view = view } ∷ boards) (map_seen board.view f g same)
+change_seen (board ∷ boards) (suc b) f g same = ap (λ ys. board ∷ ys) (change_seen boards b f g same)
+
+-- the same change, of what stands under the number of the board
+pub changed_seen :
+    (b : ℕ) (f g : View → View) (old new : Running) → ForSome (view_of old.state.lab b) (λ v. f v ≡ g v) →
+    IsChanged b f old new → IsChanged b g old new
+changed_seen b f g old new same is =
+    is
+    ∙ ap (λ boards. record old { state = record old.state { lab = record old.state.lab { boards = boards } } })
+    (change_seen old.state.lab.boards b f g same)
 
 some_map : {A : Type 0} (x : Option A) (f : A → A) → IsSome x → IsSome (option_map f x)
 some_map None f is = is
@@ -210,13 +234,19 @@ pub part_numbers :
 part_numbers None part some holds = cc some
 part_numbers (Some v) part some holds = let pieces = part_pieces v part (holds v refl) in (pieces.0, pieces.1)
 
+-- reservations that were ended twice
+pub cleared_twice : (watch : List (Option ℕ)) → cleared (cleared watch) ≡ cleared watch
+cleared_twice watch = ap (λ n. replicate n None) (length-replicate (length watch) None)
+
 -- a part is its bytes with its zeros after them
 pub part_of_pieces :
     (v : View) (part : Part) →
     with_bytes (with_bytes v part.at part.bytes) (part.at + length part.bytes) (replicate part.zeros 0)
     ≡ with_part v part
-part_of_pieces v part =
-    ap (λ space. record v { space = space }) (sym (copied_behind v.space part.at part.bytes (replicate part.zeros 0)))
+part_of_pieces v part = λ i. record v {
+  watch = cleared_twice v.watch i;
+  space = sym (copied_behind v.space part.at part.bytes (replicate part.zeros 0)) i;
+}
 
 pub part_without_zeros :
     (v : View) (part : Part) → part.zeros ≡ 0 → with_bytes v part.at part.bytes ≡ with_part v part
@@ -227,7 +257,7 @@ part_without_zeros v part none =
 pub parts_more :
     (v : View) (parts : List Part) (i : ℕ) (part : Part) → i < length parts →
     with_part (with_parts v (take i parts)) (get_or parts i part) ≡ with_parts v (take (i + 1) parts)
-parts_more v parts i part within = sym (fold_more with_part v parts i part within)
+parts_more v parts i part within = sym (fold_more with_part (unreserved v) parts i part within)
 
 -- parts leave what holds a byte
 pub part_still :
@@ -236,20 +266,26 @@ part_still v part other =
     ap (λ held. nat_lt (size other) (2 ^ 32) && nat_le (other.at + size other) (2 ^ 32) && held)
     (still_held v.space part.at (contents part) other.at (size other))
 
+each_still :
+    (parts : List Part) (v : View) (other : Part) → holds_part (fold with_part v parts) other ≡ holds_part v other
+each_still [] v other = refl
+each_still (part ∷ parts) v other = each_still parts (with_part v part) other ∙ part_still v part other
+
 pub parts_still :
     (parts : List Part) (v : View) (other : Part) → holds_part (with_parts v parts) other ≡ holds_part v other
-parts_still [] v other = refl
-parts_still (part ∷ parts) v other = parts_still parts (with_part v part) other ∙ part_still v part other
+parts_still parts v other = each_still parts (unreserved v) other
 
--- parts leave the processor, and so what may be an entry
-core_parts : (parts : List Part) (v : View) → (with_parts v parts).core ≡ v.core
-core_parts [] v = refl
-core_parts (part ∷ parts) v = core_parts parts (with_part v part)
+-- parts leave the plan, and so what may be an entry
+plan_parts : (parts : List Part) (v : View) → (fold with_part v parts).space.plan ≡ v.space.plan
+plan_parts [] v = refl
+plan_parts (part ∷ parts) v =
+    plan_parts parts (with_part v part) ∙ plan_copied v.space part.at (contents part)
 
 pub entry_still :
     (parts : List Part) (v : View) (entry : Option ℕ) → is_entry (with_parts v parts) entry ≡ is_entry v entry
 entry_still parts v None = refl
-entry_still parts v (Some pc) = ap (λ core. pc % alignment core.letters == 0) (core_parts parts v)
+entry_still parts v (Some pc) =
+    ap (λ plan. pc % alignment plan.letters == 0) (plan_parts parts (unreserved v))
 
 -- an image that has its places was loaded
 pub image_rules :

@@ -1,5 +1,6 @@
 pub mod BoardLemmas
 pub mod Entered
+pub mod EntryLemmas
 pub mod Equipping
 pub mod ImageLemmas
 pub mod Joining

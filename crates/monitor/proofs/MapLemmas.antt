@@ -4,7 +4,7 @@ use Rattle.std.proofs.Common.{nat_lt, nat_le, Bool, true, false, cond}
 use Rattle.std.proofs.Common.{List, [], ◌∷◌, length, slice_get, Option, None, Some}
 use Rattle.std.proofs.Common.{refl, sym, ap, subst, arith}
 use Rattle.std.specs.Prelude.{if◌then◌else◌, slice_index_or, slice_set}
-use Rattle.std.specs.List.{list_all, range_with_len}
+use Rattle.std.specs.List.{fold, list_all, range_with_len}
 use Rattle.std.specs.Option.{option_or}
 use Rattle.std.proofs.lemmas.Bool.{and_parts}
 use Rattle.std.proofs.lemmas.Bool.Decides.{nat_tests}
@@ -15,13 +15,13 @@ use Rattle.elf_load.specs.Map.{byte_at, byte_in, contents}
 use Rattle.page_ram.specs.Bytes.{put_bytes}
 use Rattle.sys_bus.specs.declared.region.Target.{Target}
 use Rattle.sys_bus.specs.declared.region.Target.TheVariants.{Ram, Clint, Plic, Dev, Nothing}
-use Rattle.board.specs.Changes.{copied, holds_each, in_memory, is_memory, put_byte, put_in}
+use Rattle.board.specs.Changes.{cleared, copied, holds_each, in_memory, is_memory, put_byte, put_in}
 use Rattle.sys_bus.specs.Region.{target_of}
 use Rattle.board.specs.Space.{Space, memory_at, target_at, with_memory}
 use Rattle.board.specs.View.{View}
 use Rattle.monitor.specs.Inner.Places.{StandApart}
-use Rattle.monitor.specs.Images.{byte_held, byte_of, holds_part, size, with_part, with_parts}
-use Rattle.monitor.proofs.ImageLemmas.{part_still, plan_copied, plan_put}
+use Rattle.monitor.specs.Images.{byte_held, byte_of, holds_part, size, unreserved, with_part, with_parts}
+use Rattle.monitor.proofs.ImageLemmas.{cleared_twice, part_still, plan_copied, plan_put}
 
 -- one item of a list
 index_set_same :
@@ -286,19 +286,24 @@ all_same p q [] same all = refl
 all_same p q (x ∷ xs) same all =
     let both = and_parts (p x) (list_all p xs) all in rw (same x, both.0) (all_same p q xs same both.1)
 
-pub parts_held :
+each_held :
     (parts : List Part) (v : View) (a : ℕ) → StandApart v.space → list_all (holds_part v) parts ≡ true →
-    byte_held (with_parts v parts) a ≡ option_or (byte_at parts a) (byte_held v a)
-parts_held [] v a apart all = refl
-parts_held (part ∷ later) v a apart all =
+    byte_held (fold with_part v parts) a ≡ option_or (byte_at parts a) (byte_held v a)
+each_held [] v a apart all = refl
+each_held (part ∷ later) v a apart all =
     let both = and_parts (holds_part v part) (list_all (holds_part v) later) all in
     let next = apart_copied (contents part) v.space part.at apart (has_places v part both.0) in
     let still = all_same (holds_part v) (holds_part (with_part v part)) later (part_still v part) both.1 in
-    parts_held later (with_part v part) a next still
+    each_held later (with_part v part) a next still
     ∙ ap (option_or (byte_at later a)) (part_held v part a apart both.0)
     ∙ or_or (byte_at later a) (byte_in part a) (byte_held v a)
 
--- only memories change
+pub parts_held :
+    (parts : List Part) (v : View) (a : ℕ) → StandApart v.space → list_all (holds_part v) parts ≡ true →
+    byte_held (with_parts v parts) a ≡ option_or (byte_at parts a) (byte_held v a)
+parts_held parts v a apart all = each_held parts (unreserved v) a apart all
+
+-- only memories change, and reservations end
 only_put :
     (s : Space) (byte : ℕ) (t : Target) → put_in s byte t ≡ record s { memories = (put_in s byte t).memories }
 only_put s byte (Ram part at) = refl
@@ -316,13 +321,37 @@ only_copied (x ∷ xs) s at =
     ∙ ap (λ (t : Space). record t { memories = (copied (put_byte s at x) (at + 1) xs).memories })
     (only_put s x (target_at s at 1))
 
-pub only_memories :
+none_reserved : (parts : List Part) (v : View) → (fold with_part (unreserved v) parts).watch ≡ cleared v.watch
+none_reserved parts v = still parts (unreserved v) (cleared_twice v.watch)
+  where
+    still : (parts : List Part) (w : View) → cleared w.watch ≡ w.watch → (fold with_part w parts).watch ≡ w.watch
+    still [] w none = refl
+    still (part ∷ later) w none = still later (with_part w part) (cleared_twice w.watch) ∙ none
+
+only_space :
     (parts : List Part) (v : View) →
-    with_parts v parts ≡ record v { space = record v.space { memories = (with_parts v parts).space.memories } }
-only_memories [] v = refl
-only_memories (part ∷ later) v =
-    only_memories later (with_part v part)
+    fold with_part v parts
+    ≡ record v {
+      watch = (fold with_part v parts).watch;
+      space = record v.space { memories = (fold with_part v parts).space.memories };
+    }
+only_space [] v = refl
+only_space (part ∷ later) v =
+    only_space later (with_part v part)
     ∙ ap (λ (t : Space). record v {
-      space = record t { memories = (with_parts (with_part v part) later).space.memories };
+      watch = (fold with_part (with_part v part) later).watch;
+      space = record t { memories = (fold with_part (with_part v part) later).space.memories };
     })
     (only_copied (contents part) v.space part.at)
+
+pub only_memories :
+    (parts : List Part) (v : View) →
+    with_parts v parts
+    ≡ record (unreserved v) { space = record v.space { memories = (with_parts v parts).space.memories } }
+only_memories parts v =
+    only_space parts (unreserved v)
+    ∙ ap (λ watch. record v {
+      watch = watch;
+      space = record v.space { memories = (with_parts v parts).space.memories };
+    })
+    (none_reserved parts v)

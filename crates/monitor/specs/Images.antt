@@ -1,5 +1,5 @@
 -- Commands that load images.
-use Rattle.std.specs.Prelude.{ℕ, ◌+◌, ◌%◌, ◌^◌, ◌==◌, ◌&&◌, nat_le, nat_lt, Bool, true, List, length}
+use Rattle.std.specs.Prelude.{ℕ, ◌+◌, ◌%◌, ◌^◌, ◌==◌, ◌&&◌, nat_le, nat_lt, Bool, true, List, length, map}
 use Rattle.std.specs.Prelude.{Option, None, Some, Result, Ok, Err}
 use Rattle.std.specs.List.{fold, list_all, slice_get}
 use Rattle.std.specs.Result.{result_map_both}
@@ -11,10 +11,10 @@ use Rattle.ihex_load.specs.Image as hex
 use Rattle.lab_io.specs.Held.{Held}
 use Rattle.sys_bus.specs.declared.region.Target.{Target}
 use Rattle.sys_bus.specs.declared.region.Target.TheVariants.{Ram, Clint, Plic, Dev, Nothing}
-use Rattle.board.specs.Changes.{holds_each, with_bytes, with_pc}
+use Rattle.board.specs.Changes.{cleared, holds_each, with_bytes}
 use Rattle.board.specs.Space.{Space, memory_at, target_at}
 use Rattle.board.specs.View.{View}
-use Rattle.rv_hart.specs.Core.{alignment}
+use Rattle.rv_hart.specs.Core.{Core, alignment}
 use Rattle.resc_vars.specs.declared.cause.ScriptCause.{ScriptCause}
 use Rattle.resc_vars.specs.declared.cause.ScriptCause.TheVariants.{Address}
 use Rattle.monitor.specs.declared.fault.Cause.{Cause}
@@ -37,20 +37,29 @@ holds_part v part =
 -- execution may begin at the entry, if there is one: it is divisible by 4, or with compressed instructions by 2
 abbrev pub is_entry : View → Option ℕ → Bool
 is_entry v None = true
-is_entry v (Some pc) = pc % alignment v.core.letters == 0
+is_entry v (Some pc) = pc % alignment v.space.plan.letters == 0
 
 -- a board with the bytes and the zeros of a part in its memories
 abbrev pub with_part : View → Part → View
 with_part v part = with_bytes v part.at (contents part)
 
--- a board with the parts of an image in its memories, one after another
-abbrev pub with_parts : View → List Part → View
-with_parts v parts = fold with_part v parts
+-- a board on which nothing is reserved
+abbrev pub unreserved : View → View
+unreserved v = record v { watch = cleared v.watch }
 
--- a board that goes on at the entry, if there is one
+-- a board with the parts of an image in its memories, one after another, and with no reservation, even if there is no
+-- part
+abbrev pub with_parts : View → List Part → View
+with_parts v parts = fold with_part (unreserved v) parts
+
+-- a board of which every processor's next instruction is at this address
+abbrev pub with_each_pc : View → ℕ → View
+with_each_pc v pc = record v { cores = map (λ (core : Core). record core { pc = pc }) v.cores }
+
+-- a board whose processors go on at the entry, if there is one
 abbrev pub with_entry : View → Option ℕ → View
 with_entry v None = v
-with_entry v (Some pc) = with_pc v pc
+with_entry v (Some pc) = with_each_pc v pc
 
 -- an image is loaded, unless a byte, a zero or the entry is refused; then nothing is
 abbrev pub load_image : State → Equipped → Image → Result Done ScriptCause
@@ -75,7 +84,7 @@ abbrev pub load_elf : Held → State → Place → List ℕ → Did
 load_elf held s place path =
     loads held place path (equipped s) (λ on bytes. load_read s place on (elf_image bytes))
 
--- sysbus LoadHEX @path: such an image has no entry, and the address of the next instruction stays
+-- sysbus LoadHEX @path: such an image has no entry, and each processor goes on where it is
 abbrev pub load_hex : Held → State → Place → List ℕ → Did
 load_hex held s place path =
     loads held place path (equipped s) (λ on bytes. load_read s place on (hex_image bytes))

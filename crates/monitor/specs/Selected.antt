@@ -1,7 +1,7 @@
 -- The selected board, and what stands on it under a name.
 use Rattle.std.specs.Prelude.{ℕ, nat_eq, nat_lt, Bool, false, is_none, if◌then◌else◌, List, length, drop, find, codes}
 use Rattle.std.specs.Prelude.{Option, None, Some, option_and_then, Result, Ok, Err}
-use Rattle.std.specs.List.{starts_with}
+use Rattle.std.specs.List.{position, starts_with}
 use Rattle.std.specs.Option.{ok_or, option_map, option_map_or}
 use Rattle.std.specs.Str.{bytes_eq}
 use Rattle.lab_num.specs.declared.key.Member.{Member}
@@ -9,7 +9,6 @@ use Rattle.sys_bus.specs.declared.plan.BoardPlan.{BoardPlan}
 use Rattle.sys_bus.specs.declared.plan.NamedWhat.{NamedWhat}
 use Rattle.sys_bus.specs.declared.plan.NamedWhat.TheVariants.{Part}
 use Rattle.sys_bus.specs.declared.region.RegionKind.TheVariants.{Dev}
-use Rattle.sys_bus.specs.Name.{is_processor}
 use Rattle.board.specs.Changes.{is_shown_kind}
 use Rattle.board.specs.View.{View}
 use Rattle.lab_state.specs.Lab.{Lab}
@@ -66,13 +65,15 @@ entry_in plan name = option_map (λ named. named.what) (find (λ named. bytes_eq
 abbrev pub entry : Equipped → List ℕ → Result NamedWhat ScriptCause
 entry on word = ok_or (entry_in on.view.space.plan (entry_name word)) Name
 
--- S4, S15, S7, S8: the selected board, whose processor a word names
-abbrev pub processor : State → List ℕ → Result Equipped ScriptCause
-processor s cpu = do
-  on ← equipped s
-  what ← entry on cpu
-  is ← require (is_processor what) Kind
-  Ok on
+-- the number of the processor of this name: its place among the plan's
+abbrev pub hart_in : BoardPlan → List ℕ → Option ℕ
+hart_in plan name = position (λ cpu. bytes_eq cpu name) plan.cpus
+
+-- S7, S8: the number of the processor that a word names on a board
+abbrev pub processor : Equipped → List ℕ → Result ℕ ScriptCause
+processor on word = do
+  what ← entry on word
+  ok_or (hart_in on.view.space.plan (entry_name word)) Kind
 
 -- a device of a board
 abbrev pub member : ℕ → ℕ → Member

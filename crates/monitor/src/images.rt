@@ -1,5 +1,5 @@
 //! Commands that load images.
-ghost use Rattle.std.specs.Prelude.{◌≡◌, false, IfErr, IsSome, IsTrue, OnOk};
+ghost use Rattle.std.specs.Prelude.{◌≡◌, false, IfErr, IsSome, IsTrue, OnOk, Some};
 ghost use Rattle.std.specs.List.{list_all};
 ghost use Rattle.std.specs.Option.{ForSome};
 ghost use Rattle.lab_state.specs.One.{view_of};
@@ -104,7 +104,8 @@ impl<D: Device> Monitor<D> {
         Ok(())
     }
 
-    /// Loads parts one after another. After an `Err` some of their bytes are loaded.
+    /// Loads parts one after another, and ends all reservations. After an `Err` some of their bytes are
+    /// loaded.
     fn load_parts(&mut self, b: BoardNo, parts: &[Part]) -> Result<(), Stop>
         requires unspent { self.old.spent ≡ false }
         requires has_plan { IsSome (view_of self.old.state.lab b.0) }
@@ -115,6 +116,8 @@ impl<D: Device> Monitor<D> {
         ensures err { IfErr result (λ stop. stop ≡ Stop.Memory) }
         ensures ended { self.new.ended ≡ self.old.ended }
     {
+        // where there is no part too
+        self.lab.zero(b, 0, 0);
         for part in parts {
             self.load_part(b, part)?;
         }
@@ -134,7 +137,20 @@ impl<D: Device> Monitor<D> {
         }
     }
 
-    /// Goes on at the entry of an image, if it has one.
+    /// Has each processor of a board go on at an address.
+    fn set_each_pc(&mut self, b: BoardNo, pc: u32)
+        requires unspent { self.old.spent ≡ false }
+        requires has_plan { IsSome (view_of self.old.state.lab b.0) }
+        requires is_entry { ForSome (view_of self.old.state.lab b.0) (λ v.
+            IsTrue (images.is_entry v (Some pc))) }
+        ensures { IsChanged b.0 (λ v. images.with_each_pc v pc) self.old self.new }
+    {
+        for hart in 0..self.harts(b) {
+            self.lab.set_pc(b, hart, pc);
+        }
+    }
+
+    /// Has each processor go on at the entry of an image, if it has one.
     fn set_entry(&mut self, b: BoardNo, entry: Option<u32>)
         requires unspent { self.old.spent ≡ false }
         requires has_plan { IsSome (view_of self.old.state.lab b.0) }
@@ -143,11 +159,11 @@ impl<D: Device> Monitor<D> {
         ensures { IsChanged b.0 (λ v. images.with_entry v entry) self.old self.new }
     {
         if let Some(pc) = entry {
-            self.lab.set_pc(b, pc);
+            self.set_each_pc(b, pc);
         }
     }
 
-    /// Loads an image, and goes on at its entry if it has one.
+    /// Loads an image, and has each processor go on at its entry if it has one.
     pub(crate) fn load_image(&mut self, b: BoardNo, image: &Image) -> Result<Vec<u8>, Stop>
         requires unspent { self.old.spent ≡ false }
         requires has_plan { IsSome (view_of self.old.state.lab b.0) }

@@ -1,5 +1,5 @@
 //! The selected board, and what stands on it under a name.
-ghost use Rattle.std.specs.Prelude.{◌≡◌, ◌<◌, length, find, false, None, Ok, Err, IfOk, IfErr, IsSome};
+ghost use Rattle.std.specs.Prelude.{◌≡◌, ◌<◌, ◌≤◌, length, find, false, None, Ok, Err, IfOk, IfErr, IsSome};
 ghost use Rattle.std.specs.Option.{ForSome, option_map};
 ghost use Rattle.std.specs.Str.{bytes_eq};
 ghost use Rattle.lab_state.specs.One.{view_of};
@@ -21,6 +21,19 @@ fn find_entry<'a>(plan: &'a BoardPlan, name: &str) -> Option<&'a Named>
         .items()
         .iter()
         .find(|named| named.name.as_str() == name)
+}
+
+/// The number of the processor of this name in a plan.
+fn find_hart(plan: &BoardPlan, name: &str) -> Option<u8>
+    requires few { length plan.now.cpus ≤ 4 }
+    ensures { result ≡ selected.hart_in plan.now name.now }
+{
+    let place = plan
+        .cpus
+        .items()
+        .iter()
+        .position(|cpu| cpu.as_str() == name)?;
+    Some(place as u8)
 }
 
 /// The name of an entry in a word, of which one prefix `sysbus.` is taken off.
@@ -89,18 +102,31 @@ impl<D: Device> Monitor<D> {
         }
     }
 
-    /// The selected board, whose processor the word names.
-    pub(crate) fn processor(&self, cpu: &str) -> Result<BoardNo, ScriptCause>
-        requires { self.now.spent ≡ false }
-        ensures ok { IfOk result (λ b.
-            IsBoard self.now.state (selected.processor self.now.state cpu.now) b.0) }
-        ensures err { IfErr result (λ cause.
-            selected.processor self.now.state cpu.now ≡ Err cause) }
+    /// How many processors a board has, 1 to 4.
+    pub(crate) fn harts(&self, b: BoardNo) -> u8
+        requires unspent { self.now.spent ≡ false }
+        requires has_plan { IsSome (view_of self.now.state.lab b.0) }
+        ensures count { ForSome (view_of self.now.state.lab b.0) (λ v. result ≡ length v.cores) }
+        ensures least { 1 ≤ result }
+        ensures most { result ≤ 4 }
     {
-        let b = self.equipped()?;
-        match self.entry(b, cpu)? {
-            NamedWhat::Cpu => Ok(b),
-            NamedWhat::Part(_) => Err(ScriptCause::Kind),
+        self.lab.board(b).plan().cpus.items().len() as u8
+    }
+
+    /// The number of the processor that a word names on a board that has its platform. One prefix
+    /// `sysbus.` is taken off.
+    pub(crate) fn processor(&self, b: BoardNo, cpu: &str) -> Result<u8, ScriptCause>
+        requires unspent { self.now.spent ≡ false }
+        requires has_plan { IsSome (view_of self.now.state.lab b.0) }
+        ensures meant { ForSome (view_of self.now.state.lab b.0) (λ v.
+            result ≡ selected.processor (record { number = b.0; view = v }) cpu.now) }
+        ensures exists { IfOk result (λ hart.
+            ForSome (view_of self.now.state.lab b.0) (λ v. hart < length v.cores)) }
+    {
+        let _what = self.entry(b, cpu)?;
+        match find_hart(self.lab.board(b).plan(), entry_name(cpu)) {
+            Some(hart) => Ok(hart),
+            None => Err(ScriptCause::Kind),
         }
     }
 

@@ -236,7 +236,7 @@ fn stops<D: Device>(lab: &mut Lab<D>, b: BoardNo) -> bool {
     if !is_planned(lab, b) {
         return false;
     }
-    lab.set_halted(b, true);
+    lab.set_halted(b, 0, true);
     true
 }
 

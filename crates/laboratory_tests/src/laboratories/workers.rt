@@ -90,7 +90,7 @@ fn plays<R: Threads + Wait + Copy + Send + Sync, D: Device + Send>(
 
 /// A board has taken 100,000 slots, an instruction each.
 fn has_run<D: Device>(lab: &Lab<D>, b: BoardNo) -> bool {
-    is_planned(lab, b) && lab.board(b).retired() == 100_000
+    is_planned(lab, b) && lab.board(b).retired(0) == 100_000
 }
 
 fn runs_on<R: Threads + Wait + Copy + Send + Sync, D: Device + Send>(

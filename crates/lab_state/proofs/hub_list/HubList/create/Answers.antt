@@ -17,12 +17,11 @@ invariant_of-self-2 c =
 pub returns-clause-ok : goal.returns-clause-ok
 returns-clause-ok c =
     let are = c.self.invariant.0 in
-    rw (c.in_ok-create_both.ensures.name, c.in_ok-create_both.ensures.hub, c.of-name.ensures, ← c.self.view_is)
+    rw (c.in_ok-create_both.ensures.name, c.in_ok-create_both.ensures.hub, ← c.self.view_is)
     (hubs-push c.self.inside.names.entries c.self.inside.hubs _ _ (sym are.names_long ∙ are.parts_long))
 
 pub create_both-requires-clause-new : goal.create_both-requires-clause-new
 create_both-requires-clause-new c =
     let are = rw c.self.view_is at c.self.invariant.0 in
-    rw c.of-name.ensures
-    (none-named c.self.inside.names c.args.name
-    (named-at c.args.name c.self.inside.names.entries c.args.self.now are.names_are ∙ c.requires.new))
+    none-named c.self.inside.names c.args.name
+    (named-at c.args.name c.self.inside.names.entries c.args.self.now are.names_are ∙ c.requires.new)
