@@ -6,6 +6,7 @@ pub mod LineLemmas
 pub mod ListLemmas
 pub mod MemoryLemmas
 pub mod NumberLemmas
+pub mod SeatLemmas
 pub mod SentLemmas
 pub mod SlotLemmas
 pub mod SourceLemmas

@@ -13,11 +13,11 @@ use dev_core::{Device, Entry, Payload, Post, Taken};
 use lab_num::{BoardNo, Micros, NoMemory};
 use rv_atomic::Watch;
 use rv_hart::Hart;
+use slots::{SHARED, UNWIRED, UNWIRED_HALVES, WIRED, WIRED_HALVES};
 use std::alloc::Global;
 use std::marker::Model;
 use std::mem;
 use sys_bus::BoardPlan;
-use slots::{SHARED, UNWIRED, UNWIRED_HALVES, WIRED, WIRED_HALVES};
 
 /// Where a turn begins: slot `first` of the grant that begins at microsecond `from`.
 #[derive(Clone, Copy, PartialEq, Eq, Debug)]

@@ -94,8 +94,11 @@ impl<D: Device> Board<D> {
 
     /// Moves the turn on by so many slots.
     pub(super) fn skip(&mut self, slots: u64)
-        ensures { self.new ≡ record self.old { view = record self.old.view {
-            next = (self.old.view.next + slots) % length self.old.view.cores } } }
+        ensures { self.new ≡ record self.old {
+          view = record self.old.view {
+            next = (self.old.view.next + slots) % length self.old.view.cores;
+          };
+        } }
     {
         let count = self.harts.len() as u64;
         self.next = ((u64::from(self.next) + slots % count) % count) as u8;
