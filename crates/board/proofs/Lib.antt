@@ -1,6 +1,8 @@
 pub mod CopyLemmas
 pub mod DeviceLemmas
 pub mod FitLemmas
+pub mod HartLemmas
+pub mod HoldLemmas
 pub mod IdleLemmas
 pub mod LineLemmas
 pub mod ListLemmas

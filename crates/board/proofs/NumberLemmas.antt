@@ -147,7 +147,7 @@ run_if :
 run_if v kept old n true a b p q = p
 run_if v kept old n false a b p q = q
 
-run_slot : (v : View) (t : ℕ) → IsRun v.space.plan v.numbers 1 (slot v t)
+pub run_slot : (v : View) (t : ℕ) → IsRun v.space.plan v.numbers 1 (slot v t)
 unfolding slot hart_slot sampled
 run_slot v t =
     let h = hart_view v v.next in

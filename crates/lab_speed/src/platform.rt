@@ -41,22 +41,45 @@ const WIRES: [Wire; 4] = [
     },
 ];
 
+/// The names of the processors.
+const CPUS: [&str; 4] = ["cpu0", "cpu1", "cpu2", "cpu3"];
+
+/// What sets the boards apart that are measured.
+#[derive(Clone, Copy)]
+pub struct Form {
+    /// Whether there are a timer, an interrupt controller and wires.
+    pub wired: bool,
+    /// How many processors there are, one to four.
+    pub harts: usize,
+    pub letters: Letters,
+}
+
 /// How many of the parts a board has.
 fn count_of_parts(wired: bool) -> usize {
     if wired { PARTS.len() } else { 3 }
 }
 
-fn names(alloc: Global, wired: bool) -> Option<Vec<Named>> {
+fn names(alloc: Global, form: Form) -> Option<Vec<Named>> {
     let mut names = Vec::new(alloc);
-    for (name, kind, _, _) in PARTS.into_iter().take(count_of_parts(wired)) {
+    for (name, kind, _, _) in PARTS.into_iter().take(count_of_parts(form.wired)) {
         let what = NamedWhat::Part(kind);
         let name = Text::of(alloc, name).ok()?;
         names.push(Named { name, what }).ok()?;
     }
-    let name = Text::of(alloc, "cpu").ok()?;
-    let what = NamedWhat::Cpu;
-    names.push(Named { name, what }).ok()?;
+    for name in CPUS.into_iter().take(form.harts) {
+        let what = NamedWhat::Cpu;
+        let name = Text::of(alloc, name).ok()?;
+        names.push(Named { name, what }).ok()?;
+    }
     Some(names)
+}
+
+fn cpus(alloc: Global, harts: usize) -> Option<Vec<Text>> {
+    let mut cpus = Vec::new(alloc);
+    for name in CPUS.into_iter().take(harts) {
+        cpus.push(Text::of(alloc, name).ok()?).ok()?;
+    }
+    Some(cpus)
 }
 
 fn regions(alloc: Global, wired: bool) -> Option<Vec<Region>> {
@@ -82,12 +105,13 @@ fn wires(alloc: Global, wired: bool) -> Option<Vec<Wire>> {
     Some(wires)
 }
 
-/// The plan of the board, which takes 25 instructions a microsecond.
-fn plan(alloc: Global, wired: bool, letters: Letters) -> Option<BoardPlan>
+/// The plan of the board, which takes 24 instructions a microsecond.
+fn plan(alloc: Global, form: Form) -> Option<BoardPlan>
     ensures { IfSome result (λ plan. plan.kinds ≡ Uart ∷ Finisher ∷ []) }
 {
+    let wired = form.wired;
     Some(BoardPlan {
-        names: Rows::of(names(alloc, wired)?),
+        names: Rows::of(names(alloc, form)?),
         regions: Rows::of(regions(alloc, wired)?),
         memories: Rows::of(vec![in alloc; 0x1_0000].ok()?),
         kinds: Rows::of(vec![in alloc; Kind::Uart, Kind::Finisher].ok()?),
@@ -97,18 +121,18 @@ fn plan(alloc: Global, wired: bool, letters: Letters) -> Option<BoardPlan>
             contexts: 1,
         }),
         wires: Rows::of(wires(alloc, wired)?),
-        speed: 25,
-        cpus: Rows::of(vec![in alloc; Text::of(alloc, "cpu").ok()?].ok()?),
-        letters,
+        speed: 24,
+        cpus: Rows::of(cpus(alloc, form.harts)?),
+        letters: form.letters,
     })
 }
 
 /// The plan of the board, if it is one that a board can have.
-fn valid_plan(alloc: Global, wired: bool, letters: Letters) -> Option<BoardPlan>
+fn valid_plan(alloc: Global, form: Form) -> Option<BoardPlan>
     ensures kinds { IfSome result (λ plan. plan.kinds ≡ Uart ∷ Finisher ∷ []) }
     ensures valid { IfSome result (λ plan. IsValid plan) }
 {
-    let plan = plan(alloc, wired, letters)?;
+    let plan = plan(alloc, form)?;
     plan.is_valid().then_some(plan)
 }
 
@@ -122,12 +146,10 @@ fn both<D: Device>(alloc: Global, uart: D, finisher: D) -> Option<Vec<D>>
     Some(devices)
 }
 
-/// A new board with these devices and extensions of its processor, which may have a timer, an
-/// interrupt controller and wires.
+/// A new board of this form with these devices.
 pub fn board_of<D: Device>(
     alloc: Global,
-    wired: bool,
-    letters: Letters,
+    form: Form,
     uart: D,
     finisher: D,
 ) -> Option<Board<D>>
@@ -135,6 +157,6 @@ pub fn board_of<D: Device>(
     requires finisher { D.meaning finisher ≡ first_state Finisher }
 {
     let devices = both(alloc, uart, finisher)?;
-    let plan = valid_plan(alloc, wired, letters)?;
+    let plan = valid_plan(alloc, form)?;
     Board::new(alloc, BoardNo(0), plan, devices).ok()
 }

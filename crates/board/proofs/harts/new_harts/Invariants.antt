@@ -1,8 +1,10 @@
-use Rattle.std.proofs.Common.{◌≡◌, map}
-use Rattle.std.specs.List.{range_with_len}
-use Rattle.rv_hart.specs.Core.{initial_with}
+use Rattle.std.proofs.Common.{◌≡◌, ◌<◌, ◌≤◌, ◌^◌, ◌||◌, length, map, IfOk, ℕ, ◌+◌, ◌-◌, ◌*◌}
+use Rattle.std.specs.List.{list_all, range_with_len}
+use Rattle.rv_hart.specs.Core.{initial}
+use Rattle.board.specs.Idle.{all_halted, core_passed, is_idle, turns_of}
+use Rattle.board.specs.New.{new_cores, reset_core}
+use Rattle.board.specs.Inner.Seat.{all_passed}
 use Rattle.board.proofs.harts.new_harts.Given as goal
 
--- Those so far are made.
 abbrev pub invariant-loop-number : goal.invariant-loop-number
-invariant-loop-number l = l.harts.items ≡ map (initial_with l.letters) (range_with_len 0 l.number)
+invariant-loop-number l = l.harts.items ≡ new_cores l.number l.letters
