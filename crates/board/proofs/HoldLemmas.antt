@@ -1,16 +1,15 @@
 -- What a board keeps is kept.
-use Rattle.std.proofs.Common.{◌≡◌, ◌∙◌, ℕ, ◌+◌, ◌%◌, ◌<◌, ◌≤◌, Bool, true, false, List, [], ◌∷◌, All, length, map, set, get_or}
-use Rattle.std.proofs.Common.{replicate, refl, sym, ap, subst, arith}
-use Rattle.std.specs.Prelude.{Option, None, if◌then◌else◌, slice_set, slice_index_or}
+use Rattle.std.proofs.Common.{◌≡◌, ◌∙◌, ℕ, ◌+◌, ◌%◌, ◌^◌, ◌<◌, true, false, List, [], ◌∷◌, All, length, map, get_or}
+use Rattle.std.proofs.Common.{refl, sym, ap, arith}
+use Rattle.std.specs.Prelude.{Option, if◌then◌else◌, slice_set, slice_index_or}
 use Rattle.std.specs.List.{range_with_len}
 use Rattle.std.proofs.Math.Seq.{map-set_same}
-use Rattle.std.proofs.lemmas.List.{length-map, length-set, length-replicate}
+use Rattle.std.proofs.lemmas.List.{length-map, length-set}
 use Rattle.std.proofs.lemmas.List.{get_or-map as get_or-map'}
 use Rattle.std.proofs.lemmas.List.Elements.{All-set, All-get_or, All-map, All-from_get_or}
 use Rattle.std.proofs.lemmas.List.FromFn.{fill_by_all, length-map-range_with_len, get_or-map-range_with_len}
 use Rattle.rv_exec.specs.Laws.{IsSameHart}
 use Rattle.rv_hart.specs.Core.{Core, initial}
-use Rattle.rv_hart.specs.declared.letters.Letters.{Letters}
 use Rattle.sys_bus.specs.declared.plan.BoardPlan.{BoardPlan}
 use Rattle.board.specs.Idle.{core_passed, turns_of}
 use Rattle.board.specs.Inner.Holds.{Holds, state_alone, state_of}
@@ -18,7 +17,7 @@ use Rattle.board.specs.Inner.Seat.{all_passed}
 use Rattle.board.specs.New.{reset_core}
 use Rattle.board.specs.Numbers.{Numbers}
 use Rattle.board.specs.Space.{Space}
-use Rattle.board.specs.View.{View, State, core_at}
+use Rattle.board.specs.View.{View, core_at}
 use Rattle.board.specs.Wires.{Wires}
 
 -- what holds of a board holds of another one of its plan, with its speed and as many processors

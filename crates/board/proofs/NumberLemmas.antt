@@ -24,12 +24,12 @@ use Rattle.board.specs.Numbered.{IsNumbered}
 use Rattle.board.proofs.SlotLemmas.{HoldsOfEach, by_effect}
 
 -- the keys of what a board has made in at most so many slots, where its counter does not come to its last value
-record IsCounted (board from to n : ℕ) (made : List Key) : Type 0 where
-  count : to ≡ from + length made
-  few : length made ≤ n
-  keys : AreNumbered board from made
+pub record IsCounted (board from to n : ℕ) (made : List Key) : Type 0 where
+  pub count : to ≡ from + length made
+  pub few : length made ≤ n
+  pub keys : AreNumbered board from made
 
-abbrev Counts : ℕ → ℕ → ℕ → ℕ → List Key → Type 0
+abbrev pub Counts : ℕ → ℕ → ℕ → ℕ → List Key → Type 0
 Counts board from to n made = from + n < 2 ^ 64 → IsCounted board from to n made
 
 counts-none : (board from n : ℕ) → Counts board from from n []
@@ -61,12 +61,12 @@ counts-after board board' from mid to m n xs ys same first second room =
     }
 
 -- what at most so many slots leave of a board of this plan and these numbers
-record IsRun (kept : BoardPlan) (old : Numbers) (n : ℕ) (run : State) : Type 0 where
-  plan : run.view.space.plan ≡ kept
-  number : run.view.numbers.number ≡ old.number
-  speed : run.view.numbers.speed ≡ old.speed
-  posts : Counts old.number old.posted run.view.numbers.posted n (map (λ post. post.key) run.posts)
-  entries : Counts old.number old.entered run.view.numbers.entered n (map (λ entry. entry.key) run.entries)
+pub record IsRun (kept : BoardPlan) (old : Numbers) (n : ℕ) (run : State) : Type 0 where
+  pub plan : run.view.space.plan ≡ kept
+  pub number : run.view.numbers.number ≡ old.number
+  pub speed : run.view.numbers.speed ≡ old.speed
+  pub posts : Counts old.number old.posted run.view.numbers.posted n (map (λ post. post.key) run.posts)
+  pub entries : Counts old.number old.entered run.view.numbers.entered n (map (λ entry. entry.key) run.entries)
 
 run_none : (v : View) (n : ℕ) → IsRun v.space.plan v.numbers n (quiet v)
 run_none v n = record {
