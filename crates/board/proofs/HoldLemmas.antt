@@ -1,16 +1,17 @@
 -- What a board keeps is kept.
-use Rattle.std.proofs.Common.{◌≡◌, ◌∙◌, ℕ, ◌+◌, ◌%◌, ◌<◌, ◌≤◌, Bool, true, false, List, [], ◌∷◌, All, length, map, take, set, get_or, OnOk, OnErr}
+use Rattle.std.proofs.Common.{◌≡◌, ◌∙◌, ℕ, ◌+◌, ◌%◌, ◌^◌, ◌<◌, ◌≤◌, Bool, true, false, List, [], ◌∷◌, ◌++◌, All, length, map, take, set, get_or, OnOk, OnErr}
 use Rattle.std.proofs.Common.{replicate, refl, sym, ap, subst, arith}
 use Rattle.std.specs.Prelude.{Option, None, Result, Ok, Err, if◌then◌else◌, slice_set, slice_index_or}
 use Rattle.std.specs.List.{range_with_len}
 use Rattle.std.proofs.Math.Seq.{map-set_same}
-use Rattle.std.proofs.lemmas.List.{length-map, length-set, length-replicate, get_or_default}
+use Rattle.std.proofs.lemmas.List.{length-map, length-set, length-replicate, get_or_default, take_all, take-append-le}
+use Rattle.std.proofs.lemmas.Bool.Decides.{nat_tests}
 use Rattle.std.proofs.lemmas.Nat.{mod_below}
 use Rattle.std.proofs.lemmas.List.{get_or-map as get_or-map'}
 use Rattle.std.proofs.lemmas.List.Elements.{All-set, All-get_or, All-map, All-from_get_or}
 use Rattle.std.proofs.lemmas.List.FromFn.{fill_by_all, length-map-range_with_len, get_or-map-range_with_len}
 use Rattle.rv_exec.specs.Laws.{IsSameHart}
-use Rattle.rv_hart.specs.Core.{Core, initial}
+use Rattle.rv_hart.specs.Core.{Core, initial, initial_with}
 use Rattle.rv_hart.specs.declared.letters.Letters.{Letters}
 use Rattle.sys_bus.specs.declared.plan.BoardPlan.{BoardPlan}
 use Rattle.board.specs.Idle.{core_passed, turns_of}
@@ -22,7 +23,8 @@ use Rattle.board.specs.Inner.Seat.{all_passed, behind}
 use Rattle.board.proofs.CopyLemmas.{plan-copied}
 use Rattle.board.proofs.NumberLemmas.{plan-slot, speed-slot}
 use Rattle.board.proofs.TurnLemmas.{number_after_is, taken_in_turn}
-use Rattle.board.specs.New.{reset_core}
+use Rattle.sys_bus.specs.Plan.{IsValid}
+use Rattle.board.specs.New.{new_board, new_cores, reset_core}
 use Rattle.board.specs.Numbers.{Numbers}
 use Rattle.board.specs.Space.{Space}
 use Rattle.board.specs.Slot.{hart_slot, number_after}
@@ -188,3 +190,39 @@ pub plan_copies :
     OnOk r (now ≡ copied s at bytes) → OnErr r (CopiesPrefix s now at bytes) → now.plan ≡ s.plan
 plan_copies (Ok u) s now at bytes ok err = ap {A = Space} (λ s. s.plan) ok ∙ plan-copied s at bytes
 plan_copies (Err e) s now at bytes ok err = ap {A = Space} (λ s. s.plan) err.1.1 ∙ plan-copied s at (take err.0 bytes)
+
+-- ---- a new board
+
+some_harts : (plan : BoardPlan) → IsValid plan → 1 ≤ length plan.cpus
+some_harts plan valid = grind (arith, nat_tests, valid.few_processors)
+
+pub holds_new : (number : ℕ) (plan : BoardPlan) → IsValid plan → Holds (new_board number plan)
+holds_new number plan valid =
+    let count : length (new_cores (length plan.cpus) plan.letters) ≡ length plan.cpus =
+    length-map-range_with_len (initial_with plan.letters) 0 (length plan.cpus) in
+    record {
+      least = grind (arith, nat_tests, valid.speed);
+      most = grind (arith, nat_tests, valid.speed);
+      shared = rw count (grind (arith, nat_tests, valid.speed));
+      harts = count;
+      letters =
+          All-from_get_or (λ core. core.letters ≡ plan.letters) _ initial
+          (λ k there.
+          ap {A = Core} (λ core. core.letters)
+          (get_or-map-range_with_len (initial_with plan.letters) 0 (length plan.cpus) k k initial (rw count at there)
+          (omega arith)));
+      numbers = own_numbers plan.letters (range_with_len 0 (length plan.cpus)) ∙ ap (range_with_len 0) (sym count);
+      next = rw count (some_harts plan valid);
+      watch = length-replicate (length plan.cpus) None ∙ sym count;
+    }
+  where
+    own_numbers :
+        (letters : Letters) (places : List ℕ) →
+        map (λ (core : Core). core.number) (map (initial_with letters) places) ≡ places
+    own_numbers letters [] = refl
+    own_numbers letters (place ∷ places) = ap (λ all. place ∷ all) (own_numbers letters places)
+
+-- ---- a list that was written as a whole
+
+pub whole : (n : ℕ) (now rest : List Core) → n ≤ length now → length now ≤ n → take n (now ++ rest) ≡ now
+whole n now rest most least = take-append-le n now rest most ∙ take_all n now least
