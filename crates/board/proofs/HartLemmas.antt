@@ -6,7 +6,10 @@ use Rattle.std.specs.List.{range_with_len}
 use Rattle.std.specs.Prelude.{slice_set, slice_index_or}
 use Rattle.std.proofs.lemmas.List.FromFn.{length-map-range_with_len, map-range_with_len_more}
 use Rattle.rv_hart.specs.Core.{Core, initial}
+use Rattle.rv_hart.specs.declared.csr.Lines.{Lines}
 use Rattle.board.specs.Idle.{core_passed, turns_of}
+use Rattle.board.specs.Lines.{lines_of, mip_of, timer_up}
+use Rattle.board.specs.Space.{Space}
 
 rest_is : {X : Type 0} (xs : List X) (i : ℕ) (d : X) → i < length xs → drop i xs ≡ get_or xs i d ∷ drop (i + 1) xs
 rest_is xs i d within =
@@ -46,3 +49,10 @@ one_more_set f xs ys i d within so_far =
 -- the processor of a number after so many slots have passed
 abbrev pub passed_at : List Core → ℕ → ℕ → ℕ → Core
 passed_at cores next n hart = core_passed (turns_of (length cores) next n hart) (slice_index_or cores hart initial)
+
+-- what is pending by the lines of a processor
+pub mip_is :
+    (s : Space) (hart t : ℕ) (lines : Lines) → lines ≡ lines_of s hart t →
+    lines.mip ≡ mip_of s (timer_up s.timer t) hart
+unfolding lines_of
+mip_is s hart t lines is = ap (λ l. l.mip) is

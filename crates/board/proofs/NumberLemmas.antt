@@ -147,7 +147,7 @@ run_if :
 run_if v kept old n true a b p q = p
 run_if v kept old n false a b p q = q
 
-pub run_slot : (v : View) (t : ℕ) → IsRun v.space.plan v.numbers 1 (slot v t)
+run_slot : (v : View) (t : ℕ) → IsRun v.space.plan v.numbers 1 (slot v t)
 unfolding slot hart_slot sampled
 run_slot v t =
     let h = hart_view v v.next in
@@ -179,6 +179,13 @@ run_stretch v from a (suc n) =
     let t = slot_at from v.numbers.speed (a + n) in
     rw add-one at
     (run_after v.space.plan v.numbers n 1 run (slot run.view t) (run_stretch v from a n) (run_slot run.view t))
+
+-- a slot keeps the plan and the speed
+pub plan-slot : (v : View) (t : ℕ) → (slot v t).view.space.plan ≡ v.space.plan
+plan-slot v t = (run_slot v t).plan
+
+pub speed-slot : (v : View) (t : ℕ) → (slot v t).view.numbers.speed ≡ v.numbers.speed
+speed-slot v t = (run_slot v t).speed
 
 -- a stretch keeps the plan and the speed
 pub plan-stretch : (v : View) (from a n : ℕ) → (stretch v from a n).view.space.plan ≡ v.space.plan
