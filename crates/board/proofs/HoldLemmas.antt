@@ -1,23 +1,33 @@
 -- What a board keeps is kept.
-use Rattle.std.proofs.Common.{◌≡◌, ◌∙◌, ℕ, ◌+◌, ◌%◌, ◌<◌, ◌≤◌, Bool, true, false, List, [], ◌∷◌, All, length, map, set, get_or}
+use Rattle.std.proofs.Common.{◌≡◌, ◌∙◌, ℕ, ◌+◌, ◌%◌, ◌^◌, ◌<◌, ◌≤◌, Bool, true, false, List, [], ◌∷◌, ◌++◌, All, length, map, take, set, get_or, OnOk, OnErr}
 use Rattle.std.proofs.Common.{replicate, refl, sym, ap, subst, arith}
-use Rattle.std.specs.Prelude.{Option, None, if◌then◌else◌, slice_set, slice_index_or}
+use Rattle.std.specs.Prelude.{Option, None, Result, Ok, Err, if◌then◌else◌, slice_set, slice_index_or}
 use Rattle.std.specs.List.{range_with_len}
 use Rattle.std.proofs.Math.Seq.{map-set_same}
-use Rattle.std.proofs.lemmas.List.{length-map, length-set, length-replicate}
+use Rattle.std.proofs.lemmas.List.{length-map, length-set, length-replicate, get_or_default, take_all, take-append-le}
+use Rattle.std.proofs.lemmas.Bool.Decides.{nat_tests}
+use Rattle.std.proofs.lemmas.Nat.{mod_below}
 use Rattle.std.proofs.lemmas.List.{get_or-map as get_or-map'}
 use Rattle.std.proofs.lemmas.List.Elements.{All-set, All-get_or, All-map, All-from_get_or}
 use Rattle.std.proofs.lemmas.List.FromFn.{fill_by_all, length-map-range_with_len, get_or-map-range_with_len}
 use Rattle.rv_exec.specs.Laws.{IsSameHart}
-use Rattle.rv_hart.specs.Core.{Core, initial}
+use Rattle.rv_hart.specs.Core.{Core, initial, initial_with}
 use Rattle.rv_hart.specs.declared.letters.Letters.{Letters}
 use Rattle.sys_bus.specs.declared.plan.BoardPlan.{BoardPlan}
 use Rattle.board.specs.Idle.{core_passed, turns_of}
 use Rattle.board.specs.Inner.Holds.{Holds, state_alone, state_of}
-use Rattle.board.specs.Inner.Seat.{all_passed}
-use Rattle.board.specs.New.{reset_core}
+use Rattle.board.specs.HartView.{hart_state}
+use Rattle.board.specs.Changes.{copied}
+use Rattle.board.specs.Inner.Copies.{CopiesPrefix}
+use Rattle.board.specs.Inner.Seat.{all_passed, behind}
+use Rattle.board.proofs.CopyLemmas.{plan-copied}
+use Rattle.board.proofs.NumberLemmas.{plan-slot, speed-slot}
+use Rattle.board.proofs.TurnLemmas.{number_after_is, taken_in_turn}
+use Rattle.sys_bus.specs.Plan.{IsValid}
+use Rattle.board.specs.New.{new_board, new_cores, reset_core}
 use Rattle.board.specs.Numbers.{Numbers}
 use Rattle.board.specs.Space.{Space}
+use Rattle.board.specs.Slot.{hart_slot, number_after}
 use Rattle.board.specs.View.{View, State, core_at}
 use Rattle.board.specs.Wires.{Wires}
 
@@ -40,9 +50,10 @@ holds_kept v w holds speed plan watch next cores letters numbers = record {
 
 -- one of the processors is as it was, but for its state
 pub holds_set :
-    (v : View) (numbers : Numbers) (hart next : ℕ) (core : Core) (watch : List (Option ℕ)) (space : Space) →
+    (v : View) (numbers : Numbers) (hart next : ℕ) (old core : Core) (watch : List (Option ℕ)) (space : Space) →
     Holds v → numbers.speed ≡ v.numbers.speed → space.plan ≡ v.space.plan → hart < length v.cores →
-    IsSameHart (core_at v hart) core → length watch ≡ length v.watch → next < length v.cores →
+    old ≡ slice_index_or v.cores hart old → IsSameHart old core → length watch ≡ length v.watch →
+    next < length v.cores →
     Holds
     (record {
       numbers = numbers;
@@ -51,12 +62,35 @@ pub holds_set :
       watch = watch;
       space = space;
     })
-holds_set v numbers hart next core watch space holds speed plan below same harts within =
+holds_set v numbers hart next old core watch space holds speed plan below is same harts within =
     holds_kept v _ holds speed plan harts within (length-set v.cores hart core)
     (All-set (λ core. core.letters ≡ v.space.plan.letters) v.cores hart core
-    (same.letters ∙ All-get_or (λ core. core.letters ≡ v.space.plan.letters) v.cores hart initial below holds.letters)
-    holds.letters)
-    (map-set_same (λ core. core.number) v.cores hart core initial same.number)
+    (same.letters
+    ∙ ap {A = Core} (λ core. core.letters) is
+    ∙ All-get_or (λ core. core.letters ≡ v.space.plan.letters) v.cores hart old below holds.letters) holds.letters)
+    (map-set_same (λ core. core.number) v.cores hart core old
+    (same.number ∙ ap {A = Core} (λ core. core.number) is))
+
+-- a slot of one of them keeps the speed and the plan
+pub kept_in_turn :
+    (cores : List Core) (next : ℕ) (old core' : Core) (watch watch' : List (Option ℕ)) (w w' : Wires) (t : ℕ) →
+    old ≡ slice_index_or cores next old → next < length cores →
+    hart_state next core' watch' w'
+    ≡ behind (hart_state next old watch w) (hart_slot (hart_state next old watch w).view t) →
+    (w'.numbers.speed ≡ w.numbers.speed) × (w'.space.plan ≡ w.space.plan)
+kept_in_turn cores next old core' watch watch' w w' t is below done =
+    let first : old ≡ slice_index_or cores next initial = is ∙ get_or_default cores next old initial below in
+    let taken = taken_in_turn cores next core' watch watch' w w' t
+    (subst
+    (λ (core : Core). hart_state next core' watch' w'
+    ≡ behind (hart_state next core watch w) (hart_slot (hart_state next core watch w).view t)) first done) in (
+      ap {A = State} (λ s. s.view.numbers.speed) taken ∙ speed-slot _ t,
+      ap {A = State} (λ s. s.view.space.plan) taken ∙ plan-slot _ t,
+    )
+
+-- the number after that of a processor is that of one
+pub after_below : (harts hart : ℕ) → hart < harts → number_after harts hart < harts
+after_below harts hart below = rw (number_after_is harts hart below) (mod_below _ _ (omega (arith, below)))
 
 -- other reservations of as many
 pub holds_watch :
@@ -147,3 +181,48 @@ pub alone_set :
 alone_set cores next core watch w one below =
     let first : next ≡ 0 = omega (arith, one, below) in
     rw first (ap (λ all. state_of (slice_set all 0 core) 0 watch w) (one_core cores one))
+
+-- ---- copies
+
+-- they keep the plan, whole or in part
+pub plan_copies :
+    {E : Type 0} (r : Result (Unit {0}) E) (s now : Space) (at : ℕ) (bytes : List ℕ) →
+    OnOk r (now ≡ copied s at bytes) → OnErr r (CopiesPrefix s now at bytes) → now.plan ≡ s.plan
+plan_copies (Ok u) s now at bytes ok err = ap {A = Space} (λ s. s.plan) ok ∙ plan-copied s at bytes
+plan_copies (Err e) s now at bytes ok err = ap {A = Space} (λ s. s.plan) err.1.1 ∙ plan-copied s at (take err.0 bytes)
+
+-- ---- a new board
+
+some_harts : (plan : BoardPlan) → IsValid plan → 1 ≤ length plan.cpus
+some_harts plan valid = grind (arith, nat_tests, valid.few_processors)
+
+pub holds_new : (number : ℕ) (plan : BoardPlan) → IsValid plan → Holds (new_board number plan)
+holds_new number plan valid =
+    let count : length (new_cores (length plan.cpus) plan.letters) ≡ length plan.cpus =
+    length-map-range_with_len (initial_with plan.letters) 0 (length plan.cpus) in
+    record {
+      least = grind (arith, nat_tests, valid.speed);
+      most = grind (arith, nat_tests, valid.speed);
+      shared = rw count (grind (arith, nat_tests, valid.speed));
+      harts = count;
+      letters =
+          All-from_get_or (λ core. core.letters ≡ plan.letters) _ initial
+          (λ k there.
+          ap {A = Core} (λ core. core.letters)
+          (get_or-map-range_with_len (initial_with plan.letters) 0 (length plan.cpus) k k initial (rw count at there)
+          (omega arith)));
+      numbers = own_numbers plan.letters (range_with_len 0 (length plan.cpus)) ∙ ap (range_with_len 0) (sym count);
+      next = rw count (some_harts plan valid);
+      watch = length-replicate (length plan.cpus) None ∙ sym count;
+    }
+  where
+    own_numbers :
+        (letters : Letters) (places : List ℕ) →
+        map (λ (core : Core). core.number) (map (initial_with letters) places) ≡ places
+    own_numbers letters [] = refl
+    own_numbers letters (place ∷ places) = ap (λ all. place ∷ all) (own_numbers letters places)
+
+-- ---- a list that was written as a whole
+
+pub whole : (n : ℕ) (now rest : List Core) → n ≤ length now → length now ≤ n → take n (now ++ rest) ≡ now
+whole n now rest most least = take-append-le n now rest most ∙ take_all n now least

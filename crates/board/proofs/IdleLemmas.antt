@@ -1,20 +1,24 @@
 -- Slots of processors that wait or are halted, one after another.
 use Rattle.std.proofs.Common.{◌≡◌, ℕ, zero, suc, ◌+◌, ◌-◌, ◌*◌, ◌/◌, ◌%◌, ◌^◌, ◌<◌, ◌≤◌, ◌==◌, Bool, true, false, not, ◌&&◌}
 use Rattle.std.proofs.Common.{◌||◌, refl, sym, ap, ◌∙◌, subst, inl, inr, arith, length, map, All, add-one}
+use Rattle.std.proofs.Common.{List, ◌++◌, take, drop, slice_index_or}
 use Rattle.std.specs.Prelude.{IsTrue, if◌then◌else◌, slice_set}
 use Rattle.std.specs.List.{range_with_len}
 use Rattle.std.proofs.Math.Nat.{div-lt_iff_lt-mul, le-div_iff_mul-le, div-mul-le_self, mod-eq_of_lt, suc-mod}
 use Rattle.std.proofs.lemmas.Bool.{cases_eq, cases_Bool}
 use Rattle.std.proofs.lemmas.Bool.Decides.{nat_tests}
-use Rattle.std.proofs.lemmas.List.{append-nil, length-set, get_or-set_same, get_or-set_other}
+use Rattle.std.proofs.lemmas.List.{append-nil, get_or_read, take_all, take-append-le, length-set, get_or-set_same, get_or-set_other}
 use Rattle.std.proofs.lemmas.List.FromFn.{length-map-range_with_len, get_or-map-range_with_len, fill_by_all}
 use Rattle.std.proofs.lemmas.Nat.{mod_below}
 use Rattle.lab_num.specs.Paid.{slot_at}
+use Rattle.rv_hart.specs.declared.csr.Lines.{Lines}
 use Rattle.rv_hart.specs.Core.{Core, initial, ticked}
 use Rattle.rv_hart.specs.Trap.{is_ready}
+use Rattle.board.specs.Inner.Seat.{all_passed}
 use Rattle.board.specs.Idle.{IsIdle, IsStillFor, passed, core_passed, is_idle, turns_of, all_halted}
-use Rattle.board.specs.Lines.{lines_of, timer_up, mip_of}
+use Rattle.board.specs.Lines.{sampled, lines_of, timer_up, mip_of}
 use Rattle.board.specs.Slot.{slot, hart_slot, number_after}
+use Rattle.board.specs.Space.{Space}
 use Rattle.board.specs.Stretch.{stretch}
 use Rattle.board.specs.View.{View, State, quiet, after, core_at}
 use Rattle.board.proofs.ListLemmas.{passes_each}
@@ -193,6 +197,38 @@ stretch-halted v from a (suc n) below halted =
           (passes_each (λ core. core.halted) v.cores ((v.next + n) % length v.cores) initial halted within),
       next_passed (length v.cores) v.next n below,
     ) refl
+
+-- a processor is idle by the test of its lines
+pub idle_by :
+    (cores : List Core) (s : Space) (hart t : ℕ) (core : Core) (lines : Lines) → hart < length cores →
+    core ≡ slice_index_or cores hart core → lines ≡ lines_of s hart t → is_idle core lines.mip ≡ true →
+    is_idle (slice_index_or cores hart initial) (mip_of s (timer_up s.timer t) hart) ≡ true
+unfolding lines_of
+idle_by cores s hart t core lines there read lines_is idle =
+    let same : core ≡ slice_index_or cores hart initial = get_or_read cores hart core there read initial in
+    rw (← same) (ap (λ l. is_idle core l.mip) (sym lines_is) ∙ idle)
+
+-- all processors are, so many as there are
+pub idle_all :
+    (v : View) (timer : Bool) (count : ℕ) → v.next < length v.cores → length v.cores ≤ count →
+    (0 < count → sampled v.space ≡ v.space) →
+    ((k : ℕ) → k < count → IsTrue (is_idle (core_at v k) (mip_of v.space timer k))) → IsIdle v timer
+idle_all v timer count below all settled rests = record {
+  settled = settled (omega (arith, below, all));
+  rests = λ hart there. rests hart (omega (arith, there, all));
+}
+
+-- processors that are put back where they stood
+pub passed_back :
+    (n : ℕ) (now cores inside : List Core) (next slots : ℕ) → now ≡ all_passed cores next slots → cores ≡ inside →
+    n ≡ length inside → take n (now ++ drop (length now) inside) ≡ all_passed inside next slots
+passed_back n now cores inside next slots is same count =
+    let long : length now ≡ n =
+    ap length is ∙ length-map-range_with_len _ 0 (length cores) ∙ ap length same ∙ sym count in
+    take-append-le n now (drop (length now) inside) (omega (arith, long))
+    ∙ take_all n now (omega (arith, long))
+    ∙ is
+    ∙ ap (λ all. all_passed all next slots) same
 
 passed_behind : (s : State) (v : View) → record s { view = v } ≡ after s (quiet v)
 passed_behind s v = sym (simp append-nil)

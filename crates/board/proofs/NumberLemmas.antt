@@ -24,12 +24,12 @@ use Rattle.board.specs.Numbered.{IsNumbered}
 use Rattle.board.proofs.SlotLemmas.{HoldsOfEach, by_effect}
 
 -- the keys of what a board has made in at most so many slots, where its counter does not come to its last value
-record IsCounted (board from to n : ℕ) (made : List Key) : Type 0 where
-  count : to ≡ from + length made
-  few : length made ≤ n
-  keys : AreNumbered board from made
+pub record IsCounted (board from to n : ℕ) (made : List Key) : Type 0 where
+  pub count : to ≡ from + length made
+  pub few : length made ≤ n
+  pub keys : AreNumbered board from made
 
-abbrev Counts : ℕ → ℕ → ℕ → ℕ → List Key → Type 0
+abbrev pub Counts : ℕ → ℕ → ℕ → ℕ → List Key → Type 0
 Counts board from to n made = from + n < 2 ^ 64 → IsCounted board from to n made
 
 counts-none : (board from n : ℕ) → Counts board from from n []
@@ -61,12 +61,12 @@ counts-after board board' from mid to m n xs ys same first second room =
     }
 
 -- what at most so many slots leave of a board of this plan and these numbers
-record IsRun (kept : BoardPlan) (old : Numbers) (n : ℕ) (run : State) : Type 0 where
-  plan : run.view.space.plan ≡ kept
-  number : run.view.numbers.number ≡ old.number
-  speed : run.view.numbers.speed ≡ old.speed
-  posts : Counts old.number old.posted run.view.numbers.posted n (map (λ post. post.key) run.posts)
-  entries : Counts old.number old.entered run.view.numbers.entered n (map (λ entry. entry.key) run.entries)
+pub record IsRun (kept : BoardPlan) (old : Numbers) (n : ℕ) (run : State) : Type 0 where
+  pub plan : run.view.space.plan ≡ kept
+  pub number : run.view.numbers.number ≡ old.number
+  pub speed : run.view.numbers.speed ≡ old.speed
+  pub posts : Counts old.number old.posted run.view.numbers.posted n (map (λ post. post.key) run.posts)
+  pub entries : Counts old.number old.entered run.view.numbers.entered n (map (λ entry. entry.key) run.entries)
 
 run_none : (v : View) (n : ℕ) → IsRun v.space.plan v.numbers n (quiet v)
 run_none v n = record {
@@ -147,7 +147,7 @@ run_if :
 run_if v kept old n true a b p q = p
 run_if v kept old n false a b p q = q
 
-pub run_slot : (v : View) (t : ℕ) → IsRun v.space.plan v.numbers 1 (slot v t)
+run_slot : (v : View) (t : ℕ) → IsRun v.space.plan v.numbers 1 (slot v t)
 unfolding slot hart_slot sampled
 run_slot v t =
     let h = hart_view v v.next in
@@ -179,6 +179,13 @@ run_stretch v from a (suc n) =
     let t = slot_at from v.numbers.speed (a + n) in
     rw add-one at
     (run_after v.space.plan v.numbers n 1 run (slot run.view t) (run_stretch v from a n) (run_slot run.view t))
+
+-- a slot keeps the plan and the speed
+pub plan-slot : (v : View) (t : ℕ) → (slot v t).view.space.plan ≡ v.space.plan
+plan-slot v t = (run_slot v t).plan
+
+pub speed-slot : (v : View) (t : ℕ) → (slot v t).view.numbers.speed ≡ v.numbers.speed
+speed-slot v t = (run_slot v t).speed
 
 -- a stretch keeps the plan and the speed
 pub plan-stretch : (v : View) (from a n : ℕ) → (stretch v from a n).view.space.plan ≡ v.space.plan

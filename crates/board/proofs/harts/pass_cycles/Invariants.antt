@@ -1,13 +1,17 @@
-use Rattle.std.proofs.Common.{◌≡◌, ◌<◌, ◌≤◌, ◌^◌, ◌||◌, length, map, IfOk, ℕ, ◌+◌, ◌-◌, ◌*◌, ◌++◌, drop}
-use Rattle.std.specs.List.{list_all, range_with_len}
+use Rattle.std.proofs.Common.{◌≡◌, ◌<◌, ◌^◌, ℕ, length, nat_lt}
+use Rattle.std.specs.Prelude.{if◌then◌else◌, slice_index_or}
 use Rattle.rv_hart.specs.Core.{initial}
-use Rattle.board.specs.Idle.{all_halted, core_passed, is_idle, turns_of}
-use Rattle.board.specs.New.{new_cores, reset_core}
-use Rattle.board.specs.Inner.Seat.{all_passed}
-use Rattle.board.proofs.HartLemmas.{passed_at}
+use Rattle.board.specs.Idle.{core_passed, turns_of}
 use Rattle.board.proofs.harts.pass_cycles.Given as goal
 
+-- Cycles of those so far have passed.
 abbrev pub invariant-loop-number : goal.invariant-loop-number
-invariant-loop-number l =
-    (l.count ≡ length l.initial.harts)
-    × (l.harts ≡ map (passed_at l.initial.harts l.next l.slots) (range_with_len 0 l.number) ++ drop l.number l.initial.harts)
+invariant-loop-number l = record {
+  same : length l.harts ≡ length l.initial.harts;
+  each : (k : ℕ) → k < length l.initial.harts →
+      slice_index_or l.harts k initial
+      ≡ (if nat_lt k l.number then
+      core_passed (turns_of (length l.initial.harts) l.next l.slots k) (slice_index_or l.initial.harts k initial)
+      else slice_index_or l.initial.harts k initial);
+  fits : (k : ℕ) → k < l.number → (slice_index_or l.initial.harts k initial).mcycle < 2 ^ 64;
+}
