@@ -1,5 +1,5 @@
 -- What a processor does in its slot, as its board has it.
-use Rattle.std.proofs.Common.{◌≡◌, ◌∙◌, ℕ, ◌%◌, ◌<◌, ◌==◌, Bool, true, false, not, ◌||◌, List, [], ◌∷◌, length, map, set, refl, sym}
+use Rattle.std.proofs.Common.{◌≡◌, ◌∙◌, ℕ, ◌%◌, ◌<◌, ◌==◌, Bool, true, false, not, List, [], ◌∷◌, length, map, set, refl}
 use Rattle.std.proofs.Common.{ap, arith}
 use Rattle.std.specs.Prelude.{Option, None, Some, if◌then◌else◌}
 use Rattle.std.specs.Option.{option_and_then, option_map_or}
@@ -16,7 +16,7 @@ use Rattle.rv_atomic.specs.declared.atomic.Atomic.{Atomic}
 use Rattle.rv_atomic.specs.declared.shared.Shared.{Shared}
 use Rattle.rv_atomic.specs.declared.shared.Shared.TheVariants as shared
 use Rattle.rv_atomic.specs.declared.span.Span.{Span}
-use Rattle.rv_atomic.specs.AtomicEffect.{SharedEffect, address, atomic_effect, gives, gives_and_stores, leaves}
+use Rattle.rv_atomic.specs.AtomicEffect.{address, atomic_effect, gives, gives_and_stores, leaves}
 use Rattle.rv_atomic.specs.AtomicEffect.{access_fault_cause, misaligned_cause, store_conditional, with_word}
 use Rattle.rv_atomic.specs.Means.{atomic_of}
 use Rattle.rv_atomic.specs.Laws.{PlainAlone}
@@ -25,7 +25,7 @@ use Rattle.rv_atomic.specs.Span.{span_of}
 use Rattle.rv_atomic.specs.Watch.{after_store, has_reserved, kept, reserved}
 use Rattle.sys_bus.specs.declared.plan.BoardPlan.{BoardPlan}
 use Rattle.board.specs.Fetch.{effect_on, fetched_by, shared_by, word_at_pc}
-use Rattle.board.specs.HartView.{HartView, HartState, hart_state}
+use Rattle.board.specs.HartView.{hart_state}
 use Rattle.board.specs.Inner.Seat.{behind, is_shared, seen}
 use Rattle.board.specs.Slot.{awake}
 use Rattle.board.specs.Wires.{Wires, answer, fetched, loaded, stored}

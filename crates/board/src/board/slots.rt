@@ -56,11 +56,7 @@ fn number_after(harts: u8, number: u8) -> u8
     requires { number < harts }
     ensures { result ≡ number_after harts number }
 {
-    if number + 1 == harts {
-        0
-    } else {
-        number + 1
-    }
+    if number + 1 == harts { 0 } else { number + 1 }
 }
 
 /// The next `count` slots of a board of one processor without atomic instructions, all in this

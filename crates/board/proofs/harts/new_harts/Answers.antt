@@ -1,9 +1,6 @@
-use Rattle.std.proofs.Common.{rules, ◌≡◌, ◌<◌, ◌≤◌, ◌^◌, ◌||◌, length, map, IfOk, ℕ, ◌+◌, ◌-◌, ◌*◌, ◌/◌, ◌%◌, Bool, true, false, nat_eq, nat_lt, List, [], ◌∷◌, ◌++◌, slice_index_or, slice_set, bit_and, bit_or, Fits, w8, w32, w64, Bor, MutBor, arith}
-use Rattle.std.specs.List.{list_all, range_with_len}
-use Rattle.rv_hart.specs.Core.{initial, initial_with}
-use Rattle.board.specs.Idle.{all_halted, core_passed, is_idle, turns_of}
-use Rattle.board.specs.New.{new_cores, reset_core}
-use Rattle.board.specs.Inner.Seat.{all_passed}
+use Rattle.std.proofs.Common.{rules, ◌≡◌, ◌+◌, [], ◌∷◌, ◌++◌, arith}
+use Rattle.rv_hart.specs.Core.{initial_with}
+use Rattle.board.specs.New.{new_cores}
 use Rattle.std.proofs.lemmas.List.FromFn.{map-range_with_len_more}
 use Rattle.board.proofs.harts.new_harts.Goals as goal
 
@@ -16,7 +13,7 @@ pub loop-number-preserved : goal.loop-number-preserved
 loop-number-preserved c =
     let n = c.loop-number.number in
     let more : new_cores (n + 1) c.args.letters ≡ new_cores n c.args.letters ++ initial_with c.args.letters n ∷ [] =
-        map-range_with_len_more (initial_with c.args.letters) 0 n n (omega arith) in
+    map-range_with_len_more (initial_with c.args.letters) 0 n n (omega arith) in
     search rules
 
 -- src/harts.rt:14:1

@@ -1,9 +1,5 @@
-use Rattle.std.proofs.Common.{◌≡◌, ◌<◌, ◌≤◌, ◌^◌, ◌||◌, length, map, IfOk, ℕ, ◌+◌, ◌-◌, ◌*◌}
-use Rattle.std.specs.List.{list_all, range_with_len}
-use Rattle.rv_hart.specs.Core.{initial}
-use Rattle.board.specs.Idle.{all_halted, core_passed, is_idle, turns_of}
-use Rattle.board.specs.New.{new_cores, reset_core}
-use Rattle.board.specs.Inner.Seat.{all_passed}
+use Rattle.std.proofs.Common.{◌≡◌}
+use Rattle.board.specs.New.{new_cores}
 use Rattle.board.proofs.harts.new_harts.Given as goal
 
 abbrev pub invariant-loop-number : goal.invariant-loop-number

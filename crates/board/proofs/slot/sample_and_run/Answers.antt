@@ -1,4 +1,4 @@
-use Rattle.std.proofs.Common.{◌≡◌, ◌∙◌, ap, refl, sym, length}
+use Rattle.std.proofs.Common.{◌≡◌, ◌∙◌, ap, sym, length}
 use Rattle.std.specs.Prelude.{Option, option_map}
 use Rattle.plic.specs.declared.state.PlicState.{PlicState}
 use Rattle.sys_bus.specs.declared.plan.BoardPlan.{BoardPlan}
