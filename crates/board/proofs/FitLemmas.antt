@@ -31,8 +31,9 @@ use Rattle.sys_bus.specs.Limits.{is_range, is_step, device_in, are_few_memories}
 use Rattle.sys_bus.specs.Plan.{IsValid}
 use Rattle.std.proofs.Math.Seq.{map-set_same}
 use Rattle.board.specs.Changes.{in_memory, is_memory}
-use Rattle.board.specs.New.{first_state, hidden, new_space, reset_device, new_timer, new_controller, size_of}
-use Rattle.board.specs.New.{reset_timer, reset_controller}
+use Rattle.rv_hart.specs.Core.{Core}
+use Rattle.board.specs.New.{first_state, hidden, new_space, reset_core, reset_device, new_timer, new_controller, size_of}
+use Rattle.board.specs.New.{reset_timer, reset_controller, reset_core}
 use Rattle.board.specs.Space.{Space, Fitted, memory_at, with_memory, device_at, with_device, with_state}
 use Rattle.board.specs.Inner.Fit.{IsFit, LiesIn, IsInPage, HoldsAccesses}
 use Rattle.sys_bus.specs.declared.near.Place.{Place}
@@ -352,7 +353,24 @@ same_resets (x ∷ xs) (y ∷ ys) kinds shown =
     let shown' : map (λ f. f.shown) xs ≡ map (λ f. f.shown) ys = cc in
     rw (same_reset x.state y.state kind, seen, same_resets xs ys kinds' shown') refl
 
--- nor does one of a timer or of an interrupt controller depend on what it has come to
+-- nor does one of a processor depend on what it has come to,
+pub same_cores :
+    (xs ys : List Core) → map (λ core. core.halted) xs ≡ map (λ core. core.halted) ys →
+    map (λ core. core.letters) xs ≡ map (λ core. core.letters) ys →
+    map (λ core. core.number) xs ≡ map (λ core. core.number) ys → map reset_core xs ≡ map reset_core ys
+same_cores [] [] halted letters number = refl
+same_cores [] (y ∷ ys) halted letters number = absurd (cc)
+same_cores (x ∷ xs) [] halted letters number = absurd (cc)
+same_cores (x ∷ xs) (y ∷ ys) halted letters number =
+    let halted' : x.halted ≡ y.halted = cc in
+    let letters' : x.letters ≡ y.letters = cc in
+    let number' : x.number ≡ y.number = cc in
+    let halteds : map (λ core. core.halted) xs ≡ map (λ core. core.halted) ys = cc in
+    let lettersets : map (λ core. core.letters) xs ≡ map (λ core. core.letters) ys = cc in
+    let numbers : map (λ core. core.number) xs ≡ map (λ core. core.number) ys = cc in
+    rw (halted', letters', number', same_cores xs ys halteds lettersets numbers) refl
+
+-- or of a timer or of an interrupt controller
 pub same_timers :
     (a b : Option Timer) → option_map (λ c. c.frequency) a ≡ option_map (λ c. c.frequency) b →
     option_map reset_timer a ≡ option_map reset_timer b

@@ -1,12 +1,16 @@
 pub mod CopyLemmas
 pub mod DeviceLemmas
 pub mod FitLemmas
+pub mod HartLemmas
+pub mod HoldLemmas
 pub mod IdleLemmas
 pub mod LineLemmas
 pub mod ListLemmas
 pub mod MemoryLemmas
 pub mod NumberLemmas
+pub mod SeatLemmas
 pub mod SentLemmas
 pub mod SlotLemmas
 pub mod SourceLemmas
 pub mod StretchLemmas
+pub mod TurnLemmas

@@ -2,7 +2,7 @@
 use Rattle.std.proofs.Common.{◌≡◌, ℕ, false, List, [], length, Option, Some, None, is_some, refl, ap, ◌∙◌}
 use Rattle.std.proofs.Common.{◌^◌, ◌<◌, ◌≤◌, ◌==◌, ◌||◌, ◌∷◌, inl, inr, not, arith}
 use Rattle.std.proofs.Common.{Bool, true, false, ◌&&◌, sym}
-use Rattle.std.specs.Prelude.{option_map, slice_index, slice_index_or}
+use Rattle.std.specs.Prelude.{option_map, slice_index_or}
 use Rattle.std.specs.List.{list_any}
 use Rattle.std.proofs.Math.Path.{fun_ext}
 use Rattle.std.proofs.lemmas.Bool.{cases_eq}
@@ -18,14 +18,13 @@ use Rattle.plic.specs.Map.{reached}
 use Rattle.plic.specs.Registers.{plic_load}
 use Rattle.plic.specs.State.{Controller}
 use Rattle.rv_exec.specs.Access.{IsWidth}
-use Rattle.rv_hart.specs.declared.csr.Lines.{Lines}
 use Rattle.sys_bus.specs.declared.plan.PlicSize.{PlicSize}
 use Rattle.sys_bus.specs.declared.wire.Wire.{Wire}
 use Rattle.sys_bus.specs.declared.wire.WireFrom.{WireFrom}
 use Rattle.sys_bus.specs.declared.wire.WireFrom.TheVariants.{Soft, Timer as TimerLine, Context, Dev}
 use Rattle.board.specs.declared.remembered.Remembered.{Remembered}
 use Rattle.board.specs.Inner.Fit.{IsFit, IsStateOf, in_state}
-use Rattle.board.specs.Inner.Remembers.{is_wired, still, remembered_lines, AreMips, IsRead, IsRight}
+use Rattle.board.specs.Inner.Remembers.{is_wired, still, remembered_lines, IsRead, IsRight}
 use Rattle.board.specs.Lines.{sampled, sampled_by, sources_up, timer_up, device_up, mip_of}
 use Rattle.board.specs.Lines.{mtime_of, lines_of, is_up, is_from_device, ends_at_source, ends_at_pin, pin_up}
 use Rattle.board.specs.New.{size_of}

@@ -30,6 +30,11 @@ passes_at p (y ∷ ys) (suc i) x all there =
       | false ↦ λ never. absurd (cc)
     ] all
 
+pub passes_each :
+    {X : Type 0} (p : X → Bool) (xs : List X) (i : ℕ) (d : X) →
+    list_all p xs ≡ true → i < length xs → p (slice_index_or xs i d) ≡ true
+passes_each p xs i d all within = passes_at p xs i (slice_index_or xs i d) all (slice_get-get_or xs i d within)
+
 -- what holds of each item by its place
 pub All-by_place :
     {X : Type 0} (P : X → Type 0) (xs : List X) →

@@ -15,20 +15,21 @@ use Rattle.sys_bus.specs.declared.plan.BoardPlan.{BoardPlan}
 use Rattle.board.specs.Lines.{sampled, lines_of}
 use Rattle.board.specs.Numbers.{Numbers, one_more}
 use Rattle.board.specs.Wires.{answer}
-use Rattle.board.specs.View.{View, State, quiet, wires_of, state_of, after}
-use Rattle.board.specs.Slot.{slot, running, sampling, awake, asleep, woken, cycle, instruction}
+use Rattle.board.specs.HartView.{HartView, HartState, hart_view, hart_state, still, wires_of}
+use Rattle.board.specs.View.{View, State, quiet, after}
+use Rattle.board.specs.Slot.{slot, hart_slot, running, sampling, awake, asleep, woken, cycle, instruction, in_turn}
 use Rattle.board.specs.Stretch.{stretch}
 use Rattle.lab_num.specs.Numbered.{AreNumbered}
 use Rattle.board.specs.Numbered.{IsNumbered}
 use Rattle.board.proofs.SlotLemmas.{HoldsOfEach, by_effect}
 
 -- the keys of what a board has made in at most so many slots, where its counter does not come to its last value
-record IsCounted (board from to n : ℕ) (made : List Key) : Type 0 where
-  count : to ≡ from + length made
-  few : length made ≤ n
-  keys : AreNumbered board from made
+pub record IsCounted (board from to n : ℕ) (made : List Key) : Type 0 where
+  pub count : to ≡ from + length made
+  pub few : length made ≤ n
+  pub keys : AreNumbered board from made
 
-abbrev Counts : ℕ → ℕ → ℕ → ℕ → List Key → Type 0
+abbrev pub Counts : ℕ → ℕ → ℕ → ℕ → List Key → Type 0
 Counts board from to n made = from + n < 2 ^ 64 → IsCounted board from to n made
 
 counts-none : (board from n : ℕ) → Counts board from from n []
@@ -60,12 +61,12 @@ counts-after board board' from mid to m n xs ys same first second room =
     }
 
 -- what at most so many slots leave of a board of this plan and these numbers
-record IsRun (kept : BoardPlan) (old : Numbers) (n : ℕ) (run : State) : Type 0 where
-  plan : run.view.space.plan ≡ kept
-  number : run.view.numbers.number ≡ old.number
-  speed : run.view.numbers.speed ≡ old.speed
-  posts : Counts old.number old.posted run.view.numbers.posted n (map (λ post. post.key) run.posts)
-  entries : Counts old.number old.entered run.view.numbers.entered n (map (λ entry. entry.key) run.entries)
+pub record IsRun (kept : BoardPlan) (old : Numbers) (n : ℕ) (run : State) : Type 0 where
+  pub plan : run.view.space.plan ≡ kept
+  pub number : run.view.numbers.number ≡ old.number
+  pub speed : run.view.numbers.speed ≡ old.speed
+  pub posts : Counts old.number old.posted run.view.numbers.posted n (map (λ post. post.key) run.posts)
+  pub entries : Counts old.number old.entered run.view.numbers.entered n (map (λ entry. entry.key) run.entries)
 
 run_none : (v : View) (n : ℕ) → IsRun v.space.plan v.numbers n (quiet v)
 run_none v n = record {
@@ -76,13 +77,27 @@ run_none v n = record {
   entries = counts-none _ _ _;
 }
 
+-- a processor makes nothing in its slot
+run_still : (v : View) (h : HartView) → IsRun h.space.plan h.numbers 1 (in_turn v (still h))
+run_still v h = record {
+  plan = refl;
+  number = refl;
+  speed = refl;
+  posts = counts-none _ _ _;
+  entries = counts-none _ _ _;
+}
+
 -- a slot was taken
-run_awake : (v : View) (t : ℕ) (lines : Lines) → IsRun v.space.plan v.numbers 1 (awake v t lines)
+run_awake :
+    (v : View) (h : HartView) (t : ℕ) (lines : Lines) → IsRun h.space.plan h.numbers 1 (in_turn v (awake h t lines))
 unfolding awake
-run_awake v t lines = by_chosen (chosen v.core lines.mip)
+run_awake v h t lines = by_chosen (chosen h.core lines.mip)
   where
-    each : (core : Core) → HoldsOfEach (λ f. IsRun v.space.plan v.numbers 1 (state_of core (f [] []))) (wires_of v t)
-    each core = record {
+    each :
+        (core : Core) (watch : List (Option ℕ)) →
+        HoldsOfEach (λ f. IsRun h.space.plan h.numbers 1 (in_turn v (hart_state h.hart core watch (f [] []))))
+        (wires_of h t)
+    each core watch = record {
       nothing = λ s same. record {
         plan = same;
         number = refl;
@@ -115,30 +130,34 @@ run_awake v t lines = by_chosen (chosen v.core lines.mip)
 
     by_chosen :
         (taken : Option ℕ) →
-        IsRun v.space.plan v.numbers 1
-        (option_map_or (λ n. cycle v (interrupt v.core n)) taken (instruction v t lines))
+        IsRun h.space.plan h.numbers 1
+        (in_turn v (option_map_or (λ n. cycle h (interrupt h.core n)) taken (instruction h t lines)))
     by_chosen None =
-        let effect = effect_on v.core (wires_of v t) lines in
-        let core = core_after answer (wires_of v t) effect in
-        by_effect (λ f. IsRun v.space.plan v.numbers 1 (state_of core (f [] []))) (wires_of v t) effect (each core)
-    by_chosen (Some n) = run_none (record v { core = ticked (interrupt v.core n) }) 1
+        let shared = effect_on h (wires_of h t) lines in
+        let core = core_after answer (wires_of h t) shared.effect in
+        by_effect
+        (λ f. IsRun h.space.plan h.numbers 1 (in_turn v (hart_state h.hart core shared.watch (f [] [])))) (wires_of h t)
+        shared.effect (each core shared.watch)
+    by_chosen (Some n) = run_still v (record h { core = ticked (interrupt h.core n) })
 
 run_if :
-    (kept : BoardPlan) (old : Numbers) (n : ℕ) (test : Bool) (a b : State) → IsRun kept old n a → IsRun kept old n b →
-    IsRun kept old n (if test then a else b)
-run_if kept old n true a b p q = p
-run_if kept old n false a b p q = q
+    (v : View) (kept : BoardPlan) (old : Numbers) (n : ℕ) (test : Bool) (a b : HartState) →
+    IsRun kept old n (in_turn v a) → IsRun kept old n (in_turn v b) →
+    IsRun kept old n (in_turn v (if test then a else b))
+run_if v kept old n true a b p q = p
+run_if v kept old n false a b p q = q
 
 run_slot : (v : View) (t : ℕ) → IsRun v.space.plan v.numbers 1 (slot v t)
-unfolding slot sampled
+unfolding slot hart_slot sampled
 run_slot v t =
-    let lines = lines_of (sampled v.space) t in
-    let now = sampling v in
-    run_if v.space.plan v.numbers 1 v.core.halted (quiet v) (running now t lines) (run_none v 1)
-    (run_if v.space.plan v.numbers 1 v.core.waiting (asleep now t lines) (awake now t lines)
-    (run_if v.space.plan v.numbers 1 (is_ready v.core lines.mip) (awake (woken now) t lines) (cycle now v.core)
-    (run_awake (woken now) t lines) (run_none (record now { core = ticked v.core }) 1))
-    (run_awake now t lines))
+    let h = hart_view v v.next in
+    let lines = lines_of (sampled v.space) v.next t in
+    let now = sampling h in
+    run_if v v.space.plan v.numbers 1 h.core.halted (still h) (running now t lines) (run_still v h)
+    (run_if v v.space.plan v.numbers 1 h.core.waiting (asleep now t lines) (awake now t lines)
+    (run_if v v.space.plan v.numbers 1 (is_ready h.core lines.mip) (awake (woken now) t lines) (cycle now h.core)
+    (run_awake v (woken now) t lines) (run_still v (record now { core = ticked h.core })))
+    (run_awake v now t lines))
 
 -- one stretch after another
 run_after :
@@ -160,6 +179,13 @@ run_stretch v from a (suc n) =
     let t = slot_at from v.numbers.speed (a + n) in
     rw add-one at
     (run_after v.space.plan v.numbers n 1 run (slot run.view t) (run_stretch v from a n) (run_slot run.view t))
+
+-- a slot keeps the plan and the speed
+pub plan-slot : (v : View) (t : ℕ) → (slot v t).view.space.plan ≡ v.space.plan
+plan-slot v t = (run_slot v t).plan
+
+pub speed-slot : (v : View) (t : ℕ) → (slot v t).view.numbers.speed ≡ v.numbers.speed
+speed-slot v t = (run_slot v t).speed
 
 -- a stretch keeps the plan and the speed
 pub plan-stretch : (v : View) (from a n : ℕ) → (stretch v from a n).view.space.plan ≡ v.space.plan

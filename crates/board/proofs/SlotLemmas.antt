@@ -1,10 +1,8 @@
 -- What a slot makes comes after what was made before.
-use Rattle.std.proofs.Common.{◌≡◌, ℕ, true, List, [], ◌++◌, refl, sym, ap}
+use Rattle.std.proofs.Common.{◌≡◌, ℕ, true, List, [], ◌++◌, length, refl, sym}
 use Rattle.std.specs.Prelude.{Option, None, Some}
-use Rattle.std.proofs.lemmas.List.{append-nil}
-use Rattle.rv_hart.specs.declared.csr.Lines.{Lines}
-use Rattle.rv_hart.specs.Core.{Core}
-use Rattle.rv_hart.specs.Trap.{chosen}
+use Rattle.std.proofs.lemmas.List.{append-nil, set-get_or}
+use Rattle.rv_hart.specs.Core.{initial}
 use Rattle.dev_core.specs.declared.payload.Effect.{Effect as DeviceEffect}
 use Rattle.dev_core.specs.declared.payload.Effect.TheVariants.{Quiet, Send}
 use Rattle.dev_core.specs.declared.payload.Payload.{Payload}
@@ -15,12 +13,11 @@ use Rattle.dev_core.specs.declared.post.What.TheVariants as what
 use Rattle.sys_bus.specs.declared.region.Target.{Target}
 use Rattle.sys_bus.specs.declared.region.Target.TheVariants.{Ram, Clint, Plic, Dev, Nothing}
 use Rattle.board.specs.Space.{Space, device_at, target_at, device_store, after_load, after_store}
-use Rattle.board.specs.Wires.{Wires, posted, entered, entered_if, note_if, sent, acted, answer, loaded, stored}
+use Rattle.board.specs.Wires.{Wires, posted, entered, entered_if, note_if, sent, acted, loaded, stored}
 use Rattle.board.specs.Wires.{loaded_from, stored_to}
-use Rattle.rv_exec.specs.Effect.{Effect, Done, Load, Store, core_after, bus_after}
-use Rattle.board.specs.Fetch.{effect_on}
-use Rattle.board.specs.View.{View, State, quiet, state_of, after}
-use Rattle.board.specs.Slot.{slot, awake}
+use Rattle.rv_exec.specs.Effect.{Effect, Done, Load, Store, bus_after}
+use Rattle.board.specs.View.{View, State, quiet, after, core_at}
+use Rattle.board.specs.Slot.{slot, hart_slot, number_after}
 
 -- the wires with this space, by which all this was made before
 abbrev pub wires_by : Wires → Space → List Post → List Entry → Wires
@@ -87,7 +84,7 @@ speed-effect w effect =
 abbrev behind : Wires → Wires → Wires
 behind front w = record w { posts = front.posts ++ w.posts; entries = front.entries ++ w.entries }
 
-effect-behind :
+pub effect-behind :
     (w : Wires) (effect : Effect) →
     bus_after loaded stored w effect
     ≡ behind w (bus_after loaded stored (record w { posts = []; entries = [] }) effect)
@@ -104,21 +101,9 @@ effect-behind w effect =
 pub quiet-behind : (s : State) → s ≡ after s (quiet s.view)
 quiet-behind s = sym (simp append-nil)
 
--- a slot in which an instruction is done, of a board at the beginning and at the end of it
-pub awake-instruction :
-    (core core' : Core) (w begun w' : Wires) (t : ℕ) (lines : Lines) →
-    chosen core lines.mip ≡ None → begun ≡ record w { at = t } →
-    core' ≡ core_after answer begun (effect_on core begun lines) →
-    w' ≡ bus_after loaded stored begun (effect_on core begun lines) →
-    state_of core' w' ≡ after (state_of core w) (awake (state_of core w).view t lines)
-unfolding awake
-awake-instruction core core' w begun w' t lines none begins core_is wires_is =
-    let begun' : Wires = record w { at = t } in
-    let effect = effect_on core begun' lines in
-    rw (core_is, wires_is, begins, none)
-    (ap (λ now. state_of (core_after answer begun' effect) now) (effect-behind begun' effect))
-
--- slots of a halted board change nothing
-pub slot-halted : (v : View) (t : ℕ) → v.core.halted ≡ true → slot v t ≡ quiet v
-unfolding slot
-slot-halted v t halted = rw halted refl
+-- a slot of a halted processor changes nothing but whose turn is next
+pub slot-halted :
+    (v : View) (t : ℕ) → (core_at v v.next).halted ≡ true →
+    slot v t ≡ quiet (record v { next = number_after (length v.cores) v.next })
+unfolding slot hart_slot
+slot-halted v t halted = rw (halted, set-get_or v.cores v.next initial) refl

@@ -1,5 +1,5 @@
 -- Laws of slots one after another.
-use Rattle.std.proofs.Common.{◌≡◌, ℕ, true, zero, suc, ◌+◌, ◌*◌, ◌/◌, ◌<◌, ◌≤◌, List, [], ◌∷◌, sum, refl, sym, ap, ◌∙◌}
+use Rattle.std.proofs.Common.{◌≡◌, ℕ, zero, suc, ◌+◌, ◌*◌, ◌/◌, ◌<◌, ◌≤◌, List, [], ◌∷◌, sum, refl, sym, ap, ◌∙◌}
 use Rattle.std.proofs.Common.{append_assoc, add-one, add-zero, add-suc, add_assoc, arith}
 use Rattle.std.proofs.lemmas.List.Sums.{sum_by-cons}
 use Rattle.std.proofs.lemmas.Nat.{div-mul-add}
@@ -9,7 +9,7 @@ use Rattle.board.specs.View.{View, State, quiet, after}
 use Rattle.board.specs.Slot.{slot}
 use Rattle.board.specs.Stretch.{stretch, in_turns}
 use Rattle.board.proofs.NumberLemmas.{speed-stretch}
-use Rattle.board.proofs.SlotLemmas.{quiet-behind, slot-halted}
+use Rattle.board.proofs.SlotLemmas.{quiet-behind}
 
 -- what is made one after another comes in order
 pub after-after : (s run more : State) → after (after s run) more ≡ after s (after run more)
@@ -20,16 +20,6 @@ after-after s run more =
 pub after_none : (s : State) (from a : ℕ) → s ≡ after s (stretch s.view from a 0)
 unfolding stretch
 after_none s from a = quiet-behind s
-
--- slots of a halted board leave it as it is
-pub stretch-halted : (v : View) (from a n : ℕ) → v.core.halted ≡ true → stretch v from a n ≡ quiet v
-unfolding stretch
-stretch-halted v from a zero halted = refl
-stretch-halted v from a (suc n) halted = rw (stretch-halted v from a n halted, slot-halted v _ halted) refl
-
-pub after_halted :
-    (s : State) (from a n : ℕ) → s.view.core.halted ≡ true → s ≡ after s (stretch s.view from a n)
-after_halted s from a n halted = rw (stretch-halted s.view from a n halted) (quiet-behind s)
 
 -- one slot more
 pub after_more :

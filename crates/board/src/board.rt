@@ -1,5 +1,6 @@
 //! The board, and what may be asked and changed of it.
 ghost use Rattle.std.specs.Prelude.{◌≡◌, ◌≢◌, ℕ, ◌+◌, ◌/◌, ◌%◌, ◌==◌, ◌<◌, ◌≤◌, ◌^◌, ◌||◌, [], true, length, drop};
+ghost use Rattle.std.specs.List.{list_all, range_with_len};
 ghost use Rattle.std.specs.Prelude.{map, All, slice_get, slice_index_or, OnOk, OnErr, IfOk, IfErr, IfSome, IsTrue};
 ghost use Rattle.rv_hart.specs.Trap.{chosen};
 
@@ -13,11 +14,11 @@ use dev_core::{Device, Entry, Payload, Post, Taken};
 use lab_num::{BoardNo, Micros, NoMemory};
 use rv_atomic::Watch;
 use rv_hart::Hart;
+use slots::{SHARED, UNWIRED, UNWIRED_HALVES, WIRED, WIRED_HALVES};
 use std::alloc::Global;
 use std::marker::Model;
 use std::mem;
 use sys_bus::BoardPlan;
-use slots::{SHARED, UNWIRED, UNWIRED_HALVES, WIRED, WIRED_HALVES};
 
 /// Where a turn begins: slot `first` of the grant that begins at microsecond `from`.
 #[derive(Clone, Copy, PartialEq, Eq, Debug)]
@@ -67,7 +68,7 @@ impl<D: Device> Board<D> {
     ghost use Rattle.board.specs.Changes.{with_pc, with_halted, with_speed, with_shown, may_be_shown, with_bytes};
     ghost use Rattle.board.specs.Changes.{WritesPrefix, holds_each, word_held, taken_by, handed};
     ghost use Rattle.board.specs.Space.{device_at};
-    ghost use Rattle.board.specs.View.{quiet, after};
+    ghost use Rattle.board.specs.View.{core_at, quiet};
     ghost use Rattle.board.specs.Inner.Fit.{IsStateOf, with_controller};
     ghost use Rattle.board.specs.Lines.{sampled, lines_of, timer_up};
     ghost use Rattle.board.specs.Slot.{slot, running, sampling, awake, asleep, cycle};
@@ -153,7 +154,6 @@ impl<D: Device> Board<D> {
     /// Takes the next `n` slots, which the processors take in turn. Slot `i` of the call lies in
     /// microsecond `at.from + (at.first + i) / speed`. A slot of a halted processor passes and
     /// changes nothing but whose turn is next. `Starved` is for want of memory alone.
-    #[tactic(auto, using(crate::proofs::StretchLemmas::after_halted))]
     pub fn turn(&mut self, at: SlotAt, n: u64) -> Turn
         requires time { at.from.0 + (at.first + n) / self.old.view.numbers.speed ≤ 10000000000 }
         requires posts { self.old.view.numbers.posted + n < 2 ^ 64 }

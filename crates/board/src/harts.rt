@@ -1,5 +1,5 @@
 //! The processors of a board, one after another.
-ghost use Rattle.std.specs.Prelude.{◌≡◌, ◌<◌, ◌≤◌, ◌^◌, ◌||◌, length, map, IfOk};
+ghost use Rattle.std.specs.Prelude.{◌≡◌, ◌<◌, ◌≤◌, ◌^◌, ◌||◌, length, map, All, IfOk};
 ghost use Rattle.std.specs.List.{list_all, range_with_len};
 ghost use Rattle.rv_hart.specs.Core.{initial};
 ghost use Rattle.board.specs.Idle.{all_halted, core_passed, is_idle, turns_of};
@@ -62,12 +62,13 @@ pub fn reset_all(harts: &mut [Hart])
 
 /// Lets cycles of a processor pass, unless it is halted.
 fn pass(hart: &mut Hart, cycles: u64)
-    ensures { hart.new ≡ core_passed cycles hart.old }
+    ensures after { hart.new ≡ core_passed cycles hart.old }
+    ensures fits { hart.old.mcycle < 2 ^ 64 }
 {
-    if hart.halted() {
+    let mut state = hart.state();
+    if state.halted {
         return;
     }
-    let mut state = hart.state();
     state.mcycle = state.mcycle.wrapping_add(cycles);
     let Some(passed) = Hart::of(&state) else {
         unreachable!()
@@ -91,7 +92,8 @@ fn turns_of(harts: u64, next: u64, slots: u64, hart: u64) -> u64
 pub fn pass_cycles(harts: &mut [Hart], next: u64, slots: u64)
     requires few { length harts.old ≤ 2 ^ 32 }
     requires next { next < length harts.old }
-    ensures { harts.new ≡ all_passed harts.old next slots }
+    ensures after { harts.new ≡ all_passed harts.old next slots }
+    ensures fits { All (λ core. core.mcycle < 2 ^ 64) harts.old }
 {
     let count = harts.len() as u64;
     for (number, hart) in harts.iter_mut().enumerate() {

@@ -11,7 +11,7 @@ use crate::slot::Ways;
 use crate::space::halves::of_half;
 use crate::wires::Wires;
 use dev_core::Device;
-use rv_atomic::{Shared, Watch, decode_atomic, step_shared};
+use rv_atomic::{Shared, Watch, alone_as_performed, decode_atomic, step_shared};
 use rv_exec::{Fetched, NoMemory, perform};
 use rv_hart::{Hart, Lines};
 
@@ -43,6 +43,7 @@ pub fn instruction<const COPY: u8, D: Device>(
     if ways.shared {
         return by_sharing::<COPY, D>(hart, number, watch, wires, lines);
     }
+    alone_as_performed();
     if ways.halves {
         by_halves::<COPY, D>(hart, wires, lines)
     } else {

@@ -1,25 +1,26 @@
 //! Laws of boards and of slots one after another. Each is the contract of a function that does
 //! nothing.
-ghost use Rattle.std.specs.Prelude.{◌≡◌, ℕ, ◌+◌, ◌/◌, ◌%◌, ◌<◌, ◌≤◌, ◌^◌, Bool, true, false, List, [], ◌∷◌, sum};
-ghost use Rattle.std.specs.Prelude.{All, Option, length};
-ghost use Rattle.rv_atomic.specs.AtomicEffect.{leaves};
-ghost use Rattle.rv_exec.specs.Effect.{effect};
+ghost use Rattle.std.specs.Prelude.{◌≡◌, ℕ, ◌+◌, ◌/◌, ◌%◌, ◌<◌, ◌≤◌, ◌^◌, Bool, true, false, List, [], ◌∷◌, sum, length};
+ghost use Rattle.std.specs.Prelude.{All, Option};
 ghost use Rattle.rv_hart.specs.Core.{Core};
 ghost use Rattle.rv_hart.specs.declared.csr.Lines.{Lines};
+ghost use Rattle.rv_exec.specs.Effect.{effect};
+ghost use Rattle.rv_atomic.specs.AtomicEffect.{leaves};
 ghost use Rattle.board.specs.Fetch.{effect_on, fetched_by};
 ghost use Rattle.board.specs.HartView.{HartView};
-ghost use Rattle.board.specs.Slot.{slot};
-ghost use Rattle.board.specs.Wires.{Wires};
 ghost use Rattle.board.specs.View.{View, quiet, after};
 ghost use Rattle.board.specs.New.{IsSameKept, reset};
+ghost use Rattle.board.specs.Slot.{slot};
 ghost use Rattle.board.specs.Stretch.{stretch, in_turns};
 ghost use Rattle.board.specs.Idle.{IsIdle, IsStillFor, all_halted, passed, turns_of};
 ghost use Rattle.board.specs.Lines.{sampled};
 ghost use Rattle.board.specs.Space.{Space};
+ghost use Rattle.board.specs.Wires.{Wires};
 ghost use Rattle.board.specs.Numbered.{IsNumbered};
 ghost use Rattle.board.specs.Sent.{IsSentIn};
 
 use plic::second_samples_change_nothing;
+use rv_atomic::alone_as_performed;
 
 /// A stretch of slots and the one after it are one stretch.
 pub fn stretches_join()
@@ -86,7 +87,9 @@ pub fn one_hart_goes_on_alone()
         effect_on v w lines ≡ leaves (effect v.core (fetched_by v.core w) lines) v.watch }
     ensures turn { (v : View) (t : ℕ) (core : Core) → v.cores ≡ core ∷ [] → v.next ≡ 0 →
         (slot v t).view.next ≡ 0 }
-{}
+{
+    alone_as_performed();
+}
 
 /// A second sample of the same lines changes nothing.
 pub fn samples_settle()

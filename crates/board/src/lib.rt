@@ -16,6 +16,7 @@ mod wires;
 
 pub use board::{Board, SlotAt, Turn};
 pub use laws::{
-    halted_boards_stay, harts_take_turns, one_hart_goes_on_alone, resets_agree, samples_settle, stretches_join, stretches_keep_plans,
-    stretches_keep_time, stretches_number, turns_join, waiting_boards_count_cycles,
+    halted_boards_stay, harts_take_turns, one_hart_goes_on_alone, resets_agree, samples_settle,
+    stretches_join, stretches_keep_plans, stretches_keep_time, stretches_number, turns_join,
+    waiting_boards_count_cycles,
 };

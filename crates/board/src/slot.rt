@@ -81,7 +81,7 @@ fn sample_and_run<D: Device>(
     requires harts { length watch.old ≡ length wires.old.space.plan.cpus }
     ensures ok { let old = hart_state number hart.old watch.old wires.old in
         OnOk result (hart_state number hart.new watch.new wires.new
-            ≡ behind old (running (sampling old.view) at.0 (lines_of (sampled wires.old.space) number at.0))) }
+        ≡ behind old (running (sampling old.view) at.0 (lines_of (sampled wires.old.space) number at.0))) }
     ensures same { OnOk result (IsSameHart hart.old hart.new) }
     ensures watch { OnOk result (length watch.new ≡ length watch.old) }
     ensures err { OnErr result (hart_state number hart.new watch.new wires.new

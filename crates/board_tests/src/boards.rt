@@ -170,7 +170,7 @@ fn send(rt: &impl Abort, board: &mut Board<CountedUart>) {
 /// A reset keeps the numbers.
 fn reset(rt: &impl Abort, board: &mut Board<CountedUart>) {
     board.reset();
-    assert!(rt; board.posted() == 5 && board.entered() == 2 && board.retired() == 0);
+    assert!(rt; board.posted() == 5 && board.entered() == 2 && board.retired(0) == 0);
 }
 
 /// lui x5, 0x10000; lbu x6, 5(x5); sb x6, 7(x5); lbu x6, 5(x5); lui x7, 0x100; sb x6, 0(x7)
@@ -182,7 +182,7 @@ static ACCESSES: [u8; 24] = [
 /// The second time there is no room for a post at first.
 fn access(rt: &impl Abort, board: &mut Board<CountedUart>) {
     assert!(rt; runs(board, 0, 0, 6));
-    board.set_pc(BASE);
+    board.set_pc(0, BASE);
     assert!(rt; runs(board, 6, 0, 6) && board.posted() == 2 && board.entered() == 0);
     drop_one(board);
     drop_one(board);
@@ -196,7 +196,7 @@ fn assert_calls(rt: &impl Abort, counts: &[Cell<u32>; 4]) {
 
 /// Copies a program to the first memory, and makes it the next to run.
 fn load(rt: &impl Abort, board: &mut Board<CountedUart>, program: &[u8]) -> Result<(), NoMemory> {
-    board.set_pc(BASE);
+    board.set_pc(0, BASE);
     copy(rt, board, BASE, program)
 }
 

@@ -59,13 +59,13 @@ fn runs(board: &mut Board<Uart>, row: &(&[u8], u32, u64, u32, u32)) -> Result<bo
         return Ok(false);
     }
     board.copy_in(at, program)?;
-    board.set_pc(at);
+    board.set_pc(0, at);
     let start = SlotAt {
         from: Micros(0),
         first: 0,
     };
     let turn = board.turn(start, slots);
-    Ok(turn == Turn::Used(slots) && board.register(10) == x10 && board.pc() == pc)
+    Ok(turn == Turn::Used(slots) && board.register(0, 10) == x10 && board.pc(0) == pc)
 }
 
 #[test]

@@ -6,6 +6,8 @@ mod boards;
 #[cfg(test)]
 mod halves;
 #[cfg(test)]
+mod harts;
+#[cfg(test)]
 mod parts;
 #[cfg(test)]
 mod plans;

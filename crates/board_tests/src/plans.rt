@@ -312,22 +312,67 @@ static NUMBERS: [(Option<u32>, u8, u8, u32, bool); 12] = [
 
 /// Each row: a wire, and whether the usual board and the small one may have it.
 static WIRES: [(WireFrom, WirePin, bool, bool); 16] = [
-    (WireFrom::Soft, WirePin::Cpu { hart: 0, pin: 3 }, true, false),
-    (WireFrom::Timer, WirePin::Cpu { hart: 0, pin: 7 }, true, false),
-    (WireFrom::Timer, WirePin::Cpu { hart: 0, pin: 8 }, false, false),
-    (WireFrom::Soft, WirePin::Cpu { hart: 1, pin: 3 }, false, false),
+    (
+        WireFrom::Soft,
+        WirePin::Cpu { hart: 0, pin: 3 },
+        true,
+        false,
+    ),
+    (
+        WireFrom::Timer,
+        WirePin::Cpu { hart: 0, pin: 7 },
+        true,
+        false,
+    ),
+    (
+        WireFrom::Timer,
+        WirePin::Cpu { hart: 0, pin: 8 },
+        false,
+        false,
+    ),
+    (
+        WireFrom::Soft,
+        WirePin::Cpu { hart: 1, pin: 3 },
+        false,
+        false,
+    ),
     (WireFrom::Soft, WirePin::Source(1), false, false),
     (WireFrom::Timer, WirePin::Source(1), false, false),
-    (WireFrom::Context(0), WirePin::Cpu { hart: 0, pin: 11 }, true, false),
-    (WireFrom::Context(1), WirePin::Cpu { hart: 0, pin: 11 }, false, false),
+    (
+        WireFrom::Context(0),
+        WirePin::Cpu { hart: 0, pin: 11 },
+        true,
+        false,
+    ),
+    (
+        WireFrom::Context(1),
+        WirePin::Cpu { hart: 0, pin: 11 },
+        false,
+        false,
+    ),
     (WireFrom::Context(0), WirePin::Source(1), false, false),
-    (WireFrom::Dev(0), WirePin::Cpu { hart: 0, pin: 11 }, true, true),
-    (WireFrom::Dev(0), WirePin::Cpu { hart: 0, pin: 0 }, false, false),
+    (
+        WireFrom::Dev(0),
+        WirePin::Cpu { hart: 0, pin: 11 },
+        true,
+        true,
+    ),
+    (
+        WireFrom::Dev(0),
+        WirePin::Cpu { hart: 0, pin: 0 },
+        false,
+        false,
+    ),
     (WireFrom::Dev(0), WirePin::Source(1), true, false),
     (WireFrom::Dev(0), WirePin::Source(31), true, false),
     (WireFrom::Dev(0), WirePin::Source(0), false, false),
     (WireFrom::Dev(0), WirePin::Source(32), false, false),
-    (WireFrom::Dev(1), WirePin::Cpu { hart: 0, pin: 3 }, false, false),
+    (
+        WireFrom::Dev(1),
+        WirePin::Cpu { hart: 0, pin: 3 },
+        false,
+        false,
+    ),
 ];
 
 /// The kinds of the small board's devices.

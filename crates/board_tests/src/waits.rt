@@ -173,7 +173,7 @@ fn is_loaded(board: &mut Board<Uart>, program: &[u32], speed: u32) -> Result<boo
         return Ok(false);
     }
     board.set_speed(speed);
-    board.set_pc(BASE);
+    board.set_pc(0, BASE);
     let mut at = BASE;
     for word in program {
         if at > BASE + 0x1000 || !board.holds(at, 4) {
@@ -216,10 +216,10 @@ fn a_board_that_waits_or_is_halted_passes_over_its_slots(rt: HostRuntime) -> Res
     let is_so = is_loaded(&mut board, &SLEEP, 1000)?;
     assert!(rt; is_so && !board.is_asleep());
     assert!(rt; takes(&mut board, 0, 10_000_000_000_000) && board.is_asleep());
-    assert!(rt; board.retired() == 1 && board.pc() == BASE + 4);
-    board.set_halted(true);
+    assert!(rt; board.retired(0) == 1 && board.pc(0) == BASE + 4);
+    board.set_halted(0, true);
     assert!(rt; takes(&mut board, 0, 10_000_000_000_000) && board.is_asleep());
-    assert!(rt; board.retired() == 1 && board.pc() == BASE + 4);
+    assert!(rt; board.retired(0) == 1 && board.pc(0) == BASE + 4);
     Ok(())
 }
 
@@ -261,9 +261,9 @@ fn is_woken(board: &mut Board<Uart>, row: &Wait) -> Result<bool, NoMemory> {
             && takes(board, 0, first)
             && (!byte || receives(board))
             && takes(board, first, second)
-            && board.retired() == retired
-            && board.register(8) == x8
-            && board.register(10) == x10,
+            && board.retired(0) == retired
+            && board.register(0, 8) == x8
+            && board.register(0, 10) == x10,
     )
 }
 

@@ -1,5 +1,5 @@
 //! Idle slots, which are passed over.
-ghost use Rattle.std.specs.Prelude.{◌≡◌, ℕ, ◌+◌, ◌%◌, ◌/◌, ◌<◌, ◌≤◌, true, length, IsTrue};
+ghost use Rattle.std.specs.Prelude.{◌≡◌, ℕ, ◌+◌, ◌%◌, ◌/◌, ◌<◌, ◌≤◌, ◌^◌, true, length, All, IsTrue};
 ghost use Rattle.board.specs.Idle.{IsIdle, is_idle, passed};
 ghost use Rattle.board.specs.Inner.Remembers.{is_wired};
 ghost use Rattle.board.specs.Lines.{sampled, timer_up, mip_of};
@@ -49,7 +49,7 @@ impl<D: Device> Board<D> {
         ensures idle { result ≡ true → IsIdle self.old.view (timer_up self.old.view.space.timer now.0) }
         ensures same { self.new ≡ self.old }
     {
-        let count = self.harts.len() as u8;
+        let count = self.plan().cpus.items().len() as u8;
         for hart in 0..count {
             if !self.is_idle(wired, hart, now) {
                 return false;
@@ -86,7 +86,9 @@ impl<D: Device> Board<D> {
 
     /// Lets so many slots pass.
     fn pass(&mut self, slots: u64)
-        ensures { self.new ≡ record self.old { view = passed self.old.view slots } }
+        ensures after { self.new ≡ record self.old { view = passed self.old.view slots } }
+        ensures fits { All (λ core. core.mcycle < 2 ^ 64) self.old.view.cores }
+        ensures next { self.old.view.next < length self.old.view.cores }
     {
         pass_cycles(&mut self.harts, u64::from(self.next), slots);
         self.skip(slots);
@@ -94,10 +96,13 @@ impl<D: Device> Board<D> {
 
     /// Moves the turn on by so many slots.
     pub(super) fn skip(&mut self, slots: u64)
-        ensures { self.new ≡ record self.old { view = record self.old.view {
-            next = (self.old.view.next + slots) % length self.old.view.cores } } }
+        ensures { self.new ≡ record self.old {
+          view = record self.old.view {
+            next = (self.old.view.next + slots) % length self.old.view.cores;
+          };
+        } }
     {
-        let count = self.harts.len() as u64;
+        let count = self.plan().cpus.items().len() as u64;
         self.next = ((u64::from(self.next) + slots % count) % count) as u8;
     }
 }

@@ -52,15 +52,11 @@ fn ways_of(plan: &BoardPlan) -> Ways
 }
 
 /// The number of the processor after this one, of so many.
-fn number_after(harts: usize, number: u8) -> u8
+fn number_after(harts: u8, number: u8) -> u8
     requires { number < harts }
     ensures { result ≡ number_after harts number }
 {
-    if usize::from(number) + 1 == harts {
-        0
-    } else {
-        number + 1
-    }
+    if number + 1 == harts { 0 } else { number + 1 }
 }
 
 /// The next `count` slots of a board of one processor without atomic instructions, all in this
@@ -164,15 +160,21 @@ impl<D: Device> Board<D> {
         if ways.shared {
             self.slots_in_turn::<COPY>(ways, now, count)
         } else {
-            slots_alone::<COPY, D>(
-                &mut self.harts[0],
-                &mut self.watch,
-                &mut self.wires,
-                ways,
-                now,
-                count,
-            )
+            self.slots_of_one::<COPY>(ways, now, count)
         }
+    }
+
+    /// The same of a board of one processor without atomic instructions.
+    #[inline(always)]
+    fn slots_of_one<const COPY: u8>(&mut self, ways: Ways, now: Micros, count: u64) -> Ended
+        requires alone { ways.shared ≡ false }
+        requires ways { ways ≡ ways_of self.old.view.space.plan }
+        requires most { count ≤ self.old.view.numbers.speed }
+        ensures ended { HasEnded count result }
+        ensures run { self.new ≡ after self.old (stretch self.old.view now.0 0 (taken_of count result)) }
+    {
+        let hart = &mut self.harts[0];
+        slots_alone::<COPY, D>(hart, &mut self.watch, &mut self.wires, ways, now, count)
     }
 
     /// The same of a board whose processors take the slots in turn.
@@ -205,8 +207,11 @@ impl<D: Device> Board<D> {
     {
         let number = self.next;
         let hart = &mut self.harts[usize::from(number)];
-        let idle = slot::<COPY, D>(hart, number, &mut self.watch, &mut self.wires, ways, now)?;
-        self.next = number_after(self.harts.len(), number);
+        let taken = slot::<COPY, D>(hart, number, &mut self.watch, &mut self.wires, ways, now);
+        let Ok(idle) = taken else {
+            return Err(NoMemory);
+        };
+        self.next = number_after(self.watch.harts(), number);
         Ok(idle)
     }
 }

@@ -1,12 +1,13 @@
 use Rattle.std.proofs.Common.{refl}
-use Rattle.board.proofs.FitLemmas.{same_resets, same_timers, same_controllers}
+use Rattle.board.proofs.FitLemmas.{same_resets, same_timers, same_controllers, same_cores}
 use Rattle.board.proofs.laws.resets_agree.Goals as goal
 
 pub returns : goal.returns
 returns c = λ v w same.
     rw (
       same.numbers,
-      same.halted,
+      same_cores _ _ same.halted same.letters same.own_numbers,
+      same.harts,
       same.plan,
       same.memories,
       same_timers _ _ same.timer,

@@ -1,23 +1,73 @@
-use Rattle.std.proofs.Common.{◌≡◌, ◌∙◌, ap, refl}
-use Rattle.board.specs.Inner.Fit.{with_controller}
-use Rattle.board.specs.Slot.{sampling}
-use Rattle.board.specs.View.{State}
+use Rattle.std.proofs.Common.{◌≡◌, ◌∙◌, ap, sym, length}
+use Rattle.std.specs.Prelude.{Option, option_map}
+use Rattle.plic.specs.declared.state.PlicState.{PlicState}
+use Rattle.sys_bus.specs.declared.plan.BoardPlan.{BoardPlan}
+use Rattle.board.specs.HartView.{HartState, hart_state}
+use Rattle.board.specs.Inner.Fit.{in_state}
+use Rattle.board.specs.Inner.Made.{wires_with}
+use Rattle.board.specs.Inner.Seat.{ways_of}
+use Rattle.board.specs.Lines.{sampled}
+use Rattle.board.specs.Space.{Space}
+use Rattle.board.specs.Wires.{Wires}
 use Rattle.board.proofs.LineLemmas.{still_state, undone}
 use Rattle.board.proofs.slot.sample_and_run.Goals as goal
 
+plan_sampled : (now old : Space) → now ≡ sampled old → now.plan ≡ old.plan
+unfolding sampled
+plan_sampled now old is = ap {A = Space} (λ s. s.plan) is
+
+pub run-requires-clause-ways : goal.run-requires-clause-ways
+run-requires-clause-ways g c =
+    c.requires.ways
+    ∙ ap {A = Wires} (λ w. ways_of w.space.plan) (sym c.wires.view_is)
+    ∙ ap ways_of (sym (plan_sampled _ _ c.sample-lines.ensures.space))
+
+pub run-requires-clause-letters : goal.run-requires-clause-letters
+run-requires-clause-letters g c =
+    c.requires.letters
+    ∙ ap {A = Wires} (λ w. w.space.plan.letters) (sym c.wires.view_is)
+    ∙ ap {A = BoardPlan} (λ plan. plan.letters) (sym (plan_sampled _ _ c.sample-lines.ensures.space))
+
+pub run-requires-clause-harts : goal.run-requires-clause-harts
+run-requires-clause-harts g c =
+    c.requires.harts
+    ∙ ap {A = Wires} (λ w. length w.space.plan.cpus) (sym c.wires.view_is)
+    ∙ ap {A = BoardPlan} (λ plan. length plan.cpus) (sym (plan_sampled _ _ c.sample-lines.ensures.space))
+
 pub put_controller-requires : goal.put_controller-requires
 put_controller-requires g c =
-    rw ((c.in_default.ensures {u = tt}).err, c.sample-lines.ensures.space)
-    (still_state _ _ c.controller_state-before.ensures.valid)
+    let err = (c.in_default.ensures {u = tt}).err in
+    let reached : c.wires-2.inside.space ≡ sampled c.wires.inside.space =
+    ap {A = Wires} (λ w. w.space) c.wires-2.view_is
+    ∙ ap {A = HartState} (λ s. s.view.space) err
+    ∙ c.sample-lines.ensures.space in
+    rw reached (still_state _ _ c.controller_state-before.ensures.valid)
+
+-- the controller is put back
+abbrev put_back : Option PlicState → HartState → HartState
+put_back state s =
+    record s {
+      view = record s.view { space = record s.view.space { controller = in_state s.view.space.controller state } };
+    }
+
+back : (s now : Space) (state : Option PlicState) → now ≡ sampled s →
+    state ≡ option_map (λ c. c.state) s.controller → record now { controller = in_state now.controller state } ≡ s
+unfolding sampled
+back s now state is was = rw is (undone s state was)
 
 pub returns-in_default-clause-err : goal.returns-in_default-clause-err
 returns-in_default-clause-err g c =
-    let old = c.args.self.now in
-    let before = c.controller_state-before.result in
-    let sampled : c.run.new.self ≡ record old { view = sampling old.view } =
-    rw ((c.in_default.ensures {u = tt}).err, c.sample-lines.ensures.space, ← c.self.view_is, ← c.self-inside.view_is)
-    refl in
-    c.put_controller.ensures
-    ∙ ap {A = State} (λ s. record s { view = with_controller s.view before }) sampled
-    ∙ ap (λ v. record old { view = v })
-    (undone old.view before (rw (← c.self.view_is, ← c.self-inside.view_is) c.controller_state-before.ensures.value))
+    let err = (c.in_default.ensures {u = tt}).err in
+    let state = c.controller_state-before.result in
+    let core = c.run.new.hart in
+    let watch = c.run.new.watch in
+    ap {A = Space}
+    (λ space. hart_state c.args.number core watch
+    (wires_with c.wires-2.inside.made space c.wires-2.inside.at.0)) c.put_controller.ensures
+    ∙ ap {A = Wires} (λ w. put_back state (hart_state c.args.number core watch w)) c.wires-2.view_is
+    ∙ ap (put_back state) err
+    ∙ ap {A = Space}
+    (λ space. hart_state c.args.number c.args.hart.now c.args.watch.now
+    (wires_with c.wires.inside.made space c.wires.inside.at.0)) (back c.wires.inside.space c.sample-lines.new.self state c.sample-lines.ensures.space
+    c.controller_state-before.ensures.value)
+    ∙ ap {A = Wires} (λ w. hart_state c.args.number c.args.hart.now c.args.watch.now w) c.wires.view_is

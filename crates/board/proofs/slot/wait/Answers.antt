@@ -1,10 +1,11 @@
--- The letters stay.
-use Rattle.std.proofs.Common.{◌∙◌, ap}
+-- The letters and the number stay.
+use Rattle.std.proofs.Common.{ap}
 use Rattle.rv_hart.specs.Core.{Core, ticked}
-use Rattle.board.specs.View.{State}
 use Rattle.board.proofs.slot.wait.Goals as goal
 
-pub returns-then-not-is_ready-clause-letters : goal.returns-then-not-is_ready-clause-letters
+pub returns-then-not-is_ready-clause-same : goal.returns-then-not-is_ready-clause-same
 unfolding ticked
-returns-then-not-is_ready-clause-letters g c =
-    ap {A = Core} (λ core. core.letters) c.tick.ensures ∙ ap {A = State} (λ s. s.view.core.letters) c.self.view_is
+returns-then-not-is_ready-clause-same g c = record {
+  letters = ap {A = Core} (λ core. core.letters) c.tick.ensures;
+  number = ap {A = Core} (λ core. core.number) c.tick.ensures;
+}

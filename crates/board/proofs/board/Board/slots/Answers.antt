@@ -1,6 +1,7 @@
 use Rattle.std.proofs.Common.{◌∙◌, ap, sym, subst, refl, arith, add-zero, add_assoc, ℕ, ◌+◌, ◌/◌, ◌≤◌}
 use Rattle.std.proofs.lemmas.Nat.{div-add-mod', mod_below}
-use Rattle.rv_hart.specs.declared.letters.Letters.{Letters}
+use Rattle.board.specs.declared.slot.Ways.{Ways}
+use Rattle.board.specs.Inner.Seat.{ways_of}
 use Rattle.board.proofs.NumberLemmas.{plan-stretch, speed-stretch}
 use Rattle.board.proofs.StretchLemmas.{after_none, after_stretch, after_slots, micros_begins}
 use Rattle.board.specs.Inner.Remembers.{is_wired}
@@ -10,20 +11,15 @@ use Rattle.board.proofs.board.Board.slots.Goals as goal
 pub loop-i-init : goal.loop-i-init
 loop-i-init g c = record {
   run = after_none _ _ _;
-  letters = refl;
   next = add-zero _ ∙ sym (div-add-mod' _ _);
   within = mod_below _ _ (omega (arith, c.from-speed.ensures, c.speed.ensures.least));
   most = omega arith;
 }
 
-pub slots_of-requires-clause-wired : goal.slots_of-requires-clause-wired
-slots_of-requires-clause-wired g c =
+pub slots_of-requires-clause-ways : goal.slots_of-requires-clause-ways
+slots_of-requires-clause-ways g c =
     let kept = ap {A = State} (λ s. s.view.space.plan) c.loop-i.invariant.run ∙ plan-stretch _ _ _ _ in
-    c.requires.wired ∙ ap is_wired (sym kept)
-
-pub slots_of-requires-clause-halves : goal.slots_of-requires-clause-halves
-slots_of-requires-clause-halves g c =
-    c.requires.halves ∙ ap {A = Letters} (λ letters. letters.c) (sym c.loop-i.invariant.letters)
+    c.requires.ways ∙ ap ways_of (sym kept)
 
 pub slots_of-requires-clause-most : goal.slots_of-requires-clause-most
 slots_of-requires-clause-most g c =
@@ -39,7 +35,6 @@ loop-i-preserved-then-within-speed g c =
       run =
           after_slots _ _ _ _ _ _ _ _ _ _ _ now.run c.in-All.ensures.run now.next
           (omega (arith, c.min-count.ensures, now.within)) speed refl;
-      letters = c.in-All.ensures.letters ∙ now.letters;
       next = micros_begins _ _ _ _ next c.if-within-speed.true;
       within = omega (arith, now.within);
       most = omega (arith, c.min-count.ensures, now.most);
@@ -53,7 +48,6 @@ loop-i-preserved-else-within-speed g c =
       run =
           after_slots _ _ _ _ _ _ _ _ _ _ _ now.run c.in-All.ensures.run now.next
           (omega (arith, c.min-count.ensures, now.within)) speed refl;
-      letters = c.in-All.ensures.letters ∙ now.letters;
       next = omega (arith, now.next);
       within = omega (arith, c.if-within-speed.false, c.min-count.ensures, now.within);
       most = omega (arith, c.min-count.ensures, now.most);
@@ -70,7 +64,7 @@ pub pass_idle-i-requires-clause-wired : goal.pass_idle-i-requires-clause-wired
 pass_idle-i-requires-clause-wired g c =
     let taken = ap {A = State} (λ s. s.view.space.plan) c.in-Idle.ensures.run ∙ plan-stretch _ _ _ _ in
     let kept = ap {A = State} (λ s. s.view.space.plan) c.loop-i.invariant.run ∙ plan-stretch _ _ _ _ in
-    c.requires.wired ∙ ap is_wired (sym (taken ∙ kept))
+    ap {A = Ways} (λ w. w.wired) c.requires.ways ∙ ap is_wired (sym (taken ∙ kept))
 
 pub loop-i-preserved : goal.loop-i-preserved
 loop-i-preserved g c =
@@ -80,7 +74,6 @@ loop-i-preserved g c =
     (omega (arith, c.in-Idle.ensures.ended, c.min-count.ensures, now.within)) speed refl in
     record {
       run = after_stretch _ _ _ _ _ _ _ run c.pass_idle-i.ensures.run;
-      letters = c.pass_idle-i.ensures.letters ∙ (c.in-Idle.ensures.letters ∙ now.letters);
       next = sym (div-add-mod' _ _);
       within = mod_below _ _ (omega (arith, c.from-speed.ensures, c.speed.ensures.least));
       most = c.pass_idle-i.ensures.most;

@@ -1,4 +1,4 @@
-use Rattle.std.proofs.Common.{◌∙◌, sym, arith}
+use Rattle.std.proofs.Common.{◌∙◌, arith}
 use Rattle.board.proofs.LineLemmas.{few_harts, lines_are_read, still_has}
 use Rattle.board.proofs.space.Space.sample.Goals as goal
 

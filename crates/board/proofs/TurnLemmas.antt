@@ -1,0 +1,344 @@
+-- How the processors of a board take its slots in turn. Of n slots from the one of `next` on, hart k of h takes
+-- `n / h`, and one more where `(k + (h - next)) % h < n % h`.
+use Rattle.std.proofs.Common.{◌≡◌, ℕ, zero, suc, ◌+◌, ◌-◌, ◌*◌, ◌/◌, ◌%◌, ◌<◌, ◌≤◌, ◌==◌, Bool, true, false, length}
+use Rattle.std.proofs.Common.{nat_lt, refl, sym, ap, ◌∙◌, inl, inr, add-one, arith}
+use Rattle.std.specs.Prelude.{if◌then◌else◌, List, [], ◌∷◌, Option, None, Some, slice_index_or, slice_set}
+use Rattle.std.proofs.Math.Nat.{suc-mul, suc-mod, mod-eq_of_lt, mod_self}
+use Rattle.std.proofs.lemmas.Bool.{cases_eq, cases_lt}
+use Rattle.std.proofs.lemmas.Bool.Decides.{nat_tests}
+use Rattle.std.specs.Option.{option_map_or}
+use Rattle.std.proofs.lemmas.List.{length-set, length-map, map-id}
+use Rattle.std.proofs.lemmas.List.FromFn.{sum_by-map-range_with_len_more}
+use Rattle.std.proofs.lemmas.Nat.{div-add-mod', div-mul-add, mod-mul-add, mod_below}
+use Rattle.lab_num.specs.Paid.{slot_at}
+use Rattle.rv_hart.specs.declared.csr.Lines.{Lines}
+use Rattle.rv_hart.specs.Core.{Core, initial, reg}
+use Rattle.rv_hart.specs.Trap.{chosen, interrupt, is_ready}
+use Rattle.rv_exec.specs.Effect.{Effect, Done, effect}
+use Rattle.rv_exec.specs.Outcome.{traps}
+use Rattle.rv_atomic.specs.declared.atomic.AtomicOp.{AtomicOp}
+use Rattle.rv_atomic.specs.declared.atomic.AtomicOp.TheVariants.{Lr, Sc, Swap, Add, Xor, And, Or, Min, Max, Minu, Maxu}
+use Rattle.rv_atomic.specs.declared.atomic.Atomic.{Atomic}
+use Rattle.rv_atomic.specs.declared.shared.Shared.{Shared}
+use Rattle.rv_atomic.specs.declared.shared.Shared.TheVariants as shared
+use Rattle.rv_atomic.specs.declared.span.Span.{Span}
+use Rattle.rv_atomic.specs.AtomicEffect.{leaves, address, gives, gives_and_stores, with_word, atomic_effect}
+use Rattle.rv_atomic.specs.AtomicEffect.{misaligned_cause, access_fault_cause}
+use Rattle.rv_atomic.specs.SharedEffect.{after_effect, shared_effect}
+use Rattle.rv_atomic.specs.Span.{span_of}
+use Rattle.rv_atomic.specs.Watch.{after_store, has_reserved}
+use Rattle.board.specs.Fetch.{shared_by}
+use Rattle.board.specs.HartView.{HartView, HartState, hart_view, hart_state, still, wires_of}
+use Rattle.board.specs.Idle.{turns_of}
+use Rattle.board.specs.Inner.Holds.{state_of, state_alone}
+use Rattle.board.specs.Inner.Seat.{behind}
+use Rattle.board.specs.Lines.{sampled, lines_of}
+use Rattle.board.specs.Slot.{slot, hart_slot, running, sampling, awake, asleep, woken, cycle, instruction, number_after}
+use Rattle.board.specs.Stretch.{stretch}
+use Rattle.board.specs.View.{View, after}
+use Rattle.board.specs.Wires.{Wires, fetched}
+
+-- ---- whose turn is next
+
+pub number_after_is : (harts hart : ℕ) → hart < harts → number_after harts hart ≡ (hart + 1) % harts
+number_after_is harts hart below = elim (cases_eq (hart + 1) harts) [
+  | inl last ↦ rw last (grind (arith, nat_tests, mod_self harts))
+  | inr other ↦
+      let next : hart + 1 < harts = omega (arith, below, other) in
+      let same : (hart + 1) % harts ≡ hart + 1 = mod-eq_of_lt next in
+      grind (arith, nat_tests, next, same)
+]
+
+pub cores-slot : (v : View) (t : ℕ) → length (slot v t).view.cores ≡ length v.cores
+unfolding slot
+cores-slot v t = length-set v.cores v.next _
+
+pub next-slot : (v : View) (t : ℕ) → (slot v t).view.next ≡ number_after (length v.cores) v.next
+unfolding slot
+next-slot v t = refl
+
+pub cores-stretch : (v : View) (from a n : ℕ) → length (stretch v from a n).view.cores ≡ length v.cores
+unfolding stretch
+cores-stretch v from a zero = refl
+cores-stretch v from a (suc n) =
+    cores-slot (stretch v from a n).view (slot_at from v.numbers.speed (a + n)) ∙ cores-stretch v from a n
+
+pub next-stretch :
+    (v : View) (from a n : ℕ) → v.next < length v.cores →
+    (stretch v from a n).view.next ≡ (v.next + n) % length v.cores
+unfolding stretch
+next-stretch v from a zero below =
+    let none : v.next + zero ≡ v.next = omega arith in
+    rw none (sym (mod-eq_of_lt below))
+next-stretch v from a (suc n) below =
+    let harts = length v.cores in
+    let run = (stretch v from a n).view in
+    let t = slot_at from v.numbers.speed (a + n) in
+    let is = next-stretch v from a n below in
+    let within : (v.next + n) % harts < harts = mod_below _ _ (omega (arith, below)) in
+    let more : v.next + suc n ≡ suc (v.next + n) = omega arith in
+    next-slot run t
+    ∙ rw (cores-stretch v from a n, is, number_after_is harts _ within, more, suc-mod (v.next + n) harts, add-one) refl
+
+-- the one that takes the next slot is one of the processors
+pub below-stretch :
+    (v : View) (from a n : ℕ) → v.next < length v.cores →
+    (stretch v from a n).view.next < length (stretch v from a n).view.cores
+below-stretch v from a n below =
+    rw (cores-stretch v from a n, next-stretch v from a n below) (mod_below _ _ (omega (arith, below)))
+
+-- ---- how many slots each takes
+
+pub turns_none : (harts next hart : ℕ) → turns_of harts next 0 hart ≡ 0
+turns_none harts next hart = refl
+
+pub turns_more :
+    (harts next n hart : ℕ) →
+    turns_of harts next (suc n) hart
+    ≡ turns_of harts next n hart + (if (next + n) % harts == hart then 1 else 0)
+turns_more harts next n hart =
+    rw (add-one, map-id, map-id) at
+    (sum_by-map-range_with_len_more (λ i. if (next + i) % harts == hart then 1 else 0) (λ i. i) 0 n n (omega arith))
+
+-- the first of its slots that a processor takes, where all take one of each so many in turn from `next` on
+abbrev pub first_turn : ℕ → ℕ → ℕ → ℕ
+first_turn harts next hart = (hart + (harts - next)) % harts
+
+first_is :
+    (harts next hart : ℕ) → next < harts → hart < harts →
+    first_turn harts next hart ≡ (if nat_lt hart next then hart + (harts - next) else hart - next)
+first_is harts next hart below there = elim (cases_lt hart next) [
+  | inl before ↦
+      let same : (hart + (harts - next)) % harts ≡ hart + (harts - next) = mod-eq_of_lt (omega (arith, before, below)) in
+      grind (arith, nat_tests, before, same)
+  | inr after ↦
+      let sum : hart + (harts - next) ≡ 1 * harts + (hart - next) = omega (arith, after, below) in
+      let same : (hart + (harts - next)) % harts ≡ hart - next =
+      rw sum (mod-mul-add 1 harts (hart - next) (omega (arith, there))) in
+      grind (arith, nat_tests, after, same)
+]
+
+-- whose turn it is after so many slots
+turn_is :
+    (harts next n : ℕ) → next < harts →
+    (next + n) % harts
+    ≡ (if nat_lt (next + n % harts) harts then next + n % harts else next + n % harts - harts)
+turn_is harts next n below =
+    let q = n / harts in
+    let r = n % harts in
+    let split : n ≡ q * harts + r = sym (div-add-mod' n harts) in
+    let small : r < harts = mod_below n harts (omega (arith, below)) in
+    elim (cases_lt (next + r) harts) [
+      | inl within ↦
+          let sum : next + n ≡ q * harts + (next + r) = omega (arith, split) in
+          let same : (next + n) % harts ≡ next + r = rw sum (mod-mul-add q harts (next + r) within) in
+          grind (arith, nat_tests, within, same)
+      | inr past ↦
+          let more : (q + 1) * harts ≡ q * harts + harts = rw (add-one) (suc-mul q harts) in
+          let sum : next + n ≡ (q + 1) * harts + (next + r - harts) = omega (arith, split, past, more) in
+          let same : (next + n) % harts ≡ next + r - harts =
+          rw sum (mod-mul-add (q + 1) harts (next + r - harts) (omega (arith, small, below))) in
+          grind (arith, nat_tests, past, same)
+    ]
+
+-- a processor's turn comes where its first one does
+turn_comes :
+    (harts next n hart : ℕ) → next < harts → hart < harts →
+    ((next + n) % harts == hart) ≡ (first_turn harts next hart == n % harts)
+turn_comes harts next n hart below there =
+    let small : n % harts < harts = mod_below n harts (omega (arith, below)) in
+    rw (turn_is harts next n below, first_is harts next hart below there)
+    (by_places harts next (n % harts) hart below there small)
+  where
+    by_places :
+        (harts next r hart : ℕ) → next < harts → hart < harts → r < harts →
+        ((if nat_lt (next + r) harts then next + r else next + r - harts) == hart)
+        ≡ ((if nat_lt hart next then hart + (harts - next) else hart - next) == r)
+    by_places harts next r hart below there small = grind (arith, nat_tests, below, there, small)
+
+-- what one more slot adds to quotient and remainder
+one_more :
+    (harts n first : ℕ) → first < harts →
+    n / harts + (if nat_lt first (n % harts) then 1 else 0) + (if first == n % harts then 1 else 0)
+    ≡ suc n / harts + (if nat_lt first (suc n % harts) then 1 else 0)
+one_more harts n first below =
+    let q = n / harts in
+    let r = n % harts in
+    let split : n ≡ q * harts + r = sym (div-add-mod' n harts) in
+    let small : r < harts = mod_below n harts (omega (arith, below)) in
+    elim (cases_eq (r + 1) harts) [
+      | inl last ↦
+          let more : (q + 1) * harts ≡ q * harts + harts = rw (add-one) (suc-mul q harts) in
+          let sum : suc n ≡ (q + 1) * harts + 0 = omega (arith, split, last, more) in
+          let quotient : suc n / harts ≡ q + 1 = rw sum (div-mul-add (q + 1) harts 0 (omega (arith, below))) in
+          let rest : suc n % harts ≡ 0 = rw sum (mod-mul-add (q + 1) harts 0 (omega (arith, below))) in
+          rw (quotient, rest) (grind (arith, nat_tests, below, last))
+      | inr other ↦
+          let sum : suc n ≡ q * harts + (r + 1) = omega (arith, split) in
+          let within : r + 1 < harts = omega (arith, small, other) in
+          let quotient : suc n / harts ≡ q = rw sum (div-mul-add q harts (r + 1) within) in
+          let rest : suc n % harts ≡ r + 1 = rw sum (mod-mul-add q harts (r + 1) within) in
+          rw (quotient, rest) (grind (arith, nat_tests, below, small))
+    ]
+
+pub turns_are :
+    (harts next n hart : ℕ) → next < harts → hart < harts →
+    turns_of harts next n hart
+    ≡ n / harts + (if nat_lt (first_turn harts next hart) (n % harts) then 1 else 0)
+turns_are harts next zero hart below there = grind (arith, nat_tests, below)
+turns_are harts next (suc n) hart below there =
+    let first = first_turn harts next hart in
+    let small : first < harts = mod_below _ _ (omega (arith, below)) in
+    turns_more harts next n hart
+    ∙ rw (turns_are harts next n hart below there, turn_comes harts next n hart below there)
+    (one_more harts n first small)
+
+-- each takes its share, or one more
+pub turns_fair :
+    (harts next n hart : ℕ) → next < harts → hart < harts →
+    (n / harts ≤ turns_of harts next n hart) × (turns_of harts next n hart ≤ n / harts + 1)
+turns_fair harts next n hart below there =
+    rw (turns_are harts next n hart below there) (share (nat_lt (first_turn harts next hart) (n % harts)))
+  where
+    share : (b : Bool) → (n / harts ≤ n / harts + (if b then 1 else 0)) × (n / harts + (if b then 1 else 0) ≤ n / harts + 1)
+    share true = (omega arith, omega arith)
+    share false = (omega arith, omega arith)
+
+-- a board of one processor has no other to take its slots
+pub next_alone : (v : View) (t : ℕ) → length v.cores ≡ 1 → v.next ≡ 0 → (slot v t).view.next ≡ 0
+next_alone v t one first = next-slot v t ∙ rw (one, first) refl
+
+-- ---- a slot that a processor has taken, as one of the board
+
+-- the processor `next` has done its slot
+pub taken_in_turn :
+    (cores : List Core) (next : ℕ) (core' : Core) (watch watch' : List (Option ℕ)) (w w' : Wires) (t : ℕ) →
+    let old = hart_state next (slice_index_or cores next initial) watch w in
+    hart_state next core' watch' w' ≡ behind old (hart_slot old.view t) →
+    state_of (slice_set cores next core') (number_after (length cores) next) watch' w'
+    ≡ after (state_of cores next watch w) (slot (state_of cores next watch w).view t)
+unfolding slot
+taken_in_turn cores next core' watch watch' w w' t is =
+    ap {A = HartState} (λ h. record {
+      view = record {
+        numbers = h.view.numbers;
+        cores = slice_set cores next h.view.core;
+        next = number_after (length cores) next;
+        watch = h.view.watch;
+        space = h.view.space;
+      };
+      posts = h.posts;
+      entries = h.entries;
+    }) is
+
+-- the only processor has done its slot
+pub taken_alone :
+    (core core' : Core) (watch watch' : List (Option ℕ)) (w w' : Wires) (t : ℕ) →
+    let old = hart_state 0 core watch w in
+    hart_state 0 core' watch' w' ≡ behind old (hart_slot old.view t) →
+    state_alone core' watch' w'
+    ≡ after (state_alone core watch w) (slot (state_alone core watch w).view t)
+taken_alone core core' watch watch' w w' t is = taken_in_turn (core ∷ []) 0 core' watch watch' w w' t is
+
+-- ---- each processor may have a reservation, before and after
+
+abbrev HasSame : List (Option ℕ) → List (Option ℕ) → Type 0
+HasSame old new = length new ≡ length old
+
+watch_stored : (number at width : ℕ) (watch : List (Option ℕ)) → HasSame watch (after_store number at width watch)
+watch_stored number at width watch = length-set _ _ _ ∙ length-map watch _
+
+watch_effect : (number : ℕ) (effect : Effect) (watch : List (Option ℕ)) → HasSame watch (after_effect number effect watch)
+watch_effect number effect watch = by_span (span_of effect)
+  where
+    by_span :
+        (span : Option Span) →
+        HasSame watch (option_map_or (λ s. after_store number s.at s.width watch) span watch)
+    by_span None = refl
+    by_span (Some span) = watch_stored number span.at span.width watch
+
+watch_word :
+    (op : AtomicOp) (core : Core) (number : ℕ) (watch : List (Option ℕ)) (a : Atomic) (word : ℕ) →
+    HasSame watch (with_word op core number watch a word).watch
+watch_word Lr core number watch a word = length-set _ _ _
+watch_word Sc core number watch a word = by_test (has_reserved watch number (address core a))
+  where
+    by_test :
+        (test : Bool) →
+        HasSame watch
+        (if test then
+        leaves (gives_and_stores core a 0 (reg core a.rs2))
+        (slice_set (after_store number (address core a) 4 watch) number None)
+        else leaves (gives core a 1) (slice_set watch number None)).watch
+    by_test true = length-set _ _ _ ∙ watch_stored number (address core a) 4 watch
+    by_test false = length-set _ _ _
+watch_word Swap core number watch a word = watch_stored number (address core a) 4 watch
+watch_word Add core number watch a word = watch_stored number (address core a) 4 watch
+watch_word Xor core number watch a word = watch_stored number (address core a) 4 watch
+watch_word And core number watch a word = watch_stored number (address core a) 4 watch
+watch_word Or core number watch a word = watch_stored number (address core a) 4 watch
+watch_word Min core number watch a word = watch_stored number (address core a) 4 watch
+watch_word Max core number watch a word = watch_stored number (address core a) 4 watch
+watch_word Minu core number watch a word = watch_stored number (address core a) 4 watch
+watch_word Maxu core number watch a word = watch_stored number (address core a) 4 watch
+
+watch_shared :
+    (memory : ℕ → Option ℕ) (core : Core) (number : ℕ) (watch : List (Option ℕ)) (what : Shared) (lines : Lines) →
+    HasSame watch (shared_effect memory core number watch what lines).watch
+unfolding shared_effect atomic_effect
+watch_shared memory core number watch (shared.Plain what) lines = watch_effect number (effect core what lines) watch
+watch_shared memory core number watch (shared.Atomic a) lines = by_test (address core a % 4 == 0)
+  where
+    by_memory :
+        (word : Option ℕ) →
+        HasSame watch
+        (option_map_or (with_word a.op core number watch a) word
+        (leaves (Done (traps core (access_fault_cause a.op) (address core a))) watch)).watch
+    by_memory None = refl
+    by_memory (Some word) = watch_word a.op core number watch a word
+
+    by_test :
+        (test : Bool) →
+        HasSame watch
+        (if test then
+        option_map_or (with_word a.op core number watch a) (memory (address core a))
+        (leaves (Done (traps core (access_fault_cause a.op) (address core a))) watch)
+        else leaves (Done (traps core (misaligned_cause a.op) (address core a))) watch).watch
+    by_test true = by_memory (memory (address core a))
+    by_test false = refl
+
+watch_awake : (h : HartView) (t : ℕ) (lines : Lines) → HasSame h.watch (awake h t lines).view.watch
+unfolding awake
+watch_awake h t lines = by_chosen (chosen h.core lines.mip)
+  where
+    by_chosen :
+        (taken : Option ℕ) →
+        HasSame h.watch
+        (option_map_or (λ n. cycle h (interrupt h.core n)) taken (instruction h t lines)).view.watch
+    by_chosen None =
+        watch_shared (fetched (wires_of h t)) h.core h.hart h.watch (shared_by h.core (wires_of h t)) lines
+    by_chosen (Some n) = refl
+
+watch_if :
+    (watch : List (Option ℕ)) (test : Bool) (a b : HartState) → HasSame watch a.view.watch →
+    HasSame watch b.view.watch → HasSame watch (if test then a else b).view.watch
+watch_if watch true a b p q = p
+watch_if watch false a b p q = q
+
+pub watch-slot : (v : View) (t : ℕ) → length (slot v t).view.watch ≡ length v.watch
+unfolding slot hart_slot
+watch-slot v t =
+    let h = hart_view v v.next in
+    let lines = lines_of (sampled v.space) v.next t in
+    let now = sampling h in
+    watch_if v.watch h.core.halted (still h) (running now t lines) refl
+    (watch_if v.watch h.core.waiting (asleep now t lines) (awake now t lines)
+    (watch_if v.watch (is_ready h.core lines.mip) (awake (woken now) t lines) (cycle now h.core)
+    (watch_awake (woken now) t lines) refl)
+    (watch_awake now t lines))
+
+pub watch-stretch : (v : View) (from a n : ℕ) → length (stretch v from a n).view.watch ≡ length v.watch
+unfolding stretch
+watch-stretch v from a zero = refl
+watch-stretch v from a (suc n) =
+    watch-slot (stretch v from a n).view (slot_at from v.numbers.speed (a + n)) ∙ watch-stretch v from a n

@@ -1,0 +1,50 @@
+use Rattle.std.proofs.Common.{◌∙◌, ap, sym, refl, arith, length}
+use Rattle.sys_bus.specs.declared.plan.BoardPlan.{BoardPlan}
+use Rattle.board.proofs.NumberLemmas.{plan-stretch}
+use Rattle.board.proofs.StretchLemmas.{after_none, after_next}
+use Rattle.board.proofs.TurnLemmas.{taken_alone}
+use Rattle.board.specs.Inner.Seat.{ways_of}
+use Rattle.board.specs.View.{State}
+use Rattle.board.proofs.board.slots.slots_alone.Goals as goal
+
+pub loop-i-init : goal.loop-i-init
+loop-i-init g c = record {
+  run = after_none _ _ _;
+  same = record { letters = refl; number = refl };
+  watch = refl;
+}
+
+pub slot-requires-clause-ways : goal.slot-requires-clause-ways
+slot-requires-clause-ways g c =
+    let kept = ap {A = State} (λ s. s.view.space.plan) c.loop-i.invariant.run ∙ plan-stretch _ _ _ _ in
+    c.requires.ways ∙ ap ways_of (sym kept)
+
+pub slot-requires-clause-letters : goal.slot-requires-clause-letters
+slot-requires-clause-letters g c =
+    let kept = ap {A = State} (λ s. s.view.space.plan) c.loop-i.invariant.run ∙ plan-stretch _ _ _ _ in
+    c.loop-i.invariant.same.letters ∙ c.requires.letters ∙ ap {A = BoardPlan} (λ plan. plan.letters) (sym kept)
+
+pub slot-requires-clause-harts : goal.slot-requires-clause-harts
+slot-requires-clause-harts g c =
+    let kept = ap {A = State} (λ s. s.view.space.plan) c.loop-i.invariant.run ∙ plan-stretch _ _ _ _ in
+    c.loop-i.invariant.watch ∙ c.requires.harts ∙ ap {A = BoardPlan} (λ plan. length plan.cpus) (sym kept)
+
+pub returns-then-idle-clause-run : goal.returns-then-idle-clause-run
+returns-then-idle-clause-run g c =
+    after_next _ _ _ _ _ c.loop-i.invariant.run
+    (taken_alone c.loop-i.hart c.slot.new.hart c.loop-i.watch c.slot.new.watch c.loop-i.wires c.slot.new.wires
+    c.args.now.0 c.in-Ok.ensures.ok) (omega (arith, c.requires.most, c.loop-i-test.true))
+
+pub loop-i-preserved : goal.loop-i-preserved
+loop-i-preserved g c = record {
+  run =
+      after_next _ _ _ _ _ c.loop-i.invariant.run
+      (taken_alone c.loop-i.hart c.slot.new.hart c.loop-i.watch c.slot.new.watch c.loop-i.wires c.slot.new.wires
+      c.args.now.0 c.in-Ok.ensures.ok) (omega (arith, c.requires.most, c.loop-i-test.true));
+  same =
+      record {
+        letters = c.in-Ok.ensures.same.letters ∙ c.loop-i.invariant.same.letters;
+        number = c.in-Ok.ensures.same.number ∙ c.loop-i.invariant.same.number;
+      };
+  watch = c.in-Ok.ensures.watch ∙ c.loop-i.invariant.watch;
+}
