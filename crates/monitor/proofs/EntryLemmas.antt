@@ -1,6 +1,7 @@
 -- Processors that go on at an address, one after another.
 use Rattle.std.proofs.Common.{◌≡◌, ◌∙◌, ℕ, zero, suc, ◌+◌, List, [], ◌∷◌, ◌++◌, length, map, take, drop}
-use Rattle.std.proofs.Common.{refl, ap, arith, append-nil, take-length, drop-length}
+use Rattle.std.proofs.Common.{refl, ap, arith, append-nil}
+use Rattle.std.proofs.Math.Seq.{take-length, drop-length}
 use Rattle.std.specs.Prelude.{slice_index_or, slice_set}
 use Rattle.rv_hart.specs.Core.{Core, initial}
 use Rattle.board.specs.Changes.{with_pc}
@@ -19,7 +20,7 @@ one_more :
     slice_set (map f (take n xs) ++ drop n xs) n (f (slice_index_or (map f (take n xs) ++ drop n xs) n d))
     ≡ map f (take (n + 1) xs) ++ drop (n + 1) xs
 one_more f [] zero d = refl
-one_more f [] (suc n) d = refl
+one_more f [] (suc n) d = let next : suc n + 1 ≡ suc (n + 1) = omega arith in rw next refl
 one_more f (x ∷ xs) zero d = refl
 one_more f (x ∷ xs) (suc n) d =
     let next : suc n + 1 ≡ suc (n + 1) = omega arith in rw next (ap (λ ys. f x ∷ ys) (one_more f xs n d))

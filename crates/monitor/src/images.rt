@@ -1,7 +1,9 @@
 //! Commands that load images.
-ghost use Rattle.std.specs.Prelude.{◌≡◌, false, IfErr, IsSome, IsTrue, OnOk, Some};
+ghost use Rattle.std.specs.Prelude.{◌≡◌, ◌<◌, ◌%◌, length, false, IfErr, IsSome, IsTrue, OnOk, Some};
 ghost use Rattle.std.specs.List.{list_all};
 ghost use Rattle.std.specs.Option.{ForSome};
+ghost use Rattle.rv_hart.specs.Core.{alignment};
+ghost use Rattle.board.specs.Changes.{with_pc};
 ghost use Rattle.lab_state.specs.One.{view_of};
 ghost use Rattle.monitor.specs.Images as images;
 ghost use Rattle.monitor.specs.Inner.Ruling.{IsChanged, IsImage, IsRuled, image_by};
@@ -137,6 +139,18 @@ impl<D: Device> Monitor<D> {
         }
     }
 
+    /// Has a processor of a board go on at an address.
+    fn set_one_pc(&mut self, b: BoardNo, hart: u8, pc: u32)
+        requires unspent { self.old.spent ≡ false }
+        requires has_plan { IsSome (view_of self.old.state.lab b.0) }
+        requires hart { ForSome (view_of self.old.state.lab b.0) (λ v. hart < length v.cores) }
+        requires aligned { ForSome (view_of self.old.state.lab b.0) (λ v.
+            pc % alignment v.space.plan.letters ≡ 0) }
+        ensures { IsChanged b.0 (λ v. with_pc v hart pc) self.old self.new }
+    {
+        self.lab.set_pc(b, hart, pc);
+    }
+
     /// Has each processor of a board go on at an address.
     fn set_each_pc(&mut self, b: BoardNo, pc: u32)
         requires unspent { self.old.spent ≡ false }
@@ -145,8 +159,9 @@ impl<D: Device> Monitor<D> {
             IsTrue (images.is_entry v (Some pc))) }
         ensures { IsChanged b.0 (λ v. images.with_each_pc v pc) self.old self.new }
     {
-        for hart in 0..self.harts(b) {
-            self.lab.set_pc(b, hart, pc);
+        let harts = self.harts(b);
+        for hart in 0..harts {
+            self.set_one_pc(b, hart, pc);
         }
     }
 

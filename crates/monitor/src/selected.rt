@@ -1,5 +1,5 @@
 //! The selected board, and what stands on it under a name.
-ghost use Rattle.std.specs.Prelude.{◌≡◌, ◌<◌, ◌≤◌, length, find, false, None, Ok, Err, IfOk, IfErr, IsSome};
+ghost use Rattle.std.specs.Prelude.{◌≡◌, ◌<◌, ◌≤◌, length, find, false, None, Ok, Err, IfOk, IfErr, IfSome, IsSome};
 ghost use Rattle.std.specs.Option.{ForSome, option_map};
 ghost use Rattle.std.specs.Str.{bytes_eq};
 ghost use Rattle.lab_state.specs.One.{view_of};
@@ -24,16 +24,14 @@ fn find_entry<'a>(plan: &'a BoardPlan, name: &str) -> Option<&'a Named>
 }
 
 /// The number of the processor of this name in a plan.
-fn find_hart(plan: &BoardPlan, name: &str) -> Option<u8>
-    requires few { length plan.now.cpus ≤ 4 }
-    ensures { result ≡ selected.hart_in plan.now name.now }
+fn find_hart(plan: &BoardPlan, name: &str) -> Option<usize>
+    ensures place { result ≡ selected.hart_in plan.now name.now }
+    ensures below { IfSome result (λ hart. hart < length plan.now.cpus) }
 {
-    let place = plan
-        .cpus
+    plan.cpus
         .items()
         .iter()
-        .position(|cpu| cpu.as_str() == name)?;
-    Some(place as u8)
+        .position(|cpu| cpu.as_str() == name)
 }
 
 /// The name of an entry in a word, of which one prefix `sysbus.` is taken off.
@@ -125,7 +123,7 @@ impl<D: Device> Monitor<D> {
     {
         let _what = self.entry(b, cpu)?;
         match find_hart(self.lab.board(b).plan(), entry_name(cpu)) {
-            Some(hart) => Ok(hart),
+            Some(hart) => Ok(hart as u8),
             None => Err(ScriptCause::Kind),
         }
     }

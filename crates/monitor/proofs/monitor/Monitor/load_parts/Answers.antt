@@ -1,11 +1,10 @@
 use Rattle.std.proofs.Common.{◌≡◌, ◌∙◌, ◌<◌, ap, arith, length, refl, subst, sym, take, true}
 use Rattle.monitor.specs.Images.{holds_part, with_part, with_parts}
 use Rattle.monitor.proofs.ImageLemmas.{changed_more, each_of_all, for_changed, parts_more, parts_still, some_changed}
-use Rattle.monitor.proofs.ImageLemmas.{unchanged}
 use Rattle.monitor.proofs.monitor.Monitor.load_parts.Goals as goal
 
 pub loop-part-init : goal.loop-part-init
-loop-part-init g c = unchanged c.args.b.0 _ c.args.self.now (λ v. refl)
+loop-part-init g c = rw (← c.self.view_is, c.zero.ensures) refl
 
 pub load_part-requires-clause-has_plan : goal.load_part-requires-clause-has_plan
 load_part-requires-clause-has_plan g c =

@@ -1,12 +1,13 @@
-use Rattle.std.proofs.Common.{refl}
-use Rattle.board.specs.Changes.{with_speed}
-use Rattle.monitor.specs.Selected.{processor}
-use Rattle.monitor.proofs.BoardLemmas.{changed_rules}
+use Rattle.std.proofs.Common.{◌≡◌, ◌∙◌, ◌*◌, ◌≤◌, nat_le, length, ap, arith, subst, sym, Some, true}
+use Rattle.std.proofs.lemmas.Bool.Decides.{nat_tests}
+use Rattle.monitor.specs.Processor.{may_go_at}
 use Rattle.monitor.proofs.monitor.Monitor.mips.Goals as goal
 
-pub returns-in-Some : goal.returns-in-Some
-returns-in-Some g c =
-    rw c.in-Some.is
-    (changed_rules c.args.self.now _ (processor c.args.self.now.state c.args.cpu.now) c.in_ok-b.b.0
-    (λ v. with_speed v c.in-Some.value) c.new.result.items c.requires.unspent c.in_ok-b.ensures.ok
-    (rw (← c.self.view_is, c.set_speed.ensures) refl) c.new.ensures.items)
+pub set_speed-requires-clause-most : goal.set_speed-requires-clause-most
+set_speed-requires-clause-most g c =
+    let on = c.in_ok-b.ensures.ok in
+    let harts = c.harts-harts.ensures.count on.view on.seen in
+    let fits : may_go_at on.view (Some c.in-Some.each) ≡ true =
+    ap (may_go_at on.view) (sym c.in-Some.is) ∙ sym (c.may_go_at.ensures on.view harts) ∙ c.if-not-may_go_at.false in
+    let same : c.from-in-Some.result ≡ length on.view.cores = grind (arith, c.from-in-Some.ensures, harts) in
+    rw same (grind (arith, nat_tests, fits))

@@ -1,17 +1,10 @@
-use Rattle.std.proofs.Common.{◌≡◌, ◌∙◌, ◌%◌, ap, sym, Some, true}
-use Rattle.std.proofs.lemmas.Bool.{eqb-true}
-use Rattle.rv_hart.specs.Core.{alignment}
-use Rattle.lab_state.specs.One.{view_of}
+use Rattle.std.proofs.Common.{◌∙◌, ap, sym}
 use Rattle.monitor.specs.Images.{is_entry, with_entry}
 use Rattle.monitor.proofs.ImageLemmas.{no_entry, unchanged}
 use Rattle.monitor.proofs.monitor.Monitor.set_entry.Goals as goal
 
-pub set_pc-requires-clause-aligned : goal.set_pc-requires-clause-aligned
-set_pc-requires-clause-aligned g c = λ v seen.
-    let there : view_of c.args.self.now.state.lab c.args.b.0 ≡ Some v = rw (← c.self.view_is) seen in
-    let begins : is_entry v (Some c.in-Some.pc) ≡ true =
-    ap (is_entry v) (sym c.in-Some.is) ∙ c.requires.is_entry v there in
-    eqb-true (c.in-Some.pc % alignment v.core.letters) 0 begins
+pub set_each_pc-requires-clause-is_entry : goal.set_each_pc-requires-clause-is_entry
+set_each_pc-requires-clause-is_entry g c = λ v seen. ap (is_entry v) (sym c.in-Some.is) ∙ c.requires.is_entry v seen
 
 pub returns-in_default : goal.returns-in_default
 returns-in_default g c =
