@@ -1,4 +1,4 @@
-use Rattle.std.proofs.Common.{◌≡◌, ◌∙◌, ◌*◌, ◌≤◌, nat_le, length, ap, arith, subst, sym, Some, true}
+use Rattle.std.proofs.Common.{◌≡◌, ◌∙◌, length, ap, arith, sym, Some, true}
 use Rattle.std.proofs.lemmas.Bool.Decides.{nat_tests}
 use Rattle.monitor.specs.Processor.{may_go_at}
 use Rattle.monitor.proofs.monitor.Monitor.mips.Goals as goal

@@ -1,10 +1,7 @@
-use Rattle.std.proofs.Common.{◌≡◌, ◌∙◌, ◌+◌, ◌<◌, ◌%◌, ap, arith, length, refl, subst, sym, Some, true}
-use Rattle.std.specs.Prelude.{IsSome}
+use Rattle.std.proofs.Common.{◌≡◌, ◌+◌, ◌<◌, ◌%◌, ap, arith, length, refl}
 use Rattle.std.proofs.lemmas.Bool.{eqb-true}
 use Rattle.rv_hart.specs.Core.{alignment}
 use Rattle.board.specs.Changes.{with_pc}
-use Rattle.board.specs.View.{View}
-use Rattle.lab_state.specs.One.{view_of}
 use Rattle.monitor.specs.Images.{with_each_pc}
 use Rattle.monitor.proofs.EntryLemmas.{first_all, first_length, first_more, with_first_pcs}
 use Rattle.monitor.proofs.ImageLemmas.{changed_more, changed_seen, for_changed, some_changed, unchanged}
