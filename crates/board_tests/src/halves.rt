@@ -50,22 +50,37 @@ static PROGRAMS: [(&[u8], u32, u64, u32, u32); 5] = [
     (&[0x13, 0x05, 0x70, 0x00], BASE + 0xFFE, 1, 7, BASE + 0x1002),
 ];
 
+fn goes_to(board: &mut Board<Uart>, pc: u32) -> bool {
+    if board.plan().cpus.items().is_empty() || !board.aligns(pc) {
+        return false;
+    }
+    board.set_pc(0, pc);
+    true
+}
+
+/// Whether the processor has this in x10, and this pc.
+fn has(board: &Board<Uart>, x10: u32, pc: u32) -> bool {
+    !board.plan().cpus.items().is_empty() && board.register(0, 10) == x10 && board.pc(0) == pc
+}
+
 fn runs(board: &mut Board<Uart>, row: &(&[u8], u32, u64, u32, u32)) -> Result<bool, NoMemory> {
     let &(program, at, slots, x10, pc) = row;
-    if !board.aligns(at) || program.len() > 8 || !board.holds(at, program.len() as u32) {
+    if program.len() > 8 || !board.holds(at, program.len() as u32) {
         return Ok(false);
     }
     if slots > 8 || board.posted() >= 1000 || board.entered() >= 1000 {
         return Ok(false);
     }
     board.copy_in(at, program)?;
-    board.set_pc(0, at);
+    if !goes_to(board, at) {
+        return Ok(false);
+    }
     let start = SlotAt {
         from: Micros(0),
         first: 0,
     };
     let turn = board.turn(start, slots);
-    Ok(turn == Turn::Used(slots) && board.register(0, 10) == x10 && board.pc(0) == pc)
+    Ok(turn == Turn::Used(slots) && has(board, x10, pc))
 }
 
 #[test]

@@ -169,7 +169,8 @@ const LISTEN: &[u32] = &[
 
 /// Makes a program the next to run, at a speed in instructions a microsecond.
 fn is_loaded(board: &mut Board<Uart>, program: &[u32], speed: u32) -> Result<bool, NoMemory> {
-    if speed < 1 || speed > 1000 {
+    let harts = board.plan().cpus.items().len();
+    if speed < 1 || speed > 1000 || harts == 0 || speed as usize % harts != 0 {
         return Ok(false);
     }
     board.set_speed(speed);
