@@ -68,11 +68,8 @@ fn runs(board: &mut Board<Uart>, row: &(&[u8], u32, u64, u32, u32)) -> Result<bo
     if program.len() > 8 || !board.holds(at, program.len() as u32) {
         return Ok(false);
     }
-    if slots > 8 || board.posted() >= 1000 || board.entered() >= 1000 {
-        return Ok(false);
-    }
     board.copy_in(at, program)?;
-    if !goes_to(board, at) {
+    if !goes_to(board, at) || slots > 8 || board.posted() >= 1000 || board.entered() >= 1000 {
         return Ok(false);
     }
     let start = SlotAt {
