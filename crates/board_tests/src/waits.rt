@@ -209,6 +209,28 @@ fn receives(board: &mut Board<Uart>) -> bool {
     !board.plan().kinds.items().is_empty() && board.deliver(0, &Payload::Byte(65)) == Taken::Kept
 }
 
+/// Whether the first processor has retired so many instructions, and goes on here.
+fn stands(board: &Board<Uart>, retired: u64, pc: u32) -> bool {
+    !board.plan().cpus.items().is_empty() && board.retired(0) == retired && board.pc(0) == pc
+}
+
+/// Whether the first processor has retired so many instructions, with these words in x8 and x10.
+fn has_come_to(board: &Board<Uart>, retired: u64, x8: u32, x10: u32) -> bool {
+    !board.plan().cpus.items().is_empty()
+        && board.retired(0) == retired
+        && board.register(0, 8) == x8
+        && board.register(0, 10) == x10
+}
+
+/// Halts the first processor, if there is one.
+fn halts(board: &mut Board<Uart>) -> bool {
+    if board.plan().cpus.items().is_empty() {
+        return false;
+    }
+    board.set_halted(0, true);
+    true
+}
+
 /// 10,000 seconds at 1,000 instructions a microsecond are 10^13 slots. Only passed over are they
 /// taken in the time that a test has.
 #[test]
@@ -217,10 +239,9 @@ fn a_board_that_waits_or_is_halted_passes_over_its_slots(rt: HostRuntime) -> Res
     let is_so = is_loaded(&mut board, &SLEEP, 1000)?;
     assert!(rt; is_so && !board.is_asleep());
     assert!(rt; takes(&mut board, 0, 10_000_000_000_000) && board.is_asleep());
-    assert!(rt; board.retired(0) == 1 && board.pc(0) == BASE + 4);
-    board.set_halted(0, true);
+    assert!(rt; stands(&board, 1, BASE + 4) && halts(&mut board));
     assert!(rt; takes(&mut board, 0, 10_000_000_000_000) && board.is_asleep());
-    assert!(rt; board.retired(0) == 1 && board.pc(0) == BASE + 4);
+    assert!(rt; stands(&board, 1, BASE + 4));
     Ok(())
 }
 
@@ -262,9 +283,7 @@ fn is_woken(board: &mut Board<Uart>, row: &Wait) -> Result<bool, NoMemory> {
             && takes(board, 0, first)
             && (!byte || receives(board))
             && takes(board, first, second)
-            && board.retired(0) == retired
-            && board.register(0, 8) == x8
-            && board.register(0, 10) == x10,
+            && has_come_to(board, retired, x8, x10),
     )
 }
 

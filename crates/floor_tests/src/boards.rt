@@ -45,7 +45,8 @@ fn load(rt: &impl Abort, board: &mut Board<Uart>) -> Result<(), NoMemory>
 {
     assert!(rt; board.holds(START, 16));
     board.copy_in(START, &PROGRAM)?;
-    board.set_pc(START);
+    assert!(rt; !board.plan().cpus.items().is_empty());
+    board.set_pc(0, START);
     Ok(())
 }
 

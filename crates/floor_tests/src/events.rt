@@ -90,8 +90,9 @@ fn is_done(floor: &Floor<Parcel<Uart>>, board: u8) -> bool
     let board = job.board();
     job.left() == 0
         && job.handle().elapsed() == Micros(12)
-        && board.retired() == 10
-        && board.pc() == 0x8000_000C
+        && !board.plan().cpus.items().is_empty()
+        && board.retired(0) == 10
+        && board.pc(0) == 0x8000_000C
 }
 
 /// The posts after an order of all that can be done with both boards, which are done then.

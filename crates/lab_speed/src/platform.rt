@@ -147,12 +147,7 @@ fn both<D: Device>(alloc: Global, uart: D, finisher: D) -> Option<Vec<D>>
 }
 
 /// A new board of this form with these devices.
-pub fn board_of<D: Device>(
-    alloc: Global,
-    form: Form,
-    uart: D,
-    finisher: D,
-) -> Option<Board<D>>
+pub fn board_of<D: Device>(alloc: Global, form: Form, uart: D, finisher: D) -> Option<Board<D>>
     requires uart { D.meaning uart ≡ first_state Uart }
     requires finisher { D.meaning finisher ≡ first_state Finisher }
 {

@@ -43,11 +43,13 @@ fn is_planned<D: Device>(lab: &Lab<D>, b: BoardNo) -> bool
     ensures planned { result ≡ true → IsSome (view_of lab.now.lab b.0) }
     ensures processor { result ≡ true →
         ForSome (view_of lab.now.lab b.0) (λ v. 0 < length v.cores) }
+    ensures alone { result ≡ true →
+        ForSome (view_of lab.now.lab b.0) (λ v. 1000 % length v.cores ≡ 0) }
 {
     !lab.is_spent()
         && b.0 < lab.boards()
         && lab.has_plan(b)
-        && !lab.board(b).plan().cpus.items().is_empty()
+        && lab.board(b).plan().cpus.items().len() == 1
 }
 
 fn adds<D: Device>(lab: &mut Lab<D>, name: &str, b: BoardNo) -> bool {
