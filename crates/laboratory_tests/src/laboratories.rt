@@ -1,5 +1,5 @@
 //! The calls of a laboratory, on two boards with a memory, a UART and a finisher, whose devices count.
-ghost use Rattle.std.specs.Prelude.{◌≡◌, ◌+◌, ◌<◌, ◌≤◌, length, true, false, IsSome, OnErr};
+ghost use Rattle.std.specs.Prelude.{◌≡◌, ◌+◌, ◌%◌, ◌<◌, ◌≤◌, length, true, false, IsSome, OnErr};
 ghost use Rattle.std.specs.Option.{ForSome};
 ghost use Rattle.lab_state.specs.One.{view_of, HaveAllPlans};
 
