@@ -3,10 +3,7 @@ ghost use Rattle.std.specs.Prelude.{◌≡◌, ◌<◌};
 ghost use Rattle.board.specs.Inner.Remembers.{still, remembered_lines};
 
 use lab_num::Micros;
-use rv_hart::Lines;
-
-/// How many processors a board has at most.
-pub const MOST_PROCESSORS: usize = 4;
+use rv_hart::{Lines, MOST_HARTS};
 
 /// What the lines were in a microsecond, after the interrupt controller had sampled its sources.
 #[derive(Clone, Copy)]
@@ -15,7 +12,7 @@ pub struct Remembered {
     /// Whether the line of the timer interrupt was up.
     pub timer: bool,
     /// What each processor of the board sees in its `mip`, and 0 for those that it does not have.
-    pub mips: [u32; MOST_PROCESSORS],
+    pub mips: [u32; MOST_HARTS],
     pub mtime: u64,
 }
 

@@ -19,6 +19,9 @@ pub struct PostNo(pub u64);
 #[derive(Clone, Copy, PartialEq, Eq, Debug)]
 pub struct NoMemory;
 
+/// The most instructions that the processors of a board do together in a microsecond.
+pub const MOST_SPEED: u32 = 1000;
+
 impl fmt::Display for NoMemory {
     ghost use Rattle.std.specs.Prelude.{Some, codes};
 

@@ -17,7 +17,7 @@ mod platform;
 
 use board::{Board, SlotAt};
 use dev_core::Device;
-use lab_num::Micros;
+use lab_num::{LAST, MOST_SPEED, Micros};
 use loops::{HALF_WORDS, INTERRUPTS, LOOPS};
 use platform::{Form, board_of};
 use rv_asm::assemble;
@@ -36,9 +36,6 @@ const USAGE: &str =
 
 /// Where the memory begins.
 const START: u32 = 0x8000_0000;
-
-/// The longest lab time, 10,000 seconds.
-const MOST_MICROS: u64 = 10_000_000_000;
 
 /// What is to be run.
 #[derive(Clone, Copy)]
@@ -168,7 +165,7 @@ fn retired_by<D: Device>(board: &Board<D>) -> u64 {
 /// lab time. It stands apart from its caller, so that it is compiled for any board.
 #[inline(never)]
 fn retired_in<D: Device>(board: &mut Board<D>, slots: u64) -> Option<u64> {
-    if slots / u64::from(board.speed()) > MOST_MICROS || board.posted() > 0 || board.entered() > 0 {
+    if slots / u64::from(board.speed()) > LAST.0 || board.posted() > 0 || board.entered() > 0 {
         return None;
     }
     let start = SlotAt {
@@ -187,7 +184,7 @@ fn program_for(alloc: Global, task: Task) -> Option<Vec<u8>> {
 
 /// Runs a task on a new board, and answers how many instructions were retired.
 fn run_on<D: Device>(alloc: Global, task: Task, board: &mut Board<D>) -> Option<u64> {
-    if task.speed < 1 || task.speed > 1000 || task.speed % u32::from(harts_of(board)) != 0 {
+    if task.speed < 1 || task.speed > MOST_SPEED || task.speed % u32::from(harts_of(board)) != 0 {
         return None;
     }
     board.set_speed(task.speed);

@@ -11,7 +11,7 @@ use crate::memory::word_line;
 use crate::monitor::Monitor;
 use crate::stop::Stop;
 use dev_core::Device;
-use lab_num::BoardNo;
+use lab_num::{BoardNo, MOST_SPEED};
 use resc_vars::ScriptCause;
 use std::alloc::Global;
 
@@ -42,7 +42,7 @@ fn may_go_at(harts: u8, value: Option<u32>) -> bool
 {
     match value {
         None => true,
-        Some(each) => each * u32::from(harts) <= 1000,
+        Some(each) => each * u32::from(harts) <= MOST_SPEED,
     }
 }
 

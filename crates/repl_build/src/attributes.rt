@@ -8,8 +8,9 @@ use crate::counts::count_of;
 use crate::merge::{Peripheral, PlacedItem};
 use crate::names::has_key;
 use crate::types::PeripheralType;
+use lab_num::MOST_SPEED;
 use repl_read::{ItemWhat, Place, Value};
-use sys_bus::{MOST_CONTEXTS, MOST_FREQUENCY, MOST_SOURCES, MOST_SPEED, PAGE_SIZE};
+use sys_bus::{MOST_CONTEXTS, MOST_FREQUENCY, MOST_SOURCES, PAGE_SIZE};
 
 /// What an attribute takes.
 #[derive(Clone, Copy)]

@@ -8,13 +8,14 @@ ghost use Rattle.repl_build.specs.Counts as counts_spec;
 use crate::merge::Peripheral;
 use crate::places::size_of;
 use crate::types::{PeripheralType, is_type};
-use sys_bus::{MOST_CANS, MOST_FINISHERS, MOST_MEMORIES, MOST_MEMORY, MOST_PROCESSORS, MOST_UARTS};
+use rv_hart::MOST_HARTS;
+use sys_bus::{MOST_CANS, MOST_FINISHERS, MOST_MEMORIES, MOST_MEMORY, MOST_UARTS};
 
 fn most_of(kind: PeripheralType) -> usize
     ensures { result ≡ counts_spec.most_of kind }
 {
     match kind {
-        PeripheralType::Cpu => MOST_PROCESSORS,
+        PeripheralType::Cpu => MOST_HARTS,
         PeripheralType::Memory => MOST_MEMORIES,
         PeripheralType::Clint => 1,
         PeripheralType::Plic => 1,

@@ -9,9 +9,9 @@ use crate::attributes::{is_refused, item_of, number_of};
 use crate::counts::{count_of, first_with};
 use crate::merge::Peripheral;
 use crate::types::{PeripheralType, is_type};
+use lab_num::MOST_SPEED;
 use repl_read::{ItemWhat, Value};
 use rv_hart::Letters;
-use sys_bus::MOST_SPEED;
 
 /// The instructions of a processor in a microsecond where its entry says none.
 const USUAL_SPEED: u32 = 100;

@@ -5,10 +5,7 @@ ghost use Rattle.resc_read.specs.Arguments as arguments;
 use crate::command::LineCause;
 use crate::sorts::{name_of, path_of, text_of, truth_of};
 use crate::variable::variable_of;
-use lab_num::{Micros, number_of, read_time};
-
-/// The greatest speed of a processor, in instructions a microsecond.
-const MOST_SPEED: u32 = 1000;
+use lab_num::{MOST_SPEED, Micros, number_of, read_time};
 
 /// The longest quantum, in microseconds.
 const MOST_QUANTUM: u64 = 1_000_000;

@@ -3,10 +3,8 @@
 ghost use Rattle.std.specs.Prelude.{◌≡◌, ◌+◌, ◌<◌, ◌≤◌, None, length, map, replicate, slice_set};
 ghost use Rattle.rv_atomic.specs.Watch.{after_store, kept, reaches, reserved};
 
+use rv_hart::MOST_HARTS;
 use std::marker::Model;
-
-/// The most harts of one board.
-const MOST_HARTS: usize = 4;
 
 /// The reservations of one to four harts: for each the address of the word that it has reserved, or
 /// none.

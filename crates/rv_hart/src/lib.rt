@@ -16,4 +16,4 @@ pub use hart::Hart;
 pub use laws::{counters_stay, read_back, return_after_entry, zero_register};
 pub use letters::Letters;
 pub use numbers::{Counter, counter_of};
-pub use state::HartState;
+pub use state::{HartState, MOST_HARTS};

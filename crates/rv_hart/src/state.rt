@@ -6,6 +6,9 @@ use crate::bits::is_set;
 use crate::cause::INTERRUPT_BITS;
 use crate::letters::Letters;
 
+/// The most harts that a board has.
+pub const MOST_HARTS: usize = 4;
+
 /// All that a hart holds: its registers, the fields of the CSRs that hold a value, two switches, its
 /// optional extensions and its number.
 #[derive(Clone, Copy, PartialEq, Eq, Debug)]

@@ -12,8 +12,8 @@ mod wire;
 
 pub use limits::{
     LEAST_CLINT, LEAST_PLIC, MOST_CANS, MOST_CONTEXTS, MOST_FINISHERS, MOST_FREQUENCY,
-    MOST_MEMORIES, MOST_MEMORY, MOST_PROCESSORS, MOST_SOURCES, MOST_SPEED, MOST_UARTS, PAGE_SIZE,
-    REGION_UNIT, least_device_size,
+    MOST_MEMORIES, MOST_MEMORY, MOST_SOURCES, MOST_UARTS, PAGE_SIZE, REGION_UNIT,
+    least_device_size,
 };
 pub use near::Place;
 pub use plan::{BoardPlan, Named, NamedWhat, PlicSize};

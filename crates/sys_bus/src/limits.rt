@@ -5,7 +5,8 @@ ghost use Rattle.sys_bus.specs.Limits as limit;
 use crate::plan::PlicSize;
 use crate::region::{Region, RegionKind};
 use dev_core::Kind;
-use lab_num::Text;
+use lab_num::{MOST_SPEED, Text};
+use rv_hart::MOST_HARTS;
 
 pub const MOST_UARTS: usize = 4;
 
@@ -20,11 +21,6 @@ pub const MOST_MEMORY: u64 = 67_108_864;
 
 /// A memory has whole pages, at least one.
 pub const PAGE_SIZE: u32 = 4096;
-
-pub const MOST_PROCESSORS: usize = 4;
-
-/// The most instructions of all processors together in a microsecond.
-pub const MOST_SPEED: u32 = 1000;
 
 /// The most ticks of the timer in a second.
 pub const MOST_FREQUENCY: u32 = 1_000_000_000;
@@ -98,7 +94,7 @@ pub(crate) fn are_few_memories(memories: &[u32]) -> bool
 pub(crate) fn are_few_processors(cpus: &[Text]) -> bool
     ensures { result ≡ limit.are_few_processors cpus.now }
 {
-    1 <= cpus.len() && cpus.len() <= MOST_PROCESSORS
+    1 <= cpus.len() && cpus.len() <= MOST_HARTS
 }
 
 /// Whether so many processors may do so many instructions together in a microsecond: 1 to 1,000,

@@ -8,11 +8,11 @@ ghost use Rattle.board.specs.Inner.Remembers.{is_wired, AreMips, IsRead};
 
 use super::Space;
 use super::interrupts::sample;
-use crate::remembered::{MOST_PROCESSORS, Remembered};
+use crate::remembered::Remembered;
 use dev_core::Device;
 use lab_num::Micros;
 use plic::{second_samples_change_nothing, sets_have_what_passes};
-use rv_hart::Lines;
+use rv_hart::{Lines, MOST_HARTS};
 use sys_bus::{Wire, WireFrom, WirePin};
 
 /// The bits of the software, the timer and the external interrupt of machine mode in `mip`.
@@ -134,11 +134,11 @@ impl<D: Device> Space<D> {
     }
 
     /// What each processor of the board sees in its `mip`.
-    fn mips(&self, timer: bool) -> [u32; MOST_PROCESSORS]
+    fn mips(&self, timer: bool) -> [u32; MOST_HARTS]
         ensures { AreMips self.now timer result }
     {
         let harts = self.plan().cpus.items().len();
-        let mut mips = [0; MOST_PROCESSORS];
+        let mut mips = [0; MOST_HARTS];
         for hart in 0..harts {
             mips[hart] = self.mip(timer, hart as u8);
         }
