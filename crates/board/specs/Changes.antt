@@ -91,6 +91,10 @@ cleared watch = replicate (length watch) None
 abbrev pub with_bytes : View → ℕ → List ℕ → View
 with_bytes v at bytes = record v { watch = cleared v.watch; space = copied v.space at bytes }
 
+-- a board that has these bytes in the place of a memory, and on which nothing is reserved
+abbrev pub with_memory_in : View → ℕ → List ℕ → View
+with_memory_in v part bytes = record v { watch = cleared v.watch; space = with_memory v.space part bytes }
+
 -- the word of memory at an address that is a multiple of 4
 abbrev pub word_held : View → ℕ → Option ℕ
 word_held v at = if at % 4 == 0 then word_in v.space at else None

@@ -12,4 +12,6 @@ pub mod Numbered
 pub mod Sent
 pub mod New
 pub mod Changes
+pub mod BoardState
+pub mod Valid
 pub mod Inner

@@ -1,7 +1,7 @@
 //! Laws of boards and of slots one after another. Each is the contract of a function that does
 //! nothing.
 ghost use Rattle.std.specs.Prelude.{◌≡◌, ℕ, ◌+◌, ◌/◌, ◌%◌, ◌<◌, ◌≤◌, ◌^◌, Bool, true, false, List, [], ◌∷◌, sum, length};
-ghost use Rattle.std.specs.Prelude.{All, Option};
+ghost use Rattle.std.specs.Prelude.{All, Option, map};
 ghost use Rattle.rv_hart.specs.Core.{Core};
 ghost use Rattle.rv_hart.specs.declared.csr.Lines.{Lines};
 ghost use Rattle.rv_exec.specs.Effect.{effect};
@@ -17,7 +17,9 @@ ghost use Rattle.board.specs.Lines.{sampled};
 ghost use Rattle.board.specs.Space.{Space};
 ghost use Rattle.board.specs.Wires.{Wires};
 ghost use Rattle.board.specs.Numbered.{IsNumbered};
-ghost use Rattle.board.specs.Sent.{IsSentIn};
+ghost use Rattle.board.specs.Sent.{IsEnteredIn, IsSentBy, IsSentIn, IsToldBy};
+ghost use Rattle.dev_core.specs.Device.{kind_of};
+ghost use Rattle.sys_bus.specs.Plan.{IsValid};
 
 use plic::second_samples_change_nothing;
 use rv_atomic::alone_as_performed;
@@ -48,6 +50,33 @@ pub fn stretches_number()
 pub fn stretches_keep_time()
     ensures { (v : View) (from a n : ℕ) →
         All (IsSentIn from a n v.numbers.speed) (stretch v from a n).posts }
+{}
+
+/// So is what it tells of for the log.
+pub fn stretches_keep_time_of_entries()
+    ensures { (v : View) (from a n : ℕ) →
+        All (IsEnteredIn from a n v.numbers.speed) (stretch v from a n).entries }
+{}
+
+/// What a stretch sends is sent by devices of the board, as devices of their kinds send it, where the
+/// plan is valid and the board has the plan's devices. What it tells of them for the log it tells of
+/// shown ones.
+pub fn stretches_tell_of_devices()
+    ensures sent { (v : View) (from a n : ℕ) →
+        IsValid v.space.plan → length v.space.devices ≡ length v.space.plan.kinds →
+        All (IsSentBy v) (stretch v from a n).posts }
+    ensures told { (v : View) (from a n : ℕ) →
+        All (λ entry. IsToldBy v entry.what) (stretch v from a n).entries }
+{}
+
+/// A stretch leaves a device shown or not as it was, and of its kind.
+pub fn stretches_keep_devices()
+    ensures kinds { (v : View) (from a n : ℕ) →
+        map (λ fitted. kind_of fitted.state) (stretch v from a n).view.space.devices
+        ≡ map (λ fitted. kind_of fitted.state) v.space.devices }
+    ensures shown { (v : View) (from a n : ℕ) →
+        map (λ fitted. fitted.shown) (stretch v from a n).view.space.devices
+        ≡ map (λ fitted. fitted.shown) v.space.devices }
 {}
 
 /// A stretch keeps the plan of the board.
