@@ -1,5 +1,6 @@
 use Rattle.std.proofs.Common.{◌∙◌, ap, sym, length}
-use Rattle.board.proofs.SeatLemmas.{awake-instruction, length-shared}
+use Rattle.board.proofs.SeatLemmas.{awake-instruction}
+use Rattle.board.proofs.WatchLemmas.{length-shared}
 use Rattle.board.proofs.slot.act.Goals as goal
 
 pub returns-clause-ok : goal.returns-clause-ok

@@ -12,6 +12,7 @@ loop-i-init g c = record {
   run = after_none _ _ _;
   same = record { letters = refl; number = refl };
   watch = refl;
+  reserved = λ all. all;
 }
 
 pub slot-requires-clause-ways : goal.slot-requires-clause-ways
@@ -28,6 +29,21 @@ pub slot-requires-clause-harts : goal.slot-requires-clause-harts
 slot-requires-clause-harts g c =
     let kept = ap {A = State} (λ s. s.view.space.plan) c.loop-i.invariant.run ∙ plan-stretch _ _ _ _ in
     c.loop-i.invariant.watch ∙ c.requires.harts ∙ ap {A = BoardPlan} (λ plan. length plan.cpus) (sym kept)
+
+-- the reservations after one slot more
+one_more :
+    (old core core' : Core) (watch watch' : List (Option ℕ)) (w w' : Wires) (plan : BoardPlan) (t : ℕ) →
+    w.space.plan ≡ plan → core.letters ≡ plan.letters →
+    hart_state 0 core' watch' w'
+    ≡ behind (hart_state 0 core watch w) (hart_slot (hart_state 0 core watch w).view t) →
+    All (IsReservation plan) watch → All (IsReservation plan) watch'
+one_more old core core' watch watch' w w' plan t same own done =
+    subst
+    (λ (p : BoardPlan). core.letters ≡ p.letters → All (IsReservation p) watch → All (IsReservation p) watch') same
+    (reserved_after 0 core core' watch watch' w w' t done) own
+
+pub returns-then-idle-clause-reserved : goal.returns-then-idle-clause-reserved
+returns-then-idle-clause-reserved c = ?
 
 pub returns-then-idle-clause-run : goal.returns-then-idle-clause-run
 returns-then-idle-clause-run g c =
@@ -47,4 +63,5 @@ loop-i-preserved g c = record {
         number = c.in-Ok.ensures.same.number ∙ c.loop-i.invariant.same.number;
       };
   watch = c.in-Ok.ensures.watch ∙ c.loop-i.invariant.watch;
+  reserved = ?;
 }
