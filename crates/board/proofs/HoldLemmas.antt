@@ -1,10 +1,10 @@
 -- What a board keeps is kept.
 use Rattle.std.proofs.Common.{◌≡◌, ◌∙◌, ℕ, ◌+◌, ◌%◌, ◌^◌, ◌<◌, ◌≤◌, true, false, List, [], ◌∷◌, ◌++◌, All, length, map, take, get_or, OnOk, OnErr}
 use Rattle.std.proofs.Common.{refl, sym, ap, subst, arith}
-use Rattle.std.specs.Prelude.{Option, None, Result, Ok, Err, if◌then◌else◌, slice_set, slice_index_or}
+use Rattle.std.specs.Prelude.{Option, None, Result, Ok, Err, if◌then◌else◌, replicate, slice_set, slice_index_or}
 use Rattle.std.specs.List.{range_with_len}
 use Rattle.std.proofs.Math.Seq.{map-set_same}
-use Rattle.std.proofs.lemmas.List.{length-map, length-set, length-replicate, get_or_default, take_all, take-append-le}
+use Rattle.std.proofs.lemmas.List.{length-map, length-set, length-replicate, get_or_default}
 use Rattle.std.proofs.lemmas.Bool.Decides.{nat_tests}
 use Rattle.std.proofs.lemmas.Nat.{mod_below}
 use Rattle.std.proofs.lemmas.List.{get_or-map as get_or-map'}
@@ -231,8 +231,3 @@ holds_new number plan valid =
         map (λ (core : Core). core.number) (map (initial_with letters) places) ≡ places
     own_numbers letters [] = refl
     own_numbers letters (place ∷ places) = ap (λ all. place ∷ all) (own_numbers letters places)
-
--- ---- a list that was written as a whole
-
-pub whole : (n : ℕ) (now rest : List Core) → n ≤ length now → length now ≤ n → take n (now ++ rest) ≡ now
-whole n now rest most least = take-append-le n now rest most ∙ take_all n now least

@@ -1,10 +1,10 @@
 -- A board and its state.
-use Rattle.std.proofs.Common.{◌≡◌, ◌∙◌, ℕ, ◌%◌, ◌<◌, ◌≤◌, ◌==◌, Bool, true, false, List, [], ◌∷◌, length, map, All, IsTrue}
+use Rattle.std.proofs.Common.{◌≡◌, ◌∙◌, ℕ, zero, suc, ◌%◌, ◌<◌, ◌≤◌, ◌==◌, Bool, true, false, List, [], ◌∷◌, length, map, All, IsTrue}
 use Rattle.std.proofs.Common.{refl, sym, ap, subst, arith}
 use Rattle.std.specs.Prelude.{Option, None, Some, option_map, slice_index_or}
 use Rattle.std.specs.List.{range_with_len}
 use Rattle.std.proofs.lemmas.Bool.Decides.{nat_tests}
-use Rattle.std.proofs.lemmas.List.{get_or-map, length-map}
+use Rattle.std.proofs.lemmas.List.{ext_get_or, get_or-map, length-map}
 use Rattle.std.proofs.lemmas.List.Elements.{All-get_or, All-map}
 use Rattle.std.proofs.lemmas.List.FromFn.{length-range_with_len}
 use Rattle.clint.specs.declared.state.ClintState.{ClintState}
@@ -30,7 +30,7 @@ use Rattle.board.specs.View.{View}
 use Rattle.board.specs.Inner.Fit.{IsFit, IsStateOf}
 use Rattle.board.specs.Inner.Holds.{Holds}
 use Rattle.board.specs.Inner.Parts.{AreDevices, AreShown, MayBeShown}
-use Rattle.board.proofs.PartLemmas.{devices_count, shown_are}
+use Rattle.board.proofs.PartLemmas.{device_kind, devices_count, shown_are}
 
 -- ---- a board that is brought to the state in which it is
 
@@ -263,3 +263,55 @@ is_board v holds fit sound controller shown =
             shown = flags.kinds;
           };
     }
+
+-- ---- the devices of a board, one after another
+
+-- a state that an interrupt controller of the plan's size can have
+pub plic_there :
+    (s : Space) (plic : Option PlicState) → IsFit s → IsPlicFor s.plan.plic plic → IsStateOf s.controller plic
+plic_there s plic fit fits = by_size s.controller plic (rw fit.controller fits)
+  where
+    by_size :
+        (controller : Option Controller) (plic : Option PlicState) → IsPlicFor (option_map size_of controller) plic →
+        IsStateOf controller plic
+    by_size None plic fits = tt
+    by_size (Some controller) None fits = tt
+    by_size (Some controller) (Some state) fits = fits
+
+device_in :
+    (states : List DevState) (shown : List Bool) (k : ℕ) (d : Fitted) → length shown ≡ length states →
+    k < length states →
+    slice_index_or (devices_in states shown) k d
+    ≡ record { state = slice_index_or states k Finisher; shown = slice_index_or shown k false }
+device_in [] shown k d same within = absurd (omega (arith, within))
+device_in (state ∷ states) [] k d same within = absurd (cc)
+device_in (state ∷ states) (flag ∷ shown) zero d same within = refl
+device_in (state ∷ states) (flag ∷ shown) (suc k) d same within =
+    device_in states shown k d (omega (arith, same)) (omega (arith, within))
+
+pub all_in :
+    (devices : List Fitted) (states : List DevState) (shown : List Bool) (d : Fitted) → length shown ≡ length states →
+    length devices ≡ length states →
+    ((k : ℕ) → k < length devices →
+    slice_index_or devices k d
+    ≡ record { state = slice_index_or states k Finisher; shown = slice_index_or shown k false }) →
+    devices ≡ devices_in states shown
+all_in devices states shown d same many each =
+    let count : length (devices_in states shown) ≡ length states =
+    sym (length-map (devices_in states shown) (λ (f : Fitted). f.state)) ∙ ap length (devices_there states shown same) in
+    ext_get_or d devices (devices_in states shown) (many ∙ sym count)
+    (λ k there. each k there ∙ sym (device_in states shown k d same (omega (arith, there, many))))
+
+-- a device is of the kind of its new state
+pub kind_there :
+    (devices : List Fitted) (states : List DevState) (k : ℕ) (d : Fitted) (state : DevState) (f : Fitted) →
+    AreDevices (map (λ f. kind_of f.state) devices) states → k < length devices →
+    state ≡ slice_index_or states k state → f ≡ slice_index_or devices k d → kind_of state ≡ kind_of f.state
+kind_there devices states k d state f are within is f_is =
+    let kinds = map (λ (f : Fitted). kind_of f.state) devices in
+    let there : k < length states =
+    omega (arith, within, devices_count kinds states are, length-map devices (λ (f : Fitted). kind_of f.state)) in
+    ap kind_of is
+    ∙ (device_kind kinds states k state (kind_of d.state) are there).same
+    ∙ get_or-map (λ (f : Fitted). kind_of f.state) devices k d (kind_of d.state) within
+    ∙ sym (ap {A = Fitted} (λ f. kind_of f.state) f_is)

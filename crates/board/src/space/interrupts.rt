@@ -182,6 +182,7 @@ impl<D: Device> Space<D> {
         requires { IsStateFor self.old.plan s.now }
         ensures { self.new ≡ space_to self.old s.now }
     {
+        let _plan = self.plan(); // the interrupt controller is of its size
         self.put_timer(&s.clint);
         self.put_controller(&s.plic);
         self.put_devices(s.devices.items(), s.shown.items());

@@ -12,4 +12,4 @@ returns-clause-ok g c =
 
 pub returns-clause-watch : goal.returns-clause-watch
 returns-clause-watch g c =
-    let ok = c.in-Ok.ensures {u = tt} in ap length ok.watch ∙ length-shared _ _ _ _ _ _
+    let ok = c.in-Ok.ensures {u = tt} in ap length ok.watch ∙ length-shared _ _ _ _ c.begin_slot.new.self _

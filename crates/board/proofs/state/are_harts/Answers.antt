@@ -1,5 +1,6 @@
-use Rattle.std.proofs.Common.{arith, refl, below_more}
+use Rattle.std.proofs.Common.{arith, refl, subst, below_more}
 use Rattle.std.specs.Prelude.{slice_index_or}
+use Rattle.std.proofs.lemmas.List.{get_or_default}
 use Rattle.rv_hart.specs.Core.{initial}
 use Rattle.rv_hart.specs.HartState.{state_of}
 use Rattle.board.specs.Inner.Parts.{IsStateOfHart}
@@ -23,7 +24,10 @@ returns-then-not-is_state_of_hart c = (
 pub loop-number-preserved : goal.loop-number-preserved
 loop-number-preserved c =
     below_more (λ k. IsStateOfHart c.args.letters k (slice_index_or c.args.harts.now k (state_of initial)))
-    c.loop-number.number c.loop-number.invariant ((c.if-not-is_state_of_hart.ensures {u = tt}).0 refl)
+    c.loop-number.number c.loop-number.invariant
+    (subst (IsStateOfHart c.args.letters c.loop-number.number)
+    (get_or_default c.args.harts.now c.loop-number.number _ (state_of initial) c.loop-number-test.true)
+    ((c.if-not-is_state_of_hart.ensures {u = tt}).0 refl))
 
 pub returns : goal.returns
 returns c = (

@@ -18,7 +18,7 @@ invariant_of-self-2 g c =
     c.harts.ensures.value ∙ c.in-Ok.ensures.watch ∙ c.self.invariant.watch in
     let own = c.self.invariant.letters board.next old c.self.invariant.next in
     let reserved = reserved_after board.next old c.slot-taken.new.hart board.watch c.slot-taken.new.watch board.wires
-    c.slot-taken.new.wires c.args.now.0 (rw c.from.ensures at c.in-Ok.ensures.ok)
+    c.slot-taken.new.wires c.args.now.0 c.in-Ok.ensures.ok
     (ap {A = Core} (λ core. core.letters) is ∙ own) c.self.invariant.reserved in
     let next : c.number_after-self-inside.result < length cores =
     rw (c.number_after-self-inside.ensures, count) (after_below (length cores) board.next c.self.invariant.next) in
