@@ -18,8 +18,7 @@ mod wires;
 pub use board::{Board, SlotAt, Turn};
 pub use laws::{
     halted_boards_stay, harts_take_turns, one_hart_goes_on_alone, resets_agree, samples_settle,
-    states_are_put_back,
-    stretches_join, stretches_keep_plans, stretches_keep_time, stretches_number, turns_join,
-    waiting_boards_count_cycles,
+    states_are_put_back, stretches_join, stretches_keep_plans, stretches_keep_time,
+    stretches_number, turns_join, waiting_boards_count_cycles,
 };
 pub use state::{BoardState, state_fits};
