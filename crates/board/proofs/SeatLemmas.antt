@@ -1,28 +1,18 @@
 -- What a processor does in its slot, as its board has it.
-use Rattle.std.proofs.Common.{◌≡◌, ◌∙◌, ℕ, ◌%◌, ◌<◌, ◌==◌, Bool, true, false, not, List, [], ◌∷◌, length, map, set, refl}
+use Rattle.std.proofs.Common.{◌≡◌, ◌∙◌, ℕ, ◌<◌, ◌==◌, Bool, true, false, not, List, [], ◌∷◌, length, refl}
 use Rattle.std.proofs.Common.{ap, arith}
-use Rattle.std.specs.Prelude.{Option, None, Some, if◌then◌else◌}
+use Rattle.std.specs.Prelude.{Option, None, if◌then◌else◌}
 use Rattle.std.specs.Option.{option_and_then, option_map_or}
 use Rattle.std.proofs.lemmas.Bool.{eqb-true, or_parts}
-use Rattle.std.proofs.lemmas.List.{length-map, length-set}
 use Rattle.rv_hart.specs.declared.csr.Lines.{Lines}
-use Rattle.rv_hart.specs.Core.{Core, reg}
+use Rattle.rv_hart.specs.Core.{Core}
 use Rattle.rv_hart.specs.Trap.{chosen}
-use Rattle.rv_exec.specs.Effect.{Effect, Done, effect, core_after, bus_after}
-use Rattle.rv_exec.specs.Outcome.{traps}
-use Rattle.rv_atomic.specs.declared.atomic.AtomicOp.{AtomicOp}
-use Rattle.rv_atomic.specs.declared.atomic.AtomicOp.TheVariants.{Lr, Sc, Swap, Add, Xor, And, Or, Min, Max, Minu, Maxu}
-use Rattle.rv_atomic.specs.declared.atomic.Atomic.{Atomic}
-use Rattle.rv_atomic.specs.declared.shared.Shared.{Shared}
+use Rattle.rv_exec.specs.Effect.{effect, core_after, bus_after}
 use Rattle.rv_atomic.specs.declared.shared.Shared.TheVariants as shared
-use Rattle.rv_atomic.specs.declared.span.Span.{Span}
-use Rattle.rv_atomic.specs.AtomicEffect.{address, atomic_effect, gives, gives_and_stores, leaves}
-use Rattle.rv_atomic.specs.AtomicEffect.{access_fault_cause, misaligned_cause, store_conditional, with_word}
+use Rattle.rv_atomic.specs.AtomicEffect.{leaves}
 use Rattle.rv_atomic.specs.Means.{atomic_of}
 use Rattle.rv_atomic.specs.Laws.{PlainAlone}
-use Rattle.rv_atomic.specs.SharedEffect.{after_effect, shared_effect}
-use Rattle.rv_atomic.specs.Span.{span_of}
-use Rattle.rv_atomic.specs.Watch.{after_store, has_reserved, kept, reserved}
+use Rattle.rv_atomic.specs.SharedEffect.{shared_effect}
 use Rattle.sys_bus.specs.declared.plan.BoardPlan.{BoardPlan}
 use Rattle.board.specs.Fetch.{effect_on, fetched_by, shared_by, word_at_pc}
 use Rattle.board.specs.HartView.{hart_state}

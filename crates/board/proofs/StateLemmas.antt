@@ -1,5 +1,5 @@
 -- A board and its state.
-use Rattle.std.proofs.Common.{◌≡◌, ◌∙◌, ℕ, zero, suc, ◌%◌, ◌<◌, ◌≤◌, ◌==◌, Bool, true, false, List, [], ◌∷◌, length, map, All, IsTrue}
+use Rattle.std.proofs.Common.{◌≡◌, ◌∙◌, ℕ, zero, suc, ◌<◌, Bool, false, List, [], ◌∷◌, length, map, All}
 use Rattle.std.proofs.Common.{refl, sym, ap, subst, arith}
 use Rattle.std.specs.Prelude.{Option, None, Some, option_map, slice_index_or}
 use Rattle.std.specs.List.{range_with_len}
@@ -20,7 +20,6 @@ use Rattle.rv_hart.specs.declared.state.HartState.{HartState}
 use Rattle.rv_hart.specs.Core.{Core}
 use Rattle.rv_hart.specs.HartState.{core_of, state_of, IsHartState}
 use Rattle.sys_bus.specs.declared.plan.BoardPlan.{BoardPlan}
-use Rattle.sys_bus.specs.declared.plan.PlicSize.{PlicSize}
 use Rattle.board.specs.declared.state.BoardState.{BoardState}
 use Rattle.board.specs.BoardState.{board_state, brought_to, controller_to, devices_in, timer_to}
 use Rattle.board.specs.New.{hidden, size_of}

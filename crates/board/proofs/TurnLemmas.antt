@@ -2,41 +2,23 @@
 -- `n / h`, and one more where `(k + (h - next)) % h < n % h`.
 use Rattle.std.proofs.Common.{◌≡◌, ℕ, zero, suc, ◌+◌, ◌-◌, ◌*◌, ◌/◌, ◌%◌, ◌<◌, ◌≤◌, ◌==◌, Bool, true, false, length}
 use Rattle.std.proofs.Common.{nat_lt, refl, sym, ap, ◌∙◌, inl, inr, add-one, arith}
-use Rattle.std.specs.Prelude.{if◌then◌else◌, List, [], ◌∷◌, Option, None, Some, slice_index_or, slice_set}
+use Rattle.std.specs.Prelude.{if◌then◌else◌, List, [], ◌∷◌, Option, slice_index_or, slice_set}
 use Rattle.std.proofs.Math.Nat.{suc-mul, suc-mod, mod-eq_of_lt, mod_self}
 use Rattle.std.proofs.lemmas.Bool.{cases_eq, cases_lt}
 use Rattle.std.proofs.lemmas.Bool.Decides.{nat_tests}
-use Rattle.std.specs.Option.{option_map_or}
-use Rattle.std.proofs.lemmas.List.{length-set, length-map, map-id}
+use Rattle.std.proofs.lemmas.List.{length-set, map-id}
 use Rattle.std.proofs.lemmas.List.FromFn.{sum_by-map-range_with_len_more}
 use Rattle.std.proofs.lemmas.Nat.{div-add-mod', div-mul-add, mod-mul-add, mod_below}
 use Rattle.lab_num.specs.Paid.{slot_at}
-use Rattle.rv_hart.specs.declared.csr.Lines.{Lines}
-use Rattle.rv_hart.specs.Core.{Core, initial, reg}
-use Rattle.rv_hart.specs.Trap.{chosen, interrupt, is_ready}
-use Rattle.rv_exec.specs.Effect.{Effect, Done, effect}
-use Rattle.rv_exec.specs.Outcome.{traps}
-use Rattle.rv_atomic.specs.declared.atomic.AtomicOp.{AtomicOp}
-use Rattle.rv_atomic.specs.declared.atomic.AtomicOp.TheVariants.{Lr, Sc, Swap, Add, Xor, And, Or, Min, Max, Minu, Maxu}
-use Rattle.rv_atomic.specs.declared.atomic.Atomic.{Atomic}
-use Rattle.rv_atomic.specs.declared.shared.Shared.{Shared}
-use Rattle.rv_atomic.specs.declared.shared.Shared.TheVariants as shared
-use Rattle.rv_atomic.specs.declared.span.Span.{Span}
-use Rattle.rv_atomic.specs.AtomicEffect.{leaves, address, gives, gives_and_stores, with_word, atomic_effect}
-use Rattle.rv_atomic.specs.AtomicEffect.{misaligned_cause, access_fault_cause}
-use Rattle.rv_atomic.specs.SharedEffect.{after_effect, shared_effect}
-use Rattle.rv_atomic.specs.Span.{span_of}
-use Rattle.rv_atomic.specs.Watch.{after_store, has_reserved}
-use Rattle.board.specs.Fetch.{shared_by}
-use Rattle.board.specs.HartView.{HartView, HartState, hart_view, hart_state, still, wires_of}
+use Rattle.rv_hart.specs.Core.{Core, initial}
+use Rattle.board.specs.HartView.{HartState, hart_state}
 use Rattle.board.specs.Idle.{turns_of}
 use Rattle.board.specs.Inner.Holds.{state_of, state_alone}
 use Rattle.board.specs.Inner.Seat.{behind}
-use Rattle.board.specs.Lines.{sampled, lines_of}
-use Rattle.board.specs.Slot.{slot, hart_slot, running, sampling, awake, asleep, woken, cycle, instruction, number_after}
+use Rattle.board.specs.Slot.{slot, hart_slot, number_after}
 use Rattle.board.specs.Stretch.{stretch}
 use Rattle.board.specs.View.{View, after}
-use Rattle.board.specs.Wires.{Wires, fetched}
+use Rattle.board.specs.Wires.{Wires}
 
 -- ---- whose turn is next
 
