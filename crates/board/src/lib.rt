@@ -12,6 +12,7 @@ mod numbers;
 mod remembered;
 mod slot;
 mod space;
+mod state;
 mod wires;
 
 pub use board::{Board, SlotAt, Turn};
@@ -20,3 +21,4 @@ pub use laws::{
     stretches_join, stretches_keep_plans, stretches_keep_time, stretches_number, turns_join,
     waiting_boards_count_cycles,
 };
+pub use state::BoardState;
