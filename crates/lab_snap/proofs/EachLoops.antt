@@ -1,33 +1,25 @@
 -- Writing and reading a value for each key of a list, as loops do.
 use Rattle.std.proofs.Common.{◌≡◌, ℕ, ◌+◌, ◌≤◌, ◌<◌, List, [], ◌∷◌, ◌++◌, length, drop, Option, Some, None, refl, sym, ap}
 use Rattle.std.proofs.Common.{◌∙◌, append_assoc, arith}
-use Rattle.std.specs.Prelude.{slice_index_or, Err}
+use Rattle.std.specs.Prelude.{slice_index_or}
 use Rattle.std.specs.List.{AllByRecursion, flat_map, zip}
 use Rattle.std.proofs.lemmas.List.{append-nil, drop_more, drop_all}
 use Rattle.lab_spell.specs.Form.{Form}
-use Rattle.lab_spell.specs.Combine.{◌>>=◌, each, parse_each}
+use Rattle.lab_spell.specs.Combine.{each, parse_each}
+use Rattle.lab_spell.specs.Inner.Fronts.{regroup, with_front}
 
 -- ---- reading
-
--- what was read before, and what is still read
-abbrev pub with_front : {A : Type 0} → List A → Option (List A × List ℕ) → Option (List A × List ℕ)
-with_front front read = read >>= λ x. Some (front ++ x.0, x.1)
 
 -- the values so far and those of the keys that are left are all of them
 abbrev pub IsHalfRead : {K A : Type 0} → (K → Form A) → List K → List ℕ → List A → ℕ → List ℕ → Type 0
 IsHalfRead f ks bytes front i rest = with_front front (parse_each f (drop i ks) rest) ≡ parse_each f ks bytes
 
-pub half_read_none : {K A : Type 0} (f : K → Form A) (ks : List K) (bytes : List ℕ) → IsHalfRead f ks bytes [] 0 bytes
-half_read_none f ks bytes = same (parse_each f ks bytes)
-  where
-    same : (read : Option (List _ × List ℕ)) → with_front [] read ≡ read
-    same (Some x) = refl
-    same None = refl
+none_before : {A : Type 0} (read : Option (List A × List ℕ)) → with_front [] read ≡ read
+none_before (Some x) = refl
+none_before None = refl
 
-regroup : {A : Type 0} (front : List A) (x : A) (read : Option (List A × List ℕ)) →
-    with_front front (read >>= λ y. Some (x ∷ y.0, y.1)) ≡ with_front (front ++ x ∷ []) read
-regroup front x (Some y) = ap (λ (xs : List _). Some (xs, y.1)) (sym (append_assoc front (x ∷ []) y.0))
-regroup front x None = refl
+pub half_read_none : {K A : Type 0} (f : K → Form A) (ks : List K) (bytes : List ℕ) → IsHalfRead f ks bytes [] 0 bytes
+half_read_none f ks bytes = none_before (parse_each f ks bytes)
 
 pub half_read_more : {K A : Type 0} (f : K → Form A) (ks : List K) (bytes : List ℕ) (front : List A) (i : ℕ)
     (rest : List ℕ) (d : K) (x : A) (after : List ℕ) → i < length ks →

@@ -48,8 +48,9 @@ ram_sizes plan valid i d within =
     let here = AllPass-from_list_all (λ j. has_one_each plan.names plan.regions (kind.Ram j))
     (range_with_len 0 (length plan.memories)) parts i 0
     (let len = length-range_with_len 0 (length plan.memories) in omega (arith, len)) in
+    let at_i : 0 + i ≡ i = omega arith in
     let one : has_one_each plan.names plan.regions (kind.Ram i) ≡ true =
-    rw (get_or-range_with_len 0 (length plan.memories) i 0 within) at here in
+    rw (get_or-range_with_len 0 (length plan.memories) i 0 within, at_i) at here in
     let counted : 1 ≤ regions_of plan.regions (kind.Ram i) = grind (arith, nat_tests, one) in
     let found = one_of (λ region. same_part region.kind (kind.Ram i))
     (λ region. has_memory_size plan.memories region.kind region.size) (is_range plan.kinds) plan.regions counted

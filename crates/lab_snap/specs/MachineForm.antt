@@ -1,13 +1,12 @@
 -- How a board that has a plan is spelled.
 use Rattle.std.proofs.Common.{◌≡◌, ◌<◌, ◌/◌, ◌^◌, ℕ, List, [], ◌∷◌, length, refl, arith}
 use Rattle.std.specs.List.{AllByRecursion}
-use Rattle.byteorder.specs.Endian.{little_bytes}
 use Rattle.board.specs.declared.state.BoardState.{BoardState}
 use Rattle.sys_bus.specs.declared.plan.BoardPlan.{BoardPlan}
 use Rattle.sys_bus.specs.Plan.{IsValid}
 use Rattle.lab_spell.specs.Form.{Form, IsLawful}
 use Rattle.lab_spell.specs.BoardState.{board_state_form, board_state_lawful}
-use Rattle.lab_spell.specs.Combine.{depend, each, marked, only, shown, via, ◌⊗◌}
+use Rattle.lab_spell.specs.Combine.{depend, each, marked, number, only, shown, via, ◌⊗◌}
 use Rattle.lab_spell.specs.Inner.Laws.{depend_lawful, each_lawful, marked_lawful, next_lawful, only_lawful, shown_lawful}
 use Rattle.lab_spell.specs.Inner.Laws.{via_lawful}
 use Rattle.lab_spell.specs.Plan.{plan_form, plan_lawful}
@@ -35,7 +34,7 @@ sized_form size = memory_form (size / 4096)
 
 -- a list of memories of these sizes: their count in 8 bytes, and each of them
 unfoldable pub memories_form : List ℕ → Form (List (List ℕ))
-memories_form sizes = marked (little_bytes 8 (length sizes)) (each sized_form sizes)
+memories_form sizes = marked ((number 8).spell (length sizes)) (each sized_form sizes)
 
 sized_lawful : (sizes : List ℕ) → AllByRecursion (λ size. size < 256 ^ 4) sizes →
     AllByRecursion (λ size. IsLawful (sized_form size)) sizes
@@ -47,7 +46,7 @@ pub memories_lawful : (sizes : List ℕ) → AllByRecursion (λ size. size < 256
     IsLawful (memories_form sizes)
 unfolding memories_form
 memories_lawful sizes fits =
-    marked_lawful (little_bytes 8 (length sizes)) (each_lawful sized_form sizes (sized_lawful sizes fits))
+    marked_lawful ((number 8).spell (length sizes)) (each_lawful sized_form sizes (sized_lawful sizes fits))
 
 -- the sizes of a plan are numbers of 4 bytes
 plan_sizes : (plan : BoardPlan) → valid_plan_form.Fits plan → AllByRecursion (λ size. size < 256 ^ 4) plan.memories

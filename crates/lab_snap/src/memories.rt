@@ -7,7 +7,7 @@ ghost use Rattle.lab_snap.specs.MachineForm.{memories_form, sized_form};
 
 use crate::memory::{PAGE, put_memory, take_memory};
 use lab_num::{NoMemory, Rows};
-use lab_spell::{SnapFault, Source};
+use lab_spell::{SnapFault, Source, Spelled};
 use page_ram::PageRam;
 use std::alloc::Global;
 
@@ -43,6 +43,7 @@ fn take_each(
 }
 
 /// Writes the list of the memories.
+#[tactic(auto, unfolding(crate::specs::MachineForm::memories_form))]
 pub(crate) fn put_memories(
     sizes: &[u32],
     memories: &[PageRam],
@@ -54,11 +55,12 @@ pub(crate) fn put_memories(
         (Appends out.old.items out.new.items ((memories_form sizes.now).spell memories.now)) }
     ensures fits { OnOk result ((memories_form sizes.now).Fits memories.now) }
 {
-    out.extend_from_slice(&(sizes.len() as u64).to_le_bytes())?;
+    (sizes.len() as u64).put(out)?;
     put_each(sizes, memories, out)
 }
 
 /// Reads the list of the memories of these sizes.
+#[tactic(auto, unfolding(crate::specs::MachineForm::memories_form))]
 pub(crate) fn take_memories(
     alloc: Global,
     sizes: &[u32],

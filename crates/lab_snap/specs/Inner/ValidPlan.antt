@@ -1,5 +1,6 @@
 -- The test of a plan that `IsValid` asks for.
-use Rattle.std.proofs.Common.{◌≡◌, List, [], ◌∷◌, Bool, true, false, ◌&&◌, beq, length, refl}
+use Rattle.std.proofs.Common.{◌≡◌, List, [], ◌∷◌, Bool, true, false, ◌&&◌, length, refl}
+use Rattle.std.specs.Bool.{beq}
 use Rattle.std.specs.Prelude.{Decides, is_some}
 use Rattle.std.specs.Cmp.{booleans_Decides}
 use Rattle.std.specs.Cmp.Lexicographic.{pointwise}
@@ -119,25 +120,55 @@ passed_is_valid plan (
 valid_is_passed : (plan : BoardPlan) → IsValid plan → AllByRecursion (λ b. b ≡ true) (tests plan)
 valid_is_passed plan v = (
   v.are_names,
-  v.names_differ,
-  (same_names plan).1 v.processors,
-  v.parts,
-  v.no_others,
-  (booleans_Decides _ _).1 v.timer,
-  (booleans_Decides _ _).1 v.controller,
-  v.memory_sizes,
-  v.steps,
-  v.few_devices,
-  v.few_memories,
-  v.few_processors,
-  v.speed,
-  v.frequency,
-  v.plic,
-  v.ranges,
-  v.apart,
-  v.addressed,
-  v.wires,
-  tt,
+  (
+    v.names_differ,
+    (
+      (same_names plan).1 v.processors,
+      (
+        v.parts,
+        (
+          v.no_others,
+          (
+            (booleans_Decides _ _).1 v.timer,
+            (
+              (booleans_Decides _ _).1 v.controller,
+              (
+                v.memory_sizes,
+                (
+                  v.steps,
+                  (
+                    v.few_devices,
+                    (
+                      v.few_memories,
+                      (
+                        v.few_processors,
+                        (
+                          v.speed,
+                          (
+                            v.frequency,
+                            (
+                              v.plic,
+                              (
+                                v.ranges,
+                                (
+                                  v.apart,
+                                  (v.addressed, (v.wires, tt)),
+                                ),
+                              ),
+                            ),
+                          ),
+                        ),
+                      ),
+                    ),
+                  ),
+                ),
+              ),
+            ),
+          ),
+        ),
+      ),
+    ),
+  ),
 )
 
 pub valid_plan_decides : (plan : BoardPlan) → Decides (is_valid_plan plan) (IsValid plan)

@@ -1,4 +1,4 @@
-use Rattle.std.specs.Prelude.{one_answer}
+use Rattle.std.specs.Bool.{one_answer}
 use Rattle.lab_snap.specs.Inner.ValidPlan.{is_valid_plan, valid_plan_decides}
 use Rattle.lab_snap.proofs.machine.is_valid.Goals as goal
 
