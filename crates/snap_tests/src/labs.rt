@@ -1,7 +1,7 @@
 //! A whole laboratory and its bytes.
 use crate::bytes::{joined, part};
 use lab_num::NoMemory;
-use lab_snap::read_lab;
+use lab_snap::{SavedBoard, SavedMachine, read_lab};
 use lab_spell::{SnapFault, save};
 use std::alloc::{AllocError, Global};
 use std::test::Fail;
@@ -192,5 +192,28 @@ fn a_board_has_a_memory_for_each_size_of_a_valid_plan(rt: HostRuntime) -> Result
     // A board with no plan is its name alone.
     let bytes = all_joined(alloc, &[&FRONT, &[&[0], &NONE, &NONE, &NONE]])?;
     assert!(rt; came_to(alloc, &bytes)? == Outcome::Same);
+    Ok(())
+}
+
+#[test]
+fn a_machine_is_taken_apart_and_put_together(rt: HostRuntime) -> Result<(), Fail> {
+    let alloc = rt.alloc();
+    let bytes = with_board(alloc, 100, MEMORIES[3].0)?;
+    let mut boards = read_lab(alloc, &bytes)?.boards.into_items();
+    let Some(
+        SavedBoard {
+            name,
+            machine: Some(machine),
+        },
+    ) = boards.pop()
+    else {
+        return Err(Fail::new("the board has a plan"));
+    };
+    assert!(rt; name.as_str() == "b" && machine.memories().len() == 1);
+    assert!(rt; machine.plan().speed == 100 && machine.state().speed == 100);
+    let (plan, state, memories) = machine.into_parts();
+    let saved = save(alloc, &SavedMachine::of(plan, state, memories))?;
+    // The machine stands between the byte that says that there is one and three empty lists.
+    assert!(rt; bytes.len() > 66 && saved.as_slice() == part(&bytes, 42, bytes.len() - 24));
     Ok(())
 }

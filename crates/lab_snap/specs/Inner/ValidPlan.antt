@@ -1,10 +1,10 @@
 -- The test of a plan that `IsValid` asks for.
-use Rattle.std.proofs.Common.{◌≡◌, List, [], ◌∷◌, Bool, true, false, ◌&&◌, length, refl}
+use Rattle.std.proofs.Common.{◌≡◌, ℕ, zero, suc, List, [], ◌∷◌, Bool, true, false, ◌&&◌, length, refl}
 use Rattle.std.specs.Bool.{beq}
-use Rattle.std.specs.Prelude.{Decides, is_some}
+use Rattle.std.specs.Prelude.{Decides, is_some, slice_index_or}
 use Rattle.std.specs.Cmp.{booleans_Decides}
 use Rattle.std.specs.Cmp.Lexicographic.{pointwise}
-use Rattle.std.specs.List.{list_all, AllByRecursion}
+use Rattle.std.specs.List.{list_all}
 use Rattle.std.specs.Str.{bytes_eq}
 use Rattle.std.proofs.lemmas.Bool.{and_parts, and_from}
 use Rattle.std.proofs.lemmas.Slice.Eq.{bytes_eq-Decides, slice_eq-Decides}
@@ -43,137 +43,52 @@ tests plan =
     ∷ []
 
 unfoldable pub is_valid_plan : BoardPlan → Bool
-is_valid_plan plan = list_all (λ test. test) (tests plan)
+is_valid_plan plan = list_all (λ b. b) (tests plan)
 
-all_pass : (bs : List Bool) → list_all (λ b. b) bs ≡ true → AllByRecursion (λ b. b ≡ true) bs
-all_pass [] e = tt
-all_pass (b ∷ bs) e = let h = and_parts b (list_all (λ b. b) bs) e in (h.0, all_pass bs h.1)
+-- each test of those that all pass
+passed : (bs : List Bool) → list_all (λ b. b) bs ≡ true → (k : ℕ) → slice_index_or bs k true ≡ true
+passed [] e k = refl
+passed (b ∷ bs) e zero = (and_parts b (list_all (λ b. b) bs) e).0
+passed (b ∷ bs) e (suc k) = passed bs (and_parts b (list_all (λ b. b) bs) e).1 k
 
-pass_all : (bs : List Bool) → AllByRecursion (λ b. b ≡ true) bs → list_all (λ b. b) bs ≡ true
-pass_all [] h = refl
-pass_all (b ∷ bs) h = and_from b (list_all (λ b. b) bs) h.0 (pass_all bs h.1)
+both : {a b : Bool} → a ≡ true → b ≡ true → (a && b) ≡ true
+both {a} {b} e f = and_from a b e f
 
 same_names : (plan : BoardPlan) →
     Decides (pointwise bytes_eq plan.cpus (processors plan.names)) (plan.cpus ≡ processors plan.names)
 same_names plan = slice_eq-Decides bytes_eq-Decides plan.cpus (processors plan.names) _ refl
 
-passed_is_valid : (plan : BoardPlan) → AllByRecursion (λ b. b ≡ true) (tests plan) → IsValid plan
-passed_is_valid plan (
-  names,
-  (
-    differ,
-    (
-      cpus,
-      (
-        parts,
-        (
-          others,
-          (
-            timer,
-            (
-              controller,
-              (
-                sizes,
-                (
-                  steps,
-                  (
-                    devices,
-                    (
-                      memories,
-                      (
-                        processors,
-                        (speed, (frequency, (plic, (ranges, (apart, (addressed, (wires, end))))))),
-                      ),
-                    ),
-                  ),
-                ),
-              ),
-            ),
-          ),
-        ),
-      ),
-    ),
-  ),
-) =
-    record {
-      are_names = names;
-      names_differ = differ;
-      processors = (same_names plan).0 cpus;
-      parts = parts;
-      no_others = others;
-      timer = (booleans_Decides _ _).0 timer;
-      controller = (booleans_Decides _ _).0 controller;
-      memory_sizes = sizes;
-      steps = steps;
-      few_devices = devices;
-      few_memories = memories;
-      few_processors = processors;
-      speed = speed;
-      frequency = frequency;
-      plic = plic;
-      ranges = ranges;
-      apart = apart;
-      addressed = addressed;
-      wires = wires;
-    }
+valid_if_passed : (plan : BoardPlan) → ((k : ℕ) → slice_index_or (tests plan) k true ≡ true) → IsValid plan
+valid_if_passed plan test = record {
+  are_names = test 0;
+  names_differ = test 1;
+  processors = (same_names plan).0 (test 2);
+  parts = test 3;
+  no_others = test 4;
+  timer = (booleans_Decides _ _).0 (test 5);
+  controller = (booleans_Decides _ _).0 (test 6);
+  memory_sizes = test 7;
+  steps = test 8;
+  few_devices = test 9;
+  few_memories = test 10;
+  few_processors = test 11;
+  speed = test 12;
+  frequency = test 13;
+  plic = test 14;
+  ranges = test 15;
+  apart = test 16;
+  addressed = test 17;
+  wires = test 18;
+}
 
-valid_is_passed : (plan : BoardPlan) → IsValid plan → AllByRecursion (λ b. b ≡ true) (tests plan)
-valid_is_passed plan v = (
-  v.are_names,
-  (
-    v.names_differ,
-    (
-      (same_names plan).1 v.processors,
-      (
-        v.parts,
-        (
-          v.no_others,
-          (
-            (booleans_Decides _ _).1 v.timer,
-            (
-              (booleans_Decides _ _).1 v.controller,
-              (
-                v.memory_sizes,
-                (
-                  v.steps,
-                  (
-                    v.few_devices,
-                    (
-                      v.few_memories,
-                      (
-                        v.few_processors,
-                        (
-                          v.speed,
-                          (
-                            v.frequency,
-                            (
-                              v.plic,
-                              (
-                                v.ranges,
-                                (
-                                  v.apart,
-                                  (v.addressed, (v.wires, tt)),
-                                ),
-                              ),
-                            ),
-                          ),
-                        ),
-                      ),
-                    ),
-                  ),
-                ),
-              ),
-            ),
-          ),
-        ),
-      ),
-    ),
-  ),
-)
+passed_if_valid : (plan : BoardPlan) → IsValid plan → list_all (λ b. b) (tests plan) ≡ true
+passed_if_valid plan v =
+    both v.are_names (both v.names_differ (both ((same_names plan).1 v.processors)
+    (both v.parts (both v.no_others (both ((booleans_Decides _ _).1 v.timer)
+    (both ((booleans_Decides _ _).1 v.controller) (both v.memory_sizes (both v.steps
+    (both v.few_devices (both v.few_memories (both v.few_processors (both v.speed (both v.frequency
+    (both v.plic (both v.ranges (both v.apart (both v.addressed (both v.wires refl))))))))))))))))))
 
 pub valid_plan_decides : (plan : BoardPlan) → Decides (is_valid_plan plan) (IsValid plan)
 unfolding is_valid_plan
-valid_plan_decides plan = (
-  λ e. passed_is_valid plan (all_pass (tests plan) e),
-  λ valid. pass_all (tests plan) (valid_is_passed plan valid),
-)
+valid_plan_decides plan = (λ e. valid_if_passed plan (passed (tests plan) e), λ valid. passed_if_valid plan valid)
