@@ -1,8 +1,6 @@
 -- How a whole laboratory is spelled.
 use Rattle.std.proofs.Common.{refl, ℕ, List}
 use Rattle.std.specs.Prelude.{codes}
-use Rattle.dev_core.specs.declared.post.Post.{Post}
-use Rattle.log_text.specs.declared.line.OpenLine.{OpenLine}
 use Rattle.lab_spell.specs.Form.{Form, IsLawful}
 use Rattle.lab_spell.specs.Combine.{list, marked, number, option, text, via, ◌⊗◌}
 use Rattle.lab_spell.specs.Inner.Laws.{list_lawful, marked_lawful, next_lawful, number_lawful, option_lawful}

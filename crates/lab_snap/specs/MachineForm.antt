@@ -1,7 +1,6 @@
 -- How a board that has a plan is spelled.
-use Rattle.std.proofs.Common.{◌≡◌, ◌<◌, ◌/◌, ◌^◌, ℕ, List, [], ◌∷◌, length, refl, arith}
+use Rattle.std.proofs.Common.{◌<◌, ◌/◌, ◌^◌, ℕ, List, [], ◌∷◌, length, refl, arith}
 use Rattle.std.specs.List.{AllByRecursion}
-use Rattle.board.specs.declared.state.BoardState.{BoardState}
 use Rattle.sys_bus.specs.declared.plan.BoardPlan.{BoardPlan}
 use Rattle.sys_bus.specs.Plan.{IsValid}
 use Rattle.lab_spell.specs.Form.{Form, IsLawful}

@@ -1,9 +1,9 @@
 -- Reading values one after the other, as a loop does.
-use Rattle.std.proofs.Common.{◌≡◌, ℕ, suc, ◌-◌, ◌+◌, ◌≤◌, ◌<◌, List, [], ◌∷◌, ◌++◌, Option, Some, None, refl, sym, ap}
-use Rattle.std.proofs.Common.{◌∙◌, append_assoc, arith}
+use Rattle.std.proofs.Common.{◌≡◌, ℕ, suc, ◌-◌, ◌+◌, ◌≤◌, ◌<◌, List, [], ◌∷◌, ◌++◌, Some, None, refl, sym, ap}
+use Rattle.std.proofs.Common.{◌∙◌, arith}
 use Rattle.std.proofs.lemmas.List.{append-nil}
 use Rattle.lab_spell.specs.Form.{Form}
-use Rattle.lab_spell.specs.Combine.{◌>>=◌, parse_times}
+use Rattle.lab_spell.specs.Combine.{parse_times}
 use Rattle.lab_spell.specs.Inner.Fronts.{regroup, with_front}
 
 -- the items so far and those that are left are all of them

@@ -1,10 +1,7 @@
 -- How the state of a board is spelled: its fields in order.
 use Rattle.std.proofs.Common.{refl, ℕ, List, Bool}
 use Rattle.board.specs.declared.state.BoardState.{BoardState}
-use Rattle.clint.specs.declared.state.ClintState.{ClintState}
 use Rattle.dev_core.specs.declared.state.DevState.{DevState}
-use Rattle.plic.specs.declared.state.PlicState.{PlicState}
-use Rattle.rv_hart.specs.declared.state.HartState.{HartState}
 use Rattle.lab_spell.specs.Form.{Form, IsLawful}
 use Rattle.lab_spell.specs.Combine.{byte, flag, list, number, option, via, ◌⊗◌}
 use Rattle.lab_spell.specs.DeviceStates.{device_form, device_lawful}

@@ -1,5 +1,5 @@
 -- The test of a plan that `IsValid` asks for.
-use Rattle.std.proofs.Common.{◌≡◌, ℕ, zero, suc, List, [], ◌∷◌, Bool, true, false, ◌&&◌, length, refl}
+use Rattle.std.proofs.Common.{◌≡◌, ℕ, zero, suc, List, [], ◌∷◌, Bool, true, ◌&&◌, length, refl}
 use Rattle.std.specs.Bool.{beq}
 use Rattle.std.specs.Prelude.{Decides, is_some, slice_index_or}
 use Rattle.std.specs.Cmp.{booleans_Decides}

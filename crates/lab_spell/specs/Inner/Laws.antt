@@ -3,7 +3,7 @@ use Rattle.std.proofs.Common.{◌≡◌, ◌<◌, ◌≤◌, ◌^◌, ◌+◌, �
 use Rattle.std.proofs.Common.{◌++◌, length, take, drop, Option, Some, None, Bool, true, false, cond, eqb, ltb, eq-eqb}
 use Rattle.std.proofs.Common.{refl, sym, ap, subst, ◌∙◌, append_assoc, arith}
 use Rattle.std.specs.Prelude.{slice_index}
-use Rattle.std.specs.List.{flat_map, zip, AllByRecursion}
+use Rattle.std.specs.List.{flat_map, AllByRecursion}
 use Rattle.std.specs.Int.{byte_at, bytes_low_first}
 use Rattle.std.specs.Str.{bytes_eq, is_utf8}
 use Rattle.std.proofs.Math.Nat.{div-div-eq-div-mul, add-mul-mod_self_left, mod-eq_of_lt, pow-succ'}
