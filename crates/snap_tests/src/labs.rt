@@ -1,7 +1,7 @@
 //! A whole laboratory and its bytes.
 use crate::bytes::{joined, part};
 use lab_num::NoMemory;
-use lab_snap::{SavedBoard, SavedMachine, read_lab};
+use lab_snap::{SavedMachine, read_lab};
 use lab_spell::{SnapFault, save};
 use std::alloc::{AllocError, Global};
 use std::test::Fail;
@@ -117,33 +117,25 @@ static STATE: [&[u8]; 9] = [
     &NONE,
 ];
 
-/// All of these, one after another.
-fn all_joined(alloc: Global, lists: &[&[&[u8]]]) -> Result<Vec<u8>, AllocError> {
-    let mut bytes = Vec::new(alloc);
-    for parts in lists {
-        for part in *parts {
-            bytes.extend_from_slice(part)?;
-        }
+/// Puts all of these at the end.
+fn add_all(bytes: &mut Vec<u8>, parts: &[&[u8]]) -> Result<(), AllocError> {
+    for part in parts {
+        bytes.extend_from_slice(part)?;
     }
-    Ok(bytes)
+    Ok(())
 }
 
 /// A laboratory with one board, whose plan has this speed and whose list of memories this is.
 fn with_board(alloc: Global, speed: u8, memories: &[&[u8]]) -> Result<Vec<u8>, AllocError> {
-    let speed = [speed, 0, 0, 0];
-    all_joined(
-        alloc,
-        &[
-            &FRONT,
-            &[&[1]],
-            &PLAN,
-            &[&speed],
-            &PLAN_END,
-            &STATE,
-            memories,
-            &[&NONE, &NONE, &NONE],
-        ],
-    )
+    let mut bytes = joined(alloc, &FRONT)?;
+    bytes.push(1)?;
+    add_all(&mut bytes, &PLAN)?;
+    bytes.extend_from_slice(&[speed, 0, 0, 0])?;
+    add_all(&mut bytes, &PLAN_END)?;
+    add_all(&mut bytes, &STATE)?;
+    add_all(&mut bytes, memories)?;
+    bytes.extend_from_slice(&[0; 24])?;
+    Ok(bytes)
 }
 
 /// Pages 0, 1 and 2 with a byte other than 0, and a page of zeros.
@@ -190,7 +182,8 @@ fn a_board_has_a_memory_for_each_size_of_a_valid_plan(rt: HostRuntime) -> Result
     let bytes = with_board(alloc, 0, MEMORIES[1].0)?;
     assert!(rt; came_to(alloc, &bytes)? == Outcome::Refused);
     // A board with no plan is its name alone.
-    let bytes = all_joined(alloc, &[&FRONT, &[&[0], &NONE, &NONE, &NONE]])?;
+    let mut bytes = joined(alloc, &FRONT)?;
+    bytes.extend_from_slice(&[0; 25])?;
     assert!(rt; came_to(alloc, &bytes)? == Outcome::Same);
     Ok(())
 }
@@ -200,16 +193,14 @@ fn a_machine_is_taken_apart_and_put_together(rt: HostRuntime) -> Result<(), Fail
     let alloc = rt.alloc();
     let bytes = with_board(alloc, 100, MEMORIES[3].0)?;
     let mut boards = read_lab(alloc, &bytes)?.boards.into_items();
-    let Some(
-        SavedBoard {
-            name,
-            machine: Some(machine),
-        },
-    ) = boards.pop()
-    else {
+    let Some(board) = boards.pop() else {
+        return Err(Fail::new("there is a board"));
+    };
+    assert!(rt; board.name.as_str() == "b");
+    let Some(machine) = board.machine else {
         return Err(Fail::new("the board has a plan"));
     };
-    assert!(rt; name.as_str() == "b" && machine.memories().len() == 1);
+    assert!(rt; machine.memories().len() == 1);
     assert!(rt; machine.plan().speed == 100 && machine.state().speed == 100);
     let (plan, state, memories) = machine.into_parts();
     let saved = save(alloc, &SavedMachine::of(plan, state, memories))?;
