@@ -1,7 +1,7 @@
 //! A whole laboratory and its bytes.
 use crate::bytes::{joined, part};
 use lab_num::NoMemory;
-use lab_snap::{SavedMachine, read_lab};
+use lab_snap::{SavedBoard, SavedMachine, read_lab};
 use lab_spell::{SnapFault, save};
 use std::alloc::{AllocError, Global};
 use std::test::Fail;
@@ -196,8 +196,9 @@ fn a_machine_is_taken_apart_and_put_together(rt: HostRuntime) -> Result<(), Fail
     let Some(board) = boards.pop() else {
         return Err(Fail::new("there is a board"));
     };
-    assert!(rt; board.name.as_str() == "b");
-    let Some(machine) = board.machine else {
+    let SavedBoard { name, machine } = board;
+    assert!(rt; name.as_str() == "b");
+    let Some(machine) = machine else {
         return Err(Fail::new("the board has a plan"));
     };
     assert!(rt; machine.memories().len() == 1);
