@@ -54,6 +54,30 @@ pub fn stretches_keep_time()
         All (IsSentIn from a n v.numbers.speed) (stretch v from a n).posts }
 {}
 
+/// So is what it tells of for the log.
+pub fn stretches_keep_time_of_entries()
+    ensures { (v : View) (from a n : ℕ) →
+        All (IsEnteredIn from a n v.numbers.speed) (stretch v from a n).entries }
+{}
+
+/// What a stretch sends is sent by devices of the board, as devices of their kinds send it. What it tells
+/// of them for the log it tells of shown ones.
+pub fn stretches_tell_of_devices()
+    ensures sent { (v : View) (from a n : ℕ) → All (IsSentBy v) (stretch v from a n).posts }
+    ensures told { (v : View) (from a n : ℕ) →
+        All (λ entry. IsToldBy v entry.what) (stretch v from a n).entries }
+{}
+
+/// A stretch leaves a device shown or not as it was, and of its kind.
+pub fn stretches_keep_devices()
+    ensures kinds { (v : View) (from a n : ℕ) →
+        map (λ fitted. kind_of fitted.state) (stretch v from a n).view.space.devices
+        ≡ map (λ fitted. kind_of fitted.state) v.space.devices }
+    ensures shown { (v : View) (from a n : ℕ) →
+        map (λ fitted. fitted.shown) (stretch v from a n).view.space.devices
+        ≡ map (λ fitted. fitted.shown) v.space.devices }
+{}
+
 /// A stretch keeps the plan of the board.
 pub fn stretches_keep_plans()
     ensures { (v : View) (from a n : ℕ) → (stretch v from a n).view.space.plan ≡ v.space.plan }
