@@ -12,4 +12,6 @@ mod parts;
 #[cfg(test)]
 mod plans;
 #[cfg(test)]
+mod states;
+#[cfg(test)]
 mod waits;
