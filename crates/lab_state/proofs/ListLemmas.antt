@@ -17,7 +17,7 @@ use Rattle.std.proofs.lemmas.Cmp.{nat_list_eq_equiv}
 use Rattle.lab_state.specs.Board.{Board}
 use Rattle.lab_num.specs.Change.{change_at}
 use Rattle.lab_state.specs.One.{view_at}
-use Rattle.lab_state.specs.Inner.Standing.{NamesDiffer, AreNames}
+use Rattle.lab_state.specs.Names.{NamesDiffer, AreNames}
 
 -- ---- a change of one place
 

@@ -56,6 +56,19 @@ impl<D: Device> Lab<D> {
         self.change(b, Change::Zero { at, count });
     }
 
+    /// Puts another memory of the same size in the place of one of a board, and ends its reservations.
+    pub fn put_memory(&mut self, b: BoardNo, part: u8, memory: PageRam)
+        requires unspent { self.old.spent ≡ false }
+        requires has_plan { IsSome (view_of self.old.lab b.0) }
+        requires part { ForSome (view_of self.old.lab b.0) (λ v. part < length v.space.memories) }
+        requires size { ForSome (view_of self.old.lab b.0) (λ v.
+            length memory ≡ length (memory_at v.space part)) }
+        ensures { self.new ≡ record self.old {
+          lab = changed self.old.lab b.0 (λ v. with_memory_in v part memory);
+        } }
+    {
+    }
+
     /// Sets the address of the next instruction of a board's processor, which is divisible by 4, or
     /// with compressed instructions by 2.
     pub fn set_pc(&mut self, b: BoardNo, hart: u8, pc: u32)

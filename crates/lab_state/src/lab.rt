@@ -5,6 +5,7 @@ ghost use Rattle.lab_num.specs.Key.{key_cmp};
 ghost use Rattle.dev_core.specs.Post.{post_key};
 ghost use Rattle.lab_state.specs.Hub.{delay_of};
 ghost use Rattle.lab_state.specs.Pending.{is_finish, due_at};
+ghost use Rattle.lab_state.specs.Valid.{IsLab};
 
 use crate::hub_list::HubList;
 use crate::named_board::NamedBoard;
@@ -132,8 +133,24 @@ impl<D: Device> Lab<D> {
         self.quantum = quantum;
     }
 
-    /// Whether memory ran out inside a round. Nothing but a round and a run may be asked of a spent
-    /// laboratory then.
+    /// At every moment a laboratory that is not spent is one that there can be. Nothing is changed and
+    /// told when this runs: a proof that needs the fact calls it.
+    pub fn is_one_that_can_be(&self)
+        requires { self.now.spent ≡ false }
+        ensures { IsLab self.now.lab }
+    {
+    }
+
+    /// Leaves the laboratory spent, as it is where memory runs out inside a round.
+    pub fn spend(&mut self)
+        requires { self.old.spent ≡ false }
+        ensures { self.new ≡ record self.old { spent = true } }
+    {
+        self.spent = true;
+    }
+
+    /// Whether memory ran out inside a round, or the laboratory was spent otherwise. Nothing but a round
+    /// and a run may be asked of a spent laboratory then.
     pub fn is_spent(&self) -> bool
         ensures { result ≡ self.now.spent }
     {

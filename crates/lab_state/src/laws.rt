@@ -80,6 +80,14 @@ pub fn undelayed_rounds_agree<D: Device>(lab: &Lab<D>)
     listing_laws::<BoardPost>();
 }
 
+/// What a run tells the log of bytes it tells of UARTs that were shown when it began, and of times before
+/// its end.
+pub fn runs_tell_of_shown_devices<D: Device>(lab: &Lab<D>)
+    requires { lab.now.spent ≡ false }
+    ensures { (d : ℕ) → lab.now.lab.now + d ≤ 10000000000 →
+        All (IsOnBytes (IsShownBefore lab.now.lab (run lab.now.lab d).lab.now)) (run lab.now.lab d).items }
+{}
+
 /// In rounds of any lengths, however a run is cut into them, what the devices of one hub have sent is
 /// handed over in rising order of key.
 pub fn hubs_keep_order<D: Device>(lab: &Lab<D>)

@@ -14,6 +14,7 @@ mod laws;
 mod lending;
 mod named_board;
 mod names;
+mod resume;
 mod round;
 mod run;
 mod spares;

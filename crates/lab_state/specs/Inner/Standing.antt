@@ -1,14 +1,14 @@
 -- What holds of every laboratory that is not spent.
 use Rattle.std.specs.Prelude.{◌≡◌, ℕ, ◌+◌, ◌*◌, ◌≤◌, List, length, map, count_by, slice_get, Option}
 use Rattle.std.specs.Prelude.{Some, false, is_some, IsSome, option_and_then}
-use Rattle.std.specs.List.{All, AllPairs}
+use Rattle.std.specs.List.{All}
 use Rattle.std.specs.Option.{option_map}
-use Rattle.std.specs.Str.{bytes_eq}
 use Rattle.lab_num.specs.declared.key.Member.{Member}
 use Rattle.dev_core.specs.declared.kind.Kind.{Kind}
 use Rattle.lab_state.specs.Board.{Board}
 use Rattle.lab_state.specs.Hub.{Hub}
 use Rattle.lab_state.specs.Lab.{Lab}
+use Rattle.lab_state.specs.Names.{AreNames}
 use Rattle.lab_state.specs.Pending.{ArePending}
 use Rattle.time_source.specs.Tree.{Tree}
 use Rattle.lab_state.specs.Inner.Spares.{Spares, left_of, full}
@@ -41,16 +41,6 @@ AreMembers boards hub = All (λ m. kind_in boards m ≡ Some hub.kind) hub.membe
 
 abbrev pub AreDevices : List Outline → List Hub → Type 0
 AreDevices boards hubs = All (AreMembers boards) hubs
-
--- no two of the names are one
-abbrev pub NamesDiffer : List (List ℕ) → Type 0
-NamesDiffer names = AllPairs (λ a b. bytes_eq a b ≡ false) names
-
--- no two boards, no two hubs, and no board and hub of one name
-pub record AreNames (boards hubs : List (List ℕ)) : Type 0 where
-  pub boards_differ : NamesDiffer boards
-  pub hubs_differ : NamesDiffer hubs
-  pub apart : All (λ board. All (λ hub. bytes_eq hub board ≡ false) hubs) boards
 
 -- a time and a quantum that a laboratory may have
 pub record AreTimes (now quantum : ℕ) : Type 0 where
