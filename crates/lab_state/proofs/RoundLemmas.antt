@@ -135,7 +135,7 @@ Numbering =
     IsNumbered v.numbers n (stretch v from a n)
 
 module _ (law : Numbering) (from q : ℕ) (within : from + q ≤ 10000000000) where
-  numbered :
+  pub numbered :
       (b : ℕ) (v : View) → IsStanding (1000 * from) b v.numbers →
       IsNumbered v.numbers (paid from (from + q) v.numbers.speed) (in_round from q v)
   numbered b v is =

@@ -80,6 +80,6 @@ pub record AreOpen (lab : Lab) (lines : List OpenLine) : Type 0 where
   pub each : All (IsOpen lab) lines
 
 -- a laboratory with its open lines
-pub record IsValid (lab : Lab) (lines : List OpenLine) : Type 0 where
-  pub lab : IsLab lab
-  pub lines : AreOpen lab lines
+pub record IsValid (state : Lab) (open_lines : List OpenLine) : Type 0 where
+  pub lab : IsLab state
+  pub lines : AreOpen state open_lines

@@ -4,7 +4,8 @@ ghost use Rattle.std.specs.Option.{ForSome};
 ghost use Rattle.page_ram.specs.Bytes.{zeros};
 ghost use Rattle.rv_hart.specs.Core.{alignment};
 ghost use Rattle.board.specs.Changes.{with_pc, with_halted, with_speed, with_shown, with_bytes, may_be_shown};
-ghost use Rattle.board.specs.Changes.{holds_each};
+ghost use Rattle.board.specs.Changes.{holds_each, with_memory_in};
+ghost use Rattle.board.specs.Space.{memory_at};
 ghost use Rattle.board.specs.New as board_spec;
 ghost use Rattle.lab_state.specs.Inner.Change.{changed_by, MayChange};
 ghost use Rattle.lab_state.specs.One.{view_of, changed, WritesPrefix};
@@ -13,6 +14,7 @@ use crate::change::Change;
 use crate::lab::Lab;
 use dev_core::Device;
 use lab_num::{BoardNo, Member, NoMemory};
+use page_ram::PageRam;
 
 impl<D: Device> Lab<D> {
     /// Changes a board.
@@ -67,6 +69,7 @@ impl<D: Device> Lab<D> {
           lab = changed self.old.lab b.0 (λ v. with_memory_in v part memory);
         } }
     {
+        self.boards[b.0 as usize].put_memory(part, memory);
     }
 
     /// Sets the address of the next instruction of a board's processor, which is divisible by 4, or

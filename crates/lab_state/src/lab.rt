@@ -7,6 +7,7 @@ ghost use Rattle.lab_state.specs.Hub.{delay_of};
 ghost use Rattle.lab_state.specs.Pending.{is_finish, due_at};
 ghost use Rattle.lab_state.specs.Valid.{IsLab};
 
+use crate::boards::can_all_be;
 use crate::hub_list::HubList;
 use crate::named_board::NamedBoard;
 use crate::spares::Spares;
@@ -139,6 +140,8 @@ impl<D: Device> Lab<D> {
         requires { self.now.spent ≡ false }
         ensures { IsLab self.now.lab }
     {
+        let _hubs = self.hubs.len();
+        can_all_be(&self.boards);
     }
 
     /// Leaves the laboratory spent, as it is where memory runs out inside a round.
