@@ -13,4 +13,5 @@ pub mod SentLemmas
 pub mod SlotLemmas
 pub mod SourceLemmas
 pub mod StretchLemmas
+pub mod ToldLemmas
 pub mod TurnLemmas

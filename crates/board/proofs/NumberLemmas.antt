@@ -1,27 +1,18 @@
--- A stretch keeps the plan and the speed of a board, and numbers what it makes.
-use Rattle.std.proofs.Common.{◌≡◌, ℕ, zero, suc, ◌+◌, ◌^◌, ◌<◌, ◌≤◌, Bool, true, false, List, [], ◌∷◌, ◌++◌, length, map}
-use Rattle.std.proofs.Common.{refl, ◌∙◌, length-append, add-zero, add-one, arith}
-use Rattle.std.specs.Prelude.{if◌then◌else◌, Option, None, Some}
-use Rattle.std.specs.Option.{option_map_or}
+-- A stretch keeps the plan, the devices and the speed of a board, and numbers what it makes.
+use Rattle.std.proofs.Common.{◌≡◌, ℕ, zero, suc, ◌+◌, ◌^◌, ◌<◌, ◌≤◌, List, [], ◌∷◌, ◌++◌, length, map, refl, ◌∙◌}
+use Rattle.std.proofs.Common.{length-append, add-zero, add-one, arith}
 use Rattle.std.proofs.lemmas.List.{map-append, length-map}
 use Rattle.lab_num.specs.declared.key.Key.{Key}
-use Rattle.lab_num.specs.Paid.{slot_at}
-use Rattle.rv_hart.specs.declared.csr.Lines.{Lines}
-use Rattle.rv_hart.specs.Core.{Core, ticked}
-use Rattle.rv_hart.specs.Trap.{chosen, interrupt, is_ready}
-use Rattle.rv_exec.specs.Effect.{core_after}
-use Rattle.board.specs.Fetch.{effect_on}
-use Rattle.sys_bus.specs.declared.plan.BoardPlan.{BoardPlan}
-use Rattle.board.specs.Lines.{sampled, lines_of}
-use Rattle.board.specs.Numbers.{Numbers, one_more}
-use Rattle.board.specs.Wires.{answer}
-use Rattle.board.specs.HartView.{HartView, HartState, hart_view, hart_state, still, wires_of}
-use Rattle.board.specs.View.{View, State, quiet, after}
-use Rattle.board.specs.Slot.{slot, hart_slot, running, sampling, awake, asleep, woken, cycle, instruction, in_turn}
-use Rattle.board.specs.Stretch.{stretch}
 use Rattle.lab_num.specs.Numbered.{AreNumbered}
+use Rattle.lab_num.specs.Paid.{slot_at}
+use Rattle.board.specs.HartView.{hart_view}
 use Rattle.board.specs.Numbered.{IsNumbered}
-use Rattle.board.proofs.SlotLemmas.{HoldsOfEach, by_effect}
+use Rattle.board.specs.Numbers.{one_more}
+use Rattle.board.specs.Slot.{slot, in_turn}
+use Rattle.board.specs.Stretch.{stretch}
+use Rattle.board.specs.View.{View, State, quiet, after}
+use Rattle.board.proofs.SlotLemmas.{by_slot}
+use Rattle.board.proofs.ToldLemmas.{IsKept, kept_same, kept_after}
 
 -- the keys of what a board has made in at most so many slots, where its counter does not come to its last value
 pub record IsCounted (board from to n : ℕ) (made : List Key) : Type 0 where
@@ -60,136 +51,96 @@ counts-after board board' from mid to m n xs ys same first second room =
       keys = AreNumbered-append board from xs ys a.keys (rw (same, a.count) at b.keys);
     }
 
--- what at most so many slots leave of a board of this plan and these numbers
-pub record IsRun (kept : BoardPlan) (old : Numbers) (n : ℕ) (run : State) : Type 0 where
-  pub plan : run.view.space.plan ≡ kept
-  pub number : run.view.numbers.number ≡ old.number
-  pub speed : run.view.numbers.speed ≡ old.speed
-  pub posts : Counts old.number old.posted run.view.numbers.posted n (map (λ post. post.key) run.posts)
-  pub entries : Counts old.number old.entered run.view.numbers.entered n (map (λ entry. entry.key) run.entries)
+-- what at most so many slots leave of a board
+pub record IsRun (old : View) (n : ℕ) (run : State) : Type 0 where
+  pub kept : IsKept old.space run.view.space
+  pub number : run.view.numbers.number ≡ old.numbers.number
+  pub speed : run.view.numbers.speed ≡ old.numbers.speed
+  pub posts :
+      Counts old.numbers.number old.numbers.posted run.view.numbers.posted n (map (λ post. post.key) run.posts)
+  pub entries :
+      Counts old.numbers.number old.numbers.entered run.view.numbers.entered n (map (λ entry. entry.key) run.entries)
 
-run_none : (v : View) (n : ℕ) → IsRun v.space.plan v.numbers n (quiet v)
+run_none : (v : View) (n : ℕ) → IsRun v n (quiet v)
 run_none v n = record {
-  plan = refl;
+  kept = kept_same v.space;
   number = refl;
   speed = refl;
   posts = counts-none _ _ _;
   entries = counts-none _ _ _;
 }
 
--- a processor makes nothing in its slot
-run_still : (v : View) (h : HartView) → IsRun h.space.plan h.numbers 1 (in_turn v (still h))
-run_still v h = record {
-  plan = refl;
-  number = refl;
-  speed = refl;
-  posts = counts-none _ _ _;
-  entries = counts-none _ _ _;
-}
-
--- a slot was taken
-run_awake :
-    (v : View) (h : HartView) (t : ℕ) (lines : Lines) → IsRun h.space.plan h.numbers 1 (in_turn v (awake h t lines))
-unfolding awake
-run_awake v h t lines = by_chosen (chosen h.core lines.mip)
-  where
-    each :
-        (core : Core) (watch : List (Option ℕ)) →
-        HoldsOfEach (λ f. IsRun h.space.plan h.numbers 1 (in_turn v (hart_state h.hart core watch (f [] []))))
-        (wires_of h t)
-    each core watch = record {
-      nothing = λ s same. record {
-        plan = same;
-        number = refl;
-        speed = refl;
-        posts = counts-none _ _ _;
-        entries = counts-none _ _ _;
-      };
-      entry = λ s note same. record {
-        plan = same;
-        number = refl;
-        speed = refl;
-        posts = counts-none _ _ _;
-        entries = counts-one _ _ _ refl refl;
-      };
-      post = λ s dev payload same. record {
-        plan = same;
-        number = refl;
-        speed = refl;
-        posts = counts-one _ _ _ refl refl;
-        entries = counts-none _ _ _;
-      };
-      both = λ s dev payload note same. record {
-        plan = same;
-        number = refl;
-        speed = refl;
-        posts = counts-one _ _ _ refl refl;
-        entries = counts-one _ _ _ refl refl;
-      };
-    }
-
-    by_chosen :
-        (taken : Option ℕ) →
-        IsRun h.space.plan h.numbers 1
-        (in_turn v (option_map_or (λ n. cycle h (interrupt h.core n)) taken (instruction h t lines)))
-    by_chosen None =
-        let shared = effect_on h (wires_of h t) lines in
-        let core = core_after answer (wires_of h t) shared.effect in
-        by_effect
-        (λ f. IsRun h.space.plan h.numbers 1 (in_turn v (hart_state h.hart core shared.watch (f [] [])))) (wires_of h t)
-        shared.effect (each core shared.watch)
-    by_chosen (Some n) = run_still v (record h { core = ticked (interrupt h.core n) })
-
-run_if :
-    (v : View) (kept : BoardPlan) (old : Numbers) (n : ℕ) (test : Bool) (a b : HartState) →
-    IsRun kept old n (in_turn v a) → IsRun kept old n (in_turn v b) →
-    IsRun kept old n (in_turn v (if test then a else b))
-run_if v kept old n true a b p q = p
-run_if v kept old n false a b p q = q
-
-run_slot : (v : View) (t : ℕ) → IsRun v.space.plan v.numbers 1 (slot v t)
-unfolding slot hart_slot sampled
+run_slot : (v : View) (t : ℕ) → IsRun v 1 (slot v t)
+unfolding slot
 run_slot v t =
-    let h = hart_view v v.next in
-    let lines = lines_of (sampled v.space) v.next t in
-    let now = sampling h in
-    run_if v v.space.plan v.numbers 1 h.core.halted (still h) (running now t lines) (run_still v h)
-    (run_if v v.space.plan v.numbers 1 h.core.waiting (asleep now t lines) (awake now t lines)
-    (run_if v v.space.plan v.numbers 1 (is_ready h.core lines.mip) (awake (woken now) t lines) (cycle now h.core)
-    (run_awake v (woken now) t lines) (run_still v (record now { core = ticked h.core })))
-    (run_awake v now t lines))
+    by_slot (λ run. IsRun v 1 (in_turn v run)) (hart_view v v.next) t
+    (record {
+      nothing = λ s kept core watch. record {
+        kept = kept;
+        number = refl;
+        speed = refl;
+        posts = counts-none _ _ _;
+        entries = counts-none _ _ _;
+      };
+      entry = λ s note kept told core watch. record {
+        kept = kept;
+        number = refl;
+        speed = refl;
+        posts = counts-none _ _ _;
+        entries = counts-one _ _ _ refl refl;
+      };
+      post = λ s dev payload kept sender core watch. record {
+        kept = kept;
+        number = refl;
+        speed = refl;
+        posts = counts-one _ _ _ refl refl;
+        entries = counts-none _ _ _;
+      };
+      both = λ s dev payload note kept sender told core watch. record {
+        kept = kept;
+        number = refl;
+        speed = refl;
+        posts = counts-one _ _ _ refl refl;
+        entries = counts-one _ _ _ refl refl;
+      };
+    })
 
 -- one stretch after another
 run_after :
-    (kept : BoardPlan) (old : Numbers) (m n : ℕ) (run more : State) → IsRun kept old m run →
-    IsRun run.view.space.plan run.view.numbers n more → IsRun kept old (m + n) (after run more)
-run_after kept old m n run more first second = record {
-  plan = second.plan ∙ first.plan;
+    (old : View) (m n : ℕ) (run more : State) → IsRun old m run → IsRun run.view n more →
+    IsRun old (m + n) (after run more)
+run_after old m n run more first second = record {
+  kept = kept_after _ _ _ first.kept second.kept;
   number = second.number ∙ first.number;
   speed = second.speed ∙ first.speed;
   posts = rw map-append (counts-after _ _ _ _ _ m n _ _ first.number first.posts second.posts);
   entries = rw map-append (counts-after _ _ _ _ _ m n _ _ first.number first.entries second.entries);
 }
 
-run_stretch : (v : View) (from a n : ℕ) → IsRun v.space.plan v.numbers n (stretch v from a n)
+run_stretch : (v : View) (from a n : ℕ) → IsRun v n (stretch v from a n)
 unfolding stretch
 run_stretch v from a zero = run_none v 0
 run_stretch v from a (suc n) =
     let run = stretch v from a n in
     let t = slot_at from v.numbers.speed (a + n) in
-    rw add-one at
-    (run_after v.space.plan v.numbers n 1 run (slot run.view t) (run_stretch v from a n) (run_slot run.view t))
+    rw add-one at (run_after v n 1 run (slot run.view t) (run_stretch v from a n) (run_slot run.view t))
 
 -- a slot keeps the plan and the speed
 pub plan-slot : (v : View) (t : ℕ) → (slot v t).view.space.plan ≡ v.space.plan
-plan-slot v t = (run_slot v t).plan
+plan-slot v t = (run_slot v t).kept.plan
 
 pub speed-slot : (v : View) (t : ℕ) → (slot v t).view.numbers.speed ≡ v.numbers.speed
 speed-slot v t = (run_slot v t).speed
 
--- a stretch keeps the plan and the speed
+-- a stretch keeps the plan, the devices, and the board's number and speed
+pub kept-stretch : (v : View) (from a n : ℕ) → IsKept v.space (stretch v from a n).view.space
+kept-stretch v from a n = (run_stretch v from a n).kept
+
 pub plan-stretch : (v : View) (from a n : ℕ) → (stretch v from a n).view.space.plan ≡ v.space.plan
-plan-stretch v from a n = (run_stretch v from a n).plan
+plan-stretch v from a n = (kept-stretch v from a n).plan
+
+pub number-stretch : (v : View) (from a n : ℕ) → (stretch v from a n).view.numbers.number ≡ v.numbers.number
+number-stretch v from a n = (run_stretch v from a n).number
 
 pub speed-stretch : (v : View) (from a n : ℕ) → (stretch v from a n).view.numbers.speed ≡ v.numbers.speed
 speed-stretch v from a n = (run_stretch v from a n).speed

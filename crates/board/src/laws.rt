@@ -19,6 +19,7 @@ ghost use Rattle.board.specs.Wires.{Wires};
 ghost use Rattle.board.specs.Numbered.{IsNumbered};
 ghost use Rattle.board.specs.Sent.{IsEnteredIn, IsSentBy, IsSentIn, IsToldBy};
 ghost use Rattle.dev_core.specs.Device.{kind_of};
+ghost use Rattle.sys_bus.specs.Plan.{IsValid};
 
 use plic::second_samples_change_nothing;
 use rv_atomic::alone_as_performed;
@@ -57,10 +58,13 @@ pub fn stretches_keep_time_of_entries()
         All (IsEnteredIn from a n v.numbers.speed) (stretch v from a n).entries }
 {}
 
-/// What a stretch sends is sent by devices of the board, as devices of their kinds send it. What it tells
-/// of them for the log it tells of shown ones.
+/// What a stretch sends is sent by devices of the board, as devices of their kinds send it, where the
+/// plan is valid and the board has the plan's devices. What it tells of them for the log it tells of
+/// shown ones.
 pub fn stretches_tell_of_devices()
-    ensures sent { (v : View) (from a n : ℕ) → All (IsSentBy v) (stretch v from a n).posts }
+    ensures sent { (v : View) (from a n : ℕ) →
+        IsValid v.space.plan → length v.space.devices ≡ length v.space.plan.kinds →
+        All (IsSentBy v) (stretch v from a n).posts }
     ensures told { (v : View) (from a n : ℕ) →
         All (λ entry. IsToldBy v entry.what) (stretch v from a n).entries }
 {}

@@ -1,6 +1,6 @@
 -- The text of the log. Each item but a UART's byte is one line. Bytes are gathered into lines, and each such line is
 -- printed in the place of the byte that ends it.
-use Rattle.std.specs.Prelude.{ℕ, ◌==◌, nat_le, ◌&&◌, if◌then◌else◌, List, [], ◌∷◌, ◌++◌, codes}
+use Rattle.std.specs.Prelude.{ℕ, ◌==◌, nat_le, ◌&&◌, Bool, IsTrue, if◌then◌else◌, List, [], ◌∷◌, ◌++◌, codes}
 use Rattle.std.specs.List.{flat_map}
 use Rattle.std.specs.Fmt.{decimal}
 use Rattle.lab_num.specs.declared.key.Member.{Member}
@@ -94,6 +94,15 @@ text names lines (item ∷ items) = printed names lines item ++ text names (open
 abbrev pub open_lines : List OpenLine → List LogItem → List OpenLine
 open_lines lines [] = lines
 open_lines lines (item ∷ items) = open_lines (opened lines item) items
+
+-- the member and the time of an item that is a byte pass a test
+abbrev pub IsOnBytes : (Member → Micros → Bool) → LogItem → Type 0
+IsOnBytes p (Slot from (Byte dev byte)) = IsTrue (p (device_of from dev) from.at)
+IsOnBytes p (Slot from (Sent dev frame)) = Unit {0}
+IsOnBytes p (Slot from (Read width at)) = Unit {0}
+IsOnBytes p (Slot from (Write width at value)) = Unit {0}
+IsOnBytes p (Note at m said) = Unit {0}
+IsOnBytes p (Pause at m finish) = Unit {0}
 
 -- what is printed at the end of all open lines, in order of the members
 abbrev pub rest : Names → List OpenLine → List ℕ

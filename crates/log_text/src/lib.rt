@@ -9,7 +9,7 @@ mod lines;
 mod names;
 mod number;
 
-pub use laws::{lines_are_whole, prints_join};
+pub use laws::{lines_are_whole, open_lines_come_of_bytes, prints_join};
 pub use line::OpenLine;
 pub use lines::Lines;
 pub use number::Word;
