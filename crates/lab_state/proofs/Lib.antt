@@ -15,4 +15,6 @@ pub mod SentLemmas
 pub mod FaultLemmas
 pub mod HandedLemmas
 pub mod UndelayedLemmas
+pub mod ToldLemmas
 pub mod ValidLemmas
+pub mod ResumeLemmas

@@ -1,12 +1,13 @@
 -- What boards send in a round is sent by devices of theirs.
 use Rattle.std.proofs.Common.{◌≡◌, ◌∙◌, sym, ap, ℕ, zero, suc, ◌+◌, ◌*◌, ◌<◌, ◌≤◌, List, [], ◌∷◌, ◌++◌, length, map, get_or}
-use Rattle.std.proofs.Common.{not, Option, Some, slice_get, arith}
+use Rattle.std.proofs.Common.{false, not, Option, Some, slice_get, arith}
 use Rattle.std.specs.Prelude.{filter, option_and_then}
 use Rattle.std.specs.List.{All, flat_map}
 use Rattle.std.specs.Option.{option_map, ForSome}
-use Rattle.std.proofs.lemmas.Grind.{common_steps}
+use Rattle.std.proofs.lemmas.List.{length-map}
 use Rattle.std.proofs.lemmas.List.Elements.{All-nil, All-cons, All-append, All-filter, All-weaker}
 use Rattle.std.proofs.lemmas.Option.{slice_get-map, slice_get-get_or}
+use Rattle.lab_num.specs.declared.key.Key.{Key}
 use Rattle.lab_num.specs.Listing.{listing}
 use Rattle.lab_num.specs.Numbered.{AreNumbered}
 use Rattle.lab_num.specs.Paid.{paid}
@@ -20,6 +21,7 @@ use Rattle.board.specs.Sent.{IsSentBy}
 use Rattle.board.specs.Space.{Fitted, Space, device_at}
 use Rattle.board.specs.Stretch.{stretch}
 use Rattle.board.specs.View.{View, State}
+use Rattle.sys_bus.specs.Plan.{IsValid}
 use Rattle.lab_state.specs.Board.{Board}
 use Rattle.lab_state.specs.Boundary.{not_due}
 use Rattle.lab_state.specs.Hub.{Hub}
@@ -29,27 +31,27 @@ use Rattle.lab_state.specs.Round.{stepped, posts_made}
 use Rattle.lab_state.specs.Inner.End.{in_round}
 use Rattle.lab_state.specs.Inner.Standing.{outlines, kind_in, HasDevices, IsFromBoard}
 use Rattle.lab_state.specs.Inner.Time.{numbers_of, IsStanding, AreStanding}
-use Rattle.lab_state.proofs.ListLemmas.{All-listing, each_view, each_made, numbers_at, numbered_at}
+use Rattle.lab_state.proofs.ListLemmas.{All-unmap, All-listing, each_view, each_made, numbers_at, numbered_at}
 use Rattle.lab_state.proofs.RoundLemmas.{Numbering, numbered}
 use Rattle.lab_state.proofs.SenderLemmas.{KeepCounts, from_later}
 use Rattle.lab_state.proofs.SoundLemmas.{kind-outlines}
 
 -- the law that what a stretch sends is sent by devices of the board
 abbrev pub Sending : Type 0
-Sending = (v : View) (from a n : ℕ) → All (IsSentBy v) (stretch v from a n).posts
+Sending =
+    (v : View) (from a n : ℕ) → IsValid v.space.plan → length v.space.devices ≡ length v.space.plan.kinds →
+    All (IsSentBy v) (stretch v from a n).posts
 
--- a post of the board of this number, which is numbered below a count
-abbrev IsBelow : ℕ → ℕ → Post → Type 0
-IsBelow b count post = (post.key.board.0 ≡ b) × (post.key.number.0 < count)
+-- a key of the board of this number, which is numbered below a count
+abbrev pub IsBelow : ℕ → ℕ → Key → Type 0
+IsBelow b count key = (key.board.0 ≡ b) × (key.number.0 < count)
 
-numbered_below :
-    (b first : ℕ) (posts : List Post) → AreNumbered b first (map post_key posts) →
-    All (IsBelow b (first + length posts)) posts
-numbered_below b first [] are = All-nil (IsBelow b (first + 0))
-numbered_below b first (post ∷ posts) are =
-    All-cons (IsBelow b (first + length (post ∷ posts))) post posts (are.0, omega (arith, are.1))
-    (All-weaker (IsBelow b (first + 1 + length posts)) (IsBelow b (first + length (post ∷ posts)))
-    (λ post is. (is.0, omega (arith, is.1))) posts (numbered_below b (first + 1) posts are.2))
+pub keys_below : (b first : ℕ) (keys : List Key) → AreNumbered b first keys → All (IsBelow b (first + length keys)) keys
+keys_below b first [] are = All-nil (IsBelow b (first + 0))
+keys_below b first (key ∷ keys) are =
+    All-cons (IsBelow b (first + length (key ∷ keys))) key keys (are.0, omega (arith, are.1))
+    (All-weaker (IsBelow b (first + 1 + length keys)) (IsBelow b (first + length (key ∷ keys)))
+    (λ key is. (is.0, omega (arith, is.1))) keys (keys_below b (first + 1) keys are.2))
 
 -- the kind of a device that is there
 kind_here :
@@ -68,7 +70,7 @@ pub kind_there :
 kind_there boards b dev v at has below =
     kind-outlines boards (record { board = record { 0 = b }; dev = dev })
     ∙ ap (option_and_then (λ (v : View). slice_get v.space.plan.kinds dev)) at
-    ∙ ap (λ kinds. slice_get kinds dev) (sym has) ∙ kind_here v.space dev below
+    ∙ ap (λ kinds. slice_get kinds dev) (sym has.kinds) ∙ kind_here v.space dev below
 
 -- what stands under a name after its slots
 pub stepped_at :
@@ -103,9 +105,13 @@ module _ (number : Numbering) (send : Sending) (from q : ℕ) (within : from + q
   own b v at has k d below =
       let made = numbered number from q within b v (stands b v at) in
       let post = get_or (in_round from q v).posts k d in
-      let sent = send v from 0 (paid from (from + q) v.numbers.speed) k d below in
-      let numbered_so = numbered_below v.numbers.number v.numbers.posted (in_round from q v).posts made.post_keys k d
-      below in
+      let many : length v.space.devices ≡ length v.space.plan.kinds =
+      sym (length-map v.space.devices (λ (fitted : Fitted). kind_of fitted.state)) ∙ ap length has.kinds in
+      let sent = send v from 0 (paid from (from + q) v.numbers.speed) has.plan many k d below in
+      let posts = (in_round from q v).posts in
+      let numbered_so =
+      All-unmap (IsBelow v.numbers.number (v.numbers.posted + length (map post_key posts))) post_key posts
+      (keys_below v.numbers.number v.numbers.posted (map post_key posts) made.post_keys) k d below in
       let board : post.from.board.0 ≡ b = sent.board ∙ (stands b v at).number in
       let place : post.key.board.0 ≡ b = numbered_so.0 ∙ (stands b v at).number in
       record {
@@ -120,7 +126,7 @@ module _ (number : Numbering) (send : Sending) (from q : ℕ) (within : from + q
             ap (slice_get (numbers_of (map (stepped (in_round from q)) boards))) place
             ∙ numbers_at (map (stepped (in_round from q)) boards) b (in_round from q v).view
             (stepped_at (in_round from q) boards b v at);
-        number = omega (arith, numbered_so.1, made.posted);
+        number = omega (arith, numbered_so.1, made.posted, length-map posts post_key);
       }
 
   -- what waits after the slots has been sent by the boards

@@ -1,20 +1,23 @@
 -- The laboratories that there can be between two rounds, and the lines of UARTs that can stand open in them.
-use Rattle.std.specs.Prelude.{◌≡◌, ℕ, ◌*◌, ◌^◌, ◌<◌, ◌≤◌, List, length, map, Option, Some, IsTrue}
+use Rattle.std.specs.Prelude.{◌≡◌, ℕ, ◌*◌, ◌^◌, ◌<◌, ◌≤◌, nat_lt, Bool, false, ◌&&◌, List, length, map, Some, IsTrue}
 use Rattle.std.specs.List.{All}
 use Rattle.std.specs.List.Sorted.{IsStrictlySortedBy}
-use Rattle.std.specs.Option.{ForSome}
+use Rattle.std.specs.Option.{ForSome, option_map_or}
 use Rattle.board.specs.Changes.{is_shown_kind}
-use Rattle.board.specs.Sent.{IsShown, is_of_kind}
+use Rattle.board.specs.Sent.{is_of_kind}
+use Rattle.board.specs.Space.{device_at}
 use Rattle.board.specs.Valid.{IsBoard}
 use Rattle.board.specs.View.{View}
 use Rattle.dev_core.specs.declared.kind.Kind.TheVariants.{Uart}
 use Rattle.dev_core.specs.declared.post.Post.{Post}
+use Rattle.dev_core.specs.Device.{kind_of}
 use Rattle.dev_core.specs.Post.{post_key}
 use Rattle.lab_num.specs.declared.key.Member.{Member}
 use Rattle.lab_num.specs.declared.number.Micros.{Micros}
 use Rattle.lab_num.specs.Key.{key_cmp}
 use Rattle.lab_num.specs.Name.{is_name}
 use Rattle.lab_num.specs.Route.{StandOnce}
+use Rattle.sys_bus.specs.Limits.{is_kind}
 use Rattle.log_text.specs.declared.line.OpenLine.{OpenLine}
 use Rattle.log_text.specs.Line.{are_unended}
 use Rattle.lab_state.specs.Board.{Board}
@@ -65,14 +68,18 @@ pub record IsLab (lab : Lab) : Type 0 where
   pub rising : IsStrictlySortedBy key_cmp (map post_key lab.pending)
   pub pending : All (IsWaiting lab) lab.pending
 
--- a shown UART of the laboratory, and a time before this one
-pub record IsShownBefore (lab : Lab) (now : ℕ) (m : Member) (at : Micros) : Type 0 where
-  pub shown : ForSome (view_of lab m.board.0) (λ v. IsShown v Uart m.dev)
-  pub before : at.0 < now
+-- whether a device of a board is a UART which is shown
+abbrev pub is_shown_uart : View → ℕ → Bool
+is_shown_uart v dev = (device_at v.space dev).shown && is_kind Uart (kind_of (device_at v.space dev).state)
+
+-- whether a device of the laboratory is such a one, and a time is before this one
+abbrev pub is_shown_before : Lab → ℕ → Member → Micros → Bool
+is_shown_before lab now m at =
+    option_map_or (λ v. is_shown_uart v m.dev) (view_of lab m.board.0) false && nat_lt at.0 now
 
 -- the open line of a shown UART, which has sent its last byte before now
 abbrev pub IsOpen : Lab → OpenLine → Type 0
-IsOpen lab line = IsShownBefore lab lab.now line.member line.at
+IsOpen lab line = IsTrue (is_shown_before lab lab.now line.member line.at)
 
 -- lines that stand open together, one of a UART
 pub record AreOpen (lab : Lab) (lines : List OpenLine) : Type 0 where

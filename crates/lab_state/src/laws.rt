@@ -16,7 +16,7 @@ ghost use Rattle.lab_state.specs.Round.{round};
 ghost use Rattle.lab_state.specs.Run.{Play, run, run_by, followed_by, lengths, still, EndsIn};
 ghost use Rattle.lab_state.specs.Turns.{Cut, IsWhole, run_in_turns};
 ghost use Rattle.lab_state.specs.Undelayed.{AreUndelayed, undelayed_round};
-ghost use Rattle.lab_state.specs.Valid.{IsShownBefore};
+ghost use Rattle.lab_state.specs.Valid.{is_shown_before};
 ghost use Rattle.log_text.specs.Log.{IsOnBytes};
 
 use crate::faults::RunFault;
@@ -90,7 +90,7 @@ pub fn undelayed_rounds_agree<D: Device>(lab: &Lab<D>)
 pub fn runs_tell_of_shown_devices<D: Device>(lab: &Lab<D>)
     requires { lab.now.spent ≡ false }
     ensures { (d : ℕ) → lab.now.lab.now + d ≤ 10000000000 →
-        All (IsOnBytes (IsShownBefore lab.now.lab (run lab.now.lab d).lab.now)) (run lab.now.lab d).items }
+        All (IsOnBytes (is_shown_before lab.now.lab (run lab.now.lab d).lab.now)) (run lab.now.lab d).items }
 {
     let _spent = lab.spent;
     stretches_number();

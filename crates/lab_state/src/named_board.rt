@@ -17,6 +17,7 @@ ghost use Rattle.lab_state.specs.Inner.Lending.{is_awake, lent, away, put_back};
 ghost use Rattle.lab_state.specs.Inner.Standing.{HasDevices};
 ghost use Rattle.lab_state.specs.Inner.Time.{number_of, part_of, speed_of};
 ghost use Rattle.lab_state.specs.One.{with_view};
+ghost use Rattle.lab_state.specs.Resumed.{resumed_board};
 ghost use Rattle.lab_state.specs.Round.{granted, stepped, posts_made, entries_made};
 
 use crate::change::Change;
@@ -395,12 +396,22 @@ impl<D: Device> NamedBoard<D> {
     }
 
     /// Brings the board to a state.
-    pub fn put_state(&mut self, s: &BoardState)
+    fn put_state(&mut self, s: &BoardState)
         requires { ForSome self.old.view (λ v. IsStateFor v.space.plan s.now) }
         ensures { self.new ≡ with_view (λ v. brought_to v s.now) self.old }
     {
         if let Some(board) = &mut self.board {
             board.put_state(s);
+        }
+    }
+
+    /// Brings the board to a state, if there is one.
+    pub fn resume(&mut self, state: &Option<BoardState>)
+        requires { ForSome self.old.view (λ v. ForSome state.now (IsStateFor v.space.plan)) }
+        ensures { self.new ≡ resumed_board self.old state.now }
+    {
+        if let Some(s) = state {
+            self.put_state(s);
         }
     }
 

@@ -19,9 +19,7 @@ fn put_states<D: Device>(boards: &mut [NamedBoard<D>], states: &[Option<BoardSta
     ensures { boards.new ≡ map (λ (board, s). resumed_board board s) (zip boards.old states.now) }
 {
     for (n, board) in boards.iter_mut().enumerate() {
-        if let Some(s) = &states[n] {
-            board.put_state(s);
-        }
+        board.resume(&states[n]);
     }
 }
 

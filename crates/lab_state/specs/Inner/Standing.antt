@@ -12,6 +12,7 @@ use Rattle.board.specs.Changes.{is_shown_kind}
 use Rattle.board.specs.Numbers.{Numbers}
 use Rattle.board.specs.Sent.{is_of_kind}
 use Rattle.board.specs.View.{View}
+use Rattle.sys_bus.specs.Plan.{IsValid}
 use Rattle.lab_state.specs.Board.{Board}
 use Rattle.lab_state.specs.Hub.{Hub}
 use Rattle.lab_state.specs.Lab.{Lab}
@@ -91,9 +92,10 @@ pub record IsShaped (boards : List Outline) (hubs : List Hub) (spares : Spares) 
   pub names : AreNames (map (λ board. board.name) boards) (map (λ hub. hub.name) hubs)
   pub enough : IsEnough spares (count_of_plans boards)
 
--- a board has the devices of its plan
-abbrev pub HasDevices : View → Type 0
-HasDevices v = map (λ fitted. kind_of fitted.state) v.space.devices ≡ v.space.plan.kinds
+-- a board of a valid plan, with the devices of the plan
+pub record HasDevices (v : View) : Type 0 where
+  pub plan : IsValid v.space.plan
+  pub kinds : map (λ fitted. kind_of fitted.state) v.space.devices ≡ v.space.plan.kinds
 
 -- a post of a device of its board, which sends such payloads; the board has given it its number
 pub record IsFromBoard (boards : List Outline) (numbers : List (Option Numbers)) (post : Post) : Type 0 where

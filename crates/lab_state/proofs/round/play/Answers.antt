@@ -98,12 +98,12 @@ returns-clause-sent g c =
     let boards = c.args.boards.now in
     rw (
       ap (λ (h : Handed). outlines h.boards) c.in_ok-notes.ensures
-      ∙ outlines-routes c.elapsed-at.result.0 c.args.hubs.now c.take_slots.new.boards c.deref-2.result.now
-      ∙ ap outlines c.in_ok-posts.ensures.boards
-      ∙ outlines-stepped c.stretches_keep_plans.ensures from q boards,
+          ∙ outlines-routes c.elapsed-at.result.0 c.args.hubs.now c.take_slots.new.boards c.deref-2.result.now
+          ∙ ap outlines c.in_ok-posts.ensures.boards
+          ∙ outlines-stepped c.stretches_keep_plans.ensures from q boards,
       ap (λ (h : Handed). numbers_of h.boards) c.in_ok-notes.ensures
-      ∙ numbers-routes c.elapsed-at.result.0 c.args.hubs.now c.take_slots.new.boards c.deref-2.result.now
-      ∙ ap numbers_of c.in_ok-posts.ensures.boards,
+          ∙ numbers-routes c.elapsed-at.result.0 c.args.hubs.now c.take_slots.new.boards c.deref-2.result.now
+          ∙ ap numbers_of c.in_ok-posts.ensures.boards,
       c.in_ok-due.ensures.waiting,
       c.in_ok-join_pending.ensures,
       c.deref.ensures.value,
