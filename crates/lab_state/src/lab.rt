@@ -1,5 +1,5 @@
 //! The laboratory, its time and its quantum.
-ghost use Rattle.std.specs.Prelude.{◌≡◌, ◌<◌, ◌≤◌, [], map, false, IfOk, IsSome, All};
+ghost use Rattle.std.specs.Prelude.{◌≡◌, ◌<◌, ◌≤◌, [], map, true, false, IfOk, IsSome, All};
 ghost use Rattle.std.specs.List.Sorted.{IsStrictlySortedBy};
 ghost use Rattle.lab_num.specs.Key.{key_cmp};
 ghost use Rattle.dev_core.specs.Post.{post_key};
