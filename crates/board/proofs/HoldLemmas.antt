@@ -1,14 +1,14 @@
 -- What a board keeps is kept.
-use Rattle.std.proofs.Common.{◌≡◌, ◌∙◌, ℕ, ◌+◌, ◌%◌, ◌^◌, ◌<◌, ◌≤◌, true, false, List, [], ◌∷◌, ◌++◌, All, length, map, take, get_or, OnOk, OnErr}
+use Rattle.std.proofs.Common.{◌≡◌, ◌∙◌, ℕ, ◌+◌, ◌%◌, ◌^◌, ◌<◌, ◌≤◌, true, false, List, [], ◌∷◌, All, length, map, take, get_or, OnOk, OnErr}
 use Rattle.std.proofs.Common.{refl, sym, ap, subst, arith}
-use Rattle.std.specs.Prelude.{Option, None, Result, Ok, Err, if◌then◌else◌, slice_set, slice_index_or}
+use Rattle.std.specs.Prelude.{Option, None, Result, Ok, Err, if◌then◌else◌, replicate, slice_set, slice_index_or}
 use Rattle.std.specs.List.{range_with_len}
 use Rattle.std.proofs.Math.Seq.{map-set_same}
-use Rattle.std.proofs.lemmas.List.{length-map, length-set, length-replicate, get_or_default, take_all, take-append-le}
+use Rattle.std.proofs.lemmas.List.{length-map, length-set, length-replicate, get_or_default}
 use Rattle.std.proofs.lemmas.Bool.Decides.{nat_tests}
 use Rattle.std.proofs.lemmas.Nat.{mod_below}
 use Rattle.std.proofs.lemmas.List.{get_or-map as get_or-map'}
-use Rattle.std.proofs.lemmas.List.Elements.{All-set, All-get_or, All-map, All-from_get_or}
+use Rattle.std.proofs.lemmas.List.Elements.{All-set, All-get_or, All-map, All-from_get_or, All-replicate}
 use Rattle.std.proofs.lemmas.List.FromFn.{fill_by_all, length-map-range_with_len, get_or-map-range_with_len}
 use Rattle.rv_exec.specs.Laws.{IsSameHart}
 use Rattle.rv_hart.specs.Core.{Core, initial, initial_with}
@@ -17,7 +17,7 @@ use Rattle.sys_bus.specs.declared.plan.BoardPlan.{BoardPlan}
 use Rattle.board.specs.Idle.{core_passed, turns_of}
 use Rattle.board.specs.Inner.Holds.{Holds, state_alone, state_of}
 use Rattle.board.specs.HartView.{hart_state}
-use Rattle.board.specs.Changes.{copied}
+use Rattle.board.specs.Changes.{cleared, copied}
 use Rattle.board.specs.Inner.Copies.{CopiesPrefix}
 use Rattle.board.specs.Inner.Seat.{all_passed, behind}
 use Rattle.board.proofs.CopyLemmas.{plan-copied}
@@ -28,6 +28,7 @@ use Rattle.board.specs.New.{new_board, new_cores, reset_core}
 use Rattle.board.specs.Numbers.{Numbers}
 use Rattle.board.specs.Space.{Space}
 use Rattle.board.specs.Slot.{hart_slot, number_after}
+use Rattle.board.specs.Valid.{IsReservation}
 use Rattle.board.specs.View.{View, State, core_at}
 use Rattle.board.specs.Wires.{Wires}
 
@@ -36,8 +37,9 @@ pub holds_kept :
     (v w : View) → Holds v → w.numbers.speed ≡ v.numbers.speed → w.space.plan ≡ v.space.plan →
     length w.watch ≡ length v.watch → w.next < length v.cores → length w.cores ≡ length v.cores →
     All (λ core. core.letters ≡ v.space.plan.letters) w.cores →
-    map (λ core. core.number) w.cores ≡ map (λ core. core.number) v.cores → Holds w
-holds_kept v w holds speed plan watch next cores letters numbers = record {
+    map (λ core. core.number) w.cores ≡ map (λ core. core.number) v.cores →
+    All (IsReservation v.space.plan) w.watch → Holds w
+holds_kept v w holds speed plan watch next cores letters numbers reserved = record {
   least = rw speed holds.least;
   most = rw speed holds.most;
   shared = rw (speed, cores) holds.shared;
@@ -46,6 +48,7 @@ holds_kept v w holds speed plan watch next cores letters numbers = record {
   numbers = numbers ∙ holds.numbers ∙ ap (range_with_len 0) (sym cores);
   next = rw cores next;
   watch = watch ∙ holds.watch ∙ sym cores;
+  reserved = rw plan reserved;
 }
 
 -- one of the processors is as it was, but for its state
@@ -53,7 +56,7 @@ pub holds_set :
     (v : View) (numbers : Numbers) (hart next : ℕ) (old core : Core) (watch : List (Option ℕ)) (space : Space) →
     Holds v → numbers.speed ≡ v.numbers.speed → space.plan ≡ v.space.plan → hart < length v.cores →
     old ≡ slice_index_or v.cores hart old → IsSameHart old core → length watch ≡ length v.watch →
-    next < length v.cores →
+    next < length v.cores → All (IsReservation v.space.plan) watch →
     Holds
     (record {
       numbers = numbers;
@@ -62,7 +65,7 @@ pub holds_set :
       watch = watch;
       space = space;
     })
-holds_set v numbers hart next old core watch space holds speed plan below is same harts within =
+holds_set v numbers hart next old core watch space holds speed plan below is same harts within reserved =
     holds_kept v _ holds speed plan harts within (length-set v.cores hart core)
     (All-set (λ core. core.letters ≡ v.space.plan.letters) v.cores hart core
     (same.letters
@@ -70,6 +73,7 @@ holds_set v numbers hart next old core watch space holds speed plan below is sam
     ∙ All-get_or (λ core. core.letters ≡ v.space.plan.letters) v.cores hart old below holds.letters) holds.letters)
     (map-set_same (λ core. core.number) v.cores hart core old
     (same.number ∙ ap {A = Core} (λ core. core.number) is))
+    reserved
 
 -- a slot of one of them keeps the speed and the plan
 pub kept_in_turn :
@@ -92,12 +96,16 @@ kept_in_turn cores next old core' watch watch' w w' t is below done =
 pub after_below : (harts hart : ℕ) → hart < harts → number_after harts hart < harts
 after_below harts hart below = rw (number_after_is harts hart below) (mod_below _ _ (omega (arith, below)))
 
--- other reservations of as many
-pub holds_watch :
+-- no reservations
+none_reserved : (plan : BoardPlan) (n : ℕ) → All (IsReservation plan) (replicate n None)
+none_reserved plan n = All-replicate (IsReservation plan) n None tt
+
+pub holds_cleared :
     (v : View) (watch : List (Option ℕ)) (space : Space) → Holds v → space.plan ≡ v.space.plan →
-    length watch ≡ length v.watch → Holds (record v { watch = watch; space = space })
-holds_watch v watch space holds plan harts =
-    holds_kept v _ holds refl plan harts holds.next refl holds.letters refl
+    watch ≡ cleared v.watch → Holds (record v { watch = watch; space = space })
+holds_cleared v watch space holds plan none =
+    holds_kept v _ holds refl plan (ap length none ∙ length-replicate _ _) holds.next refl holds.letters refl
+    (rw none (none_reserved v.space.plan (length v.watch)))
 
 same_numbers : (cores : List Core) → map (λ core. core.number) (map reset_core cores) ≡ map (λ core. core.number) cores
 same_numbers [] = refl
@@ -106,12 +114,13 @@ same_numbers (core ∷ cores) = ap (λ numbers. core.number ∷ numbers) (same_n
 -- all processors are in their first states
 pub holds_reset :
     (v : View) (watch : List (Option ℕ)) (space : Space) → Holds v → space.plan ≡ v.space.plan →
-    length watch ≡ length v.watch →
+    watch ≡ cleared v.watch →
     Holds (record v { cores = map reset_core v.cores; next = 0; watch = watch; space = space })
-holds_reset v watch space holds plan harts =
-    holds_kept v _ holds refl plan harts (omega (arith, holds.next)) (length-map v.cores reset_core)
-    (All-map (λ core. core.letters ≡ v.space.plan.letters) reset_core v.cores holds.letters)
-    (same_numbers v.cores)
+holds_reset v watch space holds plan none =
+    holds_kept v _ holds refl plan (ap length none ∙ length-replicate _ _) (omega (arith, holds.next))
+    (length-map v.cores reset_core)
+    (All-map (λ core. core.letters ≡ v.space.plan.letters) reset_core v.cores holds.letters) (same_numbers v.cores)
+    (rw none (none_reserved v.space.plan (length v.watch)))
 
 -- cycles of the processors have passed
 letters-passed : (n : ℕ) (core : Core) → (core_passed n core).letters ≡ core.letters
@@ -139,7 +148,7 @@ holds_passed v next n holds within =
     (λ k there. rw (at k (rw count at there)) (letters-passed _ (core_at v k)
     ∙ All-get_or (λ core. core.letters ≡ v.space.plan.letters) v.cores k initial (rw count at there) holds.letters)))
     (numbers passed count (λ k there. rw (at k there) (number-passed _ (core_at v k)))
-    ∙ sym (numbers v.cores refl (λ k there. refl)))
+    ∙ sym (numbers v.cores refl (λ k there. refl))) holds.reserved
   where
     harts : ℕ
     harts = length v.cores
@@ -214,6 +223,7 @@ holds_new number plan valid =
       numbers = own_numbers plan.letters (range_with_len 0 (length plan.cpus)) ∙ ap (range_with_len 0) (sym count);
       next = rw count (some_harts plan valid);
       watch = length-replicate (length plan.cpus) None ∙ sym count;
+      reserved = none_reserved plan (length plan.cpus);
     }
   where
     own_numbers :
@@ -221,8 +231,3 @@ holds_new number plan valid =
         map (λ (core : Core). core.number) (map (initial_with letters) places) ≡ places
     own_numbers letters [] = refl
     own_numbers letters (place ∷ places) = ap (λ all. place ∷ all) (own_numbers letters places)
-
--- ---- a list that was written as a whole
-
-pub whole : (n : ℕ) (now rest : List Core) → n ≤ length now → length now ≤ n → take n (now ++ rest) ≡ now
-whole n now rest most least = take-append-le n now rest most ∙ take_all n now least

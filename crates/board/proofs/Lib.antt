@@ -8,10 +8,13 @@ pub mod LineLemmas
 pub mod ListLemmas
 pub mod MemoryLemmas
 pub mod NumberLemmas
+pub mod PartLemmas
 pub mod SeatLemmas
 pub mod SentLemmas
 pub mod SlotLemmas
 pub mod SourceLemmas
+pub mod StateLemmas
 pub mod StretchLemmas
 pub mod ToldLemmas
 pub mod TurnLemmas
+pub mod WatchLemmas

@@ -23,7 +23,8 @@ use Rattle.sys_bus.specs.declared.wire.Wire.{Wire}
 use Rattle.sys_bus.specs.declared.wire.WireFrom.{WireFrom}
 use Rattle.sys_bus.specs.declared.wire.WireFrom.TheVariants.{Soft, Timer as TimerLine, Context, Dev}
 use Rattle.board.specs.declared.remembered.Remembered.{Remembered}
-use Rattle.board.specs.Inner.Fit.{IsFit, IsStateOf, in_state}
+use Rattle.board.specs.Inner.Fit.{IsFit, IsStateOf}
+use Rattle.board.specs.BoardState.{controller_to}
 use Rattle.board.specs.Inner.Remembers.{is_wired, still, remembered_lines, IsRead, IsRight}
 use Rattle.board.specs.Lines.{sampled, sampled_by, sources_up, timer_up, device_up, mip_of}
 use Rattle.board.specs.Lines.{mtime_of, lines_of, is_up, is_from_device, ends_at_source, ends_at_pin, pin_up}
@@ -233,7 +234,7 @@ still_state s state is = by_controller s.controller is
 
 pub undone :
     (s : Space) (state : Option PlicState) → state ≡ option_map (λ c. c.state) s.controller →
-    record s { controller = in_state (sampled s).controller state } ≡ s
+    record s { controller = controller_to (sampled s).controller state } ≡ s
 unfolding sampled
 undone s state is =
     rw is
@@ -241,6 +242,6 @@ undone s state is =
   where
     back :
         (o : Option Controller) →
-        in_state (sampled_by o (sources_up s)) (option_map (λ c. c.state) o) ≡ o
+        controller_to (sampled_by o (sources_up s)) (option_map (λ c. c.state) o) ≡ o
     back None = refl
     back (Some c) = refl

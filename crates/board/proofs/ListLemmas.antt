@@ -1,8 +1,10 @@
 -- What holds of the items of lists.
-use Rattle.std.proofs.Common.{◌≡◌, ℕ, zero, suc, ◌+◌, ◌≤◌, ◌<◌, Bool, true, false, ◌&&◌, cond, List, [], ◌∷◌, length}
-use Rattle.std.proofs.Common.{All, slice_get, Option, Some, refl, sym, ap, arith, count_by}
+use Rattle.std.proofs.Common.{◌≡◌, ◌∙◌, ℕ, zero, suc, ◌+◌, ◌≤◌, ◌<◌, Bool, true, false, ◌&&◌, cond, List, [], ◌∷◌, ◌++◌, length}
+use Rattle.std.proofs.Common.{All, slice_get, Option, Some, refl, sym, ap, arith, count_by, take, inl, inr}
 use Rattle.std.specs.Prelude.{Any, find, slice_index_or, slice_set, if◌then◌else◌}
 use Rattle.std.specs.List.{list_all, range_with_len}
+use Rattle.std.proofs.lemmas.Bool.{cases_eq}
+use Rattle.std.proofs.lemmas.List.{get_or-set_same, get_or-set_other, take_all, take-append-le}
 use Rattle.std.proofs.lemmas.List.Sums.{sum_by-cons}
 use Rattle.std.proofs.lemmas.Option.{same_Some, slice_get_read, slice_get-get_or}
 
@@ -116,3 +118,17 @@ pub set_set : {X : Type 0} (xs : List X) (i : ℕ) (x y : X) → slice_set (slic
 set_set [] i x y = refl
 set_set (z ∷ zs) zero x y = refl
 set_set (z ∷ zs) (suc i) x y = ap (λ rest. z ∷ rest) (set_set zs i x y)
+
+-- a list that was written as a whole
+pub whole :
+    {X : Type 0} (n : ℕ) (now rest : List X) → n ≤ length now → length now ≤ n → take n (now ++ rest) ≡ now
+whole n now rest most least = take-append-le n now rest most ∙ take_all n now least
+
+-- a list of which the first items are known, after one more was written
+pub set_below :
+    {X : Type 0} (f : ℕ → X) (xs : List X) (i : ℕ) (x d : X) → i < length xs → x ≡ f i →
+    ((k : ℕ) → k < i → slice_index_or xs k d ≡ f k) → (k : ℕ) → k < i + 1 → slice_index_or (slice_set xs i x) k d ≡ f k
+set_below f xs i x d within is each k below = elim (cases_eq k i) [
+  | inl same ↦ rw same (get_or-set_same xs i x d within ∙ is)
+  | inr other ↦ get_or-set_other xs i k x d other ∙ each k (omega (arith, below, other))
+]

@@ -1,28 +1,18 @@
 -- What a processor does in its slot, as its board has it.
-use Rattle.std.proofs.Common.{◌≡◌, ◌∙◌, ℕ, ◌%◌, ◌<◌, ◌==◌, Bool, true, false, not, List, [], ◌∷◌, length, map, set, refl}
+use Rattle.std.proofs.Common.{◌≡◌, ◌∙◌, ℕ, ◌<◌, ◌==◌, Bool, true, false, not, List, [], ◌∷◌, length, refl}
 use Rattle.std.proofs.Common.{ap, arith}
-use Rattle.std.specs.Prelude.{Option, None, Some, if◌then◌else◌}
+use Rattle.std.specs.Prelude.{Option, None, if◌then◌else◌}
 use Rattle.std.specs.Option.{option_and_then, option_map_or}
 use Rattle.std.proofs.lemmas.Bool.{eqb-true, or_parts}
-use Rattle.std.proofs.lemmas.List.{length-map, length-set}
 use Rattle.rv_hart.specs.declared.csr.Lines.{Lines}
-use Rattle.rv_hart.specs.Core.{Core, reg}
+use Rattle.rv_hart.specs.Core.{Core}
 use Rattle.rv_hart.specs.Trap.{chosen}
-use Rattle.rv_exec.specs.Effect.{Effect, Done, effect, core_after, bus_after}
-use Rattle.rv_exec.specs.Outcome.{traps}
-use Rattle.rv_atomic.specs.declared.atomic.AtomicOp.{AtomicOp}
-use Rattle.rv_atomic.specs.declared.atomic.AtomicOp.TheVariants.{Lr, Sc, Swap, Add, Xor, And, Or, Min, Max, Minu, Maxu}
-use Rattle.rv_atomic.specs.declared.atomic.Atomic.{Atomic}
-use Rattle.rv_atomic.specs.declared.shared.Shared.{Shared}
+use Rattle.rv_exec.specs.Effect.{effect, core_after, bus_after}
 use Rattle.rv_atomic.specs.declared.shared.Shared.TheVariants as shared
-use Rattle.rv_atomic.specs.declared.span.Span.{Span}
-use Rattle.rv_atomic.specs.AtomicEffect.{address, atomic_effect, gives, gives_and_stores, leaves}
-use Rattle.rv_atomic.specs.AtomicEffect.{access_fault_cause, misaligned_cause, store_conditional, with_word}
+use Rattle.rv_atomic.specs.AtomicEffect.{leaves}
 use Rattle.rv_atomic.specs.Means.{atomic_of}
 use Rattle.rv_atomic.specs.Laws.{PlainAlone}
-use Rattle.rv_atomic.specs.SharedEffect.{after_effect, shared_effect}
-use Rattle.rv_atomic.specs.Span.{span_of}
-use Rattle.rv_atomic.specs.Watch.{after_store, has_reserved, kept, reserved}
+use Rattle.rv_atomic.specs.SharedEffect.{shared_effect}
 use Rattle.sys_bus.specs.declared.plan.BoardPlan.{BoardPlan}
 use Rattle.board.specs.Fetch.{effect_on, fetched_by, shared_by, word_at_pc}
 use Rattle.board.specs.HartView.{hart_state}
@@ -46,85 +36,6 @@ awake-instruction hart core core' watch watch' w begun w' t lines none begins co
     rw (core_is, watch_is, wires_is, begins, none)
     (ap (λ now. hart_state hart (core_after answer begun' done.effect) done.watch now)
     (effect-behind begun' done.effect))
-
--- ---- how many may have a reservation
-
-length-stored :
-    (hart at width : ℕ) (watch : List (Option ℕ)) → length (after_store hart at width watch) ≡ length watch
-length-stored hart at width watch =
-    length-set (map (kept at width) watch) hart (reserved watch hart) ∙ length-map watch (kept at width)
-
-length-effect : (hart : ℕ) (effect : Effect) (watch : List (Option ℕ)) → length (after_effect hart effect watch) ≡ length watch
-length-effect hart effect watch = by_span (span_of effect)
-  where
-    by_span :
-        (o : Option Span) →
-        length (option_map_or (λ (span : Span). after_store hart span.at span.width watch) o watch) ≡ length watch
-    by_span None = refl
-    by_span (Some span) = length-stored hart span.at span.width watch
-
-length-conditional :
-    (core : Core) (hart : ℕ) (watch : List (Option ℕ)) (a : Atomic) →
-    length (store_conditional core hart watch a).watch ≡ length watch
-length-conditional core hart watch a = by_test (has_reserved watch hart (address core a))
-  where
-    by_test :
-        (b : Bool) →
-        length
-        (if b then
-        leaves (gives_and_stores core a 0 (reg core a.rs2))
-        (set (after_store hart (address core a) 4 watch) hart None)
-        else leaves (gives core a 1) (set watch hart None)).watch ≡ length watch
-    by_test true =
-        length-set (after_store hart (address core a) 4 watch) hart None ∙ length-stored hart (address core a) 4 watch
-    by_test false = length-set watch hart None
-
-length-word :
-    (op : AtomicOp) (core : Core) (hart : ℕ) (watch : List (Option ℕ)) (a : Atomic) (word : ℕ) →
-    length (with_word op core hart watch a word).watch ≡ length watch
-length-word Lr core hart watch a word = length-set watch hart (Some (address core a))
-length-word Sc core hart watch a word = length-conditional core hart watch a
-length-word Swap core hart watch a word = length-stored hart (address core a) 4 watch
-length-word Add core hart watch a word = length-stored hart (address core a) 4 watch
-length-word Xor core hart watch a word = length-stored hart (address core a) 4 watch
-length-word And core hart watch a word = length-stored hart (address core a) 4 watch
-length-word Or core hart watch a word = length-stored hart (address core a) 4 watch
-length-word Min core hart watch a word = length-stored hart (address core a) 4 watch
-length-word Max core hart watch a word = length-stored hart (address core a) 4 watch
-length-word Minu core hart watch a word = length-stored hart (address core a) 4 watch
-length-word Maxu core hart watch a word = length-stored hart (address core a) 4 watch
-
-length-atomic :
-    (memory : ℕ → Option ℕ) (core : Core) (hart : ℕ) (watch : List (Option ℕ)) (a : Atomic) →
-    length (atomic_effect memory core hart watch a).watch ≡ length watch
-unfolding atomic_effect
-length-atomic memory core hart watch a = by_test (address core a % 4 == 0)
-  where
-    by_word :
-        (o : Option ℕ) →
-        length
-        (option_map_or (with_word a.op core hart watch a) o
-        (leaves (Done (traps core (access_fault_cause a.op) (address core a))) watch)).watch ≡ length watch
-    by_word None = refl
-    by_word (Some word) = length-word a.op core hart watch a word
-
-    by_test :
-        (b : Bool) →
-        length
-        (if b then
-        option_map_or (with_word a.op core hart watch a) (memory (address core a))
-        (leaves (Done (traps core (access_fault_cause a.op) (address core a))) watch)
-        else leaves (Done (traps core (misaligned_cause a.op) (address core a))) watch).watch ≡ length watch
-    by_test true = by_word (memory (address core a))
-    by_test false = refl
-
--- what a slot does keeps the number of those that may have a reservation
-pub length-shared :
-    (memory : ℕ → Option ℕ) (core : Core) (hart : ℕ) (watch : List (Option ℕ)) (what : Shared) (lines : Lines) →
-    length (shared_effect memory core hart watch what lines).watch ≡ length watch
-unfolding shared_effect
-length-shared memory core hart watch (shared.Plain what) lines = length-effect hart (effect core what lines) watch
-length-shared memory core hart watch (shared.Atomic a) lines = length-atomic memory core hart watch a
 
 -- ---- a processor alone
 

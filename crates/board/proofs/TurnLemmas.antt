@@ -2,41 +2,23 @@
 -- `n / h`, and one more where `(k + (h - next)) % h < n % h`.
 use Rattle.std.proofs.Common.{◌≡◌, ℕ, zero, suc, ◌+◌, ◌-◌, ◌*◌, ◌/◌, ◌%◌, ◌<◌, ◌≤◌, ◌==◌, Bool, true, false, length}
 use Rattle.std.proofs.Common.{nat_lt, refl, sym, ap, ◌∙◌, inl, inr, add-one, arith}
-use Rattle.std.specs.Prelude.{if◌then◌else◌, List, [], ◌∷◌, Option, None, Some, slice_index_or, slice_set}
+use Rattle.std.specs.Prelude.{if◌then◌else◌, List, [], ◌∷◌, Option, slice_index_or, slice_set}
 use Rattle.std.proofs.Math.Nat.{suc-mul, suc-mod, mod-eq_of_lt, mod_self}
 use Rattle.std.proofs.lemmas.Bool.{cases_eq, cases_lt}
 use Rattle.std.proofs.lemmas.Bool.Decides.{nat_tests}
-use Rattle.std.specs.Option.{option_map_or}
-use Rattle.std.proofs.lemmas.List.{length-set, length-map, map-id}
+use Rattle.std.proofs.lemmas.List.{length-set, map-id}
 use Rattle.std.proofs.lemmas.List.FromFn.{sum_by-map-range_with_len_more}
 use Rattle.std.proofs.lemmas.Nat.{div-add-mod', div-mul-add, mod-mul-add, mod_below}
 use Rattle.lab_num.specs.Paid.{slot_at}
-use Rattle.rv_hart.specs.declared.csr.Lines.{Lines}
-use Rattle.rv_hart.specs.Core.{Core, initial, reg}
-use Rattle.rv_hart.specs.Trap.{chosen, interrupt, is_ready}
-use Rattle.rv_exec.specs.Effect.{Effect, Done, effect}
-use Rattle.rv_exec.specs.Outcome.{traps}
-use Rattle.rv_atomic.specs.declared.atomic.AtomicOp.{AtomicOp}
-use Rattle.rv_atomic.specs.declared.atomic.AtomicOp.TheVariants.{Lr, Sc, Swap, Add, Xor, And, Or, Min, Max, Minu, Maxu}
-use Rattle.rv_atomic.specs.declared.atomic.Atomic.{Atomic}
-use Rattle.rv_atomic.specs.declared.shared.Shared.{Shared}
-use Rattle.rv_atomic.specs.declared.shared.Shared.TheVariants as shared
-use Rattle.rv_atomic.specs.declared.span.Span.{Span}
-use Rattle.rv_atomic.specs.AtomicEffect.{leaves, address, gives, gives_and_stores, with_word, atomic_effect}
-use Rattle.rv_atomic.specs.AtomicEffect.{misaligned_cause, access_fault_cause}
-use Rattle.rv_atomic.specs.SharedEffect.{after_effect, shared_effect}
-use Rattle.rv_atomic.specs.Span.{span_of}
-use Rattle.rv_atomic.specs.Watch.{after_store, has_reserved}
-use Rattle.board.specs.Fetch.{shared_by}
-use Rattle.board.specs.HartView.{HartView, HartState, hart_view, hart_state, still, wires_of}
+use Rattle.rv_hart.specs.Core.{Core, initial}
+use Rattle.board.specs.HartView.{HartState, hart_state}
 use Rattle.board.specs.Idle.{turns_of}
 use Rattle.board.specs.Inner.Holds.{state_of, state_alone}
 use Rattle.board.specs.Inner.Seat.{behind}
-use Rattle.board.specs.Lines.{sampled, lines_of}
-use Rattle.board.specs.Slot.{slot, hart_slot, running, sampling, awake, asleep, woken, cycle, instruction, number_after}
+use Rattle.board.specs.Slot.{slot, hart_slot, number_after}
 use Rattle.board.specs.Stretch.{stretch}
 use Rattle.board.specs.View.{View, after}
-use Rattle.board.specs.Wires.{Wires, fetched}
+use Rattle.board.specs.Wires.{Wires}
 
 -- ---- whose turn is next
 
@@ -239,106 +221,3 @@ pub taken_alone :
     state_alone core' watch' w'
     ≡ after (state_alone core watch w) (slot (state_alone core watch w).view t)
 taken_alone core core' watch watch' w w' t is = taken_in_turn (core ∷ []) 0 core' watch watch' w w' t is
-
--- ---- each processor may have a reservation, before and after
-
-abbrev HasSame : List (Option ℕ) → List (Option ℕ) → Type 0
-HasSame old new = length new ≡ length old
-
-watch_stored : (number at width : ℕ) (watch : List (Option ℕ)) → HasSame watch (after_store number at width watch)
-watch_stored number at width watch = length-set _ _ _ ∙ length-map watch _
-
-watch_effect : (number : ℕ) (effect : Effect) (watch : List (Option ℕ)) → HasSame watch (after_effect number effect watch)
-watch_effect number effect watch = by_span (span_of effect)
-  where
-    by_span :
-        (span : Option Span) →
-        HasSame watch (option_map_or (λ s. after_store number s.at s.width watch) span watch)
-    by_span None = refl
-    by_span (Some span) = watch_stored number span.at span.width watch
-
-watch_word :
-    (op : AtomicOp) (core : Core) (number : ℕ) (watch : List (Option ℕ)) (a : Atomic) (word : ℕ) →
-    HasSame watch (with_word op core number watch a word).watch
-watch_word Lr core number watch a word = length-set _ _ _
-watch_word Sc core number watch a word = by_test (has_reserved watch number (address core a))
-  where
-    by_test :
-        (test : Bool) →
-        HasSame watch
-        (if test then
-        leaves (gives_and_stores core a 0 (reg core a.rs2))
-        (slice_set (after_store number (address core a) 4 watch) number None)
-        else leaves (gives core a 1) (slice_set watch number None)).watch
-    by_test true = length-set _ _ _ ∙ watch_stored number (address core a) 4 watch
-    by_test false = length-set _ _ _
-watch_word Swap core number watch a word = watch_stored number (address core a) 4 watch
-watch_word Add core number watch a word = watch_stored number (address core a) 4 watch
-watch_word Xor core number watch a word = watch_stored number (address core a) 4 watch
-watch_word And core number watch a word = watch_stored number (address core a) 4 watch
-watch_word Or core number watch a word = watch_stored number (address core a) 4 watch
-watch_word Min core number watch a word = watch_stored number (address core a) 4 watch
-watch_word Max core number watch a word = watch_stored number (address core a) 4 watch
-watch_word Minu core number watch a word = watch_stored number (address core a) 4 watch
-watch_word Maxu core number watch a word = watch_stored number (address core a) 4 watch
-
-watch_shared :
-    (memory : ℕ → Option ℕ) (core : Core) (number : ℕ) (watch : List (Option ℕ)) (what : Shared) (lines : Lines) →
-    HasSame watch (shared_effect memory core number watch what lines).watch
-unfolding shared_effect atomic_effect
-watch_shared memory core number watch (shared.Plain what) lines = watch_effect number (effect core what lines) watch
-watch_shared memory core number watch (shared.Atomic a) lines = by_test (address core a % 4 == 0)
-  where
-    by_memory :
-        (word : Option ℕ) →
-        HasSame watch
-        (option_map_or (with_word a.op core number watch a) word
-        (leaves (Done (traps core (access_fault_cause a.op) (address core a))) watch)).watch
-    by_memory None = refl
-    by_memory (Some word) = watch_word a.op core number watch a word
-
-    by_test :
-        (test : Bool) →
-        HasSame watch
-        (if test then
-        option_map_or (with_word a.op core number watch a) (memory (address core a))
-        (leaves (Done (traps core (access_fault_cause a.op) (address core a))) watch)
-        else leaves (Done (traps core (misaligned_cause a.op) (address core a))) watch).watch
-    by_test true = by_memory (memory (address core a))
-    by_test false = refl
-
-watch_awake : (h : HartView) (t : ℕ) (lines : Lines) → HasSame h.watch (awake h t lines).view.watch
-unfolding awake
-watch_awake h t lines = by_chosen (chosen h.core lines.mip)
-  where
-    by_chosen :
-        (taken : Option ℕ) →
-        HasSame h.watch
-        (option_map_or (λ n. cycle h (interrupt h.core n)) taken (instruction h t lines)).view.watch
-    by_chosen None =
-        watch_shared (fetched (wires_of h t)) h.core h.hart h.watch (shared_by h.core (wires_of h t)) lines
-    by_chosen (Some n) = refl
-
-watch_if :
-    (watch : List (Option ℕ)) (test : Bool) (a b : HartState) → HasSame watch a.view.watch →
-    HasSame watch b.view.watch → HasSame watch (if test then a else b).view.watch
-watch_if watch true a b p q = p
-watch_if watch false a b p q = q
-
-pub watch-slot : (v : View) (t : ℕ) → length (slot v t).view.watch ≡ length v.watch
-unfolding slot hart_slot
-watch-slot v t =
-    let h = hart_view v v.next in
-    let lines = lines_of (sampled v.space) v.next t in
-    let now = sampling h in
-    watch_if v.watch h.core.halted (still h) (running now t lines) refl
-    (watch_if v.watch h.core.waiting (asleep now t lines) (awake now t lines)
-    (watch_if v.watch (is_ready h.core lines.mip) (awake (woken now) t lines) (cycle now h.core)
-    (watch_awake (woken now) t lines) refl)
-    (watch_awake now t lines))
-
-pub watch-stretch : (v : View) (from a n : ℕ) → length (stretch v from a n).view.watch ≡ length v.watch
-unfolding stretch
-watch-stretch v from a zero = refl
-watch-stretch v from a (suc n) =
-    watch-slot (stretch v from a n).view (slot_at from v.numbers.speed (a + n)) ∙ watch-stretch v from a n

@@ -1,13 +1,14 @@
 -- What of a board changes, its memories aside.
-use Rattle.std.specs.Prelude.{map, option_map, zip, Option, Some, None}
+use Rattle.std.specs.Prelude.{map, option_map, zip, Bool, List, Option, Some, None}
 use Rattle.clint.specs.Clint.{Timer}
 use Rattle.clint.specs.declared.state.ClintState.{ClintState}
+use Rattle.dev_core.specs.declared.state.DevState.{DevState}
 use Rattle.plic.specs.declared.state.PlicState.{PlicState}
 use Rattle.plic.specs.State.{Controller}
 use Rattle.rv_hart.specs.HartState.{core_of, state_of}
 use Rattle.board.specs.declared.state.BoardState.{BoardState}
 use Rattle.board.specs.Numbers.{Numbers}
-use Rattle.board.specs.Space.{Space}
+use Rattle.board.specs.Space.{Space, Fitted}
 use Rattle.board.specs.View.{View}
 
 -- the state of a board: its speed, its processors, which of them is next, what they have reserved, its timer and its
@@ -38,11 +39,15 @@ controller_to (Some controller) (Some state) = Some (record controller { state =
 controller_to (Some controller) None = Some controller
 controller_to None state = None
 
+-- devices in these states, shown or not
+abbrev pub devices_in : List DevState → List Bool → List Fitted
+devices_in states shown = map (λ (state, shown). record { state = state; shown = shown }) (zip states shown)
+
 abbrev pub space_to : Space → BoardState → Space
 space_to space s = record space {
   timer = timer_to space.timer s.clint;
   controller = controller_to space.controller s.plic;
-  devices = map (λ (state, shown). record { state = state; shown = shown }) (zip s.devices s.shown);
+  devices = devices_in s.devices s.shown;
 }
 
 abbrev pub numbers_to : Numbers → BoardState → Numbers

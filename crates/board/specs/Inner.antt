@@ -3,5 +3,6 @@ pub mod Ended
 pub mod Fit
 pub mod Holds
 pub mod Made
+pub mod Parts
 pub mod Remembers
 pub mod Seat

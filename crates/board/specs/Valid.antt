@@ -1,5 +1,5 @@
 -- The boards that there can be.
-use Rattle.std.specs.Prelude.{◌≡◌, ℕ, ◌%◌, ◌<◌, ⊥, true, false, length, map, option_map, slice_index_or, All, IsTrue}
+use Rattle.std.specs.Prelude.{◌≡◌, ℕ, ◌%◌, ◌<◌, true, false, length, map, option_map, slice_index_or, All, IsTrue}
 use Rattle.std.specs.Prelude.{Option, None, Some}
 use Rattle.std.specs.List.{range_with_len}
 use Rattle.clint.specs.declared.state.ClintState.{ClintState}

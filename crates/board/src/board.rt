@@ -5,6 +5,7 @@ ghost use Rattle.std.specs.Prelude.{map, All, slice_get, slice_index_or, OnOk, O
 ghost use Rattle.rv_hart.specs.Trap.{chosen};
 
 mod idle;
+mod saved;
 mod slots;
 
 use crate::harts::{all_asleep, all_halted, new_harts, reset_all};
@@ -263,41 +264,6 @@ impl<D: Device> Board<D> {
     {
         self.watch.clear();
         self.wires.space.zero(at, count);
-    }
-
-    /// All that changes of the board, its memories aside. `Err` is for want of memory alone.
-    pub fn state(&self) -> Result<BoardState, NoMemory>
-        ensures value { IfOk result (λ s. s ≡ board_state self.now.view) }
-    {
-    }
-
-    /// Brings the board to a state. Its number, its plan and its memories stay.
-    pub fn put_state(&mut self, s: &BoardState)
-        requires { IsStateFor self.old.view.space.plan s.now }
-        ensures { self.new ≡ record self.old { view = brought_to self.old.view s.now } }
-    {
-    }
-
-    /// The bytes of a memory.
-    pub fn memory(&self, part: u8) -> &PageRam
-        requires { part < length self.now.view.space.memories }
-        ensures { result.now ≡ memory_at self.now.view.space part }
-    {
-    }
-
-    /// Puts another memory of the same size in the place of one, and ends all reservations.
-    pub fn put_memory(&mut self, part: u8, memory: PageRam)
-        requires part { part < length self.old.view.space.memories }
-        requires size { length memory ≡ length (memory_at self.old.view.space part) }
-        ensures { self.new ≡ record self.old { view = with_memory_in self.old.view part memory } }
-    {
-    }
-
-    /// At every moment a board is one that there can be. Nothing is changed and told when this runs: a
-    /// proof that needs the fact calls it.
-    pub fn is_one_that_can_be(&self)
-        ensures { IsBoard self.now.view }
-    {
     }
 
     /// Brings the processors, the timer, the interrupt controller and the devices into their first

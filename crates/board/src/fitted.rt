@@ -1,9 +1,11 @@
 //! A device of a board.
-ghost use Rattle.std.specs.Prelude.{◌≡◌, ◌^◌, ◌<◌, true};
+ghost use Rattle.std.specs.Prelude.{◌≡◌, ◌^◌, ◌<◌, true, IsTrue};
 ghost use Rattle.rv_exec.specs.Access.{IsWidth};
 ghost use Rattle.dev_core.specs.Device.{dev_line, dev_take, kind_of, IsValid};
+ghost use Rattle.board.specs.Changes.{is_shown_kind};
 ghost use Rattle.board.specs.Space.{register_load, register_store};
 ghost use Rattle.board.specs.New.{hidden, reset_device};
+ghost use Rattle.board.specs.Inner.Parts.{MayBeShown};
 ghost use Rattle.board.specs.Inner.Remembers.{still};
 
 use crate::remembered::{Remembered, forget_if_changed};
@@ -21,15 +23,19 @@ pub struct Fitted<D: Device> {
 }
 
 impl<D: Device> Model for Fitted<D> {
-    ghost use Rattle.dev_core.specs.Device.{IsValid, dev_line};
+    ghost use Rattle.dev_core.specs.Device.{IsValid, dev_line, kind_of};
     ghost use Rattle.board.specs.Space.{Fitted as Seen};
+    ghost use Rattle.board.specs.Inner.Parts.{MayBeShown};
     ghost use Rattle.board.specs.Inner.Remembers.{IsLine};
 
     ghost Value = { Seen };
 
     ghost view = { λ f. record { state = D.meaning f.device; shown = f.shown } };
 
-    ghost invariant = { λ f. IsValid (D.meaning f.device) × IsLine f.up (dev_line (D.meaning f.device)) };
+    ghost invariant = { λ f.
+        IsValid (D.meaning f.device)
+        × IsLine f.up (dev_line (D.meaning f.device))
+        × MayBeShown (kind_of (D.meaning f.device)) f.shown };
 }
 
 impl<D: Device> Fitted<D> {
@@ -47,13 +53,15 @@ impl<D: Device> Fitted<D> {
     }
 
     pub fn is_shown(&self) -> bool
-        ensures { result ≡ self.now.shown }
+        ensures value { result ≡ self.now.shown }
+        ensures kind { MayBeShown (kind_of self.now.state) result }
     {
         self.shown
     }
 
     /// Shows the device.
     pub fn show(&mut self)
+        requires { IsTrue (is_shown_kind (kind_of self.old.state)) }
         ensures after { self.new ≡ record self.old { shown = true } }
         ensures kind { kind_of self.new.state ≡ kind_of self.old.state }
         ensures valid { IsValid self.new.state }
@@ -192,6 +200,18 @@ impl<D: Device> Fitted<D> {
     {
         self.up = None;
         let _put = self.device.put(state);
+    }
+
+    /// Brings the device to a state of its kind, shown or not.
+    pub fn bring_to(&mut self, state: &DevState, shown: bool)
+        requires kind { kind_of state.now ≡ kind_of self.old.state }
+        requires valid { IsValid state.now }
+        requires shown { MayBeShown (kind_of state.now) shown }
+        ensures { self.new ≡ record { state = state.now; shown = shown } }
+    {
+        self.up = None;
+        let _put = self.device.put(state);
+        self.shown = shown;
     }
 
     /// Whether the interrupt line is up.

@@ -2,12 +2,13 @@
 ghost use Rattle.std.specs.Prelude.{◌≡◌, ◌<◌, ◌≤◌, ◌^◌, ◌||◌, length, map, All, IfOk};
 ghost use Rattle.std.specs.List.{list_all, range_with_len};
 ghost use Rattle.rv_hart.specs.Core.{initial};
+ghost use Rattle.rv_hart.specs.HartState.{core_of, state_of, IsHartState};
 ghost use Rattle.board.specs.Idle.{all_halted, core_passed, is_idle, turns_of};
 ghost use Rattle.board.specs.New.{new_cores, reset_core};
 ghost use Rattle.board.specs.Inner.Seat.{all_passed};
 
 use lab_num::NoMemory;
-use rv_hart::{Hart, Letters};
+use rv_hart::{Hart, HartState, Letters};
 use std::alloc::Global;
 
 /// So many processors of these letters, whose numbers are their places.
@@ -98,5 +99,47 @@ pub fn pass_cycles(harts: &mut [Hart], next: u64, slots: u64)
     let count = harts.len() as u64;
     for (number, hart) in harts.iter_mut().enumerate() {
         pass(hart, turns_of(count, next, slots, number as u64));
+    }
+}
+
+/// All that processors hold.
+pub fn states_of(alloc: Global, harts: &[Hart]) -> Result<Vec<HartState>, NoMemory>
+    ensures { IfOk result (λ states. states.items ≡ map state_of harts.now) }
+{
+    let mut states = Vec::new(alloc);
+    for hart in harts {
+        states.push(hart.state())?;
+    }
+    Ok(states)
+}
+
+/// At every moment a processor is in a state that there is.
+pub fn harts_are_sound(harts: &[Hart])
+    ensures { All (λ core. IsHartState (state_of core)) harts.now }
+{
+    for hart in harts {
+        let _state = hart.state();
+    }
+}
+
+/// Brings a processor to a state.
+fn bring_to(hart: &mut Hart, state: &HartState)
+    requires { IsHartState state.now }
+    ensures { hart.new ≡ core_of state.now }
+{
+    let Some(brought) = Hart::of(state) else {
+        unreachable!()
+    };
+    *hart = brought;
+}
+
+/// Brings each to its state.
+pub fn bring_all_to(harts: &mut [Hart], states: &[HartState])
+    requires count { length states.now ≡ length harts.old }
+    requires sound { All IsHartState states.now }
+    ensures { harts.new ≡ map core_of states.now }
+{
+    for (number, hart) in harts.iter_mut().enumerate() {
+        bring_to(hart, &states[number]);
     }
 }

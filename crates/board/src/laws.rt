@@ -6,11 +6,14 @@ ghost use Rattle.rv_hart.specs.Core.{Core};
 ghost use Rattle.rv_hart.specs.declared.csr.Lines.{Lines};
 ghost use Rattle.rv_exec.specs.Effect.{effect};
 ghost use Rattle.rv_atomic.specs.AtomicEffect.{leaves};
+ghost use Rattle.board.specs.declared.state.BoardState.{BoardState};
+ghost use Rattle.board.specs.BoardState.{board_state, brought_to};
 ghost use Rattle.board.specs.Fetch.{effect_on, fetched_by};
 ghost use Rattle.board.specs.HartView.{HartView};
 ghost use Rattle.board.specs.View.{View, quiet, after};
 ghost use Rattle.board.specs.New.{IsSameKept, reset};
 ghost use Rattle.board.specs.Slot.{slot};
+ghost use Rattle.board.specs.Valid.{IsBoard, IsStateFor};
 ghost use Rattle.board.specs.Stretch.{stretch, in_turns};
 ghost use Rattle.board.specs.Idle.{IsIdle, IsStillFor, all_halted, passed, turns_of};
 ghost use Rattle.board.specs.Lines.{sampled};
@@ -126,6 +129,14 @@ pub fn samples_settle()
 {
     second_samples_change_nothing();
 }
+
+/// A board that is brought to the state in which it is stays as it is. One that is brought to any
+/// other state of its plan is in that state, and is one that there can be.
+pub fn states_are_put_back()
+    ensures same { (v : View) → IsBoard v → brought_to v (board_state v) ≡ v }
+    ensures brought { (v : View) (s : BoardState) → IsStateFor v.space.plan s → IsBoard v →
+        (board_state (brought_to v s) ≡ s) × IsBoard (brought_to v s) }
+{}
 
 /// What a reset leaves depends on nothing that the processor and the devices had come to.
 pub fn resets_agree()

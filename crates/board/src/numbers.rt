@@ -1,7 +1,9 @@
 //! The numbers of a board.
 ghost use Rattle.std.specs.Prelude.{◌≡◌};
+ghost use Rattle.board.specs.BoardState.{numbers_to};
 ghost use Rattle.board.specs.Numbers.{after_post, after_entry};
 
+use crate::state::BoardState;
 use lab_num::BoardNo;
 use std::marker::Model;
 
@@ -53,5 +55,14 @@ impl Numbers {
         ensures { self.new ≡ after_entry self.old }
     {
         self.entered = self.entered.saturating_add(1);
+    }
+
+    /// Brings the speed and the counts to those of a state.
+    pub fn bring_to(&mut self, s: &BoardState)
+        ensures { self.new ≡ numbers_to self.old s.now }
+    {
+        self.speed = s.speed;
+        self.posted = s.posted;
+        self.entered = s.entries;
     }
 }

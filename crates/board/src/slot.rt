@@ -3,7 +3,8 @@ ghost use Rattle.std.specs.Prelude.{◌≡◌, ◌<◌, true, length, OnOk, OnEr
 ghost use Rattle.rv_exec.specs.Laws.{IsSameHart};
 ghost use Rattle.rv_hart.specs.Trap.{chosen, interrupt};
 ghost use Rattle.board.specs.HartView.{hart_state};
-ghost use Rattle.board.specs.Inner.Fit.{IsStateOf, in_state};
+ghost use Rattle.board.specs.Inner.Fit.{IsStateOf};
+ghost use Rattle.board.specs.BoardState.{controller_to};
 ghost use Rattle.board.specs.Inner.Seat.{behind, seen, ways_of};
 ghost use Rattle.board.specs.Lines.{sampled, lines_of};
 ghost use Rattle.board.specs.Slot.{hart_slot, running, sampling, awake, asleep};

@@ -13,13 +13,13 @@ mod wire;
 pub use limits::{
     LEAST_CLINT, LEAST_PLIC, MOST_CANS, MOST_CONTEXTS, MOST_FINISHERS, MOST_FREQUENCY,
     MOST_MEMORIES, MOST_MEMORY, MOST_PROCESSORS, MOST_SOURCES, MOST_SPEED, MOST_UARTS, PAGE_SIZE,
-    REGION_UNIT, least_device_size,
+    REGION_UNIT, is_speed, least_device_size,
 };
 pub use near::Place;
 pub use plan::{BoardPlan, Named, NamedWhat, PlicSize};
 pub use region::{Region, RegionKind, Target};
 pub use regions::{
     Regions, accesses_belong_to_one_region, an_address_lies_in_one_region,
-    bytes_of_a_region_belong_together,
+    bytes_of_a_region_belong_together, target_of,
 };
 pub use wire::{Wire, WireFrom, WirePin, is_context, may_end};

@@ -176,6 +176,18 @@ impl Regions {
     }
 }
 
+/// What an access of `width` bytes belongs to, where a board has these regions.
+pub fn target_of(regions: &[Region], at: u32, width: u8) -> Target
+    ensures { result ≡ target_of regions.now at width }
+{
+    for region in regions {
+        if region.holds(at, width) {
+            return region.target(at);
+        }
+    }
+    Target::Nothing
+}
+
 /// Of regions of which no two have a byte in common, at most one holds an access.
 pub fn accesses_belong_to_one_region()
     ensures { (regions : List Region) (at width : ℕ) → 0 < width → IsTrue (are_apart regions) →

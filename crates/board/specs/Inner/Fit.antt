@@ -9,6 +9,7 @@ use Rattle.sys_bus.specs.declared.near.Place.{Place}
 use Rattle.sys_bus.specs.declared.region.Target.{Target}
 use Rattle.sys_bus.specs.declared.region.Target.TheVariants.{Ram, Clint, Plic, Dev, Nothing}
 use Rattle.sys_bus.specs.Plan.{IsValid}
+use Rattle.board.specs.BoardState.{controller_to}
 use Rattle.board.specs.New.{size_of}
 use Rattle.board.specs.Space.{Space, memory_at, target_at}
 use Rattle.board.specs.View.{View}
@@ -48,17 +49,12 @@ pub record HoldsAccess (s : Space) (at : ℕ) (place : Place) (width : ℕ) : Ty
 abbrev pub HoldsAccesses : Space → ℕ → Place → Type 0
 HoldsAccesses s at place = (width : ℕ) → IsAccess at width → HoldsAccess s at place width
 
--- a state that an interrupt controller can have, where there is one, and the controller in it
+-- a state that an interrupt controller can have, where there is one
 abbrev pub IsStateOf : Option Controller → Option PlicState → Type 0
 IsStateOf (Some c) (Some state) = IsPlicState c.sources c.contexts state
 IsStateOf (Some c) None = Unit {0}
 IsStateOf None state = Unit {0}
 
-abbrev pub in_state : Option Controller → Option PlicState → Option Controller
-in_state (Some c) (Some state) = Some (record c { state = state })
-in_state (Some c) None = Some c
-in_state None state = None
-
 abbrev pub with_controller : View → Option PlicState → View
 with_controller v state =
-    record v { space = record v.space { controller = in_state v.space.controller state } }
+    record v { space = record v.space { controller = controller_to v.space.controller state } }

@@ -2,6 +2,7 @@
 use Rattle.std.specs.Prelude.{◌≡◌, ℕ, ◌%◌, ◌<◌, ◌≤◌, List, [], ◌∷◌, Option, All, length, map}
 use Rattle.std.specs.List.{range_with_len}
 use Rattle.rv_hart.specs.Core.{Core}
+use Rattle.board.specs.Valid.{IsReservation}
 use Rattle.board.specs.View.{View, State}
 use Rattle.board.specs.Wires.{Wires}
 
@@ -26,6 +27,7 @@ pub record Holds (v : View) : Type 0 where
   pub harts : length v.cores ≡ length v.space.plan.cpus
   pub letters : All (λ core. core.letters ≡ v.space.plan.letters) v.cores
   pub numbers : map (λ core. core.number) v.cores ≡ range_with_len 0 (length v.cores)
-  -- the one that takes the next slot is one of them, and each may have a reservation
+  -- the one that takes the next slot is one of them, and each may have a reservation, of a word of a memory
   pub next : v.next < length v.cores
   pub watch : length v.watch ≡ length v.cores
+  pub reserved : All (IsReservation v.space.plan) v.watch

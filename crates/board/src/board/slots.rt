@@ -1,11 +1,12 @@
 //! The slots of a turn.
-ghost use Rattle.std.specs.Prelude.{◌≡◌, ◌+◌, ◌/◌, ◌<◌, ◌≤◌, false, length, OnOk, OnErr};
+ghost use Rattle.std.specs.Prelude.{◌≡◌, ◌+◌, ◌/◌, ◌<◌, ◌≤◌, false, length, All, OnOk, OnErr};
 ghost use Rattle.rv_exec.specs.Laws.{IsSameHart};
 ghost use Rattle.board.specs.Inner.Ended.{HasEnded, taken_of};
 ghost use Rattle.board.specs.Inner.Holds.{state_alone};
 ghost use Rattle.board.specs.Inner.Seat.{ways_of};
 ghost use Rattle.board.specs.Slot.{slot, number_after};
 ghost use Rattle.board.specs.Stretch.{IsTurn, stretch};
+ghost use Rattle.board.specs.Valid.{IsReservation};
 ghost use Rattle.board.specs.View.{after};
 
 use super::{Board, SlotAt, Turn};
@@ -80,6 +81,8 @@ fn slots_alone<const COPY: u8, D: Device>(
         state_alone hart.new watch.new wires.new ≡ after old (stretch old.view now.0 0 (taken_of count result)) }
     ensures same { IsSameHart hart.old hart.new }
     ensures watch { length watch.new ≡ length watch.old }
+    ensures reserved { All (IsReservation wires.old.space.plan) watch.old →
+        All (IsReservation wires.old.space.plan) watch.new }
 {
     for i in 0..count {
         let Ok(idle) = slot::<COPY, D>(hart, 0, watch, wires, ways, now) else {

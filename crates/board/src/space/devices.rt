@@ -1,13 +1,19 @@
 //! The devices of a board.
-ghost use Rattle.std.specs.Prelude.{◌≡◌, ◌<◌, ◌^◌, ◌⊎◌, length, map, true};
+ghost use Rattle.std.specs.Prelude.{◌≡◌, ◌<◌, ◌^◌, ◌⊎◌, length, map, true, All, IfOk, IsTrue};
 ghost use Rattle.dev_core.specs.Device.{dev_take, kind_of, IsValid};
 ghost use Rattle.rv_exec.specs.Access.{IsWidth};
 ghost use Rattle.board.specs.Space.{device_at, with_device, with_state, register_at, register_of, device_load};
 ghost use Rattle.board.specs.Space.{device_store};
+ghost use Rattle.board.specs.BoardState.{devices_in};
+ghost use Rattle.board.specs.Changes.{is_shown_kind};
+ghost use Rattle.board.specs.Inner.Parts.{AreDevices, AreShown, MayBeShown};
 ghost use Rattle.board.specs.New.{reset_device, reset_space};
 
 use super::Space;
+use crate::fitted::Fitted;
 use dev_core::{DevState, Device, Effect, Payload, Taken};
+use lab_num::NoMemory;
+use std::alloc::Global;
 
 /// The register at a place of a device whose registers begin 1 or 4 bytes apart.
 fn register_at(step: u8, at: u32) -> Option<u32>
@@ -18,6 +24,26 @@ fn register_at(step: u8, at: u32) -> Option<u32>
         1 => Some(at),
         _ if at % 4 == 0 => Some(at / 4),
         _ => None,
+    }
+}
+
+/// Devices are shown only where they may be.
+fn shown_ones_may_be<D: Device>(devices: &[Fitted<D>])
+    ensures { All (λ f. MayBeShown (kind_of f.state) f.shown) devices.now }
+{
+    for device in devices {
+        let _shown = device.is_shown();
+    }
+}
+
+/// Brings each device to its state, shown or not.
+fn bring_all_to<D: Device>(devices: &mut [Fitted<D>], states: &[DevState], shown: &[bool])
+    requires devices { AreDevices (map (λ f. kind_of f.state) devices.old) states.now }
+    requires shown { AreShown (map (λ f. kind_of f.state) devices.old) shown.now }
+    ensures { devices.new ≡ devices_in states.now shown.now }
+{
+    for (dev, device) in devices.iter_mut().enumerate() {
+        device.bring_to(&states[dev], shown[dev]);
     }
 }
 
@@ -72,14 +98,54 @@ impl<D: Device> Space<D> {
         self.devices[usize::from(dev)].is_shown()
     }
 
-    /// Shows a device.
+    /// Shows a UART or a CAN controller.
     pub fn show(&mut self, dev: u8)
-        requires { dev < length self.old.devices }
+        requires dev { dev < length self.old.devices }
+        requires kind { IsTrue (is_shown_kind (kind_of (device_at self.old dev).state)) }
         ensures { self.new ≡
             with_device self.old dev (record (device_at self.old dev) { shown = true }) }
     {
         self.remembered = None;
         self.devices[usize::from(dev)].show();
+    }
+
+    /// At every moment a device that is shown is a UART or a CAN controller.
+    pub fn shown_ones_may_be(&self)
+        ensures { All (λ f. MayBeShown (kind_of f.state) f.shown) self.now.devices }
+    {
+        shown_ones_may_be(&self.devices);
+    }
+
+    /// The states of the devices.
+    pub fn states(&self, alloc: Global) -> Result<Vec<DevState>, NoMemory>
+        ensures { IfOk result (λ states. states.items ≡ map (λ f. f.state) self.now.devices) }
+    {
+        let mut states = Vec::new(alloc);
+        for device in &self.devices {
+            states.push(device.state())?;
+        }
+        Ok(states)
+    }
+
+    /// Which devices are shown.
+    pub fn shown(&self, alloc: Global) -> Result<Vec<bool>, NoMemory>
+        ensures { IfOk result (λ shown. shown.items ≡ map (λ f. f.shown) self.now.devices) }
+    {
+        let mut shown = Vec::new(alloc);
+        for device in &self.devices {
+            shown.push(device.is_shown())?;
+        }
+        Ok(shown)
+    }
+
+    /// Brings each device to its state, shown or not.
+    pub fn put_devices(&mut self, states: &[DevState], shown: &[bool])
+        requires devices { AreDevices self.old.plan.kinds states.now }
+        requires shown { AreShown self.old.plan.kinds shown.now }
+        ensures { self.new ≡ record self.old { devices = devices_in states.now shown.now } }
+    {
+        self.remembered = None;
+        bring_all_to(&mut self.devices, states, shown);
     }
 
     pub fn state(&self, dev: u8) -> DevState

@@ -4,10 +4,13 @@ ghost use Rattle.rv_exec.specs.Access.{IsWidth};
 ghost use Rattle.board.specs.Lines.{sampled_by};
 ghost use Rattle.board.specs.New.{reset_timer, reset_controller, size_of};
 ghost use Rattle.board.specs.Space.{timer_load, timer_stored, controller_load, controller_loaded, controller_stored};
-ghost use Rattle.board.specs.Inner.Fit.{IsStateOf, in_state};
+ghost use Rattle.board.specs.Inner.Fit.{IsStateOf};
+ghost use Rattle.board.specs.BoardState.{controller_to, space_to, timer_to};
+ghost use Rattle.board.specs.Valid.{IsStateFor};
 
 use super::Space;
-use clint::Clint;
+use crate::state::BoardState;
+use clint::{Clint, ClintState};
 use dev_core::Device;
 use lab_num::Micros;
 use plic::{Plic, PlicState};
@@ -76,11 +79,21 @@ pub(super) fn sample(controller: &mut Option<Plic>, sources: u128)
 /// Puts an interrupt controller back into a state that it had.
 fn put_back(controller: &mut Option<Plic>, state: &Option<PlicState>)
     requires { IsStateOf controller.old state.now }
-    ensures after { controller.new ≡ in_state controller.old state.now }
+    ensures after { controller.new ≡ controller_to controller.old state.now }
     ensures kept { option_map size_of controller.new ≡ option_map size_of controller.old }
 {
     if let (Some(controller), Some(state)) = (controller, state) {
         let _put = controller.put(state);
+    }
+}
+
+/// Brings a timer to a state.
+fn bring_to(timer: &mut Option<Clint>, state: &Option<ClintState>)
+    ensures after { timer.new ≡ timer_to timer.old state.now }
+    ensures kept { option_map (λ c. c.frequency) timer.new ≡ option_map (λ c. c.frequency) timer.old }
+{
+    if let (Some(timer), Some(state)) = (timer, state) {
+        timer.put(state);
     }
 }
 
@@ -143,10 +156,36 @@ impl<D: Device> Space<D> {
     /// Puts the interrupt controller back into a state that it had.
     pub fn put_controller(&mut self, state: &Option<PlicState>)
         requires { IsStateOf self.old.controller state.now }
-        ensures { self.new ≡ record self.old { controller = in_state self.old.controller state.now } }
+        ensures { self.new ≡ record self.old { controller = controller_to self.old.controller state.now } }
     {
         self.remembered = None;
         put_back(&mut self.controller, state);
+    }
+
+    /// The state of the timer, where there is one.
+    pub fn timer_state(&self) -> Option<ClintState>
+        ensures { result ≡ option_map (λ c. c.state) self.now.timer }
+    {
+        Some(self.timer.as_ref()?.state())
+    }
+
+    /// Brings the timer to a state.
+    fn put_timer(&mut self, state: &Option<ClintState>)
+        ensures { self.new ≡ record self.old { timer = timer_to self.old.timer state.now } }
+    {
+        self.remembered = None;
+        bring_to(&mut self.timer, state);
+    }
+
+    /// Brings all but the memories to a state.
+    pub fn bring_to(&mut self, s: &BoardState)
+        requires { IsStateFor self.old.plan s.now }
+        ensures { self.new ≡ space_to self.old s.now }
+    {
+        let _plan = self.plan(); // the interrupt controller is of its size
+        self.put_timer(&s.clint);
+        self.put_controller(&s.plic);
+        self.put_devices(s.devices.items(), s.shown.items());
     }
 
     /// Brings the timer and the interrupt controller into their reset states.

@@ -1,6 +1,7 @@
 //! The memories of a board.
 ghost use Rattle.std.specs.Prelude.{◌≡◌, ◌+◌, ◌<◌, ◌≤◌, ◌%◌, length, take, IsTrue, IfOk, OnOk, OnErr};
 ghost use Rattle.page_ram.specs.Bytes.{zeros};
+ghost use Rattle.board.specs.Space.{memory_at, with_memory};
 ghost use Rattle.board.specs.Wires.{word_in};
 ghost use Rattle.board.specs.Changes.{in_memory, holds_each, copied};
 ghost use Rattle.board.specs.Inner.Copies.{CopiesPrefix, HasRoom, IsRoom};
@@ -8,6 +9,7 @@ ghost use Rattle.board.specs.Inner.Copies.{CopiesPrefix, HasRoom, IsRoom};
 use super::Space;
 use dev_core::Device;
 use lab_num::NoMemory;
+use page_ram::PageRam;
 use sys_bus::{Target, bytes_of_a_region_belong_together};
 
 /// Bytes of a memory, from an address to the memory's end.
@@ -50,6 +52,23 @@ impl<D: Device> Space<D> {
             unreachable!()
         };
         room
+    }
+
+    /// The bytes of a memory.
+    pub fn memory(&self, part: u8) -> &PageRam
+        requires { part < length self.now.memories }
+        ensures { result.now ≡ memory_at self.now part }
+    {
+        &self.memories[usize::from(part)]
+    }
+
+    /// Puts another memory of the same size in the place of one.
+    pub fn put_memory(&mut self, part: u8, memory: PageRam)
+        requires part { part < length self.old.memories }
+        requires size { length memory ≡ length (memory_at self.old part) }
+        ensures { self.new ≡ with_memory self.old part memory }
+    {
+        self.memories[usize::from(part)] = memory;
     }
 
     /// The word of memory at an address. None where no memory holds all four bytes.

@@ -1,5 +1,6 @@
 use Rattle.std.proofs.Common.{◌∙◌, ap, sym, length}
-use Rattle.board.proofs.SeatLemmas.{awake-instruction, length-shared}
+use Rattle.board.proofs.SeatLemmas.{awake-instruction}
+use Rattle.board.proofs.WatchLemmas.{length-shared}
 use Rattle.board.proofs.slot.act.Goals as goal
 
 pub returns-clause-ok : goal.returns-clause-ok
@@ -11,4 +12,4 @@ returns-clause-ok g c =
 
 pub returns-clause-watch : goal.returns-clause-watch
 returns-clause-watch g c =
-    let ok = c.in-Ok.ensures {u = tt} in ap length ok.watch ∙ length-shared _ _ _ _ _ _
+    let ok = c.in-Ok.ensures {u = tt} in ap length ok.watch ∙ length-shared _ _ _ _ c.begin_slot.new.self _

@@ -3,7 +3,7 @@ use Rattle.std.specs.Prelude.{Option, option_map}
 use Rattle.plic.specs.declared.state.PlicState.{PlicState}
 use Rattle.sys_bus.specs.declared.plan.BoardPlan.{BoardPlan}
 use Rattle.board.specs.HartView.{HartState, hart_state}
-use Rattle.board.specs.Inner.Fit.{in_state}
+use Rattle.board.specs.BoardState.{controller_to}
 use Rattle.board.specs.Inner.Made.{wires_with}
 use Rattle.board.specs.Inner.Seat.{ways_of}
 use Rattle.board.specs.Lines.{sampled}
@@ -47,11 +47,11 @@ put_controller-requires g c =
 abbrev put_back : Option PlicState → HartState → HartState
 put_back state s =
     record s {
-      view = record s.view { space = record s.view.space { controller = in_state s.view.space.controller state } };
+      view = record s.view { space = record s.view.space { controller = controller_to s.view.space.controller state } };
     }
 
 back : (s now : Space) (state : Option PlicState) → now ≡ sampled s →
-    state ≡ option_map (λ c. c.state) s.controller → record now { controller = in_state now.controller state } ≡ s
+    state ≡ option_map (λ c. c.state) s.controller → record now { controller = controller_to now.controller state } ≡ s
 unfolding sampled
 back s now state is was = rw is (undone s state was)
 

@@ -1,14 +1,12 @@
-use Rattle.std.proofs.Common.{◌∙◌, ap, sym, subst, length}
-use Rattle.std.proofs.lemmas.List.{length-replicate}
+use Rattle.std.proofs.Common.{sym, subst}
 use Rattle.board.specs.declared.board.Board.TheInside.{Inside}
 use Rattle.board.specs.Inner.Holds.{Holds, state_of}
-use Rattle.board.proofs.HoldLemmas.{holds_watch, plan_copies}
+use Rattle.board.proofs.HoldLemmas.{holds_cleared, plan_copies}
 use Rattle.board.proofs.board.Board.copy_in.Goals as goal
 
 pub invariant_of-self : goal.invariant_of-self
 invariant_of-self g c =
     let held = subst (λ (b : Inside g.row.D.Denot). Holds (state_of b.harts.items b.next b.watch b.wires).view)
     (sym c.self-inside.view_is) c.self.invariant in
-    holds_watch _ c.clear.new.self c.copy_in.new.self held
-    (plan_copies c.copy_in.result _ _ _ _ c.copy_in.ensures.ok c.copy_in.ensures.err)
-    (ap length c.clear.ensures ∙ length-replicate _ _)
+    holds_cleared _ c.clear.new.self c.copy_in.new.self held
+    (plan_copies c.copy_in.result _ _ _ _ c.copy_in.ensures.ok c.copy_in.ensures.err) c.clear.ensures

@@ -1,10 +1,10 @@
 use Rattle.std.proofs.Common.{◌∙◌, ap, sym, subst, rules, drop, length, map}
-use Rattle.std.proofs.lemmas.List.{length-replicate}
 use Rattle.board.specs.declared.board.Board.TheInside.{Inside}
 use Rattle.board.specs.Inner.Holds.{Holds, state_of}
 use Rattle.board.specs.New.{reset_core}
 use Rattle.board.specs.Space.{Space}
-use Rattle.board.proofs.HoldLemmas.{holds_reset, whole}
+use Rattle.board.proofs.HoldLemmas.{holds_reset}
+use Rattle.board.proofs.ListLemmas.{whole}
 use Rattle.board.proofs.board.Board.reset.Goals as goal
 
 pub invariant_of-self : goal.invariant_of-self
@@ -16,5 +16,4 @@ invariant_of-self g c =
     ∙ c.reset_all.ensures
     ∙ ap (map reset_core) c.deref_mut.ensures.value in
     rw all
-    (holds_reset _ c.clear.new.self c.reset.new.self held (ap {A = Space} (λ s. s.plan) c.reset.ensures)
-    (ap length c.clear.ensures ∙ length-replicate _ _))
+    (holds_reset _ c.clear.new.self c.reset.new.self held (ap {A = Space} (λ s. s.plan) c.reset.ensures) c.clear.ensures)

@@ -15,4 +15,4 @@ invariant_of-self g c =
     (record {
       letters = ap {A = Core} (λ core. core.letters) c.set_pc.ensures;
       number = ap {A = Core} (λ core. core.number) c.set_pc.ensures;
-    }) refl c.self.invariant.next
+    }) refl c.self.invariant.next c.self.invariant.reserved

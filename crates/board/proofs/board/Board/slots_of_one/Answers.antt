@@ -21,6 +21,7 @@ invariant_of-self g c =
     (ap {A = State} (λ s. s.view.numbers.speed) run ∙ speed-stretch _ _ _ _)
     (ap {A = State} (λ s. s.view.space.plan) run ∙ plan-stretch _ _ _ _) (omega (arith, c.self.invariant.next))
     c.index_mut-hart.ensures.value c.slots_alone.ensures.same c.slots_alone.ensures.watch c.self.invariant.next
+    (c.slots_alone.ensures.reserved c.self.invariant.reserved)
 
 pub returns-clause-run : goal.returns-clause-run
 returns-clause-run g c =

@@ -1,16 +1,15 @@
-use Rattle.std.proofs.Common.{◌∙◌, ap, sym, subst, length}
-use Rattle.std.proofs.lemmas.List.{length-replicate}
+use Rattle.std.proofs.Common.{◌∙◌, ap, sym, subst}
 use Rattle.page_ram.specs.Bytes.{zeros}
 use Rattle.board.specs.declared.board.Board.TheInside.{Inside}
 use Rattle.board.specs.Inner.Holds.{Holds, state_of}
 use Rattle.board.specs.Space.{Space}
 use Rattle.board.proofs.CopyLemmas.{plan-copied}
-use Rattle.board.proofs.HoldLemmas.{holds_watch}
+use Rattle.board.proofs.HoldLemmas.{holds_cleared}
 use Rattle.board.proofs.board.Board.zero.Goals as goal
 
 pub invariant_of-self : goal.invariant_of-self
 invariant_of-self g c =
     let held = subst (λ (b : Inside g.row.D.Denot). Holds (state_of b.harts.items b.next b.watch b.wires).view)
     (sym c.self-inside.view_is) c.self.invariant in
-    holds_watch _ c.clear.new.self c.zero.new.self held
-    (ap {A = Space} (λ s. s.plan) c.zero.ensures ∙ plan-copied _ c.args.at (zeros c.args.count)) (ap length c.clear.ensures ∙ length-replicate _ _)
+    holds_cleared _ c.clear.new.self c.zero.new.self held
+    (ap {A = Space} (λ s. s.plan) c.zero.ensures ∙ plan-copied _ c.args.at (zeros c.args.count)) c.clear.ensures

@@ -1,10 +1,17 @@
-use Rattle.std.proofs.Common.{◌∙◌, ap, sym, refl, arith, length}
+use Rattle.std.proofs.Common.{◌≡◌, ◌∙◌, ℕ, All, List, ap, sym, subst, refl, arith, length}
+use Rattle.std.specs.Prelude.{Option}
+use Rattle.rv_hart.specs.Core.{Core}
 use Rattle.sys_bus.specs.declared.plan.BoardPlan.{BoardPlan}
 use Rattle.board.proofs.NumberLemmas.{plan-stretch}
 use Rattle.board.proofs.StretchLemmas.{after_none, after_next}
 use Rattle.board.proofs.TurnLemmas.{taken_alone}
-use Rattle.board.specs.Inner.Seat.{ways_of}
+use Rattle.board.proofs.WatchLemmas.{reserved_after}
+use Rattle.board.specs.HartView.{hart_state}
+use Rattle.board.specs.Inner.Seat.{behind, ways_of}
+use Rattle.board.specs.Slot.{hart_slot}
+use Rattle.board.specs.Valid.{IsReservation}
 use Rattle.board.specs.View.{State}
+use Rattle.board.specs.Wires.{Wires}
 use Rattle.board.proofs.board.slots.slots_alone.Goals as goal
 
 pub loop-i-init : goal.loop-i-init
@@ -12,6 +19,7 @@ loop-i-init g c = record {
   run = after_none _ _ _;
   same = record { letters = refl; number = refl };
   watch = refl;
+  reserved = λ all. all;
 }
 
 pub slot-requires-clause-ways : goal.slot-requires-clause-ways
@@ -28,6 +36,25 @@ pub slot-requires-clause-harts : goal.slot-requires-clause-harts
 slot-requires-clause-harts g c =
     let kept = ap {A = State} (λ s. s.view.space.plan) c.loop-i.invariant.run ∙ plan-stretch _ _ _ _ in
     c.loop-i.invariant.watch ∙ c.requires.harts ∙ ap {A = BoardPlan} (λ plan. length plan.cpus) (sym kept)
+
+-- the reservations after one slot more
+one_more :
+    (core core' : Core) (watch watch' : List (Option ℕ)) (w w' : Wires) (plan : BoardPlan) (t : ℕ) →
+    w.space.plan ≡ plan → core.letters ≡ plan.letters →
+    hart_state 0 core' watch' w'
+    ≡ behind (hart_state 0 core watch w) (hart_slot (hart_state 0 core watch w).view t) →
+    All (IsReservation plan) watch → All (IsReservation plan) watch'
+one_more core core' watch watch' w w' plan t same own done =
+    subst
+    (λ (p : BoardPlan). core.letters ≡ p.letters → All (IsReservation p) watch → All (IsReservation p) watch') same
+    (reserved_after 0 core core' watch watch' w w' t done) own
+
+pub returns-then-idle-clause-reserved : goal.returns-then-idle-clause-reserved
+returns-then-idle-clause-reserved g c = λ all.
+    let kept = ap {A = State} (λ s. s.view.space.plan) c.loop-i.invariant.run ∙ plan-stretch _ _ _ _ in
+    one_more c.loop-i.hart c.slot.new.hart c.loop-i.watch c.slot.new.watch c.loop-i.wires c.slot.new.wires
+    c.args.wires.now.space.plan c.args.now.0 kept (c.loop-i.invariant.same.letters ∙ c.requires.letters) c.in-Ok.ensures.ok
+    (c.loop-i.invariant.reserved all)
 
 pub returns-then-idle-clause-run : goal.returns-then-idle-clause-run
 returns-then-idle-clause-run g c =
@@ -47,4 +74,9 @@ loop-i-preserved g c = record {
         number = c.in-Ok.ensures.same.number ∙ c.loop-i.invariant.same.number;
       };
   watch = c.in-Ok.ensures.watch ∙ c.loop-i.invariant.watch;
+  reserved = λ all.
+      let kept = ap {A = State} (λ s. s.view.space.plan) c.loop-i.invariant.run ∙ plan-stretch _ _ _ _ in
+      one_more c.loop-i.hart c.slot.new.hart c.loop-i.watch c.slot.new.watch c.loop-i.wires c.slot.new.wires
+      c.args.wires.now.space.plan c.args.now.0 kept (c.loop-i.invariant.same.letters ∙ c.requires.letters)
+      c.in-Ok.ensures.ok (c.loop-i.invariant.reserved all);
 }

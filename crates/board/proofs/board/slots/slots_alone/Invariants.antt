@@ -1,5 +1,6 @@
-use Rattle.std.proofs.Common.{◌≡◌, length}
+use Rattle.std.proofs.Common.{◌≡◌, All, length}
 use Rattle.rv_exec.specs.Laws.{IsSameHart}
+use Rattle.board.specs.Valid.{IsReservation}
 use Rattle.board.specs.View.{after}
 use Rattle.board.specs.Stretch.{stretch}
 use Rattle.board.specs.Inner.Holds.{state_alone}
@@ -13,4 +14,6 @@ invariant-loop-i g l =
       run : state_alone l.hart l.watch l.wires ≡ after old (stretch old.view l.now.0 0 l.i);
       same : IsSameHart l.fn.hart l.hart;
       watch : length l.watch ≡ length l.fn.watch;
+      reserved :
+          All (IsReservation l.fn.wires.space.plan) l.fn.watch → All (IsReservation l.fn.wires.space.plan) l.watch;
     }

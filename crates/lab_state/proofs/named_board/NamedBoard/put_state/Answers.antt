@@ -5,7 +5,7 @@ use Rattle.board.specs.View.{State}
 use Rattle.lab_state.specs.Board.{Board}
 use Rattle.lab_state.proofs.named_board.NamedBoard.put_state.Goals as goal
 
-pub put_state-requires-clause-fits : goal.put_state-requires-clause-fits
-put_state-requires-clause-fits g c =
+pub put_state-requires : goal.put_state-requires
+put_state-requires g c =
     c.requires c.in-Some.board.view
     (ap (λ (b : Board). b.view) (sym c.self.view_is) ∙ ap (option_map (λ (s : State). s.view)) c.in-Some.is)
