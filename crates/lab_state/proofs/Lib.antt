@@ -3,6 +3,7 @@ pub mod ListLemmas
 pub mod HubLemmas
 pub mod PendingLemmas
 pub mod SpareLemmas
+pub mod SenderLemmas
 pub mod SoundLemmas
 pub mod ChangeLemmas
 pub mod KeyLemmas
@@ -10,6 +11,10 @@ pub mod TimeLemmas
 pub mod LendLemmas
 pub mod RoundLemmas
 pub mod RunLemmas
+pub mod SentLemmas
 pub mod FaultLemmas
 pub mod HandedLemmas
 pub mod UndelayedLemmas
+pub mod ToldLemmas
+pub mod ValidLemmas
+pub mod ResumeLemmas

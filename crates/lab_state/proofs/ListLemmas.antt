@@ -1,23 +1,30 @@
 -- Lists: a change of one place, maps, and names.
-use Rattle.std.proofs.Common.{◌≡◌, ◌∙◌, sym, ap, refl, Bool, false, not, cond, ℕ, zero, suc, ◌+◌, ◌<◌, ◌≤◌, List, []}
-use Rattle.std.proofs.Common.{◌∷◌, ◌++◌, length, map, set, get_or, take, drop, slice_get, Option, Some, None, arith}
+use Rattle.std.proofs.Common.{◌≡◌, ◌∙◌, sym, ap, refl, Bool, true, false, not, cond, ℕ, zero, suc, ◌+◌, ◌<◌, ◌≤◌, List, []}
+use Rattle.std.proofs.Common.{◌∷◌, ◌++◌, length, map, set, get_or, take, drop, slice_get, Option, Some, None, subst, arith}
 use Rattle.std.specs.Prelude.{is_some, IsSome}
 use Rattle.std.specs.List.{flat_map, All, AllByRecursion, position, position_or_len}
-use Rattle.std.specs.Option.{option_map}
+use Rattle.std.specs.Option.{option_map, option_map_or, ForSome}
+use Rattle.std.specs.Ordering.{is_lt}
 use Rattle.std.specs.Str.{bytes_eq}
 use Rattle.std.proofs.lemmas.Bool.Decides.{nat_tests}
 use Rattle.std.proofs.lemmas.Grind.{common_steps}
 use Rattle.std.proofs.lemmas.Simd.{map-map}
-use Rattle.std.proofs.lemmas.List.{take_more, length-map, flat_map_more}
-use Rattle.std.proofs.lemmas.List.Elements.{All-map, All-push, All-cons, All-head, All-tail}
+use Rattle.std.proofs.lemmas.List.{take_more, take_all, length-map, flat_map_more}
+use Rattle.std.proofs.lemmas.List.Elements.{All-nil, All-map, All-append, All-push, All-cons, All-head, All-tail}
 use Rattle.std.proofs.lemmas.List.Quantifiers.{all_pairs_push}
 use Rattle.std.proofs.lemmas.List.Sums.{fails_before_first, position_or_len_is}
 use Rattle.std.proofs.lemmas.Option.{slice_get-map, slice_get_within, get_or_from_slice_get}
 use Rattle.std.proofs.lemmas.Cmp.{nat_list_eq_equiv}
-use Rattle.lab_state.specs.Board.{Board}
+use Rattle.lab_num.specs.declared.key.Key.{Key}
 use Rattle.lab_num.specs.Change.{change_at}
+use Rattle.lab_num.specs.Key.{key_cmp}
+use Rattle.lab_num.specs.Listing.{insert_by_key, listing}
+use Rattle.board.specs.Numbers.{Numbers}
+use Rattle.board.specs.View.{View}
+use Rattle.lab_state.specs.Board.{Board}
 use Rattle.lab_state.specs.One.{view_at}
-use Rattle.lab_state.specs.Inner.Standing.{NamesDiffer, AreNames}
+use Rattle.lab_state.specs.Names.{NamesDiffer, AreNames}
+use Rattle.lab_state.specs.Inner.Time.{numbers_of}
 
 -- ---- a change of one place
 
@@ -62,6 +69,40 @@ All-change P F (x ∷ xs) zero keeps all =
     All-cons P (F x) xs (keeps x refl (All-head P x xs all)) (All-tail P x xs all)
 All-change P F (x ∷ xs) (suc i) keeps all =
     All-cons P x (change_at xs i F) (All-head P x xs all) (All-change P F xs i keeps (All-tail P x xs all))
+
+-- what holds of the first items, and of one more
+pub All-one_more :
+    {A : Type 0} (P : A → Type 0) (xs : List A) (i : ℕ) (d : A) → i < length xs → All P (take i xs) →
+    P (get_or xs i d) → All P (take (i + 1) xs)
+All-one_more P xs i d below so_far here = rw (take_more xs i d below) (All-push P (take i xs) (get_or xs i d) so_far here)
+
+pub All-whole : {A : Type 0} (P : A → Type 0) (xs : List A) (i : ℕ) → length xs ≤ i → All P (take i xs) → All P xs
+All-whole P xs i past all = subst (All P) (take_all i xs past) all
+
+-- what holds of each item of a map
+pub All-unmap :
+    {A B : Type 0} (P : B → Type 0) (f : A → B) (xs : List A) → All P (map f xs) → All (λ x. P (f x)) xs
+All-unmap P f [] all = All-nil (λ x. P (f x))
+All-unmap P f (x ∷ xs) all =
+    All-cons (λ x. P (f x)) x xs (All-head P (f x) (map f xs) all) (All-unmap P f xs (All-tail P (f x) (map f xs) all))
+
+-- what holds of each item holds of each that is listed
+module _ {T : Type 0} (key : T → Key) (P : T → Type 0) where
+  All-insert : (x : T) (xs : List T) → P x → All P xs → All P (insert_by_key key x xs)
+  All-insert x [] here all = All-cons P x [] here all
+  All-insert x (y ∷ ys) here all =
+      by_test (is_lt (key_cmp (key x) (key y))) (All-insert x ys here (All-tail P y ys all))
+    where
+      by_test :
+          (b : Bool) → All P (insert_by_key key x ys) → All P (cond b (x ∷ y ∷ ys) (y ∷ insert_by_key key x ys))
+      by_test true rest = All-cons P x (y ∷ ys) here all
+      by_test false rest = All-cons P y (insert_by_key key x ys) (All-head P y ys all) rest
+
+  pub All-listing : (xs : List T) → All P xs → All P (listing key xs)
+  unfolding listing
+  All-listing [] all = all
+  All-listing (x ∷ xs) all =
+      All-insert x (listing key xs) (All-head P x xs all) (All-listing xs (All-tail P x xs all))
 
 -- what holds of the item at each place, or of none there, where one is written or put at the end
 module _ {A : Type 0} where
@@ -184,6 +225,52 @@ no_board f boards g hubs i name are is =
     ∙ rw here at (are.apart k d below i name (slice_get_within (map g hubs) i name at)))
 
 -- ---- a board that has a plan
+
+-- what holds of what stands under each name
+pub each_view :
+    (P : View → Type 0) (boards : List Board) → All (λ board. ForSome board.view P) boards → (b : ℕ) (v : View) →
+    view_at boards b ≡ Some v → P v
+each_view P [] all b v at = absurd (cc)
+each_view P (board ∷ boards) all zero v at =
+    All-head (λ (board : Board). ForSome board.view P) board boards all v at
+each_view P (board ∷ boards) all (suc b) v at =
+    each_view P boards (All-tail (λ (board : Board). ForSome board.view P) board boards all) b v at
+
+-- and of what is made of it
+pub each_made :
+    {A : Type 0} (f : View → List A) (P : A → Type 0) (boards : List Board) →
+    ((b : ℕ) (v : View) → view_at boards b ≡ Some v → All P (f v)) →
+    All P (flat_map (λ (board : Board). option_map_or f board.view []) boards)
+each_made f P [] all = All-nil P
+each_made f P (board ∷ boards) all =
+    All-append P (option_map_or f board.view []) (flat_map (λ (board : Board). option_map_or f board.view []) boards)
+    (one board.view (all 0)) (each_made f P boards (λ b. all (suc b)))
+  where
+    one : (o : Option View) → ((v : View) → o ≡ Some v → All P (f v)) → All P (option_map_or f o [])
+    one None all = All-nil P
+    one (Some v) all = all v refl
+
+-- the numbers of what stands under a name
+pub numbers_at :
+    (boards : List Board) (b : ℕ) (v : View) → view_at boards b ≡ Some v →
+    slice_get (numbers_of boards) b ≡ Some (Some v.numbers)
+numbers_at [] b v at = absurd (cc)
+numbers_at (board ∷ boards) zero v at = ap (λ o. Some (option_map (λ (v : View). v.numbers) o)) at
+numbers_at (board ∷ boards) (suc b) v at = numbers_at boards b v at
+
+-- and what stands there where there are numbers
+pub numbered_at :
+    (boards : List Board) (b : ℕ) (n : Numbers) → slice_get (numbers_of boards) b ≡ Some (Some n) →
+    (v : View) × ((view_at boards b ≡ Some v) × (v.numbers ≡ n))
+numbered_at [] b n at = absurd (cc)
+numbered_at (board ∷ boards) zero n at = one board.view at
+  where
+    one :
+        (o : Option View) → Some (option_map (λ v. v.numbers) o) ≡ Some (Some n) →
+        (v : View) × ((o ≡ Some v) × (v.numbers ≡ n))
+    one None at = absurd (cc)
+    one (Some v) at = (v, (refl, cc))
+numbered_at (board ∷ boards) (suc b) n at = numbered_at boards b n at
 
 -- it is one of the boards
 pub planned_below : (boards : List Board) (b : ℕ) → IsSome (view_at boards b) → b < length boards

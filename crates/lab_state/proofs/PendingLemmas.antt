@@ -90,23 +90,24 @@ delay-none (h ∷ hs) m out = by_test (has_member h.members m) out (delay-none h
     by_test true out rest = absurd (cc)
     by_test false out rest = rest out
 
+-- members that are the same
+pub same_is : (m other : Member) → same_member m other ≡ true → m ≡ other
+same_is m other is =
+    let board : m.board.0 ≡ other.board.0 = grind (arith, nat_tests) in
+    let dev : m.dev ≡ other.dev = grind (arith, nat_tests) in
+    λ i. record { board = record { 0 = board i }; dev = dev i }
+
 -- and is another than one that has one
 unlike :
     (hubs : List Hub) (m other : Member) → is_connected (members_of hubs) m ≡ false → IsSome (delay_of hubs other) →
     same_member m other ≡ false
 unlike hubs m other out some = by_test (same_member m other) refl
   where
-    same_is : same_member m other ≡ true → m ≡ other
-    same_is is =
-        let board : m.board.0 ≡ other.board.0 = grind (arith, nat_tests) in
-        let dev : m.dev ≡ other.dev = grind (arith, nat_tests) in
-        λ i. record { board = record { 0 = board i }; dev = dev i }
-
     by_test : (b : Bool) → same_member m other ≡ b → same_member m other ≡ false
     by_test false is = is
     by_test true is =
         let none : delay_of hubs other ≡ None =
-        subst (λ (m : Member). delay_of hubs m ≡ None) (same_is is) (delay-none hubs m out) in
+        subst (λ (m : Member). delay_of hubs m ≡ None) (same_is m other is) (delay-none hubs m out) in
         let wrong : false ≡ true = sym (ap is_some none) ∙ some in
         absurd (cc)
 

@@ -56,7 +56,7 @@ module _ {X : Type 0} (g : Board → X)
       map-members at payload (to_member at payload h m) to
       ∙ map-change g (with_view (λ v. handed v m.dev payload)) (blind m.dev payload) h.boards m.board.0
 
-  map-routes :
+  pub map-routes :
       (at : ℕ) (hubs : List (List Member)) (h : Handed) (posts : List Post) →
       map g (fold (to_route at hubs) h posts).boards ≡ map g h.boards
   map-routes at hubs h [] = refl
@@ -135,7 +135,7 @@ Numbering =
     IsNumbered v.numbers n (stretch v from a n)
 
 module _ (law : Numbering) (from q : ℕ) (within : from + q ≤ 10000000000) where
-  numbered :
+  pub numbered :
       (b : ℕ) (v : View) → IsStanding (1000 * from) b v.numbers →
       IsNumbered v.numbers (paid from (from + q) v.numbers.speed) (in_round from q v)
   numbered b v is =
@@ -230,24 +230,26 @@ module _ (law : Numbering) (from q : ℕ) (within : from + q ≤ 10000000000) wh
 abbrev pub Timing : Type 0
 Timing = (v : View) (from a n : ℕ) → All (IsSentIn from a n v.numbers.speed) (stretch v from a n).posts
 
-module _ (law : Timing) (from q : ℕ) where
-  slot_within : (speed slot : ℕ) → slot < paid from (from + q) speed → slot_at from speed (0 + slot) < from + q
-  slot_within zero slot within =
-      let none : paid from (from + q) 0 ≡ 0 = mul-zero _ in
-      absurd (omega (arith, within, none))
-  slot_within (suc n) slot within =
-      let span : from + q - from ≡ q = omega arith in
-      let few : slot < q * suc n = rw span at within in
-      let quotient : slot / suc n < q = div_below slot (suc n) q (omega arith) few in
-      rw zero-add (omega (arith, quotient))
+-- a slot of a round is in it
+pub slot_within :
+    (from q speed slot : ℕ) → slot < paid from (from + q) speed → slot_at from speed (0 + slot) < from + q
+slot_within from q zero slot within =
+    let none : paid from (from + q) 0 ≡ 0 = mul-zero _ in
+    absurd (omega (arith, within, none))
+slot_within from q (suc n) slot within =
+    let span : from + q - from ≡ q = omega arith in
+    let few : slot < q * suc n = rw span at within in
+    let quotient : slot / suc n < q = div_below slot (suc n) q (omega arith) few in
+    rw zero-add (omega (arith, quotient))
 
+module _ (law : Timing) (from q : ℕ) where
   sent_by_view : (v : View) → AreOfRound from (from + q) (in_round from q v).posts
   sent_by_view v =
       All-weaker (IsSentIn from 0 (paid from (from + q) v.numbers.speed) v.numbers.speed)
       (λ post. (from ≤ post.key.at.0) × (post.key.at.0 < from + q))
       (λ post sent. (
         omega (arith, sent.at),
-        rw sent.at (slot_within v.numbers.speed sent.slot sent.within),
+        rw sent.at (slot_within from q v.numbers.speed sent.slot sent.within),
       ))
       (in_round from q v).posts (law v from 0 (paid from (from + q) v.numbers.speed))
 

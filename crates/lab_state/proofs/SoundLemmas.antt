@@ -1,7 +1,7 @@
 -- What holds of a laboratory goes on to hold where it is changed.
 use Rattle.std.proofs.Common.{◌≡◌, ◌∙◌, sym, ap, refl, Bool, true, false, cond, ℕ, ◌+◌, ◌<◌, ◌≤◌, List, [], ◌∷◌, ◌++◌}
 use Rattle.std.proofs.Common.{length, map, set, get_or, slice_get, Option, Some, None, add-zero, subst, arith, rules}
-use Rattle.std.specs.Prelude.{is_some, IsSome, option_and_then}
+use Rattle.std.specs.Prelude.{is_some, IsSome, IsTrue, option_and_then}
 use Rattle.std.specs.Option.{option_map}
 use Rattle.std.specs.List.{All}
 use Rattle.std.specs.Str.{bytes_eq}
@@ -13,18 +13,20 @@ use Rattle.std.proofs.lemmas.Simd.{map-map}
 use Rattle.std.proofs.lemmas.List.{map-append, map-set, length-map, length-set, length_push}
 use Rattle.std.proofs.lemmas.List.Elements.{All-nil, All-weaker, All-push}
 use Rattle.std.proofs.lemmas.List.Sums.{sum_by_push, sum_by-set, count_by-le-length}
-use Rattle.std.proofs.lemmas.Option.{slice_get-get_or, slice_get-map, slice_get_past, slice_get_read}
+use Rattle.std.proofs.lemmas.Option.{slice_get-get_or, slice_get-map, slice_get_past, slice_get_read, same_Some}
 use Rattle.lab_num.specs.declared.key.Member.{Member}
 use Rattle.dev_core.specs.declared.kind.Kind.{Kind}
 use Rattle.dev_core.specs.declared.kind.Kind.TheVariants.{Uart, Can, Finisher}
 use Rattle.board.specs.Changes.{with_speed}
 use Rattle.board.specs.New.{new_board, new_numbers}
+use Rattle.board.specs.Numbers.{Numbers}
 use Rattle.board.specs.View.{View}
 use Rattle.sys_bus.specs.declared.plan.BoardPlan.{BoardPlan}
 use Rattle.sys_bus.specs.Limits.{count_of}
 use Rattle.sys_bus.specs.Plan.{IsValid}
 use Rattle.lab_state.specs.Board.{Board}
 use Rattle.lab_num.specs.Change.{change_at}
+use Rattle.lab_num.specs.Name.{is_name}
 use Rattle.lab_num.specs.Route.{is_connected}
 use Rattle.lab_state.specs.Hub.{Hub, members_of}
 use Rattle.lab_state.specs.Lab.{Lab, Seen}
@@ -34,12 +36,13 @@ use Rattle.time_source.specs.Tree as tree
 use Rattle.time_source.specs.Tree.{Tree}
 use Rattle.lab_state.specs.Inner.Spares.{Spares, full, HasFor, AreTaken}
 use Rattle.lab_state.specs.Inner.Standing.{Outline, outline, outlines, kind_of_outline, kind_in, AreMembers, AreDevices}
-use Rattle.lab_state.specs.Inner.Standing.{count_of_plans, IsSound}
-use Rattle.lab_state.specs.Inner.Time.{number_of}
+use Rattle.lab_state.specs.Inner.Standing.{count_of_plans, IsFormed, IsSound}
+use Rattle.lab_state.specs.Inner.Time.{number_of, numbers_of}
 use Rattle.lab_state.proofs.ListLemmas.{set-change, map-change, All-change, each-set, each-push}
 use Rattle.lab_state.proofs.ListLemmas.{none_has, board_more, hub_more, planned_below}
 use Rattle.lab_state.proofs.ChangeLemmas.{same_part, outline-view, Leaves}
 use Rattle.lab_state.proofs.PendingLemmas.{none_pending, pending-hub, pending-member}
+use Rattle.lab_state.proofs.SenderLemmas.{KeepKinds, HasRisen, KeepCounts, from_later}
 use Rattle.lab_state.proofs.TimeLemmas.{timed-push, timed-set}
 
 -- what holds of a laboratory that is seen as not spent
@@ -70,6 +73,8 @@ pub sound-new : IsSound (record { boards = []; hubs = []; pending = []; now = 0;
 sound-new = record {
   shape = record {
     few = omega arith;
+    named = All-nil _;
+    formed = All-nil _;
     devices = All-nil _;
     delays = All-nil _;
     names = search rules;
@@ -77,6 +82,7 @@ sound-new = record {
   };
   times = search rules;
   pending = none_pending [] 0;
+  sent = All-nil _;
   timed = record { closed = refl; speeds = refl; standing = λ b n at. absurd (cc) };
 }
 
@@ -88,10 +94,7 @@ one_if o = cond (is_some o.kinds) 1 0
 
 -- members of hubs that stay devices of their kind
 devices-kept :
-    (before after : List Outline) →
-    ((dev : ℕ) (kind : Kind) (b : ℕ) → kind_of_outline dev (slice_get before b) ≡ Some kind →
-    kind_of_outline dev (slice_get after b) ≡ Some kind) →
-    (hubs : List Hub) → AreDevices before hubs → AreDevices after hubs
+    (before after : List Outline) → KeepKinds before after → (hubs : List Hub) → AreDevices before hubs → AreDevices after hubs
 devices-kept before after keeps hubs all =
     All-weaker (AreMembers before) (AreMembers after)
     (λ hub are. All-weaker _ _ (λ m. keeps m.dev hub.kind m.board.0) hub.members are) hubs all
@@ -107,13 +110,27 @@ unnamed lab name free =
       none_has (λ (hub : Hub). hub.name) lab.hubs name no.1,
     )
 
+-- a name more leaves what the boards have
+kinds-push : (os : List Outline) (name : List ℕ) → KeepKinds os (os ++ record { name = name; kinds = None } ∷ [])
+kinds-push os name dev kind =
+    each-push
+    (λ b found. kind_of_outline dev (slice_get os b) ≡ Some kind → kind_of_outline dev found ≡ Some kind)
+    os (record { name = name; kinds = None }) (λ at. absurd (cc (slice_get_past os (length os) (omega arith))))
+    (λ b at. at)
+
+counts-push : (numbers : List (Option Numbers)) → KeepCounts numbers (numbers ++ None ∷ [])
+counts-push numbers =
+    each-push (λ b found. (n : Numbers) → slice_get numbers b ≡ Some (Some n) → HasRisen n found) numbers None
+    (λ n at. absurd (cc (slice_get_past numbers (length numbers) (omega arith))))
+    (λ b n at. record { after = n; is = at; posted = omega arith })
+
 -- a laboratory with a name more
 pub sound-push :
     {lab : Lab} {spares : Spares} {source : Tree} (name : List ℕ) → IsSound lab spares source →
-    length lab.boards < 16 → is_taken lab name ≡ false →
+    length lab.boards < 16 → is_taken lab name ≡ false → IsTrue (is_name name) →
     IsSound (record lab { boards = lab.boards ++ record { name = name; view = None } ∷ [] }) spares
     (tree.with_member source 1)
-sound-push {lab = lab} name sound room free =
+sound-push {lab = lab} name sound room free formed =
     let board : Board = record { name = name; view = None } in
     let os = outlines lab.boards in
     let o : Outline = record { name = name; kinds = None } in
@@ -123,12 +140,11 @@ sound-push {lab = lab} name sound room free =
           rw (map-append outline lab.boards (board ∷ []))
           (record {
             few = omega (arith, length_push os o, length-map lab.boards outline);
-            devices =
-                devices-kept os (os ++ o ∷ [])
-                (λ dev kind. each-push
-                (λ b found. kind_of_outline dev (slice_get os b) ≡ Some kind → kind_of_outline dev found ≡ Some kind)
-                os o (λ at. absurd (cc (slice_get_past os (length os) (omega arith)))) (λ b at. at))
-                lab.hubs sound.shape.devices;
+            named =
+                rw map-append
+                (All-push (λ name. IsTrue (is_name name)) (map (λ o. o.name) os) name sound.shape.named formed);
+            formed = sound.shape.formed;
+            devices = devices-kept os (os ++ o ∷ []) (kinds-push os name) lab.hubs sound.shape.devices;
             delays = sound.shape.delays;
             names =
                 rw (map-append, map-map)
@@ -137,6 +153,9 @@ sound-push {lab = lab} name sound room free =
           });
       times = sound.times;
       pending = sound.pending;
+      sent =
+          rw (map-append outline lab.boards (board ∷ []), map-append number_of lab.boards (board ∷ []))
+          (from_later lab.pending (kinds-push os name) (counts-push (numbers_of lab.boards)) sound.sent);
       timed = rw (map-append number_of lab.boards (board ∷ [])) (timed-push sound.timed);
     }
 
@@ -145,14 +164,16 @@ sound-push {lab = lab} name sound room free =
 -- a laboratory with a hub more
 pub sound-hub :
     {lab : Lab} {spares : Spares} {source : Tree} (hub : Hub) → IsSound lab spares source → hub.members ≡ [] →
-    hub.delay ≤ 1000000 → is_taken lab hub.name ≡ false →
+    hub.delay ≤ 1000000 → is_taken lab hub.name ≡ false → IsFormed hub →
     IsSound (record lab { hubs = lab.hubs ++ hub ∷ [] }) spares source
-sound-hub {lab = lab} hub sound none short free =
+sound-hub {lab = lab} hub sound none short free formed =
     let os = outlines lab.boards in
     let names = rw map-map at sound.shape.names in
     record {
       shape = record {
         few = sound.shape.few;
+        named = sound.shape.named;
+        formed = All-push IsFormed lab.hubs hub sound.shape.formed formed;
         devices =
             All-push (AreMembers os) lab.hubs hub sound.shape.devices
             (rw none (All-nil (λ m. kind_in os m ≡ Some hub.kind)));
@@ -164,6 +185,7 @@ sound-hub {lab = lab} hub sound none short free =
       };
       times = sound.times;
       pending = pending-hub lab.hubs hub lab.now lab.pending none sound.pending;
+      sent = sound.sent;
       timed = sound.timed;
     }
 
@@ -178,6 +200,10 @@ sound-member {lab = lab} n m sound out kind =
     record {
       shape = record {
         few = sound.shape.few;
+        named = sound.shape.named;
+        formed =
+            All-change IsFormed (with_member m) lab.hubs n
+            (λ hub at formed. record { name = formed.name; kind = formed.kind }) sound.shape.formed;
         devices =
             All-change (AreMembers os) (with_member m) lab.hubs n
             (λ hub at all. All-push (λ m. kind_in os m ≡ Some hub.kind) hub.members m all (kind hub at))
@@ -190,6 +216,7 @@ sound-member {lab = lab} n m sound out kind =
       };
       times = sound.times;
       pending = pending-member lab.hubs n m lab.now lab.pending out sound.pending;
+      sent = sound.sent;
       timed = sound.timed;
     }
 
@@ -198,6 +225,16 @@ pub kind-outlines : (boards : List Board) (m : Member) → kind_in (outlines boa
 kind-outlines boards m = grind (arith, common_steps, slice_get-map outline boards m.board.0)
 
 -- ---- one board changed
+
+-- the numbers of one board are others, and its posts are as many, if it was there
+counts-set :
+    (numbers : List (Option Numbers)) (i : ℕ) (new : Numbers) →
+    ((n : Numbers) → slice_get numbers i ≡ Some (Some n) → n.posted ≡ new.posted) →
+    KeepCounts numbers (set numbers i (Some new))
+counts-set numbers i new same =
+    each-set (λ b found. (n : Numbers) → slice_get numbers b ≡ Some (Some n) → HasRisen n found) numbers i (Some new)
+    (λ n at. record { after = new; is = refl; posted = omega (arith, same n at) })
+    (λ b n at. record { after = n; is = at; posted = omega arith })
 
 some_of : {A : Type 0} (o : Option A) → IsSome o → (x : A) × (o ≡ Some x)
 some_of None has = absurd (cc)
@@ -209,17 +246,22 @@ module _ {lab : Lab} {spares : Spares} {source : Tree} (i : ℕ) {old : Board} (
   pub sound-kept :
       (f : View → View) → Leaves f → IsSound (record lab { boards = set lab.boards i (with_view f old) }) spares source
   sound-kept f leaves = record {
-    shape =
-        rw (map-set_same outline lab.boards i (with_view f old) old
-        (outline-view f (λ v. (leaves v).0) old ∙ ap outline is))
-        sound.shape;
+    shape = rw same_outlines sound.shape;
     times = sound.times;
     pending = sound.pending;
-    timed =
-        rw (map-set_same number_of lab.boards i (with_view f old) old
-        (same_part (λ v. v.numbers) f (λ v. (leaves v).1) old.view ∙ ap number_of is))
-        sound.timed;
+    sent = rw (same_outlines, same_numbers) sound.sent;
+    timed = rw same_numbers sound.timed;
   }
+    where
+      same_outlines : outlines (set lab.boards i (with_view f old)) ≡ outlines lab.boards
+      same_outlines =
+          map-set_same outline lab.boards i (with_view f old) old
+          (outline-view f (λ v. (leaves v).0) old ∙ ap outline is)
+
+      same_numbers : numbers_of (set lab.boards i (with_view f old)) ≡ numbers_of lab.boards
+      same_numbers =
+          map-set_same number_of lab.boards i (with_view f old) old
+          (same_part (λ v. v.numbers) f (λ v. (leaves v).1) old.view ∙ ap number_of is)
 
   -- its speed is another, and its member's
   pub sound-speed :
@@ -230,21 +272,25 @@ module _ {lab : Lab} {spares : Spares} {source : Tree} (i : ℕ) {old : Board} (
       let faster = λ (v : View). with_speed v speed in
       let here = slice_get_read lab.boards (length lab.boards) i old refl (planned_below lab.boards i has) is in
       let view = some_of old.view (rw here at has) in
-      let stands = sound.timed.standing i view.0.numbers
-      (slice_get-map number_of lab.boards i ∙ ap (option_map number_of) here
-      ∙ ap (λ o. Some (option_map (λ (v : View). v.numbers) o)) view.1) in
+      let stands_at = slice_get-map number_of lab.boards i ∙ ap (option_map number_of) here
+      ∙ ap (λ o. Some (option_map (λ (v : View). v.numbers) o)) view.1 in
+      let stands = sound.timed.standing i view.0.numbers stands_at in
+      let same = map-set_same outline lab.boards i (with_view faster old) old
+      (outline-view faster (λ v. refl) old ∙ ap outline is) in
+      let numbers = map-set number_of lab.boards i (with_view faster old)
+      ∙ ap (λ o. set (numbers_of lab.boards) i (option_map (λ (v : View). v.numbers) (option_map faster o))) view.1 in
       record {
-        shape =
-            rw (map-set_same outline lab.boards i (with_view faster old) old
-            (outline-view faster (λ v. refl) old ∙ ap outline is))
-            sound.shape;
+        shape = rw same sound.shape;
         times = sound.times;
         pending = sound.pending;
+        sent =
+            rw (same, numbers)
+            (from_later lab.pending (λ dev kind b at. at)
+            (counts-set (numbers_of lab.boards) i (record view.0.numbers { speed = speed })
+            (λ n at. ap (λ (n : Numbers). n.posted) (same_Some _ _ (same_Some _ _ (sym at ∙ stands_at)))))
+            sound.sent);
         timed =
-            rw (
-              map-set number_of lab.boards i (with_view faster old),
-              ap (λ o. option_map (λ (v : View). v.numbers) (option_map faster o)) view.1,
-            )
+            rw numbers
             (timed-set sound.timed i (record view.0.numbers { speed = speed })
             (record {
               number = stands.number;
@@ -306,6 +352,15 @@ module _ {lab : Lab} {spares : Spares} {source : Tree} (i : ℕ) (plan : BoardPl
       let after : one_if o ≡ 1 = rw some refl in
       omega (arith, sum_by-set one_if os i o d long)
 
+  kinds-fit : (o : Outline) → KeepKinds os (set os i o)
+  kinds-fit o dev kind =
+      each-set
+      (λ b found. kind_of_outline dev (slice_get os b) ≡ Some kind → kind_of_outline dev found ≡ Some kind)
+      os i o (λ at. absurd (cc (at, ap (option_and_then (λ kinds. slice_get kinds dev)) no_kinds))) (λ b at. at)
+
+  no_numbers : (n : Numbers) → slice_get (numbers_of lab.boards) i ≡ Some (Some n) → ⊥
+  no_numbers n at = grind (arith, common_steps, slice_get-map number_of lab.boards i, none)
+
   pub has-for : HasFor spares plan.kinds
   has-for = each
     where
@@ -340,15 +395,9 @@ module _ {lab : Lab} {spares : Spares} {source : Tree} (i : ℕ) (plan : BoardPl
             rw (map-set outline lab.boards i new)
             (record {
               few = rw length-set sound.shape.few;
-              devices =
-                  devices-kept os (set os i o)
-                  (λ dev kind. each-set
-                  (λ b found. kind_of_outline dev (slice_get os b) ≡ Some kind →
-                  kind_of_outline dev found ≡ Some kind)
-                  os i o
-                  (λ at. absurd (cc (at, ap (option_and_then (λ kinds. slice_get kinds dev)) no_kinds)))
-                  (λ b at. at))
-                  lab.hubs sound.shape.devices;
+              named = rw (← map-set outline lab.boards i new, map-map, names) (rw map-map at sound.shape.named);
+              formed = sound.shape.formed;
+              devices = devices-kept os (set os i o) (kinds-fit o) lab.hubs sound.shape.devices;
               delays = sound.shape.delays;
               names =
                   rw (← map-set outline lab.boards i new, map-map, names) (rw map-map at sound.shape.names);
@@ -361,6 +410,12 @@ module _ {lab : Lab} {spares : Spares} {source : Tree} (i : ℕ) (plan : BoardPl
             });
         times = sound.times;
         pending = sound.pending;
+        sent =
+            rw (map-set outline lab.boards i new, map-set number_of lab.boards i new)
+            (from_later lab.pending (kinds-fit o)
+            (counts-set (numbers_of lab.boards) i (new_numbers i plan)
+            (λ n at. absurd (no_numbers n at)))
+            sound.sent);
         timed =
             rw (map-set number_of lab.boards i new)
             (timed-set sound.timed i (new_numbers i plan)

@@ -8,7 +8,9 @@ pub mod Lab
 pub mod Names
 pub mod One
 pub mod Pending
+pub mod Resumed
 pub mod Round
 pub mod Run
 pub mod Turns
 pub mod Undelayed
+pub mod Valid

@@ -1,7 +1,7 @@
 -- How boards and hubs are found by name, and the names that the log prints.
-use Rattle.std.specs.Prelude.{ℕ, Bool, false, ◌||◌, ◌==◌, List, [], length, map, find, slice_get, Option, None, Some}
+use Rattle.std.specs.Prelude.{◌≡◌, ℕ, Bool, false, ◌||◌, ◌==◌, List, [], length, map, find, slice_get, Option, None, Some}
 use Rattle.std.specs.Prelude.{is_some, option_and_then}
-use Rattle.std.specs.List.{position, range_with_len}
+use Rattle.std.specs.List.{position, range_with_len, All, AllPairs}
 use Rattle.std.specs.Option.{option_map, option_map_or}
 use Rattle.std.specs.Str.{bytes_eq}
 use Rattle.lab_num.specs.declared.key.Member.{Member}
@@ -15,6 +15,16 @@ use Rattle.log_merge.specs.declared.names.Names.{Names}
 use Rattle.lab_state.specs.Board.{Board}
 use Rattle.lab_state.specs.Lab.{Lab}
 use Rattle.lab_state.specs.One.{connected}
+
+-- no two of the names are one
+abbrev pub NamesDiffer : List (List ℕ) → Type 0
+NamesDiffer names = AllPairs (λ a b. bytes_eq a b ≡ false) names
+
+-- no two boards, no two hubs, and no board and hub of one name
+pub record AreNames (boards hubs : List (List ℕ)) : Type 0 where
+  pub boards_differ : NamesDiffer boards
+  pub hubs_differ : NamesDiffer hubs
+  pub apart : All (λ board. All (λ hub. bytes_eq hub board ≡ false) hubs) boards
 
 -- the number of the first board of this name
 abbrev pub board_named : Lab → List ℕ → Option ℕ

@@ -1,10 +1,12 @@
 //! The boards of a laboratory.
 ghost use Rattle.std.specs.Prelude.{◌≡◌, ◌<◌, ◌↔◌, ◌++◌, ◌∷◌, [], length, false, Some, None, slice_get, position};
-ghost use Rattle.std.specs.Prelude.{is_some, IsSome, IsTrue, IfOk, OnOk, OnErr};
-ghost use Rattle.std.specs.Option.{option_map};
+ghost use Rattle.std.specs.Prelude.{is_some, IsSome, IsTrue, IfOk, OnOk, OnErr, All};
+ghost use Rattle.std.specs.Option.{option_map, ForSome};
 ghost use Rattle.std.specs.Str.{bytes_eq};
 ghost use Rattle.lab_num.specs.Name as name_spec;
+ghost use Rattle.board.specs.Valid.{IsBoard};
 ghost use Rattle.board.specs.View.{quiet};
+ghost use Rattle.lab_state.specs.Inner.Standing.{HasDevices};
 ghost use Rattle.lab_state.specs.Names as names_spec;
 ghost use Rattle.lab_state.specs.One.{view_of, kind_at, first_without};
 
@@ -35,6 +37,24 @@ fn first_bare<D: Device>(boards: &[NamedBoard<D>]) -> Option<usize>
     ensures { result ≡ first_without boards.now }
 {
     boards.iter().position(|board| board.is_bare())
+}
+
+/// Each board is one that there can be. Nothing is changed and told when this runs.
+pub fn can_all_be<D: Device>(boards: &[NamedBoard<D>])
+    ensures { All (λ board. ForSome board.view IsBoard) boards.now }
+{
+    for board in boards {
+        board.is_one_that_can_be();
+    }
+}
+
+/// Each board has the devices of its plan. Nothing is changed and told when this runs.
+pub fn have_their_devices<D: Device>(boards: &[NamedBoard<D>])
+    ensures { All (λ board. ForSome board.view HasDevices) boards.now }
+{
+    for board in boards {
+        board.has_its_devices();
+    }
 }
 
 fn push<D: Device>(boards: &mut Vec<NamedBoard<D>>, board: NamedBoard<D>) -> Result<(), NoMemory>

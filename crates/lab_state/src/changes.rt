@@ -4,7 +4,8 @@ ghost use Rattle.std.specs.Option.{ForSome};
 ghost use Rattle.page_ram.specs.Bytes.{zeros};
 ghost use Rattle.rv_hart.specs.Core.{alignment};
 ghost use Rattle.board.specs.Changes.{with_pc, with_halted, with_speed, with_shown, with_bytes, may_be_shown};
-ghost use Rattle.board.specs.Changes.{holds_each};
+ghost use Rattle.board.specs.Changes.{holds_each, with_memory_in};
+ghost use Rattle.board.specs.Space.{memory_at};
 ghost use Rattle.board.specs.New as board_spec;
 ghost use Rattle.lab_state.specs.Inner.Change.{changed_by, MayChange};
 ghost use Rattle.lab_state.specs.One.{view_of, changed, WritesPrefix};
@@ -13,6 +14,7 @@ use crate::change::Change;
 use crate::lab::Lab;
 use dev_core::Device;
 use lab_num::{BoardNo, Member, NoMemory};
+use page_ram::PageRam;
 
 impl<D: Device> Lab<D> {
     /// Changes a board.
@@ -54,6 +56,20 @@ impl<D: Device> Lab<D> {
         } }
     {
         self.change(b, Change::Zero { at, count });
+    }
+
+    /// Puts another memory of the same size in the place of one of a board, and ends its reservations.
+    pub fn put_memory(&mut self, b: BoardNo, part: u8, memory: PageRam)
+        requires unspent { self.old.spent ≡ false }
+        requires has_plan { IsSome (view_of self.old.lab b.0) }
+        requires part { ForSome (view_of self.old.lab b.0) (λ v. part < length v.space.memories) }
+        requires size { ForSome (view_of self.old.lab b.0) (λ v.
+            length memory ≡ length (memory_at v.space part)) }
+        ensures { self.new ≡ record self.old {
+          lab = changed self.old.lab b.0 (λ v. with_memory_in v part memory);
+        } }
+    {
+        self.boards[b.0 as usize].put_memory(part, memory);
     }
 
     /// Sets the address of the next instruction of a board's processor, which is divisible by 4, or

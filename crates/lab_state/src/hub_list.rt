@@ -72,10 +72,12 @@ impl HubList {
         }
     }
 
+    /// How many hubs there are. No device is in two of them, nor twice in one.
     pub fn len(&self) -> u32
-        ensures { result ≡ length self.now }
+        ensures count { result ≡ length self.now }
+        ensures once { StandOnce (members_of self.now) }
     {
-        self.names.len() as u32
+        self.hubs.len() as u32
     }
 
     /// The number of the first hub of this name.

@@ -5,6 +5,7 @@ ghost use Rattle.std.specs.Prelude.{IfSome, IfOk, IfErr, IsSome, IsTrue, OnOk, O
 ghost use Rattle.std.specs.Option.{option_map};
 ghost use Rattle.lab_num.specs.Name as name_spec;
 ghost use Rattle.lab_num.specs.Route.{StandOnce, is_connected};
+ghost use Rattle.board.specs.Changes.{is_shown_kind};
 ghost use Rattle.dev_core.specs.declared.kind.Kind.TheVariants.{Uart, Can};
 ghost use Rattle.lab_state.specs.Hub.{members_of};
 ghost use Rattle.lab_state.specs.Names as names_spec;
@@ -45,6 +46,7 @@ impl<D: Device> Lab<D> {
     fn create_hub(&mut self, name: &str, kind: Kind, delay: u64) -> Result<(), HubNameFault>
         requires unspent { self.old.spent ≡ false }
         requires is_name { IsTrue (name_spec.is_name name.now) }
+        requires kind { IsTrue (is_shown_kind kind) }
         requires delay { delay ≤ 1000000 }
         requires room { length self.old.lab.hubs + 1 < 2 ^ 32 }
         ensures ok { OnOk result (self.new ≡ record self.old {

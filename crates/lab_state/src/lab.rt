@@ -1,11 +1,13 @@
 //! The laboratory, its time and its quantum.
-ghost use Rattle.std.specs.Prelude.{◌≡◌, ◌<◌, ◌≤◌, [], map, false, IfOk, IsSome, All};
+ghost use Rattle.std.specs.Prelude.{◌≡◌, ◌<◌, ◌≤◌, [], map, true, false, IfOk, IsSome, All};
 ghost use Rattle.std.specs.List.Sorted.{IsStrictlySortedBy};
 ghost use Rattle.lab_num.specs.Key.{key_cmp};
 ghost use Rattle.dev_core.specs.Post.{post_key};
 ghost use Rattle.lab_state.specs.Hub.{delay_of};
 ghost use Rattle.lab_state.specs.Pending.{is_finish, due_at};
+ghost use Rattle.lab_state.specs.Valid.{IsLab};
 
+use crate::boards::can_all_be;
 use crate::hub_list::HubList;
 use crate::named_board::NamedBoard;
 use crate::spares::Spares;
@@ -132,8 +134,26 @@ impl<D: Device> Lab<D> {
         self.quantum = quantum;
     }
 
-    /// Whether memory ran out inside a round. Nothing but a round and a run may be asked of a spent
-    /// laboratory then.
+    /// At every moment a laboratory that is not spent is one that there can be. Nothing is changed and
+    /// told when this runs: a proof that needs the fact calls it.
+    pub fn is_one_that_can_be(&self)
+        requires { self.now.spent ≡ false }
+        ensures { IsLab self.now.lab }
+    {
+        let _hubs = self.hubs.len();
+        can_all_be(&self.boards);
+    }
+
+    /// Leaves the laboratory spent, as it is where memory runs out inside a round.
+    pub fn spend(&mut self)
+        requires { self.old.spent ≡ false }
+        ensures { self.new ≡ record self.old { spent = true } }
+    {
+        self.spent = true;
+    }
+
+    /// Whether memory ran out inside a round, or the laboratory was spent otherwise. Nothing but a round
+    /// and a run may be asked of a spent laboratory then.
     pub fn is_spent(&self) -> bool
         ensures { result ≡ self.now.spent }
     {

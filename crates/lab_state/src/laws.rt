@@ -16,11 +16,16 @@ ghost use Rattle.lab_state.specs.Round.{round};
 ghost use Rattle.lab_state.specs.Run.{Play, run, run_by, followed_by, lengths, still, EndsIn};
 ghost use Rattle.lab_state.specs.Turns.{Cut, IsWhole, run_in_turns};
 ghost use Rattle.lab_state.specs.Undelayed.{AreUndelayed, undelayed_round};
+ghost use Rattle.lab_state.specs.Valid.{is_shown_before};
+ghost use Rattle.log_text.specs.Log.{IsOnBytes};
 
 use crate::faults::RunFault;
 use crate::lab::Lab;
 use crate::round::RoundLog;
-use board::{stretches_keep_time, stretches_number, turns_join};
+use board::{
+    stretches_keep_devices, stretches_keep_time, stretches_keep_time_of_entries, stretches_number,
+    stretches_tell_of_devices, turns_join,
+};
 use dev_core::{Device, Post as BoardPost};
 use floor_run::Gate;
 use lab_num::{Micros, key_laws, listing_laws};
@@ -78,6 +83,20 @@ pub fn undelayed_rounds_agree<D: Device>(lab: &Lab<D>)
     stretches_number();
     stretches_keep_time();
     listing_laws::<BoardPost>();
+}
+
+/// What a run tells the log of bytes it tells of UARTs that were shown when it began, and of times before
+/// its end.
+pub fn runs_tell_of_shown_devices<D: Device>(lab: &Lab<D>)
+    requires { lab.now.spent ≡ false }
+    ensures { (d : ℕ) → lab.now.lab.now + d ≤ 10000000000 →
+        All (IsOnBytes (is_shown_before lab.now.lab (run lab.now.lab d).lab.now)) (run lab.now.lab d).items }
+{
+    let _spent = lab.spent;
+    stretches_number();
+    stretches_keep_time_of_entries();
+    stretches_tell_of_devices();
+    stretches_keep_devices();
 }
 
 /// In rounds of any lengths, however a run is cut into them, what the devices of one hub have sent is

@@ -4,23 +4,29 @@ ghost use Rattle.std.specs.Prelude.{option_and_then, is_none, slice_get, IfOk, O
 ghost use Rattle.std.specs.Option.{option_map, ForSome};
 ghost use Rattle.hub_mail.specs.Boss.{sent_by};
 ghost use Rattle.log_merge.specs.Merge.{all_entries};
-ghost use Rattle.board.specs.Changes.{with_bytes, with_speed, handed, holds_each};
+ghost use Rattle.board.specs.BoardState.{brought_to};
+ghost use Rattle.board.specs.Changes.{with_bytes, with_speed, with_memory_in, handed, holds_each};
+ghost use Rattle.board.specs.Space.{memory_at};
+ghost use Rattle.board.specs.Valid.{IsBoard, IsStateFor};
 ghost use Rattle.board.specs.View.{quiet};
 ghost use Rattle.time_handle.specs.Grant.{fresh};
 ghost use Rattle.lab_state.specs.Boundary as boundary_spec;
 ghost use Rattle.lab_state.specs.Boundary.{note_by};
 ghost use Rattle.lab_state.specs.Inner.Change.{changed_by, MayChange};
 ghost use Rattle.lab_state.specs.Inner.Lending.{is_awake, lent, away, put_back};
-ghost use Rattle.lab_state.specs.Inner.Time.{part_of};
+ghost use Rattle.lab_state.specs.Inner.Standing.{HasDevices};
+ghost use Rattle.lab_state.specs.Inner.Time.{number_of, part_of, speed_of};
 ghost use Rattle.lab_state.specs.One.{with_view};
+ghost use Rattle.lab_state.specs.Resumed.{resumed_board};
 ghost use Rattle.lab_state.specs.Round.{granted, stepped, posts_made, entries_made};
 
 use crate::change::Change;
-use board::{Board, SlotAt, Turn};
+use board::{Board, BoardState, SlotAt, Turn};
 use dev_core::{Device, Entry, Kind, Payload, Post, Taken};
 use hub_mail::{Boss, Pass};
 use lab_num::{NoMemory, Text};
 use log_merge::Note;
+use page_ram::PageRam;
 use parcel::Parcel;
 use std::alloc::Global;
 use std::marker::Model;
@@ -230,6 +236,36 @@ impl<D: Device> NamedBoard<D> {
         self.board.as_ref()
     }
 
+    /// A board is one that there can be. Nothing is changed and told when this runs.
+    pub fn is_one_that_can_be(&self)
+        ensures { ForSome self.now.view IsBoard }
+    {
+        if let Some(board) = &self.board {
+            board.is_one_that_can_be();
+        }
+    }
+
+    /// A board has the devices of its plan. Nothing is changed and told when this runs.
+    pub fn has_its_devices(&self)
+        ensures { ForSome self.now.view HasDevices }
+    {
+        if let Some(board) = &self.board {
+            let _plan = board.plan();
+        }
+    }
+
+    /// The speed of the board, or the least where there is none.
+    pub fn speed(&self) -> u32
+        ensures value { result ≡ speed_of (number_of self.now) }
+        ensures least { 1 ≤ result }
+        ensures most { result ≤ 1000 }
+    {
+        match &self.board {
+            Some(board) => board.speed(),
+            None => 1,
+        }
+    }
+
     /// Whether there is no board under the name.
     pub fn is_bare(&self) -> bool
         ensures { result ≡ is_none self.now.view }
@@ -356,6 +392,38 @@ impl<D: Device> NamedBoard<D> {
     {
         if let Some(board) = &mut self.board {
             board.set_speed(speed);
+        }
+    }
+
+    /// Brings the board to a state.
+    fn put_state(&mut self, s: &BoardState)
+        requires { ForSome self.old.view (λ v. IsStateFor v.space.plan s.now) }
+        ensures { self.new ≡ with_view (λ v. brought_to v s.now) self.old }
+    {
+        if let Some(board) = &mut self.board {
+            board.put_state(s);
+        }
+    }
+
+    /// Brings the board to a state, if there is one.
+    pub fn resume(&mut self, state: &Option<BoardState>)
+        requires { ForSome self.old.view (λ v. ForSome state.now (IsStateFor v.space.plan)) }
+        ensures { self.new ≡ resumed_board self.old state.now }
+    {
+        if let Some(s) = state {
+            self.put_state(s);
+        }
+    }
+
+    /// Puts another memory of the same size in the place of one, and ends all reservations.
+    pub fn put_memory(&mut self, part: u8, memory: PageRam)
+        requires part { ForSome self.old.view (λ v. part < length v.space.memories) }
+        requires size { ForSome self.old.view (λ v.
+            length memory ≡ length (memory_at v.space part)) }
+        ensures { self.new ≡ with_view (λ v. with_memory_in v part memory) self.old }
+    {
+        if let Some(board) = &mut self.board {
+            board.put_memory(part, memory);
         }
     }
 

@@ -1,7 +1,7 @@
 //! One round: every board takes the slots that its grant pays, and then what they have sent is
 //! handed over as far as it is due.
 ghost use Rattle.std.specs.Prelude.{◌≡◌, ◌+◌, ◌*◌, ◌<◌, ◌≤◌, ◌++◌, map, filter, length, true, false, None, IfOk, OnOk};
-ghost use Rattle.std.specs.Prelude.{OnErr};
+ghost use Rattle.std.specs.Prelude.{All, OnErr};
 ghost use Rattle.std.specs.Option.{option_map};
 ghost use Rattle.std.specs.List.{flat_map};
 ghost use Rattle.lab_num.specs.Key.{KeysDiffer};
@@ -10,20 +10,23 @@ ghost use Rattle.dev_core.specs.Post.{entry_key, post_key};
 ghost use Rattle.log_merge.specs.Merge.{all_entries};
 ghost use Rattle.lab_state.specs.Inner.End.{Played, in_round, played};
 ghost use Rattle.lab_state.specs.Inner.Lending.{is_awake};
-ghost use Rattle.lab_state.specs.Inner.Standing.{outlines, AreDevices};
+ghost use Rattle.lab_state.specs.Inner.Standing.{outlines, AreDevices, IsFromBoard};
 ghost use Rattle.lab_state.specs.Inner.Time.{numbers_of, AreStanding, IsTimed, part_of, used_up};
 ghost use Rattle.lab_state.specs.One.{first_without, HaveAllPlans};
 ghost use Rattle.lab_state.specs.Pending.{ArePending};
 ghost use Rattle.lab_state.specs.Round as round_spec;
 ghost use Rattle.lab_state.specs.Round.{stepped, posts_made, entries_made, slot_items};
 
+use crate::boards::have_their_devices;
 use crate::boundary::{hand_over_all, join_pending, pause_of, push_pause, take_due};
 use crate::faults::LabFault;
 use crate::hub_list::HubList;
 use crate::lab::Lab;
 use crate::lending::{Crew, step_lent};
 use crate::named_board::{Made, NamedBoard};
-use board::{stretches_keep_plans, stretches_keep_time, stretches_number};
+use board::{
+    stretches_keep_plans, stretches_keep_time, stretches_number, stretches_tell_of_devices,
+};
 use dev_core::{Device, Entry, Post};
 use floor_run::Gate;
 use lab_num::{BoardNo, Key, Micros, NoMemory, Rows, listing_laws};
@@ -265,6 +268,8 @@ fn play<R: Threads + Wait + Copy + Send + Sync, D: Device + Send, G: Gate>(
     requires timed { IsTimed source.old (numbers_of boards.old) }
     requires devices { AreDevices (outlines boards.old) hubs.now }
     requires pending { ArePending hubs.now source.old.end pending.old.items }
+    requires sent { All (IsFromBoard (outlines boards.old) (numbers_of boards.old))
+        pending.old.items }
     ensures end { OnOk result (source.new.end ≡ source.old.end + q) }
     ensures timed { OnOk result (IsTimed source.new (numbers_of boards.new)) }
     ensures outlines { OnOk result (outlines boards.new ≡ outlines boards.old) }
@@ -277,11 +282,15 @@ fn play<R: Threads + Wait + Copy + Send + Sync, D: Device + Send, G: Gate>(
         })
         (played source.old.end q hubs.now boards.old pending.old.items)) }
     ensures pending { OnOk result (ArePending hubs.now source.new.end pending.new.items) }
+    ensures sent { OnOk result (All (IsFromBoard (outlines boards.new) (numbers_of boards.new))
+        pending.new.items) }
 {
     stretches_keep_plans();
     stretches_keep_time();
     stretches_number();
+    stretches_tell_of_devices();
     listing_laws::<Post>();
+    have_their_devices(boards);
     let Slots { posts, mut items } = take_slots(crew, alloc, boards, source, q)?;
     let at = source.elapsed();
     join_pending(pending, hubs, &posts)?;

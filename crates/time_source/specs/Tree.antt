@@ -10,9 +10,13 @@ pub record Tree : Type 0 where
   pub end : ℕ
   pub is_open : Bool
 
+-- no member, and no open grant, at a time
+abbrev pub new_at : ℕ → Tree
+new_at now = record { handles = []; end = now; is_open = false }
+
 -- no member, and no grant so far
 abbrev pub new : Tree
-new = record { handles = []; end = 0; is_open = false }
+new = new_at 0
 
 -- a member that joins has an empty grant at first
 abbrev pub with_member : Tree → ℕ → Tree

@@ -60,10 +60,18 @@ impl Source {
     pub fn new() -> Source
         ensures { result ≡ tree.new }
     {
+        Source::at(Micros(0))
+    }
+
+    /// A source without members, at a time.
+    pub fn at(now: Micros) -> Source
+        requires { now.0 ≤ 10 ^ 10 }
+        ensures { result ≡ tree.new_at now.0 }
+    {
         Source {
-            places: [Handle::new(Micros(0), Micros(0), 1); MEMBERS],
+            places: [Handle::new(now, now, 1); MEMBERS],
             count: 0,
-            end: Micros(0),
+            end: now,
             is_open: false,
         }
     }

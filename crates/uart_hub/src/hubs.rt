@@ -65,7 +65,8 @@ impl UartHubs {
 
     /// How many hubs there are.
     pub fn len(&self) -> usize
-        ensures { result ≡ length self.now }
+        ensures count { result ≡ length self.now }
+        ensures once { StandOnce (members_of self.now) }
     {
         self.hubs.len()
     }

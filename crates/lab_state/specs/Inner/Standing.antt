@@ -1,14 +1,22 @@
 -- What holds of every laboratory that is not spent.
-use Rattle.std.specs.Prelude.{◌≡◌, ℕ, ◌+◌, ◌*◌, ◌≤◌, List, length, map, count_by, slice_get, Option}
-use Rattle.std.specs.Prelude.{Some, false, is_some, IsSome, option_and_then}
-use Rattle.std.specs.List.{All, AllPairs}
+use Rattle.std.specs.Prelude.{◌≡◌, ℕ, ◌+◌, ◌*◌, ◌<◌, ◌≤◌, List, length, map, count_by, slice_get, Option}
+use Rattle.std.specs.Prelude.{Some, false, is_some, IsSome, IsTrue, option_and_then}
+use Rattle.std.specs.List.{All}
 use Rattle.std.specs.Option.{option_map}
-use Rattle.std.specs.Str.{bytes_eq}
 use Rattle.lab_num.specs.declared.key.Member.{Member}
+use Rattle.lab_num.specs.Name.{is_name}
 use Rattle.dev_core.specs.declared.kind.Kind.{Kind}
+use Rattle.dev_core.specs.declared.post.Post.{Post}
+use Rattle.dev_core.specs.Device.{kind_of}
+use Rattle.board.specs.Changes.{is_shown_kind}
+use Rattle.board.specs.Numbers.{Numbers}
+use Rattle.board.specs.Sent.{is_of_kind}
+use Rattle.board.specs.View.{View}
+use Rattle.sys_bus.specs.Plan.{IsValid}
 use Rattle.lab_state.specs.Board.{Board}
 use Rattle.lab_state.specs.Hub.{Hub}
 use Rattle.lab_state.specs.Lab.{Lab}
+use Rattle.lab_state.specs.Names.{AreNames}
 use Rattle.lab_state.specs.Pending.{ArePending}
 use Rattle.time_source.specs.Tree.{Tree}
 use Rattle.lab_state.specs.Inner.Spares.{Spares, left_of, full}
@@ -42,16 +50,6 @@ AreMembers boards hub = All (λ m. kind_in boards m ≡ Some hub.kind) hub.membe
 abbrev pub AreDevices : List Outline → List Hub → Type 0
 AreDevices boards hubs = All (AreMembers boards) hubs
 
--- no two of the names are one
-abbrev pub NamesDiffer : List (List ℕ) → Type 0
-NamesDiffer names = AllPairs (λ a b. bytes_eq a b ≡ false) names
-
--- no two boards, no two hubs, and no board and hub of one name
-pub record AreNames (boards hubs : List (List ℕ)) : Type 0 where
-  pub boards_differ : NamesDiffer boards
-  pub hubs_differ : NamesDiffer hubs
-  pub apart : All (λ board. All (λ hub. bytes_eq hub board ≡ false) hubs) boards
-
 -- a time and a quantum that a laboratory may have
 pub record AreTimes (now quantum : ℕ) : Type 0 where
   pub time : now ≤ 10000000000
@@ -70,23 +68,49 @@ pub record IsEnough (spares : Spares) (plans : ℕ) : Type 0 where
   pub cans : 64 ≤ spares.cans + 4 * plans
   pub finishers : 16 ≤ spares.finishers + plans
 
+-- names of their form
+abbrev pub AreFormed : List (List ℕ) → Type 0
+AreFormed names = All (λ name. IsTrue (is_name name)) names
+
+-- a hub of UARTs or of CAN controllers, whose name has its form
+pub record IsFormed (hub : Hub) : Type 0 where
+  pub name : IsTrue (is_name hub.name)
+  pub kind : IsTrue (is_shown_kind hub.kind)
+
 -- the hubs hold back for at most a second
 abbrev pub AreShort : List Hub → Type 0
 AreShort hubs = All (λ hub. hub.delay ≤ 1000000) hubs
 
--- at most 16 boards; hubs that connect devices of these boards, with delays that a hub may have; no name that two of
--- the
--- boards and hubs have; devices for the boards that have no plan yet
+-- at most 16 boards; hubs that connect devices of these boards, with delays that a hub may have; names of their form, of
+-- which no two of the boards and hubs have one; devices for the boards that have no plan yet
 pub record IsShaped (boards : List Outline) (hubs : List Hub) (spares : Spares) : Type 0 where
   pub few : length boards ≤ 16
+  pub named : AreFormed (map (λ board. board.name) boards)
+  pub formed : All IsFormed hubs
   pub devices : AreDevices boards hubs
   pub delays : AreShort hubs
   pub names : AreNames (map (λ board. board.name) boards) (map (λ hub. hub.name) hubs)
   pub enough : IsEnough spares (count_of_plans boards)
 
--- such a laboratory, with posts that wait rightly and a source of time for its boards
+-- a board of a valid plan, with the devices of the plan
+pub record HasDevices (v : View) : Type 0 where
+  pub plan : IsValid v.space.plan
+  pub kinds : map (λ fitted. kind_of fitted.state) v.space.devices ≡ v.space.plan.kinds
+
+-- a post of a device of its board, which sends such payloads; the board has given it its number
+pub record IsFromBoard (boards : List Outline) (numbers : List (Option Numbers)) (post : Post) : Type 0 where
+  pub own : post.from.board ≡ post.key.board
+  pub kind : Kind
+  pub device : kind_in boards post.from ≡ Some kind
+  pub payload : IsTrue (is_of_kind kind post.payload)
+  pub sender : Numbers
+  pub found : slice_get numbers post.key.board.0 ≡ Some (Some sender)
+  pub number : post.key.number.0 < sender.posted
+
+-- such a laboratory, with posts that wait rightly and have been sent by its boards, and a source of time for these
 pub record IsSound (lab : Lab) (spares : Spares) (source : Tree) : Type 0 where
   pub shape : IsShaped (outlines lab.boards) lab.hubs spares
   pub times : AreTimes lab.now lab.quantum
   pub pending : ArePending lab.hubs lab.now lab.pending
+  pub sent : All (IsFromBoard (outlines lab.boards) (numbers_of lab.boards)) lab.pending
   pub timed : IsTimed source (numbers_of lab.boards)

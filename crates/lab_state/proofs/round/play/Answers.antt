@@ -8,6 +8,7 @@ use Rattle.lab_state.specs.Inner.Time.{numbers_of}
 use Rattle.lab_state.specs.Round.{posts_made}
 use Rattle.lab_state.proofs.PendingLemmas.{waiting-is, pending-after}
 use Rattle.lab_state.proofs.RoundLemmas.{outlines-stepped, outlines-routes, numbers-routes, posts_differ, sent_in_round}
+use Rattle.lab_state.proofs.SentLemmas.{sent-after}
 use Rattle.lab_state.proofs.TimeLemmas.{at_end}
 use Rattle.lab_state.proofs.round.play.Goals as goal
 
@@ -89,3 +90,25 @@ returns-clause-pending g c =
     )
     (pending-after c.listing_laws.ensures.is_listing c.listing_laws.ensures.only (from + q) posts c.requires.pending
     differ made before)
+
+pub returns-clause-sent : goal.returns-clause-sent
+returns-clause-sent g c =
+    let from = c.args.source.now.end in
+    let q = c.args.q in
+    let boards = c.args.boards.now in
+    rw (
+      ap (λ (h : Handed). outlines h.boards) c.in_ok-notes.ensures
+          ∙ outlines-routes c.elapsed-at.result.0 c.args.hubs.now c.take_slots.new.boards c.deref-2.result.now
+          ∙ ap outlines c.in_ok-posts.ensures.boards
+          ∙ outlines-stepped c.stretches_keep_plans.ensures from q boards,
+      ap (λ (h : Handed). numbers_of h.boards) c.in_ok-notes.ensures
+          ∙ numbers-routes c.elapsed-at.result.0 c.args.hubs.now c.take_slots.new.boards c.deref-2.result.now
+          ∙ ap numbers_of c.in_ok-posts.ensures.boards,
+      c.in_ok-due.ensures.waiting,
+      c.in_ok-join_pending.ensures,
+      c.deref.ensures.value,
+      c.in_ok-posts.ensures.posts,
+    )
+    (sent-after c.stretches_number.ensures c.stretches_tell_of_devices.ensures.sent from q c.requires.within boards
+    c.requires.timed.standing c.elapsed-at.result.0 c.args.hubs.now c.args.pending.now.items
+    c.have_their_devices.ensures c.requires.sent)

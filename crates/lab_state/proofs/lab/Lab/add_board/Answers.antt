@@ -16,4 +16,4 @@ invariant_of-self-2 g c h =
     let member = joined c.self.inside.boards.items sound.timed _ c.add-member.ensures.full
     c.add-member.ensures.added room in
     rw (c.in_ok-push.ensures.ok, c.new.ensures, member)
-    (sound-push c.in_ok-text.text sound room free)
+    (sound-push c.in_ok-text.text sound room free (rw c.in_ok-text.ensures c.requires.is_name))

@@ -18,4 +18,5 @@ invariant_of-self-2 g c h =
       delay = c.args.delay;
       members = [];
     })
-    sound refl c.requires.delay free)
+    sound refl c.requires.delay free
+    (record { name = rw c.in_ok-text.ensures c.requires.is_name; kind = c.requires.kind }))

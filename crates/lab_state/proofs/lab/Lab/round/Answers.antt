@@ -25,6 +25,7 @@ invariant_of-self g c h =
         most_quantum = sound.times.most_quantum;
       };
       pending = made.pending;
+      sent = made.sent;
       timed = made.timed;
     })
 
