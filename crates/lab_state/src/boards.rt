@@ -12,16 +12,13 @@ ghost use Rattle.lab_state.specs.One.{view_of, kind_at, first_without};
 
 use crate::faults::AddFault;
 use crate::lab::Lab;
-use crate::named_board::NamedBoard;
+use crate::named_board::{LEAST_SPEED, NamedBoard};
 use board::Board;
 use dev_core::{Device, Kind};
 use lab_num::{BoardNo, Member, NoMemory, Text};
 
 /// The most boards that a laboratory has.
 const MOST_BOARDS: usize = 16;
-
-/// The speed at which a board without a plan is a member of the source of time.
-const LEAST_SPEED: u32 = 1;
 
 /// The number of the first board of this name.
 fn number_of<D: Device>(boards: &[NamedBoard<D>], name: &str) -> Option<usize>

@@ -34,6 +34,9 @@ use std::sync::Wait;
 use sys_bus::BoardPlan;
 use time_handle::Handle;
 
+/// The speed at which a board without a plan is a member of the source of time.
+pub const LEAST_SPEED: u32 = 1;
+
 /// A name, and the board under it if there is one. Nobody is yet to take a post or an entry of it.
 #[derive(Drop)]
 pub struct NamedBoard<D: Device> {
@@ -262,7 +265,7 @@ impl<D: Device> NamedBoard<D> {
     {
         match &self.board {
             Some(board) => board.speed(),
-            None => 1,
+            None => LEAST_SPEED,
         }
     }
 
