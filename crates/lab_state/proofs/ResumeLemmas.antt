@@ -22,7 +22,6 @@ use Rattle.sys_bus.specs.Limits.{is_speed}
 use Rattle.board.specs.declared.state.BoardState.{BoardState}
 use Rattle.board.specs.BoardState.{brought_to}
 use Rattle.board.specs.Changes.{is_shown_kind}
-use Rattle.board.specs.Numbers.{Numbers}
 use Rattle.board.specs.Sent.{is_of_kind}
 use Rattle.board.specs.Valid.{IsStateFor}
 use Rattle.board.specs.View.{View}
@@ -32,7 +31,7 @@ use Rattle.lab_state.specs.Board.{Board}
 use Rattle.lab_state.specs.Hub.{Hub, delay_of}
 use Rattle.lab_state.specs.Lab.{Lab}
 use Rattle.lab_state.specs.One.{view_at, kind_at}
-use Rattle.lab_state.specs.Pending.{finish_of, due_at, IsPending}
+use Rattle.lab_state.specs.Pending.{finish_of, IsPending}
 use Rattle.lab_state.specs.Resumed.{FitTheirBoards, resumed, resumed_board}
 use Rattle.lab_state.specs.Valid.{IsHub, IsLab, IsWaiting}
 use Rattle.lab_state.specs.Inner.Lending.{each_by}

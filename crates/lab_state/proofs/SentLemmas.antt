@@ -1,6 +1,6 @@
 -- What boards send in a round is sent by devices of theirs.
 use Rattle.std.proofs.Common.{◌≡◌, ◌∙◌, sym, ap, ℕ, zero, suc, ◌+◌, ◌*◌, ◌<◌, ◌≤◌, List, [], ◌∷◌, ◌++◌, length, map, get_or}
-use Rattle.std.proofs.Common.{false, not, Option, Some, slice_get, arith}
+use Rattle.std.proofs.Common.{false, not, Some, slice_get, arith}
 use Rattle.std.specs.Prelude.{filter, option_and_then}
 use Rattle.std.specs.List.{All, flat_map}
 use Rattle.std.specs.Option.{option_map, ForSome}
@@ -11,7 +11,6 @@ use Rattle.lab_num.specs.declared.key.Key.{Key}
 use Rattle.lab_num.specs.Listing.{listing}
 use Rattle.lab_num.specs.Numbered.{AreNumbered}
 use Rattle.lab_num.specs.Paid.{paid}
-use Rattle.dev_core.specs.declared.kind.Kind.{Kind}
 use Rattle.dev_core.specs.declared.post.Post.{Post}
 use Rattle.dev_core.specs.declared.state.DevState.TheVariants.{Finisher}
 use Rattle.dev_core.specs.Device.{kind_of}

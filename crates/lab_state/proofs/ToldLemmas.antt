@@ -1,20 +1,18 @@
 -- What runs tell the log of bytes they tell of UARTs that were shown when they began.
 use Rattle.std.proofs.Common.{◌≡◌, ◌∙◌, sym, ap, subst, refl, Bool, true, false, ◌&&◌, ℕ, zero, suc, ◌+◌, ◌*◌, ◌<◌, ◌≤◌, ◌/◌, ◌%◌, ◌==◌}
 use Rattle.std.proofs.Common.{List, [], ◌∷◌, ◌++◌, length, map, fold, find, get_or, slice_get, Option, None, Some, add-zero, arith}
-use Rattle.std.specs.Prelude.{if◌then◌else◌, nat_lt, IsTrue, is_some, sum, replicate, option_and_then}
+use Rattle.std.specs.Prelude.{if◌then◌else◌, nat_lt, is_some, sum, replicate}
 use Rattle.std.specs.List.{All, flat_map}
 use Rattle.std.specs.Option.{option_map, option_map_or, option_to_list}
 use Rattle.std.proofs.Math.ListN.{get_or-map}
 use Rattle.std.proofs.lemmas.Nat.{div-add-mod'}
 use Rattle.std.proofs.lemmas.Bool.Decides.{nat_tests}
 use Rattle.std.proofs.Math.Seq.{map-set_same}
-use Rattle.std.proofs.lemmas.List.{length-map}
 use Rattle.std.proofs.lemmas.List.Elements.{All-nil, All-cons, All-append, All-map, All-weaker}
 use Rattle.std.proofs.lemmas.List.Folds.{sum_by-replicate}
 use Rattle.std.proofs.lemmas.List.Sums.{sum_by-append, sum_by-cons}
 use Rattle.lab_num.specs.declared.key.Member.{Member}
 use Rattle.lab_num.specs.declared.number.Micros.{Micros}
-use Rattle.lab_num.specs.Key.{KeysDiffer}
 use Rattle.lab_num.specs.Listing.{listing}
 use Rattle.lab_num.specs.Paid.{paid}
 use Rattle.lab_num.specs.Route.{route}
@@ -36,17 +34,17 @@ use Rattle.log_text.specs.Log.{IsOnBytes}
 use Rattle.sys_bus.specs.Limits.{is_kind}
 use Rattle.board.specs.Changes.{handed}
 use Rattle.board.specs.Sent.{IsEnteredIn, IsShown, IsToldBy}
-use Rattle.board.specs.Space.{Fitted, Space, device_at}
+use Rattle.board.specs.Space.{Fitted, device_at}
 use Rattle.board.specs.Stretch.{stretch}
 use Rattle.board.specs.View.{View}
 use Rattle.lab_state.specs.Board.{Board}
 use Rattle.lab_state.specs.Boundary.{Handed, to_member, to_route, to_routes, note_item, boundary}
 use Rattle.lab_state.specs.Handed.{sent_in, handed_in}
-use Rattle.lab_state.specs.Hub.{Hub, members_of}
+use Rattle.lab_state.specs.Hub.{members_of}
 use Rattle.lab_state.specs.Lab.{Lab}
 use Rattle.lab_state.specs.One.{view_at, with_view}
 use Rattle.lab_state.specs.Pending.{finish_of, is_finish}
-use Rattle.lab_state.specs.Round.{Rounded, stepped, entries_made, item_of, slot_items, pause_item, pause_items}
+use Rattle.lab_state.specs.Round.{Rounded, stepped, entries_made, item_of, slot_items, pause_items}
 use Rattle.lab_state.specs.Round.{round_by, round}
 use Rattle.lab_state.specs.Run.{rest_of, lengths, followed_by, go_on, still, run_by, run}
 use Rattle.lab_state.specs.Valid.{is_shown_uart, is_shown_before}

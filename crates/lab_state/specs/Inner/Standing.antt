@@ -1,6 +1,6 @@
 -- What holds of every laboratory that is not spent.
 use Rattle.std.specs.Prelude.{◌≡◌, ℕ, ◌+◌, ◌*◌, ◌<◌, ◌≤◌, List, length, map, count_by, slice_get, Option}
-use Rattle.std.specs.Prelude.{Some, false, is_some, IsSome, IsTrue, option_and_then}
+use Rattle.std.specs.Prelude.{Some, is_some, IsSome, IsTrue, option_and_then}
 use Rattle.std.specs.List.{All}
 use Rattle.std.specs.Option.{option_map}
 use Rattle.lab_num.specs.declared.key.Member.{Member}

@@ -1,11 +1,8 @@
 -- The laboratory that there can be holds what one holds that is not spent.
-use Rattle.std.proofs.Common.{◌∙◌, refl, ap, map, arith}
-use Rattle.std.specs.List.{zip}
+use Rattle.std.proofs.Common.{refl, ap, arith}
 use Rattle.lab_state.specs.Lab.{Lab}
-use Rattle.lab_state.specs.Resumed.{resumed_board}
 use Rattle.lab_state.proofs.ResumeLemmas.{sound-resumed}
 use Rattle.lab_state.proofs.RoundLemmas.{given_back}
-use Rattle.lab_state.proofs.SoundLemmas.{unspent}
 use Rattle.lab_state.proofs.lab.Lab.resume.Goals as goal
 
 pub put_states-requires-clause-fit : goal.put_states-requires-clause-fit
