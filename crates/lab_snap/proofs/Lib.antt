@@ -1,5 +1,5 @@
+mod EachLoops
 mod Fronts
-mod MemoryLaws
 mod PageLoops
-mod PageTests
+mod PlanLemmas
 mod RisingLemmas

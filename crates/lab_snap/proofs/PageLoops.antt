@@ -20,8 +20,8 @@ use Rattle.lab_snap.specs.Inner.Pages.{is_next, memory_read, spell_used}
 use Rattle.lab_snap.specs.Inner.ReadsInto.{ReadsInto}
 use Rattle.lab_snap.specs.Memory.{are_used, memory_of, pages, pages_form, pages_from, used, used_pages}
 use Rattle.lab_snap.specs.Page.{page_form}
-use Rattle.lab_snap.proofs.MemoryLaws.{all_append, pages_here, pages_later, split, zeros_more, Splits}
-use Rattle.lab_snap.proofs.PageTests.{are_used-rise, rise_from}
+use Rattle.lab_snap.specs.Inner.MemoryLaws.{all_append, pages_here, pages_later, split, zeros_more, Splits}
+use Rattle.lab_snap.specs.Inner.PageTests.{are_used-rise, rise_from}
 
 -- ---- writing
 

@@ -8,7 +8,7 @@ use Rattle.std.proofs.lemmas.Bool.Decides.{nat_tests}
 use Rattle.lab_num.specs.declared.key.Key.{Key}
 use Rattle.dev_core.specs.declared.post.Post.{Post}
 use Rattle.lab_snap.specs.Rising.{is_before, rise}
-use Rattle.lab_snap.proofs.PageTests.{all_weaker}
+use Rattle.lab_snap.specs.Inner.PageTests.{all_weaker}
 
 before_trans : (a b c : Key) → is_before a b ≡ true → is_before b c ≡ true → is_before a c ≡ true
 before_trans a b c first second = grind (arith, nat_tests)

@@ -1,3 +1,6 @@
 -- What serves private contracts and proofs.
+pub mod MemoryLaws
 pub mod Pages
+pub mod PageTests
 pub mod ReadsInto
+pub mod ValidPlan

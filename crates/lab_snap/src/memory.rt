@@ -31,7 +31,7 @@ use page_ram::PageRam;
 use std::alloc::Global;
 
 /// The bytes of a page.
-const PAGE: u32 = 4096;
+pub(crate) const PAGE: u32 = 4096;
 
 /// Each item is a byte: a proof that needs this calls it.
 fn are_bytes(bytes: &[u8])
@@ -103,7 +103,8 @@ fn take_pages(
     memory: &mut PageRam,
 ) -> Result<(), SnapFault>
     requires { memory.old ≡ zeros (4096 * pages) }
-    ensures { ReadsInto (memory_read 4096 pages count source.old) memory.new source.new result }
+    ensures reads { ReadsInto (memory_read 4096 pages count source.old) memory.new source.new result }
+    ensures size { length memory.new ≡ 4096 * pages }
 {
     let mut low = 0;
     for _ in 0..count {
@@ -122,7 +123,8 @@ fn take_pages(
 fn take_as_part(alloc: Global, pages: u32, source: &mut Source<'_>) -> Result<PageRam, SnapFault>
     requires some { 1 ≤ pages }
     requires few { pages ≤ 16384 }
-    ensures { Reads ((memory_form pages).parse source.old) source.new result }
+    ensures reads { Reads ((memory_form pages).parse source.old) source.new result }
+    ensures size { IfOk result (λ memory. length memory ≡ 4096 * pages) }
 {
     let count = u64::take(alloc, source)?;
     let mut memory = PageRam::new(alloc, PAGE * pages)?;
@@ -155,6 +157,7 @@ pub fn take_memory(alloc: Global, pages: u32, source: &mut Source<'_>) -> Result
         source.old ≡ (memory_form pages).spell memory ++ rest →
         MatchResult result (λ loaded. (loaded ≡ memory) × (source.new ≡ rest)) (λ fault. fault ≡ SnapFault.Memory) }
     ensures part { Reads ((memory_form pages).parse source.old) source.new result }
+    ensures size { IfOk result (λ memory. length memory ≡ 4096 * pages) }
 {
     take_as_part(alloc, pages, source)
 }

@@ -1,26 +1,14 @@
 -- Reading values one after the other, as a loop does.
-use Rattle.std.proofs.Common.{◌≡◌, ℕ, suc, ◌-◌, ◌+◌, ◌≤◌, ◌<◌, List, [], ◌∷◌, ◌++◌, Option, Some, None, refl, sym, ap}
-use Rattle.std.proofs.Common.{◌∙◌, append_assoc, arith}
+use Rattle.std.proofs.Common.{◌≡◌, ℕ, suc, ◌-◌, ◌+◌, ◌≤◌, ◌<◌, List, [], ◌∷◌, ◌++◌, Some, None, refl, sym, ap}
+use Rattle.std.proofs.Common.{◌∙◌, arith}
 use Rattle.std.proofs.lemmas.List.{append-nil}
-use Rattle.std.specs.Prelude.{Err}
 use Rattle.lab_spell.specs.Form.{Form}
-use Rattle.lab_spell.specs.Combine.{◌>>=◌, parse_times}
-use Rattle.lab_spell.specs.Reads.{Reads}
-use Rattle.lab_spell.specs.declared.fault.SnapFault.{SnapFault}
-use Rattle.lab_spell.specs.declared.fault.SnapFault.TheVariants.{Bad, Memory}
-
--- what was read before, and what is still read
-abbrev pub with_front : {A : Type 0} → List A → Option (List A × List ℕ) → Option (List A × List ℕ)
-with_front front read = read >>= λ x. Some (front ++ x.0, x.1)
+use Rattle.lab_spell.specs.Combine.{parse_times}
+use Rattle.lab_spell.specs.Inner.Fronts.{regroup, with_front}
 
 -- the items so far and those that are left are all of them
 abbrev pub IsHalfRead : {A : Type 0} → Form A → ℕ → List ℕ → List A → ℕ → List ℕ → Type 0
 IsHalfRead f count bytes front i rest = with_front front (parse_times f (count - i) rest) ≡ parse_times f count bytes
-
-regroup : {A : Type 0} (front : List A) (x : A) (read : Option (List A × List ℕ)) →
-    with_front front (read >>= λ y. Some (x ∷ y.0, y.1)) ≡ with_front (front ++ x ∷ []) read
-regroup front x (Some y) = ap (λ (xs : List _). Some (xs, y.1)) (sym (append_assoc front (x ∷ []) y.0))
-regroup front x None = refl
 
 pub half_read_more : {A : Type 0} (f : Form A) (count : ℕ) (bytes : List ℕ) (front : List A) (i : ℕ) (rest : List ℕ)
     (x : A) (after : List ℕ) → i < count → f.parse rest ≡ Some (x, after) → IsHalfRead f count bytes front i rest →
@@ -50,9 +38,3 @@ half_read_all f count bytes front i rest le so_far =
     let one : with_front front (parse_times f (count - i) rest) ≡ Some (front, rest) =
     rw k (ap (λ (xs : List _). Some (xs, rest)) (append-nil front)) in
     sym so_far ∙ one
-
--- a fault in a part is a fault in the whole
-pub is_fault : {A B : Type 0} (e : SnapFault) (part : Option (A × List ℕ)) (whole : Option (B × List ℕ)) (rest : List ℕ)
-    → Reads part rest (Err e) → (part ≡ None → whole ≡ None) → Reads {X = B} whole rest (Err e)
-is_fault Bad part whole rest h so = so h
-is_fault Memory part whole rest h so = tt

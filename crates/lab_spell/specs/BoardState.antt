@@ -1,9 +1,7 @@
 -- How the state of a board is spelled: its fields in order.
-use Rattle.std.proofs.Common.{refl, ℕ, List, Bool, Option}
-use Rattle.clint.specs.declared.state.ClintState.{ClintState}
+use Rattle.std.proofs.Common.{refl, ℕ, List, Bool}
+use Rattle.board.specs.declared.state.BoardState.{BoardState}
 use Rattle.dev_core.specs.declared.state.DevState.{DevState}
-use Rattle.plic.specs.declared.state.PlicState.{PlicState}
-use Rattle.rv_hart.specs.declared.state.HartState.{HartState}
 use Rattle.lab_spell.specs.Form.{Form, IsLawful}
 use Rattle.lab_spell.specs.Combine.{byte, flag, list, number, option, via, ◌⊗◌}
 use Rattle.lab_spell.specs.DeviceStates.{device_form, device_lawful}
@@ -13,19 +11,7 @@ use Rattle.lab_spell.specs.Inner.Laws.{via_lawful}
 use Rattle.lab_spell.specs.InterruptStates.{clint_form, clint_lawful, plic_form, plic_lawful}
 
 -- what of a board changes, its memories aside
-pub record BoardStateData : Type 0 where
-  pub speed : ℕ
-  pub harts : List HartState
-  pub next : ℕ
-  pub reserved : List (Option ℕ)
-  pub clint : Option ClintState
-  pub plic : Option PlicState
-  pub devices : List DevState
-  pub shown : List Bool
-  pub posted : ℕ
-  pub entries : ℕ
-
-unfoldable pub board_state_form : Form BoardStateData
+unfoldable pub board_state_form : Form BoardState
 board_state_form =
     via
     (λ s.

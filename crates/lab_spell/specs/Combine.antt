@@ -1,8 +1,8 @@
 -- The forms of bytes, numbers, flags, options, lists and texts, and how forms are put together.
 use Rattle.std.specs.Prelude.{◌≡◌, ◌<◌, ◌^◌, ◌⊎◌, ℕ, zero, suc, List, [], ◌∷◌, ◌++◌, length, take, drop, Option, Some}
 use Rattle.std.specs.Prelude.{None, Bool, true, false, nat_lt, ◌==◌, if◌then◌else◌}
-use Rattle.std.specs.List.{flat_map, AllByRecursion}
-use Rattle.std.specs.Str.{is_utf8}
+use Rattle.std.specs.List.{flat_map, zip, AllByRecursion}
+use Rattle.std.specs.Str.{bytes_eq, is_utf8}
 use Rattle.std.proofs.Common.{inl, inr}
 use Rattle.byteorder.specs.Endian.{little_bytes, little_number}
 use Rattle.lab_spell.specs.Form.{Form}
@@ -67,6 +67,18 @@ only test f = record {
   spell = f.spell;
   Fits = λ x. f.Fits x × (test x ≡ true);
   parse = λ bytes. f.parse bytes >>= λ x. if test x.0 then Some x else None;
+}
+
+-- the bytes after a mark, if they begin with it
+abbrev pub after : List ℕ → List ℕ → Option (List ℕ)
+after mark bytes = if bytes_eq (take (length mark) bytes) mark then Some (drop (length mark) bytes) else None
+
+-- a mark, and then the value
+abbrev pub marked : {A : Type 0} → List ℕ → Form A → Form A
+marked mark f = record {
+  spell = λ a. mark ++ f.spell a;
+  Fits = f.Fits;
+  parse = λ bytes. after mark bytes >>= f.parse;
 }
 
 -- ---- enums
@@ -151,6 +163,19 @@ list f = record {
   spell = λ xs. little_bytes 8 (length xs) ++ flat_map f.spell xs;
   Fits = λ xs. (length xs < 256 ^ 8) × AllByRecursion f.Fits xs;
   parse = λ bytes. (number 8).parse bytes >>= λ n. parse_times f n.0 n.1;
+}
+
+unfoldable pub parse_each : {K A : Type 0} → (K → Form A) → List K → List ℕ → Option (List A × List ℕ)
+parse_each f [] bytes = Some ([], bytes)
+parse_each f (k ∷ ks) bytes =
+    (f k).parse bytes >>= λ a. parse_each f ks a.1 >>= λ others. Some (a.0 ∷ others.0, others.1)
+
+-- for each key a value, which is spelled as the key says
+abbrev pub each : {K A : Type 0} → (K → Form A) → List K → Form (List A)
+each f ks = record {
+  spell = λ xs. flat_map (λ p. (f p.0).spell p.1) (zip ks xs);
+  Fits = λ xs. (length xs ≡ length ks) × AllByRecursion (λ p. (f p.0).Fits p.1) (zip ks xs);
+  parse = parse_each f ks;
 }
 
 -- a list of bytes that are UTF-8

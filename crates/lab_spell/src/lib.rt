@@ -1,9 +1,10 @@
 //! Values spelled as bytes, and read again: each value has one spelling, no spelling begins another,
 //! and bytes that are no spelling are refused. Spelled are numbers, options, lists and texts, and what
-//! laboratories are made of: keys, posts, the states of devices, processors, timers and interrupt
-//! controllers, parts of plans, and open lines.
+//! laboratories are made of: keys, posts, the states of boards and of their devices, processors, timers
+//! and interrupt controllers, plans, and open lines.
 #![tactic(auto)]
 
+mod board_state;
 mod device_states;
 mod fault;
 mod frames;

@@ -1,6 +1,6 @@
 //! Bytes that are read from the front.
-ghost use Rattle.std.specs.Prelude.{◌≡◌, ◌==◌, ◌<◌, ◌≤◌, length, take, drop, IfOk, IfErr};
-ghost use Rattle.lab_spell.specs.Combine.{byte_at_front};
+ghost use Rattle.std.specs.Prelude.{◌≡◌, ◌==◌, ◌<◌, ◌≤◌, length, take, drop, IfOk, IfErr, OnOk, Some, None};
+ghost use Rattle.lab_spell.specs.Combine.{after, byte_at_front};
 ghost use Rattle.lab_spell.specs.Reads.{Reads};
 
 use crate::fault::SnapFault;
@@ -58,5 +58,16 @@ impl<'a> Source<'a> {
         let (front, rest) = self.rest.split_at(count);
         self.rest = rest;
         Ok(front)
+    }
+    /// Passes over a mark, which is to stand in front.
+    pub fn pass(&mut self, mark: &[u8]) -> Result<(), SnapFault>
+        ensures ok { OnOk result (after mark.now self.old ≡ Some self.new) }
+        ensures err { IfErr result (λ e. (e ≡ SnapFault.Bad) × (after mark.now self.old ≡ None)) }
+    {
+        let front = self.front(mark.len())?;
+        if front != mark {
+            return Err(SnapFault::Bad);
+        }
+        Ok(())
     }
 }

@@ -4,6 +4,8 @@
 #[cfg(test)]
 mod bytes;
 #[cfg(test)]
+mod labs;
+#[cfg(test)]
 mod memories;
 #[cfg(test)]
 mod parts;

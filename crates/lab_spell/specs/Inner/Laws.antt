@@ -5,19 +5,20 @@ use Rattle.std.proofs.Common.{refl, sym, ap, subst, ◌∙◌, append_assoc, ari
 use Rattle.std.specs.Prelude.{slice_index}
 use Rattle.std.specs.List.{flat_map, AllByRecursion}
 use Rattle.std.specs.Int.{byte_at, bytes_low_first}
-use Rattle.std.specs.Str.{is_utf8}
+use Rattle.std.specs.Str.{bytes_eq, is_utf8}
 use Rattle.std.proofs.Math.Nat.{div-div-eq-div-mul, add-mul-mod_self_left, mod-eq_of_lt, pow-succ'}
 use Rattle.std.proofs.lemmas.Bool.{ltb-false, le-ltb, eqb-true, cases_lt}
 use Rattle.std.proofs.lemmas.List.{take_at, drop_at, take-append-drop, length-append, length-take, get_or-take}
 use Rattle.std.proofs.lemmas.List.{get_or_past, get_or-append-add, nil_from_length, append-nil}
 use Rattle.std.proofs.lemmas.Option.{none-some, same_Some, cond_some}
+use Rattle.std.proofs.lemmas.Slice.Eq.{bytes_eq-Decides}
 use Rattle.byteorder.specs.Endian.{little_bytes, little_number}
 use Rattle.byteorder.specs.Numbers.{little_number-reads_back, length-bytes_low_first, little_from-lt, little_from-cons}
 use Rattle.lab_spell.specs.Form.{Form, IsBytes, IsLawful, Spells}
 use Rattle.lab_spell.specs.Reads.{Appends}
 use Rattle.lab_spell.specs.Combine.{◌>>=◌, byte_at_front, byte, number, ◌⊗◌, depend, shown, via, only, nothing}
 use Rattle.lab_spell.specs.Combine.{tagged, choice, to_flag, from_flag, flag, to_option, from_option, option}
-use Rattle.lab_spell.specs.Combine.{parse_times, times, bytes, list, text}
+use Rattle.lab_spell.specs.Combine.{parse_times, times, bytes, list, text, after, marked, parse_each, each}
 
 -- ---- tools
 
@@ -175,6 +176,31 @@ only_lawful test {f = f} f_law = record {
   again = λ x rest fits. rw (f_law.again x rest fits.0, fits.1) refl;
 }
 
+-- what stands after a mark
+after_takes : (mark bytes rest : List ℕ) → after mark bytes ≡ Some rest → bytes ≡ mark ++ rest
+after_takes mark bytes rest e =
+    let front : List ℕ = take (length mark) bytes in
+    let c = cond_some (bytes_eq front mark) (drop (length mark) bytes) rest e in
+    let is : front ≡ mark = (bytes_eq-Decides front mark).0 c.0 in
+    sym (take-append-drop (length mark) bytes) ∙ ap (λ (l : List ℕ). l ++ drop (length mark) bytes) is
+    ∙ ap (λ (l : List ℕ). mark ++ l) c.1
+
+after_again : (mark rest : List ℕ) → after mark (mark ++ rest) ≡ Some rest
+after_again mark rest =
+    rw
+    (take_at mark rest (length mark) refl, drop_at mark rest (length mark) refl, (bytes_eq-Decides mark mark).1 refl)
+    refl
+
+pub marked_lawful : {A : Type 0} (mark : List ℕ) {f : Form A} → IsLawful f → IsLawful (marked mark f)
+marked_lawful mark {f = f} f_law = record {
+  takes = λ bytes y fits e.
+      let a = bind_some (after mark bytes) f.parse y e in
+      let front = after_takes mark bytes a.0 a.1 in
+      let t = f_law.takes a.0 y (IsBytes-after bytes mark a.0 front fits) a.2 in
+      (seam bytes mark a.0 (f.spell y.0) y.1 front t.0, t.1);
+  again = λ x rest fits. rw (append_assoc, after_again mark (f.spell x ++ rest)) (f_law.again x rest fits);
+}
+
 -- ---- enums
 
 pub nothing_lawful : IsLawful nothing
@@ -317,6 +343,44 @@ list_lawful {f = f} f_law = record {
       rw ty.1.0 (seam bytes (little_bytes 8 n.0.0) n.0.1 (flat_map f.spell y.0) y.1 tn.0 ty.0, (tn.1, ty.1.1));
   again = λ xs rest fits. rw (append_assoc, (number_lawful 8).again (length xs) (flat_map f.spell xs ++ rest) fits.0)
       (parse_times_again f f_law xs rest fits.1);
+}
+
+parse_each_takes : {K A : Type 0} (f : K → Form A) (ks : List K) (bytes : List ℕ) (y : List A × List ℕ) →
+    AllByRecursion (λ k. IsLawful (f k)) ks → IsBytes bytes → parse_each f ks bytes ≡ Some y →
+    Spells (each f ks) bytes y
+unfolding parse_each
+parse_each_takes f [] bytes y laws fits e =
+    subst (Spells (each f []) bytes) (same_Some ([], bytes) y e) (refl, (refl, tt))
+parse_each_takes f (k ∷ ks) bytes y laws fits e =
+    let a = bind_some ((f k).parse bytes)
+    (λ a. parse_each f ks a.1 >>= λ others. Some (a.0 ∷ others.0, others.1)) y e in
+    let o = bind_some (parse_each f ks a.0.1) (λ others. Some (a.0.0 ∷ others.0, others.1)) y a.2 in
+    let ta = laws.0.takes bytes a.0 fits a.1 in
+    let to = parse_each_takes f ks a.0.1 o.0 laws.1 (IsBytes-after bytes ((f k).spell a.0.0) a.0.1 ta.0 fits) o.1 in
+    let len : length (a.0.0 ∷ o.0.0) ≡ length (k ∷ ks) = ap suc to.1.0 in
+    subst (Spells (each f (k ∷ ks)) bytes) (same_Some (a.0.0 ∷ o.0.0, o.0.1) y o.2)
+    (seam bytes ((f k).spell a.0.0) a.0.1 ((each f ks).spell o.0.0) o.0.1 ta.0 to.0, (len, (ta.1, to.1.1)))
+
+parse_each_again : {K A : Type 0} (f : K → Form A) (ks : List K) (xs : List A) (rest : List ℕ) →
+    AllByRecursion (λ k. IsLawful (f k)) ks → (each f ks).Fits xs →
+    parse_each f ks ((each f ks).spell xs ++ rest) ≡ Some (xs, rest)
+unfolding parse_each
+parse_each_again f [] [] rest laws fits = refl
+parse_each_again f [] (x ∷ xs) rest laws fits = absurd (omega (arith, fits.0))
+parse_each_again f (k ∷ ks) [] rest laws fits = absurd (omega (arith, fits.0))
+parse_each_again f (k ∷ ks) (x ∷ xs) rest laws fits =
+    let len : length xs ≡ length ks = omega (arith, fits.0) in
+    rw (
+      append_assoc,
+      laws.0.again x ((each f ks).spell xs ++ rest) fits.1.0,
+      parse_each_again f ks xs rest laws.1 (len, fits.1.1),
+    ) refl
+
+pub each_lawful : {K A : Type 0} (f : K → Form A) (ks : List K) → AllByRecursion (λ k. IsLawful (f k)) ks →
+    IsLawful (each f ks)
+each_lawful f ks laws = record {
+  takes = λ bytes y fits e. parse_each_takes f ks bytes y laws fits e;
+  again = λ xs rest fits. parse_each_again f ks xs rest laws fits;
 }
 
 -- ---- writing

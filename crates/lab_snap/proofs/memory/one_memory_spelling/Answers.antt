@@ -1,5 +1,5 @@
 use Rattle.lab_spell.specs.Inner.Laws.{one}
-use Rattle.lab_snap.proofs.MemoryLaws.{memory_lawful}
+use Rattle.lab_snap.specs.Inner.MemoryLaws.{memory_lawful}
 use Rattle.lab_snap.proofs.memory.one_memory_spelling.Goals as goal
 
 pub returns : goal.returns

@@ -1,6 +1,6 @@
 use Rattle.lab_spell.specs.Inner.Laws.{all_bytes}
 use Rattle.page_ram.specs.Pages.{page_of}
-use Rattle.lab_snap.proofs.MemoryLaws.{zeros_are_bytes}
+use Rattle.lab_snap.specs.Inner.MemoryLaws.{zeros_are_bytes}
 use Rattle.lab_snap.proofs.memory.put_used.Goals as goal
 
 pub returns-in_ok-extend_from_slice-clause-bytes : goal.returns-in_ok-extend_from_slice-clause-bytes

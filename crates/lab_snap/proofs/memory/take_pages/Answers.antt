@@ -4,7 +4,7 @@ use Rattle.std.proofs.lemmas.List.{length-replicate, length-take}
 use Rattle.lab_snap.specs.Inner.Pages.{is_next}
 use Rattle.lab_snap.proofs.PageLoops.{page_read, page_short, no_page, half_loaded_more, half_loaded_bad}
 use Rattle.lab_snap.proofs.PageLoops.{half_loaded_none, half_loaded_refused, half_loaded_all, into_fault}
-use Rattle.lab_snap.proofs.PageTests.{next_is}
+use Rattle.lab_snap.specs.Inner.PageTests.{next_is}
 use Rattle.lab_snap.proofs.memory.take_pages.Goals as goal
 
 pub loop-init : goal.loop-init
@@ -13,23 +13,23 @@ loop-init c = record {
   so_far = half_loaded_none 4096 c.args.pages c.args.count c.args.source.now c.args.memory.now;
 }
 
-pub returns-in_err-number : goal.returns-in_err-number
-returns-in_err-number c =
+pub returns-in_err-number-clause-reads : goal.returns-in_err-number-clause-reads
+returns-in_err-number-clause-reads c =
     let p = err_from_is_err_and c.from_residual.result c.from_residual.ensures.1 in
     rw (p.1, p.2) (into_fault c.in_err-number.field-0.0 _ _ c.take.new.source c.loop.memory c.take.new.source
     c.in_err-number.ensures
     (λ none. half_loaded_bad 4096 _ _ _ _ _ _ _ _ c.requires c.loop-test.true (no_page 4096 _ none)
     c.loop.invariant.so_far))
 
-pub returns-in_err-page : goal.returns-in_err-page
-returns-in_err-page c =
+pub returns-in_err-page-clause-reads : goal.returns-in_err-page-clause-reads
+returns-in_err-page-clause-reads c =
     let p = err_from_is_err_and c.from_residual-in_err-page.result c.from_residual-in_err-page.ensures.1 in
     rw (p.1, p.2, c.in_err-page.ensures.short.0)
     (half_loaded_bad 4096 _ _ _ _ _ _ _ _ c.requires c.loop-test.true
     (page_short 4096 _ _ _ c.in_ok-number.ensures c.in_err-page.ensures.short.1) c.loop.invariant.so_far)
 
-pub returns-then-not-is_next : goal.returns-then-not-is_next
-returns-then-not-is_next c =
+pub returns-then-not-is_next-clause-reads : goal.returns-then-not-is_next-clause-reads
+returns-then-not-is_next-clause-reads c =
     let read = page_read 4096 _ _ _ c.in_ok-number.ensures c.in_ok-page.ensures.long in
     let refused : is_next c.args.pages c.loop.low (c.in_ok-number.number, take 4096 c.take.new.source) ≡ false =
     rw (← c.in_ok-page.ensures.front) (sym c.if-not-is_next.ensures) in
@@ -59,5 +59,5 @@ loop-preserved c =
           (half_loaded_more 4096 _ _ _ _ _ _ _ _ _ _ _ c.loop-test.true read next c.loop.invariant.so_far);
     }
 
-pub returns : goal.returns
-returns c = half_loaded_all 4096 _ _ _ _ _ _ _ _ c.requires c.loop-test.false c.loop.invariant.so_far
+pub returns-clause-reads : goal.returns-clause-reads
+returns-clause-reads c = half_loaded_all 4096 _ _ _ _ _ _ _ _ c.requires c.loop-test.false c.loop.invariant.so_far

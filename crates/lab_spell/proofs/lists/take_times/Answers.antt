@@ -1,5 +1,6 @@
 use Rattle.std.proofs.lemmas.Result.{err_from_is_err_and}
-use Rattle.lab_spell.proofs.ListLoops.{half_read_more, half_read_bad, half_read_all, is_fault}
+use Rattle.lab_spell.specs.Inner.Fronts.{is_fault}
+use Rattle.lab_spell.proofs.ListLoops.{half_read_more, half_read_bad, half_read_all}
 use Rattle.lab_spell.proofs.lists.take_times.Goals as goal
 
 pub returns-in_err-take : goal.returns-in_err-take

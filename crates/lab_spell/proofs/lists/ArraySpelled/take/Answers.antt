@@ -1,7 +1,8 @@
 use Rattle.std.proofs.Common.{◌<◌, ◌≤◌, ◌∙◌, length, arith}
 use Rattle.std.proofs.lemmas.Result.{err_from_is_err_and}
 use Rattle.std.proofs.lemmas.List.{take_more_set, take_all, length-set}
-use Rattle.lab_spell.proofs.ListLoops.{half_read_more, half_read_bad, half_read_all, is_fault}
+use Rattle.lab_spell.specs.Inner.Fronts.{is_fault}
+use Rattle.lab_spell.proofs.ListLoops.{half_read_more, half_read_bad, half_read_all}
 use Rattle.lab_spell.proofs.lists.ArraySpelled.take.Goals as goal
 
 pub returns-in_err-values : goal.returns-in_err-values

@@ -14,7 +14,7 @@ use Rattle.lab_snap.specs.Inner.Pages.{is_next}
 use Rattle.lab_snap.specs.Page.{page_form}
 use Rattle.lab_snap.specs.Memory.{IsMemory, are_used, memory_form, memory_of, page_at, pages, pages_form, pages_from}
 use Rattle.lab_snap.specs.Memory.{used, used_pages}
-use Rattle.lab_snap.proofs.PageTests.{IsNext, are_used-rise, is_next_from, next_is, rise_from, rise_lower}
+use Rattle.lab_snap.specs.Inner.PageTests.{IsNext, are_used-rise, is_next_from, next_is, rise_from, rise_lower}
 
 page_lawful : (s : ℕ) → IsLawful (page_form s)
 page_lawful s = next_lawful (number_lawful 4) (bytes_lawful s)

@@ -1,0 +1,133 @@
+//! Boards that have a plan.
+ghost use Rattle.std.specs.Prelude.{◌≡◌, All, IfOk, IsTrue};
+ghost use Rattle.page_ram.specs.Access.{IsRamSize};
+ghost use Rattle.sys_bus.specs.Plan.{IsValid};
+ghost use Rattle.lab_spell.specs.Reads.{Reads};
+ghost use Rattle.lab_snap.specs.Inner.ValidPlan.{is_valid_plan};
+ghost use Rattle.lab_snap.specs.Machine.{IsMachine};
+ghost use Rattle.lab_snap.specs.MachineForm.{valid_plan_form};
+
+use crate::memories::{put_memories, take_memories};
+use board::BoardState;
+use lab_num::{NoMemory, Rows};
+use lab_spell::{SnapFault, Source, Spelled};
+use page_ram::PageRam;
+use std::alloc::Global;
+use std::marker::Model;
+use sys_bus::BoardPlan;
+
+/// A board that has a plan, as a snapshot holds it: a board can be made by the plan, and there is a
+/// memory for each of its sizes. Its state need not fit the plan.
+#[derive(Drop)]
+pub struct SavedMachine {
+    plan: BoardPlan,
+    state: BoardState,
+    memories: Rows<PageRam>,
+}
+
+impl Model for SavedMachine {
+    ghost use Rattle.lab_snap.specs.Machine.{IsMachine, Machine};
+
+    ghost Value = { Machine };
+
+    ghost view = { λ m. record { plan = m.plan; state = m.state; memories = m.memories } };
+
+    ghost invariant = { λ m. IsMachine (record { plan = m.plan; state = m.state; memories = m.memories }) };
+}
+
+impl SavedMachine {
+    pub fn of(plan: BoardPlan, state: BoardState, memories: Rows<PageRam>) -> SavedMachine
+        requires { IsMachine (record { plan = plan; state = state; memories = memories }) }
+        ensures { result ≡ record { plan = plan; state = state; memories = memories } }
+    {
+        SavedMachine {
+            plan,
+            state,
+            memories,
+        }
+    }
+
+    pub fn plan(&self) -> &BoardPlan
+        ensures plan { result.now ≡ self.now.plan }
+        ensures valid { IsValid result.now }
+    {
+        &self.plan
+    }
+
+    pub fn state(&self) -> &BoardState
+        ensures { result.now ≡ self.now.state }
+    {
+        &self.state
+    }
+
+    /// In the order of the plan.
+    pub fn memories(&self) -> &[PageRam]
+        ensures { result.now ≡ self.now.memories }
+    {
+        self.memories.items()
+    }
+
+    /// The plan, the state and the memories.
+    pub fn into_parts(self) -> (BoardPlan, BoardState, Rows<PageRam>)
+        ensures parts { result ≡ (self.plan, self.state, self.memories) }
+        ensures sound { IsMachine self }
+    {
+        (self.plan, self.state, self.memories)
+    }
+}
+
+/// Each memory of a valid plan has whole pages: a proof that needs this calls it.
+fn have_whole_pages(plan: &BoardPlan)
+    requires { IsValid plan.now }
+    ensures { All IsRamSize plan.now.memories }
+{}
+
+/// Whether a board can be made by the plan.
+fn is_valid(plan: &BoardPlan) -> bool
+    ensures test { result ≡ is_valid_plan plan.now }
+    ensures valid { IsTrue result → IsValid plan.now }
+{
+    plan.is_valid()
+}
+
+/// Reads a plan that a board can be made by.
+#[tactic(auto, unfolding(crate::specs::MachineForm::valid_plan_form))]
+fn take_plan(alloc: Global, source: &mut Source<'_>) -> Result<BoardPlan, SnapFault>
+    ensures reads { Reads (valid_plan_form.parse source.old) source.new result }
+    ensures valid { IfOk result IsValid }
+{
+    let plan = BoardPlan::take(alloc, source)?;
+    if !is_valid(&plan) {
+        return Err(SnapFault::Bad);
+    }
+    Ok(plan)
+}
+
+impl Spelled for SavedMachine {
+    ghost use Rattle.lab_snap.specs.MachineForm.{machine_form, machine_lawful};
+
+    ghost form = { machine_form };
+
+    ghost lawful = { machine_lawful };
+
+    #[tactic(auto, unfolding(crate::specs::MachineForm::machine_form, crate::specs::MachineForm::valid_plan_form))]
+    fn put(&self, out: &mut Vec<u8>) -> Result<(), NoMemory> {
+        have_whole_pages(&self.plan);
+        self.plan.put(out)?;
+        self.state.put(out)?;
+        put_memories(self.plan.memories.items(), self.memories.items(), out)
+    }
+
+    #[tactic(auto, unfolding(crate::specs::MachineForm::machine_form))]
+    fn take(alloc: Global, source: &mut Source<'_>) -> Result<SavedMachine, SnapFault> {
+        let plan = take_plan(alloc, source)?;
+        have_whole_pages(&plan);
+        let state = BoardState::take(alloc, source)?;
+        let memories = take_memories(alloc, plan.memories.items(), source)?;
+        Ok(SavedMachine {
+            plan,
+            state,
+            memories,
+        })
+    }
+}

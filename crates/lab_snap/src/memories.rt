@@ -1,0 +1,75 @@
+//! The memories of a board, one for each size of its plan.
+ghost use Rattle.std.specs.Prelude.{◌≡◌, All, IfOk, OnOk, length, map};
+ghost use Rattle.page_ram.specs.Access.{IsRamSize};
+ghost use Rattle.lab_spell.specs.Combine.{each, parse_each};
+ghost use Rattle.lab_spell.specs.Reads.{Appends, Reads};
+ghost use Rattle.lab_snap.specs.MachineForm.{memories_form, sized_form};
+
+use crate::memory::{PAGE, put_memory, take_memory};
+use lab_num::{NoMemory, Rows};
+use lab_spell::{SnapFault, Source, Spelled};
+use page_ram::PageRam;
+use std::alloc::Global;
+
+/// Writes the memories, one after another.
+fn put_each(sizes: &[u32], memories: &[PageRam], out: &mut Vec<u8>) -> Result<(), NoMemory>
+    requires whole { All IsRamSize sizes.now }
+    requires sizes { map length memories.now ≡ sizes.now }
+    ensures spelled { OnOk result
+        (Appends out.old.items out.new.items ((each sized_form sizes.now).spell memories.now)) }
+    ensures fits { OnOk result ((each sized_form sizes.now).Fits memories.now) }
+{
+    for k in 0..sizes.len() {
+        put_memory(&memories[k], sizes[k] / PAGE, out)?;
+    }
+    Ok(())
+}
+
+/// Reads a memory of each size.
+fn take_each(
+    alloc: Global,
+    sizes: &[u32],
+    source: &mut Source<'_>,
+) -> Result<Rows<PageRam>, SnapFault>
+    requires { All IsRamSize sizes.now }
+    ensures reads { Reads (parse_each sized_form sizes.now source.old) source.new result }
+    ensures sizes { IfOk result (λ memories. map length memories ≡ sizes.now) }
+{
+    let mut memories = Vec::new(alloc);
+    for &size in sizes {
+        memories.push(take_memory(alloc, size / PAGE, source)?)?;
+    }
+    Ok(Rows::of(memories))
+}
+
+/// Writes the list of the memories.
+#[tactic(auto, unfolding(crate::specs::MachineForm::memories_form))]
+pub(crate) fn put_memories(
+    sizes: &[u32],
+    memories: &[PageRam],
+    out: &mut Vec<u8>,
+) -> Result<(), NoMemory>
+    requires whole { All IsRamSize sizes.now }
+    requires sizes { map length memories.now ≡ sizes.now }
+    ensures spelled { OnOk result
+        (Appends out.old.items out.new.items ((memories_form sizes.now).spell memories.now)) }
+    ensures fits { OnOk result ((memories_form sizes.now).Fits memories.now) }
+{
+    (sizes.len() as u64).put(out)?;
+    put_each(sizes, memories, out)
+}
+
+/// Reads the list of the memories of these sizes.
+#[tactic(auto, unfolding(crate::specs::MachineForm::memories_form))]
+pub(crate) fn take_memories(
+    alloc: Global,
+    sizes: &[u32],
+    source: &mut Source<'_>,
+) -> Result<Rows<PageRam>, SnapFault>
+    requires { All IsRamSize sizes.now }
+    ensures reads { Reads ((memories_form sizes.now).parse source.old) source.new result }
+    ensures sizes { IfOk result (λ memories. map length memories ≡ sizes.now) }
+{
+    source.pass(&(sizes.len() as u64).to_le_bytes())?;
+    take_each(alloc, sizes, source)
+}
