@@ -1,13 +1,15 @@
 //! A laboratory and its open lines, saved as bytes.
 ghost use Rattle.std.specs.Prelude.{◌≡◌, ◌<◌, All, IfOk, IfSome, OnOk, false, length, map, slice_get};
 ghost use Rattle.std.specs.Option.{option_map};
-ghost use Rattle.board.specs.View.{View};
+ghost use Rattle.board.specs.BoardState.{board_state};
+ghost use Rattle.lab_spell.specs.BoardState.{board_state_form};
 ghost use Rattle.lab_spell.specs.Combine.{each, list, option};
+ghost use Rattle.lab_spell.specs.OpenLines.{open_line_form};
+ghost use Rattle.lab_spell.specs.Posts.{post_form};
 ghost use Rattle.lab_spell.specs.Reads.{Appends};
 ghost use Rattle.lab_state.specs.One.{view_of};
 ghost use Rattle.lab_state.specs.Valid.{IsValid};
 ghost use Rattle.page_ram.specs.Access.{IsRamSize};
-ghost use Rattle.sys_bus.specs.Plan as plan_spec;
 ghost use Rattle.lab_snap.specs.Hub.{hub_form};
 ghost use Rattle.lab_snap.specs.Lab.{board_form};
 ghost use Rattle.lab_snap.specs.MachineForm.{machine_form, memories_form, sized_form};
@@ -62,6 +64,16 @@ fn put_memories<D: Device>(
     put_each_memory(board, sizes, out)
 }
 
+/// Writes what of a board changes, its memories aside.
+fn put_state<D: Device>(board: &Board<D>, out: &mut Vec<u8>) -> Result<(), NoMemory>
+    ensures spelled { OnOk result (Appends out.old.items out.new.items
+        (board_state_form.spell (board_state board.now.view))) }
+    ensures fits { OnOk result (board_state_form.Fits (board_state board.now.view)) }
+{
+    let state = board.state()?;
+    state.put(out)
+}
+
 /// Writes a board that has a plan: the plan, what of the board changes, and its memories.
 #[tactic(auto, unfolding(crate::specs::MachineForm::machine_form, crate::specs::MachineForm::valid_plan_form))]
 fn put_machine<D: Device>(board: &Board<D>, out: &mut Vec<u8>) -> Result<(), NoMemory>
@@ -70,19 +82,14 @@ fn put_machine<D: Device>(board: &Board<D>, out: &mut Vec<u8>) -> Result<(), NoM
     ensures fits { OnOk result (machine_form.Fits (saved_machine board.now.view)) }
 {
     let plan = board.plan();
-    let state = board.state()?;
     plan.put(out)?;
-    state.put(out)?;
+    put_state(board, out)?;
     put_memories(board, plan.memories.items(), out)?;
     Ok(())
 }
 
 /// Writes what stands under the name of a board, if anything does.
-fn put_under_name<D: Device>(
-    lab: &Lab<D>,
-    b: BoardNo,
-    out: &mut Vec<u8>,
-) -> Result<(), NoMemory>
+fn put_under_name<D: Device>(lab: &Lab<D>, b: BoardNo, out: &mut Vec<u8>) -> Result<(), NoMemory>
     requires unspent { lab.now.spent ≡ false }
     requires exists { b.0 < length lab.now.lab.boards }
     ensures spelled { OnOk result (Appends out.old.items out.new.items
@@ -167,6 +174,25 @@ fn put_hubs<D: Device>(lab: &Lab<D>, out: &mut Vec<u8>) -> Result<(), NoMemory>
     Ok(())
 }
 
+/// Writes the list of the posts that wait.
+fn put_pending<D: Device>(lab: &Lab<D>, out: &mut Vec<u8>) -> Result<(), NoMemory>
+    requires { lab.now.spent ≡ false }
+    ensures spelled { OnOk result (Appends out.old.items out.new.items
+        ((list post_form).spell lab.now.lab.pending)) }
+    ensures fits { OnOk result ((list post_form).Fits lab.now.lab.pending) }
+{
+    put_list(lab.pending(), out)
+}
+
+/// Writes the list of the open lines.
+fn put_lines(lines: &Lines, out: &mut Vec<u8>) -> Result<(), NoMemory>
+    ensures spelled { OnOk result (Appends out.old.items out.new.items
+        ((list open_line_form).spell lines.now)) }
+    ensures fits { OnOk result ((list open_line_form).Fits lines.now) }
+{
+    put_list(lines.unended(), out)
+}
+
 /// Writes a laboratory and its open lines.
 #[tactic(auto, unfolding(crate::specs::Lab::lab_form))]
 fn put_lab<D: Device>(lab: &Lab<D>, lines: &Lines, out: &mut Vec<u8>) -> Result<(), NoMemory>
@@ -180,8 +206,8 @@ fn put_lab<D: Device>(lab: &Lab<D>, lines: &Lines, out: &mut Vec<u8>) -> Result<
     lab.quantum().put(out)?;
     put_boards(lab, out)?;
     put_hubs(lab, out)?;
-    put_list(lab.pending(), out)?;
-    put_list(lines.unended(), out)?;
+    put_pending(lab, out)?;
+    put_lines(lines, out)?;
     Ok(())
 }
 

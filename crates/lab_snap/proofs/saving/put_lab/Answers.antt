@@ -12,5 +12,4 @@ returns-clause-spelled g c =
     (appended (rw c.quantum.ensures.value at c.in_ok-put-2.ensures.spelled)
     (appended c.in_ok-put_boards.ensures.spelled
     (appended c.in_ok-put_hubs.ensures.spelled
-    (appended (rw c.pending.ensures.value at c.in_ok-put_list.ensures.spelled)
-    (rw c.unended.ensures.all at c.in_ok-put_list-2.ensures.spelled))))))
+    (appended c.in_ok-put_pending.ensures.spelled c.in_ok-put_lines.ensures.spelled)))))

@@ -15,5 +15,4 @@ returns-clause-spelled g c =
     let sizes : c.items.result.now ≡ c.args.board.now.view.space.plan.memories =
     c.items.ensures ∙ ap (λ plan. plan.memories) plan in
     appended (rw plan at c.in_ok-put.ensures.spelled)
-    (appended (rw c.in_ok-state.ensures.value at c.in_ok-put-2.ensures.spelled)
-    (rw sizes at c.in_ok-put_memories.ensures.spelled))
+    (appended c.in_ok-put_state.ensures.spelled (rw sizes at c.in_ok-put_memories.ensures.spelled))
