@@ -3,3 +3,5 @@ mod Fronts
 mod PageLoops
 mod PlanLemmas
 mod RisingLemmas
+mod SavedLists
+mod SavedParts

@@ -2,8 +2,10 @@
 pub mod Hub
 pub mod Inner
 pub mod Lab
+pub mod Loaded
 pub mod Machine
 pub mod MachineForm
 pub mod Memory
 pub mod Page
 pub mod Rising
+pub mod Saved

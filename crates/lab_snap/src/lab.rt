@@ -11,7 +11,7 @@ use log_text::OpenLine;
 use std::alloc::Global;
 
 /// The bytes that a snapshot begins with.
-const MARK: [u8; 8] = *b"LABSNAP1";
+pub(crate) const MARK: [u8; 8] = *b"LABSNAP1";
 
 /// A board as a snapshot holds it: its name, and the machine under it if it has a plan.
 #[derive(Drop)]

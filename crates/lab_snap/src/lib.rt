@@ -7,6 +7,7 @@ mod lab;
 mod machine;
 mod memories;
 mod memory;
+mod saving;
 mod state;
 mod whole;
 
@@ -14,5 +15,6 @@ pub use hub::{HubKind, SavedHub};
 pub use lab::{SavedBoard, SavedLab, one_lab_spelling, read_lab};
 pub use machine::SavedMachine;
 pub use memory::{load_memory, one_memory_spelling, put_memory, save_memory, take_memory};
+pub use saving::save;
 pub use state::State;
 pub use whole::{load_state, save_state};

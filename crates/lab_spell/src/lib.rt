@@ -24,6 +24,7 @@ mod texts;
 mod whole;
 
 pub use fault::SnapFault;
+pub use lists::put_list;
 pub use source::Source;
 pub use spelled::Spelled;
 pub use whole::{load, one_spelling, save};

@@ -22,6 +22,17 @@ pub(crate) fn put_each<T: Spelled>(items: &[T], out: &mut Vec<u8>) -> Result<(),
     Ok(())
 }
 
+/// Writes the spelling of the list of these items at the end. Where memory runs out a part of it may
+/// stand there.
+pub fn put_list<T: Spelled>(items: &[T], out: &mut Vec<u8>) -> Result<(), NoMemory>
+    ensures spelled { OnOk result
+        (Appends out.old.items out.new.items ((list T.form).spell items.now)) }
+    ensures fits { OnOk result ((list T.form).Fits items.now) }
+{
+    (items.len() as u64).put(out)?;
+    put_each(items, out)
+}
+
 /// Reads `count` items. Nothing is reserved for a count, which may be larger than the bytes.
 fn take_times<T: Spelled + Drop>(
     alloc: Global,
@@ -43,9 +54,7 @@ impl<T: Spelled + Drop> Spelled for Rows<T> {
     ghost lawful = { list_lawful T.lawful };
 
     fn put(&self, out: &mut Vec<u8>) -> Result<(), NoMemory> {
-        let items = self.items();
-        (items.len() as u64).put(out)?;
-        put_each(items, out)
+        put_list(self.items(), out)
     }
 
     fn take(alloc: Global, source: &mut Source<'_>) -> Result<Rows<T>, SnapFault> {

@@ -2,7 +2,7 @@
 ghost use Rattle.std.specs.Prelude.{◌≡◌};
 
 use crate::fault::SnapFault;
-use crate::lists::put_each;
+use crate::lists::put_list;
 use crate::source::Source;
 use crate::spelled::Spelled;
 use lab_num::{NoMemory, Rows};
@@ -43,9 +43,7 @@ impl Spelled for Lines {
 
     #[tactic(auto, unfolding(crate::specs::OpenLines::lines_form))]
     fn put(&self, out: &mut Vec<u8>) -> Result<(), NoMemory> {
-        let lines = self.unended();
-        (lines.len() as u64).put(out)?;
-        put_each(lines, out)?;
+        put_list(self.unended(), out)?;
         Ok(())
     }
 

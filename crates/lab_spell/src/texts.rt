@@ -1,6 +1,6 @@
 //! A text is a list of bytes, which are UTF-8.
 use crate::fault::SnapFault;
-use crate::lists::put_each;
+use crate::lists::put_list;
 use crate::source::Source;
 use crate::spelled::Spelled;
 use lab_num::{NoMemory, Rows, Text};
@@ -17,8 +17,7 @@ impl Spelled for Text {
     #[tactic(auto, unfolding(crate::specs::Combine::text))]
     fn put(&self, out: &mut Vec<u8>) -> Result<(), NoMemory> {
         let bytes = self.as_str().as_bytes();
-        (bytes.len() as u64).put(out)?;
-        put_each(bytes, out)?;
+        put_list(bytes, out)?;
         Ok(())
     }
 

@@ -8,4 +8,4 @@ unfolding text
 returns-clause-fits c =
     let same : c.as_bytes-bytes.result.now ≡ c.args.self.now = c.as_bytes-bytes.ensures.value ∙ c.as_str.ensures in
     rw (← same)
-    ((c.in_ok-put.ensures.fits, c.in_ok-put_each.ensures.fits), is_utf8-from_IsUtf8 _ c.as_bytes-bytes.ensures.utf8)
+    (c.in_ok-put_list.ensures.fits, is_utf8-from_IsUtf8 _ c.as_bytes-bytes.ensures.utf8)
