@@ -1,5 +1,10 @@
+mod DelayLemmas
+mod DistinctLemmas
 mod EachLoops
 mod Fronts
+mod LoadedParts
+mod LoadedView
 mod PageLoops
 mod PlanLemmas
 mod RisingLemmas
+mod ValidParts

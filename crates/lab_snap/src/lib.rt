@@ -8,6 +8,7 @@ mod machine;
 mod memories;
 mod memory;
 mod state;
+mod valid;
 mod whole;
 
 pub use hub::{HubKind, SavedHub};
