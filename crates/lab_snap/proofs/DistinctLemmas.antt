@@ -141,9 +141,9 @@ joined (board ∷ boards) hubs first second apart =
     let flipped : All (λ hub. bytes_eq board hub ≡ false) hubs =
     λ k d within. nat_list_eq_equiv.symm board _ ∙ own k d within in (
       both_parts (λ name. bytes_eq board name ≡ false) boards hubs first.0
-      (by_recursion (λ hub. bytes_eq board hub ≡ false) hubs flipped),
+          (by_recursion (λ hub. bytes_eq board hub ≡ false) hubs flipped),
       joined boards hubs first.1 second
-      (All-tail (λ board. All (λ hub. bytes_eq hub board ≡ false) hubs) board boards apart),
+          (All-tail (λ board. All (λ hub. bytes_eq hub board ≡ false) hubs) board boards apart),
     )
 
 pub names_distinct : (boards hubs : List (List ℕ)) → AreNames boards hubs → IsDistinct bytes_eq (boards ++ hubs)

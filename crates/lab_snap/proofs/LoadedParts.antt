@@ -3,12 +3,10 @@ use Rattle.std.proofs.Common.{◌≡◌, ◌∙◌, ℕ, zero, suc, ◌+◌, ◌
 use Rattle.std.proofs.Common.{cond, drop, refl, sym, ap, subst, arith}
 use Rattle.std.specs.Prelude.{Option, None, Some, find, option_and_then, slice_get, slice_index_or, IsTrue}
 use Rattle.std.specs.List.{All}
-use Rattle.std.specs.Option.{option_map, option_map_or}
+use Rattle.std.specs.Option.{ForSome, option_map}
 use Rattle.std.proofs.lemmas.Bool.{leb-true, le-leb}
 use Rattle.std.proofs.lemmas.List.{get_or-map, length-map}
 use Rattle.std.proofs.lemmas.List.Elements.{All-cons, All-head, All-map, All-nil, All-tail, All-weaker}
-use Rattle.board.specs.declared.state.BoardState.{BoardState}
-use Rattle.board.specs.BoardState.{board_state}
 use Rattle.board.specs.Changes.{is_shown_kind}
 use Rattle.board.specs.Valid.{IsStateFor}
 use Rattle.board.specs.View.{View}
@@ -23,11 +21,10 @@ use Rattle.lab_snap.specs.declared.hub.HubKind.{HubKind}
 use Rattle.lab_snap.specs.declared.hub.HubKind.TheVariants.{Uart, Can}
 use Rattle.lab_snap.specs.declared.hub.SavedHub.{SavedHub}
 use Rattle.lab_snap.specs.declared.lab.SavedBoard.{SavedBoard}
-use Rattle.lab_snap.specs.Inner.Parts.{IsBoardAt, IsHubIn, IsMachineAt, IsMemberOf, delay_in, kind_in, machine_at, members_in}
+use Rattle.lab_snap.specs.Inner.Parts.{FitTheirPlans, IsBoardAt, IsHubIn, IsMachineAt, IsMemberOf, delay_in, kind_in, machine_at, members_in}
 use Rattle.lab_snap.specs.Loaded.{kind_of_hub, loaded_board, loaded_boards, loaded_hub, loaded_view}
 use Rattle.lab_snap.specs.Machine.{Machine}
-use Rattle.lab_snap.specs.Saved.{hub_kind, saved_board, saved_hub, saved_machine}
-use Rattle.lab_snap.proofs.LoadedView.{board_loaded, state_loaded}
+use Rattle.lab_snap.proofs.LoadedView.{board_loaded}
 
 -- ---- boards
 
@@ -87,57 +84,30 @@ all_standing time n (board ∷ boards) all zero k v is found = by_machine board.
 all_standing time n (board ∷ boards) all (suc b) k v is found =
     all_standing time (suc n) boards (All-tail (IsBoardAt time) board boards all) b k v (omega (arith, is)) found
 
--- a machine of which all is loaded, and which stands
-stands : (time n : ℕ) (m : Machine) → board_state (loaded_view n m) ≡ m.state →
-    valid.IsStanding time n (loaded_view n m) → IsMachineAt time m
-stands time n m same seen = record {
-  sound = record { plan = seen.board.plan; memories = seen.board.sizes };
-  state = subst (IsStateFor m.plan) same seen.board.state;
-  posted = le-leb m.state.posted (1000 * time) seen.posted;
-  entries = le-leb m.state.entries (1000 * time) seen.entries;
-}
-
+-- boards that stand where they are loaded, in states that fit their plans, can stand
 pub all_stand : (time n : ℕ) (boards : List SavedBoard) →
-    All (λ board. IsTrue (is_name board.name)) (loaded_boards n boards) →
+    All (λ board. IsTrue (is_name board.name)) (loaded_boards n boards) → FitTheirPlans boards →
     ((b k : ℕ) (v : View) → k ≡ n + b → view_at (loaded_boards n boards) b ≡ Some v → valid.IsStanding time k v) →
-    map saved_board (loaded_boards n boards) ≡ boards → All (IsBoardAt time) boards
+    All (IsBoardAt time) boards
 unfolding loaded_boards
-all_stand time n [] named each same = All-nil (IsBoardAt time)
-all_stand time n (board ∷ boards) named each same =
+all_stand time n [] named fit each = All-nil (IsBoardAt time)
+all_stand time n (board ∷ boards) named fit each =
     let own = All-head (λ board. IsTrue (is_name board.name)) (loaded_board n board) (loaded_boards (suc n) boards) named in
     let others = All-tail (λ board. IsTrue (is_name board.name)) (loaded_board n board) (loaded_boards (suc n) boards) named in
     All-cons (IsBoardAt time) board boards (record { name = own; machine = machine })
-    (all_stand time (suc n) boards others (λ b k v is. each (suc b) k v (omega (arith, is)))
-    (ap (λ bs. drop 1 bs) same))
+    (all_stand time (suc n) boards others
+    (All-tail (λ board. ForSome board.machine (λ m. IsStateFor m.plan m.state)) board boards fit)
+    (λ b k v is. each (suc b) k v (omega (arith, is))))
   where
     machine : (m : Machine) → board.machine ≡ Some m → IsMachineAt time m
     machine m there =
-        let again = λ (o : Option Machine). option_map saved_machine (option_map (loaded_view n) o) in
-        let first : again board.machine ≡ board.machine = ap (λ bs. (slice_index_or bs 0 board).machine) same in
-        let own : Some (saved_machine (loaded_view n m)) ≡ Some m = sym (ap again there) ∙ first ∙ there in
-        stands time n m (ap (λ (o : Option Machine). option_map_or (λ x. x.state) o m.state) own)
-        (each 0 n (loaded_view n m) (omega arith) (ap (option_map (loaded_view n)) there))
-
-machine_again : (n : ℕ) (m : Machine) → IsStateFor m.plan m.state → saved_machine (loaded_view n m) ≡ m
-machine_again n m fits =
-    let make : BoardState → Machine = λ s. record { plan = m.plan; state = s; memories = m.memories } in
-    ap make (state_loaded n m fits)
-
-pub boards_again : (time n : ℕ) (boards : List SavedBoard) → All (IsBoardAt time) boards →
-    map saved_board (loaded_boards n boards) ≡ boards
-unfolding loaded_boards
-boards_again time n [] all = refl
-boards_again time n (board ∷ boards) all =
-    let make : Option Machine → SavedBoard = λ o. record { name = board.name; machine = o } in
-    let first : saved_board (loaded_board n board) ≡ board = ap make (by_machine board.machine refl) in
-    ap (λ b. b ∷ map saved_board (loaded_boards (suc n) boards)) first
-    ∙ ap (λ bs. board ∷ bs) (boards_again time (suc n) boards (All-tail (IsBoardAt time) board boards all))
-  where
-    by_machine : (o : Option Machine) → board.machine ≡ o →
-        option_map saved_machine (option_map (loaded_view n) o) ≡ o
-    by_machine None there = refl
-    by_machine (Some m) there =
-        ap Some (machine_again n m ((All-head (IsBoardAt time) board boards all).machine m there).state)
+        let seen = each 0 n (loaded_view n m) (omega arith) (ap (option_map (loaded_view n)) there) in
+        record {
+          sound = record { plan = seen.board.plan; memories = seen.board.sizes };
+          state = All-head (λ board. ForSome board.machine (λ m. IsStateFor m.plan m.state)) board boards fit m there;
+          posted = le-leb m.state.posted (1000 * time) seen.posted;
+          entries = le-leb m.state.entries (1000 * time) seen.entries;
+        }
 
 pub names_kept : (n : ℕ) (boards : List SavedBoard) → All (λ board. IsTrue (is_name board.name)) boards →
     All (λ board. IsTrue (is_name board.name)) (loaded_boards n boards)
@@ -149,18 +119,6 @@ names_kept n (board ∷ boards) all =
     (names_kept (suc n) boards (All-tail (λ board. IsTrue (is_name board.name)) board boards all))
 
 -- ---- hubs
-
-kind_again : (kind : HubKind) → hub_kind (kind_of_hub kind) ≡ kind
-kind_again Uart = refl
-kind_again Can = refl
-
-pub hubs_again : (hubs : List SavedHub) → map saved_hub (map loaded_hub hubs) ≡ hubs
-hubs_again [] = refl
-hubs_again (hub ∷ hubs) =
-    let make : HubKind → SavedHub =
-    λ k. record { kind = k; name = hub.name; delay = hub.delay; members = hub.members } in
-    ap (λ h. h ∷ map saved_hub (map loaded_hub hubs)) (ap make (kind_again hub.kind))
-    ∙ ap (λ hs. hub ∷ hs) (hubs_again hubs)
 
 pub hub_names : (hubs : List SavedHub) → map (λ hub. hub.name) (map loaded_hub hubs) ≡ map (λ hub. hub.name) hubs
 hub_names [] = refl
@@ -176,7 +134,7 @@ delay_loaded (hub ∷ hubs) m = by_test (has_member hub.members m) (delay_loaded
   where
     by_test : (b : Bool) → delay_of (map loaded_hub hubs) m ≡ delay_in hubs m →
         option_map (λ hub. hub.delay)
-            (cond b (Some (loaded_hub hub)) (find (λ hub. has_member hub.members m) (map loaded_hub hubs)))
+        (cond b (Some (loaded_hub hub)) (find (λ hub. has_member hub.members m) (map loaded_hub hubs)))
         ≡ option_map (λ hub. hub.delay) (cond b (Some hub) (find (λ hub. has_member hub.members m) hubs))
     by_test true rest = refl
     by_test false rest = rest

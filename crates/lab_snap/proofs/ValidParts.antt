@@ -1,4 +1,4 @@
--- The parts of a laboratory that can go on make up one that can, and all of it is loaded.
+-- The parts of a laboratory that can go on make up one that can.
 use Rattle.std.proofs.Common.{◌≡◌, ◌∙◌, ℕ, ◌+◌, ◌<◌, ◌==◌, Bool, true, false, ◌&&◌, ◌||◌, List, [], ◌∷◌, length, map}
 use Rattle.std.proofs.Common.{cond, refl, sym, ap, subst, arith}
 use Rattle.std.specs.Prelude.{Option, None, Some, nat_lt, unwrap_or, IsTrue}
@@ -6,13 +6,14 @@ use Rattle.std.specs.declared.cmp.Ordering.{Ordering}
 use Rattle.std.specs.declared.cmp.Ordering.TheVariants.{Less, Equal, Greater}
 use Rattle.std.specs.List.{AllByRecursion, list_all}
 use Rattle.std.specs.List.Sorted.{IsStrictlySortedBy}
-use Rattle.std.specs.Option.{option_map, option_map_or}
+use Rattle.std.specs.Option.{ForSome, option_map, option_map_or}
 use Rattle.std.specs.Ordering.{is_lt, nat_cmp, ordering_then}
 use Rattle.std.proofs.lemmas.Bool.{and_from, and_parts, false≢true}
 use Rattle.std.proofs.lemmas.List.{length-map}
 use Rattle.std.proofs.lemmas.List.Elements.{All-weaker}
 use Rattle.dev_core.specs.declared.post.Post.{Post}
 use Rattle.dev_core.specs.Post.{post_key}
+use Rattle.board.specs.Valid.{IsStateFor}
 use Rattle.board.specs.View.{View}
 use Rattle.lab_num.specs.declared.key.Key.{Key}
 use Rattle.lab_num.specs.declared.key.Member.{Member}
@@ -22,14 +23,13 @@ use Rattle.log_text.specs.declared.line.OpenLine.{OpenLine}
 use Rattle.lab_state.specs.Valid as valid
 use Rattle.lab_snap.specs.declared.lab.SavedLab.{SavedLab}
 use Rattle.lab_snap.specs.Inner.Parts as parts
-use Rattle.lab_snap.specs.Inner.Parts.{AreValid, AreWaiting, IsBoardAt, IsWaitingAt, delay_in, is_open, machine_at}
+use Rattle.lab_snap.specs.Inner.Parts.{AreValid, AreWaiting, FitTheirPlans, IsBoardAt, IsWaitingAt, delay_in, is_open, machine_at}
 use Rattle.lab_snap.specs.Loaded.{loaded, loaded_boards, loaded_hub, loaded_view}
 use Rattle.lab_snap.specs.Machine.{Machine}
 use Rattle.lab_snap.specs.Rising.{is_before, rise}
-use Rattle.lab_snap.specs.Saved.{saved}
 use Rattle.lab_snap.proofs.DistinctLemmas.{names_are, names_distinct}
-use Rattle.lab_snap.proofs.LoadedParts.{all_stand, all_standing, board_names, boards_again, boards_count, delay_loaded}
-use Rattle.lab_snap.proofs.LoadedParts.{hub_names, hubs_again, hubs_from, hubs_loaded, kind_loaded, members_loaded}
+use Rattle.lab_snap.proofs.LoadedParts.{all_stand, all_standing, board_names, boards_count, delay_loaded}
+use Rattle.lab_snap.proofs.LoadedParts.{hub_names, hubs_from, hubs_loaded, kind_loaded, members_loaded}
 use Rattle.lab_snap.proofs.LoadedParts.{names_kept, view_loaded}
 use Rattle.lab_snap.proofs.LoadedView.{shown_there}
 
@@ -99,6 +99,7 @@ waiting_loaded lab post waits = record {
   where
     b : ℕ
     b = post.key.board.0
+
     by_machine : (v : View) (o : Option Machine) → machine_at lab.boards b ≡ o → option_map (loaded_view b) o ≡ Some v →
         post.key.number.0 < v.numbers.posted
     by_machine v None there e = absurd (cc)
@@ -170,11 +171,13 @@ valid_of lab are =
           };
     }
 
-pub all_saved : (lab : SavedLab) → AreValid lab → saved (loaded lab) lab.lines ≡ lab
-all_saved lab are = rw (boards_again lab.time.0 0 lab.boards are.boards.each, hubs_again lab.hubs) refl
+pub fit_of : (lab : SavedLab) → AreValid lab → FitTheirPlans lab.boards
+fit_of lab are =
+    All-weaker (IsBoardAt lab.time.0) (λ board. ForSome board.machine (λ m. IsStateFor m.plan m.state))
+    (λ board is m there. (is.machine m there).state) lab.boards are.boards.each
 
-pub parts_of : (lab : SavedLab) → valid.IsValid (loaded lab) lab.lines → saved (loaded lab) lab.lines ≡ lab → AreValid lab
-parts_of lab all same =
+pub parts_of : (lab : SavedLab) → FitTheirPlans lab.boards → valid.IsValid (loaded lab) lab.lines → AreValid lab
+parts_of lab fit all =
     let time = lab.time.0 in
     let own = all.lab in
     record {
@@ -184,10 +187,9 @@ parts_of lab all same =
           record {
             few = rw (boards_count 0 lab.boards) at own.few_boards;
             each =
-                all_stand time 0 lab.boards own.board_names
+                all_stand time 0 lab.boards own.board_names fit
                 (λ b k v is found.
-                subst (λ i. valid.IsStanding time i v) (let here : b ≡ k = omega (arith, is) in here) (own.boards b v found))
-                (ap (λ s. s.boards) same);
+                subst (λ i. valid.IsStanding time i v) (let here : b ≡ k = omega (arith, is) in here) (own.boards b v found));
           };
       hubs =
           record {

@@ -2,8 +2,7 @@
 ghost use Rattle.std.specs.Prelude.{◌≡◌, ◌↔◌, IfOk, IsTrue};
 ghost use Rattle.lab_state.specs.Valid.{IsValid};
 ghost use Rattle.lab_snap.specs.Loaded.{loaded};
-ghost use Rattle.lab_snap.specs.Saved.{saved};
-ghost use Rattle.lab_snap.specs.Inner.Parts.{AreTimes};
+ghost use Rattle.lab_snap.specs.Inner.Parts.{AreTimes, FitTheirPlans};
 
 mod boards;
 mod hubs;
@@ -33,11 +32,11 @@ fn are_times(time: Micros, quantum: u64) -> bool
     time.0 <= LAST && 1 <= quantum && quantum <= MOST_QUANTUM
 }
 
-/// Whether there can be such a laboratory, with these open lines, and whether it would be saved so: of
-/// a state that does not fit its board, only what fits would be loaded.
+/// Whether there can be such a laboratory, with these open lines, and whether the states of its boards
+/// fit their plans: of a state that does not fit, only a part would be loaded.
 pub(crate) fn is_valid(alloc: Global, lab: &SavedLab) -> Result<bool, NoMemory>
-    ensures { IfOk result (λ valid. IsTrue valid ↔
-        (IsValid (loaded lab.now) lab.now.lines × (saved (loaded lab.now) lab.now.lines ≡ lab.now))) }
+    ensures { IfOk result (λ valid. IsTrue valid
+        ↔ (FitTheirPlans lab.now.boards × IsValid (loaded lab.now) lab.now.lines)) }
 {
     if !are_times(lab.time, lab.quantum)
         || !are_boards(lab.time, lab.boards.items())

@@ -61,6 +61,10 @@ pub record AreBoards (time : ℕ) (boards : List SavedBoard) : Type 0 where
   pub few : length boards ≤ 16
   pub each : All (IsBoardAt time) boards
 
+-- each board that has a plan is in a state that a board of the plan can have
+abbrev pub FitTheirPlans : List SavedBoard → Type 0
+FitTheirPlans boards = All (λ board. ForSome board.machine (λ m. IsStateFor m.plan m.state)) boards
+
 -- the machine under the number of a board
 abbrev pub machine_at : List SavedBoard → ℕ → Option Machine
 machine_at boards b = option_and_then (λ board. board.machine) (slice_get boards b)

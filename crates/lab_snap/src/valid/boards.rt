@@ -66,5 +66,10 @@ pub fn kind_in(boards: &[SavedBoard], member: Member) -> Option<Kind>
     ensures { result ≡ parts.kind_in boards.now member }
 {
     let machine = machine_at(boards, member.board)?;
-    machine.plan().kinds.items().get(member.dev as usize).copied()
+    machine
+        .plan()
+        .kinds
+        .items()
+        .get(member.dev as usize)
+        .copied()
 }

@@ -36,7 +36,10 @@ fn is_hub(boards: &[SavedBoard], hub: &SavedHub) -> bool
     ensures { IsTrue result ↔ IsHubIn boards.now hub.now }
 {
     let members = hub.members.items();
-    hub.is_valid() && members.iter().all(|&member| is_member(boards, hub.kind, member))
+    hub.is_valid()
+        && members
+            .iter()
+            .all(|&member| is_member(boards, hub.kind, member))
 }
 
 /// Whether the hubs can stand among these boards, their names aside, and whether a device is in two.

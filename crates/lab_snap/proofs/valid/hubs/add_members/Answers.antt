@@ -25,7 +25,7 @@ loop-member-preserved c =
           c.in_ok-insert.ensures.entries
           ∙ insert_entry-new same_member c.loop-member.delays _ c.args.hub.now.delay absent
           ∙ added_one c.loop-member.delays.entries c.args.delays.now.entries c.args.hub.now.delay
-            c.items-members.result.now c.loop-member.member-index _ c.loop-member-test.true
-            c.loop-member.invariant.entries;
+          c.items-members.result.now c.loop-member.member-index _ c.loop-member-test.true
+          c.loop-member.invariant.entries;
       distinct = λ before. c.in_ok-insert.ensures.unique;
     }
