@@ -1,5 +1,5 @@
 -- Lists of which no two items are one.
-use Rattle.std.proofs.Common.{◌≡◌, ◌∙◌, ℕ, zero, suc, ◌+◌, ◌<◌, Bool, true, false, ◌||◌, List, [], ◌∷◌, ◌++◌, length, map}
+use Rattle.std.proofs.Common.{◌≡◌, ◌∙◌, ℕ, suc, ◌+◌, ◌<◌, Bool, true, false, ◌||◌, List, [], ◌∷◌, ◌++◌, length, map}
 use Rattle.std.proofs.Common.{drop, get_or, take, refl, sym, ap, subst, arith}
 use Rattle.std.specs.List.{All, AllByRecursion, AllPairs, IsDistinct, list_any}
 use Rattle.std.specs.Str.{bytes_eq}

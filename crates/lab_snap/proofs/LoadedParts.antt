@@ -1,7 +1,7 @@
 -- A laboratory as a snapshot holds it, and the one that it holds, part by part.
-use Rattle.std.proofs.Common.{◌≡◌, ◌∙◌, ℕ, zero, suc, ◌+◌, ◌*◌, ◌≤◌, ◌<◌, Bool, true, false, ◌&&◌, List, [], ◌∷◌, length, map}
-use Rattle.std.proofs.Common.{cond, drop, refl, sym, ap, subst, arith}
-use Rattle.std.specs.Prelude.{Option, None, Some, find, option_and_then, slice_get, slice_index_or, IsTrue}
+use Rattle.std.proofs.Common.{◌≡◌, ◌∙◌, ℕ, zero, suc, ◌+◌, ◌*◌, Bool, true, false, List, [], ◌∷◌, length, map}
+use Rattle.std.proofs.Common.{cond, refl, sym, ap, subst, arith}
+use Rattle.std.specs.Prelude.{Option, None, Some, find, option_and_then, slice_get, IsTrue}
 use Rattle.std.specs.List.{All}
 use Rattle.std.specs.Option.{ForSome, option_map}
 use Rattle.std.proofs.lemmas.Bool.{leb-true, le-leb}
@@ -13,7 +13,6 @@ use Rattle.board.specs.View.{View}
 use Rattle.lab_num.specs.declared.key.Member.{Member}
 use Rattle.lab_num.specs.Name.{is_name}
 use Rattle.lab_num.specs.Route.{has_member}
-use Rattle.lab_state.specs.Board.{Board}
 use Rattle.lab_state.specs.Hub.{delay_of, members_of}
 use Rattle.lab_state.specs.One.{kind_at, view_at}
 use Rattle.lab_state.specs.Valid as valid

@@ -1,5 +1,5 @@
 -- The parts of a laboratory that can go on make up one that can.
-use Rattle.std.proofs.Common.{◌≡◌, ◌∙◌, ℕ, ◌+◌, ◌<◌, ◌==◌, Bool, true, false, ◌&&◌, ◌||◌, List, [], ◌∷◌, length, map}
+use Rattle.std.proofs.Common.{◌≡◌, ◌∙◌, ℕ, ◌<◌, ◌==◌, Bool, true, false, ◌&&◌, ◌||◌, List, [], ◌∷◌, map}
 use Rattle.std.proofs.Common.{cond, refl, sym, ap, subst, arith}
 use Rattle.std.specs.Prelude.{Option, None, Some, nat_lt, unwrap_or, IsTrue}
 use Rattle.std.specs.declared.cmp.Ordering.{Ordering}
@@ -7,7 +7,7 @@ use Rattle.std.specs.declared.cmp.Ordering.TheVariants.{Less, Equal, Greater}
 use Rattle.std.specs.List.{AllByRecursion, list_all}
 use Rattle.std.specs.List.Sorted.{IsStrictlySortedBy}
 use Rattle.std.specs.Option.{ForSome, option_map, option_map_or}
-use Rattle.std.specs.Ordering.{is_lt, nat_cmp, ordering_then}
+use Rattle.std.specs.Ordering.{is_lt, ordering_then}
 use Rattle.std.proofs.lemmas.Bool.{and_from, and_parts, false≢true}
 use Rattle.std.proofs.lemmas.List.{length-map}
 use Rattle.std.proofs.lemmas.List.Elements.{All-weaker}
@@ -24,7 +24,7 @@ use Rattle.lab_state.specs.Valid as valid
 use Rattle.lab_snap.specs.declared.lab.SavedLab.{SavedLab}
 use Rattle.lab_snap.specs.Inner.Parts as parts
 use Rattle.lab_snap.specs.Inner.Parts.{AreValid, AreWaiting, FitTheirPlans, IsBoardAt, IsWaitingAt, delay_in, is_open, machine_at}
-use Rattle.lab_snap.specs.Loaded.{loaded, loaded_boards, loaded_hub, loaded_view}
+use Rattle.lab_snap.specs.Loaded.{loaded, loaded_hub, loaded_view}
 use Rattle.lab_snap.specs.Machine.{Machine}
 use Rattle.lab_snap.specs.Rising.{is_before, rise}
 use Rattle.lab_snap.proofs.DistinctLemmas.{names_are, names_distinct}

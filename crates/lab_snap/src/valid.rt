@@ -13,14 +13,11 @@ mod posts;
 use crate::lab::SavedLab;
 use boards::are_boards;
 use hubs::{are_hubs, delays};
-use lab_num::{Micros, NoMemory};
+use lab_num::{LAST, Micros, NoMemory};
 use lines::are_open;
 use names::do_names_differ;
 use posts::are_waiting;
 use std::alloc::Global;
-
-/// The last microsecond of a laboratory.
-const LAST: u64 = 10_000_000_000;
 
 /// The longest quantum in microseconds.
 const MOST_QUANTUM: u64 = 1_000_000;
@@ -29,7 +26,7 @@ const MOST_QUANTUM: u64 = 1_000_000;
 fn are_times(time: Micros, quantum: u64) -> bool
     ensures { IsTrue result ↔ AreTimes time.0 quantum }
 {
-    time.0 <= LAST && 1 <= quantum && quantum <= MOST_QUANTUM
+    time <= LAST && 1 <= quantum && quantum <= MOST_QUANTUM
 }
 
 /// Whether there can be such a laboratory, with these open lines, and whether the states of its boards

@@ -1,6 +1,5 @@
-use Rattle.std.proofs.Common.{◌≡◌, ◌∙◌, ℕ, true, false, refl, sym, ap}
+use Rattle.std.proofs.Common.{◌≡◌, ◌∙◌, ℕ, false, refl, sym, ap}
 use Rattle.std.specs.Prelude.{Option, None, Some, is_some}
-use Rattle.indexmap.specs.IndexMap.{get}
 use Rattle.indexmap.proofs.CallerLemmas.{insert_entry-new}
 use Rattle.lab_num.specs.Key.{same_member}
 use Rattle.lab_snap.proofs.DelayLemmas.{added_one, member_twice}
