@@ -1,7 +1,12 @@
+mod DelayLemmas
+mod DistinctLemmas
 mod EachLoops
 mod Fronts
+mod LoadedParts
+mod LoadedView
 mod PageLoops
 mod PlanLemmas
 mod RisingLemmas
 mod SavedLists
 mod SavedParts
+mod ValidParts

@@ -2,5 +2,6 @@
 pub mod MemoryLaws
 pub mod Pages
 pub mod PageTests
+pub mod Parts
 pub mod ReadsInto
 pub mod ValidPlan

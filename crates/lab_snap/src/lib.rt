@@ -9,6 +9,7 @@ mod memories;
 mod memory;
 mod saving;
 mod state;
+mod valid;
 mod whole;
 
 pub use hub::{HubKind, SavedHub};
