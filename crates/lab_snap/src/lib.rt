@@ -4,14 +4,17 @@
 
 mod hub;
 mod lab;
+mod loading;
 mod machine;
 mod memories;
 mod memory;
 mod state;
+mod valid;
 mod whole;
 
 pub use hub::{HubKind, SavedHub};
 pub use lab::{SavedBoard, SavedLab, one_lab_spelling, read_lab};
+pub use loading::load;
 pub use machine::SavedMachine;
 pub use memory::{load_memory, one_memory_spelling, put_memory, save_memory, take_memory};
 pub use state::State;
