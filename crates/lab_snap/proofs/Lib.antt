@@ -1,7 +1,10 @@
+mod BoardLemmas
 mod DelayLemmas
 mod DistinctLemmas
 mod EachLoops
 mod Fronts
+mod HubLemmas
+mod LoadedLemmas
 mod LoadedParts
 mod LoadedView
 mod PageLoops

@@ -1,4 +1,5 @@
 -- What serves private contracts and proofs.
+pub mod Building
 pub mod MemoryLaws
 pub mod Pages
 pub mod PageTests

@@ -4,6 +4,7 @@
 
 mod hub;
 mod lab;
+mod loading;
 mod machine;
 mod memories;
 mod memory;
@@ -14,6 +15,7 @@ mod whole;
 
 pub use hub::{HubKind, SavedHub};
 pub use lab::{SavedBoard, SavedLab, one_lab_spelling, read_lab};
+pub use loading::load;
 pub use machine::SavedMachine;
 pub use memory::{load_memory, one_memory_spelling, put_memory, save_memory, take_memory};
 pub use saving::save;

@@ -1,0 +1,206 @@
+-- A laboratory that is saved and loaded is itself, and so is what is loaded and saved.
+use Rattle.std.proofs.Common.{◌≡◌, ◌∙◌, ℕ, zero, suc, ◌+◌, List, [], ◌∷◌, map, refl, sym, ap, subst, arith}
+use Rattle.std.specs.Prelude.{Option, None, Some, IsTrue}
+use Rattle.std.specs.List.{All}
+use Rattle.std.specs.Option.{option_map, ForSome}
+use Rattle.std.proofs.lemmas.List.Elements.{All-cons, All-head, All-tail}
+use Rattle.clint.specs.declared.state.ClintState.{ClintState}
+use Rattle.clint.specs.Clint.{Timer}
+use Rattle.plic.specs.declared.state.PlicState.{PlicState}
+use Rattle.plic.specs.State.{Controller}
+use Rattle.board.specs.declared.state.BoardState.{BoardState}
+use Rattle.board.specs.BoardState.{board_state, brought_to, controller_to, timer_to}
+use Rattle.board.specs.Changes.{is_shown_kind}
+use Rattle.board.specs.New.{new_board, new_controller, new_timer, size_of}
+use Rattle.board.specs.Valid.{IsBoard, IsStateFor}
+use Rattle.board.specs.View.{View}
+use Rattle.dev_core.specs.declared.kind.Kind.{Kind}
+use Rattle.dev_core.specs.declared.kind.Kind.TheVariants as kind
+use Rattle.log_text.specs.declared.line.OpenLine.{OpenLine}
+use Rattle.lab_state.specs.Board.{Board}
+use Rattle.lab_state.specs.Hub.{Hub}
+use Rattle.lab_state.specs.Lab.{Lab}
+use Rattle.lab_state.specs.One.{view_at}
+use Rattle.lab_state.specs.Valid.{IsHub, IsLab, IsStanding}
+use Rattle.lab_snap.specs.declared.hub.HubKind.{HubKind}
+use Rattle.lab_snap.specs.declared.hub.HubKind.TheVariants.{Uart, Can}
+use Rattle.lab_snap.specs.declared.hub.SavedHub.{SavedHub}
+use Rattle.lab_snap.specs.declared.lab.SavedBoard.{SavedBoard}
+use Rattle.lab_snap.specs.declared.lab.SavedLab.{SavedLab}
+use Rattle.lab_snap.specs.Inner.Parts.{FitTheirPlans}
+use Rattle.lab_snap.specs.Loaded.{kind_of_hub, loaded, loaded_board, loaded_boards, loaded_hub, loaded_view}
+use Rattle.lab_snap.specs.Machine.{Machine}
+use Rattle.lab_snap.specs.Saved.{hub_kind, saved, saved_board, saved_hub, saved_machine}
+
+-- the laws of `states_are_put_back`
+abbrev Same : Type 0
+Same = (v : View) → IsBoard v → brought_to v (board_state v) ≡ v
+
+abbrev Brought : Type 0
+Brought =
+    (v : View) (s : BoardState) → IsStateFor v.space.plan s → IsBoard v →
+    (board_state (brought_to v s) ≡ s) × IsBoard (brought_to v s)
+
+-- ---- what was saved and is loaded
+
+timer_again :
+    (timer : Option Timer) →
+    timer_to (option_map new_timer (option_map (λ t. t.frequency) timer)) (option_map (λ t. t.state) timer) ≡ timer
+timer_again None = refl
+timer_again (Some timer) = refl
+
+timer_back : (timer : Option Timer) → timer_to timer (option_map (λ t. t.state) timer) ≡ timer
+timer_back None = refl
+timer_back (Some timer) = refl
+
+controller_again :
+    (c : Option Controller) →
+    controller_to (option_map new_controller (option_map size_of c)) (option_map (λ c. c.state) c) ≡ c
+controller_again None = refl
+controller_again (Some c) = refl
+
+controller_back : (c : Option Controller) → controller_to c (option_map (λ c. c.state) c) ≡ c
+controller_back None = refl
+controller_back (Some c) = refl
+
+view_again : Same → (n : ℕ) (v : View) → IsBoard v → v.numbers.number ≡ n → loaded_view n (saved_machine v) ≡ v
+view_again same n v board is =
+    let timer :
+    timer_to (option_map new_timer v.space.plan.frequency) (option_map (λ t. t.state) v.space.timer)
+    ≡ timer_to v.space.timer (option_map (λ t. t.state) v.space.timer) =
+    ap (λ f. timer_to (option_map new_timer f) (option_map (λ t. t.state) v.space.timer)) (sym board.timer)
+    ∙ timer_again v.space.timer ∙ sym (timer_back v.space.timer) in
+    let controller :
+    controller_to (option_map new_controller v.space.plan.plic) (option_map (λ c. c.state) v.space.controller)
+    ≡ controller_to v.space.controller (option_map (λ c. c.state) v.space.controller) =
+    ap (λ f. controller_to (option_map new_controller f) (option_map (λ c. c.state) v.space.controller)) (sym board.controller)
+    ∙ controller_again v.space.controller ∙ sym (controller_back v.space.controller) in
+    let to : View = brought_to v (board_state v) in
+    let step : loaded_view n (saved_machine v) ≡ to =
+    λ i. record to {
+      numbers = record to.numbers { number = sym is i };
+      space = record to.space { timer = timer i; controller = controller i };
+    } in
+    step ∙ same v board
+
+-- what stands under the name of a board
+view_of_again : Same → (n : ℕ) (o : Option View) → ((v : View) → o ≡ Some v → IsBoard v × (v.numbers.number ≡ n)) →
+    option_map (loaded_view n) (option_map saved_machine o) ≡ o
+view_of_again same n None is = refl
+view_of_again same n (Some v) is = let b = is v refl in ap Some (view_again same n v b.0 b.1)
+
+boards_again : Same → (n : ℕ) (boards : List Board) →
+    ((b : ℕ) (v : View) → view_at boards b ≡ Some v → IsBoard v × (v.numbers.number ≡ n + b)) →
+    loaded_boards n (map saved_board boards) ≡ boards
+unfolding loaded_boards
+boards_again same n [] are = refl
+boards_again same n (board ∷ boards) are =
+    let first : option_map (loaded_view n) (option_map saved_machine board.view) ≡ board.view =
+    view_of_again same n board.view
+    (λ v is. let b = are 0 v is in (b.0, b.1 ∙ omega arith)) in
+    let rest : loaded_boards (suc n) (map saved_board boards) ≡ boards =
+    boards_again same (suc n) boards
+    (λ b v is. let next = are (suc b) v is in (next.0, next.1 ∙ omega arith)) in
+    λ i. record board { view = first i } ∷ rest i
+
+kind_again : (k : Kind) → IsTrue (is_shown_kind k) → kind_of_hub (hub_kind k) ≡ k
+kind_again kind.Uart is = refl
+kind_again kind.Can is = refl
+kind_again kind.Finisher is = absurd (cc)
+
+hubs_again : (boards : List Board) (hubs : List Hub) → All (IsHub boards) hubs → map loaded_hub (map saved_hub hubs) ≡ hubs
+hubs_again boards [] are = refl
+hubs_again boards (hub ∷ hubs) are =
+    let first = kind_again hub.kind (All-head (IsHub boards) hub hubs are).kind in
+    let rest = hubs_again boards hubs (All-tail (IsHub boards) hub hubs are) in
+    λ i. record hub { kind = first i } ∷ rest i
+
+pub loaded_saved : Same → (l : Lab) (ls : List OpenLine) → IsLab l → loaded (saved l ls) ≡ l
+loaded_saved same l ls valid =
+    let boards = boards_again same 0 l.boards
+    (λ b v at. let is = valid.boards b v at in (is.board, is.number ∙ omega arith)) in
+    let hubs = hubs_again l.boards l.hubs valid.hubs in
+    λ i. record l { boards = boards i; hubs = hubs i }
+
+-- the states of boards that there can be fit their plans
+view_fits : (o : Option View) → ((v : View) → o ≡ Some v → IsBoard v) →
+    ForSome (option_map saved_machine o) (λ m. IsStateFor m.plan m.state)
+view_fits None are m is = absurd (cc)
+view_fits (Some v) are m is =
+    let same : saved_machine v ≡ m = cc in
+    subst (λ (m : Machine). IsStateFor m.plan m.state) same (are v refl).state
+
+boards_fit : (boards : List Board) → ((b : ℕ) (v : View) → view_at boards b ≡ Some v → IsBoard v) →
+    FitTheirPlans (map saved_board boards)
+boards_fit [] are = λ k d below. absurd (omega arith)
+boards_fit (board ∷ boards) are =
+    All-cons (λ (board : SavedBoard). ForSome board.machine (λ m. IsStateFor m.plan m.state)) (saved_board board)
+    (map saved_board boards)
+    (view_fits board.view (λ v is. are 0 v is)) (boards_fit boards (λ b v is. are (suc b) v is))
+
+pub saved_fits : (l : Lab) (ls : List OpenLine) → IsLab l → FitTheirPlans (saved l ls).boards
+saved_fits l ls valid = boards_fit l.boards (λ b v at. (valid.boards b v at).board)
+
+-- ---- what was loaded and is saved
+
+timer_twice : (timer : Option Timer) (s : Option ClintState) → timer_to (timer_to timer s) s ≡ timer_to timer s
+timer_twice None s = refl
+timer_twice (Some timer) None = refl
+timer_twice (Some timer) (Some s) = refl
+
+controller_twice : (c : Option Controller) (s : Option PlicState) →
+    controller_to (controller_to c s) s ≡ controller_to c s
+controller_twice None s = refl
+controller_twice (Some c) None = refl
+controller_twice (Some c) (Some s) = refl
+
+state_again : Brought → (n : ℕ) (m : Machine) → IsStateFor m.plan m.state → IsBoard (loaded_view n m) →
+    board_state (loaded_view n m) ≡ m.state
+state_again brought n m fits board =
+    let v : View = loaded_view n m in
+    let new : View = new_board n m.plan in
+    let same : brought_to v m.state ≡ v =
+    λ i. record v {
+      space = record v.space {
+        timer = timer_twice new.space.timer m.state.clint i;
+        controller = controller_twice new.space.controller m.state.plic i;
+      };
+    } in
+    ap board_state (sym same) ∙ (brought v m.state fits board).0
+
+machine_of_again : Brought → (n : ℕ) (o : Option Machine) → ForSome o (λ m. IsStateFor m.plan m.state) →
+    ((v : View) → option_map (loaded_view n) o ≡ Some v → IsBoard v) →
+    option_map saved_machine (option_map (loaded_view n) o) ≡ o
+machine_of_again brought n None fits are = refl
+machine_of_again brought n (Some m) fits are =
+    let state = state_again brought n m (fits m refl) (are (loaded_view n m) refl) in
+    λ i. Some (record m { state = state i })
+
+sboards_again : Brought → (n : ℕ) (boards : List SavedBoard) → FitTheirPlans boards →
+    ((b : ℕ) (v : View) → view_at (loaded_boards n boards) b ≡ Some v → IsBoard v) →
+    map saved_board (loaded_boards n boards) ≡ boards
+unfolding loaded_boards
+sboards_again brought n [] fits are = refl
+sboards_again brought n (board ∷ boards) fits are =
+    let P : SavedBoard → Type 0 = λ board. ForSome board.machine (λ m. IsStateFor m.plan m.state) in
+    let first = machine_of_again brought n board.machine (All-head P board boards fits) (λ v is. are 0 v is) in
+    let rest = sboards_again brought (suc n) boards (All-tail P board boards fits) (λ b v is. are (suc b) v is) in
+    λ i. record board { machine = first i } ∷ rest i
+
+hub_kind_again : (k : HubKind) → hub_kind (kind_of_hub k) ≡ k
+hub_kind_again Uart = refl
+hub_kind_again Can = refl
+
+shubs_again : (hubs : List SavedHub) → map saved_hub (map loaded_hub hubs) ≡ hubs
+shubs_again [] = refl
+shubs_again (hub ∷ hubs) =
+    let first = hub_kind_again hub.kind in
+    let rest = shubs_again hubs in
+    λ i. record hub { kind = first i } ∷ rest i
+
+pub saved_loaded : Brought → (s : SavedLab) → FitTheirPlans s.boards → IsLab (loaded s) →
+    saved (loaded s) s.lines ≡ s
+saved_loaded brought s fits valid =
+    let boards = sboards_again brought 0 s.boards fits (λ b v at. (valid.boards b v at).board) in
+    let hubs = shubs_again s.hubs in
+    λ i. record s { boards = boards i; hubs = hubs i }
