@@ -31,11 +31,12 @@ use Rattle.lab_state.specs.Hub.{Hub}
 use Rattle.lab_state.specs.Lab.{Lab, Seen}
 use Rattle.lab_state.specs.Names.{is_taken, NamesDiffer}
 use Rattle.lab_state.specs.One.{changed, fitted, kind_at, view_at, view_of, with_view}
-use Rattle.lab_state.specs.Resumed.{FitTheirBoards, resumed_board}
+use Rattle.lab_state.specs.Resumed.{FitTheirBoards, resumed, resumed_board}
 use Rattle.lab_state.specs.Valid.{IsHub, IsLab}
+use Rattle.lab_snap.specs.declared.hub.SavedHub.{SavedHub}
 use Rattle.lab_snap.specs.declared.lab.SavedBoard.{SavedBoard}
 use Rattle.lab_snap.specs.declared.lab.SavedLab.{SavedLab}
-use Rattle.lab_snap.specs.Inner.Building.{made_board, made_boards, made_view, state_in, with_boards, with_memories, CanBeAdded, CanBeCreated, FitTheirPlans}
+use Rattle.lab_snap.specs.Inner.Building.{made_board, made_boards, made_view, state_in, with_boards, with_hubs, with_memories, CanBeAdded, CanBeCreated, FitTheirPlans}
 use Rattle.lab_snap.specs.Loaded.{loaded, loaded_boards, loaded_hub, loaded_view}
 use Rattle.lab_snap.specs.Machine.{Machine}
 
@@ -396,3 +397,32 @@ none_before [] same sent new = refl
 none_before (post ∷ posts) {now = now} same sent new =
     let first : post.key.at.0 < now = All-head (λ (post : Post). post.key.at.0 < now) post posts (rw same at sent) in
     absurd (omega (arith, first, new))
+
+-- ---- all together
+
+-- the laboratory before it goes on from where the other one has stood
+abbrev pub ready : Seen → SavedLab → Seen
+ready seen s =
+    record seen {
+      lab = record seen.lab {
+        boards = made_boards 0 s.boards;
+        hubs = map loaded_hub s.hubs;
+        quantum = s.quantum;
+      };
+    }
+
+pub is_ready : (seen : Seen) (s : SavedLab) {boarded joined now : Seen} {hubs : List SavedHub} →
+    boarded ≡ with_boards seen (made_boards 0 s.boards) → hubs ≡ s.hubs →
+    joined ≡ with_hubs boarded (map loaded_hub hubs) →
+    now ≡ record joined { lab = record joined.lab { quantum = s.quantum } } → now ≡ ready seen s
+is_ready seen s {boarded = boarded} boards_are hubs_are joined_is made =
+    made
+    ∙ ap (λ (seen : Seen). record seen { lab = record seen.lab { quantum = s.quantum } })
+    (joined_is
+    ∙ ap (λ hubs. with_hubs boarded (map loaded_hub hubs)) hubs_are
+    ∙ ap (λ (seen : Seen). with_hubs seen (map loaded_hub s.hubs)) boards_are)
+
+pub resumed_is : (seen : Seen) (s : SavedLab) {now : Seen} {states : List (Option BoardState)} {pending : List Post} →
+    now ≡ ready seen s → states ≡ map state_in s.boards → pending ≡ s.pending →
+    resumed now.lab s.time.0 states pending ≡ loaded s
+resumed_is seen s now_is states_are pending_are = rw (now_is, states_are, pending_are, resumed_made 0 s.boards) refl
