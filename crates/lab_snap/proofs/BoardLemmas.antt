@@ -9,7 +9,6 @@ use Rattle.std.proofs.lemmas.Bool.Decides.{nat_tests}
 use Rattle.std.proofs.lemmas.List.{append-nil, drop_all, get_or-map, get_or-take, get_or_default, length-map}
 use Rattle.std.proofs.lemmas.List.{length-replicate, length-take-le, take-map}
 use Rattle.std.proofs.lemmas.List.Elements.{All-cons, All-head, All-map, All-nil, All-tail}
-use Rattle.std.proofs.lemmas.Simd.{map-map}
 use Rattle.std.proofs.lemmas.List.Sums.{position_or_len_is}
 use Rattle.lab_num.specs.declared.key.Member.{Member}
 use Rattle.lab_num.specs.Change.{change_at}
@@ -36,9 +35,11 @@ use Rattle.lab_state.specs.Valid.{IsHub, IsLab}
 use Rattle.lab_snap.specs.declared.hub.SavedHub.{SavedHub}
 use Rattle.lab_snap.specs.declared.lab.SavedBoard.{SavedBoard}
 use Rattle.lab_snap.specs.declared.lab.SavedLab.{SavedLab}
-use Rattle.lab_snap.specs.Inner.Building.{made_board, made_boards, made_view, state_in, with_boards, with_hubs, with_memories, CanBeAdded, CanBeCreated, FitTheirPlans}
+use Rattle.lab_snap.specs.Inner.Building.{made_board, made_boards, made_view, state_in, with_boards, with_hubs, with_memories, CanBeAdded, CanBeCreated}
+use Rattle.lab_snap.specs.Inner.Parts.{FitTheirPlans}
 use Rattle.lab_snap.specs.Loaded.{loaded, loaded_boards, loaded_hub, loaded_view}
 use Rattle.lab_snap.specs.Machine.{Machine}
+use Rattle.lab_snap.proofs.LoadedParts.{board_names, hub_names, members_loaded, unmapped}
 
 -- ---- the last of a list
 
@@ -325,12 +326,6 @@ states_fit n (board ∷ boards) fits (suc b) v s at is =
 
 -- ---- what boards that were made share with those that are loaded
 
-pub names_loaded : (n : ℕ) (boards : List SavedBoard) →
-    map (λ board. board.name) (loaded_boards n boards) ≡ map (λ board. board.name) boards
-unfolding loaded_boards
-names_loaded n [] = refl
-names_loaded n (board ∷ boards) = ap (λ l. board.name ∷ l) (names_loaded (suc n) boards)
-
 kind_one : (n : ℕ) (o : Option Machine) (dev : ℕ) →
     option_and_then (λ v. slice_get v.space.plan.kinds dev) (option_map (made_view n) o)
     ≡ option_and_then (λ v. slice_get v.space.plan.kinds dev) (option_map (loaded_view n) o)
@@ -350,19 +345,14 @@ kind_made boards m = kinds_at 0 boards m.board.0 m.dev
 
 -- ---- what can be loaded can be made
 
-All-unmap : {A B : Type 0} (P : B → Type 0) (f : A → B) (xs : List A) → All P (map f xs) → All (λ x. P (f x)) xs
-All-unmap P f [] all = All-nil (λ x. P (f x))
-All-unmap P f (x ∷ xs) all =
-    All-cons (λ x. P (f x)) x xs (All-head P (f x) (map f xs) all) (All-unmap P f xs (All-tail P (f x) (map f xs) all))
-
 pub can_be_added : (s : SavedLab) → IsLab (loaded s) → CanBeAdded s.boards
 can_be_added s valid =
     let boards = loaded_boards 0 s.boards in
-    let names = names_loaded 0 s.boards in
+    let names = board_names 0 s.boards in
     let named : All (λ name. IsTrue (is_name name)) (map (λ board. board.name) s.boards) =
     rw names at (All-map (λ name. IsTrue (is_name name)) (λ (board : Board). board.name) boards valid.board_names) in
     record {
-      names = All-unmap (λ name. IsTrue (is_name name)) (λ (board : SavedBoard). board.name) s.boards named;
+      names = unmapped (λ name. IsTrue (is_name name)) (λ (board : SavedBoard). board.name) s.boards named;
       differ = rw names at valid.names.boards_differ;
       few =
           omega (
@@ -377,17 +367,17 @@ can_be_added s valid =
 pub can_be_created : (s : SavedLab) → IsLab (loaded s) → CanBeCreated (made_boards 0 s.boards) s.hubs
 can_be_created s valid =
     let boards = loaded_boards 0 s.boards in
-    let each = All-unmap (IsHub boards) loaded_hub s.hubs valid.hubs in
+    let each = unmapped (IsHub boards) loaded_hub s.hubs valid.hubs in
     let names : map (λ board. board.name) boards ≡ map (λ board. board.name) (made_boards 0 s.boards) =
-    names_loaded 0 s.boards ∙ sym (names_made 0 s.boards) in
+    board_names 0 s.boards ∙ sym (names_made 0 s.boards) in
     record {
       forms = λ k d below. (each k d below).name;
       delays = λ k d below. (each k d below).delay;
-      names = rw (names, map-map (λ (hub : Hub). hub.name) loaded_hub s.hubs) at valid.names;
+      names = rw (names, hub_names s.hubs) at valid.names;
       few = omega (arith, valid.few_hubs, length-map s.hubs loaded_hub);
       members = λ k d below n m inside.
           kind_made s.boards (get_or (get_or s.hubs k d).members n m) ∙ (each k d below).members n m inside;
-      once = rw (map-map (λ (hub : Hub). hub.members) loaded_hub s.hubs) at valid.once;
+      once = rw (members_loaded s.hubs) at valid.once;
     }
 
 -- nothing was sent before time 0

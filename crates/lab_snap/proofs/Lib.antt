@@ -1,8 +1,13 @@
 mod BoardLemmas
+mod DelayLemmas
+mod DistinctLemmas
 mod EachLoops
 mod Fronts
 mod HubLemmas
 mod LoadedLemmas
+mod LoadedParts
+mod LoadedView
 mod PageLoops
 mod PlanLemmas
 mod RisingLemmas
+mod ValidParts

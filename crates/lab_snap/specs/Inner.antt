@@ -3,5 +3,6 @@ pub mod Building
 pub mod MemoryLaws
 pub mod Pages
 pub mod PageTests
+pub mod Parts
 pub mod ReadsInto
 pub mod ValidPlan

@@ -1,5 +1,5 @@
 -- A laboratory as a snapshot holds it.
-use Rattle.std.specs.Prelude.{ℕ, List, map, Option}
+use Rattle.std.specs.Prelude.{ℕ, List, map}
 use Rattle.std.specs.Option.{option_map}
 use Rattle.board.specs.BoardState.{board_state}
 use Rattle.board.specs.View.{View}

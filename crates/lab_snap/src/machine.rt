@@ -67,6 +67,14 @@ impl SavedMachine {
         self.memories.items()
     }
 
+    /// At every moment a board can be made by the plan, and the memories have its sizes. This function
+    /// does nothing when it runs: a proof that needs the fact calls it.
+    pub(crate) fn is_one_that_can_be(&self)
+        ensures { IsMachine self.now }
+    {
+        let _plan = &self.plan;
+    }
+
     /// The plan, the state and the memories.
     pub fn into_parts(self) -> (BoardPlan, BoardState, Rows<PageRam>)
         ensures parts { result ≡ (self.plan, self.state, self.memories) }

@@ -11,5 +11,5 @@ mod number;
 
 pub use laws::{lines_are_whole, open_lines_come_of_bytes, prints_join};
 pub use line::OpenLine;
-pub use lines::Lines;
+pub use lines::{Lines, are_unended};
 pub use number::Word;

@@ -207,7 +207,7 @@ fn is_lower(a: Member, b: Member) -> bool
 }
 
 /// Whether lines can stand open together.
-fn are_unended(lines: &[OpenLine]) -> bool
+pub fn are_unended(lines: &[OpenLine]) -> bool
     ensures { result ≡ line_spec.are_unended lines.now }
 {
     all_unended(lines) && rise(lines)

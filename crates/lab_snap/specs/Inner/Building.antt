@@ -1,12 +1,10 @@
 -- A laboratory while it is loaded.
-use Rattle.std.specs.Prelude.{◌≡◌, ℕ, suc, ◌<◌, ◌≤◌, ◌^◌, List, [], ◌∷◌, ◌++◌, length, map, Option, Some, IsTrue}
+use Rattle.std.specs.Prelude.{◌≡◌, ℕ, suc, ◌<◌, ◌≤◌, ◌^◌, List, [], ◌∷◌, length, map, Option, Some, IsTrue}
 use Rattle.std.specs.List.{All}
-use Rattle.std.specs.Option.{option_map, ForSome}
+use Rattle.std.specs.Option.{option_map}
 use Rattle.board.specs.declared.state.BoardState.{BoardState}
 use Rattle.board.specs.New.{new_board}
-use Rattle.board.specs.Valid.{IsStateFor}
 use Rattle.board.specs.View.{View}
-use Rattle.lab_num.specs.declared.key.Member.{Member}
 use Rattle.lab_num.specs.Name.{is_name}
 use Rattle.lab_num.specs.Route.{StandOnce}
 use Rattle.lab_state.specs.Board.{Board}
@@ -16,12 +14,8 @@ use Rattle.lab_state.specs.Names.{AreNames, NamesDiffer}
 use Rattle.lab_state.specs.One.{kind_at}
 use Rattle.lab_snap.specs.declared.hub.SavedHub.{SavedHub}
 use Rattle.lab_snap.specs.declared.lab.SavedBoard.{SavedBoard}
-use Rattle.lab_snap.specs.Loaded.{kind_of_hub, loaded_hub}
+use Rattle.lab_snap.specs.Loaded.{kind_of_hub}
 use Rattle.lab_snap.specs.Machine.{Machine}
-
--- each board that has a plan is in a state that a board of the plan can have
-abbrev pub FitTheirPlans : List SavedBoard → Type 0
-FitTheirPlans boards = All (λ board. ForSome board.machine (λ m. IsStateFor m.plan m.state)) boards
 
 -- a board with these memories
 abbrev pub with_memories : View → List (List ℕ) → View

@@ -3,7 +3,7 @@ use Rattle.std.proofs.Common.{◌≡◌, subst, sym}
 use Rattle.std.specs.Prelude.{IsTrue}
 use Rattle.lab_state.specs.Valid.{IsValid}
 use Rattle.lab_snap.specs.declared.lab.SavedLab.{SavedLab}
-use Rattle.lab_snap.specs.Inner.Building.{FitTheirPlans}
+use Rattle.lab_snap.specs.Inner.Parts.{FitTheirPlans}
 use Rattle.lab_snap.specs.Loaded.{loaded}
 use Rattle.lab_snap.proofs.loading.read_valid.Goals as goal
 
