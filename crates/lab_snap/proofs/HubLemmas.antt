@@ -1,5 +1,5 @@
 -- Hubs that are created one after another, and their members connected.
-use Rattle.std.proofs.Common.{◌≡◌, ◌∙◌, ℕ, zero, suc, ◌+◌, ◌<◌, ◌≤◌, Bool, true, false, ◌||◌, List, [], ◌∷◌, ◌++◌, length, map}
+use Rattle.std.proofs.Common.{◌≡◌, ◌∙◌, ℕ, ◌+◌, ◌<◌, ◌≤◌, Bool, true, false, ◌||◌, List, [], ◌∷◌, ◌++◌, length, map}
 use Rattle.std.proofs.Common.{get_or, drop, take, refl, sym, ap, subst, arith, Option, Some, None, slice_get}
 use Rattle.std.specs.Prelude.{is_some}
 use Rattle.std.specs.List.{AllByRecursion, IsDistinct, flat_map, list_any, position, position_or_len}
@@ -23,8 +23,9 @@ use Rattle.lab_state.specs.One.{kind_at, with_member}
 use Rattle.lab_snap.specs.declared.hub.SavedHub.{SavedHub}
 use Rattle.lab_snap.specs.Inner.Building.{with_hubs, CanBeCreated}
 use Rattle.lab_snap.specs.Loaded.{kind_of_hub, loaded_hub}
-use Rattle.lab_snap.proofs.BoardLemmas.{apart_before, change_last, not_found}
+use Rattle.lab_snap.proofs.BoardLemmas.{apart_before, not_found}
 use Rattle.lab_snap.proofs.LoadedParts.{hub_names, members_loaded}
+use Rattle.lab_snap.proofs.MadeBoard.{change_last}
 
 -- a hub with its first members
 abbrev pub half_hub : SavedHub → List Member → Hub

@@ -8,7 +8,7 @@ use Rattle.board.specs.View.{View}
 use Rattle.lab_num.specs.Name.{is_name}
 use Rattle.lab_num.specs.Route.{StandOnce}
 use Rattle.lab_state.specs.Board.{Board}
-use Rattle.lab_state.specs.Hub.{Hub, members_of}
+use Rattle.lab_state.specs.Hub.{Hub}
 use Rattle.lab_state.specs.Lab.{Seen}
 use Rattle.lab_state.specs.Names.{AreNames, NamesDiffer}
 use Rattle.lab_state.specs.One.{kind_at}

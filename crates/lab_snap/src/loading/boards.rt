@@ -77,10 +77,7 @@ fn make<D: Device>(
 }
 
 /// Makes one board more, and gives the state to which it is to be brought.
-fn add_board<D: Device>(
-    lab: &mut Lab<D>,
-    board: SavedBoard,
-) -> Result<Option<BoardState>, NoMemory>
+fn add_board<D: Device>(lab: &mut Lab<D>, board: SavedBoard) -> Result<Option<BoardState>, NoMemory>
     requires unspent { lab.old.spent ≡ false }
     requires is_name { IsTrue (is_name board.name) }
     requires few { length lab.old.lab.boards < 16 }
