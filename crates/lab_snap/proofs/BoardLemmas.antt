@@ -1,36 +1,27 @@
 -- Boards that are made one after another, and brought to their states.
-use Rattle.std.proofs.Common.{◌≡◌, ◌∙◌, ℕ, zero, suc, ◌+◌, ◌<◌, ◌≤◌, Bool, true, false, List, [], ◌∷◌, ◌++◌, length, map}
-use Rattle.std.proofs.Common.{get_or, set, drop, take, replicate, refl, sym, ap, subst, arith, zero-add, add-zero, Option, Some, None, slice_get}
-use Rattle.std.specs.Prelude.{IsSome, IsTrue, is_some, option_and_then}
+use Rattle.std.proofs.Common.{◌≡◌, ◌∙◌, ℕ, zero, suc, ◌+◌, ◌<◌, Bool, false, List, [], ◌∷◌, ◌++◌, length, map}
+use Rattle.std.proofs.Common.{get_or, take, refl, sym, ap, arith, add-zero, Option, Some, None, slice_get}
+use Rattle.std.specs.Prelude.{IsTrue, is_some, option_and_then}
 use Rattle.std.specs.List.{All, position, position_or_len, zip}
 use Rattle.std.specs.Option.{option_map, ForSome}
 use Rattle.std.specs.Str.{bytes_eq}
 use Rattle.std.proofs.lemmas.Bool.Decides.{nat_tests}
-use Rattle.std.proofs.lemmas.List.{append-nil, drop_all, get_or-map, get_or-take, get_or_default, length-map}
-use Rattle.std.proofs.lemmas.List.{length-replicate, length-take-le, take-map}
-use Rattle.std.proofs.lemmas.List.Elements.{All-cons, All-head, All-map, All-nil, All-tail}
-use Rattle.std.proofs.lemmas.Simd.{map-map}
+use Rattle.std.proofs.lemmas.List.{get_or-map, get_or-take, get_or_default, length-map}
+use Rattle.std.proofs.lemmas.List.{length-take-le, take-map}
+use Rattle.std.proofs.lemmas.List.Elements.{All-head, All-map, All-tail}
 use Rattle.std.proofs.lemmas.List.Sums.{position_or_len_is}
 use Rattle.lab_num.specs.declared.key.Member.{Member}
-use Rattle.lab_num.specs.Change.{change_at}
 use Rattle.lab_num.specs.Name.{is_name}
-use Rattle.page_ram.specs.Bytes.{zeros}
-use Rattle.dev_core.specs.declared.kind.Kind.{Kind}
 use Rattle.dev_core.specs.declared.post.Post.{Post}
 use Rattle.board.specs.declared.state.BoardState.{BoardState}
-use Rattle.board.specs.BoardState.{brought_to}
-use Rattle.board.specs.Changes.{with_memory_in}
 use Rattle.board.specs.New.{new_board}
-use Rattle.board.specs.Space.{memory_at}
 use Rattle.board.specs.Valid.{IsStateFor}
 use Rattle.board.specs.View.{View}
 use Rattle.sys_bus.specs.declared.plan.BoardPlan.{BoardPlan}
-use Rattle.sys_bus.specs.Plan.{IsValid}
 use Rattle.lab_state.specs.Board.{Board}
-use Rattle.lab_state.specs.Hub.{Hub}
 use Rattle.lab_state.specs.Lab.{Lab, Seen}
 use Rattle.lab_state.specs.Names.{is_taken, NamesDiffer}
-use Rattle.lab_state.specs.One.{changed, fitted, kind_at, view_at, view_of, with_view}
+use Rattle.lab_state.specs.One.{fitted, kind_at, view_at}
 use Rattle.lab_state.specs.Resumed.{FitTheirBoards, resumed, resumed_board}
 use Rattle.lab_state.specs.Valid.{IsHub, IsLab}
 use Rattle.lab_snap.specs.declared.hub.SavedHub.{SavedHub}
@@ -40,147 +31,8 @@ use Rattle.lab_snap.specs.Inner.Building.{made_board, made_boards, made_view, st
 use Rattle.lab_snap.specs.Inner.Parts.{FitTheirPlans}
 use Rattle.lab_snap.specs.Loaded.{loaded, loaded_boards, loaded_hub, loaded_view}
 use Rattle.lab_snap.specs.Machine.{Machine}
-
--- ---- the last of a list
-
-changed_last :
-    {A : Type 0} (xs : List A) (x : A) (f : A → A) → change_at (xs ++ x ∷ []) (length xs) f ≡ xs ++ f x ∷ []
-changed_last [] x f = refl
-changed_last (y ∷ ys) x f = ap (λ l. y ∷ l) (changed_last ys x f)
-
-pub change_last :
-    {A : Type 0} (xs : List A) (i : ℕ) (x : A) (f : A → A) → i ≡ length xs →
-    change_at (xs ++ x ∷ []) i f ≡ xs ++ f x ∷ []
-change_last xs i x f is = rw is (changed_last xs x f)
-
--- ---- a board that was made, and its memories
-
--- its first memories are these, and the others have 0
-abbrev pub half_made : ℕ → BoardPlan → List (List ℕ) → View
-half_made n plan memories =
-    with_memories (new_board n plan) (memories ++ drop (length memories) (map zeros plan.memories))
-
--- what stands under the name of a board that got its plan
-pub view_fitted : (boards : List Board) (b : ℕ) (v : View) → b < length boards →
-    view_at (change_at boards b (λ board. record board { view = Some v })) b ≡ Some v
-view_fitted [] b v below = absurd (omega arith)
-view_fitted (board ∷ boards) zero v below = refl
-view_fitted (board ∷ boards) (suc b) v below = view_fitted boards b v (omega arith)
-
--- and was changed then
-change_fitted : (boards : List Board) (b : ℕ) (v : View) (f : View → View) →
-    change_at (change_at boards b (λ board. record board { view = Some v })) b (with_view f)
-    ≡ change_at boards b (λ board. record board { view = Some (f v) })
-change_fitted [] b v f = refl
-change_fitted (board ∷ boards) zero v f = refl
-change_fitted (board ∷ boards) (suc b) v f = ap (λ l. board ∷ l) (change_fitted boards b v f)
-
-pub changed_fitted : (lab : Lab) (b : ℕ) (v : View) (f : View → View) →
-    changed (fitted lab b v) b f ≡ fitted lab b (f v)
-changed_fitted lab b v f = ap (λ boards. record lab { boards = boards }) (change_fitted lab.boards b v f)
-
--- what stands there now
-pub has_fitted : (seen : Seen) (b : ℕ) (v : View) {now : Seen} → now ≡ record seen { lab = fitted seen.lab b v } →
-    b < length seen.lab.boards → IsSome (view_of now.lab b)
-has_fitted seen b v is below = rw (is, view_fitted seen.lab.boards b v below) refl
-
-pub for_fitted : (seen : Seen) (b : ℕ) (v : View) (P : View → Type 0) {now : Seen} →
-    now ≡ record seen { lab = fitted seen.lab b v } → b < length seen.lab.boards → P v →
-    ForSome (view_of now.lab b) P
-for_fitted seen b v P is below holds =
-    rw (is, view_fitted seen.lab.boards b v below) (λ w at. let same : v ≡ w = cc in subst P same holds)
-
-module _ {A : Type 0} where
-  get_next : (xs ys : List A) (d : A) → get_or (xs ++ drop (length xs) ys) (length xs) d ≡ get_or ys (length xs) d
-  get_next [] ys d = refl
-  get_next (x ∷ xs) [] d = get_past xs d
-    where
-      get_past : (xs : List A) (d : A) → get_or (xs ++ []) (length xs) d ≡ d
-      get_past [] d = refl
-      get_past (x ∷ xs) d = get_past xs d
-  get_next (x ∷ xs) (y ∷ ys) d = get_next xs ys d
-
-  set_next : (xs ys : List A) (x : A) → length xs < length ys →
-      set (xs ++ drop (length xs) ys) (length xs) x ≡ (xs ++ x ∷ []) ++ drop (length (xs ++ x ∷ [])) ys
-  set_next xs [] x below = absurd (omega arith)
-  set_next [] (y ∷ ys) x below = refl
-  set_next (z ∷ xs) (y ∷ ys) x below = ap (λ l. z ∷ l) (set_next xs ys x (omega arith))
-
-  length_next : (xs ys : List A) → length xs ≤ length ys → length (xs ++ drop (length xs) ys) ≡ length ys
-  length_next [] ys within = refl
-  length_next (x ∷ xs) [] within = absurd (omega arith)
-  length_next (x ∷ xs) (y ∷ ys) within = ap suc (length_next xs ys (omega arith))
-
-length_zeros : (n : ℕ) → length (zeros n) ≡ n
-length_zeros n = length-replicate n 0
-
-module _ (n : ℕ) (plan : BoardPlan) (all memories : List (List ℕ)) (memory : List ℕ)
-    (sizes : map length all ≡ plan.memories) (below : length memories < length all)
-    (next : memory ≡ get_or all (length memories) memory) where
-  abbrev blank : List (List ℕ)
-  blank = map zeros plan.memories
-
-  many : length all ≡ length blank
-  many = sym (length-map all (λ (m : List ℕ). length m)) ∙ ap length sizes ∙ sym (length-map plan.memories zeros)
-
-  pub next_below : length memories < length (half_made n plan memories).space.memories
-  next_below =
-      let same = length_next memories blank (omega (arith, below, many)) in
-      omega (arith, below, many, same)
-
-  pub next_size : length memory ≡ length (memory_at (half_made n plan memories).space (length memories))
-  next_size =
-      let i : ℕ = length memories in
-      let within : i < length plan.memories = omega (arith, below, many, length-map plan.memories zeros) in
-      let is : get_or blank i [] ≡ zeros (get_or plan.memories i 0) = get_or-map zeros plan.memories i 0 [] within in
-      let size : get_or plan.memories i 0 ≡ length (get_or all i memory) =
-      ap (λ l. get_or l i 0) (sym sizes) ∙ get_or-map (λ (m : List ℕ). length m) all i memory 0 below in
-      sym (ap length (get_next memories blank [] ∙ is) ∙ length_zeros (get_or plan.memories i 0) ∙ size ∙ ap length (sym next))
-
-  pub next_made : with_memory_in (half_made n plan memories) (length memories) memory
-      ≡ half_made n plan (memories ++ memory ∷ [])
-  next_made =
-      let more = set_next memories blank memory (omega (arith, below, many)) in
-      let none : replicate (length (replicate (length plan.cpus) (let o : Option ℕ = None in o))) (let o : Option ℕ = None in o)
-      ≡ replicate (length plan.cpus) (let o : Option ℕ = None in o) =
-      ap (λ k. replicate k (let o : Option ℕ = None in o)) (length-replicate (length plan.cpus) (let o : Option ℕ = None in o)) in
-      let v : View = half_made n plan memories in
-      λ i. record v { watch = none i; space = record v.space { memories = more i } }
-
--- a memory more is in place
-pub one_more_memory : (seen : Seen) (b : ℕ) (plan : BoardPlan) (memories : List (List ℕ)) (memory : List ℕ)
-    {now next : Seen} {part : ℕ} → part ≡ length memories →
-    now ≡ record seen { lab = fitted seen.lab b (half_made b plan memories) } →
-    next ≡ record now { lab = changed now.lab b (λ v. with_memory_in v part memory) } →
-    with_memory_in (half_made b plan memories) (length memories) memory ≡ half_made b plan (memories ++ memory ∷ []) →
-    next ≡ record seen { lab = fitted seen.lab b (half_made b plan (memories ++ memory ∷ [])) }
-one_more_memory seen b plan memories memory {part = part} part_is so_far made more =
-    made
-    ∙ ap (λ (s : Seen). record s { lab = changed s.lab b (λ v. with_memory_in v part memory) }) so_far
-    ∙ ap (λ (part : ℕ). record seen {
-      lab = changed (fitted seen.lab b (half_made b plan memories)) b (λ v. with_memory_in v part memory);
-    }) part_is
-    ∙ ap (λ (lab : Lab). record seen { lab = lab })
-    (changed_fitted seen.lab b (half_made b plan memories) (λ v. with_memory_in v (length memories) memory)
-    ∙ ap (fitted seen.lab b) more)
-
--- a board has few memories
-pub few_memories : (plan : BoardPlan) (memories : List (List ℕ)) → IsValid plan → map length memories ≡ plan.memories →
-    length memories ≤ 8
-few_memories plan memories valid sizes =
-    let few : length plan.memories ≤ 8 = grind (arith, nat_tests, valid.few_memories) in
-    omega (arith, few, ap length sizes, length-map memories (λ (m : List ℕ). length m))
-
-pub none_made : (n : ℕ) (plan : BoardPlan) → new_board n plan ≡ half_made n plan []
-none_made n plan = refl
-
-pub all_made : (n : ℕ) (plan : BoardPlan) (memories : List (List ℕ)) → map length memories ≡ plan.memories →
-    half_made n plan memories ≡ with_memories (new_board n plan) memories
-all_made n plan memories sizes =
-    let past : length (map zeros plan.memories) ≤ length memories =
-    omega (arith, length-map plan.memories zeros, ap length sizes, length-map memories (λ (m : List ℕ). length m)) in
-    ap (with_memories (new_board n plan))
-    (ap (λ l. memories ++ l) (drop_all (length memories) (map zeros plan.memories) past) ∙ append-nil memories)
+use Rattle.lab_snap.proofs.LoadedParts.{board_names, hub_names, members_loaded, unmapped}
+use Rattle.lab_snap.proofs.MadeBoard.{change_last}
 
 -- ---- names
 
@@ -212,7 +64,7 @@ apart_before names i name differ below is = λ k d within.
 
 -- ---- boards that were made
 
-pub names_made : (n : ℕ) (boards : List SavedBoard) →
+names_made : (n : ℕ) (boards : List SavedBoard) →
     map (λ board. board.name) (made_boards n boards) ≡ map (λ board. board.name) boards
 unfolding made_boards
 names_made n [] = refl
@@ -326,12 +178,6 @@ states_fit n (board ∷ boards) fits (suc b) v s at is =
 
 -- ---- what boards that were made share with those that are loaded
 
-pub names_loaded : (n : ℕ) (boards : List SavedBoard) →
-    map (λ board. board.name) (loaded_boards n boards) ≡ map (λ board. board.name) boards
-unfolding loaded_boards
-names_loaded n [] = refl
-names_loaded n (board ∷ boards) = ap (λ l. board.name ∷ l) (names_loaded (suc n) boards)
-
 kind_one : (n : ℕ) (o : Option Machine) (dev : ℕ) →
     option_and_then (λ v. slice_get v.space.plan.kinds dev) (option_map (made_view n) o)
     ≡ option_and_then (λ v. slice_get v.space.plan.kinds dev) (option_map (loaded_view n) o)
@@ -351,19 +197,14 @@ kind_made boards m = kinds_at 0 boards m.board.0 m.dev
 
 -- ---- what can be loaded can be made
 
-All-unmap : {A B : Type 0} (P : B → Type 0) (f : A → B) (xs : List A) → All P (map f xs) → All (λ x. P (f x)) xs
-All-unmap P f [] all = All-nil (λ x. P (f x))
-All-unmap P f (x ∷ xs) all =
-    All-cons (λ x. P (f x)) x xs (All-head P (f x) (map f xs) all) (All-unmap P f xs (All-tail P (f x) (map f xs) all))
-
 pub can_be_added : (s : SavedLab) → IsLab (loaded s) → CanBeAdded s.boards
 can_be_added s valid =
     let boards = loaded_boards 0 s.boards in
-    let names = names_loaded 0 s.boards in
+    let names = board_names 0 s.boards in
     let named : All (λ name. IsTrue (is_name name)) (map (λ board. board.name) s.boards) =
     rw names at (All-map (λ name. IsTrue (is_name name)) (λ (board : Board). board.name) boards valid.board_names) in
     record {
-      names = All-unmap (λ name. IsTrue (is_name name)) (λ (board : SavedBoard). board.name) s.boards named;
+      names = unmapped (λ name. IsTrue (is_name name)) (λ (board : SavedBoard). board.name) s.boards named;
       differ = rw names at valid.names.boards_differ;
       few =
           omega (
@@ -378,17 +219,17 @@ can_be_added s valid =
 pub can_be_created : (s : SavedLab) → IsLab (loaded s) → CanBeCreated (made_boards 0 s.boards) s.hubs
 can_be_created s valid =
     let boards = loaded_boards 0 s.boards in
-    let each = All-unmap (IsHub boards) loaded_hub s.hubs valid.hubs in
+    let each = unmapped (IsHub boards) loaded_hub s.hubs valid.hubs in
     let names : map (λ board. board.name) boards ≡ map (λ board. board.name) (made_boards 0 s.boards) =
-    names_loaded 0 s.boards ∙ sym (names_made 0 s.boards) in
+    board_names 0 s.boards ∙ sym (names_made 0 s.boards) in
     record {
       forms = λ k d below. (each k d below).name;
       delays = λ k d below. (each k d below).delay;
-      names = rw (names, map-map (λ (hub : Hub). hub.name) loaded_hub s.hubs) at valid.names;
+      names = rw (names, hub_names s.hubs) at valid.names;
       few = omega (arith, valid.few_hubs, length-map s.hubs loaded_hub);
       members = λ k d below n m inside.
           kind_made s.boards (get_or (get_or s.hubs k d).members n m) ∙ (each k d below).members n m inside;
-      once = rw (map-map (λ (hub : Hub). hub.members) loaded_hub s.hubs) at valid.once;
+      once = rw (members_loaded s.hubs) at valid.once;
     }
 
 -- nothing was sent before time 0

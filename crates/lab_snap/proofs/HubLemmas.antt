@@ -1,5 +1,5 @@
 -- Hubs that are created one after another, and their members connected.
-use Rattle.std.proofs.Common.{◌≡◌, ◌∙◌, ℕ, zero, suc, ◌+◌, ◌<◌, ◌≤◌, Bool, true, false, ◌||◌, List, [], ◌∷◌, ◌++◌, length, map}
+use Rattle.std.proofs.Common.{◌≡◌, ◌∙◌, ℕ, ◌+◌, ◌<◌, ◌≤◌, Bool, true, false, ◌||◌, List, [], ◌∷◌, ◌++◌, length, map}
 use Rattle.std.proofs.Common.{get_or, drop, take, refl, sym, ap, subst, arith, Option, Some, None, slice_get}
 use Rattle.std.specs.Prelude.{is_some}
 use Rattle.std.specs.List.{AllByRecursion, IsDistinct, flat_map, list_any, position, position_or_len}
@@ -10,7 +10,6 @@ use Rattle.std.proofs.lemmas.Grind.{flat_map-append}
 use Rattle.std.proofs.lemmas.Cmp.{nat_list_eq_equiv}
 use Rattle.std.proofs.lemmas.List.{append-nil, append_assoc, drop_more, get_or-map, get_or_append_left, get_or_push, length-map}
 use Rattle.std.proofs.lemmas.List.{length_push, map-append, map_more, take-append-drop, take-map}
-use Rattle.std.proofs.lemmas.Simd.{map-map}
 use Rattle.std.proofs.lemmas.List.Sums.{fails_before_first, position_or_len_is}
 use Rattle.std.proofs.lemmas.Map.Keys.{IsDistinct-head, IsDistinct-tail}
 use Rattle.lab_num.specs.declared.key.Member.{Member}
@@ -24,7 +23,9 @@ use Rattle.lab_state.specs.One.{kind_at, with_member}
 use Rattle.lab_snap.specs.declared.hub.SavedHub.{SavedHub}
 use Rattle.lab_snap.specs.Inner.Building.{with_hubs, CanBeCreated}
 use Rattle.lab_snap.specs.Loaded.{kind_of_hub, loaded_hub}
-use Rattle.lab_snap.proofs.BoardLemmas.{apart_before, change_last, not_found}
+use Rattle.lab_snap.proofs.BoardLemmas.{apart_before, not_found}
+use Rattle.lab_snap.proofs.LoadedParts.{hub_names, members_loaded}
+use Rattle.lab_snap.proofs.MadeBoard.{change_last}
 
 -- a hub with its first members
 abbrev pub half_hub : SavedHub → List Member → Hub
@@ -189,7 +190,7 @@ module _ (seen : Seen) (hubs : List SavedHub) (i : ℕ) (hub : SavedHub) (can : 
   no_hub =
       let names : map (λ (hub : Hub). hub.name) (map loaded_hub (take i hubs))
       ≡ take i (map (λ (hub : SavedHub). hub.name) hubs) =
-      map-map (λ (hub : Hub). hub.name) loaded_hub (take i hubs) ∙ sym (take-map (λ (hub : SavedHub). hub.name) i hubs) in
+      hub_names (take i hubs) ∙ sym (take-map (λ (hub : SavedHub). hub.name) i hubs) in
       not_found (λ (hub : Hub). hub.name) (map loaded_hub (take i hubs)) hub.name
       (rw names (apart_before (map (λ (hub : SavedHub). hub.name) hubs) i hub.name can.names.hubs_differ long (sym name_at)))
 
@@ -201,7 +202,7 @@ module _ (seen : Seen) (hubs : List SavedHub) (i : ℕ) (hub : SavedHub) (can : 
   hub_once is =
       let first : members_of (map loaded_hub (take i hubs)) ++ hub.members ∷ []
       ≡ take (i + 1) (map (λ (hub : SavedHub). hub.members) hubs) =
-      ap (λ l. l ++ hub.members ∷ []) (map-map (λ (hub : Hub). hub.members) loaded_hub (take i hubs))
+      ap (λ l. l ++ hub.members ∷ []) (members_loaded (take i hubs))
       ∙ ap (λ (h : SavedHub). map (λ (hub : SavedHub). hub.members) (take i hubs) ++ h.members ∷ []) at
       ∙ sym (map_more (λ (hub : SavedHub). hub.members) hubs i hub below)
       ∙ sym (take-map (λ (hub : SavedHub). hub.members) (i + 1) hubs) in

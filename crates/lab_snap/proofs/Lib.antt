@@ -7,6 +7,7 @@ mod HubLemmas
 mod LoadedLemmas
 mod LoadedParts
 mod LoadedView
+mod MadeBoard
 mod PageLoops
 mod PlanLemmas
 mod RisingLemmas

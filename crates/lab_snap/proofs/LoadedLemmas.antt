@@ -1,17 +1,14 @@
 -- A laboratory that is saved and loaded is itself, and so is what is loaded and saved.
-use Rattle.std.proofs.Common.{◌≡◌, ◌∙◌, ℕ, zero, suc, ◌+◌, List, [], ◌∷◌, map, refl, sym, ap, subst, arith}
+use Rattle.std.proofs.Common.{◌≡◌, ◌∙◌, ℕ, suc, ◌+◌, List, [], ◌∷◌, map, refl, sym, ap, subst, arith}
 use Rattle.std.specs.Prelude.{Option, None, Some, IsTrue}
 use Rattle.std.specs.List.{All}
 use Rattle.std.specs.Option.{option_map, ForSome}
 use Rattle.std.proofs.lemmas.List.Elements.{All-cons, All-head, All-tail}
-use Rattle.clint.specs.declared.state.ClintState.{ClintState}
 use Rattle.clint.specs.Clint.{Timer}
-use Rattle.plic.specs.declared.state.PlicState.{PlicState}
 use Rattle.plic.specs.State.{Controller}
-use Rattle.board.specs.declared.state.BoardState.{BoardState}
 use Rattle.board.specs.BoardState.{board_state, brought_to, controller_to, timer_to}
 use Rattle.board.specs.Changes.{is_shown_kind}
-use Rattle.board.specs.New.{new_board, new_controller, new_timer, size_of}
+use Rattle.board.specs.New.{new_controller, new_timer, size_of}
 use Rattle.board.specs.Valid.{IsBoard, IsStateFor}
 use Rattle.board.specs.View.{View}
 use Rattle.dev_core.specs.declared.kind.Kind.{Kind}
@@ -21,25 +18,21 @@ use Rattle.lab_state.specs.Board.{Board}
 use Rattle.lab_state.specs.Hub.{Hub}
 use Rattle.lab_state.specs.Lab.{Lab}
 use Rattle.lab_state.specs.One.{view_at}
-use Rattle.lab_state.specs.Valid.{IsHub, IsLab, IsStanding}
+use Rattle.lab_state.specs.Valid.{IsHub, IsLab}
 use Rattle.lab_snap.specs.declared.hub.HubKind.{HubKind}
 use Rattle.lab_snap.specs.declared.hub.HubKind.TheVariants.{Uart, Can}
 use Rattle.lab_snap.specs.declared.hub.SavedHub.{SavedHub}
 use Rattle.lab_snap.specs.declared.lab.SavedBoard.{SavedBoard}
 use Rattle.lab_snap.specs.declared.lab.SavedLab.{SavedLab}
 use Rattle.lab_snap.specs.Inner.Parts.{FitTheirPlans}
-use Rattle.lab_snap.specs.Loaded.{kind_of_hub, loaded, loaded_board, loaded_boards, loaded_hub, loaded_view}
+use Rattle.lab_snap.specs.Loaded.{kind_of_hub, loaded, loaded_boards, loaded_hub, loaded_view}
 use Rattle.lab_snap.specs.Machine.{Machine}
 use Rattle.lab_snap.specs.Saved.{hub_kind, saved, saved_board, saved_hub, saved_machine}
+use Rattle.lab_snap.proofs.LoadedView.{state_loaded}
 
--- the laws of `states_are_put_back`
+-- a law of `states_are_put_back`
 abbrev Same : Type 0
 Same = (v : View) → IsBoard v → brought_to v (board_state v) ≡ v
-
-abbrev Brought : Type 0
-Brought =
-    (v : View) (s : BoardState) → IsStateFor v.space.plan s → IsBoard v →
-    (board_state (brought_to v s) ≡ s) × IsBoard (brought_to v s)
 
 -- ---- what was saved and is loaded
 
@@ -143,64 +136,34 @@ saved_fits l ls valid = boards_fit l.boards (λ b v at. (valid.boards b v at).bo
 
 -- ---- what was loaded and is saved
 
-timer_twice : (timer : Option Timer) (s : Option ClintState) → timer_to (timer_to timer s) s ≡ timer_to timer s
-timer_twice None s = refl
-timer_twice (Some timer) None = refl
-timer_twice (Some timer) (Some s) = refl
-
-controller_twice : (c : Option Controller) (s : Option PlicState) →
-    controller_to (controller_to c s) s ≡ controller_to c s
-controller_twice None s = refl
-controller_twice (Some c) None = refl
-controller_twice (Some c) (Some s) = refl
-
-state_again : Brought → (n : ℕ) (m : Machine) → IsStateFor m.plan m.state → IsBoard (loaded_view n m) →
-    board_state (loaded_view n m) ≡ m.state
-state_again brought n m fits board =
-    let v : View = loaded_view n m in
-    let new : View = new_board n m.plan in
-    let same : brought_to v m.state ≡ v =
-    λ i. record v {
-      space = record v.space {
-        timer = timer_twice new.space.timer m.state.clint i;
-        controller = controller_twice new.space.controller m.state.plic i;
-      };
-    } in
-    ap board_state (sym same) ∙ (brought v m.state fits board).0
-
-machine_of_again : Brought → (n : ℕ) (o : Option Machine) → ForSome o (λ m. IsStateFor m.plan m.state) →
-    ((v : View) → option_map (loaded_view n) o ≡ Some v → IsBoard v) →
+machine_of_again : (n : ℕ) (o : Option Machine) → ForSome o (λ m. IsStateFor m.plan m.state) →
     option_map saved_machine (option_map (loaded_view n) o) ≡ o
-machine_of_again brought n None fits are = refl
-machine_of_again brought n (Some m) fits are =
-    let state = state_again brought n m (fits m refl) (are (loaded_view n m) refl) in
-    λ i. Some (record m { state = state i })
+machine_of_again n None fits = refl
+machine_of_again n (Some m) fits = let state = state_loaded n m (fits m refl) in λ i. Some (record m { state = state i })
 
-sboards_again : Brought → (n : ℕ) (boards : List SavedBoard) → FitTheirPlans boards →
-    ((b : ℕ) (v : View) → view_at (loaded_boards n boards) b ≡ Some v → IsBoard v) →
+saved_boards_again : (n : ℕ) (boards : List SavedBoard) → FitTheirPlans boards →
     map saved_board (loaded_boards n boards) ≡ boards
 unfolding loaded_boards
-sboards_again brought n [] fits are = refl
-sboards_again brought n (board ∷ boards) fits are =
+saved_boards_again n [] fits = refl
+saved_boards_again n (board ∷ boards) fits =
     let P : SavedBoard → Type 0 = λ board. ForSome board.machine (λ m. IsStateFor m.plan m.state) in
-    let first = machine_of_again brought n board.machine (All-head P board boards fits) (λ v is. are 0 v is) in
-    let rest = sboards_again brought (suc n) boards (All-tail P board boards fits) (λ b v is. are (suc b) v is) in
+    let first = machine_of_again n board.machine (All-head P board boards fits) in
+    let rest = saved_boards_again (suc n) boards (All-tail P board boards fits) in
     λ i. record board { machine = first i } ∷ rest i
 
 hub_kind_again : (k : HubKind) → hub_kind (kind_of_hub k) ≡ k
 hub_kind_again Uart = refl
 hub_kind_again Can = refl
 
-shubs_again : (hubs : List SavedHub) → map saved_hub (map loaded_hub hubs) ≡ hubs
-shubs_again [] = refl
-shubs_again (hub ∷ hubs) =
+saved_hubs_again : (hubs : List SavedHub) → map saved_hub (map loaded_hub hubs) ≡ hubs
+saved_hubs_again [] = refl
+saved_hubs_again (hub ∷ hubs) =
     let first = hub_kind_again hub.kind in
-    let rest = shubs_again hubs in
+    let rest = saved_hubs_again hubs in
     λ i. record hub { kind = first i } ∷ rest i
 
-pub saved_loaded : Brought → (s : SavedLab) → FitTheirPlans s.boards → IsLab (loaded s) →
-    saved (loaded s) s.lines ≡ s
-saved_loaded brought s fits valid =
-    let boards = sboards_again brought 0 s.boards fits (λ b v at. (valid.boards b v at).board) in
-    let hubs = shubs_again s.hubs in
+pub saved_loaded : (s : SavedLab) → FitTheirPlans s.boards → saved (loaded s) s.lines ≡ s
+saved_loaded s fits =
+    let boards = saved_boards_again 0 s.boards fits in
+    let hubs = saved_hubs_again s.hubs in
     λ i. record s { boards = boards i; hubs = hubs i }

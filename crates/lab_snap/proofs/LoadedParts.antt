@@ -157,7 +157,7 @@ hubs_loaded boards hubs all =
     }) hubs all)
 
 -- what holds of all images
-unmapped : {X Y : Type 0} (P : Y → Type 0) (f : X → Y) (xs : List X) → All P (map f xs) → All (λ x. P (f x)) xs
+pub unmapped : {X Y : Type 0} (P : Y → Type 0) (f : X → Y) (xs : List X) → All P (map f xs) → All (λ x. P (f x)) xs
 unmapped P f xs all = λ k d within.
     subst P (get_or-map f xs k d (f d) within) (all k (f d) (omega (arith, within, length-map xs f)))
 

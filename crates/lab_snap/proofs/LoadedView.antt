@@ -54,7 +54,7 @@ shown_loaded (state ∷ states) (flag ∷ shown) same =
     let rest : length shown ≡ length states = omega (arith, same) in
     ap (λ all. flag ∷ all) (shown_loaded states shown rest)
 
-state_loaded : (number : ℕ) (m : Machine) → IsStateFor m.plan m.state → board_state (loaded_view number m) ≡ m.state
+pub state_loaded : (number : ℕ) (m : Machine) → IsStateFor m.plan m.state → board_state (loaded_view number m) ≡ m.state
 state_loaded number m fits =
     let flags : length m.state.shown ≡ length m.state.devices =
     fits.flags ∙ sym (ap length fits.kinds) ∙ length-map m.state.devices kind_of in

@@ -1,9 +1,5 @@
 //! A laboratory is made again of its bytes.
 ghost use Rattle.std.specs.Prelude.{◌≡◌, [], false, true, IfOk, List, MatchResult, OnOk};
-ghost use Rattle.board.specs.declared.state.BoardState.{BoardState as State};
-ghost use Rattle.board.specs.BoardState.{board_state, brought_to};
-ghost use Rattle.board.specs.Valid.{IsBoard, IsStateFor};
-ghost use Rattle.board.specs.View.{View};
 ghost use Rattle.log_text.specs.declared.line.OpenLine.{OpenLine as Line};
 ghost use Rattle.lab_state.specs.Lab.{Lab as Laboratory};
 ghost use Rattle.lab_state.specs.Valid.{IsLab, IsValid};
@@ -87,7 +83,7 @@ fn build<D: Device>(
 fn saving_agrees()
     ensures loaded { (l : Laboratory) (ls : List Line) → IsLab l → loaded (saved l ls) ≡ l }
     ensures fit { (l : Laboratory) (ls : List Line) → IsLab l → FitTheirPlans (saved l ls).boards }
-    ensures saved { (s : Snapshot) → FitTheirPlans s.boards → IsLab (loaded s) → saved (loaded s) s.lines ≡ s }
+    ensures saved { (s : Snapshot) → FitTheirPlans s.boards → saved (loaded s) s.lines ≡ s }
 {
     states_are_put_back();
 }

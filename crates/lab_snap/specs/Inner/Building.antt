@@ -1,21 +1,20 @@
 -- A laboratory while it is loaded.
-use Rattle.std.specs.Prelude.{◌≡◌, ℕ, suc, ◌<◌, ◌≤◌, ◌^◌, List, [], ◌∷◌, ◌++◌, length, map, Option, Some, IsTrue}
+use Rattle.std.specs.Prelude.{◌≡◌, ℕ, suc, ◌<◌, ◌≤◌, ◌^◌, List, [], ◌∷◌, length, map, Option, Some, IsTrue}
 use Rattle.std.specs.List.{All}
 use Rattle.std.specs.Option.{option_map}
 use Rattle.board.specs.declared.state.BoardState.{BoardState}
 use Rattle.board.specs.New.{new_board}
 use Rattle.board.specs.View.{View}
-use Rattle.lab_num.specs.declared.key.Member.{Member}
 use Rattle.lab_num.specs.Name.{is_name}
 use Rattle.lab_num.specs.Route.{StandOnce}
 use Rattle.lab_state.specs.Board.{Board}
-use Rattle.lab_state.specs.Hub.{Hub, members_of}
+use Rattle.lab_state.specs.Hub.{Hub}
 use Rattle.lab_state.specs.Lab.{Seen}
 use Rattle.lab_state.specs.Names.{AreNames, NamesDiffer}
 use Rattle.lab_state.specs.One.{kind_at}
 use Rattle.lab_snap.specs.declared.hub.SavedHub.{SavedHub}
 use Rattle.lab_snap.specs.declared.lab.SavedBoard.{SavedBoard}
-use Rattle.lab_snap.specs.Loaded.{kind_of_hub, loaded_hub}
+use Rattle.lab_snap.specs.Loaded.{kind_of_hub}
 use Rattle.lab_snap.specs.Machine.{Machine}
 
 -- a board with these memories

@@ -4,7 +4,6 @@ use Rattle.std.specs.Prelude.{IsTrue, if◌then◌else◌}
 use Rattle.std.proofs.lemmas.Result.{err_from_is_err_and}
 use Rattle.log_text.specs.declared.line.OpenLine.{OpenLine}
 use Rattle.log_text.specs.Line.{are_unended}
-use Rattle.lab_state.specs.Valid.{IsValid}
 use Rattle.lab_snap.specs.declared.lab.SavedLab.{SavedLab}
 use Rattle.lab_snap.specs.Loaded.{loaded}
 use Rattle.lab_snap.specs.Saved.{saved}

@@ -5,5 +5,5 @@ pub returns : goal.returns
 returns c = record {
   loaded = loaded_saved c.states_are_put_back.ensures.same;
   fit = saved_fits;
-  saved = saved_loaded c.states_are_put_back.ensures.brought;
+  saved = saved_loaded;
 }

@@ -5,8 +5,8 @@ use Rattle.std.proofs.lemmas.Iterator.Consumers.{YieldsList-turn}
 use Rattle.std.proofs.lemmas.List.{length_push}
 use Rattle.board.specs.Space.{memory_at}
 use Rattle.board.specs.View.{View}
-use Rattle.lab_snap.proofs.BoardLemmas.{few_memories, for_fitted, half_made, has_fitted, next_below, next_made, next_size}
-use Rattle.lab_snap.proofs.BoardLemmas.{one_more_memory}
+use Rattle.lab_snap.proofs.MadeBoard.{few_memories, for_fitted, half_made, has_fitted, next_below, next_made, next_size}
+use Rattle.lab_snap.proofs.MadeBoard.{one_more_memory}
 use Rattle.lab_snap.proofs.loading.boards.make.Goals as goal
 
 pub put_memory-requires-clause-has_plan : goal.put_memory-requires-clause-has_plan

@@ -1,7 +1,7 @@
 -- The first memories are in place.
 use Rattle.std.proofs.Common.{◌≡◌, length}
 use Rattle.lab_state.specs.One.{fitted}
-use Rattle.lab_snap.proofs.BoardLemmas.{half_made}
+use Rattle.lab_snap.proofs.MadeBoard.{half_made}
 use Rattle.lab_snap.proofs.loading.boards.make.Given as goal
 
 abbrev pub invariant-loop-memory : goal.invariant-loop-memory

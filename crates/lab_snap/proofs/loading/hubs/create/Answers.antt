@@ -1,5 +1,5 @@
 -- One member more is connected.
-use Rattle.std.proofs.Common.{◌<◌, ◌∙◌, ap, get_or, length, sym, take, ℕ}
+use Rattle.std.proofs.Common.{◌<◌, ◌∙◌, ap, get_or, length, sym, take}
 use Rattle.std.proofs.lemmas.List.{get_or_default, take_more}
 use Rattle.lab_num.specs.declared.key.Member.{Member}
 use Rattle.lab_snap.proofs.HubLemmas.{last_kind, next_free, one_more_member, with_half}
