@@ -6,12 +6,12 @@ mod made;
 
 use crate::bytes::{joined, part};
 use board::Board;
-use dev_core::{Device, Kind};
+use dev_core::{Device, Kind, Stock};
 use lab_snap::{load, save};
 use lab_spell::SnapFault;
 use lab_state::{Lab, RoundLog};
 use log_text::{Lines, OpenLine};
-use made::{Chip, M0, M1, M2, adds, clears, fits, makes, new_lab, plays, waits};
+use made::{M0, M1, M2, adds, clears, fits, makes, new_lab, plays, stock, waits};
 use sample_boards::small_board;
 use std::alloc::Global;
 use std::sync::Wait;
@@ -64,8 +64,8 @@ enum Outcome {
 }
 
 /// What bytes come to that are loaded into a new laboratory.
-fn came_to(alloc: Global, bytes: &[u8]) -> Result<Outcome, Fail> {
-    let mut lab = new_lab(alloc)?;
+fn came_to<D: Device>(alloc: Global, stock: Stock<D>, bytes: &[u8]) -> Result<Outcome, Fail> {
+    let mut lab = new_lab(alloc, stock)?;
     let mut lines = Lines::new(alloc);
     match load(alloc, &mut lab, &mut lines, bytes) {
         Ok(()) => {
@@ -81,6 +81,12 @@ fn came_to(alloc: Global, bytes: &[u8]) -> Result<Outcome, Fail> {
     }
 }
 
+/// The bytes of a laboratory in which nothing was made.
+fn saved_new<D: Device>(alloc: Global, stock: Stock<D>) -> Result<Vec<u8>, Fail> {
+    let lab = new_lab(alloc, stock)?;
+    saved(alloc, &lab, &Lines::new(alloc))
+}
+
 #[test]
 fn a_new_laboratory_is_56_bytes(rt: HostRuntime) -> Result<(), Fail> {
     let alloc = rt.alloc();
@@ -88,14 +94,43 @@ fn a_new_laboratory_is_56_bytes(rt: HostRuntime) -> Result<(), Fail> {
         alloc,
         &[b"LABSNAP1", &[0; 8], &[100, 0, 0, 0, 0, 0, 0, 0], &[0; 32]],
     )?;
-    let lab = new_lab(alloc)?;
-    let new = saved(alloc, &lab, &Lines::new(alloc))?;
-    assert!(rt; new == bytes && came_to(alloc, &bytes)? == Outcome::Same);
+    assert!(rt; saved_new(alloc, stock(alloc)?)? == bytes);
+    assert!(rt; came_to(alloc, stock(alloc)?, &bytes)? == Outcome::Same);
     let less = part(&bytes, 0, 55);
-    assert!(rt; came_to(alloc, less)? == Outcome::Refused);
+    assert!(rt; came_to(alloc, stock(alloc)?, less)? == Outcome::Refused);
     let more = joined(alloc, &[&bytes, &[0]])?;
-    assert!(rt; came_to(alloc, &more)? == Outcome::Refused);
+    assert!(rt; came_to(alloc, stock(alloc)?, &more)? == Outcome::Refused);
     Ok(())
+}
+
+/// A laboratory that has run, with a board without a plan, two posts that wait and an open line.
+fn played<R: Threads + Wait + Copy + Send + Sync, D: Device + Send>(
+    rt: &R,
+    alloc: Global,
+    stock: Stock<D>,
+    lines: &mut Lines,
+) -> Result<Lab<D>, Fail> {
+    let mut lab = new_lab(alloc, stock)?;
+    if !makes(alloc, &mut lab)? {
+        return Err(Fail::new("the laboratory is made"));
+    }
+    let _log = plays(rt, &mut lab, lines, 150)?;
+    if !adds(&mut lab, "m2", M2) || !waits(&lab, lines, 2, 1) {
+        return Err(Fail::new("what two bytes leave"));
+    }
+    Ok(lab)
+}
+
+/// The laboratory that the bytes spell, and its open lines.
+fn loaded<D: Device>(
+    alloc: Global,
+    stock: Stock<D>,
+    bytes: &[u8],
+) -> Result<(Lab<D>, Lines), Fail> {
+    let mut lab = new_lab(alloc, stock)?;
+    let mut lines = Lines::new(alloc);
+    load(alloc, &mut lab, &mut lines, bytes)?;
+    Ok((lab, lines))
 }
 
 /// A board without a plan is given one, and the laboratory goes on for so long.
@@ -113,55 +148,63 @@ fn goes_on<R: Threads + Wait + Copy + Send + Sync, D: Device + Send>(
     plays(rt, lab, lines, d)
 }
 
-/// A laboratory that has run, with a board without a plan, two posts that wait and an open line.
-fn played<R: Threads + Wait + Copy + Send + Sync>(
+/// A laboratory is saved and loaded into another one. Both are saved as the same bytes, then and after they
+/// have gone on for three milliseconds, of which they log the same.
+fn agree<R: Threads + Wait + Copy + Send + Sync, D: Device + Send>(
     rt: &R,
     alloc: Global,
-    lines: &mut Lines,
-) -> Result<Lab<Chip>, Fail> {
-    let mut lab = new_lab(alloc)?;
-    if !makes(alloc, &mut lab)? {
-        return Err(Fail::new("the laboratory is made"));
+    stock: Stock<D>,
+    other_stock: Stock<D>,
+) -> Result<bool, Fail> {
+    let mut lines = Lines::new(alloc);
+    let mut lab = played(rt, alloc, stock, &mut lines)?;
+    let bytes = saved(alloc, &lab, &lines)?;
+    let (mut other, mut other_lines) = loaded(alloc, other_stock, &bytes)?;
+    if saved(alloc, &other, &other_lines)? != bytes {
+        return Ok(false);
     }
-    let _log = plays(rt, &mut lab, lines, 150)?;
-    if !adds(&mut lab, "m2", M2) || !waits(&lab, lines, 2, 1) {
-        return Err(Fail::new("what two bytes leave"));
+    let log = goes_on(rt, alloc, &mut lab, &mut lines, 3_000)?;
+    let other_log = goes_on(rt, alloc, &mut other, &mut other_lines, 3_000)?;
+    if log.lines.items().is_empty() || log != other_log {
+        return Ok(false);
     }
-    Ok(lab)
+    Ok(saved(alloc, &lab, &lines)? == saved(alloc, &other, &other_lines)?)
 }
 
 #[test]
 fn a_loaded_laboratory_goes_on_as_the_saved_one(rt: HostRuntime) -> Result<(), Fail> {
     let alloc = rt.alloc();
-    let mut lines = Lines::new(alloc);
-    let mut lab = played(&rt, alloc, &mut lines)?;
-    let bytes = saved(alloc, &lab, &lines)?;
-    let mut others = Lines::new(alloc);
-    let mut other = new_lab(alloc)?;
-    load(alloc, &mut other, &mut others, &bytes)?;
-    assert!(rt; saved(alloc, &other, &others)? == bytes);
-    let log = goes_on(&rt, alloc, &mut lab, &mut lines, 3_000)?;
-    let same = goes_on(&rt, alloc, &mut other, &mut others, 3_000)?;
-    assert!(rt; !log.lines.items().is_empty() && log == same);
-    assert!(rt; saved(alloc, &other, &others)? == saved(alloc, &lab, &lines)?);
+    let have_agreed = agree(&rt, alloc, stock(alloc)?, stock(alloc)?)?;
+    assert!(rt; have_agreed);
     Ok(())
+}
+
+/// The bytes of a laboratory that has run, whose memories are 0.
+fn saved_played<R: Threads + Wait + Copy + Send + Sync, D: Device + Send>(
+    rt: &R,
+    alloc: Global,
+    stock: Stock<D>,
+) -> Result<Vec<u8>, Fail> {
+    let mut lines = Lines::new(alloc);
+    let mut lab = played(rt, alloc, stock, &mut lines)?;
+    if !clears(&mut lab, M0) || !clears(&mut lab, M1) {
+        return Err(Fail::new("the boards have memories"));
+    }
+    saved(alloc, &lab, &lines)
 }
 
 #[test]
 fn other_bytes_are_refused_or_another_laboratory(rt: HostRuntime) -> Result<(), Fail> {
     let alloc = rt.alloc();
-    let mut lines = Lines::new(alloc);
-    let mut lab = played(&rt, alloc, &mut lines)?;
-    assert!(rt; clears(&mut lab, M0) && clears(&mut lab, M1));
-    let mut bytes = saved(alloc, &lab, &lines)?;
+    let mut bytes = saved_played(&rt, alloc, stock(alloc)?)?;
     for i in 0..bytes.len() {
+        let cut = came_to(alloc, stock(alloc)?, part(&bytes, 0, i))?;
+        assert!(rt; cut == Outcome::Refused, "length {i}");
         let byte = bytes[i];
         bytes[i] = byte ^ 1;
-        let came = came_to(alloc, &bytes)?;
+        let came = came_to(alloc, stock(alloc)?, &bytes)?;
         bytes[i] = byte;
         assert!(rt; came != Outcome::Other, "byte {i}");
-        let cut = came_to(alloc, part(&bytes, 0, i))?;
-        assert!(rt; cut == Outcome::Refused, "length {i}");
     }
     Ok(())
 }

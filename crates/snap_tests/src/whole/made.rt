@@ -58,18 +58,22 @@ fn devices(alloc: Global, kind: Kind, number: u8) -> Result<Vec<Chip>, AllocErro
     Ok(chips)
 }
 
+/// The devices of a full stock.
+pub fn stock(alloc: Global) -> Result<Stock<Chip>, AllocError> {
+    Ok(Stock {
+        uarts: devices(alloc, Kind::Uart, 64)?,
+        cans: devices(alloc, Kind::Can, 64)?,
+        finishers: devices(alloc, Kind::Finisher, 16)?,
+    })
+}
+
 /// A laboratory in which nothing was made.
-pub fn new_lab(alloc: Global) -> Result<Lab<Chip>, Fail>
+pub fn new_lab<D: Device>(alloc: Global, stock: Stock<D>) -> Result<Lab<D>, Fail>
     ensures unspent { IfOk result (λ lab. lab.spent ≡ false) }
     ensures no_board { IfOk result (λ lab. lab.lab.boards ≡ []) }
     ensures no_hub { IfOk result (λ lab. lab.lab.hubs ≡ []) }
     ensures new { IfOk result (λ lab. lab.lab.now ≡ 0) }
 {
-    let stock = Stock {
-        uarts: devices(alloc, Kind::Uart, 64)?,
-        cans: devices(alloc, Kind::Can, 64)?,
-        finishers: devices(alloc, Kind::Finisher, 16)?,
-    };
     if !stock.is_full() {
         return Err(Fail::new("the stock is full"));
     }
@@ -138,11 +142,25 @@ fn shows<D: Device>(lab: &mut Lab<D>, b: BoardNo) -> bool {
     true
 }
 
-fn creates<D: Device>(lab: &mut Lab<D>) -> bool {
+/// A hub for the UARTs, and one that stays without members.
+fn creates_hubs<D: Device>(lab: &mut Lab<D>) -> bool {
     is_name("hub")
+        && is_name("bus")
         && !lab.is_spent()
         && lab.hubs() == 0
         && lab.create_uart_hub("hub", 1_000).is_ok()
+        && !lab.is_spent()
+        && lab.hubs() == 1
+        && lab.create_can_hub("bus", 0).is_ok()
+}
+
+/// Rounds take 70 microseconds from now on.
+fn sets_quantum<D: Device>(lab: &mut Lab<D>) -> bool {
+    if lab.is_spent() {
+        return false;
+    }
+    lab.set_quantum(70);
+    true
 }
 
 fn joins<D: Device>(lab: &mut Lab<D>, b: BoardNo) -> bool {
@@ -172,7 +190,8 @@ pub fn makes<D: Device>(alloc: Global, lab: &mut Lab<D>) -> Result<bool, NoMemor
     let usual = usual_board(alloc)?;
     let harts = harts_board(alloc, 2, Letters { a: true, c: true }, 2)?;
     Ok(
-        creates(lab)
+        creates_hubs(lab)
+            && sets_quantum(lab)
             && stands(lab, M0, "m0", usual, SENDS)
             && stands(lab, M1, "m1", harts, ECHOES)
             && starts(lab, M1, 1),
