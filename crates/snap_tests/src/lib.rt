@@ -17,3 +17,5 @@ mod spelled;
 mod spellings;
 #[cfg(test)]
 mod states;
+#[cfg(test)]
+mod whole;
