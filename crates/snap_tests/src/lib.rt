@@ -17,5 +17,3 @@ mod spelled;
 mod spellings;
 #[cfg(test)]
 mod states;
-#[cfg(test)]
-mod whole;
