@@ -1,4 +1,4 @@
-//! Times, the numbers of boards and posts, and the error for memory that ran out.
+//! Times, the numbers of boards and posts, limits of the whole laboratory, and the error for memory that ran out.
 use std::alloc::{AllocError, AllocFailed};
 use std::error::Error;
 use std::fmt;
@@ -21,6 +21,15 @@ pub struct NoMemory;
 
 /// The most instructions that the processors of a board do together in a microsecond.
 pub const MOST_SPEED: u32 = 1000;
+
+/// The most boards of a laboratory.
+pub const MOST_BOARDS: u8 = 16;
+
+/// The longest quantum, in microseconds.
+pub const MOST_QUANTUM: u64 = 1_000_000;
+
+/// The longest delay of a hub, in microseconds.
+pub const MOST_DELAY: u32 = 1_000_000;
 
 impl fmt::Display for NoMemory {
     ghost use Rattle.std.specs.Prelude.{Some, codes};

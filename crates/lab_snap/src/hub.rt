@@ -1,6 +1,6 @@
 //! Hubs as a snapshot holds them.
 use crate::state::State;
-use lab_num::{Member, NoMemory, Rows, Text, is_name};
+use lab_num::{MOST_DELAY, Member, NoMemory, Rows, Text, is_name};
 use lab_spell::{SnapFault, Source, Spelled};
 use std::alloc::Global;
 
@@ -12,9 +12,6 @@ pub enum HubKind {
     /// It connects CAN controllers.
     Can,
 }
-
-/// The most microseconds that a hub delays what is sent.
-const MOST_DELAY: u32 = 1_000_000;
 
 /// A hub as a snapshot holds it.
 #[derive(PartialEq, Eq, Drop, Debug)]

@@ -13,14 +13,11 @@ mod posts;
 use crate::lab::SavedLab;
 use boards::are_boards;
 use hubs::{are_hubs, delays};
-use lab_num::{LAST, Micros, NoMemory};
+use lab_num::{LAST, MOST_QUANTUM, Micros, NoMemory};
 use lines::are_open;
 use names::do_names_differ;
 use posts::are_waiting;
 use std::alloc::Global;
-
-/// The longest quantum in microseconds.
-const MOST_QUANTUM: u64 = 1_000_000;
 
 /// Whether a laboratory can stand at the time, with this quantum.
 fn are_times(time: Micros, quantum: u64) -> bool

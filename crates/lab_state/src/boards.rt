@@ -15,10 +15,7 @@ use crate::lab::Lab;
 use crate::named_board::{LEAST_SPEED, NamedBoard};
 use board::Board;
 use dev_core::{Device, Kind};
-use lab_num::{BoardNo, Member, NoMemory, Text};
-
-/// The most boards that a laboratory has.
-const MOST_BOARDS: usize = 16;
+use lab_num::{BoardNo, MOST_BOARDS, Member, NoMemory, Text};
 
 /// The number of the first board of this name.
 fn number_of<D: Device>(boards: &[NamedBoard<D>], name: &str) -> Option<usize>
@@ -95,7 +92,7 @@ impl<D: Device> Lab<D> {
         if self.is_taken(name) {
             return Err(AddFault::Taken);
         }
-        if self.boards.len() >= MOST_BOARDS {
+        if self.boards.len() >= usize::from(MOST_BOARDS) {
             return Err(AddFault::Boards);
         }
         let number = BoardNo(self.boards.len() as u8);

@@ -8,11 +8,8 @@ ghost use Rattle.lab_words.specs.Requests.{IsReadAs, IsWithin};
 use crate::command::{check_texts, gen_texts, run_texts};
 use crate::request::{Request, UsageCause, WordsFault};
 use crate::text::{count, is_number, is_number_if_given, is_time_if_given, seed, until, workers};
-use lab_num::Text;
+use lab_num::{MOST_BOARDS, Text};
 use std::alloc::Global;
-
-/// The most boards of a generated laboratory.
-const MOST_BOARDS: u8 = 16;
 
 fn run_request(
     alloc: Global,

@@ -5,13 +5,7 @@ ghost use Rattle.resc_read.specs.Arguments as arguments;
 use crate::command::LineCause;
 use crate::sorts::{name_of, path_of, text_of, truth_of};
 use crate::variable::variable_of;
-use lab_num::{MOST_SPEED, Micros, number_of, read_time};
-
-/// The longest quantum, in microseconds.
-const MOST_QUANTUM: u64 = 1_000_000;
-
-/// The longest delay of a hub, in microseconds.
-const MOST_DELAY: u64 = 1_000_000;
+use lab_num::{MOST_DELAY, MOST_QUANTUM, MOST_SPEED, Micros, number_of, read_time};
 
 pub(crate) fn name(word: &str) -> Result<&str, LineCause>
     ensures { arguments.map_ok (λ text. text.now) result ≡ arguments.name word.now }
@@ -84,7 +78,7 @@ fn delay(word: &str) -> Result<Micros, LineCause>
     ensures { result ≡ arguments.delay word.now }
 {
     let length = time(word)?;
-    if length.0 <= MOST_DELAY {
+    if length.0 <= u64::from(MOST_DELAY) {
         Ok(length)
     } else {
         Err(LineCause::Time)

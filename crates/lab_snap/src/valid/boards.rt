@@ -8,10 +8,7 @@ use crate::lab::SavedBoard;
 use crate::machine::SavedMachine;
 use board::state_fits;
 use dev_core::Kind;
-use lab_num::{BoardNo, Member, Micros, is_name};
-
-/// The most boards of a laboratory.
-const MOST_BOARDS: usize = 16;
+use lab_num::{BoardNo, MOST_BOARDS, Member, Micros, is_name};
 
 /// The most posts, and the most log entries, of a board in a microsecond.
 const MOST_MADE: u64 = 1000;
@@ -51,7 +48,7 @@ fn is_board(time: Micros, board: &SavedBoard) -> bool
 pub fn are_boards(time: Micros, boards: &[SavedBoard]) -> bool
     ensures { IsTrue result ↔ AreBoards time.0 boards.now }
 {
-    boards.len() <= MOST_BOARDS && boards.iter().all(|board| is_board(time, board))
+    boards.len() <= usize::from(MOST_BOARDS) && boards.iter().all(|board| is_board(time, board))
 }
 
 /// The machine under a board, if the board is there and has a plan.
