@@ -16,7 +16,9 @@ pub use halves::{high_half, low_half, with_high_half, with_low_half};
 pub use key::{Key, Member};
 pub use listing::{key_laws, listing_laws};
 pub use name::{is_identifier, is_name};
-pub use number::{BoardNo, MOST_BOARDS, MOST_DELAY, MOST_QUANTUM, MOST_SPEED, Micros, NoMemory, PostNo};
+pub use number::{
+    BoardNo, MOST_BOARDS, MOST_DELAY, MOST_QUANTUM, MOST_SPEED, Micros, NoMemory, PostNo,
+};
 pub use numeral::number_of;
 pub use returns::return_law;
 pub use rows::Rows;
