@@ -30,8 +30,8 @@ held_is s [] x is = let h = by_answer (valid_decided s).answer refl is in (refl,
   where
     by_answer : (b : Bool) → (valid_decided s).answer ≡ b →
         (if b then Some (loaded s, s.lines) else None) ≡ Some x → AreValid s × ((loaded s, s.lines) ≡ x)
-    by_answer true yes e = ((valid_decided s).decides.0 yes, same_Some (loaded s, s.lines) x e)
-    by_answer false no e = absurd (none-some x e)
+    by_answer true can e = ((valid_decided s).decides.0 can, same_Some (loaded s, s.lines) x e)
+    by_answer false cannot e = absurd (none-some x e)
 held_is s (byte ∷ rest) x is = absurd (none-some x is)
 
 pub found : (bytes : List ℕ) (l : Lab) (ls : List OpenLine) → IsBytes bytes → snapshot_of bytes ≡ Some (l, ls) →

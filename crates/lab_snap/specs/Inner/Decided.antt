@@ -18,11 +18,11 @@ pub record Decided (P : Type 0) : Type 0 where
 
 -- ---- one answer of another
 
-pub yes : {P : Type 0} → P → Decided P
-yes holds = record { answer = true; decides = (λ e. holds, λ p. refl) }
+pub holds : {P : Type 0} → P → Decided P
+holds so = record { answer = true; decides = (λ e. so, λ p. refl) }
 
-pub no : {P : Type 0} → (P → ⊥) → Decided P
-no never = record { answer = false; decides = (λ e. absurd (false≢true e), λ p. absurd (never p)) }
+pub fails : {P : Type 0} → (P → ⊥) → Decided P
+fails never = record { answer = false; decides = (λ e. absurd (false≢true e), λ p. absurd (never p)) }
 
 -- what is said otherwise
 pub told_by : {P Q : Type 0} → Decided P → (P → Q) → (Q → P) → Decided Q
@@ -39,7 +39,7 @@ both d e = record {
 
 pub where_so : {P : Type 0} (test : Bool) → Decided P → Decided (test ≡ true → P)
 where_so true d = told_by d (λ p e. p) (λ f. f refl)
-where_so false d = yes (λ e. absurd (false≢true e))
+where_so false d = holds (λ e. absurd (false≢true e))
 
 -- ---- tests
 
@@ -68,27 +68,27 @@ same_list same xs ys = record {
 
 -- an option has this value
 pub has_value : {A : Type 0} → ((a b : A) → Decided (a ≡ b)) → (o : Option A) (x : A) → Decided (o ≡ Some x)
-has_value same None x = no (λ e. none-some x e)
+has_value same None x = fails (λ e. none-some x e)
 has_value same (Some a) x = told_by (same a x) (λ e. ap Some e) (λ e. same_Some a x e)
 
 pub in_some : {A : Type 0} {P : A → Type 0} → ((x : A) → Decided (P x)) → (o : Option A) → Decided (ForSome o P)
-in_some d None = yes (λ x is. absurd (none-some x is))
+in_some d None = holds (λ x is. absurd (none-some x is))
 in_some {P = P} d (Some x) = told_by (d x) (λ p y is. subst P (same_Some x y is) p) (λ all. all x refl)
 
 pub each : {A : Type 0} {P : A → Type 0} → ((x : A) → Decided (P x)) → (xs : List A) → Decided (All P xs)
-each {P = P} d [] = yes (All-nil P)
+each {P = P} d [] = holds (All-nil P)
 each {P = P} d (x ∷ xs) =
     told_by (both (d x) (each d xs)) (λ (first, others). All-cons P x xs first others)
     (λ all. (All-head P x xs all, All-tail P x xs all))
 
 each_in_turn : {A : Type 0} {P : A → Type 0} → ((x : A) → Decided (P x)) → (xs : List A) →
     Decided (AllByRecursion P xs)
-each_in_turn d [] = yes tt
+each_in_turn d [] = holds tt
 each_in_turn d (x ∷ xs) = both (d x) (each_in_turn d xs)
 
 pub distinct : {A : Type 0} (eq : A → A → Bool) → (xs : List A) → Decided (IsDistinct eq xs)
 unfolding IsDistinct
-distinct eq [] = yes tt
+distinct eq [] = holds tt
 distinct eq (x ∷ xs) = both (each_in_turn (λ y. same_flag (eq x y) false) xs) (distinct eq xs)
 
 -- ---- numbers
@@ -100,7 +100,7 @@ below_or_last {P} n all last k within = elim (cases_eq k n) [
 ]
 
 pub each_below : {P : ℕ → Type 0} → ((k : ℕ) → Decided (P k)) → (n : ℕ) → Decided ((k : ℕ) → k < n → P k)
-each_below d zero = yes (λ k within. absurd (omega (arith, within)))
+each_below d zero = holds (λ k within. absurd (omega (arith, within)))
 each_below {P} d (suc n) =
     told_by (both (each_below d n) (d n)) (λ (all, last). below_or_last {P = P} n all last)
     (λ all. (λ k within. all k (omega (arith, within)), all n (omega arith)))

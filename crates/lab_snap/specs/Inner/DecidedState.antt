@@ -27,8 +27,8 @@ use Rattle.sys_bus.specs.declared.plan.PlicSize.{PlicSize}
 use Rattle.board.specs.declared.state.BoardState.{BoardState}
 use Rattle.board.specs.Changes.{is_shown_kind}
 use Rattle.board.specs.Valid.{IsClintFor, IsPlicFor, IsReservation, IsReserved, IsStateFor}
-use Rattle.lab_snap.specs.Inner.Decided.{Decided, at_most, below, both, each, each_number, no, same_flag, same_list}
-use Rattle.lab_snap.specs.Inner.Decided.{same_number, tested, told_by, where_so, yes}
+use Rattle.lab_snap.specs.Inner.Decided.{Decided, at_most, below, both, each, each_number, fails, holds, same_flag}
+use Rattle.lab_snap.specs.Inner.Decided.{same_list, same_number, tested, told_by, where_so}
 
 -- ---- processors
 
@@ -45,7 +45,7 @@ same_letters x y =
     (λ e. (ap (λ (l : Letters). l.a) e, ap (λ (l : Letters). l.c) e))
 
 reservation_decided : (plan : BoardPlan) (at : Option ℕ) → Decided (IsReservation plan at)
-reservation_decided plan None = yes tt
+reservation_decided plan None = holds tt
 reservation_decided plan (Some at) =
     told_by (both (same_number _ _) (both (same_flag _ _) (same_flag _ _)))
     (λ (a, (b, c)). record { aligned = a; in_memory = b; atomic = c }) (λ h. (h.aligned, (h.in_memory, h.atomic)))
@@ -53,10 +53,10 @@ reservation_decided plan (Some at) =
 -- ---- timer and interrupt controller
 
 clint_decided : (frequency : Option ℕ) (s : Option ClintState) → Decided (IsClintFor frequency s)
-clint_decided None None = yes tt
-clint_decided (Some frequency) (Some s) = yes tt
-clint_decided None (Some s) = no (λ never. never)
-clint_decided (Some frequency) None = no (λ never. never)
+clint_decided None None = holds tt
+clint_decided (Some frequency) (Some s) = holds tt
+clint_decided None (Some s) = fails (λ never. never)
+clint_decided (Some frequency) None = fails (λ never. never)
 
 below_power : (n : ℕ) → n < 2 ^ n
 below_power zero = omega arith
@@ -96,10 +96,10 @@ plic_state_decided n k p =
     (h.enables.sources, (h.enables.absent, (h.thresholds.levels, h.thresholds.absent)))))))))
 
 plic_decided : (size : Option PlicSize) (s : Option PlicState) → Decided (IsPlicFor size s)
-plic_decided None None = yes tt
+plic_decided None None = holds tt
 plic_decided (Some size) (Some s) = plic_state_decided size.sources size.contexts s
-plic_decided None (Some s) = no (λ never. never)
-plic_decided (Some size) None = no (λ never. never)
+plic_decided None (Some s) = fails (λ never. never)
+plic_decided (Some size) None = fails (λ never. never)
 
 -- ---- devices
 
@@ -117,13 +117,13 @@ can_decided c =
 device_decided : (s : DevState) → Decided (IsValid s)
 device_decided (device.Uart u) = uart_decided u
 device_decided (device.Can c) = can_decided c
-device_decided device.Finisher = yes tt
+device_decided device.Finisher = holds tt
 
 pub same_kind : (a b : Kind) → Decided (a ≡ b)
-same_kind kind.Uart kind.Uart = yes refl
-same_kind kind.Can kind.Can = yes refl
-same_kind kind.Finisher kind.Finisher = yes refl
-same_kind a b = no (λ e. absurd (cc))
+same_kind kind.Uart kind.Uart = holds refl
+same_kind kind.Can kind.Can = holds refl
+same_kind kind.Finisher kind.Finisher = holds refl
+same_kind a b = fails (λ e. absurd (cc))
 
 not_past : (flags : List Bool) (dev : ℕ) → length flags ≤ dev → slice_index_or flags dev false ≡ true → ⊥
 not_past [] dev past on = false≢true on
