@@ -1,5 +1,5 @@
 -- Answers to whether something holds, and how they are put together.
-use Rattle.std.proofs.Common.{◌≡◌, ◌∙◌, ◌<◌, ◌≤◌, inl, inr, ℕ, zero, suc, List, [], ◌∷◌, Bool, true, false, ◌&&◌, refl}
+use Rattle.std.proofs.Common.{◌≡◌, ◌<◌, ◌≤◌, inl, inr, ℕ, zero, suc, List, [], ◌∷◌, Bool, true, false, ◌&&◌, refl}
 use Rattle.std.proofs.Common.{subst, sym, ap, arith}
 use Rattle.std.specs.Prelude.{Decides, Option, None, Some, IsTrue, nat_lt, nat_le, ◌==◌}
 use Rattle.std.specs.Bool.{beq}
@@ -109,5 +109,5 @@ each_below {P} d (suc n) =
 pub each_number : {P : ℕ → Type 0} → ((k : ℕ) → Decided (P k)) → (n : ℕ) → ((k : ℕ) → n ≤ k → P k) →
     Decided ((k : ℕ) → P k)
 each_number {P} d n void =
-    told_by (each_below d n) (λ all k. elim (cases_lt k n) [ | inl within ↦ all k within | inr past ↦ void k past ])
+    told_by (each_below d n) (λ all k. elim (cases_lt k n) [ inl within ↦ all k within | inr past ↦ void k past ])
     (λ all k within. all k)

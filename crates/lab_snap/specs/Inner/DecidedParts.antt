@@ -1,23 +1,21 @@
 -- Whether a laboratory, as a snapshot holds it, can go on.
-use Rattle.std.proofs.Common.{◌≡◌, ◌≤◌, ◌<◌, ◌^◌, ℕ, List, length, map, ap}
-use Rattle.std.specs.Prelude.{unwrap_or, IsTrue}
+use Rattle.std.proofs.Common.{◌≡◌, ℕ, List, ap}
+use Rattle.std.specs.Prelude.{unwrap_or}
 use Rattle.std.specs.Str.{bytes_eq}
 use Rattle.board.specs.Sent.{is_of_kind}
 use Rattle.dev_core.specs.declared.post.Post.{Post}
 use Rattle.lab_num.specs.declared.key.Member.{Member}
 use Rattle.lab_num.specs.declared.number.BoardNo.{BoardNo}
 use Rattle.lab_num.specs.Key.{same_member}
-use Rattle.lab_num.specs.Route.{StandOnce}
-use Rattle.log_text.specs.declared.line.OpenLine.{OpenLine}
 use Rattle.lab_snap.specs.declared.hub.SavedHub.{SavedHub}
 use Rattle.lab_snap.specs.declared.lab.SavedBoard.{SavedBoard}
 use Rattle.lab_snap.specs.declared.lab.SavedLab.{SavedLab}
 use Rattle.lab_snap.specs.Inner.Decided.{Decided, at_most, below, both, distinct, each, has_value, in_some, same_list}
 use Rattle.lab_snap.specs.Inner.Decided.{same_number, tested, told_by}
 use Rattle.lab_snap.specs.Inner.DecidedState.{same_kind, state_decided}
-use Rattle.lab_snap.specs.Inner.Parts.{AreBoards, AreHubs, AreOpenIn, AreTimes, AreValid, AreWaiting, HasNumber}
-use Rattle.lab_snap.specs.Inner.Parts.{HasPayload, IsBoardAt, IsHubIn, IsMachineAt, IsWaitingAt, delay_in, is_open}
-use Rattle.lab_snap.specs.Inner.Parts.{kind_in, machine_at, members_in, names_of}
+use Rattle.lab_snap.specs.Inner.Parts.{AreBoards, AreHubs, AreOpenIn, AreTimes, AreValid, AreWaiting}
+use Rattle.lab_snap.specs.Inner.Parts.{IsBoardAt, IsHubIn, IsMachineAt, IsWaitingAt, delay_in, is_open}
+use Rattle.lab_snap.specs.Inner.Parts.{kind_in, machine_at, names_of}
 use Rattle.lab_snap.specs.Inner.ValidPlan.{is_valid_plan, valid_plan_decides}
 use Rattle.lab_snap.specs.Loaded.{kind_of_hub}
 use Rattle.lab_snap.specs.Machine.{IsMachine, Machine}

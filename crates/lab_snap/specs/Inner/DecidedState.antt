@@ -1,10 +1,9 @@
 -- Whether a state fits a plan.
-use Rattle.std.proofs.Common.{◌≡◌, ◌∙◌, ◌≤◌, ◌<◌, ◌^◌, ℕ, zero, suc, List, [], ◌∷◌, Bool, true, false, length, map, refl}
+use Rattle.std.proofs.Common.{◌≡◌, ◌∙◌, ◌≤◌, ◌<◌, ◌^◌, ℕ, zero, suc, List, [], ◌∷◌, Bool, true, false, length, refl}
 use Rattle.std.proofs.Common.{ap, arith, pow-suc, sym}
 use Rattle.std.specs.Prelude.{Option, None, Some, All, IsTrue, ◌+◌, ◌==◌, drop, slice_index_or}
 use Rattle.std.specs.Int.{bit_at}
-use Rattle.std.specs.List.{range_with_len}
-use Rattle.std.proofs.lemmas.Bool.{both_ways, eq-eqb, false≢true, ne_eqb}
+use Rattle.std.proofs.lemmas.Bool.{false≢true}
 use Rattle.std.proofs.lemmas.Nat.Bits.{bit_at_above}
 use Rattle.clint.specs.declared.state.ClintState.{ClintState}
 use Rattle.dev_core.specs.declared.can_state.CanState.{CanState}
@@ -14,11 +13,11 @@ use Rattle.dev_core.specs.declared.state.DevState.{DevState}
 use Rattle.dev_core.specs.declared.state.DevState.TheVariants as device
 use Rattle.dev_core.specs.declared.uart_state.UartState.{UartState}
 use Rattle.dev_core.specs.Can.{IsCanState}
-use Rattle.dev_core.specs.Device.{IsValid, kind_of}
+use Rattle.dev_core.specs.Device.{IsValid}
 use Rattle.dev_core.specs.Uart.{IsUartState}
 use Rattle.plic.specs.declared.state.PlicState.{PlicState}
 use Rattle.plic.specs.Sources.{AreSources, has, is_source}
-use Rattle.plic.specs.State.{AreEnables, ArePriorities, AreThresholds, IsPlicState}
+use Rattle.plic.specs.State.{IsPlicState}
 use Rattle.rv_hart.specs.declared.letters.Letters.{Letters}
 use Rattle.rv_hart.specs.declared.state.HartState.{HartState}
 use Rattle.rv_hart.specs.HartState.{IsHartState}
@@ -26,7 +25,7 @@ use Rattle.sys_bus.specs.declared.plan.BoardPlan.{BoardPlan}
 use Rattle.sys_bus.specs.declared.plan.PlicSize.{PlicSize}
 use Rattle.board.specs.declared.state.BoardState.{BoardState}
 use Rattle.board.specs.Changes.{is_shown_kind}
-use Rattle.board.specs.Valid.{IsClintFor, IsPlicFor, IsReservation, IsReserved, IsStateFor}
+use Rattle.board.specs.Valid.{IsClintFor, IsPlicFor, IsReservation, IsStateFor}
 use Rattle.lab_snap.specs.Inner.Decided.{Decided, at_most, below, both, each, each_number, fails, holds, same_flag}
 use Rattle.lab_snap.specs.Inner.Decided.{same_list, same_number, tested, told_by, where_so}
 
@@ -92,8 +91,22 @@ plic_state_decided n k p =
       enables = record { sources = enables; absent = no_enables };
       thresholds = record { levels = thresholds; absent = no_thresholds };
     })
-    (λ h. (h.pending, (h.shut, (h.priorities.levels, (h.priorities.no_source, (h.priorities.absent,
-    (h.enables.sources, (h.enables.absent, (h.thresholds.levels, h.thresholds.absent)))))))))
+    (λ h. (
+      h.pending,
+      (
+        h.shut,
+        (
+          h.priorities.levels,
+          (
+            h.priorities.no_source,
+            (
+              h.priorities.absent,
+              (h.enables.sources, (h.enables.absent, (h.thresholds.levels, h.thresholds.absent))),
+            ),
+          ),
+        ),
+      ),
+    ))
 
 plic_decided : (size : Option PlicSize) (s : Option PlicState) → Decided (IsPlicFor size s)
 plic_decided None None = holds tt
@@ -164,5 +177,34 @@ state_decided plan s =
       flags = l;
       shown = m;
     })
-    (λ r. (r.speed, (r.next, (r.harts, (r.letters, (r.numbers, (r.watch, (r.reserved, (r.clint, (r.plic, (r.kinds,
-    (r.states, (r.flags, r.shown)))))))))))))
+    (λ r. (
+      r.speed,
+      (
+        r.next,
+        (
+          r.harts,
+          (
+            r.letters,
+            (
+              r.numbers,
+              (
+                r.watch,
+                (
+                  r.reserved,
+                  (
+                    r.clint,
+                    (
+                      r.plic,
+                      (
+                        r.kinds,
+                        (r.states, (r.flags, r.shown)),
+                      ),
+                    ),
+                  ),
+                ),
+              ),
+            ),
+          ),
+        ),
+      ),
+    ))
