@@ -1,4 +1,4 @@
-//! Commands that enter a body.
+//! The open bodies of a script, and the commands that enter one.
 ghost use Rattle.std.specs.Prelude.{◌≡◌, ◌≤◌, length, false};
 ghost use Rattle.std.specs.String.{string_bytes};
 ghost use Rattle.resc_vars.specs.Bodies.{enter, source_of};
@@ -10,8 +10,32 @@ use crate::monitor::Monitor;
 use crate::stop::{Stop, file_stop};
 use dev_core::Device;
 use lab_io::{Files, TextFault, read_text};
-use resc_vars::ScriptCause;
+use lab_num::Micros;
+use resc_vars::{Flow, ScriptCause};
 use std::alloc::Global;
+use std::marker::Model;
+
+/// A script without its laboratory, between two of its commands: its open bodies, its variables and its
+/// macros, and how it is run.
+#[derive(Drop)]
+pub struct Bodies {
+    pub(crate) alloc: Global,
+    pub(crate) flow: Flow,
+    pub(crate) workers: u8,
+    pub(crate) until: Micros,
+    pub(crate) dry: bool,
+}
+
+impl Model for Bodies {
+    ghost use Rattle.std.specs.Prelude.{◌≤◌};
+    ghost use Rattle.monitor.specs.State.{BodiesSeen};
+
+    ghost Value = { BodiesSeen };
+
+    ghost view = { λ b. record { flow = b.flow; until = b.until.0; dry = b.dry } };
+
+    ghost invariant = { λ b. (1 ≤ b.workers) × (b.workers ≤ 8) };
+}
 
 /// How many bodies may be open beside the script.
 const DEPTH: u8 = 8;

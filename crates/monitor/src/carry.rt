@@ -7,7 +7,7 @@ ghost use Rattle.monitor.specs.Inner.Ruling.{IsWithin, IsWorked};
 use crate::images::Format;
 use crate::load::Load;
 use crate::monitor::Monitor;
-use crate::stop::Stop;
+use crate::stop::{Stop, Storing};
 use dev_core::Device;
 use floor_run::Gate;
 use lab_io::Files;
@@ -73,6 +73,10 @@ impl<D: Device + Send> Monitor<D> {
             Command::RunMacro { name } => self.run_macro(name.as_str()),
             Command::UsingSysbus | Command::Pause => Ok(Vec::new(self.alloc)),
             Command::Start => self.start(rt, gate),
+
+            // Those that are for the store.
+            Command::Save { path } => Err(Stop::Store(Storing::Save(path))),
+            Command::Load { path } => Err(Stop::Store(Storing::Load(path))),
 
             // The one that ends the script.
             Command::Quit => Err(Stop::Quit),

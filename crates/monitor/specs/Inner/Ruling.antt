@@ -52,10 +52,12 @@ use Rattle.monitor.specs.declared.load.Load.TheVariants as load
 use Rattle.monitor.specs.declared.step.Step.{Step}
 use Rattle.monitor.specs.declared.step.Step.TheVariants as step
 use Rattle.monitor.specs.declared.stop.Stop.{Stop}
-use Rattle.monitor.specs.declared.stop.Stop.TheVariants.{Quit, Line, File, Content, Unread, Memory}
-use Rattle.monitor.specs.Answer.{Answer, Goes, Ends, Faults, Did, Done, answer_at, fault_at, told_at}
+use Rattle.monitor.specs.declared.stop.Storing.{Storing}
+use Rattle.monitor.specs.declared.stop.Storing.TheVariants as storing
+use Rattle.monitor.specs.declared.stop.Stop.TheVariants.{Store, Quit, Line, File, Content, Unread, Memory}
+use Rattle.monitor.specs.Answer.{Answer, Goes, Saves, Loads, Ends, Faults, Did, Done, answer_at, fault_at, told_at}
 use Rattle.monitor.specs.Boards.{equip, file_fault}
-use Rattle.monitor.specs.Command.{Work, OnFiles, OnState, Quits}
+use Rattle.monitor.specs.Command.{Work, OnFiles, OnState, OnStore, Quits}
 use Rattle.monitor.specs.Images.{elf_image, hex_image, load_read}
 use Rattle.monitor.specs.Memory.{write_bytes}
 use Rattle.monitor.specs.Selected.{Equipped}
@@ -113,6 +115,7 @@ pub record IsSpeaker (lab : Lab) (b : ℕ) (m : Member) : Type 0 where
 
 -- a script stops at this place of a file, or memory ran out
 abbrev pub IsFileStop : ScriptFault → Stop → Type 0
+IsFileStop fault (Store asked) = ⊥
 IsFileStop fault Quit = ⊥
 IsFileStop fault (Line cause) = ⊥
 IsFileStop fault (File told) = told ≡ fault
@@ -154,6 +157,7 @@ loaded_by (load.Bytes at) s place on bytes = answer_at place (write_bytes s on a
 -- a file was read as the image that its bytes mean, or is refused for their fault, or memory ran out
 abbrev pub IsImage : Result Image Cause → Result Image Stop → Type 0
 IsImage meant (Ok image) = meant ≡ Ok image
+IsImage meant (Err (Store asked)) = ⊥
 IsImage meant (Err Quit) = ⊥
 IsImage meant (Err (Line cause)) = ⊥
 IsImage meant (Err (File fault)) = ⊥
@@ -168,6 +172,7 @@ IsChanged b f old new = new ≡ record old { state = record old.state { lab = ch
 -- a plan was built of entries, or is refused in the file that the fault names, or memory ran out
 abbrev pub IsPlan : Loaded → Result BoardPlan Stop → Type 0
 IsPlan loaded (Ok plan) = built loaded.entries.items ≡ Ok plan
+IsPlan loaded (Err (Store asked)) = ⊥
 IsPlan loaded (Err Quit) = ⊥
 IsPlan loaded (Err (Line cause)) = ⊥
 IsPlan loaded (Err (File fault)) =
@@ -187,6 +192,7 @@ pub record IsOnward (old new : Running) : Type 0 where
 abbrev pub IsRuled : Result Done ScriptCause → Result (Vec ℕ Global) Stop → Running → Running → Type 0
 IsRuled ruling (Ok text) old new =
     (ruling ≡ Ok (record { text = text.items; state = new.state })) × IsOnward old new
+IsRuled ruling (Err (Store asked)) old new = ⊥
 IsRuled ruling (Err Quit) old new = ⊥
 IsRuled ruling (Err (Line cause)) old new = (ruling ≡ Err cause) × (new ≡ old)
 IsRuled ruling (Err (File fault)) old new = ⊥
@@ -194,9 +200,15 @@ IsRuled ruling (Err (Content cause)) old new = ⊥
 IsRuled ruling (Err Unread) old new = ⊥
 IsRuled ruling (Err Memory) old new = new.ended ≡ old.ended
 
+-- how a command is answered that is for the store
+abbrev pub asks_store : Storing → Place → State → Answer
+asks_store (storing.Save name) place s = Saves name place s
+asks_store (storing.Load name) place s = Loads name place s
+
 -- a command is answered so, or memory ran out
 abbrev pub IsTold : Place → Answer → Result (Vec ℕ Global) Stop → State → Type 0
 IsTold place answer (Ok text) after = answer ≡ Goes text.items after
+IsTold place answer (Err (Store asked)) after = answer ≡ asks_store asked place after
 IsTold place answer (Err Quit) after = answer ≡ Ends
 IsTold place answer (Err (Line cause)) after = answer ≡ Faults (fault_at place cause)
 IsTold place answer (Err (File fault)) after = answer ≡ Faults fault
@@ -207,6 +219,8 @@ IsTold place answer (Err Memory) after = Unit {0}
 -- a command was carried out or refused as it is and has asked for the names that it reads, or was cut short
 abbrev pub IsCarried : Did → Place → Result (Vec ℕ Global) Stop → State → Log → Log → Type 0
 IsCarried did place (Ok text) after log log' = (did.answer ≡ Goes text.items after) × (log' ≡ grown log did.names)
+IsCarried did place (Err (Store asked)) after log log' =
+    (did.answer ≡ asks_store asked place after) × (log' ≡ grown log did.names)
 IsCarried did place (Err Quit) after log log' = (did.answer ≡ Ends) × (log' ≡ grown log did.names)
 IsCarried did place (Err (Line cause)) after log log' =
     (did.answer ≡ Faults (fault_at place cause)) × (log' ≡ grown log did.names)
@@ -219,6 +233,7 @@ IsCarried did place (Err Memory) after log log' = AsksSome did.names log log'
 -- a command that stops the script changes nothing, but where memory ran out
 abbrev pub Leaves : Result (Vec ℕ Global) Stop → Running → Running → Type 0
 Leaves (Ok text) old new = IsOnward old new
+Leaves (Err (Store asked)) old new = new ≡ old
 Leaves (Err Quit) old new = new ≡ old
 Leaves (Err (Line cause)) old new = new ≡ old
 Leaves (Err (File fault)) old new = new ≡ old
@@ -236,15 +251,24 @@ pub record IsDone
   pub leaves : Leaves result old new
   pub reads : OnlyReads files (result ≡ Err Unread) before after
 
+-- a command that is for the store stops the monitor, which asks for what its answer says
+pub record IsForStore (by : Place → Answer) (result : Result (Vec ℕ Global) Stop) (old : Running) : Type 0 where
+  pub asked : Storing
+  pub stop : result ≡ Err (Store asked)
+  pub answer : (place : Place) → by place ≡ asks_store asked place old.state
+
 -- the same of each sort of command
 abbrev pub IsWorked :
     {F : Type 0} → Ghosts F → Work → Result (Vec ℕ Global) Stop → Running → Running → F → F → Type 0
 IsWorked files (OnFiles by) result old new before after = IsDone files by result old new before after
 IsWorked files (OnState ruling) result old new before after = IsRuled ruling result old new × (after ≡ before)
+IsWorked files (OnStore by) result old new before after = IsForStore by result old × (new ≡ old) × (after ≡ before)
 IsWorked files Quits result old new before after = (result ≡ Err Quit) × (new ≡ old) × (after ≡ before)
 
--- what a step answers at a line after which the script does not go on
+-- what a step answers at a line after which the monitor does not go on
 abbrev pub step_of : Place → Stop → Step
+step_of place (Store (storing.Save name)) = step.Save name place.file place.number
+step_of place (Store (storing.Load name)) = step.Load name place.file place.number
 step_of place Quit = step.End
 step_of place (Line cause) = step.Fault (fault_at place cause)
 step_of place (File fault) = step.Fault fault
@@ -252,10 +276,12 @@ step_of place (Content cause) = step.Fault (told_at place cause)
 step_of place Unread = step.Unread
 step_of place Memory = step.Memory
 
--- a line that says something lets the script go on, and no other does
+-- a line that says something or is for the store lets the script go on, and no other does
 abbrev pub IsAfterLine : Step → Running → Running → Type 0
 IsAfterLine (step.Text text) old new =
     (new.spent ≡ false) × (new.ended ≡ false) × (new.state.flow.kept ≡ old.state.flow.kept)
+IsAfterLine (step.Save name file line) old new = new ≡ record old { ended = false }
+IsAfterLine (step.Load name file line) old new = new ≡ record old { ended = false }
 IsAfterLine step.End old new = new ≡ old
 IsAfterLine (step.Fault fault) old new = new ≡ old
 IsAfterLine step.Unread old new = new ≡ old
