@@ -15,8 +15,18 @@ differ {xs} {ys} absent = not_decided (bytes_eq xs ys) (bytes_eq-Decides xs ys) 
 pub no_word_row :
     {first : List ℕ} (words : List (List ℕ)) → first ≡ word_at words 0 →
     first ≢ codes "showAnalyzer" → first ≢ codes "include" → first ≢ codes "runMacro" →
-    first ≢ codes "pause" → first ≢ codes "start" → first ≢ codes "quit" →
-    by_word_rows words ≡ by_machine_rows words
+    first ≢ codes "Save" → first ≢ codes "Load" → first ≢ codes "pause" → first ≢ codes "start" →
+    first ≢ codes "quit" → by_word_rows words ≡ by_machine_rows words
 unfolding by_word_rows
-no_word_row words first show include run pause start quit =
-    rw (sym first, differ show, differ include, differ run, differ pause, differ start, differ quit) refl
+no_word_row words first show include run save load pause start quit =
+    rw (
+      sym first,
+      differ show,
+      differ include,
+      differ run,
+      differ save,
+      differ load,
+      differ pause,
+      differ start,
+      differ quit,
+    ) refl

@@ -54,6 +54,8 @@ word_rows =
     row (One (codes "showAnalyzer")) (one entry commands.Show) ∷
     row (One (codes "include")) (one path commands.Include) ∷
     row (One (codes "runMacro")) (one variable commands.RunMacro) ∷
+    row (One (codes "Save")) (one path commands.Save) ∷
+    row (One (codes "Load")) (one path commands.Load) ∷
     row (One (codes "pause")) (none commands.Pause) ∷
     row (One (codes "start")) (none commands.Start) ∷
     row (One (codes "quit")) (none commands.Quit) ∷

@@ -47,6 +47,10 @@ pub enum Command {
     Include { path: Text },
     /// `runMacro $name`: take the lines of a macro. The name is without its `$`.
     RunMacro { name: Text },
+    /// `Save @path`: keep the laboratory under a name. The path is without its `@`.
+    Save { path: Text },
+    /// `Load @path`: take back what is kept under a name.
+    Load { path: Text },
     /// `using sysbus`, which has no effect.
     UsingSysbus,
     /// `pause`, which has no effect.

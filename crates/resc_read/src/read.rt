@@ -225,6 +225,26 @@ fn run_macro(alloc: Global, words: &[&str]) -> Result<Command, LineFault>
     })
 }
 
+fn save(alloc: Global, words: &[&str]) -> Result<Command, LineFault>
+    ensures { IsReadAs
+        (arguments.one arguments.path commands.Save (map (λ w. w.now) words.now)) result }
+{
+    let path = path(one_word(words)?)?;
+    Ok(Command::Save {
+        path: Text::of(alloc, path)?,
+    })
+}
+
+fn load(alloc: Global, words: &[&str]) -> Result<Command, LineFault>
+    ensures { IsReadAs
+        (arguments.one arguments.path commands.Load (map (λ w. w.now) words.now)) result }
+{
+    let path = path(one_word(words)?)?;
+    Ok(Command::Load {
+        path: Text::of(alloc, path)?,
+    })
+}
+
 /// A command without arguments.
 fn alone(command: Command, words: &[&str]) -> Result<Command, LineFault>
     ensures { IsReadAs (arguments.none command (map (λ w. w.now) words.now)) result }
@@ -337,6 +357,8 @@ fn by_first_word(alloc: Global, words: &[&str]) -> Result<Command, LineFault>
         "showAnalyzer" => show(alloc, after),
         "include" => include(alloc, after),
         "runMacro" => run_macro(alloc, after),
+        "Save" => save(alloc, after),
+        "Load" => load(alloc, after),
         "pause" => alone(Command::Pause, after),
         "start" => alone(Command::Start, after),
         "quit" => alone(Command::Quit, after),

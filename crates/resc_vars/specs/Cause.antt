@@ -4,6 +4,7 @@ use Rattle.resc_vars.specs.declared.cause.ScriptCause.{ScriptCause}
 use Rattle.resc_vars.specs.declared.cause.ScriptCause.TheVariants.{Unknown, Arguments, Variable, NoBoard, Board, Taken}
 use Rattle.resc_vars.specs.declared.cause.ScriptCause.TheVariants.{Name, Kind, Connected, Time, Depth, Commands, Boards}
 use Rattle.resc_vars.specs.declared.cause.ScriptCause.TheVariants.{LabTime, Platform, Address, Unclosed, Utf8, Size}
+use Rattle.resc_vars.specs.declared.cause.ScriptCause.TheVariants.{Snapshot, Occupied}
 
 -- the code and the text of a cause
 abbrev pub script_cause_text : ScriptCause → List ℕ
@@ -26,3 +27,5 @@ script_cause_text Address = codes "S16 address"
 script_cause_text Unclosed = codes "S17 unclosed"
 script_cause_text Utf8 = codes "S18 not utf-8"
 script_cause_text Size = codes "S19 size"
+script_cause_text Snapshot = codes "S20 snapshot"
+script_cause_text Occupied = codes "S21 occupied"

@@ -44,8 +44,12 @@ pub enum ScriptCause {
     Unclosed,
     /// S18: a script or a platform file is not UTF-8.
     Utf8,
-    /// S19: a file has more than 16 MiB.
+    /// S19: a file has more than 16 MiB, or a snapshot more than 64 MiB.
     Size,
+    /// S20: the bytes of a snapshot are the spelling of no laboratory.
+    Snapshot,
+    /// S21: `Load` finds a board, a hub, or a time other than 0.
+    Occupied,
 }
 
 impl ScriptCause {
@@ -73,6 +77,8 @@ impl ScriptCause {
             ScriptCause::Unclosed => "S17 unclosed",
             ScriptCause::Utf8 => "S18 not utf-8",
             ScriptCause::Size => "S19 size",
+            ScriptCause::Snapshot => "S20 snapshot",
+            ScriptCause::Occupied => "S21 occupied",
         }
     }
 }

@@ -16,7 +16,7 @@ fn asks_for(alloc: Global, line: &str, expected: &str) -> Result<bool, Fail> {
 }
 
 /// Each row: a line, and the command that it asks for.
-static COMMANDS: [(&str, &str); 67] = [
+static COMMANDS: [(&str, &str); 74] = [
     ("mach create", "Ok(Create { name: None })"),
     (
         "mach create m0",
@@ -241,6 +241,25 @@ static COMMANDS: [(&str, &str); 67] = [
         "runMacro $_a1",
         "Ok(RunMacro { name: Text { text: \"_a1\" } })",
     ),
+    ("Save @x", "Ok(Save { path: Text { text: \"x\" } })"),
+    (
+        "\tSave  @dir/a.snap ",
+        "Ok(Save { path: Text { text: \"dir/a.snap\" } })",
+    ),
+    ("Load @x", "Ok(Load { path: Text { text: \"x\" } })"),
+    ("Load @@", "Ok(Load { path: Text { text: \"@\" } })"),
+    (
+        "Save PC",
+        "Ok(Pc { cpu: Text { text: \"Save\" }, value: None })",
+    ),
+    (
+        "Load IsHalted true",
+        "Ok(Halted { cpu: Text { text: \"Load\" }, value: Some(true) })",
+    ),
+    (
+        "Save PerformanceInMips 2",
+        "Ok(Mips { cpu: Text { text: \"Save\" }, value: Some(2) })",
+    ),
     ("using sysbus", "Ok(UsingSysbus)"),
     ("pause", "Ok(Pause)"),
     (" \tpause \t", "Ok(Pause)"),
@@ -332,7 +351,7 @@ fn assert_faults(rt: &impl Abort, alloc: Global, fault: LineFault, lines: &[&str
 }
 
 /// Lines that begin with no command.
-static UNKNOWN: [&str; 37] = [
+static UNKNOWN: [&str; 42] = [
     "",
     " \t",
     "foo",
@@ -370,6 +389,11 @@ static UNKNOWN: [&str; 37] = [
     "sysbus LoadElf @f",
     "sysbus LoadHex @f",
     "emulation CreateCanHub \"n\"",
+    "save @x",
+    "load @x",
+    "SAVE @x",
+    "\"Save\" @x",
+    "Load@x",
 ];
 
 #[test]
@@ -446,7 +470,7 @@ fn words_of_boards_memory_and_processors_have_their_number_sort_and_range(rt: Ho
 }
 
 /// Lines of other commands with a wrong number or sort of words.
-static OTHERS: [&str; 60] = [
+static OTHERS: [&str; 76] = [
     "emulation SetGlobalQuantum",
     "emulation SetGlobalQuantum @",
     "emulation SetGlobalQuantum abc x",
@@ -478,6 +502,22 @@ static OTHERS: [&str; 60] = [
     "include @",
     "include @a @b",
     "include @http://x",
+    "Save",
+    "Save x",
+    "Save \"x\"",
+    "Save \"@x\"",
+    "Save @",
+    "Save @a\"b\"",
+    "Save @a @b",
+    "Save @x PC",
+    "Save @http://x",
+    "Load",
+    "Load x",
+    "Load \"x\"",
+    "Load @a\"b\"",
+    "Load @a b",
+    "Load @x 1",
+    "Load @https://x",
     "runMacro",
     "runMacro nope",
     "runMacro $1",

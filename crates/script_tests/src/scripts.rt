@@ -5,7 +5,7 @@ ghost use Rattle.resc_vars.specs.Script.{is_line};
 
 use lab_num::Text;
 use resc_read::{Command, LineFault, read_line};
-use resc_vars::{Flow, FlowFault, Next};
+use resc_vars::{Flow, FlowFault, Next, ScriptCause};
 use std::alloc::Global;
 use std::test::Fail;
 
@@ -331,6 +331,27 @@ fn a_script_has_100_000_commands(rt: HostRuntime) -> Result<(), Fail> {
     for (n, expected) in &MANY {
         let answer = after_many(rt.alloc(), *n)?;
         assert!(rt; answer.as_str() == *expected, "{n}");
+    }
+    Ok(())
+}
+
+/// Each row: a cause of snapshots, and what a refusal says of it.
+static CAUSES: [(ScriptCause, &str); 3] = [
+    (ScriptCause::Size, "S19 size"),
+    (ScriptCause::Snapshot, "S20 snapshot"),
+    (ScriptCause::Occupied, "S21 occupied"),
+];
+
+/// What a refusal says of a cause.
+fn told(alloc: Global, cause: ScriptCause) -> Result<String, Fail> {
+    Ok(format!(in alloc; "{cause}")?)
+}
+
+#[test]
+fn causes_of_snapshots_are_told_by_code_and_text(rt: HostRuntime) -> Result<(), Fail> {
+    for (cause, expected) in &CAUSES {
+        let told = told(rt.alloc(), *cause)?;
+        assert!(rt; told.as_str() == *expected, "{expected}");
     }
     Ok(())
 }
