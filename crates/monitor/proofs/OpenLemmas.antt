@@ -1,5 +1,5 @@
 -- Commands keep the lines open that stand open: each stays that of a shown UART.
-use Rattle.std.proofs.Common.{◌≡◌, ◌∙◌, sym, ap, subst, refl, ℕ, zero, suc, ◌+◌, ◌-◌, ◌≤◌, nat_le, nat_lt, arith}
+use Rattle.std.proofs.Common.{◌≡◌, ◌∙◌, sym, ap, refl, ℕ, zero, suc, ◌+◌, ◌-◌, ◌≤◌, nat_le, nat_lt, arith}
 use Rattle.std.proofs.Common.{Bool, true, false, ◌&&◌, List, [], ◌∷◌, ◌++◌, length, set, get_or, slice_get}
 use Rattle.std.proofs.Common.{Option, None, Some, Result, Ok, Err}
 use Rattle.std.specs.Prelude.{if◌then◌else◌, is_none, option_and_then}
@@ -15,7 +15,7 @@ use Rattle.lab_num.specs.declared.key.Member.{Member}
 use Rattle.lab_num.specs.Change.{change_at}
 use Rattle.log_text.specs.declared.line.OpenLine.{OpenLine}
 use Rattle.log_text.specs.Log.{open_lines}
-use Rattle.dev_core.specs.declared.kind.Kind.TheVariants.{Uart, Can}
+use Rattle.dev_core.specs.declared.kind.Kind.TheVariants.{Uart}
 use Rattle.dev_core.specs.declared.state.DevState.{DevState}
 use Rattle.dev_core.specs.declared.state.DevState.TheVariants as state
 use Rattle.dev_core.specs.Device.{dev_reset, kind_of}
@@ -36,7 +36,6 @@ use Rattle.repl_read.specs.declared.fault.PlatFault.{PlatFault}
 use Rattle.repl_read.specs.declared.fault.PlatFault.TheVariants as plat_fault
 use Rattle.resc_read.specs.declared.command.Command.{Command}
 use Rattle.resc_read.specs.declared.command.Command.TheVariants as command
-use Rattle.resc_read.specs.declared.command.LineCause.{LineCause}
 use Rattle.resc_vars.specs.declared.cause.ScriptCause.{ScriptCause}
 use Rattle.resc_vars.specs.declared.cause.ScriptCause.TheVariants.{Depth, LabTime, Platform, Size}
 use Rattle.resc_vars.specs.Bodies.{depth_limit}
@@ -51,7 +50,7 @@ use Rattle.monitor.specs.declared.fault.Cause.{Cause}
 use Rattle.monitor.specs.Answer.{Answer, Goes, Done, answer_at, reads, refused, loads, with_file}
 use Rattle.monitor.specs.Bodies.{entered, include_text, run_macro}
 use Rattle.monitor.specs.Boards.{create, equip, equip_loaded, load_onto, reset_board, select, with_new_board}
-use Rattle.monitor.specs.Command.{does, done_by, work}
+use Rattle.monitor.specs.Command.{does, work}
 use Rattle.monitor.specs.Hubs.{can_hub, connect, show, uart_hub}
 use Rattle.monitor.specs.Images.{elf_image, hex_image, load_image, load_read}
 use Rattle.monitor.specs.Images.{unreserved, with_entry, with_part, with_parts}

@@ -1,5 +1,5 @@
 -- What a command has done, by what its parts have done.
-use Rattle.std.proofs.Common.{◌≡◌, ℕ, false, List, [], ◌∷◌, Option, Some, Result, Ok, Err, Vec}
+use Rattle.std.proofs.Common.{◌≡◌, ℕ, false, [], Option, Result, Ok, Err, Vec}
 use Rattle.std.proofs.Common.{refl, sym, ap}
 use Rattle.std.specs.Prelude.{IfOk, IfSome}
 use Rattle.std.specs.FinMap.{empty}
@@ -109,14 +109,14 @@ module _ {F : Type 0} {files : Ghosts F} {P : Type 0} where
       OnlyReads files P before after → IsDone files by result old new before after
   done_told by answer result old new before after read told leaves keeps reads =
       let nowhere : Place = record { file = []; number = 0 } in record {
-    carried = λ place held is.
-        let asked = read place held is in
-        told_carried (by held place) place result new.state (files.asked before) (files.asked after) asked.1
-        (rw asked.0 (told place));
-    leaves = leaves;
-    open_lines = told_open nowhere (answer nowhere) result old.state new.state (keeps nowhere) (told nowhere);
-    reads = reads_as (λ same. absurd (told_read nowhere _ result new.state (told _) same)) reads;
-  }
+        carried = λ place held is.
+            let asked = read place held is in
+            told_carried (by held place) place result new.state (files.asked before) (files.asked after) asked.1
+            (rw asked.0 (told place));
+        leaves = leaves;
+        open_lines = told_open nowhere (answer nowhere) result old.state new.state (keeps nowhere) (told nowhere);
+        reads = reads_as (λ same. absurd (told_read nowhere _ result new.state (told _) same)) reads;
+      }
 
   -- a command was stopped where it reads
   pub done_stopped :
@@ -149,12 +149,14 @@ module _ {F : Type 0} {files : Ghosts F} where
   pub done_refused :
       (cause : ScriptCause) (old : Running) (before : F) →
       IsDone files (λ held place. unread place (Err cause)) (Err (Line cause)) old old before before
-  done_refused cause old before = done_alone (Err cause) (Err (Line cause)) old old before (λ place open_. tt) (refl, refl)
+  done_refused cause old before =
+      done_alone (Err cause) (Err (Line cause)) old old before (λ place open_. tt) (refl, refl)
 
   -- a command of each sort
   pub worked_done :
       (work : Work) (result : Result (Vec ℕ Global) Stop) (old new : Running) (before after : F) →
-      ((held : Held) (place : Place) → HasOpen old.state → IsKeptBy (does held place work).answer) → IsWorked files work result old new before after →
+      ((held : Held) (place : Place) → HasOpen old.state → IsKeptBy (does held place work).answer) →
+      IsWorked files work result old new before after →
       IsDone files (λ held place. does held place work) result old new before after
   worked_done (OnFiles by) result old new before after keeps is = is
   worked_done (OnState ruling) result old new before after keeps is =

@@ -32,12 +32,11 @@ returns-in-Err-clause-files g c =
 pub invariant_of-self-in-Err : goal.invariant_of-self-in-Err
 invariant_of-self-in-Err g c =
     let workers = c.self.invariant in
-    let before : GoesOn c.args.self.now = (c.requires.goes_on, c.requires.unspent, c.requires.open) in
-    (
+    let before : GoesOn c.args.self.now = (c.requires.goes_on, c.requires.unspent, c.requires.open) in (
       λ goes_on.
-        subst GoesOn (sym c.self.view_is)
-        (stop_goes_on c.in-Err.stop c.args.self.now c.carry_out_line.new.self c.in-Err.ensures.leaves before
-        (sym c.ends_script-self-inside.ensures ∙ goes_on)),
+          subst GoesOn (sym c.self.view_is)
+          (stop_goes_on c.in-Err.stop c.args.self.now c.carry_out_line.new.self c.in-Err.ensures.leaves before
+          (sym c.ends_script-self-inside.ensures ∙ goes_on)),
       workers.1,
       workers.2,
     )
