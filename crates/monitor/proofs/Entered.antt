@@ -1,5 +1,5 @@
 -- What comes of a file that a command enters.
-use Rattle.std.proofs.Common.{◌≡◌, ℕ, ◌<◌, nat_lt, true, List, ◌∷◌, [], length, Option, Result, Ok, Err, Vec}
+use Rattle.std.proofs.Common.{◌≡◌, ℕ, ◌<◌, nat_lt, true, List, ◌∷◌, [], length, Ok, Err}
 use Rattle.std.proofs.Common.{String, string_bytes, refl, sym, ap, subst, arith}
 use Rattle.std.specs.FinMap.{get}
 use Rattle.std.specs.Global.{Global}
@@ -11,12 +11,10 @@ use Rattle.lab_io.specs.Held.{Held}
 use Rattle.lab_io.specs.Known.{grown}
 use Rattle.lab_io.specs.Whole.{IsTextRead, file_text}
 use Rattle.lab_io.proofs.Asking.{asks_all, asks_one}
-use Rattle.resc_vars.specs.declared.cause.ScriptCause.TheVariants.{Size, Utf8}
 use Rattle.resc_vars.specs.Bodies.{depth_limit, enter, source_of}
-use Rattle.monitor.specs.declared.fault.Cause.TheVariants.{Script}
 use Rattle.monitor.specs.declared.fault.ScriptFault.{ScriptFault}
 use Rattle.monitor.specs.declared.stop.Stop.{Stop}
-use Rattle.monitor.specs.declared.stop.Stop.TheVariants.{Quit, Line, File, Content, Unread, Memory}
+use Rattle.monitor.specs.declared.stop.Stop.TheVariants.{Store, Quit, Line, File, Content, Unread, Memory}
 use Rattle.monitor.specs.Answer.{Did, Faults, answer_at}
 use Rattle.monitor.specs.Bodies.{entered, include, include_text}
 use Rattle.monitor.specs.State.{State, Place}
@@ -27,6 +25,7 @@ file_carried :
     (did : Did) (place : Place) (fault : ScriptFault) (stop : Stop) (after : State) (log log' : Log) →
     did.answer ≡ Faults fault → log' ≡ grown log did.names → IsFileStop fault stop →
     IsCarried did place (Err stop) after log log'
+file_carried did place fault (Store store) after log log' answer asked is = absurd is
 file_carried did place fault Quit after log log' answer asked is = absurd is
 file_carried did place fault (Line cause) after log log' answer asked is = absurd is
 file_carried did place fault (File told) after log log' answer asked is = (rw is answer, asked)
@@ -62,8 +61,9 @@ module _ (held : Held) (s : State) (place : Place) (path : List ℕ) (room : len
   stops text_fault.Unread stop after read is = rw is (asks_one path log log' read)
   stops text_fault.TooLarge stop after read is = rw is (ap (include_text s place path) read.0, read.1)
   stops (text_fault.NotText line) stop after read is =
-      file_carried (record { names = path ∷ []; answer = include_text s place path (file_text (get held path)) }) place _
-      stop after log log' (ap (include_text s place path) read.0) read.1 is
+      let told = include_text s place path (file_text (get held path)) in
+      file_carried (record { names = path ∷ []; answer = told }) place _ stop after log log'
+      (ap (include_text s place path) read.0) read.1 is
   stops text_fault.Memory stop after read is = rw is read
 
   -- the text is not read

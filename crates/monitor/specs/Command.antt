@@ -1,5 +1,5 @@
 -- What the next command of a script does. The refusals of one command stand in its definition in their order.
-use Rattle.std.specs.Prelude.{ℕ, List, [], Result, Ok, Err}
+use Rattle.std.specs.Prelude.{[], Result, Ok, Err}
 use Rattle.lab_io.specs.Held.{Held}
 use Rattle.lab_state.specs.Run.{Play}
 use Rattle.resc_read.specs.declared.command.Command.{Command}
@@ -11,7 +11,7 @@ use Rattle.resc_vars.specs.declared.cause.ScriptCause.{ScriptCause}
 use Rattle.resc_vars.specs.declared.cause.ScriptCause.TheVariants.{Unknown, Arguments, Time}
 use Rattle.resc_vars.specs.Script.{Outcome, next_of}
 use Rattle.resc_vars.specs.Script as script
-use Rattle.monitor.specs.Answer.{Answer, Ends, Did, Done, leaves, refused, unread}
+use Rattle.monitor.specs.Answer.{Answer, Ends, Loads, Saves, Did, Done, leaves, refused, unread}
 use Rattle.monitor.specs.Bodies.{include, run_macro}
 use Rattle.monitor.specs.Boards.{create, select, load_platform, reset_board}
 use Rattle.monitor.specs.Hubs.{uart_hub, can_hub, connect, show}
@@ -21,10 +21,12 @@ use Rattle.monitor.specs.Processor.{pc, halted, mips}
 use Rattle.monitor.specs.Runs.{quantum, run_for, start}
 use Rattle.monitor.specs.State.{State, Place}
 
--- what a command is: one that reads files, one that changes the laboratory or the bodies alone, or one that ends
+-- what a command is: one that reads files, one that changes the laboratory or the bodies alone, one that is for the
+-- store, or one that ends
 pub data Work : Type 0 where
   OnFiles : (Held → Place → Did) → Work
   OnState : Result Done ScriptCause → Work
+  OnStore : (Place → Answer) → Work
   Quits : Work
 
 -- each command, and what it is
@@ -52,6 +54,8 @@ work play s (command.RunMacro name) = OnState (run_macro s name)
 work play s command.UsingSysbus = OnState (Ok (leaves s))
 work play s command.Pause = OnState (Ok (leaves s))
 work play s command.Start = OnState (start play s)
+work play s (command.Save path) = OnStore (λ place. Saves path place s)
+work play s (command.Load path) = OnStore (λ place. Loads path place s)
 work play s command.Quit = Quits
 
 -- no file is read
@@ -62,6 +66,7 @@ without_files answer = record { names = []; answer = answer }
 abbrev pub does : Held → Place → Work → Did
 does held place (OnFiles by) = by held place
 does held place (OnState ruling) = unread place ruling
+does held place (OnStore by) = without_files (by place)
 does held place Quits = without_files Ends
 
 -- the cause of a line that is no command

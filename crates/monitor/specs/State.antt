@@ -16,6 +16,26 @@ pub record State : Type 0 where
   pub until : ℕ
   pub dry : Bool
 
+-- what a script is without its laboratory
+pub record BodiesSeen : Type 0 where
+  pub flow : script.State
+  pub until : ℕ
+  pub dry : Bool
+
+abbrev pub bodies_of : State → BodiesSeen
+bodies_of s = record { flow = s.flow; until = s.until; dry = s.dry }
+
+-- a script that goes on with a laboratory and its open lines, and with no board selected
+abbrev pub joined : BodiesSeen → Lab → List OpenLine → State
+joined bodies lab lines = record {
+  flow = bodies.flow;
+  lab = lab;
+  selected = None;
+  lines = lines;
+  until = bodies.until;
+  dry = bodies.dry;
+}
+
 -- where a line stands: its file, and its number from 1 on
 pub record Place : Type 0 where
   pub file : List ℕ

@@ -1,13 +1,13 @@
 -- What one step of a monitor has done.
-use Rattle.std.specs.Prelude.{◌≡◌, ℕ, ◌<◌, ◌≤◌, Bool, true, false}
+use Rattle.std.specs.Prelude.{◌≡◌, ℕ, ◌<◌, ◌≤◌, Bool, true, false, List}
 use Rattle.lab_io.specs.Asked.{Log, AsksSome, AsksUpTo}
 use Rattle.lab_io.specs.Known.{grown}
 use Rattle.resc_vars.specs.Script.{Outcome, next_of}
 use Rattle.resc_vars.specs.Script as script
 use Rattle.monitor.specs.declared.step.Step.{Step}
-use Rattle.monitor.specs.declared.step.Step.TheVariants.{Text, End, Fault, Unread, Memory}
-use Rattle.monitor.specs.Answer.{Goes, Ends, Faults, Did}
-use Rattle.monitor.specs.State.{State}
+use Rattle.monitor.specs.declared.step.Step.TheVariants.{Text, Save, Load, End, Fault, Unread, Memory}
+use Rattle.monitor.specs.Answer.{Goes, Saves, Loads, Ends, Faults, Did}
+use Rattle.monitor.specs.State.{State, Place}
 
 -- a monitor, whether its laboratory is spent, and whether its script has ended
 pub record Running : Type 0 where
@@ -19,9 +19,17 @@ pub record Running : Type 0 where
 abbrev pub going : State → Running
 going s = record { state = s; spent = false; ended = false }
 
+-- the line of this number in a file
+abbrev pub line_in : List ℕ → ℕ → Place
+line_in file line = record { file = file; number = line }
+
 -- a step has done what a command does and has asked for the names that it reads, or was cut short
 abbrev pub IsStep : Did → Step → State → Log → Log → Type 0
 IsStep did (Text text) after log log' = (did.answer ≡ Goes text after) × (log' ≡ grown log did.names)
+IsStep did (Save name file line) after log log' =
+    (did.answer ≡ Saves name (line_in file line) after) × (log' ≡ grown log did.names)
+IsStep did (Load name file line) after log log' =
+    (did.answer ≡ Loads name (line_in file line) after) × (log' ≡ grown log did.names)
 IsStep did End after log log' = (did.answer ≡ Ends) × (log' ≡ grown log did.names)
 IsStep did (Fault fault) after log log' = (did.answer ≡ Faults fault) × (log' ≡ grown log did.names)
 IsStep did Unread after log log' = AsksUpTo did.names log log'
@@ -30,6 +38,8 @@ IsStep did Memory after log log' = AsksSome did.names log log'
 -- a step was cut short
 abbrev pub IsCut : Step → Type 0
 IsCut (Text text) = ⊥
+IsCut (Save name file line) = ⊥
+IsCut (Load name file line) = ⊥
 IsCut End = ⊥
 IsCut (Fault fault) = ⊥
 IsCut Unread = Unit {0}
@@ -52,17 +62,34 @@ pub record IsOver (old new : Running) : Type 0 where
   pub spent : new.spent ≡ false
   pub ended : new.ended ≡ true
 
--- a step that says something leaves a monitor that may go on, and no other does
+-- A command was taken that is for the store, and nothing else was done: the laboratory, the selected board, the open
+-- lines, the variables and the macros are as they were. The script goes on.
+pub record IsTaken (old new : Running) : Type 0 where
+  pub lab : new.state.lab ≡ old.state.lab
+  pub selected : new.state.selected ≡ old.state.selected
+  pub lines : new.state.lines ≡ old.state.lines
+  pub flow : IsLeft (next_of old.state.flow) new.state.flow
+  pub spent : new.spent ≡ false
+  pub ended : new.ended ≡ false
+
+-- a step that says something or is for the store leaves a monitor that may go on, and no other does
 abbrev pub IsNext : Step → Running → Running → Type 0
 IsNext (Text text) old new = (new.spent ≡ false) × (new.ended ≡ false)
+IsNext (Save name file line) old new = IsTaken old new
+IsNext (Load name file line) old new = IsTaken old new
 IsNext End old new = IsOver old new
 IsNext (Fault fault) old new = IsOver old new
 IsNext Unread old new = IsOver old new
 IsNext Memory old new = new.ended ≡ true
 
--- a step that says something has taken a command or more, and 100,000 are taken at most
+-- a step that says something or is for the store has taken a command or more, and 100,000 are taken at most
+abbrev pub TakesSome : State → State → Type 0
+TakesSome old new = (old.flow.kept.taken < new.flow.kept.taken) × (new.flow.kept.taken ≤ 100000)
+
 abbrev pub IsCounted : Step → State → State → Type 0
-IsCounted (Text text) old new = (old.flow.kept.taken < new.flow.kept.taken) × (new.flow.kept.taken ≤ 100000)
+IsCounted (Text text) old new = TakesSome old new
+IsCounted (Save name file line) old new = TakesSome old new
+IsCounted (Load name file line) old new = TakesSome old new
 IsCounted End old new = Unit {0}
 IsCounted (Fault fault) old new = Unit {0}
 IsCounted Unread old new = Unit {0}

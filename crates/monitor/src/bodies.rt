@@ -1,5 +1,5 @@
-//! Commands that enter a body.
-ghost use Rattle.std.specs.Prelude.{◌≡◌, ◌≤◌, length, false};
+//! The open bodies of a script, and the commands that enter one.
+ghost use Rattle.std.specs.Prelude.{◌≡◌, ◌≤◌, length, true, false};
 ghost use Rattle.std.specs.String.{string_bytes};
 ghost use Rattle.resc_vars.specs.Bodies.{enter, source_of};
 ghost use Rattle.monitor.specs.Bodies as bodies;
@@ -10,8 +10,32 @@ use crate::monitor::Monitor;
 use crate::stop::{Stop, file_stop};
 use dev_core::Device;
 use lab_io::{Files, TextFault, read_text};
-use resc_vars::ScriptCause;
+use lab_num::Micros;
+use resc_vars::{Flow, ScriptCause};
 use std::alloc::Global;
+use std::marker::Model;
+
+/// A script without its laboratory, between two of its commands: its open bodies, its variables and its
+/// macros, and how it is run.
+#[derive(Drop)]
+pub struct Bodies {
+    pub(crate) alloc: Global,
+    pub(crate) flow: Flow,
+    pub(crate) workers: u8,
+    pub(crate) until: Micros,
+    pub(crate) dry: bool,
+}
+
+impl Model for Bodies {
+    ghost use Rattle.std.specs.Prelude.{◌≤◌};
+    ghost use Rattle.monitor.specs.State.{BodiesSeen};
+
+    ghost Value = { BodiesSeen };
+
+    ghost view = { λ b. record { flow = b.flow; until = b.until.0; dry = b.dry } };
+
+    ghost invariant = { λ b. (1 ≤ b.workers) × (b.workers ≤ 8) };
+}
 
 /// How many bodies may be open beside the script.
 const DEPTH: u8 = 8;
@@ -34,6 +58,7 @@ impl<D: Device> Monitor<D> {
     /// Enters the body of a macro.
     pub(crate) fn run_macro(&mut self, name: &str) -> Result<Vec<u8>, Stop>
         requires unspent { self.old.spent ≡ false }
+        requires waits { self.old.ended ≡ true }
         requires goes_on { self.old.state.flow.ended ≡ false }
         ensures { IsRuled (bodies.run_macro self.old.state name.now) result self.old self.new }
     {
@@ -44,6 +69,7 @@ impl<D: Device> Monitor<D> {
     /// Enters a file.
     pub(crate) fn include<F: Files>(&mut self, files: &mut F, path: &str) -> Result<Vec<u8>, Stop>
         requires unspent { self.old.spent ≡ false }
+        requires waits { self.old.ended ≡ true }
         requires goes_on { self.old.state.flow.ended ≡ false }
         ensures { IsDone F.Files
             (λ held place. bodies.include held self.old.state place path.now)
@@ -61,6 +87,7 @@ impl<D: Device> Monitor<D> {
     /// Enters the text of a file.
     fn enter(&mut self, path: &str, text: String) -> Result<Vec<u8>, Stop>
         requires unspent { self.old.spent ≡ false }
+        requires waits { self.old.ended ≡ true }
         requires goes_on { self.old.state.flow.ended ≡ false }
         requires few { length (string_bytes text) ≤ 16777216 }
         ensures { IsRuled (bodies.entered self.old.state

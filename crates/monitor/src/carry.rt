@@ -1,5 +1,5 @@
 //! Each command is carried out.
-ghost use Rattle.std.specs.Prelude.{◌≡◌, false};
+ghost use Rattle.std.specs.Prelude.{◌≡◌, true, false};
 ghost use Rattle.lab_state.specs.Run.{run};
 ghost use Rattle.monitor.specs.Command.{work};
 ghost use Rattle.monitor.specs.Inner.Ruling.{IsWithin, IsWorked};
@@ -7,7 +7,7 @@ ghost use Rattle.monitor.specs.Inner.Ruling.{IsWithin, IsWorked};
 use crate::images::Format;
 use crate::load::Load;
 use crate::monitor::Monitor;
-use crate::stop::Stop;
+use crate::stop::{Stop, Storing};
 use dev_core::Device;
 use floor_run::Gate;
 use lab_io::Files;
@@ -42,6 +42,7 @@ impl<D: Device + Send> Monitor<D> {
         gate: &G,
     ) -> Result<Vec<u8>, Stop>
         requires unspent { self.old.spent ≡ false }
+        requires waits { self.old.ended ≡ true }
         requires goes_on { self.old.state.flow.ended ≡ false }
         requires within { IsWithin command }
         ensures { IsWorked F.Files (work run self.old.state command)
@@ -73,6 +74,10 @@ impl<D: Device + Send> Monitor<D> {
             Command::RunMacro { name } => self.run_macro(name.as_str()),
             Command::UsingSysbus | Command::Pause => Ok(Vec::new(self.alloc)),
             Command::Start => self.start(rt, gate),
+
+            // Those that are for the store.
+            Command::Save { path } => Err(Stop::Store(Storing::Save(path))),
+            Command::Load { path } => Err(Stop::Store(Storing::Load(path))),
 
             // The one that ends the script.
             Command::Quit => Err(Stop::Quit),

@@ -12,7 +12,7 @@ use std::fmt;
 /// Why a run is refused at a place in a file.
 #[derive(Clone, Copy, PartialEq, Eq, Debug)]
 pub enum Cause {
-    /// S1 to S19: by a line of a script, or as a file that is too large or no text.
+    /// S1 to S21: by a line of a script, or as a file that is too large or no text.
     Script(ScriptCause),
     /// P1 to P12: by what stands in a platform file.
     Plat(PlatCause),

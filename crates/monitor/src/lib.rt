@@ -18,6 +18,7 @@ mod setting;
 mod step;
 mod stop;
 
+pub use bodies::Bodies;
 pub use fault::{Cause, ScriptFault};
 pub use laws::an_image_is_loaded_as_its_map;
 pub use monitor::Monitor;

@@ -1,29 +1,31 @@
 //! A script and the laboratory that its commands work on.
 ghost use Rattle.std.specs.Prelude.{◌≡◌, ◌≤◌, ◌^◌, [], length, map, true, false, IfOk, IfSome};
-ghost use Rattle.std.specs.Prelude.{OnOk, OnErr};
+ghost use Rattle.std.specs.Prelude.{OnOk, OnErr, All};
 ghost use Rattle.std.specs.Option.{ForSome};
 ghost use Rattle.std.specs.String.{string_bytes};
 ghost use Rattle.dev_core.specs.Stock.{IsFull};
 ghost use Rattle.lab_io.specs.Frame.{OnlyReads};
 ghost use Rattle.lab_state.specs.Names.{names};
 ghost use Rattle.lab_state.specs.Run.{run};
+ghost use Rattle.lab_state.specs.Valid.{IsOpen, IsValid};
 ghost use Rattle.log_text.specs.Log.{rest};
 ghost use Rattle.resc_read.specs.Line.{line_of};
 ghost use Rattle.monitor.specs.Answer.{Misses};
 ghost use Rattle.monitor.specs.Command.{did, done_by};
-ghost use Rattle.monitor.specs.State.{started};
+ghost use Rattle.monitor.specs.State.{bodies_of, joined, started};
 ghost use Rattle.monitor.specs.Step.{going, IsStep, IsNext, IsCut, IsCounted};
 ghost use Rattle.monitor.specs.Inner.Ruling.{IsAfterLine, IsDone, step_of};
 
+use crate::bodies::Bodies;
 use crate::fault::{Cause, ScriptFault};
 use crate::setting::Setting;
 use crate::step::Step;
-use crate::stop::Stop;
+use crate::stop::{Stop, Storing};
 use dev_core::{Device, Stock};
 use floor_run::Gate;
 use lab_io::Files;
 use lab_num::{BoardNo, Micros, NoMemory, Rows, Text};
-use lab_state::Lab;
+use lab_state::{Lab, runs_keep_lines_open};
 use log_text::Lines;
 use resc_read::read_line;
 use resc_vars::{Flow, Next};
@@ -47,8 +49,9 @@ pub struct Monitor<D: Device> {
 }
 
 impl<D: Device> Model for Monitor<D> {
-    ghost use Rattle.std.specs.Prelude.{◌≡◌, ◌≤◌, false};
+    ghost use Rattle.std.specs.Prelude.{◌≡◌, ◌≤◌, false, All};
     ghost use Rattle.std.specs.Option.{option_map};
+    ghost use Rattle.lab_state.specs.Valid.{IsOpen};
     ghost use Rattle.monitor.specs.Step.{Running};
 
     ghost Value = { Running };
@@ -66,8 +69,8 @@ impl<D: Device> Model for Monitor<D> {
       ended = m.ended;
     } };
 
-    ghost invariant = { λ m. (m.ended ≡ false → m.flow.ended ≡ false)
-        × (1 ≤ m.workers) × (m.workers ≤ 8) };
+    ghost invariant = { λ m. (m.ended ≡ false → (m.flow.ended ≡ false) × (m.lab.spent ≡ false)
+        × All (IsOpen m.lab.lab) m.lines) × (1 ≤ m.workers) × (m.workers ≤ 8) };
 }
 
 impl<D: Device> Monitor<D> {
@@ -103,6 +106,75 @@ impl<D: Device> Monitor<D> {
         })
     }
 
+    /// The laboratory. Until the script has ended it and the open lines can go on.
+    pub fn lab(&self) -> &Lab<D>
+        ensures lab { result.now ≡ record { lab = self.now.state.lab; spent = self.now.spent } }
+        ensures unspent { self.now.ended ≡ false → self.now.spent ≡ false }
+        ensures valid { self.now.ended ≡ false → IsValid self.now.state.lab self.now.state.lines }
+    {
+        self.may_go_on();
+        &self.lab
+    }
+
+    /// The open lines of the log.
+    pub fn lines(&self) -> &Lines
+        ensures { result.now ≡ self.now.state.lines }
+    {
+        &self.lines
+    }
+
+    /// Of a monitor whose script has not ended the laboratory and the open lines can go on. This changes nothing.
+    fn may_go_on(&self)
+        ensures unspent { self.now.ended ≡ false → self.now.spent ≡ false }
+        ensures valid { self.now.ended ≡ false → IsValid self.now.state.lab self.now.state.lines }
+    {
+        if !self.ended {
+            self.lab.is_one_that_can_be();
+            let _lines = self.lines.unended();
+        }
+    }
+
+    /// Takes the monitor apart: the script, the laboratory and the open lines of its log.
+    pub fn split(self) -> (Bodies, Lab<D>, Lines)
+        ensures bodies { result.0 ≡ bodies_of self.state }
+        ensures lab { result.1 ≡ record { lab = self.state.lab; spent = self.spent } }
+        ensures lines { result.2 ≡ self.state.lines }
+        ensures goes_on { self.ended ≡ false → self.state.flow.ended ≡ false }
+        ensures unspent { self.ended ≡ false → self.spent ≡ false }
+        ensures valid { self.ended ≡ false → IsValid self.state.lab self.state.lines }
+    {
+        self.may_go_on();
+        let bodies = Bodies {
+            alloc: self.alloc,
+            flow: self.flow,
+            workers: self.workers,
+            until: self.until,
+            dry: self.dry,
+        };
+        (bodies, self.lab, self.lines)
+    }
+
+    /// A monitor that goes on with the script in this laboratory, of whose log these lines are open. No board is
+    /// selected.
+    pub fn join(bodies: Bodies, lab: Lab<D>, lines: Lines) -> Monitor<D>
+        requires goes_on { bodies.flow.ended ≡ false }
+        requires unspent { lab.spent ≡ false }
+        requires valid { IsValid lab.lab lines }
+        ensures { result ≡ going (joined bodies lab.lab lines) }
+    {
+        Monitor {
+            alloc: bodies.alloc,
+            flow: bodies.flow,
+            lab,
+            selected: None,
+            lines,
+            workers: bodies.workers,
+            until: bodies.until,
+            dry: bodies.dry,
+            ended: false,
+        }
+    }
+
     /// What is printed of the lines that are open where the script ends. None is open afterwards.
     pub fn rest(&mut self) -> Result<Vec<u8>, NoMemory>
         requires { self.old.spent ≡ false }
@@ -119,16 +191,15 @@ impl<D: Device> Monitor<D> {
 
 impl<D: Device + Send> Monitor<D> {
     /// Carries out the next command of the script. Files that it names are read from `files`. Any
-    /// answer but `Text` ends the script. Where several workers run several boards, each enters the gate
-    /// before each turn.
+    /// answer but `Text`, `Save` and `Load` ends the script. Where several workers run several boards,
+    /// each enters the gate before each turn.
     pub fn step<R: Threads + Wait + Copy + Send + Sync, F: Files, G: Gate>(
         &mut self,
         rt: &R,
         files: &mut F,
         gate: &G,
     ) -> Step
-        requires goes_on { self.old.ended ≡ false }
-        requires unspent { self.old.spent ≡ false }
+        requires { self.old.ended ≡ false }
 
         // It has done what its definition says and has asked for just its names, or was cut short by
         // a read or for want of memory, and has asked for the first of them.
@@ -140,11 +211,12 @@ impl<D: Device + Send> Monitor<D> {
         ensures absent { IfSome (F.held files.old) (λ held.
             (did run held self.old.state).answer ≡ Misses → IsCut result) }
 
-        // Any answer but a text ends it. Of these, all but want of memory leave the laboratory, what is
-        // open of its log, the variables and the macros as they were, and none of them spends it.
+        // Any answer but a text and what is for the store ends it. Every answer but a text and want of
+        // memory leaves the laboratory, what is open of its log, the variables and the macros as they
+        // were, and does not spend it.
         ensures next { IsNext result self.old self.new }
 
-        // A step that says something takes a command or more, of 100,000.
+        // A step that says something or is for the store takes a command or more, of 100,000.
         ensures counted { IsCounted result self.old.state self.new.state }
 
         // Of files it only reads, and only a fault that was counted makes it unread.
@@ -161,7 +233,7 @@ impl<D: Device + Send> Monitor<D> {
         }
     }
 
-    /// Does what a line asks for. The script goes on where it says something.
+    /// Does what a line asks for. The script goes on where it says something or is for the store.
     fn take_line<R: Threads + Wait + Copy + Send + Sync, F: Files, G: Gate>(
         &mut self,
         rt: &R,
@@ -174,6 +246,7 @@ impl<D: Device + Send> Monitor<D> {
         requires goes_on { self.old.state.flow.ended ≡ false }
         requires unspent { self.old.spent ≡ false }
         requires waits { self.old.ended ≡ true }
+        requires open { All (IsOpen self.old.state.lab) self.old.state.lines }
         ensures step { ForSome (F.held files.old) (λ held. IsStep
             (done_by run held self.old.state (record { file = file; number = line }) (line_of text.now))
             result self.new.state (F.asked files.old) (F.asked files.new)) }
@@ -185,7 +258,10 @@ impl<D: Device + Send> Monitor<D> {
                 self.ended = false;
                 Step::Text(Rows::of(text))
             }
-            Err(stop) => stopped(file, line, stop),
+            Err(stop) => {
+                self.ended = stop.ends_script();
+                stopped(file, line, stop)
+            }
         }
     }
 
@@ -199,10 +275,12 @@ impl<D: Device + Send> Monitor<D> {
     ) -> Result<Vec<u8>, Stop>
         requires goes_on { self.old.state.flow.ended ≡ false }
         requires unspent { self.old.spent ≡ false }
+        requires waits { self.old.ended ≡ true }
         ensures { IsDone F.Files
             (λ held place. done_by run held self.old.state place (line_of text.now))
             result self.old self.new files.old files.new }
     {
+        runs_keep_lines_open(&self.lab);
         let command = read_line(self.alloc, text)?;
         self.carry_out(rt, files, command, gate)
     }
@@ -215,11 +293,13 @@ fn fault_at(file: Text, line: u32, cause: Cause) -> Step
     Step::Fault(ScriptFault { file, line, cause })
 }
 
-/// What a step answers at a line after which the script does not go on.
+/// What a step answers at a line after which the monitor does not go on.
 fn stopped(file: Text, line: u32, stop: Stop) -> Step
     ensures { result ≡ step_of (record { file = file; number = line }) stop }
 {
     match stop {
+        Stop::Store(Storing::Save(name)) => Step::Save { name, file, line },
+        Stop::Store(Storing::Load(name)) => Step::Load { name, file, line },
         Stop::Quit => Step::End,
         Stop::Line(cause) => fault_at(file, line, Cause::Script(cause)),
         Stop::File(fault) => Step::Fault(fault),

@@ -1,6 +1,6 @@
-//! Why a script does not go on after a command.
+//! Why the monitor does not go on after a command.
 ghost use Rattle.std.specs.Prelude.{◌≡◌};
-ghost use Rattle.monitor.specs.Inner.Ruling.{IsFileStop};
+ghost use Rattle.monitor.specs.Inner.Ruling.{IsFileStop, ends_script};
 
 use crate::fault::{Cause, ScriptFault};
 use lab_io::ReadFault;
@@ -8,10 +8,19 @@ use lab_num::{NoMemory, Text};
 use resc_vars::{FlowFault, ScriptCause};
 use std::alloc::{AllocError, AllocFailed, Global};
 
-/// Why a script does not go on after a command.
+/// What is asked of the store, under a name.
+#[derive(Drop, Debug)]
+pub(crate) enum Storing {
+    Save(Text),
+    Load(Text),
+}
+
+/// Why the monitor does not go on after a command.
 #[derive(Drop, Debug)]
 pub(crate) enum Stop {
-    /// The command ends it.
+    /// The command is for the store, and then the script goes on.
+    Store(Storing),
+    /// The command ends the script.
     Quit,
     /// The line is refused.
     Line(ScriptCause),
@@ -23,6 +32,15 @@ pub(crate) enum Stop {
     Unread,
     /// Memory ran out.
     Memory,
+}
+
+impl Stop {
+    /// Whether the script ends.
+    pub(crate) fn ends_script(&self) -> bool
+        ensures { result ≡ ends_script self.now }
+    {
+        !matches!(self, Stop::Store(_))
+    }
 }
 
 impl From<ScriptCause> for Stop {

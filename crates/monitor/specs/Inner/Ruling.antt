@@ -1,6 +1,6 @@
 -- What the part of a step that carries out a command has done.
-use Rattle.std.specs.Prelude.{◌≡◌, ℕ, ◌<◌, ◌≤◌, true, false, List, length, Option, Some, Result, Ok, Err, Vec}
-use Rattle.std.specs.Prelude.{IfSome, IsSome, IsTrue}
+use Rattle.std.specs.Prelude.{◌≡◌, ℕ, ◌<◌, ◌≤◌, true, false, List, length, Some, Result, Ok, Err, Vec}
+use Rattle.std.specs.Prelude.{All, Bool, IfOk, IfSome, IsSome, IsTrue}
 use Rattle.std.specs.Global.{Global}
 use Rattle.std.specs.Option.{ForSome}
 use Rattle.lab_io.specs.declared.files.Files.{Ghosts}
@@ -29,6 +29,7 @@ use Rattle.lab_state.specs.declared.faults.RunFault.{RunFault}
 use Rattle.lab_state.specs.declared.faults.RunFault.TheVariants as run_fault
 use Rattle.lab_state.specs.Lab.{Lab}
 use Rattle.lab_state.specs.One.{changed, kind_at, view_of}
+use Rattle.lab_state.specs.Valid.{IsOpen}
 use Rattle.elf_load.specs.declared.image.Image.{Image}
 use Rattle.repl_build.specs.Plan.{built}
 use Rattle.repl_files.specs.declared.fault.LoadFault.{LoadFault}
@@ -52,10 +53,12 @@ use Rattle.monitor.specs.declared.load.Load.TheVariants as load
 use Rattle.monitor.specs.declared.step.Step.{Step}
 use Rattle.monitor.specs.declared.step.Step.TheVariants as step
 use Rattle.monitor.specs.declared.stop.Stop.{Stop}
-use Rattle.monitor.specs.declared.stop.Stop.TheVariants.{Quit, Line, File, Content, Unread, Memory}
-use Rattle.monitor.specs.Answer.{Answer, Goes, Ends, Faults, Did, Done, answer_at, fault_at, told_at}
+use Rattle.monitor.specs.declared.stop.Storing.{Storing}
+use Rattle.monitor.specs.declared.stop.Storing.TheVariants as storing
+use Rattle.monitor.specs.declared.stop.Stop.TheVariants.{Store, Quit, Line, File, Content, Unread, Memory}
+use Rattle.monitor.specs.Answer.{Answer, Goes, Saves, Loads, Ends, Faults, Did, Done, answer_at, fault_at, told_at}
 use Rattle.monitor.specs.Boards.{equip, file_fault}
-use Rattle.monitor.specs.Command.{Work, OnFiles, OnState, Quits}
+use Rattle.monitor.specs.Command.{Work, OnFiles, OnState, OnStore, Quits}
 use Rattle.monitor.specs.Images.{elf_image, hex_image, load_read}
 use Rattle.monitor.specs.Memory.{write_bytes}
 use Rattle.monitor.specs.Selected.{Equipped}
@@ -113,6 +116,7 @@ pub record IsSpeaker (lab : Lab) (b : ℕ) (m : Member) : Type 0 where
 
 -- a script stops at this place of a file, or memory ran out
 abbrev pub IsFileStop : ScriptFault → Stop → Type 0
+IsFileStop fault (Store asked) = ⊥
 IsFileStop fault Quit = ⊥
 IsFileStop fault (Line cause) = ⊥
 IsFileStop fault (File told) = told ≡ fault
@@ -154,6 +158,7 @@ loaded_by (load.Bytes at) s place on bytes = answer_at place (write_bytes s on a
 -- a file was read as the image that its bytes mean, or is refused for their fault, or memory ran out
 abbrev pub IsImage : Result Image Cause → Result Image Stop → Type 0
 IsImage meant (Ok image) = meant ≡ Ok image
+IsImage meant (Err (Store asked)) = ⊥
 IsImage meant (Err Quit) = ⊥
 IsImage meant (Err (Line cause)) = ⊥
 IsImage meant (Err (File fault)) = ⊥
@@ -168,6 +173,7 @@ IsChanged b f old new = new ≡ record old { state = record old.state { lab = ch
 -- a plan was built of entries, or is refused in the file that the fault names, or memory ran out
 abbrev pub IsPlan : Loaded → Result BoardPlan Stop → Type 0
 IsPlan loaded (Ok plan) = built loaded.entries.items ≡ Ok plan
+IsPlan loaded (Err (Store asked)) = ⊥
 IsPlan loaded (Err Quit) = ⊥
 IsPlan loaded (Err (Line cause)) = ⊥
 IsPlan loaded (Err (File fault)) =
@@ -175,6 +181,10 @@ IsPlan loaded (Err (File fault)) =
 IsPlan loaded (Err (Content cause)) = ⊥
 IsPlan loaded (Err Unread) = ⊥
 IsPlan loaded (Err Memory) = Unit {0}
+
+-- the lines that are open stay those of shown UARTs
+abbrev pub KeepsOpen : State → State → Type 0
+KeepsOpen old new = All (IsOpen old.lab) old.lines → All (IsOpen new.lab) new.lines
 
 -- a monitor that goes on as it did
 pub record IsOnward (old new : Running) : Type 0 where
@@ -187,6 +197,7 @@ pub record IsOnward (old new : Running) : Type 0 where
 abbrev pub IsRuled : Result Done ScriptCause → Result (Vec ℕ Global) Stop → Running → Running → Type 0
 IsRuled ruling (Ok text) old new =
     (ruling ≡ Ok (record { text = text.items; state = new.state })) × IsOnward old new
+IsRuled ruling (Err (Store asked)) old new = ⊥
 IsRuled ruling (Err Quit) old new = ⊥
 IsRuled ruling (Err (Line cause)) old new = (ruling ≡ Err cause) × (new ≡ old)
 IsRuled ruling (Err (File fault)) old new = ⊥
@@ -194,9 +205,15 @@ IsRuled ruling (Err (Content cause)) old new = ⊥
 IsRuled ruling (Err Unread) old new = ⊥
 IsRuled ruling (Err Memory) old new = new.ended ≡ old.ended
 
+-- how a command is answered that is for the store
+abbrev pub asks_store : Storing → Place → State → Answer
+asks_store (storing.Save name) place s = Saves name place s
+asks_store (storing.Load name) place s = Loads name place s
+
 -- a command is answered so, or memory ran out
 abbrev pub IsTold : Place → Answer → Result (Vec ℕ Global) Stop → State → Type 0
 IsTold place answer (Ok text) after = answer ≡ Goes text.items after
+IsTold place answer (Err (Store asked)) after = answer ≡ asks_store asked place after
 IsTold place answer (Err Quit) after = answer ≡ Ends
 IsTold place answer (Err (Line cause)) after = answer ≡ Faults (fault_at place cause)
 IsTold place answer (Err (File fault)) after = answer ≡ Faults fault
@@ -207,6 +224,8 @@ IsTold place answer (Err Memory) after = Unit {0}
 -- a command was carried out or refused as it is and has asked for the names that it reads, or was cut short
 abbrev pub IsCarried : Did → Place → Result (Vec ℕ Global) Stop → State → Log → Log → Type 0
 IsCarried did place (Ok text) after log log' = (did.answer ≡ Goes text.items after) × (log' ≡ grown log did.names)
+IsCarried did place (Err (Store asked)) after log log' =
+    (did.answer ≡ asks_store asked place after) × (log' ≡ grown log did.names)
 IsCarried did place (Err Quit) after log log' = (did.answer ≡ Ends) × (log' ≡ grown log did.names)
 IsCarried did place (Err (Line cause)) after log log' =
     (did.answer ≡ Faults (fault_at place cause)) × (log' ≡ grown log did.names)
@@ -219,6 +238,7 @@ IsCarried did place (Err Memory) after log log' = AsksSome did.names log log'
 -- a command that stops the script changes nothing, but where memory ran out
 abbrev pub Leaves : Result (Vec ℕ Global) Stop → Running → Running → Type 0
 Leaves (Ok text) old new = IsOnward old new
+Leaves (Err (Store asked)) old new = new ≡ old
 Leaves (Err Quit) old new = new ≡ old
 Leaves (Err (Line cause)) old new = new ≡ old
 Leaves (Err (File fault)) old new = new ≡ old
@@ -227,24 +247,35 @@ Leaves (Err Unread) old new = new ≡ old
 Leaves (Err Memory) old new = new.ended ≡ old.ended
 
 -- What a command has done: it is answered as it should be and asked for the names that it reads, or was cut short; if
--- it stops the script it has changed nothing, unless memory ran out; and of files it has only read.
+-- it stops the monitor it has changed nothing, unless memory ran out, and else it keeps the lines that are open,
+-- whatever is told of the files; and of files it has only read.
 pub record IsDone
     {F : Type 0} (files : Ghosts F) (by : Held → Place → Did) (result : Result (Vec ℕ Global) Stop) (old new : Running)
     (before after : F) : Type 0 where
   pub carried : (place : Place) → ForSome (files.held before)
       (λ held. IsCarried (by held place) place result new.state (files.asked before) (files.asked after))
   pub leaves : Leaves result old new
+  pub open_lines : IfOk result (λ text. KeepsOpen old.state new.state)
   pub reads : OnlyReads files (result ≡ Err Unread) before after
+
+-- a command that is for the store stops the monitor, which asks for what its answer says
+pub record IsForStore (by : Place → Answer) (result : Result (Vec ℕ Global) Stop) (old : Running) : Type 0 where
+  pub asked : Storing
+  pub stop : result ≡ Err (Store asked)
+  pub answer : (place : Place) → by place ≡ asks_store asked place old.state
 
 -- the same of each sort of command
 abbrev pub IsWorked :
     {F : Type 0} → Ghosts F → Work → Result (Vec ℕ Global) Stop → Running → Running → F → F → Type 0
 IsWorked files (OnFiles by) result old new before after = IsDone files by result old new before after
 IsWorked files (OnState ruling) result old new before after = IsRuled ruling result old new × (after ≡ before)
+IsWorked files (OnStore by) result old new before after = IsForStore by result old × (new ≡ old) × (after ≡ before)
 IsWorked files Quits result old new before after = (result ≡ Err Quit) × (new ≡ old) × (after ≡ before)
 
--- what a step answers at a line after which the script does not go on
+-- what a step answers at a line after which the monitor does not go on
 abbrev pub step_of : Place → Stop → Step
+step_of place (Store (storing.Save name)) = step.Save name place.file place.number
+step_of place (Store (storing.Load name)) = step.Load name place.file place.number
 step_of place Quit = step.End
 step_of place (Line cause) = step.Fault (fault_at place cause)
 step_of place (File fault) = step.Fault fault
@@ -252,10 +283,22 @@ step_of place (Content cause) = step.Fault (told_at place cause)
 step_of place Unread = step.Unread
 step_of place Memory = step.Memory
 
--- a line that says something lets the script go on, and no other does
+-- whether a script ends where the monitor stops so
+abbrev pub ends_script : Stop → Bool
+ends_script (Store asked) = false
+ends_script Quit = true
+ends_script (Line cause) = true
+ends_script (File fault) = true
+ends_script (Content cause) = true
+ends_script Unread = true
+ends_script Memory = true
+
+-- a line that says something or is for the store lets the script go on, and no other does
 abbrev pub IsAfterLine : Step → Running → Running → Type 0
 IsAfterLine (step.Text text) old new =
     (new.spent ≡ false) × (new.ended ≡ false) × (new.state.flow.kept ≡ old.state.flow.kept)
+IsAfterLine (step.Save name file line) old new = new ≡ record old { ended = false }
+IsAfterLine (step.Load name file line) old new = new ≡ record old { ended = false }
 IsAfterLine step.End old new = new ≡ old
 IsAfterLine (step.Fault fault) old new = new ≡ old
 IsAfterLine step.Unread old new = new ≡ old
