@@ -6,6 +6,4 @@ mod lines;
 #[cfg(test)]
 mod scripts;
 #[cfg(test)]
-mod steps;
-#[cfg(test)]
 mod words;
