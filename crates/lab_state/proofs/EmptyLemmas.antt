@@ -1,11 +1,11 @@
 -- Rounds of a laboratory without boards, in which nothing waits: only time goes on.
-use Rattle.std.proofs.Common.{◌≡◌, ◌∙◌, sym, ap, refl, ℕ, ◌+◌, List, [], ◌∷◌, fold, None, add-zero, arith}
+use Rattle.std.proofs.Common.{◌≡◌, ◌∙◌, sym, ap, refl, ℕ, ◌+◌, List, [], ◌∷◌, fold, add-zero, arith}
 use Rattle.std.specs.Prelude.{sum}
 use Rattle.std.proofs.lemmas.List.Sums.{sum_by-cons}
 use Rattle.lab_num.specs.Listing.{listing}
 use Rattle.lab_state.specs.Boundary.{boundary}
 use Rattle.lab_state.specs.Lab.{Lab}
-use Rattle.lab_state.specs.Round.{Rounded, round_by, round}
+use Rattle.lab_state.specs.Round.{round_by, round}
 use Rattle.lab_state.specs.Run.{lengths, go_on, still, run_by, run}
 use Rattle.lab_state.proofs.RunLemmas.{sum-lengths}
 

@@ -1,5 +1,5 @@
 -- Where no board stands and nothing waits, rounds of any length come to the run.
-use Rattle.std.proofs.Common.{◌≡◌, ℕ, length, refl, arith}
+use Rattle.std.proofs.Common.{◌≡◌, length, refl, arith}
 use Rattle.std.proofs.lemmas.Bool.Decides.{nat_tests}
 use Rattle.std.proofs.lemmas.List.{nil_from_length}
 use Rattle.lab_state.specs.Lab.{Lab}

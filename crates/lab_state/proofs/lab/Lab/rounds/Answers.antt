@@ -1,5 +1,5 @@
 -- A run is its rounds one after another.
-use Rattle.std.proofs.Common.{◌≡◌, ◌∙◌, sym, ap, refl, ◌+◌, ◌<◌, min, fold, arith}
+use Rattle.std.proofs.Common.{◌≡◌, ◌∙◌, sym, ap, ◌+◌, fold, arith}
 use Rattle.lab_state.specs.Round.{Rounded, round}
 use Rattle.lab_state.specs.Run.{go_on, lengths, run, run_by}
 use Rattle.lab_state.proofs.RunLemmas.{none_left, after_pause, round_time, one_round_more}
