@@ -1,7 +1,7 @@
 -- Rounds one after another.
-use Rattle.std.proofs.Common.{◌≡◌, ◌∙◌, sym, ap, refl, eq-eqb, Bool, true, false, ℕ, ◌+◌, ◌-◌, ◌*◌, ◌/◌, ◌%◌, ◌<◌, ◌==◌, inl}
+use Rattle.std.proofs.Common.{◌≡◌, ◌∙◌, sym, ap, refl, eq-eqb, Bool, true, false, ℕ, ◌+◌, ◌-◌, ◌*◌, ◌/◌, ◌%◌, ◌<◌, inl}
 use Rattle.std.proofs.Common.{inr, List, [], ◌∷◌, ◌++◌, length, take, fold, None, add-one, append_assoc, subst}
-use Rattle.std.proofs.Common.{add-zero, arith}
+use Rattle.std.proofs.Common.{◌==◌, add-zero, arith}
 use Rattle.std.specs.Prelude.{if◌then◌else◌, filter, min, is_some, IsSome, Option, Some, sum, replicate}
 use Rattle.std.proofs.lemmas.Bool.{cases_lt}
 use Rattle.std.proofs.lemmas.Bool.Decides.{nat_tests}

@@ -43,7 +43,8 @@ returns g c =
           ∙ c.rounds.invariant.come
       | else-rounds-test w ↦
           let zero : c.rounds.left ≡ 0 = omega (arith, w.rounds-test.false) in
-          sym (ap (fold (go_on round) end) (ap (lengths q) zero ∙ none_left q c.longest_round-longest.ensures.some)) ∙ c.rounds.invariant.come
+          sym (ap (fold (go_on round) end) (ap (lengths q) zero ∙ none_left q c.longest_round-longest.ensures.some))
+          ∙ c.rounds.invariant.come
     ] in
     record {
       lab = λ i. record { lab = (is i).lab; spent = c.rounds.invariant.unspent i };
