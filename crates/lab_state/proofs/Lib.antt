@@ -11,6 +11,7 @@ pub mod TimeLemmas
 pub mod LendLemmas
 pub mod RoundLemmas
 pub mod RunLemmas
+pub mod EmptyLemmas
 pub mod SentLemmas
 pub mod FaultLemmas
 pub mod HandedLemmas

@@ -1,12 +1,14 @@
 -- Rounds one after another.
 use Rattle.std.proofs.Common.{◌≡◌, ◌∙◌, sym, ap, refl, eq-eqb, Bool, true, false, ℕ, ◌+◌, ◌-◌, ◌*◌, ◌/◌, ◌%◌, ◌<◌, inl}
 use Rattle.std.proofs.Common.{inr, List, [], ◌∷◌, ◌++◌, length, take, fold, None, add-one, append_assoc, subst}
-use Rattle.std.proofs.Common.{arith}
-use Rattle.std.specs.Prelude.{if◌then◌else◌, filter, min, is_some, IsSome, Option, Some}
+use Rattle.std.proofs.Common.{◌==◌, add-zero, arith}
+use Rattle.std.specs.Prelude.{if◌then◌else◌, filter, min, is_some, IsSome, Option, Some, sum, replicate}
 use Rattle.std.proofs.lemmas.Bool.{cases_lt}
 use Rattle.std.proofs.lemmas.Bool.Decides.{nat_tests}
 use Rattle.std.proofs.lemmas.List.{append-nil, replicate-append-replicate}
-use Rattle.std.proofs.lemmas.List.Sums.{fold-append}
+use Rattle.std.proofs.lemmas.List.Folds.{sum_by-replicate}
+use Rattle.std.proofs.lemmas.List.Sums.{fold-append, sum_by-append, sum_by-cons}
+use Rattle.std.proofs.lemmas.Nat.{div-add-mod'}
 use Rattle.std.proofs.Math.Nat.{mul-add-mod_self_left, mul-add-div, div-add-mod, div-eq_of_lt, mod-eq_of_lt}
 use Rattle.std.proofs.Math.Nat.{add-div_left, add-mod_left}
 use Rattle.std.specs.List.Sorted.{IsPermutation}
@@ -81,6 +83,27 @@ runs-join lab d e some whole unpaused =
     (sym (same_quantum (still lab) (lengths lab.quantum d)))
 
 -- ---- a run round by round
+
+-- the rounds of a run are as long as it
+sum-rest : (n : ℕ) → sum (rest_of n) ≡ n
+sum-rest n = by_test (n == 0) refl
+  where
+    by_test : (b : Bool) → (n == 0) ≡ b → sum (if b then [] else n ∷ []) ≡ n
+    by_test true is =
+        let none : n ≡ 0 = grind (arith, nat_tests) in
+        sym none
+    by_test false is = sum_by-cons (λ (x : ℕ). x) n [] ∙ add-zero n
+
+pub sum-lengths : (q d : ℕ) → sum (lengths q d) ≡ d
+sum-lengths q d =
+    let whole = sum_by-replicate (λ (x : ℕ). x) (d / q) q in
+    omega (
+      arith,
+      sum_by-append (λ (x : ℕ). x) (replicate (d / q) q) (rest_of (d % q)),
+      whole,
+      sum-rest (d % q),
+      div-add-mod' d q,
+    )
 
 -- a run of no length
 pub none_left : (q : ℕ) → 0 < q → lengths q 0 ≡ []

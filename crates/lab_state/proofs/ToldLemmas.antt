@@ -1,17 +1,15 @@
 -- What runs tell the log of bytes they tell of UARTs that were shown when they began, and these stay so.
-use Rattle.std.proofs.Common.{◌≡◌, ◌∙◌, sym, ap, subst, refl, ℕ, zero, suc, ◌+◌, ◌*◌, ◌<◌, ◌≤◌, ◌/◌, ◌%◌, ◌==◌, arith}
+use Rattle.std.proofs.Common.{◌≡◌, ◌∙◌, sym, ap, subst, refl, ℕ, zero, suc, ◌+◌, ◌*◌, ◌<◌, ◌≤◌, arith}
 use Rattle.std.proofs.Common.{Bool, true, false, ◌&&◌, List, [], ◌∷◌, ◌++◌, length, map, fold, find, get_or, slice_get}
-use Rattle.std.proofs.Common.{Option, None, Some, add-zero}
-use Rattle.std.specs.Prelude.{if◌then◌else◌, nat_lt, is_some, sum, replicate, IsTrue}
+use Rattle.std.proofs.Common.{Option, None, Some}
+use Rattle.std.specs.Prelude.{if◌then◌else◌, nat_lt, is_some, sum, IsTrue}
 use Rattle.std.specs.List.{All, flat_map}
 use Rattle.std.specs.Option.{option_map, option_map_or, option_to_list}
 use Rattle.std.proofs.Math.ListN.{get_or-map}
-use Rattle.std.proofs.lemmas.Nat.{div-add-mod'}
 use Rattle.std.proofs.lemmas.Bool.Decides.{nat_tests}
 use Rattle.std.proofs.Math.Seq.{map-set_same}
 use Rattle.std.proofs.lemmas.List.Elements.{All-nil, All-cons, All-append, All-map, All-weaker}
-use Rattle.std.proofs.lemmas.List.Folds.{sum_by-replicate}
-use Rattle.std.proofs.lemmas.List.Sums.{sum_by-append, sum_by-cons}
+use Rattle.std.proofs.lemmas.List.Sums.{sum_by-cons}
 use Rattle.lab_num.specs.declared.key.Member.{Member}
 use Rattle.lab_num.specs.declared.number.Micros.{Micros}
 use Rattle.lab_num.specs.Listing.{listing}
@@ -48,12 +46,13 @@ use Rattle.lab_state.specs.One.{view_at, with_view}
 use Rattle.lab_state.specs.Pending.{finish_of, is_finish}
 use Rattle.lab_state.specs.Round.{Rounded, stepped, entries_made, item_of, slot_items, pause_items}
 use Rattle.lab_state.specs.Round.{round_by, round}
-use Rattle.lab_state.specs.Run.{rest_of, lengths, followed_by, go_on, still, run_by, run}
+use Rattle.lab_state.specs.Run.{lengths, followed_by, go_on, still, run_by, run}
 use Rattle.lab_state.specs.Valid.{is_shown_uart, is_shown_before, IsOpen}
 use Rattle.lab_state.specs.Inner.End.{in_round}
 use Rattle.lab_state.specs.Inner.Time.{numbers_of, AreStanding}
 use Rattle.lab_state.proofs.ListLemmas.{map-map_same, All-unmap, All-listing, each_made, numbers_at}
 use Rattle.lab_state.proofs.RoundLemmas.{Numbering, numbered, standing, map-routes, numbers-routes, slot_within}
+use Rattle.lab_state.proofs.RunLemmas.{sum-lengths}
 use Rattle.lab_state.proofs.SentLemmas.{IsBelow, keys_below}
 
 -- ---- which devices are shown UARTs
@@ -215,27 +214,6 @@ LineOpening =
 
 uart_shown : (v : View) (dev : ℕ) → IsShown v Uart dev → is_shown_uart v dev ≡ true
 uart_shown v dev is = rw (is.shown, is.kind) refl
-
--- the rounds of a run are as long as it
-sum-rest : (n : ℕ) → sum (rest_of n) ≡ n
-sum-rest n = by_test (n == 0) refl
-  where
-    by_test : (b : Bool) → (n == 0) ≡ b → sum (if b then [] else n ∷ []) ≡ n
-    by_test true is =
-        let none : n ≡ 0 = grind (arith, nat_tests) in
-        sym none
-    by_test false is = sum_by-cons (λ (x : ℕ). x) n [] ∙ add-zero n
-
-sum-lengths : (q d : ℕ) → sum (lengths q d) ≡ d
-sum-lengths q d =
-    let whole = sum_by-replicate (λ (x : ℕ). x) (d / q) q in
-    omega (
-      arith,
-      sum_by-append (λ (x : ℕ). x) (replicate (d / q) q) (rest_of (d % q)),
-      whole,
-      sum-rest (d % q),
-      div-add-mod' d q,
-    )
 
 module _ (number : Numbering) (time : EntryTiming) (tell : Telling) (kinds : KindKeeping) (shown : ShownKeeping) where
   module _ (from q : ℕ) (within : from + q ≤ 10000000000) (boards : List Board)

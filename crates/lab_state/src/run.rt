@@ -1,9 +1,10 @@
 //! Runs: rounds of one quantum each, and a shorter one for what is left.
-ghost use Rattle.std.specs.Prelude.{◌≡◌, ◌+◌, ◌<◌, ◌≤◌, ◌↔◌, ◌≢◌, ◌++◌, true, false, Some, IfOk, OnOk, OnErr};
+ghost use Rattle.std.specs.Prelude.{◌≡◌, ℕ, ◌+◌, ◌<◌, ◌≤◌, ◌↔◌, ◌≢◌, ◌++◌, true, false, Some, fold, IfOk, OnOk, OnErr};
 ghost use Rattle.lab_num.specs.declared.number.BoardNo.{BoardNo};
 ghost use Rattle.lab_state.specs.One.{first_without, HaveAllPlans};
 ghost use Rattle.lab_state.specs.Round.{round};
 ghost use Rattle.lab_state.specs.Run as run_spec;
+ghost use Rattle.lab_state.specs.Run.{go_on, lengths, still};
 
 use crate::faults::{LabFault, RunCause, RunFault};
 use crate::lab::Lab;
@@ -35,6 +36,20 @@ impl<D: Device> Lab<D> {
             return Err(RunCause::TooLong);
         }
         Ok(())
+    }
+
+    /// The length of the longest rounds that a run needs: the quantum. Where no board stands and nothing
+    /// waits, only time goes on, and a round may be as long as the time of a laboratory.
+    fn longest_round(&self) -> u64
+        requires { self.now.spent ≡ false }
+        ensures some { 0 < result }
+        ensures same { (d : ℕ) → fold (go_on round) (still self.now.lab) (lengths result d)
+            ≡ run_spec.run self.now.lab d }
+    {
+        if self.boards.is_empty() && self.pending.is_empty() {
+            return LAST.0;
+        }
+        self.quantum
     }
 }
 
@@ -69,7 +84,7 @@ impl<D: Device + Send> Lab<D> {
         Ok(log.paused)
     }
 
-    /// The rounds of a run.
+    /// The rounds of a run. One does where nothing can happen.
     fn rounds<R: Threads + Wait + Copy + Send + Sync, G: Gate>(
         &mut self,
         rt: &R,
@@ -87,12 +102,12 @@ impl<D: Device + Send> Lab<D> {
         ensures paused { IfOk result (λ log. log.paused ≡ (run_spec.run self.old.lab d).paused) }
         ensures err { OnErr result (self.new.spent ≡ true) }
     {
-        let quantum = self.quantum();
+        let longest = self.longest_round();
         let mut lines = Vec::new(self.alloc);
         let mut paused = None;
         let mut left = d;
         'rounds: while left > 0 && paused.is_none() {
-            let q = left.min(quantum);
+            let q = left.min(longest);
             paused = self.round_onto(rt, &mut lines, q, workers, gate)?;
             left -= q;
         }

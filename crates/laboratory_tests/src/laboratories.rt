@@ -5,6 +5,7 @@ ghost use Rattle.lab_state.specs.One.{view_of, HaveAllPlans};
 
 mod chip;
 mod delays;
+mod empty;
 mod workers;
 
 use chip::{Counts, stock};

@@ -12,7 +12,7 @@ invariant-rounds g l = record {
   within : l.self.lab.now + l.left ≤ 10000000000;
   come :
       fold (go_on round) (record { lab = l.self.lab; items = l.lines.items; paused = l.paused })
-      (lengths l.fn.self.lab.quantum l.left)
+      (lengths l.longest l.left)
       ≡ run l.fn.self.lab l.d;
 }
 
