@@ -1,9 +1,10 @@
--- One call on files or on an output, and one after another.
+-- One call on files, on an output or on a store, and one after another.
 use Rattle.std.proofs.Common.{◌∙◌, ℕ, ◌≤◌, refl, arith}
 use Rattle.lab_io.specs.Known.{Rose}
-use Rattle.lab_io.specs.Frame.{OnlyReads, OnlyWrites}
+use Rattle.lab_io.specs.Frame.{OnlyReads, OnlyStores, OnlyWrites}
 use Rattle.lab_io.specs.declared.files.Files.{Ghosts}
 use Rattle.lab_io.specs.declared.sink.Sink.{Ghosts as SinkGhosts}
+use Rattle.lab_io.specs.declared.store.Store.{Ghosts as StoreGhosts}
 
 -- a rise that began later is one from before
 pub rose_from : (before between now : ℕ) → before ≤ between → Rose between now → Rose before now
@@ -61,5 +62,29 @@ module _ {K : Type 0} {out : SinkGhosts K} {P : Type 0} where
   pub writes_none : {old : K} → (P → ⊥) → OnlyWrites out P old old
   writes_none {old} none = record {
     faults = same_count (out.faults old);
+    counted = λ failed. absurd (none failed);
+  }
+
+module _ {S : Type 0} {store : StoreGhosts S} {P Q : Type 0} where
+  -- a call has answered, and after it another, by which the whole has failed
+  pub stores_on :
+      {old mid new : S} → OnlyStores store P old mid → OnlyStores store Q mid new → OnlyStores store Q old new
+  stores_on first second = record {
+    faults = in_order _ _ _ first.faults second.faults;
+    counted = λ failed. rose_from _ _ _ first.faults (second.counted failed);
+  }
+
+  -- the same call, where its answer is told in other words
+  pub stores_as : {old new : S} → (Q → P) → OnlyStores store P old new → OnlyStores store Q old new
+  stores_as told stores = record {
+    faults = stores.faults;
+    counted = λ failed. stores.counted (told failed);
+  }
+
+module _ {S : Type 0} {store : StoreGhosts S} {P : Type 0} where
+  -- no call, and none has failed
+  pub stores_none : {old : S} → (P → ⊥) → OnlyStores store P old old
+  stores_none {old} none = record {
+    faults = same_count (store.faults old);
     counted = λ failed. absurd (none failed);
   }

@@ -19,8 +19,8 @@ use resc_vars::return_law;
 /// However the boards take the slots of their grants in turns, the program writes the same bytes,
 /// ends in the same way and reads the same files.
 pub fn transcripts_agree()
-    ensures { (cut : Cut) → IsWhole cut → (words : List (List ℕ)) (held : Held) →
-        transcript_by (run_in_turns cut) words held ≡ transcript words held }
+    ensures { (cut : Cut) → IsWhole cut → (words : List (List ℕ)) (held kept : Held) →
+        transcript_by (run_in_turns cut) words held kept ≡ transcript words held kept }
 {
     turns_agree();
 }
@@ -28,18 +28,18 @@ pub fn transcripts_agree()
 /// Words that ask for the same run by another number of workers make the program write the same
 /// bytes, end in the same way and read the same files.
 pub fn workers_agree()
-    ensures { (words others : List (List ℕ)) (script : List ℕ) (setting : Setting) (workers : ℕ) (held : Held) →
+    ensures { (words others : List (List ℕ)) (script : List ℕ) (setting : Setting) (workers : ℕ) (held kept : Held) →
         request_of words ≡ Run script setting →
         request_of others ≡ Run script (record setting { workers = workers }) →
-        transcript others held ≡ transcript words held }
+        transcript others held kept ≡ transcript words held kept }
 {}
 
 /// A script without carriage returns goes on as it does with one before each line feed.
 pub fn returns_agree()
-    ensures { (held : Held) (script text : List ℕ) (setting : Setting) →
+    ensures { (held kept : Held) (script text : List ℕ) (setting : Setting) →
         list_all is_no_return text ≡ true →
-        begun run held script setting (Readable (with_returns text))
-        ≡ begun run held script setting (Readable text) }
+        begun run held kept script setting (Readable (with_returns text))
+        ≡ begun run held kept script setting (Readable text) }
 {
     return_law();
 }
@@ -50,3 +50,21 @@ pub fn checks_run_nothing()
     ensures { (s : State) (length : ℕ) (done : Done) → s.dry ≡ true →
         run_for run s length ≡ Ok done → done ≡ leaves s }
 {}
+
+/// A run that is cut by `Save` and `Load` goes on as the unbroken one. What is left of a run after `Save`
+/// is what is left of it without the command, with the snapshot kept. `Load`, in a new run that has the same
+/// lines to come, variables and macros, and in whose laboratory nothing was made, goes on with the same, as
+/// if no board had been selected.
+pub fn cut_runs_go_on()
+    ensures saved { (rest : Rest) (kept : Held) (name : List ℕ) (place : Place) (s : State) (bytes : List ℕ) →
+        length bytes ≤ 67108864 → s.dry ≡ false →
+        saving rest kept name place s bytes ≡ using (put_of name bytes) (rest (insert kept name bytes) s) }
+    ensures loaded { (rest : Rest) (kept : Held) (name : List ℕ) (place : Place) (s : State) →
+        IsValid s.lab s.lines → IsSpellable s.lab s.lines → length (spelling s.lab s.lines) ≤ 67108864 →
+        loading rest (insert kept name (spelling s.lab s.lines)) name place
+        (record s { lab = empty_lab; lines = [] })
+        ≡ using (get_of name)
+        (rest (insert kept name (spelling s.lab s.lines)) (record s { selected = None })) }
+{
+    snapshots_are_what_they_spell();
+}

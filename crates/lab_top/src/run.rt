@@ -32,13 +32,15 @@ use std::thread::Threads;
 /// How many lines a run takes at most: 100,000 commands, and one line that ends it.
 const MOST_STEPS: u32 = 100_001;
 
-/// Runs the program for its command words, reading from `files` and writing to `out`. As many workers as
-/// the words name run the boards. Where several run several boards, each enters the gate before each turn.
+/// Runs the program for its command words, reading from `files`, writing to `out`, and keeping snapshots in
+/// `store`. As many workers as the words name run the boards. Where several run several boards, each enters
+/// the gate before each turn.
 pub fn run_lab<
     R: Threads + Wait + Copy + Send + Sync,
     D: Device + Send,
     F: Files,
     K: Sink,
+    S: Store,
     G: Gate,
 >(
     rt: &R,
@@ -46,47 +48,50 @@ pub fn run_lab<
     words: &[String],
     files: &mut F,
     out: &mut K,
+    store: &mut S,
     stock: Stock<D>,
     gate: &G,
 ) -> Status
     requires { IsFull (map D.meaning stock.uarts.items) (map D.meaning stock.cans.items)
         (map D.meaning stock.finishers.items) }
 
-    // Where nothing cut the run short, it ended and wrote as its transcript says.
-    ensures outcome { IfSome (F.held files.old) (λ held.
-        IsWhole (transcript (map string_bytes words.now) held) result
-        (K.written out.old) (K.written out.new)) }
+    // Where nothing cut the run short, it ended, wrote and kept as its transcript says.
+    ensures outcome { IfSome (F.held files.old) (λ held. IfSome (S.kept store.old) (λ kept.
+        IsWhole (transcript (map string_bytes words.now) held kept) result
+        (outside F.Files K.Sink S.Store files.old out.old store.old)
+        (outside F.Files K.Sink S.Store files.new out.new store.new))) }
 
-    // Else it wrote what the transcript begins with, and after a failed read all that comes before
-    // that read.
-    ensures prefix { IfSome (F.held files.old) (λ held.
-        WritesPart (transcript (map string_bytes words.now) held) result
-        (K.written out.old) (K.written out.new) (F.asked files.old) (F.asked files.new)) }
+    // Else it wrote what the transcript begins with and made the calls on the store that it begins with,
+    // and after a failed read or a failed call on the store all that comes before it.
+    ensures prefix { IfSome (F.held files.old) (λ held. IfSome (S.kept store.old) (λ kept.
+        WritesPart (transcript (map string_bytes words.now) held kept) kept result
+        (outside F.Files K.Sink S.Store files.old out.old store.old)
+        (outside F.Files K.Sink S.Store files.new out.new store.new))) }
 
     // It asks for no name that the transcript does not.
-    ensures asked { IfSome (F.held files.old) (λ held.
-        AsksPart (transcript (map string_bytes words.now) held)
-        (F.asked files.old) (F.asked files.new)) }
+    ensures asked { IfSome (F.held files.old) (λ held. IfSome (S.kept store.old) (λ kept.
+        AsksPart (transcript (map string_bytes words.now) held kept)
+        (F.asked files.old) (F.asked files.new))) }
 
-    // Where each name holds something and nothing failed, nothing but want of memory cuts it short.
-    ensures complete { IfSome (F.held files.old) (λ held.
-        HasAll held (transcript (map string_bytes words.now) held).reads →
-        ¬ (Rose (F.faults files.old) (F.faults files.new)) →
+    // Where nothing failed, nothing but want of memory cuts it short.
+    ensures complete { ¬ (Rose (F.faults files.old) (F.faults files.new)) →
         ¬ (Rose (K.faults out.old) (K.faults out.new)) →
-        IsUncut result) }
+        ¬ (Rose (S.faults store.old) (S.faults store.new)) →
+        IsUncut result }
 
     // The words alone say whether they are refused. Refused ones write the usage line or a front
-    // of it, whatever is told of the files, and ask for no name.
+    // of it, whatever is told of the files and the store, ask for no name, and leave the store alone.
     ensures usage { IsUsageBy (request_of (map string_bytes words.now)) result }
-    ensures refused { OnRefused (request_of (map string_bytes words.now))
-        (WritesUsage result (K.written out.old) (K.written out.new)
-        (F.asked files.old) (F.asked files.new)) }
+    ensures refused { OnRefused (request_of (map string_bytes words.now)) (WritesUsage result
+        (outside F.Files K.Sink S.Store files.old out.old store.old)
+        (outside F.Files K.Sink S.Store files.new out.new store.new)) }
 
     // Only a fault that was counted cuts it short, or want of memory. What the files hold stays.
     ensures files { OnlyReads F.Files (result ≡ Status.Unread) files.old files.new }
     ensures output { OnlyWrites K.Sink (result ≡ Status.Unwritten) out.old out.new }
+    ensures store { OnlyStores S.Store (result ≡ Status.Unstored) store.old store.new }
 {
-    run_words(rt, alloc, words, files, out, stock, gate)
+    run_words(rt, alloc, words, files, out, store, stock, gate)
 }
 
 /// Does what the words ask for.
