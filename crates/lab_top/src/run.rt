@@ -1,30 +1,37 @@
 //! The whole program, from the command words to the status.
-ghost use Rattle.std.specs.Prelude.{◌≡◌, ◌≢◌, ◌≤◌, ◌^◌, [], false, length, IfSome, map, string_bytes};
+ghost use Rattle.std.specs.Prelude.{◌≡◌, ◌≢◌, ℕ, suc, ◌≤◌, ◌^◌, List, [], false, length, map, string_bytes};
+ghost use Rattle.std.specs.Prelude.{Option, Err, IfSome, IfOk, IfErr, OnOk};
 ghost use Rattle.std.specs.Option.{ForSome};
 ghost use Rattle.dev_core.specs.Stock.{IsFull};
 ghost use Rattle.lab_gen.specs.Summary.{summary_of};
-ghost use Rattle.lab_io.specs.Frame.{OnlyReads, OnlyWrites};
+ghost use Rattle.lab_io.specs.Asked.{Log};
+ghost use Rattle.lab_io.specs.Frame.{OnlyReads, OnlyStores, OnlyWrites};
+ghost use Rattle.lab_io.specs.Held.{Held};
 ghost use Rattle.lab_io.specs.Known.{Rose};
 ghost use Rattle.lab_state.specs.Names.{names};
 ghost use Rattle.lab_state.specs.Run.{run};
 ghost use Rattle.log_text.specs.Log.{rest};
 ghost use Rattle.monitor.specs.State.{started};
+ghost use Rattle.monitor.specs.Step.{TakesSome, line_in};
 ghost use Rattle.lab_top.specs.Request.{request_of};
-ghost use Rattle.lab_top.specs.Transcript.{transcript, run_of, rest_of};
+ghost use Rattle.lab_top.specs.Transcript.{Rest, Transcript, transcript, run_of, rest_of, from};
 ghost use Rattle.lab_top.specs.Transcript.{Script, Usage, Done};
-ghost use Rattle.lab_top.specs.Headline.{IsWhole, WritesPart, WritesUsage, AsksPart, HasAll, IsUncut};
-ghost use Rattle.lab_top.specs.Headline.{IsUsageBy, IsNoUsage, OnRefused, final};
-ghost use Rattle.lab_top.specs.Inner.Course.{Course, IsEnd};
+ghost use Rattle.lab_top.specs.Headline.{IsWhole, WritesPart, WritesUsage, AsksPart, IsUncut, outside};
+ghost use Rattle.lab_top.specs.Headline.{Outside, IsUsageBy, IsNoUsage, OnRefused, final};
+ghost use Rattle.lab_top.specs.Inner.Course.{Course, IsEnd, IsTaken};
+ghost use Rattle.lab_top.specs.Inner.Stored.{IsStored, IsUnspent};
 
 use crate::script::{Opened, open};
+use crate::snapshots::{Halt, keep, take_back};
 use crate::status::Status;
 use crate::words::{Asked, ScriptRun, read_request};
 use dev_core::{Device, Stock};
 use floor_run::Gate;
 use lab_gen::generate;
-use lab_io::{Files, Sink, write_whole};
+use lab_io::{Files, Sink, Store, write_whole};
+use lab_num::Text;
 use lab_words::{UsageCause, WordsFault, usage_line};
-use monitor::{Monitor, ScriptFault, Step};
+use monitor::{Cause, Monitor, ScriptFault, Step};
 use std::alloc::Global;
 use std::sync::Wait;
 use std::thread::Threads;
@@ -95,29 +102,41 @@ pub fn run_lab<
 }
 
 /// Does what the words ask for.
-fn run_words<R: Threads + Wait + Copy + Send + Sync, D: Device + Send, F: Files, K: Sink, G: Gate>(
+fn run_words<
+    R: Threads + Wait + Copy + Send + Sync,
+    D: Device + Send,
+    F: Files,
+    K: Sink,
+    S: Store,
+    G: Gate,
+>(
     rt: &R,
     alloc: Global,
     words: &[String],
     files: &mut F,
     out: &mut K,
+    store: &mut S,
     stock: Stock<D>,
     gate: &G,
 ) -> Status
     requires { IsFull (map D.meaning stock.uarts.items) (map D.meaning stock.cans.items)
         (map D.meaning stock.finishers.items) }
-    ensures course { ForSome (F.held files.old) (λ held.
-        Course (transcript (map string_bytes words.now) held) result
-        (K.written out.old) (K.written out.new) (F.asked files.old) (F.asked files.new)) }
+    ensures course { ForSome (F.held files.old) (λ held. ForSome (S.kept store.old) (λ kept.
+        Course (transcript (map string_bytes words.now) held kept) kept result
+        (outside F.Files K.Sink S.Store files.old out.old store.old)
+        (outside F.Files K.Sink S.Store files.new out.new store.new))) }
     ensures usage { IsUsageBy (request_of (map string_bytes words.now)) result }
-    ensures refused { OnRefused (request_of (map string_bytes words.now))
-        (WritesUsage result (K.written out.old) (K.written out.new)
-        (F.asked files.old) (F.asked files.new)) }
+    ensures refused { OnRefused (request_of (map string_bytes words.now)) (WritesUsage result
+        (outside F.Files K.Sink S.Store files.old out.old store.old)
+        (outside F.Files K.Sink S.Store files.new out.new store.new)) }
     ensures files { OnlyReads F.Files (result ≡ Status.Unread) files.old files.new }
     ensures output { OnlyWrites K.Sink (result ≡ Status.Unwritten) out.old out.new }
+    ensures store { OnlyStores S.Store (result ≡ Status.Unstored) store.old store.new }
 {
     match read_request(alloc, words) {
-        Ok(Asked::Script(request)) => run_file(rt, alloc, request, files, out, stock, gate),
+        Ok(Asked::Script(request)) => {
+            run_file(rt, alloc, request, files, out, store, stock, gate)
+        }
         Ok(
             Asked::Generated {
                 seed,
@@ -134,6 +153,7 @@ fn run_words<R: Threads + Wait + Copy + Send + Sync, D: Device + Send, F: Files,
 fn refuse_words<K: Sink>(cause: UsageCause, out: &mut K) -> Status
     ensures course { IsEnd [] (Usage cause) result (K.written out.old) (K.written out.new) }
     ensures usage { IfSome (final result) (λ outcome. outcome ≡ Usage cause) }
+    ensures never { (result ≢ Status.Unread) × (result ≢ Status.Unstored) }
     ensures output { OnlyWrites K.Sink (result ≡ Status.Unwritten) out.old out.new }
 {
     match write_whole(out, usage_line().as_bytes()) {
@@ -161,7 +181,7 @@ fn run_generated<R: Threads + Wait + Copy + Send + Sync, D: Device + Send, K: Si
     ensures course { IsEnd (summary_of run seed boards) Done
         result (K.written out.old) (K.written out.new) }
     ensures usage { IsNoUsage result }
-    ensures never { result ≢ Status.Unread }
+    ensures never { (result ≢ Status.Unread) × (result ≢ Status.Unstored) }
     ensures output { OnlyWrites K.Sink (result ≡ Status.Unwritten) out.old out.new }
 {
     let Ok(text) = generate(rt, alloc, seed, boards, workers, stock, gate) else {
@@ -174,12 +194,20 @@ fn run_generated<R: Threads + Wait + Copy + Send + Sync, D: Device + Send, K: Si
 }
 
 /// Reads a script and runs it.
-fn run_file<R: Threads + Wait + Copy + Send + Sync, D: Device + Send, F: Files, K: Sink, G: Gate>(
+fn run_file<
+    R: Threads + Wait + Copy + Send + Sync,
+    D: Device + Send,
+    F: Files,
+    K: Sink,
+    S: Store,
+    G: Gate,
+>(
     rt: &R,
     alloc: Global,
     request: ScriptRun,
     files: &mut F,
     out: &mut K,
+    store: &mut S,
     stock: Stock<D>,
     gate: &G,
 ) -> Status
@@ -187,15 +215,17 @@ fn run_file<R: Threads + Wait + Copy + Send + Sync, D: Device + Send, F: Files, 
         (map D.meaning stock.finishers.items) }
     requires some_worker { 1 ≤ request.setting.workers }
     requires few_workers { request.setting.workers ≤ 8 }
-    ensures course { ForSome (F.held files.old) (λ held.
-        Course (run_of run held request.script request.setting) result
-        (K.written out.old) (K.written out.new) (F.asked files.old) (F.asked files.new)) }
+    ensures course { ForSome (F.held files.old) (λ held. ForSome (S.kept store.old) (λ kept.
+        Course (run_of run held kept request.script request.setting) kept result
+        (outside F.Files K.Sink S.Store files.old out.old store.old)
+        (outside F.Files K.Sink S.Store files.new out.new store.new))) }
     ensures usage { IsNoUsage result }
     ensures files { OnlyReads F.Files (result ≡ Status.Unread) files.old files.new }
     ensures output { OnlyWrites K.Sink (result ≡ Status.Unwritten) out.old out.new }
+    ensures store { OnlyStores S.Store (result ≡ Status.Unstored) store.old store.new }
 {
     match open(alloc, files, request.script.as_str()) {
-        Opened::Text(text) => run_script(rt, alloc, request, text, files, out, stock, gate),
+        Opened::Text(text) => run_script(rt, alloc, request, text, files, out, store, stock, gate),
         Opened::Refused(fault) => tell(alloc, fault, out),
         Opened::Unread => Status::Unread,
         Opened::Memory => Status::Memory,
@@ -203,13 +233,21 @@ fn run_file<R: Threads + Wait + Copy + Send + Sync, D: Device + Send, F: Files, 
 }
 
 /// Runs a script with this text, in a laboratory without boards.
-fn run_script<R: Threads + Wait + Copy + Send + Sync, D: Device + Send, F: Files, K: Sink, G: Gate>(
+fn run_script<
+    R: Threads + Wait + Copy + Send + Sync,
+    D: Device + Send,
+    F: Files,
+    K: Sink,
+    S: Store,
+    G: Gate,
+>(
     rt: &R,
     alloc: Global,
     request: ScriptRun,
     text: String,
     files: &mut F,
     out: &mut K,
+    store: &mut S,
     stock: Stock<D>,
     gate: &G,
 ) -> Status
@@ -218,53 +256,134 @@ fn run_script<R: Threads + Wait + Copy + Send + Sync, D: Device + Send, F: Files
     requires short { length (string_bytes text) ≤ 2 ^ 24 }
     requires some_worker { 1 ≤ request.setting.workers }
     requires few_workers { request.setting.workers ≤ 8 }
-    ensures course { ForSome (F.held files.old) (λ held.
-        Course (rest_of run held (started request.script (string_bytes text) request.setting)) result
-        (K.written out.old) (K.written out.new) (F.asked files.old) (F.asked files.new)) }
+    ensures course { ForSome (F.held files.old) (λ held. ForSome (S.kept store.old) (λ kept.
+        Course (rest_of run held kept (started request.script (string_bytes text) request.setting)) kept result
+        (outside F.Files K.Sink S.Store files.old out.old store.old)
+        (outside F.Files K.Sink S.Store files.new out.new store.new))) }
     ensures usage { IsNoUsage result }
     ensures files { OnlyReads F.Files (result ≡ Status.Unread) files.old files.new }
     ensures output { OnlyWrites K.Sink (result ≡ Status.Unwritten) out.old out.new }
+    ensures store { OnlyStores S.Store (result ≡ Status.Unstored) store.old store.new }
 {
     let ScriptRun { script, setting } = request;
-    let Ok(mut monitor) = Monitor::new(alloc, script.as_str(), text, stock, setting) else {
+    let Ok(monitor) = Monitor::new(alloc, script.as_str(), text, stock, setting) else {
         return Status::Memory;
     };
-    take_commands(rt, alloc, &mut monitor, files, out, gate)
+    take_commands(rt, alloc, monitor, files, out, store, gate)
 }
 
-/// Takes the commands of a script to its end or the first fault, and writes what each prints before
-/// the next is taken.
+/// Takes the commands of a script to its end, the first fault or the first failure.
 fn take_commands<
     R: Threads + Wait + Copy + Send + Sync,
     D: Device + Send,
     F: Files,
     K: Sink,
+    S: Store,
     G: Gate,
->(rt: &R, alloc: Global, monitor: &mut Monitor<D>, files: &mut F, out: &mut K, gate: &G) -> Status
-    requires goes_on { monitor.old.ended ≡ false }
-    requires unspent { monitor.old.spent ≡ false }
-    requires few { monitor.old.state.flow.kept.taken ≤ 100000 }
-    ensures course { ForSome (F.held files.old) (λ held.
-        Course (rest_of run held monitor.old.state) result
-        (K.written out.old) (K.written out.new) (F.asked files.old) (F.asked files.new)) }
+>(
+    rt: &R,
+    alloc: Global,
+    mut monitor: Monitor<D>,
+    files: &mut F,
+    out: &mut K,
+    store: &mut S,
+    gate: &G,
+) -> Status
+    requires goes_on { monitor.ended ≡ false }
+    requires few { monitor.state.flow.kept.taken ≤ 100000 }
+    ensures course { ForSome (F.held files.old) (λ held. ForSome (S.kept store.old) (λ kept.
+        Course (rest_of run held kept monitor.state) kept result
+        (outside F.Files K.Sink S.Store files.old out.old store.old)
+        (outside F.Files K.Sink S.Store files.new out.new store.new))) }
     ensures usage { IsNoUsage result }
     ensures files { OnlyReads F.Files (result ≡ Status.Unread) files.old files.new }
     ensures output { OnlyWrites K.Sink (result ≡ Status.Unwritten) out.old out.new }
+    ensures store { OnlyStores S.Store (result ≡ Status.Unstored) store.old store.new }
 {
     'commands: for _turn in 0..MOST_STEPS {
-        match monitor.step(rt, files, gate) {
-            Step::Text(text) => {
-                if let Err(fault) = write_whole(out, text.items()) {
-                    return Status::from(fault);
-                }
-            }
-            Step::End => return stop(monitor, out),
-            Step::Fault(fault) => return stop_at(alloc, monitor, fault, out),
-            Step::Unread => return Status::Unread,
-            Step::Memory => return Status::Memory,
+        match take_command(rt, alloc, monitor, files, out, store, gate) {
+            Ok(next) => monitor = next,
+            Err(status) => return status,
         }
     }
     unreachable!()
+}
+
+/// Takes one command of a script, and writes what it prints. An `Err` is how the run ends, where it does not go on.
+fn take_command<
+    R: Threads + Wait + Copy + Send + Sync,
+    D: Device + Send,
+    F: Files,
+    K: Sink,
+    S: Store,
+    G: Gate,
+>(
+    rt: &R,
+    alloc: Global,
+    mut monitor: Monitor<D>,
+    files: &mut F,
+    out: &mut K,
+    store: &mut S,
+    gate: &G,
+) -> Result<Monitor<D>, Status>
+    requires { monitor.ended ≡ false }
+    ensures course { ForSome (F.held files.old) (λ held. ForSome (S.kept store.old) (λ kept. (more : ℕ) →
+        IsTaken (from (suc more) run held kept monitor.state) kept (from more run held)
+        (outside F.Files K.Sink S.Store files.old out.old store.old)
+        (outside F.Files K.Sink S.Store files.new out.new store.new) result)) }
+    ensures next { IfOk result (λ next. (next.ended ≡ false) × TakesSome monitor.state next.state) }
+    ensures usage { IfErr result IsNoUsage }
+    ensures files { OnlyReads F.Files (result ≡ Err Status.Unread) files.old files.new }
+    ensures output { OnlyWrites K.Sink (result ≡ Err Status.Unwritten) out.old out.new }
+    ensures store { OnlyStores S.Store (result ≡ Err Status.Unstored) store.old store.new }
+{
+    match monitor.step(rt, files, gate) {
+        Step::Text(text) => match write_whole(out, text.items()) {
+            Ok(()) => Ok(monitor),
+            Err(fault) => Err(Status::from(fault)),
+        },
+        Step::Save { name, file, line } => {
+            let stored = keep(alloc, monitor, store, name.as_str());
+            go_on(alloc, stored, file, line, out)
+        }
+        Step::Load { name, file, line } => {
+            let stored = take_back(alloc, monitor, store, name.as_str());
+            go_on(alloc, stored, file, line, out)
+        }
+        Step::End => Err(stop(&mut monitor, out)),
+        Step::Fault(fault) => Err(stop_at(alloc, &mut monitor, fault, out)),
+        Step::Unread => Err(Status::Unread),
+        Step::Memory => Err(Status::Memory),
+    }
+}
+
+/// Goes on after a command for the store, which stands in this line of this file, or ends the run.
+fn go_on<D: Device, K: Sink>(
+    alloc: Global,
+    stored: Result<Monitor<D>, Halt<Monitor<D>>>,
+    file: Text,
+    line: u32,
+    out: &mut K,
+) -> Result<Monitor<D>, Status>
+    requires { IsUnspent stored }
+    ensures course { (all : Transcript) (kept : Held) (further : Rest) (old mid : Outside) →
+        IsStored all kept further (line_in file line) old (record mid { written = K.written out.old }) stored →
+        IsTaken all kept further old (record mid { written = K.written out.new }) result }
+    ensures same { IfOk result (λ monitor. stored ≡ Ok monitor) }
+    ensures usage { IfErr result IsNoUsage }
+    ensures never { result ≢ Err Status.Unread }
+    ensures unstored { result ≡ Err Status.Unstored → stored ≡ Err Halt.Unstored }
+    ensures output { OnlyWrites K.Sink (result ≡ Err Status.Unwritten) out.old out.new }
+{
+    match stored {
+        Ok(monitor) => Ok(monitor),
+        Err(Halt::Refused(cause, mut monitor)) => {
+            let cause = Cause::Script(cause);
+            Err(stop_at(alloc, &mut monitor, ScriptFault { file, line, cause }, out))
+        }
+        Err(Halt::Unstored) => Err(Status::Unstored),
+        Err(Halt::Memory) => Err(Status::Memory),
+    }
 }
 
 /// Writes what is left of the lines where a script has ended.
@@ -273,7 +392,7 @@ fn stop<D: Device, K: Sink>(monitor: &mut Monitor<D>, out: &mut K) -> Status
     ensures course { IsEnd (rest (names monitor.old.state.lab) monitor.old.state.lines) Done
         result (K.written out.old) (K.written out.new) }
     ensures usage { IsNoUsage result }
-    ensures never { result ≢ Status.Unread }
+    ensures never { (result ≢ Status.Unread) × (result ≢ Status.Unstored) }
     ensures output { OnlyWrites K.Sink (result ≡ Status.Unwritten) out.old out.new }
 {
     let Ok(text) = monitor.rest() else {
@@ -296,7 +415,7 @@ fn stop_at<D: Device, K: Sink>(
     ensures course { IsEnd (rest (names monitor.old.state.lab) monitor.old.state.lines)
         (Script fault) result (K.written out.old) (K.written out.new) }
     ensures usage { IsNoUsage result }
-    ensures never { result ≢ Status.Unread }
+    ensures never { (result ≢ Status.Unread) × (result ≢ Status.Unstored) }
     ensures output { OnlyWrites K.Sink (result ≡ Status.Unwritten) out.old out.new }
 {
     let Ok(text) = monitor.rest() else {
@@ -312,7 +431,7 @@ fn stop_at<D: Device, K: Sink>(
 fn tell<K: Sink>(alloc: Global, fault: ScriptFault, out: &mut K) -> Status
     ensures course { IsEnd [] (Script fault) result (K.written out.old) (K.written out.new) }
     ensures usage { IsNoUsage result }
-    ensures never { result ≢ Status.Unread }
+    ensures never { (result ≢ Status.Unread) × (result ≢ Status.Unstored) }
     ensures output { OnlyWrites K.Sink (result ≡ Status.Unwritten) out.old out.new }
 {
     let Ok(line) = format!(in alloc; "{fault}\n") else {

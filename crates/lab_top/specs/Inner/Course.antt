@@ -1,10 +1,11 @@
 -- How far a run has gone along a transcript.
-use Rattle.std.specs.Prelude.{◌≡◌, ◌≢◌, ℕ, List, [], ◌∷◌, ◌++◌, length, Option, Some, IfSome}
+use Rattle.std.specs.Prelude.{◌≡◌, ◌≢◌, ℕ, List, [], ◌∷◌, ◌++◌, length, Option, Some, Result, Ok, Err, IfSome}
 use Rattle.lab_io.specs.Held.{Held}
 use Rattle.lab_io.specs.Known.{grown}
 use Rattle.lab_top.specs.declared.status.Status.{Status}
 use Rattle.lab_top.specs.declared.status.Status.TheVariants as end_by
-use Rattle.lab_top.specs.Transcript.{Outcome, Read, Use, Transcript, last_line}
+use Rattle.monitor.specs.Step.{Running}
+use Rattle.lab_top.specs.Transcript.{Outcome, Read, Rest, Use, Transcript, last_line}
 use Rattle.lab_top.specs.Headline.{Outside, HasFailed, calls, final, kept_by, names_read}
 
 -- the last of these reads comes after so many bytes
@@ -46,3 +47,14 @@ pub record IsEnd (written : List ℕ) (outcome : Outcome) (status : Status) (out
   pub ended : IfSome (final status) (λ is. (outcome ≡ is) × (unwritten ≡ []))
   pub never : status ≢ end_by.Unread
   pub nor : status ≢ end_by.Unstored
+
+-- A run has gone along a transcript to where this is kept, and what is left of it then is this rest.
+pub record GoesOn (all : Transcript) (kept : Held) (old mid : Outside) (rest : Held → Transcript) : Type 0 where
+  pub now : Held
+  pub told : mid.kept ≡ Some now
+  pub course : (status : Status) (new : Outside) → Course (rest now) now status mid new → Course all kept status old new
+
+-- a command was taken, and the run goes on with the monitor after it, or has ended
+abbrev pub IsTaken : Transcript → Held → Rest → Outside → Outside → Result Running Status → Type 0
+IsTaken all kept further old mid (Ok monitor) = GoesOn all kept old mid (λ now. further now monitor.state)
+IsTaken all kept further old mid (Err status) = Course all kept status old mid
