@@ -16,7 +16,7 @@ use Rattle.resc_vars.specs.Bodies.{depth_limit, enter, source_of}
 use Rattle.monitor.specs.declared.fault.Cause.TheVariants.{Script}
 use Rattle.monitor.specs.declared.fault.ScriptFault.{ScriptFault}
 use Rattle.monitor.specs.declared.stop.Stop.{Stop}
-use Rattle.monitor.specs.declared.stop.Stop.TheVariants.{Quit, Line, File, Content, Unread, Memory}
+use Rattle.monitor.specs.declared.stop.Stop.TheVariants.{Store, Quit, Line, File, Content, Unread, Memory}
 use Rattle.monitor.specs.Answer.{Did, Faults, answer_at}
 use Rattle.monitor.specs.Bodies.{entered, include, include_text}
 use Rattle.monitor.specs.State.{State, Place}
@@ -27,6 +27,7 @@ file_carried :
     (did : Did) (place : Place) (fault : ScriptFault) (stop : Stop) (after : State) (log log' : Log) →
     did.answer ≡ Faults fault → log' ≡ grown log did.names → IsFileStop fault stop →
     IsCarried did place (Err stop) after log log'
+file_carried did place fault (Store store) after log log' answer asked is = absurd is
 file_carried did place fault Quit after log log' answer asked is = absurd is
 file_carried did place fault (Line cause) after log log' answer asked is = absurd is
 file_carried did place fault (File told) after log log' answer asked is = (rw is answer, asked)

@@ -13,7 +13,7 @@ use Rattle.repl_files.specs.Loaded.{IsLoaded, IsStopped}
 use Rattle.repl_files.specs.Loading.{Loading, load}
 use Rattle.repl_build.specs.Plan.{built}
 use Rattle.monitor.specs.declared.stop.Stop.{Stop}
-use Rattle.monitor.specs.declared.stop.Stop.TheVariants.{Quit, Line, File, Content, Unread, Memory}
+use Rattle.monitor.specs.declared.stop.Stop.TheVariants.{Store, Quit, Line, File, Content, Unread, Memory}
 use Rattle.monitor.specs.Answer.{answer_at}
 use Rattle.monitor.specs.Boards.{equip, equip_loaded, load_onto, load_platform, made}
 use Rattle.monitor.specs.Selected.{bare}
@@ -42,6 +42,7 @@ pub plan_stops :
     (s after : State) (place : Place) (b : ℕ) (loading : Loading) (all : Loaded) (stop : Stop)
     (log log' : Log) → IsLoaded loading (Ok all) log log' → IsPlan all (Err stop) →
     IsCarried (load_onto s place loading (Ok b)) place (Err stop) after log log'
+plan_stops s after place b loading all (Store asked) log log' is plan = absurd plan
 plan_stops s after place b loading all Quit log log' is plan = absurd plan
 plan_stops s after place b loading all (Line cause) log log' is plan = absurd plan
 plan_stops s after place b loading all (File fault) log log' is plan =

@@ -16,13 +16,17 @@ use Rattle.lab_io.proofs.Asking.{asks_one}
 use Rattle.resc_vars.specs.declared.cause.ScriptCause.TheVariants.{Size}
 use Rattle.monitor.specs.declared.fault.Cause.{Cause}
 use Rattle.monitor.specs.declared.stop.Stop.{Stop}
-use Rattle.monitor.specs.declared.stop.Stop.TheVariants.{Quit, Line, File, Content, Unread, Memory}
+use Rattle.monitor.specs.declared.stop.Stop.TheVariants.{Store, Quit, Line, File, Content, Unread, Memory}
+use Rattle.monitor.specs.declared.load.Load.{Load}
+use Rattle.monitor.specs.declared.load.Load.TheVariants as load
 use Rattle.monitor.specs.Answer.{Answer, loads, refused, with_file}
 use Rattle.monitor.specs.Images.{load_read}
-use Rattle.monitor.specs.Inner.Ruling.{IsBoard, IsCarried, IsImage, IsTold, Leaves, read_stop}
+use Rattle.monitor.specs.Inner.Ruling.{IsBoard, IsCarried, IsImage, IsTold, Leaves, image_by, loaded_by, read_stop}
+use Rattle.monitor.specs.Memory.{write_bytes}
 use Rattle.monitor.specs.Selected.{Equipped, equipped}
 use Rattle.monitor.specs.State.{State, Place}
 use Rattle.monitor.specs.Step.{Running}
+use Rattle.monitor.proofs.OpenLemmas.{HasOpen, IsKeptBy, bytes_written, image_read, kept_answer}
 
 too_large :
     (place : Place) (content : Option (List ℕ)) (use_ : List ℕ → Answer) →
@@ -65,6 +69,7 @@ module _ (held : Held) (s : State) (place : Place) (path : List ℕ) (use_ : Equ
 pub image_told :
     (s after : State) (place : Place) (on : Equipped) (meant : Result Image Cause) (stop : Stop) →
     IsImage meant (Err stop) → IsTold place (load_read s place on meant) (Err stop) after
+image_told s after place on meant (Store asked) is = absurd is
 image_told s after place on meant Quit is = absurd is
 image_told s after place on meant (Line cause) is = absurd is
 image_told s after place on meant (File fault) is = absurd is
@@ -74,9 +79,18 @@ image_told s after place on meant Memory is = tt
 
 pub image_leaves :
     (meant : Result Image Cause) (stop : Stop) (old : Running) → IsImage meant (Err stop) → Leaves (Err stop) old old
+image_leaves meant (Store asked) old is = refl
 image_leaves meant Quit old is = refl
 image_leaves meant (Line cause) old is = refl
 image_leaves meant (File fault) old is = refl
 image_leaves meant (Content cause) old is = refl
 image_leaves meant Unread old is = refl
 image_leaves meant Memory old is = refl
+
+-- what is loaded keeps the lines that are open
+pub load_keeps :
+    (s : State) → HasOpen s → (place : Place) (kind : Load) (on : Equipped) (bytes : List ℕ) →
+    IsKeptBy (loaded_by kind s place on bytes)
+load_keeps s open_ place (load.Image format) on bytes = image_read s open_ place on (image_by format bytes)
+load_keeps s open_ place (load.Bytes at) on bytes =
+    kept_answer place (write_bytes s on at bytes) (bytes_written s open_ on at bytes)

@@ -1,6 +1,8 @@
 -- What a command has done, by what its parts have done.
-use Rattle.std.proofs.Common.{◌≡◌, ℕ, List, [], ◌∷◌, Option, Some, Result, Ok, Err, Vec, refl, sym, ap}
-use Rattle.std.specs.Prelude.{IfSome}
+use Rattle.std.proofs.Common.{◌≡◌, ◌∙◌, ℕ, Bool, true, false, List, [], ◌∷◌, Option, Some, Result, Ok, Err, Vec}
+use Rattle.std.proofs.Common.{refl, sym, ap}
+use Rattle.std.specs.Prelude.{IfOk, IfSome}
+use Rattle.std.specs.FinMap.{empty}
 use Rattle.std.specs.Global.{Global}
 use Rattle.std.specs.Option.{ForSome}
 use Rattle.lab_io.specs.declared.files.Files.{Ghosts}
@@ -20,13 +22,16 @@ use Rattle.resc_read.specs.Line.{IsReadAs}
 use Rattle.resc_vars.specs.declared.cause.ScriptCause.{ScriptCause}
 use Rattle.resc_vars.specs.declared.cause.ScriptCause.TheVariants.{Unknown, Arguments, Time}
 use Rattle.monitor.specs.declared.stop.Stop.{Stop}
-use Rattle.monitor.specs.declared.stop.Stop.TheVariants.{Quit, Line, File, Content, Unread, Memory}
+use Rattle.monitor.specs.declared.stop.Stop.TheVariants.{Store, Quit, Line, File, Content, Unread, Memory}
+use Rattle.monitor.specs.declared.stop.Storing.TheVariants as storing
 use Rattle.monitor.specs.declared.step.Step.TheVariants as step
 use Rattle.monitor.specs.Answer.{Answer, Did, Done, answer_at, unread}
-use Rattle.monitor.specs.Command.{Work, OnFiles, OnState, Quits, does, done_by}
+use Rattle.monitor.specs.Command.{Work, OnFiles, OnState, OnStore, Quits, does, done_by}
 use Rattle.monitor.specs.State.{State, Place}
 use Rattle.monitor.specs.Step.{Running, IsStep}
-use Rattle.monitor.specs.Inner.Ruling.{IsCarried, IsDone, IsRuled, IsTold, IsWorked, Leaves, line_stop, step_of}
+use Rattle.monitor.specs.Inner.Ruling.{IsCarried, IsDone, IsRuled, IsTold, IsWorked, KeepsOpen, Leaves, line_stop}
+use Rattle.monitor.specs.Inner.Ruling.{IsAfterLine, ends_script, step_of}
+use Rattle.monitor.proofs.OpenLemmas.{HasOpen, IsKeptBy}
 
 -- what holds if a value is told holds of the value that is told
 pub told : {A : Type 0} {o : Option A} (P : A → Type 0) → IfSome o P → ForSome o P
@@ -37,6 +42,7 @@ pub ruled_told :
     (place : Place) (ruling : Result Done ScriptCause) (result : Result (Vec ℕ Global) Stop) (old new : Running) →
     IsRuled ruling result old new → IsTold place (answer_at place ruling) result new.state
 ruled_told place ruling (Ok text) old new is = ap (answer_at place) is.0
+ruled_told place ruling (Err (Store asked)) old new is = absurd is
 ruled_told place ruling (Err Quit) old new is = absurd is
 ruled_told place ruling (Err (Line cause)) old new is = ap (answer_at place) is.0
 ruled_told place ruling (Err (File fault)) old new is = absurd is
@@ -48,6 +54,7 @@ pub ruled_leaves :
     (ruling : Result Done ScriptCause) (result : Result (Vec ℕ Global) Stop) (old new : Running) →
     IsRuled ruling result old new → Leaves result old new
 ruled_leaves ruling (Ok text) old new is = is.1
+ruled_leaves ruling (Err (Store asked)) old new is = absurd is
 ruled_leaves ruling (Err Quit) old new is = absurd is
 ruled_leaves ruling (Err (Line cause)) old new is = is.1
 ruled_leaves ruling (Err (File fault)) old new is = absurd is
@@ -55,7 +62,15 @@ ruled_leaves ruling (Err (Content cause)) old new is = absurd is
 ruled_leaves ruling (Err Unread) old new is = absurd is
 ruled_leaves ruling (Err Memory) old new is = is
 
+-- what is answered keeps the lines that are open
+pub told_open :
+    (place : Place) (answer : Answer) (result : Result (Vec ℕ Global) Stop) (s after : State) →
+    (HasOpen s → IsKeptBy answer) → IsTold place answer result after → IfOk result (λ text. KeepsOpen s after)
+told_open place answer (Ok text) s after keeps told = λ open_. rw told at (keeps open_)
+told_open place answer (Err stop) s after keeps told = tt
+
 stop_leaves : (stop : Stop) (old : Running) → Leaves (Err stop) old old
+stop_leaves (Store asked) old = refl
 stop_leaves Quit old = refl
 stop_leaves (Line cause) old = refl
 stop_leaves (File fault) old = refl
@@ -68,6 +83,7 @@ told_carried :
     (did : Did) (place : Place) (result : Result (Vec ℕ Global) Stop) (after : State) (log log' : Log) →
     log' ≡ grown log did.names → IsTold place did.answer result after → IsCarried did place result after log log'
 told_carried did place (Ok text) after log log' asked told = (told, asked)
+told_carried did place (Err (Store store)) after log log' asked told = (told, asked)
 told_carried did place (Err Quit) after log log' asked told = (told, asked)
 told_carried did place (Err (Line cause)) after log log' asked told = (told, asked)
 told_carried did place (Err (File fault)) after log log' asked told = (told, asked)
@@ -89,15 +105,17 @@ module _ {F : Type 0} {files : Ghosts F} {P : Type 0} where
       (λ held. ((by held place).answer ≡ answer place)
       × (files.asked after ≡ grown (files.asked before) (by held place).names))) →
       ((place : Place) → IsTold place (answer place) result new.state) → Leaves result old new →
+      ((place : Place) → HasOpen old.state → IsKeptBy (answer place)) →
       OnlyReads files P before after → IsDone files by result old new before after
-  done_told by answer result old new before after read told leaves reads = record {
+  done_told by answer result old new before after read told leaves keeps reads =
+      let nowhere : Place = record { file = []; number = 0 } in record {
     carried = λ place held is.
         let asked = read place held is in
         told_carried (by held place) place result new.state (files.asked before) (files.asked after) asked.1
         (rw asked.0 (told place));
     leaves = leaves;
-    reads = reads_as
-        (λ same. absurd (told_read (record { file = []; number = 0 }) _ result new.state (told _) same)) reads;
+    open_lines = told_open nowhere (answer nowhere) result old.state new.state (keeps nowhere) (told nowhere);
+    reads = reads_as (λ same. absurd (told_read nowhere _ result new.state (told _) same)) reads;
   }
 
   -- a command was stopped where it reads
@@ -108,37 +126,51 @@ module _ {F : Type 0} {files : Ghosts F} {P : Type 0} where
       (stop ≡ Unread → P) → OnlyReads files P before after →
       IsDone files by (Err stop) old old before after
   done_stopped by stop old before after carried told reads =
-      record { carried = carried; leaves = stop_leaves stop old; reads = reads_as (λ same. told (cc same)) reads }
+      record {
+        carried = carried;
+        leaves = stop_leaves stop old;
+        open_lines = tt;
+        reads = reads_as (λ same. told (cc same)) reads;
+      }
 
 module _ {F : Type 0} {files : Ghosts F} where
   -- a command that reads no file
   pub done_alone :
       (ruling : Result Done ScriptCause) (result : Result (Vec ℕ Global) Stop) (old new : Running) (before : F) →
-      IsRuled ruling result old new → IsDone files (λ held place. unread place ruling) result old new before before
-  done_alone ruling result old new before is =
-      done_told {P = ⊥} (λ held place. unread place ruling) (λ place. answer_at place ruling) result old new before before
-      (λ place held told. (refl, sym (grown-nil (files.asked before))))
+      ((place : Place) → HasOpen old.state → IsKeptBy (answer_at place ruling)) → IsRuled ruling result old new →
+      IsDone files (λ held place. unread place ruling) result old new before before
+  done_alone ruling result old new before keeps is =
+      done_told {P = ⊥} (λ held place. unread place ruling) (λ place. answer_at place ruling) result old new before
+      before (λ place held told. (refl, sym (grown-nil (files.asked before))))
       (λ place. ruled_told place ruling result old new is) (ruled_leaves ruling result old new is)
-      (reads_none (λ none. none))
+      keeps (reads_none (λ none. none))
 
   -- a command that is refused before it reads a file
   pub done_refused :
       (cause : ScriptCause) (old : Running) (before : F) →
       IsDone files (λ held place. unread place (Err cause)) (Err (Line cause)) old old before before
-  done_refused cause old before = done_alone (Err cause) (Err (Line cause)) old old before (refl, refl)
+  done_refused cause old before = done_alone (Err cause) (Err (Line cause)) old old before (λ place open_. tt) (refl, refl)
 
   -- a command of each sort
   pub worked_done :
       (work : Work) (result : Result (Vec ℕ Global) Stop) (old new : Running) (before after : F) →
-      IsWorked files work result old new before after →
+      ((held : Held) (place : Place) → HasOpen old.state → IsKeptBy (does held place work).answer) → IsWorked files work result old new before after →
       IsDone files (λ held place. does held place work) result old new before after
-  worked_done (OnFiles by) result old new before after is = is
-  worked_done (OnState ruling) result old new before after is =
-      rw is.1 (done_alone ruling result old new before is.0)
-  worked_done Quits result old new before after (quits, same, still) =
+  worked_done (OnFiles by) result old new before after keeps is = is
+  worked_done (OnState ruling) result old new before after keeps is =
+      rw is.1 (done_alone ruling result old new before (keeps empty) is.0)
+  worked_done (OnStore by) result old new before after keeps (is, same, still) =
+      rw (is.stop, same, still) (record {
+        carried = λ place held told. (is.answer place, sym (grown-nil (files.asked before)));
+        leaves = refl;
+        open_lines = tt;
+        reads = reads_none (λ same. cc same);
+      })
+  worked_done Quits result old new before after keeps (quits, same, still) =
       rw (quits, same, still) (record {
         carried = λ place held told. (refl, sym (grown-nil (files.asked before)));
         leaves = refl;
+        open_lines = tt;
         reads = reads_none (λ same. cc same);
       })
 
@@ -153,13 +185,16 @@ module _ {F : Type 0} {files : Ghosts F} where
   line_refused play line line_fault.Memory old before is = record {
     carried = λ place held told. asks_none (done_by play held old.state place line).names (files.asked before);
     leaves = refl;
+    open_lines = tt;
     reads = reads_none (λ same. cc same);
   }
 
--- a line after which the script does not go on
+-- a line after which the monitor does not go on
 pub stop_is_step :
     (did : Did) (place : Place) (stop : Stop) (after : State) (log log' : Log) →
     IsCarried did place (Err stop) after log log' → IsStep did (step_of place stop) after log log'
+stop_is_step did place (Store (storing.Save name)) after log log' is = is
+stop_is_step did place (Store (storing.Load name)) after log log' is = is
 stop_is_step did place Quit after log log' is = is
 stop_is_step did place (Line cause) after log log' is = is
 stop_is_step did place (File fault) after log log' is = is
@@ -168,9 +203,43 @@ stop_is_step did place Unread after log log' is = is
 stop_is_step did place Memory after log log' is = is
 
 pub stop_unread : (place : Place) (stop : Stop) → step_of place stop ≡ step.Unread → stop ≡ Unread
+stop_unread place (Store (storing.Save name)) is = cc is
+stop_unread place (Store (storing.Load name)) is = cc is
 stop_unread place Quit is = cc is
 stop_unread place (Line cause) is = cc is
 stop_unread place (File fault) is = cc is
 stop_unread place (Content cause) is = cc is
 stop_unread place Unread is = refl
 stop_unread place Memory is = cc is
+
+-- a monitor whose script has ended, and stays so
+still_ended : (old mid : Running) → old.ended ≡ true → mid ≡ old → record mid { ended = true } ≡ old
+still_ended old mid ended same =
+    ap (λ (r : Running). record r { ended = true }) same ∙ ap (λ b. record old { ended = b }) (sym ended)
+
+pub stop_after :
+    (place : Place) (stop : Stop) (old mid new : Running) → old.ended ≡ true → Leaves (Err stop) old mid →
+    new ≡ record mid { ended = ends_script stop } → IsAfterLine (step_of place stop) old new
+stop_after place (Store (storing.Save name)) old mid new waits same is =
+    is ∙ ap (λ (r : Running). record r { ended = false }) same
+stop_after place (Store (storing.Load name)) old mid new waits same is =
+    is ∙ ap (λ (r : Running). record r { ended = false }) same
+stop_after place Quit old mid new waits same is = is ∙ still_ended old mid waits same
+stop_after place (Line cause) old mid new waits same is = is ∙ still_ended old mid waits same
+stop_after place (File fault) old mid new waits same is = is ∙ still_ended old mid waits same
+stop_after place (Content cause) old mid new waits same is = is ∙ still_ended old mid waits same
+stop_after place Unread old mid new waits same is = is ∙ still_ended old mid waits same
+stop_after place Memory old mid new waits same is = ap (λ (r : Running). r.ended) is
+
+-- a script that goes on there does so in the laboratory in which it was
+pub stop_goes_on :
+    (stop : Stop) (old mid : Running) → Leaves (Err stop) old mid → old.state.flow.ended ≡ false →
+    old.spent ≡ false → HasOpen old.state → ends_script stop ≡ false →
+    (mid.state.flow.ended ≡ false) × (mid.spent ≡ false) × HasOpen mid.state
+stop_goes_on (Store asked) old mid same goes_on unspent open_ ends = rw same (goes_on, unspent, open_)
+stop_goes_on Quit old mid same goes_on unspent open_ ends = absurd (cc)
+stop_goes_on (Line cause) old mid same goes_on unspent open_ ends = absurd (cc)
+stop_goes_on (File fault) old mid same goes_on unspent open_ ends = absurd (cc)
+stop_goes_on (Content cause) old mid same goes_on unspent open_ ends = absurd (cc)
+stop_goes_on Unread old mid same goes_on unspent open_ ends = absurd (cc)
+stop_goes_on Memory old mid same goes_on unspent open_ ends = absurd (cc)

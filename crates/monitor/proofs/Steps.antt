@@ -54,6 +54,8 @@ absent_is_cut :
     (answer : Answer) (names : List (List ℕ)) (answered : Step) (after : State) (log log' : Log) →
     IsStep (record { names = names; answer = answer }) answered after log log' → answer ≡ Misses → IsCut answered
 absent_is_cut answer names (step.Text text) after log log' is misses = cc (is.0, misses)
+absent_is_cut answer names (step.Save name file line) after log log' is misses = cc (is.0, misses)
+absent_is_cut answer names (step.Load name file line) after log log' is misses = cc (is.0, misses)
 absent_is_cut answer names step.End after log log' is misses = cc (is.0, misses)
 absent_is_cut answer names (step.Fault fault) after log log' is misses = cc (is.0, misses)
 absent_is_cut answer names step.Unread after log log' is misses = tt

@@ -232,10 +232,16 @@ word_good line =
         (
           (λ _ line. good_one variable command.RunMacro line (λ word x is. tt)),
           (
-            (λ _ line. good_none command.Pause line tt),
+            (λ _ line. good_one path command.Save line (λ word x is. tt)),
             (
-              (λ _ line. good_none command.Start line tt),
-              ((λ _ line. good_none command.Quit line tt), tt),
+              (λ _ line. good_one path command.Load line (λ word x is. tt)),
+              (
+                (λ _ line. good_none command.Pause line tt),
+                (
+                  (λ _ line. good_none command.Start line tt),
+                  ((λ _ line. good_none command.Quit line tt), tt),
+                ),
+              ),
             ),
           ),
         ),

@@ -10,8 +10,8 @@ use Rattle.monitor.specs.declared.fault.ScriptFault.{ScriptFault}
 use Rattle.monitor.specs.State.{State, Place}
 
 -- How a command is answered: it prints this and the script goes on so; the laboratory is to be kept under this name, or
--- to be taken back from it, by a command at this place, and the script goes on so; or the script ends, or it is refused,
--- or a name that it reads holds nothing.
+-- to be taken back from it, by a command at this place, and the script goes on so; or the script ends, or it is
+-- refused, or a name that it reads holds nothing.
 pub data Answer : Type 0 where
   Goes : List ℕ → State → Answer
   Saves : List ℕ → Place → State → Answer

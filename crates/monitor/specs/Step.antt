@@ -1,5 +1,5 @@
 -- What one step of a monitor has done.
-use Rattle.std.specs.Prelude.{◌≡◌, ℕ, ◌<◌, ◌≤◌, Bool, true, false}
+use Rattle.std.specs.Prelude.{◌≡◌, ℕ, ◌<◌, ◌≤◌, Bool, true, false, List}
 use Rattle.lab_io.specs.Asked.{Log, AsksSome, AsksUpTo}
 use Rattle.lab_io.specs.Known.{grown}
 use Rattle.resc_vars.specs.Script.{Outcome, next_of}
@@ -62,11 +62,21 @@ pub record IsOver (old new : Running) : Type 0 where
   pub spent : new.spent ≡ false
   pub ended : new.ended ≡ true
 
+-- A command was taken that is for the store, and nothing else was done: the laboratory, the selected board, the open
+-- lines, the variables and the macros are as they were. The script goes on.
+pub record IsTaken (old new : Running) : Type 0 where
+  pub lab : new.state.lab ≡ old.state.lab
+  pub selected : new.state.selected ≡ old.state.selected
+  pub lines : new.state.lines ≡ old.state.lines
+  pub flow : IsLeft (next_of old.state.flow) new.state.flow
+  pub spent : new.spent ≡ false
+  pub ended : new.ended ≡ false
+
 -- a step that says something or is for the store leaves a monitor that may go on, and no other does
 abbrev pub IsNext : Step → Running → Running → Type 0
 IsNext (Text text) old new = (new.spent ≡ false) × (new.ended ≡ false)
-IsNext (Save name file line) old new = (new.spent ≡ false) × (new.ended ≡ false)
-IsNext (Load name file line) old new = (new.spent ≡ false) × (new.ended ≡ false)
+IsNext (Save name file line) old new = IsTaken old new
+IsNext (Load name file line) old new = IsTaken old new
 IsNext End old new = IsOver old new
 IsNext (Fault fault) old new = IsOver old new
 IsNext Unread old new = IsOver old new

@@ -1,6 +1,6 @@
 //! Commands that make, select, equip and reset boards.
 ghost use Rattle.std.specs.Prelude.{◌≡◌, ◌≤◌, ◌<◌, [], length, slice_index_or, false, Ok, Err, None, IfOk, IfSome};
-ghost use Rattle.std.specs.Prelude.{IsTrue};
+ghost use Rattle.std.specs.Prelude.{IsTrue, true};
 ghost use Rattle.std.specs.Option.{ForSome, option_map};
 ghost use Rattle.std.specs.List.{list_all};
 ghost use Rattle.lab_io.specs.Frame.{OnlyReads};
@@ -47,6 +47,7 @@ impl<D: Device> Monitor<D> {
     /// Makes a board and selects it. Without a name it is named by its number.
     pub(crate) fn create(&mut self, name: Option<Text>) -> Result<Vec<u8>, Stop>
         requires unspent { self.old.spent ≡ false }
+        requires waits { self.old.ended ≡ true }
         requires is_name { IfSome name (λ text. IsTrue (is_name text)) }
         ensures { IsRuled (boards.create self.old.state name) result self.old self.new }
     {
@@ -63,6 +64,7 @@ impl<D: Device> Monitor<D> {
     /// Makes a board of this name and selects it.
     fn create_as(&mut self, name: &str) -> Result<Vec<u8>, Stop>
         requires unspent { self.old.spent ≡ false }
+        requires waits { self.old.ended ≡ true }
         requires is_name { IsTrue (is_name name.now) }
         ensures { IsRuled (boards.create_as self.old.state name.now) result self.old self.new }
     {
@@ -90,6 +92,7 @@ impl<D: Device> Monitor<D> {
     /// Selects a board.
     pub(crate) fn select(&mut self, name: &str) -> Result<Vec<u8>, Stop>
         requires unspent { self.old.spent ≡ false }
+        requires waits { self.old.ended ≡ true }
         ensures { IsRuled (boards.select self.old.state name.now) result self.old self.new }
     {
         let Some(b) = self.board_of(name) else {
@@ -102,6 +105,7 @@ impl<D: Device> Monitor<D> {
     /// Resets the selected board.
     pub(crate) fn reset_board(&mut self) -> Result<Vec<u8>, Stop>
         requires unspent { self.old.spent ≡ false }
+        requires waits { self.old.ended ≡ true }
         ensures { IsRuled (boards.reset_board self.old.state) result self.old self.new }
     {
         let b = self.equipped()?;
@@ -116,6 +120,7 @@ impl<D: Device> Monitor<D> {
         path: &str,
     ) -> Result<Vec<u8>, Stop>
         requires unspent { self.old.spent ≡ false }
+        requires waits { self.old.ended ≡ true }
         ensures { IsDone F.Files
             (λ held place. boards.load_platform held self.old.state place path.now)
             result self.old self.new files.old files.new }
@@ -128,6 +133,7 @@ impl<D: Device> Monitor<D> {
     /// Makes a board by its plan.
     fn fit(&mut self, b: BoardNo, plan: BoardPlan) -> Result<Vec<u8>, Stop>
         requires unspent { self.old.spent ≡ false }
+        requires waits { self.old.ended ≡ true }
         requires exists { b.0 < length self.old.state.lab.boards }
         requires bare { view_of self.old.state.lab b.0 ≡ None }
         requires plan { IsValid plan }

@@ -1,5 +1,5 @@
 //! The open bodies of a script, and the commands that enter one.
-ghost use Rattle.std.specs.Prelude.{◌≡◌, ◌≤◌, length, false};
+ghost use Rattle.std.specs.Prelude.{◌≡◌, ◌≤◌, length, true, false};
 ghost use Rattle.std.specs.String.{string_bytes};
 ghost use Rattle.resc_vars.specs.Bodies.{enter, source_of};
 ghost use Rattle.monitor.specs.Bodies as bodies;
@@ -58,6 +58,7 @@ impl<D: Device> Monitor<D> {
     /// Enters the body of a macro.
     pub(crate) fn run_macro(&mut self, name: &str) -> Result<Vec<u8>, Stop>
         requires unspent { self.old.spent ≡ false }
+        requires waits { self.old.ended ≡ true }
         requires goes_on { self.old.state.flow.ended ≡ false }
         ensures { IsRuled (bodies.run_macro self.old.state name.now) result self.old self.new }
     {
@@ -68,6 +69,7 @@ impl<D: Device> Monitor<D> {
     /// Enters a file.
     pub(crate) fn include<F: Files>(&mut self, files: &mut F, path: &str) -> Result<Vec<u8>, Stop>
         requires unspent { self.old.spent ≡ false }
+        requires waits { self.old.ended ≡ true }
         requires goes_on { self.old.state.flow.ended ≡ false }
         ensures { IsDone F.Files
             (λ held place. bodies.include held self.old.state place path.now)
@@ -85,6 +87,7 @@ impl<D: Device> Monitor<D> {
     /// Enters the text of a file.
     fn enter(&mut self, path: &str, text: String) -> Result<Vec<u8>, Stop>
         requires unspent { self.old.spent ≡ false }
+        requires waits { self.old.ended ≡ true }
         requires goes_on { self.old.state.flow.ended ≡ false }
         requires few { length (string_bytes text) ≤ 16777216 }
         ensures { IsRuled (bodies.entered self.old.state

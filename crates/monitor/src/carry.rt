@@ -1,5 +1,5 @@
 //! Each command is carried out.
-ghost use Rattle.std.specs.Prelude.{◌≡◌, false};
+ghost use Rattle.std.specs.Prelude.{◌≡◌, true, false};
 ghost use Rattle.lab_state.specs.Run.{run};
 ghost use Rattle.monitor.specs.Command.{work};
 ghost use Rattle.monitor.specs.Inner.Ruling.{IsWithin, IsWorked};
@@ -42,6 +42,7 @@ impl<D: Device + Send> Monitor<D> {
         gate: &G,
     ) -> Result<Vec<u8>, Stop>
         requires unspent { self.old.spent ≡ false }
+        requires waits { self.old.ended ≡ true }
         requires goes_on { self.old.state.flow.ended ≡ false }
         requires within { IsWithin command }
         ensures { IsWorked F.Files (work run self.old.state command)

@@ -1,5 +1,5 @@
 //! Commands that make hubs, connect devices to them and show what devices send.
-ghost use Rattle.std.specs.Prelude.{◌≡◌, ◌≤◌, false, IfOk, IsSome, IsTrue};
+ghost use Rattle.std.specs.Prelude.{◌≡◌, ◌≤◌, true, false, IfOk, IsSome, IsTrue};
 ghost use Rattle.lab_num.specs.Name.{is_name};
 ghost use Rattle.lab_state.specs.One.{kind_at};
 ghost use Rattle.monitor.specs.Hubs as hubs;
@@ -50,6 +50,7 @@ impl<D: Device> Monitor<D> {
     /// Makes a hub of UARTs, which holds back for this long what they send.
     pub(crate) fn uart_hub(&mut self, name: &str, delay: Micros) -> Result<Vec<u8>, Stop>
         requires unspent { self.old.spent ≡ false }
+        requires waits { self.old.ended ≡ true }
         requires is_name { IsTrue (is_name name.now) }
         requires short { delay.0 ≤ 1000000 }
         ensures { IsRuled (hubs.uart_hub self.old.state name.now delay.0) result self.old self.new }
@@ -64,6 +65,7 @@ impl<D: Device> Monitor<D> {
     /// Makes a hub of CAN controllers, which holds back for this long what they send.
     pub(crate) fn can_hub(&mut self, name: &str, delay: Micros) -> Result<Vec<u8>, Stop>
         requires unspent { self.old.spent ≡ false }
+        requires waits { self.old.ended ≡ true }
         requires is_name { IsTrue (is_name name.now) }
         requires short { delay.0 ≤ 1000000 }
         ensures { IsRuled (hubs.can_hub self.old.state name.now delay.0) result self.old self.new }
@@ -93,6 +95,7 @@ impl<D: Device> Monitor<D> {
     #[tactic(auto, using(crate::proofs::Joining::connect_by))]
     pub(crate) fn connect(&mut self, dev: &str, hub: &str) -> Result<Vec<u8>, Stop>
         requires unspent { self.old.spent ≡ false }
+        requires waits { self.old.ended ≡ true }
         ensures { IsRuled (hubs.connect self.old.state dev.now hub.now) result self.old self.new }
     {
         let member = self.joining(dev, hub)?;
@@ -103,6 +106,7 @@ impl<D: Device> Monitor<D> {
     /// Shows what a device of the selected board sends.
     pub(crate) fn show(&mut self, dev: &str) -> Result<Vec<u8>, Stop>
         requires unspent { self.old.spent ≡ false }
+        requires waits { self.old.ended ≡ true }
         ensures { IsRuled (hubs.show self.old.state dev.now) result self.old self.new }
     {
         let b = self.equipped()?;

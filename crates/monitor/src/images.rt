@@ -1,5 +1,5 @@
 //! Commands that load images.
-ghost use Rattle.std.specs.Prelude.{◌≡◌, ◌<◌, ◌%◌, length, false, IfErr, IsSome, IsTrue, OnOk, Some};
+ghost use Rattle.std.specs.Prelude.{◌≡◌, ◌<◌, ◌%◌, length, true, false, IfErr, IsSome, IsTrue, OnOk, Some};
 ghost use Rattle.std.specs.List.{list_all};
 ghost use Rattle.std.specs.Option.{ForSome};
 ghost use Rattle.rv_hart.specs.Core.{alignment};
@@ -90,6 +90,7 @@ impl<D: Device> Monitor<D> {
     /// Loads the bytes and the zeros of a part. After an `Err` some of the bytes are loaded.
     fn load_part(&mut self, b: BoardNo, part: &Part) -> Result<(), Stop>
         requires unspent { self.old.spent ≡ false }
+        requires waits { self.old.ended ≡ true }
         requires has_plan { IsSome (view_of self.old.state.lab b.0) }
         requires holds { ForSome (view_of self.old.state.lab b.0) (λ v.
             IsTrue (images.holds_part v part.now)) }
@@ -110,6 +111,7 @@ impl<D: Device> Monitor<D> {
     /// loaded.
     fn load_parts(&mut self, b: BoardNo, parts: &[Part]) -> Result<(), Stop>
         requires unspent { self.old.spent ≡ false }
+        requires waits { self.old.ended ≡ true }
         requires has_plan { IsSome (view_of self.old.state.lab b.0) }
         requires holds { ForSome (view_of self.old.state.lab b.0) (λ v.
             IsTrue (list_all (images.holds_part v) parts.now)) }
@@ -142,6 +144,7 @@ impl<D: Device> Monitor<D> {
     /// Has a processor of a board go on at an address.
     fn set_one_pc(&mut self, b: BoardNo, hart: u8, pc: u32)
         requires unspent { self.old.spent ≡ false }
+        requires waits { self.old.ended ≡ true }
         requires has_plan { IsSome (view_of self.old.state.lab b.0) }
         requires hart { ForSome (view_of self.old.state.lab b.0) (λ v. hart < length v.cores) }
         requires aligned { ForSome (view_of self.old.state.lab b.0) (λ v.
@@ -154,6 +157,7 @@ impl<D: Device> Monitor<D> {
     /// Has each processor of a board go on at an address.
     fn set_each_pc(&mut self, b: BoardNo, pc: u32)
         requires unspent { self.old.spent ≡ false }
+        requires waits { self.old.ended ≡ true }
         requires has_plan { IsSome (view_of self.old.state.lab b.0) }
         requires is_entry { ForSome (view_of self.old.state.lab b.0) (λ v.
             IsTrue (images.is_entry v (Some pc))) }
@@ -168,6 +172,7 @@ impl<D: Device> Monitor<D> {
     /// Has each processor go on at the entry of an image, if it has one.
     fn set_entry(&mut self, b: BoardNo, entry: Option<u32>)
         requires unspent { self.old.spent ≡ false }
+        requires waits { self.old.ended ≡ true }
         requires has_plan { IsSome (view_of self.old.state.lab b.0) }
         requires is_entry { ForSome (view_of self.old.state.lab b.0) (λ v.
             IsTrue (images.is_entry v entry)) }
@@ -181,6 +186,7 @@ impl<D: Device> Monitor<D> {
     /// Loads an image, and has each processor go on at its entry if it has one.
     pub(crate) fn load_image(&mut self, b: BoardNo, image: &Image) -> Result<Vec<u8>, Stop>
         requires unspent { self.old.spent ≡ false }
+        requires waits { self.old.ended ≡ true }
         requires has_plan { IsSome (view_of self.old.state.lab b.0) }
         ensures { ForSome (view_of self.old.state.lab b.0) (λ v. IsRuled
             (images.load_image self.old.state (record { number = b.0; view = v }) image.now)

@@ -1,5 +1,5 @@
 //! Commands that load a file onto the selected board.
-ghost use Rattle.std.specs.Prelude.{◌≡◌, ◌≤◌, length, false, IsSome};
+ghost use Rattle.std.specs.Prelude.{◌≡◌, ◌≤◌, length, true, false, IsSome};
 ghost use Rattle.std.specs.Option.{ForSome};
 ghost use Rattle.lab_state.specs.One.{view_of};
 ghost use Rattle.monitor.specs.Answer.{loads};
@@ -31,7 +31,8 @@ impl<D: Device> Monitor<D> {
         load: Load,
         path: &str,
     ) -> Result<Vec<u8>, Stop>
-        requires { self.old.spent ≡ false }
+        requires unspent { self.old.spent ≡ false }
+        requires waits { self.old.ended ≡ true }
         ensures { IsDone F.Files
             (λ held place. loads held place path.now (selected.equipped self.old.state)
             (loaded_by load self.old.state place))
@@ -45,6 +46,7 @@ impl<D: Device> Monitor<D> {
     /// Loads the bytes of a file.
     fn load_bytes(&mut self, b: BoardNo, load: Load, bytes: &[u8]) -> Result<Vec<u8>, Stop>
         requires unspent { self.old.spent ≡ false }
+        requires waits { self.old.ended ≡ true }
         requires has_plan { IsSome (view_of self.old.state.lab b.0) }
         requires few { length bytes.now ≤ 16777216 }
         ensures { (place : Place) → ForSome (view_of self.old.state.lab b.0) (λ v.

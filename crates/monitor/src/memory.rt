@@ -1,5 +1,5 @@
 //! Commands that read and write the memories of the selected board.
-ghost use Rattle.std.specs.Prelude.{◌≡◌, ◌≤◌, length, false, IsSome, IfOk, IfErr};
+ghost use Rattle.std.specs.Prelude.{◌≡◌, ◌≤◌, length, true, false, IsSome, IfOk, IfErr};
 ghost use Rattle.std.specs.Option.{ForSome};
 ghost use Rattle.lab_state.specs.One.{view_of};
 ghost use Rattle.monitor.specs.Memory as memory;
@@ -48,6 +48,7 @@ impl<D: Device> Monitor<D> {
     /// Stores a word of memory.
     pub(crate) fn write_word(&mut self, at: u32, value: u32) -> Result<Vec<u8>, Stop>
         requires unspent { self.old.spent ≡ false }
+        requires waits { self.old.ended ≡ true }
         ensures { IsRuled (memory.write_word self.old.state at value) result self.old self.new }
     {
         let b = self.equipped()?;
@@ -61,6 +62,7 @@ impl<D: Device> Monitor<D> {
     /// Writes bytes from an address on.
     pub(crate) fn write_bytes(&mut self, b: BoardNo, at: u32, bytes: &[u8]) -> Result<Vec<u8>, Stop>
         requires unspent { self.old.spent ≡ false }
+        requires waits { self.old.ended ≡ true }
         requires has_plan { IsSome (view_of self.old.state.lab b.0) }
         requires few { length bytes.now ≤ 16777216 }
         ensures { ForSome (view_of self.old.state.lab b.0) (λ v. IsRuled

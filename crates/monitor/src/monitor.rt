@@ -25,7 +25,7 @@ use dev_core::{Device, Stock};
 use floor_run::Gate;
 use lab_io::Files;
 use lab_num::{BoardNo, Micros, NoMemory, Rows, Text};
-use lab_state::{Lab, runs_keep_lines_open};
+use lab_state::Lab;
 use log_text::Lines;
 use resc_read::read_line;
 use resc_vars::{Flow, Next};
@@ -198,8 +198,8 @@ impl<D: Device> Monitor<D> {
 
 impl<D: Device + Send> Monitor<D> {
     /// Carries out the next command of the script. Files that it names are read from `files`. Any
-    /// answer but `Text`, `Save` and `Load` ends the script. Where several workers run several boards, each enters the gate
-    /// before each turn.
+    /// answer but `Text`, `Save` and `Load` ends the script. Where several workers run several boards,
+    /// each enters the gate before each turn.
     pub fn step<R: Threads + Wait + Copy + Send + Sync, F: Files, G: Gate>(
         &mut self,
         rt: &R,
@@ -218,8 +218,9 @@ impl<D: Device + Send> Monitor<D> {
         ensures absent { IfSome (F.held files.old) (λ held.
             (did run held self.old.state).answer ≡ Misses → IsCut result) }
 
-        // Any answer but a text and what is for the store ends it. Of these, all but want of memory leave the laboratory, what is
-        // open of its log, the variables and the macros as they were, and none of them spends it.
+        // Any answer but a text and what is for the store ends it. Every answer but a text and want of
+        // memory leaves the laboratory, what is open of its log, the variables and the macros as they
+        // were, and does not spend it.
         ensures next { IsNext result self.old self.new }
 
         // A step that says something or is for the store takes a command or more, of 100,000.
@@ -259,15 +260,13 @@ impl<D: Device + Send> Monitor<D> {
         ensures next { IsAfterLine result self.old self.new }
         ensures files { OnlyReads F.Files (result ≡ Step.Unread) files.old files.new }
     {
-        runs_keep_lines_open(&self.lab);
-        self.lab.is_one_that_can_be();
         match self.carry_out_line(rt, files, text, gate) {
             Ok(text) => {
                 self.ended = false;
                 Step::Text(Rows::of(text))
             }
             Err(stop) => {
-                self.ended = !matches!(stop, Stop::Store(_));
+                self.ended = stop.ends_script();
                 stopped(file, line, stop)
             }
         }
@@ -283,6 +282,7 @@ impl<D: Device + Send> Monitor<D> {
     ) -> Result<Vec<u8>, Stop>
         requires goes_on { self.old.state.flow.ended ≡ false }
         requires unspent { self.old.spent ≡ false }
+        requires waits { self.old.ended ≡ true }
         ensures { IsDone F.Files
             (λ held place. done_by run held self.old.state place (line_of text.now))
             result self.old self.new files.old files.new }

@@ -1,5 +1,6 @@
 //! Commands to a processor of the selected board: each prints a value, or sets it.
-ghost use Rattle.std.specs.Prelude.{◌≡◌, ◌≤◌, ◌<◌, ◌++◌, length, codes, false, IfErr, IfOk, IfSome, IsSome, Some};
+ghost use Rattle.std.specs.Prelude.{◌≡◌, ◌≤◌, ◌<◌, ◌++◌, length, codes, true, false, IfErr, IfOk, IfSome, IsSome};
+ghost use Rattle.std.specs.Prelude.{Some};
 ghost use Rattle.std.specs.Fmt.{decimal};
 ghost use Rattle.std.specs.Option.{ForSome};
 ghost use Rattle.board.specs.View.{View};
@@ -50,6 +51,7 @@ impl<D: Device> Monitor<D> {
     /// Prints or sets the address of a processor's next instruction.
     pub(crate) fn pc(&mut self, cpu: &str, value: Option<u32>) -> Result<Vec<u8>, Stop>
         requires unspent { self.old.spent ≡ false }
+        requires waits { self.old.ended ≡ true }
         ensures { IsRuled (processor.pc self.old.state cpu.now value) result self.old self.new }
     {
         let b = self.equipped()?;
@@ -62,6 +64,7 @@ impl<D: Device> Monitor<D> {
 
     fn set_pc(&mut self, b: BoardNo, hart: u8, value: u32) -> Result<Vec<u8>, Stop>
         requires unspent { self.old.spent ≡ false }
+        requires waits { self.old.ended ≡ true }
         requires has_plan { IsSome (view_of self.old.state.lab b.0) }
         requires hart { ForSome (view_of self.old.state.lab b.0) (λ v. hart < length v.cores) }
         ensures { ForSome (view_of self.old.state.lab b.0) (λ v. IsRuled
@@ -78,6 +81,7 @@ impl<D: Device> Monitor<D> {
     /// Prints or sets whether a processor is halted.
     pub(crate) fn halted(&mut self, cpu: &str, value: Option<bool>) -> Result<Vec<u8>, Stop>
         requires unspent { self.old.spent ≡ false }
+        requires waits { self.old.ended ≡ true }
         ensures { IsRuled (processor.halted self.old.state cpu.now value) result self.old self.new }
     {
         let b = self.equipped()?;
@@ -94,6 +98,7 @@ impl<D: Device> Monitor<D> {
     /// Prints or sets the instructions that each processor of the board makes in a microsecond.
     pub(crate) fn mips(&mut self, cpu: &str, value: Option<u32>) -> Result<Vec<u8>, Stop>
         requires unspent { self.old.spent ≡ false }
+        requires waits { self.old.ended ≡ true }
         requires within { IfSome value (λ n. (1 ≤ n) × (n ≤ 1000)) }
         ensures { IsRuled (processor.mips self.old.state cpu.now value) result self.old self.new }
     {

@@ -1,5 +1,5 @@
 //! Commands that run the laboratory.
-ghost use Rattle.std.specs.Prelude.{◌≡◌, ◌≤◌, false, IfOk, OnErr, OnOk};
+ghost use Rattle.std.specs.Prelude.{◌≡◌, ◌≤◌, true, false, IfOk, OnErr, OnOk};
 ghost use Rattle.lab_state.specs.Names.{names};
 ghost use Rattle.lab_state.specs.Run.{run};
 ghost use Rattle.log_text.specs.Log.{open_lines, text};
@@ -50,6 +50,7 @@ impl<D: Device> Monitor<D> {
     /// Sets the quantum of the runs to come.
     pub(crate) fn quantum(&mut self, length: Micros) -> Vec<u8>
         requires unspent { self.old.spent ≡ false }
+        requires waits { self.old.ended ≡ true }
         requires least { 1 ≤ length.0 }
         requires most { length.0 ≤ 1000000 }
         ensures done { runs.quantum self.old.state length.0
@@ -69,7 +70,8 @@ impl<D: Device> Monitor<D> {
 
     /// What is printed of these items of the log.
     fn print(&mut self, items: &[LogItem]) -> Result<Vec<u8>, NoMemory>
-        requires { self.old.spent ≡ false }
+        requires unspent { self.old.spent ≡ false }
+        requires waits { self.old.ended ≡ true }
         ensures text { IfOk result (λ printed. printed.items
             ≡ text (names self.old.state.lab) self.old.state.lines items.now) }
         ensures ok { OnOk result (self.new ≡ record self.old {
@@ -91,6 +93,7 @@ impl<D: Device + Send> Monitor<D> {
         gate: &G,
     ) -> Result<Vec<u8>, Stop>
         requires unspent { self.old.spent ≡ false }
+        requires waits { self.old.ended ≡ true }
         ensures { IsRuled (runs.run_for run self.old.state length.0) result self.old self.new }
     {
         self.lab.may_run(length)?;
@@ -106,6 +109,7 @@ impl<D: Device + Send> Monitor<D> {
         gate: &G,
     ) -> Result<Vec<u8>, Stop>
         requires unspent { self.old.spent ≡ false }
+        requires waits { self.old.ended ≡ true }
         ensures { IsRuled (runs.start run self.old.state) result self.old self.new }
     {
         let length = self.until.0.saturating_sub(self.lab.now().0);

@@ -1,6 +1,6 @@
 //! Why the monitor does not go on after a command.
 ghost use Rattle.std.specs.Prelude.{◌≡◌};
-ghost use Rattle.monitor.specs.Inner.Ruling.{IsFileStop};
+ghost use Rattle.monitor.specs.Inner.Ruling.{IsFileStop, ends_script};
 
 use crate::fault::{Cause, ScriptFault};
 use lab_io::ReadFault;
@@ -32,6 +32,15 @@ pub(crate) enum Stop {
     Unread,
     /// Memory ran out.
     Memory,
+}
+
+impl Stop {
+    /// Whether the script ends.
+    pub(crate) fn ends_script(&self) -> bool
+        ensures { result ≡ ends_script self.now }
+    {
+        !matches!(self, Stop::Store(_))
+    }
 }
 
 impl From<ScriptCause> for Stop {

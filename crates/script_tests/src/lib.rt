@@ -6,4 +6,6 @@ mod lines;
 #[cfg(test)]
 mod scripts;
 #[cfg(test)]
+mod steps;
+#[cfg(test)]
 mod words;

@@ -10,7 +10,7 @@ use std::alloc::Global;
 use std::test::Fail;
 
 /// A text of at most 16 MiB.
-fn short(alloc: Global, text: &str) -> Result<String, Fail>
+pub fn short(alloc: Global, text: &str) -> Result<String, Fail>
     ensures { IfOk result (λ made. length (string_bytes made) ≤ 2 ^ 24) }
 {
     let made = String::from_str(alloc, text)?;

@@ -1,6 +1,6 @@
 -- What the part of a step that carries out a command has done.
 use Rattle.std.specs.Prelude.{◌≡◌, ℕ, ◌<◌, ◌≤◌, true, false, List, length, Option, Some, Result, Ok, Err, Vec}
-use Rattle.std.specs.Prelude.{IfSome, IsSome, IsTrue}
+use Rattle.std.specs.Prelude.{All, Bool, IfOk, IfSome, IsSome, IsTrue}
 use Rattle.std.specs.Global.{Global}
 use Rattle.std.specs.Option.{ForSome}
 use Rattle.lab_io.specs.declared.files.Files.{Ghosts}
@@ -29,6 +29,7 @@ use Rattle.lab_state.specs.declared.faults.RunFault.{RunFault}
 use Rattle.lab_state.specs.declared.faults.RunFault.TheVariants as run_fault
 use Rattle.lab_state.specs.Lab.{Lab}
 use Rattle.lab_state.specs.One.{changed, kind_at, view_of}
+use Rattle.lab_state.specs.Valid.{IsOpen}
 use Rattle.elf_load.specs.declared.image.Image.{Image}
 use Rattle.repl_build.specs.Plan.{built}
 use Rattle.repl_files.specs.declared.fault.LoadFault.{LoadFault}
@@ -181,6 +182,10 @@ IsPlan loaded (Err (Content cause)) = ⊥
 IsPlan loaded (Err Unread) = ⊥
 IsPlan loaded (Err Memory) = Unit {0}
 
+-- the lines that are open stay those of shown UARTs
+abbrev pub KeepsOpen : State → State → Type 0
+KeepsOpen old new = All (IsOpen old.lab) old.lines → All (IsOpen new.lab) new.lines
+
 -- a monitor that goes on as it did
 pub record IsOnward (old new : Running) : Type 0 where
   pub spent : new.spent ≡ false
@@ -242,13 +247,15 @@ Leaves (Err Unread) old new = new ≡ old
 Leaves (Err Memory) old new = new.ended ≡ old.ended
 
 -- What a command has done: it is answered as it should be and asked for the names that it reads, or was cut short; if
--- it stops the script it has changed nothing, unless memory ran out; and of files it has only read.
+-- it stops the script it has changed nothing, unless memory ran out, and else it keeps the lines that are open, whatever
+-- is told of the files; and of files it has only read.
 pub record IsDone
     {F : Type 0} (files : Ghosts F) (by : Held → Place → Did) (result : Result (Vec ℕ Global) Stop) (old new : Running)
     (before after : F) : Type 0 where
   pub carried : (place : Place) → ForSome (files.held before)
       (λ held. IsCarried (by held place) place result new.state (files.asked before) (files.asked after))
   pub leaves : Leaves result old new
+  pub open_lines : IfOk result (λ text. KeepsOpen old.state new.state)
   pub reads : OnlyReads files (result ≡ Err Unread) before after
 
 -- a command that is for the store stops the monitor, which asks for what its answer says
@@ -275,6 +282,16 @@ step_of place (File fault) = step.Fault fault
 step_of place (Content cause) = step.Fault (told_at place cause)
 step_of place Unread = step.Unread
 step_of place Memory = step.Memory
+
+-- whether a script ends where the monitor stops so
+abbrev pub ends_script : Stop → Bool
+ends_script (Store asked) = false
+ends_script Quit = true
+ends_script (Line cause) = true
+ends_script (File fault) = true
+ends_script (Content cause) = true
+ends_script Unread = true
+ends_script Memory = true
 
 -- a line that says something or is for the store lets the script go on, and no other does
 abbrev pub IsAfterLine : Step → Running → Running → Type 0

@@ -1,7 +1,10 @@
+use Rattle.std.proofs.Common.{subst}
 use Rattle.std.proofs.lemmas.Result.{err_from_is_err_and}
 use Rattle.lab_state.specs.Run.{run}
 use Rattle.resc_read.specs.Line.{line_of}
 use Rattle.monitor.specs.Command.{work}
+use Rattle.monitor.specs.Step.{Running}
+use Rattle.monitor.proofs.OpenLemmas.{RunsKeep, work_keeps}
 use Rattle.monitor.proofs.Ruled.{line_refused, worked_done}
 use Rattle.monitor.proofs.Within.{line_within}
 use Rattle.monitor.proofs.monitor.Monitor.carry_out_line.Goals as goal
@@ -19,6 +22,9 @@ returns-in_err-command g c =
 
 pub returns : goal.returns
 returns g c =
+    let s = c.args.self.now.state in
+    let runs : RunsKeep s = subst (λ (r : Running). RunsKeep r.state) c.self.view_is c.runs_keep_lines_open.ensures in
     rw c.in_ok-command.ensures
-    (worked_done (work run c.args.self.now.state c.in_ok-command.command) c.carry_out.result c.args.self.now
-    c.carry_out.new.self c.args.files.now c.carry_out.new.files c.carry_out.ensures)
+    (worked_done (work run s c.in_ok-command.command) c.carry_out.result c.args.self.now c.carry_out.new.self
+    c.args.files.now c.carry_out.new.files
+    (λ held place open_. work_keeps s open_ runs held place c.in_ok-command.command) c.carry_out.ensures)

@@ -4,6 +4,7 @@ use Rattle.monitor.specs.Answer.{answer_at}
 use Rattle.monitor.specs.Bodies.{entered}
 use Rattle.monitor.specs.Step.{Running}
 use Rattle.monitor.proofs.Entered.{include_goes, include_stops, text_unread}
+use Rattle.monitor.proofs.OpenLemmas.{body_entered, kept_answer}
 use Rattle.monitor.proofs.Ruled.{done_stopped, done_told, ruled_leaves, ruled_told}
 use Rattle.monitor.proofs.monitor.Monitor.include.Goals as goal
 
@@ -17,7 +18,8 @@ returns-in-Ok g c =
     (λ place held told. include_goes held s place c.args.path.now (omega (arith, depth)) _ _ c.in-Ok.text
     (c.in-Ok.ensures.read held told))
     (λ place. ruled_told place ruling c.enter.result c.args.self.now c.enter.new.self c.enter.ensures)
-    (ruled_leaves ruling c.enter.result c.args.self.now c.enter.new.self c.enter.ensures) c.in-Ok.ensures.files
+    (ruled_leaves ruling c.enter.result c.args.self.now c.enter.new.self c.enter.ensures)
+    (λ place open_. kept_answer place ruling (body_entered s open_ _)) c.in-Ok.ensures.files
 
 pub returns-in-Err : goal.returns-in-Err
 returns-in-Err g c =

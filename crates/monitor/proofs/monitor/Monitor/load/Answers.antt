@@ -1,7 +1,7 @@
 use Rattle.std.proofs.Common.{Err, [], ap}
 use Rattle.std.proofs.lemmas.Result.{err_from_is_err_and}
 use Rattle.monitor.specs.Inner.Ruling.{loaded_by, read_stop}
-use Rattle.monitor.proofs.Loads.{load_goes, load_stops, read_unread}
+use Rattle.monitor.proofs.Loads.{load_goes, load_keeps, load_stops, read_unread}
 use Rattle.monitor.proofs.Ruled.{done_refused, done_stopped, done_told}
 use Rattle.monitor.proofs.monitor.Monitor.load.Goals as goal
 
@@ -31,4 +31,7 @@ returns g c =
     (λ place held told. load_goes held s place c.args.path.now (loaded_by c.args.load s place) c.in_ok-b.b.0 on _ _
     c.in_ok-bytes.bytes (c.in_ok-bytes.ensures.read held told) c.in_ok-bytes.ensures.short)
     (λ place. rw (← c.deref.ensures.value) (c.load_bytes.ensures place on.view on.seen).0)
-    (c.load_bytes.ensures (record { file = []; number = 0 }) on.view on.seen).1 c.in_ok-bytes.ensures.files
+    (c.load_bytes.ensures (record { file = []; number = 0 }) on.view on.seen).1
+    (λ place open_. load_keeps s open_ place c.args.load (record { number = c.in_ok-b.b.0; view = on.view })
+    c.in_ok-bytes.bytes.items)
+    c.in_ok-bytes.ensures.files

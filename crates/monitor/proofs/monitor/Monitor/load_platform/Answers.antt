@@ -1,9 +1,10 @@
-use Rattle.std.proofs.Common.{◌∙◌, ap, length, Ok, Err}
+use Rattle.std.proofs.Common.{◌∙◌, [], ap, length, Ok, Err}
 use Rattle.std.proofs.lemmas.Result.{err_from_is_err_and}
 use Rattle.monitor.specs.Answer.{answer_at}
 use Rattle.monitor.specs.Boards.{made}
 use Rattle.monitor.specs.Step.{Running}
 use Rattle.monitor.proofs.Equipping.{platform_goes, platform_stops}
+use Rattle.monitor.proofs.OpenLemmas.{made_by}
 use Rattle.monitor.proofs.Ruled.{done_refused, done_stopped, done_told, ruled_leaves, ruled_told}
 use Rattle.monitor.proofs.monitor.Monitor.load_platform.Goals as goal
 
@@ -33,4 +34,6 @@ returns g c =
     (λ place held told. platform_goes held s place c.args.path.now c.in_ok-b.b.0 c.depth.result c.in_ok-plan.plan _ _
     c.in_ok-b.ensures.ok depth (c.in_ok-plan.ensures.read held told))
     (λ place. ruled_told place ruling c.fit.result c.args.self.now c.fit.new.self c.fit.ensures)
-    (ruled_leaves ruling c.fit.result c.args.self.now c.fit.new.self c.fit.ensures) c.in_ok-plan.ensures.files
+    (ruled_leaves ruling c.fit.result c.args.self.now c.fit.new.self c.fit.ensures)
+    (λ place open_. made_by s open_ place c.in_ok-b.b.0 [] c.in_ok-b.ensures.none (Ok c.in_ok-plan.plan))
+    c.in_ok-plan.ensures.files
