@@ -2,4 +2,5 @@ pub mod Settings
 pub mod Pieces
 pub mod Courses
 pub mod Onward
+pub mod Stores
 pub mod Openings

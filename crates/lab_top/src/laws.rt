@@ -1,18 +1,23 @@
 //! Laws of the transcript. Each is the contract of a function that does nothing when it runs.
-ghost use Rattle.std.specs.Prelude.{◌≡◌, ℕ, true, List, Ok};
+ghost use Rattle.std.specs.Prelude.{◌≡◌, ◌≤◌, ℕ, true, false, List, [], None, Ok, length};
+ghost use Rattle.std.specs.FinMap.{insert};
 ghost use Rattle.std.specs.List.{list_all};
 ghost use Rattle.lab_io.specs.Held.{Held};
+ghost use Rattle.lab_io.specs.Store.{get_of, put_of};
+ghost use Rattle.lab_snap.specs.Saved.{IsSpellable, spelling};
 ghost use Rattle.lab_state.specs.Run.{run};
 ghost use Rattle.lab_state.specs.Turns.{Cut, IsWhole, run_in_turns};
+ghost use Rattle.lab_state.specs.Valid.{IsValid};
 ghost use Rattle.lab_num.specs.Returns.{is_no_return, with_returns};
 ghost use Rattle.monitor.specs.declared.setting.Setting.{Setting};
 ghost use Rattle.monitor.specs.Answer.{Done, leaves};
 ghost use Rattle.monitor.specs.Runs.{run_for};
-ghost use Rattle.monitor.specs.State.{State};
+ghost use Rattle.monitor.specs.State.{State, Place, empty_lab};
 ghost use Rattle.lab_top.specs.Content.{Readable};
 ghost use Rattle.lab_top.specs.Request.{Run, request_of};
-ghost use Rattle.lab_top.specs.Transcript.{begun, transcript, transcript_by};
+ghost use Rattle.lab_top.specs.Transcript.{Rest, begun, loading, saving, transcript, transcript_by, using};
 
+use lab_snap::snapshots_are_what_they_spell;
 use lab_state::turns_agree;
 use resc_vars::return_law;
 
