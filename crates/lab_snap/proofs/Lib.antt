@@ -13,4 +13,5 @@ mod PlanLemmas
 mod RisingLemmas
 mod SavedLists
 mod SavedParts
+mod SnapshotLemmas
 mod ValidParts

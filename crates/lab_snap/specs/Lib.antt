@@ -9,3 +9,4 @@ pub mod Memory
 pub mod Page
 pub mod Rising
 pub mod Saved
+pub mod Snapshot

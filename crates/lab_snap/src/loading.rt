@@ -1,5 +1,5 @@
 //! A laboratory is made again of its bytes.
-ghost use Rattle.std.specs.Prelude.{◌≡◌, [], false, true, IfOk, List, MatchResult, OnOk};
+ghost use Rattle.std.specs.Prelude.{◌≡◌, [], false, true, IfOk, List, MatchResult, None, OnOk, Some};
 ghost use Rattle.log_text.specs.declared.line.OpenLine.{OpenLine as Line};
 ghost use Rattle.lab_state.specs.Lab.{Lab as Laboratory};
 ghost use Rattle.lab_state.specs.Valid.{IsLab, IsValid};
@@ -8,11 +8,13 @@ ghost use Rattle.lab_snap.specs.Inner.Parts.{FitTheirPlans};
 ghost use Rattle.lab_snap.specs.Lab.{lab_form};
 ghost use Rattle.lab_snap.specs.Loaded.{loaded};
 ghost use Rattle.lab_snap.specs.Saved.{saved, spelling, IsSpellable};
+ghost use Rattle.lab_snap.specs.Snapshot.{snapshot_of};
 
 mod boards;
 mod hubs;
 
 use crate::lab::{SavedLab, read_lab};
+use crate::snapshot::snapshots_are_what_they_spell;
 use crate::valid::is_valid;
 use board::states_are_put_back;
 use dev_core::Device;
@@ -80,7 +82,7 @@ fn build<D: Device>(
 }
 
 /// A laboratory that is saved and loaded is itself: a proof that needs this calls it.
-fn saving_agrees()
+pub(crate) fn saving_agrees()
     ensures loaded { (l : Laboratory) (ls : List Line) → IsLab l → loaded (saved l ls) ≡ l }
     ensures fit { (l : Laboratory) (ls : List Line) → IsLab l → FitTheirPlans (saved l ls).boards }
     ensures saved { (s : Snapshot) → FitTheirPlans s.boards → saved (loaded s) s.lines ≡ s }
@@ -118,7 +120,8 @@ fn load_or_part<D: Device>(
 
 /// Loads what the bytes spell, all of them, into a laboratory in which nothing was made. What is loaded
 /// is valid and spelled so (`found`), and what is valid and spelled so is loaded, unless memory runs out
-/// (`only`). `Bad` changes nothing, and `Memory` leaves the laboratory spent.
+/// (`only`): so what is loaded is what the bytes hold (`held`), and `Bad` comes only where they hold
+/// nothing (`refused`). `Bad` changes nothing, and `Memory` leaves the laboratory spent.
 pub fn load<D: Device>(
     alloc: Global,
     lab: &mut Lab<D>,
@@ -136,9 +139,12 @@ pub fn load<D: Device>(
         bytes.now ≡ spelling l ls →
         MatchResult result (λ _. (lab.new ≡ record { lab = l; spent = false }) × (lines.new ≡ ls))
         (λ fault. fault ≡ SnapFault.Memory) }
+    ensures held { OnOk result (snapshot_of bytes.now ≡ Some (lab.new.lab, lines.new)) }
+    ensures refused { result ≡ Err SnapFault.Bad → snapshot_of bytes.now ≡ None }
     ensures bad { result ≡ Err SnapFault.Bad → (lab.new ≡ lab.old) × (lines.new ≡ lines.old) }
     ensures memory { result ≡ Err SnapFault.Memory → lab.new.spent ≡ true }
 {
+    snapshots_are_what_they_spell();
     let result = load_or_part(alloc, lab, lines, bytes);
     if result == Err(SnapFault::Memory) {
         lab.spend();

@@ -1,5 +1,5 @@
 //! A laboratory and its open lines, saved as bytes.
-ghost use Rattle.std.specs.Prelude.{◌≡◌, ◌<◌, All, IfOk, IfSome, OnOk, false, length, map, slice_get};
+ghost use Rattle.std.specs.Prelude.{◌≡◌, ◌<◌, All, IfOk, IfSome, OnOk, Some, false, length, map, slice_get};
 ghost use Rattle.std.specs.Option.{option_map};
 ghost use Rattle.board.specs.BoardState.{board_state};
 ghost use Rattle.lab_spell.specs.BoardState.{board_state_form};
@@ -15,10 +15,12 @@ ghost use Rattle.lab_snap.specs.Lab.{board_form};
 ghost use Rattle.lab_snap.specs.MachineForm.{machine_form, memories_form, sized_form};
 ghost use Rattle.lab_snap.specs.Saved.{IsSpellable, saved_board, saved_hub, saved_machine, spelling};
 ghost use Rattle.lab_snap.specs.Saved as saved_spec;
+ghost use Rattle.lab_snap.specs.Snapshot.{snapshot_of};
 
 use crate::hub::HubKind;
 use crate::lab::MARK;
 use crate::memory::{PAGE, put_memory};
+use crate::snapshot::snapshots_are_what_they_spell;
 use board::Board;
 use dev_core::{Device, Kind};
 use lab_num::{BoardNo, NoMemory};
@@ -211,13 +213,16 @@ fn put_lab<D: Device>(lab: &Lab<D>, lines: &Lines, out: &mut Vec<u8>) -> Result<
     Ok(())
 }
 
-/// The one spelling of a laboratory and its open lines. `Err` is for want of memory alone.
+/// The one spelling of a laboratory and its open lines, which holds them. `Err` is for want of memory
+/// alone.
 pub fn save<D: Device>(alloc: Global, lab: &Lab<D>, lines: &Lines) -> Result<Vec<u8>, NoMemory>
     requires unspent { lab.now.spent ≡ false }
     requires valid { IsValid lab.now.lab lines.now }
     ensures spelled { IfOk result (λ bytes. bytes.items ≡ spelling lab.now.lab lines.now) }
     ensures fits { OnOk result (IsSpellable lab.now.lab lines.now) }
+    ensures held { IfOk result (λ bytes. snapshot_of bytes.items ≡ Some (lab.now.lab, lines.now)) }
 {
+    snapshots_are_what_they_spell();
     let mut out = Vec::new(alloc);
     put_lab(lab, lines, &mut out)?;
     Ok(out)

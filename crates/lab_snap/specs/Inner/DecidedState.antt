@@ -1,0 +1,168 @@
+-- Whether a state fits a plan.
+use Rattle.std.proofs.Common.{◌≡◌, ◌∙◌, ◌≤◌, ◌<◌, ◌^◌, ℕ, zero, suc, List, [], ◌∷◌, Bool, true, false, length, map, refl}
+use Rattle.std.proofs.Common.{ap, arith, pow-suc, sym}
+use Rattle.std.specs.Prelude.{Option, None, Some, All, IsTrue, ◌+◌, ◌==◌, drop, slice_index_or}
+use Rattle.std.specs.Int.{bit_at}
+use Rattle.std.specs.List.{range_with_len}
+use Rattle.std.proofs.lemmas.Bool.{both_ways, eq-eqb, false≢true, ne_eqb}
+use Rattle.std.proofs.lemmas.Nat.Bits.{bit_at_above}
+use Rattle.clint.specs.declared.state.ClintState.{ClintState}
+use Rattle.dev_core.specs.declared.can_state.CanState.{CanState}
+use Rattle.dev_core.specs.declared.kind.Kind.{Kind}
+use Rattle.dev_core.specs.declared.kind.Kind.TheVariants as kind
+use Rattle.dev_core.specs.declared.state.DevState.{DevState}
+use Rattle.dev_core.specs.declared.state.DevState.TheVariants as device
+use Rattle.dev_core.specs.declared.uart_state.UartState.{UartState}
+use Rattle.dev_core.specs.Can.{IsCanState}
+use Rattle.dev_core.specs.Device.{IsValid, kind_of}
+use Rattle.dev_core.specs.Uart.{IsUartState}
+use Rattle.plic.specs.declared.state.PlicState.{PlicState}
+use Rattle.plic.specs.Sources.{AreSources, has, is_source}
+use Rattle.plic.specs.State.{AreEnables, ArePriorities, AreThresholds, IsPlicState}
+use Rattle.rv_hart.specs.declared.letters.Letters.{Letters}
+use Rattle.rv_hart.specs.declared.state.HartState.{HartState}
+use Rattle.rv_hart.specs.HartState.{IsHartState}
+use Rattle.sys_bus.specs.declared.plan.BoardPlan.{BoardPlan}
+use Rattle.sys_bus.specs.declared.plan.PlicSize.{PlicSize}
+use Rattle.board.specs.declared.state.BoardState.{BoardState}
+use Rattle.board.specs.Changes.{is_shown_kind}
+use Rattle.board.specs.Valid.{IsClintFor, IsPlicFor, IsReservation, IsReserved, IsStateFor}
+use Rattle.lab_snap.specs.Inner.Decided.{Decided, at_most, below, both, each, each_number, fails, holds, same_flag}
+use Rattle.lab_snap.specs.Inner.Decided.{same_list, same_number, tested, told_by, where_so}
+
+-- ---- processors
+
+hart_decided : (s : HartState) → Decided (IsHartState s)
+hart_decided s =
+    told_by
+    (both (same_number _ _) (both (same_number _ _) (both (same_number _ _) (both (same_number _ _) (same_number _ _)))))
+    (λ (a, (b, (c, (d, e)))). record { zero = a; enables = b; mode = c; return_pc = d; aligned = e })
+    (λ h. (h.zero, (h.enables, (h.mode, (h.return_pc, h.aligned)))))
+
+same_letters : (a b : Letters) → Decided (a ≡ b)
+same_letters x y =
+    told_by (both (same_flag x.a y.a) (same_flag x.c y.c)) (λ (a, c). λ i. record { a = a i; c = c i })
+    (λ e. (ap (λ (l : Letters). l.a) e, ap (λ (l : Letters). l.c) e))
+
+reservation_decided : (plan : BoardPlan) (at : Option ℕ) → Decided (IsReservation plan at)
+reservation_decided plan None = holds tt
+reservation_decided plan (Some at) =
+    told_by (both (same_number _ _) (both (same_flag _ _) (same_flag _ _)))
+    (λ (a, (b, c)). record { aligned = a; in_memory = b; atomic = c }) (λ h. (h.aligned, (h.in_memory, h.atomic)))
+
+-- ---- timer and interrupt controller
+
+clint_decided : (frequency : Option ℕ) (s : Option ClintState) → Decided (IsClintFor frequency s)
+clint_decided None None = holds tt
+clint_decided (Some frequency) (Some s) = holds tt
+clint_decided None (Some s) = fails (λ never. never)
+clint_decided (Some frequency) None = fails (λ never. never)
+
+below_power : (n : ℕ) → n < 2 ^ n
+below_power zero = omega arith
+below_power (suc n) = omega (arith, below_power n, pow-suc 2 n)
+
+-- a set has only numbers that are smaller than the number that it is
+not_in : (set s : ℕ) → set ≤ s → has set s ≡ true → ⊥
+not_in set s past in_it =
+    let none : bit_at set s ≡ 0 = bit_at_above set s s (let small = below_power s in omega (arith, past, small)) (omega arith) in
+    false≢true (sym (ap (λ (bit : ℕ). bit == 1) none) ∙ in_it)
+
+sources_decided : (n set : ℕ) → Decided (AreSources n set)
+sources_decided n set =
+    told_by
+    (each_number (λ s. where_so (has set s) (tested (is_source n s))) set
+    (λ s past in_it. absurd (not_in set s past in_it)))
+    (λ all. record { each = all }) (λ h. h.each)
+
+none_from : (k : ℕ) (xs : List ℕ) → Decided (All (λ x. x ≡ 0) (drop k xs))
+none_from k xs = each (λ x. same_number x 0) (drop k xs)
+
+plic_state_decided : (n k : ℕ) (p : PlicState) → Decided (IsPlicState n k p)
+plic_state_decided n k p =
+    told_by
+    (both (sources_decided n p.pending) (both (sources_decided n p.shut)
+    (both (each (λ x. at_most x 7) p.priorities) (both (same_number _ _) (both (none_from (n + 1) p.priorities)
+    (both (each (sources_decided n) p.enables) (both (none_from k p.enables)
+    (both (each (λ x. at_most x 7) p.thresholds) (none_from k p.thresholds)))))))))
+    (λ (pending, (shut, (levels, (no_source, (absent, (enables, (no_enables, (thresholds, no_thresholds)))))))). record {
+      pending = pending;
+      shut = shut;
+      priorities = record { levels = levels; no_source = no_source; absent = absent };
+      enables = record { sources = enables; absent = no_enables };
+      thresholds = record { levels = thresholds; absent = no_thresholds };
+    })
+    (λ h. (h.pending, (h.shut, (h.priorities.levels, (h.priorities.no_source, (h.priorities.absent,
+    (h.enables.sources, (h.enables.absent, (h.thresholds.levels, h.thresholds.absent)))))))))
+
+plic_decided : (size : Option PlicSize) (s : Option PlicState) → Decided (IsPlicFor size s)
+plic_decided None None = holds tt
+plic_decided (Some size) (Some s) = plic_state_decided size.sources size.contexts s
+plic_decided None (Some s) = fails (λ never. never)
+plic_decided (Some size) None = fails (λ never. never)
+
+-- ---- devices
+
+uart_decided : (u : UartState) → Decided (IsUartState u)
+uart_decided u =
+    told_by (both (at_most _ _) (both (at_most _ _) (both (tested _) (at_most _ _))))
+    (λ (a, (b, (c, d))). record { ier = a; mcr = b; trigger = c; received = d })
+    (λ h. (h.ier, (h.mcr, (h.trigger, h.received))))
+
+can_decided : (c : CanState) → Decided (IsCanState c)
+can_decided c =
+    told_by (both (at_most _ _) (both (same_number _ _) (at_most _ _)))
+    (λ (a, (b, c)). record { control = a; divider = b; received = c }) (λ h. (h.control, (h.divider, h.received)))
+
+device_decided : (s : DevState) → Decided (IsValid s)
+device_decided (device.Uart u) = uart_decided u
+device_decided (device.Can c) = can_decided c
+device_decided device.Finisher = holds tt
+
+pub same_kind : (a b : Kind) → Decided (a ≡ b)
+same_kind kind.Uart kind.Uart = holds refl
+same_kind kind.Can kind.Can = holds refl
+same_kind kind.Finisher kind.Finisher = holds refl
+same_kind a b = fails (λ e. absurd (cc))
+
+not_past : (flags : List Bool) (dev : ℕ) → length flags ≤ dev → slice_index_or flags dev false ≡ true → ⊥
+not_past [] dev past on = false≢true on
+not_past (flag ∷ flags) zero past on = absurd (omega (arith, past))
+not_past (flag ∷ flags) (suc dev) past on = not_past flags dev (omega (arith, past)) on
+
+shown_decided : (flags : List Bool) (kinds : List Kind) → Decided ((dev : ℕ) →
+    slice_index_or flags dev false ≡ true → IsTrue (is_shown_kind (slice_index_or kinds dev kind.Finisher)))
+shown_decided flags kinds =
+    each_number
+    (λ dev. where_so (slice_index_or flags dev false)
+    (tested (is_shown_kind (slice_index_or kinds dev kind.Finisher))))
+    (length flags) (λ dev past on. absurd (not_past flags dev past on))
+
+-- ---- all of it
+
+pub state_decided : (plan : BoardPlan) (s : BoardState) → Decided (IsStateFor plan s)
+state_decided plan s =
+    told_by
+    (both (tested _) (both (below _ _)
+    (both (each hart_decided s.harts) (both (each (λ hart. same_letters hart.letters plan.letters) s.harts)
+    (both (same_list same_number _ _) (both (same_number _ _) (both (each (reservation_decided plan) s.reserved)
+    (both (clint_decided plan.frequency s.clint) (both (plic_decided plan.plic s.plic)
+    (both (same_list same_kind _ _) (both (each device_decided s.devices) (both (same_number _ _)
+    (shown_decided s.shown plan.kinds)))))))))))))
+    (λ (a, (b, (c, (d, (e, (f, (g, (h, (i, (j, (k, (l, m)))))))))))). record {
+      speed = a;
+      next = b;
+      harts = c;
+      letters = d;
+      numbers = e;
+      watch = f;
+      reserved = g;
+      clint = h;
+      plic = i;
+      kinds = j;
+      states = k;
+      flags = l;
+      shown = m;
+    })
+    (λ r. (r.speed, (r.next, (r.harts, (r.letters, (r.numbers, (r.watch, (r.reserved, (r.clint, (r.plic, (r.kinds,
+    (r.states, (r.flags, r.shown)))))))))))))
