@@ -1,7 +1,8 @@
--- What runs tell the log of bytes they tell of UARTs that were shown when they began.
-use Rattle.std.proofs.Common.{◌≡◌, ◌∙◌, sym, ap, subst, refl, Bool, true, false, ◌&&◌, ℕ, zero, suc, ◌+◌, ◌*◌, ◌<◌, ◌≤◌, ◌/◌, ◌%◌, ◌==◌}
-use Rattle.std.proofs.Common.{List, [], ◌∷◌, ◌++◌, length, map, fold, find, get_or, slice_get, Option, None, Some, add-zero, arith}
-use Rattle.std.specs.Prelude.{if◌then◌else◌, nat_lt, is_some, sum, replicate}
+-- What runs tell the log of bytes they tell of UARTs that were shown when they began, and these stay so.
+use Rattle.std.proofs.Common.{◌≡◌, ◌∙◌, sym, ap, subst, refl, ℕ, zero, suc, ◌+◌, ◌*◌, ◌<◌, ◌≤◌, ◌/◌, ◌%◌, ◌==◌, arith}
+use Rattle.std.proofs.Common.{Bool, true, false, ◌&&◌, List, [], ◌∷◌, ◌++◌, length, map, fold, find, get_or, slice_get}
+use Rattle.std.proofs.Common.{Option, None, Some, add-zero}
+use Rattle.std.specs.Prelude.{if◌then◌else◌, nat_lt, is_some, sum, replicate, IsTrue}
 use Rattle.std.specs.List.{All, flat_map}
 use Rattle.std.specs.Option.{option_map, option_map_or, option_to_list}
 use Rattle.std.proofs.Math.ListN.{get_or-map}
@@ -30,7 +31,8 @@ use Rattle.dev_core.specs.Post.{entry_key, post_key}
 use Rattle.log_merge.specs.declared.item.LogItem.{LogItem}
 use Rattle.log_merge.specs.declared.item.LogItem.TheVariants as item
 use Rattle.log_merge.specs.declared.item.Note.{Note}
-use Rattle.log_text.specs.Log.{IsOnBytes}
+use Rattle.log_text.specs.declared.line.OpenLine.{OpenLine}
+use Rattle.log_text.specs.Log.{device_of, open_lines, IsOnBytes}
 use Rattle.sys_bus.specs.Limits.{is_kind}
 use Rattle.board.specs.Changes.{handed}
 use Rattle.board.specs.Sent.{IsEnteredIn, IsShown, IsToldBy}
@@ -47,7 +49,7 @@ use Rattle.lab_state.specs.Pending.{finish_of, is_finish}
 use Rattle.lab_state.specs.Round.{Rounded, stepped, entries_made, item_of, slot_items, pause_items}
 use Rattle.lab_state.specs.Round.{round_by, round}
 use Rattle.lab_state.specs.Run.{rest_of, lengths, followed_by, go_on, still, run_by, run}
-use Rattle.lab_state.specs.Valid.{is_shown_uart, is_shown_before}
+use Rattle.lab_state.specs.Valid.{is_shown_uart, is_shown_before, IsOpen}
 use Rattle.lab_state.specs.Inner.End.{in_round}
 use Rattle.lab_state.specs.Inner.Time.{numbers_of, AreStanding}
 use Rattle.lab_state.proofs.ListLemmas.{map-map_same, All-unmap, All-listing, each_made, numbers_at}
@@ -119,7 +121,8 @@ handed-uart dev payload v =
     let new : Fitted = record old { state = (dev_take old.state payload).after } in
     let hidden : Fitted = record { state = state.Finisher; shown = false } in
     uart-same (handed v dev payload) v
-    (map-set_same (λ (fitted : Fitted). kind_of fitted.state) v.space.devices dev new hidden (take-kind old.state payload))
+    (map-set_same (λ (fitted : Fitted). kind_of fitted.state) v.space.devices dev new hidden
+    (take-kind old.state payload))
     (map-set_same (λ (fitted : Fitted). fitted.shown) v.space.devices dev new hidden refl)
 
 -- ---- what a round tells of
@@ -128,10 +131,22 @@ handed-uart dev payload v =
 abbrev is_before : List Uarts → ℕ → Member → Micros → Bool
 is_before all now m at = is_among all m.board.0 m.dev && nat_lt at.0 now
 
+-- they are those of a laboratory
+before-lab :
+    (lab : Lab) (all : List Uarts) → uarts_of lab.boards ≡ all → (now : ℕ) →
+    is_before all now ≡ is_shown_before lab now
+before-lab lab all is now =
+    ap (λ all. is_before all now) (sym is) ∙ (λ i m at. sym (among lab.boards m.board.0 m.dev) i && nat_lt at.0 now)
+
 -- what was before a time is before a later one
+later :
+    (all : List Uarts) (a b : ℕ) → a ≤ b → (m : Member) (at : Micros) → IsTrue (is_before all a m at) →
+    IsTrue (is_before all b m at)
+later all a b order m at is = grind (arith, nat_tests)
+
 later_item :
     (all : List Uarts) (a b : ℕ) → a ≤ b → (i : LogItem) → IsOnBytes (is_before all a) i → IsOnBytes (is_before all b) i
-later_item all a b order (item.Slot from (what.Byte dev byte)) is = grind (arith, nat_tests)
+later_item all a b order (item.Slot from (what.Byte dev byte)) is = later all a b order (device_of from dev) from.at is
 later_item all a b order (item.Slot from (what.Sent dev frame)) is = tt
 later_item all a b order (item.Slot from (what.Read width at)) is = tt
 later_item all a b order (item.Slot from (what.Write width at value)) is = tt
@@ -188,6 +203,15 @@ ShownKeeping =
     (v : View) (from a n : ℕ) →
     map (λ (fitted : Fitted). fitted.shown) (stretch v from a n).view.space.devices
     ≡ map (λ (fitted : Fitted). fitted.shown) v.space.devices
+
+-- a line of a member and a time that pass a test, and the law that items open such lines
+abbrev pub IsIn : (Member → Micros → Bool) → OpenLine → Type 0
+IsIn p line = IsTrue (p line.member line.at)
+
+abbrev pub LineOpening : Type 0
+LineOpening =
+    (p : Member → Micros → Bool) (lines : List OpenLine) (items : List LogItem) → All (IsIn p) lines →
+    All (IsOnBytes p) items → All (IsIn p) (open_lines lines items)
 
 uart_shown : (v : View) (dev : ℕ) → IsShown v Uart dev → is_shown_uart v dev ≡ true
 uart_shown v dev is = rw (is.shown, is.kind) refl
@@ -306,18 +330,20 @@ module _ (number : Numbering) (time : EntryTiming) (tell : Telling) (kinds : Kin
 
   -- ---- runs
 
-  -- what rounds have come to that began with these UARTs
-  record Tells (all : List Uarts) (run : Rounded) : Type 0 where
+  -- what rounds have come to that began at this time with these UARTs
+  record Tells (from : ℕ) (all : List Uarts) (run : Rounded) : Type 0 where
+    order : from ≤ run.lab.now
     same : uarts_of run.lab.boards ≡ all
     standing : AreStanding (1000 * run.lab.now) (numbers_of run.lab.boards)
     told : All (IsOnBytes (is_before all run.lab.now)) run.items
 
   one-more :
-      (all : List Uarts) (run : Rounded) (q : ℕ) → Tells all run → run.lab.now + q ≤ 10000000000 →
-      Tells all (followed_by run (round run.lab q))
-  one-more all run q tells within =
+      (from : ℕ) (all : List Uarts) (run : Rounded) (q : ℕ) → Tells from all run → run.lab.now + q ≤ 10000000000 →
+      Tells from all (followed_by run (round run.lab q))
+  one-more from all run q tells within =
       let now = now-round run.lab q in
       record {
+        order = omega (arith, now, tells.order);
         same = uarts-round run.lab q ∙ tells.same;
         standing = standing-round run.lab q within tells.standing;
         told =
@@ -330,33 +356,52 @@ module _ (number : Numbering) (time : EntryTiming) (tell : Telling) (kinds : Kin
 
   -- a round more, or none after a pause
   gone :
-      (all : List Uarts) (run : Rounded) (q : ℕ) → Tells all run → run.lab.now + q ≤ 10000000000 →
-      Tells all (go_on round run q) × ((go_on round run q).lab.now ≤ run.lab.now + q)
-  gone all run q tells within = by_pause (is_some run.paused)
+      (from : ℕ) (all : List Uarts) (run : Rounded) (q : ℕ) → Tells from all run → run.lab.now + q ≤ 10000000000 →
+      Tells from all (go_on round run q) × ((go_on round run q).lab.now ≤ run.lab.now + q)
+  gone from all run q tells within = by_pause (is_some run.paused)
     where
       by_pause :
           (paused : Bool) →
-          Tells all (if paused then run else followed_by run (round run.lab q))
+          Tells from all (if paused then run else followed_by run (round run.lab q))
           × ((if paused then run else followed_by run (round run.lab q)).lab.now ≤ run.lab.now + q)
       by_pause true = (tells, omega arith)
-      by_pause false = (one-more all run q tells within, omega (arith, now-round run.lab q))
+      by_pause false = (one-more from all run q tells within, omega (arith, now-round run.lab q))
 
   rounds-tell :
-      (all : List Uarts) (run : Rounded) (qs : List ℕ) → Tells all run → run.lab.now + sum qs ≤ 10000000000 →
-      Tells all (fold (go_on round) run qs)
-  rounds-tell all run [] tells within = tells
-  rounds-tell all run (q ∷ qs) tells within =
+      (from : ℕ) (all : List Uarts) (run : Rounded) (qs : List ℕ) → Tells from all run →
+      run.lab.now + sum qs ≤ 10000000000 → Tells from all (fold (go_on round) run qs)
+  rounds-tell from all run [] tells within = tells
+  rounds-tell from all run (q ∷ qs) tells within =
       let total = sum_by-cons (λ (x : ℕ). x) q qs in
-      let next = gone all run q tells (omega (arith, within, total)) in
-      rounds-tell all (go_on round run q) qs next.0 (omega (arith, within, total, next.1))
+      let next = gone from all run q tells (omega (arith, within, total)) in
+      rounds-tell from all (go_on round run q) qs next.0 (omega (arith, within, total, next.1))
 
-  pub runs-tell :
-      (lab : Lab) (d : ℕ) → AreStanding (1000 * lab.now) (numbers_of lab.boards) → lab.now + d ≤ 10000000000 →
-      All (IsOnBytes (is_shown_before lab (run lab d).lab.now)) (run lab d).items
-  unfolding run_by
-  runs-tell lab d are within =
-      let tells : Tells (uarts_of lab.boards) (run lab d) =
-      rounds-tell (uarts_of lab.boards) (still lab) (lengths lab.quantum d)
-      (record { same = refl; standing = are; told = All-nil _ }) (rw sum-lengths within) in
-      subst (λ p. All (IsOnBytes p) (run lab d).items)
-      (λ i m at. sym (among lab.boards m.board.0 m.dev) i && nat_lt at.0 (run lab d).lab.now) tells.told
+  module _ (lab : Lab) (d : ℕ) (are : AreStanding (1000 * lab.now) (numbers_of lab.boards))
+      (within : lab.now + d ≤ 10000000000) where
+    run-tells : Tells lab.now (uarts_of lab.boards) (run lab d)
+    unfolding run_by
+    run-tells =
+        rounds-tell lab.now (uarts_of lab.boards) (still lab) (lengths lab.quantum d)
+        (record { order = omega arith; same = refl; standing = are; told = All-nil _ }) (rw sum-lengths within)
+
+    pub runs-tell : All (IsOnBytes (is_shown_before lab (run lab d).lab.now)) (run lab d).items
+    runs-tell =
+        subst (λ p. All (IsOnBytes p) (run lab d).items)
+        (before-lab lab (uarts_of lab.boards) refl (run lab d).lab.now) run-tells.told
+
+    -- lines that are open when it begins, and those that it leaves open, are open in the laboratory after it
+    pub runs-keep :
+        LineOpening → (lines : List OpenLine) → All (IsOpen lab) lines →
+        All (IsOpen (run lab d).lab) (open_lines lines (run lab d).items)
+    runs-keep law lines held =
+        let all = uarts_of lab.boards in
+        let end = (run lab d).lab.now in
+        let opened : All (IsIn (is_before all end)) lines =
+        All-weaker (IsOpen lab) (IsIn (is_before all end))
+        (λ line is.
+        later all lab.now end run-tells.order line.member line.at
+        (subst (λ p. IsIn p line) (sym (before-lab lab all refl lab.now)) is))
+        lines held in
+        subst (λ p. All (IsIn p) (open_lines lines (run lab d).items))
+        (before-lab (run lab d).lab all run-tells.same end)
+        (law (is_before all end) lines (run lab d).items opened run-tells.told)

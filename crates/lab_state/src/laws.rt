@@ -16,8 +16,9 @@ ghost use Rattle.lab_state.specs.Round.{round};
 ghost use Rattle.lab_state.specs.Run.{Play, run, run_by, followed_by, lengths, still, EndsIn};
 ghost use Rattle.lab_state.specs.Turns.{Cut, IsWhole, run_in_turns};
 ghost use Rattle.lab_state.specs.Undelayed.{AreUndelayed, undelayed_round};
-ghost use Rattle.lab_state.specs.Valid.{is_shown_before};
-ghost use Rattle.log_text.specs.Log.{IsOnBytes};
+ghost use Rattle.lab_state.specs.Valid.{is_shown_before, IsOpen};
+ghost use Rattle.log_text.specs.declared.line.OpenLine.{OpenLine};
+ghost use Rattle.log_text.specs.Log.{open_lines, IsOnBytes};
 
 use crate::faults::RunFault;
 use crate::lab::Lab;
@@ -29,6 +30,7 @@ use board::{
 use dev_core::{Device, Post as BoardPost};
 use floor_run::Gate;
 use lab_num::{Micros, key_laws, listing_laws};
+use log_text::open_lines_come_of_bytes;
 use std::sync::Wait;
 use std::thread::Threads;
 
@@ -97,6 +99,22 @@ pub fn runs_tell_of_shown_devices<D: Device>(lab: &Lab<D>)
     stretches_keep_time_of_entries();
     stretches_tell_of_devices();
     stretches_keep_devices();
+}
+
+/// Lines of shown UARTs that are open before a run, and those that its log leaves open, are open in the
+/// laboratory after it.
+pub fn runs_keep_lines_open<D: Device>(lab: &Lab<D>)
+    requires { lab.now.spent ≡ false }
+    ensures { (d : ℕ) (lines : List OpenLine) → lab.now.lab.now + d ≤ 10000000000 →
+        All (IsOpen lab.now.lab) lines →
+        All (IsOpen (run lab.now.lab d).lab) (open_lines lines (run lab.now.lab d).items) }
+{
+    let _spent = lab.spent;
+    stretches_number();
+    stretches_keep_time_of_entries();
+    stretches_tell_of_devices();
+    stretches_keep_devices();
+    open_lines_come_of_bytes();
 }
 
 /// In rounds of any lengths, however a run is cut into them, what the devices of one hub have sent is

@@ -8,6 +8,7 @@ pub mod Loads
 pub mod MachineNames
 pub mod MapLemmas
 pub mod MemoryLemmas
+pub mod OpenLemmas
 pub mod PlaceLemmas
 pub mod Ruled
 pub mod RunLemmas
