@@ -1,10 +1,12 @@
 -- What became of a command for the store, in the transcript and in the course.
 use Rattle.std.proofs.Common.{◌≡◌, ◌<◌, ◌≤◌, ◌∙◌, ℕ, Bool, true, false, if◌then◌else◌, nat_lt, List, [], ◌∷◌, length}
-use Rattle.std.proofs.Common.{cond, Option, None, Some, Result, Ok, Err, refl, sym, ap, arith}
+use Rattle.std.proofs.Common.{◌==◌, ◌||◌, not, cond, true≢false, Option, None, Some, Result, Ok, Err, refl, sym, ap, arith}
 use Rattle.std.specs.FinMap.{get, insert, get-insert}
 use Rattle.std.specs.Cmp.{eq_by_cmp_equiv}
 use Rattle.std.specs.Cmp.Lexicographic.{nat_list_cmp_total}
+use Rattle.std.specs.List.{All}
 use Rattle.std.proofs.lemmas.Bool.Decides.{nat_tests}
+use Rattle.std.proofs.lemmas.List.Elements.{All-head}
 use Rattle.lab_io.specs.Asked.{Log}
 use Rattle.lab_io.specs.Held.{Held}
 use Rattle.lab_io.specs.Known.{grown}
@@ -12,6 +14,7 @@ use Rattle.lab_io.specs.Store.{StoreUse, get_of, put_of}
 use Rattle.lab_snap.specs.Saved.{spelling}
 use Rattle.lab_snap.specs.Snapshot.{snapshot_of}
 use Rattle.lab_state.specs.Lab.{Lab}
+use Rattle.lab_state.specs.Valid.{IsOpen, is_shown_before}
 use Rattle.log_text.specs.declared.line.OpenLine.{OpenLine}
 use Rattle.monitor.specs.State.{State, Place, bodies_of, empty_lab, joined}
 use Rattle.monitor.specs.Step.{Running}
@@ -46,6 +49,37 @@ kept_now : (kept : Held) (name bytes : List ℕ) → get (insert kept name bytes
 kept_now kept name bytes =
     get-insert nat_list_cmp_total kept name bytes name
     ∙ ap (λ same. cond same (Some bytes) (get kept name)) ((eq_by_cmp_equiv nat_list_cmp_total).refl name)
+
+neither : (a b : Bool) → (a || b) ≡ false → (a ≡ false) × (b ≡ false)
+neither true b is = absurd (true≢false is)
+neither false b is = (refl, is)
+
+none_there : {A : Type 0} (xs : List A) → not (length xs == 0) ≡ false → xs ≡ []
+none_there [] is = refl
+none_there (x ∷ xs) is = grind (arith, nat_tests)
+
+-- a laboratory in which nothing was made and no time has passed
+pub record IsNew (lab : Lab) : Type 0 where
+  pub boards : lab.boards ≡ []
+  pub hubs : lab.hubs ≡ []
+  pub now : lab.now ≡ 0
+
+pub is_new : (lab : Lab) → is_occupied lab ≡ false → IsNew lab
+is_new lab free =
+    let made = neither _ _ free in
+    let first = neither _ _ made.0 in
+    record {
+      boards = none_there lab.boards first.0;
+      hubs = none_there lab.hubs first.1;
+      now = grind (arith, nat_tests, made.1);
+    }
+
+-- no line is open where there is no board
+pub no_line : (lab : Lab) (lines : List OpenLine) → lab.boards ≡ [] → All (IsOpen lab) lines → lines ≡ []
+no_line lab [] none open = refl
+no_line lab (line ∷ lines) none open =
+    let shut : is_shown_before lab lab.now line.member line.at ≡ false = rw none refl in
+    absurd (true≢false (sym (All-head (IsOpen lab) line lines open) ∙ shut))
 
 -- ---- what is left of a run, by the tests
 
