@@ -1,6 +1,6 @@
 -- What bytes hold is valid and spelled so, and what is valid and spelled so is held.
 use Rattle.std.proofs.Common.{◌≡◌, ◌∙◌, ℕ, List, [], ◌∷◌, ◌++◌, Bool, true, false, refl, sym, ap, subst}
-use Rattle.std.specs.Prelude.{Option, None, Some, Result, Ok, Err, MatchResult, OnOk, if◌then◌else◌, option_and_then}
+use Rattle.std.specs.Prelude.{Option, None, Some, Result, Err, MatchResult, if◌then◌else◌, option_and_then}
 use Rattle.std.proofs.lemmas.List.{append-nil}
 use Rattle.std.proofs.lemmas.Option.{none-some, same_Some}
 use Rattle.log_text.specs.declared.line.OpenLine.{OpenLine}
@@ -23,6 +23,11 @@ use Rattle.lab_snap.proofs.ValidParts.{fit_of, parts_of, valid_of}
 abbrev Agrees : Type 0
 Agrees = (l : Lab) (ls : List OpenLine) → IsLab l → loaded (saved l ls) ≡ l
 
+-- the law's first clause
+abbrev Found : Type 0
+Found = (bytes : List ℕ) (l : Lab) (ls : List OpenLine) → IsBytes bytes → snapshot_of bytes ≡ Some (l, ls) →
+    IsValid l ls × IsSpellable l ls × (bytes ≡ spelling l ls)
+
 -- what is held was all that was read, and can go on
 held_is : (s : SavedLab) (rest : List ℕ) (x : Lab × List OpenLine) → held (s, rest) ≡ Some x →
     (rest ≡ []) × AreValid s × ((loaded s, s.lines) ≡ x)
@@ -34,8 +39,7 @@ held_is s [] x is = let h = by_answer (valid_decided s).answer refl is in (refl,
     by_answer false cannot e = absurd (none-some x e)
 held_is s (byte ∷ rest) x is = absurd (none-some x is)
 
-pub found : (bytes : List ℕ) (l : Lab) (ls : List OpenLine) → IsBytes bytes → snapshot_of bytes ≡ Some (l, ls) →
-    IsValid l ls × IsSpellable l ls × (bytes ≡ spelling l ls)
+pub found : Found
 unfolding snapshot_of
 found bytes l ls are is = by_read (lab_form.parse bytes) refl is
   where
@@ -69,25 +73,11 @@ only agrees l ls valid fits =
     ∙ ap (λ (b : Bool). if b then Some (loaded s, ls) else None) answer
     ∙ ap (λ (l : Lab). Some (l, ls)) again
 
--- ---- what is loaded is what the bytes hold
-
--- the clauses of the law
-abbrev Found : Type 0
-Found = (bytes : List ℕ) (l : Lab) (ls : List OpenLine) → IsBytes bytes → snapshot_of bytes ≡ Some (l, ls) →
-    IsValid l ls × IsSpellable l ls × (bytes ≡ spelling l ls)
-
-abbrev Only : Type 0
-Only = (l : Lab) (ls : List OpenLine) → IsValid l ls → IsSpellable l ls → snapshot_of (spelling l ls) ≡ Some (l, ls)
-
-pub held_by : Only → (bytes : List ℕ) (l : Lab) (ls : List OpenLine) → IsValid l ls → IsSpellable l ls →
-    bytes ≡ spelling l ls → snapshot_of bytes ≡ Some (l, ls)
-held_by only bytes l ls valid fits is = ap snapshot_of is ∙ only l ls valid fits
-
 -- bytes that were refused hold nothing
 pub none_held : Found → (bytes : List ℕ) (result : Result (Unit {0}) SnapFault) (P : Lab → List OpenLine → Type 0) →
     IsBytes bytes →
     ((l : Lab) (ls : List OpenLine) → IsValid l ls → IsSpellable l ls → bytes ≡ spelling l ls →
-        MatchResult result (λ done. P l ls) (λ fault. fault ≡ Memory)) →
+    MatchResult result (λ done. P l ls) (λ fault. fault ≡ Memory)) →
     result ≡ Err Bad → snapshot_of bytes ≡ None
 none_held found bytes result P are loads bad = by_held (snapshot_of bytes) refl
   where

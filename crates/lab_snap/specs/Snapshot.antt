@@ -7,7 +7,7 @@ use Rattle.lab_snap.specs.Inner.DecidedParts.{valid_decided}
 use Rattle.lab_snap.specs.Lab.{lab_form}
 use Rattle.lab_snap.specs.Loaded.{loaded}
 
--- what was read, if nothing is left after it and it can go on
+-- the laboratory that was read, if no byte is left after it and it is one that can go on
 abbrev pub held : SavedLab × List ℕ → Option (Lab × List OpenLine)
 held (s, []) = if (valid_decided s).answer then Some (loaded s, s.lines) else None
 held (s, byte ∷ rest) = None

@@ -1,5 +1,5 @@
 -- Answers to whether something holds, and how they are put together.
-use Rattle.std.proofs.Common.{◌≡◌, ◌∙◌, ◌<◌, ◌≤◌, inl, inr, ℕ, zero, suc, List, [], ◌∷◌, Bool, true, false, ◌&&◌, refl}
+use Rattle.std.proofs.Common.{◌≡◌, ◌<◌, ◌≤◌, inl, inr, ℕ, zero, suc, List, [], ◌∷◌, Bool, true, false, ◌&&◌, refl}
 use Rattle.std.proofs.Common.{subst, sym, ap, arith}
 use Rattle.std.specs.Prelude.{Decides, Option, None, Some, IsTrue, nat_lt, nat_le, ◌==◌}
 use Rattle.std.specs.Bool.{beq}
@@ -7,7 +7,8 @@ use Rattle.std.specs.Cmp.{booleans_Decides, unsigned_Decides}
 use Rattle.std.specs.Cmp.Lexicographic.{pointwise, pointwise_decides}
 use Rattle.std.specs.List.{All, AllByRecursion, IsDistinct}
 use Rattle.std.specs.Option.{ForSome}
-use Rattle.std.proofs.lemmas.Bool.{and_from, and_parts, cases_eq, cases_lt, false≢true, leb-true, le-leb, ltb-true, lt-ltb}
+use Rattle.std.proofs.lemmas.Bool.{and_from, and_parts, cases_eq, cases_lt, false≢true, leb-true, le-leb, ltb-true}
+use Rattle.std.proofs.lemmas.Bool.{lt-ltb}
 use Rattle.std.proofs.lemmas.List.Elements.{All-cons, All-head, All-nil, All-tail}
 use Rattle.std.proofs.lemmas.Option.{none-some, same_Some}
 
@@ -37,6 +38,18 @@ both d e = record {
   );
 }
 
+pub three : {P Q R : Type 0} → Decided P → Decided Q → Decided R → Decided (P × Q × R)
+three c d e = told_by (both c (both d e)) (λ (p, (q, r)). (p, q, r)) (λ (p, q, r). (p, (q, r)))
+
+pub four : {P Q R S : Type 0} → Decided P → Decided Q → Decided R → Decided S → Decided (P × Q × R × S)
+four b c d e = told_by (both b (three c d e)) (λ (p, (q, r, s)). (p, q, r, s)) (λ (p, q, r, s). (p, (q, r, s)))
+
+pub five : {P Q R S T : Type 0} → Decided P → Decided Q → Decided R → Decided S → Decided T →
+    Decided (P × Q × R × S × T)
+five a b c d e =
+    told_by (both a (four b c d e)) (λ (p, (q, r, s, t)). (p, q, r, s, t)) (λ (p, q, r, s, t). (p, (q, r, s, t)))
+
+-- where a test passes
 pub where_so : {P : Type 0} (test : Bool) → Decided P → Decided (test ≡ true → P)
 where_so true d = told_by d (λ p e. p) (λ f. f refl)
 where_so false d = holds (λ e. absurd (false≢true e))
@@ -109,5 +122,5 @@ each_below {P} d (suc n) =
 pub each_number : {P : ℕ → Type 0} → ((k : ℕ) → Decided (P k)) → (n : ℕ) → ((k : ℕ) → n ≤ k → P k) →
     Decided ((k : ℕ) → P k)
 each_number {P} d n void =
-    told_by (each_below d n) (λ all k. elim (cases_lt k n) [ | inl within ↦ all k within | inr past ↦ void k past ])
+    told_by (each_below d n) (λ all k. elim (cases_lt k n) [ inl within ↦ all k within | inr past ↦ void k past ])
     (λ all k within. all k)

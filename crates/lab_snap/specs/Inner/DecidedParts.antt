@@ -1,32 +1,30 @@
 -- Whether a laboratory, as a snapshot holds it, can go on.
-use Rattle.std.proofs.Common.{◌≡◌, ◌≤◌, ◌<◌, ◌^◌, ℕ, List, length, map, ap}
-use Rattle.std.specs.Prelude.{unwrap_or, IsTrue}
+use Rattle.std.proofs.Common.{◌≡◌, ℕ, List, ap}
+use Rattle.std.specs.Prelude.{unwrap_or}
 use Rattle.std.specs.Str.{bytes_eq}
 use Rattle.board.specs.Sent.{is_of_kind}
 use Rattle.dev_core.specs.declared.post.Post.{Post}
 use Rattle.lab_num.specs.declared.key.Member.{Member}
 use Rattle.lab_num.specs.declared.number.BoardNo.{BoardNo}
 use Rattle.lab_num.specs.Key.{same_member}
-use Rattle.lab_num.specs.Route.{StandOnce}
-use Rattle.log_text.specs.declared.line.OpenLine.{OpenLine}
 use Rattle.lab_snap.specs.declared.hub.SavedHub.{SavedHub}
 use Rattle.lab_snap.specs.declared.lab.SavedBoard.{SavedBoard}
 use Rattle.lab_snap.specs.declared.lab.SavedLab.{SavedLab}
-use Rattle.lab_snap.specs.Inner.Decided.{Decided, at_most, below, both, distinct, each, has_value, in_some, same_list}
-use Rattle.lab_snap.specs.Inner.Decided.{same_number, tested, told_by}
+use Rattle.lab_snap.specs.Inner.Decided.{Decided, at_most, below, both, distinct, each, five, four, has_value, in_some}
+use Rattle.lab_snap.specs.Inner.Decided.{same_list, same_number, tested, three, told_by}
 use Rattle.lab_snap.specs.Inner.DecidedState.{same_kind, state_decided}
-use Rattle.lab_snap.specs.Inner.Parts.{AreBoards, AreHubs, AreOpenIn, AreTimes, AreValid, AreWaiting, HasNumber}
-use Rattle.lab_snap.specs.Inner.Parts.{HasPayload, IsBoardAt, IsHubIn, IsMachineAt, IsWaitingAt, delay_in, is_open}
-use Rattle.lab_snap.specs.Inner.Parts.{kind_in, machine_at, members_in, names_of}
+use Rattle.lab_snap.specs.Inner.Parts.{AreBoards, AreHubs, AreOpenIn, AreTimes, AreValid, AreWaiting}
+use Rattle.lab_snap.specs.Inner.Parts.{IsBoardAt, IsHubIn, IsMachineAt, IsWaitingAt, delay_in, is_open}
+use Rattle.lab_snap.specs.Inner.Parts.{kind_in, machine_at, names_of}
 use Rattle.lab_snap.specs.Inner.ValidPlan.{is_valid_plan, valid_plan_decides}
 use Rattle.lab_snap.specs.Loaded.{kind_of_hub}
 use Rattle.lab_snap.specs.Machine.{IsMachine, Machine}
 
 times_decided : (time quantum : ℕ) → Decided (AreTimes time quantum)
 times_decided time quantum =
-    told_by (both (at_most _ _) (both (at_most _ _) (at_most _ _)))
-    (λ (a, (b, c)). record { last = a; least_quantum = b; most_quantum = c })
-    (λ h. (h.last, (h.least_quantum, h.most_quantum)))
+    told_by (three (at_most _ _) (at_most _ _) (at_most _ _))
+    (λ (a, b, c). record { last = a; least_quantum = b; most_quantum = c })
+    (λ h. (h.last, h.least_quantum, h.most_quantum))
 
 -- ---- boards
 
@@ -38,9 +36,9 @@ sound_decided m =
 
 machine_decided : (time : ℕ) (m : Machine) → Decided (IsMachineAt time m)
 machine_decided time m =
-    told_by (both (sound_decided m) (both (state_decided m.plan m.state) (both (tested _) (tested _))))
-    (λ (a, (b, (c, d))). record { sound = a; state = b; posted = c; entries = d })
-    (λ h. (h.sound, (h.state, (h.posted, h.entries))))
+    told_by (four (sound_decided m) (state_decided m.plan m.state) (tested _) (tested _))
+    (λ (a, b, c, d). record { sound = a; state = b; posted = c; entries = d })
+    (λ h. (h.sound, h.state, h.posted, h.entries))
 
 board_decided : (time : ℕ) (board : SavedBoard) → Decided (IsBoardAt time board)
 board_decided time board =
@@ -57,10 +55,10 @@ boards_decided time boards =
 hub_decided : (boards : List SavedBoard) (hub : SavedHub) → Decided (IsHubIn boards hub)
 hub_decided boards hub =
     told_by
-    (both (tested _) (both (at_most _ _)
-    (each (λ m. has_value same_kind (kind_in boards m) (kind_of_hub hub.kind)) hub.members)))
-    (λ (a, (b, c)). record { own = record { name = a; delay = b }; members = c })
-    (λ h. (h.own.name, (h.own.delay, h.members)))
+    (three (tested _) (at_most _ _)
+    (each (λ m. has_value same_kind (kind_in boards m) (kind_of_hub hub.kind)) hub.members))
+    (λ (a, b, c). record { own = record { name = a; delay = b }; members = c })
+    (λ h. (h.own.name, h.own.delay, h.members))
 
 hubs_decided : (boards : List SavedBoard) (hubs : List SavedHub) → Decided (AreHubs boards hubs)
 hubs_decided boards hubs =
@@ -78,11 +76,11 @@ same_board a b = told_by (same_number a.0 b.0) (λ e. ap board_no e) (λ e. ap (
 waiting_decided : (lab : SavedLab) (delay : ℕ) (post : Post) → Decided (IsWaitingAt lab delay post)
 waiting_decided lab delay post =
     told_by
-    (both (below _ _) (both (below _ _) (both (same_board _ _)
-    (both (in_some (λ m. below _ _) (machine_at lab.boards post.key.board.0))
-    (in_some (λ kind. tested (is_of_kind kind post.payload)) (kind_in lab.boards post.from))))))
-    (λ (a, (b, (c, (d, e)))). record { sent = a; due = b; own = c; number = d; payload = e })
-    (λ h. (h.sent, (h.due, (h.own, (h.number, h.payload)))))
+    (five (below _ _) (below _ _) (same_board _ _)
+    (in_some (λ m. below _ _) (machine_at lab.boards post.key.board.0))
+    (in_some (λ kind. tested (is_of_kind kind post.payload)) (kind_in lab.boards post.from)))
+    (λ (a, b, c, d, e). record { sent = a; due = b; own = c; number = d; payload = e })
+    (λ h. (h.sent, h.due, h.own, h.number, h.payload))
 
 posts_decided : (lab : SavedLab) (delay : Member → ℕ) → Decided (AreWaiting lab delay)
 posts_decided lab delay =
@@ -99,11 +97,10 @@ lines_decided lab =
 pub valid_decided : (lab : SavedLab) → Decided (AreValid lab)
 valid_decided lab =
     told_by
-    (both (times_decided _ _) (both (distinct bytes_eq (names_of lab))
-    (both (boards_decided lab.time.0 lab.boards) (both (hubs_decided lab.boards lab.hubs)
-    (both (distinct same_member _) (both (posts_decided lab (λ m. unwrap_or (delay_in lab.hubs m) 0))
-    (lines_decided lab)))))))
-    (λ (a, (b, (c, (d, (e, (f, g)))))). record {
+    (three (both (times_decided _ _) (distinct bytes_eq (names_of lab)))
+    (three (boards_decided lab.time.0 lab.boards) (hubs_decided lab.boards lab.hubs) (distinct same_member _))
+    (both (posts_decided lab (λ m. unwrap_or (delay_in lab.hubs m) 0)) (lines_decided lab)))
+    (λ ((a, b), (c, d, e), (f, g)). record {
       times = a;
       names = b;
       boards = c;
@@ -112,4 +109,4 @@ valid_decided lab =
       posts = f;
       lines = g;
     })
-    (λ h. (h.times, (h.names, (h.boards, (h.hubs, (h.once, (h.posts, h.lines)))))))
+    (λ h. ((h.times, h.names), (h.boards, h.hubs, h.once), (h.posts, h.lines)))

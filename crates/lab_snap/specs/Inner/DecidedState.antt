@@ -1,10 +1,9 @@
 -- Whether a state fits a plan.
-use Rattle.std.proofs.Common.{◌≡◌, ◌∙◌, ◌≤◌, ◌<◌, ◌^◌, ℕ, zero, suc, List, [], ◌∷◌, Bool, true, false, length, map, refl}
+use Rattle.std.proofs.Common.{◌≡◌, ◌∙◌, ◌≤◌, ◌<◌, ◌^◌, ℕ, zero, suc, List, [], ◌∷◌, Bool, true, false, length, refl}
 use Rattle.std.proofs.Common.{ap, arith, pow-suc, sym}
 use Rattle.std.specs.Prelude.{Option, None, Some, All, IsTrue, ◌+◌, ◌==◌, drop, slice_index_or}
 use Rattle.std.specs.Int.{bit_at}
-use Rattle.std.specs.List.{range_with_len}
-use Rattle.std.proofs.lemmas.Bool.{both_ways, eq-eqb, false≢true, ne_eqb}
+use Rattle.std.proofs.lemmas.Bool.{false≢true}
 use Rattle.std.proofs.lemmas.Nat.Bits.{bit_at_above}
 use Rattle.clint.specs.declared.state.ClintState.{ClintState}
 use Rattle.dev_core.specs.declared.can_state.CanState.{CanState}
@@ -14,7 +13,7 @@ use Rattle.dev_core.specs.declared.state.DevState.{DevState}
 use Rattle.dev_core.specs.declared.state.DevState.TheVariants as device
 use Rattle.dev_core.specs.declared.uart_state.UartState.{UartState}
 use Rattle.dev_core.specs.Can.{IsCanState}
-use Rattle.dev_core.specs.Device.{IsValid, kind_of}
+use Rattle.dev_core.specs.Device.{IsValid}
 use Rattle.dev_core.specs.Uart.{IsUartState}
 use Rattle.plic.specs.declared.state.PlicState.{PlicState}
 use Rattle.plic.specs.Sources.{AreSources, has, is_source}
@@ -26,18 +25,17 @@ use Rattle.sys_bus.specs.declared.plan.BoardPlan.{BoardPlan}
 use Rattle.sys_bus.specs.declared.plan.PlicSize.{PlicSize}
 use Rattle.board.specs.declared.state.BoardState.{BoardState}
 use Rattle.board.specs.Changes.{is_shown_kind}
-use Rattle.board.specs.Valid.{IsClintFor, IsPlicFor, IsReservation, IsReserved, IsStateFor}
-use Rattle.lab_snap.specs.Inner.Decided.{Decided, at_most, below, both, each, each_number, fails, holds, same_flag}
-use Rattle.lab_snap.specs.Inner.Decided.{same_list, same_number, tested, told_by, where_so}
+use Rattle.board.specs.Valid.{IsClintFor, IsPlicFor, IsReservation, IsStateFor}
+use Rattle.lab_snap.specs.Inner.Decided.{Decided, at_most, below, both, each, each_number, fails, five, four, holds}
+use Rattle.lab_snap.specs.Inner.Decided.{same_flag, same_list, same_number, tested, three, told_by, where_so}
 
 -- ---- processors
 
 hart_decided : (s : HartState) → Decided (IsHartState s)
 hart_decided s =
-    told_by
-    (both (same_number _ _) (both (same_number _ _) (both (same_number _ _) (both (same_number _ _) (same_number _ _)))))
-    (λ (a, (b, (c, (d, e)))). record { zero = a; enables = b; mode = c; return_pc = d; aligned = e })
-    (λ h. (h.zero, (h.enables, (h.mode, (h.return_pc, h.aligned)))))
+    told_by (five (same_number _ _) (same_number _ _) (same_number _ _) (same_number _ _) (same_number _ _))
+    (λ (a, b, c, d, e). record { zero = a; enables = b; mode = c; return_pc = d; aligned = e })
+    (λ h. (h.zero, h.enables, h.mode, h.return_pc, h.aligned))
 
 same_letters : (a b : Letters) → Decided (a ≡ b)
 same_letters x y =
@@ -47,8 +45,8 @@ same_letters x y =
 reservation_decided : (plan : BoardPlan) (at : Option ℕ) → Decided (IsReservation plan at)
 reservation_decided plan None = holds tt
 reservation_decided plan (Some at) =
-    told_by (both (same_number _ _) (both (same_flag _ _) (same_flag _ _)))
-    (λ (a, (b, c)). record { aligned = a; in_memory = b; atomic = c }) (λ h. (h.aligned, (h.in_memory, h.atomic)))
+    told_by (three (same_number _ _) (same_flag _ _) (same_flag _ _))
+    (λ (a, b, c). record { aligned = a; in_memory = b; atomic = c }) (λ h. (h.aligned, h.in_memory, h.atomic))
 
 -- ---- timer and interrupt controller
 
@@ -65,7 +63,8 @@ below_power (suc n) = omega (arith, below_power n, pow-suc 2 n)
 -- a set has only numbers that are smaller than the number that it is
 not_in : (set s : ℕ) → set ≤ s → has set s ≡ true → ⊥
 not_in set s past in_it =
-    let none : bit_at set s ≡ 0 = bit_at_above set s s (let small = below_power s in omega (arith, past, small)) (omega arith) in
+    let small = below_power s in
+    let none : bit_at set s ≡ 0 = bit_at_above set s s (omega (arith, past, small)) (omega arith) in
     false≢true (sym (ap (λ (bit : ℕ). bit == 1) none) ∙ in_it)
 
 sources_decided : (n set : ℕ) → Decided (AreSources n set)
@@ -78,26 +77,32 @@ sources_decided n set =
 none_from : (k : ℕ) (xs : List ℕ) → Decided (All (λ x. x ≡ 0) (drop k xs))
 none_from k xs = each (λ x. same_number x 0) (drop k xs)
 
-plic_state_decided : (n k : ℕ) (p : PlicState) → Decided (IsPlicState n k p)
-plic_state_decided n k p =
+priorities_decided : (n : ℕ) (xs : List ℕ) → Decided (ArePriorities n xs)
+priorities_decided n xs =
+    told_by (three (each (λ x. at_most x 7) xs) (same_number _ _) (none_from (n + 1) xs))
+    (λ (a, b, c). record { levels = a; no_source = b; absent = c }) (λ h. (h.levels, h.no_source, h.absent))
+
+enables_decided : (n k : ℕ) (xs : List ℕ) → Decided (AreEnables n k xs)
+enables_decided n k xs =
+    told_by (both (each (sources_decided n) xs) (none_from k xs)) (λ (a, b). record { sources = a; absent = b })
+    (λ h. (h.sources, h.absent))
+
+thresholds_decided : (k : ℕ) (xs : List ℕ) → Decided (AreThresholds k xs)
+thresholds_decided k xs =
+    told_by (both (each (λ x. at_most x 7) xs) (none_from k xs)) (λ (a, b). record { levels = a; absent = b })
+    (λ h. (h.levels, h.absent))
+
+controller_decided : (n k : ℕ) (p : PlicState) → Decided (IsPlicState n k p)
+controller_decided n k p =
     told_by
-    (both (sources_decided n p.pending) (both (sources_decided n p.shut)
-    (both (each (λ x. at_most x 7) p.priorities) (both (same_number _ _) (both (none_from (n + 1) p.priorities)
-    (both (each (sources_decided n) p.enables) (both (none_from k p.enables)
-    (both (each (λ x. at_most x 7) p.thresholds) (none_from k p.thresholds)))))))))
-    (λ (pending, (shut, (levels, (no_source, (absent, (enables, (no_enables, (thresholds, no_thresholds)))))))). record {
-      pending = pending;
-      shut = shut;
-      priorities = record { levels = levels; no_source = no_source; absent = absent };
-      enables = record { sources = enables; absent = no_enables };
-      thresholds = record { levels = thresholds; absent = no_thresholds };
-    })
-    (λ h. (h.pending, (h.shut, (h.priorities.levels, (h.priorities.no_source, (h.priorities.absent,
-    (h.enables.sources, (h.enables.absent, (h.thresholds.levels, h.thresholds.absent)))))))))
+    (five (sources_decided n p.pending) (sources_decided n p.shut) (priorities_decided n p.priorities)
+    (enables_decided n k p.enables) (thresholds_decided k p.thresholds))
+    (λ (a, b, c, d, e). record { pending = a; shut = b; priorities = c; enables = d; thresholds = e })
+    (λ h. (h.pending, h.shut, h.priorities, h.enables, h.thresholds))
 
 plic_decided : (size : Option PlicSize) (s : Option PlicState) → Decided (IsPlicFor size s)
 plic_decided None None = holds tt
-plic_decided (Some size) (Some s) = plic_state_decided size.sources size.contexts s
+plic_decided (Some size) (Some s) = controller_decided size.sources size.contexts s
 plic_decided None (Some s) = fails (λ never. never)
 plic_decided (Some size) None = fails (λ never. never)
 
@@ -105,14 +110,14 @@ plic_decided (Some size) None = fails (λ never. never)
 
 uart_decided : (u : UartState) → Decided (IsUartState u)
 uart_decided u =
-    told_by (both (at_most _ _) (both (at_most _ _) (both (tested _) (at_most _ _))))
-    (λ (a, (b, (c, d))). record { ier = a; mcr = b; trigger = c; received = d })
-    (λ h. (h.ier, (h.mcr, (h.trigger, h.received))))
+    told_by (four (at_most _ _) (at_most _ _) (tested _) (at_most _ _))
+    (λ (a, b, c, d). record { ier = a; mcr = b; trigger = c; received = d })
+    (λ h. (h.ier, h.mcr, h.trigger, h.received))
 
 can_decided : (c : CanState) → Decided (IsCanState c)
 can_decided c =
-    told_by (both (at_most _ _) (both (same_number _ _) (at_most _ _)))
-    (λ (a, (b, c)). record { control = a; divider = b; received = c }) (λ h. (h.control, (h.divider, h.received)))
+    told_by (three (at_most _ _) (same_number _ _) (at_most _ _))
+    (λ (a, b, c). record { control = a; divider = b; received = c }) (λ h. (h.control, h.divider, h.received))
 
 device_decided : (s : DevState) → Decided (IsValid s)
 device_decided (device.Uart u) = uart_decided u
@@ -143,13 +148,18 @@ shown_decided flags kinds =
 pub state_decided : (plan : BoardPlan) (s : BoardState) → Decided (IsStateFor plan s)
 state_decided plan s =
     told_by
-    (both (tested _) (both (below _ _)
-    (both (each hart_decided s.harts) (both (each (λ hart. same_letters hart.letters plan.letters) s.harts)
-    (both (same_list same_number _ _) (both (same_number _ _) (both (each (reservation_decided plan) s.reserved)
-    (both (clint_decided plan.frequency s.clint) (both (plic_decided plan.plic s.plic)
-    (both (same_list same_kind _ _) (both (each device_decided s.devices) (both (same_number _ _)
-    (shown_decided s.shown plan.kinds)))))))))))))
-    (λ (a, (b, (c, (d, (e, (f, (g, (h, (i, (j, (k, (l, m)))))))))))). record {
+    (four
+    -- processors
+    (five (tested _) (below _ _) (each hart_decided s.harts)
+    (each (λ hart. same_letters hart.letters plan.letters) s.harts) (same_list same_number _ _))
+    -- reservations
+    (both (same_number _ _) (each (reservation_decided plan) s.reserved))
+    -- timer and interrupt controller
+    (both (clint_decided plan.frequency s.clint) (plic_decided plan.plic s.plic))
+    -- devices
+    (four (same_list same_kind _ _) (each device_decided s.devices) (same_number _ _)
+    (shown_decided s.shown plan.kinds)))
+    (λ ((a, b, c, d, e), (f, g), (h, i), (j, k, l, m)). record {
       speed = a;
       next = b;
       harts = c;
@@ -164,5 +174,9 @@ state_decided plan s =
       flags = l;
       shown = m;
     })
-    (λ r. (r.speed, (r.next, (r.harts, (r.letters, (r.numbers, (r.watch, (r.reserved, (r.clint, (r.plic, (r.kinds,
-    (r.states, (r.flags, r.shown)))))))))))))
+    (λ r. (
+      (r.speed, r.next, r.harts, r.letters, r.numbers),
+      (r.watch, r.reserved),
+      (r.clint, r.plic),
+      (r.kinds, r.states, r.flags, r.shown),
+    ))
