@@ -138,20 +138,3 @@ fn a_laboratory_that_was_saved_goes_on(rt: HostRuntime) -> Result<(), Fail> {
     assert!(rt; goes_on);
     Ok(())
 }
-
-/// How many bytes of 0 the name keeps, and what a script that loads it writes.
-static LARGE: [(usize, &str); 2] = [
-    (67_108_864, "error: s.resc:1: S20 snapshot\n"),
-    (67_108_865, "error: s.resc:1: S19 size\n"),
-];
-
-#[test]
-fn a_snapshot_has_64_mib_at_most(rt: HostRuntime) -> Result<(), Fail> {
-    for (count, written) in &LARGE {
-        let zeros = vec![in rt.alloc(); 0_u8; *count]?;
-        let mut store = store_of(rt.alloc(), Some(&zeros))?;
-        let is_refused = is_run_so(&rt, rt.alloc(), ("run", LOAD), &mut store, (3, *written))?;
-        assert!(rt; is_refused, "{count}");
-    }
-    Ok(())
-}

@@ -35,7 +35,7 @@ names_read-after names n reads = rw (map-append, names_read-now, names_read-late
 -- and so do the calls on the store
 calls-later : (n : ℕ) (uses : List Use) → calls (map (use_later n) uses) ≡ calls uses
 calls-later n [] = refl
-calls-later n (use ∷ uses) = ap (λ rest. use.call ∷ rest) (calls-later n uses)
+calls-later n (made ∷ uses) = ap (λ rest. made.call ∷ rest) (calls-later n uses)
 
 -- the last read is still the last after others, and comes later
 last_after :
@@ -50,7 +50,7 @@ last_after front n k reads is = record {
 
 fails_later : {failed : List Use} {k : ℕ} (n : ℕ) → FailsAt failed k → FailsAt (map (use_later n) failed) (n + k)
 fails_later n fails = record {
-  use = use_later n fails.use;
+  one = use_later n fails.one;
   alone = ap (map (use_later n)) fails.alone;
   before = ap (λ m. n + m) fails.before;
 }
@@ -158,7 +158,7 @@ course_unstored call rest wrote asked used told = record {
   stored = told;
   ended = tt;
   unread = λ is. cc;
-  unstored = record { use = record { call = call; before = 0 }; alone = refl; before = refl };
+  unstored = record { one = record { call = call; before = 0 }; alone = refl; before = refl };
 }
 
 -- a read of these failed
@@ -242,11 +242,11 @@ course_none all wrote asked store = record {
 }
 
 with_kept :
-    {kept : Held} {outcome : Outcome} {unwritten : List ℕ} (told : Option Outcome) →
+    (kept : Held) (outcome : Outcome) (unwritten : List ℕ) (told : Option Outcome) →
     IfSome told (λ is. (outcome ≡ is) × (unwritten ≡ [])) →
     IfSome told (λ is. (outcome ≡ is) × (unwritten ≡ []) × (kept ≡ kept))
-with_kept None ended = tt
-with_kept (Some is) ended = (ended.0, ended.1, refl)
+with_kept kept outcome unwritten None both = tt
+with_kept kept outcome unwritten (Some is) both = (both.0, both.1, refl)
 
 -- these names were read, and then the last text and the last line were written, or a part of them
 pub course_stopped :
@@ -270,7 +270,7 @@ course_stopped {status = status} names text outcome asked store end = record {
   asked = rw (asked, names_read-now) refl;
   used = grows_none store.used;
   stored = store.told;
-  ended = with_kept (final status) end.ended;
+  ended = with_kept _ _ _ (final status) end.ended;
   unread = λ is. absurd (end.never is);
   unstored = none_failed status _ end.nor;
 }
@@ -295,7 +295,7 @@ course_ended {status = status} outcome asked store end = record {
   asked = grows_none asked;
   used = grows_none store.used;
   stored = store.told;
-  ended = with_kept (final status) end.ended;
+  ended = with_kept _ _ _ (final status) end.ended;
   unread = λ is. absurd (end.never is);
   unstored = none_failed status _ end.nor;
 }

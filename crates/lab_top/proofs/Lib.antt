@@ -4,3 +4,4 @@ pub mod Courses
 pub mod Onward
 pub mod Stores
 pub mod Openings
+pub mod Headlines

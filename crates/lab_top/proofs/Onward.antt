@@ -12,16 +12,17 @@ use Rattle.lab_state.specs.Run.{run}
 use Rattle.log_text.specs.Log.{rest}
 use Rattle.monitor.specs.declared.fault.ScriptFault.{ScriptFault}
 use Rattle.monitor.specs.declared.step.Step.TheVariants.{Text, Save, Load, End, Fault, Unread, Memory}
-use Rattle.monitor.specs.Answer.{Answer, Goes, Saves, Loads, Ends, Faults, Misses, Did}
+use Rattle.monitor.specs.Answer.{Answer, Goes, Saves, Loads, Ends, Faults, Misses, Did, fault_at}
 use Rattle.monitor.specs.Command.{did}
 use Rattle.monitor.specs.State.{State, Place}
 use Rattle.monitor.specs.Step.{Running, IsStep, IsOver, line_in}
+use Rattle.resc_vars.specs.declared.cause.ScriptCause.{ScriptCause}
 use Rattle.lab_top.specs.declared.snapshots.Halt.{Halt}
 use Rattle.lab_top.specs.declared.snapshots.Halt.TheVariants as halt
 use Rattle.lab_top.specs.declared.status.Status.{Status}
 use Rattle.lab_top.specs.declared.status.Status.TheVariants as end_by
 use Rattle.lab_top.specs.Transcript.{Rest, Transcript, Done, Script, Absent}
-use Rattle.lab_top.specs.Transcript.{after, ended, stopped, onward, from, saving, loading}
+use Rattle.lab_top.specs.Transcript.{after, ended, refused, stopped, onward, from, saving, loading}
 use Rattle.lab_top.specs.Headline.{Outside, refusal}
 use Rattle.lab_top.specs.Inner.Course.{Course, GoesOn, IsEnd, IsTaken}
 use Rattle.lab_top.specs.Inner.Stored.{IsStored}
@@ -101,58 +102,58 @@ step_cut more held kept s next text fault step part store =
 
 -- these names were read, and then a command for the store was carried out so
 stored_after :
-    {kept : Held} {old mid new : Outside} (names : List (List ℕ)) (rest : Transcript) (further : Rest) (place : Place)
+    (kept : Held) (old mid new : Outside) (names : List (List ℕ)) (rest : Transcript) (further : Rest) (place : Place)
     (result : Result Running (Halt Running)) →
     mid.written ≡ old.written → mid.asked ≡ grown old.asked names → mid.used ≡ old.used →
     IsStored rest kept further place mid new result → IsStored (after names [] rest) kept further place old new result
-stored_after {old = old} names rest further place (Ok monitor) wrote asked used on = record {
+stored_after kept old mid new names rest further place (Ok monitor) wrote asked used on = record {
   now = on.now;
   told = on.told;
   course = λ status last course.
       course_after names [] rest (wrote ∙ sym (grown-nil old.written)) asked used (on.course status last course);
 }
-stored_after {old = old} names rest further place (Err (halt.Refused cause monitor)) wrote asked used on = record {
+stored_after kept old mid new names rest further place (Err (halt.Refused cause monitor)) wrote asked used on = record {
   now = on.now;
   told = on.told;
   course = λ status last course.
       course_after names [] rest (wrote ∙ sym (grown-nil old.written)) asked used (on.course status last course);
 }
-stored_after {old = old} names rest further place (Err halt.Unstored) wrote asked used course =
+stored_after kept old mid new names rest further place (Err halt.Unstored) wrote asked used course =
     course_after names [] rest (wrote ∙ sym (grown-nil old.written)) asked used course
-stored_after {old = old} names rest further place (Err halt.Memory) wrote asked used course =
+stored_after kept old mid new names rest further place (Err halt.Memory) wrote asked used course =
     course_after names [] rest (wrote ∙ sym (grown-nil old.written)) asked used course
 
 -- the laboratory is to be kept, and what became of that
 pub step_saves :
-    {old mid new : Outside} (more : ℕ) (held kept : Held) (s next : State) (name file : List ℕ) (line : ℕ)
+    (old mid new : Outside) (more : ℕ) (held kept : Held) (s next : State) (name file : List ℕ) (line : ℕ)
     (result : Result Running (Halt Running)) →
     IsStep (did run held s) (Save name file line) next old.asked mid.asked →
     mid.written ≡ old.written → mid.used ≡ old.used →
     IsStored (saving (from more run held) kept name (line_in file line) next (spelling next.lab next.lines)) kept
     (from more run held) (line_in file line) mid new result →
     IsStored (from (suc more) run held kept s) kept (from more run held) (line_in file line) old new result
-step_saves more held kept s next name file line result step wrote used stored =
+step_saves old mid new more held kept s next name file line result step wrote used stored =
     rw (
       from_suc more held kept s,
       onward_saves (from more run held) kept s (did run held s) name (line_in file line) next step.0,
     )
-    (stored_after (did run held s).names _ (from more run held) (line_in file line) result wrote step.1 used stored)
+    (stored_after kept old mid new (did run held s).names _ (from more run held) (line_in file line) result wrote step.1 used stored)
 
 -- it is to be taken back, and what became of that
 pub step_loads :
-    {old mid new : Outside} (more : ℕ) (held kept : Held) (s next : State) (name file : List ℕ) (line : ℕ)
+    (old mid new : Outside) (more : ℕ) (held kept : Held) (s next : State) (name file : List ℕ) (line : ℕ)
     (result : Result Running (Halt Running)) →
     IsStep (did run held s) (Load name file line) next old.asked mid.asked →
     mid.written ≡ old.written → mid.used ≡ old.used →
     IsStored (loading (from more run held) kept name (line_in file line) next) kept (from more run held)
     (line_in file line) mid new result →
     IsStored (from (suc more) run held kept s) kept (from more run held) (line_in file line) old new result
-step_loads more held kept s next name file line result step wrote used stored =
+step_loads old mid new more held kept s next name file line result step wrote used stored =
     rw (
       from_suc more held kept s,
       onward_loads (from more run held) kept s (did run held s) name (line_in file line) next step.0,
     )
-    (stored_after (did run held s).names _ (from more run held) (line_in file line) result wrote step.1 used stored)
+    (stored_after kept old mid new (did run held s).names _ (from more run held) (line_in file line) result wrote step.1 used stored)
 
 -- what is printed where a script is over
 abbrev pub left : Running → List ℕ
@@ -243,3 +244,15 @@ pub next_turn : (turn : ℕ) (held kept : Held) (s : State) →
 next_turn turn held kept s =
     let count : 100001 - (turn + 1) ≡ 100000 - turn = omega arith in
     rw count refl
+
+-- a line that is for the store is refused
+pub refused_ends :
+    (all : Transcript) (kept : Held) (old mid : Outside) (place : Place) (cause : ScriptCause) (m : Running)
+    (status : Status) (out out' : Option (List ℕ)) →
+    GoesOn all kept old (record mid { written = out }) (λ now. refused now place m.state cause) →
+    IsEnd (left m) (Script (fault_at place cause)) status out out' →
+    Course all kept status old (record mid { written = out' })
+refused_ends all kept old mid place cause m status out out' on end =
+    on.course status (record mid { written = out' })
+    (course_stopped [] (left m) (Script (fault_at place cause)) (sym (grown-nil mid.asked))
+    (record { used = refl; told = on.told }) end)

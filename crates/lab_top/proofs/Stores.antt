@@ -76,10 +76,10 @@ is_new lab free =
 
 -- no line is open where there is no board
 pub no_line : (lab : Lab) (lines : List OpenLine) → lab.boards ≡ [] → All (IsOpen lab) lines → lines ≡ []
-no_line lab [] none open = refl
-no_line lab (line ∷ lines) none open =
+no_line lab [] none all = refl
+no_line lab (line ∷ lines) none all =
     let shut : is_shown_before lab lab.now line.member line.at ≡ false = rw none refl in
-    absurd (true≢false (sym (All-head (IsOpen lab) line lines open) ∙ shut))
+    absurd (true≢false (sym (All-head (IsOpen lab) line lines all) ∙ shut))
 
 -- ---- what is left of a run, by the tests
 
@@ -226,30 +226,30 @@ take_failed further kept name place s free wrote asked used told =
     (course_unstored (get_of name) (loading_kept further kept place s (get kept name)) wrote asked used told)
 
 restored :
-    {old mid : Outside} (further : Rest) (kept : Held) (name : List ℕ) (place : Place) (s : State)
+    (old mid : Outside) (further : Rest) (kept : Held) (name : List ℕ) (place : Place) (s : State)
     (snapshot : Option (Lab × List OpenLine)) (result : Result Running (Halt Running)) →
     mid.written ≡ old.written → mid.asked ≡ old.asked → mid.used ≡ grown old.used (get_of name ∷ []) →
     mid.kept ≡ Some kept → IsRestored s snapshot result →
     IsStored (using (get_of name) (resuming further kept place s snapshot)) kept further place old mid result
-restored further kept name place s snapshot (Ok m) wrote asked used told is =
+restored old mid further kept name place s snapshot (Ok m) wrote asked used told is =
     rw (is.2, is.3)
     (goes_using (get_of name) (λ now. further now (joined (bodies_of s) is.0 is.1)) wrote asked used told)
-restored further kept name place s snapshot (Err (halt.Refused cause m)) wrote asked used told is =
+restored old mid further kept name place s snapshot (Err (halt.Refused cause m)) wrote asked used told is =
     rw (is.0, is.1, is.2)
     (goes_using (get_of name) (λ now. refused now place s Snapshot) wrote asked used told)
-restored further kept name place s snapshot (Err halt.Unstored) wrote asked used told is = absurd is
-restored {old = old} further kept name place s snapshot (Err halt.Memory) wrote asked used told is =
+restored old mid further kept name place s snapshot (Err halt.Unstored) wrote asked used told is = absurd is
+restored old mid further kept name place s snapshot (Err halt.Memory) wrote asked used told is =
     course_using (get_of name) (resuming further kept place s snapshot) wrote asked used
     (course_none (resuming further kept place s snapshot) refl refl (record { used = refl; told = told }))
 
 -- what the name keeps was read, and what became of that
 pub take_read :
-    {old mid : Outside} (further : Rest) (kept : Held) (name : List ℕ) (place : Place) (s : State)
+    (old mid : Outside) (further : Rest) (kept : Held) (name : List ℕ) (place : Place) (s : State)
     (bytes : List ℕ) (result : Result Running (Halt Running)) →
     is_occupied s.lab ≡ false → get kept name ≡ Some bytes → length bytes ≤ 67108864 →
     mid.written ≡ old.written → mid.asked ≡ old.asked → mid.used ≡ grown old.used (get_of name ∷ []) →
     mid.kept ≡ Some kept → IsRestored s (snapshot_of bytes) result →
     IsStored (loading further kept name place s) kept further place old mid result
-take_read further kept name place s bytes result free there within wrote asked used told is =
+take_read old mid further kept name place s bytes result free there within wrote asked used told is =
     rw (loading_free further kept name place s free, there, small bytes within)
-    (restored further kept name place s (snapshot_of bytes) result wrote asked used told is)
+    (restored old mid further kept name place s (snapshot_of bytes) result wrote asked used told is)

@@ -84,7 +84,7 @@ pub record ReadsLast (reads : List Read) (bytes : ℕ) (log log' : Log) : Type 0
   pub before : last.before ≡ bytes
 
 abbrev pub calls : List Use → List StoreUse
-calls uses = map (λ use. use.call) uses
+calls uses = map (λ made. made.call) uses
 
 -- what is kept after calls that were done: of each put its bytes, under its name
 abbrev pub kept_by : Held → List StoreUse → Held
@@ -93,9 +93,9 @@ kept_by kept used =
 
 -- the one call that has failed comes after so many bytes
 pub record FailsAt (failed : List Use) (bytes : ℕ) : Type 0 where
-  pub use : Use
-  pub alone : failed ≡ use ∷ []
-  pub before : use.before ≡ bytes
+  pub one : Use
+  pub alone : failed ≡ one ∷ []
+  pub before : one.before ≡ bytes
 
 -- one call on the store has failed where a run is cut short by it, and else none
 abbrev pub HasFailed : Status → List Use → ℕ → Type 0

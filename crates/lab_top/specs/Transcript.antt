@@ -69,7 +69,7 @@ abbrev pub read_later : ℕ → Read → Read
 read_later bytes read = record { name = read.name; before = bytes + read.before }
 
 abbrev pub use_later : ℕ → Use → Use
-use_later bytes use = record { call = use.call; before = bytes + use.before }
+use_later bytes made = record { call = made.call; before = bytes + made.before }
 
 -- first these names are read and this text is written, and then comes the rest
 abbrev pub after : List (List ℕ) → List ℕ → Transcript → Transcript
