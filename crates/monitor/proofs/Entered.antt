@@ -1,5 +1,5 @@
 -- What comes of a file that a command enters.
-use Rattle.std.proofs.Common.{◌≡◌, ℕ, ◌<◌, nat_lt, true, List, ◌∷◌, [], length, Option, Result, Ok, Err, Vec}
+use Rattle.std.proofs.Common.{◌≡◌, ℕ, ◌<◌, nat_lt, true, List, ◌∷◌, [], length, Ok, Err}
 use Rattle.std.proofs.Common.{String, string_bytes, refl, sym, ap, subst, arith}
 use Rattle.std.specs.FinMap.{get}
 use Rattle.std.specs.Global.{Global}
@@ -11,9 +11,7 @@ use Rattle.lab_io.specs.Held.{Held}
 use Rattle.lab_io.specs.Known.{grown}
 use Rattle.lab_io.specs.Whole.{IsTextRead, file_text}
 use Rattle.lab_io.proofs.Asking.{asks_all, asks_one}
-use Rattle.resc_vars.specs.declared.cause.ScriptCause.TheVariants.{Size, Utf8}
 use Rattle.resc_vars.specs.Bodies.{depth_limit, enter, source_of}
-use Rattle.monitor.specs.declared.fault.Cause.TheVariants.{Script}
 use Rattle.monitor.specs.declared.fault.ScriptFault.{ScriptFault}
 use Rattle.monitor.specs.declared.stop.Stop.{Stop}
 use Rattle.monitor.specs.declared.stop.Stop.TheVariants.{Store, Quit, Line, File, Content, Unread, Memory}
@@ -63,8 +61,9 @@ module _ (held : Held) (s : State) (place : Place) (path : List ℕ) (room : len
   stops text_fault.Unread stop after read is = rw is (asks_one path log log' read)
   stops text_fault.TooLarge stop after read is = rw is (ap (include_text s place path) read.0, read.1)
   stops (text_fault.NotText line) stop after read is =
-      file_carried (record { names = path ∷ []; answer = include_text s place path (file_text (get held path)) }) place _
-      stop after log log' (ap (include_text s place path) read.0) read.1 is
+      let told = include_text s place path (file_text (get held path)) in
+      file_carried (record { names = path ∷ []; answer = told }) place _ stop after log log'
+      (ap (include_text s place path) read.0) read.1 is
   stops text_fault.Memory stop after read is = rw is read
 
   -- the text is not read

@@ -1,5 +1,5 @@
 -- What comes of a file that a command loads onto a board.
-use Rattle.std.proofs.Common.{◌≡◌, ◌∙◌, ℕ, ◌<◌, ◌≤◌, nat_lt, Bool, true, false, cond, List, [], ◌∷◌, length}
+use Rattle.std.proofs.Common.{◌≡◌, ℕ, ◌<◌, ◌≤◌, nat_lt, true, false, List, length}
 use Rattle.std.proofs.Common.{Option, None, Some, Result, Ok, Err, Vec, refl, ap, arith}
 use Rattle.std.specs.Prelude.{IsSomeAnd}
 use Rattle.std.specs.FinMap.{get}

@@ -1,5 +1,5 @@
 -- Commands keep the lines open that stand open: each stays that of a shown UART.
-use Rattle.std.proofs.Common.{◌≡◌, ◌∙◌, sym, ap, subst, refl, ℕ, zero, suc, ◌+◌, ◌-◌, ◌≤◌, nat_le, nat_lt, arith}
+use Rattle.std.proofs.Common.{◌≡◌, ◌∙◌, sym, ap, refl, ℕ, zero, suc, ◌+◌, ◌-◌, ◌≤◌, nat_le, nat_lt, arith}
 use Rattle.std.proofs.Common.{Bool, true, false, ◌&&◌, List, [], ◌∷◌, ◌++◌, length, set, get_or, slice_get}
 use Rattle.std.proofs.Common.{Option, None, Some, Result, Ok, Err}
 use Rattle.std.specs.Prelude.{if◌then◌else◌, is_none, option_and_then}
@@ -15,7 +15,7 @@ use Rattle.lab_num.specs.declared.key.Member.{Member}
 use Rattle.lab_num.specs.Change.{change_at}
 use Rattle.log_text.specs.declared.line.OpenLine.{OpenLine}
 use Rattle.log_text.specs.Log.{open_lines}
-use Rattle.dev_core.specs.declared.kind.Kind.TheVariants.{Uart, Can}
+use Rattle.dev_core.specs.declared.kind.Kind.TheVariants.{Uart}
 use Rattle.dev_core.specs.declared.state.DevState.{DevState}
 use Rattle.dev_core.specs.declared.state.DevState.TheVariants as state
 use Rattle.dev_core.specs.Device.{dev_reset, kind_of}
@@ -36,7 +36,6 @@ use Rattle.repl_read.specs.declared.fault.PlatFault.{PlatFault}
 use Rattle.repl_read.specs.declared.fault.PlatFault.TheVariants as plat_fault
 use Rattle.resc_read.specs.declared.command.Command.{Command}
 use Rattle.resc_read.specs.declared.command.Command.TheVariants as command
-use Rattle.resc_read.specs.declared.command.LineCause.{LineCause}
 use Rattle.resc_vars.specs.declared.cause.ScriptCause.{ScriptCause}
 use Rattle.resc_vars.specs.declared.cause.ScriptCause.TheVariants.{Depth, LabTime, Platform, Size}
 use Rattle.resc_vars.specs.Bodies.{depth_limit}
@@ -51,7 +50,7 @@ use Rattle.monitor.specs.declared.fault.Cause.{Cause}
 use Rattle.monitor.specs.Answer.{Answer, Goes, Done, answer_at, reads, refused, loads, with_file}
 use Rattle.monitor.specs.Bodies.{entered, include_text, run_macro}
 use Rattle.monitor.specs.Boards.{create, equip, equip_loaded, load_onto, reset_board, select, with_new_board}
-use Rattle.monitor.specs.Command.{does, done_by, work}
+use Rattle.monitor.specs.Command.{does, work}
 use Rattle.monitor.specs.Hubs.{can_hub, connect, show, uart_hub}
 use Rattle.monitor.specs.Images.{elf_image, hex_image, load_image, load_read}
 use Rattle.monitor.specs.Images.{unreserved, with_entry, with_part, with_parts}
@@ -192,14 +191,14 @@ shown_keeps dev v other is = among v.space.devices dev other is
 -- ---- answers
 
 -- what is not refused leaves a state of which each open line is of a shown UART
-abbrev HasOpen : State → Type 0
+abbrev pub HasOpen : State → Type 0
 HasOpen s = All (IsOpen s.lab) s.lines
 
-abbrev IsKept : Result Done ScriptCause → Type 0
+abbrev pub IsKept : Result Done ScriptCause → Type 0
 IsKept (Ok done) = HasOpen done.state
 IsKept (Err cause) = Unit {0}
 
-abbrev IsKeptBy : Answer → Type 0
+abbrev pub IsKeptBy : Answer → Type 0
 IsKeptBy (Goes text s) = HasOpen s
 IsKeptBy _ = Unit {0}
 
@@ -209,7 +208,7 @@ kept_then :
 kept_then (Ok x) f kept = kept x refl
 kept_then (Err cause) f kept = tt
 
-kept_answer : (place : Place) (r : Result Done ScriptCause) → IsKept r → IsKeptBy (answer_at place r)
+pub kept_answer : (place : Place) (r : Result Done ScriptCause) → IsKept r → IsKeptBy (answer_at place r)
 kept_answer place (Ok done) kept = kept
 kept_answer place (Err cause) kept = tt
 
@@ -260,13 +259,7 @@ bare_is s b is = by_selected (selected s) is
 
 -- ---- commands
 
--- a run keeps lines of shown UARTs open, and opens others of them alone
-abbrev pub RunsKeep : Lab → Type 0
-RunsKeep lab =
-    (d : ℕ) (lines : List OpenLine) → lab.now + d ≤ 10000000000 → All (IsOpen lab) lines →
-    All (IsOpen (run lab d).lab) (open_lines lines (run lab d).items)
-
-module _ (s : State) (runs : RunsKeep s.lab) (open_ : HasOpen s) where
+module _ (s : State) (open_ : HasOpen s) where
   -- a board is changed
   on_board : (f : View → View) → Keeps f → (on : Equipped) → HasOpen (with_board s on f)
   on_board f keeps on =
@@ -281,6 +274,9 @@ module _ (s : State) (runs : RunsKeep s.lab) (open_ : HasOpen s) where
   bytes_put : (on : Equipped) (at : ℕ) (bytes : List ℕ) → HasOpen (with_board s on (λ v. with_bytes v at bytes))
   bytes_put on at bytes = same_devices (λ v. with_bytes v at bytes) (λ v. copied_devices v.space at bytes) on
 
+  pub bytes_written : (on : Equipped) (at : ℕ) (bytes : List ℕ) → IsKept (write_bytes s on at bytes)
+  bytes_written on at bytes = let put = bytes_put on at bytes in search (kept_then, put)
+
   -- a laboratory is changed
   board_more :
       (name : List ℕ) →
@@ -293,7 +289,7 @@ module _ (s : State) (runs : RunsKeep s.lab) (open_ : HasOpen s) where
   connected None m = open_
   connected (Some hub) m = open_
 
-  made_by :
+  pub made_by :
       (b : ℕ) (names : List (List ℕ)) → view_of s.lab b ≡ None → (r : Result BoardPlan PlatFault) →
       IsKeptBy (equip s b names r)
   made_by b names none (Ok plan) =
@@ -325,7 +321,7 @@ module _ (s : State) (runs : RunsKeep s.lab) (open_ : HasOpen s) where
       same_devices (λ v. with_entry (with_parts v image.parts) image.entry)
       (λ v. entry_devices (with_parts v image.parts) image.entry ∙ parts_devices (unreserved v) image.parts) on
 
-  image_read : (place : Place) (on : Equipped) (r : Result Image Cause) → IsKeptBy (load_read s place on r)
+  pub image_read : (place : Place) (on : Equipped) (r : Result Image Cause) → IsKeptBy (load_read s place on r)
   image_read place on (Ok image) = kept_answer place (load_image s on image) (search (kept_then, image_put on image))
   image_read place on (Err cause) = tt
 
@@ -343,6 +339,23 @@ module _ (s : State) (runs : RunsKeep s.lab) (open_ : HasOpen s) where
   mips_set on None = open_
   mips_set on (Some each) = same_devices (λ v. with_speed v (speed_of on.view each)) (λ v. refl) on
 
+  -- a body
+  pub body_entered : (flow : Result script.State ScriptCause) → IsKept (entered s flow)
+  body_entered flow = kept_then flow _ (λ after _. open_)
+
+  text_entered : (place : Place) (path : List ℕ) (text : FileText) → IsKeptBy (include_text s place path text)
+  text_entered place path Missing = tt
+  text_entered place path Large = tt
+  text_entered place path (Broken line) = tt
+  text_entered place path (Readable bytes) = kept_answer place _ (body_entered _)
+
+-- a run keeps lines of shown UARTs open, and opens others of them alone
+abbrev pub RunsKeep : Lab → Type 0
+RunsKeep lab =
+    (d : ℕ) (lines : List OpenLine) → lab.now + d ≤ 10000000000 → All (IsOpen lab) lines →
+    All (IsOpen (run lab d).lab) (open_lines lines (run lab d).items)
+
+module _ (s : State) (runs : RunsKeep s.lab) (open_ : HasOpen s) where
   -- a run
   has_run : (length : ℕ) → IsKept (run_for run s length)
   has_run length =
@@ -352,43 +365,33 @@ module _ (s : State) (runs : RunsKeep s.lab) (open_ : HasOpen s) where
       (required (nat_le (s.lab.now + length) 10000000000) LabTime time is) in
       runs (length_of s length) s.lines (omega (arith, within, no_longer s length)) open_))
 
-  -- a body
-  body_entered : (flow : Result script.State ScriptCause) → IsKept (entered s flow)
-  body_entered flow = kept_then flow _ (λ after _. open_)
-
-  text_entered : (place : Place) (path : List ℕ) (text : FileText) → IsKeptBy (include_text s place path text)
-  text_entered place path Missing = tt
-  text_entered place path Large = tt
-  text_entered place path (Broken line) = tt
-  text_entered place path (Readable bytes) = kept_answer place _ (body_entered _)
-
   -- each command
-  work_keeps : (held : Held) (place : Place) (c : Command) → IsKeptBy (does held place (work run s c)).answer
+  pub work_keeps : (held : Held) (place : Place) (c : Command) → IsKeptBy (does held place (work run s c)).answer
   work_keeps held place (command.LoadPlatform path) =
-      loaded_onto place (load held (length s.flow.outer) path) (bare s) refl
+      loaded_onto s open_ place (load held (length s.flow.outer) path) (bare s) refl
   work_keeps held place (command.LoadElf path) =
-      kept_loads held place path (equipped s) _ (λ on bytes. image_read place on (elf_image bytes))
+      kept_loads held place path (equipped s) _ (λ on bytes. image_read s open_ place on (elf_image bytes))
   work_keeps held place (command.LoadBinary path at) =
       kept_loads held place path (equipped s) _ (λ on bytes.
-      kept_answer place (write_bytes s on at bytes) (search (kept_then, bytes_put)))
+      kept_answer place (write_bytes s on at bytes) (bytes_written s open_ on at bytes))
   work_keeps held place (command.LoadHex path) =
-      kept_loads held place path (equipped s) _ (λ on bytes. image_read place on (hex_image bytes))
+      kept_loads held place path (equipped s) _ (λ on bytes. image_read s open_ place on (hex_image bytes))
   work_keeps held place (command.Include path) =
       kept_reads place path (require (nat_lt (length s.flow.outer) depth_limit) Depth) _ (λ _.
-      text_entered place path (file_text (get held path)))
+      text_entered s open_ place path (file_text (get held path)))
   work_keeps held place (command.Create name) =
-      kept_answer place (create s name) (search (kept_then, board_more))
+      kept_answer place (create s name) (search (kept_then, board_more s open_))
   work_keeps held place (command.Select name) = kept_answer place (select s name) (search (kept_then, open_))
   work_keeps held place command.Reset =
-      kept_answer place (reset_board s) (search (kept_then, on_board reset reset_keeps))
+      kept_answer place (reset_board s) (search (kept_then, on_board s open_ reset reset_keeps))
   work_keeps held place (command.ReadWord at) = kept_answer place (read_word s at) (search (kept_then, open_))
   work_keeps held place (command.WriteWord at value) =
-      kept_answer place (write_word s at value) (search (kept_then, bytes_put))
-  work_keeps held place (command.Pc cpu value) = kept_answer place (pc s cpu value) (search (kept_then, pc_set))
+      kept_answer place (write_word s at value) (search (kept_then, bytes_put s open_))
+  work_keeps held place (command.Pc cpu value) = kept_answer place (pc s cpu value) (search (kept_then, pc_set s open_))
   work_keeps held place (command.Halted cpu value) =
-      kept_answer place (halted s cpu value) (search (kept_then, halted_set))
+      kept_answer place (halted s cpu value) (search (kept_then, halted_set s open_))
   work_keeps held place (command.Mips cpu value) =
-      kept_answer place (mips s cpu value) (search (kept_then, mips_set))
+      kept_answer place (mips s cpu value) (search (kept_then, mips_set s open_))
   work_keeps held place (command.Quantum length) = open_
   work_keeps held place (command.RunFor length) = kept_answer place (run_for run s length.0) (has_run length.0)
   work_keeps held place (command.UartHub name delay) =
@@ -396,23 +399,14 @@ module _ (s : State) (runs : RunsKeep s.lab) (open_ : HasOpen s) where
   work_keeps held place (command.CanHub name delay) =
       kept_answer place (can_hub s name delay.0) (search (kept_then, open_))
   work_keeps held place (command.Connect dev hub) =
-      kept_answer place (connect s dev hub) (search (kept_then, connected) depth 9)
+      kept_answer place (connect s dev hub) (search (kept_then, connected s open_) depth 9)
   work_keeps held place (command.Show dev) =
       kept_answer place (show s dev)
-      (search (kept_then, λ (m : Member). on_board (λ v. with_shown v m.dev) (shown_keeps m.dev)))
-  work_keeps held place (command.RunMacro name) = kept_answer place (run_macro s name) (search body_entered)
+      (search (kept_then, λ (m : Member). on_board s open_ (λ v. with_shown v m.dev) (shown_keeps m.dev)))
+  work_keeps held place (command.RunMacro name) = kept_answer place (run_macro s name) (search (body_entered s open_))
   work_keeps held place command.UsingSysbus = open_
   work_keeps held place command.Pause = open_
   work_keeps held place command.Start = kept_answer place (start run s) (has_run (s.until - s.lab.now))
+  work_keeps held place (command.Save path) = tt
+  work_keeps held place (command.Load path) = tt
   work_keeps held place command.Quit = tt
-
--- what a line does where it says something leaves lines of shown UARTs open, if runs do
-pub commands_keep_lines_open :
-    (held : Held) (s : State) (place : Place) (read : Result Command LineCause) (text : List ℕ) (after : State) →
-    RunsKeep s.lab → All (IsOpen s.lab) s.lines → (done_by run held s place read).answer ≡ Goes text after →
-    All (IsOpen after.lab) after.lines
-commands_keep_lines_open held s place read text after runs open_ goes = subst IsKeptBy goes (by_line read)
-  where
-    by_line : (read : Result Command LineCause) → IsKeptBy (done_by run held s place read).answer
-    by_line (Ok c) = work_keeps s runs open_ held place c
-    by_line (Err cause) = tt

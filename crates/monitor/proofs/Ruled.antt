@@ -1,5 +1,5 @@
 -- What a command has done, by what its parts have done.
-use Rattle.std.proofs.Common.{◌≡◌, ◌∙◌, ℕ, Bool, true, false, List, [], ◌∷◌, Option, Some, Result, Ok, Err, Vec}
+use Rattle.std.proofs.Common.{◌≡◌, ℕ, false, [], Option, Result, Ok, Err, Vec}
 use Rattle.std.proofs.Common.{refl, sym, ap}
 use Rattle.std.specs.Prelude.{IfOk, IfSome}
 use Rattle.std.specs.FinMap.{empty}
@@ -30,7 +30,7 @@ use Rattle.monitor.specs.Command.{Work, OnFiles, OnState, OnStore, Quits, does, 
 use Rattle.monitor.specs.State.{State, Place}
 use Rattle.monitor.specs.Step.{Running, IsStep}
 use Rattle.monitor.specs.Inner.Ruling.{IsCarried, IsDone, IsRuled, IsTold, IsWorked, KeepsOpen, Leaves, line_stop}
-use Rattle.monitor.specs.Inner.Ruling.{IsAfterLine, ends_script, step_of}
+use Rattle.monitor.specs.Inner.Ruling.{ends_script, step_of}
 use Rattle.monitor.proofs.OpenLemmas.{HasOpen, IsKeptBy}
 
 -- what holds if a value is told holds of the value that is told
@@ -109,14 +109,14 @@ module _ {F : Type 0} {files : Ghosts F} {P : Type 0} where
       OnlyReads files P before after → IsDone files by result old new before after
   done_told by answer result old new before after read told leaves keeps reads =
       let nowhere : Place = record { file = []; number = 0 } in record {
-    carried = λ place held is.
-        let asked = read place held is in
-        told_carried (by held place) place result new.state (files.asked before) (files.asked after) asked.1
-        (rw asked.0 (told place));
-    leaves = leaves;
-    open_lines = told_open nowhere (answer nowhere) result old.state new.state (keeps nowhere) (told nowhere);
-    reads = reads_as (λ same. absurd (told_read nowhere _ result new.state (told _) same)) reads;
-  }
+        carried = λ place held is.
+            let asked = read place held is in
+            told_carried (by held place) place result new.state (files.asked before) (files.asked after) asked.1
+            (rw asked.0 (told place));
+        leaves = leaves;
+        open_lines = told_open nowhere (answer nowhere) result old.state new.state (keeps nowhere) (told nowhere);
+        reads = reads_as (λ same. absurd (told_read nowhere _ result new.state (told _) same)) reads;
+      }
 
   -- a command was stopped where it reads
   pub done_stopped :
@@ -149,12 +149,14 @@ module _ {F : Type 0} {files : Ghosts F} where
   pub done_refused :
       (cause : ScriptCause) (old : Running) (before : F) →
       IsDone files (λ held place. unread place (Err cause)) (Err (Line cause)) old old before before
-  done_refused cause old before = done_alone (Err cause) (Err (Line cause)) old old before (λ place open_. tt) (refl, refl)
+  done_refused cause old before =
+      done_alone (Err cause) (Err (Line cause)) old old before (λ place open_. tt) (refl, refl)
 
   -- a command of each sort
   pub worked_done :
       (work : Work) (result : Result (Vec ℕ Global) Stop) (old new : Running) (before after : F) →
-      ((held : Held) (place : Place) → HasOpen old.state → IsKeptBy (does held place work).answer) → IsWorked files work result old new before after →
+      ((held : Held) (place : Place) → HasOpen old.state → IsKeptBy (does held place work).answer) →
+      IsWorked files work result old new before after →
       IsDone files (λ held place. does held place work) result old new before after
   worked_done (OnFiles by) result old new before after keeps is = is
   worked_done (OnState ruling) result old new before after keeps is =
@@ -212,34 +214,17 @@ stop_unread place (Content cause) is = cc is
 stop_unread place Unread is = refl
 stop_unread place Memory is = cc is
 
--- a monitor whose script has ended, and stays so
-still_ended : (old mid : Running) → old.ended ≡ true → mid ≡ old → record mid { ended = true } ≡ old
-still_ended old mid ended same =
-    ap (λ (r : Running). record r { ended = true }) same ∙ ap (λ b. record old { ended = b }) (sym ended)
+-- a monitor whose script goes on
+abbrev pub GoesOn : Running → Type 0
+GoesOn r = (r.state.flow.ended ≡ false) × (r.spent ≡ false) × HasOpen r.state
 
-pub stop_after :
-    (place : Place) (stop : Stop) (old mid new : Running) → old.ended ≡ true → Leaves (Err stop) old mid →
-    new ≡ record mid { ended = ends_script stop } → IsAfterLine (step_of place stop) old new
-stop_after place (Store (storing.Save name)) old mid new waits same is =
-    is ∙ ap (λ (r : Running). record r { ended = false }) same
-stop_after place (Store (storing.Load name)) old mid new waits same is =
-    is ∙ ap (λ (r : Running). record r { ended = false }) same
-stop_after place Quit old mid new waits same is = is ∙ still_ended old mid waits same
-stop_after place (Line cause) old mid new waits same is = is ∙ still_ended old mid waits same
-stop_after place (File fault) old mid new waits same is = is ∙ still_ended old mid waits same
-stop_after place (Content cause) old mid new waits same is = is ∙ still_ended old mid waits same
-stop_after place Unread old mid new waits same is = is ∙ still_ended old mid waits same
-stop_after place Memory old mid new waits same is = ap (λ (r : Running). r.ended) is
-
--- a script that goes on there does so in the laboratory in which it was
+-- a script that does not end where the monitor stops goes on in the laboratory in which it was
 pub stop_goes_on :
-    (stop : Stop) (old mid : Running) → Leaves (Err stop) old mid → old.state.flow.ended ≡ false →
-    old.spent ≡ false → HasOpen old.state → ends_script stop ≡ false →
-    (mid.state.flow.ended ≡ false) × (mid.spent ≡ false) × HasOpen mid.state
-stop_goes_on (Store asked) old mid same goes_on unspent open_ ends = rw same (goes_on, unspent, open_)
-stop_goes_on Quit old mid same goes_on unspent open_ ends = absurd (cc)
-stop_goes_on (Line cause) old mid same goes_on unspent open_ ends = absurd (cc)
-stop_goes_on (File fault) old mid same goes_on unspent open_ ends = absurd (cc)
-stop_goes_on (Content cause) old mid same goes_on unspent open_ ends = absurd (cc)
-stop_goes_on Unread old mid same goes_on unspent open_ ends = absurd (cc)
-stop_goes_on Memory old mid same goes_on unspent open_ ends = absurd (cc)
+    (stop : Stop) (old mid : Running) → Leaves (Err stop) old mid → GoesOn old → ends_script stop ≡ false → GoesOn mid
+stop_goes_on (Store asked) old mid same goes_on ends = rw same goes_on
+stop_goes_on Quit old mid same goes_on ends = absurd (cc)
+stop_goes_on (Line cause) old mid same goes_on ends = absurd (cc)
+stop_goes_on (File fault) old mid same goes_on ends = absurd (cc)
+stop_goes_on (Content cause) old mid same goes_on ends = absurd (cc)
+stop_goes_on Unread old mid same goes_on ends = absurd (cc)
+stop_goes_on Memory old mid same goes_on ends = absurd (cc)

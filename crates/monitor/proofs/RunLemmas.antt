@@ -1,5 +1,6 @@
 -- Runs that are refused or cut short.
-use Rattle.std.proofs.Common.{◌≡◌, ◌↔◌, ℕ, ◌+◌, ◌<◌, ◌≤◌, nat_le, Bool, true, false, cond, Some, Result, Err, refl, arith}
+use Rattle.std.proofs.Common.{◌≡◌, ◌↔◌, ℕ, ◌+◌, ◌<◌, ◌≤◌, nat_le, Bool, true, false, cond, Some, Result, Err}
+use Rattle.std.proofs.Common.{refl, arith}
 use Rattle.std.proofs.lemmas.Bool.{leb-true}
 use Rattle.lab_num.specs.declared.number.BoardNo.{BoardNo}
 use Rattle.lab_state.specs.declared.faults.RunCause.{RunCause}

@@ -1,5 +1,5 @@
 -- What the next command of a script does. The refusals of one command stand in its definition in their order.
-use Rattle.std.specs.Prelude.{ℕ, List, [], Result, Ok, Err}
+use Rattle.std.specs.Prelude.{[], Result, Ok, Err}
 use Rattle.lab_io.specs.Held.{Held}
 use Rattle.lab_state.specs.Run.{Play}
 use Rattle.resc_read.specs.declared.command.Command.{Command}

@@ -25,7 +25,7 @@ use dev_core::{Device, Stock};
 use floor_run::Gate;
 use lab_io::Files;
 use lab_num::{BoardNo, Micros, NoMemory, Rows, Text};
-use lab_state::Lab;
+use lab_state::{Lab, runs_keep_lines_open};
 use log_text::Lines;
 use resc_read::read_line;
 use resc_vars::{Flow, Next};
@@ -287,6 +287,7 @@ impl<D: Device + Send> Monitor<D> {
             (λ held place. done_by run held self.old.state place (line_of text.now))
             result self.old self.new files.old files.new }
     {
+        runs_keep_lines_open(&self.lab);
         let command = read_line(self.alloc, text)?;
         self.carry_out(rt, files, command, gate)
     }

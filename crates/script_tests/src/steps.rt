@@ -1,6 +1,5 @@
 //! A monitor that is taken apart after each step, and put together again.
-ghost use Rattle.std.specs.Prelude.{◌≡◌, ◌≤◌, ◌^◌, None, false, true, length, IfOk};
-ghost use Rattle.std.specs.String.{string_bytes};
+ghost use Rattle.std.specs.Prelude.{◌≡◌, None, false, IfOk, IfSome};
 ghost use Rattle.monitor.specs.Step.{going};
 
 use crate::scripts::short;
@@ -140,7 +139,9 @@ fn what_is_for_the_store_is_told_and_the_script_goes_on(rt: HostRuntime) -> Resu
     let alloc = rt.alloc();
     let stock = stock(alloc)?;
     let said = course(&rt, alloc, SCRIPT, stock)?;
-    assert_eq!(rt; said.as_str(),
-        "prints 0|s:3 saves boot.snap|s:4 loads late.snap|error: s:5: S4 no board|");
+    assert_eq!(rt;
+        said.as_str(),
+        "prints 0|s:3 saves boot.snap|s:4 loads late.snap|error: s:5: S4 no board|"
+    );
     Ok(())
 }

@@ -1,5 +1,5 @@
 -- What the part of a step that carries out a command has done.
-use Rattle.std.specs.Prelude.{◌≡◌, ℕ, ◌<◌, ◌≤◌, true, false, List, length, Option, Some, Result, Ok, Err, Vec}
+use Rattle.std.specs.Prelude.{◌≡◌, ℕ, ◌<◌, ◌≤◌, true, false, List, length, Some, Result, Ok, Err, Vec}
 use Rattle.std.specs.Prelude.{All, Bool, IfOk, IfSome, IsSome, IsTrue}
 use Rattle.std.specs.Global.{Global}
 use Rattle.std.specs.Option.{ForSome}
@@ -247,8 +247,8 @@ Leaves (Err Unread) old new = new ≡ old
 Leaves (Err Memory) old new = new.ended ≡ old.ended
 
 -- What a command has done: it is answered as it should be and asked for the names that it reads, or was cut short; if
--- it stops the script it has changed nothing, unless memory ran out, and else it keeps the lines that are open, whatever
--- is told of the files; and of files it has only read.
+-- it stops the monitor it has changed nothing, unless memory ran out, and else it keeps the lines that are open,
+-- whatever is told of the files; and of files it has only read.
 pub record IsDone
     {F : Type 0} (files : Ghosts F) (by : Held → Place → Did) (result : Result (Vec ℕ Global) Stop) (old new : Running)
     (before after : F) : Type 0 where

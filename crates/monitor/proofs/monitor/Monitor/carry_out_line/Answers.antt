@@ -23,8 +23,9 @@ returns-in_err-command g c =
 pub returns : goal.returns
 returns g c =
     let s = c.args.self.now.state in
-    let runs : RunsKeep s = subst (λ (r : Running). RunsKeep r.state) c.self.view_is c.runs_keep_lines_open.ensures in
+    let runs : RunsKeep s.lab =
+    subst (λ (r : Running). RunsKeep r.state.lab) c.self.view_is c.runs_keep_lines_open.ensures in
     rw c.in_ok-command.ensures
     (worked_done (work run s c.in_ok-command.command) c.carry_out.result c.args.self.now c.carry_out.new.self
     c.args.files.now c.carry_out.new.files
-    (λ held place open_. work_keeps s open_ runs held place c.in_ok-command.command) c.carry_out.ensures)
+    (λ held place open_. work_keeps s runs open_ held place c.in_ok-command.command) c.carry_out.ensures)

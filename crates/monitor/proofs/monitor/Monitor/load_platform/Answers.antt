@@ -35,5 +35,5 @@ returns g c =
     c.in_ok-b.ensures.ok depth (c.in_ok-plan.ensures.read held told))
     (λ place. ruled_told place ruling c.fit.result c.args.self.now c.fit.new.self c.fit.ensures)
     (ruled_leaves ruling c.fit.result c.args.self.now c.fit.new.self c.fit.ensures)
-    (λ place open_. made_by s open_ place c.in_ok-b.b.0 [] c.in_ok-b.ensures.none (Ok c.in_ok-plan.plan))
+    (λ place open_. made_by s open_ c.in_ok-b.b.0 [] c.in_ok-b.ensures.none (Ok c.in_ok-plan.plan))
     c.in_ok-plan.ensures.files

@@ -22,5 +22,6 @@ returns-in_err-log g c =
     rw (exit.1, exit.2, ← c.self.view_is)
     (run_cut _ _ _ c.in_err-log.field-0.0 _ refl
     (λ b told. let bare = (c.in_err-log.ensures.no_plan b).0 told in cc)
-    (λ told. let long = c.in_err-log.ensures.too_long.0 told in omega (arith, c.length_of-played.ensures, short, all, long))
+    (λ told. let long = c.in_err-log.ensures.too_long.0 told in
+    omega (arith, c.length_of-played.ensures, short, all, long))
     refl)

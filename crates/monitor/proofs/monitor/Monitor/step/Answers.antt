@@ -28,9 +28,8 @@ returns-in-End-clause-absent g c =
 pub returns-in-Fault-clause-step : goal.returns-in-Fault-clause-step
 returns-in-Fault-clause-step g c =
     rw (← c.self.view_is, c.fault_at.ensures)
-    (fault_is run _ c.args.self.now.state c.next.new.self (g.F.Files.held c.args.files.now) c.in-Fault.file c.in-Fault.line
-    c.in-Fault.cause
-    _ c.in-Fault.ensures.says)
+    (fault_is run _ c.args.self.now.state c.next.new.self (g.F.Files.held c.args.files.now) c.in-Fault.file
+    c.in-Fault.line c.in-Fault.cause _ c.in-Fault.ensures.says)
 
 pub returns-in-Fault-clause-absent : goal.returns-in-Fault-clause-absent
 returns-in-Fault-clause-absent g c =
