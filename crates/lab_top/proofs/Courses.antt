@@ -1,7 +1,7 @@
 -- How a run goes on: the course of what is left, after what was read, written and kept before, is the course of the
 -- whole.
 use Rattle.std.proofs.Common.{◌≡◌, ◌≢◌, ◌∙◌, ℕ, ◌+◌, List, [], ◌∷◌, ◌++◌, length, map, take, drop, Option, None, Some}
-use Rattle.std.proofs.Common.{IfSome, append_assoc, length-append, refl, sym, ap}
+use Rattle.std.proofs.Common.{IfSome, Result, Err, append_assoc, length-append, refl, sym, ap}
 use Rattle.std.proofs.lemmas.List.{take-append-drop, map-append}
 use Rattle.lab_io.specs.Asked.{Log, AsksSome, AsksUpTo}
 use Rattle.lab_io.specs.Held.{Held}
@@ -304,13 +304,21 @@ cut_by : (fault : WriteFault) → final (refusal fault) ≡ None
 cut_by write_fault.Unwritten = refl
 cut_by write_fault.Memory = refl
 
-not_unread : (fault : WriteFault) → refusal fault ≢ end_by.Unread
+pub not_unread : (fault : WriteFault) → refusal fault ≢ end_by.Unread
 not_unread write_fault.Unwritten is = cc
 not_unread write_fault.Memory is = cc
 
-not_unstored : (fault : WriteFault) → refusal fault ≢ end_by.Unstored
+pub not_unstored : (fault : WriteFault) → refusal fault ≢ end_by.Unstored
 not_unstored write_fault.Unwritten is = cc
 not_unstored write_fault.Memory is = cc
+
+-- of two that a result is
+pub same_err : {A E : Type 0} (result : Result A E) (a b : E) → result ≡ Err a → result ≡ Err b → a ≡ b
+same_err result a b one other = cc
+
+pub unwritten_by : (fault : WriteFault) → refusal fault ≡ end_by.Unwritten → fault ≡ write_fault.Unwritten
+unwritten_by write_fault.Unwritten is = refl
+unwritten_by write_fault.Memory is = cc
 
 -- a part of the last text and the last line was written
 pub end_cut :

@@ -191,14 +191,18 @@ unread_in :
     (further : Rest) (s : State) (names : List (List ℕ)) (answer : Answer) →
     new.written ≡ old.written → LeavesStore kept old new → AsksUpTo names old.asked new.asked →
     Course (onward further kept s (record { names = names; answer = answer })) kept end_by.Unread old new
-unread_in further s names (Goes text next) wrote store asks = course_unread names text _ wrote store asks
-unread_in further s names (Saves name place next) wrote store asks = course_unread names [] _ wrote store asks
-unread_in further s names (Loads name place next) wrote store asks = course_unread names [] _ wrote store asks
-unread_in further s names Ends wrote store asks =
-    course_unread names (rest (names_of s.lab) s.lines) _ wrote store asks
-unread_in further s names (Faults fault) wrote store asks =
-    course_unread names (rest (names_of s.lab) s.lines) _ wrote store asks
-unread_in further s names Misses wrote store asks = course_unread names [] _ wrote store asks
+unread_in {kept} further s names (Goes text next) wrote store asks =
+    course_unread names text (further kept next) wrote store asks
+unread_in {kept} further s names (Saves name place next) wrote store asks =
+    course_unread names [] (saving further kept name place next (spelling next.lab next.lines)) wrote store asks
+unread_in {kept} further s names (Loads name place next) wrote store asks =
+    course_unread names [] (loading further kept name place next) wrote store asks
+unread_in {kept} further s names Ends wrote store asks =
+    course_unread names (rest (names_of s.lab) s.lines) (ended kept Done) wrote store asks
+unread_in {kept} further s names (Faults fault) wrote store asks =
+    course_unread names (rest (names_of s.lab) s.lines) (ended kept (Script fault)) wrote store asks
+unread_in {kept} further s names Misses wrote store asks =
+    course_unread names [] (ended kept Absent) wrote store asks
 
 -- a read failed
 pub step_unread :
@@ -214,14 +218,18 @@ memory_in :
     (further : Rest) (s : State) (names : List (List ℕ)) (answer : Answer) →
     new.written ≡ old.written → LeavesStore kept old new → AsksSome names old.asked new.asked →
     Course (onward further kept s (record { names = names; answer = answer })) kept end_by.Memory old new
-memory_in further s names (Goes text next) wrote store asks = course_memory names text _ wrote store asks
-memory_in further s names (Saves name place next) wrote store asks = course_memory names [] _ wrote store asks
-memory_in further s names (Loads name place next) wrote store asks = course_memory names [] _ wrote store asks
-memory_in further s names Ends wrote store asks =
-    course_memory names (rest (names_of s.lab) s.lines) _ wrote store asks
-memory_in further s names (Faults fault) wrote store asks =
-    course_memory names (rest (names_of s.lab) s.lines) _ wrote store asks
-memory_in further s names Misses wrote store asks = course_memory names [] _ wrote store asks
+memory_in {kept} further s names (Goes text next) wrote store asks =
+    course_memory names text (further kept next) wrote store asks
+memory_in {kept} further s names (Saves name place next) wrote store asks =
+    course_memory names [] (saving further kept name place next (spelling next.lab next.lines)) wrote store asks
+memory_in {kept} further s names (Loads name place next) wrote store asks =
+    course_memory names [] (loading further kept name place next) wrote store asks
+memory_in {kept} further s names Ends wrote store asks =
+    course_memory names (rest (names_of s.lab) s.lines) (ended kept Done) wrote store asks
+memory_in {kept} further s names (Faults fault) wrote store asks =
+    course_memory names (rest (names_of s.lab) s.lines) (ended kept (Script fault)) wrote store asks
+memory_in {kept} further s names Misses wrote store asks =
+    course_memory names [] (ended kept Absent) wrote store asks
 
 -- memory ran out
 pub step_memory :
@@ -239,11 +247,15 @@ at_turn turn held kept s within =
     let count : 100001 - turn ≡ suc (100000 - turn) = omega arith in
     rw count refl
 
-pub next_turn : (turn : ℕ) (held kept : Held) (s : State) →
-    from (100001 - (turn + 1)) run held kept s ≡ from (100000 - turn) run held kept s
-next_turn turn held kept s =
-    let count : 100001 - (turn + 1) ≡ 100000 - turn = omega arith in
-    rw count refl
+-- and after it there is one fewer
+pub turn_goes :
+    {old new : Outside} (turn : ℕ) (held kept : Held) (s next : State) → turn ≤ 100000 →
+    GoesOn (from (suc (100000 - turn)) run held kept s) kept old new (λ now. from (100000 - turn) run held now next) →
+    GoesOn (from (100001 - turn) run held kept s) kept old new (λ now. from (100001 - (turn + 1)) run held now next)
+turn_goes turn held kept s next within goes =
+    let count : 100001 - turn ≡ suc (100000 - turn) = omega arith in
+    let later : 100001 - (turn + 1) ≡ 100000 - turn = omega arith in
+    rw (count, later) goes
 
 -- a line that is for the store is refused
 pub refused_ends :

@@ -5,6 +5,7 @@ use Rattle.std.specs.FinMap.{get, insert, get-insert}
 use Rattle.std.specs.Cmp.{eq_by_cmp_equiv}
 use Rattle.std.specs.Cmp.Lexicographic.{nat_list_cmp_total}
 use Rattle.std.specs.List.{All}
+use Rattle.std.specs.Prelude.{IsSomeAnd}
 use Rattle.std.proofs.lemmas.Bool.Decides.{nat_tests}
 use Rattle.std.proofs.lemmas.List.Elements.{All-head}
 use Rattle.lab_io.specs.Asked.{Log}
@@ -136,6 +137,11 @@ goes_still :
     GoesOn (further kept) kept at at further
 goes_still {kept} further told = record { now = kept; told = told; course = λ status new course. course }
 
+-- want of memory is no fault of the store
+pub memory_alone :
+    {A M : Type 0} (result : Result A (Halt M)) → result ≡ Err halt.Memory → result ≡ Err halt.Unstored → ⊥
+memory_alone result is failed = cc
+
 -- ---- a laboratory is kept
 
 -- it is too large
@@ -202,16 +208,22 @@ take_occupied further kept name place m is told =
     rw (loading_occupied further kept name place m.state is)
     (goes_still (λ now. refused now place m.state Occupied) told)
 
+some_large :
+    (o : Option (List ℕ)) → IsSomeAnd o (λ bytes. 67108864 < length bytes) →
+    (bytes : List ℕ) × (o ≡ Some bytes) × (67108864 < length bytes)
+some_large None beyond = absurd beyond
+some_large (Some bytes) beyond = (bytes, refl, beyond)
+
 -- the name keeps too much
 pub take_large :
-    {old mid : Outside} (further : Rest) (kept : Held) (name : List ℕ) (place : Place) (m : Running)
-    (bytes : List ℕ) →
-    is_occupied m.state.lab ≡ false → get kept name ≡ Some bytes → 67108864 < length bytes →
+    {old mid : Outside} (further : Rest) (kept : Held) (name : List ℕ) (place : Place) (m : Running) →
+    is_occupied m.state.lab ≡ false → IsSomeAnd (get kept name) (λ bytes. 67108864 < length bytes) →
     mid.written ≡ old.written → mid.asked ≡ old.asked → mid.used ≡ grown old.used (get_of name ∷ []) →
     mid.kept ≡ Some kept →
     IsStored (loading further kept name place m.state) kept further place old mid (Err (halt.Refused Size m))
-take_large further kept name place m bytes free there beyond wrote asked used told =
-    rw (loading_free further kept name place m.state free, there, large bytes beyond)
+take_large further kept name place m free beyond wrote asked used told =
+    let there = some_large (get kept name) beyond in
+    rw (loading_free further kept name place m.state free, there.1, large there.0 there.2)
     (goes_using (get_of name) (λ now. refused now place m.state Size) wrote asked used told)
 
 -- the store failed
@@ -239,7 +251,7 @@ restored old mid further kept name place s snapshot (Err (halt.Refused cause m))
     (goes_using (get_of name) (λ now. refused now place s Snapshot) wrote asked used told)
 restored old mid further kept name place s snapshot (Err halt.Unstored) wrote asked used told is = absurd is
 restored old mid further kept name place s snapshot (Err halt.Memory) wrote asked used told is =
-    course_using (get_of name) (resuming further kept place s snapshot) wrote asked used
+    course_using {mid = mid} (get_of name) (resuming further kept place s snapshot) wrote asked used
     (course_none (resuming further kept place s snapshot) refl refl (record { used = refl; told = told }))
 
 -- what the name keeps was read, and what became of that

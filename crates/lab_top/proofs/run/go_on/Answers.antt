@@ -1,14 +1,9 @@
+use Rattle.monitor.specs.Step.{line_in}
 use Rattle.lab_top.proofs.Onward.{refused_ends}
 use Rattle.lab_top.proofs.run.go_on.Goals as goal
 
-pub returns-in-Ok-clause-course : goal.returns-in-Ok-clause-course
-returns-in-Ok-clause-course g c = λ all kept further old mid on. rw c.in-Ok.is at on
-
 pub returns-in-Err-Refused-clause-course : goal.returns-in-Err-Refused-clause-course
-returns-in-Err-Refused-clause-course g c = λ all kept further old mid on. ?
-
-pub returns-in-Err-Unstored-clause-course : goal.returns-in-Err-Unstored-clause-course
-returns-in-Err-Unstored-clause-course g c = λ all kept further old mid course. rw c.in-Err-Unstored.is at course
-
-pub returns-in-Err-Memory-clause-course : goal.returns-in-Err-Memory-clause-course
-returns-in-Err-Memory-clause-course g c = λ all kept further old mid course. rw c.in-Err-Memory.is at course
+returns-in-Err-Refused-clause-course g c = λ all kept further old mid on.
+    refused_ends all kept old mid (line_in c.args.file c.args.line) c.in-Err-Refused.cause c.in-Err-Refused.monitor
+    c.stop_at.result (g.K.Sink.written c.args.out.now) (g.K.Sink.written c.stop_at.new.out)
+    (rw (c.in-Err-Refused.is, c.in-Err-Refused.field-0-is) at on) c.stop_at.ensures.course
