@@ -180,7 +180,9 @@ fn is_whole_or_starved<R: Threads + Wait + Copy + Send + Sync>(
     let mut files = files(alloc, LETTER)?;
     let mut out = MemSink::new(alloc, 4096);
     let mut store = MemStore::new(alloc);
-    let status = run(rt, alloc, &BY_ONE, &mut files, &mut out, &mut store, &NoGate)?;
+    let status = run(
+        rt, alloc, &BY_ONE, &mut files, &mut out, &mut store, &NoGate,
+    )?;
     Ok(match status {
         Status::Done => out.bytes() == log,
         Status::Memory => log.starts_with(out.bytes()),

@@ -51,9 +51,30 @@ static ROWS: [Row; 15] = [
     ("check", LOAD, Some(EMPTY), None, 0, ""),
     ("check", LOAD, Some(EMPTY), Some(0), 6, ""),
     ("run", LOAD, None, None, 6, ""),
-    ("run", LOAD, Some(CUT), None, 3, "error: s.resc:1: S20 snapshot\n"),
-    ("run", OCCUPIED, None, Some(0), 3, "error: s.resc:2: S21 occupied\n"),
-    ("check", OCCUPIED, None, Some(0), 3, "error: s.resc:2: S21 occupied\n"),
+    (
+        "run",
+        LOAD,
+        Some(CUT),
+        None,
+        3,
+        "error: s.resc:1: S20 snapshot\n",
+    ),
+    (
+        "run",
+        OCCUPIED,
+        None,
+        Some(0),
+        3,
+        "error: s.resc:2: S21 occupied\n",
+    ),
+    (
+        "check",
+        OCCUPIED,
+        None,
+        Some(0),
+        3,
+        "error: s.resc:2: S21 occupied\n",
+    ),
     ("run", THREE, None, Some(0), 6, ""),
     ("run", THREE, None, Some(1), 6, ""),
     ("run", THREE, None, Some(2), 6, PRINTED),
@@ -81,7 +102,15 @@ fn is_run_so<R: Threads + Wait + Copy + Send + Sync>(
 ) -> Result<bool, NoMemory> {
     let mut files = files(alloc, script)?;
     let mut out = MemSink::new(alloc, 4096);
-    let status = run(rt, alloc, &[word, "s.resc"], &mut files, &mut out, store, &NoGate)?;
+    let status = run(
+        rt,
+        alloc,
+        &[word, "s.resc"],
+        &mut files,
+        &mut out,
+        store,
+        &NoGate,
+    )?;
     Ok(status.number() == number && out.bytes() == written.as_bytes())
 }
 
@@ -94,7 +123,11 @@ fn is_row<R: Threads + Wait + Copy + Send + Sync>(
     let (word, script, kept, failing, number, written) = *row;
     let mut store = store_of(alloc, kept)?;
     if let Some(call) = failing {
-        store.fail_at(if kept.is_some() { call.saturating_add(1) } else { call })?;
+        store.fail_at(if kept.is_some() {
+            call.saturating_add(1)
+        } else {
+            call
+        })?;
     }
     is_run_so(rt, alloc, (word, script), &mut store, (number, written))
 }

@@ -51,7 +51,15 @@ fn eight_workers_are_at_work_at_once(rt: HostRuntime) -> Result<(), Fail> {
     let mut files = files(rt.alloc(), EIGHT)?;
     let mut out = MemSink::new(rt.alloc(), 4096);
     let mut store = MemStore::new(rt.alloc());
-    let status = run(&rt, rt.alloc(), &WORDS, &mut files, &mut out, &mut store, &gate)?;
+    let status = run(
+        &rt,
+        rt.alloc(),
+        &WORDS,
+        &mut files,
+        &mut out,
+        &mut store,
+        &gate,
+    )?;
     assert_eq!(rt; status.number(), 0);
     assert!(rt; out.bytes() == EIGHT_LOG.as_bytes());
     assert_eq!(rt; gate.entered.load(Ordering::SeqCst), 16);

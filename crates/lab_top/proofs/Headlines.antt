@@ -23,7 +23,7 @@ whole_by :
     {all : Transcript} {kept : Held} {status : Status} {old new : Outside} (course : Course all kept status old new)
     (o : Option Outcome) →
     IfSome o (λ outcome.
-        (all.outcome ≡ outcome) × (course.unwritten ≡ []) × (all.kept ≡ kept_by kept (calls course.done))) →
+    (all.outcome ≡ outcome) × (course.unwritten ≡ []) × (all.kept ≡ kept_by kept (calls course.done))) →
     IfSome o (λ outcome. EndsAs all outcome old new)
 whole_by course None end = tt
 whole_by {old = old} course (Some outcome) end = record {
@@ -39,10 +39,10 @@ pub whole_of :
 whole_of {status = status} course = whole_by course (final status) course.ended
 
 reads_last :
-    {reads passed coming : List Read} {bytes : ℕ} {log log' : Option (List (List ℕ))} →
+    {reads passed : List Read} (coming : List Read) {bytes : ℕ} {log log' : Option (List (List ℕ))} →
     reads ≡ passed ++ coming → IsLastAt passed bytes → log' ≡ grown log (names_read passed) →
     ReadsLast reads bytes log log'
-reads_last {coming = coming} all last asked = record {
+reads_last coming all last asked = record {
   earlier = last.earlier;
   last = last.last;
   coming = coming;
@@ -67,7 +67,7 @@ part_of course = record {
   used = course.used;
   stored = course.stored;
   unstored = course.unstored;
-  unread = λ is. reads_last course.all_reads (course.unread is) course.asked;
+  unread = λ is. reads_last course.coming course.all_reads (course.unread is) course.asked;
 }
 
 -- and so have its reads
@@ -86,10 +86,10 @@ pub uncut :
     {P Q R : Type 0} (status : Status) →
     (status ≡ end_by.Unread → P) → (status ≡ end_by.Unwritten → Q) → (status ≡ end_by.Unstored → R) →
     ¬ P → ¬ Q → ¬ R → IsUncut status
-uncut end_by.Done read wrote stored p q r = inl tt
+uncut end_by.Done read wrote stored p q r = inl refl
 uncut end_by.Memory read wrote stored p q r = inr refl
-uncut (end_by.Usage cause) read wrote stored p q r = inl tt
-uncut (end_by.Script fault) read wrote stored p q r = inl tt
+uncut (end_by.Usage cause) read wrote stored p q r = inl refl
+uncut (end_by.Script fault) read wrote stored p q r = inl refl
 uncut end_by.Unread read wrote stored p q r = absurd (p (read refl))
 uncut end_by.Unwritten read wrote stored p q r = absurd (q (wrote refl))
 uncut end_by.Unstored read wrote stored p q r = absurd (r (stored refl))

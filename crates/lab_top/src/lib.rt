@@ -11,6 +11,8 @@ mod words;
 
 pub use command_line::{command_words, words_after_name};
 pub use lab_words::UsageCause;
-pub use laws::{checks_run_nothing, cut_runs_go_on, returns_agree, transcripts_agree, workers_agree};
+pub use laws::{
+    checks_run_nothing, cut_runs_go_on, returns_agree, transcripts_agree, workers_agree,
+};
 pub use run::run_lab;
 pub use status::{Status, exit_code};
