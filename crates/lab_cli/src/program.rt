@@ -6,7 +6,7 @@ ghost use Rattle.lab_top.specs.Headline.{exit_number};
 use can_sja1000::Can;
 use dev_core::{Device, Stock};
 use floor_run::NoGate;
-use lab_io::{DiskFiles, OutSink, Sink};
+use lab_io::{DiskFiles, DiskStore, OutSink, Sink, Store};
 use lab_num::NoMemory;
 use lab_top::{Status, command_words, exit_code, run_lab};
 use std::alloc::Global;
@@ -39,35 +39,39 @@ impl Termination for Ended {
     }
 }
 
-/// Runs the program over the files of the machine and its standard output.
+/// Runs the program over the files of the machine and its standard output. Snapshots are files of the
+/// working folder.
 pub fn run<R: Env + Files + Print + AllocGlobal + Threads + Wait + Copy + Send + Sync>(
     rt: &R,
 ) -> Ended {
     let mut files = DiskFiles::new(rt);
     let mut out = OutSink::new(rt);
+    let mut store = DiskStore::new(rt, rt.alloc());
     Ended {
-        run: run_over(rt, &mut files, &mut out),
+        run: run_over(rt, &mut files, &mut out, &mut store),
     }
 }
 
-/// Runs the program by the words that it was started with, over these files and this output.
-fn run_over<R: Env + AllocGlobal + Threads + Wait + Copy + Send + Sync, F: lab_io::Files, K: Sink>(
-    rt: &R,
-    files: &mut F,
-    out: &mut K,
-) -> Result<Status, NoMemory> {
+/// Runs the program by the words that it was started with, over these files, this output and this store.
+fn run_over<
+    R: Env + AllocGlobal + Threads + Wait + Copy + Send + Sync,
+    F: lab_io::Files,
+    K: Sink,
+    S: Store,
+>(rt: &R, files: &mut F, out: &mut K, store: &mut S) -> Result<Status, NoMemory> {
     let words = command_words(rt)?;
-    run_on_boxes(rt, rt.alloc(), &words, files, out)
+    run_on_boxes(rt, rt.alloc(), &words, files, out, store)
 }
 
 /// Runs the program by these words, on devices enough for each board that a laboratory can have,
 /// each in a box of its own.
-fn run_on_boxes<R: Threads + Wait + Copy + Send + Sync, F: lab_io::Files, K: Sink>(
+fn run_on_boxes<R: Threads + Wait + Copy + Send + Sync, F: lab_io::Files, K: Sink, S: Store>(
     rt: &R,
     alloc: Global,
     words: &[String],
     files: &mut F,
     out: &mut K,
+    store: &mut S,
 ) -> Result<Status, NoMemory> {
     let mut uarts: Vec<Box<dyn Device + Send>> = Vec::new(alloc);
     for _ in 0..UARTS {
@@ -86,7 +90,7 @@ fn run_on_boxes<R: Threads + Wait + Copy + Send + Sync, F: lab_io::Files, K: Sin
         cans,
         finishers,
     };
-    Ok(run_on_stock(rt, alloc, words, files, out, stock))
+    Ok(run_on_stock(rt, alloc, words, files, out, store, stock))
 }
 
 /// Runs the program by these words, on the devices of a full stock.
@@ -95,9 +99,18 @@ fn run_on_stock<
     D: Device + Send,
     F: lab_io::Files,
     K: Sink,
->(rt: &R, alloc: Global, words: &[String], files: &mut F, out: &mut K, stock: Stock<D>) -> Status {
+    S: Store,
+>(
+    rt: &R,
+    alloc: Global,
+    words: &[String],
+    files: &mut F,
+    out: &mut K,
+    store: &mut S,
+    stock: Stock<D>,
+) -> Status {
     if !stock.is_full() {
         return Status::Memory;
     }
-    run_lab(rt, alloc, words, files, out, stock, &NoGate)
+    run_lab(rt, alloc, words, files, out, store, stock, &NoGate)
 }

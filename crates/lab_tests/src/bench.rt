@@ -1,8 +1,8 @@
-//! Runs of the program over files and an output in memory.
+//! Runs of the program over files, an output and a store in memory.
 use can_sja1000::Can;
 use dev_core::{Device, Stock};
 use floor_run::Gate;
-use lab_io::{MemFiles, MemSink};
+use lab_io::{MemFiles, MemSink, MemStore};
 use lab_num::NoMemory;
 use lab_top::{Status, run_lab};
 use std::alloc::Global;
@@ -69,6 +69,7 @@ fn run_on<R: Threads + Wait + Copy + Send + Sync, D: Device + Send, G: Gate>(
     words: &[&str],
     files: &mut MemFiles,
     out: &mut MemSink,
+    store: &mut MemStore,
     stock: Stock<D>,
     gate: &G,
 ) -> Result<Status, NoMemory> {
@@ -76,7 +77,7 @@ fn run_on<R: Threads + Wait + Copy + Send + Sync, D: Device + Send, G: Gate>(
         return Err(NoMemory);
     }
     let words = words_of(alloc, words)?;
-    Ok(run_lab(rt, alloc, &words, files, out, stock, gate))
+    Ok(run_lab(rt, alloc, &words, files, out, store, stock, gate))
 }
 
 /// A run by these words, on devices enough for every laboratory: how it ends.
@@ -86,6 +87,7 @@ pub fn run<R: Threads + Wait + Copy + Send + Sync, G: Gate>(
     words: &[&str],
     files: &mut MemFiles,
     out: &mut MemSink,
+    store: &mut MemStore,
     gate: &G,
 ) -> Result<Status, NoMemory> {
     let mut uarts: Vec<Box<dyn Device + Send>> = Vec::new(alloc);
@@ -105,5 +107,5 @@ pub fn run<R: Threads + Wait + Copy + Send + Sync, G: Gate>(
         cans,
         finishers,
     };
-    run_on(rt, alloc, words, files, out, stock, gate)
+    run_on(rt, alloc, words, files, out, store, stock, gate)
 }

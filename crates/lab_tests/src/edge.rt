@@ -21,8 +21,9 @@ fn a_run_that_finds_no_memory_for_its_words_ends_with_1(rt: HostRuntime) -> Resu
         exit_code(&Ok(Status::Usage(UsageCause::Value))),
         exit_code(&Ok(Status::Unread)),
         exit_code(&Ok(Status::Unwritten)),
+        exit_code(&Ok(Status::Unstored)),
         exit_code(&Err(NoMemory)),
     ];
-    assert_eq!(rt; codes, [0, 1, 2, 4, 5, 1]);
+    assert_eq!(rt; codes, [0, 1, 2, 4, 5, 6, 1]);
     Ok(())
 }

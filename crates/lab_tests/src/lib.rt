@@ -1,4 +1,4 @@
-//! Tests of the whole program, over files and an output in memory that fail where they are told to, with
+//! Tests of the whole program, over files, an output and a store in memory that fail where they are told to, with
 //! workers that wait for each other, and of its words and its exit code.
 #![tactic(auto)]
 
@@ -8,5 +8,7 @@ mod bench;
 mod edge;
 #[cfg(test)]
 mod outside;
+#[cfg(test)]
+mod snapshots;
 #[cfg(test)]
 mod workers;

@@ -1,7 +1,7 @@
 //! Reads, writes and allocations that fail.
 use crate::bench::{files, run};
 use floor_run::NoGate;
-use lab_io::MemSink;
+use lab_io::{MemSink, MemStore};
 use lab_num::NoMemory;
 use lab_top::Status;
 use std::alloc::Global;
@@ -107,7 +107,8 @@ fn is_cut_by<R: Threads + Wait + Copy + Send + Sync>(
         Failing::Read(call) => files.fail_at(call)?,
         Failing::Write(call) => out.fail_at(call)?,
     }
-    let status = run(rt, alloc, words, &mut files, &mut out, &NoGate)?;
+    let mut store = MemStore::new(alloc);
+    let status = run(rt, alloc, words, &mut files, &mut out, &mut store, &NoGate)?;
     Ok(status.number() == number && out.bytes() == written.as_bytes())
 }
 
@@ -178,13 +179,15 @@ fn is_whole_or_starved<R: Threads + Wait + Copy + Send + Sync>(
 ) -> Result<bool, NoMemory> {
     let mut files = files(alloc, LETTER)?;
     let mut out = MemSink::new(alloc, 4096);
-    Ok(
-        match run(rt, alloc, &BY_ONE, &mut files, &mut out, &NoGate)? {
-            Status::Done => out.bytes() == log,
-            Status::Memory => log.starts_with(out.bytes()),
-            _ => false,
-        },
-    )
+    let mut store = MemStore::new(alloc);
+    let status = run(
+        rt, alloc, &BY_ONE, &mut files, &mut out, &mut store, &NoGate,
+    )?;
+    Ok(match status {
+        Status::Done => out.bytes() == log,
+        Status::Memory => log.starts_with(out.bytes()),
+        _ => false,
+    })
 }
 
 #[test]

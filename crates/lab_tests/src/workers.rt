@@ -1,7 +1,7 @@
 //! Workers that run beside each other.
 use crate::bench::{files, run};
 use floor_run::Gate;
-use lab_io::MemSink;
+use lab_io::{MemSink, MemStore};
 use lab_num::BoardNo;
 use std::hint::spin_loop;
 use std::sync::atomic::{AtomicBool, AtomicU64, Ordering};
@@ -50,7 +50,16 @@ fn eight_workers_are_at_work_at_once(rt: HostRuntime) -> Result<(), Fail> {
     };
     let mut files = files(rt.alloc(), EIGHT)?;
     let mut out = MemSink::new(rt.alloc(), 4096);
-    let status = run(&rt, rt.alloc(), &WORDS, &mut files, &mut out, &gate)?;
+    let mut store = MemStore::new(rt.alloc());
+    let status = run(
+        &rt,
+        rt.alloc(),
+        &WORDS,
+        &mut files,
+        &mut out,
+        &mut store,
+        &gate,
+    )?;
     assert_eq!(rt; status.number(), 0);
     assert!(rt; out.bytes() == EIGHT_LOG.as_bytes());
     assert_eq!(rt; gate.entered.load(Ordering::SeqCst), 16);

@@ -2,4 +2,6 @@ pub mod Settings
 pub mod Pieces
 pub mod Courses
 pub mod Onward
+pub mod Stores
 pub mod Openings
+pub mod Headlines

@@ -22,11 +22,12 @@ use Rattle.lab_top.specs.Transcript.{begun, rest_of}
 
 -- the number of workers does not matter
 pub begun_workers :
-    (play : Play) (held : Held) (script : List ℕ) (setting : Setting) (workers : ℕ) (content : Content) →
-    begun play held script (record setting { workers = workers }) content ≡ begun play held script setting content
-begun_workers play held script setting workers Missing = refl
-begun_workers play held script setting workers (Faulty fault) = refl
-begun_workers play held script setting workers (Readable text) = refl
+    (play : Play) (held kept : Held) (script : List ℕ) (setting : Setting) (workers : ℕ) (content : Content) →
+    begun play held kept script (record setting { workers = workers }) content
+    ≡ begun play held kept script setting content
+begun_workers play held kept script setting workers Missing = refl
+begun_workers play held kept script setting workers (Faulty fault) = refl
+begun_workers play held kept script setting workers (Readable text) = refl
 
 -- a run of length 0 has no round
 run_none : (lab : Lab) → run lab 0 ≡ still lab
@@ -78,9 +79,9 @@ unfolding started_with
 started_as script text setting = refl
 
 -- scripts with the same lines go on in the same way
-pub begun_lines : (held : Held) (script text other : List ℕ) (setting : Setting) →
+pub begun_lines : (held kept : Held) (script text other : List ℕ) (setting : Setting) →
     source_of script other ≡ source_of script text →
-    begun run held script setting (Readable other) ≡ begun run held script setting (Readable text)
-begun_lines held script text other setting same =
-    ap (rest_of run held) (started_as script other setting ∙ ap (λ source. started_with source setting) same
+    begun run held kept script setting (Readable other) ≡ begun run held kept script setting (Readable text)
+begun_lines held kept script text other setting same =
+    ap (rest_of run held kept) (started_as script other setting ∙ ap (λ source. started_with source setting) same
     ∙ sym (started_as script text setting))

@@ -2,3 +2,4 @@
 pub mod Course
 pub mod Words
 pub mod Opened
+pub mod Stored

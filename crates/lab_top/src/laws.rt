@@ -1,26 +1,31 @@
 //! Laws of the transcript. Each is the contract of a function that does nothing when it runs.
-ghost use Rattle.std.specs.Prelude.{◌≡◌, ℕ, true, List, Ok};
+ghost use Rattle.std.specs.Prelude.{◌≡◌, ◌≤◌, ℕ, true, false, List, [], None, Ok, length};
+ghost use Rattle.std.specs.FinMap.{insert};
 ghost use Rattle.std.specs.List.{list_all};
 ghost use Rattle.lab_io.specs.Held.{Held};
+ghost use Rattle.lab_io.specs.Store.{get_of, put_of};
+ghost use Rattle.lab_snap.specs.Saved.{IsSpellable, spelling};
 ghost use Rattle.lab_state.specs.Run.{run};
 ghost use Rattle.lab_state.specs.Turns.{Cut, IsWhole, run_in_turns};
+ghost use Rattle.lab_state.specs.Valid.{IsValid};
 ghost use Rattle.lab_num.specs.Returns.{is_no_return, with_returns};
 ghost use Rattle.monitor.specs.declared.setting.Setting.{Setting};
 ghost use Rattle.monitor.specs.Answer.{Done, leaves};
 ghost use Rattle.monitor.specs.Runs.{run_for};
-ghost use Rattle.monitor.specs.State.{State};
+ghost use Rattle.monitor.specs.State.{State, Place, empty_lab};
 ghost use Rattle.lab_top.specs.Content.{Readable};
 ghost use Rattle.lab_top.specs.Request.{Run, request_of};
-ghost use Rattle.lab_top.specs.Transcript.{begun, transcript, transcript_by};
+ghost use Rattle.lab_top.specs.Transcript.{Rest, begun, loading, saving, transcript, transcript_by, using};
 
+use lab_snap::snapshots_are_what_they_spell;
 use lab_state::turns_agree;
 use resc_vars::return_law;
 
 /// However the boards take the slots of their grants in turns, the program writes the same bytes,
 /// ends in the same way and reads the same files.
 pub fn transcripts_agree()
-    ensures { (cut : Cut) → IsWhole cut → (words : List (List ℕ)) (held : Held) →
-        transcript_by (run_in_turns cut) words held ≡ transcript words held }
+    ensures { (cut : Cut) → IsWhole cut → (words : List (List ℕ)) (held kept : Held) →
+        transcript_by (run_in_turns cut) words held kept ≡ transcript words held kept }
 {
     turns_agree();
 }
@@ -28,18 +33,18 @@ pub fn transcripts_agree()
 /// Words that ask for the same run by another number of workers make the program write the same
 /// bytes, end in the same way and read the same files.
 pub fn workers_agree()
-    ensures { (words others : List (List ℕ)) (script : List ℕ) (setting : Setting) (workers : ℕ) (held : Held) →
+    ensures { (words others : List (List ℕ)) (script : List ℕ) (setting : Setting) (workers : ℕ) (held kept : Held) →
         request_of words ≡ Run script setting →
         request_of others ≡ Run script (record setting { workers = workers }) →
-        transcript others held ≡ transcript words held }
+        transcript others held kept ≡ transcript words held kept }
 {}
 
 /// A script without carriage returns goes on as it does with one before each line feed.
 pub fn returns_agree()
-    ensures { (held : Held) (script text : List ℕ) (setting : Setting) →
+    ensures { (held kept : Held) (script text : List ℕ) (setting : Setting) →
         list_all is_no_return text ≡ true →
-        begun run held script setting (Readable (with_returns text))
-        ≡ begun run held script setting (Readable text) }
+        begun run held kept script setting (Readable (with_returns text))
+        ≡ begun run held kept script setting (Readable text) }
 {
     return_law();
 }
@@ -50,3 +55,21 @@ pub fn checks_run_nothing()
     ensures { (s : State) (length : ℕ) (done : Done) → s.dry ≡ true →
         run_for run s length ≡ Ok done → done ≡ leaves s }
 {}
+
+/// A run that is cut by `Save` and `Load` goes on as the unbroken one. What is left of a run after `Save`
+/// is what is left of it without the command, with the snapshot kept. `Load`, in a new run that has the same
+/// lines to come, variables and macros, and in whose laboratory nothing was made, goes on with the same, as
+/// if no board had been selected.
+pub fn cut_runs_go_on()
+    ensures saved { (rest : Rest) (kept : Held) (name : List ℕ) (place : Place) (s : State) (bytes : List ℕ) →
+        length bytes ≤ 67108864 → s.dry ≡ false →
+        saving rest kept name place s bytes ≡ using (put_of name bytes) (rest (insert kept name bytes) s) }
+    ensures loaded { (rest : Rest) (kept : Held) (name : List ℕ) (place : Place) (s : State) →
+        IsValid s.lab s.lines → IsSpellable s.lab s.lines → length (spelling s.lab s.lines) ≤ 67108864 →
+        loading rest (insert kept name (spelling s.lab s.lines)) name place
+        (record s { lab = empty_lab; lines = [] })
+        ≡ using (get_of name)
+        (rest (insert kept name (spelling s.lab s.lines)) (record s { selected = None })) }
+{
+    snapshots_are_what_they_spell();
+}

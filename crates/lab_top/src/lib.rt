@@ -5,11 +5,14 @@ mod command_line;
 mod laws;
 mod run;
 mod script;
+mod snapshots;
 mod status;
 mod words;
 
 pub use command_line::{command_words, words_after_name};
 pub use lab_words::UsageCause;
-pub use laws::{checks_run_nothing, returns_agree, transcripts_agree, workers_agree};
+pub use laws::{
+    checks_run_nothing, cut_runs_go_on, returns_agree, transcripts_agree, workers_agree,
+};
 pub use run::run_lab;
 pub use status::{Status, exit_code};

@@ -1,30 +1,37 @@
 //! The whole program, from the command words to the status.
-ghost use Rattle.std.specs.Prelude.{◌≡◌, ◌≢◌, ◌≤◌, ◌^◌, [], false, length, IfSome, map, string_bytes};
+ghost use Rattle.std.specs.Prelude.{◌≡◌, ◌≢◌, ℕ, suc, ◌≤◌, ◌^◌, List, [], false, length, map, string_bytes};
+ghost use Rattle.std.specs.Prelude.{Option, Err, IfSome, IfOk, IfErr, OnOk};
 ghost use Rattle.std.specs.Option.{ForSome};
 ghost use Rattle.dev_core.specs.Stock.{IsFull};
 ghost use Rattle.lab_gen.specs.Summary.{summary_of};
-ghost use Rattle.lab_io.specs.Frame.{OnlyReads, OnlyWrites};
+ghost use Rattle.lab_io.specs.Asked.{Log};
+ghost use Rattle.lab_io.specs.Frame.{OnlyReads, OnlyStores, OnlyWrites};
+ghost use Rattle.lab_io.specs.Held.{Held};
 ghost use Rattle.lab_io.specs.Known.{Rose};
 ghost use Rattle.lab_state.specs.Names.{names};
 ghost use Rattle.lab_state.specs.Run.{run};
 ghost use Rattle.log_text.specs.Log.{rest};
 ghost use Rattle.monitor.specs.State.{started};
+ghost use Rattle.monitor.specs.Step.{TakesSome, line_in};
 ghost use Rattle.lab_top.specs.Request.{request_of};
-ghost use Rattle.lab_top.specs.Transcript.{transcript, run_of, rest_of};
+ghost use Rattle.lab_top.specs.Transcript.{Rest, Transcript, transcript, run_of, rest_of, from};
 ghost use Rattle.lab_top.specs.Transcript.{Script, Usage, Done};
-ghost use Rattle.lab_top.specs.Headline.{IsWhole, WritesPart, WritesUsage, AsksPart, HasAll, IsUncut};
-ghost use Rattle.lab_top.specs.Headline.{IsUsageBy, IsNoUsage, OnRefused, final};
-ghost use Rattle.lab_top.specs.Inner.Course.{Course, IsEnd};
+ghost use Rattle.lab_top.specs.Headline.{IsWhole, WritesPart, WritesUsage, AsksPart, IsUncut, outside};
+ghost use Rattle.lab_top.specs.Headline.{Outside, IsUsageBy, IsNoUsage, OnRefused, final};
+ghost use Rattle.lab_top.specs.Inner.Course.{Course, IsEnd, IsTaken};
+ghost use Rattle.lab_top.specs.Inner.Stored.{IsStored, IsUnspent};
 
 use crate::script::{Opened, open};
+use crate::snapshots::{Halt, keep, take_back};
 use crate::status::Status;
 use crate::words::{Asked, ScriptRun, read_request};
 use dev_core::{Device, Stock};
 use floor_run::Gate;
 use lab_gen::generate;
-use lab_io::{Files, Sink, write_whole};
+use lab_io::{Files, Sink, Store, write_whole};
+use lab_num::Text;
 use lab_words::{UsageCause, WordsFault, usage_line};
-use monitor::{Monitor, ScriptFault, Step};
+use monitor::{Cause, Monitor, ScriptFault, Step};
 use std::alloc::Global;
 use std::sync::Wait;
 use std::thread::Threads;
@@ -32,13 +39,15 @@ use std::thread::Threads;
 /// How many lines a run takes at most: 100,000 commands, and one line that ends it.
 const MOST_STEPS: u32 = 100_001;
 
-/// Runs the program for its command words, reading from `files` and writing to `out`. As many workers as
-/// the words name run the boards. Where several run several boards, each enters the gate before each turn.
+/// Runs the program for its command words, reading from `files`, writing to `out`, and keeping snapshots in
+/// `store`. As many workers as the words name run the boards. Where several run several boards, each enters
+/// the gate before each turn.
 pub fn run_lab<
     R: Threads + Wait + Copy + Send + Sync,
     D: Device + Send,
     F: Files,
     K: Sink,
+    S: Store,
     G: Gate,
 >(
     rt: &R,
@@ -46,73 +55,88 @@ pub fn run_lab<
     words: &[String],
     files: &mut F,
     out: &mut K,
+    store: &mut S,
     stock: Stock<D>,
     gate: &G,
 ) -> Status
     requires { IsFull (map D.meaning stock.uarts.items) (map D.meaning stock.cans.items)
         (map D.meaning stock.finishers.items) }
 
-    // Where nothing cut the run short, it ended and wrote as its transcript says.
-    ensures outcome { IfSome (F.held files.old) (λ held.
-        IsWhole (transcript (map string_bytes words.now) held) result
-        (K.written out.old) (K.written out.new)) }
+    // Where nothing cut the run short, it ended, wrote and kept as its transcript says.
+    ensures outcome { IfSome (F.held files.old) (λ held. IfSome (S.kept store.old) (λ kept.
+        IsWhole (transcript (map string_bytes words.now) held kept) result
+        (outside F.Files K.Sink S.Store files.old out.old store.old)
+        (outside F.Files K.Sink S.Store files.new out.new store.new))) }
 
-    // Else it wrote what the transcript begins with, and after a failed read all that comes before
-    // that read.
-    ensures prefix { IfSome (F.held files.old) (λ held.
-        WritesPart (transcript (map string_bytes words.now) held) result
-        (K.written out.old) (K.written out.new) (F.asked files.old) (F.asked files.new)) }
+    // Else it wrote what the transcript begins with and made the calls on the store that it begins with,
+    // and after a failed read or a failed call on the store all that comes before it.
+    ensures prefix { IfSome (F.held files.old) (λ held. IfSome (S.kept store.old) (λ kept.
+        WritesPart (transcript (map string_bytes words.now) held kept) kept result
+        (outside F.Files K.Sink S.Store files.old out.old store.old)
+        (outside F.Files K.Sink S.Store files.new out.new store.new))) }
 
     // It asks for no name that the transcript does not.
-    ensures asked { IfSome (F.held files.old) (λ held.
-        AsksPart (transcript (map string_bytes words.now) held)
-        (F.asked files.old) (F.asked files.new)) }
+    ensures asked { IfSome (F.held files.old) (λ held. IfSome (S.kept store.old) (λ kept.
+        AsksPart (transcript (map string_bytes words.now) held kept)
+        (F.asked files.old) (F.asked files.new))) }
 
-    // Where each name holds something and nothing failed, nothing but want of memory cuts it short.
-    ensures complete { IfSome (F.held files.old) (λ held.
-        HasAll held (transcript (map string_bytes words.now) held).reads →
-        ¬ (Rose (F.faults files.old) (F.faults files.new)) →
+    // Where nothing failed, nothing but want of memory cuts it short.
+    ensures complete { ¬ (Rose (F.faults files.old) (F.faults files.new)) →
         ¬ (Rose (K.faults out.old) (K.faults out.new)) →
-        IsUncut result) }
+        ¬ (Rose (S.faults store.old) (S.faults store.new)) →
+        IsUncut result }
 
     // The words alone say whether they are refused. Refused ones write the usage line or a front
-    // of it, whatever is told of the files, and ask for no name.
+    // of it, whatever is told of the files and the store, ask for no name, and leave the store alone.
     ensures usage { IsUsageBy (request_of (map string_bytes words.now)) result }
-    ensures refused { OnRefused (request_of (map string_bytes words.now))
-        (WritesUsage result (K.written out.old) (K.written out.new)
-        (F.asked files.old) (F.asked files.new)) }
+    ensures refused { OnRefused (request_of (map string_bytes words.now)) (WritesUsage result
+        (outside F.Files K.Sink S.Store files.old out.old store.old)
+        (outside F.Files K.Sink S.Store files.new out.new store.new)) }
 
     // Only a fault that was counted cuts it short, or want of memory. What the files hold stays.
     ensures files { OnlyReads F.Files (result ≡ Status.Unread) files.old files.new }
     ensures output { OnlyWrites K.Sink (result ≡ Status.Unwritten) out.old out.new }
+    ensures store { OnlyStores S.Store (result ≡ Status.Unstored) store.old store.new }
 {
-    run_words(rt, alloc, words, files, out, stock, gate)
+    run_words(rt, alloc, words, files, out, store, stock, gate)
 }
 
 /// Does what the words ask for.
-fn run_words<R: Threads + Wait + Copy + Send + Sync, D: Device + Send, F: Files, K: Sink, G: Gate>(
+fn run_words<
+    R: Threads + Wait + Copy + Send + Sync,
+    D: Device + Send,
+    F: Files,
+    K: Sink,
+    S: Store,
+    G: Gate,
+>(
     rt: &R,
     alloc: Global,
     words: &[String],
     files: &mut F,
     out: &mut K,
+    store: &mut S,
     stock: Stock<D>,
     gate: &G,
 ) -> Status
     requires { IsFull (map D.meaning stock.uarts.items) (map D.meaning stock.cans.items)
         (map D.meaning stock.finishers.items) }
-    ensures course { ForSome (F.held files.old) (λ held.
-        Course (transcript (map string_bytes words.now) held) result
-        (K.written out.old) (K.written out.new) (F.asked files.old) (F.asked files.new)) }
+    ensures course { ForSome (F.held files.old) (λ held. ForSome (S.kept store.old) (λ kept.
+        Course (transcript (map string_bytes words.now) held kept) kept result
+        (outside F.Files K.Sink S.Store files.old out.old store.old)
+        (outside F.Files K.Sink S.Store files.new out.new store.new))) }
     ensures usage { IsUsageBy (request_of (map string_bytes words.now)) result }
-    ensures refused { OnRefused (request_of (map string_bytes words.now))
-        (WritesUsage result (K.written out.old) (K.written out.new)
-        (F.asked files.old) (F.asked files.new)) }
+    ensures refused { OnRefused (request_of (map string_bytes words.now)) (WritesUsage result
+        (outside F.Files K.Sink S.Store files.old out.old store.old)
+        (outside F.Files K.Sink S.Store files.new out.new store.new)) }
     ensures files { OnlyReads F.Files (result ≡ Status.Unread) files.old files.new }
     ensures output { OnlyWrites K.Sink (result ≡ Status.Unwritten) out.old out.new }
+    ensures store { OnlyStores S.Store (result ≡ Status.Unstored) store.old store.new }
 {
     match read_request(alloc, words) {
-        Ok(Asked::Script(request)) => run_file(rt, alloc, request, files, out, stock, gate),
+        Ok(Asked::Script(request)) => {
+            run_file(rt, alloc, request, files, out, store, stock, gate)
+        }
         Ok(
             Asked::Generated {
                 seed,
@@ -129,6 +153,7 @@ fn run_words<R: Threads + Wait + Copy + Send + Sync, D: Device + Send, F: Files,
 fn refuse_words<K: Sink>(cause: UsageCause, out: &mut K) -> Status
     ensures course { IsEnd [] (Usage cause) result (K.written out.old) (K.written out.new) }
     ensures usage { IfSome (final result) (λ outcome. outcome ≡ Usage cause) }
+    ensures never { (result ≢ Status.Unread) × (result ≢ Status.Unstored) }
     ensures output { OnlyWrites K.Sink (result ≡ Status.Unwritten) out.old out.new }
 {
     match write_whole(out, usage_line().as_bytes()) {
@@ -156,7 +181,7 @@ fn run_generated<R: Threads + Wait + Copy + Send + Sync, D: Device + Send, K: Si
     ensures course { IsEnd (summary_of run seed boards) Done
         result (K.written out.old) (K.written out.new) }
     ensures usage { IsNoUsage result }
-    ensures never { result ≢ Status.Unread }
+    ensures never { (result ≢ Status.Unread) × (result ≢ Status.Unstored) }
     ensures output { OnlyWrites K.Sink (result ≡ Status.Unwritten) out.old out.new }
 {
     let Ok(text) = generate(rt, alloc, seed, boards, workers, stock, gate) else {
@@ -169,12 +194,20 @@ fn run_generated<R: Threads + Wait + Copy + Send + Sync, D: Device + Send, K: Si
 }
 
 /// Reads a script and runs it.
-fn run_file<R: Threads + Wait + Copy + Send + Sync, D: Device + Send, F: Files, K: Sink, G: Gate>(
+fn run_file<
+    R: Threads + Wait + Copy + Send + Sync,
+    D: Device + Send,
+    F: Files,
+    K: Sink,
+    S: Store,
+    G: Gate,
+>(
     rt: &R,
     alloc: Global,
     request: ScriptRun,
     files: &mut F,
     out: &mut K,
+    store: &mut S,
     stock: Stock<D>,
     gate: &G,
 ) -> Status
@@ -182,15 +215,17 @@ fn run_file<R: Threads + Wait + Copy + Send + Sync, D: Device + Send, F: Files, 
         (map D.meaning stock.finishers.items) }
     requires some_worker { 1 ≤ request.setting.workers }
     requires few_workers { request.setting.workers ≤ 8 }
-    ensures course { ForSome (F.held files.old) (λ held.
-        Course (run_of run held request.script request.setting) result
-        (K.written out.old) (K.written out.new) (F.asked files.old) (F.asked files.new)) }
+    ensures course { ForSome (F.held files.old) (λ held. ForSome (S.kept store.old) (λ kept.
+        Course (run_of run held kept request.script request.setting) kept result
+        (outside F.Files K.Sink S.Store files.old out.old store.old)
+        (outside F.Files K.Sink S.Store files.new out.new store.new))) }
     ensures usage { IsNoUsage result }
     ensures files { OnlyReads F.Files (result ≡ Status.Unread) files.old files.new }
     ensures output { OnlyWrites K.Sink (result ≡ Status.Unwritten) out.old out.new }
+    ensures store { OnlyStores S.Store (result ≡ Status.Unstored) store.old store.new }
 {
     match open(alloc, files, request.script.as_str()) {
-        Opened::Text(text) => run_script(rt, alloc, request, text, files, out, stock, gate),
+        Opened::Text(text) => run_script(rt, alloc, request, text, files, out, store, stock, gate),
         Opened::Refused(fault) => tell(alloc, fault, out),
         Opened::Unread => Status::Unread,
         Opened::Memory => Status::Memory,
@@ -198,13 +233,21 @@ fn run_file<R: Threads + Wait + Copy + Send + Sync, D: Device + Send, F: Files, 
 }
 
 /// Runs a script with this text, in a laboratory without boards.
-fn run_script<R: Threads + Wait + Copy + Send + Sync, D: Device + Send, F: Files, K: Sink, G: Gate>(
+fn run_script<
+    R: Threads + Wait + Copy + Send + Sync,
+    D: Device + Send,
+    F: Files,
+    K: Sink,
+    S: Store,
+    G: Gate,
+>(
     rt: &R,
     alloc: Global,
     request: ScriptRun,
     text: String,
     files: &mut F,
     out: &mut K,
+    store: &mut S,
     stock: Stock<D>,
     gate: &G,
 ) -> Status
@@ -213,53 +256,134 @@ fn run_script<R: Threads + Wait + Copy + Send + Sync, D: Device + Send, F: Files
     requires short { length (string_bytes text) ≤ 2 ^ 24 }
     requires some_worker { 1 ≤ request.setting.workers }
     requires few_workers { request.setting.workers ≤ 8 }
-    ensures course { ForSome (F.held files.old) (λ held.
-        Course (rest_of run held (started request.script (string_bytes text) request.setting)) result
-        (K.written out.old) (K.written out.new) (F.asked files.old) (F.asked files.new)) }
+    ensures course { ForSome (F.held files.old) (λ held. ForSome (S.kept store.old) (λ kept.
+        Course (rest_of run held kept (started request.script (string_bytes text) request.setting)) kept result
+        (outside F.Files K.Sink S.Store files.old out.old store.old)
+        (outside F.Files K.Sink S.Store files.new out.new store.new))) }
     ensures usage { IsNoUsage result }
     ensures files { OnlyReads F.Files (result ≡ Status.Unread) files.old files.new }
     ensures output { OnlyWrites K.Sink (result ≡ Status.Unwritten) out.old out.new }
+    ensures store { OnlyStores S.Store (result ≡ Status.Unstored) store.old store.new }
 {
     let ScriptRun { script, setting } = request;
-    let Ok(mut monitor) = Monitor::new(alloc, script.as_str(), text, stock, setting) else {
+    let Ok(monitor) = Monitor::new(alloc, script.as_str(), text, stock, setting) else {
         return Status::Memory;
     };
-    take_commands(rt, alloc, &mut monitor, files, out, gate)
+    take_commands(rt, alloc, monitor, files, out, store, gate)
 }
 
-/// Takes the commands of a script to its end or the first fault, and writes what each prints before
-/// the next is taken.
+/// Takes the commands of a script to its end, the first fault or the first failure.
 fn take_commands<
     R: Threads + Wait + Copy + Send + Sync,
     D: Device + Send,
     F: Files,
     K: Sink,
+    S: Store,
     G: Gate,
->(rt: &R, alloc: Global, monitor: &mut Monitor<D>, files: &mut F, out: &mut K, gate: &G) -> Status
-    requires goes_on { monitor.old.ended ≡ false }
-    requires unspent { monitor.old.spent ≡ false }
-    requires few { monitor.old.state.flow.kept.taken ≤ 100000 }
-    ensures course { ForSome (F.held files.old) (λ held.
-        Course (rest_of run held monitor.old.state) result
-        (K.written out.old) (K.written out.new) (F.asked files.old) (F.asked files.new)) }
+>(
+    rt: &R,
+    alloc: Global,
+    mut monitor: Monitor<D>,
+    files: &mut F,
+    out: &mut K,
+    store: &mut S,
+    gate: &G,
+) -> Status
+    requires goes_on { monitor.ended ≡ false }
+    requires few { monitor.state.flow.kept.taken ≤ 100000 }
+    ensures course { ForSome (F.held files.old) (λ held. ForSome (S.kept store.old) (λ kept.
+        Course (rest_of run held kept monitor.state) kept result
+        (outside F.Files K.Sink S.Store files.old out.old store.old)
+        (outside F.Files K.Sink S.Store files.new out.new store.new))) }
     ensures usage { IsNoUsage result }
     ensures files { OnlyReads F.Files (result ≡ Status.Unread) files.old files.new }
     ensures output { OnlyWrites K.Sink (result ≡ Status.Unwritten) out.old out.new }
+    ensures store { OnlyStores S.Store (result ≡ Status.Unstored) store.old store.new }
 {
     'commands: for _turn in 0..MOST_STEPS {
-        match monitor.step(rt, files, gate) {
-            Step::Text(text) => {
-                if let Err(fault) = write_whole(out, text.items()) {
-                    return Status::from(fault);
-                }
-            }
-            Step::End => return stop(monitor, out),
-            Step::Fault(fault) => return stop_at(alloc, monitor, fault, out),
-            Step::Unread => return Status::Unread,
-            Step::Memory => return Status::Memory,
+        match take_command(rt, alloc, monitor, files, out, store, gate) {
+            Ok(next) => monitor = next,
+            Err(status) => return status,
         }
     }
     unreachable!()
+}
+
+/// Takes one command of a script, and writes what it prints. An `Err` is how the run ends, where it does not go on.
+fn take_command<
+    R: Threads + Wait + Copy + Send + Sync,
+    D: Device + Send,
+    F: Files,
+    K: Sink,
+    S: Store,
+    G: Gate,
+>(
+    rt: &R,
+    alloc: Global,
+    mut monitor: Monitor<D>,
+    files: &mut F,
+    out: &mut K,
+    store: &mut S,
+    gate: &G,
+) -> Result<Monitor<D>, Status>
+    requires { monitor.ended ≡ false }
+    ensures course { ForSome (F.held files.old) (λ held. ForSome (S.kept store.old) (λ kept. (more : ℕ) →
+        IsTaken (from (suc more) run held kept monitor.state) kept (from more run held)
+        (outside F.Files K.Sink S.Store files.old out.old store.old)
+        (outside F.Files K.Sink S.Store files.new out.new store.new) result)) }
+    ensures next { IfOk result (λ next. (next.ended ≡ false) × TakesSome monitor.state next.state) }
+    ensures usage { IfErr result IsNoUsage }
+    ensures files { OnlyReads F.Files (result ≡ Err Status.Unread) files.old files.new }
+    ensures output { OnlyWrites K.Sink (result ≡ Err Status.Unwritten) out.old out.new }
+    ensures store { OnlyStores S.Store (result ≡ Err Status.Unstored) store.old store.new }
+{
+    match monitor.step(rt, files, gate) {
+        Step::Text(text) => match write_whole(out, text.items()) {
+            Ok(()) => Ok(monitor),
+            Err(fault) => Err(Status::from(fault)),
+        },
+        Step::Save { name, file, line } => {
+            let stored = keep(alloc, monitor, store, name.as_str());
+            go_on(alloc, stored, file, line, out)
+        }
+        Step::Load { name, file, line } => {
+            let stored = take_back(alloc, monitor, store, name.as_str());
+            go_on(alloc, stored, file, line, out)
+        }
+        Step::End => Err(stop(&mut monitor, out)),
+        Step::Fault(fault) => Err(stop_at(alloc, &mut monitor, fault, out)),
+        Step::Unread => Err(Status::Unread),
+        Step::Memory => Err(Status::Memory),
+    }
+}
+
+/// Goes on after a command for the store, which stands in this line of this file, or ends the run.
+fn go_on<D: Device, K: Sink>(
+    alloc: Global,
+    stored: Result<Monitor<D>, Halt<Monitor<D>>>,
+    file: Text,
+    line: u32,
+    out: &mut K,
+) -> Result<Monitor<D>, Status>
+    requires { IsUnspent stored }
+    ensures course { (all : Transcript) (kept : Held) (further : Rest) (old mid : Outside) →
+        IsStored all kept further (line_in file line) old (record mid { written = K.written out.old }) stored →
+        IsTaken all kept further old (record mid { written = K.written out.new }) result }
+    ensures same { IfOk result (λ monitor. stored ≡ Ok monitor) }
+    ensures usage { IfErr result IsNoUsage }
+    ensures never { result ≢ Err Status.Unread }
+    ensures unstored { result ≡ Err Status.Unstored → stored ≡ Err Halt.Unstored }
+    ensures output { OnlyWrites K.Sink (result ≡ Err Status.Unwritten) out.old out.new }
+{
+    match stored {
+        Ok(monitor) => Ok(monitor),
+        Err(Halt::Refused(cause, mut monitor)) => {
+            let cause = Cause::Script(cause);
+            Err(stop_at(alloc, &mut monitor, ScriptFault { file, line, cause }, out))
+        }
+        Err(Halt::Unstored) => Err(Status::Unstored),
+        Err(Halt::Memory) => Err(Status::Memory),
+    }
 }
 
 /// Writes what is left of the lines where a script has ended.
@@ -268,7 +392,7 @@ fn stop<D: Device, K: Sink>(monitor: &mut Monitor<D>, out: &mut K) -> Status
     ensures course { IsEnd (rest (names monitor.old.state.lab) monitor.old.state.lines) Done
         result (K.written out.old) (K.written out.new) }
     ensures usage { IsNoUsage result }
-    ensures never { result ≢ Status.Unread }
+    ensures never { (result ≢ Status.Unread) × (result ≢ Status.Unstored) }
     ensures output { OnlyWrites K.Sink (result ≡ Status.Unwritten) out.old out.new }
 {
     let Ok(text) = monitor.rest() else {
@@ -291,7 +415,7 @@ fn stop_at<D: Device, K: Sink>(
     ensures course { IsEnd (rest (names monitor.old.state.lab) monitor.old.state.lines)
         (Script fault) result (K.written out.old) (K.written out.new) }
     ensures usage { IsNoUsage result }
-    ensures never { result ≢ Status.Unread }
+    ensures never { (result ≢ Status.Unread) × (result ≢ Status.Unstored) }
     ensures output { OnlyWrites K.Sink (result ≡ Status.Unwritten) out.old out.new }
 {
     let Ok(text) = monitor.rest() else {
@@ -307,7 +431,7 @@ fn stop_at<D: Device, K: Sink>(
 fn tell<K: Sink>(alloc: Global, fault: ScriptFault, out: &mut K) -> Status
     ensures course { IsEnd [] (Script fault) result (K.written out.old) (K.written out.new) }
     ensures usage { IsNoUsage result }
-    ensures never { result ≢ Status.Unread }
+    ensures never { (result ≢ Status.Unread) × (result ≢ Status.Unstored) }
     ensures output { OnlyWrites K.Sink (result ≡ Status.Unwritten) out.old out.new }
 {
     let Ok(line) = format!(in alloc; "{fault}\n") else {

@@ -22,6 +22,8 @@ pub enum Status {
     Unread,
     /// The output could not be written.
     Unwritten,
+    /// A snapshot could not be kept, or not be taken back.
+    Unstored,
 }
 
 impl Status {
@@ -38,6 +40,7 @@ impl Status {
             Status::Script(_) => 3,
             Status::Unread => 4,
             Status::Unwritten => 5,
+            Status::Unstored => 6,
         }
     }
 }

@@ -123,6 +123,13 @@ impl<D: Device> Monitor<D> {
         &self.lines
     }
 
+    /// Whether each run has length 0.
+    pub fn is_dry(&self) -> bool
+        ensures { result ≡ self.now.state.dry }
+    {
+        self.dry
+    }
+
     /// Of a monitor whose script has not ended the laboratory and the open lines can go on. This changes nothing.
     fn may_go_on(&self)
         ensures unspent { self.now.ended ≡ false → self.now.spent ≡ false }

@@ -3,5 +3,5 @@ use Rattle.lab_top.proofs.Settings.{begun_lines}
 use Rattle.lab_top.proofs.laws.returns_agree.Goals as goal
 
 pub returns : goal.returns
-returns c = λ held script text setting none.
-    begun_lines held script text (with_returns text) setting (c.return_law.ensures script text none)
+returns c = λ held kept script text setting none.
+    begun_lines held kept script text (with_returns text) setting (c.return_law.ensures script text none)

@@ -1,0 +1,95 @@
+-- What the course of a run tells of it.
+use Rattle.std.proofs.Common.{◌≡◌, ◌∙◌, ℕ, List, [], ◌∷◌, ◌++◌, length, Option, None, Some, IfSome, inl, inr, refl, ap}
+use Rattle.std.proofs.Common.{append_assoc, append-nil}
+use Rattle.std.specs.Option.{ForSome}
+use Rattle.lab_io.specs.Held.{Held}
+use Rattle.lab_io.specs.Known.{grown}
+use Rattle.lab_top.specs.declared.status.Status.{Status}
+use Rattle.lab_top.specs.declared.status.Status.TheVariants as end_by
+use Rattle.lab_top.specs.Transcript.{Outcome, Read, Transcript}
+use Rattle.lab_top.specs.Headline.{AsksPart, EndsAs, IsUncut, IsWhole, Outside, ReadsLast, WritesPart}
+use Rattle.lab_top.specs.Headline.{calls, final, kept_by, names_read}
+use Rattle.lab_top.specs.Inner.Course.{Course, IsLastAt}
+
+-- what holds of the values that are told
+pub if_both :
+    {A B : Type 0} (o : Option A) (p : Option B) (P : A → B → Type 0) →
+    ForSome o (λ a. ForSome p (λ b. P a b)) → IfSome o (λ a. IfSome p (λ b. P a b))
+if_both None p P all = tt
+if_both (Some a) None P all = tt
+if_both (Some a) (Some b) P all = all a refl b refl
+
+whole_by :
+    {all : Transcript} {kept : Held} {status : Status} {old new : Outside} (course : Course all kept status old new)
+    (o : Option Outcome) →
+    IfSome o (λ outcome.
+    (all.outcome ≡ outcome) × (course.unwritten ≡ []) × (all.kept ≡ kept_by kept (calls course.done))) →
+    IfSome o (λ outcome. EndsAs all outcome old new)
+whole_by course None end = tt
+whole_by {old = old} course (Some outcome) end = record {
+  ended = end.0;
+  written = course.written ∙ ap (grown old.written) (rw (course.all_bytes, end.1, append-nil) refl);
+  kept = rw (course.stored, end.2) refl;
+}
+
+-- a run that was not cut short has gone by the whole transcript
+pub whole_of :
+    {all : Transcript} {kept : Held} {status : Status} {old new : Outside} → Course all kept status old new →
+    IsWhole all status old new
+whole_of {status = status} course = whole_by course (final status) course.ended
+
+reads_last :
+    {reads passed : List Read} (coming : List Read) {bytes : ℕ} {log log' : Option (List (List ℕ))} →
+    reads ≡ passed ++ coming → IsLastAt passed bytes → log' ≡ grown log (names_read passed) →
+    ReadsLast reads bytes log log'
+reads_last coming all last asked = record {
+  earlier = last.earlier;
+  last = last.last;
+  coming = coming;
+  all = rw (all, last.all, append_assoc) refl;
+  asked = rw (asked, last.all) refl;
+  before = last.before;
+}
+
+-- it has gone by a part of it
+pub part_of :
+    {all : Transcript} {kept : Held} {status : Status} {old new : Outside} → Course all kept status old new →
+    WritesPart all kept status old new
+part_of course = record {
+  bytes = course.bytes;
+  unwritten = course.unwritten;
+  all_bytes = course.all_bytes;
+  written = course.written;
+  done = course.done;
+  failed = course.failed;
+  coming = course.ahead;
+  all_uses = course.all_uses;
+  used = course.used;
+  stored = course.stored;
+  unstored = course.unstored;
+  unread = λ is. reads_last course.coming course.all_reads (course.unread is) course.asked;
+}
+
+-- and so have its reads
+pub asks_of :
+    {all : Transcript} {kept : Held} {status : Status} {old new : Outside} → Course all kept status old new →
+    AsksPart all old.asked new.asked
+asks_of course = record {
+  passed = course.passed;
+  coming = course.coming;
+  all_reads = course.all_reads;
+  asked = course.asked;
+}
+
+-- nothing but want of memory cuts a run short in which nothing failed
+pub uncut :
+    {P Q R : Type 0} (status : Status) →
+    (status ≡ end_by.Unread → P) → (status ≡ end_by.Unwritten → Q) → (status ≡ end_by.Unstored → R) →
+    ¬ P → ¬ Q → ¬ R → IsUncut status
+uncut end_by.Done read wrote stored p q r = inl refl
+uncut end_by.Memory read wrote stored p q r = inr refl
+uncut (end_by.Usage cause) read wrote stored p q r = inl refl
+uncut (end_by.Script fault) read wrote stored p q r = inl refl
+uncut end_by.Unread read wrote stored p q r = absurd (p (read refl))
+uncut end_by.Unwritten read wrote stored p q r = absurd (q (wrote refl))
+uncut end_by.Unstored read wrote stored p q r = absurd (r (stored refl))
