@@ -1,10 +1,9 @@
 //! The whole program, from the command words to the status.
-ghost use Rattle.std.specs.Prelude.{◌≡◌, ◌≢◌, ℕ, suc, ◌≤◌, ◌^◌, List, [], false, length, map, string_bytes};
-ghost use Rattle.std.specs.Prelude.{Option, Err, IfSome, IfOk, IfErr, OnOk};
+ghost use Rattle.std.specs.Prelude.{◌≡◌, ◌≢◌, ℕ, suc, ◌≤◌, ◌^◌, [], false, length, map, string_bytes};
+ghost use Rattle.std.specs.Prelude.{Err, IfSome, IfOk, IfErr};
 ghost use Rattle.std.specs.Option.{ForSome};
 ghost use Rattle.dev_core.specs.Stock.{IsFull};
 ghost use Rattle.lab_gen.specs.Summary.{summary_of};
-ghost use Rattle.lab_io.specs.Asked.{Log};
 ghost use Rattle.lab_io.specs.Frame.{OnlyReads, OnlyStores, OnlyWrites};
 ghost use Rattle.lab_io.specs.Held.{Held};
 ghost use Rattle.lab_io.specs.Known.{Rose};

@@ -1,5 +1,5 @@
 //! What a script asks of the store: its laboratory is kept under a name, or taken back from one.
-ghost use Rattle.std.specs.Prelude.{◌≡◌, ℕ, List, [], Option, false, IfOk};
+ghost use Rattle.std.specs.Prelude.{◌≡◌, ℕ, List, Option, false, IfOk};
 ghost use Rattle.std.specs.Option.{ForSome};
 ghost use Rattle.lab_io.specs.Asked.{Log};
 ghost use Rattle.lab_io.specs.Frame.{OnlyStores};
