@@ -6,7 +6,7 @@ use Rattle.lab_io.specs.Held.{Held}
 use Rattle.lab_io.specs.Known.{grown}
 use Rattle.lab_top.specs.declared.status.Status.{Status}
 use Rattle.lab_top.specs.declared.status.Status.TheVariants as end_by
-use Rattle.lab_top.specs.Transcript.{Outcome, Read, Transcript}
+use Rattle.lab_top.specs.Transcript.{Outcome, Read, Transcript, transcript}
 use Rattle.lab_top.specs.Headline.{AsksPart, EndsAs, IsUncut, IsWhole, Outside, ReadsLast, WritesPart}
 use Rattle.lab_top.specs.Headline.{calls, final, kept_by, names_read}
 use Rattle.lab_top.specs.Inner.Course.{Course, IsLastAt}
@@ -93,3 +93,30 @@ uncut (end_by.Script fault) read wrote stored p q r = inl refl
 uncut end_by.Unread read wrote stored p q r = absurd (p (read refl))
 uncut end_by.Unwritten read wrote stored p q r = absurd (q (wrote refl))
 uncut end_by.Unstored read wrote stored p q r = absurd (r (stored refl))
+
+-- the same of whatever is told of files and store
+pub whole_told :
+    (o p : Option Held) (words : List (List ℕ)) (status : Status) (old new : Outside) →
+    ForSome o (λ held. ForSome p (λ kept. Course (transcript words held kept) kept status old new)) →
+    IfSome o (λ held. IfSome p (λ kept. IsWhole (transcript words held kept) status old new))
+whole_told o p words status old new course =
+    if_both o p (λ held kept. IsWhole (transcript words held kept) status old new)
+    (λ held is kept keeps. whole_of (course held is kept keeps))
+
+pub part_told :
+    (o p : Option Held) (words : List (List ℕ)) (status : Status) (old new : Outside) →
+    ForSome o (λ held. ForSome p (λ kept. Course (transcript words held kept) kept status old new)) →
+    IfSome o (λ held. IfSome p (λ kept. WritesPart (transcript words held kept) kept status old new))
+part_told o p words status old new course =
+    if_both o p (λ held kept. WritesPart (transcript words held kept) kept status old new)
+    (λ held is kept keeps. part_of (course held is kept keeps))
+
+pub asks_told :
+    (o p : Option Held) (words : List (List ℕ)) (status : Status) (old new : Outside) →
+    ForSome o (λ held. ForSome p (λ kept. Course (transcript words held kept) kept status old new)) →
+    IfSome o (λ held. IfSome p (λ kept. AsksPart (transcript words held kept) old.asked new.asked))
+asks_told o p words status old new course =
+    if_both o p (λ held kept. AsksPart (transcript words held kept) old.asked new.asked)
+    (λ held is kept keeps. asks_of (course held is kept keeps))
+
+pub ruleset headlines = (whole_told, asks_told, uncut)

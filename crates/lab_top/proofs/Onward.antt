@@ -1,5 +1,6 @@
 -- One step of a run, in its transcript and in its course.
-use Rattle.std.proofs.Common.{◌≡◌, ◌∙◌, ℕ, suc, ◌+◌, ◌-◌, ◌≤◌, List, [], Option, Some, Result, Ok, Err, refl, sym, arith}
+use Rattle.std.proofs.Common.{◌≡◌, ◌∙◌, ℕ, suc, ◌+◌, ◌-◌, ◌≤◌, List, [], Option, Some, Result, Ok, Err}
+use Rattle.std.proofs.Common.{refl, sym, arith}
 use Rattle.lab_io.specs.Asked.{Log, AsksSome, AsksUpTo}
 use Rattle.lab_io.specs.Held.{Held}
 use Rattle.lab_io.specs.Known.{grown}
@@ -137,7 +138,8 @@ step_saves old mid new more held kept s next name file line result step wrote us
       from_suc more held kept s,
       onward_saves (from more run held) kept s (did run held s) name (line_in file line) next step.0,
     )
-    (stored_after kept old mid new (did run held s).names _ (from more run held) (line_in file line) result wrote step.1 used stored)
+    (stored_after kept old mid new (did run held s).names _ (from more run held) (line_in file line) result wrote
+    step.1 used stored)
 
 -- it is to be taken back, and what became of that
 pub step_loads :
@@ -153,7 +155,8 @@ step_loads old mid new more held kept s next name file line result step wrote us
       from_suc more held kept s,
       onward_loads (from more run held) kept s (did run held s) name (line_in file line) next step.0,
     )
-    (stored_after kept old mid new (did run held s).names _ (from more run held) (line_in file line) result wrote step.1 used stored)
+    (stored_after kept old mid new (did run held s).names _ (from more run held) (line_in file line) result wrote
+    step.1 used stored)
 
 -- what is printed where a script is over
 abbrev pub left : Running → List ℕ

@@ -1,6 +1,7 @@
 -- What became of a command for the store, in the transcript and in the course.
 use Rattle.std.proofs.Common.{◌≡◌, ◌<◌, ◌≤◌, ◌∙◌, ℕ, Bool, true, false, if◌then◌else◌, nat_lt, List, [], ◌∷◌, length}
-use Rattle.std.proofs.Common.{◌==◌, ◌||◌, not, cond, true≢false, Option, None, Some, Result, Ok, Err, refl, sym, ap, arith}
+use Rattle.std.proofs.Common.{◌==◌, ◌||◌, not, cond, true≢false, Option, None, Some, Result, Ok, Err}
+use Rattle.std.proofs.Common.{refl, sym, ap, arith}
 use Rattle.std.specs.FinMap.{get, insert, get-insert}
 use Rattle.std.specs.Cmp.{eq_by_cmp_equiv}
 use Rattle.std.specs.Cmp.Lexicographic.{nat_list_cmp_total}

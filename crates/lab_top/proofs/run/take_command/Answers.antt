@@ -63,7 +63,8 @@ returns-in-Load-clause-course g c = λ held is kept keeps more.
     let before = outside g.F.Files g.K.Sink g.S.Store c.args.files.now c.args.out.now c.args.store.now in
     let read = outside g.F.Files g.K.Sink g.S.Store c.step.new.files c.args.out.now c.args.store.now in
     let stored = outside g.F.Files g.K.Sink g.S.Store c.step.new.files c.args.out.now c.take_back-stored.new.store in
-    c.go_on-in-Load.ensures.course (from (suc more) run held kept c.args.monitor.state) kept (from more run held) before stored
+    c.go_on-in-Load.ensures.course (from (suc more) run held kept c.args.monitor.state) kept (from more run held) before
+    stored
     (step_loads before read stored more held kept c.args.monitor.state c.step.new.self.state c.in-Load.name
     c.in-Load.file c.in-Load.line c.take_back-stored.result (told _ c.in-Load.ensures.step held is) refl refl
     (rw c.as_str-in-Load.ensures at (c.take_back-stored.ensures.stored kept keeps (from more run held) place

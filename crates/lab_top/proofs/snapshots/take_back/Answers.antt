@@ -52,4 +52,5 @@ returns-in-Memory-clause-stored g c = λ kept keeps further place written asked.
     (record { used = c.in-Memory.ensures.uses ∙ grown-nil _; told = c.get.ensures.kept ∙ keeps })
 
 pub returns-in-Memory-clause-store : goal.returns-in-Memory-clause-store
-returns-in-Memory-clause-store g c = record { faults = c.get.ensures.faults; counted = λ failed. absurd (memory_alone _ refl failed) }
+returns-in-Memory-clause-store g c =
+    record { faults = c.get.ensures.faults; counted = λ failed. absurd (memory_alone _ refl failed) }
