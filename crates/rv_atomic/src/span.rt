@@ -19,7 +19,6 @@ pub struct Span {
 }
 
 /// How many bytes an instruction stores, if it is a store.
-#[inline(always)]
 fn store_width(op: Op) -> Option<u8>
     ensures value { result ≡ store_width op }
     ensures some { IfSome result (λ width. 0 < width) }
@@ -33,7 +32,6 @@ fn store_width(op: Op) -> Option<u8>
 }
 
 /// The bytes from an address on, if it is divisible by how many there are: 1, 2 or 4.
-#[inline(always)]
 fn aligned_span(at: u32, width: u8) -> Option<Span>
     requires { 0 < width }
     ensures { result ≡ aligned_span at width }
@@ -46,7 +44,6 @@ fn aligned_span(at: u32, width: u8) -> Option<Span>
 }
 
 /// The bytes that an instruction stores on a hart, if it stores any.
-#[inline(always)]
 fn span_of_instr(hart: &Hart, i: &Instr) -> Option<Span>
     requires { IsInstr i.now }
     ensures { (size word : ℕ) → (lines : Lines) →
@@ -61,7 +58,6 @@ fn span_of_instr(hart: &Hart, i: &Instr) -> Option<Span>
 
 /// The bytes that what was fetched stores on a hart, if it stores any. A store that traps stores
 /// none.
-#[inline(always)]
 #[tactic(auto, unfolding(rv_exec::specs::Effect::effect))]
 pub fn span_stored(hart: &Hart, what: &Fetched) -> Option<Span>
     requires { IsPerformable hart.now.letters what.now }

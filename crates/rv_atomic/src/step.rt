@@ -99,7 +99,6 @@ fn store_conditional<B: Bus>(
 }
 
 /// Does an atomic instruction, or enters the trap of its exception.
-#[inline(never)]
 #[tactic(auto, unfolding(crate::specs::AtomicEffect::atomic_effect))]
 fn step_atomic<B: Bus>(
     hart: &mut Hart,
@@ -148,7 +147,6 @@ fn step_atomic<B: Bus>(
 
 /// Does what was fetched by the rules of a hart alone. What it stores ends the reservations that
 /// the other harts have of a word that it reaches.
-#[inline(always)]
 fn step_plain<B: Bus>(
     hart: &mut Hart,
     number: u8,
@@ -186,7 +184,6 @@ fn step_plain<B: Bus>(
 /// for a load or a store there.
 ///
 /// `NoMemory` comes only where the bus refuses the load or the store of the instruction.
-#[inline(always)]
 #[tactic(auto, unfolding(crate::specs::SharedEffect::shared_effect))]
 pub fn step_shared<B: Bus>(
     hart: &mut Hart,
