@@ -9,6 +9,15 @@ use crate::device::Device;
 use crate::state::DevState;
 use crate::uart_state::UartState;
 
+/// How many UARTs a full stock has: four for each of 16 boards.
+pub const STOCK_UARTS: usize = 64;
+
+/// How many CAN controllers a full stock has: four for each of 16 boards.
+pub const STOCK_CANS: usize = 64;
+
+/// How many finishers a full stock has: one for each of 16 boards.
+pub const STOCK_FINISHERS: usize = 16;
+
 /// The devices that boards are made of. No bound stands on the type, so that it may hold boxes.
 #[derive(Drop)]
 pub struct Stock<D> {
@@ -94,8 +103,8 @@ impl<D: Device> Stock<D> {
         ensures { IsTrue result ↔ IsFull (map D.meaning self.now.uarts.items)
             (map D.meaning self.now.cans.items) (map D.meaning self.now.finishers.items) }
     {
-        are_so_many_uarts(self.uarts.as_slice(), 64)
-            && are_so_many_cans(self.cans.as_slice(), 64)
-            && are_so_many_finishers(self.finishers.as_slice(), 16)
+        are_so_many_uarts(self.uarts.as_slice(), STOCK_UARTS)
+            && are_so_many_cans(self.cans.as_slice(), STOCK_CANS)
+            && are_so_many_finishers(self.finishers.as_slice(), STOCK_FINISHERS)
     }
 }

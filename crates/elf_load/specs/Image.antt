@@ -53,7 +53,7 @@ sound_image file = record { entry = Some (e_entry file); parts = map (part_of fi
 unfoldable pub image_of : List ℕ → Result Image ElfFault
 image_of file = unless (first_of (tests file)) (sound_image file)
 
--- a file is read as it is defined, unless memory was wanting
+-- a file is read as it is defined, unless memory ran out
 abbrev pub IsReadAs : Result Image ElfFault → Result Image ElfFault → Type 0
 IsReadAs meant (Ok image) = meant ≡ Ok image
 IsReadAs meant (Err Memory) = Unit {0}

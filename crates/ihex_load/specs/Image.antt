@@ -50,7 +50,7 @@ image_of file = do
   all ← records (lines file)
   Ok (record { entry = None; parts = parts_of 0 all })
 
--- a file is read as it is defined, unless memory was wanting
+-- a file is read as it is defined, unless memory ran out
 abbrev pub IsReadAs : Result Image HexFault → Result Image HexFault → Type 0
 IsReadAs meant (Ok image) = meant ≡ Ok image
 IsReadAs meant (Err Memory) = Unit {0}

@@ -4,7 +4,7 @@ ghost use Rattle.std.specs.Process.{exit_status};
 ghost use Rattle.lab_top.specs.Headline.{exit_number};
 
 use can_sja1000::Can;
-use dev_core::{Device, Stock};
+use dev_core::{Device, STOCK_CANS, STOCK_FINISHERS, STOCK_UARTS, Stock};
 use floor_run::NoGate;
 use lab_io::{DiskFiles, DiskStore, OutSink, Sink, Store};
 use lab_num::NoMemory;
@@ -16,13 +16,6 @@ use std::sync::Wait;
 use std::thread::Threads;
 use test_finisher::Finisher;
 use uart_16550::Uart;
-
-/// Four UARTs, four CAN controllers and a finisher for each of 16 boards.
-const UARTS: usize = 64;
-
-const CANS: usize = 64;
-
-const FINISHERS: usize = 16;
 
 /// How the program has ended: with the status of its run, or without a run, where no memory was found
 /// for its words or its devices. Only `run` makes one.
@@ -74,15 +67,15 @@ fn run_on_boxes<R: Threads + Wait + Copy + Send + Sync, F: lab_io::Files, K: Sin
     store: &mut S,
 ) -> Result<Status, NoMemory> {
     let mut uarts: Vec<Box<dyn Device + Send>> = Vec::new(alloc);
-    for _ in 0..UARTS {
+    for _ in 0..STOCK_UARTS {
         uarts.push(Box::new(alloc, Uart::new())?)?;
     }
     let mut cans: Vec<Box<dyn Device + Send>> = Vec::new(alloc);
-    for _ in 0..CANS {
+    for _ in 0..STOCK_CANS {
         cans.push(Box::new(alloc, Can::new())?)?;
     }
     let mut finishers: Vec<Box<dyn Device + Send>> = Vec::new(alloc);
-    for _ in 0..FINISHERS {
+    for _ in 0..STOCK_FINISHERS {
         finishers.push(Box::new(alloc, Finisher::new())?)?;
     }
     let stock = Stock {

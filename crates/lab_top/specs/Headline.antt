@@ -151,7 +151,7 @@ IsUsageBy (Refused cause) status = IfSome (final status) (λ outcome. outcome �
 IsUsageBy (Run script setting) status = IsNoUsage status
 IsUsageBy (Gen seed boards) status = IsNoUsage status
 
--- the usage line was written, or a front of it where that was cut short; no name was asked for, and the store was left
+-- the usage line was written, or its beginning where that was cut short; no name was asked for, and the store was left
 -- alone
 pub record WritesUsage (status : Status) (old new : Outside) : Type 0 where
   pub bytes : List ℕ

@@ -129,7 +129,7 @@ request_of (command ∷ words) =
 
 -- ---- what is said of an answer
 
--- the words are read as they mean, unless memory was wanting
+-- the words are read as they mean, unless memory ran out
 abbrev pub IsReadAs : Result Request UsageCause → Result Request WordsFault → Type 0
 IsReadAs meant (Ok request) = meant ≡ Ok request
 IsReadAs meant (Err (Usage cause)) = meant ≡ Err cause

@@ -175,7 +175,7 @@ fn load_stop(fault: LoadFault) -> Stop
     }
 }
 
-/// The plan that a platform file and the files that it names describe, beside so many open bodies.
+/// The plan that a platform file and the files that it names describe, while so many bodies are open.
 fn read_plan<F: Files>(
     alloc: Global,
     files: &mut F,

@@ -3,7 +3,7 @@ use Rattle.std.specs.Prelude.{ℕ, ◌+◌, ◌^◌, ◌%◌, ◌==◌, nat_le, 
 use Rattle.std.specs.Prelude.{List, Option, Some, None, if◌then◌else◌, codes}
 use Rattle.std.specs.List.{list_any}
 use Rattle.repl_read.specs.declared.entry.Place.{Place}
-use Rattle.repl_read.specs.declared.entry.Place.TheVariants.{Bus, Address, Range}
+use Rattle.repl_read.specs.declared.entry.Place.TheVariants.{Absent, Bus, Address, Range}
 use Rattle.dev_core.specs.declared.kind.Kind.TheVariants as device
 use Rattle.sys_bus.specs.Limits.{page_size, region_unit, least_clint, least_plic, least_device_size}
 use Rattle.repl_build.specs.declared.merge.Peripheral.{Peripheral}
@@ -18,7 +18,8 @@ is_registered (Some Cpu) Bus = true
 is_registered (Some Cpu) _ = false
 is_registered _ (Address base) = true
 is_registered _ (Range base size) = true
-is_registered _ _ = false
+is_registered _ Bus = false
+is_registered _ Absent = false
 
 abbrev pub has_range : Place → Bool
 has_range (Range base size) = true
@@ -64,7 +65,8 @@ abbrev pub is_place : Option PeripheralType → ℕ → Place → Bool
 is_place type_ step (Address base) = base % region_unit == 0
 is_place type_ step (Range base size) =
     (base % region_unit == 0) && is_unit type_ size && nat_le (least_of type_ step) size
-is_place type_ step _ = true
+is_place type_ step Bus = true
+is_place type_ step Absent = true
 
 -- test 6, of an entry: an address or size of a wrong multiple or below the least
 abbrev pub is_misplaced : Peripheral → Bool
@@ -91,7 +93,8 @@ size_of p = size_at (usual_size p.kind p.items) p.at
 abbrev pub base_at : Place → ℕ
 base_at (Address base) = base
 base_at (Range base size) = base
-base_at _ = 0
+base_at Bus = 0
+base_at Absent = 0
 
 abbrev pub base_of : Peripheral → ℕ
 base_of p = base_at p.at

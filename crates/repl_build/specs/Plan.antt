@@ -140,7 +140,7 @@ built entries = do
   typed ← refuse (untyped entries)
   plan_of (merged entries)
 
--- the plan or the first fault, unless memory is wanting
+-- the plan or the first fault, unless memory runs out
 abbrev pub Gives : {X : Type 0} → Result X PlatFault → Result X PlatFault → Type 0
 Gives (Ok x) meant = meant ≡ Ok x
 Gives (Err (At file line cause)) meant = meant ≡ Err (At file line cause)

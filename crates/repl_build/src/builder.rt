@@ -42,7 +42,7 @@ fn plan_or_fault(alloc: Global, entries: &[Entry]) -> Result<BoardPlan, PlatFaul
 /// past 2^32), `Reference` (a time provider that is no CLINT, or a wire to neither a processor nor a
 /// PLIC) and `Line` (lines and pins of a wire that do not fit).
 /// From `TypeName` on, the further items of an entry stand in the entry that gives the name its type.
-/// `Memory` is answered where memory is wanting alone.
+/// `Memory` is answered only where memory runs out.
 ///
 /// The plan is valid where each name that is given a type has its form. Entries that `read_platform`
 /// gives are so (`entries_of_a_text_are_named`).

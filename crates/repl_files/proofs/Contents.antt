@@ -11,7 +11,7 @@ use Rattle.repl_files.specs.declared.content.Opened.TheVariants as opened_by
 use Rattle.repl_files.specs.Content.{Content, Faulty}
 use Rattle.repl_files.specs.Inner.Course.{IsFaultAt, IsFaulty, IsContent, IsOpened}
 
--- a fault of the file was told, or memory was wanting
+-- a fault of the file was told, or memory ran out
 pub told_faulty : (content : Content) (name : List ℕ) (line : ℕ) (cause : FileCause) (told : LoadFault) →
     content ≡ Faulty line cause → IsFaultAt (record { file = name; line = line; cause = cause }) told →
     IsFaulty content name told

@@ -22,7 +22,7 @@ module _ (gives : Gives) (file : List ℕ) (number count : ℕ) (entry : Entry) 
       (λ (found : Option (List ℕ)). IsCourse (one_by gives file number count entry found) result old new log log')
       is course
 
-  -- an entry of another head was kept, or memory was wanting
+  -- an entry of another head was kept, or memory ran out
   kept_by : (result : Result (Unit {0}) LoadFault) (old new : Loaded) (log : Log) →
       OnOk result (new.entries.items ≡ old.entries.items ++ record entry { file = number } ∷ []) →
       IfErr result (λ fault. fault ≡ Memory) → new.names.items ≡ old.names.items →

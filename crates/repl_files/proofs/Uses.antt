@@ -49,7 +49,7 @@ file_names gives large name number Large = ([], refl)
 file_names gives large name number (Faulty line cause) = ([], refl)
 file_names gives large name number (Readable entries) = ((in_order gives name number (number + 1) entries).names, refl)
 
--- a loading was refused by this fault, which was told, or memory was wanting
+-- a loading was refused by this fault, which was told, or memory ran out
 refused_told : (names : List (List ℕ)) (fault : FileFault) (told : LoadFault) (log log' : Log) →
     log' ≡ grown log names → IsFaultAt fault told → IsStopped (stopped names (Refused fault)) told log log'
 refused_told names fault (At told) log log' asked is = (ap Refused (sym is), asked)

@@ -1,4 +1,4 @@
--- What was not read, and where memory was wanting.
+-- What was not read, and where memory ran out.
 use Rattle.std.proofs.Common.{◌≡◌, Result, Err}
 use Rattle.repl_files.specs.declared.fault.FileFault.{FileFault}
 use Rattle.repl_files.specs.declared.fault.LoadFault.{LoadFault}
@@ -9,7 +9,7 @@ use Rattle.repl_files.specs.Loading.{Loading}
 use Rattle.repl_files.specs.Inner.Course.{IsFaultAt}
 use Rattle.lab_io.proofs.Asking.{asks_none}
 
--- memory was wanting before a name was asked for
+-- memory ran out before a name was asked for
 pub wanting : (loading : Loading) (fault : LoadFault) (log : Log) → fault ≡ Memory → IsStopped loading fault log log
 wanting loading fault log is = rw is (asks_none loading.names log)
 

@@ -97,6 +97,6 @@ used (suc room) held count at =
 abbrev pub loaded : Held → ℕ → List ℕ → Loading
 loaded held room name = file_read (used room held) Oversized name 0 (content_of (get held name))
 
--- what comes of it beside so many open bodies, of which there may be 8
+-- what comes of it while so many bodies are open, of which there may be 8
 abbrev pub load : Held → ℕ → List ℕ → Loading
 load held bodies name = loaded held (8 - bodies) name

@@ -36,7 +36,7 @@ pub enum LoadFault {
     TooLarge,
     /// A read failed, and the files counted it.
     Unread,
-    /// Memory was wanting.
+    /// Memory ran out.
     Memory,
 }
 

@@ -41,7 +41,7 @@ pub struct Loaded {
 /// a `using` line where 8 bodies are open beside the script, its own file among them if a `using` line
 /// named it, or 64 files were read; and `Size` at a `using` line whose file has more than 16,777,216
 /// bytes. `TooLarge` is answered where the file of this name has more. `Unread` is answered only where
-/// a read failed, and `Memory` where memory is wanting alone.
+/// a read failed, and `Memory` only where memory runs out.
 pub fn load_platform<F: Files>(
     alloc: Global,
     files: &mut F,
@@ -68,7 +68,7 @@ pub fn load_platform<F: Files>(
     load_beside(alloc, files, bodies, name)
 }
 
-/// Loads the file beside so many open bodies.
+/// Loads the file while so many bodies are open.
 fn load_beside<F: Files>(
     alloc: Global,
     files: &mut F,

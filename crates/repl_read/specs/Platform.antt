@@ -74,7 +74,7 @@ entries_of lines = read_lines Apart 1 lines >>= λ rest. Ok rest.1
 unfoldable pub platform : List ℕ → Result (List Entry) LineFault
 platform text = entries_of (token_lines text)
 
--- entries or a fault in the file with the number 0, unless memory is wanting
+-- entries or a fault in the file with the number 0, unless memory runs out
 abbrev pub Tells : Result (Vec Entry Global) PlatFault → Result (List Entry) LineFault → Type 0
 Tells (Ok entries) meant = meant ≡ Ok entries.items
 Tells (Err (At file line cause)) meant = (file ≡ 0) × (meant ≡ Err (line, cause))

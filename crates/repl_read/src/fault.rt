@@ -41,7 +41,7 @@ pub enum PlatFault {
         line: u32,
         cause: PlatCause,
     },
-    /// Memory was wanting.
+    /// Memory ran out.
     Memory,
 }
 
@@ -56,7 +56,7 @@ pub(crate) enum ReadCause {
 #[derive(Clone, Copy)]
 pub(crate) enum Fault {
     Cause(ReadCause),
-    /// Memory was wanting.
+    /// Memory ran out.
     Memory,
 }
 

@@ -176,8 +176,8 @@ fn entries_of(alloc: Global, lines: &[TokenLine]) -> Result<Vec<Entry>, PlatFaul
 /// out: `|`, the words `local`, `as`, `new` and `none`, the sections `init`, `reset` and `preinit`,
 /// and a registration in a head without a type. `At` with `Form` is answered for any other line of
 /// no form, and for the line of a `{` or of a comment that is not closed. The first line with a
-/// fault counts, and on one line `Feature` comes first. `Memory` is answered where memory is
-/// wanting alone.
+/// fault counts, and on one line `Feature` comes first. `Memory` is answered only where
+/// memory runs out.
 #[tactic(auto, unfolding(crate::specs::Platform::platform))]
 pub fn read_platform(alloc: Global, text: &str) -> Result<Vec<Entry>, PlatFault>
     requires { length text.now ≤ 2 ^ 24 }

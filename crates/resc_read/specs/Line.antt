@@ -29,7 +29,7 @@ fault_of Unknown = faults.Unknown
 fault_of Arguments = faults.Arguments
 fault_of Time = faults.Time
 
--- the line is read as it is defined, unless memory was wanting
+-- the line is read as it is defined, unless memory ran out
 abbrev pub IsReadAs : Result Command LineCause → Result Command LineFault → Type 0
 IsReadAs meant (Ok command) = meant ≡ Ok command
 IsReadAs meant (Err faults.Unknown) = meant ≡ Err Unknown

@@ -109,7 +109,7 @@ in_bodies (body ∷ outer) kept = in_body body.file body.items outer kept (in_bo
 abbrev pub next_of : State → Outcome
 next_of s = in_bodies (s.current ∷ s.outer) s.kept
 
--- an answer is that, with that state after it or that kept, unless memory was wanting
+-- an answer is that, with that state after it or that kept, unless memory ran out
 abbrev pub Says : Next → State → Outcome → Type 0
 Says (next.Line file n text) after said = said ≡ Gives file n text after
 Says next.End after said = said ≡ Ends after.kept

@@ -105,7 +105,7 @@ fn words_of(
 /// at `lui` and `auipc`; the number of a control and status register between two operands. Fences
 /// stand without operands and have all fields 0.
 ///
-/// `Line` is answered for the first line with a fault, and `Memory` where memory is wanting alone.
+/// `Line` is answered for the first line with a fault, and `Memory` only where memory runs out.
 pub fn assemble(alloc: Global, text: &str) -> Result<Vec<u32>, AsmFault>
     requires { length text.now ≤ 2 ^ 24 }
     ensures { Assembles text.now result }

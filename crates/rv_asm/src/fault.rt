@@ -19,6 +19,6 @@ pub enum AsmFault {
     /// The first line with a fault: its number, from 1 on, and the cause, the first in the order of
     /// `AsmCause`.
     Line { n: u32, cause: AsmCause },
-    /// Memory was wanting.
+    /// Memory ran out.
     Memory,
 }

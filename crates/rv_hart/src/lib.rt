@@ -10,7 +10,7 @@ mod letters;
 mod numbers;
 mod state;
 
-pub use cause::Exception;
+pub use cause::{EXTERNAL_INTERRUPT, Exception, SOFTWARE_INTERRUPT, TIMER_INTERRUPT};
 pub use csr::{CsrFault, Lines};
 pub use hart::Hart;
 pub use laws::{counters_stay, read_back, return_after_entry, zero_register};

@@ -6,6 +6,7 @@ use crate::part::has_region;
 use crate::plan::PlicSize;
 use crate::region::{Region, RegionKind};
 use dev_core::Kind;
+use rv_hart::{EXTERNAL_INTERRUPT, SOFTWARE_INTERRUPT, TIMER_INTERRUPT};
 
 /// The line that a wire begins at.
 #[derive(Clone, Copy, PartialEq, Eq, Debug)]
@@ -39,7 +40,7 @@ pub struct Wire {
 fn is_pin(pin: u8) -> bool
     ensures { result ≡ wire_spec.is_pin pin }
 {
-    pin == 3 || pin == 7 || pin == 11
+    pin == SOFTWARE_INTERRUPT || pin == TIMER_INTERRUPT || pin == EXTERNAL_INTERRUPT
 }
 
 fn is_source(plic: Option<PlicSize>, source: u8) -> bool

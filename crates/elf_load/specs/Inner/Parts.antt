@@ -8,7 +8,7 @@ use Rattle.elf_load.specs.declared.image.Part.{Part}
 use Rattle.elf_load.specs.Segment.{program_header, is_loaded, is_sound, loaded, part_of}
 use Rattle.elf_load.specs.Image.{has_wrong_segment}
 
--- what was returned, seen by view, is what a definition says, unless memory was wanting
+-- what was returned, seen by view, is what a definition says, unless memory ran out
 abbrev pub Gives : {X Y : Type 0} → (X → Y) → Result Y ElfFault → Result X ElfFault → Type 0
 Gives view meant (Ok x) = meant ≡ Ok (view x)
 Gives view meant (Err Memory) = Unit {0}

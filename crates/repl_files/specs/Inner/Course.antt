@@ -15,21 +15,21 @@ use Rattle.repl_files.specs.Content.{Content, Large, Faulty, Readable}
 use Rattle.repl_files.specs.Loaded.{IsStopped}
 use Rattle.repl_files.specs.Loading.{Joined, Loading}
 
--- this fault was told, or memory was wanting
+-- this fault was told, or memory ran out
 abbrev pub IsFaultAt : FileFault → LoadFault → Type 0
 IsFaultAt fault (At told) = told ≡ fault
 IsFaultAt fault TooLarge = ⊥
 IsFaultAt fault Unread = ⊥
 IsFaultAt fault Memory = Unit {0}
 
--- a file of this name is faulty as was told, or memory was wanting
+-- a file of this name is faulty as was told, or memory ran out
 abbrev pub IsFaulty : Content → List ℕ → LoadFault → Type 0
 IsFaulty content name (At fault) = (content ≡ Faulty fault.line fault.cause) × (fault.file ≡ name)
 IsFaulty content name TooLarge = ⊥
 IsFaulty content name Unread = ⊥
 IsFaulty content name Memory = Unit {0}
 
--- a file of this name is what was told of it, or memory was wanting
+-- a file of this name is what was told of it, or memory ran out
 abbrev pub IsContent : Content → List ℕ → Opened → Type 0
 IsContent content name (opened_by.Entries entries) = content ≡ Readable entries.items
 IsContent content name opened_by.TooLarge = ⊥

@@ -20,7 +20,7 @@ abbrev pub fault_at : ℕ → Fault → PlatFault
 fault_at n (fault.Cause cause) = At 0 n (plat_cause cause)
 fault_at n fault.Memory = Memory
 
--- a part of a text, or a fault in the file with the number 0, unless memory is wanting
+-- a part of a text, or a fault in the file with the number 0, unless memory runs out
 abbrev pub TellsPart : {X : Type 0} → Result X PlatFault → Result X LineFault → Type 0
 TellsPart (Ok x) meant = meant ≡ Ok x
 TellsPart (Err (At file line cause)) meant = (file ≡ 0) × (meant ≡ Err (line, cause))

@@ -1,4 +1,4 @@
--- A reading of a part, unless memory is wanting.
+-- A reading of a part, unless memory runs out.
 use Rattle.std.specs.Prelude.{◌≡◌, Result, Ok, Err}
 use Rattle.repl_read.specs.declared.fault.Fault.{Fault}
 use Rattle.repl_read.specs.declared.fault.Fault.TheVariants.{Cause, Memory}

@@ -56,7 +56,7 @@ words_from places n address (line ∷ lines) =
     >>= λ words. Ok (word ∷ words))
     else words_from places (n + 1) address lines
 
--- the fault that is meant, or memory was wanting
+-- the fault that is meant, or memory ran out
 abbrev pub Fails : {T : Type 0} → Result T AsmFault → AsmFault → Type 0
 Fails meant (Line n cause) = meant ≡ Err (Line n cause)
 Fails meant Memory = Unit {0}

@@ -1,4 +1,4 @@
--- A run may be refused before it is made; when it is made memory alone can be wanting.
+-- A run may be refused before it is made; when it is made, only memory can run out.
 use Rattle.std.proofs.Common.{◌≤◌, refl, arith}
 use Rattle.std.proofs.lemmas.Result.{err_from_is_err_and}
 use Rattle.lab_state.specs.Run.{run}
