@@ -109,14 +109,14 @@ saves_on rest kept name place s bytes within dry =
     saving_wet rest kept name place s bytes (small bytes within) dry
 
 pub loads_on :
-    (rest : Rest) (kept : Held) (name : List ℕ) (place : Place) (s : State) →
-    length (spelling s.lab s.lines) ≤ 67108864 →
+    (rest : Rest) (kept : Held) (name : List ℕ) (place : Place) (s t : State) →
+    length (spelling s.lab s.lines) ≤ 67108864 → is_occupied t.lab ≡ false →
     snapshot_of (spelling s.lab s.lines) ≡ Some (s.lab, s.lines) →
-    loading rest (insert kept name (spelling s.lab s.lines)) name place (record s { lab = empty_lab; lines = [] })
-    ≡ using (get_of name) (rest (insert kept name (spelling s.lab s.lines)) (record s { selected = None }))
-loads_on rest kept name place s within holds =
+    loading rest (insert kept name (spelling s.lab s.lines)) name place t
+    ≡ using (get_of name) (rest (insert kept name (spelling s.lab s.lines)) (joined (bodies_of t) s.lab s.lines))
+loads_on rest kept name place s t within free holds =
     let bytes = spelling s.lab s.lines in
-    rw (kept_now kept name bytes, small bytes within, holds) refl
+    rw (free, kept_now kept name bytes, small bytes within, holds) refl
 
 -- ---- how a command ends
 

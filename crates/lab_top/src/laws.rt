@@ -1,5 +1,5 @@
 //! Laws of the transcript. Each is the contract of a function that does nothing when it runs.
-ghost use Rattle.std.specs.Prelude.{◌≡◌, ◌≤◌, ℕ, true, false, List, [], None, Ok, length};
+ghost use Rattle.std.specs.Prelude.{◌≡◌, ◌≤◌, ℕ, true, false, List, Ok, length};
 ghost use Rattle.std.specs.FinMap.{insert};
 ghost use Rattle.std.specs.List.{list_all};
 ghost use Rattle.lab_io.specs.Held.{Held};
@@ -12,10 +12,11 @@ ghost use Rattle.lab_num.specs.Returns.{is_no_return, with_returns};
 ghost use Rattle.monitor.specs.declared.setting.Setting.{Setting};
 ghost use Rattle.monitor.specs.Answer.{Done, leaves};
 ghost use Rattle.monitor.specs.Runs.{run_for};
-ghost use Rattle.monitor.specs.State.{State, Place, empty_lab};
+ghost use Rattle.monitor.specs.State.{State, Place, bodies_of, joined};
 ghost use Rattle.lab_top.specs.Content.{Readable};
 ghost use Rattle.lab_top.specs.Request.{Run, request_of};
-ghost use Rattle.lab_top.specs.Transcript.{Rest, begun, loading, saving, transcript, transcript_by, using};
+ghost use Rattle.lab_top.specs.Transcript.{Rest, begun, is_occupied, loading, saving, transcript};
+ghost use Rattle.lab_top.specs.Transcript.{transcript_by, using};
 
 use lab_snap::snapshots_are_what_they_spell;
 use lab_state::turns_agree;
@@ -57,19 +58,19 @@ pub fn checks_run_nothing()
 {}
 
 /// A run that is cut by `Save` and `Load` goes on as the unbroken one. What is left of a run after `Save`
-/// is what is left of it without the command, with the snapshot kept. `Load`, in a new run that has the same
-/// lines to come, variables and macros, and in whose laboratory nothing was made, goes on with the same, as
-/// if no board had been selected.
+/// is what is left of it without the command, with the snapshot kept. `Load`, in any other run in whose
+/// laboratory nothing was made, goes on with the laboratory and the open lines that were saved, with no board
+/// selected, and with its own script: the lines to come, the variables and the macros.
 pub fn cut_runs_go_on()
     ensures saved { (rest : Rest) (kept : Held) (name : List ℕ) (place : Place) (s : State) (bytes : List ℕ) →
         length bytes ≤ 67108864 → s.dry ≡ false →
         saving rest kept name place s bytes ≡ using (put_of name bytes) (rest (insert kept name bytes) s) }
-    ensures loaded { (rest : Rest) (kept : Held) (name : List ℕ) (place : Place) (s : State) →
+    ensures loaded { (rest : Rest) (kept : Held) (name : List ℕ) (place : Place) (s t : State) →
         IsValid s.lab s.lines → IsSpellable s.lab s.lines → length (spelling s.lab s.lines) ≤ 67108864 →
-        loading rest (insert kept name (spelling s.lab s.lines)) name place
-        (record s { lab = empty_lab; lines = [] })
+        is_occupied t.lab ≡ false →
+        loading rest (insert kept name (spelling s.lab s.lines)) name place t
         ≡ using (get_of name)
-        (rest (insert kept name (spelling s.lab s.lines)) (record s { selected = None })) }
+        (rest (insert kept name (spelling s.lab s.lines)) (joined (bodies_of t) s.lab s.lines)) }
 {
     snapshots_are_what_they_spell();
 }

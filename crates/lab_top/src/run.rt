@@ -86,8 +86,8 @@ pub fn run_lab<
         ¬ (Rose (S.faults store.old) (S.faults store.new)) →
         IsUncut result }
 
-    // The words alone say whether they are refused. Refused ones write the usage line or a front
-    // of it, whatever is told of the files and the store, ask for no name, and leave the store alone.
+    // The words alone say whether they are refused. Refused ones write the usage line or its
+    // beginning, whatever is told of the files and the store, ask for no name, and leave the store alone.
     ensures usage { IsUsageBy (request_of (map string_bytes words.now)) result }
     ensures refused { OnRefused (request_of (map string_bytes words.now)) (WritesUsage result
         (outside F.Files K.Sink S.Store files.old out.old store.old)
