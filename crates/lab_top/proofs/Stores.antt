@@ -18,7 +18,7 @@ use Rattle.lab_snap.specs.Snapshot.{snapshot_of}
 use Rattle.lab_state.specs.Lab.{Lab}
 use Rattle.lab_state.specs.Valid.{IsOpen, is_shown_before}
 use Rattle.log_text.specs.declared.line.OpenLine.{OpenLine}
-use Rattle.monitor.specs.State.{State, Place, bodies_of, empty_lab, joined}
+use Rattle.monitor.specs.State.{State, Place, bodies_of, joined}
 use Rattle.monitor.specs.Step.{Running}
 use Rattle.resc_vars.specs.declared.cause.ScriptCause.TheVariants.{Size, Snapshot, Occupied}
 use Rattle.lab_top.specs.declared.snapshots.Halt.{Halt}
