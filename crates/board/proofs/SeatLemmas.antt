@@ -61,7 +61,15 @@ plain_by core w plain = by_letter core.letters.a plain
     by_letter false is = refl
     by_letter true is = absurd (cc)
 
--- it does what it does by the rules of a hart alone
+-- and what that is by the rules of a hart alone
+pub effect_alone :
+    PlainAlone → (core : Core) (word : Option ℕ) (w : Wires) (lines : Lines) → core.letters.a ≡ false →
+    effect_on (seen 0 core (word ∷ []) w) w lines ≡ leaves (effect core (fetched_by core w) lines) (word ∷ [])
+effect_alone law core word w lines plain =
+    ap (λ what. shared_effect (fetched w) core 0 (word ∷ []) what lines) (plain_by core w plain)
+    ∙ law (fetched w) core word (fetched_by core w) lines
+
+-- so does a processor whose board shares nothing
 pub alone_effect :
     PlainAlone → (hart : ℕ) (core : Core) (watch : List (Option ℕ)) (w : Wires) (lines : Lines) →
     is_shared w.space.plan ≡ false → core.letters ≡ w.space.plan.letters → hart < length watch →
@@ -77,7 +85,5 @@ alone_effect law hart core watch w lines shares letters below harts =
     by_watch [] one below plain = absurd (omega (arith, one))
     by_watch (word ∷ []) one below plain =
         let first : hart ≡ 0 = omega (arith, below) in
-        rw first
-        (ap (λ what. shared_effect (fetched w) core 0 (word ∷ []) what lines) (plain_by core w plain)
-        ∙ law (fetched w) core word (fetched_by core w) lines)
+        rw first (effect_alone law core word w lines plain)
     by_watch (word ∷ other ∷ words) one below plain = absurd (omega (arith, one))

@@ -1,4 +1,4 @@
--- All that the loads and stores of a board's processor reach: memories, a timer, an interrupt controller and devices,
+-- All that the loads and stores of a board's processors reach: memories, a timer, an interrupt controller and devices,
 -- each in its region of addresses.
 use Rattle.std.specs.Prelude.{ℕ, ◌/◌, ◌%◌, ◌^◌, ◌==◌, Bool, false, if◌then◌else◌, List, [], slice_index_or, slice_set}
 use Rattle.std.specs.Prelude.{Option, None, Some}

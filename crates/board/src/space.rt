@@ -1,4 +1,4 @@
-//! All that the loads and stores of a board's processor reach: memories, a timer, an interrupt
+//! All that the loads and stores of a board's processors reach: memories, a timer, an interrupt
 //! controller and devices.
 ghost use Rattle.std.specs.Prelude.{◌≡◌, ◌≤◌, ◌+◌, ◌<◌, ◌^◌, ◌%◌, [], length, map, option_map, All, IsTrue};
 ghost use Rattle.std.specs.Prelude.{IfOk, IfSome, OnOk, OnErr};

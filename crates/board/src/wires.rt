@@ -20,7 +20,7 @@ use std::alloc::Global;
 use std::marker::Model;
 use sys_bus::{BoardPlan, Target};
 
-/// What a board has but its processor.
+/// What a board has but its processors, whose turn is next and what they have reserved.
 #[derive(Drop)]
 pub struct Wires<D: Device> {
     pub made: Made,

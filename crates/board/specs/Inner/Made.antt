@@ -1,4 +1,4 @@
--- What a board makes, as a part of what its processor is wired to.
+-- What a board makes, as a part of what a processor is wired to in its slot.
 use Rattle.std.specs.Prelude.{ℕ, ◌<◌}
 use Rattle.std.specs.Vec.{vec_len, vec_capacity}
 use Rattle.std.specs.VecDeque.{deque_len, deque_capacity}

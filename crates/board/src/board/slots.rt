@@ -17,7 +17,6 @@ use dev_core::Device;
 use lab_num::{Micros, NoMemory};
 use rv_atomic::Watch;
 use rv_hart::Hart;
-use sys_bus::BoardPlan;
 
 /// The copies of the interpreter in the loops of a turn, of which each is called from one place, so
 /// that it is inlined there: those of boards of one processor without atomic instructions, which are
@@ -40,16 +39,6 @@ enum Ended {
     Idle(u64),
     /// So many were taken, since memory ran out.
     Starved(u64),
-}
-
-fn ways_of(plan: &BoardPlan) -> Ways
-    ensures { result ≡ ways_of plan.now }
-{
-    Ways {
-        shared: plan.cpus.items().len() != 1 || plan.letters.a,
-        wired: plan.frequency.is_some() || plan.plic.is_some() || !plan.wires.items().is_empty(),
-        halves: plan.letters.c,
-    }
 }
 
 /// The number of the processor after this one, of so many.
@@ -100,7 +89,12 @@ impl<D: Device> Board<D> {
     pub(super) fn ways(&self) -> Ways
         ensures { result ≡ ways_of self.now.view.space.plan }
     {
-        ways_of(self.wires.space.plan())
+        let plan = self.wires.space.plan();
+        Ways {
+            shared: plan.cpus.items().len() != 1 || plan.letters.a,
+            wired: self.wires.space.is_wired(),
+            halves: plan.letters.c,
+        }
     }
 
     /// The next `n` slots of a board whose ways are these. It is a function of its own, so that who
