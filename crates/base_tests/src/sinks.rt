@@ -1,7 +1,7 @@
 //! Outputs in memory, and a terminal.
 use lab_io::{MemSink, OutSink, Sink, WriteFault, write_whole};
 use std::alloc::Global;
-use std::cell::RefCell;
+use std::cell::{Cell, RefCell};
 use std::fmt::Display;
 use std::io;
 use std::test::Fail;
@@ -29,9 +29,11 @@ fn pieces_are_written_whole_up_to_a_fault(rt: HostRuntime) -> Result<(), Fail> {
 }
 
 /// A terminal that takes at most `most` bytes a write and `room` bytes in all. Once it has
-/// taken them it takes nothing, and where `most` is 0 it is broken.
+/// taken them it takes nothing, and where `most` is 0 it is broken. Its first `signals` writes are
+/// interrupted by a signal each.
 #[derive(Drop)]
 struct Terminal {
+    signals: Cell<usize>,
     most: usize,
     room: usize,
     taken: RefCell<Vec<u8>>,
@@ -51,6 +53,11 @@ impl Print for Terminal {
     }
 
     fn write_some(&self, bytes: &[u8]) -> io::Result<usize> {
+        let signals = self.signals.get();
+        self.signals.set(signals.saturating_sub(1));
+        if signals > 0 {
+            return Err(io::ErrorKind::Interrupted.into());
+        }
         let Ok(mut taken) = self.taken.try_borrow_mut() else {
             return Err(io::ErrorKind::BrokenPipe.into());
         };
@@ -64,25 +71,32 @@ impl Print for Terminal {
     }
 }
 
-/// What a terminal takes a write and in all, the answer to a piece of five bytes, and what is taken
-/// of it.
-static TAKEN: [((usize, usize), Result<(), WriteFault>, &[u8]); 5] = [
-    ((9, 9), Ok(()), b"abcde"),
-    ((2, 9), Ok(()), b"abcde"),
-    ((2, 3), Err(WriteFault::Unwritten), b"abc"),
-    ((2, 0), Err(WriteFault::Unwritten), b""),
-    ((0, 9), Err(WriteFault::Unwritten), b""),
+/// How many writes of a terminal are interrupted, what it then takes a write and in all, the answer
+/// to a piece of five bytes, and what is taken of it.
+static TAKEN: [((usize, usize, usize), Result<(), WriteFault>, &[u8]); 7] = [
+    ((0, 9, 9), Ok(()), b"abcde"),
+    ((0, 2, 9), Ok(()), b"abcde"),
+    ((0, 2, 3), Err(WriteFault::Unwritten), b"abc"),
+    ((0, 2, 0), Err(WriteFault::Unwritten), b""),
+    ((0, 0, 9), Err(WriteFault::Unwritten), b""),
+    ((3, 2, 9), Ok(()), b"abcde"),
+    ((3, 0, 9), Err(WriteFault::Unwritten), b""),
 ];
 
 /// Whether a terminal answers so, and takes this.
 fn takes(
     alloc: Global,
-    (most, room): (usize, usize),
+    (signals, most, room): (usize, usize, usize),
     answer: Result<(), WriteFault>,
     bytes: &[u8],
 ) -> bool {
     let taken = RefCell::new(Vec::new(alloc));
-    let terminal = Terminal { most, room, taken };
+    let terminal = Terminal {
+        signals: Cell::new(signals),
+        most,
+        room,
+        taken,
+    };
     let answered = write_whole(&mut OutSink::new(&terminal), b"abcde");
     match terminal.taken.try_borrow() {
         Ok(taken) => answered == answer && taken.as_slice() == bytes,

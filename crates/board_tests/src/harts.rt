@@ -21,9 +21,9 @@ const SECOND: u32 = BASE + 0x80;
 
 const WORD: u32 = BASE + 0x100;
 
-const PLAIN: Letters = Letters { a: false, c: false };
+pub const PLAIN: Letters = Letters { a: false, c: false };
 
-const ATOMIC: Letters = Letters { a: true, c: false };
+pub const ATOMIC: Letters = Letters { a: true, c: false };
 
 const ATOMIC_HALVES: Letters = Letters { a: true, c: true };
 
@@ -37,7 +37,8 @@ fn plain(alloc: Global, harts: usize, letters: Letters, speed: u32) -> Result<Bo
     Ok(plan)
 }
 
-fn start(
+/// A board of so many processors, without timer, interrupt controller and wires.
+pub fn start_plain(
     rt: &impl Abort,
     alloc: Global,
     harts: usize,
@@ -336,7 +337,7 @@ fn tries(board: &mut Board<Uart>, row: (u32, u32, u32, u32)) -> Result<bool, NoM
 #[test]
 fn stores_of_others_end_reservations(rt: HostRuntime) -> Result<(), Fail> {
     for row in &TRIES {
-        let mut board = start(&rt, rt.alloc(), 2, ATOMIC, 2)?;
+        let mut board = start_plain(&rt, rt.alloc(), 2, ATOMIC, 2)?;
         let is_so = tries(&mut board, *row)?;
         assert!(rt; is_so, "{row:?}");
     }
@@ -429,7 +430,7 @@ fn stays(board: &mut Board<Uart>, row: (Touch, u32, u32)) -> Result<bool, NoMemo
 #[test]
 fn changes_from_outside_end_reservations(rt: HostRuntime) -> Result<(), Fail> {
     for row in &TOUCHES {
-        let mut board = start(&rt, rt.alloc(), 2, ATOMIC, 2)?;
+        let mut board = start_plain(&rt, rt.alloc(), 2, ATOMIC, 2)?;
         let is_so = stays(&mut board, *row)?;
         assert!(rt; is_so, "{row:?}");
     }
@@ -534,7 +535,7 @@ fn counts(board: &mut Board<Uart>, row: &Shared) -> Result<bool, NoMemory> {
 #[test]
 fn processors_share_words_of_memory(rt: HostRuntime) -> Result<(), Fail> {
     for row in &COUNTS {
-        let mut board = start(&rt, rt.alloc(), usize::from(row.2), row.3, u32::from(row.2))?;
+        let mut board = start_plain(&rt, rt.alloc(), usize::from(row.2), row.3, u32::from(row.2))?;
         let is_so = counts(&mut board, row)?;
         assert!(rt; is_so, "{row:?}");
     }
@@ -633,7 +634,7 @@ fn takes_turns(board: &mut Board<Uart>, row: &Turns) -> Result<bool, NoMemory> {
 #[test]
 fn processors_take_slots_in_turn(rt: HostRuntime) -> Result<(), Fail> {
     for row in &TURNS {
-        let mut board = start(&rt, rt.alloc(), usize::from(row.0), row.1, u32::from(row.0))?;
+        let mut board = start_plain(&rt, rt.alloc(), usize::from(row.0), row.1, u32::from(row.0))?;
         let is_so = takes_turns(&mut board, row)?;
         assert!(rt; is_so, "{row:?}");
     }

@@ -1,10 +1,12 @@
-//! A board that waits for its timer or its UART.
+//! Boards that wait for their timer or their UART, or for nothing.
 ghost use Rattle.std.specs.Prelude.{◌≡◌, ◌∷◌, [], IfOk};
 ghost use Rattle.dev_core.specs.declared.kind.Kind.TheVariants.{Uart as uart};
 
+use crate::harts::{ATOMIC, PLAIN, start_plain};
 use board::{Board, SlotAt, Turn};
 use dev_core::{Kind, Payload, Taken};
 use lab_num::{BoardNo, Micros, NoMemory, Rows};
+use rv_hart::Letters;
 use sample_boards::usual_board;
 use std::alloc::Global;
 use std::process::Abort;
@@ -53,7 +55,23 @@ fn start(rt: &impl Abort, alloc: Global) -> Result<Board<Uart>, Fail> {
 }
 
 /// wfi, and a jump to itself.
-const SLEEP: [u32; 2] = [0x1050_0073, 0x0000_006F];
+const SLEEP: &[u32] = &[0x1050_0073, 0x0000_006F];
+
+/// Puts 50 in the lower half of mtimecmp, whose upper half stays 2^32 - 1, enables the timer interrupt
+/// in mie while MIE is 0, and waits. mtime does not come to 2^64 - 2^32 + 50.
+///
+///     lui x6, 0x2004      sw x7, 0(x6)       addi x5, x0, 0x80     wfi
+///     addi x7, x0, 50     addi x0, x0, 0     csrrw x0, mie, x5     jal x0, 0
+const FOR_EVER: &[u32] = &[
+    0x0200_4337,
+    0x0320_0393,
+    0x0073_2023,
+    0x0000_0013,
+    0x0800_0293,
+    0x3042_9073,
+    0x1050_0073,
+    0x0000_006F,
+];
 
 /// Enables the timer interrupt in mie while MIE is 0, puts 100 in mtimecmp and waits. Woken, it
 /// reads mcycle to x8 and mtime to x10, and jumps to itself.
@@ -231,17 +249,66 @@ fn halts(board: &mut Board<Uart>) -> bool {
     true
 }
 
-/// 10,000 seconds at 1,000 instructions a microsecond are 10^13 slots. Only passed over are they
-/// taken in the time that a test has.
+/// Whether the first processor has counted so many cycles in mcycle.
+fn has_counted(board: &Board<Uart>, cycles: u64) -> Result<bool, NoMemory> {
+    let state = board.state()?;
+    let first = state.harts.items().first();
+    Ok(first.is_some_and(|hart| hart.mcycle == cycles))
+}
+
+/// 10,000 seconds at 1,000 instructions a microsecond. Only passed over are so many slots taken in the
+/// time that a test has.
+const LONG: u64 = 10_000_000_000_000;
+
+const HALVES: Letters = Letters { a: false, c: true };
+
+type Sleep = (Option<Letters>, &'static [u32], u32, u64, u64, u32);
+
+/// Each row: the letters of a board without timer, interrupt controller and wires, or none for the usual
+/// board, a program, a speed, the slots of a turn, and minstret and the pc after it. Each slot is a cycle.
+static SLEEPS: [Sleep; 5] = [
+    (None, SLEEP, 1000, LONG, 1, BASE + 4),
+    (None, FOR_EVER, 2, 200, 7, BASE + 28),
+    (Some(PLAIN), SLEEP, 1000, LONG, 1, BASE + 4),
+    (Some(HALVES), SLEEP, 1000, LONG, 1, BASE + 4),
+    (Some(ATOMIC), SLEEP, 1000, LONG, 1, BASE + 4),
+];
+
+/// Starts the board of a row.
+fn start_sleeper(
+    rt: &impl Abort,
+    alloc: Global,
+    letters: Option<Letters>,
+) -> Result<Board<Uart>, Fail> {
+    match letters {
+        Some(letters) => start_plain(rt, alloc, 1, letters, 1),
+        None => start(rt, alloc),
+    }
+}
+
+/// Whether the board waits through the slots of a row. Then it is halted, and through as many slots more
+/// it does not count.
+fn sleeps(board: &mut Board<Uart>, row: &Sleep) -> Result<bool, NoMemory> {
+    let &(_, program, speed, slots, retired, pc) = row;
+    let is_so = is_loaded(board, program, speed)?;
+    let waits = is_so && !board.is_asleep() && takes(board, 0, slots) && board.is_asleep();
+    let counts = has_counted(board, slots)?;
+    let stays = stands(board, retired, pc)
+        && halts(board)
+        && takes(board, 0, slots)
+        && board.is_asleep()
+        && stands(board, retired, pc);
+    let keeps = has_counted(board, slots)?;
+    Ok(waits && counts && stays && keeps)
+}
+
 #[test]
 fn a_board_that_waits_or_is_halted_passes_over_its_slots(rt: HostRuntime) -> Result<(), Fail> {
-    let mut board = start(&rt, rt.alloc())?;
-    let is_so = is_loaded(&mut board, &SLEEP, 1000)?;
-    assert!(rt; is_so && !board.is_asleep());
-    assert!(rt; takes(&mut board, 0, 10_000_000_000_000) && board.is_asleep());
-    assert!(rt; stands(&board, 1, BASE + 4) && halts(&mut board));
-    assert!(rt; takes(&mut board, 0, 10_000_000_000_000) && board.is_asleep());
-    assert!(rt; stands(&board, 1, BASE + 4));
+    for row in &SLEEPS {
+        let mut board = start_sleeper(&rt, rt.alloc(), row.0)?;
+        let is_so = sleeps(&mut board, row)?;
+        assert!(rt; is_so, "{row:?}");
+    }
     Ok(())
 }
 

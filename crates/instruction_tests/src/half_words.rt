@@ -20,7 +20,7 @@ static QUADRANT_0: [Row; 9] = [
 ];
 
 /// Quadrant 1, the same.
-static QUADRANT_1: [Row; 34] = [
+static QUADRANT_1: [Row; 35] = [
     (0x0001, Op::Addi, 0, 0, 0, 0), // c.nop
     (0x1401, Op::Addi, 8, 8, 0, 0xFFFF_FFE0), // c.addi x8, -32
     (0x07FD, Op::Addi, 15, 15, 0, 31), // c.addi x15, 31
@@ -51,6 +51,7 @@ static QUADRANT_1: [Row; 34] = [
     (0x8C7D, Op::And, 8, 8, 15, 0), // c.and x8, x15
     (0x8FE1, Op::And, 15, 15, 8, 0), // c.and x15, x8
     (0xB001, Op::Jal, 0, 0, 0, 0xFFFF_F800), // c.j -2048
+    (0xAFFD, Op::Jal, 0, 0, 0, 2046), // c.j 2046
     (0xD001, Op::Beq, 0, 8, 0, 0xFFFF_FF00), // c.beqz x8, -256
     (0xCFFD, Op::Beq, 0, 15, 0, 254), // c.beqz x15, 254
     (0xF001, Op::Bne, 0, 8, 0, 0xFFFF_FF00), // c.bnez x8, -256
@@ -58,13 +59,14 @@ static QUADRANT_1: [Row; 34] = [
 ];
 
 /// Quadrant 2, the same.
-static QUADRANT_2: [Row; 17] = [
+static QUADRANT_2: [Row; 18] = [
     (0x0402, Op::Slli, 8, 8, 0, 0), // c.slli x8, 0
     (0x07FE, Op::Slli, 15, 15, 0, 31), // c.slli x15, 31
     (0x4402, Op::Lw, 8, 2, 0, 0), // c.lwsp x8, 0(x2)
     (0x40B2, Op::Lw, 1, 2, 0, 12), // c.lwsp x1, 12(x2)
     (0x57FE, Op::Lw, 15, 2, 0, 252), // c.lwsp x15, 252(x2)
     (0x8082, Op::Jalr, 0, 1, 0, 0), // c.jr x1
+    (0x8402, Op::Jalr, 0, 8, 0, 0), // c.jr x8
     (0x8782, Op::Jalr, 0, 15, 0, 0), // c.jr x15
     (0x843E, Op::Add, 8, 0, 15, 0), // c.mv x8, x15
     (0x87A2, Op::Add, 15, 0, 8, 0), // c.mv x15, x8
