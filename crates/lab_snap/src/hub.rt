@@ -1,5 +1,7 @@
 //! Hubs as a snapshot holds them.
-use crate::state::State;
+ghost use Rattle.std.specs.Prelude.{◌↔◌, IsTrue};
+ghost use Rattle.lab_snap.specs.Hub.{IsHub};
+
 use lab_num::{MOST_DELAY, Member, NoMemory, Rows, Text, is_name};
 use lab_spell::{SnapFault, Source, Spelled};
 use std::alloc::Global;
@@ -22,6 +24,15 @@ pub struct SavedHub {
     pub delay: u32,
     /// In order of connection.
     pub members: Rows<Member>,
+}
+
+impl SavedHub {
+    /// Whether the hub can stand in a laboratory: it has a name, and no longer delay than a second.
+    pub fn is_valid(&self) -> bool
+        ensures { IsTrue result ↔ IsHub self.now }
+    {
+        is_name(self.name.as_str()) && self.delay <= MOST_DELAY
+    }
 }
 
 impl Spelled for HubKind {
@@ -74,16 +85,5 @@ impl Spelled for SavedHub {
             delay: Spelled::take(alloc, source)?,
             members: Spelled::take(alloc, source)?,
         })
-    }
-}
-
-/// Hubs that have a name and no longer delay than a second.
-impl State for SavedHub {
-    ghost use Rattle.lab_snap.specs.Hub.{IsHub};
-
-    ghost Valid = { IsHub };
-
-    fn is_valid(&self) -> bool {
-        is_name(self.name.as_str()) && self.delay <= MOST_DELAY
     }
 }

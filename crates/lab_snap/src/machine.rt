@@ -22,6 +22,7 @@ use sys_bus::BoardPlan;
 pub struct SavedMachine {
     plan: BoardPlan,
     state: BoardState,
+    /// In the order of the plan.
     memories: Rows<PageRam>,
 }
 
@@ -36,17 +37,6 @@ impl Model for SavedMachine {
 }
 
 impl SavedMachine {
-    pub fn of(plan: BoardPlan, state: BoardState, memories: Rows<PageRam>) -> SavedMachine
-        requires { IsMachine (record { plan = plan; state = state; memories = memories }) }
-        ensures { result ≡ record { plan = plan; state = state; memories = memories } }
-    {
-        SavedMachine {
-            plan,
-            state,
-            memories,
-        }
-    }
-
     pub fn plan(&self) -> &BoardPlan
         ensures plan { result.now ≡ self.now.plan }
         ensures valid { IsValid result.now }
@@ -58,13 +48,6 @@ impl SavedMachine {
         ensures { result.now ≡ self.now.state }
     {
         &self.state
-    }
-
-    /// In the order of the plan.
-    pub fn memories(&self) -> &[PageRam]
-        ensures { result.now ≡ self.now.memories }
-    {
-        self.memories.items()
     }
 
     /// At every moment a board can be made by the plan, and the memories have its sizes. This function

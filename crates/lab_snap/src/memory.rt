@@ -162,36 +162,6 @@ pub fn take_memory(alloc: Global, pages: u32, source: &mut Source<'_>) -> Result
     take_as_part(alloc, pages, source)
 }
 
-/// The spelling of a memory of so many pages.
-pub fn save_memory(alloc: Global, memory: &PageRam, pages: u32) -> Result<Vec<u8>, NoMemory>
-    requires { length memory.now ≡ 4096 * pages }
-    ensures spelled { IfOk result (λ bytes. bytes.items ≡ (memory_form pages).spell memory.now) }
-    ensures fits { OnOk result ((memory_form pages).Fits memory.now) }
-{
-    let mut out = Vec::new(alloc);
-    put_memory(memory, pages, &mut out)?;
-    Ok(out)
-}
-
-/// The memory of so many pages that the bytes spell, all of them. What is loaded is spelled so
-/// (`found`), and what is spelled so is loaded, unless memory runs out (`only`).
-pub fn load_memory(alloc: Global, bytes: &[u8], pages: u32) -> Result<PageRam, SnapFault>
-    requires some { 1 ≤ pages }
-    requires few { pages ≤ 16384 }
-    ensures found { IfOk result (λ memory.
-        (memory_form pages).Fits memory × (bytes.now ≡ (memory_form pages).spell memory)) }
-    ensures only { (memory : List ℕ) → (memory_form pages).Fits memory →
-        bytes.now ≡ (memory_form pages).spell memory →
-        MatchResult result (λ loaded. loaded ≡ memory) (λ fault. fault ≡ SnapFault.Memory) }
-{
-    let mut source = Source::new(bytes);
-    let memory = take_memory(alloc, pages, &mut source)?;
-    if !source.is_empty() {
-        return Err(SnapFault::Bad);
-    }
-    Ok(memory)
-}
-
 /// No spelling of a memory of so many pages begins another, and different memories have different
 /// spellings. This function does nothing when it runs: a proof that needs the law calls it.
 pub fn one_memory_spelling(pages: u32)

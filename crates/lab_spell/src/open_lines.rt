@@ -1,12 +1,9 @@
 //! The open lines of UARTs.
-ghost use Rattle.std.specs.Prelude.{◌≡◌};
-
 use crate::fault::SnapFault;
-use crate::lists::put_list;
 use crate::source::Source;
 use crate::spelled::Spelled;
-use lab_num::{NoMemory, Rows};
-use log_text::{Lines, OpenLine};
+use lab_num::NoMemory;
+use log_text::OpenLine;
 use std::alloc::Global;
 
 impl Spelled for OpenLine {
@@ -31,28 +28,5 @@ impl Spelled for OpenLine {
             at: Spelled::take(alloc, source)?,
             bytes: Spelled::take(alloc, source)?,
         })
-    }
-}
-
-impl Spelled for Lines {
-    ghost use Rattle.lab_spell.specs.OpenLines.{lines_form, lines_lawful};
-
-    ghost form = { lines_form };
-
-    ghost lawful = { lines_lawful };
-
-    #[tactic(auto, unfolding(crate::specs::OpenLines::lines_form))]
-    fn put(&self, out: &mut Vec<u8>) -> Result<(), NoMemory> {
-        put_list(self.unended(), out)?;
-        Ok(())
-    }
-
-    #[tactic(auto, unfolding(crate::specs::OpenLines::lines_form))]
-    fn take(alloc: Global, source: &mut Source<'_>) -> Result<Lines, SnapFault> {
-        let lines: Rows<OpenLine> = Spelled::take(alloc, source)?;
-        match Lines::of(lines.into_items()) {
-            Some(lines) => Ok(lines),
-            None => Err(SnapFault::Bad),
-        }
     }
 }

@@ -1,7 +1,7 @@
 //! A whole laboratory and its bytes.
 use crate::bytes::{joined, part};
 use lab_num::NoMemory;
-use lab_snap::{SavedBoard, SavedMachine, read_lab};
+use lab_snap::{SavedBoard, read_lab};
 use lab_spell::{SnapFault, save};
 use std::alloc::{AllocError, Global};
 use std::test::Fail;
@@ -189,7 +189,7 @@ fn a_board_has_a_memory_for_each_size_of_a_valid_plan(rt: HostRuntime) -> Result
 }
 
 #[test]
-fn a_machine_is_taken_apart_and_put_together(rt: HostRuntime) -> Result<(), Fail> {
+fn a_machine_is_saved_alone_and_taken_apart(rt: HostRuntime) -> Result<(), Fail> {
     let alloc = rt.alloc();
     let bytes = with_board(alloc, 100, MEMORIES[3].0)?;
     let mut boards = read_lab(alloc, &bytes)?.boards.into_items();
@@ -201,11 +201,11 @@ fn a_machine_is_taken_apart_and_put_together(rt: HostRuntime) -> Result<(), Fail
     let Some(machine) = machine else {
         return Err(Fail::new("the board has a plan"));
     };
-    assert!(rt; machine.memories().len() == 1);
     assert!(rt; machine.plan().speed == 100 && machine.state().speed == 100);
-    let (plan, state, memories) = machine.into_parts();
-    let saved = save(alloc, &SavedMachine::of(plan, state, memories))?;
+    let saved = save(alloc, &machine)?;
     // The machine stands between the byte that says that there is one and three empty lists.
     assert!(rt; bytes.len() > 66 && saved.as_slice() == part(&bytes, 42, bytes.len() - 24));
+    let (plan, state, memories) = machine.into_parts();
+    assert!(rt; plan.speed == 100 && state.speed == 100 && memories.items().len() == 1);
     Ok(())
 }

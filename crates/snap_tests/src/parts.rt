@@ -1,11 +1,11 @@
 //! Parts of boards whose bytes are all the rules ask for.
-use crate::bytes::{joined, one, part};
+use crate::bytes::joined;
 use crate::spelled::is_spelled;
 use clint::ClintState;
 use dev_core::{DevState, Kind};
 use lab_num::{BoardNo, Member, Micros, Rows, Text};
 use lab_spell::load;
-use log_text::{Lines, OpenLine};
+use log_text::OpenLine;
 use plic::PlicState;
 use std::alloc::Global;
 use std::test::Fail;
@@ -144,7 +144,7 @@ fn lists_and_options_of_a_state_have_their_bytes(rt: HostRuntime) -> Result<(), 
 }
 
 #[test]
-fn open_lines_are_a_list_that_rises_by_member(rt: HostRuntime) -> Result<(), Fail> {
+fn an_open_line_is_its_member_time_and_bytes(rt: HostRuntime) -> Result<(), Fail> {
     let alloc = rt.alloc();
     let line = OpenLine {
         member: Member {
@@ -158,16 +158,6 @@ fn open_lines_are_a_list_that_rises_by_member(rt: HostRuntime) -> Result<(), Fai
         2, 1, 7, 0, 0, 0, 0, 0, 0, 0, 2, 0, 0, 0, 0, 0, 0, 0, b'h', b'i',
     ];
     assert!(rt; is_spelled(alloc, &line, &bytes)?);
-    let count = [1, 0, 0, 0, 0, 0, 0, 0];
-    let Some(lines) = Lines::of(one(alloc, line)?) else {
-        return Err(Fail::new("the line is open"));
-    };
-    let whole = joined(alloc, &[&count, &bytes])?;
-    assert!(rt; is_spelled(alloc, &lines, &whole)?);
-    // One member twice, and a line that has ended.
-    let twice = joined(alloc, &[&[2, 0, 0, 0, 0, 0, 0, 0], &bytes, &bytes])?;
-    let ended = joined(alloc, &[&count, part(&bytes, 0, 19), b"\n"])?;
-    assert!(rt; load::<Lines>(alloc, &twice).is_err() && load::<Lines>(alloc, &ended).is_err());
     Ok(())
 }
 
@@ -177,6 +167,6 @@ fn counts_beyond_the_bytes_are_refused(rt: HostRuntime) -> Result<(), Fail> {
     let bytes = [0xFF; 64];
     assert!(rt; load::<Rows<Named>>(alloc, &bytes).is_err());
     assert!(rt; load::<Rows<Region>>(alloc, &bytes).is_err());
-    assert!(rt; load::<Lines>(alloc, &bytes).is_err());
+    assert!(rt; load::<Rows<OpenLine>>(alloc, &bytes).is_err());
     Ok(())
 }

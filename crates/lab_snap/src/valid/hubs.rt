@@ -9,7 +9,6 @@ ghost use Rattle.lab_snap.specs.Inner.Parts.{AreDelays, AreHubs, IsHubIn, IsMemb
 use super::boards::kind_in;
 use crate::hub::{HubKind, SavedHub};
 use crate::lab::SavedBoard;
-use crate::state::State;
 use dev_core::Kind;
 use indexmap::IndexMap;
 use lab_num::{Member, NoMemory};

@@ -2,13 +2,13 @@
 ghost use Rattle.std.specs.Prelude.{◌≡◌, ◌+◌, ◌<◌, ◌↔◌, IsTrue};
 ghost use Rattle.board.specs.Sent as sent;
 ghost use Rattle.lab_snap.specs.Inner.Parts.{AreWaiting, HasNumber, HasPayload, IsWaitingAt, delay_by};
+ghost use Rattle.lab_snap.specs.Rising as rising;
 
 use super::boards::{kind_in, machine_at};
 use super::hubs::Delays;
 use crate::lab::{SavedBoard, SavedLab};
-use crate::state::State;
 use dev_core::{Kind, Payload, Post};
-use lab_num::{Member, Micros};
+use lab_num::{Key, Member, Micros};
 
 /// How long what a device sends is held back. A device in no hub sends to nobody.
 fn delay_of(delays: &Delays, from: Member) -> u32
@@ -66,10 +66,29 @@ fn is_waiting(lab: &SavedLab, delays: &Delays, post: &Post) -> bool
         && has_payload(boards, post)
 }
 
+/// Whether a key comes before another.
+fn is_before(a: Key, b: Key) -> bool
+    ensures { result ≡ rising.is_before a b }
+{
+    a < b
+}
+
+/// Whether the key of each post is before those of all posts after it.
+fn do_rise(posts: &[Post]) -> bool
+    ensures { result ≡ rising.rise posts.now }
+{
+    for i in 1..posts.len() {
+        if !is_before(posts[i - 1].key, posts[i].key) {
+            return false;
+        }
+    }
+    true
+}
+
 /// Whether the posts rise by key and can wait in the laboratory, of which these are the hubs' delays.
 pub fn are_waiting(lab: &SavedLab, delays: &Delays) -> bool
     ensures { IsTrue result ↔ AreWaiting lab.now (delay_by delays.now.entries) }
 {
     let posts = lab.pending.items();
-    lab.pending.is_valid() && posts.iter().all(|post| is_waiting(lab, delays, post))
+    do_rise(posts) && posts.iter().all(|post| is_waiting(lab, delays, post))
 }

@@ -1,6 +1,6 @@
 use Rattle.std.proofs.Common.{◌∙◌, sym, arith}
 use Rattle.lab_snap.proofs.RisingLemmas.{rise_all, rise_past}
-use Rattle.lab_snap.proofs.state.do_rise.Goals as goal
+use Rattle.lab_snap.proofs.valid.posts.do_rise.Goals as goal
 
 pub loop-i-preserved : goal.loop-i-preserved
 loop-i-preserved c =
