@@ -3,7 +3,7 @@
 use Rattle.std.proofs.Common.{◌≡◌, ◌≢◌, ◌∙◌, ℕ, ◌+◌, List, [], ◌∷◌, ◌++◌, length, map, take, drop, Option, None, Some}
 use Rattle.std.proofs.Common.{IfSome, Result, Err, append_assoc, length-append, refl, sym, ap}
 use Rattle.std.proofs.lemmas.List.{take-append-drop, map-append}
-use Rattle.lab_io.specs.Asked.{Log, AsksSome, AsksUpTo}
+use Rattle.lab_io.specs.Asked.{AsksSome, AsksUpTo}
 use Rattle.lab_io.specs.Held.{Held}
 use Rattle.lab_io.specs.Known.{grown}
 use Rattle.lab_io.specs.Store.{StoreUse}

@@ -1,7 +1,7 @@
 -- One step of a run, in its transcript and in its course.
-use Rattle.std.proofs.Common.{◌≡◌, ◌∙◌, ℕ, suc, ◌+◌, ◌-◌, ◌≤◌, List, [], Option, Some, Result, Ok, Err}
+use Rattle.std.proofs.Common.{◌≡◌, ◌∙◌, ℕ, suc, ◌+◌, ◌-◌, ◌≤◌, List, [], Option, Result, Ok, Err}
 use Rattle.std.proofs.Common.{refl, sym, arith}
-use Rattle.lab_io.specs.Asked.{Log, AsksSome, AsksUpTo}
+use Rattle.lab_io.specs.Asked.{AsksSome, AsksUpTo}
 use Rattle.lab_io.specs.Held.{Held}
 use Rattle.lab_io.specs.Known.{grown}
 use Rattle.lab_io.specs.Sink.{IsPartWritten}
@@ -25,7 +25,7 @@ use Rattle.lab_top.specs.declared.status.Status.TheVariants as end_by
 use Rattle.lab_top.specs.Transcript.{Rest, Transcript, Done, Script, Absent}
 use Rattle.lab_top.specs.Transcript.{after, ended, refused, stopped, onward, from, saving, loading}
 use Rattle.lab_top.specs.Headline.{Outside, refusal}
-use Rattle.lab_top.specs.Inner.Course.{Course, GoesOn, IsEnd, IsTaken}
+use Rattle.lab_top.specs.Inner.Course.{Course, GoesOn, IsEnd}
 use Rattle.lab_top.specs.Inner.Stored.{IsStored}
 use Rattle.lab_top.proofs.Courses.{LeavesStore, course_after, course_cut, course_memory, course_stopped, course_unread}
 

@@ -1,5 +1,5 @@
 -- Pieces of what is told, and of what is written.
-use Rattle.std.proofs.Common.{◌≡◌, ℕ, List, [], ◌++◌, length, take, Option, None, Some, refl, append_assoc, append-nil}
+use Rattle.std.proofs.Common.{◌≡◌, ℕ, List, ◌++◌, length, take, Option}
 use Rattle.std.proofs.Common.{◌∙◌, sym, ap, arith}
 use Rattle.std.proofs.lemmas.List.{length-take, take-append-le, take_min}
 use Rattle.lab_io.specs.Known.{grown}

@@ -1,5 +1,5 @@
 -- What became of a command for the store, in the transcript and in the course.
-use Rattle.std.proofs.Common.{◌≡◌, ◌<◌, ◌≤◌, ◌∙◌, ℕ, Bool, true, false, if◌then◌else◌, nat_lt, List, [], ◌∷◌, length}
+use Rattle.std.proofs.Common.{◌≡◌, ◌<◌, ◌≤◌, ◌∙◌, ℕ, Bool, true, false, nat_lt, List, [], ◌∷◌, length}
 use Rattle.std.proofs.Common.{◌==◌, ◌||◌, not, cond, true≢false, Option, None, Some, Result, Ok, Err}
 use Rattle.std.proofs.Common.{refl, sym, ap, arith}
 use Rattle.std.specs.FinMap.{get, insert, get-insert}
@@ -9,7 +9,6 @@ use Rattle.std.specs.List.{All}
 use Rattle.std.specs.Prelude.{IsSomeAnd}
 use Rattle.std.proofs.lemmas.Bool.Decides.{nat_tests}
 use Rattle.std.proofs.lemmas.List.Elements.{All-head}
-use Rattle.lab_io.specs.Asked.{Log}
 use Rattle.lab_io.specs.Held.{Held}
 use Rattle.lab_io.specs.Known.{grown}
 use Rattle.lab_io.specs.Store.{StoreUse, get_of, put_of}
@@ -23,7 +22,6 @@ use Rattle.monitor.specs.Step.{Running}
 use Rattle.resc_vars.specs.declared.cause.ScriptCause.TheVariants.{Size, Snapshot, Occupied}
 use Rattle.lab_top.specs.declared.snapshots.Halt.{Halt}
 use Rattle.lab_top.specs.declared.snapshots.Halt.TheVariants as halt
-use Rattle.lab_top.specs.declared.status.Status.{Status}
 use Rattle.lab_top.specs.declared.status.Status.TheVariants as end_by
 use Rattle.lab_top.specs.Headline.{Outside, kept_by}
 use Rattle.lab_top.specs.Transcript.{Rest, Transcript, is_large, is_occupied, loading, loading_kept, refused, resuming}

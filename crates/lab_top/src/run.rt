@@ -1,9 +1,10 @@
 //! The whole program, from the command words to the status.
 ghost use Rattle.std.specs.Prelude.{◌≡◌, ◌≢◌, ℕ, suc, ◌≤◌, ◌^◌, [], false, length, map, string_bytes};
-ghost use Rattle.std.specs.Prelude.{Err, IfSome, IfOk, IfErr};
+ghost use Rattle.std.specs.Prelude.{Err, IfSome, IfOk, IfErr, Result};
 ghost use Rattle.std.specs.Option.{ForSome};
 ghost use Rattle.dev_core.specs.Stock.{IsFull};
 ghost use Rattle.lab_gen.specs.Summary.{summary_of};
+ghost use Rattle.lab_io.specs.Asked.{Log};
 ghost use Rattle.lab_io.specs.Frame.{OnlyReads, OnlyStores, OnlyWrites};
 ghost use Rattle.lab_io.specs.Held.{Held};
 ghost use Rattle.lab_io.specs.Known.{Rose};
@@ -11,17 +12,17 @@ ghost use Rattle.lab_state.specs.Names.{names};
 ghost use Rattle.lab_state.specs.Run.{run};
 ghost use Rattle.log_text.specs.Log.{rest};
 ghost use Rattle.monitor.specs.State.{started};
-ghost use Rattle.monitor.specs.Step.{TakesSome, line_in};
+ghost use Rattle.monitor.specs.Step.{Running, TakesSome, line_in};
 ghost use Rattle.lab_top.specs.Request.{request_of};
-ghost use Rattle.lab_top.specs.Transcript.{Rest, Transcript, transcript, run_of, rest_of, from};
+ghost use Rattle.lab_top.specs.Transcript.{Rest, Transcript, transcript, run_of, rest_of, from, loading};
 ghost use Rattle.lab_top.specs.Transcript.{Script, Usage, Done};
 ghost use Rattle.lab_top.specs.Headline.{IsWhole, WritesPart, WritesUsage, AsksPart, IsUncut, outside};
 ghost use Rattle.lab_top.specs.Headline.{Outside, IsUsageBy, IsNoUsage, OnRefused, final};
 ghost use Rattle.lab_top.specs.Inner.Course.{Course, IsEnd, IsTaken};
-ghost use Rattle.lab_top.specs.Inner.Stored.{IsStored, IsUnspent};
+ghost use Rattle.lab_top.specs.Inner.Stored.{IsStored, IsTried, IsUnspent, lent, store_of};
 
 use crate::script::{Opened, open};
-use crate::snapshots::{Halt, keep, take_back};
+use crate::snapshots::{Halt, SnapshotLine, fetch, keep, restore};
 use crate::status::Status;
 use crate::words::{Asked, ScriptRun, read_request};
 use dev_core::{Device, Stock};
@@ -337,23 +338,120 @@ fn take_command<
     ensures output { OnlyWrites K.Sink (result ≡ Err Status.Unwritten) out.old out.new }
     ensures store { OnlyStores S.Store (result ≡ Err Status.Unstored) store.old store.new }
 {
+    match try_command(rt, alloc, &mut monitor, files, out, store, gate) {
+        Ok(None) => Ok(monitor),
+        Ok(Some(line)) => take_back(alloc, monitor, store, line, out),
+        Err(status) => Err(status),
+    }
+}
+
+/// Takes one command of a script, and writes what it prints. A snapshot that it asks for is left to the caller, since
+/// it takes the place of the monitor's laboratory.
+fn try_command<
+    R: Threads + Wait + Copy + Send + Sync,
+    D: Device + Send,
+    F: Files,
+    K: Sink,
+    S: Store,
+    G: Gate,
+>(
+    rt: &R,
+    alloc: Global,
+    monitor: &mut Monitor<D>,
+    files: &mut F,
+    out: &mut K,
+    store: &mut S,
+    gate: &G,
+) -> Result<Option<SnapshotLine>, Status>
+    requires { monitor.old.ended ≡ false }
+    ensures course { ForSome (F.held files.old) (λ held. ForSome (S.kept store.old) (λ kept. (more : ℕ) →
+        IsTried (from (suc more) run held kept monitor.old.state) kept (from more run held)
+        (outside F.Files K.Sink S.Store files.old out.old store.old)
+        (outside F.Files K.Sink S.Store files.new out.new store.new) monitor.new result)) }
+    ensures next { IfOk result (λ line. (monitor.new.ended ≡ false)
+        × TakesSome monitor.old.state monitor.new.state) }
+    ensures usage { IfErr result IsNoUsage }
+    ensures files { OnlyReads F.Files (result ≡ Err Status.Unread) files.old files.new }
+    ensures output { OnlyWrites K.Sink (result ≡ Err Status.Unwritten) out.old out.new }
+    ensures store { OnlyStores S.Store (result ≡ Err Status.Unstored) store.old store.new }
+{
     match monitor.step(rt, files, gate) {
         Step::Text(text) => match write_whole(out, text.items()) {
-            Ok(()) => Ok(monitor),
+            Ok(()) => Ok(None),
             Err(fault) => Err(Status::from(fault)),
         },
-        Step::Save { name, file, line } => {
-            let stored = keep(alloc, monitor, store, name.as_str());
-            go_on(alloc, stored, file, line, out)
-        }
-        Step::Load { name, file, line } => {
-            let stored = take_back(alloc, monitor, store, name.as_str());
-            go_on(alloc, stored, file, line, out)
-        }
-        Step::End => Err(stop(&mut monitor, out)),
-        Step::Fault(fault) => Err(stop_at(alloc, &mut monitor, fault, out)),
+        Step::Save { name, file, line } => match keep(alloc, monitor, store, name.as_str()) {
+            Ok(()) => Ok(None),
+            Err(halt) => Err(stop_by(alloc, monitor, halt, file, line, out)),
+        },
+        Step::Load { name, file, line } => Ok(Some(SnapshotLine { name, file, line })),
+        Step::End => Err(stop(monitor, out)),
+        Step::Fault(fault) => Err(stop_at(alloc, monitor, fault, out)),
         Step::Unread => Err(Status::Unread),
         Step::Memory => Err(Status::Memory),
+    }
+}
+
+/// Takes the laboratory and its open lines back from the name that a line asks for, if nothing was made in the
+/// monitor's laboratory.
+fn take_back<D: Device, K: Sink, S: Store>(
+    alloc: Global,
+    mut monitor: Monitor<D>,
+    store: &mut S,
+    line: SnapshotLine,
+    out: &mut K,
+) -> Result<Monitor<D>, Status>
+    requires { monitor.ended ≡ false }
+    ensures course { ForSome (S.kept store.old) (λ kept.
+        (all : Transcript) (further : Rest) (old : Outside) (asked : Log) →
+        ((new : Outside) (stored : Result Running (Halt Running)) →
+        IsStored (loading further kept line.name (line_in line.file line.line) monitor.state) kept further
+        (line_in line.file line.line) (store_of S.Store (K.written out.old) asked store.old) new stored →
+        IsStored all kept further (line_in line.file line.line) old new stored) →
+        IsTaken all kept further old (store_of S.Store (K.written out.new) asked store.new) result) }
+    ensures next { IfOk result (λ next. (next.ended ≡ false) × (next.state.flow ≡ monitor.state.flow)) }
+    ensures usage { IfErr result IsNoUsage }
+    ensures never { result ≢ Err Status.Unread }
+    ensures output { OnlyWrites K.Sink (result ≡ Err Status.Unwritten) out.old out.new }
+    ensures store { OnlyStores S.Store (result ≡ Err Status.Unstored) store.old store.new }
+{
+    let SnapshotLine { name, file, line } = line;
+    let mut bytes = Vec::new(alloc);
+    match fetch(&monitor, store, name.as_str(), &mut bytes) {
+        Ok(()) => {
+            let stored = restore(alloc, monitor, &bytes);
+            go_on(alloc, stored, file, line, out)
+        }
+        Err(halt) => Err(stop_by(alloc, &mut monitor, halt, file, line, out)),
+    }
+}
+
+/// Ends the run after a command for the store, which stands in this line of this file.
+fn stop_by<D: Device, K: Sink>(
+    alloc: Global,
+    monitor: &mut Monitor<D>,
+    halt: Halt<()>,
+    file: Text,
+    line: u32,
+    out: &mut K,
+) -> Status
+    requires { monitor.old.spent ≡ false }
+    ensures course { (all : Transcript) (kept : Held) (further : Rest) (old mid : Outside) →
+        IsStored all kept further (line_in file line) old (record mid { written = K.written out.old })
+        (lent monitor.old (Err halt)) →
+        Course all kept result old (record mid { written = K.written out.new }) }
+    ensures usage { IsNoUsage result }
+    ensures never { result ≢ Status.Unread }
+    ensures unstored { result ≡ Status.Unstored → halt ≡ Halt.Unstored }
+    ensures output { OnlyWrites K.Sink (result ≡ Status.Unwritten) out.old out.new }
+{
+    match halt {
+        Halt::Refused(cause, ()) => {
+            let cause = Cause::Script(cause);
+            stop_at(alloc, monitor, ScriptFault { file, line, cause }, out)
+        }
+        Halt::Unstored => Status::Unstored,
+        Halt::Memory => Status::Memory,
     }
 }
 

@@ -1,5 +1,5 @@
 //! What a script asks of the store: its laboratory is kept under a name, or taken back from one.
-ghost use Rattle.std.specs.Prelude.{◌≡◌, ℕ, List, Option, false, IfOk};
+ghost use Rattle.std.specs.Prelude.{◌≡◌, ℕ, List, [], Option, false, IfOk, OnOk};
 ghost use Rattle.std.specs.Option.{ForSome};
 ghost use Rattle.lab_io.specs.Asked.{Log};
 ghost use Rattle.lab_io.specs.Frame.{OnlyStores};
@@ -8,11 +8,11 @@ ghost use Rattle.lab_snap.specs.Snapshot.{snapshot_of};
 ghost use Rattle.monitor.specs.State.{Place};
 ghost use Rattle.lab_top.specs.Transcript.{Rest, saving, loading};
 ghost use Rattle.lab_top.specs.Transcript as transcript;
-ghost use Rattle.lab_top.specs.Inner.Stored.{IsRestored, IsStored, IsUnspent, store_of};
+ghost use Rattle.lab_top.specs.Inner.Stored.{IsFetched, IsRestored, IsStored, IsUnspent, lent, store_of};
 
 use dev_core::Device;
 use lab_io::{ReadAnswer, Store, StoreAnswer};
-use lab_num::Micros;
+use lab_num::{Micros, Text};
 use lab_snap::{load, save};
 use lab_spell::SnapFault;
 use lab_state::Lab;
@@ -23,7 +23,8 @@ use std::alloc::Global;
 /// The most bytes of a snapshot.
 const MOST_BYTES: usize = 67_108_864;
 
-/// Why a run does not go on after a command for the store. `M` is the monitor.
+/// Why a run does not go on after a command for the store. `M` is what comes back where the line is refused:
+/// the monitor, or nothing where it was lent.
 #[derive(Drop)]
 pub enum Halt<M> {
     /// The line is refused for this cause. What is open of the log is still to be printed.
@@ -34,65 +35,70 @@ pub enum Halt<M> {
     Memory,
 }
 
-/// Keeps the laboratory and its open lines under the name, unless each run has length 0. The monitor comes
-/// back as it was.
+/// A line that asks for the snapshot of a name, its file and its number.
+#[derive(Drop)]
+pub struct SnapshotLine {
+    pub name: Text,
+    pub file: Text,
+    pub line: u32,
+}
+
+/// Keeps the laboratory and its open lines under the name, unless each run has length 0.
 pub fn keep<D: Device, S: Store>(
     alloc: Global,
-    monitor: Monitor<D>,
+    monitor: &Monitor<D>,
     store: &mut S,
     name: &str,
-) -> Result<Monitor<D>, Halt<Monitor<D>>>
-    requires goes_on { monitor.ended ≡ false }
+) -> Result<(), Halt<()>>
+    requires goes_on { monitor.now.ended ≡ false }
     ensures stored { ForSome (S.kept store.old) (λ kept.
         (further : Rest) (place : Place) (written : Option (List ℕ)) (asked : Log) →
-        IsStored (saving further kept name.now place monitor.state
-        (spelling monitor.state.lab monitor.state.lines)) kept further place
-        (store_of S.Store written asked store.old) (store_of S.Store written asked store.new) result) }
-    ensures next { IfOk result (λ next. (next.ended ≡ false) × (next.state.flow ≡ monitor.state.flow)) }
-    ensures unspent { IsUnspent result }
+        IsStored (saving further kept name.now place monitor.now.state
+        (spelling monitor.now.state.lab monitor.now.state.lines)) kept further place
+        (store_of S.Store written asked store.old) (store_of S.Store written asked store.new)
+        (lent monitor.now result)) }
     ensures store { OnlyStores S.Store (result ≡ Err Halt.Unstored) store.old store.new }
 {
     let Ok(bytes) = save(alloc, monitor.lab(), monitor.lines()) else {
         return Err(Halt::Memory);
     };
     if bytes.len() > MOST_BYTES {
-        return Err(Halt::Refused(ScriptCause::Size, monitor));
+        return Err(Halt::Refused(ScriptCause::Size, ()));
     }
     if monitor.is_dry() {
-        return Ok(monitor);
+        return Ok(());
     }
     match store.put(name, &bytes) {
-        StoreAnswer::Done => Ok(monitor),
+        StoreAnswer::Done => Ok(()),
         StoreAnswer::Failed => Err(Halt::Unstored),
         StoreAnswer::Memory => Err(Halt::Memory),
     }
 }
 
-/// Takes the laboratory and its open lines back from the name, if nothing was made in the monitor's
-/// laboratory.
-pub fn take_back<D: Device, S: Store>(
-    alloc: Global,
-    monitor: Monitor<D>,
+/// Reads what the name keeps, if nothing was made in the monitor's laboratory.
+pub fn fetch<D: Device, S: Store>(
+    monitor: &Monitor<D>,
     store: &mut S,
     name: &str,
-) -> Result<Monitor<D>, Halt<Monitor<D>>>
-    requires goes_on { monitor.ended ≡ false }
-    ensures stored { ForSome (S.kept store.old) (λ kept.
+    into: &mut Vec<u8>,
+) -> Result<(), Halt<()>>
+    requires goes_on { monitor.now.ended ≡ false }
+    requires empty { into.old.items ≡ [] }
+    ensures fetched { ForSome (S.kept store.old) (λ kept.
         (further : Rest) (place : Place) (written : Option (List ℕ)) (asked : Log) →
-        IsStored (loading further kept name.now place monitor.state) kept further place
-        (store_of S.Store written asked store.old) (store_of S.Store written asked store.new) result) }
-    ensures next { IfOk result (λ next. (next.ended ≡ false) × (next.state.flow ≡ monitor.state.flow)) }
-    ensures unspent { IsUnspent result }
+        IsFetched (loading further kept name.now place monitor.now.state) kept further place
+        (store_of S.Store written asked store.old) (store_of S.Store written asked store.new)
+        monitor.now into.new.items result) }
+    ensures free { OnOk result (transcript.is_occupied monitor.now.state.lab ≡ false) }
     ensures store { OnlyStores S.Store (result ≡ Err Halt.Unstored) store.old store.new }
 {
     if is_occupied(monitor.lab()) {
-        return Err(Halt::Refused(ScriptCause::Occupied, monitor));
+        return Err(Halt::Refused(ScriptCause::Occupied, ()));
     }
-    let mut bytes = Vec::new(alloc);
-    match store.get(name, MOST_BYTES, &mut bytes) {
-        ReadAnswer::Done => restore(alloc, monitor, &bytes),
+    match store.get(name, MOST_BYTES, into) {
+        ReadAnswer::Done => Ok(()),
         ReadAnswer::Failed => Err(Halt::Unstored),
-        ReadAnswer::TooLarge => Err(Halt::Refused(ScriptCause::Size, monitor)),
+        ReadAnswer::TooLarge => Err(Halt::Refused(ScriptCause::Size, ())),
         ReadAnswer::Memory => Err(Halt::Memory),
     }
 }
@@ -106,7 +112,7 @@ fn is_occupied<D: Device>(lab: &Lab<D>) -> bool
 }
 
 /// Puts what the bytes hold in place of a laboratory in which nothing was made.
-fn restore<D: Device>(
+pub fn restore<D: Device>(
     alloc: Global,
     monitor: Monitor<D>,
     bytes: &[u8],

@@ -6,13 +6,16 @@ use Rattle.lab_io.specs.declared.store.Store.{Ghosts as StoreGhosts}
 use Rattle.lab_state.specs.Lab.{Lab}
 use Rattle.log_text.specs.declared.line.OpenLine.{OpenLine}
 use Rattle.monitor.specs.State.{State, Place, bodies_of, joined}
-use Rattle.monitor.specs.Step.{Running, going}
+use Rattle.monitor.specs.Step.{Running, going, line_in}
 use Rattle.resc_vars.specs.declared.cause.ScriptCause.TheVariants.{Snapshot}
 use Rattle.lab_top.specs.declared.snapshots.Halt.{Halt}
 use Rattle.lab_top.specs.declared.snapshots.Halt.TheVariants.{Refused, Unstored, Memory}
 use Rattle.lab_top.specs.declared.status.Status.TheVariants as end_by
 use Rattle.lab_top.specs.Headline.{Outside}
-use Rattle.lab_top.specs.Transcript.{Rest, Transcript, refused}
+use Rattle.lab_snap.specs.Snapshot.{snapshot_of}
+use Rattle.lab_top.specs.declared.snapshots.SnapshotLine.{SnapshotLine}
+use Rattle.lab_top.specs.declared.status.Status.{Status}
+use Rattle.lab_top.specs.Transcript.{Rest, Transcript, loading, refused}
 use Rattle.lab_top.specs.Inner.Course.{Course, GoesOn}
 
 -- what is told of the outside of a run that has written this and asked for these names, by its store
@@ -38,6 +41,37 @@ IsRestored s snapshot (Err (Refused cause monitor)) =
     (cause ≡ Snapshot) × (snapshot ≡ None) × (monitor ≡ going (joined (bodies_of s) s.lab s.lines))
 IsRestored s snapshot (Err Unstored) = ⊥
 IsRestored s snapshot (Err Memory) = Unit {0}
+
+-- what comes of a command for the store that was lent the monitor
+abbrev pub lent : Running → Result (Unit {0}) (Halt (Unit {0})) → Result Running (Halt Running)
+lent monitor (Ok none) = Ok monitor
+lent monitor (Err (Refused cause none)) = Err (Refused cause monitor)
+lent monitor (Err Unstored) = Err Unstored
+lent monitor (Err Memory) = Err Memory
+
+-- What the name keeps was read, and what a monitor makes of it is what is left of the run then; or the line is refused,
+-- or it was cut short.
+abbrev pub IsFetched :
+    Transcript → Held → Rest → Place → Outside → Outside → Running → List ℕ →
+    Result (Unit {0}) (Halt (Unit {0})) → Type 0
+IsFetched all kept further place old mid monitor bytes (Ok none) =
+    (restored : Result Running (Halt Running)) → IsRestored monitor.state (snapshot_of bytes) restored →
+    IsStored all kept further place old mid restored
+IsFetched all kept further place old mid monitor bytes (Err halt) =
+    IsStored all kept further place old mid (lent monitor (Err halt))
+
+-- A command was taken but for a snapshot that it asks for: the run goes on with what is left of it, has ended, or is to
+-- take the snapshot back.
+abbrev pub IsTried :
+    Transcript → Held → Rest → Outside → Outside → Running → Result (Option SnapshotLine) Status → Type 0
+IsTried all kept further old mid monitor (Ok None) = GoesOn all kept old mid (λ now. further now monitor.state)
+IsTried all kept further old mid monitor (Ok (Some line)) =
+    (mid.kept ≡ Some kept)
+    × ((new : Outside) (stored : Result Running (Halt Running)) →
+    IsStored (loading further kept line.name (line_in line.file line.line) monitor.state) kept further
+    (line_in line.file line.line) mid new stored →
+    IsStored all kept further (line_in line.file line.line) old new stored)
+IsTried all kept further old mid monitor (Err status) = Course all kept status old mid
 
 -- a refused monitor can print what is open of its log
 abbrev pub IsUnspent : Result Running (Halt Running) → Type 0
