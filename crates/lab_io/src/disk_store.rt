@@ -17,22 +17,38 @@ use std::{fs, io, rt};
 /// How many names of side files are tried. A run that is cut off in a put leaves one.
 const SIDE_FILES: u16 = 1000;
 
-/// The path of the plain file that a name stands for: the name itself, or where its symbolic link leads. A file that is
-/// there may be written. Anything else, as a folder, a FIFO or a device, is an error.
+/// How many symbolic links are followed, as many as Linux follows.
+const LINKS: u8 = 40;
+
+/// Where the symbolic links lead that a name of a file stands for. Not `canonicalize`, which needs rights to each folder
+/// above.
+fn follow<R: rt::Files>(rt: &R, alloc: Global, name: &str) -> io::Result<PathBuf> {
+    let mut path = PathBuf::from_str(alloc, name)?;
+    for _ in 0..LINKS {
+        if !fs::symlink_metadata(rt, path.as_str())?.is_symlink() {
+            return Ok(path);
+        }
+        let target = rt.read_link(alloc, path.as_str())?;
+        path.set_file_name(target.as_str())?;
+    }
+    Err(Error::from(ErrorKind::InvalidInput))
+}
+
+/// The path of the plain file that a name stands for: the name itself, or where its link leads. A file that is there may
+/// be written. Anything else, as a folder, a FIFO, a device, or a link that leads nowhere, is an error.
 fn path_of<R: rt::Files>(rt: &R, alloc: Global, name: &str) -> io::Result<PathBuf> {
-    let path = match fs::symlink_metadata(rt, name) {
-        Ok(found) if found.is_symlink() => rt.canonicalize(alloc, name)?,
-        Ok(_) => PathBuf::from_str(alloc, name)?,
+    match fs::symlink_metadata(rt, name) {
+        Ok(_) => {}
         Err(error) if error.kind() == ErrorKind::NotFound => {
             return Ok(PathBuf::from_str(alloc, name)?);
         }
         Err(error) => return Err(error),
-    };
-    if !fs::metadata(rt, path.as_str())?.is_file() {
+    }
+    if !fs::metadata(rt, name)?.is_file() {
         return Err(Error::from(ErrorKind::InvalidInput));
     }
-    let _file = OpenOptions::new().write(true).open(rt, path.as_str())?;
-    Ok(path)
+    let _file = OpenOptions::new().write(true).open(rt, name)?;
+    follow(rt, alloc, name)
 }
 
 /// Makes a file beside that of a path, under the first name `.lab-0`, `.lab-1` and so on that stands for nothing yet.
