@@ -24,8 +24,8 @@ use Rattle.floor_core.specs.Floor.{Board, Floor, begun, posted_by}
 use Rattle.floor_core.specs.Job.{Job, left, made, aside, after}
 use Rattle.floor_core.specs.Sound.{IsSound, Sound}
 use Rattle.floor_run.specs.declared.view.View.{View}
-use Rattle.floor_run.specs.Rule.{Place, home, out, done, word_of, Cell, Table, Holds, InPlace, Rule}
-use Rattle.floor_run.specs.Shown.{Shows, ShowsBoard, word, turn_slots, home_word, opened}
+use Rattle.floor_run.specs.Rule.{Place, home, out, done, word_of, home_word, Cell, Table, Holds, InPlace, Rule}
+use Rattle.floor_run.specs.Shown.{Shows, ShowsBoard, word, turn_slots, opened}
 use Rattle.floor_run.specs.Shown.{after_won, after_missed, after_report, after_split, after_join}
 use Rattle.floor_run.specs.Turns.{slots_left, paid, AfterTurns, IsTurned}
 use Rattle.floor_run.specs.View.{spent, after_claim, empty_handed}
@@ -358,7 +358,7 @@ module _ {J S : Type 0} (meaning : J → Job S) (sent : J → List post.Post)
             get_elem? starts v.board ≡ some start → get_elem? s.views seat ≡ some v → v.held ≡ Some claim →
             IsTurned meaning sent state_after claim job → get_elem? f.boards v.board ≡ some b → b.job.unsent ≡ [] →
             IsLegal f (Report seat (record { 0 = v.board })) ×
-            Floors starts (after_report s seat v v.board (home_word meaning (v.found / 4 + 1) job) job)
+            Floors starts (after_report s seat v v.board (home_word L (v.found / 4 + 1) job) job)
             (happened state_after f (Report seat (record { 0 = v.board })))
         reported more stays_sound seat v start claim job b has at held turned found none_left =
             let i : ℕ = v.board in
@@ -374,7 +374,7 @@ module _ {J S : Type 0} (meaning : J → Job S) (sent : J → List post.Post)
                   let theirs = (r.each_view p.worker.0 h.0 h.2).claimed h.1 h.3 in
                   let same : p.worker.0 ≡ seat =
                   ap seat_of (sym theirs.0 ∙ (ap r.cells h.4 ∙ mine.0)) in
-                  let new : ℕ = home_word meaning (q + 1) job in
+                  let new : ℕ = home_word L (q + 1) job in
                   let s' : Table J = after_report s seat v i new job in
                   let says = home_word_says (q + 1) (L job == 0) in
                   let new_word : word s' i ≡ new = get_or-set_same s.words (i + 1) new 0 (roomy i start has) in
@@ -639,8 +639,8 @@ module _ {J S : Type 0} (meaning : J → Job S) (sent : J → List post.Post)
         let here : get_elem? (map floor.fresh (map meaning starts)) i ≡ some (floor.fresh (meaning start)) =
         at_map floor.fresh (map meaning starts) i (meaning start) (at_map meaning starts i start e) in
         let s : Table J = opened meaning starts in
-        let word_is : word s i ≡ home_word meaning 0 start =
-        rw add-one (got_mapped (home_word meaning 0) starts i start e) in
+        let word_is : word s i ≡ home_word L 0 start =
+        rw add-one (got_mapped (home_word L 0) starts i start e) in
         let says = home_word_says 0 (L start == 0) in
         let none_paid : 0 ≡ paid meaning start (word s i / 4) =
         let zero_is : word s i / 4 ≡ 0 = ap (λ (k : ℕ). k / 4) word_is ∙ says.0 in omega arith in

@@ -1,6 +1,5 @@
 -- The floor of floor_core that words, slots and views show, and what the steps of the bench do to them.
-use Rattle.std.specs.Prelude.{◌≡◌, ℕ, ◌+◌, ◌/◌, ◌%◌, ◌==◌, ◌⊎◌, false, List, [], ◌∷◌, ◌++◌, length, min, map}
-use Rattle.std.specs.Prelude.{if◌then◌else◌}
+use Rattle.std.specs.Prelude.{◌≡◌, ℕ, ◌+◌, ◌/◌, ◌%◌, ◌⊎◌, false, List, [], ◌∷◌, ◌++◌, min, map}
 use Rattle.std.specs.Prelude.{Option, Some, None, slice_index_or, slice_set}
 use mathlib.Core.Option.{some}
 use lib.ListN.{get_elem?}
@@ -11,7 +10,7 @@ use Rattle.floor_core.specs.Floor.{Board, Floor, posted_by}
 use Rattle.floor_core.specs.Job.{Job}
 use Rattle.floor_core.specs.Sound.{Sound}
 use Rattle.floor_run.specs.declared.view.View.{View}
-use Rattle.floor_run.specs.Rule.{Table, Holds, home, done, word_of}
+use Rattle.floor_run.specs.Rule.{Table, Holds, home_word}
 use Rattle.floor_run.specs.Turns.{slots_left, paid}
 use Rattle.floor_run.specs.View.{fresh, spent, after_claim, empty_handed}
 
@@ -45,13 +44,9 @@ module _ {J S : Type 0} (meaning : J → Job S) where
   abbrev pub turn_slots : J → ℕ
   turn_slots job = min 4096 (slots_left meaning job)
 
-  -- the word of a board at home that was reported so often and has this job
-  abbrev pub home_word : ℕ → J → ℕ
-  home_word r job = word_of r (if slots_left meaning job == 0 then done else home)
-
   -- words, slots and views as the bench is opened
   abbrev pub opened : List J → Table J
-  opened starts = opening (0 ∷ map (home_word 0) starts) (map Some starts) (fresh starts)
+  opened starts = opening (0 ∷ map (home_word (slots_left meaning) 0) starts) (map Some starts) (fresh starts)
 
   -- out: the word says how many slots are used with this turn, and the worker is the seat that holds the board
   pub record ShowsOut (s : Table J) (start : J) (i : ℕ) (b : Board S) : Type 0 where
@@ -60,8 +55,8 @@ module _ {J S : Type 0} (meaning : J → Job S) where
     pub worker : (seat : ℕ) × (b.worker ≡ Some seat) × Holds s.views i seat
 
   module _ (sent : J → List Post) where
-    -- At home: the word says how many slots are used, and the job lies in the slot. What that has sent is what its start
-    -- had sent, and then what the floor has posted for it.
+    -- At home: the word says how many slots are used, and the job lies in the slot. What that has sent is what its
+    -- start had sent, and then what the floor has posted for it.
     pub record ShowsHome (s : Table J) (start : J) (i : ℕ) (b : Board S) (posted : List Post) : Type 0 where
       pub word_is : (word s i % 4 ≡ 0) ⊎ (word s i % 4 ≡ 3)
       pub worker : b.worker ≡ None

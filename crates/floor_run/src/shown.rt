@@ -7,8 +7,8 @@ ghost use Rattle.floor_core.specs.declared.event.Event.TheVariants.{Claim, Post,
 ghost use Rattle.floor_core.specs.Events.{IsLegal, happened};
 ghost use Rattle.floor_core.specs.Floor.{Board, Floor, begun};
 ghost use Rattle.floor_run.specs.declared.view.View.{View};
-ghost use Rattle.floor_run.specs.Rule.{Rule, Table};
-ghost use Rattle.floor_run.specs.Shown.{Shows, word, turn_slots, home_word, opened};
+ghost use Rattle.floor_run.specs.Rule.{Rule, Table, home_word};
+ghost use Rattle.floor_run.specs.Shown.{Shows, word, turn_slots, opened};
 ghost use Rattle.floor_run.specs.Shown.{after_won, after_missed, after_report, after_split, after_join};
 ghost use Rattle.floor_run.specs.Turns.{slots_left, AfterTurns, IsTurned};
 
@@ -52,7 +52,7 @@ pub fn bench_shows_a_floor<J: Job>()
         get_elem? f.boards v.board ≡ some b → b.job.unsent ≡ [] →
         IsLegal f (Report seat (record { 0 = v.board })) ×
         Shows J.meaning J.sent J.state_after starts
-        (after_report s seat v v.board (home_word J.meaning (v.found / 4 + 1) job) job)
+        (after_report s seat v v.board (home_word (slots_left J.meaning) (v.found / 4 + 1) job) job)
         (happened J.state_after f (Report seat (record { 0 = v.board }))) }
     ensures split { (starts : List J) (s : Table J) (f : Floor J.State) (v : View J) →
         Shows J.meaning J.sent J.state_after starts s f →
