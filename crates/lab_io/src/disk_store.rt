@@ -20,8 +20,7 @@ const SIDE_FILES: u16 = 1000;
 /// How many symbolic links are followed, as many as Linux follows.
 const LINKS: u8 = 40;
 
-/// Where the symbolic links lead that a name of a file stands for. Not `canonicalize`, which needs rights to each folder
-/// above.
+/// Where the symbolic links of a file's name lead. `canonicalize` would need rights to each folder above.
 fn follow<R: rt::Files>(rt: &R, alloc: Global, name: &str) -> io::Result<PathBuf> {
     let mut path = PathBuf::from_str(alloc, name)?;
     for _ in 0..LINKS {
@@ -34,8 +33,8 @@ fn follow<R: rt::Files>(rt: &R, alloc: Global, name: &str) -> io::Result<PathBuf
     Err(Error::from(ErrorKind::InvalidInput))
 }
 
-/// The path of the plain file that a name stands for: the name itself, or where its link leads. A file that is there may
-/// be written. Anything else, as a folder, a FIFO, a device, or a link that leads nowhere, is an error.
+/// The path of the plain file that a name stands for: the name itself, or where its link leads. A file that is there
+/// may be written. Anything else, as a folder, a FIFO, a device, or a link that leads nowhere, is an error.
 fn path_of<R: rt::Files>(rt: &R, alloc: Global, name: &str) -> io::Result<PathBuf> {
     match fs::symlink_metadata(rt, name) {
         Ok(_) => {}
