@@ -1,17 +1,18 @@
 //! Laws of rounds and runs. Each is the contract of a function, which but for the last does nothing
 //! when it runs.
-ghost use Rattle.std.specs.Prelude.{◌≡◌, ℕ, ◌+◌, ◌%◌, ◌<◌, ◌≤◌, ◌⊎◌, false, List, [], map, filter, sum, All};
-ghost use Rattle.std.specs.Prelude.{None, IsSome, IfOk, OnOk};
+ghost use Rattle.std.specs.Prelude.{◌≡◌, ℕ, ◌+◌, ◌%◌, ◌<◌, ◌≤◌, ◌⊎◌, false, List, [], ◌++◌};
+ghost use Rattle.std.specs.Prelude.{map, filter, sum, All, None, IsSome, IfOk, OnOk};
 ghost use Rattle.std.specs.List.Sorted.{IsPermutation, IsStrictlySortedBy};
 ghost use Rattle.dev_core.specs.declared.post.Post.{Post};
 ghost use Rattle.lab_num.specs.Key.{key_cmp, KeysDiffer};
 ghost use Rattle.dev_core.specs.Post.{post_key};
 ghost use Rattle.lab_state.specs.Board.{Board};
 ghost use Rattle.lab_state.specs.Boundary.{boundary};
-ghost use Rattle.lab_state.specs.Handed.{handed_in, handed_over, is_of_hub};
+ghost use Rattle.lab_state.specs.Handed.{sent_in, handed_in, handed_over, is_of_hub};
+ghost use Rattle.lab_state.specs.Handed.{slots_in, after_handing, pause_in};
 ghost use Rattle.lab_state.specs.Hub.{Hub};
 ghost use Rattle.lab_state.specs.Lab.{Lab as Laboratory};
-ghost use Rattle.lab_state.specs.Pending.{due_at};
+ghost use Rattle.lab_state.specs.Pending.{due_at, is_of_a_hub};
 ghost use Rattle.lab_state.specs.Round.{round};
 ghost use Rattle.lab_state.specs.Run.{Play, run, run_by, followed_by, lengths, still, EndsIn};
 ghost use Rattle.lab_state.specs.Turns.{Cut, IsWhole, run_in_turns};
@@ -151,6 +152,19 @@ pub fn posts_are_handed_over_once<D: Device>(lab: &Lab<D>)
     stretches_keep_time();
     listing_laws::<BoardPost>();
 }
+
+/// What was pending and what is sent in a round for other devices is handed over at its end or is pending
+/// after it: all of it, each post once. The boards are handed that, and nothing else, after they have
+/// taken their slots, and the log notes what came of that.
+pub fn rounds_lose_nothing()
+    ensures all { (lab : Laboratory) (q : ℕ) → IsPermutation
+        (lab.pending ++ filter (is_of_a_hub lab.hubs) (sent_in lab q))
+        (handed_in lab q ++ (round lab q).lab.pending) }
+    ensures boards { (lab : Laboratory) (q : ℕ) →
+        (round lab q).lab.boards ≡ (after_handing lab q).boards }
+    ensures items { (lab : Laboratory) (q : ℕ) → (round lab q).items
+        ≡ slots_in lab q ++ (after_handing lab q).notes ++ pause_in lab q }
+{}
 
 /// Two laboratories that are alike run for the same time, each by its own number of workers. If
 /// memory does not run out they are alike after it, and so is what the log says: whatever the
