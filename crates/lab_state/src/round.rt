@@ -305,9 +305,9 @@ fn play<R: Threads + Wait + Copy + Send + Sync, D: Device + Send, G: Gate>(
 }
 
 impl<D: Device + Send> Lab<D> {
-    /// Runs one round of `q` microseconds. One worker takes board after board; several take turns of
-    /// the boards, on threads, and enter the gate before each. `LabFault::Memory` spends the
-    /// laboratory.
+    /// Runs one round of `q` microseconds. Where two boards or more are awake, several workers take
+    /// turns of the boards, on threads, and enter the gate before each; else board after board takes
+    /// its slots, and nobody enters the gate. `LabFault::Memory` spends the laboratory.
     pub fn round<R: Threads + Wait + Copy + Send + Sync, G: Gate>(
         &mut self,
         rt: &R,

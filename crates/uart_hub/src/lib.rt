@@ -1,4 +1,4 @@
-//! The hubs that connect the UARTs of the boards.
+//! The hubs that connect devices of the boards, UARTs or CAN controllers: who hears whom, and how late.
 #![tactic(auto)]
 
 mod hub;
