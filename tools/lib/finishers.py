@@ -1,0 +1,34 @@
+"""Whether a board of a script has a finisher, by the platform files and the snapshots that the script reads.
+
+    python3 tools/lib/finishers.py SCRIPT
+
+ends with 0 where one has, and else with 1. Paths are taken from the folder in which it is started.
+"""
+import pathlib
+import re
+import sys
+
+import reads
+import snapshot
+
+FINISHER = re.compile(rb"^\s*\w+\s*:\s*Miscellaneous\.SiFiveTest\b", re.MULTILINE)
+
+
+def has_finisher(script: str, folder: pathlib.Path) -> bool:
+    """Whether a board of a script, which runs in a folder, has a finisher."""
+    files = [it for it in reads.files_read(script, folder) if it.kind in ("platform", "snapshot") and it.is_there]
+    return any(makes_finisher((folder / it.path).read_bytes()) for it in files)
+
+
+def makes_finisher(data: bytes) -> bool:
+    """Whether a platform file or a snapshot makes a board with a finisher."""
+    try:
+        held, _ = snapshot.read(data)
+    except snapshot.NoSnapshot:
+        return FINISHER.search(data) is not None
+    machines = [fields[""] for how, fields in (board["machine"] for board in held["boards"]) if how == "there"]
+    return any(kind == "finisher" for machine in machines for kind, _ in machine["plan"]["kinds"])
+
+
+if __name__ == "__main__":
+    sys.exit(0 if has_finisher(sys.argv[1], pathlib.Path.cwd()) else 1)
