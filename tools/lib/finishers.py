@@ -9,24 +9,27 @@ import re
 import sys
 
 import reads
-import snapshot
 
 FINISHER = re.compile(rb"^\s*\w+\s*:\s*Miscellaneous\.SiFiveTest\b", re.MULTILINE)
 
 
 def has_finisher(script: str, folder: pathlib.Path) -> bool:
     """Whether a board of a script, which runs in a folder, has a finisher."""
-    files = [it for it in reads.files_read(script, folder) if it.kind in ("platform", "snapshot") and it.is_there]
-    return any(makes_finisher((folder / it.path).read_bytes()) for it in files)
+    files = [it for it in reads.files_read(script, folder) if it.is_there]
+    return any(makes_finisher(it.kind, (folder / it.path).read_bytes()) for it in files)
 
 
-def makes_finisher(data: bytes) -> bool:
-    """Whether a platform file or a snapshot makes a board with a finisher."""
-    try:
-        held, _ = snapshot.read(data)
-    except snapshot.NoSnapshot:
+def makes_finisher(kind: str, data: bytes) -> bool:
+    """Whether a file of this kind makes a board with a finisher."""
+    if kind == "platform":
         return FINISHER.search(data) is not None
-    machines = [fields[""] for how, fields in (board["machine"] for board in held["boards"]) if how == "there"]
+    return kind == "snapshot" and is_with_finisher(data)
+
+
+def is_with_finisher(snapshot: bytes) -> bool:
+    """Whether a board of a snapshot has a finisher."""
+    boards = [board["machine"] for board in reads.snapshot_of(snapshot)["boards"]]
+    machines = [fields[""] for how, fields in boards if how == "there"]
     return any(kind == "finisher" for machine in machines for kind, _ in machine["plan"]["kinds"])
 
 
