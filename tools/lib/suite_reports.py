@@ -103,7 +103,8 @@ def diagnostics(outcome: Outcome) -> List[str]:
     finding = outcome.finding
     lines = ["---", f"duration_ms: {1000 * outcome.seconds:.0f}"]
     if not outcome.is_passed:
-        lines += [f"severity: {'error' if outcome.is_error else 'fail'}", f"message: {json.dumps(plain(finding.cause), ensure_ascii=False)}"]
+        lines.append(f"severity: {'error' if outcome.is_error else 'fail'}")
+        lines.append(f"message: {json.dumps(plain(finding.cause), ensure_ascii=False)}")
         lines += [*block("difference", finding.difference), *block("last_lines", outcome.last_lines)]
     return [*lines, "..."]
 
