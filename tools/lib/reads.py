@@ -224,7 +224,7 @@ class Walk:
             raise Ended
         if self.is_large(path):
             raise self.refuse("S19 size", f"{path}:0")
-        self.body(path, numbered(self.text(path, ())), ())
+        self.body(path, resc.numbered(self.text(path, ())), ())
 
     def take(self, file: str, item: resc.Item) -> None:
         self.here = Step(f"{file}:{item.line.number}", item.line.text.strip(" \t"))
@@ -397,7 +397,7 @@ class Walk:
             raise Ended
         if self.is_large(read.path):
             raise self.refuse("S19 size")
-        self.inner(read.path, numbered(self.text(read.path, chain)), chain)
+        self.inner(read.path, resc.numbered(self.text(read.path, chain)), chain)
 
     def run_macro(self, _: str, values: List) -> None:
         macro = self.macros.get(values[0])
@@ -464,10 +464,6 @@ DOES: Dict[str, Callable[[Walk, str, List], None]] = {
     "emulation CreateCANHub": Walk.hub,
     "connector Connect": Walk.on_board,
 }
-
-
-def numbered(text: str) -> List[Line]:
-    return [Line(number, line) for number, line in enumerate(resc.lines_of(text), 1)]
 
 
 def follow(script: Union[str, pathlib.Path], folder: pathlib.Path) -> Reading:

@@ -10,6 +10,7 @@ UNKNOWN = "S1 unknown command"
 ARGUMENTS = "S2 arguments"
 TIME = "S10 time"
 
+WORD = re.compile(r'(?:[^ \t"]+|"[^"]*(?:"|\Z))+')
 VARIABLE = re.compile(r"\$([A-Za-z_][A-Za-z0-9_]*)")
 MACRO_NAME = re.compile(r"[A-Za-z_][A-Za-z0-9_]*")
 NAME = re.compile(r"[A-Za-z0-9_-]+")
@@ -31,15 +32,8 @@ def lines_of(text: str) -> List[str]:
 
 def words_of(line: str) -> List[str]:
     """What stands between blanks outside quotes. A quote that is not closed reaches to the line's end."""
-    words = [""]
-    quoted = False
-    for sign in line:
-        if sign in " \t" and not quoted:
-            words.append("")
-        else:
-            quoted ^= sign == '"'
-            words[-1] += sign
-    return [word for word in words if word]
+    words: List[str] = WORD.findall(line)
+    return words
 
 
 def variable_of(word: str) -> Optional[str]:
@@ -110,7 +104,12 @@ Item = Union[Assign, Define, Unclosed, Command]
 
 def is_passed(text: str) -> bool:
     """Whether a line is blank or a comment."""
-    return text.strip(" \t")[:1] in ("", ":", "#")
+    return text.lstrip(" \t")[:1] in ("", ":", "#")
+
+
+def numbered(text: str) -> List[Line]:
+    """The lines of a text that are not passed over, with their numbers."""
+    return [Line(number, line) for number, line in enumerate(lines_of(text), 1) if not is_passed(line)]
 
 
 def before_fence(text: str) -> Optional[str]:
@@ -125,7 +124,7 @@ def is_fence(text: str) -> bool:
 
 
 def left_of(text: str) -> Optional[Tuple[str, bool, str]]:
-    """What stands before the first `=` or its `?=`; whether it is `?=`; and what follows."""
+    """The sides of an assignment: what stands before the first `=` or its `?=`; whether it is `?=`; and what follows."""
     front, sign, right = text.partition("=")
     if not sign:
         return None
@@ -157,7 +156,7 @@ def macro_at(lines: Sequence[Line], at: int) -> Tuple[Item, int]:
         return Command(line, is_malformed=True), at + 1
     start = at + 1
     if front is None:
-        if start >= len(lines) or not is_fence(lines[start].text):
+        if start == len(lines) or lines[start].number > line.number + 1 or not is_fence(lines[start].text):
             return Command(line, is_malformed=True), at + 1
         start += 1
     end = next((n for n in range(start, len(lines)) if is_fence(lines[n].text)), None)
@@ -172,14 +171,12 @@ def items_of(lines: Sequence[Line]) -> List[Item]:
     at = 0
     while at < len(lines):
         line = lines[at]
-        if is_passed(line.text):
-            at += 1
-        elif words_of(line.text)[0] == "macro":
-            item, at = macro_at(lines, at)
-            items.append(item)
+        at += 1
+        if line.text.lstrip(" \t").startswith("macro") and words_of(line.text)[0] == "macro":
+            item, at = macro_at(lines, at - 1)
         else:
-            items.append(assignment_at(line))
-            at += 1
+            item = assignment_at(line)
+        items.append(item)
     return items
 
 
@@ -282,9 +279,6 @@ class Row:
     def name(self) -> str:
         return " ".join(self.opening)
 
-    def begins(self, words: Sequence[str]) -> bool:
-        return len(words) >= len(self.opening) and all(own in ("*", word) for own, word in zip(self.opening, words))
-
 
 ROWS = (
     Row(("*", "PC"), 0, (a_number,)),
@@ -316,6 +310,16 @@ ROWS = (
 )
 
 
+BY_OPENING = {row.opening: row for row in ROWS}
+
+
+def row_of(words: Sequence[str]) -> Optional[Row]:
+    """The row that a command begins: those of processors come first, and those of one word before those of two."""
+    second = words[1] if len(words) > 1 else ""
+    openings = (("*", second), (words[0],), (words[0], second))
+    return next((BY_OPENING[opening] for opening in openings if opening in BY_OPENING), None)
+
+
 def sets_variable(words: Sequence[str]) -> bool:
     """Whether a line with these words sets a variable: `$name`, then `=` or `?=`, with or without blanks between."""
     first = left_of(words[0])
@@ -329,7 +333,7 @@ def command_of(words: Sequence[str]) -> Tuple[Row, List[object]]:
     """The row of a command, whose variables are replaced, and what its words after the opening say."""
     if words[0] == "macro" or sets_variable(words):
         raise Refused(ARGUMENTS)
-    row = next((row for row in ROWS if row.begins(words)), None)
+    row = row_of(words)
     if row is None:
         raise Refused(UNKNOWN)
     if row.opening[0] == "*":
