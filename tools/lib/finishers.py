@@ -6,31 +6,34 @@ ends with 0 where one has, and else with 1. Paths are taken from the folder in w
 """
 import pathlib
 import re
+import subprocess
 import sys
 
 import reads
 
-FINISHER = re.compile(rb"^\s*\w+\s*:\s*Miscellaneous\.SiFiveTest\b", re.MULTILINE)
+SNAPSHOT = pathlib.Path(__file__).resolve().parent.parent / "snapshot"
+
+# The line of a platform file that makes a finisher, and that of tools/snapshot which tells of one.
+MADE = re.compile(r"^\s*\w+\s*:\s*Miscellaneous\.SiFiveTest\b", re.MULTILINE)
+HELD = re.compile(r"\.plan\.kinds\[\d+\] finisher$", re.MULTILINE)
 
 
 def has_finisher(script: str, folder: pathlib.Path) -> bool:
     """Whether a board of a script, which runs in a folder, has a finisher."""
-    files = [it for it in reads.files_read(script, folder) if it.is_there]
-    return any(makes_finisher(it.kind, (folder / it.path).read_bytes()) for it in files)
+    return any(makes_finisher(it.kind, folder / it.path) for it in reads.files_read(script, folder) if it.is_there)
 
 
-def makes_finisher(kind: str, data: bytes) -> bool:
+def makes_finisher(kind: str, file: pathlib.Path) -> bool:
     """Whether a file of this kind makes a board with a finisher."""
     if kind == "platform":
-        return FINISHER.search(data) is not None
-    return kind == "snapshot" and is_with_finisher(data)
+        return MADE.search(file.read_text(encoding="utf-8", errors="replace")) is not None
+    return kind == "snapshot" and HELD.search(held_in(file)) is not None
 
 
-def is_with_finisher(snapshot: bytes) -> bool:
-    """Whether a board of a snapshot has a finisher."""
-    boards = [board["machine"] for board in reads.snapshot_of(snapshot)["boards"]]
-    machines = [fields[""] for how, fields in boards if how == "there"]
-    return any(kind == "finisher" for machine in machines for kind, _ in machine["plan"]["kinds"])
+def held_in(snapshot: pathlib.Path) -> str:
+    """What a snapshot holds, a line a value."""
+    words = [sys.executable, "-B", str(SNAPSHOT), str(snapshot)]
+    return subprocess.run(words, check=True, stdout=subprocess.PIPE, encoding="utf-8").stdout
 
 
 if __name__ == "__main__":
