@@ -42,6 +42,11 @@ def without_times(log: str) -> str:
     return "".join(f"{text}\n" for _, text in told)
 
 
+def differ_by_times(kept: str, printed: str) -> bool:
+    """Whether two logs that are not equal have other times, and nothing else that differs."""
+    return lines_of(kept) != lines_of(printed) and without_times(kept) == without_times(printed)
+
+
 def difference(kept_name: str, kept: str, printed_name: str, printed: str) -> str:
     """The differences of two texts, as `diff -u` prints them; empty where there are none."""
     if kept == printed:

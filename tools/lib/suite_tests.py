@@ -106,7 +106,7 @@ def finding_of(mode: str, name: str, kept: Optional[bytes], ran: lab_runs.Ran) -
         return Finding(FAILED, "no verdict", "no verdict: it hangs?", difference)
     if not difference:
         return Finding(PASSED)
-    if kept_logs.without_times(log) == kept_logs.without_times(ran.text):
+    if kept_logs.differ_by_times(log, ran.text):
         return Finding(FAILED, "times", "the times alone differ: `# suite: notimes` leaves them out", difference)
     return Finding(FAILED, "difference", "the log differs", difference)
 
