@@ -2,7 +2,7 @@
 from dataclasses import dataclass
 from typing import Any, Dict, List, Optional, Set, Tuple
 
-from lib.snapshot import PAGE
+from snapshot import PAGE
 
 # Registers of the processor by their ABI names, in order.
 ABI_NAMES = (

@@ -6,7 +6,8 @@ import subprocess
 from dataclasses import dataclass
 from typing import Dict, Iterator, List, Optional, Sequence, Tuple
 
-from lib import resc, snapshot
+import resc
+import snapshot
 
 TOP = pathlib.Path(__file__).resolve().parents[2]
 DEPTH = 8
@@ -43,8 +44,7 @@ class Walk:
         self.has_quit = False
 
     def file(self, path: str, depth: int = 0) -> Iterator[Step]:
-        lines = resc.lines_of(pathlib.Path(path).read_text(encoding="utf-8"))
-        yield from self.body(path, [resc.Line(n, text) for n, text in enumerate(lines, 1)], depth)
+        yield from self.body(path, lines_in(path), depth)
 
     def body(self, path: str, lines: Sequence[resc.Line], depth: int) -> Iterator[Step]:
         for item in resc.items_of(lines):
@@ -96,10 +96,13 @@ class Walk:
             return None
         path = str(arguments[0])
         try:
-            lines = resc.lines_of(pathlib.Path(path).read_text(encoding="utf-8"))
+            return path, lines_in(path)
         except (OSError, UnicodeDecodeError):
             return None
-        return path, [resc.Line(n, text) for n, text in enumerate(lines, 1)]
+
+
+def lines_in(path: str) -> List[resc.Line]:
+    return resc.numbered(pathlib.Path(path).read_bytes().decode("utf-8"))
 
 
 def steps_of(script: str) -> List[Step]:

@@ -3,8 +3,8 @@ trap came by `mepc`, and where the file says nothing by what the function's firs
 from dataclasses import dataclass
 from typing import Dict, List, Optional, Set, Tuple
 
-from lib.elf import Elf, Symbol
-from lib.machine import ABI_NAMES, PINS, Hart, Memory
+from elf import Elf, Symbol
+from machine import ABI_NAMES, PINS, Hart, Memory
 
 MOST_FRAMES = 64
 RA, SP = ABI_NAMES.index("ra"), ABI_NAMES.index("sp")

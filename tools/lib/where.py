@@ -2,9 +2,9 @@
 from dataclasses import dataclass, field
 from typing import Any, Dict, List, Optional
 
-from lib.elf import Elf, Line, NoElf, Section
-from lib.machine import ABI_NAMES, PINS, Device, Hart, Machine, machine_of
-from lib.unwind import SP, Code, Stack
+from elf import Elf, Line, NoElf, Section
+from machine import ABI_NAMES, PINS, Device, Hart, Machine, machine_of
+from unwind import SP, Code, Stack
 
 INTERRUPT = 1 << 31
 EXCEPTIONS = {

@@ -1,7 +1,7 @@
-"""Prints what `lib.where` says, for people."""
+"""Prints what the module `where` says, for people."""
 from typing import Iterator, List
 
-from lib.where import BoardReport, Claim, HartReport, Interrupts, Place, Report, StackFrame, Waiting
+from where import BoardReport, Claim, HartReport, Interrupts, Place, Report, StackFrame, Waiting
 
 REGISTERS_IN_A_LINE = 4
 MARKS = {"now": "", "calls": "", "trapped": ", where the trap came"}

@@ -1,1 +1,0 @@
-"""Modules that the scripts of tools/ share. A script finds them as `lib.NAME`, since its own folder is searched first."""
