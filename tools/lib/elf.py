@@ -86,15 +86,15 @@ def program(tool: str) -> Optional[str]:
     return shutil.which(tool)
 
 
-def printed(tool: str, *words: str, given: str = "") -> str:
-    """Returns what a program of binutils prints."""
-    path = program(tool)
-    if path is None:
+def printed(tool: str, *words: str) -> str:
+    """Returns what a program of binutils prints. The last word is the path of the ELF file."""
+    command = program(tool)
+    if command is None:
         raise NoElf(f"neither {tool} nor riscv*-{tool} is on the path: install binutils")
     settings = {**os.environ, "LC_ALL": "C"}
-    ran = subprocess.run([path, *words], input=given, capture_output=True, text=True, errors="replace", env=settings)
+    ran = subprocess.run([command, *words], capture_output=True, text=True, errors="replace", env=settings, check=False)
     if ran.returncode != 0:
-        raise NoElf((ran.stderr.strip() or f"{tool} ended with {ran.returncode}").splitlines()[-1])
+        raise NoElf(f"{words[-1]}: {(ran.stderr.strip() or f'{tool} ended with {ran.returncode}').splitlines()[-1]}")
     return ran.stdout
 
 
@@ -110,7 +110,7 @@ class Elf:
         text = printed("readelf", "-W", "-S", "-l", "-s", path)
         self.sections, code = self.read_sections(text)
         self.symbols = read_symbols(text, code)
-        self.frames = sorted(read_frames(printed("readelf", "-W", "--debug-dump=frames-interp", path)), key=first_of)
+        self.frames = list(read_frames(printed("readelf", "-W", "--debug-dump=frames-interp", path)))
         self.lines: Dict[int, List[Line]] = {}
 
     def read_sections(self, text: str) -> Tuple[List[Section], List[str]]:
@@ -152,13 +152,9 @@ class Elf:
     def lines_at(self, address: int) -> List[Line]:
         """Returns the source of an address, the innermost of inlined functions first."""
         if address not in self.lines:
-            told = printed("addr2line", "-C", "-f", "-i", "-e", self.path, f"0x{address:x}").splitlines()
+            told = printed("addr2line", "-C", "-f", "-i", f"0x{address:x}", "-e", self.path).splitlines()
             self.lines[address] = [line_of(*pair) for pair in zip(told[::2], told[1::2])]
         return self.lines[address]
-
-
-def first_of(frames: Frames) -> int:
-    return frames.first
 
 
 def line_of(function: str, place: str) -> Line:

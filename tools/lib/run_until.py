@@ -127,12 +127,12 @@ def cut(steps: List[Step], at: int, until: int, pauses: List[int]) -> List[Step]
     for step in steps:
         asked = {"emulation RunFor": lambda: int(str(step.arguments[0])), "start": lambda: max(until - time, 0)}
         length = asked[step.name]() if step.name in asked else 0
-        if time + length > at or (time == at and length > 0):
+        end = min([pause for pause in pauses if time < pause] + [time + length])
+        if end > at or (time == at and length > 0):
             rest = f'emulation RunFor "{time_text(at - time)}"'
             return taken + [Step(rest, step.file, step.number)] * (at > time)
         taken.append(step)
-        ends = [pause for pause in pauses if time < pause <= time + length]
-        time = ends[0] if ends else time + length
+        time = end
     if time < at:
         raise NoRun(f"the script ends at {time_text(time)}")
     return taken

@@ -177,8 +177,7 @@ class Board:
         function, near = self.code.function_at(base), self.code.function_at(base + 2)
         if near and near.address == base + 2:
             return [
-                f"mtvec is 0x{value:08x}, and {near.name} begins two bytes later: mtvec keeps no bit 1, so a handler needs"
-                " __attribute__((aligned(4)))"
+                f"mtvec is 0x{value:08x}, two bytes before {near.name}: it keeps no bit 1, so a handler needs aligned(4)"
             ]
         if function and function.address != base:
             at = f"{function.name}+0x{base - function.address:x}"
