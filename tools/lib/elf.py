@@ -20,7 +20,9 @@ SYMBOL = re.compile(
     r" +(?:\[.*?\] +)?(?P<section>\w+) (?P<name>.+)"
 )
 CIE = re.compile(r"(?P<at>[0-9a-f]+) [0-9a-f]+ [0-9a-f]+ CIE ")
-FDE = re.compile(r"[0-9a-f]+ [0-9a-f]+ [0-9a-f]+ FDE cie=(?P<cie>[0-9a-f]+) pc=(?P<first>[0-9a-f]+)\.\.(?P<end>[0-9a-f]+)")
+FDE = re.compile(
+    r"[0-9a-f]+ [0-9a-f]+ [0-9a-f]+ FDE cie=(?P<cie>[0-9a-f]+) pc=(?P<first>[0-9a-f]+)\.\.(?P<end>[0-9a-f]+)"
+)
 LINE = re.compile(r"(?P<file>.*):(?P<line>\d+|\?)(?: \(discriminator \d+\))?")
 
 
@@ -125,10 +127,10 @@ class Elf:
         for it in found:
             address, offset, size = (int(it[name], 16) for name in ("address", "offset", "size"))
             if "A" in it["flags"] and it["type"] != "NOBITS" and size > 0:
-                moves = [physical - virtual for begin, held, virtual, physical in segments if begin <= offset < begin + held]
+                moves = [to - by for begin, length, by, to in segments if begin <= offset < begin + length]
                 load = address + (moves[0] if moves else 0)
-                held = self.data[offset : offset + size]
-                sections.append(Section(it["name"], address, load, held, "W" in it["flags"]))
+                data = self.data[offset : offset + size]
+                sections.append(Section(it["name"], address, load, data, "W" in it["flags"]))
         return sections, [it["number"] for it in found if "X" in it["flags"]]
 
     def function_at(self, address: int) -> Optional[Symbol]:

@@ -1,4 +1,4 @@
-"""A board as a snapshot holds it: its memories, its processors and its interrupt lines. docs/DEVICES.md has the rules."""
+"""A board as a snapshot holds it: its memories, processors and interrupt lines. docs/DEVICES.md has the rules."""
 from dataclasses import dataclass
 from typing import Any, Dict, List, Optional, Set, Tuple
 
@@ -78,12 +78,15 @@ class Device:
         held = self.state
         if self.kind == "uart":
             return bool(
-                held["ier"] & 4 and held["overrun"]
-                or held["ier"] & 1 and held["received"]
-                or held["ier"] & 2 and held["empty"]
+                held["ier"] & 4
+                and held["overrun"]
+                or held["ier"] & 1
+                and held["received"]
+                or held["ier"] & 2
+                and held["empty"]
             )
         if self.kind == "can":
-            return held["receive_interrupt"] or held["transmit_interrupt"] or held["overrun_interrupt"]
+            return bool(held["receive_interrupt"] or held["transmit_interrupt"] or held["overrun_interrupt"])
         return False
 
 
@@ -135,10 +138,11 @@ class Machine:
         timer = there(self.state["timer"])
         if kind == "software":
             return bool(timer["msip"])
-        return self.mtime(timer) >= timer["mtimecmp"]
+        return self.mtime(timer) >= int(timer["mtimecmp"])
 
     def mtime(self, timer: Dict[str, int]) -> int:
-        return timer["offset"] + self.time * there(self.plan["frequency"]) // 1_000_000 & EVERY_64_BITS
+        ticks = self.time * int(there(self.plan["frequency"])) // 1_000_000
+        return timer["offset"] + ticks & EVERY_64_BITS
 
     def is_context_up(self, context: int) -> bool:
         held = there(self.state["controller"])

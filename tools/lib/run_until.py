@@ -4,7 +4,7 @@ import pathlib
 import re
 import subprocess
 from dataclasses import dataclass
-from typing import Dict, Iterator, List, Optional, Sequence, Tuple
+from typing import Any, Dict, Iterator, List, Optional, Sequence, Tuple
 
 import resc
 import snapshot
@@ -13,6 +13,9 @@ TOP = pathlib.Path(__file__).resolve().parents[2]
 DEPTH = 8
 PAUSE = re.compile(rb"\[(\d+)\.(\d{6})\] pause [\w-]+/\w+: (?:pass|fail \d+)\n")
 REFUSED = re.compile(rb"error: (.*):(\d+): (.*)\n")
+
+
+Held = Dict[str, Any]
 
 
 class NoRun(Exception):
@@ -62,13 +65,18 @@ class Walk:
 
     def assign(self, item: resc.Assign) -> None:
         if not (item.only_if_unset and item.name in self.values):
-            self.values[item.name] = self.values.get(resc.variable_of(item.value) or "", item.value)
+            self.values[item.name] = self.meant(item.value) or item.value
 
     def replaced(self, words: Sequence[str]) -> Optional[List[str]]:
         """Returns words with their variables replaced, but for the name of a macro, and None where one is unset."""
         own = 2 if resc.names_macro(words) else 0
-        others = [self.values.get(resc.variable_of(word) or "") if resc.variable_of(word) else word for word in words[own:]]
+        others = [self.meant(word) for word in words[own:]]
         return None if None in others else [*words[:own], *(word for word in others if word is not None)]
+
+    def meant(self, word: str) -> Optional[str]:
+        """Returns what a word stands for, and None where it is a variable that is not set."""
+        name = resc.variable_of(word)
+        return word if name is None else self.values.get(name)
 
     def command(self, path: str, line: resc.Line, depth: int) -> Iterator[Step]:
         words = self.replaced(resc.words_of(line.text))
@@ -120,13 +128,20 @@ def time_text(micros: int) -> str:
     return f"{micros // 1_000_000}.{micros % 1_000_000:06}"
 
 
+def length_of(step: Step, time: int, until: int) -> int:
+    """Returns for how long a command runs the boards that comes at this lab time, where no finisher ends it."""
+    if step.name == "emulation RunFor":
+        return int(str(step.arguments[0]))
+    return max(until - time, 0) if step.name == "start" else 0
+
+
 def cut(steps: List[Step], at: int, until: int, pauses: List[int]) -> List[Step]:
     """Returns the commands up to a lab time, with the last run shortened to it. A run ends early where a finisher has
     ended it, at one of the times `pauses`."""
-    time, taken = 0, []
+    time = 0
+    taken: List[Step] = []
     for step in steps:
-        asked = {"emulation RunFor": lambda: int(str(step.arguments[0])), "start": lambda: max(until - time, 0)}
-        length = asked[step.name]() if step.name in asked else 0
+        length = length_of(step, time, until)
         end = min([pause for pause in pauses if time < pause] + [time + length])
         if end > at or (time == at and length > 0):
             rest = f'emulation RunFor "{time_text(at - time)}"'
@@ -138,7 +153,7 @@ def cut(steps: List[Step], at: int, until: int, pauses: List[int]) -> List[Step]
     return taken
 
 
-def run(steps: List[Step], until: int, room: pathlib.Path) -> Tuple[Dict[str, object], List[int]]:
+def run(steps: List[Step], until: int, room: pathlib.Path) -> Tuple[Held, List[int]]:
     """Runs these commands, and returns what the laboratory is then and at which times finishers have ended runs."""
     script, kept, log = room / "copy.resc", room / "kept", room / "log"
     script.write_text("".join(f"{step.text}\n" for step in steps) + f"Save @{kept}\n", encoding="utf-8")
@@ -167,7 +182,7 @@ def fault_of(status: int, steps: List[Step], last: List[bytes]) -> str:
     return f"lab refused {refused[1].decode()}:{at}: {cause}"
 
 
-def laboratory_at(script: str, at: Optional[int], until: int, room: pathlib.Path) -> Tuple[Dict[str, object], List[Step]]:
+def laboratory_at(script: str, at: Optional[int], until: int, room: pathlib.Path) -> Tuple[Held, List[Step]]:
     """Returns the laboratory of a script at a lab time in microseconds, or at its end, and the commands up to there.
     `room` is an empty folder for what is written. Finishers that end runs are known from the log, so that the script is
     run again where one came before that time."""

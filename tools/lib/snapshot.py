@@ -82,7 +82,7 @@ class Reader:
 
     def count(self, path: str) -> int:
         self.counts.append(self.at)
-        return self.number(8)(f"{path}.count")
+        return int(self.number(8)(f"{path}.count"))
 
     def list_of(self, read: Read) -> Read:
         def read_all(path: str) -> List[Any]:

@@ -15,8 +15,8 @@ Registers = Dict[int, int]
 @dataclass(frozen=True)
 class Frame:
     """A function on the stack, which is there `now`, `calls` the one before it or was `trapped` by it. Where it calls,
-    pc is the address to which that one returns, and else the one of the next instruction. `registers` are those that are
-    known. The place is a guess where no file tells it, and so are registers."""
+    pc is the address to which that one returns, and else the one of the next instruction. `registers` are those that
+    are known. The place is a guess where no file tells it, and so are registers."""
 
     pc: int
     registers: Registers
@@ -70,8 +70,8 @@ class Stack:
         return frame.place in self.handlers or (function is not None and function.address in self.handlers)
 
     def interrupted(self, frames: List[Frame]) -> Optional[Frame]:
-        """Returns where the trap came of which the last frame is the handler. `mepc` is that of one trap alone. A handler
-        that traps at its first instruction has lost where it was before, and its caller can be guessed."""
+        """Returns where the trap came of which the last frame is the handler. `mepc` is that of one trap alone. A
+        handler that traps at its first instruction has lost where it was before, and its caller can be guessed."""
         handler, place = frames[-1], self.hart.state["mepc"]
         if any(frame.how == "trapped" for frame in frames):
             return None
@@ -98,7 +98,8 @@ class Stack:
         if row.base is None or ABI_NAMES.index(row.base[0]) not in frame.registers:
             return {}, True
         top = frame.registers[ABI_NAMES.index(row.base[0])] + row.base[1]
-        return self.restored(frame, top, {ABI_NAMES.index(n): at for n, at in row.saved.items() if n in ABI_NAMES}), False
+        saved = {ABI_NAMES.index(name): at for name, at in row.saved.items() if name in ABI_NAMES}
+        return self.restored(frame, top, saved), False
 
     def restored(self, frame: Frame, top: int, saved: Dict[int, int]) -> Registers:
         """Returns the registers of a frame with those that it has saved, at places relative to the end of its stack."""
@@ -141,9 +142,10 @@ def jump_target(place: int, word: Optional[int]) -> int:
 
 
 def prologue(memory: Memory, start: int, end: int) -> Tuple[int, Dict[int, int]]:
-    """Returns how far the stack pointer was moved by the instructions from `start` to before `end`, up to the first that
-    jumps, and where registers were stored, relative to the stack pointer before."""
-    size, saved, at = 0, {}, start
+    """Returns how far the stack pointer was moved by the instructions from `start` to before `end`, up to the first
+    that jumps, and where registers were stored, relative to the stack pointer before."""
+    size, at = 0, start
+    saved: Dict[int, int] = {}
     while at < end:
         word = memory.word(at) or int.from_bytes(memory.read(at, 2) or b"", "little")
         length = 4 if word & 3 == 3 else 2
@@ -162,7 +164,7 @@ def signed(value: int, bits: int) -> int:
 
 
 def wide_effect(word: int) -> Tuple[int, Optional[Tuple[int, int]]]:
-    """Returns by how much an instruction moves the stack pointer, and which register it stores at which offset of it."""
+    """Returns by how much an instruction moves the stack pointer, and which register it stores at which offset."""
     if word & 0x000FFFFF == 0x00010113:  # addi sp, sp, N
         return signed(word >> 20, 12), None
     if word & 0x000FF07F == 0x00012023:  # sw REGISTER, N(sp)

@@ -1,12 +1,14 @@
 """Says of each board of a snapshot where its processors are and what waits in its devices, as data."""
 from dataclasses import dataclass, field
-from typing import Any, Dict, List, Optional
+from typing import Any, Dict, List, Optional, Tuple
 
 from elf import Elf, Line, NoElf, Section
 from machine import ABI_NAMES, PINS, Device, Hart, Machine, machine_of
 from unwind import SP, Code, Stack
 
 INTERRUPT = 1 << 31
+# How the plan of a board names the interrupt controller.
+CONTROLLER: Tuple[str, Dict[str, Any]] = ("part", {"": ("controller", {})})
 EXCEPTIONS = {
     0: "instruction address misaligned",
     1: "instruction access fault",
@@ -177,7 +179,8 @@ class Board:
         function, near = self.code.function_at(base), self.code.function_at(base + 2)
         if near and near.address == base + 2:
             return [
-                f"mtvec is 0x{value:08x}, two bytes before {near.name}: it keeps no bit 1, so a handler needs aligned(4)"
+                f"mtvec is 0x{value:08x}, two bytes before {near.name}:"
+                " it keeps no bit 1, so a handler needs aligned(4)"
             ]
         if function and function.address != base:
             at = f"{function.name}+0x{base - function.address:x}"
@@ -223,9 +226,6 @@ class Board:
     def claims(self) -> List[Claim]:
         names = [entry["name"] for entry in self.machine.plan["names"] if entry["what"] == CONTROLLER]
         return [Claim(names[0], source, self.machine.owners(source)) for source in self.machine.claimed()]
-
-
-CONTROLLER = ("part", {"": ("controller", {})})
 
 
 def words_of(cause: int) -> str:

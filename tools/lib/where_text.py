@@ -55,8 +55,15 @@ def hart_lines(hart: HartReport) -> Iterator[str]:
         yield f"    warning: {warning}"
 
 
+def byte_text(byte: int) -> str:
+    """Returns a byte as it stands within quotes."""
+    if not 32 <= byte < 127:
+        return f"\\x{byte:02x}"
+    return f"\\{chr(byte)}" if chr(byte) in '"\\' else chr(byte)
+
+
 def bytes_text(received: List[int]) -> str:
-    return "".join(f"\\x{it:02x}" if not 32 <= it < 127 else {'"': '\\"', "\\": "\\\\"}.get(chr(it), chr(it)) for it in received)
+    return "".join(map(byte_text, received))
 
 
 def waiting_line(device: Waiting) -> str:

@@ -1,4 +1,4 @@
-/* Hart 0 counts, and serves the interrupt of its UART without an end. Hart 1 waits for an interrupt that never comes. */
+/* Hart 0 counts, and serves the interrupt of its UART without an end. Hart 1 waits for one that never comes. */
 #include "hart.h"
 
 #define PRIORITY_OF_UART ((volatile uint32_t *)0x0C000004)
