@@ -11,8 +11,6 @@ record that is not there. They end at a script or a snapshot that is not there, 
 Not looked for are the causes S7, S8, S9, S14, S16, S20 and all of platform files and images: after such a line lab reads
 no more, and the list goes on.
 """
-import importlib.machinery
-import importlib.util
 import os
 import pathlib
 from dataclasses import dataclass, field
@@ -20,6 +18,7 @@ from typing import Callable, Dict, List, Optional, Sequence, Set, Tuple, Union
 
 import repl
 import resc
+import snapshot
 from resc import Line, Refused
 
 FILE_LIMIT = 16 * 2**20
@@ -140,18 +139,6 @@ def bad_line(content: bytes) -> int:
     except UnicodeDecodeError as fault:
         return content.count(b"\n", 0, fault.start) + 1
     return 0
-
-
-def snapshot_of(content: bytes) -> Dict[str, list]:
-    """What a snapshot holds, by the reader of tools/snapshot."""
-    path = pathlib.Path(__file__).parent.parent / "snapshot"
-    loader = importlib.machinery.SourceFileLoader("snapshot", str(path))
-    spec = importlib.util.spec_from_loader("snapshot", loader)
-    assert spec is not None
-    module = importlib.util.module_from_spec(spec)
-    loader.exec_module(module)
-    held: Dict[str, list] = module.read(content)[0]
-    return held
 
 
 class Walk:
@@ -376,8 +363,8 @@ class Walk:
         if self.is_large(read.path, SNAPSHOT_LIMIT):
             raise self.refuse("S19 size")
         try:
-            held = snapshot_of(content_of(self.folder / read.path))
-        except Exception as fault:  # pylint: disable=broad-except
+            held, _ = snapshot.read(content_of(self.folder / read.path))
+        except snapshot.NoSnapshot as fault:
             raise self.refuse("S20 snapshot") from fault
         self.resume(held)
 
