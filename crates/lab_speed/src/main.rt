@@ -16,6 +16,7 @@ mod loops;
 mod platform;
 
 use board::{Board, SlotAt};
+use chips::Chip;
 use dev_core::Device;
 use lab_num::{LAST, MOST_SPEED, Micros};
 use loops::{HALF_WORDS, INTERRUPTS, LOOPS};
@@ -205,9 +206,9 @@ fn run<D: Device>(alloc: Global, task: Task, uart: D, finisher: D) -> Option<u64
 
 /// Does a task with devices in boxes, as the laboratory has them.
 fn done(alloc: Global, task: Task) -> Option<u64> {
-    let uart: Box<dyn Device + Send> = Box::new(alloc, Uart::new()).ok()?;
-    let finisher: Box<dyn Device + Send> = Box::new(alloc, Finisher::new()).ok()?;
-    run(alloc, task, uart, finisher)
+    let uart = Box::new(alloc, Uart::new()).ok()?;
+    let finisher = Box::new(alloc, Finisher::new()).ok()?;
+    run(alloc, task, Chip::Uart(uart), Chip::Finisher(finisher))
 }
 
 fn main(rt: HostRuntime) -> io::Result<ExitCode> {
