@@ -4,4 +4,5 @@
 mod hub;
 mod hubs;
 
+pub use hub::Hub;
 pub use hubs::{HubFault, UartHubs};
