@@ -4,8 +4,8 @@ A log does not say which device is a UART and which a CAN controller: a device a
 frames is taken for a controller.
 """
 import re
-from dataclasses import dataclass, field
-from typing import Dict, Iterable, Iterator, List, Optional, Tuple
+from dataclasses import dataclass, field, replace
+from typing import Dict, Iterable, List, Optional, Tuple
 
 LINE = re.compile(r"\[(\d+)\.(\d{6})\] (pause )?([A-Za-z0-9_-]+)/([A-Za-z][A-Za-z0-9_]*): (.*)")
 FRAME = re.compile(r"(tx|rx|lost) ([0-7][0-9a-f]{2}) (?:data ([0-8])(?: ((?:[0-9a-f]{2}){1,8}))?|remote ([0-8]))")
@@ -108,19 +108,21 @@ def read(name: str, text: Iterable[str]) -> Log:
     return reader.log
 
 
-def folded(log: Log) -> Iterator[Line]:
+def folded(log: Log) -> List[Line]:
     """The lines of a log, in order of their beginnings, where accesses of a board that are equal and follow each other
     on it are one."""
+    lines: List[Line] = []
     last: Dict[str, Line] = {}
     for line in log.lines:
         before = last.get(line.lane.board)
-        is_access = line.lane.kind == "bus"
-        if is_access and before and before.lane is line.lane and before.text == line.text:
+        is_same = before is not None and before.lane is line.lane and before.text == line.text
+        if before and is_same and line.lane.kind == "bus":
             before.end = line.end
             before.count += 1
         else:
-            last[line.lane.board] = line
-            yield line
+            last[line.lane.board] = replace(line)
+            lines.append(last[line.lane.board])
+    return lines
 
 
 def time_text(micros: int) -> str:
