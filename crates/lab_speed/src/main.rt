@@ -1,6 +1,6 @@
 //! How fast a board runs: `lab_speed LOOP SLOTS` runs a board over a loop of instructions for so many
-//! slots, and prints the loop's name, the slots and minstret of all processors together. With the word `wired` the board
-//! has a timer, an interrupt controller and wires, and the timer interrupts the loop each 100 microseconds. With
+//! slots, and prints the loop's name, the slots and minstret of all processors together. With the word `wired` the
+//! board has a timer, an interrupt controller and wires, and the timer interrupts the loop each 100 microseconds. With
 //! `compressed` its processor has compressed instructions, and the loop is one of half-words; with `long` the processor
 //! is the same, and the loop is one of words. With `atomic` it has atomic instructions, and with `two` and `four` the
 //! board has so many processors of that kind, which all run the loop. `plain` is none of these. A number after such a
