@@ -23,7 +23,7 @@ use Rattle.monitor.specs.Runs.{run_for}
 use Rattle.monitor.specs.State.{State, Place, bodies_of, joined, started}
 use Rattle.lab_top.specs.Content.{Content, Missing, Faulty, Readable, content_of}
 use Rattle.lab_top.specs.Request.{Run, request_of}
-use Rattle.lab_top.specs.Transcript.{Rest, after, answered, begun, from, is_large, is_occupied, loading, loading_kept}
+use Rattle.lab_top.specs.Transcript.{Further, after, answered, begun, from, is_large, is_occupied, loading, loading_kept}
 use Rattle.lab_top.specs.Transcript.{onward, refused, resuming, run_of, saving, transcript_by, using}
 use Rattle.log_laws.specs.Checking.{IfOn}
 use Rattle.log_laws.proofs.Dry.{RestsAs, did_rests}
@@ -79,10 +79,10 @@ module _ (one two : Play) (none : IsNothing one) (nothing : IsNothing two) (held
   did_same s dry = next_same s (next_of s.flow) dry
 
   -- what follows is the same where runs have length 0
-  abbrev AreSame : Rest → Rest → Type 0
+  abbrev AreSame : Further → Further → Type 0
   AreSame first second = (kept : Held) (s : State) → s.dry ≡ true → first kept s ≡ second kept s
 
-  module _ (first second : Rest) (same : AreSame first second) (kept : Held) (place : Place) where
+  module _ (first second : Further) (same : AreSame first second) (kept : Held) (place : Place) where
     saving_same : (large dry : Bool) (name bytes : List ℕ) (s : State) → s.dry ≡ true → dry ≡ true →
         (if large then refused kept place s Size
         else if dry then first kept s
@@ -118,7 +118,7 @@ module _ (one two : Play) (none : IsNothing one) (nothing : IsNothing two) (held
     loading_same true name s dry = refl
     loading_same false name s dry = ap (using (get_of name)) (found_same s (get kept name) dry)
 
-  module _ (first second : Rest) (same : AreSame first second) (kept : Held) (s : State) (dry : s.dry ≡ true)
+  module _ (first second : Further) (same : AreSame first second) (kept : Held) (s : State) (dry : s.dry ≡ true)
       (names : List (List ℕ)) where
     onward_same : (answer : Answer) → RestsAs s answer →
         onward first kept s (record { names = names; answer = answer })

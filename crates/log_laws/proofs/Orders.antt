@@ -17,7 +17,7 @@ use Rattle.resc_vars.specs.declared.cause.ScriptCause.TheVariants.{Size, Occupie
 use Rattle.lab_top.specs.Content.{Content, Missing, Faulty, Readable, content_of}
 use Rattle.lab_top.specs.Headline.{calls, kept_by}
 use Rattle.lab_top.specs.Request.{Request, Refused, Run, Gen, request_of}
-use Rattle.lab_top.specs.Transcript.{Transcript, Outcome, Read, Use, Rest, read_now, read_later, use_later, after, ended}
+use Rattle.lab_top.specs.Transcript.{Transcript, Outcome, Read, Use, Further, read_now, read_later, use_later, after, ended}
 use Rattle.lab_top.specs.Transcript.{using, onward, from, saving, loading, loading_kept, resuming, refused, is_large}
 use Rattle.lab_top.specs.Transcript.{is_occupied, begun, run_of, answered, transcript_by}
 use Rattle.log_laws.specs.Places.{Rises}
@@ -88,7 +88,7 @@ put_orderly : (kept : Held) (name bytes : List ℕ) (rest : Transcript) → IsOr
 put_orderly kept name bytes rest is = record { kept = is.kept; reads = is.reads; uses = (omega arith, is.uses) }
 
 -- what follows is orderly, whatever is kept then
-abbrev AreOrderly : Rest → Type 0
+abbrev AreOrderly : Further → Type 0
 AreOrderly further = (kept : Held) (s : State) → IsOrderly kept (further kept s)
 
 refused_orderly : (kept : Held) (place : Place) (s : State) (bytes : List ℕ) (outcome : Outcome) →
@@ -96,7 +96,7 @@ refused_orderly : (kept : Held) (place : Place) (s : State) (bytes : List ℕ) (
 refused_orderly kept place s bytes outcome =
     after_orderly kept [] bytes (ended kept outcome) (ended_orderly kept outcome)
 
-module _ (further : Rest) (are : AreOrderly further) (kept : Held) (place : Place) where
+module _ (further : Further) (are : AreOrderly further) (kept : Held) (place : Place) where
   saving_by : (a b : Bool) (name bytes : List ℕ) (s : State) →
       IsOrderly kept
       (if a then refused kept place s Size
@@ -129,7 +129,7 @@ module _ (further : Rest) (are : AreOrderly further) (kept : Held) (place : Plac
   loading_by false name s =
       get_orderly kept name (loading_kept further kept place s (get kept name)) (found_orderly s (get kept name))
 
-module _ (further : Rest) (are : AreOrderly further) (kept : Held) (s : State) (names : List (List ℕ)) where
+module _ (further : Further) (are : AreOrderly further) (kept : Held) (s : State) (names : List (List ℕ)) where
   onward_orderly : (answer : Answer) → IsOrderly kept (onward further kept s (record { names = names; answer = answer }))
   onward_orderly (Goes text next) = after_orderly kept names text (further kept next) (are kept next)
   onward_orderly (Saves name place next) =

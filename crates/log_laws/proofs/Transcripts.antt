@@ -17,7 +17,7 @@ use Rattle.resc_vars.specs.declared.cause.ScriptCause.TheVariants.{Size, Occupie
 use Rattle.lab_top.specs.Content.{Content, Missing, Faulty, Readable, content_of}
 use Rattle.lab_top.specs.Headline.{names_read}
 use Rattle.lab_top.specs.Request.{Request, Refused, Run, Gen, request_of}
-use Rattle.lab_top.specs.Transcript.{Transcript, Read, Use, Rest, read_now, read_later, use_later, after, ended, using}
+use Rattle.lab_top.specs.Transcript.{Transcript, Read, Use, Further, read_now, read_later, use_later, after, ended, using}
 use Rattle.lab_top.specs.Transcript.{onward, from, saving, loading, loading_kept, resuming, refused, is_large}
 use Rattle.lab_top.specs.Transcript.{is_occupied, begun, run_of, answered, transcript_by}
 use Rattle.log_laws.specs.Agreement.{IsAlike, names_used}
@@ -44,7 +44,7 @@ module _ (held other : Held) where
     uses : Same kept stored (names_used run.uses)
 
   -- what follows in a run is alike with the other files and with another store, where these agree on what it looks at
-  abbrev AreAlike : Rest → Rest → Type 0
+  abbrev AreAlike : Further → Further → Type 0
   AreAlike first second = (kept stored : Held) (s : State) → Looks kept stored (first kept s) →
       IsAlike (first kept s) (second stored s)
 
@@ -84,7 +84,7 @@ module _ (held other : Held) where
     uses = ap (λ uses. record { call = call; before = 0 } ∷ uses) alike.uses;
   }
 
-  module _ (first second : Rest) (alike : AreAlike first second) (kept stored : Held) (place : Place) where
+  module _ (first second : Further) (alike : AreAlike first second) (kept stored : Held) (place : Place) where
     saving_by : (a b : Bool) (name bytes : List ℕ) (s : State) →
         Looks kept stored
         (if a then refused kept place s Size
@@ -141,7 +141,7 @@ module _ (held other : Held) where
         (loading_kept second stored place s (get kept name))
         (found_alike s (get kept name) (record { reads = looks.reads; uses = looks.uses.1 })))
 
-  module _ (first second : Rest) (alike : AreAlike first second) (kept stored : Held) (s : State)
+  module _ (first second : Further) (alike : AreAlike first second) (kept stored : Held) (s : State)
       (names : List (List ℕ)) where
     abbrev done : Answer → Did
     done answer = record { names = names; answer = answer }
