@@ -1,11 +1,11 @@
 -- Lemmas of log_laws.
-pub mod Agreements
-pub mod Loadings
-pub mod Commands
-pub mod Transcripts
-pub mod Orders
-pub mod Names
-pub mod Joining
-pub mod Checking
-pub mod Dry
-pub mod Still
+pub mod AgreementLemmas
+pub mod LoadingLemmas
+pub mod CommandLemmas
+pub mod AlikeLemmas
+pub mod OrderLemmas
+pub mod NameLemmas
+pub mod JoinLemmas
+pub mod CheckLemmas
+pub mod DryLemmas
+pub mod StillLemmas

@@ -1,5 +1,5 @@
-use Rattle.log_laws.proofs.Joining.{runs_joined}
-use Rattle.log_laws.proofs.Names.{run_keeps}
+use Rattle.log_laws.proofs.JoinLemmas.{runs_joined}
+use Rattle.log_laws.proofs.NameLemmas.{run_keeps}
 use Rattle.log_laws.proofs.joining.runs_of_a_script_join.Goals as goal
 
 pub returns : goal.returns

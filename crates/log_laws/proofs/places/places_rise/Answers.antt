@@ -1,5 +1,5 @@
 use Rattle.lab_state.specs.Run.{run}
-use Rattle.log_laws.proofs.Orders.{transcript_orderly}
+use Rattle.log_laws.proofs.OrderLemmas.{transcript_orderly}
 use Rattle.log_laws.proofs.places.places_rise.Goals as goal
 
 pub returns-clause-reads : goal.returns-clause-reads

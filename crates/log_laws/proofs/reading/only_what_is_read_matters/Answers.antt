@@ -1,6 +1,6 @@
 use Rattle.std.proofs.lemmas.List.Elements.{recursion_from_All}
 use Rattle.lab_state.specs.Run.{run}
-use Rattle.log_laws.proofs.Transcripts.{transcripts_alike}
+use Rattle.log_laws.proofs.AlikeLemmas.{transcripts_alike}
 use Rattle.log_laws.proofs.reading.only_what_is_read_matters.Goals as goal
 
 pub returns : goal.returns

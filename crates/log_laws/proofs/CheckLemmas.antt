@@ -1,6 +1,6 @@
 -- A script whose runs have length 0 goes the same way, whatever boards make of slots.
 use Rattle.std.proofs.Common.{◌≡◌, ◌∷◌, ◌∙◌, ◌-◌, ℕ, zero, suc, if◌then◌else◌, Bool, true, false, List, [], Option, None, Some}
-use Rattle.std.proofs.Common.{Result, Ok, Err, refl, sym, ap}
+use Rattle.std.proofs.Common.{Result, Ok, Err, refl, ap}
 use Rattle.std.specs.FinMap.{get, insert}
 use Rattle.lab_io.specs.Held.{Held}
 use Rattle.lab_io.specs.Store.{get_of, put_of}
@@ -23,10 +23,10 @@ use Rattle.monitor.specs.Runs.{run_for}
 use Rattle.monitor.specs.State.{State, Place, bodies_of, joined, started}
 use Rattle.lab_top.specs.Content.{Content, Missing, Faulty, Readable, content_of}
 use Rattle.lab_top.specs.Request.{Run, request_of}
-use Rattle.lab_top.specs.Transcript.{Further, after, answered, begun, from, is_large, is_occupied, loading, loading_kept}
-use Rattle.lab_top.specs.Transcript.{onward, refused, resuming, run_of, saving, transcript_by, using}
+use Rattle.lab_top.specs.Transcript.{Further, after, begun, from, is_large, is_occupied, loading_kept}
+use Rattle.lab_top.specs.Transcript.{onward, refused, resuming, transcript_by, using}
 use Rattle.log_laws.specs.Checking.{IfOn}
-use Rattle.log_laws.proofs.Dry.{RestsAs, did_rests}
+use Rattle.log_laws.proofs.DryLemmas.{RestsAs, did_rests}
 
 abbrev pub IsNothing : Play → Type 0
 IsNothing play = (lab : Lab) → play lab 0 ≡ still lab

@@ -1,5 +1,5 @@
 -- Agreement on names, name by name.
-use Rattle.std.proofs.Common.{◌≡◌, ◌∷◌, ◌++◌, ℕ, Bool, true, false, List, [], Some, refl}
+use Rattle.std.proofs.Common.{◌≡◌, ◌∷◌, ◌++◌, ℕ, List, [], refl}
 use Rattle.std.proofs.lemmas.Cmp.{nat_list_cmp_total}
 use Rattle.std.specs.FinMap.{get, insert, get-insert}
 use Rattle.std.specs.List.{AllByRecursion}
@@ -22,7 +22,8 @@ module _ (held other : Held) where
   same_put : (name of : List ℕ) (bytes : List ℕ) → get other of ≡ get held of →
       get (insert other name bytes) of ≡ get (insert held name bytes) of
   same_put name of bytes same =
-      rw (get-insert nat_list_cmp_total other name bytes of, get-insert nat_list_cmp_total held name bytes of, same) refl
+      rw (get-insert nat_list_cmp_total other name bytes of, get-insert nat_list_cmp_total held name bytes of, same)
+      refl
 
   -- what agrees also agrees after the same was put under the same name
   pub same_after : (name bytes : List ℕ) (names : List (List ℕ)) → Same held other names →

@@ -1,16 +1,16 @@
 -- In every run the places of reads and calls rise, and its saves are kept.
 use Rattle.std.proofs.Common.{◌≡◌, ◌∷◌, ◌++◌, ◌∙◌, ◌+◌, ◌≤◌, ℕ, zero, suc, if◌then◌else◌, Bool, true, false, List, []}
-use Rattle.std.proofs.Common.{length, map, Option, None, Some, refl, sym, ap, subst, arith, length-append}
+use Rattle.std.proofs.Common.{length, map, Option, None, Some, refl, sym, ap, arith, length-append}
 use Rattle.std.specs.FinMap.{get, insert}
 use Rattle.lab_io.specs.Held.{Held}
-use Rattle.lab_io.specs.Store.{StoreUse, get_of, put_of}
+use Rattle.lab_io.specs.Store.{get_of, put_of}
 use Rattle.lab_snap.specs.Saved.{spelling}
 use Rattle.lab_snap.specs.Snapshot.{snapshot_of}
 use Rattle.lab_state.specs.Lab.{Lab}
 use Rattle.lab_state.specs.Run.{Play}
 use Rattle.log_text.specs.declared.line.OpenLine.{OpenLine}
 use Rattle.monitor.specs.declared.setting.Setting.{Setting}
-use Rattle.monitor.specs.Answer.{Answer, Goes, Saves, Loads, Ends, Faults, Misses, Did}
+use Rattle.monitor.specs.Answer.{Answer, Goes, Saves, Loads, Ends, Faults, Misses}
 use Rattle.monitor.specs.Command.{did}
 use Rattle.monitor.specs.State.{State, Place, bodies_of, joined, started}
 use Rattle.resc_vars.specs.declared.cause.ScriptCause.TheVariants.{Size, Occupied}
@@ -19,7 +19,7 @@ use Rattle.lab_top.specs.Headline.{calls, kept_by}
 use Rattle.lab_top.specs.Request.{Request, Refused, Run, Gen, request_of}
 use Rattle.lab_top.specs.Transcript.{Transcript, Outcome, Read, Use, Further, read_now, read_later, use_later, after, ended}
 use Rattle.lab_top.specs.Transcript.{using, onward, from, saving, loading, loading_kept, resuming, refused, is_large}
-use Rattle.lab_top.specs.Transcript.{is_occupied, begun, run_of, answered, transcript_by}
+use Rattle.lab_top.specs.Transcript.{is_occupied, begun, answered, transcript_by}
 use Rattle.log_laws.specs.Places.{Rises}
 
 abbrev read_places : List Read → List ℕ
@@ -29,7 +29,7 @@ abbrev use_places : List Use → List ℕ
 use_places uses = map (λ (made : Use). made.before) uses
 
 pub record IsOrderly (kept : Held) (run : Transcript) : Type 0 where
-  pub kept : run.kept ≡ kept_by kept (calls run.uses)
+  pub keeps : run.kept ≡ kept_by kept (calls run.uses)
   pub reads : Rises 0 (read_places run.reads) (length run.bytes)
   pub uses : Rises 0 (use_places run.uses) (length run.bytes)
 
@@ -69,23 +69,24 @@ calls_later n (made ∷ uses) = ap (λ more. made.call ∷ more) (calls_later n 
 after_orderly : (kept : Held) (names : List (List ℕ)) (written : List ℕ) (rest : Transcript) → IsOrderly kept rest →
     IsOrderly kept (after names written rest)
 after_orderly kept names written rest is = record {
-  kept = is.kept ∙ ap (λ made. kept_by kept made) (sym (calls_later (length written) rest.uses));
+  keeps = is.keeps ∙ ap (λ made. kept_by kept made) (sym (calls_later (length written) rest.uses));
   reads =
-      rw (length-append written rest.bytes) (reads_after (length written) (length rest.bytes) names rest.reads is.reads);
+      rw (length-append written rest.bytes)
+      (reads_after (length written) (length rest.bytes) names rest.reads is.reads);
   uses = rw (length-append written rest.bytes) (uses_after (length written) (length rest.bytes) rest.uses is.uses);
 }
 
 -- a run that ends here
 ended_orderly : (kept : Held) (outcome : Outcome) → IsOrderly kept (ended kept outcome)
-ended_orderly kept outcome = record { kept = refl; reads = omega arith; uses = omega arith }
+ended_orderly kept outcome = record { keeps = refl; reads = omega arith; uses = omega arith }
 
 get_orderly : (kept : Held) (name : List ℕ) (rest : Transcript) → IsOrderly kept rest →
     IsOrderly kept (using (get_of name) rest)
-get_orderly kept name rest is = record { kept = is.kept; reads = is.reads; uses = (omega arith, is.uses) }
+get_orderly kept name rest is = record { keeps = is.keeps; reads = is.reads; uses = (omega arith, is.uses) }
 
 put_orderly : (kept : Held) (name bytes : List ℕ) (rest : Transcript) → IsOrderly (insert kept name bytes) rest →
     IsOrderly kept (using (put_of name bytes) rest)
-put_orderly kept name bytes rest is = record { kept = is.kept; reads = is.reads; uses = (omega arith, is.uses) }
+put_orderly kept name bytes rest is = record { keeps = is.keeps; reads = is.reads; uses = (omega arith, is.uses) }
 
 -- what follows is orderly, whatever is kept then
 abbrev AreOrderly : Further → Type 0
@@ -130,7 +131,8 @@ module _ (further : Further) (are : AreOrderly further) (kept : Held) (place : P
       get_orderly kept name (loading_kept further kept place s (get kept name)) (found_orderly s (get kept name))
 
 module _ (further : Further) (are : AreOrderly further) (kept : Held) (s : State) (names : List (List ℕ)) where
-  onward_orderly : (answer : Answer) → IsOrderly kept (onward further kept s (record { names = names; answer = answer }))
+  onward_orderly : (answer : Answer) →
+      IsOrderly kept (onward further kept s (record { names = names; answer = answer }))
   onward_orderly (Goes text next) = after_orderly kept names text (further kept next) (are kept next)
   onward_orderly (Saves name place next) =
       let bytes = spelling next.lab next.lines in

@@ -1,5 +1,5 @@
 -- What comes of a platform file rests on the names that its loading reads.
-use Rattle.std.proofs.Common.{◌≡◌, ◌∷◌, ◌++◌, ◌+◌, ◌-◌, ◌∙◌, ℕ, zero, suc, nat_le, if◌then◌else◌, Bool, true, false}
+use Rattle.std.proofs.Common.{◌≡◌, ◌∷◌, ◌+◌, ◌-◌, ◌∙◌, ℕ, zero, suc, nat_le, if◌then◌else◌, Bool, true, false}
 use Rattle.std.proofs.Common.{List, [], length, Option, None, Some, refl, ap}
 use Rattle.std.specs.FinMap.{get}
 use Rattle.lab_io.specs.Held.{Held}
@@ -7,8 +7,8 @@ use Rattle.repl_read.specs.declared.entry.Entry.{Entry}
 use Rattle.repl_files.specs.declared.fault.FileCause.TheVariants.{Depth, Size}
 use Rattle.repl_files.specs.Content.{Content, Missing, Large, Faulty, Readable, content_of}
 use Rattle.repl_files.specs.Loading.{Gives, Use, Loading, Outcome, Joined, Refused, Oversized, Absent, stopped}
-use Rattle.repl_files.specs.Loading.{refused_at, go_on, used_file, one_by, one, in_order, file_read, used, loaded, load}
-use Rattle.log_laws.proofs.Agreements.{Same, same_front, same_behind}
+use Rattle.repl_files.specs.Loading.{refused_at, go_on, used_file, one_by, one, in_order, file_read, used, load}
+use Rattle.log_laws.proofs.AgreementLemmas.{Same, same_front, same_behind}
 
 module _ (held other : Held) where
   -- a loading is the same with the other files where these agree on the names that it reads
@@ -48,8 +48,8 @@ module _ (held other : Held) where
         let next = count + length first.names in
         let rest = in_order gives file number next entries in
         let is : one others file number count entry ≡ first =
-            one_stays file number count entry (used_file entry.head)
-            (front first.names first.outcome rest same) in
+        one_stays file number count entry (used_file entry.head)
+        (front first.names first.outcome rest same) in
         ap (λ (found : Loading).
         go_on found.names found.outcome (in_order others file number (count + length found.names) entries)) is
         ∙ on first.names first.outcome rest (in_order others file number next entries)

@@ -1,5 +1,5 @@
 -- A run changes no name that the log prints.
-use Rattle.std.proofs.Common.{◌≡◌, ◌∷◌, ◌++◌, ◌∙◌, ◌+◌, ℕ, zero, suc, if◌then◌else◌, Bool, true, false, List, [], map}
+use Rattle.std.proofs.Common.{◌≡◌, ◌∷◌, ◌∙◌, ◌+◌, ℕ, zero, suc, Bool, true, false, List, [], map}
 use Rattle.std.proofs.Common.{Option, None, Some, refl, ap}
 use Rattle.std.specs.List.{flat_map, fold}
 use Rattle.std.specs.Prelude.{is_some}
@@ -13,7 +13,7 @@ use Rattle.log_merge.specs.declared.names.BoardNames.{BoardNames}
 use Rattle.log_merge.specs.declared.names.Names.{Names}
 use Rattle.board.specs.Changes.{handed}
 use Rattle.board.specs.Stretch.{stretch}
-use Rattle.board.specs.View.{View, State}
+use Rattle.board.specs.View.{View}
 use Rattle.lab_state.specs.Board.{Board}
 use Rattle.lab_state.specs.Boundary.{Handed, to_member, to_route, boundary, due, waiting}
 use Rattle.lab_state.specs.Hub.{Hub, members_of}
@@ -82,9 +82,9 @@ module _ (plans : (v : View) (from a n : ℕ) → (stretch v from a n).view.spac
       let stepped_all = map (stepped (granted lab.now to)) lab.boards in
       let sent = flat_map (posts_made (granted lab.now to)) lab.boards in
       let same : all_names (boundary to lab.hubs stepped_all lab.pending sent).boards ≡ all_names lab.boards =
-          boundary_keeps to lab.hubs stepped_all lab.pending sent
-          ∙ map_keeps (λ v. (granted lab.now to v).view) (λ v. plans v lab.now 0 (paid lab.now to v.numbers.speed))
-          lab.boards in
+      boundary_keeps to lab.hubs stepped_all lab.pending sent
+      ∙ map_keeps (λ v. (granted lab.now to v).view) (λ v. plans v lab.now 0 (paid lab.now to v.numbers.speed))
+      lab.boards in
       ap (λ (all : List BoardNames). names_with all) same
 
   go_on_keeps : (paused : Bool) (so_far : Rounded) (q : ℕ) → is_some so_far.paused ≡ paused →

@@ -1,5 +1,5 @@
 -- What a run writes, reads and keeps rests on the names that it reads and on those of its calls on the store.
-use Rattle.std.proofs.Common.{◌≡◌, ◌∷◌, ◌++◌, ◌+◌, ℕ, zero, suc, if◌then◌else◌, Bool, true, false, List, [], length, map}
+use Rattle.std.proofs.Common.{◌≡◌, ◌∷◌, ◌++◌, ℕ, zero, suc, if◌then◌else◌, Bool, true, false, List, [], length, map}
 use Rattle.std.proofs.Common.{Option, None, Some, refl, ap, subst}
 use Rattle.std.specs.FinMap.{get, insert}
 use Rattle.lab_io.specs.Held.{Held}
@@ -7,8 +7,10 @@ use Rattle.lab_io.specs.Store.{StoreUse, get_of, put_of}
 use Rattle.lab_snap.specs.Saved.{spelling}
 use Rattle.lab_snap.specs.Snapshot.{snapshot_of}
 use Rattle.lab_state.specs.Lab.{Lab}
+use Rattle.lab_state.specs.Names.{names as names_of}
 use Rattle.lab_state.specs.Run.{Play}
 use Rattle.log_text.specs.declared.line.OpenLine.{OpenLine}
+use Rattle.log_text.specs.Log.{rest}
 use Rattle.monitor.specs.declared.setting.Setting.{Setting}
 use Rattle.monitor.specs.Answer.{Answer, Goes, Saves, Loads, Ends, Faults, Misses, Did}
 use Rattle.monitor.specs.Command.{did}
@@ -17,12 +19,13 @@ use Rattle.resc_vars.specs.declared.cause.ScriptCause.TheVariants.{Size, Occupie
 use Rattle.lab_top.specs.Content.{Content, Missing, Faulty, Readable, content_of}
 use Rattle.lab_top.specs.Headline.{names_read}
 use Rattle.lab_top.specs.Request.{Request, Refused, Run, Gen, request_of}
+use Rattle.lab_top.specs.Transcript.{Absent, Done, Script}
 use Rattle.lab_top.specs.Transcript.{Transcript, Read, Use, Further, read_now, read_later, use_later, after, ended, using}
 use Rattle.lab_top.specs.Transcript.{onward, from, saving, loading, loading_kept, resuming, refused, is_large}
 use Rattle.lab_top.specs.Transcript.{is_occupied, begun, run_of, answered, transcript_by}
 use Rattle.log_laws.specs.Agreement.{IsAlike, names_used}
-use Rattle.log_laws.proofs.Agreements.{Same, same_front, same_behind, same_after}
-use Rattle.log_laws.proofs.Commands.{did_stays}
+use Rattle.log_laws.proofs.AgreementLemmas.{Same, same_front, same_behind, same_after}
+use Rattle.log_laws.proofs.CommandLemmas.{did_stays}
 
 later_names : (n : ℕ) (reads : List Read) → names_read (map (read_later n) reads) ≡ names_read reads
 later_names n [] = refl
@@ -171,9 +174,11 @@ module _ (held other : Held) where
         (saving first kept name place next (spelling next.lab next.lines)) looks
     onward_names (Loads name place next) looks =
         looks_names kept stored names [] (loading first kept name place next) looks
-    onward_names Ends looks = looks_names kept stored names _ _ looks
-    onward_names (Faults fault) looks = looks_names kept stored names _ _ looks
-    onward_names Misses looks = looks_names kept stored names _ _ looks
+    onward_names Ends looks =
+        looks_names kept stored names (rest (names_of s.lab) s.lines) (ended kept Done) looks
+    onward_names (Faults fault) looks =
+        looks_names kept stored names (rest (names_of s.lab) s.lines) (ended kept (Script fault)) looks
+    onward_names Misses looks = looks_names kept stored names [] (ended kept Absent) looks
 
   from_alike : (more : ℕ) (play : Play) → AreAlike (from more play held) (from more play other)
   unfolding from

@@ -1,5 +1,5 @@
 -- What a command does rests on the names that it reads.
-use Rattle.std.proofs.Common.{◌≡◌, ◌∷◌, ℕ, nat_lt, List, [], length, Result, Ok, Err, refl, ap}
+use Rattle.std.proofs.Common.{◌≡◌, ℕ, nat_lt, List, length, Result, Ok, Err, refl, ap}
 use Rattle.std.specs.FinMap.{get}
 use Rattle.lab_io.specs.Held.{Held}
 use Rattle.lab_io.specs.Whole.{file_text}
@@ -17,14 +17,14 @@ use Rattle.repl_files.specs.Loading.{load}
 use Rattle.monitor.specs.Answer.{Answer, Did, answer_at, loads, reads}
 use Rattle.monitor.specs.Bodies.{include_text}
 use Rattle.monitor.specs.Boards.{load_onto}
-use Rattle.monitor.specs.Command.{Work, work, does, done_by, by_next, did}
+use Rattle.monitor.specs.Command.{work, does, done_by, by_next, did}
 use Rattle.monitor.specs.Images.{elf_image, hex_image, load_read}
 use Rattle.monitor.specs.Memory.{write_bytes}
 use Rattle.monitor.specs.Refusal.{require}
 use Rattle.monitor.specs.Selected.{bare, equipped}
 use Rattle.monitor.specs.State.{State, Place}
-use Rattle.log_laws.proofs.Agreements.{Same}
-use Rattle.log_laws.proofs.Loadings.{load_stays}
+use Rattle.log_laws.proofs.AgreementLemmas.{Same}
+use Rattle.log_laws.proofs.LoadingLemmas.{load_stays}
 
 module _ (held other : Held) where
   -- a command does the same with the other files where these agree on the names that it reads
@@ -32,7 +32,8 @@ module _ (held other : Held) where
   Stays first second = Same held other first.names → second ≡ first
 
   loads_stay : {A : Type 0} (place : Place) (name : List ℕ) (before : Result A ScriptCause)
-      (answer : A → List ℕ → Answer) → Stays (loads held place name before answer) (loads other place name before answer)
+      (answer : A → List ℕ → Answer) →
+      Stays (loads held place name before answer) (loads other place name before answer)
   loads_stay place name (Ok x) answer same = rw same.0 refl
   loads_stay place name (Err cause) answer same = refl
 

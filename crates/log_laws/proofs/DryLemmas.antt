@@ -1,14 +1,12 @@
 -- With runs of length 0 each command leaves the time of the laboratory, and what follows has such runs too.
-use Rattle.std.proofs.Common.{◌≡◌, ◌+◌, ◌-◌, ◌%◌, ◌==◌, ◌^◌, ℕ, nat_le, nat_lt, if◌then◌else◌, Bool, true, false, not, List, [], length}
+use Rattle.std.proofs.Common.{◌≡◌, ◌-◌, ℕ, nat_lt, if◌then◌else◌, Bool, true, false, List, length}
 use Rattle.std.proofs.Common.{Option, None, Some, Result, Ok, Err, refl}
 use Rattle.std.specs.FinMap.{get}
-use Rattle.std.specs.Prelude.{is_none}
 use Rattle.lab_io.specs.Held.{Held}
 use Rattle.lab_io.specs.Whole.{FileText, Missing, Large, Broken, Readable, file_text}
 use Rattle.lab_num.specs.declared.key.Member.{Member}
 use Rattle.lab_state.specs.Lab.{Lab}
-use Rattle.lab_state.specs.Names.{hub_named, connected_to}
-use Rattle.lab_state.specs.One.{first_without}
+use Rattle.lab_state.specs.Names.{connected_to}
 use Rattle.lab_state.specs.Run.{Play, still}
 use Rattle.repl_build.specs.Plan.{built}
 use Rattle.repl_files.specs.Loading.{Loading, Outcome, Joined, Refused, Oversized, Absent, load}
@@ -26,7 +24,7 @@ use Rattle.resc_vars.specs.Script as script
 use Rattle.sys_bus.specs.declared.plan.BoardPlan.{BoardPlan}
 use Rattle.elf_load.specs.declared.image.Image.{Image}
 use Rattle.monitor.specs.declared.fault.Cause.{Cause}
-use Rattle.monitor.specs.Answer.{Answer, Goes, Saves, Loads, Ends, Faults, Misses, Done, answer_at, loads, reads}
+use Rattle.monitor.specs.Answer.{Answer, Done, answer_at, loads, reads}
 use Rattle.monitor.specs.Answer.{refused, with_file}
 use Rattle.monitor.specs.Bodies.{entered, include_text, run_macro}
 use Rattle.monitor.specs.Boards.{create, equip, equip_loaded, load_onto, reset_board, select}

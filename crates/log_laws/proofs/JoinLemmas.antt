@@ -1,23 +1,20 @@
 -- Two runs of a script come to one.
-use Rattle.std.proofs.Common.{◌≡◌, ◌∙◌, ◌+◌, ◌%◌, ◌<◌, ◌^◌, ◌++◌, ℕ, nat_le, Bool, true, false, List, [], None, Result, Ok}
-use Rattle.std.proofs.Common.{refl, sym, ap}
-use Rattle.std.specs.Prelude.{is_none}
+use Rattle.std.proofs.Common.{◌≡◌, ◌∙◌, ◌+◌, ◌%◌, ◌<◌, ◌++◌, ℕ, Bool, true, false, List, None, Ok}
+use Rattle.std.proofs.Common.{refl, ap}
 use Rattle.log_merge.specs.declared.item.LogItem.{LogItem}
 use Rattle.log_merge.specs.declared.names.Names.{Names}
 use Rattle.log_text.specs.declared.line.OpenLine.{OpenLine}
 use Rattle.log_text.specs.Log.{open_lines, text}
 use Rattle.lab_state.specs.Lab.{Lab}
 use Rattle.lab_state.specs.Names.{names}
-use Rattle.lab_state.specs.One.{first_without}
 use Rattle.lab_state.specs.Round.{Rounded}
 use Rattle.lab_state.specs.Run.{run, followed_by}
 use Rattle.monitor.specs.Answer.{Done, leaves}
 use Rattle.monitor.specs.Refusal.{◌>>=◌, require}
 use Rattle.monitor.specs.Runs.{has_run, length_of, run_for}
 use Rattle.monitor.specs.State.{State}
-use Rattle.resc_vars.specs.declared.cause.ScriptCause.{ScriptCause}
 use Rattle.resc_vars.specs.declared.cause.ScriptCause.TheVariants.{LabTime, Platform}
-use Rattle.log_laws.proofs.Still.{run_none}
+use Rattle.log_laws.proofs.StillLemmas.{run_none}
 
 -- what two tests let pass
 passed : {A : Type 0} (a b : Bool) (x y : A) →
@@ -35,12 +32,12 @@ ran : (s : State) (length : ℕ) (done : Done) → run_for run s length ≡ Ok d
 ran s length done is = passed _ _ _ done is
 
 module _ (joins : (lab : Lab) (d e : ℕ) → 0 < lab.quantum → d % lab.quantum ≡ 0 → (run lab d).paused ≡ None →
-      run lab (d + e) ≡ followed_by (run lab d) (run (run lab d).lab e))
+    run lab (d + e) ≡ followed_by (run lab d) (run (run lab d).lab e))
     (keeps : (lab : Lab) (d : ℕ) → names (run lab d).lab ≡ names lab)
     (prints : (shown : Names) (lines : List OpenLine) (items more : List LogItem) →
-      text shown lines (items ++ more) ≡ text shown lines items ++ text shown (open_lines lines items) more)
+    text shown lines (items ++ more) ≡ text shown lines items ++ text shown (open_lines lines items) more)
     (opens : (lines : List OpenLine) (items more : List LogItem) →
-      open_lines lines (items ++ more) ≡ open_lines (open_lines lines items) more) where
+    open_lines lines (items ++ more) ≡ open_lines (open_lines lines items) more) where
   -- what two lists of items print one after another, the first under names of its own that are the same
   prints_both : (s : State) (one two : Rounded) → names two.lab ≡ names one.lab →
       has_run s (followed_by one two)
@@ -88,7 +85,7 @@ module _ (joins : (lab : Lab) (d e : ℕ) → 0 < lab.quantum → d % lab.quantu
       let mid = has_run s (run s.lab d) in
       let same : first ≡ mid = one ∙ goes s d is in
       let again : second ≡ has_run mid.state (run mid.state.lab e) =
-          two ∙ ap (runs_so e) same ∙ goes mid.state e is in
+      two ∙ ap (runs_so e) same ∙ goes mid.state e is in
       all ∙ goes s (d + e) is ∙ joined_by s d e some whole on ∙ rw (same, again) refl
 
   pub runs_joined : (s : State) (d e : ℕ) (first second both : Done) →
