@@ -5,7 +5,7 @@
 #define MIE_TIMER (1u << 7)
 #define MIE_EXTERNAL (1u << 11)
 
-/* Calls the handler at these interrupts. */
+/* Calls the handler at these interrupts. It stands at a multiple of 4, `aligned(4)`, since mtvec has no bit 1. */
 static inline void interrupts_on(void (*handler)(void), uint32_t mie)
 {
     __asm__ volatile("csrw mtvec, %0" : : "r"(handler));

@@ -21,7 +21,7 @@ static void send_reading(void)
     can_send(READING, bytes, 2);
 }
 
-static __attribute__((interrupt("machine"))) void tick(void)
+static __attribute__((interrupt("machine"), aligned(4))) void tick(void)
 {
     next += PERIOD;
     MTIMECMP[0] = next;

@@ -11,7 +11,7 @@
 
 static const uint8_t answer[1] = {5};
 
-static __attribute__((interrupt("machine"))) void on_frame(void)
+static __attribute__((interrupt("machine"), aligned(4))) void on_frame(void)
 {
     uint32_t source = *PLIC_CLAIM;
     (void)CAN[IR];

@@ -21,6 +21,7 @@ _start: la t0, vectors + 1      # bit 0: an interrupt n goes to `vectors` + 4 n
 wait:   wfi
         j wait
 
+        .balign 4               # mtvec has no bit 1
 vectors:
         j wrong                 # exceptions
         .zero 24                # 1 to 6

@@ -3,8 +3,9 @@ ghost use Rattle.std.specs.Prelude.{◌≤◌};
 
 use lab_io::{DiskStore, MemStore, ReadAnswer, Store, StoreAnswer};
 use std::alloc::Global;
+use std::os::unix::fs::symlink;
 use std::test::Fail;
-use std::{fs, rt};
+use std::{fs, io, rt};
 
 /// A call on a store, and what it answers.
 #[derive(Clone, Copy, Debug)]
@@ -69,11 +70,6 @@ static ON_DISK: [Call; 7] = [
     Call::Get("lab_io_no_such_folder/kept", 64, ReadAnswer::Failed, b""),
 ];
 
-/// Whether nothing is left of a file that was written beside its name.
-fn is_finished<R: rt::Files>(rt: &R) -> bool {
-    fs::open(rt, "lab_io_kept.unfinished").is_err()
-}
-
 #[test]
 fn a_real_file_is_written_whole(rt: HostRuntime) -> Result<(), Fail> {
     let alloc = rt.alloc();
@@ -83,7 +79,52 @@ fn a_real_file_is_written_whole(rt: HostRuntime) -> Result<(), Fail> {
             "{call:?}"
         );
     }
-    assert!(rt; is_finished(&rt));
+    let is_finished = fs::open(&rt, ".lab-0").is_err();
+    assert!(rt; is_finished);
     fs::remove_file(&rt, "lab_io_kept")?;
+    Ok(())
+}
+
+/// In a folder with a file that stands where a side file would, a folder, and links: to a file, and to nothing.
+static BESIDE: [Call; 8] = [
+    Call::Put("lab_io_room/file", b"one", StoreAnswer::Done),
+    Call::Get("lab_io_room/.lab-0", 64, ReadAnswer::Done, b"of another"),
+    Call::Put("lab_io_room/link", b"two", StoreAnswer::Done),
+    Call::Get("lab_io_room/file", 64, ReadAnswer::Done, b"two"),
+    Call::Get("lab_io_room/link", 64, ReadAnswer::Done, b"two"),
+    Call::Put("lab_io_room/nowhere", b"three", StoreAnswer::Failed),
+    Call::Put("lab_io_room/folder", b"four", StoreAnswer::Failed),
+    Call::Put("lab_io_room/.lab-0", b"five", StoreAnswer::Done),
+];
+
+/// Makes that folder.
+fn make_room<R: rt::Files>(rt: &R) -> io::Result<()> {
+    fs::create_dir(rt, "lab_io_room")?;
+    fs::create_dir(rt, "lab_io_room/folder")?;
+    fs::write(rt, "lab_io_room/.lab-0", "of another")?;
+    symlink(rt, "file", "lab_io_room/link")?;
+    symlink(rt, "none", "lab_io_room/nowhere")
+}
+
+/// Whether a name is that of a link.
+fn is_link<R: rt::Files>(rt: &R, name: &str) -> bool {
+    match fs::symlink_metadata(rt, name) {
+        Ok(found) => found.is_symlink(),
+        Err(_) => false,
+    }
+}
+
+#[test]
+fn a_put_leaves_other_files(rt: HostRuntime) -> Result<(), Fail> {
+    let alloc = rt.alloc();
+    make_room(&rt)?;
+    for call in &BESIDE {
+        assert!(rt;
+            answers(alloc, &mut DiskStore::new(&rt, alloc), call),
+            "{call:?}"
+        );
+    }
+    assert!(rt; is_link(&rt, "lab_io_room/link"));
+    fs::remove_dir_all(&rt, "lab_io_room")?;
     Ok(())
 }

@@ -1,4 +1,4 @@
--- What the processor is wired to in a slot, and what each of its accesses does.
+-- What the processor that takes a slot is wired to, and what each of its accesses does.
 use Rattle.std.specs.Prelude.{ℕ, Bool, if◌then◌else◌, List, [], ◌∷◌, ◌++◌, Option, None, Some}
 use Rattle.lab_num.specs.declared.key.Key.{Key}
 use Rattle.dev_core.specs.declared.payload.Effect.{Effect}

@@ -304,7 +304,7 @@ impl<D: Device> Board<D> {
         self.harts[usize::from(hart)].pc()
     }
 
-    /// Whether a processor is halted: its slots pass and change nothing.
+    /// Whether a processor is halted: its slots pass and change nothing but whose turn is next.
     pub fn halted(&self, hart: u8) -> bool
         requires { hart < length self.now.view.cores }
         ensures { result ≡ (core_at self.now.view hart).halted }

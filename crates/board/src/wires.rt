@@ -1,4 +1,4 @@
-//! What the processor is wired to in a slot, and what the board makes by it.
+//! What the processor that takes a slot is wired to, and what the board makes by it.
 ghost use Rattle.std.specs.Prelude.{◌≡◌, ◌+◌, ◌^◌, ◌<◌, ◌≤◌, [], length, map, IfOk, OnOk, OnErr};
 ghost use Rattle.std.specs.Vec.{vec_len, vec_capacity};
 ghost use Rattle.dev_core.specs.declared.post.What.TheVariants.{Read};

@@ -1,5 +1,5 @@
-//! The CLINT of a board: the counter `mtime`, the timer interrupt and the software interrupt of
-//! its hart.
+//! The CLINT of a board: the counter `mtime`, one timer interrupt and one software interrupt, which the board's wires lead
+//! to its harts.
 #![tactic(auto)]
 
 mod clint;

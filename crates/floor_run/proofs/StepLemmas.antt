@@ -13,8 +13,8 @@ use Rattle.atomic_table.specs.Table.{Splits, Joins}
 use Rattle.atomic_table.proofs.Lists.{at_set, at_snoc, at_longer, set_here, set_else, set_again}
 use Rattle.floor_run.specs.declared.view.View.{View}
 use Rattle.floor_run.specs.Inner.Steps.{Seated, reports, claims}
-use Rattle.floor_run.specs.Rule.{Place, home, out, done, word_of, Cell, Homes, Holds, Lies, InPlace, BoardRule}
-use Rattle.floor_run.specs.Rule.{ViewRule, Rule}
+use Rattle.floor_run.specs.Rule.{Place, home, out, done, word_of, home_word, Cell, Homes, Holds, Lies, InPlace}
+use Rattle.floor_run.specs.Rule.{BoardRule, ViewRule, Rule}
 use Rattle.floor_run.specs.View.{spent, empty_handed, after_claim}
 
 -- one of two cells
@@ -266,12 +266,12 @@ module _ {J : Type 0} (left : J → ℕ) (AfterTurns : J → ℕ → J → Type 
       (has : get_elem? starts i ≡ some start) (at : get_elem? s.views id ≡ some me.0) (held : me.0.held ≡ Some claimed)
       (board : me.0.board ≡ i) (live : me.0.spent ≡ false)
       (holds : me.1 ≡ (i, Some job) ∷ []) (is : r.cells i ≡ (q, out id)) (stands : AfterTurns start (q + 1) job)
-      (fits : left start < 18446744073709551616) where
+      (fits : left start < 18446744073709551616) (counts : new ≡ home_word left (me.0.found / 4 + 1) job) where
     reported :
         (place : Place) → new ≡ word_of (q + 1) place →
         InPlace left AfterTurns (set s.homes i (some (Some job))) (set s.views id (empty_handed me.0)) start i
         (q + 1) place
-        → Goes starts s (i + 1) id me (reports (step slots (i + 1) new 0 none) me new) new
+        → Goes starts s (i + 1) id me (reports left (step slots (i + 1) new 0 none) me new) new
     reported place shown lies =
         let w : View J = empty_handed me.0 in
         let homes' : Homes J = set s.homes i (some (Some job)) in (
@@ -296,7 +296,7 @@ module _ {J : Type 0} (left : J → ℕ) (AfterTurns : J → ℕ → J → Type 
                 same = λ _. (r.each_view id me.0 at).same live;
                 claimed = λ x h. none_held None x refl h;
               }),
-          refl,
+          ((i, job, refl, holds, counts), refl),
         )
       where
         seat_of : Cell → ℕ
@@ -311,18 +311,19 @@ module _ {J : Type 0} (left : J → ℕ) (AfterTurns : J → ℕ → J → Type 
         (job, set_here s.homes i (some (Some job)) (omega arith), stands)
 
     reported_as :
-        Ends new start (q + 1) → Goes starts s (i + 1) id me (reports (step slots (i + 1) new 0 none) me new) new
+        Ends new start (q + 1) → Goes starts s (i + 1) id me (reports left (step slots (i + 1) new 0 none) me new) new
     reported_as (inl e) = reported home e.0 (e.1, lies)
     reported_as (inr e) = reported done e.0 (e.1, lies)
 
   pub report_keeps :
       (starts : List J) (slots id : ℕ) (me : Seated J) (i new : ℕ) (job claimed : J) → me.0.spent ≡ false →
-      me.0.held ≡ Some claimed → me.0.board ≡ i → me.1 ≡ (i, Some job) ∷ []
+      me.0.held ≡ Some claimed → me.0.board ≡ i → me.1 ≡ (i, Some job) ∷ [] →
+      new ≡ home_word left (me.0.found / 4 + 1) job
       → ((start : J) → get_elem? me.0.starts i ≡ some start → AfterTurns start (me.0.found / 4) claimed →
       AfterTurns start (me.0.found / 4 + 1) job × Ends new start (me.0.found / 4 + 1))
       → Allows (Rule left AfterTurns starts) slots id me (i + 1) (λ _. new)
-      (λ _ m. reports (step slots (i + 1) new 0 none) me new m)
-  report_keeps starts slots id me i new job claimed live held board holds next s r roomy at _ =
+      (λ _ m. reports left (step slots (i + 1) new 0 none) me new m)
+  report_keeps starts slots id me i new job claimed live held board holds counts next s r roomy at _ =
       let v = r.each_view id me.0 at in
       let k = v.claimed claimed held in
       let is : r.cells i ≡ (me.0.found / 4, out id) = ap r.cells (sym board) ∙ k.0 in
@@ -330,7 +331,7 @@ module _ {J : Type 0} (left : J → ℕ) (AfterTurns : J → ℕ → J → Type 
       let has : get_elem? starts i ≡ some start = ap (get_elem? starts) (sym board) ∙ k.2.1 in
       let n = next start (ap (λ (l : List J). get_elem? l i) (v.same live) ∙ has) k.2.2 in
       reported_as starts s r slots id me i (me.0.found / 4) new start job claimed has at held board live holds is n.0
-      (r.each_board i start has).fits n.1
+      (r.each_board i start has).fits counts n.1
 
   pub split_keeps :
       (starts : List J) (id : ℕ) (v : View J) → Splits (Rule left AfterTurns starts) id v v (empty_handed v)
@@ -413,12 +414,13 @@ module _ {J : Type 0} (left : J → ℕ) (AfterTurns : J → ℕ → J → Type 
   -- the same, of a seat whose view is known
   pub report_from :
       (starts : List J) (slots id : ℕ) (me : Seated J) (v : View J) (i new : ℕ) (job claimed : J) →
-      me ≡ (v, (i, Some job) ∷ []) → v.spent ≡ false → v.held ≡ Some claimed → v.board ≡ i
+      me ≡ (v, (i, Some job) ∷ []) → v.spent ≡ false → v.held ≡ Some claimed → v.board ≡ i →
+      new ≡ home_word left (v.found / 4 + 1) job
       → ((start : J) → get_elem? v.starts i ≡ some start → AfterTurns start (v.found / 4) claimed →
       AfterTurns start (v.found / 4 + 1) job × Ends new start (v.found / 4 + 1))
       → Allows (Rule left AfterTurns starts) slots id me (i + 1) (λ _. new)
-      (λ _ m. reports (step slots (i + 1) new 0 none) me new m)
-  report_from starts slots id me v i new job claimed e live held board next =
+      (λ _ m. reports left (step slots (i + 1) new 0 none) me new m)
+  report_from starts slots id me v i new job claimed e live held board counts next =
       subst (λ (x : Seated J). Allows (Rule left AfterTurns starts) slots id x (i + 1) (λ _. new)
-      (λ _ m. reports (step slots (i + 1) new 0 none) x new m)) (sym e)
-      (report_keeps starts slots id (v, (i, Some job) ∷ []) i new job claimed live held board refl next)
+      (λ _ m. reports left (step slots (i + 1) new 0 none) x new m)) (sym e)
+      (report_keeps starts slots id (v, (i, Some job) ∷ []) i new job claimed live held board refl counts next)

@@ -1,11 +1,13 @@
 -- A turn more of a job is a turn more of its start.
-use Rattle.std.proofs.Common.{◌≡◌, ℕ, ◌+◌, ◌-◌, ◌*◌, ◌/◌, ◌≤◌, ◌⊎◌, inl, inr, List, [], ◌∷◌, ◌++◌, length, min}
-use Rattle.std.proofs.Common.{take, drop}
-use Rattle.std.proofs.Common.{refl, sym, ap, ◌∙◌, subst, arith, append_assoc, append-nil, length-drop, Option}
+use Rattle.std.proofs.Common.{◌≡◌, ◌≢◌, ℕ, ◌+◌, ◌-◌, ◌*◌, ◌/◌, ◌≤◌, ◌⊎◌, inl, inr, Bool, if◌then◌else◌, List, [], ◌∷◌}
+use Rattle.std.proofs.Common.{◌++◌, length, min, take, drop, refl, sym, ap, ◌∙◌, subst, arith, append_assoc, append-nil}
+use Rattle.std.proofs.Common.{length-drop, eq-eqb, ne_eqb, Option}
+use Rattle.std.proofs.lemmas.Bool.{cases_eq}
 use Rattle.atomic_table.specs.Table.{rest}
 use Rattle.dev_core.specs.declared.post.Post.{Post}
 use Rattle.floor_core.specs.Job as jobs
 use Rattle.floor_core.specs.Job.{Job, posts, made, aside, after, Rests}
+use Rattle.floor_run.specs.Rule.{home, done, word_of, home_word}
 use Rattle.floor_run.specs.Turns.{After, slots_left, paid, AfterTurns, IsTurned}
 use Rattle.floor_run.proofs.StepLemmas.{Ends}
 
@@ -22,6 +24,10 @@ module _ {S : Type 0} (state_after : S → List (Option Post) → ℕ → S) whe
 
   abbrev pub PostsAdd : Type 0
   PostsAdd = (j : Job S) (a b : ℕ) → made (after state_after j a) b ≡ made j (a + b)
+
+-- the word of a board at home, by whether no slots are left
+abbrev word_if : ℕ → Bool → ℕ
+word_if r b = word_of r (if b then done else home)
 
 module _ {J S : Type 0} (meaning : J → Job S) (sent : J → List Post)
     (state_after : S → List (Option Post) → ℕ → S) where
@@ -80,30 +86,31 @@ module _ {J S : Type 0} (meaning : J → Job S) (sent : J → List Post)
       let sum : a + b ≡ min n (4096 * (q + 1)) = omega arith in
       subst (λ (k : ℕ). Is start k job) sum (adds_up turns more start claimed job a b (omega arith) x y)
 
-  ends_done : (start job : J) (q : ℕ) → Turned start q job → L job ≡ 0 → Ends L Turned (4 * q + 3) start q
-  ends_done start job q x z =
-      let n : ℕ = L start in
-      let m : ℕ = L job in
-      let l : m ≡ n - min n (4096 * q) = left_after start job _ x in
-      inr (refl, omega arith)
-
-  ends_home : (start job : J) (q : ℕ) → Turned start q job → ¬ (L job ≡ 0) → Ends L Turned (4 * q) start q
-  ends_home start job q x z =
-      let n : ℕ = L start in
-      let m : ℕ = L job in
-      let l : m ≡ n - min n (4096 * q) = left_after start job _ x in
-      inl (refl, omega arith)
-
-  -- the word that a report stores
-  pub ends :
-      (start job : J) (found reports word : ℕ) → found ≡ 4 * reports → Turned start (found / 4 + 1) job →
+  -- the word that a report stores counts one report more than the claim found
+  pub counts :
+      (job : J) (found reports word : ℕ) → found ≡ 4 * reports →
       ((L job ≡ 0) × (word ≡ 4 * (reports + 1) + 3)) ⊎ ((¬ (L job ≡ 0)) × (word ≡ 4 * (reports + 1))) →
-      Ends L Turned word start (found / 4 + 1)
-  ends start job found reports word is x (inl e) =
+      word ≡ home_word L (found / 4 + 1) job
+  counts job found reports word is (inl e) =
       let same : word ≡ 4 * (found / 4 + 1) + 3 = e.1 ∙ (omega arith) in
-      subst (λ (k : ℕ). Ends L Turned k start (found / 4 + 1)) (sym same)
-      (ends_done start job (found / 4 + 1) x e.0)
-  ends start job found reports word is x (inr e) =
+      same ∙ ap (word_if (found / 4 + 1)) (sym (eq-eqb (L job) 0 e.0))
+  counts job found reports word is (inr e) =
       let same : word ≡ 4 * (found / 4 + 1) = e.1 ∙ (omega arith) in
-      subst (λ (k : ℕ). Ends L Turned k start (found / 4 + 1)) (sym same)
-      (ends_home start job (found / 4 + 1) x e.0)
+      same ∙ ap (word_if (found / 4 + 1)) (sym (ne_eqb (L job) 0 e.0))
+
+  -- and says whether slots are left
+  pub ends : (start job : J) (q word : ℕ) → word ≡ home_word L q job → Turned start q job → Ends L Turned word start q
+  ends start job q word is x = elim (cases_eq (L job) 0) [
+    | inl nothing ↦
+        let n : ℕ = L start in
+        let m : ℕ = L job in
+        let l : m ≡ n - min n (4096 * q) = left_after start job _ x in
+        let nothing' : m ≡ 0 = nothing in
+        inr (is ∙ ap (word_if q) (eq-eqb (L job) 0 nothing), omega arith)
+    | inr some ↦
+        let n : ℕ = L start in
+        let m : ℕ = L job in
+        let l : m ≡ n - min n (4096 * q) = left_after start job _ x in
+        let some' : m ≢ 0 = some in
+        inl (is ∙ ap (word_if q) (ne_eqb (L job) 0 some), omega arith)
+  ]

@@ -1,6 +1,7 @@
 -- The rule of the bench, which holds at every moment.
 -- Word 0 stays 0. Word i + 1 belongs to board i, and slot i holds that board's job.
-use Rattle.std.specs.Prelude.{◌≡◌, ℕ, ◌+◌, ◌*◌, ◌/◌, ◌%◌, ◌<◌, ◌≤◌, false, List, length, Option, Some, slice_index_or}
+use Rattle.std.specs.Prelude.{◌≡◌, ◌==◌, ℕ, ◌+◌, ◌*◌, ◌/◌, ◌%◌, ◌<◌, ◌≤◌, if◌then◌else◌, false, List, length, Option}
+use Rattle.std.specs.Prelude.{Some, slice_index_or}
 use mathlib.Core.Option.{some}
 use mathlib.Core.Option as maybe
 use lib.ListN.{get_elem?}
@@ -18,6 +19,10 @@ abbrev pub word_of : ℕ → Place → ℕ
 word_of r home = 4 * r
 word_of r (out seat) = 4 * r + 1
 word_of r done = 4 * r + 3
+
+-- the word of a board at home that was reported so often and has this job
+abbrev pub home_word : {J : Type 0} → (J → ℕ) → ℕ → J → ℕ
+home_word left r job = word_of r (if left job == 0 then done else home)
 
 -- how often a board was reported, and where it is
 abbrev pub Cell : Type 0

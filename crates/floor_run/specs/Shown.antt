@@ -1,17 +1,16 @@
 -- The floor of floor_core that words, slots and views show, and what the steps of the bench do to them.
-use Rattle.std.specs.Prelude.{◌≡◌, ℕ, ◌+◌, ◌/◌, ◌%◌, ◌==◌, ◌⊎◌, false, List, [], ◌∷◌, ◌++◌, length, min, map}
-use Rattle.std.specs.Prelude.{if◌then◌else◌}
+use Rattle.std.specs.Prelude.{◌≡◌, ℕ, ◌+◌, ◌/◌, ◌%◌, ◌⊎◌, false, List, [], ◌∷◌, ◌++◌, min, map}
 use Rattle.std.specs.Prelude.{Option, Some, None, slice_index_or, slice_set}
 use mathlib.Core.Option.{some}
 use lib.ListN.{get_elem?}
 use Rattle.std.specs.Int.Bits.{bit_or}
 use Rattle.atomic_table.specs.Table.{stepped, takes, keeps, gives, opening}
 use Rattle.dev_core.specs.declared.post.Post.{Post}
-use Rattle.floor_core.specs.Floor.{Board, Floor}
-use Rattle.floor_core.specs.Job.{Job, made, aside, after}
-use Rattle.floor_core.specs.Sound.{IsSound}
+use Rattle.floor_core.specs.Floor.{Board, Floor, posted_by}
+use Rattle.floor_core.specs.Job.{Job}
+use Rattle.floor_core.specs.Sound.{Sound}
 use Rattle.floor_run.specs.declared.view.View.{View}
-use Rattle.floor_run.specs.Rule.{Table, Holds, home, done, word_of}
+use Rattle.floor_run.specs.Rule.{Table, Holds, home_word}
 use Rattle.floor_run.specs.Turns.{slots_left, paid}
 use Rattle.floor_run.specs.View.{fresh, spent, after_claim, empty_handed}
 
@@ -45,21 +44,9 @@ module _ {J S : Type 0} (meaning : J → Job S) where
   abbrev pub turn_slots : J → ℕ
   turn_slots job = min 4096 (slots_left meaning job)
 
-  -- the word of a board at home that was reported so often and has this job
-  abbrev pub home_word : ℕ → J → ℕ
-  home_word r job = word_of r (if slots_left meaning job == 0 then done else home)
-
   -- words, slots and views as the bench is opened
   abbrev pub opened : List J → Table J
-  opened starts = opening (0 ∷ map (home_word 0) starts) (map Some starts) (fresh starts)
-
-  -- at home: the word says how many slots are used, and the job lies in the slot
-  pub record ShowsHome (s : Table J) (start : J) (i : ℕ) (b : Board S) : Type 0 where
-    pub word_is : (word s i % 4 ≡ 0) ⊎ (word s i % 4 ≡ 3)
-    pub worker : b.worker ≡ None
-    pub used : b.used ≡ paid meaning start (word s i / 4)
-    pub sent : b.job.unsent ≡ []
-    pub job : (job : J) × (get_elem? s.homes i ≡ some (some (Some job))) × (meaning job ≡ b.job)
+  opened starts = opening (0 ∷ map (home_word (slots_left meaning) 0) starts) (map Some starts) (fresh starts)
 
   -- out: the word says how many slots are used with this turn, and the worker is the seat that holds the board
   pub record ShowsOut (s : Table J) (start : J) (i : ℕ) (b : Board S) : Type 0 where
@@ -67,22 +54,27 @@ module _ {J S : Type 0} (meaning : J → Job S) where
     pub used : b.used ≡ paid meaning start (word s i / 4 + 1)
     pub worker : (seat : ℕ) × (b.worker ≡ Some seat) × Holds s.views i seat
 
-  module _ (state_after : S → List (Option Post) → ℕ → S) where
-    -- posts aside, the job is the start after the slots that are used
-    pub record ShowsBoard (s : Table J) (start : J) (i : ℕ) (b : Board S) : Type 0 where
-      pub job : aside b.job ≡ aside (after state_after (meaning start) b.used)
-      pub place : ShowsHome s start i b ⊎ ShowsOut s start i b
+  module _ (sent : J → List Post) where
+    -- At home: the word says how many slots are used, and the job lies in the slot. What that has sent is what its
+    -- start had sent, and then what the floor has posted for it.
+    pub record ShowsHome (s : Table J) (start : J) (i : ℕ) (b : Board S) (posted : List Post) : Type 0 where
+      pub word_is : (word s i % 4 ≡ 0) ⊎ (word s i % 4 ≡ 3)
+      pub worker : b.worker ≡ None
+      pub used : b.used ≡ paid meaning start (word s i / 4)
+      pub all_sent : b.job.unsent ≡ []
+      pub job :
+          (job : J) × (get_elem? s.homes i ≡ some (some (Some job))) × (meaning job ≡ b.job) ×
+          (sent job ≡ sent start ++ posted)
 
-    -- Each board of the floor is shown, and the round goes on. The posts that a board which is out has not sent yet,
-    -- and the mail, are the floor's alone: no word tells them.
-    pub record Shows (starts : List J) (s : Table J) (f : Floor S) : Type 0 where
-      pub boards : length f.boards ≡ length starts
+    abbrev pub ShowsBoard : Table J → J → ℕ → Board S → List Post → Type 0
+    ShowsBoard s start i b posted = ShowsHome s start i b posted ⊎ ShowsOut s start i b
+
+    -- The floor is sound, each board of it is shown, and the round goes on. Which posts of a board that is out are in
+    -- the mail already is the floor's alone: no word tells it.
+    pub record Shows (state_after : S → List (Option Post) → ℕ → S) (starts : List J) (s : Table J)
+        (f : Floor S) : Type 0 where
+      pub sound : Sound state_after (map meaning starts) f
       pub each : (i : ℕ) (start : J) (b : Board S) →
-          get_elem? starts i ≡ some start → get_elem? f.boards i ≡ some b → ShowsBoard s start i b
+          get_elem? starts i ≡ some start → get_elem? f.boards i ≡ some b →
+          ShowsBoard s start i b (posted_by i f.mail)
       pub goes_on : f.is_ended ≡ false
-
-    -- each board is sound, where all that it has made was sent
-    abbrev pub IsSoundWhenSent : List J → Floor S → Type 0
-    IsSoundWhenSent starts f =
-        (i : ℕ) (start : J) (b : Board S) → get_elem? starts i ≡ some start → get_elem? f.boards i ≡ some b →
-        IsSound state_after (meaning start) b (made (meaning start) b.used)

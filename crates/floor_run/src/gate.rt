@@ -1,7 +1,8 @@
 //! What is passed before a turn.
 use lab_num::BoardNo;
 
-/// Is entered before the first slot of each turn, by whoever takes the turn. It may wait.
+/// Is entered before the first slot of each turn, by whoever takes the turn. It may wait. A board that is run without a
+/// bench takes no turn.
 pub trait Gate: Sync {
     fn enter(&self, board: BoardNo);
 }

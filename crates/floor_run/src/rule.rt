@@ -31,10 +31,11 @@ impl<J: Job> Play<Option<J>, View<J>> for Claim {
 /// A report.
 pub struct Report;
 
-impl<J> Play<Option<J>, View<J>> for Report {
+impl<J: Job> Play<Option<J>, View<J>> for Report {
     ghost use Rattle.floor_run.specs.Inner.Steps.{reports};
+    ghost use Rattle.floor_run.specs.Turns.{slots_left};
 
-    ghost then = { reports };
+    ghost then = { reports (slots_left J.meaning) };
 }
 
 /// A further seat, which holds nothing.

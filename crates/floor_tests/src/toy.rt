@@ -3,11 +3,12 @@ ghost use Rattle.std.specs.Prelude.{◌≡◌, ◌+◌, ◌<◌, ◌++◌, [], t
 ghost use Rattle.std.specs.Prelude.{option_to_list};
 ghost use Rattle.floor_core.specs.Job.{posts};
 
+use crate::gates::Turnstile;
 use dev_core::Post;
 use floor_core::{Job, Turn};
 use lab_num::NoMemory;
 use std::alloc::Global;
-use std::sync::Wait;
+use std::sync::{Arc, Wait};
 use std::thread::Threads;
 
 /// The slots, the number of those that are taken, and the posts of these that are not sent.
@@ -17,6 +18,8 @@ pub struct Toy {
     at: usize,
     unsent: Vec<Post>,
     sent: Vec<Post>,
+    /// Is told when a turn begins.
+    gate: Option<Arc<Turnstile, Global>>,
 }
 
 /// Puts a post, if there is one, after the others.
@@ -39,7 +42,16 @@ impl Toy {
             at: 0,
             unsent: Vec::new(alloc),
             sent: Vec::new(alloc),
+            gate: None,
         }
+    }
+
+    /// The toy, which tells the gate when a turn begins.
+    pub fn behind(mut self, gate: Arc<Turnstile, Global>) -> Toy
+        ensures { result.unsent ≡ self.unsent }
+    {
+        self.gate = Some(gate);
+        self
     }
 
     /// How many slots are taken.
@@ -90,6 +102,9 @@ impl Job for Toy {
     }
 
     fn turn(&mut self, limit: u64) -> Turn {
+        if let Some(gate) = &self.gate {
+            gate.begin_turn();
+        }
         let n = limit.min(self.left());
         for i in 0..n {
             let Ok(()) = self.slot() else {

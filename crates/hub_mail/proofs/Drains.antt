@@ -13,7 +13,7 @@ use Rattle.crossbeam_queue.specs.Fifo.{Learns}
 use Rattle.dev_core.specs.declared.post.Post.{Post}
 use Rattle.hub_mail.specs.declared.view.Sent.{Sent}
 use Rattle.hub_mail.specs.declared.view.View.{View}
-use Rattle.hub_mail.specs.declared.view.View.TheVariants.{Owner}
+use Rattle.hub_mail.specs.declared.view.View.TheVariants.{Owner, Sender}
 use Rattle.hub_mail.specs.Posts.{of_board}
 use Rattle.hub_mail.specs.Boss.{posted_by}
 use Rattle.hub_mail.specs.Inner.Mailbox.{AreAll, Mailbox, Told, boards}
@@ -79,8 +79,13 @@ tells_at place count popped taken full items views h at =
     (λ (found : list_any (eqb board) (boards h.desk.taken) ≡ true).
     sym (posted_found board h.desk.taken all (λ k s e. (h.taken k s e).2) found))
     (λ (absent : list_any (eqb board) (boards h.desk.taken) ≡ false).
-    h.unused board (no_room board h.desk.count h.desk.taken (ap length (sym mine.3) ∙ full ∙ mine.1) h.apart
-    (λ k s e. (h.taken k s e).1) absent) ∙ sym (posted_none board h.desk.taken absent))
+    let beyond : h.desk.count ≤ board =
+    no_room board h.desk.count h.desk.taken (ap length (sym mine.3) ∙ full ∙ mine.1) h.apart
+    (λ k s e. (h.taken k s e).1) absent in
+    h.unused board record {
+      not_in_hand = λ j posts e. let f = h.in_hand j (Sender board posts) e in omega (arith, f.1, beyond);
+      not_taken = λ k s e is. let f = h.taken k s e in omega (arith, f.1, beyond, is);
+    } ∙ sym (posted_none board h.desk.taken absent))
     (is_either (list_any (eqb board) (boards h.desk.taken))) in
     let are_all : AreAll h.desk.taken all = record {
       apart = h.apart;

@@ -1,5 +1,5 @@
 -- Each step keeps the rule of the mailbox.
-use Rattle.std.proofs.Common.{◌≡◌, ◌≢◌, ◌∙◌, ℕ, suc, ◌+◌, ◌<◌, ◌==◌, eqb, cond, false}
+use Rattle.std.proofs.Common.{◌≡◌, ◌≢◌, ◌∙◌, ℕ, suc, ◌+◌, ◌<◌, ◌==◌, eqb, cond, Bool, true, false, true≢false}
 use Rattle.std.proofs.Common.{List, [], ◌∷◌, ◌++◌, length, set, refl, sym, ap, subst, inl, inr, ⊎_elim, append_assoc}
 use Rattle.std.proofs.Common.{arith, eq-eqb, ne_eqb}
 use Rattle.std.specs.Cmp.{nat_eq_equiv}
@@ -10,16 +10,16 @@ use Rattle.std.proofs.lemmas.Map.Keys.{IsDistinct-push}
 use mathlib.Core.Option.{Option, some, none, some-injective, some-ne-none}
 use lib.ListN.{get_elem?}
 use Rattle.crossbeam_queue.specs.Fifo.{Pushes, Pops, Forks, Merges}
-use Rattle.crossbeam_queue.proofs.Lists.{at_set}
+use Rattle.crossbeam_queue.proofs.Lists.{at_last, at_longer, at_set, set_else, set_here}
 use Rattle.dev_core.specs.declared.post.Post.{Post}
 use Rattle.hub_mail.specs.declared.view.Sent.{Sent}
 use Rattle.hub_mail.specs.declared.view.View.{View}
 use Rattle.hub_mail.specs.declared.view.View.TheVariants.{Owner, Sender, Spent}
 use Rattle.hub_mail.specs.Posts.{of_board, RiseByNumber, IsAbove}
 use Rattle.hub_mail.specs.Inner.Steps.{first, spent, one_more, next_pass, with_post, with_drawn, with_pass}
-use Rattle.hub_mail.specs.Inner.Mailbox.{Desk, Fits, FitsTaken, Mailbox, boards}
+use Rattle.hub_mail.specs.Inner.Mailbox.{Desk, Fits, FitsTaken, HasNoPass, Mailbox, boards}
 use Rattle.hub_mail.proofs.OfBoard.{of_here, of_else, rise_more}
-use Rattle.hub_mail.proofs.Places.{Everywhere, everywhere_set, everywhere_more, everywhere_one}
+use Rattle.hub_mail.proofs.Places.{Everywhere, below_length, everywhere_set, everywhere_more, everywhere_one}
 
 -- ---- a view that fits
 
@@ -42,6 +42,32 @@ fits_off desk desk' seat seat' all all' place (Sender board posts) other moved h
     let m = moved board h.0 h.1 in (m.0, m.1, h.2 ∙ sym m.2)
 fits_off desk desk' seat seat' all all' place Spent other moved h = h
 
+-- ---- a number without a pass
+
+abbrev number_of : View → ℕ
+number_of (Owner count popped taken) = 0
+number_of (Sender board posts) = board
+number_of Spent = 0
+
+abbrev is_pass : View → Bool
+is_pass (Owner count popped taken) = false
+is_pass (Sender board posts) = true
+is_pass Spent = false
+
+-- one that has none after a step of a seat that has another number, or none, had none before it
+none_before : (views : List View) (place : ℕ) (was new : View) (board : ℕ) → get_elem? views place ≡ some was →
+    ((posts : List Post) → was ≢ Sender board posts) →
+    ((j : ℕ) (posts : List Post) → get_elem? (set views place new) j ≢ some (Sender board posts)) →
+    (j : ℕ) (posts : List Post) → get_elem? views j ≢ some (Sender board posts)
+none_before views place was new board at other after j posts e = elim (cases_eq j place) [
+  | inl here ↦
+      other posts (some-injective was (Sender board posts) (sym at ∙ (ap (get_elem? views) (sym here) ∙ e)))
+  | inr away ↦ after j posts (set_else views place j new away ∙ e)
+]
+
+not_a_pass : (view : View) (board : ℕ) → is_pass view ≡ false → (posts : List Post) → view ≢ Sender board posts
+not_a_pass view board is posts e = true≢false (sym (ap is_pass e) ∙ is)
+
 -- ---- a new mail
 
 none_twice : IsDistinct eqb (boards [])
@@ -55,7 +81,7 @@ begins =
       desk = desk;
       seat = λ _. none;
       apart = none_twice;
-      unused = λ board le. refl;
+      unused = λ board no_pass. refl;
       rising = λ board i j d ij jl. absurd (omega arith);
       taken = λ k sent at. absurd (some-ne-none sent (sym at));
       in_hand = everywhere_one (Fits desk (λ _. none) []) first (refl, refl, refl, refl);
@@ -84,7 +110,16 @@ posts_at room place board posts post same above items views less h at =
         desk = h.desk;
         seat = h.seat;
         apart = h.apart;
-        unused = λ m le. else m (λ e. omega arith) ∙ h.unused m le;
+        unused = λ m no_pass.
+            let near = below_length views place (Sender board posts) at in
+            let other : board ≢ m = λ e. no_pass.not_in_hand place (posts ++ post ∷ [])
+            (set_here views place new near ∙ ap (λ k. some (Sender k (posts ++ post ∷ []))) e) in
+            else m other ∙ h.unused m record {
+              not_in_hand =
+                  none_before views place (Sender board posts) new m at (λ ps e. other (ap number_of e))
+                  no_pass.not_in_hand;
+              not_taken = no_pass.not_taken;
+            };
         rising = λ m. elim (cases_eq board m) [
           | inl e ↦ subst (λ n. RiseByNumber (of_board n all')) e rises
           | inr other ↦ subst RiseByNumber (sym (else m other)) (h.rising m)
@@ -124,7 +159,13 @@ draws_at place count popped taken post items views h at =
         desk = desk';
         seat = h.seat;
         apart = h.apart;
-        unused = λ m le. ap (of_board m) moved ∙ h.unused m le;
+        unused = λ m no_pass.
+            ap (of_board m) moved ∙ h.unused m record {
+              not_in_hand =
+                  none_before views place (Owner count popped taken) new m at
+                  (not_a_pass (Owner count popped taken) m refl) no_pass.not_in_hand;
+              not_taken = no_pass.not_taken;
+            };
         rising = λ m. subst (λ (l : List Post). RiseByNumber (of_board m l)) (sym moved) (h.rising m);
         taken = λ k sent e. let f = h.taken k sent e in (f.0, f.1, f.2 ∙ ap (of_board sent.board) (sym moved));
         in_hand = everywhere_set (Fits desk' h.seat all') views place new
@@ -163,7 +204,14 @@ forks_at place count popped taken items views h at =
       desk = desk';
       seat = seat';
       apart = h.apart;
-      unused = λ m le. h.unused m (omega arith);
+      unused = λ m no_pass. h.unused m record {
+        not_in_hand =
+            none_before views place (Owner count popped taken) left m at
+            (not_a_pass (Owner count popped taken) m refl)
+            (λ j posts e. no_pass.not_in_hand j posts
+            (at_longer changed (Sender count [] ∷ []) j (Sender m posts) e));
+        not_taken = no_pass.not_taken;
+      };
       rising = h.rising;
       taken = λ k sent e.
           let f = h.taken k sent e in
@@ -172,7 +220,10 @@ forks_at place count popped taken items views h at =
       in_hand = everywhere_more F changed (Sender count []) front (
         ap (λ b. cond b (some (length changed)) (h.seat count)) (eq-eqb count count refl),
         omega arith,
-        sym (h.unused count (omega arith)),
+        sym (h.unused count record {
+          not_in_hand = λ j posts e. let f = h.in_hand j (Sender count posts) e in omega (arith, f.1);
+          not_taken = λ k sent e is. let f = h.taken k sent e in omega (arith, f.1);
+        }),
       );
     }
 
@@ -222,7 +273,17 @@ merges_at place count popped taken other board posts items views h at two at' =
       seat = seat';
       apart = rw map-append (IsDistinct-push nat_eq_equiv (boards h.desk.taken) board h.apart
           (not_taken board other h.seat h.desk.taken theirs.0 (λ k s e. (h.taken k s e).0)));
-      unused = h.unused;
+      unused = λ m no_pass.
+          let apart : board ≢ m = no_pass.not_taken (length h.desk.taken) sent
+          (at_last h.desk.taken sent (length h.desk.taken) refl) in
+          h.unused m record {
+            not_in_hand =
+                none_before views place (Owner count popped taken) both m at
+                (not_a_pass (Owner count popped taken) m refl)
+                (none_before changed other (Sender board posts) Spent m at' (λ ps e. apart (ap number_of e))
+                no_pass.not_in_hand);
+            not_taken = λ k s e. no_pass.not_taken k s (at_longer h.desk.taken (sent ∷ []) k s e);
+          };
       rising = h.rising;
       taken = everywhere_more (λ k s. FitsTaken desk' seat' all s) h.desk.taken sent
           (λ k s e.

@@ -1,6 +1,6 @@
 -- What stands at each place of a list that was changed at one.
-use Rattle.std.proofs.Common.{◌≡◌, ◌≢◌, ◌⊎◌, ℕ, zero, suc, List, [], ◌∷◌, ◌++◌, length, set, refl, sym, ap, subst}
-use Rattle.std.proofs.Common.{inl, inr, ⊎_elim}
+use Rattle.std.proofs.Common.{◌≡◌, ◌≢◌, ◌⊎◌, ℕ, zero, suc, ◌<◌, List, [], ◌∷◌, ◌++◌, length, set, refl, sym, ap, subst}
+use Rattle.std.proofs.Common.{inl, inr, ⊎_elim, arith}
 use mathlib.Core.Option.{some, some-injective, some-ne-none}
 use lib.ListN.{get_elem?}
 use Rattle.crossbeam_queue.proofs.Lists.{at_set}
@@ -8,6 +8,11 @@ use Rattle.crossbeam_queue.proofs.Lists.{at_set}
 -- F holds of each place with what stands there
 abbrev pub Everywhere : {A : Type 0} → (ℕ → A → Type 0) → List A → Type 0
 Everywhere {A} F xs = (k : ℕ) (x : A) → get_elem? xs k ≡ some x → F k x
+
+pub below_length : {A : Type 0} (xs : List A) (k : ℕ) (x : A) → get_elem? xs k ≡ some x → k < length xs
+below_length [] k x at = absurd (some-ne-none x (sym at))
+below_length (y ∷ ys) zero x at = omega arith
+below_length (y ∷ ys) (suc k) x at = let less = below_length ys k x at in omega arith
 
 pub everywhere_set : {A : Type 0} (F : ℕ → A → Type 0) (xs : List A) (k : ℕ) (new : A) → F k new →
     ((j : ℕ) (x : A) → j ≢ k → get_elem? xs j ≡ some x → F j x) → Everywhere F (set xs k new)

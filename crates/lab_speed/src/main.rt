@@ -1,6 +1,6 @@
 //! How fast a board runs: `lab_speed LOOP SLOTS` runs a board over a loop of instructions for so many
-//! slots, and prints the loop's name, the slots and minstret of all processors together. With the word `wired` the board
-//! has a timer, an interrupt controller and wires, and the timer interrupts the loop each 100 microseconds. With
+//! slots, and prints the loop's name, the slots and minstret of all processors together. With the word `wired` the
+//! board has a timer, an interrupt controller and wires, and the timer interrupts the loop each 100 microseconds. With
 //! `compressed` its processor has compressed instructions, and the loop is one of half-words; with `long` the processor
 //! is the same, and the loop is one of words. With `atomic` it has atomic instructions, and with `two` and `four` the
 //! board has so many processors of that kind, which all run the loop. `plain` is none of these. A number after such a
@@ -16,6 +16,7 @@ mod loops;
 mod platform;
 
 use board::{Board, SlotAt};
+use chips::Chip;
 use dev_core::Device;
 use lab_num::{LAST, MOST_SPEED, Micros};
 use loops::{HALF_WORDS, INTERRUPTS, LOOPS};
@@ -205,9 +206,9 @@ fn run<D: Device>(alloc: Global, task: Task, uart: D, finisher: D) -> Option<u64
 
 /// Does a task with devices in boxes, as the laboratory has them.
 fn done(alloc: Global, task: Task) -> Option<u64> {
-    let uart: Box<dyn Device + Send> = Box::new(alloc, Uart::new()).ok()?;
-    let finisher: Box<dyn Device + Send> = Box::new(alloc, Finisher::new()).ok()?;
-    run(alloc, task, uart, finisher)
+    let uart = Box::new(alloc, Uart::new()).ok()?;
+    let finisher = Box::new(alloc, Finisher::new()).ok()?;
+    run(alloc, task, Chip::Uart(uart), Chip::Finisher(finisher))
 }
 
 fn main(rt: HostRuntime) -> io::Result<ExitCode> {

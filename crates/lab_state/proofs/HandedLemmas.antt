@@ -5,7 +5,7 @@ use Rattle.std.proofs.Common.{◌∷◌, ◌++◌, map, find, length, get_or, sl
 use Rattle.std.specs.Prelude.{filter, sum, unwrap_or}
 use Rattle.std.specs.Cmp.{IsTotalOrder, eq_by_cmp_equiv}
 use Rattle.std.specs.List.{All, AllByRecursion, IsDistinct, position_or_len}
-use Rattle.std.specs.List.Sorted.{IsStrictlySortedBy}
+use Rattle.std.specs.List.Sorted.{IsPermutation, IsStrictlySortedBy}
 use Rattle.std.specs.Option.{option_map}
 use Rattle.std.specs.Ordering.{eq_by_cmp, is_eq}
 use Rattle.std.specs.declared.cmp.Ordering.TheVariants.{Less}
@@ -13,6 +13,7 @@ use Rattle.std.proofs.lemmas.Bool.Decides.{nat_tests}
 use Rattle.std.proofs.lemmas.List.Elements.{All-nil, All-cons, All-append, All-filter, All-head, All-tail, All-weaker}
 use Rattle.std.proofs.lemmas.List.Elements.{filter-append, filter_passes}
 use Rattle.std.proofs.lemmas.List.Sorted.{All-permutation, IsPermutation-filter_both, IsPermutation-map}
+use Rattle.std.proofs.lemmas.List.Sorted.{IsPermutation-trans}
 use Rattle.std.proofs.lemmas.List.Sums.{sum_by-cons}
 use Rattle.std.proofs.lemmas.Map.Keys.{IsDistinct-from_sorted, IsDistinct-IsPermutation}
 use Rattle.lab_num.specs.declared.key.Key.{Key}
@@ -21,7 +22,7 @@ use Rattle.lab_num.specs.Listing.{IsListing, listing}
 use Rattle.lab_num.specs.Route.{has_member}
 use Rattle.dev_core.specs.declared.post.Post.{Post}
 use Rattle.dev_core.specs.Post.{post_key}
-use Rattle.lab_state.specs.Boundary.{boundary, waiting, due, not_due}
+use Rattle.lab_state.specs.Boundary.{boundary, waiting, due, not_due, handed_at, kept_at}
 use Rattle.lab_state.specs.Handed.{sent_in, handed_in, handed_over, is_of_hub}
 use Rattle.lab_state.specs.Hub.{Hub, delay_of}
 use Rattle.lab_state.specs.Lab.{Lab, Seen}
@@ -36,6 +37,7 @@ use Rattle.lab_state.specs.Round.{round, round_by, stepped, granted, ended}
 use Rattle.lab_state.specs.Inner.End.{in_round}
 use Rattle.lab_state.specs.Inner.Time.{numbers_of, AreStanding}
 use Rattle.lab_state.proofs.PendingLemmas.{AreOfRound, earlier, rising-filter, waiting-is, waiting_rise, pending-after}
+use Rattle.lab_state.proofs.PendingLemmas.{filter-listing}
 use Rattle.lab_state.proofs.RoundLemmas.{Numbering, Timing, standing, posts_differ, sent_in_round, numbers-routes}
 
 -- a laboratory whose posts wait rightly, and whose boards have made few posts
@@ -362,6 +364,31 @@ module _ (is : (key : Post → Key) (items : List Post) → KeysDiffer key items
       (all_so lab q reached within P
       (All-weaker (IsPending lab.hubs lab.now) P (λ post is. inl is.due) lab.pending reached.pending.each)
       (λ post later. inr later))
+
+-- ---- all
+
+-- a list of posts has the members of its listing
+listed : (posts : List Post) → IsPermutation posts (listing post_key posts)
+listed posts =
+    subst (λ (xs : List Post). IsPermutation xs (listing post_key posts)) (every posts)
+    (subst (λ (ys : List Post). IsPermutation (filter (λ _. true) posts) ys) (every (listing post_key posts))
+    (filter-listing (λ _. true) posts))
+  where
+    every : (posts : List Post) → filter (λ (post : Post). true) posts ≡ posts
+    every [] = refl
+    every (x ∷ xs) = ap (λ rest. x ∷ rest) (every xs)
+
+-- what waits once the posts of a round have joined is handed over or kept
+pub nothing-lost :
+    (at : ℕ) (hubs : List Hub) (pending posts : List Post) →
+    IsPermutation (pending ++ filter (is_of_a_hub hubs) posts)
+    (handed_at at hubs pending posts ++ kept_at at hubs pending posts)
+nothing-lost at hubs pending posts =
+    let all = pending ++ filter (is_of_a_hub hubs) posts in
+    IsPermutation-trans all (listing post_key all) (handed_at at hubs pending posts ++ kept_at at hubs pending posts)
+    (listed all)
+    (IsPermutation-filter_both (is_due at hubs) (λ post. not (is_due at hubs post)) (λ post. refl)
+    (listing post_key all))
 
 -- ---- the hub of a post
 

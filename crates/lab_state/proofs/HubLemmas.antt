@@ -2,7 +2,7 @@
 use Rattle.std.proofs.Common.{◌≡◌, ap, refl, Bool, true, false, cond, ℕ, zero, suc, List, [], ◌∷◌, ◌++◌, length, find}
 use Rattle.std.proofs.Common.{Some}
 use Rattle.std.proofs.Common.{is_some}
-use Rattle.std.proofs.Common.{not, map, nat_eq, position}
+use Rattle.std.proofs.Common.{not, map, nat_eq, position, unwrap_or}
 use Rattle.std.specs.Cmp.Lexicographic.{pointwise, nat_list_eq_equiv}
 use Rattle.std.specs.Map.{keys_of}
 use Rattle.std.specs.Str.{bytes_eq}
@@ -13,9 +13,9 @@ use Rattle.lab_state.proofs.ListLemmas.{position-map}
 use Rattle.std.specs.List.{position_or_len}
 use Rattle.std.proofs.Common.{◌+◌, ◌∙◌, sym, slice_get, Option, None, arith}
 use Rattle.std.proofs.lemmas.Option.{slice_get-map}
-use Rattle.std.specs.Option.{option_map}
+use Rattle.std.specs.Option.{option_map, option_map_or}
 use Rattle.lab_num.specs.declared.key.Member.{Member}
-use Rattle.lab_num.specs.Route.{has_member}
+use Rattle.lab_num.specs.Route.{has_member, hub_of}
 use Rattle.lab_num.specs.Change.{change_at}
 use Rattle.uart_hub.specs.Hub as uart_hub
 use Rattle.lab_state.specs.Hub.{Hub, delay_of}
@@ -70,6 +70,24 @@ hubs-delay (n ∷ ns) (h ∷ hs) m same = by_test (has_member h.members m) (hubs
         (cond here (Some h) (find (λ hub. has_member hub.members m) hs))
         ≡ option_map (λ (hub : Hub). hub.delay)
         (cond here (Some (hub_by n h)) (find (λ hub. has_member hub.members m) (hubs_of ns hs)))
+    by_test true rest = refl
+    by_test false rest = rest
+
+-- the members of the hub of a device
+pub hub-members :
+    (hubs : List uart_hub.Hub) (m : Member) →
+    option_map_or (λ (hub : uart_hub.Hub). hub.members) (find (λ hub. has_member hub.members m) hubs) []
+    ≡ hub_of (uart_hub.members_of hubs) m
+hub-members [] m = refl
+hub-members (h ∷ hs) m = by_test (has_member h.members m) (hub-members hs m)
+  where
+    by_test :
+        (here : Bool) →
+        option_map_or (λ (hub : uart_hub.Hub). hub.members) (find (λ hub. has_member hub.members m) hs) []
+        ≡ hub_of (uart_hub.members_of hs) m →
+        option_map_or (λ (hub : uart_hub.Hub). hub.members)
+        (cond here (Some h) (find (λ hub. has_member hub.members m) hs)) []
+        ≡ unwrap_or (cond here (Some h.members) (find (λ hub. has_member hub m) (uart_hub.members_of hs))) []
     by_test true rest = refl
     by_test false rest = rest
 

@@ -10,6 +10,7 @@ pub mod KeyLemmas
 pub mod TimeLemmas
 pub mod LendLemmas
 pub mod RoundLemmas
+pub mod BoundaryLemmas
 pub mod RunLemmas
 pub mod EmptyLemmas
 pub mod SentLemmas

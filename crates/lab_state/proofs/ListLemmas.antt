@@ -74,7 +74,8 @@ All-change P F (x ∷ xs) (suc i) keeps all =
 pub All-one_more :
     {A : Type 0} (P : A → Type 0) (xs : List A) (i : ℕ) (d : A) → i < length xs → All P (take i xs) →
     P (get_or xs i d) → All P (take (i + 1) xs)
-All-one_more P xs i d below so_far here = rw (take_more xs i d below) (All-push P (take i xs) (get_or xs i d) so_far here)
+All-one_more P xs i d below so_far here =
+    rw (take_more xs i d below) (All-push P (take i xs) (get_or xs i d) so_far here)
 
 pub All-whole : {A : Type 0} (P : A → Type 0) (xs : List A) (i : ℕ) → length xs ≤ i → All P (take i xs) → All P xs
 All-whole P xs i past all = subst (All P) (take_all i xs past) all

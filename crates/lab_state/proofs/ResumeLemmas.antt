@@ -156,7 +156,8 @@ member_kind :
     All (λ m. kind_at boards m ≡ Some kind) members → has_member members m ≡ true → kind_at boards m ≡ Some kind
 member_kind boards kind [] m all is = absurd (cc)
 member_kind boards kind (x ∷ xs) m all is =
-    by_test (same_member x m) refl is (member_kind boards kind xs m (All-tail (λ m. kind_at boards m ≡ Some kind) x xs all))
+    by_test (same_member x m) refl is
+    (member_kind boards kind xs m (All-tail (λ m. kind_at boards m ≡ Some kind) x xs all))
   where
     by_test :
         (b : Bool) → same_member x m ≡ b → (b || has_member xs m) ≡ true →

@@ -68,10 +68,14 @@ handed-outline :
     outline (with_view (λ v. handed v dev payload) board) ≡ outline board
 handed-outline dev payload board = outline-view (λ v. handed v dev payload) (λ v. refl) board
 
+pub outlines-handed :
+    (at : ℕ) (hubs : List Hub) (h : Handed) (posts : List Post) →
+    outlines (fold (to_route at (members_of hubs)) h posts).boards ≡ outlines h.boards
+outlines-handed at hubs h posts = map-routes outline handed-outline at (members_of hubs) h posts
+
 module _ (at : ℕ) (hubs : List Hub) (boards : List Board) (posts : List Post) where
   pub outlines-routes : outlines (to_routes at hubs boards posts).boards ≡ outlines boards
-  outlines-routes =
-      map-routes outline handed-outline at (members_of hubs) (record { boards = boards; notes = [] }) posts
+  outlines-routes = outlines-handed at hubs (record { boards = boards; notes = [] }) posts
 
   pub numbers-routes : numbers_of (to_routes at hubs boards posts).boards ≡ numbers_of boards
   numbers-routes =

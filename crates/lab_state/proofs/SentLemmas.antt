@@ -100,7 +100,8 @@ module _ (number : Numbering) (send : Sending) (from q : ℕ) (within : from + q
   -- what a board sends is its own
   own :
       (b : ℕ) (v : View) → view_at boards b ≡ Some v → HasDevices v →
-      All (IsFromBoard (outlines boards) (numbers_of (map (stepped (in_round from q)) boards))) (in_round from q v).posts
+      All (IsFromBoard (outlines boards) (numbers_of (map (stepped (in_round from q)) boards)))
+      (in_round from q v).posts
   own b v at has k d below =
       let made = numbered number from q within b v (stands b v at) in
       let post = get_or (in_round from q v).posts k d in

@@ -93,7 +93,8 @@ one_if o = cond (is_some o.kinds) 1 0
 
 -- members of hubs that stay devices of their kind
 devices-kept :
-    (before after : List Outline) → KeepKinds before after → (hubs : List Hub) → AreDevices before hubs → AreDevices after hubs
+    (before after : List Outline) → KeepKinds before after → (hubs : List Hub) → AreDevices before hubs →
+    AreDevices after hubs
 devices-kept before after keeps hubs all =
     All-weaker (AreMembers before) (AreMembers after)
     (λ hub are. All-weaker _ _ (λ m. keeps m.dev hub.kind m.board.0) hub.members are) hubs all

@@ -23,7 +23,7 @@ use Rattle.lab_state.proofs.PendingLemmas.{AreOfRound, none_pending, waiting-is}
 
 -- ---- tests that all or none pass
 
-filter_all : (p : Post → Bool) (posts : List Post) → All (λ post. p post ≡ true) posts → filter p posts ≡ posts
+pub filter_all : (p : Post → Bool) (posts : List Post) → All (λ post. p post ≡ true) posts → filter p posts ≡ posts
 filter_all p [] all = refl
 filter_all p (x ∷ xs) all =
     rw (All-head (λ post. p post ≡ true) x xs all)

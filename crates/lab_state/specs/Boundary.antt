@@ -81,6 +81,14 @@ due at hubs posts = filter (is_due at hubs) posts
 abbrev pub not_due : ℕ → List Hub → List Post → List Post
 not_due at hubs posts = filter (λ post. not (is_due at hubs post)) posts
 
+-- what is handed over at a boundary of what was pending and what was sent in the round, in its order
+abbrev pub handed_at : ℕ → List Hub → List Post → List Post → List Post
+handed_at at hubs pending posts = due at hubs (waiting hubs pending posts)
+
+-- and what goes on waiting
+abbrev pub kept_at : ℕ → List Hub → List Post → List Post → List Post
+kept_at at hubs pending posts = not_due at hubs (waiting hubs pending posts)
+
 -- What a boundary comes to: the boards, what the log notes of what they were handed, the posts that go on waiting, and
 -- the post by which a pause was asked for, if one was.
 pub record Boundary : Type 0 where
@@ -93,11 +101,10 @@ pub record Boundary : Type 0 where
 -- pending no more. The first post that a finisher made in the round asks for a pause.
 unfoldable pub boundary : ℕ → List Hub → List Board → List Post → List Post → Boundary
 boundary at hubs boards pending posts =
-    let all = waiting hubs pending posts in
-    let handed = to_routes at hubs boards (due at hubs all) in
+    let handed = to_routes at hubs boards (handed_at at hubs pending posts) in
     record {
       boards = handed.boards;
       notes = handed.notes;
-      pending = not_due at hubs all;
+      pending = kept_at at hubs pending posts;
       pause = find is_finish (listing post_key posts);
     }

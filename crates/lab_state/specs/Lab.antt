@@ -13,7 +13,7 @@ pub record Lab : Type 0 where
   pub now : ℕ
   pub quantum : ℕ
 
--- a laboratory, and whether it is spent because memory ran out inside a round
+-- a laboratory, and whether it is spent: memory ran out inside a round or a run, or it was left so by a call
 pub record Seen : Type 0 where
   pub lab : Lab
   pub spent : Bool

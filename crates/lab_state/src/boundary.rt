@@ -1,8 +1,7 @@
 //! The boundary between two rounds: what the boards have sent is handed over as far as it is due.
-ghost use Rattle.std.specs.Prelude.{◌≡◌, ◌++◌, All, filter, fold, find, OnOk, IfOk};
+ghost use Rattle.std.specs.Prelude.{◌≡◌, ◌+◌, ◌++◌, ◌∷◌, [], true, nat_le, All, filter, fold, find, OnOk, IfOk};
 ghost use Rattle.std.specs.Option.{option_map, option_to_list};
-ghost use Rattle.lab_state.specs.Boundary as boundary_spec;
-ghost use Rattle.lab_state.specs.Boundary.{Handed, note_item, to_member, to_route, to_routes};
+ghost use Rattle.lab_state.specs.Boundary.{Handed, note_item, to_member, to_route, to_routes, due, not_due};
 ghost use Rattle.lab_state.specs.Pending as pending_spec;
 ghost use Rattle.lab_state.specs.Pending.{is_finish, is_of_a_hub};
 ghost use Rattle.lab_state.specs.Hub.{members_of};
@@ -15,7 +14,7 @@ use dev_core::{Device, Finish, Payload, Post};
 use lab_num::{Member, Micros, NoMemory};
 use log_merge::{LogItem, Note};
 use std::alloc::Global;
-use std::slice;
+use std::{mem, slice};
 
 /// How a test ended, which a finisher's post tells.
 fn finish_of(payload: &Payload) -> Option<Finish>
@@ -72,92 +71,98 @@ fn hand_over<D: Device>(
     Ok(())
 }
 
-/// Hands a post to the other members of its device's hub.
-fn hand_post<D: Device>(
+/// Whether what was sent at a time is due by now, after a delay in microseconds.
+fn is_due(sent: Micros, delay: u64, at: Micros) -> bool
+    ensures { result ≡ nat_le (sent.0 + delay) at.0 }
+{
+    sent.0 <= at.0 && delay <= at.0 - sent.0
+}
+
+/// Hands a post to the other members of its device's hub if it is due by now, and keeps it if not. One
+/// that is for no other device goes to nobody.
+fn hand_or_keep<D: Device>(
+    alloc: Global,
     boards: &mut [NamedBoard<D>],
     hubs: &HubList,
     post: &Post,
     at: Micros,
+    kept: &mut Vec<Post>,
     notes: &mut Vec<LogItem>,
 ) -> Result<(), NoMemory>
     requires { AreDevices (outlines boards.old) hubs.now }
-    ensures { OnOk result (◌≡◌ {A = Handed}
+    ensures handed { OnOk result (◌≡◌ {A = Handed}
         (record { boards = boards.new; notes = notes.new.items })
-        (to_route at.0 (members_of hubs.now)
-        (record { boards = boards.old; notes = notes.old.items }) post.now)) }
+        (fold (to_route at.0 (members_of hubs.now))
+        (record { boards = boards.old; notes = notes.old.items })
+        (due at.0 hubs.now (filter (is_of_a_hub hubs.now) (post.now ∷ []))))) }
+    ensures kept { OnOk result (kept.new.items ≡ kept.old.items
+        ++ not_due at.0 hubs.now (filter (is_of_a_hub hubs.now) (post.now ∷ []))) }
 {
-    let to = hubs.route(post.from)?;
-    hand_over(boards, &to, &post.payload, at, notes)
+    let Some(hub) = hubs.hub_of(post.from) else {
+        return Ok(());
+    };
+    if is_finish(post) {
+        return Ok(());
+    }
+    if is_due(post.key.at, hub.delay(), at) {
+        let to = hub.others(alloc, post.from)?;
+        hand_over(boards, &to, &post.payload, at, notes)
+    } else {
+        kept.push(*post)?;
+        Ok(())
+    }
 }
 
-/// Hands over the posts one after another, and gives what the log notes of it.
-pub fn hand_over_all<D: Device>(
+/// Hands over those of these posts that are due by now, one after another, and keeps the others that
+/// are for other devices, in their order.
+fn hand_or_keep_all<D: Device>(
     alloc: Global,
     boards: &mut [NamedBoard<D>],
     hubs: &HubList,
     posts: &[Post],
     at: Micros,
-) -> Result<Vec<LogItem>, NoMemory>
+    kept: &mut Vec<Post>,
+    notes: &mut Vec<LogItem>,
+) -> Result<(), NoMemory>
     requires { AreDevices (outlines boards.old) hubs.now }
-    ensures { IfOk result (λ notes. ◌≡◌ {A = Handed}
-        (record { boards = boards.new; notes = notes.items })
-        (to_routes at.0 hubs.now boards.old posts.now)) }
-{
-    let mut notes = Vec::new(alloc);
-    for post in posts {
-        hand_post(boards, hubs, post, at, &mut notes)?;
-    }
-    Ok(notes)
-}
-
-/// Whether a post is for other devices.
-fn is_of_a_hub(hubs: &HubList, post: &Post) -> bool
-    ensures { result ≡ is_of_a_hub hubs.now post.now }
-{
-    hubs.delay(post.from).is_some() && !is_finish(post)
-}
-
-/// Whether a post is due by now.
-fn is_due(hubs: &HubList, at: Micros, post: &Post) -> bool
-    ensures { result ≡ pending_spec.is_due at.0 hubs.now post.now }
-{
-    let delay = hubs.delay(post.from).unwrap_or(0);
-    let sent = post.key.at;
-    sent.0 <= at.0 && delay <= at.0 - sent.0
-}
-
-/// Puts the posts of a round that are for other devices at the end of those that wait.
-pub fn join_pending(pending: &mut Vec<Post>, hubs: &HubList, posts: &[Post]) -> Result<(), NoMemory>
-    ensures { OnOk result (pending.new.items
-        ≡ pending.old.items ++ filter (is_of_a_hub hubs.now) posts.now) }
+    ensures handed { OnOk result (◌≡◌ {A = Handed}
+        (record { boards = boards.new; notes = notes.new.items })
+        (fold (to_route at.0 (members_of hubs.now))
+        (record { boards = boards.old; notes = notes.old.items })
+        (due at.0 hubs.now (filter (is_of_a_hub hubs.now) posts.now)))) }
+    ensures kept { OnOk result (kept.new.items ≡ kept.old.items
+        ++ not_due at.0 hubs.now (filter (is_of_a_hub hubs.now) posts.now)) }
 {
     for post in posts {
-        if is_of_a_hub(hubs, post) {
-            pending.push(*post)?;
-        }
+        hand_or_keep(alloc, boards, hubs, post, at, kept, notes)?;
     }
     Ok(())
 }
 
-/// Takes the posts that are due by now out of those that wait. Both keep their order.
-pub fn take_due(
+/// Hands over what is due by now, first of the posts that wait and then of those of a round, and gives
+/// what the log notes of it. What is not due waits, in the same order.
+pub fn hand_over_due<D: Device>(
     alloc: Global,
-    pending: &mut Vec<Post>,
+    boards: &mut [NamedBoard<D>],
     hubs: &HubList,
+    pending: &mut Vec<Post>,
+    posts: &[Post],
     at: Micros,
-) -> Result<Vec<Post>, NoMemory>
-    ensures due { IfOk result (λ taken.
-        taken.items ≡ boundary_spec.due at.0 hubs.now pending.old.items) }
-    ensures waiting { OnOk result (pending.new.items
-        ≡ boundary_spec.not_due at.0 hubs.now pending.old.items) }
+) -> Result<Vec<LogItem>, NoMemory>
+    requires devices { AreDevices (outlines boards.old) hubs.now }
+    requires of_hubs { All (λ post. is_of_a_hub hubs.now post ≡ true) pending.old.items }
+    ensures handed { IfOk result (λ notes. ◌≡◌ {A = Handed}
+        (record { boards = boards.new; notes = notes.items })
+        (to_routes at.0 hubs.now boards.old
+        (due at.0 hubs.now (pending.old.items ++ filter (is_of_a_hub hubs.now) posts.now)))) }
+    ensures waiting { OnOk result (pending.new.items ≡ not_due at.0 hubs.now
+        (pending.old.items ++ filter (is_of_a_hub hubs.now) posts.now)) }
 {
-    let taken = pending
-        .iter()
-        .copied()
-        .filter(|post| is_due(hubs, at, post))
-        .collect(alloc)?;
-    pending.retain(|post| !is_due(hubs, at, post));
-    Ok(taken)
+    let mut notes = Vec::new(alloc);
+    let waited = mem::replace(pending, Vec::new(alloc));
+    hand_or_keep_all(alloc, boards, hubs, &waited, at, pending, &mut notes)?;
+    hand_or_keep_all(alloc, boards, hubs, posts, at, pending, &mut notes)?;
+    Ok(notes)
 }
 
 /// The first post that a finisher made.

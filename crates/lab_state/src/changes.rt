@@ -87,8 +87,8 @@ impl<D: Device> Lab<D> {
         self.change(b, Change::Pc { hart, pc });
     }
 
-    /// Halts a processor of a board, or lets it run. The slots of a halted one pass and change
-    /// nothing.
+    /// Halts a processor of a board, or lets it run. The slots of a halted one pass, and change
+    /// nothing but whose turn is next.
     pub fn set_halted(&mut self, b: BoardNo, hart: u8, on: bool)
         requires unspent { self.old.spent ≡ false }
         requires has_plan { IsSome (view_of self.old.lab b.0) }

@@ -47,7 +47,7 @@ pub enum ConnectFault {
 /// Why a round was not run.
 #[derive(Clone, Copy, PartialEq, Eq, Debug)]
 pub enum LabFault {
-    /// Memory ran out, in this round or in one before. The laboratory is spent.
+    /// Memory ran out in this round, or the laboratory was spent before. It is spent.
     Memory,
 }
 
@@ -67,7 +67,7 @@ pub enum RunFault {
     NoPlan(BoardNo),
     /// It would go past the last microsecond that a laboratory has.
     TooLong,
-    /// Memory ran out, in this run or in one before. The laboratory is spent.
+    /// Memory ran out in this run, or the laboratory was spent before. It is spent.
     Memory,
 }
 

@@ -2,7 +2,7 @@
 ghost use Rattle.std.specs.Prelude.{◌≡◌, ◌+◌, ◌^◌, ◌<◌, ◌↔◌, ◌++◌, ◌∷◌, [], length, position, slice_get, Some, IsTrue};
 ghost use Rattle.std.specs.Prelude.{None, nat_eq, OnOk, OnErr, IfOk, IfSome};
 ghost use Rattle.std.specs.Cmp.Lexicographic.{pointwise};
-ghost use Rattle.std.specs.Option.{option_map};
+ghost use Rattle.std.specs.Option.{option_map, option_map_or};
 ghost use Rattle.std.specs.Str.{bytes_eq};
 ghost use Rattle.indexmap.specs.IndexMap.{get};
 ghost use Rattle.lab_num.specs.Route.{StandOnce, is_connected};
@@ -16,7 +16,7 @@ use indexmap::IndexMap;
 use lab_num::{Member, NoMemory, Text};
 use std::alloc::Global;
 use std::marker::Model;
-use uart_hub::{HubFault, UartHubs};
+use uart_hub::{Hub, HubFault, UartHubs};
 
 /// The hubs of all kinds in order of creation. `UartHubs` keeps members of any kind: no device is in
 /// two of these hubs, and each route is within one.
@@ -121,12 +121,14 @@ impl HubList {
         self.hubs.hub_delay(n)
     }
 
-    /// How long the hub of `from` holds back what it sends, in microseconds. None exactly where
-    /// `from` is in no hub.
-    pub fn delay(&self, from: Member) -> Option<u64>
-        ensures { result ≡ delay_of self.now from }
+    /// The hub of `from`, without its name: how long it holds back what its members send, and its
+    /// members. None exactly where `from` is in no hub.
+    pub fn hub_of(&self, from: Member) -> Option<&Hub>
+        ensures delay { option_map (λ hub. hub.now.delay) result ≡ delay_of self.now from }
+        ensures members { option_map_or (λ hub. hub.now.members) result []
+            ≡ routes.hub_of (members_of self.now) from }
     {
-        self.hubs.delay(from)
+        self.hubs.hub_of(from)
     }
 
     /// Creates a hub that connects devices of this kind, of this delay, without members. No hub has
@@ -151,12 +153,5 @@ impl HubList {
         ensures err { OnErr result (self.new ≡ self.old) }
     {
         self.hubs.connect(n as u32, member)
-    }
-
-    /// The other members of the hub of `from`, in order of connection.
-    pub fn route(&self, from: Member) -> Result<Vec<Member>, NoMemory>
-        ensures { IfOk result (λ list. list.items ≡ routes.route (members_of self.now) from) }
-    {
-        self.hubs.route(from)
     }
 }

@@ -22,7 +22,8 @@ const QUANTUM: u64 = 100;
 
 /// Boards and the hubs between them, paused between two rounds, with the posts that wait until they are
 /// due, in rising order of key. Each board is a member of the source of time, at the board's speed, and
-/// one without a plan at the least. It is spent once memory ran out inside a round.
+/// one without a plan at the least. It is spent once memory ran out inside a round or a run, or in what
+/// leaves only a part of its work done and says so by `spend`.
 #[derive(Drop)]
 pub struct Lab<D: Device> {
     pub(crate) alloc: Global,
@@ -144,7 +145,8 @@ impl<D: Device> Lab<D> {
         can_all_be(&self.boards);
     }
 
-    /// Leaves the laboratory spent, as it is where memory runs out inside a round.
+    /// Leaves the laboratory spent, as it is where memory runs out inside a round: for who found no
+    /// memory after a part of what was to be done to it.
     pub fn spend(&mut self)
         requires { self.old.spent ≡ false }
         ensures { self.new ≡ record self.old { spent = true } }
@@ -152,8 +154,7 @@ impl<D: Device> Lab<D> {
         self.spent = true;
     }
 
-    /// Whether memory ran out inside a round, or the laboratory was spent otherwise. Nothing but a round
-    /// and a run may be asked of a spent laboratory then.
+    /// Whether the laboratory is spent. Nothing but a round and a run may be asked of it then.
     pub fn is_spent(&self) -> bool
         ensures { result ≡ self.now.spent }
     {

@@ -1,17 +1,20 @@
 //! Laws of rounds and runs. Each is the contract of a function, which but for the last does nothing
 //! when it runs.
-ghost use Rattle.std.specs.Prelude.{◌≡◌, ℕ, ◌+◌, ◌%◌, ◌<◌, ◌≤◌, ◌⊎◌, false, List, [], map, filter, sum, All};
-ghost use Rattle.std.specs.Prelude.{None, IsSome, IfOk, OnOk};
+ghost use Rattle.std.specs.Prelude.{◌≡◌, ◌≢◌, ℕ, ◌+◌, ◌%◌, ◌<◌, ◌≤◌, ◌⊎◌, ◌↔◌, true, false, List, [], ◌++◌};
+ghost use Rattle.std.specs.Prelude.{map, filter, sum, All, None, Some, IsSome, IfOk, OnOk, OnErr};
 ghost use Rattle.std.specs.List.Sorted.{IsPermutation, IsStrictlySortedBy};
 ghost use Rattle.dev_core.specs.declared.post.Post.{Post};
+ghost use Rattle.lab_num.specs.declared.number.BoardNo.{BoardNo};
 ghost use Rattle.lab_num.specs.Key.{key_cmp, KeysDiffer};
 ghost use Rattle.dev_core.specs.Post.{post_key};
 ghost use Rattle.lab_state.specs.Board.{Board};
 ghost use Rattle.lab_state.specs.Boundary.{boundary};
-ghost use Rattle.lab_state.specs.Handed.{handed_in, handed_over, is_of_hub};
+ghost use Rattle.lab_state.specs.Handed.{sent_in, handed_in, handed_over, is_of_hub};
+ghost use Rattle.lab_state.specs.Handed.{slots_in, after_handing, pause_in};
 ghost use Rattle.lab_state.specs.Hub.{Hub};
 ghost use Rattle.lab_state.specs.Lab.{Lab as Laboratory};
-ghost use Rattle.lab_state.specs.Pending.{due_at};
+ghost use Rattle.lab_state.specs.One.{first_without, HaveAllPlans};
+ghost use Rattle.lab_state.specs.Pending.{due_at, is_of_a_hub};
 ghost use Rattle.lab_state.specs.Round.{round};
 ghost use Rattle.lab_state.specs.Run.{Play, run, run_by, followed_by, lengths, still, EndsIn};
 ghost use Rattle.lab_state.specs.Turns.{Cut, IsWhole, run_in_turns};
@@ -152,9 +155,22 @@ pub fn posts_are_handed_over_once<D: Device>(lab: &Lab<D>)
     listing_laws::<BoardPost>();
 }
 
+/// What was pending and what is sent in a round for other devices is handed over at its end or is pending
+/// after it: all of it, each post once. The boards are handed that, and nothing else, after they have
+/// taken their slots, and the log notes what came of that.
+pub fn rounds_lose_nothing()
+    ensures all { (lab : Laboratory) (q : ℕ) → IsPermutation
+        (lab.pending ++ filter (is_of_a_hub lab.hubs) (sent_in lab q))
+        (handed_in lab q ++ (round lab q).lab.pending) }
+    ensures boards { (lab : Laboratory) (q : ℕ) →
+        (round lab q).lab.boards ≡ (after_handing lab q).boards }
+    ensures items { (lab : Laboratory) (q : ℕ) → (round lab q).items
+        ≡ slots_in lab q ++ (after_handing lab q).notes ++ pause_in lab q }
+{}
+
 /// Two laboratories that are alike run for the same time, each by its own number of workers. If
-/// memory does not run out they are alike after it, and so is what the log says: whatever the
-/// numbers of workers, and in whatever order the workers come to the boards.
+/// memory does not run out, each is what one run comes to, and the logs are of that run: whatever the
+/// numbers of workers, and in whatever order the workers come to the boards. Refused runs change neither.
 pub fn any_workers_agree<R: Threads + Wait + Copy + Send + Sync, D: Device + Send, G: Gate>(
     rt: &R,
     one: &mut Lab<D>,
@@ -169,6 +185,20 @@ pub fn any_workers_agree<R: Threads + Wait + Copy + Send + Sync, D: Device + Sen
     requires others { (1 ≤ others) × (others ≤ 8) }
     ensures labs { OnOk result (one.new ≡ other.new) }
     ensures logs { IfOk result (λ logs. logs.0 ≡ logs.1) }
+    ensures lab { OnOk result (one.new
+        ≡ record { lab = (run one.old.lab d.0).lab; spent = false }) }
+    ensures lines { IfOk result (λ logs. logs.0.lines ≡ (run one.old.lab d.0).items) }
+    ensures paused { IfOk result (λ logs. logs.0.paused ≡ (run one.old.lab d.0).paused) }
+    ensures no_plan { (b : BoardNo) → (result ≡ Err (RunFault.NoPlan b))
+        ↔ ((one.old.spent ≡ false) × (first_without one.old.lab.boards ≡ Some b.0)) }
+    ensures too_long { (result ≡ Err RunFault.TooLong)
+        ↔ ((one.old.spent ≡ false) × HaveAllPlans one.old.lab
+        × (10000000000 < one.old.lab.now + d.0)) }
+    ensures unchanged { OnErr result (result ≢ Err RunFault.Memory →
+        (one.new ≡ one.old) × (other.new ≡ other.old)) }
+    ensures memory { result ≡ Err RunFault.Memory →
+        (one.new.spent ≡ true) ⊎ (other.new.spent ≡ true) }
+    ensures spent { one.old.spent ≡ true → result ≡ Err RunFault.Memory }
 {
     let first = one.run_for(rt, d, workers, gate)?;
     let second = other.run_for(rt, d, others, gate)?;

@@ -92,7 +92,8 @@ pub(crate) fn take_all_back<R: Wait, D: Device>(
     Ok(entries)
 }
 
-/// Who runs the boards of a round: so many workers, and the gate that they enter before each turn.
+/// Who runs the boards of a round: so many workers, and the gate that they enter before each turn of a
+/// board that is lent to them.
 #[derive(Clone, Copy)]
 pub(crate) struct Crew<'a, R, G> {
     pub(crate) rt: &'a R,

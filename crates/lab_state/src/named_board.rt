@@ -135,7 +135,10 @@ fn step_board<D: Device>(
 {
     let stepped = take_turn(board, grant);
     let taken = take_posts(board, &mut made.posts);
-    made.entries.push(board.take_entries())?;
+    let entries = board.take_entries();
+    if !entries.is_empty() {
+        made.entries.push(entries)?;
+    }
     stepped?;
     taken
 }

@@ -18,7 +18,7 @@ ghost use Rattle.lab_state.specs.Round as round_spec;
 ghost use Rattle.lab_state.specs.Round.{stepped, posts_made, entries_made, slot_items};
 
 use crate::boards::have_their_devices;
-use crate::boundary::{hand_over_all, join_pending, pause_of, push_pause, take_due};
+use crate::boundary::{hand_over_due, pause_of, push_pause};
 use crate::faults::LabFault;
 use crate::hub_list::HubList;
 use crate::lab::Lab;
@@ -293,9 +293,7 @@ fn play<R: Threads + Wait + Copy + Send + Sync, D: Device + Send, G: Gate>(
     have_their_devices(boards);
     let Slots { posts, mut items } = take_slots(crew, alloc, boards, source, q)?;
     let at = source.elapsed();
-    join_pending(pending, hubs, &posts)?;
-    let due = take_due(alloc, pending, hubs, at)?;
-    let notes = hand_over_all(alloc, boards, hubs, &due, at)?;
+    let notes = hand_over_due(alloc, boards, hubs, pending, &posts, at)?;
     let pause = pause_of(&posts);
     push_end(&mut items, at, &notes, &pause)?;
     Ok(RoundLog {
@@ -305,9 +303,9 @@ fn play<R: Threads + Wait + Copy + Send + Sync, D: Device + Send, G: Gate>(
 }
 
 impl<D: Device + Send> Lab<D> {
-    /// Runs one round of `q` microseconds. One worker takes board after board; several take turns of
-    /// the boards, on threads, and enter the gate before each. `LabFault::Memory` spends the
-    /// laboratory.
+    /// Runs one round of `q` microseconds. Where two boards or more are awake, several workers take
+    /// turns of the boards, on threads, and enter the gate before each; else board after board takes
+    /// its slots, and nobody enters the gate. `LabFault::Memory` spends the laboratory.
     pub fn round<R: Threads + Wait + Copy + Send + Sync, G: Gate>(
         &mut self,
         rt: &R,

@@ -1,8 +1,9 @@
 -- How a run goes on: the course of what is left, after what was read, written and kept before, is the course of the
 -- whole.
-use Rattle.std.proofs.Common.{◌≡◌, ◌≢◌, ◌∙◌, ℕ, ◌+◌, List, [], ◌∷◌, ◌++◌, length, map, take, drop, Option, None, Some}
-use Rattle.std.proofs.Common.{IfSome, Result, Err, append_assoc, length-append, refl, sym, ap}
-use Rattle.std.proofs.lemmas.List.{take-append-drop, map-append}
+use Rattle.std.proofs.Common.{◌≡◌, ◌≢◌, ◌∙◌, ℕ, ◌+◌, ◌≤◌, List, [], ◌∷◌, ◌++◌, length, map, take, drop, All, Option, None}
+use Rattle.std.proofs.Common.{Some, IfSome, Result, Err, append_assoc, length-append, refl, sym, ap, arith}
+use Rattle.std.proofs.lemmas.List.{take-append-drop, map-append, length-take}
+use Rattle.std.proofs.lemmas.List.Elements.{All-append, All-cons, All-map, All-nil, All-weaker}
 use Rattle.lab_io.specs.Asked.{AsksSome, AsksUpTo}
 use Rattle.lab_io.specs.Held.{Held}
 use Rattle.lab_io.specs.Known.{grown}
@@ -15,8 +16,9 @@ use Rattle.lab_top.specs.declared.status.Status.{Status}
 use Rattle.lab_top.specs.declared.status.Status.TheVariants as end_by
 use Rattle.lab_top.specs.Transcript.{Outcome, Read, Use, Transcript, after, ended, using, last_line}
 use Rattle.lab_top.specs.Transcript.{read_now, read_later, use_later}
-use Rattle.lab_top.specs.Inner.Course.{Course, IsLastAt, IsEnd}
-use Rattle.lab_top.specs.Headline.{Outside, FailsAt, HasFailed, calls, final, kept_by, refusal, names_read}
+use Rattle.lab_top.specs.Inner.Course.{IsEnd}
+use Rattle.lab_top.specs.Headline.{Course, FailsAt, HasFailed, IsLastAt, Outside, PartsAt}
+use Rattle.lab_top.specs.Headline.{calls, final, kept_by, refusal, names_read}
 
 -- the names of reads stay as they are
 names_read-now : (names : List (List ℕ)) → names_read (map read_now names) ≡ names
@@ -85,6 +87,130 @@ pub record LeavesStore (kept : Held) (old new : Outside) : Type 0 where
 grows_none : {A : Type 0} {told told' : Option (List A)} → told' ≡ told → told' ≡ grown told []
 grows_none {told = told} same = same ∙ sym (grown-nil told)
 
+-- ---- at what place of the transcript a run stands
+
+-- what is to come does not come before its beginning
+reads_come : (reads : List Read) → All (λ read. 0 ≤ read.before) reads
+reads_come [] = All-nil _
+reads_come (read ∷ reads) = All-cons (λ read. 0 ≤ read.before) read reads (omega arith) (reads_come reads)
+
+calls_come : (uses : List Use) → All (λ call. 0 ≤ call.before) uses
+calls_come [] = All-nil _
+calls_come (made ∷ uses) = All-cons (λ call. 0 ≤ call.before) made uses (omega arith) (calls_come uses)
+
+-- what is read first comes before all
+reads_begin : (n : ℕ) (names : List (List ℕ)) → All (λ read. read.before ≤ n) (map read_now names)
+reads_begin n [] = All-nil _
+reads_begin n (name ∷ names) =
+    All-cons (λ read. read.before ≤ n) (read_now name) (map read_now names) (omega arith) (reads_begin n names)
+
+-- what is made later comes later
+reads_within :
+    (n k : ℕ) (reads : List Read) → All (λ read. read.before ≤ k) reads →
+    All (λ read. read.before ≤ n + k) (map (read_later n) reads)
+reads_within n k reads all =
+    All-map (λ read. read.before ≤ n + k) (read_later n) reads
+    (All-weaker (λ read. read.before ≤ k) (λ read. n + read.before ≤ n + k) (λ read within. omega arith) reads all)
+
+reads_beyond :
+    (n k : ℕ) (reads : List Read) → All (λ read. k ≤ read.before) reads →
+    All (λ read. n + k ≤ read.before) (map (read_later n) reads)
+reads_beyond n k reads all =
+    All-map (λ read. n + k ≤ read.before) (read_later n) reads
+    (All-weaker (λ read. k ≤ read.before) (λ read. n + k ≤ n + read.before) (λ read beyond. omega arith) reads all)
+
+calls_within :
+    (n k : ℕ) (uses : List Use) → All (λ call. call.before ≤ k) uses →
+    All (λ call. call.before ≤ n + k) (map (use_later n) uses)
+calls_within n k uses all =
+    All-map (λ call. call.before ≤ n + k) (use_later n) uses
+    (All-weaker (λ call. call.before ≤ k) (λ call. n + call.before ≤ n + k) (λ call within. omega arith) uses all)
+
+calls_beyond :
+    (n k : ℕ) (uses : List Use) → All (λ call. k ≤ call.before) uses →
+    All (λ call. n + k ≤ call.before) (map (use_later n) uses)
+calls_beyond n k uses all =
+    All-map (λ call. n + k ≤ call.before) (use_later n) uses
+    (All-weaker (λ call. k ≤ call.before) (λ call. n + k ≤ n + call.before) (λ call beyond. omega arith) uses all)
+
+-- a place of the rest is a later place of the whole
+place_after :
+    {k : ℕ} {passed coming : List Read} {made ahead : List Use} (names : List (List ℕ)) (n : ℕ) →
+    PartsAt k passed coming made ahead →
+    PartsAt (n + k) (map read_now names ++ map (read_later n) passed) (map (read_later n) coming)
+    (map (use_later n) made) (map (use_later n) ahead)
+place_after {k} {passed} {coming} {made} {ahead} names n at = record {
+  read = All-append (λ read. read.before ≤ n + k) _ _ (reads_begin (n + k) names) (reads_within n k passed at.read);
+  unread = reads_beyond n k coming at.unread;
+  called = calls_within n k made at.called;
+  uncalled = calls_beyond n k ahead at.uncalled;
+}
+
+-- a call at the beginning was made
+place_using :
+    {k : ℕ} {passed coming : List Read} {made ahead : List Use} (call : StoreUse) →
+    PartsAt k passed coming made ahead →
+    PartsAt k passed coming (record { call = call; before = 0 } ∷ made) ahead
+place_using {k = k} {made = made} call at = record {
+  read = at.read;
+  unread = at.unread;
+  called = All-cons (λ call. call.before ≤ k) (record { call = call; before = 0 }) made (omega arith) at.called;
+  uncalled = at.uncalled;
+}
+
+-- at the beginning only names were read
+place_begins :
+    (names : List (List ℕ)) (coming : List Read) (ahead : List Use) → PartsAt 0 (map read_now names) coming [] ahead
+place_begins names coming ahead = record {
+  read = reads_begin 0 names;
+  unread = reads_come coming;
+  called = All-nil _;
+  uncalled = calls_come ahead;
+}
+
+-- nothing is to come
+place_ends : (k : ℕ) (names : List (List ℕ)) → PartsAt k (map read_now names) [] [] []
+place_ends k names = record {
+  read = reads_begin k names;
+  unread = All-nil _;
+  called = All-nil _;
+  uncalled = All-nil _;
+}
+
+-- a part of a text was written
+place_cut :
+    (names : List (List ℕ)) (text : List ℕ) (count : ℕ) (coming : List Read) (ahead : List Use) →
+    PartsAt (length (take count text)) (map read_now names) (map (read_later (length text)) coming) []
+    (map (use_later (length text)) ahead)
+place_cut names text count coming ahead =
+    let n = length text in
+    let k = length (take count text) in
+    let short : k ≤ n = omega (arith, length-take count text) in
+    record {
+      read = reads_begin k names;
+      unread = All-weaker (λ read. n + 0 ≤ read.before) (λ read. k ≤ read.before) (λ read beyond. omega (arith, short))
+          (map (read_later n) coming) (reads_beyond n 0 coming (reads_come coming));
+      called = All-nil _;
+      uncalled = All-weaker (λ call. n + 0 ≤ call.before) (λ call. k ≤ call.before)
+          (λ call beyond. omega (arith, short)) (map (use_later n) ahead) (calls_beyond n 0 ahead (calls_come ahead));
+    }
+
+-- where nothing was left of the rest nothing is left of the whole
+finished_after :
+    (n : ℕ) (coming : List Read) (ahead : List Use) (told : Option Outcome) →
+    IfSome told (λ is. (coming ≡ []) × (ahead ≡ [])) →
+    IfSome told (λ is. (map (read_later n) coming ≡ []) × (map (use_later n) ahead ≡ []))
+finished_after n coming ahead None none = tt
+finished_after n coming ahead (Some is) none = (ap (map (read_later n)) none.0, ap (map (use_later n)) none.1)
+
+-- nothing is left of no reads and no calls
+none_left : (reads : List Read) (uses : List Use) (told : Option Outcome) → reads ≡ [] → uses ≡ [] →
+    IfSome told (λ is. (reads ≡ []) × (uses ≡ []))
+none_left reads uses None read made = tt
+none_left reads uses (Some is) read made = (read, made)
+
+-- ---- how a run goes on
+
 -- these names were read and this text was written, and then the rest went by its course
 pub course_after :
     {kept : Held} {status : Status} {old mid new : Outside}
@@ -106,7 +232,10 @@ course_after {status = status} {old = old} names text rest wrote asked used cour
   asked = rw (course.asked, asked, grown-append old.asked names (names_read course.passed), names_read-after) refl;
   used = rw (course.used, used, ← map-append, calls-later) refl;
   stored = rw (course.stored, calls-later) refl;
+  place = rw (length-append, ← map-append (use_later (length text)) course.done course.failed)
+      (place_after names (length text) course.place);
   ended = rw calls-later course.ended;
+  finished = finished_after (length text) course.coming course.ahead (final status) course.finished;
   unread = λ is. rw length-append (last_after _ _ _ _ (course.unread is));
   unstored = rw length-append (failed_later status course.failed _ _ course.unstored);
 }
@@ -131,7 +260,9 @@ course_using {old = old} call rest wrote asked used course = record {
   asked = rw (course.asked, asked) refl;
   used = rw (course.used, used, grown-append old.used (call ∷ []) (calls (course.done ++ course.failed))) refl;
   stored = course.stored;
+  place = place_using call course.place;
   ended = course.ended;
+  finished = course.finished;
   unread = course.unread;
   unstored = course.unstored;
 }
@@ -156,7 +287,9 @@ course_unstored call rest wrote asked used told = record {
   asked = grows_none asked;
   used = used;
   stored = told;
+  place = place_using call (place_begins [] rest.reads rest.uses);
   ended = tt;
+  finished = tt;
   unread = λ is. cc;
   unstored = record { one = record { call = call; before = 0 }; alone = refl; before = refl };
 }
@@ -181,7 +314,9 @@ course_unread names text rest wrote store asks = record {
   asked = rw (asks.asked, names_read-now) refl;
   used = grows_none store.used;
   stored = store.told;
+  place = place_begins (asks.earlier ++ asks.name ∷ []) _ _;
   ended = tt;
+  finished = tt;
   unread = λ _. record {
     earlier = map read_now asks.earlier;
     last = read_now asks.name;
@@ -211,7 +346,9 @@ course_memory names text rest wrote store asks = record {
   asked = rw (asks.asked, names_read-now) refl;
   used = grows_none store.used;
   stored = store.told;
+  place = place_begins asks.passed _ _;
   ended = tt;
+  finished = tt;
   unread = λ is. cc;
   unstored = refl;
 }
@@ -236,7 +373,9 @@ course_none all wrote asked store = record {
   asked = grows_none asked;
   used = grows_none store.used;
   stored = store.told;
+  place = place_begins [] _ _;
   ended = tt;
+  finished = tt;
   unread = λ is. cc;
   unstored = refl;
 }
@@ -270,7 +409,9 @@ course_stopped {status = status} names text outcome asked store end = record {
   asked = rw (asked, names_read-now) refl;
   used = grows_none store.used;
   stored = store.told;
+  place = place_ends _ names;
   ended = with_kept _ _ _ (final status) end.ended;
+  finished = none_left [] [] (final status) refl refl;
   unread = λ is. absurd (end.never is);
   unstored = none_failed status _ end.nor;
 }
@@ -295,7 +436,9 @@ course_ended {status = status} outcome asked store end = record {
   asked = grows_none asked;
   used = grows_none store.used;
   stored = store.told;
+  place = place_ends _ [];
   ended = with_kept _ _ _ (final status) end.ended;
+  finished = none_left [] [] (final status) refl refl;
   unread = λ is. absurd (end.never is);
   unstored = none_failed status _ end.nor;
 }
@@ -369,7 +512,9 @@ course_cut names text rest fault part asked store = record {
   asked = rw (asked, names_read-now) refl;
   used = grows_none store.used;
   stored = store.told;
+  place = place_cut names text part.count rest.reads rest.uses;
   ended = rw (cut_by fault) tt;
+  finished = rw (cut_by fault) tt;
   unread = λ is. absurd (not_unread fault is);
   unstored = none_failed (refusal fault) _ (not_unstored fault);
 }

@@ -7,9 +7,8 @@ use Rattle.lab_io.specs.Known.{grown}
 use Rattle.lab_top.specs.declared.status.Status.{Status}
 use Rattle.lab_top.specs.declared.status.Status.TheVariants as end_by
 use Rattle.lab_top.specs.Transcript.{Outcome, Read, Transcript, transcript}
-use Rattle.lab_top.specs.Headline.{AsksPart, EndsAs, IsUncut, IsWhole, Outside, ReadsLast, WritesPart}
+use Rattle.lab_top.specs.Headline.{AsksPart, Course, EndsAs, IsLastAt, IsUncut, IsWhole, Outside, ReadsLast, WritesPart}
 use Rattle.lab_top.specs.Headline.{calls, final, kept_by, names_read}
-use Rattle.lab_top.specs.Inner.Course.{Course, IsLastAt}
 
 -- what holds of the values that are told
 pub if_both :
@@ -102,6 +101,13 @@ pub whole_told :
 whole_told o p words status old new course =
     if_both o p (λ held kept. IsWhole (transcript words held kept) status old new)
     (λ held is kept keeps. whole_of (course held is kept keeps))
+
+pub course_told :
+    (o p : Option Held) (words : List (List ℕ)) (status : Status) (old new : Outside) →
+    ForSome o (λ held. ForSome p (λ kept. Course (transcript words held kept) kept status old new)) →
+    IfSome o (λ held. IfSome p (λ kept. Course (transcript words held kept) kept status old new))
+course_told o p words status old new course =
+    if_both o p (λ held kept. Course (transcript words held kept) kept status old new) course
 
 pub part_told :
     (o p : Option Held) (words : List (List ℕ)) (status : Status) (old new : Outside) →

@@ -22,10 +22,10 @@ use Rattle.lab_top.specs.declared.snapshots.Halt.{Halt}
 use Rattle.lab_top.specs.declared.snapshots.Halt.TheVariants as halt
 use Rattle.lab_top.specs.declared.status.Status.{Status}
 use Rattle.lab_top.specs.declared.status.Status.TheVariants as end_by
-use Rattle.lab_top.specs.Transcript.{Rest, Transcript, Done, Script, Absent}
+use Rattle.lab_top.specs.Transcript.{Further, Transcript, Done, Script, Absent}
 use Rattle.lab_top.specs.Transcript.{after, ended, refused, stopped, onward, from, saving, loading}
-use Rattle.lab_top.specs.Headline.{Outside, refusal}
-use Rattle.lab_top.specs.Inner.Course.{Course, GoesOn, IsEnd}
+use Rattle.lab_top.specs.Headline.{Course, Outside, refusal}
+use Rattle.lab_top.specs.Inner.Course.{GoesOn, IsEnd}
 use Rattle.lab_top.specs.Inner.Stored.{IsStored}
 use Rattle.lab_top.proofs.Courses.{LeavesStore, course_after, course_cut, course_memory, course_stopped, course_unread}
 
@@ -35,28 +35,28 @@ unfolding from
 from_suc more held kept s = refl
 
 onward_goes :
-    (further : Rest) (kept : Held) (s : State) (done : Did) (text : List ℕ) (next : State) →
+    (further : Further) (kept : Held) (s : State) (done : Did) (text : List ℕ) (next : State) →
     done.answer ≡ Goes text next → onward further kept s done ≡ after done.names text (further kept next)
 onward_goes further kept s done text next is = rw is refl
 
 onward_saves :
-    (further : Rest) (kept : Held) (s : State) (done : Did) (name : List ℕ) (place : Place) (next : State) →
+    (further : Further) (kept : Held) (s : State) (done : Did) (name : List ℕ) (place : Place) (next : State) →
     done.answer ≡ Saves name place next →
     onward further kept s done
     ≡ after done.names [] (saving further kept name place next (spelling next.lab next.lines))
 onward_saves further kept s done name place next is = rw is refl
 
 onward_loads :
-    (further : Rest) (kept : Held) (s : State) (done : Did) (name : List ℕ) (place : Place) (next : State) →
+    (further : Further) (kept : Held) (s : State) (done : Did) (name : List ℕ) (place : Place) (next : State) →
     done.answer ≡ Loads name place next →
     onward further kept s done ≡ after done.names [] (loading further kept name place next)
 onward_loads further kept s done name place next is = rw is refl
 
-onward_ends : (further : Rest) (kept : Held) (s : State) (done : Did) → done.answer ≡ Ends →
+onward_ends : (further : Further) (kept : Held) (s : State) (done : Did) → done.answer ≡ Ends →
     onward further kept s done ≡ stopped kept done.names s Done
 onward_ends further kept s done is = rw is refl
 
-onward_faults : (further : Rest) (kept : Held) (s : State) (done : Did) (fault : ScriptFault) →
+onward_faults : (further : Further) (kept : Held) (s : State) (done : Did) (fault : ScriptFault) →
     done.answer ≡ Faults fault → onward further kept s done ≡ stopped kept done.names s (Script fault)
 onward_faults further kept s done fault is = rw is refl
 
@@ -103,7 +103,7 @@ step_cut more held kept s next text fault step part store =
 
 -- these names were read, and then a command for the store was carried out so
 stored_after :
-    (kept : Held) (old mid new : Outside) (names : List (List ℕ)) (rest : Transcript) (further : Rest) (place : Place)
+    (kept : Held) (old mid new : Outside) (names : List (List ℕ)) (rest : Transcript) (further : Further) (place : Place)
     (result : Result Running (Halt Running)) →
     mid.written ≡ old.written → mid.asked ≡ grown old.asked names → mid.used ≡ old.used →
     IsStored rest kept further place mid new result → IsStored (after names [] rest) kept further place old new result
@@ -191,7 +191,7 @@ step_faults more held kept m next fault step over store end =
 
 unread_in :
     {kept : Held} {old new : Outside}
-    (further : Rest) (s : State) (names : List (List ℕ)) (answer : Answer) →
+    (further : Further) (s : State) (names : List (List ℕ)) (answer : Answer) →
     new.written ≡ old.written → LeavesStore kept old new → AsksUpTo names old.asked new.asked →
     Course (onward further kept s (record { names = names; answer = answer })) kept end_by.Unread old new
 unread_in {kept} further s names (Goes text next) wrote store asks =
@@ -218,7 +218,7 @@ step_unread more held kept s next step wrote store =
 
 memory_in :
     {kept : Held} {old new : Outside}
-    (further : Rest) (s : State) (names : List (List ℕ)) (answer : Answer) →
+    (further : Further) (s : State) (names : List (List ℕ)) (answer : Answer) →
     new.written ≡ old.written → LeavesStore kept old new → AsksSome names old.asked new.asked →
     Course (onward further kept s (record { names = names; answer = answer })) kept end_by.Memory old new
 memory_in {kept} further s names (Goes text next) wrote store asks =

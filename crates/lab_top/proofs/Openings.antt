@@ -20,12 +20,12 @@ use Rattle.lab_top.specs.declared.script.Opened.TheVariants as opened_by
 use Rattle.lab_top.specs.declared.status.Status.{Status}
 use Rattle.lab_top.specs.declared.status.Status.TheVariants as end_by
 use Rattle.lab_top.specs.Content.{Content, Readable, Faulty, content_of}
-use Rattle.lab_top.specs.Headline.{OnRefused, Outside, WritesUsage}
+use Rattle.lab_top.specs.Headline.{Course, OnRefused, Outside, WritesUsage}
 use Rattle.lab_top.specs.Request as asked_by
 use Rattle.lab_top.specs.Request.{Refused, Gen, request_of}
 use Rattle.lab_gen.specs.Summary.{summary_of}
-use Rattle.lab_top.specs.Transcript.{Done, Usage, Script, rest_of, begun, run_of, transcript}
-use Rattle.lab_top.specs.Inner.Course.{Course, IsEnd}
+use Rattle.lab_top.specs.Transcript.{Done, Usage, Script, commands_of, begun, run_of, transcript}
+use Rattle.lab_top.specs.Inner.Course.{IsEnd}
 use Rattle.lab_top.specs.Inner.Opened.{IsOpened, IsRefused}
 use Rattle.lab_top.proofs.Courses.{LeavesStore, course_after, course_ended, course_memory, course_stopped}
 use Rattle.lab_top.proofs.Courses.{course_unread}
@@ -53,10 +53,10 @@ pub opening_goes :
     {status : Status} {old mid new : Outside} (held kept : Held) (script text : List ℕ) (setting : Setting) →
     content_of script (get held script) ≡ Readable text →
     mid.written ≡ old.written → mid.asked ≡ grown old.asked (script ∷ []) → mid.used ≡ old.used →
-    Course (rest_of run held kept (started script text setting)) kept status mid new →
+    Course (commands_of run held kept (started script text setting)) kept status mid new →
     Course (run_of run held kept script setting) kept status old new
 opening_goes {old = old} held kept script text setting is wrote asked used course =
-    rw is (course_after (script ∷ []) [] (rest_of run held kept (started script text setting))
+    rw is (course_after (script ∷ []) [] (commands_of run held kept (started script text setting))
     (wrote ∙ sym (grown-nil old.written)) asked used course)
 
 -- a script is refused before its first line

@@ -18,7 +18,7 @@ use Rattle.monitor.specs.Refusal.{◌>>=◌, require}
 use Rattle.monitor.specs.Runs.{has_run, length_of, run_for}
 use Rattle.monitor.specs.State.{State, empty_lab, started}
 use Rattle.lab_top.specs.Content.{Content, Missing, Faulty, Readable}
-use Rattle.lab_top.specs.Transcript.{begun, rest_of}
+use Rattle.lab_top.specs.Transcript.{begun, commands_of}
 
 -- the number of workers does not matter
 pub begun_workers :
@@ -83,5 +83,5 @@ pub begun_lines : (held kept : Held) (script text other : List ℕ) (setting : S
     source_of script other ≡ source_of script text →
     begun run held kept script setting (Readable other) ≡ begun run held kept script setting (Readable text)
 begun_lines held kept script text other setting same =
-    ap (rest_of run held kept) (started_as script other setting ∙ ap (λ source. started_with source setting) same
+    ap (commands_of run held kept) (started_as script other setting ∙ ap (λ source. started_with source setting) same
     ∙ sym (started_as script text setting))

@@ -1,5 +1,5 @@
 -- What the whole program promises of any run.
-use Rattle.std.specs.Prelude.{◌≡◌, ℕ, ◌⊎◌, List, [], ◌∷◌, ◌++◌, length, map, fold, Option, None, Some}
+use Rattle.std.specs.Prelude.{◌≡◌, ℕ, ◌≤◌, ◌⊎◌, List, [], ◌∷◌, ◌++◌, length, map, fold, All, Option, None, Some}
 use Rattle.std.specs.Prelude.{Result, Ok, Err, IfSome, IsSome}
 use Rattle.std.specs.FinMap.{insert}
 use Rattle.std.specs.Option.{option_map_or}
@@ -130,6 +130,46 @@ pub record AsksPart (all : Transcript) (log log' : Log) : Type 0 where
   pub coming : List Read
   pub all_reads : all.reads ≡ passed ++ coming
   pub asked : log' ≡ grown log (names_read passed)
+
+-- the last of these reads comes after so many bytes
+pub record IsLastAt (reads : List Read) (bytes : ℕ) : Type 0 where
+  pub earlier : List Read
+  pub last : Read
+  pub all : reads ≡ earlier ++ last ∷ []
+  pub before : last.before ≡ bytes
+
+-- So many bytes part the reads and the calls on the store that were made from those that are to come: none that was
+-- made comes after more bytes, and none that is to come after fewer.
+pub record PartsAt (bytes : ℕ) (passed coming : List Read) (made ahead : List Use) : Type 0 where
+  pub read : All (λ read. read.before ≤ bytes) passed
+  pub unread : All (λ read. bytes ≤ read.before) coming
+  pub called : All (λ call. call.before ≤ bytes) made
+  pub uncalled : All (λ call. bytes ≤ call.before) ahead
+
+-- A run that begins where this is kept has gone by this transcript up to where it was cut short, if it was: what it has
+-- written and asked for, and its calls on the store, are what the transcript begins with, up to one place of it. A run
+-- that was not cut short has made all of it.
+pub record Course (all : Transcript) (kept : Held) (status : Status) (old new : Outside) : Type 0 where
+  pub bytes : List ℕ
+  pub unwritten : List ℕ
+  pub passed : List Read
+  pub coming : List Read
+  pub done : List Use
+  pub failed : List Use
+  pub ahead : List Use
+  pub all_bytes : all.bytes ≡ bytes ++ unwritten
+  pub all_reads : all.reads ≡ passed ++ coming
+  pub all_uses : all.uses ≡ done ++ failed ++ ahead
+  pub written : new.written ≡ grown old.written bytes
+  pub asked : new.asked ≡ grown old.asked (names_read passed)
+  pub used : new.used ≡ grown old.used (calls (done ++ failed))
+  pub stored : new.kept ≡ Some (kept_by kept (calls done))
+  pub place : PartsAt (length bytes) passed coming (done ++ failed) ahead
+  pub ended : IfSome (final status) (λ outcome.
+      (all.outcome ≡ outcome) × (unwritten ≡ []) × (all.kept ≡ kept_by kept (calls done)))
+  pub finished : IfSome (final status) (λ outcome. (coming ≡ []) × (ahead ≡ []))
+  pub unread : status ≡ Unread → IsLastAt passed (length bytes)
+  pub unstored : HasFailed status failed (length bytes)
 
 -- a run was not cut short, but by want of memory
 abbrev pub IsUncut : Status → Type 0

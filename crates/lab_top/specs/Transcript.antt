@@ -73,17 +73,17 @@ use_later bytes made = record { call = made.call; before = bytes + made.before }
 
 -- first these names are read and this text is written, and then comes the rest
 abbrev pub after : List (List ℕ) → List ℕ → Transcript → Transcript
-after names written rest = record {
-  bytes = written ++ rest.bytes;
-  outcome = rest.outcome;
-  reads = map read_now names ++ map (read_later (length written)) rest.reads;
-  uses = map (use_later (length written)) rest.uses;
-  kept = rest.kept;
+after names written next = record {
+  bytes = written ++ next.bytes;
+  outcome = next.outcome;
+  reads = map read_now names ++ map (read_later (length written)) next.reads;
+  uses = map (use_later (length written)) next.uses;
+  kept = next.kept;
 }
 
 -- first comes this call on the store, and then the rest
 abbrev pub using : StoreUse → Transcript → Transcript
-using call rest = record rest { uses = record { call = call; before = 0 } ∷ rest.uses }
+using call next = record next { uses = record { call = call; before = 0 } ∷ next.uses }
 
 -- a run that stops here, when these names have been read, first prints its open lines
 abbrev pub stopped : Held → List (List ℕ) → State → Outcome → Transcript
@@ -97,25 +97,25 @@ refused kept place s cause = stopped kept [] s (Script (fault_at place cause))
 abbrev pub is_large : List ℕ → Bool
 is_large bytes = nat_lt 67108864 (length bytes)
 
--- the rest of a run, by the state in which it goes on and by what is kept then
-abbrev pub Rest : Type 0
-Rest = Held → State → Transcript
+-- how a run goes on, by what is kept then and by the state
+abbrev pub Further : Type 0
+Further = Held → State → Transcript
 
 -- The laboratory and its open lines are kept under a name, as they are spelled. Where each run has length 0 it is only
 -- asked whether they can be.
-abbrev pub saving : Rest → Held → List ℕ → Place → State → List ℕ → Transcript
+abbrev pub saving : Further → Held → List ℕ → Place → State → List ℕ → Transcript
 saving further kept name place s bytes =
     if is_large bytes then refused kept place s Size
     else if s.dry then further kept s
     else using (put_of name bytes) (further (insert kept name bytes) s)
 
 -- how a run goes on with what was read of a snapshot
-abbrev pub resuming : Rest → Held → Place → State → Option (Lab × List OpenLine) → Transcript
+abbrev pub resuming : Further → Held → Place → State → Option (Lab × List OpenLine) → Transcript
 resuming further kept place s None = refused kept place s Snapshot
 resuming further kept place s (Some (lab, lines)) = further kept (joined (bodies_of s) lab lines)
 
 -- how a run goes on with what is kept under a name
-abbrev pub loading_kept : Rest → Held → Place → State → Option (List ℕ) → Transcript
+abbrev pub loading_kept : Further → Held → Place → State → Option (List ℕ) → Transcript
 loading_kept further kept place s None = ended kept Absent
 loading_kept further kept place s (Some bytes) =
     if is_large bytes then refused kept place s Size else resuming further kept place s (snapshot_of bytes)
@@ -125,13 +125,13 @@ abbrev pub is_occupied : Lab → Bool
 is_occupied lab = not (length lab.boards == 0) || not (length lab.hubs == 0) || not (lab.now == 0)
 
 -- the laboratory and its open lines are taken back from a name, into a laboratory in which nothing was made
-abbrev pub loading : Rest → Held → List ℕ → Place → State → Transcript
+abbrev pub loading : Further → Held → List ℕ → Place → State → Transcript
 loading further kept name place s =
     if is_occupied s.lab then refused kept place s Occupied
     else using (get_of name) (loading_kept further kept place s (get kept name))
 
 -- how a run goes on with a command that does this
-abbrev pub onward : Rest → Held → State → Did → Transcript
+abbrev pub onward : Further → Held → State → Did → Transcript
 onward further kept s done =
     elim done.answer [
       | Goes text next ↦ after done.names text (further kept next)
@@ -144,19 +144,19 @@ onward further kept s done =
     ]
 
 -- what so many commands of a run write, read and keep, where files hold this and a laboratory plays a run so
-unfoldable pub from : ℕ → Play → Held → Rest
+unfoldable pub from : ℕ → Play → Held → Further
 from zero play held kept s = ended kept Absent
 from (suc more) play held kept s = onward (from more play held) kept s (did play held s)
 
--- What is left of a run. 100,000 commands are taken at most, and what comes next ends it.
-abbrev pub rest_of : Play → Held → Rest
-rest_of play held = from 100001 play held
+-- What the commands write, read and keep that are left. 100,000 are taken at most, and what comes next ends the run.
+abbrev pub commands_of : Play → Held → Further
+commands_of play held = from 100001 play held
 
 -- how a run goes on with what the file of its script is
 abbrev pub begun : Play → Held → Held → List ℕ → Setting → Content → Transcript
 begun play held kept script setting Missing = ended kept Absent
 begun play held kept script setting (Faulty fault) = ended kept (Script fault)
-begun play held kept script setting (Readable text) = rest_of play held kept (started script text setting)
+begun play held kept script setting (Readable text) = commands_of play held kept (started script text setting)
 
 -- all that the run of a script writes, reads and keeps
 abbrev pub run_of : Play → Held → Held → List ℕ → Setting → Transcript

@@ -15,7 +15,7 @@ ghost use Rattle.monitor.specs.Runs.{run_for};
 ghost use Rattle.monitor.specs.State.{State, Place, bodies_of, joined};
 ghost use Rattle.lab_top.specs.Content.{Readable};
 ghost use Rattle.lab_top.specs.Request.{Run, request_of};
-ghost use Rattle.lab_top.specs.Transcript.{Rest, begun, is_occupied, loading, saving, transcript};
+ghost use Rattle.lab_top.specs.Transcript.{Further, begun, is_occupied, loading, saving, transcript};
 ghost use Rattle.lab_top.specs.Transcript.{transcript_by, using};
 
 use lab_snap::snapshots_are_what_they_spell;
@@ -62,15 +62,15 @@ pub fn checks_run_nothing()
 /// laboratory nothing was made, goes on with the laboratory and the open lines that were saved, with no board
 /// selected, and with its own script: the lines to come, the variables and the macros.
 pub fn cut_runs_go_on()
-    ensures saved { (rest : Rest) (kept : Held) (name : List ℕ) (place : Place) (s : State) (bytes : List ℕ) →
+    ensures saved { (further : Further) (kept : Held) (name : List ℕ) (place : Place) (s : State) (bytes : List ℕ) →
         length bytes ≤ 67108864 → s.dry ≡ false →
-        saving rest kept name place s bytes ≡ using (put_of name bytes) (rest (insert kept name bytes) s) }
-    ensures loaded { (rest : Rest) (kept : Held) (name : List ℕ) (place : Place) (s t : State) →
+        saving further kept name place s bytes ≡ using (put_of name bytes) (further (insert kept name bytes) s) }
+    ensures loaded { (further : Further) (kept : Held) (name : List ℕ) (place : Place) (s t : State) →
         IsValid s.lab s.lines → IsSpellable s.lab s.lines → length (spelling s.lab s.lines) ≤ 67108864 →
         is_occupied t.lab ≡ false →
-        loading rest (insert kept name (spelling s.lab s.lines)) name place t
+        loading further (insert kept name (spelling s.lab s.lines)) name place t
         ≡ using (get_of name)
-        (rest (insert kept name (spelling s.lab s.lines)) (joined (bodies_of t) s.lab s.lines)) }
+        (further (insert kept name (spelling s.lab s.lines)) (joined (bodies_of t) s.lab s.lines)) }
 {
     snapshots_are_what_they_spell();
 }

@@ -14,11 +14,11 @@ ghost use Rattle.log_text.specs.Log.{rest};
 ghost use Rattle.monitor.specs.State.{started};
 ghost use Rattle.monitor.specs.Step.{Running, TakesSome, line_in};
 ghost use Rattle.lab_top.specs.Request.{request_of};
-ghost use Rattle.lab_top.specs.Transcript.{Rest, Transcript, transcript, run_of, rest_of, from, loading};
+ghost use Rattle.lab_top.specs.Transcript.{Further, Transcript, transcript, run_of, commands_of, from, loading};
 ghost use Rattle.lab_top.specs.Transcript.{Script, Usage, Done};
-ghost use Rattle.lab_top.specs.Headline.{IsWhole, WritesPart, WritesUsage, AsksPart, IsUncut, outside};
+ghost use Rattle.lab_top.specs.Headline.{Course, IsWhole, WritesPart, WritesUsage, AsksPart, IsUncut, outside};
 ghost use Rattle.lab_top.specs.Headline.{Outside, IsUsageBy, IsNoUsage, OnRefused, final};
-ghost use Rattle.lab_top.specs.Inner.Course.{Course, IsEnd, IsTaken};
+ghost use Rattle.lab_top.specs.Inner.Course.{IsEnd, IsTaken};
 ghost use Rattle.lab_top.specs.Inner.Stored.{IsStored, IsTried, IsUnspent, lent, store_of};
 
 use crate::script::{Opened, open};
@@ -73,6 +73,13 @@ pub fn run_lab<
     // and after a failed read or a failed call on the store all that comes before it.
     ensures prefix { IfSome (F.held files.old) (λ held. IfSome (S.kept store.old) (λ kept.
         WritesPart (transcript (map string_bytes words.now) held kept) kept result
+        (outside F.Files K.Sink S.Store files.old out.old store.old)
+        (outside F.Files K.Sink S.Store files.new out.new store.new))) }
+
+    // What it has written, read and called for ends at one place of the transcript, and where nothing cut
+    // it short at its end.
+    ensures course { IfSome (F.held files.old) (λ held. IfSome (S.kept store.old) (λ kept.
+        Course (transcript (map string_bytes words.now) held kept) kept result
         (outside F.Files K.Sink S.Store files.old out.old store.old)
         (outside F.Files K.Sink S.Store files.new out.new store.new))) }
 
@@ -258,7 +265,7 @@ fn run_script<
     requires some_worker { 1 ≤ request.setting.workers }
     requires few_workers { request.setting.workers ≤ 8 }
     ensures course { ForSome (F.held files.old) (λ held. ForSome (S.kept store.old) (λ kept.
-        Course (rest_of run held kept (started request.script (string_bytes text) request.setting)) kept result
+        Course (commands_of run held kept (started request.script (string_bytes text) request.setting)) kept result
         (outside F.Files K.Sink S.Store files.old out.old store.old)
         (outside F.Files K.Sink S.Store files.new out.new store.new))) }
     ensures usage { IsNoUsage result }
@@ -293,7 +300,7 @@ fn take_commands<
     requires goes_on { monitor.ended ≡ false }
     requires few { monitor.state.flow.kept.taken ≤ 100000 }
     ensures course { ForSome (F.held files.old) (λ held. ForSome (S.kept store.old) (λ kept.
-        Course (rest_of run held kept monitor.state) kept result
+        Course (commands_of run held kept monitor.state) kept result
         (outside F.Files K.Sink S.Store files.old out.old store.old)
         (outside F.Files K.Sink S.Store files.new out.new store.new))) }
     ensures usage { IsNoUsage result }
@@ -332,7 +339,8 @@ fn take_command<
         IsTaken (from (suc more) run held kept monitor.state) kept (from more run held)
         (outside F.Files K.Sink S.Store files.old out.old store.old)
         (outside F.Files K.Sink S.Store files.new out.new store.new) result)) }
-    ensures next { IfOk result (λ next. (next.ended ≡ false) × TakesSome monitor.state next.state) }
+    ensures next { IfOk result (λ next. (next.ended ≡ false) × (next.workers ≡ monitor.workers)
+        × TakesSome monitor.state next.state) }
     ensures usage { IfErr result IsNoUsage }
     ensures files { OnlyReads F.Files (result ≡ Err Status.Unread) files.old files.new }
     ensures output { OnlyWrites K.Sink (result ≡ Err Status.Unwritten) out.old out.new }
@@ -368,7 +376,7 @@ fn try_command<
         IsTried (from (suc more) run held kept monitor.old.state) kept (from more run held)
         (outside F.Files K.Sink S.Store files.old out.old store.old)
         (outside F.Files K.Sink S.Store files.new out.new store.new) monitor.new result)) }
-    ensures next { IfOk result (λ line. (monitor.new.ended ≡ false)
+    ensures next { IfOk result (λ line. (monitor.new.ended ≡ false) × (monitor.new.workers ≡ monitor.old.workers)
         × TakesSome monitor.old.state monitor.new.state) }
     ensures usage { IfErr result IsNoUsage }
     ensures files { OnlyReads F.Files (result ≡ Err Status.Unread) files.old files.new }
@@ -403,13 +411,14 @@ fn take_back<D: Device, K: Sink, S: Store>(
 ) -> Result<Monitor<D>, Status>
     requires { monitor.ended ≡ false }
     ensures course { ForSome (S.kept store.old) (λ kept.
-        (all : Transcript) (further : Rest) (old : Outside) (asked : Log) →
+        (all : Transcript) (further : Further) (old : Outside) (asked : Log) →
         ((new : Outside) (stored : Result Running (Halt Running)) →
         IsStored (loading further kept line.name (line_in line.file line.line) monitor.state) kept further
         (line_in line.file line.line) (store_of S.Store (K.written out.old) asked store.old) new stored →
         IsStored all kept further (line_in line.file line.line) old new stored) →
         IsTaken all kept further old (store_of S.Store (K.written out.new) asked store.new) result) }
-    ensures next { IfOk result (λ next. (next.ended ≡ false) × (next.state.flow ≡ monitor.state.flow)) }
+    ensures next { IfOk result (λ next. (next.ended ≡ false) × (next.workers ≡ monitor.workers)
+        × (next.state.flow ≡ monitor.state.flow)) }
     ensures usage { IfErr result IsNoUsage }
     ensures never { result ≢ Err Status.Unread }
     ensures output { OnlyWrites K.Sink (result ≡ Err Status.Unwritten) out.old out.new }
@@ -436,7 +445,7 @@ fn stop_by<D: Device, K: Sink>(
     out: &mut K,
 ) -> Status
     requires { monitor.old.spent ≡ false }
-    ensures course { (all : Transcript) (kept : Held) (further : Rest) (old mid : Outside) →
+    ensures course { (all : Transcript) (kept : Held) (further : Further) (old mid : Outside) →
         IsStored all kept further (line_in file line) old (record mid { written = K.written out.old })
         (lent monitor.old (Err halt)) →
         Course all kept result old (record mid { written = K.written out.new }) }
@@ -464,7 +473,7 @@ fn go_on<D: Device, K: Sink>(
     out: &mut K,
 ) -> Result<Monitor<D>, Status>
     requires { IsUnspent stored }
-    ensures course { (all : Transcript) (kept : Held) (further : Rest) (old mid : Outside) →
+    ensures course { (all : Transcript) (kept : Held) (further : Further) (old mid : Outside) →
         IsStored all kept further (line_in file line) old (record mid { written = K.written out.old }) stored →
         IsTaken all kept further old (record mid { written = K.written out.new }) result }
     ensures same { IfOk result (λ monitor. stored ≡ Ok monitor) }

@@ -32,7 +32,7 @@ pub changed_rules :
     ((meant >>= λ on. Ok (leaves (with_board old.state on f))) ≡ Ok (record { text = text; state = new.state }))
     × IsOnward old new
 changed_rules old new meant b f text unspent is same none =
-    rw (same, none, is.on) (refl, record { spent = unspent; ended = refl; flow = refl; kept = refl })
+    rw (same, none, is.on) (refl, record { workers = refl; spent = unspent; ended = refl; flow = refl; kept = refl })
 
 -- a command has changed the selected board, of which it names a processor
 pub processor_rules :
@@ -43,7 +43,8 @@ pub processor_rules :
     ≡ Ok (record { text = text; state = new.state }))
     × IsOnward old new
 processor_rules old new b hart cpu f text unspent is named same none =
-    rw (same, none, is.on, ← named) (refl, record { spent = unspent; ended = refl; flow = refl; kept = refl })
+    rw (same, none, is.on, ← named)
+    (refl, record { workers = refl; spent = unspent; ended = refl; flow = refl; kept = refl })
 
 -- a command has changed the selected board, of which it asks something
 pub tested_rules :
@@ -56,4 +57,4 @@ pub tested_rules :
     × IsOnward old new
 tested_rules old new meant b test cause f text unspent is passes same none =
     rw (same, none, is.on, passes is.view is.seen)
-    (refl, record { spent = unspent; ended = refl; flow = refl; kept = refl })
+    (refl, record { workers = refl; spent = unspent; ended = refl; flow = refl; kept = refl })

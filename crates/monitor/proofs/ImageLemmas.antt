@@ -295,4 +295,4 @@ pub image_rules :
     (load_image old.state (record { number = b; view = view }) image ≡ Ok (record { text = text; state = new.state }))
     × IsOnward old new
 image_rules old new b view image text unspent passes same none =
-    rw (same, none, passes) (refl, record { spent = unspent; ended = refl; flow = refl; kept = refl })
+    rw (same, none, passes) (refl, record { workers = refl; spent = unspent; ended = refl; flow = refl; kept = refl })

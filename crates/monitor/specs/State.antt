@@ -22,6 +22,11 @@ pub record BodiesSeen : Type 0 where
   pub until : ℕ
   pub dry : Bool
 
+-- a script without its laboratory, and by how many workers the boards of one are run
+pub record Parted : Type 0 where
+  pub script : BodiesSeen
+  pub workers : ℕ
+
 abbrev pub bodies_of : State → BodiesSeen
 bodies_of s = record { flow = s.flow; until = s.until; dry = s.dry }
 

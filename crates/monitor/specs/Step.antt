@@ -9,15 +9,16 @@ use Rattle.monitor.specs.declared.step.Step.TheVariants.{Text, Save, Load, End, 
 use Rattle.monitor.specs.Answer.{Goes, Saves, Loads, Ends, Faults, Did}
 use Rattle.monitor.specs.State.{State, Place}
 
--- a monitor, whether its laboratory is spent, and whether its script has ended
+-- a monitor, by how many workers its boards are run, whether its laboratory is spent, and whether its script has ended
 pub record Running : Type 0 where
   pub state : State
+  pub workers : ℕ
   pub spent : Bool
   pub ended : Bool
 
--- a monitor that may go on from this state
-abbrev pub going : State → Running
-going s = record { state = s; spent = false; ended = false }
+-- a monitor with so many workers that may go on from this state
+abbrev pub going : ℕ → State → Running
+going workers s = record { state = s; workers = workers; spent = false; ended = false }
 
 -- the line of this number in a file
 abbrev pub line_in : List ℕ → ℕ → Place
@@ -55,6 +56,7 @@ IsLeft (script.Refuses file n cause kept) now = now.kept ≡ kept
 -- The laboratory, the selected board and the open lines of the log are as they were. Variables and macros, and of a
 -- line that was taken the bodies too, are as it found them. The script has ended.
 pub record IsOver (old new : Running) : Type 0 where
+  pub workers : new.workers ≡ old.workers
   pub lab : new.state.lab ≡ old.state.lab
   pub selected : new.state.selected ≡ old.state.selected
   pub lines : new.state.lines ≡ old.state.lines
@@ -65,6 +67,7 @@ pub record IsOver (old new : Running) : Type 0 where
 -- A command was taken that is for the store, and nothing else was done: the laboratory, the selected board, the open
 -- lines, the variables and the macros are as they were. The script goes on.
 pub record IsTaken (old new : Running) : Type 0 where
+  pub workers : new.workers ≡ old.workers
   pub lab : new.state.lab ≡ old.state.lab
   pub selected : new.state.selected ≡ old.state.selected
   pub lines : new.state.lines ≡ old.state.lines
@@ -72,9 +75,10 @@ pub record IsTaken (old new : Running) : Type 0 where
   pub spent : new.spent ≡ false
   pub ended : new.ended ≡ false
 
--- a step that says something or is for the store leaves a monitor that may go on, and no other does
+-- a step that says something or is for the store leaves a monitor that may go on, with as many workers, and no other
+-- does
 abbrev pub IsNext : Step → Running → Running → Type 0
-IsNext (Text text) old new = (new.spent ≡ false) × (new.ended ≡ false)
+IsNext (Text text) old new = (new.spent ≡ false) × (new.ended ≡ false) × (new.workers ≡ old.workers)
 IsNext (Save name file line) old new = IsTaken old new
 IsNext (Load name file line) old new = IsTaken old new
 IsNext End old new = IsOver old new

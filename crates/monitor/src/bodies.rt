@@ -28,11 +28,14 @@ pub struct Bodies {
 
 impl Model for Bodies {
     ghost use Rattle.std.specs.Prelude.{◌≤◌};
-    ghost use Rattle.monitor.specs.State.{BodiesSeen};
+    ghost use Rattle.monitor.specs.State.{Parted};
 
-    ghost Value = { BodiesSeen };
+    ghost Value = { Parted };
 
-    ghost view = { λ b. record { flow = b.flow; until = b.until.0; dry = b.dry } };
+    ghost view = { λ b. record {
+      script = record { flow = b.flow; until = b.until.0; dry = b.dry };
+      workers = b.workers;
+    } };
 
     ghost invariant = { λ b. (1 ≤ b.workers) × (b.workers ≤ 8) };
 }

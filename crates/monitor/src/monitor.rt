@@ -65,6 +65,7 @@ impl<D: Device> Model for Monitor<D> {
         until = m.until.0;
         dry = m.dry;
       };
+      workers = m.workers;
       spent = m.lab.spent;
       ended = m.ended;
     } };
@@ -89,7 +90,7 @@ impl<D: Device> Monitor<D> {
         requires some_worker { 1 ≤ setting.workers }
         requires few_workers { setting.workers ≤ 8 }
         ensures { IfOk result (λ monitor.
-            monitor ≡ going (started script.now (string_bytes text) setting)) }
+            monitor ≡ going setting.workers (started script.now (string_bytes text) setting)) }
     {
         let flow = Flow::new(alloc, script, text)?;
         let lab = Lab::new(alloc, stock)?;
@@ -143,7 +144,7 @@ impl<D: Device> Monitor<D> {
 
     /// Takes the monitor apart: the script, the laboratory and the open lines of its log.
     pub fn split(self) -> (Bodies, Lab<D>, Lines)
-        ensures bodies { result.0 ≡ bodies_of self.state }
+        ensures bodies { result.0 ≡ record { script = bodies_of self.state; workers = self.workers } }
         ensures lab { result.1 ≡ record { lab = self.state.lab; spent = self.spent } }
         ensures lines { result.2 ≡ self.state.lines }
         ensures goes_on { self.ended ≡ false → self.state.flow.ended ≡ false }
@@ -164,10 +165,10 @@ impl<D: Device> Monitor<D> {
     /// A monitor that goes on with the script in this laboratory, of whose log these lines are open. No board is
     /// selected.
     pub fn join(bodies: Bodies, lab: Lab<D>, lines: Lines) -> Monitor<D>
-        requires goes_on { bodies.flow.ended ≡ false }
+        requires goes_on { bodies.script.flow.ended ≡ false }
         requires unspent { lab.spent ≡ false }
         requires valid { IsValid lab.lab lines }
-        ensures { result ≡ going (joined bodies lab.lab lines) }
+        ensures { result ≡ going bodies.workers (joined bodies.script lab.lab lines) }
     {
         Monitor {
             alloc: bodies.alloc,
@@ -220,7 +221,7 @@ impl<D: Device + Send> Monitor<D> {
 
         // Any answer but a text and what is for the store ends it. Every answer but a text and want of
         // memory leaves the laboratory, what is open of its log, the variables and the macros as they
-        // were, and does not spend it.
+        // were, and does not spend it. The number of workers stays.
         ensures next { IsNext result self.old self.new }
 
         // A step that says something or is for the store takes a command or more, of 100,000.

@@ -66,12 +66,13 @@ impl Hub {
     pub fn others(&self, alloc: Global, from: Member) -> Result<Vec<Member>, NoMemory>
         ensures { IfOk result (λ list. list.items ≡ routes.others self.now.members from) }
     {
-        let list = self
-            .members
-            .iter()
-            .copied()
-            .filter(|other| *other != from)
-            .collect(alloc)?;
+        // room for all at once: what a filter leaves is not known before, and its list would grow
+        let mut list = Vec::with_capacity(alloc, self.members.len())?;
+        for other in &self.members {
+            if *other != from {
+                list.push(*other)?;
+            }
+        }
         Ok(list)
     }
 }

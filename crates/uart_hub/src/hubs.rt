@@ -91,8 +91,8 @@ impl UartHubs {
         Ok(number)
     }
 
-    /// The hub that has a member.
-    fn hub_of(&self, member: Member) -> Option<&Hub>
+    /// The hub that has a member. None exactly where no hub has it.
+    pub fn hub_of(&self, member: Member) -> Option<&Hub>
         ensures { option_map (λ hub. hub.now) result
             ≡ find (λ hub. has_member hub.members member) self.now }
     {

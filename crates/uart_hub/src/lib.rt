@@ -1,7 +1,8 @@
-//! The hubs that connect the UARTs of the boards.
+//! The hubs that connect devices of the boards, UARTs or CAN controllers: who hears whom, and how late.
 #![tactic(auto)]
 
 mod hub;
 mod hubs;
 
+pub use hub::Hub;
 pub use hubs::{HubFault, UartHubs};

@@ -1,9 +1,10 @@
 -- What the steps on the bench tell the seat that makes them.
-use Rattle.std.specs.Prelude.{◌≡◌, ℕ, ◌+◌, ◌*◌, ◌/◌, ◌%◌, ◌<◌, ◌⊎◌, ◌∷◌, Option, Some, None}
+use Rattle.std.specs.Prelude.{◌≡◌, ℕ, ◌+◌, ◌*◌, ◌/◌, ◌%◌, ◌<◌, ◌⊎◌, [], ◌∷◌, Option, Some, None}
 use mathlib.Core.Option.{some}
 use lib.ListN.{get_elem?}
 use Rattle.atomic_table.specs.Table.{Me, Step, rest}
 use Rattle.floor_run.specs.declared.view.View.{View}
+use Rattle.floor_run.specs.Rule.{home_word}
 use Rattle.floor_run.specs.View.{empty_handed, after_claim}
 
 -- a seat: its view, and the slots that it has taken
@@ -11,9 +12,12 @@ abbrev pub Seated : Type 0 → Type 0
 Seated J = Me (Option J) (View J)
 
 module _ {J : Type 0} where
-  -- a report: the seat holds nothing then
-  abbrev pub reports : Step (Option J) → Seated J → ℕ → Seated J → Type 0
-  reports st m n m' = m' ≡ (empty_handed m.0, rest m.1)
+  -- a report of the job in the slot that the seat has taken: the word counts one report more than the claim found, and
+  -- the seat holds nothing then
+  abbrev pub reports : (J → ℕ) → Step (Option J) → Seated J → ℕ → Seated J → Type 0
+  reports left st m n m' =
+      ((i : ℕ) × (job : J) × (i + 1 ≡ st.word) × (m.1 ≡ (i, Some job) ∷ []) ×
+      (st.first ≡ home_word left (m.0.found / 4 + 1) job)) × (m' ≡ (empty_handed m.0, rest m.1))
 
   -- a claim of the board i that found the word n where the board was out or paid up
   abbrev pub Missed : ℕ → Seated J → ℕ → Seated J → Type 0

@@ -1,5 +1,5 @@
 -- The rule of the mailbox, which holds between any two steps.
-use Rattle.std.specs.Prelude.{◌≡◌, ℕ, ◌<◌, ◌≤◌, eqb, List, [], ◌++◌, map}
+use Rattle.std.specs.Prelude.{◌≡◌, ◌≢◌, ℕ, ◌<◌, eqb, List, [], ◌++◌, map}
 use Rattle.std.specs.List.{IsDistinct}
 use mathlib.Core.Option.{Option, some, none}
 use lib.ListN.{get_elem?}
@@ -34,6 +34,11 @@ abbrev pub FitsTaken : Desk → (ℕ → Option ℕ) → List Post → Sent → 
 FitsTaken desk seat all sent =
     (seat sent.board ≡ none) × (sent.board < desk.count) × (sent.posts ≡ of_board sent.board all)
 
+-- no pass has the number, be it in hand or taken in
+pub record HasNoPass (views : List View) (taken : List Sent) (board : ℕ) : Type 0 where
+  pub not_in_hand : (place : ℕ) (posts : List Post) → get_elem? views place ≢ some (Sender board posts)
+  pub not_taken : (k : ℕ) (sent : Sent) → get_elem? taken k ≡ some sent → sent.board ≢ board
+
 -- of what the queue holds, oldest first, and of what each seat knows. All posts are those popped, and then those in the
 -- queue
 pub record Mailbox (items : List Post) (views : List View) : Type 0 where
@@ -43,7 +48,7 @@ pub record Mailbox (items : List Post) (views : List View) : Type 0 where
   -- no number belongs to two passes, be they in hand or taken in
   pub apart : IsDistinct eqb (boards desk.taken)
   -- a number without a pass has no post
-  pub unused : (board : ℕ) → desk.count ≤ board → of_board board (desk.popped ++ items) ≡ []
+  pub unused : (board : ℕ) → HasNoPass views desk.taken board → of_board board (desk.popped ++ items) ≡ []
   -- the posts of each board rise by number
   pub rising : (board : ℕ) → RiseByNumber (of_board board (desk.popped ++ items))
   -- the posts of each board are those of its pass, be it taken in or in hand

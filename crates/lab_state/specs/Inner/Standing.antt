@@ -81,8 +81,8 @@ pub record IsFormed (hub : Hub) : Type 0 where
 abbrev pub AreShort : List Hub → Type 0
 AreShort hubs = All (λ hub. hub.delay ≤ 1000000) hubs
 
--- at most 16 boards; hubs that connect devices of these boards, with delays that a hub may have; names of their form, of
--- which no two of the boards and hubs have one; devices for the boards that have no plan yet
+-- at most 16 boards; hubs that connect devices of these boards, with delays that a hub may have; names of their form,
+-- of which no two of the boards and hubs have one; devices for the boards that have no plan yet
 pub record IsShaped (boards : List Outline) (hubs : List Hub) (spares : Spares) : Type 0 where
   pub few : length boards ≤ 16
   pub named : AreFormed (map (λ board. board.name) boards)

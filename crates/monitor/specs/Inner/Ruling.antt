@@ -188,6 +188,7 @@ KeepsOpen old new = All (IsOpen old.lab) old.lines → All (IsOpen new.lab) new.
 
 -- a monitor that goes on as it did
 pub record IsOnward (old new : Running) : Type 0 where
+  pub workers : new.workers ≡ old.workers
   pub spent : new.spent ≡ false
   pub ended : new.ended ≡ old.ended
   pub flow : new.state.flow.ended ≡ old.state.flow.ended
@@ -296,7 +297,8 @@ ends_script Memory = true
 -- a line that says something or is for the store lets the script go on, and no other does
 abbrev pub IsAfterLine : Step → Running → Running → Type 0
 IsAfterLine (step.Text text) old new =
-    (new.spent ≡ false) × (new.ended ≡ false) × (new.state.flow.kept ≡ old.state.flow.kept)
+    (new.spent ≡ false) × (new.ended ≡ false) × (new.workers ≡ old.workers)
+    × (new.state.flow.kept ≡ old.state.flow.kept)
 IsAfterLine (step.Save name file line) old new = new ≡ record old { ended = false }
 IsAfterLine (step.Load name file line) old new = new ≡ record old { ended = false }
 IsAfterLine step.End old new = new ≡ old

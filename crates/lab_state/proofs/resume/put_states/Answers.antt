@@ -22,5 +22,6 @@ loop-n-preserved g c =
 pub returns : goal.returns
 returns g c =
     c.loop-n.invariant
-    ∙ ap (each_by resumed_board c.args.boards.now) (take_all c.loop-n.n c.args.states.now (omega (arith, c.requires.count, c.loop-n-test.false)))
+    ∙ ap (each_by resumed_board c.args.boards.now)
+    (take_all c.loop-n.n c.args.states.now (omega (arith, c.requires.count, c.loop-n-test.false)))
     ∙ by-zip resumed_board c.args.boards.now c.args.states.now c.requires.count

@@ -13,8 +13,9 @@ add-member-requires-clause-closed g c = c.loop-board.invariant.closed
 
 pub loop-board-preserved : goal.loop-board-preserved
 loop-board-preserved g c =
-    let more = one_member_more c.loop-board.source c.add-member.new.self c.args.boards.now c.loop-board.board-index c.board-item.result
-    c.speed.result c.add-member.result c.add-member.ensures.full c.add-member.ensures.added
+    let more =
+    one_member_more c.loop-board.source c.add-member.new.self c.args.boards.now c.loop-board.board-index
+    c.board-item.result c.speed.result c.add-member.result c.add-member.ensures.full c.add-member.ensures.added
     (c.speed.ensures.value ∙ ap (λ b. speed_of (number_of b)) c.board-item.is) c.loop-board-test.true c.requires.few
     c.loop-board.invariant.speeds in
     record {

@@ -1,10 +1,12 @@
 -- The slots and the boundary are the round.
-use Rattle.std.proofs.Common.{◌∙◌, ap, refl, ◌+◌, ◌≤◌, arith}
+use Rattle.std.proofs.Common.{◌∙◌, ap, refl, ◌+◌, ◌++◌, ◌≤◌, arith}
+use Rattle.std.specs.Prelude.{filter}
 use Rattle.std.specs.List.{flat_map}
-use Rattle.lab_state.specs.Boundary.{Handed, boundary}
+use Rattle.lab_state.specs.Boundary.{Handed, boundary, due}
 use Rattle.lab_state.specs.Inner.End.{in_round}
 use Rattle.lab_state.specs.Inner.Standing.{outlines}
 use Rattle.lab_state.specs.Inner.Time.{numbers_of}
+use Rattle.lab_state.specs.Pending.{is_of_a_hub}
 use Rattle.lab_state.specs.Round.{posts_made}
 use Rattle.lab_state.proofs.PendingLemmas.{waiting-is, pending-after}
 use Rattle.lab_state.proofs.RoundLemmas.{outlines-stepped, outlines-routes, numbers-routes, posts_differ, sent_in_round}
@@ -12,8 +14,8 @@ use Rattle.lab_state.proofs.SentLemmas.{sent-after}
 use Rattle.lab_state.proofs.TimeLemmas.{at_end}
 use Rattle.lab_state.proofs.round.play.Goals as goal
 
-pub hand_over_all-requires : goal.hand_over_all-requires
-hand_over_all-requires g c =
+pub hand_over_due-requires-clause-devices : goal.hand_over_due-requires-clause-devices
+hand_over_due-requires-clause-devices g c =
     rw (
       c.in_ok-posts.ensures.boards,
       outlines-stepped c.stretches_keep_plans.ensures c.args.source.now.end c.args.q c.args.boards.now,
@@ -22,16 +24,20 @@ hand_over_all-requires g c =
 
 pub returns-clause-timed : goal.returns-clause-timed
 returns-clause-timed g c =
+    let all = c.args.pending.now.items ++ filter (is_of_a_hub c.args.hubs.now) c.deref.result.now in
+    let given = due c.elapsed-at.result.0 c.args.hubs.now all in
     rw (
-      ap (λ (h : Handed). numbers_of h.boards) c.in_ok-notes.ensures,
-      numbers-routes c.elapsed-at.result.0 c.args.hubs.now c.take_slots.new.boards c.deref-2.result.now,
+      ap (λ (h : Handed). numbers_of h.boards) c.in_ok-notes.ensures.handed,
+      numbers-routes c.elapsed-at.result.0 c.args.hubs.now c.take_slots.new.boards given,
     )
     c.in_ok-posts.ensures.timed
 
 pub returns-clause-outlines : goal.returns-clause-outlines
 returns-clause-outlines g c =
-    ap (λ (h : Handed). outlines h.boards) c.in_ok-notes.ensures
-    ∙ outlines-routes c.elapsed-at.result.0 c.args.hubs.now c.take_slots.new.boards c.deref-2.result.now
+    let all = c.args.pending.now.items ++ filter (is_of_a_hub c.args.hubs.now) c.deref.result.now in
+    let given = due c.elapsed-at.result.0 c.args.hubs.now all in
+    ap (λ (h : Handed). outlines h.boards) c.in_ok-notes.ensures.handed
+    ∙ outlines-routes c.elapsed-at.result.0 c.args.hubs.now c.take_slots.new.boards given
     ∙ ap outlines c.in_ok-posts.ensures.boards
     ∙ outlines-stepped c.stretches_keep_plans.ensures c.args.source.now.end c.args.q c.args.boards.now
 
@@ -47,18 +53,15 @@ returns-clause-played g c =
     let joined = waiting-is c.listing_laws.ensures.is_listing c.listing_laws.ensures.only (from + q) posts
     c.requires.pending differ made in
     rw (
-      ap (λ (h : Handed). h.boards) c.in_ok-notes.ensures,
-      c.in_ok-due.ensures.waiting,
+      ap (λ (h : Handed). h.boards) c.in_ok-notes.ensures.handed,
+      c.in_ok-notes.ensures.waiting,
       c.of.ensures,
       c.in_ok-push_end.ensures,
-      c.deref-4.ensures.value,
-      ap (λ (h : Handed). h.notes) c.in_ok-notes.ensures,
+      c.deref-3.ensures.value,
+      ap (λ (h : Handed). h.notes) c.in_ok-notes.ensures.handed,
       c.key_of.ensures,
       c.pause_of-pause.ensures,
-      c.deref-3.ensures.value,
       c.deref-2.ensures.value,
-      c.in_ok-due.ensures.due,
-      c.in_ok-join_pending.ensures,
       c.deref.ensures.value,
       c.elapsed-at.ensures.value ∙ at_end c.in_ok-posts.ensures.timed ∙ c.in_ok-posts.ensures.end,
       c.in_ok-posts.ensures.boards,
@@ -80,8 +83,7 @@ returns-clause-pending g c =
     c.requires.pending differ made in
     let before : c.args.source.now.end ≤ c.args.source.now.end + c.args.q = omega arith in
     rw (
-      c.in_ok-due.ensures.waiting,
-      c.in_ok-join_pending.ensures,
+      c.in_ok-notes.ensures.waiting,
       c.deref.ensures.value,
       c.elapsed-at.ensures.value ∙ at_end c.in_ok-posts.ensures.timed ∙ c.in_ok-posts.ensures.end,
       c.in_ok-posts.ensures.end,
@@ -96,16 +98,17 @@ returns-clause-sent g c =
     let from = c.args.source.now.end in
     let q = c.args.q in
     let boards = c.args.boards.now in
+    let all = c.args.pending.now.items ++ filter (is_of_a_hub c.args.hubs.now) c.deref.result.now in
+    let given = due c.elapsed-at.result.0 c.args.hubs.now all in
     rw (
-      ap (λ (h : Handed). outlines h.boards) c.in_ok-notes.ensures
-          ∙ outlines-routes c.elapsed-at.result.0 c.args.hubs.now c.take_slots.new.boards c.deref-2.result.now
+      ap (λ (h : Handed). outlines h.boards) c.in_ok-notes.ensures.handed
+          ∙ outlines-routes c.elapsed-at.result.0 c.args.hubs.now c.take_slots.new.boards given
           ∙ ap outlines c.in_ok-posts.ensures.boards
           ∙ outlines-stepped c.stretches_keep_plans.ensures from q boards,
-      ap (λ (h : Handed). numbers_of h.boards) c.in_ok-notes.ensures
-          ∙ numbers-routes c.elapsed-at.result.0 c.args.hubs.now c.take_slots.new.boards c.deref-2.result.now
+      ap (λ (h : Handed). numbers_of h.boards) c.in_ok-notes.ensures.handed
+          ∙ numbers-routes c.elapsed-at.result.0 c.args.hubs.now c.take_slots.new.boards given
           ∙ ap numbers_of c.in_ok-posts.ensures.boards,
-      c.in_ok-due.ensures.waiting,
-      c.in_ok-join_pending.ensures,
+      c.in_ok-notes.ensures.waiting,
       c.deref.ensures.value,
       c.in_ok-posts.ensures.posts,
     )

@@ -35,7 +35,7 @@ commands-preserved g c =
           (c.in-Ok.ensures.course held (now.invariant.files.held ∙ is) on.now on.told (100000 - now._turn)));
       goes_on = c.in-Ok.ensures.next.0;
       counted = omega (arith, now.invariant.counted, c.in-Ok.ensures.next);
-      few = c.in-Ok.ensures.next.1.1;
+      few = c.in-Ok.ensures.next.2.1;
       files = reads_on now.invariant.files (reads_as (λ none. absurd none) c.take_command.ensures.files);
       output = writes_on now.invariant.output (writes_as (λ none. absurd none) c.take_command.ensures.output);
       store = stores_on now.invariant.store (stores_as (λ none. absurd none) c.take_command.ensures.store);

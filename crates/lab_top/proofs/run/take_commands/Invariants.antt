@@ -3,7 +3,7 @@ use Rattle.std.specs.Option.{ForSome}
 use Rattle.lab_io.specs.Frame.{OnlyReads, OnlyStores, OnlyWrites}
 use Rattle.lab_state.specs.Run.{run}
 use Rattle.lab_top.specs.Headline.{outside}
-use Rattle.lab_top.specs.Transcript.{from, rest_of}
+use Rattle.lab_top.specs.Transcript.{from, commands_of}
 use Rattle.lab_top.specs.Inner.Course.{GoesOn}
 use Rattle.lab_top.proofs.run.take_commands.Given as goal
 
@@ -11,7 +11,7 @@ use Rattle.lab_top.proofs.run.take_commands.Given as goal
 abbrev pub invariant-commands : goal.invariant-commands
 invariant-commands g l = record {
   course : ForSome (g.F.Files.held l.fn.files) (λ held. ForSome (g.S.Store.kept l.fn.store) (λ kept.
-      GoesOn (rest_of run held kept l.fn.monitor.state) kept
+      GoesOn (commands_of run held kept l.fn.monitor.state) kept
       (outside g.F.Files g.K.Sink g.S.Store l.fn.files l.fn.out l.fn.store)
       (outside g.F.Files g.K.Sink g.S.Store l.files l.out l.store)
       (λ now. from (100001 - l._turn) run held now l.monitor.state)));

@@ -15,7 +15,7 @@ pub returns-in-Done-clause-fetched : goal.returns-in-Done-clause-fetched
 returns-in-Done-clause-fetched g c = λ kept keeps further place written asked restored is.
     let free : is_occupied c.args.monitor.now.state.lab ≡ false =
     rw c.lab.ensures.lab at (sym c.is_occupied.ensures ∙ c.if-is_occupied.false) in
-    take_read _ _ further kept c.args.name.now place c.args.monitor.now.state c.get.new.into.items restored free
+    take_read _ _ further kept c.args.name.now place c.args.monitor.now c.get.new.into.items restored free
     (rw keeps at c.in-Done.ensures.bytes.1) c.in-Done.ensures.bytes.0 refl refl c.in-Done.ensures.uses
     (c.get.ensures.kept ∙ keeps) is
 

@@ -8,4 +8,5 @@ pub returns : goal.returns
 returns g c =
     let sound = unspent c.self.invariant c.self.view_is c.requires in
     rw (← c.self.view_is)
-    (can-be sound refl (rw c.deref.ensures.value at c.can_all_be.ensures) (omega (arith, c.len-hubs.ensures.count)) c.len-hubs.ensures.once)
+    (can-be sound refl (rw c.deref.ensures.value at c.can_all_be.ensures)
+    (omega (arith, c.len-hubs.ensures.count)) c.len-hubs.ensures.once)
