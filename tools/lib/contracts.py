@@ -7,19 +7,21 @@ from typing import Dict, FrozenSet, Iterator, List, Set, Tuple
 
 HEADER = re.compile(r"(?:pub )?(?:unsafe )?(?:impl|trait)\b")
 FUNCTION = re.compile(r"\s*(?:pub(?:\([a-z ]+\))? )?(?:const )?(?:unsafe )?fn (\w+)")
-CLAUSE = re.compile(r"\s*ensures (\w+) \{")
+CLAUSE = re.compile(r"\s*ensures (?:(\w+) )?\{")
 TYPE = re.compile(r"^(?:pub(?:\([a-z ]+\))? )?(?:struct|enum|trait|type|union) (\w+)", re.MULTILINE)
 DEFINITION = re.compile(r"^(?:\w+ )*pub (?:record |data |type )?([\w≡≢]+)(?=[ \n])", re.MULTILINE)
 
 
 @dataclasses.dataclass(frozen=True)
 class Function:
-    """A function of a crate; the types and traits, or none, whose method it is; and the names of its clauses."""
+    """A function of a crate; the types and traits, or none, whose method it is; the names of its clauses; and whether
+    it has any, with a name or without."""
 
     crate: str
     owners: FrozenSet[str]
     name: str
     clauses: FrozenSet[str]
+    is_stated: bool
 
 
 @dataclasses.dataclass
@@ -67,8 +69,9 @@ def functions_of(crate: str, text: str) -> Iterator[Function]:
         if function:
             found.append((owners, function[1], set()))
         elif clause and found:
-            found[-1][2].add(clause[1])
-    return (Function(crate, owner, name, frozenset(clauses)) for owner, name, clauses in found)
+            found[-1][2].add(clause[1] or "")
+    for owner, name, clauses in found:
+        yield Function(crate, owner, name, frozenset(clauses - {""}), bool(clauses))
 
 
 @functools.lru_cache(maxsize=None)
