@@ -128,6 +128,11 @@ def time_text(micros: int) -> str:
     return f"{micros // 1_000_000}.{micros % 1_000_000:06}"
 
 
+def loaded(step: Step) -> Held:
+    """Returns what the snapshot of a `Load` holds."""
+    return snapshot.read(pathlib.Path(str(step.arguments[0])).read_bytes())[0]
+
+
 def length_of(step: Step, time: int, until: int) -> int:
     """Returns for how long a command runs the boards that comes at this lab time, where no finisher ends it."""
     if step.name == "emulation RunFor":
@@ -141,6 +146,7 @@ def cut(steps: List[Step], at: int, until: int, pauses: List[int]) -> List[Step]
     time = 0
     taken: List[Step] = []
     for step in steps:
+        time = loaded(step)["time"] if step.name == "Load" else time
         length = length_of(step, time, until)
         end = min([pause for pause in pauses if time < pause] + [time + length])
         if end > at or (time == at and length > 0):
@@ -207,8 +213,7 @@ def images_of(steps: List[Step]) -> Dict[str, List[str]]:
     selected = ""
     for step in steps:
         if step.name == "Load":
-            held, _ = snapshot.read(pathlib.Path(str(step.arguments[0])).read_bytes())
-            names = [board["name"] for board in held["boards"]]
+            names = [board["name"] for board in loaded(step)["boards"]]
         elif step.name == "mach create":
             selected = str(step.arguments[0]) if step.arguments else f"machine-{len(names)}"
             names.append(selected)
