@@ -5,24 +5,26 @@ snapshots are opened.
 
 gives a `FileRead` for each file, the script itself first. `reads.follow` gives more: the line at which lab refuses the
 script, as far as that can be told without boards, the files of `Save`, and what happens to each board. Both go on after
-an image, a platform file or a script of `using` that is not there, which lab does not: it ends with status 4 at the first
-record that is not there. They end at a script or a snapshot that is not there, since what follows depends on it.
+an image or a platform file that is not there, which lab does not: it ends with status 4 at the first record that is not
+there. They end at a script or a snapshot that is not there, since what follows depends on it.
 
-Not looked for are the causes S7, S8, S9, S14, S16, S20 and all of platform files and images: after such a line lab reads
-no more, and the list goes on.
+Not looked for are the causes S7, S8, S9, S14, S16, the S19 of a `Save`, and all of platform files and images: after such
+a line lab reads no more, and the list goes on. Of S20 the form of the snapshot is looked at alone.
 """
+import importlib.machinery
+import importlib.util
 import os
 import pathlib
 from dataclasses import dataclass, field
-from typing import Callable, Dict, List, Optional, Sequence, Set, Tuple, Union
+from typing import Any, Callable, Dict, List, Optional, Sequence, Set, Tuple, Union
 
 import repl
 import resc
-import snapshot
 from resc import Line, Refused
 
 FILE_LIMIT = 16 * 2**20
 SNAPSHOT_LIMIT = 64 * 2**20
+TIME_LIMIT = 10**10
 COMMAND_LIMIT = 100_000
 DEPTH_LIMIT = 8
 PLATFORM_LIMIT = 64
@@ -77,25 +79,34 @@ class Refusal:
 
 @dataclass
 class Board:
-    """A board, and what the script has done with it. `cpu_type` is that of its platform file."""
+    """A board, and what the script has done with it. `cpu_type` is what its platform files say last, and `processors`
+    how many they have, which is not known of a board of a snapshot. `ran_with` is the last image that it had when it
+    was run before any line had set a pc."""
 
     name: str
     has_platform: bool = False
     cpu_type: str = ""
+    processors: int = 0
     files: List[FileRead] = field(default_factory=list)
     has_pc: bool = False
-    is_shown: bool = False
+    ran_with: Optional[FileRead] = None
+
+    def run(self) -> None:
+        if self.files and self.files[-1].is_image and not self.has_pc:
+            self.ran_with = self.files[-1]
 
 
 @dataclass
 class Reading:
-    """What a script reads. `runs` counts the commands that run the boards, and `saves` has the files of `Save`, each
-    with whether its folder is there."""
+    """What a script reads. `saves` has the files of `Save`, each with whether its folder is there. `runs` counts the
+    commands that run the boards, and `time` is how long they do in microseconds, where no finisher ends one and `start`
+    runs to a second."""
 
     files: List[FileRead] = field(default_factory=list)
     saves: List[FileRead] = field(default_factory=list)
     boards: List[Board] = field(default_factory=list)
     runs: int = 0
+    time: int = 0
     refusal: Optional[Refusal] = None
 
 
@@ -141,6 +152,19 @@ def bad_line(content: bytes) -> int:
     return 0
 
 
+def snapshot_of(content: bytes) -> Dict[str, Any]:
+    """What a snapshot holds, by the reader that tools/snapshot has or uses."""
+    beside = pathlib.Path(__file__).parent / "snapshot.py"
+    path = beside if beside.exists() else beside.parent.parent / "snapshot"
+    loader = importlib.machinery.SourceFileLoader("snapshot", str(path))
+    spec = importlib.util.spec_from_loader("snapshot", loader)
+    assert spec is not None
+    module = importlib.util.module_from_spec(spec)
+    loader.exec_module(module)
+    held: Dict[str, Any] = module.read(content)[0]
+    return held
+
+
 class Walk:
     """Takes the commands of a script one after another."""
 
@@ -153,7 +177,6 @@ class Walk:
         self.depth = 0
         self.names: Set[str] = set()
         self.hubs = 0
-        self.time = 0
         self.selected: Optional[Board] = None
         # what the lines of the open bodies have in front of their own place
         self.chain: Chain = ()
@@ -331,8 +354,10 @@ class Walk:
         board = self.equipped()
         board.has_pc = board.has_pc or bool(values)
 
-    def show(self, _: str, values: List) -> None:
-        self.equipped().is_shown = True
+    def speed(self, _: str, values: List) -> None:
+        board = self.equipped()
+        if values and values[0] * board.processors > 1000:
+            raise self.refuse(resc.ARGUMENTS)
 
     def image(self, command: str, values: List) -> None:
         board = self.equipped()
@@ -340,22 +365,27 @@ class Walk:
         board.files.append(read)
         if self.is_large(read.path):
             raise self.refuse("S19 size")
-        board.has_pc = board.has_pc or read.kind == "elf"
+        begins_at_0 = read.kind == "binary" and values[1] == 0
+        board.has_pc = board.has_pc or read.kind == "elf" or begins_at_0
 
     # ---- the whole laboratory
 
     def run(self, _: str, values: List) -> None:
         if not all(board.has_platform for board in self.reading.boards):
             raise self.refuse("S15 platform")
-        self.reading.runs += 1
-        self.time += values[0] if values else 1
+        until = self.reading.time + values[0] if values else max(self.reading.time, 10**6)
+        if until > self.reading.time:
+            self.reading.runs += 1
+            self.reading.time = until
+            for board in self.reading.boards:
+                board.run()
 
     def save(self, _: str, values: List) -> None:
         parent = (self.folder / values[0]).parent
         self.reading.saves.append(FileRead(values[0], "snapshot", parent.is_dir(), self.asking))
 
     def load(self, _: str, values: List) -> None:
-        if self.reading.boards or self.hubs or self.time:
+        if self.reading.boards or self.hubs or self.reading.time:
             raise self.refuse("S21 occupied")
         read = self.note(values[0], "snapshot", self.asking)
         if not read.is_there:
@@ -363,16 +393,17 @@ class Walk:
         if self.is_large(read.path, SNAPSHOT_LIMIT):
             raise self.refuse("S19 size")
         try:
-            held, _ = snapshot.read(content_of(self.folder / read.path))
-        except snapshot.NoSnapshot as fault:
+            held = snapshot_of(content_of(self.folder / read.path))
+        except Exception as fault:  # pylint: disable=broad-except
             raise self.refuse("S20 snapshot") from fault
         self.resume(held)
 
-    def resume(self, held: Dict[str, list]) -> None:
+    def resume(self, held: Dict[str, Any]) -> None:
         """Goes on with what a snapshot holds."""
         self.reading.boards = [Board(board["name"], True, has_pc=True) for board in held["boards"]]
         self.names = {part["name"] for part in held["boards"] + held["hubs"]}
         self.hubs = len(held["hubs"])
+        self.reading.time = held["time"]
         self.selected = None
 
     def include(self, _: str, values: List) -> None:
@@ -411,6 +442,7 @@ class PlatformWalk:
         for number, path in repl.used_files(text):
             step = Step(f"{read.path}:{number}", lines[number - 1].strip(" \t"))
             self.used(step, path, read.chain + (step,), room)
+        self.board.processors += repl.processors(text)
         for cpu_type in repl.cpu_types(text):
             self.board.cpu_type = cpu_type
 
@@ -429,8 +461,8 @@ class PlatformWalk:
 DOES: Dict[str, Callable[[Walk, str, List], None]] = {
     "* PC": Walk.pc,
     "* IsHalted": Walk.on_board,
-    "* PerformanceInMips": Walk.on_board,
-    "showAnalyzer": Walk.show,
+    "* PerformanceInMips": Walk.speed,
+    "showAnalyzer": Walk.on_board,
     "include": Walk.include,
     "runMacro": Walk.run_macro,
     "Save": Walk.save,

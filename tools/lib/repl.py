@@ -9,6 +9,7 @@ import resc
 
 COMMENT = re.compile(r'"[^"\n]*["\n]?|//[^\n]*|/\*.*?\*/', re.DOTALL)
 USING = re.compile(r'using[ \t]*"([^"]*)"[ \t]*')
+PROCESSOR = re.compile(r"^\w+[ \t]*:[ \t]*CPU\.RiscV32\b", re.MULTILINE)
 CPU_TYPE = re.compile(r'\bcpuType\s*:\s*"([^"]*)"')
 
 
@@ -35,3 +36,8 @@ def used_files(text: str) -> List[Tuple[int, str]]:
 def cpu_types(text: str) -> List[str]:
     """The values of `cpuType`, in order."""
     return CPU_TYPE.findall(blanked(text))
+
+
+def processors(text: str) -> int:
+    """How many entries are of processors."""
+    return len(PROCESSOR.findall(blanked(text)))

@@ -107,9 +107,18 @@ def is_passed(text: str) -> bool:
     return text.lstrip(" \t")[:1] in ("", ":", "#")
 
 
+def begins_macro(text: str) -> bool:
+    return text.lstrip(" \t").startswith("macro") and words_of(text)[0] == "macro"
+
+
 def numbered(text: str) -> List[Line]:
-    """The lines of a text that are not passed over, with their numbers."""
-    return [Line(number, line) for number, line in enumerate(lines_of(text), 1) if not is_passed(line)]
+    """The lines of a text with their numbers, but for those that are passed over and do not follow a `macro` line."""
+    kept: List[Line] = []
+    for number, line in enumerate(lines_of(text), 1):
+        is_next = bool(kept) and kept[-1].number == number - 1 and begins_macro(kept[-1].text)
+        if is_next or not is_passed(line):
+            kept.append(Line(number, line))
+    return kept
 
 
 def before_fence(text: str) -> Optional[str]:
@@ -124,7 +133,7 @@ def is_fence(text: str) -> bool:
 
 
 def left_of(text: str) -> Optional[Tuple[str, bool, str]]:
-    """The sides of an assignment: what stands before the first `=` or its `?=`; whether it is `?=`; and what follows."""
+    """The sides of an assignment: what stands before the first `=` or its `?=`, whether it is `?=`, and the rest."""
     front, sign, right = text.partition("=")
     if not sign:
         return None
@@ -155,8 +164,8 @@ def macro_at(lines: Sequence[Line], at: int) -> Tuple[Item, int]:
     if len(words) != 2 or words[0] != "macro" or not MACRO_NAME.fullmatch(words[1]):
         return Command(line, is_malformed=True), at + 1
     start = at + 1
-    if front is None:
-        if start == len(lines) or lines[start].number > line.number + 1 or not is_fence(lines[start].text):
+    if front is None and start < len(lines):
+        if not is_fence(lines[start].text):
             return Command(line, is_malformed=True), at + 1
         start += 1
     end = next((n for n in range(start, len(lines)) if is_fence(lines[n].text)), None)
@@ -172,11 +181,11 @@ def items_of(lines: Sequence[Line]) -> List[Item]:
     while at < len(lines):
         line = lines[at]
         at += 1
-        if line.text.lstrip(" \t").startswith("macro") and words_of(line.text)[0] == "macro":
+        if begins_macro(line.text):
             item, at = macro_at(lines, at - 1)
-        else:
-            item = assignment_at(line)
-        items.append(item)
+            items.append(item)
+        elif not is_passed(line.text):
+            items.append(assignment_at(line))
     return items
 
 
