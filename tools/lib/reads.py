@@ -8,8 +8,8 @@ script, as far as that can be told without boards, the files of `Save`, and what
 an image or a platform file that is not there, which lab does not: it ends with status 4 at the first record that is not
 there. They end at a script or a snapshot that is not there, since what follows depends on it.
 
-Not looked for are the causes S7, S8, S9, S14, S16, the S19 of a `Save`, and all of platform files and images: after such
-a line lab reads no more, and the list goes on. Of S20 the form of the snapshot is looked at alone.
+Not looked for are the causes S7, S8, S9, S14, S16, the S19 of a `Save`, and all of platform files and images: after
+such a line lab reads no more, and the list goes on. Of S20 the form of the snapshot is looked at alone.
 """
 import importlib.machinery
 import importlib.util
