@@ -5,12 +5,14 @@ snapshots are opened.
 
 gives a `FileRead` for each file, the script itself first. `reads.follow` gives more: the line at which lab refuses the
 script, as far as that can be told without boards, the files of `Save`, and what happens to each board. Both go on after
-an image, a platform file or a script of `using` that is not there, which lab does not: it ends with status 4 at the first
-record that is not there. They end at a script or a snapshot that is not there, since what follows depends on it.
+an image or a platform file that is not there, which lab does not: it ends with status 4 at the first record that is not
+there. They end at a script or a snapshot that is not there, since what follows depends on it.
 
-Not looked for are the causes S7, S8, S9, S14, S16, S20 and all of platform files and images: after such a line lab reads
-no more, and the list goes on.
+Not looked for are the causes S7, S8, S9, S14, S16, the S19 of a `Save`, and all of platform files and images: after
+such a line lab reads no more, and the list goes on. Of S20 the form of the snapshot is looked at alone.
 """
+import importlib.machinery
+import importlib.util
 import os
 import pathlib
 from dataclasses import dataclass, field
@@ -18,7 +20,6 @@ from typing import Any, Callable, Dict, List, Optional, Sequence, Set, Tuple, Un
 
 import repl
 import resc
-import snapshot
 from resc import Line, Refused
 
 FILE_LIMIT = 16 * 2**20
@@ -79,7 +80,8 @@ class Refusal:
 @dataclass
 class Board:
     """A board, and what the script has done with it. `cpu_type` is what its platform files say last, and `processors`
-    how many they have, which is not known of a board of a snapshot. `ran_with` is the last image that it had when it was run before any line had set a pc."""
+    how many they have, which is not known of a board of a snapshot. `ran_with` is the last image that it had when it
+    was run before any line had set a pc."""
 
     name: str
     has_platform: bool = False
@@ -378,8 +380,8 @@ class Walk:
         if self.is_large(read.path, SNAPSHOT_LIMIT):
             raise self.refuse("S19 size")
         try:
-            held, _ = snapshot.read(content_of(self.folder / read.path))
-        except snapshot.NoSnapshot as fault:
+            held = snapshot_of(content_of(self.folder / read.path))
+        except Exception as fault:  # pylint: disable=broad-except
             raise self.refuse("S20 snapshot") from fault
         self.resume(held)
 

@@ -133,7 +133,7 @@ def is_fence(text: str) -> bool:
 
 
 def left_of(text: str) -> Optional[Tuple[str, bool, str]]:
-    """The sides of an assignment: what stands before the first `=` or its `?=`; whether it is `?=`; and what follows."""
+    """The sides of an assignment: what stands before the first `=` or its `?=`, whether it is `?=`, and the rest."""
     front, sign, right = text.partition("=")
     if not sign:
         return None

@@ -6,6 +6,7 @@ import subprocess
 from dataclasses import dataclass
 from typing import Any, Dict, Iterator, List, Optional, Sequence, Tuple
 
+import reads
 import resc
 import snapshot
 
@@ -128,6 +129,11 @@ def time_text(micros: int) -> str:
     return f"{micros // 1_000_000}.{micros % 1_000_000:06}"
 
 
+def loaded(step: Step) -> Held:
+    """Returns what the snapshot of a `Load` holds."""
+    return snapshot.read(pathlib.Path(str(step.arguments[0])).read_bytes())[0]
+
+
 def length_of(step: Step, time: int, until: int) -> int:
     """Returns for how long a command runs the boards that comes at this lab time, where no finisher ends it."""
     if step.name == "emulation RunFor":
@@ -141,6 +147,7 @@ def cut(steps: List[Step], at: int, until: int, pauses: List[int]) -> List[Step]
     time = 0
     taken: List[Step] = []
     for step in steps:
+        time = loaded(step)["time"] if step.name == "Load" else time
         length = length_of(step, time, until)
         end = min([pause for pause in pauses if time < pause] + [time + length])
         if end > at or (time == at and length > 0):
@@ -153,27 +160,42 @@ def cut(steps: List[Step], at: int, until: int, pauses: List[int]) -> List[Step]
     return taken
 
 
-def run(steps: List[Step], until: int, room: pathlib.Path) -> Tuple[Held, List[int]]:
-    """Runs these commands, and returns what the laboratory is then and at which times finishers have ended runs."""
+def program() -> str:
+    """Returns the program: that of the variable LAB, or what ./lab builds. ./lab itself would explain the copy."""
+    if "LAB" in os.environ:
+        return os.environ["LAB"]
+    status = subprocess.run([str(TOP / "lab")], stdout=subprocess.DEVNULL, check=False).returncode
+    if status in (70, 71):
+        raise NoRun(f"./lab ended with {status}")
+    return str(TOP / "crates/lab_cli/out/lab_cli")
+
+
+def missing(script: str) -> str:
+    """Returns which file that a script reads is not there, and the place that asks for it."""
+    lost = [file for file in reads.files_read(script, pathlib.Path(".")) if not file.is_there]
+    return f": {lost[0].path} is not there, for {lost[0].asked_by}" if lost else ""
+
+
+def run(file: str, steps: List[Step], until: int, room: pathlib.Path) -> Tuple[Held, List[int]]:
+    """Runs these commands of a script. Returns what the laboratory is then, and when finishers have ended runs."""
     script, kept, log = room / "copy.resc", room / "kept", room / "log"
     script.write_text("".join(f"{step.text}\n" for step in steps) + f"Save @{kept}\n", encoding="utf-8")
-    program = os.environ.get("LAB", str(TOP / "lab"))
-    words = [program, "run", str(script), "--until", time_text(until)]
+    words = [program(), "run", str(script), "--until", time_text(until)]
     with log.open("wb") as printed:
         status = subprocess.run(words, stdout=printed, stdin=subprocess.DEVNULL, check=False).returncode
     with log.open("rb") as printed:
         if status != 0:
-            raise NoRun(fault_of(status, steps, printed.readlines()[-1:]))
+            raise NoRun(fault_of(file, status, steps, printed.readlines()[-1:]))
         found = [match for match in map(PAUSE.fullmatch, printed) if match]
     held, _ = snapshot.read(kept.read_bytes())
     return held, [int(match[1]) * 1_000_000 + int(match[2]) for match in found]
 
 
-def fault_of(status: int, steps: List[Step], last: List[bytes]) -> str:
+def fault_of(script: str, status: int, steps: List[Step], last: List[bytes]) -> str:
     """Returns why lab has ended so, from the last line that it has printed."""
     refused = REFUSED.fullmatch(last[0]) if last else None
     if status != 3 or refused is None:
-        hint = ": stop before that with --at TIME" if status == 1 else ""
+        hint = ": stop before that with --at TIME" if status == 1 else missing(script)
         return f"lab ended with {status}{hint}"
     lines = [step for step in steps for _ in step.text.splitlines()]
     at, cause = int(refused[2]), refused[3].decode()
@@ -188,11 +210,11 @@ def laboratory_at(script: str, at: Optional[int], until: int, room: pathlib.Path
     run again where one came before that time."""
     steps = steps_of(script)
     if at is None:
-        return run(steps, until, room)[0], steps
+        return run(script, steps, until, room)[0], steps
     pauses: List[int] = []
     while True:
         taken = cut(steps, at, until, pauses)
-        held, found = run(taken, until, room)
+        held, found = run(script, taken, until, room)
         if held["time"] == at:
             return held, taken
         if len(found) <= len(pauses):
@@ -207,8 +229,7 @@ def images_of(steps: List[Step]) -> Dict[str, List[str]]:
     selected = ""
     for step in steps:
         if step.name == "Load":
-            held, _ = snapshot.read(pathlib.Path(str(step.arguments[0])).read_bytes())
-            names = [board["name"] for board in held["boards"]]
+            names = [board["name"] for board in loaded(step)["boards"]]
         elif step.name == "mach create":
             selected = str(step.arguments[0]) if step.arguments else f"machine-{len(names)}"
             names.append(selected)
