@@ -10,7 +10,7 @@ APART = 0x1000000
 # Instructions of a processor in a microsecond, where a workload does not say otherwise.
 MIPS = 100
 # The lengths of a workload's two runs, in microseconds: whole rounds of a hundred.
-SHORT, LONG = 1000, 3000
+SHORT, LONG = 200, 600
 BOARDS = 16
 SLOTS_OF_GEN = 1_000_000
 
@@ -207,7 +207,7 @@ def rounds(name: str, kind: str, lines: Sequence[str] = ()) -> Load:
         script.append(run_for(micros))
         return Run(["run", "s.resc"], files(form, PROGRAMS[kind], script), micros * BOARDS)
 
-    return Load(f"rounds/{name}", "board and round", made, (SHORT, 2 * SHORT))
+    return Load(f"rounds/{name}", "board and round", made)
 
 
 def posts(name: str, boards_a_hub: int, delay: str = "0") -> Load:
@@ -226,7 +226,7 @@ def posts(name: str, boards_a_hub: int, delay: str = "0") -> Load:
         slots = micros * form.mips
         return Run(["run", "s.resc"], files(form, PROGRAMS["posts"], script), BOARDS * sent_in(slots))
 
-    return Load(f"posts/{name}", "post", made, (200, 600))
+    return Load(f"posts/{name}", "post", made)
 
 
 def sent_in(slots: int) -> int:
