@@ -38,7 +38,7 @@ class Frame:
 
 @dataclass
 class Line:
-    """A line of the log, or equal accesses that follow each other on a board. Times are microseconds; a line of the
+    """A line of the log, or equal accesses of a board that follow each other. Times are microseconds; a line of the
     script has the time of the line before it."""
 
     number: int
@@ -109,14 +109,15 @@ def read(name: str, text: Iterable[str]) -> Log:
 
 
 def folded(log: Log) -> List[Line]:
-    """The lines of a log, in order of their beginnings, where accesses of a board that are equal and follow each other
-    on it are one."""
+    """The lines of a log, in order of their beginnings, where equal accesses of a board that follow each other are one,
+    whatever its devices say between them."""
     lines: List[Line] = []
     last: Dict[str, Line] = {}
     for line in log.lines:
         before = last.get(line.lane.board)
-        is_same = before is not None and before.lane is line.lane and before.text == line.text
-        if before and is_same and line.lane.kind == "bus":
+        if line.lane.kind != "bus":
+            lines.append(line)
+        elif before and before.text == line.text:
             before.end = line.end
             before.count += 1
         else:

@@ -3,7 +3,8 @@ trap came by `mepc`, and where the file says nothing by what the function's firs
 from dataclasses import dataclass
 from typing import Dict, List, Optional, Set, Tuple
 
-from elf import Elf, Symbol
+from elf import Elf
+from elf_parts import Symbol
 from machine import ABI_NAMES, PINS, Hart, Memory
 
 MOST_FRAMES = 64

@@ -2,7 +2,8 @@
 from dataclasses import dataclass, field
 from typing import Any, Dict, List, Optional, Tuple
 
-from elf import Elf, Line, NoElf, Section
+from elf import Elf
+from elf_parts import Line, NoElf, Section
 from machine import ABI_NAMES, PINS, Device, Hart, Machine, machine_of
 from unwind import SP, Code, Stack
 

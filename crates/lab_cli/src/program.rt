@@ -1,7 +1,8 @@
 //! A run of the program, and the number with which it ends.
-ghost use Rattle.std.specs.Prelude.{◌≡◌};
+ghost use Rattle.std.specs.Prelude.{◌≡◌, IfOk, OnErr, map, string_bytes};
 ghost use Rattle.std.specs.Process.{exit_status};
 ghost use Rattle.lab_top.specs.Headline.{exit_number};
+ghost use Rattle.lab_cli.specs.Run.{IsRun, IsRunBy};
 
 use chips::full_stock;
 use floor_run::NoGate;
@@ -15,7 +16,7 @@ use std::sync::Wait;
 use std::thread::Threads;
 
 /// How the program has ended: with the status of its run, or without a run, where no memory was found
-/// for its words. Only `run` makes one.
+/// for its words or its devices. Only `run` makes one.
 #[derive(Drop)]
 pub struct Ended {
     run: Result<Status, NoMemory>,
@@ -48,9 +49,14 @@ fn run_over<
     F: lab_io::Files,
     K: Sink,
     S: Store,
->(rt: &R, files: &mut F, out: &mut K, store: &mut S) -> Result<Status, NoMemory> {
+>(rt: &R, files: &mut F, out: &mut K, store: &mut S) -> Result<Status, NoMemory>
+    ensures ran { IfOk result (λ status. IsRun F.Files K.Sink S.Store status
+        files.old files.new out.old out.new store.old store.new) }
+    ensures unrun { OnErr result
+        ((files.new ≡ files.old) × (out.new ≡ out.old) × (store.new ≡ store.old)) }
+{
     let words = command_words(rt)?;
-    Ok(run_by_words(rt, rt.alloc(), &words, files, out, store))
+    run_by_words(rt, rt.alloc(), &words, files, out, store)
 }
 
 /// Runs the program by these words, on devices enough for each board that a laboratory can have.
@@ -61,9 +67,12 @@ fn run_by_words<R: Threads + Wait + Copy + Send + Sync, F: lab_io::Files, K: Sin
     files: &mut F,
     out: &mut K,
     store: &mut S,
-) -> Status {
-    let Ok(stock) = full_stock(alloc) else {
-        return Status::Memory;
-    };
-    run_lab(rt, alloc, words, files, out, store, stock, &NoGate)
+) -> Result<Status, NoMemory>
+    ensures ran { IfOk result (λ status. IsRunBy F.Files K.Sink S.Store (map string_bytes words.now) status
+        files.old files.new out.old out.new store.old store.new) }
+    ensures unrun { OnErr result
+        ((files.new ≡ files.old) × (out.new ≡ out.old) × (store.new ≡ store.old)) }
+{
+    let stock = full_stock(alloc)?;
+    Ok(run_lab(rt, alloc, words, files, out, store, stock, &NoGate))
 }

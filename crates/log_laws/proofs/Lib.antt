@@ -1,0 +1,11 @@
+-- Lemmas of log_laws.
+pub mod AgreementLemmas
+pub mod LoadingLemmas
+pub mod CommandLemmas
+pub mod AlikeLemmas
+pub mod OrderLemmas
+pub mod NameLemmas
+pub mod JoinLemmas
+pub mod CheckLemmas
+pub mod DryLemmas
+pub mod StillLemmas

@@ -1,0 +1,8 @@
+use Rattle.lab_state.specs.Run.{run}
+use Rattle.log_laws.proofs.CheckLemmas.{transcript_same}
+use Rattle.log_laws.proofs.StillLemmas.{run_none}
+use Rattle.log_laws.proofs.checking.checks_take_no_slot.Goals as goal
+
+pub returns : goal.returns
+returns c = λ play nothing words script setting is dry held kept.
+    transcript_same play run nothing run_none held words script setting kept is dry

@@ -1,0 +1,8 @@
+use Rattle.log_laws.proofs.JoinLemmas.{runs_joined}
+use Rattle.log_laws.proofs.NameLemmas.{run_keeps}
+use Rattle.log_laws.proofs.joining.runs_of_a_script_join.Goals as goal
+
+pub returns : goal.returns
+returns c =
+    runs_joined c.runs_join.ensures (run_keeps c.stretches_keep_plans.ensures) c.prints_join.ensures.text
+    c.prints_join.ensures.open
