@@ -11,8 +11,6 @@ there. They end at a script or a snapshot that is not there, since what follows 
 Not looked for are the causes S7, S8, S9, S14, S16, the S19 of a `Save`, and all of platform files and images: after
 such a line lab reads no more, and the list goes on. Of S20 the form of the snapshot is looked at alone.
 """
-import importlib.machinery
-import importlib.util
 import os
 import pathlib
 from dataclasses import dataclass, field
@@ -20,6 +18,7 @@ from typing import Any, Callable, Dict, List, Optional, Sequence, Set, Tuple, Un
 
 import repl
 import resc
+import snapshot
 from resc import Line, Refused
 
 FILE_LIMIT = 16 * 2**20
@@ -380,8 +379,8 @@ class Walk:
         if self.is_large(read.path, SNAPSHOT_LIMIT):
             raise self.refuse("S19 size")
         try:
-            held = snapshot_of(content_of(self.folder / read.path))
-        except Exception as fault:  # pylint: disable=broad-except
+            held, _ = snapshot.read(content_of(self.folder / read.path))
+        except snapshot.NoSnapshot as fault:
             raise self.refuse("S20 snapshot") from fault
         self.resume(held)
 
