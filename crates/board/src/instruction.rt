@@ -11,8 +11,9 @@ use crate::slot::Ways;
 use crate::space::halves::of_half;
 use crate::wires::Wires;
 use dev_core::Device;
+use lab_num::NoMemory;
 use rv_atomic::{Shared, Watch, alone_as_performed, decode_atomic, step_shared};
-use rv_exec::{Fetched, NoMemory, perform};
+use rv_exec::{Fetched, perform};
 use rv_hart::{Hart, Lines};
 
 /// Does the instruction at the processor's pc, or enters the trap of its exception.

@@ -8,7 +8,6 @@ ghost use Rattle.board.specs.Inner.Made.{wires_with, HasRoom};
 use crate::numbers::Numbers;
 use dev_core::{Entry, Payload, Post, What};
 use lab_num::{BoardNo, Key, Member, Micros, NoMemory, PostNo};
-use rv_exec::NoMemory as OutOfMemory;
 use std::alloc::Global;
 use std::collections::VecDeque;
 
@@ -78,14 +77,14 @@ impl Made {
     }
 
     /// Notes something for the log.
-    pub fn enter(&mut self, at: Micros, what: What) -> Result<(), OutOfMemory>
+    pub fn enter(&mut self, at: Micros, what: What) -> Result<(), NoMemory>
         ensures ok { OnOk result ((s : Space) →
             wires_with self.new s at.0 ≡ entered (wires_with self.old s at.0) what) }
         ensures err { OnErr result ((s : Space) → wires_with self.new s at.0 ≡ wires_with self.old s at.0) }
     {
         let entry = self.entry(at, what);
         if self.entries.push(entry).is_err() {
-            return Err(OutOfMemory);
+            return Err(NoMemory);
         }
         self.numbers.count_entry();
         Ok(())
@@ -120,12 +119,12 @@ impl Made {
     }
 
     /// Makes room for one more post and one more entry.
-    pub fn make_room(&mut self) -> Result<(), OutOfMemory>
+    pub fn make_room(&mut self) -> Result<(), NoMemory>
         ensures room { OnOk result (HasRoom self.new) }
         ensures same { (s : Space) (t : ℕ) → wires_with self.new s t ≡ wires_with self.old s t }
     {
         if self.entries.reserve(1).is_err() || self.posts.reserve(1).is_err() {
-            return Err(OutOfMemory);
+            return Err(NoMemory);
         }
         Ok(())
     }

@@ -15,7 +15,7 @@ use crate::made::Made;
 use crate::space::{Parts, Space, regions_and_memories};
 use dev_core::{Device, Effect, What};
 use lab_num::{BoardNo, Micros, NoMemory};
-use rv_exec::{Bus, NoMemory as OutOfMemory};
+use rv_exec::Bus;
 use std::alloc::Global;
 use std::marker::Model;
 use sys_bus::{BoardPlan, Target};
@@ -117,7 +117,7 @@ impl<D: Device> Wires<D> {
     /// Notes something for the log.
     #[cold]
     #[inline(never)]
-    fn enter(&mut self, note: What) -> Result<(), OutOfMemory>
+    fn enter(&mut self, note: What) -> Result<(), NoMemory>
         ensures ok { OnOk result (self.new ≡ entered self.old note) }
         ensures err { OnErr result (self.new ≡ self.old) }
     {
@@ -133,7 +133,7 @@ impl<D: Device> Wires<D> {
         at: u32,
         width: u8,
         value: u32,
-    ) -> Result<(), OutOfMemory>
+    ) -> Result<(), NoMemory>
         requires { dev < length self.old.space.devices }
         ensures ok { OnOk result (self.new ≡ stored_to self.old at width value (Dev dev at)) }
         ensures err { OnErr result (self.new ≡ self.old) }
@@ -158,7 +158,7 @@ impl<D: Device> Wires<D> {
         at: u32,
         width: u8,
         value: u32,
-    ) -> Result<(), OutOfMemory>
+    ) -> Result<(), NoMemory>
         requires { dev < length self.old.space.devices }
         ensures ok { OnOk result (self.new ≡ stored_to self.old at width value (Dev dev at)) }
         ensures err { OnErr result (self.new ≡ self.old) }
@@ -169,7 +169,7 @@ impl<D: Device> Wires<D> {
         };
         if self.made.make_room().is_err() {
             self.space.put_back(dev, &before);
-            return Err(OutOfMemory);
+            return Err(NoMemory);
         }
         self.made
             .send(self.at, dev, &payload, self.space.is_shown(dev));
@@ -179,7 +179,7 @@ impl<D: Device> Wires<D> {
     /// A load that is not known to lie in a memory.
     #[inline(never)]
     #[tactic(auto, unfolding(crate::specs::Wires::loaded))]
-    fn load_anew(&mut self, at: u32, width: u8) -> Result<u32, OutOfMemory>
+    fn load_anew(&mut self, at: u32, width: u8) -> Result<u32, NoMemory>
         requires { IsAccess at width }
         ensures answer { IfOk result (λ value. value ≡ answer self.old at width) }
         ensures fits { IfOk result (λ value. value < 256 ^ width) }
@@ -196,7 +196,7 @@ impl<D: Device> Wires<D> {
     }
 
     /// A load that reaches nothing answers 0, and is noted.
-    fn load_nothing(&mut self, at: u32, width: u8) -> Result<u32, OutOfMemory>
+    fn load_nothing(&mut self, at: u32, width: u8) -> Result<u32, NoMemory>
         ensures answer { IfOk result (λ value. value ≡ 0) }
         ensures ok { OnOk result (self.new ≡ entered self.old (Read width at)) }
         ensures err { OnErr result (self.new ≡ self.old) }
@@ -213,7 +213,7 @@ impl<D: Device> Wires<D> {
         at: u32,
         width: u8,
         value: u32,
-    ) -> Result<(), OutOfMemory>
+    ) -> Result<(), NoMemory>
         requires width { IsWidth width }
         requires part { part < length self.old.space.memories }
         requires lies { at + width ≤ length (memory_at self.old.space part) }
@@ -222,7 +222,7 @@ impl<D: Device> Wires<D> {
         ensures err { OnErr result (self.new ≡ self.old) }
     {
         let Ok(()) = self.space.store_memory(part, at, width, value) else {
-            return Err(OutOfMemory);
+            return Err(NoMemory);
         };
         Ok(())
     }
@@ -230,7 +230,7 @@ impl<D: Device> Wires<D> {
     /// A store that is not known to lie in a memory.
     #[inline(never)]
     #[tactic(auto, unfolding(crate::specs::Wires::stored))]
-    fn store_anew(&mut self, at: u32, width: u8, value: u32) -> Result<(), OutOfMemory>
+    fn store_anew(&mut self, at: u32, width: u8, value: u32) -> Result<(), NoMemory>
         requires { IsAccess at width }
         ensures ok { OnOk result (self.new ≡ stored self.old at width value) }
         ensures err { OnErr result (self.new ≡ self.old) }
@@ -267,7 +267,7 @@ impl<D: Device> Bus for Wires<D> {
 
     #[inline(always)]
     #[tactic(auto, unfolding(crate::specs::Wires::loaded))]
-    fn load(&mut self, at: u32, width: u8) -> Result<u32, OutOfMemory> {
+    fn load(&mut self, at: u32, width: u8) -> Result<u32, NoMemory> {
         match self.space.near_data(at) {
             Some(place) => Ok(self.space.load_memory(place.part, place.at, width)),
             // taken apart, so that no tag is tested where a memory is near
@@ -277,7 +277,7 @@ impl<D: Device> Bus for Wires<D> {
 
     #[inline(always)]
     #[tactic(auto, unfolding(crate::specs::Wires::stored))]
-    fn store(&mut self, at: u32, width: u8, value: u32) -> Result<(), OutOfMemory> {
+    fn store(&mut self, at: u32, width: u8, value: u32) -> Result<(), NoMemory> {
         match self.space.near_data(at) {
             Some(place) => self.store_in_memory(place.part, place.at, width, value),
             None => self.store_anew(at, width, value),

@@ -2,8 +2,8 @@
 use crate::reservations::{do_word, put, reserved};
 use crate::step::memory::Memory;
 use crate::step::{GREATEST, LEAST, MINUS_ONE, hart_with, retired};
+use lab_num::NoMemory;
 use rv_atomic::{Atomic, AtomicOp, Watch, decode_atomic};
-use rv_exec::NoMemory;
 use rv_hart::{Hart, HartState};
 use std::process::Abort;
 

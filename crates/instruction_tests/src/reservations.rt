@@ -4,8 +4,9 @@ ghost use Rattle.rv_atomic.specs.SharedEffect.{IsSharable};
 
 use crate::step::LINES;
 use crate::step::memory::Memory;
+use lab_num::NoMemory;
 use rv_atomic::{Shared, Watch, decode_atomic, step_shared};
-use rv_exec::{Fetched, NoMemory};
+use rv_exec::Fetched;
 use rv_hart::Hart;
 
 /// What a word is on a hart with atomic instructions.

@@ -1,6 +1,7 @@
 //! Rows from the manuals, run through `step` on a small memory.
+use lab_num::NoMemory;
 use memory::Memory;
-use rv_exec::{NoMemory, step};
+use rv_exec::step;
 use rv_hart::{Hart, HartState, Lines};
 use std::process::Abort;
 

@@ -20,7 +20,8 @@ use crate::ending::{access_fault_cause, misaligned_cause, retire, trap};
 use crate::shared::Shared;
 use crate::span::span_stored;
 use crate::watch::Watch;
-use rv_exec::{Bus, Fetched, NoMemory, perform};
+use lab_num::NoMemory;
+use rv_exec::{Bus, Fetched, perform};
 use rv_hart::{Hart, Lines, zero_register};
 
 /// Whether a hart has reserved this word.

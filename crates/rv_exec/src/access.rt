@@ -9,8 +9,9 @@ ghost use Rattle.rv_exec.specs.Inner.Widths.{IsWidthOf};
 ghost use Rattle.rv_exec.specs.Effect.{AsksBus, bus_after, core_after, loads, stores};
 
 use crate::alu::add;
-use crate::bus::{Bus, NoMemory, low_bytes};
+use crate::bus::{Bus, low_bytes};
 use crate::ending::{advance, finish, trap};
+use lab_num::NoMemory;
 use rv_decode::Instr;
 use rv_hart::{Exception, Hart};
 

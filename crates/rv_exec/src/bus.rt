@@ -2,9 +2,7 @@
 ghost use Rattle.std.specs.Prelude.{◌≡◌, ℕ, ◌%◌, ◌^◌, ◌<◌, Option, IfOk, OnOk, OnErr};
 ghost use Rattle.rv_exec.specs.Access.{IsAccess, IsWidth};
 
-/// Memory ran out.
-#[derive(Clone, Copy, PartialEq, Eq, Debug)]
-pub struct NoMemory;
+use lab_num::NoMemory;
 
 /// What a hart fetches its words from, loads from and stores to. Addresses and widths are in bytes.
 pub trait Bus {

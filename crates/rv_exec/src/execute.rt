@@ -16,12 +16,13 @@ ghost use Rattle.rv_exec.specs.Effect.{
 
 use crate::access::{Shape, load, store};
 use crate::alu::add;
-use crate::bus::{Bus, NoMemory};
+use crate::bus::Bus;
 use crate::condition::is_taken;
 use crate::csr::{Change, change_csr};
 use crate::ending::{advance, branch, finish, jump, leave, trap, wait};
 use crate::fetched::{Fetched, find};
 use crate::operation::{on_immediate, on_registers};
+use lab_num::NoMemory;
 use rv_decode::{Instr, Op, offsets_are_even, valid_fits};
 use rv_hart::{Exception, Hart, Lines, zero_register};
 

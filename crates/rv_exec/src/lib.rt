@@ -12,7 +12,7 @@ mod fetched;
 mod laws;
 mod operation;
 
-pub use bus::{Bus, NoMemory, low_bytes};
+pub use bus::{Bus, low_bytes};
 pub use execute::{perform, step};
 pub use fetched::Fetched;
 pub use laws::long_instructions_agree;

@@ -18,7 +18,8 @@ ghost use Rattle.std.specs.Prelude.{
 ghost use Rattle.std.specs.Int.{w32, bit_not};
 ghost use Rattle.rv_exec.specs.Access.{IsWidth};
 
-use rv_exec::{Bus, NoMemory};
+use lab_num::NoMemory;
+use rv_exec::Bus;
 
 /// The highest number of this many bytes.
 fn highest(width: u8) -> u32
