@@ -177,13 +177,15 @@ fn a_trap_goes_to_the_base_or_by_its_vector_and_back(rt: HostRuntime) -> Result<
 }
 
 /// The exceptions, and their causes in table 3.6 of the Privileged ISA.
-static CAUSES: [(Exception, u32); 7] = [
+static CAUSES: [(Exception, u32); 9] = [
     (Exception::InstructionAddressMisaligned, 0),
     (Exception::InstructionAccessFault, 1),
     (Exception::IllegalInstruction, 2),
     (Exception::Breakpoint, 3),
     (Exception::LoadAddressMisaligned, 4),
+    (Exception::LoadAccessFault, 5),
     (Exception::StoreAddressMisaligned, 6),
+    (Exception::StoreAccessFault, 7),
     (Exception::EnvironmentCall, 11),
 ];
 

@@ -2,7 +2,8 @@
 -- sections 8.2 and 8.4).
 use Rattle.std.specs.Prelude.{ℕ, ◌%◌, ◌==◌, if◌then◌else◌, List, Option, Some, None, slice_set}
 use Rattle.std.specs.Option.{option_map_or}
-use Rattle.rv_hart.specs.Cause.{load_address_misaligned, store_address_misaligned}
+use Rattle.rv_hart.specs.Cause.{load_access_fault, load_address_misaligned}
+use Rattle.rv_hart.specs.Cause.{store_access_fault, store_address_misaligned}
 use Rattle.rv_hart.specs.Core.{Core, reg, finish}
 use Rattle.rv_exec.specs.Effect.{Effect, Done, Store}
 use Rattle.rv_exec.specs.Outcome.{retires, traps}
@@ -27,8 +28,8 @@ misaligned_cause Lr = load_address_misaligned
 misaligned_cause _ = store_address_misaligned
 
 abbrev pub access_fault_cause : AtomicOp → ℕ
-access_fault_cause Lr = 5
-access_fault_cause _ = 7
+access_fault_cause Lr = load_access_fault
+access_fault_cause _ = store_access_fault
 
 -- the address of an atomic instruction
 abbrev pub address : Core → Atomic → ℕ

@@ -7,22 +7,13 @@ ghost use Rattle.rv_atomic.specs.Laws.{MeansNoOther};
 ghost use Rattle.rv_atomic.specs.Inner.ByFields.{op_by};
 
 use crate::atomic::{Atomic, AtomicOp};
-use rv_decode::bits;
+use rv_decode::{bits, register};
 
 /// The opcode AMO.
 const OPCODE: u32 = 0x2F;
 
 /// The funct3 of the instructions on words.
 const WORD: u32 = 2;
-
-/// The number of a register, in the five bits of a word from bit `low` on.
-fn register(word: u32, low: u32) -> u8
-    requires { low < 32 }
-    ensures value { result ≡ field word low 5 }
-    ensures fits { result < 32 }
-{
-    bits(word, low, 5) as u8
-}
 
 /// The name of an atomic instruction on words, by its funct5 and its rs2.
 #[tactic(auto, unfolding(crate::specs::Inner::ByFields::op_by))]

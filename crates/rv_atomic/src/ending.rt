@@ -8,13 +8,6 @@ ghost use Rattle.rv_atomic.specs.AtomicEffect.{access_fault_cause, misaligned_ca
 use crate::atomic::AtomicOp;
 use rv_hart::{Exception, Hart};
 
-/// The cause of a load of a word that no memory holds (RISC-V Privileged Architecture 20211203,
-/// table 3.6).
-const LOAD_ACCESS_FAULT: u32 = 5;
-
-/// The cause of a store to a word that no memory holds.
-const STORE_ACCESS_FAULT: u32 = 7;
-
 /// The cause of an address that is not divisible by 4.
 pub fn misaligned_cause(op: AtomicOp) -> u32
     ensures { result ≡ misaligned_cause op }
@@ -30,8 +23,8 @@ pub fn access_fault_cause(op: AtomicOp) -> u32
     ensures { result ≡ access_fault_cause op }
 {
     match op {
-        AtomicOp::Lr => LOAD_ACCESS_FAULT,
-        _ => STORE_ACCESS_FAULT,
+        AtomicOp::Lr => Exception::LoadAccessFault.cause(),
+        _ => Exception::StoreAccessFault.cause(),
     }
 }
 

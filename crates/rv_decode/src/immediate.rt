@@ -23,7 +23,7 @@ pub fn register(word: u32, low: u32) -> u8
 }
 
 /// A number of `count` bits, with the bits above filled by its highest.
-fn sign_extend(n: u32, count: u32) -> u32
+pub fn sign_extend(n: u32, count: u32) -> u32
     requires some { 1 ≤ count }
     requires most { count < 32 }
     requires fits { n < 2 ^ count }

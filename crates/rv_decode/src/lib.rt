@@ -7,5 +7,5 @@ mod instruction;
 mod opcodes;
 
 pub use decoder::{decode, offsets_are_even, rows_differ, rows_match_fields, valid_fits};
-pub use immediate::bits;
+pub use immediate::{bits, register, sign_extend};
 pub use instruction::{Format, Instr, Op};

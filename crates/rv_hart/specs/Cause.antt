@@ -19,8 +19,14 @@ breakpoint = 3
 abbrev pub load_address_misaligned : ℕ
 load_address_misaligned = 4
 
+abbrev pub load_access_fault : ℕ
+load_access_fault = 5
+
 abbrev pub store_address_misaligned : ℕ
 store_address_misaligned = 6
+
+abbrev pub store_access_fault : ℕ
+store_access_fault = 7
 
 abbrev pub environment_call : ℕ
 environment_call = 11
@@ -32,7 +38,9 @@ cause_of exception.InstructionAccessFault = instruction_access_fault
 cause_of exception.IllegalInstruction = illegal_instruction
 cause_of exception.Breakpoint = breakpoint
 cause_of exception.LoadAddressMisaligned = load_address_misaligned
+cause_of exception.LoadAccessFault = load_access_fault
 cause_of exception.StoreAddressMisaligned = store_address_misaligned
+cause_of exception.StoreAccessFault = store_access_fault
 cause_of exception.EnvironmentCall = environment_call
 
 -- the interrupts, by their bit in mip and mie

@@ -10,7 +10,9 @@ pub enum Exception {
     IllegalInstruction = 2,
     Breakpoint = 3,
     LoadAddressMisaligned = 4,
+    LoadAccessFault = 5,
     StoreAddressMisaligned = 6,
+    StoreAccessFault = 7,
     EnvironmentCall = 11,
 }
 

@@ -1,24 +1,9 @@
 //! The immediates of half-words (RISC-V Unprivileged ISA 20191213, section 16.8).
-ghost use Rattle.std.specs.Prelude.{◌≡◌, ◌^◌, ◌<◌, ◌≤◌};
-ghost use Rattle.rv_decode.specs.Immediate.{sign_extended};
+ghost use Rattle.std.specs.Prelude.{◌≡◌};
 ghost use Rattle.rvc_decode.specs.Immediate.{immediate_of, imm_addi4spn, imm_word, imm_small, imm_jump};
 ghost use Rattle.rvc_decode.specs.Immediate.{imm_addi16sp, imm_lui, imm_shift, imm_branch, imm_lwsp, imm_swsp};
 
-use rv_decode::bits;
-
-/// A number of `count` bits, with the bits above filled by its highest.
-fn sign_extend(n: u32, count: u32) -> u32
-    requires some { 1 ≤ count }
-    requires most { count < 32 }
-    requires fits { n < 2 ^ count }
-    ensures { result ≡ sign_extended count n }
-{
-    if n < 1 << (count - 1) {
-        n
-    } else {
-        n + (u32::MAX - (1 << count) + 1)
-    }
-}
+use rv_decode::{bits, sign_extend};
 
 /// The immediate of C.ADDI4SPN.
 pub fn immediate_addi4spn(half: u32) -> u32

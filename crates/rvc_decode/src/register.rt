@@ -2,14 +2,14 @@
 ghost use Rattle.std.specs.Prelude.{◌≡◌, ◌+◌, ◌<◌};
 ghost use Rattle.rv_decode.specs.Immediate.{field};
 
-use rv_decode::bits;
+use rv_decode::{bits, register};
 
 /// The register of bits 11 to 7: rd, or rs1.
 pub fn rd(half: u32) -> u8
     ensures value { result ≡ field half 7 5 }
     ensures fits { result < 32 }
 {
-    bits(half, 7, 5) as u8
+    register(half, 7)
 }
 
 /// The register of bits 6 to 2: rs2.
@@ -17,7 +17,7 @@ pub fn rs2(half: u32) -> u8
     ensures value { result ≡ field half 2 5 }
     ensures fits { result < 32 }
 {
-    bits(half, 2, 5) as u8
+    register(half, 2)
 }
 
 /// The register x8 to x15 of bits 9 to 7: rd' or rs1', or both.
