@@ -1,5 +1,6 @@
 -- What contracts of lab_num and of the crates above cite.
 pub mod Change
+pub mod Depth
 pub mod Halves
 pub mod Key
 pub mod Listing

@@ -17,7 +17,8 @@ pub use key::{Key, Member};
 pub use listing::{key_laws, listing_laws};
 pub use name::{is_identifier, is_name};
 pub use number::{
-    BoardNo, MOST_BOARDS, MOST_DELAY, MOST_QUANTUM, MOST_SPEED, Micros, NoMemory, PostNo,
+    BoardNo, DEPTH_LIMIT, MOST_BOARDS, MOST_DELAY, MOST_QUANTUM, MOST_SPEED, Micros, NoMemory,
+    PostNo,
 };
 pub use numeral::number_of;
 pub use returns::return_law;

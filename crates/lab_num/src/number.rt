@@ -31,6 +31,9 @@ pub const MOST_QUANTUM: u64 = 1_000_000;
 /// The longest delay of a hub, in microseconds.
 pub const MOST_DELAY: u32 = 1_000_000;
 
+/// The most macros, included scripts and platform files that are open beside a script.
+pub const DEPTH_LIMIT: u8 = 8;
+
 impl fmt::Display for NoMemory {
     ghost use Rattle.std.specs.Prelude.{Some, codes};
 

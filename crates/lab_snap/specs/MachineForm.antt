@@ -1,6 +1,7 @@
 -- How a board that has a plan is spelled.
 use Rattle.std.proofs.Common.{◌<◌, ◌/◌, ◌^◌, ℕ, List, [], ◌∷◌, length, refl, arith}
 use Rattle.std.specs.List.{AllByRecursion}
+use Rattle.page_ram.specs.Access.{page_size}
 use Rattle.sys_bus.specs.declared.plan.BoardPlan.{BoardPlan}
 use Rattle.sys_bus.specs.Plan.{IsValid}
 use Rattle.lab_spell.specs.Form.{Form, IsLawful}
@@ -29,7 +30,7 @@ valid_plan_lawful =
 
 -- a memory of so many bytes, which are whole pages
 abbrev pub sized_form : ℕ → Form (List ℕ)
-sized_form size = memory_form (size / 4096)
+sized_form size = memory_form (size / page_size)
 
 -- a list of memories of these sizes: their count in 8 bytes, and each of them
 unfoldable pub memories_form : List ℕ → Form (List (List ℕ))
@@ -39,7 +40,7 @@ sized_lawful : (sizes : List ℕ) → AllByRecursion (λ size. size < 256 ^ 4) s
     AllByRecursion (λ size. IsLawful (sized_form size)) sizes
 sized_lawful [] fits = tt
 sized_lawful (size ∷ sizes) fits =
-    let small = fits.0 in (pages_lawful 4096 (size / 4096) (omega arith), sized_lawful sizes fits.1)
+    let small = fits.0 in (pages_lawful page_size (size / page_size) (omega arith), sized_lawful sizes fits.1)
 
 pub memories_lawful : (sizes : List ℕ) → AllByRecursion (λ size. size < 256 ^ 4) sizes →
     IsLawful (memories_form sizes)

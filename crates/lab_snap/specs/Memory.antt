@@ -3,6 +3,7 @@
 use Rattle.std.specs.Prelude.{◌≡◌, ◌<◌, ◌*◌, ℕ, zero, suc, List, [], ◌∷◌, ◌++◌, length, take, drop}
 use Rattle.std.specs.Prelude.{Bool, not, nat_lt, ◌==◌, ◌&&◌, if◌then◌else◌}
 use Rattle.std.specs.List.{list_all, AllByRecursion}
+use Rattle.page_ram.specs.Access.{page_size}
 use Rattle.page_ram.specs.Bytes.{zeros}
 use Rattle.page_ram.specs.Pages.{is_zero}
 use Rattle.lab_spell.specs.Form.{Form}
@@ -59,6 +60,6 @@ memory_of s n ps = pages_from s 0 n ps
 abbrev pub pages_form : ℕ → ℕ → Form (List ℕ)
 pages_form s n = shown (IsMemory s n) (used s n) (memory_of s n) (only (are_used n) (list (page_form s)))
 
--- a memory of so many pages of 4,096 bytes
+-- a memory of so many pages
 abbrev pub memory_form : ℕ → Form (List ℕ)
-memory_form n = pages_form 4096 n
+memory_form n = pages_form page_size n

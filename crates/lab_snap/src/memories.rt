@@ -5,10 +5,10 @@ ghost use Rattle.lab_spell.specs.Combine.{each, parse_each};
 ghost use Rattle.lab_spell.specs.Reads.{Appends, Reads};
 ghost use Rattle.lab_snap.specs.MachineForm.{memories_form, sized_form};
 
-use crate::memory::{PAGE, put_memory, take_memory};
+use crate::memory::{put_memory, take_memory};
 use lab_num::{NoMemory, Rows};
 use lab_spell::{SnapFault, Source, Spelled};
-use page_ram::PageRam;
+use page_ram::{PAGE_SIZE, PageRam};
 use std::alloc::Global;
 
 /// Writes the memories, one after another.
@@ -20,7 +20,7 @@ fn put_each(sizes: &[u32], memories: &[PageRam], out: &mut Vec<u8>) -> Result<()
     ensures fits { OnOk result ((each sized_form sizes.now).Fits memories.now) }
 {
     for k in 0..sizes.len() {
-        put_memory(&memories[k], sizes[k] / PAGE, out)?;
+        put_memory(&memories[k], sizes[k] / PAGE_SIZE, out)?;
     }
     Ok(())
 }
@@ -37,7 +37,7 @@ fn take_each(
 {
     let mut memories = Vec::new(alloc);
     for &size in sizes {
-        memories.push(take_memory(alloc, size / PAGE, source)?)?;
+        memories.push(take_memory(alloc, size / PAGE_SIZE, source)?)?;
     }
     Ok(Rows::of(memories))
 }

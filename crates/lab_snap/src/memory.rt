@@ -14,6 +14,7 @@ ghost use Rattle.std.specs.Prelude.{
   ℕ,
 };
 ghost use Rattle.std.specs.List.{flat_map, AllByRecursion};
+ghost use Rattle.page_ram.specs.Access.{page_size};
 ghost use Rattle.page_ram.specs.Bytes.{zeros};
 ghost use Rattle.page_ram.specs.Pages.{page_of};
 ghost use Rattle.page_ram.specs.Pages as pages_spec;
@@ -27,11 +28,8 @@ ghost use Rattle.lab_snap.specs.Page.{page_form};
 
 use lab_num::NoMemory;
 use lab_spell::{SnapFault, Source, Spelled};
-use page_ram::PageRam;
+use page_ram::{PAGE_SIZE, PageRam};
 use std::alloc::Global;
-
-/// The bytes of a page.
-pub(crate) const PAGE: u32 = 4096;
 
 /// Each item is a byte: a proof that needs this calls it.
 fn are_bytes(bytes: &[u8])
@@ -41,8 +39,8 @@ fn are_bytes(bytes: &[u8])
 /// How many pages have a byte other than 0.
 #[tactic(auto, using(crate::proofs::PageLoops::left_lemmas))]
 fn used_count(memory: &PageRam, pages: u32) -> u64
-    requires { length memory.now ≡ 4096 * pages }
-    ensures { result ≡ length (used 4096 pages memory.now) }
+    requires { length memory.now ≡ page_size * pages }
+    ensures { result ≡ length (used page_size pages memory.now) }
 {
     let mut count = 0;
     for k in 0..pages {
@@ -55,9 +53,9 @@ fn used_count(memory: &PageRam, pages: u32) -> u64
 
 /// Writes the number of a page and the page, if it has a byte other than 0.
 fn put_used(memory: &PageRam, number: u32, out: &mut Vec<u8>) -> Result<(), NoMemory>
-    requires { 4096 * (number + 1) ≤ length memory.now }
+    requires { page_size * (number + 1) ≤ length memory.now }
     ensures spelled { OnOk result
-        (Appends out.old.items out.new.items (spell_used 4096 number (page_of memory.now number))) }
+        (Appends out.old.items out.new.items (spell_used page_size number (page_of memory.now number))) }
     ensures bytes { OnOk result (AllByRecursion (λ b. b < 256) (page_of memory.now number)) }
 {
     if let Some(page) = memory.used_page(number) {
@@ -70,9 +68,9 @@ fn put_used(memory: &PageRam, number: u32, out: &mut Vec<u8>) -> Result<(), NoMe
 
 /// Writes all pages that have a byte other than 0.
 fn put_pages(memory: &PageRam, pages: u32, out: &mut Vec<u8>) -> Result<(), NoMemory>
-    requires { length memory.now ≡ 4096 * pages }
+    requires { length memory.now ≡ page_size * pages }
     ensures spelled { OnOk result (Appends out.old.items out.new.items
-        (flat_map (page_form 4096).spell (used 4096 pages memory.now))) }
+        (flat_map (page_form page_size).spell (used page_size pages memory.now))) }
     ensures bytes { OnOk result (AllByRecursion (λ b. b < 256) memory.now) }
 {
     for k in 0..pages {
@@ -102,14 +100,14 @@ fn take_pages(
     pages: u32,
     memory: &mut PageRam,
 ) -> Result<(), SnapFault>
-    requires { memory.old ≡ zeros (4096 * pages) }
-    ensures reads { ReadsInto (memory_read 4096 pages count source.old) memory.new source.new result }
-    ensures size { length memory.new ≡ 4096 * pages }
+    requires { memory.old ≡ zeros (page_size * pages) }
+    ensures reads { ReadsInto (memory_read page_size pages count source.old) memory.new source.new result }
+    ensures size { length memory.new ≡ page_size * pages }
 {
     let mut low = 0;
     for _ in 0..count {
         let number = u32::take(alloc, source)?;
-        let page = source.front(PAGE as usize)?;
+        let page = source.front(PAGE_SIZE as usize)?;
         if !is_next(pages, low, number, page) {
             return Err(SnapFault::Bad);
         }
@@ -124,10 +122,10 @@ fn take_as_part(alloc: Global, pages: u32, source: &mut Source<'_>) -> Result<Pa
     requires some { 1 ≤ pages }
     requires few { pages ≤ 16384 }
     ensures reads { Reads ((memory_form pages).parse source.old) source.new result }
-    ensures size { IfOk result (λ memory. length memory ≡ 4096 * pages) }
+    ensures size { IfOk result (λ memory. length memory ≡ page_size * pages) }
 {
     let count = u64::take(alloc, source)?;
-    let mut memory = PageRam::new(alloc, PAGE * pages)?;
+    let mut memory = PageRam::new(alloc, PAGE_SIZE * pages)?;
     take_pages(alloc, source, count, pages, &mut memory)?;
     Ok(memory)
 }
@@ -135,7 +133,7 @@ fn take_as_part(alloc: Global, pages: u32, source: &mut Source<'_>) -> Result<Pa
 /// Writes the spelling of a memory of so many pages at the end. Where memory runs out a part of it may
 /// stand there.
 pub fn put_memory(memory: &PageRam, pages: u32, out: &mut Vec<u8>) -> Result<(), NoMemory>
-    requires { length memory.now ≡ 4096 * pages }
+    requires { length memory.now ≡ page_size * pages }
     ensures spelled { OnOk result (Appends out.old.items out.new.items ((memory_form pages).spell memory.now)) }
     ensures fits { OnOk result ((memory_form pages).Fits memory.now) }
 {
@@ -157,7 +155,7 @@ pub fn take_memory(alloc: Global, pages: u32, source: &mut Source<'_>) -> Result
         source.old ≡ (memory_form pages).spell memory ++ rest →
         MatchResult result (λ loaded. (loaded ≡ memory) × (source.new ≡ rest)) (λ fault. fault ≡ SnapFault.Memory) }
     ensures part { Reads ((memory_form pages).parse source.old) source.new result }
-    ensures size { IfOk result (λ memory. length memory ≡ 4096 * pages) }
+    ensures size { IfOk result (λ memory. length memory ≡ page_size * pages) }
 {
     take_as_part(alloc, pages, source)
 }

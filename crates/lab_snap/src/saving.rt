@@ -19,7 +19,7 @@ ghost use Rattle.lab_snap.specs.Snapshot.{snapshot_of};
 
 use crate::hub::HubKind;
 use crate::lab::MARK;
-use crate::memory::{PAGE, put_memory};
+use crate::memory::put_memory;
 use crate::snapshot::snapshots_are_what_they_spell;
 use board::Board;
 use dev_core::{Device, Kind};
@@ -27,6 +27,7 @@ use lab_num::{BoardNo, NoMemory};
 use lab_spell::{Spelled, put_list};
 use lab_state::Lab;
 use log_text::Lines;
+use page_ram::PAGE_SIZE;
 use std::alloc::Global;
 
 /// Writes the memories of a board, which have these sizes, one after another.
@@ -43,7 +44,7 @@ fn put_each_memory<D: Device>(
     ensures fits { OnOk result ((each sized_form sizes.now).Fits board.now.view.space.memories) }
 {
     for k in 0..sizes.len() {
-        put_memory(board.memory(k as u8), sizes[k] / PAGE, out)?;
+        put_memory(board.memory(k as u8), sizes[k] / PAGE_SIZE, out)?;
     }
     Ok(())
 }

@@ -10,7 +10,7 @@ use Rattle.resc_read.specs.declared.command.LineCause.{LineCause}
 use Rattle.resc_read.specs.Line.{line_of}
 use Rattle.resc_vars.specs.declared.cause.ScriptCause.{ScriptCause}
 use Rattle.resc_vars.specs.declared.cause.ScriptCause.TheVariants.{Depth}
-use Rattle.resc_vars.specs.Bodies.{depth_limit}
+use Rattle.lab_num.specs.Depth.{depth_limit}
 use Rattle.resc_vars.specs.Script.{next_of}
 use Rattle.resc_vars.specs.Script as script
 use Rattle.repl_files.specs.Loading.{load}

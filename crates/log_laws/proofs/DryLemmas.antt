@@ -18,7 +18,8 @@ use Rattle.resc_read.specs.declared.command.LineCause.{LineCause}
 use Rattle.resc_read.specs.Line.{line_of}
 use Rattle.resc_vars.specs.declared.cause.ScriptCause.{ScriptCause}
 use Rattle.resc_vars.specs.declared.cause.ScriptCause.TheVariants.{Depth, Size}
-use Rattle.resc_vars.specs.Bodies.{depth_limit, enter, source_of}
+use Rattle.lab_num.specs.Depth.{depth_limit}
+use Rattle.resc_vars.specs.Bodies.{enter, source_of}
 use Rattle.resc_vars.specs.Script.{next_of}
 use Rattle.resc_vars.specs.Script as script
 use Rattle.sys_bus.specs.declared.plan.BoardPlan.{BoardPlan}

@@ -11,7 +11,8 @@ use Rattle.lab_io.specs.Held.{Held}
 use Rattle.lab_io.specs.Known.{grown}
 use Rattle.lab_io.specs.Whole.{IsTextRead, file_text}
 use Rattle.lab_io.proofs.Asking.{asks_all, asks_one}
-use Rattle.resc_vars.specs.Bodies.{depth_limit, enter, source_of}
+use Rattle.lab_num.specs.Depth.{depth_limit}
+use Rattle.resc_vars.specs.Bodies.{enter, source_of}
 use Rattle.monitor.specs.declared.fault.ScriptFault.{ScriptFault}
 use Rattle.monitor.specs.declared.stop.Stop.{Stop}
 use Rattle.monitor.specs.declared.stop.Stop.TheVariants.{Store, Quit, Line, File, Content, Unread, Memory}

@@ -38,7 +38,7 @@ use Rattle.resc_read.specs.declared.command.Command.{Command}
 use Rattle.resc_read.specs.declared.command.Command.TheVariants as command
 use Rattle.resc_vars.specs.declared.cause.ScriptCause.{ScriptCause}
 use Rattle.resc_vars.specs.declared.cause.ScriptCause.TheVariants.{Depth, LabTime, Platform, Size}
-use Rattle.resc_vars.specs.Bodies.{depth_limit}
+use Rattle.lab_num.specs.Depth.{depth_limit}
 use Rattle.resc_vars.specs.Script as script
 use Rattle.lab_state.specs.Board.{Board}
 use Rattle.lab_state.specs.Lab.{Lab}

@@ -3,9 +3,10 @@ use Rattle.std.specs.Prelude.{ℕ, nat_lt, List, length, Result, Ok}
 use Rattle.std.specs.FinMap.{get}
 use Rattle.lab_io.specs.Held.{Held}
 use Rattle.lab_io.specs.Whole.{FileText, Missing, Large, Broken, Readable, file_text}
+use Rattle.lab_num.specs.Depth.{depth_limit}
 use Rattle.resc_vars.specs.declared.cause.ScriptCause.{ScriptCause}
 use Rattle.resc_vars.specs.declared.cause.ScriptCause.TheVariants.{Depth, Size, Utf8}
-use Rattle.resc_vars.specs.Bodies.{enter, run_of, source_of, depth_limit}
+use Rattle.resc_vars.specs.Bodies.{enter, run_of, source_of}
 use Rattle.resc_vars.specs.Script as script
 use Rattle.monitor.specs.declared.fault.Cause.TheVariants.{Script}
 use Rattle.monitor.specs.Answer.{Answer, Faults, Misses, Did, Done, leaves, answer_at, reads, refused}

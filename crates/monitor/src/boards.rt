@@ -4,6 +4,7 @@ ghost use Rattle.std.specs.Prelude.{IsTrue, true};
 ghost use Rattle.std.specs.Option.{ForSome, option_map};
 ghost use Rattle.std.specs.List.{list_all};
 ghost use Rattle.lab_io.specs.Frame.{OnlyReads};
+ghost use Rattle.lab_num.specs.Depth.{depth_limit};
 ghost use Rattle.lab_num.specs.Name.{is_name};
 ghost use Rattle.lab_state.specs.One.{view_of};
 ghost use Rattle.repl_files.specs.Loading.{load};
@@ -182,7 +183,7 @@ fn read_plan<F: Files>(
     bodies: u8,
     path: &str,
 ) -> Result<BoardPlan, Stop>
-    requires { bodies ≤ 8 }
+    requires { bodies ≤ depth_limit }
     ensures read { ForSome (F.held files.old) (λ held.
         IsPlanRead (load held bodies path.now) result (F.asked files.old) (F.asked files.new)) }
     ensures valid { IfOk result IsValid }

@@ -10,7 +10,7 @@ use crate::monitor::Monitor;
 use crate::stop::{Stop, file_stop};
 use dev_core::Device;
 use lab_io::{Files, TextFault, read_text};
-use lab_num::Micros;
+use lab_num::{DEPTH_LIMIT, Micros};
 use resc_vars::{Flow, ScriptCause};
 use std::alloc::Global;
 use std::marker::Model;
@@ -39,9 +39,6 @@ impl Model for Bodies {
 
     ghost invariant = { λ b. (1 ≤ b.workers) × (b.workers ≤ 8) };
 }
-
-/// How many bodies may be open beside the script.
-const DEPTH: u8 = 8;
 
 /// Why a script stops where the text of a file of this name is not read.
 fn text_stop(alloc: Global, name: &str, fault: TextFault) -> Stop
@@ -78,7 +75,7 @@ impl<D: Device> Monitor<D> {
             (λ held place. bodies.include held self.old.state place path.now)
             result self.old self.new files.old files.new }
     {
-        if self.flow.depth() >= DEPTH {
+        if self.flow.depth() >= DEPTH_LIMIT {
             return Err(Stop::Line(ScriptCause::Depth));
         }
         match read_text(self.alloc, files, path) {

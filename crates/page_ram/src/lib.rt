@@ -8,4 +8,5 @@ mod page;
 mod ram;
 
 pub use laws::aligned_numbers_lie_in_one_page;
+pub use page::PAGE_SIZE;
 pub use ram::PageRam;

@@ -7,8 +7,11 @@ use crate::maybe_box::MaybeBox;
 use lab_num::NoMemory;
 use std::alloc::Global;
 
-/// The size of a page, in bytes.
-pub const PAGE: usize = 4096;
+/// The size of a page, in bytes. A memory has whole pages.
+pub const PAGE_SIZE: u32 = 4096;
+
+/// The same, as what counts the items of a slice.
+pub const PAGE: usize = PAGE_SIZE as usize;
 
 /// The bytes of a page.
 pub type Page = [u8; PAGE];

@@ -7,7 +7,8 @@ use Rattle.dev_core.specs.declared.kind.Kind.{Kind}
 use Rattle.dev_core.specs.declared.kind.Kind.TheVariants as device
 use Rattle.repl_read.specs.declared.entry.Place.{Place}
 use Rattle.repl_read.specs.declared.entry.Place.TheVariants.{Address, Range}
-use Rattle.sys_bus.specs.Limits.{page_size, region_unit}
+use Rattle.page_ram.specs.Access.{page_size}
+use Rattle.sys_bus.specs.Limits.{region_unit}
 use Rattle.sys_bus.specs.declared.plan.NamedWhat.{NamedWhat}
 use Rattle.sys_bus.specs.declared.plan.NamedWhat.TheVariants as what
 use Rattle.sys_bus.specs.declared.region.RegionKind.{RegionKind}

@@ -9,7 +9,8 @@ use Rattle.repl_read.specs.declared.entry.Place.{Place}
 use Rattle.repl_read.specs.declared.entry.Place.TheVariants.{Absent, Bus, Address, Range}
 use Rattle.repl_read.specs.declared.entry.Value.{Value}
 use Rattle.repl_read.specs.declared.entry.Value.TheVariants.{Number, Words, Truth, Name}
-use Rattle.sys_bus.specs.Limits.{most_speed, most_frequency, most_sources, most_contexts, page_size}
+use Rattle.page_ram.specs.Access.{page_size}
+use Rattle.sys_bus.specs.Limits.{most_speed, most_frequency, most_sources, most_contexts}
 use Rattle.repl_build.specs.declared.attributes.Sort.{Sort}
 use Rattle.repl_build.specs.declared.attributes.Sort.TheVariants.{Quoted, Reference, Flag, Yes, Hart, Within, Size}
 use Rattle.repl_build.specs.declared.merge.PlacedItem.{PlacedItem}

@@ -5,7 +5,8 @@ use Rattle.std.specs.List.{list_any}
 use Rattle.repl_read.specs.declared.entry.Place.{Place}
 use Rattle.repl_read.specs.declared.entry.Place.TheVariants.{Absent, Bus, Address, Range}
 use Rattle.dev_core.specs.declared.kind.Kind.TheVariants as device
-use Rattle.sys_bus.specs.Limits.{page_size, region_unit, least_clint, least_plic, least_device_size}
+use Rattle.page_ram.specs.Access.{page_size}
+use Rattle.sys_bus.specs.Limits.{region_unit, least_clint, least_plic, least_device_size}
 use Rattle.repl_build.specs.declared.merge.Peripheral.{Peripheral}
 use Rattle.repl_build.specs.declared.merge.PlacedItem.{PlacedItem}
 use Rattle.repl_build.specs.declared.types.PeripheralType.{PeripheralType}

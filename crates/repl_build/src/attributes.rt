@@ -9,8 +9,9 @@ use crate::merge::{Peripheral, PlacedItem};
 use crate::names::has_key;
 use crate::types::PeripheralType;
 use lab_num::MOST_SPEED;
+use page_ram::PAGE_SIZE;
 use repl_read::{ItemWhat, Place, Value};
-use sys_bus::{MOST_CONTEXTS, MOST_FREQUENCY, MOST_SOURCES, PAGE_SIZE};
+use sys_bus::{MOST_CONTEXTS, MOST_FREQUENCY, MOST_SOURCES};
 
 /// What an attribute takes.
 #[derive(Clone, Copy)]

@@ -7,8 +7,9 @@ use crate::attributes::{has_attribute, is_set, number_of};
 use crate::merge::{Peripheral, PlacedItem};
 use crate::types::PeripheralType;
 use dev_core::Kind;
+use page_ram::PAGE_SIZE;
 use repl_read::Place;
-use sys_bus::{LEAST_CLINT, LEAST_PLIC, PAGE_SIZE, REGION_UNIT, least_device_size};
+use sys_bus::{LEAST_CLINT, LEAST_PLIC, REGION_UNIT, least_device_size};
 
 fn is_registered(kind: Option<PeripheralType>, at: Place) -> bool
     ensures { result ≡ place.is_registered kind at }

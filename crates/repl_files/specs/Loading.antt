@@ -3,6 +3,7 @@ use Rattle.std.specs.Prelude.{ℕ, zero, suc, ◌+◌, ◌-◌, nat_le, if◌the
 use Rattle.std.specs.Prelude.{Some}
 use Rattle.std.specs.FinMap.{get}
 use Rattle.lab_io.specs.Held.{Held}
+use Rattle.lab_num.specs.Depth.{depth_limit}
 use Rattle.repl_read.specs.declared.entry.Entry.{Entry}
 use Rattle.repl_read.specs.declared.entry.Head.{Head}
 use Rattle.repl_read.specs.declared.entry.Head.TheVariants.{Using, Typed, Update}
@@ -97,6 +98,6 @@ used (suc room) held count at =
 abbrev pub loaded : Held → ℕ → List ℕ → Loading
 loaded held room name = file_read (used room held) Oversized name 0 (content_of (get held name))
 
--- what comes of it while so many bodies are open, of which there may be 8
+-- what comes of it while so many bodies are open
 abbrev pub load : Held → ℕ → List ℕ → Loading
-load held bodies name = loaded held (8 - bodies) name
+load held bodies name = loaded held (depth_limit - bodies) name

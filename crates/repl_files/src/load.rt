@@ -3,6 +3,7 @@ ghost use Rattle.std.specs.Prelude.{◌≡◌, ◌≤◌, ◌<◌, ◌++◌, ◌
 ghost use Rattle.std.specs.List.{list_all};
 ghost use Rattle.std.specs.Option.{ForSome, option_map};
 ghost use Rattle.lab_io.specs.Frame.{OnlyReads};
+ghost use Rattle.lab_num.specs.Depth.{depth_limit};
 ghost use Rattle.repl_read.specs.Entries.{is_entry};
 ghost use Rattle.repl_files.specs.Loading.{Absent, load, loaded, used, used_file, one, in_order};
 ghost use Rattle.repl_files.specs.Loaded.{IsLoaded, IsCut};
@@ -11,12 +12,9 @@ ghost use Rattle.repl_files.specs.Inner.Course.{IsCourse};
 use crate::content::{Opened, open};
 use crate::fault::{FileCause, LoadFault, fault_at};
 use lab_io::Files;
-use lab_num::Text;
+use lab_num::{DEPTH_LIMIT, Text};
 use repl_read::{Entry, Head};
 use std::alloc::Global;
-
-/// The most bodies that are open beside the script.
-const MOST_BODIES: u8 = 8;
 
 /// The most platform files that one command reads.
 const MOST_FILES: usize = 64;
@@ -48,7 +46,7 @@ pub fn load_platform<F: Files>(
     bodies: u8,
     name: &str,
 ) -> Result<Loaded, LoadFault>
-    requires { bodies ≤ 8 }
+    requires { bodies ≤ depth_limit }
 
     // It comes out as the definition says and has asked for just its names, or was cut short by a
     // read or for want of memory, and has asked for the first of them.
@@ -75,7 +73,7 @@ fn load_beside<F: Files>(
     bodies: u8,
     name: &str,
 ) -> Result<Loaded, LoadFault>
-    requires { bodies ≤ 8 }
+    requires { bodies ≤ depth_limit }
     ensures loaded { ForSome (F.held files.old) (λ held.
         IsLoaded (load held bodies name.now) result (F.asked files.old) (F.asked files.new)) }
     ensures absent { ForSome (F.held files.old) (λ held.
@@ -83,7 +81,7 @@ fn load_beside<F: Files>(
     ensures entries { IfOk result (λ loaded. IsTrue (list_all is_entry loaded.entries.items)) }
     ensures files { OnlyReads F.Files (result ≡ Err LoadFault.Unread) files.old files.new }
 {
-    load_file(alloc, files, MOST_BODIES - bodies, name)
+    load_file(alloc, files, DEPTH_LIMIT - bodies, name)
 }
 
 /// Loads the file of this name, where so many bodies may still be opened.

@@ -31,10 +31,6 @@ begun source =
       kept = record { variables = []; macros = []; taken = 0 };
     }
 
--- how many bodies may be open beside the script
-abbrev pub depth_limit : ℕ
-depth_limit = 8
-
 -- a body opened within the others, unless there are too many
 abbrev pub enter : State → Source → Result State ScriptCause
 enter s source =

@@ -3,6 +3,7 @@ ghost use Rattle.std.specs.Prelude.{◌≡◌, ◌<◌, ◌≤◌, ◌^◌, not,
 ghost use Rattle.std.specs.Cmp.Lexicographic.{pointwise};
 ghost use Rattle.std.specs.Map.{lookup};
 ghost use Rattle.std.specs.String.{string_bytes};
+ghost use Rattle.lab_num.specs.Depth.{depth_limit};
 ghost use Rattle.resc_vars.specs.declared.item.Item.TheVariants as items;
 ghost use Rattle.resc_vars.specs.Script.{command_limit, Gives, Refuses, defined, next_of, Says, is_line};
 ghost use Rattle.resc_vars.specs.Script.{TakesCommands};
@@ -18,15 +19,12 @@ use crate::item::{Item, Line, Source, copy_source, source_of};
 use crate::lines::Lines;
 use crate::variables::{Variables, command_text, put, set_variable};
 use indexmap::IndexMap;
-use lab_num::{NoMemory, Text};
+use lab_num::{DEPTH_LIMIT, NoMemory, Text};
 use std::alloc::Global;
 use std::marker::Model;
 
 /// How many commands a script may have.
 const COMMANDS: u32 = 100_000;
-
-/// How many bodies may be open beside the script.
-const DEPTH: usize = 8;
 
 /// A script: its open bodies, its variables and its macros.
 #[derive(Drop)]
@@ -42,6 +40,7 @@ pub struct Flow {
 
 impl Model for Flow {
     ghost use Rattle.std.specs.Prelude.{reverse, length, ◌≤◌};
+    ghost use Rattle.lab_num.specs.Depth.{depth_limit};
     ghost use Rattle.resc_vars.specs.Script.{State};
 
     ghost Value = { State };
@@ -57,7 +56,7 @@ impl Model for Flow {
       };
     } };
 
-    ghost invariant = { λ f. length f.outer.items ≤ 8 };
+    ghost invariant = { λ f. length f.outer.items ≤ depth_limit };
 }
 
 impl Flow {
@@ -81,7 +80,7 @@ impl Flow {
     /// How many bodies are open beside the script.
     pub fn depth(&self) -> u8
         ensures value { result ≡ length self.now.outer }
-        ensures at_most { result ≤ 8 }
+        ensures at_most { result ≤ depth_limit }
     {
         self.outer.len() as u8
     }
@@ -290,7 +289,7 @@ impl Flow {
         ensures leaves { Leaves result self.old self.new (enter self.old source) }
         ensures goes_on { self.new.ended ≡ false }
     {
-        if self.outer.len() >= DEPTH {
+        if self.outer.len() >= usize::from(DEPTH_LIMIT) {
             return Err(FlowFault::Depth);
         }
         match self.body.enter(&mut self.outer, source) {

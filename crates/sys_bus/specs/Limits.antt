@@ -5,6 +5,7 @@ use Rattle.std.specs.Prelude.{length, sum, count_by, slice_get, Option, None, So
 use Rattle.std.specs.List.{list_all}
 use Rattle.dev_core.specs.declared.kind.Kind.{Kind}
 use Rattle.dev_core.specs.declared.kind.Kind.TheVariants.{Uart, Can, Finisher}
+use Rattle.page_ram.specs.Access.{page_size}
 use Rattle.sys_bus.specs.declared.region.RegionKind.{RegionKind}
 use Rattle.sys_bus.specs.declared.region.RegionKind.TheVariants.{Ram, Clint, Plic, Dev}
 use Rattle.sys_bus.specs.declared.region.Region.{Region}
@@ -46,10 +47,6 @@ most_sources = 127
 
 abbrev pub most_contexts : ℕ
 most_contexts = 15
-
--- A memory has whole pages of 4 KiB (RISC-V Privileged ISA 20211203, section 4.3.1), and is at least one.
-abbrev pub page_size : ℕ
-page_size = 4096
 
 -- Addresses and sizes of regions are whole words.
 abbrev pub region_unit : ℕ
@@ -129,7 +126,7 @@ is_step _ step = step == 1
 abbrev pub are_steps : List Kind → List Region → Bool
 are_steps kinds regions = list_all (λ region. is_step (device_in kinds region.kind) region.step) regions
 
--- the fewest bytes of a region
+-- the fewest bytes of a region; a memory has whole pages, and at least one
 abbrev pub least_device_size : Kind → ℕ → ℕ
 least_device_size Uart step = if step == 4 then least_wide_uart else least_uart
 least_device_size Can step = least_can

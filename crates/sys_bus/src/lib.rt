@@ -12,8 +12,7 @@ mod wire;
 
 pub use limits::{
     LEAST_CLINT, LEAST_PLIC, MOST_CANS, MOST_CONTEXTS, MOST_FINISHERS, MOST_FREQUENCY,
-    MOST_MEMORIES, MOST_MEMORY, MOST_SOURCES, MOST_UARTS, PAGE_SIZE, REGION_UNIT, is_speed,
-    least_device_size,
+    MOST_MEMORIES, MOST_MEMORY, MOST_SOURCES, MOST_UARTS, REGION_UNIT, is_speed, least_device_size,
 };
 pub use near::Place;
 pub use plan::{BoardPlan, Named, NamedWhat, PlicSize};

@@ -6,6 +6,7 @@ use crate::plan::PlicSize;
 use crate::region::{Region, RegionKind};
 use dev_core::Kind;
 use lab_num::{MOST_SPEED, Text};
+use page_ram::PAGE_SIZE;
 use rv_hart::MOST_HARTS;
 
 pub const MOST_UARTS: usize = 4;
@@ -18,9 +19,6 @@ pub const MOST_MEMORIES: usize = 8;
 
 /// The most bytes of all memories together: 64 MiB.
 pub const MOST_MEMORY: u64 = 67_108_864;
-
-/// A memory has whole pages, at least one.
-pub const PAGE_SIZE: u32 = 4096;
 
 /// The most ticks of the timer in a second.
 pub const MOST_FREQUENCY: u32 = 1_000_000_000;
