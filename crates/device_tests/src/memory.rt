@@ -160,7 +160,7 @@ fn a_new_memory_is_0_after_others_were_dropped(rt: HostRuntime) -> Result<(), Fa
     Ok(())
 }
 
-/// Where the allocator refuses the page (docs/DEVELOPING.md), nothing has changed.
+/// Where the allocator refuses the page (docs/TESTING.md), nothing has changed.
 #[test]
 fn a_refused_page_changes_nothing(rt: HostRuntime) -> Result<(), Fail> {
     let mut pages = two_pages(rt.alloc())?;

@@ -15,7 +15,7 @@ use Rattle.lab_snap.specs.Inner.Parts.{AreValid}
 use Rattle.lab_snap.specs.Lab.{lab_form, lab_lawful}
 use Rattle.lab_snap.specs.Loaded.{loaded}
 use Rattle.lab_snap.specs.Saved.{IsSpellable, saved, spelling}
-use Rattle.lab_snap.specs.Snapshot.{held, snapshot_of}
+use Rattle.lab_snap.specs.Snapshot.{accepted, snapshot_of}
 use Rattle.lab_snap.proofs.LoadedLemmas.{saved_fits, saved_loaded}
 use Rattle.lab_snap.proofs.ValidParts.{fit_of, parts_of, valid_of}
 
@@ -28,26 +28,26 @@ abbrev Found : Type 0
 Found = (bytes : List ℕ) (l : Lab) (ls : List OpenLine) → IsBytes bytes → snapshot_of bytes ≡ Some (l, ls) →
     IsValid l ls × IsSpellable l ls × (bytes ≡ spelling l ls)
 
--- what is held was all that was read, and can go on
-held_is : (s : SavedLab) (rest : List ℕ) (x : Lab × List OpenLine) → held (s, rest) ≡ Some x →
+-- what is accepted was all that was read, and can go on
+accepted_is : (s : SavedLab) (rest : List ℕ) (x : Lab × List OpenLine) → accepted (s, rest) ≡ Some x →
     (rest ≡ []) × AreValid s × ((loaded s, s.lines) ≡ x)
-held_is s [] x is = let h = by_answer (valid_decided s).answer refl is in (refl, h.0, h.1)
+accepted_is s [] x is = let h = by_answer (valid_decided s).answer refl is in (refl, h.0, h.1)
   where
     by_answer : (b : Bool) → (valid_decided s).answer ≡ b →
         (if b then Some (loaded s, s.lines) else None) ≡ Some x → AreValid s × ((loaded s, s.lines) ≡ x)
     by_answer true can e = ((valid_decided s).decides.0 can, same_Some (loaded s, s.lines) x e)
     by_answer false cannot e = absurd (none-some x e)
-held_is s (byte ∷ rest) x is = absurd (none-some x is)
+accepted_is s (byte ∷ rest) x is = absurd (none-some x is)
 
 pub found : Found
 unfolding snapshot_of
 found bytes l ls are is = by_read (lab_form.parse bytes) refl is
   where
-    by_read : (o : Option (SavedLab × List ℕ)) → lab_form.parse bytes ≡ o → option_and_then held o ≡ Some (l, ls) →
+    by_read : (o : Option (SavedLab × List ℕ)) → lab_form.parse bytes ≡ o → option_and_then accepted o ≡ Some (l, ls) →
         IsValid l ls × IsSpellable l ls × (bytes ≡ spelling l ls)
     by_read None at e = absurd (none-some (l, ls) e)
     by_read (Some (s, rest)) at e =
-        let h = held_is s rest (l, ls) e in
+        let h = accepted_is s rest (l, ls) e in
         let spelled = lab_lawful.takes bytes (s, rest) are at in
         let whole : bytes ≡ lab_form.spell s =
         spelled.0 ∙ ap (λ rest. lab_form.spell s ++ rest) h.0 ∙ append-nil (lab_form.spell s) in
@@ -69,7 +69,7 @@ only agrees l ls valid fits =
     let answer : (valid_decided s).answer ≡ true = (valid_decided s).decides.1 are in
     let read : lab_form.parse (lab_form.spell s) ≡ Some (s, []) =
     ap lab_form.parse (sym (append-nil (lab_form.spell s))) ∙ lab_lawful.again s [] fits in
-    ap (option_and_then held) read
+    ap (option_and_then accepted) read
     ∙ ap (λ (b : Bool). if b then Some (loaded s, ls) else None) answer
     ∙ ap (λ (l : Lab). Some (l, ls)) again
 

@@ -8,10 +8,10 @@ use Rattle.lab_snap.specs.Lab.{lab_form}
 use Rattle.lab_snap.specs.Loaded.{loaded}
 
 -- the laboratory that was read, if no byte is left after it and it is one that can go on
-abbrev pub held : SavedLab × List ℕ → Option (Lab × List OpenLine)
-held (s, []) = if (valid_decided s).answer then Some (loaded s, s.lines) else None
-held (s, byte ∷ rest) = None
+abbrev pub accepted : SavedLab × List ℕ → Option (Lab × List OpenLine)
+accepted (s, []) = if (valid_decided s).answer then Some (loaded s, s.lines) else None
+accepted (s, byte ∷ rest) = None
 
 -- the laboratory and the open lines that the bytes spell, if they are the spelling of a valid one
 unfoldable pub snapshot_of : List ℕ → Option (Lab × List OpenLine)
-snapshot_of bytes = option_and_then held (lab_form.parse bytes)
+snapshot_of bytes = option_and_then accepted (lab_form.parse bytes)
