@@ -1,5 +1,5 @@
--- The CLINT of a board, with the registers of one hart whatever the number of harts: its timer and its software interrupt
--- (RISC-V Privileged Architecture 20211203, 3.1.9 and 3.2.1), at the addresses that boards have them at.
+-- The CLINT of a board, with the registers of one hart whatever the number of harts: its timer and its software
+-- interrupt (RISC-V Privileged Architecture 20211203, 3.1.9 and 3.2.1), at the addresses that boards have them at.
 use Rattle.std.specs.Prelude.{ℕ, ◌-◌, ◌%◌, ◌^◌, ◌==◌, ◌&&◌, nat_le, Bool, false, if◌then◌else◌, List, [], ◌∷◌, find}
 use Rattle.std.specs.Prelude.{unwrap_or}
 use Rattle.clint.specs.declared.state.ClintState.{ClintState}

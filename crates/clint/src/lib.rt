@@ -1,5 +1,5 @@
-//! The CLINT of a board: the counter `mtime`, one timer interrupt and one software interrupt, which the board's wires lead
-//! to its harts.
+//! The CLINT of a board: the counter `mtime`, one timer interrupt and one software interrupt, which the board's wires
+//! lead to its harts.
 #![tactic(auto)]
 
 mod clint;

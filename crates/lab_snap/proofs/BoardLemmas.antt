@@ -27,7 +27,8 @@ use Rattle.lab_state.specs.Valid.{IsHub, IsLab}
 use Rattle.lab_snap.specs.declared.hub.SavedHub.{SavedHub}
 use Rattle.lab_snap.specs.declared.lab.SavedBoard.{SavedBoard}
 use Rattle.lab_snap.specs.declared.lab.SavedLab.{SavedLab}
-use Rattle.lab_snap.specs.Inner.Building.{made_board, made_boards, made_view, state_in, with_boards, with_hubs, with_memories, CanBeAdded, CanBeCreated}
+use Rattle.lab_snap.specs.Inner.Building.{made_board, made_boards, made_view, state_in, with_boards, with_hubs}
+use Rattle.lab_snap.specs.Inner.Building.{with_memories, CanBeAdded, CanBeCreated}
 use Rattle.lab_snap.specs.Inner.Parts.{FitTheirPlans}
 use Rattle.lab_snap.specs.Loaded.{loaded, loaded_boards, loaded_hub, loaded_view}
 use Rattle.lab_snap.specs.Machine.{Machine}
@@ -112,7 +113,8 @@ board_added seen board m n parts machine parts_are number bare_is made =
     }) parts_are
     ∙ ap (with_boards seen)
     (change_last seen.lab.boards n bare_board (λ board. record board { view = Some (made_view n m) }) number)
-    ∙ ap (λ (view : Option View). with_boards seen (seen.lab.boards ++ record { name = board.name; view = view } ∷ [])) view
+    ∙ ap (λ (view : Option View). with_boards seen (seen.lab.boards ++ record { name = board.name; view = view } ∷ []))
+    view
 
 -- the name of the next is free
 pub is_free : (lab : Lab) (all boards : List SavedBoard) (board : SavedBoard) → lab.hubs ≡ [] →
@@ -123,8 +125,10 @@ is_free lab all boards board no_hub made differ front below is =
     let names : List SavedBoard → List (List ℕ) = map (λ (board : SavedBoard). board.name) in
     let i : ℕ = length boards in
     let before : All (λ y. bytes_eq y board.name ≡ false) (take i (names all)) =
-    apart_before (names all) i board.name differ (omega (arith, below, length-map all (λ (board : SavedBoard). board.name)))
-    (ap {A = SavedBoard} (λ b. b.name) is ∙ sym (get_or-map (λ (b : SavedBoard). b.name) all i board board.name below)) in
+    apart_before (names all) i board.name differ
+    (omega (arith, below, length-map all (λ (board : SavedBoard). board.name)))
+    (ap {A = SavedBoard} (λ b. b.name) is
+    ∙ sym (get_or-map (λ (b : SavedBoard). b.name) all i board board.name below)) in
     let same : take i (names all) ≡ map (λ board. board.name) (made_boards 0 boards) =
     take-map (λ (b : SavedBoard). b.name) i all ∙ ap names (sym front) ∙ sym (names_made 0 boards) in
     let none = not_found (λ (b : Board). b.name) (made_boards 0 boards) board.name (rw same at before) in
@@ -139,7 +143,8 @@ resumed_one n name None = refl
 resumed_one n name (Some m) = refl
 
 pub resumed_made : (n : ℕ) (boards : List SavedBoard) →
-    map (λ (board, s). resumed_board board s) (zip (made_boards n boards) (map state_in boards)) ≡ loaded_boards n boards
+    map (λ (board, s). resumed_board board s) (zip (made_boards n boards) (map state_in boards))
+    ≡ loaded_boards n boards
 unfolding made_boards loaded_boards
 resumed_made n [] = refl
 resumed_made n (board ∷ boards) =
@@ -192,7 +197,8 @@ kinds_at n [] b dev = refl
 kinds_at n (board ∷ boards) zero dev = kind_one n board.machine dev
 kinds_at n (board ∷ boards) (suc b) dev = kinds_at (suc n) boards b dev
 
-kind_made : (boards : List SavedBoard) (m : Member) → kind_at (made_boards 0 boards) m ≡ kind_at (loaded_boards 0 boards) m
+kind_made :
+    (boards : List SavedBoard) (m : Member) → kind_at (made_boards 0 boards) m ≡ kind_at (loaded_boards 0 boards) m
 kind_made boards m = kinds_at 0 boards m.board.0 m.dev
 
 -- ---- what can be loaded can be made

@@ -126,7 +126,8 @@ lookup_placed m delay (x ∷ members) rest =
 delay_found : (hubs : List SavedHub) (m : Member) → lookup (same_member m) (flat_map places hubs) ≡ delay_in hubs m
 delay_found [] m = refl
 delay_found (hub ∷ hubs) m =
-    lookup_placed m hub.delay hub.members (flat_map places hubs) ∙ by_test (has_member hub.members m) (delay_found hubs m)
+    lookup_placed m hub.delay hub.members (flat_map places hubs)
+    ∙ by_test (has_member hub.members m) (delay_found hubs m)
   where
     by_test : (b : Bool) → lookup (same_member m) (flat_map places hubs) ≡ delay_in hubs m →
         cond b (Some hub.delay) (lookup (same_member m) (flat_map places hubs))

@@ -8,8 +8,8 @@ use Rattle.std.specs.Str.{bytes_eq}
 use Rattle.std.proofs.lemmas.Bool.Decides.{nat_tests}
 use Rattle.std.proofs.lemmas.Grind.{flat_map-append}
 use Rattle.std.proofs.lemmas.Cmp.{nat_list_eq_equiv}
-use Rattle.std.proofs.lemmas.List.{append-nil, append_assoc, drop_more, get_or-map, get_or_append_left, get_or_push, length-map}
-use Rattle.std.proofs.lemmas.List.{length_push, map-append, map_more, take-append-drop, take-map}
+use Rattle.std.proofs.lemmas.List.{append-nil, append_assoc, drop_more, get_or-map, get_or_append_left, get_or_push}
+use Rattle.std.proofs.lemmas.List.{length-map, length_push, map-append, map_more, take-append-drop, take-map}
 use Rattle.std.proofs.lemmas.List.Sums.{fails_before_first, position_or_len_is}
 use Rattle.std.proofs.lemmas.Map.Keys.{IsDistinct-head, IsDistinct-tail}
 use Rattle.lab_num.specs.declared.key.Member.{Member}
@@ -43,7 +43,8 @@ found_last p xs x none is =
     let past : length xs ≤ position_or_len p xs = grind (arith, nat_tests, none) in
     let long = length_push xs x in
     let all = position_or_len_is p (xs ++ x ∷ []) (length xs) x (omega (arith, long))
-    (λ k before. ap p (get_or_append_left xs (x ∷ []) x k before) ∙ fails_before_first p xs k x (omega (arith, before, past)))
+    (λ k before. ap p (get_or_append_left xs (x ∷ []) x k before)
+    ∙ fails_before_first p xs k x (omega (arith, before, past)))
     (λ within. ap p (get_or_push xs x x (length xs) refl) ∙ is) in
     grind (arith, nat_tests, all, long)
 
@@ -80,7 +81,8 @@ apart_front : (front rest : List Member) (m : Member) → IsDistinct same_member
     list_any (λ other. same_member other m) front ≡ false
 apart_front [] rest m is = refl
 apart_front (x ∷ front) rest m is =
-    let here = in_middle (λ y. same_member x y ≡ false) front rest m (IsDistinct-head same_member x (front ++ m ∷ rest) is) in
+    let here =
+    in_middle (λ y. same_member x y ≡ false) front rest m (IsDistinct-head same_member x (front ++ m ∷ rest) is) in
     let there = apart_front front rest m (IsDistinct-tail same_member x (front ++ m ∷ rest) is) in
     ap (λ b. b || list_any (λ other. same_member other m) front) here ∙ there
 
@@ -126,7 +128,8 @@ free_member hubs members i m once below is =
 once_before : (hubs : List (List Member)) (i : ℕ) → StandOnce hubs → StandOnce (take i hubs)
 once_before hubs i once =
     let split : flat hubs ≡ flat (take i hubs) ++ flat (drop i hubs) =
-    ap flat (sym (take-append-drop i hubs)) ∙ flat_map-append (λ (hub : List Member). hub) (take i hubs) (drop i hubs) in
+    ap flat (sym (take-append-drop i hubs))
+    ∙ flat_map-append (λ (hub : List Member). hub) (take i hubs) (drop i hubs) in
     distinct_front (flat (take i hubs)) (flat (drop i hubs)) (subst (IsDistinct same_member) split once)
 
 -- ---- one hub, and its members one after another
@@ -175,7 +178,8 @@ next_free seen hub i m is once below at =
 module _ (seen : Seen) (hubs : List SavedHub) (i : ℕ) (hub : SavedHub) (can : CanBeCreated seen.lab.boards hubs)
     (below : i < length hubs) (at : hub ≡ get_or hubs i hub) where
   name_at : get_or (map (λ (hub : SavedHub). hub.name) hubs) i hub.name ≡ hub.name
-  name_at = get_or-map (λ (hub : SavedHub). hub.name) hubs i hub hub.name below ∙ ap (λ (hub : SavedHub). hub.name) (sym at)
+  name_at = get_or-map (λ (hub : SavedHub). hub.name) hubs i hub hub.name below
+      ∙ ap (λ (hub : SavedHub). hub.name) (sym at)
 
   long : i < length (map (λ (hub : SavedHub). hub.name) hubs)
   long = omega (arith, below, length-map hubs (λ (hub : SavedHub). hub.name))
@@ -192,7 +196,8 @@ module _ (seen : Seen) (hubs : List SavedHub) (i : ℕ) (hub : SavedHub) (can : 
       ≡ take i (map (λ (hub : SavedHub). hub.name) hubs) =
       hub_names (take i hubs) ∙ sym (take-map (λ (hub : SavedHub). hub.name) i hubs) in
       not_found (λ (hub : Hub). hub.name) (map loaded_hub (take i hubs)) hub.name
-      (rw names (apart_before (map (λ (hub : SavedHub). hub.name) hubs) i hub.name can.names.hubs_differ long (sym name_at)))
+      (rw names
+      (apart_before (map (λ (hub : SavedHub). hub.name) hubs) i hub.name can.names.hubs_differ long (sym name_at)))
 
   pub hub_free : {now : Seen} → now ≡ with_hubs seen (map loaded_hub (take i hubs)) → is_taken now.lab hub.name ≡ false
   hub_free is = rw (is, no_board, no_hub) refl

@@ -66,7 +66,8 @@ view_again same n v board is =
     let controller :
     controller_to (option_map new_controller v.space.plan.plic) (option_map (λ c. c.state) v.space.controller)
     ≡ controller_to v.space.controller (option_map (λ c. c.state) v.space.controller) =
-    ap (λ f. controller_to (option_map new_controller f) (option_map (λ c. c.state) v.space.controller)) (sym board.controller)
+    ap (λ f. controller_to (option_map new_controller f) (option_map (λ c. c.state) v.space.controller))
+    (sym board.controller)
     ∙ controller_again v.space.controller ∙ sym (controller_back v.space.controller) in
     let to : View = brought_to v (board_state v) in
     let step : loaded_view n (saved_machine v) ≡ to =
@@ -101,7 +102,8 @@ kind_again kind.Uart is = refl
 kind_again kind.Can is = refl
 kind_again kind.Finisher is = absurd (cc)
 
-hubs_again : (boards : List Board) (hubs : List Hub) → All (IsHub boards) hubs → map loaded_hub (map saved_hub hubs) ≡ hubs
+hubs_again :
+    (boards : List Board) (hubs : List Hub) → All (IsHub boards) hubs → map loaded_hub (map saved_hub hubs) ≡ hubs
 hubs_again boards [] are = refl
 hubs_again boards (hub ∷ hubs) are =
     let first = kind_again hub.kind (All-head (IsHub boards) hub hubs are).kind in
@@ -139,7 +141,8 @@ saved_fits l ls valid = boards_fit l.boards (λ b v at. (valid.boards b v at).bo
 machine_of_again : (n : ℕ) (o : Option Machine) → ForSome o (λ m. IsStateFor m.plan m.state) →
     option_map saved_machine (option_map (loaded_view n) o) ≡ o
 machine_of_again n None fits = refl
-machine_of_again n (Some m) fits = let state = state_loaded n m (fits m refl) in λ i. Some (record m { state = state i })
+machine_of_again n (Some m) fits =
+    let state = state_loaded n m (fits m refl) in λ i. Some (record m { state = state i })
 
 saved_boards_again : (n : ℕ) (boards : List SavedBoard) → FitTheirPlans boards →
     map saved_board (loaded_boards n boards) ≡ boards

@@ -20,7 +20,8 @@ use Rattle.lab_snap.specs.declared.hub.HubKind.{HubKind}
 use Rattle.lab_snap.specs.declared.hub.HubKind.TheVariants.{Uart, Can}
 use Rattle.lab_snap.specs.declared.hub.SavedHub.{SavedHub}
 use Rattle.lab_snap.specs.declared.lab.SavedBoard.{SavedBoard}
-use Rattle.lab_snap.specs.Inner.Parts.{FitTheirPlans, IsBoardAt, IsHubIn, IsMachineAt, IsMemberOf, delay_in, kind_in, machine_at, members_in}
+use Rattle.lab_snap.specs.Inner.Parts.{FitTheirPlans, IsBoardAt, IsHubIn, IsMachineAt, IsMemberOf, delay_in, kind_in}
+use Rattle.lab_snap.specs.Inner.Parts.{machine_at, members_in}
 use Rattle.lab_snap.specs.Loaded.{kind_of_hub, loaded_board, loaded_boards, loaded_hub, loaded_view}
 use Rattle.lab_snap.specs.Machine.{Machine}
 use Rattle.lab_snap.proofs.LoadedView.{board_loaded}
@@ -91,8 +92,10 @@ pub all_stand : (time n : ℕ) (boards : List SavedBoard) →
 unfolding loaded_boards
 all_stand time n [] named fit each = All-nil (IsBoardAt time)
 all_stand time n (board ∷ boards) named fit each =
-    let own = All-head (λ board. IsTrue (is_name board.name)) (loaded_board n board) (loaded_boards (suc n) boards) named in
-    let others = All-tail (λ board. IsTrue (is_name board.name)) (loaded_board n board) (loaded_boards (suc n) boards) named in
+    let own =
+    All-head (λ board. IsTrue (is_name board.name)) (loaded_board n board) (loaded_boards (suc n) boards) named in
+    let others =
+    All-tail (λ board. IsTrue (is_name board.name)) (loaded_board n board) (loaded_boards (suc n) boards) named in
     All-cons (IsBoardAt time) board boards (record { name = own; machine = machine })
     (all_stand time (suc n) boards others
     (All-tail (λ board. ForSome board.machine (λ m. IsStateFor m.plan m.state)) board boards fit)
@@ -152,7 +155,8 @@ hubs_loaded boards hubs all =
       kind = hub_kind_shown hub.kind;
       delay = is.own.delay;
       members =
-          All-weaker (IsMemberOf boards hub.kind) (λ m. kind_at (loaded_boards 0 boards) m ≡ Some (kind_of_hub hub.kind))
+          All-weaker (IsMemberOf boards hub.kind)
+          (λ m. kind_at (loaded_boards 0 boards) m ≡ Some (kind_of_hub hub.kind))
           (λ m own. kind_loaded boards m ∙ own) hub.members is.members;
     }) hubs all)
 
@@ -168,6 +172,7 @@ hubs_from boards hubs all =
     (λ hub is. record {
       own = record { name = is.name; delay = is.delay };
       members =
-          All-weaker (λ m. kind_at (loaded_boards 0 boards) m ≡ Some (kind_of_hub hub.kind)) (IsMemberOf boards hub.kind)
+          All-weaker (λ m. kind_at (loaded_boards 0 boards) m ≡ Some (kind_of_hub hub.kind))
+          (IsMemberOf boards hub.kind)
           (λ m own. sym (kind_loaded boards m) ∙ own) hub.members is.members;
     }) hubs (unmapped (valid.IsHub (loaded_boards 0 boards)) loaded_hub hubs all)

@@ -117,7 +117,8 @@ module _ (n : ℕ) (plan : BoardPlan) (all memories : List (List ℕ)) (memory :
       let is : get_or blank i [] ≡ zeros (get_or plan.memories i 0) = get_or-map zeros plan.memories i 0 [] within in
       let size : get_or plan.memories i 0 ≡ length (get_or all i memory) =
       ap (λ l. get_or l i 0) (sym sizes) ∙ get_or-map (λ (m : List ℕ). length m) all i memory 0 below in
-      sym (ap length (get_next memories blank [] ∙ is) ∙ length_zeros (get_or plan.memories i 0) ∙ size ∙ ap length (sym next))
+      sym (ap length (get_next memories blank [] ∙ is) ∙ length_zeros (get_or plan.memories i 0) ∙ size
+      ∙ ap length (sym next))
 
   pub next_made : with_memory_in (half_made n plan memories) (length memories) memory
       ≡ half_made n plan (memories ++ memory ∷ [])

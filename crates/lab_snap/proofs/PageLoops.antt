@@ -1,5 +1,6 @@
 -- The loops over the pages of a memory.
-use Rattle.std.proofs.Common.{◌≡◌, ◌<◌, ◌≤◌, ◌+◌, ◌*◌, ◌-◌, ℕ, zero, suc, List, [], ◌∷◌, ◌++◌, length, take, drop, Option}
+use Rattle.std.proofs.Common.{◌≡◌, ◌<◌, ◌≤◌, ◌+◌, ◌*◌, ◌-◌, ℕ, zero, suc, List, [], ◌∷◌, ◌++◌, length, take, drop}
+use Rattle.std.proofs.Common.{Option}
 use Rattle.std.proofs.Common.{Some, None, Bool, true, false, cond, eqb, ltb, refl, sym, ap, subst, ◌∙◌, append_assoc}
 use Rattle.std.proofs.Common.{add-one, arith, ◌⊎◌, inl, inr}
 use Rattle.std.specs.Prelude.{Err, if◌then◌else◌}
@@ -227,7 +228,8 @@ read_size : (s : ℕ) (text : List ℕ) (p : (ℕ × List ℕ) × List ℕ) → 
 read_size s text p e =
     let a = bind_some ((number 4).parse text) (λ a. (bytes s).parse a.1 >>= λ b. Some ((a.0, b.0), b.1)) p e in
     let b = bind_some ((bytes s).parse a.0.1) (λ b. Some ((a.0.0, b.0), b.1)) p a.2 in
-    let size = part_size a.0.1 b.0 (chosen (ltb (length a.0.1) s) None (Some (take s a.0.1, drop s a.0.1)) (Some b.0) b.1) in
+    let size =
+    part_size a.0.1 b.0 (chosen (ltb (length a.0.1) s) None (Some (take s a.0.1, drop s a.0.1)) (Some b.0) b.1) in
     ap (λ (p : (ℕ × List ℕ) × List ℕ). length p.0.1) (sym (same_Some ((a.0.0, b.0.0), b.0.1) p b.2)) ∙ size
   where
     part_size : (after : List ℕ) (b : List ℕ × List ℕ) →
@@ -325,7 +327,8 @@ counted s n count text rest read = rw read (by_read (parse_times (page_form s) c
     by_test ps false = refl
 
     by_read : (read : Option (List (ℕ × List ℕ) × List ℕ)) →
-        ((read >>= λ x. tested x (are_used n x.0)) >>= memory) ≡ (read >>= λ ps. cond (are_used n ps.0) (memory ps) None)
+        ((read >>= λ x. tested x (are_used n x.0)) >>= memory)
+        ≡ (read >>= λ ps. cond (are_used n ps.0) (memory ps) None)
     by_read None = refl
     by_read (Some ps) = by_test ps (are_used n ps.0)
 

@@ -10,7 +10,8 @@ use Rattle.lab_spell.specs.Form.{Form}
 use Rattle.lab_spell.specs.Reads.{Appends}
 
 -- what the first n items are saved as stands at the end, and fits
-pub record AreWritten {A B : Type 0} (f : Form A) (saved : B → A) (items : List B) (n : ℕ) (old new : List ℕ) : Type 0 where
+pub record AreWritten {A B : Type 0} (f : Form A) (saved : B → A) (items : List B) (n : ℕ)
+    (old new : List ℕ) : Type 0 where
   pub spelled : Appends old new (flat_map f.spell (map saved (take n items)))
   pub fits : AllByRecursion f.Fits (map saved (take n items))
 

@@ -23,7 +23,8 @@ use Rattle.log_text.specs.declared.line.OpenLine.{OpenLine}
 use Rattle.lab_state.specs.Valid as valid
 use Rattle.lab_snap.specs.declared.lab.SavedLab.{SavedLab}
 use Rattle.lab_snap.specs.Inner.Parts as parts
-use Rattle.lab_snap.specs.Inner.Parts.{AreValid, AreWaiting, FitTheirPlans, IsBoardAt, IsWaitingAt, delay_in, is_open, machine_at}
+use Rattle.lab_snap.specs.Inner.Parts.{AreValid, AreWaiting, FitTheirPlans, IsBoardAt, IsWaitingAt, delay_in, is_open}
+use Rattle.lab_snap.specs.Inner.Parts.{machine_at}
 use Rattle.lab_snap.specs.Loaded.{loaded, loaded_hub, loaded_view}
 use Rattle.lab_snap.specs.Machine.{Machine}
 use Rattle.lab_snap.specs.Rising.{is_before, rise}
@@ -93,7 +94,8 @@ waiting_loaded lab post waits = record {
   sent = waits.sent;
   due = rw (delay_loaded lab.hubs post.from) waits.due;
   own = waits.own;
-  number = λ v found. by_machine v (machine_at lab.boards b) refl (sym (view_loaded 0 lab.boards b b (omega arith)) ∙ found);
+  number =
+      λ v found. by_machine v (machine_at lab.boards b) refl (sym (view_loaded 0 lab.boards b b (omega arith)) ∙ found);
   payload = λ kind found. waits.payload kind (sym (kind_loaded lab.boards post.from) ∙ found);
 }
   where
@@ -131,7 +133,8 @@ open_loaded lab line =
     (ap (λ shown. shown && nat_lt line.at.0 lab.time.0) (by_machine (machine_at lab.boards b)))
   where
     by_machine : (o : Option Machine) →
-        option_map_or (λ v. valid.is_shown_uart v line.member.dev) (option_map (loaded_view line.member.board.0) o) false
+        option_map_or (λ v. valid.is_shown_uart v line.member.dev) (option_map (loaded_view line.member.board.0) o)
+        false
         ≡ option_map_or (λ m. parts.is_shown_uart m line.member.dev) o false
     by_machine None = refl
     by_machine (Some m) = shown_there m.state.devices m.state.shown line.member.dev
@@ -189,7 +192,8 @@ parts_of lab fit all =
             each =
                 all_stand time 0 lab.boards own.board_names fit
                 (λ b k v is found.
-                subst (λ i. valid.IsStanding time i v) (let here : b ≡ k = omega (arith, is) in here) (own.boards b v found));
+                subst (λ i. valid.IsStanding time i v) (let here : b ≡ k = omega (arith, is) in here)
+                (own.boards b v found));
           };
       hubs =
           record {

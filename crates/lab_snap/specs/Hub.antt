@@ -4,8 +4,8 @@ use Rattle.std.specs.Prelude.{IsTrue}
 use Rattle.lab_num.specs.Name.{is_name}
 use Rattle.lab_spell.specs.Form.{Form, IsLawful}
 use Rattle.lab_spell.specs.Combine.{choice, list, nothing, number, tagged, text, via, ◌⊗◌}
-use Rattle.lab_spell.specs.Inner.Laws.{avoids_tagged, choice_lawful, list_lawful, next_lawful, nothing_lawful, number_lawful}
-use Rattle.lab_spell.specs.Inner.Laws.{tagged_lawful, text_lawful, via_lawful}
+use Rattle.lab_spell.specs.Inner.Laws.{avoids_tagged, choice_lawful, list_lawful, next_lawful, nothing_lawful}
+use Rattle.lab_spell.specs.Inner.Laws.{number_lawful, tagged_lawful, text_lawful, via_lawful}
 use Rattle.lab_spell.specs.Keys.{member_form, member_lawful}
 use Rattle.lab_snap.specs.declared.hub.HubKind.{HubKind}
 use Rattle.lab_snap.specs.declared.hub.HubKind.TheVariants as kind

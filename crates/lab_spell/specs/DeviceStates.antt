@@ -8,8 +8,8 @@ use Rattle.dev_core.specs.Frame.{FrameData}
 use Rattle.lab_spell.specs.Frames.{byte_row_form, byte_row_lawful, frame_row_form, frame_row_lawful}
 use Rattle.lab_spell.specs.Form.{Form, IsLawful}
 use Rattle.lab_spell.specs.Combine.{byte, choice, flag, nothing, tagged, times, via, ◌⊗◌}
-use Rattle.lab_spell.specs.Inner.Laws.{avoids_choice, avoids_tagged, byte_lawful, choice_lawful, flag_lawful, next_lawful}
-use Rattle.lab_spell.specs.Inner.Laws.{nothing_lawful, tagged_lawful, times_lawful, via_lawful}
+use Rattle.lab_spell.specs.Inner.Laws.{avoids_choice, avoids_tagged, byte_lawful, choice_lawful, flag_lawful}
+use Rattle.lab_spell.specs.Inner.Laws.{next_lawful, nothing_lawful, tagged_lawful, times_lawful, via_lawful}
 
 -- the fields of a UART
 unfoldable pub uart_form : Form UartState

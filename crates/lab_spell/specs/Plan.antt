@@ -7,8 +7,8 @@ use Rattle.lab_spell.specs.Form.{Form, IsLawful}
 use Rattle.lab_spell.specs.Combine.{list, number, option, text, via, ◌⊗◌}
 use Rattle.lab_spell.specs.HartStates.{letters_form, letters_lawful}
 use Rattle.lab_spell.specs.Inner.Laws.{list_lawful, next_lawful, number_lawful, option_lawful, text_lawful, via_lawful}
-use Rattle.lab_spell.specs.PlanParts.{kind_form, kind_lawful, named_form, named_lawful, plic_size_form, plic_size_lawful}
-use Rattle.lab_spell.specs.PlanParts.{region_form, region_lawful, wire_form, wire_lawful}
+use Rattle.lab_spell.specs.PlanParts.{kind_form, kind_lawful, named_form, named_lawful, plic_size_form}
+use Rattle.lab_spell.specs.PlanParts.{plic_size_lawful, region_form, region_lawful, wire_form, wire_lawful}
 
 -- the fields of a plan, whether it is valid or not
 unfoldable pub plan_form : Form BoardPlan

@@ -16,8 +16,8 @@ use Rattle.sys_bus.specs.declared.wire.WirePin.TheVariants as pin
 use Rattle.sys_bus.specs.declared.wire.Wire.{Wire}
 use Rattle.lab_spell.specs.Form.{Form, IsLawful}
 use Rattle.lab_spell.specs.Combine.{byte, choice, nothing, number, tagged, text, via, ◌⊗◌}
-use Rattle.lab_spell.specs.Inner.Laws.{avoids_choice, avoids_tagged, byte_lawful, choice_lawful, next_lawful, nothing_lawful}
-use Rattle.lab_spell.specs.Inner.Laws.{number_lawful, tagged_lawful, text_lawful, via_lawful}
+use Rattle.lab_spell.specs.Inner.Laws.{avoids_choice, avoids_tagged, byte_lawful, choice_lawful, next_lawful}
+use Rattle.lab_spell.specs.Inner.Laws.{nothing_lawful, number_lawful, tagged_lawful, text_lawful, via_lawful}
 
 abbrev pub kind_to : Kind → Unit {0} ⊎ (Unit {0} ⊎ Unit {0})
 kind_to kind.Uart = inl tt

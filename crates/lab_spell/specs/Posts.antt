@@ -10,8 +10,8 @@ use Rattle.lab_spell.specs.Keys.{key_form, key_lawful, member_form, member_lawfu
 use Rattle.lab_spell.specs.Frames.{frame_form, frame_lawful}
 use Rattle.lab_spell.specs.Form.{Form, IsLawful}
 use Rattle.lab_spell.specs.Combine.{byte, choice, nothing, number, tagged, via, ◌⊗◌}
-use Rattle.lab_spell.specs.Inner.Laws.{avoids_choice, avoids_tagged, byte_lawful, choice_lawful, next_lawful, nothing_lawful}
-use Rattle.lab_spell.specs.Inner.Laws.{number_lawful, tagged_lawful, via_lawful}
+use Rattle.lab_spell.specs.Inner.Laws.{avoids_choice, avoids_tagged, byte_lawful, choice_lawful, next_lawful}
+use Rattle.lab_spell.specs.Inner.Laws.{nothing_lawful, number_lawful, tagged_lawful, via_lawful}
 
 abbrev pub finish_to : Finish → Unit {0} ⊎ ℕ
 finish_to finish.Pass = inl tt

@@ -196,7 +196,8 @@ whole-page ps ram i p view paged fits is =
     let within = page-there ps ram i (length ps) refl view paged fits in
     let at : page_size * i ≡ i * page_size + 0 = omega arith in
     let whole : length (page_bytes p.held) ≤ page_size = omega (arith, IsPaged-get ps i p paged within is) in
-    rw (← view, at) (take-page ps i 0 page_size p paged within (omega arith) is ∙ take_all page_size (page_bytes p.held) whole)
+    rw (← view, at)
+    (take-page ps i 0 page_size p paged within (omega arith) is ∙ take_all page_size (page_bytes p.held) whole)
 
 is_zero-zeros : (n : ℕ) → is_zero (zeros n) ≡ true
 is_zero-zeros zero = refl
@@ -207,4 +208,5 @@ pub absent-is_zero :
     (ps : List Page) (ram : List ℕ) (i : ℕ) (p : Page) → bytes_of ps ≡ ram → IsPaged ps →
     page_size * (i + 1) ≤ length ram → p ≡ get_or ps i p → p.held ≡ None → is_zero (page_of ram i) ≡ true
 absent-is_zero ps ram i p view paged fits is absent =
-    ap is_zero (whole-page ps ram i p view paged fits is ∙ ap page_bytes absent ∙ zero_page-is) ∙ is_zero-zeros page_size
+    ap is_zero (whole-page ps ram i p view paged fits is ∙ ap page_bytes absent ∙ zero_page-is)
+    ∙ is_zero-zeros page_size

@@ -1,5 +1,6 @@
 //! The memory.
-ghost use Rattle.std.specs.Prelude.{◌≡◌, ◌+◌, ◌*◌, ◌^◌, ◌<◌, ◌≤◌, length, true, false, IfOk, OnOk, OnErr, IfSome, IfNone};
+ghost use Rattle.std.specs.Prelude.{◌≡◌, ◌+◌, ◌*◌, ◌^◌, ◌<◌, ◌≤◌, length, true, false, IfOk, OnOk, OnErr, IfSome};
+ghost use Rattle.std.specs.Prelude.{IfNone};
 ghost use Rattle.page_ram.specs.Access.{IsRamSize, IsWidth, IsInOnePage, page_size};
 ghost use Rattle.page_ram.specs.Bytes.{zeros, value_at, put_value, put_bytes, WritesPrefix};
 ghost use Rattle.page_ram.specs.Pages as pages;

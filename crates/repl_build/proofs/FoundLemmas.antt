@@ -1,5 +1,6 @@
 -- Further items, as they are found by name.
-use Rattle.std.proofs.Common.{◌≡◌, ◌∙◌, ℕ, List, [], ◌∷◌, ◌++◌, filter, Bool, true, false, cond, nat_lt, length, refl, ap, arith, Some, None}
+use Rattle.std.proofs.Common.{◌≡◌, ◌∙◌, ℕ, List, [], ◌∷◌, ◌++◌, filter, Bool, true, false, cond, nat_lt, length, refl}
+use Rattle.std.proofs.Common.{ap, arith, Some, None}
 use Rattle.std.specs.List.{flat_map, position, position_or_len}
 use Rattle.std.proofs.lemmas.Bool.Decides.{nat_tests}
 use Rattle.repl_read.specs.declared.entry.Entry.{Entry}
@@ -21,7 +22,8 @@ pub further_found :
     flat_map own_items found ≡ further_items entries name
 further_found entries found name is = ap (flat_map own_items) is ∙ of_all entries
   where
-    of_all : (es : List Entry) → flat_map own_items (filter (λ entry. updates name entry.head) es) ≡ further_items es name
+    of_all : (es : List Entry) →
+        flat_map own_items (filter (λ entry. updates name entry.head) es) ≡ further_items es name
     of_all [] = refl
     of_all (e ∷ es) = by_head (updates name e.head) (of_all es)
       where

@@ -1,5 +1,6 @@
 -- Where attributes stand among items, an item more at a time.
-use Rattle.std.proofs.Common.{◌≡◌, ◌∙◌, ◌++◌, ◌∷◌, [], ◌+◌, ◌≤◌, ◌==◌, ℕ, nat_lt, Bool, true, false, cond, not, List, length, get_or}
+use Rattle.std.proofs.Common.{◌≡◌, ◌∙◌, ◌++◌, ◌∷◌, [], ◌+◌, ◌≤◌, ◌==◌, ℕ, nat_lt, Bool, true, false, cond, not, List}
+use Rattle.std.proofs.Common.{length, get_or}
 use Rattle.std.proofs.Common.{sym, refl, ap, arith, slice_set, Option, Some, None, OnOk, Result, Ok, Err}
 use Rattle.std.specs.List.{position, position_or_len}
 use Rattle.std.specs.Map.{update}
@@ -81,7 +82,8 @@ replaced places items item at is has q =
     let found : PlacedItem = get_or items at item in
     has q
     ∙ sym (position_set (λ x. has_key q x.what) items at item item
-    (same_keys item.what found.what found.file found.line q (position-Some (has_same_key item.what) items at item is).1))
+    (same_keys item.what found.what found.file found.line q
+    (position-Some (has_same_key item.what) items at item is).1))
 
 -- a place that is kept where there was none
 pub kept :

@@ -5,8 +5,8 @@ use Rattle.resc_read.specs.declared.command.Command.{Command}
 use Rattle.resc_read.specs.declared.command.Command.TheVariants as commands
 use Rattle.resc_read.specs.declared.command.LineCause.{LineCause}
 use Rattle.resc_read.specs.declared.command.LineCause.TheVariants.{Unknown}
-use Rattle.resc_read.specs.Arguments.{none, one, optional, two, processor, hub, name, entry, path, variable, number, truth}
-use Rattle.resc_read.specs.Arguments.{speed, time, quantum}
+use Rattle.resc_read.specs.Arguments.{none, one, optional, two, processor, hub, name, entry, path, variable, number}
+use Rattle.resc_read.specs.Arguments.{truth, speed, time, quantum}
 
 -- how a command begins: with two words, with one, or with any word and this one after it
 pub data Opening : Type 0 where

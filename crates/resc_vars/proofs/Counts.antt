@@ -8,7 +8,8 @@ use Rattle.resc_vars.specs.declared.answer.Next.TheVariants as next
 use Rattle.resc_vars.specs.declared.cause.ScriptCause.TheVariants as causes
 use Rattle.resc_vars.specs.declared.item.Item.{Item}
 use Rattle.resc_vars.specs.declared.item.Item.TheVariants.{Command, Malformed, Assign, Define, Unclosed}
-use Rattle.resc_vars.specs.Script.{Open, Kept, State, Outcome, Gives, Ends, Refuses, command_limit, counted, given, defined, onward}
+use Rattle.resc_vars.specs.Script.{Open, Kept, State, Outcome, Gives, Ends, Refuses, command_limit, counted, given}
+use Rattle.resc_vars.specs.Script.{defined, onward}
 use Rattle.resc_vars.specs.Script.{within_limit, state_of, in_body, in_bodies, next_of, Says, TakesCommands}
 use Rattle.resc_vars.specs.Variables.{command_text, stands_for, with_value}
 

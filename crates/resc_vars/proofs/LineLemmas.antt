@@ -1,6 +1,6 @@
 -- The first line of a text.
-use Rattle.std.proofs.Common.{◌≡◌, ◌∷◌, ◌++◌, ◌<◌, ◌≤◌, ◌+◌, ◌==◌, ◌∙◌, ℕ, List, [], length, take, drop, Bool, true, false}
-use Rattle.std.proofs.Common.{if◌then◌else◌, cond, not, suc, arith, refl, sym, ap, nat_lt, Some, None}
+use Rattle.std.proofs.Common.{◌≡◌, ◌∷◌, ◌++◌, ◌<◌, ◌≤◌, ◌+◌, ◌==◌, ◌∙◌, ℕ, List, [], length, take, drop, Bool, true}
+use Rattle.std.proofs.Common.{false, if◌then◌else◌, cond, not, suc, arith, refl, sym, ap, nat_lt, Some, None}
 use Rattle.std.specs.List.{All, slice_split, onto_first, position_or_len, before_first, after_first}
 use Rattle.std.specs.Str.Lines.{lines, lines_of_parts, strip_carriage_return}
 use Rattle.std.proofs.lemmas.Bool.{ltb-true, ltb-false, not-true}
@@ -58,7 +58,8 @@ cut_some :
     let found : List ℕ × List ℕ = (line, rest) in
     (nat_lt (position_or_len feed text) (length text) ≡ true) × (parts ≡ found)
 cut_some text line rest is =
-    cond_some (nat_lt (position_or_len feed text) (length text)) (before_first feed text, after_first feed text) (line, rest)
+    cond_some (nat_lt (position_or_len feed text) (length text)) (before_first feed text, after_first feed text)
+    (line, rest)
     is
 
 -- a text that is cut at its first line feed
@@ -79,7 +80,8 @@ cut_ends text line rest is =
 pub uncut_lines : (text : List ℕ) → 0 < length text → cut 10 text ≡ None → lines text ≡ text ∷ []
 uncut_lines text some is =
     last_line text some
-    (ltb-false _ _ (no_pair (nat_lt (position_or_len feed text) (length text)) (before_first feed text, after_first feed text) is))
+    (ltb-false _ _
+    (no_pair (nat_lt (position_or_len feed text) (length text)) (before_first feed text, after_first feed text) is))
   where
     no_pair : {A : Type 0} (b : Bool) (x : A) → cond b (Some x) None ≡ None → b ≡ false
     no_pair true x is = cc

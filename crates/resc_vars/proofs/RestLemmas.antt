@@ -1,6 +1,7 @@
 -- What is left of lines after the first ones, step by step.
 use Rattle.std.proofs.Common.{◌≡◌, ◌∷◌, ◌++◌, ◌+◌, ◌-◌, ◌∙◌, ℕ, List, [], length, take, drop, Bool, true, false}
-use Rattle.std.proofs.Common.{arith, refl, sym, ap, subst, append_assoc, length-drop, position, cond, nat_lt, Option, Some, None, Result, Ok, Err}
+use Rattle.std.proofs.Common.{arith, refl, sym, ap, subst, append_assoc, length-drop, position, cond, nat_lt, Option}
+use Rattle.std.proofs.Common.{Some, None, Result, Ok, Err}
 use Rattle.std.specs.Prelude.{IfOk}
 use Rattle.std.specs.List.{position_or_len}
 use Rattle.std.specs.Option.{option_map}

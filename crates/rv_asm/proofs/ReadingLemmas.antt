@@ -12,7 +12,8 @@ use Rattle.std.specs.Str.{byte}
 use Rattle.std.specs.Prelude.{Result, Err, Bool, true, false, ◌*◌, ◌-◌, ◌==◌, length, if◌then◌else◌}
 use Rattle.rv_asm.specs.declared.fault.AsmCause.{AsmCause}
 use Rattle.rv_asm.specs.Numbers.{in_field, number_of}
-use Rattle.rv_asm.specs.Operands.{number_in, operand_and, register_and, csr_and, place_of, two_registers_and, registers_word, immediate_word}
+use Rattle.rv_asm.specs.Operands.{number_in, operand_and, register_and, csr_and, place_of, two_registers_and}
+use Rattle.rv_asm.specs.Operands.{registers_word, immediate_word}
 use Rattle.rv_asm.specs.Operands.{load_word, store_word, upper_word, csr_word, csr_immediate_word, bare_word}
 use Rattle.rv_asm.specs.Operands.{csr_immediate_fields}
 use Rattle.rv_asm.specs.Lines.{offset_in, branch_word, jump_word, operands_word, ◌>>=◌}
@@ -157,7 +158,8 @@ store :
     read_by first place_parts (λ t. ok_or (number t) Form)
     (λ t. ok_or (option_map (λ n. Some n) (base t)) Form) (word_by_values op Store) ≡
     ok_or
-    (option_and_then (λ rs2. option_and_then (λ x. Some (word_with op 0 x.1 rs2.0 x.0)) (place number base rs2.1)) first)
+    (option_and_then (λ rs2. option_and_then (λ x. Some (word_with op 0 x.1 rs2.0 x.0)) (place number base rs2.1))
+    first)
     Form
 store op first number base = grind arith
 
@@ -181,7 +183,8 @@ registers places here op text = (grind arith, grind arith)
 pub reads :
     (places : List ℕ → Option ℕ) (here : ℕ) (op : Op) (text : List ℕ) (shape : Shape) →
     Agree places here op text shape
-unfolding immediate_word place_of load_word store_word upper_word csr_and csr_word csr_immediate_word bare_word jump_word
+unfolding immediate_word place_of load_word store_word upper_word csr_and csr_word csr_immediate_word bare_word
+    jump_word
 reads places here op text Registers = (registers places here op text).0
 reads places here op text Immediate = register_number op (register_and text) (number_in 2048 2047)
 reads places here op text Shift = register_number op (register_and text) (number_in 0 31)

@@ -42,13 +42,15 @@ same_hart core = record { letters = refl; number = refl }
 
 traps-keeps : (core : Core) (cause value : ℕ) → KeepsCounters core (traps core cause value)
 unfolding enter
-traps-keeps core cause value = record { mcycle = λ _. refl; minstret = λ _. refl; same = record { letters = refl; number = refl } }
+traps-keeps core cause value =
+    record { mcycle = λ _. refl; minstret = λ _. refl; same = record { letters = refl; number = refl } }
 
 jumps-keeps : (core : Core) (size rd target : ℕ) → KeepsCounters core (jumps core size rd target)
 unfolding jump
 jumps-keeps core size rd target =
     elim (cases_Bool (core.letters.c || target % 4 == 0)) [
-      | inl on ↦ rw on (record { mcycle = λ _. refl; minstret = λ _. refl; same = record { letters = refl; number = refl } })
+      | inl on ↦ rw on
+          (record { mcycle = λ _. refl; minstret = λ _. refl; same = record { letters = refl; number = refl } })
       | inr off ↦ rw off (traps-keeps core _ target)
     ]
 
@@ -56,7 +58,8 @@ branches-keeps :
     (core : Core) (size : ℕ) (taken : Bool) (imm : ℕ) → KeepsCounters core (branches core size taken imm)
 unfolding next
 branches-keeps core size true imm = jumps-keeps core size 0 _
-branches-keeps core size false imm = record { mcycle = λ _. refl; minstret = λ _. refl; same = record { letters = refl; number = refl } }
+branches-keeps core size false imm =
+    record { mcycle = λ _. refl; minstret = λ _. refl; same = record { letters = refl; number = refl } }
 
 loads-keeps :
     (core : Core) (i : Instr) (size width : ℕ) (shape : Shape) (answer : ℕ → ℕ → ℕ) →
@@ -64,7 +67,8 @@ loads-keeps :
 unfolding finish
 loads-keeps core i size width shape answer =
     elim (cases_Bool (address core i % width == 0)) [
-      | inl on ↦ rw on (record { mcycle = λ _. refl; minstret = λ _. refl; same = record { letters = refl; number = refl } })
+      | inl on ↦ rw on
+          (record { mcycle = λ _. refl; minstret = λ _. refl; same = record { letters = refl; number = refl } })
       | inr off ↦ rw off (traps-keeps core _ _)
     ]
 
@@ -74,7 +78,8 @@ stores-keeps :
 unfolding next
 stores-keeps core i size width answer =
     elim (cases_Bool (address core i % width == 0)) [
-      | inl on ↦ rw on (record { mcycle = λ _. refl; minstret = λ _. refl; same = record { letters = refl; number = refl } })
+      | inl on ↦ rw on
+          (record { mcycle = λ _. refl; minstret = λ _. refl; same = record { letters = refl; number = refl } })
       | inr off ↦ rw off (traps-keeps core _ _)
     ]
 
@@ -166,7 +171,8 @@ effect_by-keeps Csrrc core i size word lines answer = changes-keeps Clear (reg c
 effect_by-keeps Csrrwi core i size word lines answer = changes-keeps Write i.rs1 core i size word lines
 effect_by-keeps Csrrsi core i size word lines answer = changes-keeps Set i.rs1 core i size word lines
 effect_by-keeps Csrrci core i size word lines answer = changes-keeps Clear i.rs1 core i size word lines
-effect_by-keeps _ core i size word lines answer = record { mcycle = λ _. refl; minstret = λ _. refl; same = record { letters = refl; number = refl } }
+effect_by-keeps _ core i size word lines answer =
+    record { mcycle = λ _. refl; minstret = λ _. refl; same = record { letters = refl; number = refl } }
 
 -- each slot
 effect-keeps :

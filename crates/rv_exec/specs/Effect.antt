@@ -1,6 +1,6 @@
 -- What a slot does by what was fetched: the core after it, how its instruction ends, and what it asks of the bus.
-use Rattle.std.specs.Prelude.{ℕ, ◌*◌, ◌/◌, ◌%◌, ◌^◌, ◌==◌, ◌||◌, not, Bool, true, if◌then◌else◌, Option, Some, None, nat_lt, int_lt}
-use Rattle.std.specs.Prelude.{unwrap_or, bit_and, bit_or, bit_xor}
+use Rattle.std.specs.Prelude.{ℕ, ◌*◌, ◌/◌, ◌%◌, ◌^◌, ◌==◌, ◌||◌, not, Bool, true, if◌then◌else◌, Option, Some, None}
+use Rattle.std.specs.Prelude.{nat_lt, int_lt, unwrap_or, bit_and, bit_or, bit_xor}
 use Rattle.std.specs.Option.{option_map_or}
 use Rattle.rv_decode.specs.declared.instruction.Op.{Op}
 use Rattle.rv_decode.specs.declared.instruction.Op.TheVariants.{Lui, Auipc, Jal, Jalr, Beq, Bne, Blt, Bge, Bltu, Bgeu}

@@ -19,7 +19,8 @@ first_is_not n rest is = rw (is) refl
 from : (names : List Named) (j : ℕ) (n : Named) → j < length names → n ≡ slice_index_or names j n →
     drop j names ≡ n ∷ drop (j + 1) names
 from names j n within at =
-    subst (λ (k : ℕ). drop j names ≡ get_or names j n ∷ drop k names) (suc-eq-add-one j) (drop-cons names j n within) ∙ ap (λ (x : Named). x ∷ drop (j + 1) names) (sym at)
+    subst (λ (k : ℕ). drop j names ≡ get_or names j n ∷ drop k names) (suc-eq-add-one j) (drop-cons names j n within)
+    ∙ ap (λ (x : Named). x ∷ drop (j + 1) names) (sym at)
 
 pub one_more : (names : List Named) (j : ℕ) (n : Named) → j < length names → n ≡ slice_index_or names j n →
     is_processor n.what ≡ true → processors (drop j names) ≡ n.name ∷ processors (drop (j + 1) names)

@@ -1,6 +1,6 @@
 -- Regions of addresses, and which one an access belongs to.
-use Rattle.std.specs.Prelude.{◌≡◌, ℕ, ◌+◌, ◌-◌, ◌^◌, ◌==◌, ◌<◌, ◌≤◌, ◌⊎◌, nat_lt, nat_le, min, max, Bool, true, false, ◌&&◌}
-use Rattle.std.specs.Prelude.{List, find, count_by, Any, Option, None, Some}
+use Rattle.std.specs.Prelude.{◌≡◌, ℕ, ◌+◌, ◌-◌, ◌^◌, ◌==◌, ◌<◌, ◌≤◌, ◌⊎◌, nat_lt, nat_le, min, max, Bool, true, false}
+use Rattle.std.specs.Prelude.{◌&&◌, List, find, count_by, Any, Option, None, Some}
 use Rattle.std.specs.List.{list_all}
 use Rattle.sys_bus.specs.declared.region.RegionKind.{RegionKind}
 use Rattle.sys_bus.specs.declared.region.RegionKind.TheVariants.{Ram, Clint, Plic, Dev}

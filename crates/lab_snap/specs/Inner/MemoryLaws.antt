@@ -66,7 +66,8 @@ parts_of : (s n : ℕ) (m : List ℕ) → IsMemory s (suc n) m → Parts s n m
 parts_of s n m is =
     let more = mul-suc s n in
     let len = is.0 in
-    let bytes = all_parts (take s m) (drop s m) (subst (AllByRecursion (λ b. b < 256)) (sym (take-append-drop s m)) is.1) in
+    let bytes =
+    all_parts (take s m) (drop s m) (subst (AllByRecursion (λ b. b < 256)) (sym (take-append-drop s m)) is.1) in
     record {
       size = omega (arith, length-take s m, len, more);
       page = bytes.0;

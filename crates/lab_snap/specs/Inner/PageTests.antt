@@ -97,7 +97,8 @@ out low top (page ∷ others) e =
 
 all_from_0 : (ps : List (ℕ × List ℕ)) → all_from 0 ps ≡ true
 all_from_0 [] = refl
-all_from_0 (page ∷ others) = and_from (leb 0 page.0) (all_from 0 others) (le-leb 0 page.0 (omega arith)) (all_from_0 others)
+all_from_0 (page ∷ others) =
+    and_from (leb 0 page.0) (all_from 0 others) (le-leb 0 page.0 (omega arith)) (all_from_0 others)
 
 same_test : (a b : Bool) → (a ≡ true → b ≡ true) → (b ≡ true → a ≡ true) → a ≡ b
 same_test true b f g = sym (f refl)

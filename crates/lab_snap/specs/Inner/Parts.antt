@@ -1,6 +1,7 @@
 -- The parts of a laboratory, as a snapshot holds it, that can go on.
 use Rattle.std.specs.Prelude.{◌≡◌, ℕ, ◌+◌, ◌*◌, ◌^◌, ◌<◌, ◌≤◌, nat_le, nat_lt, Bool, false, ◌&&◌, IsTrue}
-use Rattle.std.specs.Prelude.{List, ◌++◌, length, map, find, slice_get, Option, None, Some, option_and_then, unwrap_or, All}
+use Rattle.std.specs.Prelude.{List, ◌++◌, length, map, find, slice_get, Option, None, Some, option_and_then, unwrap_or}
+use Rattle.std.specs.Prelude.{All}
 use Rattle.std.specs.List.{IsDistinct}
 use Rattle.std.specs.Map.{lookup}
 use Rattle.std.specs.Option.{ForSome, option_map, option_map_or}

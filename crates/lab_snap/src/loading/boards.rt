@@ -5,7 +5,8 @@ ghost use Rattle.lab_num.specs.Name.{is_name};
 ghost use Rattle.lab_state.specs.Names.{is_taken};
 ghost use Rattle.lab_state.specs.One.{fitted, view_of};
 ghost use Rattle.sys_bus.specs.Plan.{IsValid};
-ghost use Rattle.lab_snap.specs.Inner.Building.{made_board, made_boards, state_in, with_boards, with_memories, CanBeAdded};
+ghost use Rattle.lab_snap.specs.Inner.Building.{made_board, made_boards, state_in, with_boards, with_memories};
+ghost use Rattle.lab_snap.specs.Inner.Building.{CanBeAdded};
 
 use crate::lab::SavedBoard;
 use board::BoardState;

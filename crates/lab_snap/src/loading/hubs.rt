@@ -1,5 +1,6 @@
 //! The hubs of a saved laboratory are created, and their members connected.
-ghost use Rattle.std.specs.Prelude.{◌≡◌, ◌+◌, ◌++◌, ◌∷◌, ◌<◌, ◌≤◌, ◌^◌, [], false, length, map, All, IsSome, IsTrue, OnErr, OnOk, Some};
+ghost use Rattle.std.specs.Prelude.{◌≡◌, ◌+◌, ◌++◌, ◌∷◌, ◌<◌, ◌≤◌, ◌^◌, [], false, length, map, All, IsSome, IsTrue};
+ghost use Rattle.std.specs.Prelude.{OnErr, OnOk, Some};
 ghost use Rattle.lab_num.specs.Name.{is_name};
 ghost use Rattle.lab_num.specs.Route.{is_connected, StandOnce};
 ghost use Rattle.lab_state.specs.Hub.{members_of};

@@ -1,5 +1,6 @@
 -- How the code reads operands: the value of each by its kind, and the fields that the values go to.
-use Rattle.std.specs.Prelude.{◌≡◌, ℕ, ◌<◌, ◌==◌, ◌*◌, ◌^◌, ◌-◌, length, List, if◌then◌else◌, Option, Some, None, Result, Ok, Err}
+use Rattle.std.specs.Prelude.{◌≡◌, ℕ, ◌<◌, ◌==◌, ◌*◌, ◌^◌, ◌-◌, length, List, if◌then◌else◌, Option, Some, None, Result}
+use Rattle.std.specs.Prelude.{Ok, Err}
 use Rattle.std.specs.Option.{option_map, ok_or}
 use Rattle.rv_decode.specs.declared.instruction.Op.{Op}
 use Rattle.rv_asm.specs.declared.encoder.Fields.{Fields}

@@ -10,7 +10,8 @@ pub returns-in_err-parts : goal.returns-in_err-parts
 returns-in_err-parts c =
     let exit = err_from_is_err_and c.from_residual-in_err-parts.result c.from_residual-in_err-parts.ensures.1 in
     let same : c.in_ok-shared.shared ≡ c.args.file.now = (c.in_ok-shared.ensures {u = tt}).ok in
-    let parts = subst (λ f. Gives {X = Vec Part Global} (λ parts. parts.items) (parts_told f) (Err c.in_err-parts.field-0.0)) same
+    let parts =
+    subst (λ f. Gives {X = Vec Part Global} (λ parts. parts.items) (parts_told f) (Err c.in_err-parts.field-0.0)) same
     (c.in_err-parts.ensures {u = tt}) in
     record {
       read =

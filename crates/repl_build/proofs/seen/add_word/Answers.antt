@@ -9,5 +9,6 @@ use Rattle.repl_build.proofs.seen.add_word.Goals as goal
 
 pub returns-clause-ok : goal.returns-clause-ok
 returns-clause-ok c = λ q.
-    ap is_some (btree_map_updates_str c.args.word.now c.args.seen.now c.insert.new.self _ c.in_ok-insert.ensures.updates q)
+    ap is_some
+    (btree_map_updates_str c.args.word.now c.args.seen.now c.insert.new.self _ c.in_ok-insert.ensures.updates q)
     ∙ some_after c.args.word.now (λ ds. get_by (λ k. slice_cmp nat_cmp ds k.now) c.args.seen.now) tt q

@@ -8,7 +8,8 @@ abbrev pub invariant-loop-line : goal.invariant-loop-line
 invariant-loop-line l = record {
   skips : Skips l.n l.fn.body l.rest;
   few : l.n + length l.rest.text.now ≤ 2 ^ 24 + 1;
-  found : position is_fence_line (lines_of l.fn.body) ≡ option_map (λ k. k + l.n) (position is_fence_line (lines_of l.rest));
+  found : position is_fence_line (lines_of l.fn.body)
+      ≡ option_map (λ k. k + l.n) (position is_fence_line (lines_of l.rest));
 }
 
 abbrev pub decreases-loop-line : goal.decreases-loop-line

@@ -12,7 +12,8 @@ pub returns-in-R : goal.returns-in-R
 returns-in-R c =
     let format : option_map (λ row. row.format) (row_of c.args.op) ≡ Some R =
     c.format.ensures ∙ ap Some c.in-R.is in
-    encoded-fields (with_op c.args.op c.args.fields) R c.opcode-code.result c.funct3.result c.funct7-high.result (λ same. cc) format
+    encoded-fields (with_op c.args.op c.args.fields) R c.opcode-code.result c.funct3.result c.funct7-high.result
+    (λ same. cc) format
     c.opcode-code.ensures.value c.funct3.ensures.value c.funct7-high.ensures.value ∙
     ap Some (omega arith)
 
@@ -20,12 +21,14 @@ pub returns-in-I : goal.returns-in-I
 returns-in-I c =
     elim c.in-I.is [
       | inl signed ↦
-          encoded-fields (with_op c.args.op c.args.fields) I c.opcode-code.result c.funct3.result c.funct7-high.result (λ same. cc)
+          encoded-fields (with_op c.args.op c.args.fields) I c.opcode-code.result c.funct3.result c.funct7-high.result
+          (λ same. cc)
           (c.format.ensures ∙ ap Some signed)
           c.opcode-code.ensures.value c.funct3.ensures.value c.funct7-high.ensures.value ∙
           ap Some (omega arith)
       | inr unsigned ↦
-          encoded-fields (with_op c.args.op c.args.fields) IUnsigned c.opcode-code.result c.funct3.result c.funct7-high.result (λ same. cc)
+          encoded-fields (with_op c.args.op c.args.fields) IUnsigned c.opcode-code.result c.funct3.result
+          c.funct7-high.result (λ same. cc)
           (c.format.ensures ∙ ap Some unsigned)
           c.opcode-code.ensures.value c.funct3.ensures.value c.funct7-high.ensures.value ∙
           ap Some (omega arith)
@@ -35,7 +38,8 @@ pub returns-in-IShift : goal.returns-in-IShift
 returns-in-IShift c =
     let format : option_map (λ row. row.format) (row_of c.args.op) ≡ Some IShift =
     c.format.ensures ∙ ap Some c.in-IShift.is in
-    encoded-fields (with_op c.args.op c.args.fields) IShift c.opcode-code.result c.funct3.result c.funct7-high.result (λ same. cc) format
+    encoded-fields (with_op c.args.op c.args.fields) IShift c.opcode-code.result c.funct3.result c.funct7-high.result
+    (λ same. cc) format
     c.opcode-code.ensures.value c.funct3.ensures.value c.funct7-high.ensures.value ∙
     ap Some (omega arith)
 
@@ -43,7 +47,8 @@ pub returns-in-S : goal.returns-in-S
 returns-in-S c =
     let format : option_map (λ row. row.format) (row_of c.args.op) ≡ Some S =
     c.format.ensures ∙ ap Some c.in-S.is in
-    encoded-fields (with_op c.args.op c.args.fields) S c.opcode-code.result c.funct3.result c.funct7-high.result (λ same. cc) format
+    encoded-fields (with_op c.args.op c.args.fields) S c.opcode-code.result c.funct3.result c.funct7-high.result
+    (λ same. cc) format
     c.opcode-code.ensures.value c.funct3.ensures.value c.funct7-high.ensures.value ∙
     ap Some (omega arith)
 
@@ -51,7 +56,8 @@ pub returns-in-B : goal.returns-in-B
 returns-in-B c =
     let format : option_map (λ row. row.format) (row_of c.args.op) ≡ Some B =
     c.format.ensures ∙ ap Some c.in-B.is in
-    encoded-fields (with_op c.args.op c.args.fields) B c.opcode-code.result c.funct3.result c.funct7-high.result (λ same. cc) format
+    encoded-fields (with_op c.args.op c.args.fields) B c.opcode-code.result c.funct3.result c.funct7-high.result
+    (λ same. cc) format
     c.opcode-code.ensures.value c.funct3.ensures.value c.funct7-high.ensures.value ∙
     ap Some (omega arith)
 
@@ -59,7 +65,8 @@ pub returns-in-U : goal.returns-in-U
 returns-in-U c =
     let format : option_map (λ row. row.format) (row_of c.args.op) ≡ Some U =
     c.format.ensures ∙ ap Some c.in-U.is in
-    encoded-fields (with_op c.args.op c.args.fields) U c.opcode-code.result c.funct3.result c.funct7-high.result (λ same. cc) format
+    encoded-fields (with_op c.args.op c.args.fields) U c.opcode-code.result c.funct3.result c.funct7-high.result
+    (λ same. cc) format
     c.opcode-code.ensures.value c.funct3.ensures.value c.funct7-high.ensures.value ∙
     ap Some (omega arith)
 
@@ -67,7 +74,8 @@ pub returns-in-J : goal.returns-in-J
 returns-in-J c =
     let format : option_map (λ row. row.format) (row_of c.args.op) ≡ Some J =
     c.format.ensures ∙ ap Some c.in-J.is in
-    encoded-fields (with_op c.args.op c.args.fields) J c.opcode-code.result c.funct3.result c.funct7-high.result (λ same. cc) format
+    encoded-fields (with_op c.args.op c.args.fields) J c.opcode-code.result c.funct3.result c.funct7-high.result
+    (λ same. cc) format
     c.opcode-code.ensures.value c.funct3.ensures.value c.funct7-high.ensures.value ∙
     ap Some (omega arith)
 

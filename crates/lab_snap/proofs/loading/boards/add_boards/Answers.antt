@@ -30,7 +30,8 @@ add_board-requires-clause-few g c =
 
 pub add_board-requires-clause-free : goal.add_board-requires-clause-free
 add_board-requires-clause-free g c =
-    let road = YieldsList-from_vec {s = c.into_iter-board-iterator.result} c.args.boards (search rules) (search rules) in
+    let road =
+    YieldsList-from_vec {s = c.into_iter-board-iterator.result} c.args.boards (search rules) (search rules) in
     let turn = YieldsList-turn road c.loop-board.yielded c.loop-board.board-iterator c.loop-board.yielded_by
     c.next.result c.next.new.self c.in-Some.board c.in-Some.is c.next.ensures.steps in
     let front = YieldsList-so_far road c.loop-board.yielded c.loop-board.board-iterator c.loop-board.yielded_by in

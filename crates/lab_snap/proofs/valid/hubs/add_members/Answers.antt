@@ -18,7 +18,8 @@ returns-then-is_some-clause-twice c = λ yes distinct.
 
 pub loop-member-preserved : goal.loop-member-preserved
 loop-member-preserved c =
-    let absent = sym c.in_ok-insert.ensures.old ∙ none c.in_ok-insert.field-0 (sym c.is_some.ensures ∙ c.if-is_some.false) in
+    let absent = sym c.in_ok-insert.ensures.old
+    ∙ none c.in_ok-insert.field-0 (sym c.is_some.ensures ∙ c.if-is_some.false) in
     record {
       entries =
           c.in_ok-insert.ensures.entries

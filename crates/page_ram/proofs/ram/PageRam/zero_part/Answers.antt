@@ -14,7 +14,8 @@ invariant_of-self c =
     elim c.match-load.branch [
       | in-None w ↦ rw (w.self-inside-is, slice_set-same _ _ _ c.index_mut-page.ensures.value) c.self.invariant
       | in-Some w ↦ rw w.self-inside-is
-          (stored-paged _ _ _ _ _ _ _ _ _ c.self.view_is c.self.invariant c.requires.some c.requires.fits c.requires.page
+          (stored-paged _ _ _ _ _ _ _ _ _ c.self.view_is c.self.invariant c.requires.some c.requires.fits
+          c.requires.page
           c.index_mut-page.ensures.value (length-zeros _) (held-is _ _ w.in-Some.ensures) w.store.ensures.value
           w.put_zeros.ensures)
     ]
@@ -26,7 +27,8 @@ returns-clause-value c =
           (absent-zeroed _ _ _ _ _ c.self.view_is c.self.invariant c.requires.some c.requires.fits c.requires.page
           c.index_mut-page.ensures.value w.in-None.ensures)
       | in-Some w ↦ rw w.self-inside-is
-          (stored-bytes _ _ _ _ _ _ _ _ _ c.self.view_is c.self.invariant c.requires.some c.requires.fits c.requires.page
+          (stored-bytes _ _ _ _ _ _ _ _ _ c.self.view_is c.self.invariant c.requires.some c.requires.fits
+          c.requires.page
           c.index_mut-page.ensures.value (length-zeros _) (held-is _ _ w.in-Some.ensures) w.store.ensures.value
           w.put_zeros.ensures)
     ]
@@ -37,7 +39,8 @@ returns-clause-size c =
       | in-None w ↦ rw (w.self-inside-is, slice_set-same _ _ _ c.index_mut-page.ensures.value)
           (ap length c.self.view_is)
       | in-Some w ↦ rw w.self-inside-is
-          (stored-length _ _ _ _ _ _ _ _ _ c.self.view_is c.self.invariant c.requires.some c.requires.fits c.requires.page
+          (stored-length _ _ _ _ _ _ _ _ _ c.self.view_is c.self.invariant c.requires.some c.requires.fits
+          c.requires.page
           c.index_mut-page.ensures.value (length-zeros _) (held-is _ _ w.in-Some.ensures) w.store.ensures.value
           w.put_zeros.ensures)
     ]
