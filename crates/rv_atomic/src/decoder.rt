@@ -1,5 +1,5 @@
 //! From a word to the atomic instruction that it means.
-ghost use Rattle.std.specs.Prelude.{◌≡◌, ℕ, ◌<◌, ◌≤◌, IfSome, count_by};
+ghost use Rattle.std.specs.Prelude.{◌≡◌, ℕ, ◌≤◌, IfSome, count_by};
 ghost use Rattle.rv_decode.specs.Immediate.{field};
 ghost use Rattle.rv_atomic.specs.Table.{matches, table};
 ghost use Rattle.rv_atomic.specs.Means.{IsAtomic, atomic_of};
