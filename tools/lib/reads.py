@@ -134,12 +134,13 @@ class RefusedAt(Exception):
 
 
 def is_readable(path: pathlib.Path) -> bool:
-    return path.exists() and not path.is_dir() and os.access(path, os.R_OK)
+    """Whether a file is there and may be read. Those of os.path say no also where no path can be so."""
+    return os.path.exists(path) and not os.path.isdir(path) and os.access(path, os.R_OK)
 
 
 def content_of(path: pathlib.Path) -> bytes:
     """The bytes of a file. What comes from a pipe is not taken from those who are to read it."""
-    return path.read_bytes() if path.is_file() else b""
+    return path.read_bytes() if os.path.isfile(path) else b""
 
 
 def bad_line(content: bytes) -> int:
@@ -186,7 +187,7 @@ class Walk:
 
     def is_large(self, path: str, limit: int = FILE_LIMIT) -> bool:
         file = self.folder / path
-        return file.is_file() and file.stat().st_size > limit
+        return os.path.isfile(file) and os.path.getsize(file) > limit
 
     def text(self, path: str, chain: Chain) -> str:
         """The text of a script or a platform file that is there."""
@@ -367,8 +368,8 @@ class Walk:
                 board.run()
 
     def save(self, _: str, values: List) -> None:
-        parent = (self.folder / values[0]).parent
-        self.reading.saves.append(FileRead(values[0], "snapshot", parent.is_dir(), self.asking))
+        is_there = os.path.isdir((self.folder / values[0]).parent)
+        self.reading.saves.append(FileRead(values[0], "snapshot", is_there, self.asking))
 
     def load(self, _: str, values: List) -> None:
         if self.reading.boards or self.hubs or self.reading.time:
