@@ -1,4 +1,4 @@
-"""What the functions and lines of an ELF file are at addresses. binutils read it, or pyelftools where there are none."""
+"""What functions and lines of an ELF file are at addresses. binutils read it, or pyelftools where there are none."""
 import bisect
 import pathlib
 from typing import Dict, Iterable, List, Optional, Union

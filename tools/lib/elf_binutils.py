@@ -1,5 +1,5 @@
-"""Reads ELF files by binutils: `readelf` and `addr2line`, of any toolchain whose names begin with `riscv`, or the system's
-own, which know enough of RISC-V for this."""
+"""Reads ELF files by binutils: `readelf` and `addr2line`, of any toolchain whose names begin with `riscv`, or the
+system's own, which know enough of RISC-V for this."""
 import os
 import pathlib
 import re

@@ -158,8 +158,8 @@ def name_of(die: Any) -> Optional[str]:
 
 
 def file_of(unit: Any, program: Any, number: int) -> str:
-    """Returns the path of a file by its number in a line program. Up to DWARF 4 they are numbered from 1, and folder 0 is
-    that of the unit."""
+    """Returns the path of a file by its number in a line program. Up to DWARF 4 they are numbered from 1, and folder 0
+    is that of the unit."""
     header = program.header
     first = 0 if header["version"] >= 5 else 1
     entry = header["file_entry"][number - first]

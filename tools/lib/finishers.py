@@ -26,7 +26,7 @@ def has_finisher(script: str, folder: pathlib.Path) -> bool:
 def makes_finisher(kind: str, file: pathlib.Path) -> bool:
     """Whether a file of this kind makes a board with a finisher."""
     if kind == "platform":
-        return MADE.search(file.read_text(encoding="utf-8", errors="replace")) is not None
+        return MADE.search(reads.content_of(file).decode("utf-8", "replace")) is not None
     return kind == "snapshot" and HELD.search(held_in(file)) is not None
 
 

@@ -26,14 +26,27 @@ class Preparations:
         self.tell = tell
         self.faults: Dict[str, Optional[str]] = {}
 
-    def make_for(self, script: str, chain: Tuple[str, ...] = ()) -> None:
-        """Runs what a script comes after, as far as it has to be run."""
+    def make_for(self, script: str) -> None:
+        """Runs what a script comes after, as far as it has to be run. Whether a script comes after itself is asked
+        before any is kept from others, since two threads could wait for each other there."""
+        self.refuse_circles(script)
+        for before in self.scripts_before(script):
+            self.make(before)
+
+    def scripts_before(self, script: str) -> List[str]:
+        """The scripts that a script says it comes after."""
+        return [self.path_of(named, script) for named in suite_tests.wishes_of(script, self.runs.folder).after]
+
+    def refuse_circles(self, script: str, chain: Tuple[str, ...] = ()) -> None:
+        """Refuses a script that comes after itself, or after one that does."""
         chain += (script,)
-        for named in suite_tests.wishes_of(script, self.runs.folder).after:
-            before = self.path_of(named, script)
+        for before in self.scripts_before(script):
             if before in chain:
                 raise Undone(f"it comes after {before}, which comes after it")
-            self.make(before, chain)
+            try:
+                self.refuse_circles(before, chain)
+            except Undone as fault:
+                raise Undone(f"{before}, before it: {fault}") from fault
 
     def is_known(self, script: str) -> bool:
         """Whether others come after a script, as far as is known."""
@@ -50,14 +63,14 @@ class Preparations:
                 return os.path.normpath(path)
         raise Undone(f"it comes after {named}, which is not there")
 
-    def make(self, script: str, chain: Tuple[str, ...]) -> None:
+    def make(self, script: str) -> None:
         """Runs a script that others come after, where it has to be run."""
         with self.alone(script) as record:
             if script not in self.faults:
-                self.faults[script] = self.fault_of(script, chain, record)
-        fault = self.faults[script]
-        if fault is not None:
-            raise Undone(f"{script}, before it: {fault}")
+                self.faults[script] = self.fault_of(script, record)
+        cause = self.faults[script]
+        if cause is not None:
+            raise Undone(f"{script}, before it: {cause}")
 
     @contextlib.contextmanager
     def alone(self, script: str) -> Iterator[TextIO]:
@@ -66,10 +79,10 @@ class Preparations:
             fcntl.flock(record, fcntl.LOCK_EX)
             yield record
 
-    def fault_of(self, script: str, chain: Tuple[str, ...], record: TextIO) -> Optional[str]:
+    def fault_of(self, script: str, record: TextIO) -> Optional[str]:
         """Brings a script up to date, and says what has kept it from that."""
         try:
-            self.make_for(script, chain)
+            self.make_for(script)
         except Undone as fault:
             return str(fault)
         cause = self.staleness(record)
@@ -77,12 +90,12 @@ class Preparations:
             return None
         self.tell(f"{script} is run {cause}")
         begun = self.sums_of(self.inputs_of(script))
-        fault = self.fault_of_run(script)
+        wrong = self.fault_of_run(script)
         record.truncate(0)
-        if fault is None:
+        if wrong is None:
             kept = [it.path for it in reads.follow(script, self.runs.folder).saves]
             record.writelines([*begun, *self.sums_of(kept)])
-        return fault
+        return wrong
 
     def staleness(self, record: TextIO) -> Optional[str]:
         """Why a script is to be run by what was kept of its last run, or none where it need not be."""

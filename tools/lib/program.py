@@ -1,6 +1,7 @@
 """What the scripts of tools/ share: where the program stands that they run, and their answer to --help."""
 import os
 import pathlib
+import signal
 import subprocess
 import sys
 
@@ -16,6 +17,11 @@ def path_of_program() -> str:
     if said.returncode != 0:
         raise SystemExit(said.returncode)
     return said.stdout.rstrip("\n")
+
+
+def end_with_reader() -> None:
+    """From now on this script ends in silence where nobody reads on what it prints, as with `| head`."""
+    signal.signal(signal.SIGPIPE, signal.SIG_DFL)
 
 
 def answer_help(head: str) -> None:

@@ -134,12 +134,13 @@ class RefusedAt(Exception):
 
 
 def is_readable(path: pathlib.Path) -> bool:
-    return path.exists() and not path.is_dir() and os.access(path, os.R_OK)
+    """Whether a file is there and may be read. Those of os.path say no also where no path can be so."""
+    return os.path.exists(path) and not os.path.isdir(path) and os.access(path, os.R_OK)
 
 
 def content_of(path: pathlib.Path) -> bytes:
     """The bytes of a file. What comes from a pipe is not taken from those who are to read it."""
-    return path.read_bytes() if path.is_file() else b""
+    return path.read_bytes() if os.path.isfile(path) else b""
 
 
 def bad_line(content: bytes) -> int:
@@ -186,7 +187,7 @@ class Walk:
 
     def is_large(self, path: str, limit: int = FILE_LIMIT) -> bool:
         file = self.folder / path
-        return file.is_file() and file.stat().st_size > limit
+        return os.path.isfile(file) and os.path.getsize(file) > limit
 
     def text(self, path: str, chain: Chain) -> str:
         """The text of a script or a platform file that is there."""
@@ -295,7 +296,7 @@ class Walk:
             raise self.refuse("S6 taken")
         self.names.add(name)
 
-    def create(self, _: str, values: List) -> None:
+    def create(self, _: str, values: List[Any]) -> None:
         name = values[0] if values else f"machine-{len(self.reading.boards)}"
         self.take_name(name)
         if len(self.reading.boards) == BOARD_LIMIT:
@@ -303,7 +304,7 @@ class Walk:
         self.selected = Board(name)
         self.reading.boards.append(self.selected)
 
-    def select(self, _: str, values: List) -> None:
+    def select(self, _: str, values: List[Any]) -> None:
         name = values[0]
         boards = self.reading.boards
         named = [board for board in boards if board.name == name]
@@ -314,11 +315,11 @@ class Walk:
             raise self.refuse("S5 board")
         self.selected = named[0]
 
-    def hub(self, _: str, values: List) -> None:
+    def hub(self, _: str, values: List[Any]) -> None:
         self.take_name(values[0])
         self.hubs += 1
 
-    def platform(self, _: str, values: List) -> None:
+    def platform(self, _: str, values: List[Any]) -> None:
         board = self.board()
         if board.has_platform:
             raise self.refuse("S15 platform")
@@ -330,22 +331,22 @@ class Walk:
         if read.is_there:
             PlatformWalk(self, board).file(read, DEPTH_LIMIT - self.depth)
 
-    def reset(self, _: str, values: List) -> None:
+    def reset(self, _: str, values: List[Any]) -> None:
         self.equipped().has_pc = False
 
-    def on_board(self, _: str, values: List) -> None:
+    def on_board(self, _: str, values: List[Any]) -> None:
         self.equipped()
 
-    def pc(self, _: str, values: List) -> None:
+    def pc(self, _: str, values: List[Any]) -> None:
         board = self.equipped()
         board.has_pc = board.has_pc or bool(values)
 
-    def speed(self, _: str, values: List) -> None:
+    def speed(self, _: str, values: List[Any]) -> None:
         board = self.equipped()
         if values and values[0] * board.processors > 1000:
             raise self.refuse(resc.ARGUMENTS)
 
-    def image(self, command: str, values: List) -> None:
+    def image(self, command: str, values: List[Any]) -> None:
         board = self.equipped()
         read = self.note(values[0], IMAGES[command], self.asking)
         board.files.append(read)
@@ -356,7 +357,7 @@ class Walk:
 
     # ---- the whole laboratory
 
-    def run(self, _: str, values: List) -> None:
+    def run(self, _: str, values: List[Any]) -> None:
         if not all(board.has_platform for board in self.reading.boards):
             raise self.refuse("S15 platform")
         until = self.reading.time + values[0] if values else max(self.reading.time, 10**6)
@@ -366,11 +367,11 @@ class Walk:
             for board in self.reading.boards:
                 board.run()
 
-    def save(self, _: str, values: List) -> None:
-        parent = (self.folder / values[0]).parent
-        self.reading.saves.append(FileRead(values[0], "snapshot", parent.is_dir(), self.asking))
+    def save(self, _: str, values: List[Any]) -> None:
+        is_there = os.path.isdir((self.folder / values[0]).parent)
+        self.reading.saves.append(FileRead(values[0], "snapshot", is_there, self.asking))
 
-    def load(self, _: str, values: List) -> None:
+    def load(self, _: str, values: List[Any]) -> None:
         if self.reading.boards or self.hubs or self.reading.time:
             raise self.refuse("S21 occupied")
         read = self.note(values[0], "snapshot", self.asking)
@@ -379,7 +380,7 @@ class Walk:
         if self.is_large(read.path, SNAPSHOT_LIMIT):
             raise self.refuse("S19 size")
         try:
-            held, _ = snapshot.read(content_of(self.folder / read.path))
+            held = snapshot.read(content_of(self.folder / read.path))[0]
         except snapshot.NoSnapshot as fault:
             raise self.refuse("S20 snapshot") from fault
         self.resume(held)
@@ -392,7 +393,7 @@ class Walk:
         self.reading.time = held["time"]
         self.selected = None
 
-    def include(self, _: str, values: List) -> None:
+    def include(self, _: str, values: List[Any]) -> None:
         if self.depth == DEPTH_LIMIT:
             raise self.refuse("S11 depth")
         chain = self.asking
@@ -403,13 +404,13 @@ class Walk:
             raise self.refuse("S19 size")
         self.inner(read.path, resc.numbered(self.text(read.path, chain)), chain)
 
-    def run_macro(self, _: str, values: List) -> None:
+    def run_macro(self, _: str, values: List[Any]) -> None:
         macro = self.macros.get(values[0])
         if macro is None:
             raise self.refuse("S3 variable")
         self.inner(macro.file, macro.body, self.asking)
 
-    def quit(self, _: str, values: List) -> None:
+    def quit(self, _: str, values: List[Any]) -> None:
         raise Ended
 
 
@@ -444,7 +445,7 @@ class PlatformWalk:
             self.file(read, room - 1)
 
 
-DOES: Dict[str, Callable[[Walk, str, List], None]] = {
+DOES: Dict[str, Callable[[Walk, str, List[Any]], None]] = {
     "* PC": Walk.pc,
     "* IsHalted": Walk.on_board,
     "* PerformanceInMips": Walk.speed,

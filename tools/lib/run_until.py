@@ -1,5 +1,4 @@
 """Runs a copy of a script up to a lab time, or to its end, and keeps the laboratory there in a snapshot."""
-import os
 import pathlib
 import re
 import subprocess
@@ -9,8 +8,8 @@ from typing import Any, Dict, Iterator, List, Optional, Sequence, Tuple
 import reads
 import resc
 import snapshot
+from program import path_of_program
 
-TOP = pathlib.Path(__file__).resolve().parents[2]
 DEPTH = 8
 PAUSE = re.compile(rb"\[(\d+)\.(\d{6})\] pause [\w-]+/\w+: (?:pass|fail \d+)\n")
 REFUSED = re.compile(rb"error: (.*):(\d+): (.*)\n")
@@ -161,13 +160,11 @@ def cut(steps: List[Step], at: int, until: int, pauses: List[int]) -> List[Step]
 
 
 def program() -> str:
-    """Returns the program: that of the variable LAB, or what ./lab builds. ./lab itself would explain the copy."""
-    if "LAB" in os.environ:
-        return os.environ["LAB"]
-    status = subprocess.run([str(TOP / "lab")], stdout=subprocess.DEVNULL, check=False).returncode
-    if status in (70, 71):
-        raise NoRun(f"./lab ended with {status}")
-    return str(TOP / "crates/lab_cli/out/lab_cli")
+    """Returns the path of the program. ./lab itself would explain the copy."""
+    try:
+        return path_of_program()
+    except SystemExit as ended:
+        raise NoRun(f"there is no program to run: ./lab ended with {ended.code}") from ended
 
 
 def missing(script: str) -> str:
