@@ -1,29 +1,26 @@
 -- What a processor does in its slot, as its board has it.
-use Rattle.std.proofs.Common.{◌≡◌, ◌≢◌, ◌∙◌, ℕ, ◌<◌, ◌==◌, Bool, true, false, not, List, [], ◌∷◌, length, refl}
-use Rattle.std.proofs.Common.{ap, arith, sym}
-use Rattle.std.specs.Prelude.{Option, None, Some, IsSome, if◌then◌else◌}
+use Rattle.std.proofs.Common.{◌≡◌, ◌∙◌, ℕ, ◌<◌, ◌==◌, Bool, true, false, not, List, [], ◌∷◌, length, refl}
+use Rattle.std.proofs.Common.{ap, arith}
+use Rattle.std.specs.Prelude.{Option, None, Some, if◌then◌else◌}
 use Rattle.std.specs.Option.{option_and_then, option_map_or}
 use Rattle.std.proofs.lemmas.Bool.{eqb-true}
-use Rattle.rv_decode.specs.Means.{means}
 use Rattle.rv_hart.specs.declared.csr.Lines.{Lines}
-use Rattle.rv_hart.specs.declared.letters.Letters.{Letters}
 use Rattle.rv_hart.specs.Core.{Core}
 use Rattle.rv_hart.specs.Trap.{chosen}
 use Rattle.rv_exec.specs.declared.fetched.Fetched.{Fetched}
-use Rattle.rv_exec.specs.declared.fetched.Fetched.TheVariants.{Fault, Bad, Good}
-use Rattle.rv_exec.specs.Effect.{effect, core_after, bus_after, of_word}
-use Rattle.rv_atomic.specs.declared.atomic.Atomic.{Atomic}
+use Rattle.rv_exec.specs.declared.fetched.Fetched.TheVariants.{Fault}
+use Rattle.rv_exec.specs.Effect.{effect, core_after, bus_after}
 use Rattle.rv_atomic.specs.declared.shared.Shared.TheVariants as shared
 use Rattle.rv_atomic.specs.AtomicEffect.{leaves}
 use Rattle.rv_atomic.specs.Means.{atomic_of}
-use Rattle.rv_atomic.specs.Laws.{EndsNone, MeansNoOther, PlainAlone}
+use Rattle.rv_atomic.specs.Laws.{EndsNone, PlainAlone}
 use Rattle.rv_atomic.specs.SharedEffect.{shared_effect}
 use Rattle.sys_bus.specs.declared.plan.BoardPlan.{BoardPlan}
-use Rattle.board.specs.Fetch.{effect_on, fetched_by, half_in, is_lower, of_half, second, shared_by, word_at_pc, word_begun}
+use Rattle.board.specs.Fetch.{effect_on, fetched_by, half_in, is_lower, second, shared_by, word_at_pc, word_begun}
 use Rattle.board.specs.HartView.{hart_state}
-use Rattle.board.specs.Inner.Seat.{behind, has_several, seen, shared_of_word}
+use Rattle.board.specs.Inner.Seat.{behind, has_several, seen}
 use Rattle.board.specs.Slot.{awake}
-use Rattle.board.specs.Wires.{Wires, answer, fetched, loaded, stored}
+use Rattle.board.specs.Wires.{Wires, answer, fetched, loaded, stored, word_in}
 use Rattle.board.proofs.SlotLemmas.{effect-behind}
 
 -- a slot in which an instruction is done, at the beginning and at the end of it
@@ -42,50 +39,51 @@ awake-instruction hart core core' watch watch' w begun w' t lines none begins co
     (ap (λ now. hart_state hart (core_after answer begun' done.effect) done.watch now)
     (effect-behind begun' done.effect))
 
--- ---- what it does by what it fetches
+-- ---- what no memory holds
 
-by_either : (b : Bool) (what : Fetched) → option_map_or shared.Atomic (if b then None else None) (shared.Plain what) ≡ shared.Plain what
+by_either :
+    (b : Bool) (what : Fetched) →
+    option_map_or shared.Atomic (if b then None else None) (shared.Plain what) ≡ shared.Plain what
 by_either true what = refl
 by_either false what = refl
 
-pub words_fault :
-    (core : Core) (w : Wires) → core.letters.c ≡ false → fetched w core.pc ≡ None →
-    shared_by core w ≡ shared.Plain (Fault core.pc)
-words_fault core w long none = rw (long, none) (by_either core.letters.a (Fault core.pc))
+fault_effect :
+    (hart at : ℕ) (core : Core) (watch : List (Option ℕ)) (w : Wires) (lines : Lines) →
+    shared_by core w ≡ shared.Plain (Fault at) →
+    effect_on (seen hart core watch w) w lines ≡ leaves (effect core (Fault at) lines) watch
+unfolding shared_effect effect
+fault_effect hart at core watch w lines is =
+    ap (λ what. shared_effect (fetched w) core hart watch what lines) is
 
-pub words_word :
-    (core : Core) (w : Wires) (word : ℕ) → core.letters.c ≡ false → fetched w core.pc ≡ Some word →
-    shared_by core w ≡ shared_of_word core.letters word
-words_word core w word long some = rw (long, some) refl
+pub no_word :
+    (hart at : ℕ) (core : Core) (watch : List (Option ℕ)) (w : Wires) (lines : Lines) → at ≡ core.pc →
+    core.letters.c ≡ false → word_in w.space at ≡ None →
+    effect_on (seen hart core watch w) w lines ≡ leaves (effect core (Fault at) lines) watch
+no_word hart at core watch w lines here long none =
+    rw here
+    (fault_effect hart core.pc core watch w lines
+    (rw (long, rw here at none) (by_either core.letters.a (Fault core.pc))))
 
-pub halves_fault :
-    (core : Core) (w : Wires) → core.letters.c ≡ true → half_in w.space core.pc ≡ None →
-    shared_by core w ≡ shared.Plain (Fault core.pc)
-halves_fault core w short none = rw (short, none) (by_either core.letters.a (Fault core.pc))
+pub no_half :
+    (hart at : ℕ) (core : Core) (watch : List (Option ℕ)) (w : Wires) (lines : Lines) → at ≡ core.pc →
+    core.letters.c ≡ true → half_in w.space at ≡ None →
+    effect_on (seen hart core watch w) w lines ≡ leaves (effect core (Fault at) lines) watch
+no_half hart at core watch w lines here short none =
+    rw here
+    (fault_effect hart core.pc core watch w lines
+    (rw (short, rw here at none) (by_either core.letters.a (Fault core.pc))))
 
-pub halves_half :
-    (core : Core) (w : Wires) (half : ℕ) → core.letters.c ≡ true → half_in w.space core.pc ≡ Some half →
-    is_lower half ≡ false → shared_by core w ≡ shared.Plain (of_half half)
-halves_half core w half short some other = rw (short, some, other) (by_either core.letters.a (of_half half))
-
-pub halves_end :
-    (core : Core) (w : Wires) (half : ℕ) → core.letters.c ≡ true → half_in w.space core.pc ≡ Some half →
-    is_lower half ≡ true → word_begun w.space core.pc half ≡ None →
-    shared_by core w ≡ shared.Plain (Fault (second core.pc))
-halves_end core w half short some lower none =
-    rw (short, some, lower, none) (by_either core.letters.a (Fault (second core.pc)))
-
-pub halves_word :
-    (core : Core) (w : Wires) (half word : ℕ) → core.letters.c ≡ true → half_in w.space core.pc ≡ Some half →
-    is_lower half ≡ true → word_begun w.space core.pc half ≡ Some word →
-    shared_by core w ≡ shared_of_word core.letters word
-halves_word core w half word short some lower begun = rw (short, some, lower, begun) refl
+pub no_second :
+    (hart at half : ℕ) (core : Core) (watch : List (Option ℕ)) (w : Wires) (lines : Lines) → at ≡ core.pc →
+    core.letters.c ≡ true → half_in w.space at ≡ Some half → is_lower half ≡ true →
+    word_begun w.space at half ≡ None →
+    effect_on (seen hart core watch w) w lines ≡ leaves (effect core (Fault (second at)) lines) watch
+no_second hart at half core watch w lines here short some lower none =
+    rw here
+    (fault_effect hart (second core.pc) core watch w lines
+    (rw (short, rw here at some, lower, rw here at none) (by_either core.letters.a (Fault (second core.pc)))))
 
 -- ---- where no reservation ends
-
-pub fault_ends_none : (watch : List (Option ℕ)) (at : ℕ) → EndsNone watch (Fault at)
-unfolding shared_effect effect
-fault_ends_none watch at = λ memory core number lines below. refl
 
 pub one_ends_none :
     PlainAlone → (watch : List (Option ℕ)) → length watch ≡ 1 → (what : Fetched) → EndsNone watch what
@@ -94,25 +92,6 @@ one_ends_none law (word ∷ []) one what = λ memory core number lines below.
     let first : number ≡ 0 = omega (arith, below) in
     rw first (law memory core word what lines)
 one_ends_none law (word ∷ other ∷ words) one what = absurd (omega (arith, one))
-
--- a word that means an instruction is no atomic one
-pub good_word :
-    MeansNoOther → (letters : Letters) (word : ℕ) (what : Fetched) → what ≡ of_word word →
-    ((bad : ℕ) → what ≢ Bad bad) → shared_of_word letters word ≡ shared.Plain what
-good_word law letters word what is good = by_atomic (atomic_of word) (law word)
-  where
-    by_letter :
-        (b : Bool) → option_map_or shared.Atomic (if b then None else None) (shared.Plain (of_word word)) ≡ shared.Plain what
-    by_letter true = ap shared.Plain (sym is)
-    by_letter false = ap shared.Plain (sym is)
-
-    by_atomic :
-        (found : Option Atomic) → (IsSome found → means word ≡ None) →
-        option_map_or shared.Atomic (if letters.a then found else None) (shared.Plain (of_word word))
-        ≡ shared.Plain what
-    by_atomic None none = by_letter letters.a
-    by_atomic (Some a) none =
-        absurd (good word (is ∙ ap (λ i. option_map_or (λ i. Good i 4 word) i (Bad word)) (none refl)))
 
 -- ---- a processor alone
 
