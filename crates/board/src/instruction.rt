@@ -278,5 +278,12 @@ fn do_half_apart<D: Device>(
     ensures watch_err { OnErr result (watch.new ≡ watch.old) }
     ensures bus_err { OnErr result (wires.new ≡ wires.old) }
 {
-    step_shared(hart, number, watch, Shared::Plain(of_half(half)), wires, lines)
+    step_shared(
+        hart,
+        number,
+        watch,
+        Shared::Plain(of_half(half)),
+        wires,
+        lines,
+    )
 }
