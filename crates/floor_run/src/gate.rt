@@ -5,6 +5,11 @@ use lab_num::BoardNo;
 /// bench takes no turn.
 pub trait Gate: Sync {
     fn enter(&self, board: BoardNo);
+
+    /// Whether it never holds anyone. So there is no need for two to enter it.
+    fn is_open(&self) -> bool {
+        false
+    }
 }
 
 /// A gate that lets everyone pass at once.
@@ -13,4 +18,8 @@ pub struct NoGate;
 
 impl Gate for NoGate {
     fn enter(&self, _board: BoardNo) {}
+
+    fn is_open(&self) -> bool {
+        true
+    }
 }

@@ -93,3 +93,43 @@ impl Gate for Relay {
         self.gave_up.store(true, Ordering::SeqCst);
     }
 }
+
+/// A gate that holds each one who enters until another comes: two and two go on together. An `enter`
+/// that has looked 20,000,000 times in vain gives up.
+#[derive(Drop)]
+pub struct Pairs {
+    entered: AtomicU64,
+    gave_up: AtomicBool,
+}
+
+impl Pairs {
+    pub fn new() -> Pairs {
+        Pairs {
+            entered: AtomicU64::new(0),
+            gave_up: AtomicBool::new(false),
+        }
+    }
+
+    pub fn entered(&self) -> u64 {
+        self.entered.load(Ordering::SeqCst)
+    }
+
+    /// Whether an `enter` has given up.
+    pub fn gave_up(&self) -> bool {
+        self.gave_up.load(Ordering::SeqCst)
+    }
+}
+
+impl Gate for Pairs {
+    fn enter(&self, _board: BoardNo) {
+        let before = self.entered.fetch_add(1, Ordering::SeqCst);
+        let awaited = (before | 1).saturating_add(1);
+        for _ in 0..20_000_000_u64 {
+            if self.entered() >= awaited {
+                return;
+            }
+            spin_loop();
+        }
+        self.gave_up.store(true, Ordering::SeqCst);
+    }
+}

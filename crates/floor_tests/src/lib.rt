@@ -13,6 +13,8 @@ mod handle;
 #[cfg(test)]
 mod hands;
 #[cfg(test)]
+mod helped;
+#[cfg(test)]
 mod parcels;
 #[cfg(test)]
 mod rounds;

@@ -8,4 +8,4 @@ mod round;
 
 pub use laws::turns_are_stretches;
 pub use parcel::Parcel;
-pub use round::run_parcels;
+pub use round::{run_parcels, run_parcels_with};

@@ -1,4 +1,3 @@
-use Rattle.floor_core.specs.Job.{Job}
 use Rattle.std.proofs.Common.{map}
 use Rattle.floor_run.proofs.ShownLemmas.{shown, opens, won, missed, posted, reported, split, joined, closed}
 use Rattle.floor_run.proofs.shown.bench_shows_a_floor.Goals as goal
