@@ -127,13 +127,7 @@ impl<D: Device> Wires<D> {
     /// Stores in a device, and does what it makes the device do. After an `Err` the device is as
     /// before.
     #[tactic(auto, unfolding(crate::specs::Wires::sent))]
-    fn store_in_device(
-        &mut self,
-        dev: u8,
-        at: u32,
-        width: u8,
-        value: u32,
-    ) -> Result<(), NoMemory>
+    fn store_in_device(&mut self, dev: u8, at: u32, width: u8, value: u32) -> Result<(), NoMemory>
         requires { dev < length self.old.space.devices }
         ensures ok { OnOk result (self.new ≡ stored_to self.old at width value (Dev dev at)) }
         ensures err { OnErr result (self.new ≡ self.old) }
@@ -207,13 +201,7 @@ impl<D: Device> Wires<D> {
 
     /// Stores in a memory. After an `Err` it is as before.
     #[inline(always)]
-    fn store_in_memory(
-        &mut self,
-        part: u8,
-        at: u32,
-        width: u8,
-        value: u32,
-    ) -> Result<(), NoMemory>
+    fn store_in_memory(&mut self, part: u8, at: u32, width: u8, value: u32) -> Result<(), NoMemory>
         requires width { IsWidth width }
         requires part { part < length self.old.space.memories }
         requires lies { at + width ≤ length (memory_at self.old.space part) }

@@ -5,6 +5,7 @@ use Rattle.std.specs.Prelude.{Result, Ok, Err}
 use Rattle.std.specs.Cmp.Lexicographic.{pointwise}
 use Rattle.std.specs.Map.{lookup}
 use Rattle.std.specs.Str.Lines.{lines}
+use Rattle.lab_num.specs.Depth.{depth_limit}
 use Rattle.resc_vars.specs.declared.item.Source.{Source}
 use Rattle.resc_vars.specs.declared.answer.FlowFault.{FlowFault}
 use Rattle.resc_vars.specs.declared.answer.FlowFault.TheVariants as fault
