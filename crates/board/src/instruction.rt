@@ -238,11 +238,14 @@ fn do_half<const COPY: u8, D: Device>(
     requires letters { hart.old.letters.c ≡ true }
     requires number { number < length watch.old }
     requires alone { several ≡ false → length watch.old ≡ 1 }
-    ensures core { let shared = shared_effect (fetched wires.old) hart.old number watch.old (Plain (of_half half)) lines in
+    ensures core { let what = Plain (of_half half) in
+        let shared = shared_effect (fetched wires.old) hart.old number watch.old what lines in
         OnOk result (hart.new ≡ core_after answer wires.old shared.effect) }
-    ensures watch { let shared = shared_effect (fetched wires.old) hart.old number watch.old (Plain (of_half half)) lines in
+    ensures watch { let what = Plain (of_half half) in
+        let shared = shared_effect (fetched wires.old) hart.old number watch.old what lines in
         OnOk result (watch.new ≡ shared.watch) }
-    ensures bus { let shared = shared_effect (fetched wires.old) hart.old number watch.old (Plain (of_half half)) lines in
+    ensures bus { let what = Plain (of_half half) in
+        let shared = shared_effect (fetched wires.old) hart.old number watch.old what lines in
         OnOk result (wires.new ≡ bus_after loaded stored wires.old shared.effect) }
     ensures same { OnOk result (IsSameHart hart.old hart.new) }
     ensures core_err { OnErr result (hart.new ≡ hart.old) }
@@ -268,11 +271,14 @@ fn do_half_apart<D: Device>(
 ) -> Result<(), NoMemory>
     requires letters { hart.old.letters.c ≡ true }
     requires number { number < length watch.old }
-    ensures core { let shared = shared_effect (fetched wires.old) hart.old number watch.old (Plain (of_half half)) lines in
+    ensures core { let what = Plain (of_half half) in
+        let shared = shared_effect (fetched wires.old) hart.old number watch.old what lines in
         OnOk result (hart.new ≡ core_after answer wires.old shared.effect) }
-    ensures watch { let shared = shared_effect (fetched wires.old) hart.old number watch.old (Plain (of_half half)) lines in
+    ensures watch { let what = Plain (of_half half) in
+        let shared = shared_effect (fetched wires.old) hart.old number watch.old what lines in
         OnOk result (watch.new ≡ shared.watch) }
-    ensures bus { let shared = shared_effect (fetched wires.old) hart.old number watch.old (Plain (of_half half)) lines in
+    ensures bus { let what = Plain (of_half half) in
+        let shared = shared_effect (fetched wires.old) hart.old number watch.old what lines in
         OnOk result (wires.new ≡ bus_after loaded stored wires.old shared.effect) }
     ensures same { OnOk result (IsSameHart hart.old hart.new) }
     ensures core_err { OnErr result (hart.new ≡ hart.old) }

@@ -36,7 +36,8 @@ pub returns-in_default-word_begun-clause-core : goal.returns-in_default-word_beg
 returns-in_default-word_begun-clause-core g c =
     let at = c.pc-at.result in
     let half = c.in-Some.half in
-    let some = sym (ap {A = Wires} (λ w. half_in w.space at) c.wires.view_is) ∙ sym c.half.ensures.value ∙ c.in-Some.is in
+    let some = sym (ap {A = Wires} (λ w. half_in w.space at) c.wires.view_is)
+    ∙ sym c.half.ensures.value ∙ c.in-Some.is in
     let none = sym (ap {A = Wires} (λ w. word_begun w.space at half) c.wires.view_is)
     ∙ sym (ap {A = Space} (λ s. word_begun s at half) c.half.ensures.same)
     ∙ sym c.word_begun.ensures.value
@@ -49,7 +50,8 @@ pub returns-in_default-word_begun-clause-watch : goal.returns-in_default-word_be
 returns-in_default-word_begun-clause-watch g c =
     let at = c.pc-at.result in
     let half = c.in-Some.half in
-    let some = sym (ap {A = Wires} (λ w. half_in w.space at) c.wires.view_is) ∙ sym c.half.ensures.value ∙ c.in-Some.is in
+    let some = sym (ap {A = Wires} (λ w. half_in w.space at) c.wires.view_is)
+    ∙ sym c.half.ensures.value ∙ c.in-Some.is in
     let none = sym (ap {A = Wires} (λ w. word_begun w.space at half) c.wires.view_is)
     ∙ sym (ap {A = Space} (λ s. word_begun s at half) c.half.ensures.same)
     ∙ sym c.word_begun.ensures.value
@@ -62,7 +64,8 @@ pub returns-in_default-word_begun-clause-bus : goal.returns-in_default-word_begu
 returns-in_default-word_begun-clause-bus g c =
     let at = c.pc-at.result in
     let half = c.in-Some.half in
-    let some = sym (ap {A = Wires} (λ w. half_in w.space at) c.wires.view_is) ∙ sym c.half.ensures.value ∙ c.in-Some.is in
+    let some = sym (ap {A = Wires} (λ w. half_in w.space at) c.wires.view_is)
+    ∙ sym c.half.ensures.value ∙ c.in-Some.is in
     let none = sym (ap {A = Wires} (λ w. word_begun w.space at half) c.wires.view_is)
     ∙ sym (ap {A = Space} (λ s. word_begun s at half) c.half.ensures.same)
     ∙ sym c.word_begun.ensures.value
