@@ -18,6 +18,7 @@ mod resume;
 mod round;
 mod run;
 mod spares;
+mod team;
 
 pub use faults::{AddFault, ConnectFault, FitFault, HubNameFault, LabFault, RunCause, RunFault};
 pub use lab::Lab;
@@ -27,3 +28,4 @@ pub use laws::{
     runs_tell_of_shown_devices, turns_agree, undelayed_rounds_agree,
 };
 pub use round::RoundLog;
+pub use team::Team;

@@ -24,6 +24,7 @@ use crate::hub_list::HubList;
 use crate::lab::Lab;
 use crate::lending::{Crew, step_lent};
 use crate::named_board::{Made, NamedBoard};
+use crate::team::Team;
 use board::{
     stretches_keep_plans, stretches_keep_time, stretches_number, stretches_tell_of_devices,
 };
@@ -170,7 +171,7 @@ fn count_awake<D: Device>(boards: &[NamedBoard<D>]) -> usize
 /// worker needs no thread, and one board that is awake no second worker: then the boards stay where
 /// they are. A board that is asleep passes over its slots in one step there, and not in turns.
 fn step_boards<R: Threads + Wait + Copy + Send + Sync, D: Device + Send, G: Gate>(
-    crew: Crew<R, G>,
+    crew: Crew<R, D, G>,
     alloc: Global,
     boards: &mut [NamedBoard<D>],
     source: &mut Source,
@@ -203,7 +204,7 @@ fn step_boards<R: Threads + Wait + Copy + Send + Sync, D: Device + Send, G: Gate
 
 /// Grants the boards `q` microseconds, and takes what they have made.
 fn take_slots<R: Threads + Wait + Copy + Send + Sync, D: Device + Send, G: Gate>(
-    crew: Crew<R, G>,
+    crew: Crew<R, D, G>,
     alloc: Global,
     boards: &mut [NamedBoard<D>],
     source: &mut Source,
@@ -253,7 +254,7 @@ fn push_end(
 
 /// Runs the boards for a round of `q` microseconds, and hands over what is due by then.
 fn play<R: Threads + Wait + Copy + Send + Sync, D: Device + Send, G: Gate>(
-    crew: Crew<R, G>,
+    crew: Crew<R, D, G>,
     alloc: Global,
     boards: &mut [NamedBoard<D>],
     source: &mut Source,
@@ -303,6 +304,52 @@ fn play<R: Threads + Wait + Copy + Send + Sync, D: Device + Send, G: Gate>(
 }
 
 impl<D: Device + Send> Lab<D> {
+    /// Runs one round as `round` does. Its workers are the helpers of the team and the caller, if it has any.
+    pub(crate) fn round_by<R: Threads + Wait + Copy + Send + Sync, G: Gate>(
+        &mut self,
+        rt: &R,
+        team: &Team<D>,
+        q: u64,
+        workers: u8,
+        gate: &G,
+    ) -> Result<RoundLog, LabFault>
+        requires some { 0 < q }
+        requires workers { (1 ≤ workers) × (workers ≤ 8) }
+        requires plans { self.old.spent ≡ false → HaveAllPlans self.old.lab }
+        requires within { self.old.spent ≡ false → self.old.lab.now + q ≤ 10000000000 }
+        ensures lab { OnOk result (self.new
+            ≡ record { lab = (round_spec.round self.old.lab q).lab; spent = false }) }
+        ensures lines { IfOk result (λ log. log.lines ≡ (round_spec.round self.old.lab q).items) }
+        ensures paused { IfOk result (λ log.
+            log.paused ≡ (round_spec.round self.old.lab q).paused) }
+        ensures plans { OnOk result (HaveAllPlans self.new.lab) }
+        ensures err { OnErr result (self.new.spent ≡ true) }
+        ensures spent { self.old.spent ≡ true → result ≡ Err LabFault.Memory }
+    {
+        if self.spent {
+            return Err(LabFault::Memory);
+        }
+        let crew = Crew {
+            rt,
+            team,
+            workers,
+            gate,
+        };
+        let Ok(log) = play(
+            crew,
+            self.alloc,
+            &mut self.boards,
+            &mut self.source,
+            &self.hubs,
+            &mut self.pending,
+            q,
+        ) else {
+            self.spent = true;
+            return Err(LabFault::Memory);
+        };
+        Ok(log)
+    }
+
     /// Runs one round of `q` microseconds. Where two boards or more are awake, several workers take
     /// turns of the boards, on threads, and enter the gate before each; else board after board takes
     /// its slots, and nobody enters the gate. `LabFault::Memory` spends the laboratory.
@@ -326,22 +373,7 @@ impl<D: Device + Send> Lab<D> {
         ensures err { OnErr result (self.new.spent ≡ true) }
         ensures spent { self.old.spent ≡ true → result ≡ Err LabFault.Memory }
     {
-        if self.spent {
-            return Err(LabFault::Memory);
-        }
-        let crew = Crew { rt, workers, gate };
-        let Ok(log) = play(
-            crew,
-            self.alloc,
-            &mut self.boards,
-            &mut self.source,
-            &self.hubs,
-            &mut self.pending,
-            q,
-        ) else {
-            self.spent = true;
-            return Err(LabFault::Memory);
-        };
-        Ok(log)
+        let team = Team::none();
+        self.round_by(rt, &team, q, workers, gate)
     }
 }
