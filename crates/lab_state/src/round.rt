@@ -167,9 +167,43 @@ fn count_awake<D: Device>(boards: &[NamedBoard<D>]) -> usize
     boards.iter().filter(|board| board.is_awake()).count()
 }
 
-/// Gives every board the slots of its part of the open grant, and takes what they have made. One
-/// worker needs no thread, and one board that is awake no second worker: then the boards stay where
-/// they are. A board that is asleep passes over its slots in one step there, and not in turns.
+/// How many slots the boards that are awake take in so many microseconds.
+pub(crate) fn awake_slots<D: Device>(boards: &[NamedBoard<D>], q: u64) -> u64 {
+    boards
+        .iter()
+        .filter(|board| board.is_awake())
+        .fold(0_u64, |slots, board| {
+            slots.saturating_add(u64::from(board.speed()).saturating_mul(q))
+        })
+}
+
+/// How many workers share a round: no more than boards are awake, since a board that is asleep passes over
+/// its slots in one step, and one alone where the boards have too few slots for it and the gate holds nobody.
+fn sharers<D: Device + Send, G: Gate>(
+    team: &Team<D>,
+    workers: u8,
+    gate: &G,
+    boards: &[NamedBoard<D>],
+    q: u64,
+) -> u8
+    requires workers { (1 ≤ workers) × (workers ≤ 8) }
+    requires few { length boards.now ≤ 16 }
+    ensures some { 1 ≤ result }
+    ensures most { result ≤ workers }
+    ensures boards { 1 < result → 1 ≤ length boards.now }
+{
+    let awake = count_awake(boards);
+    if workers == 1 || awake <= 1 {
+        return 1;
+    }
+    if gate.is_open() && awake_slots(boards, q) < team.least_shared() {
+        return 1;
+    }
+    workers.min(awake as u8)
+}
+
+/// Gives every board the slots of its part of the open grant, and takes what they have made. Where one
+/// worker does it the boards stay where they are.
 fn step_boards<R: Threads + Wait + Copy + Send + Sync, D: Device + Send, G: Gate>(
     crew: Crew<R, D, G>,
     alloc: Global,
@@ -195,11 +229,23 @@ fn step_boards<R: Threads + Wait + Copy + Send + Sync, D: Device + Send, G: Gate
         ≡ flat_map (entries_made (in_round from.0 q)) boards.old) }
 {
     stretches_number();
-    if crew.workers == 1 || count_awake(boards) <= 1 {
-        step_in_place(alloc, boards, source, from, q)
-    } else {
-        step_lent(crew, alloc, boards, source, from, q)
+    let Crew {
+        rt,
+        team,
+        workers,
+        gate,
+    } = crew;
+    let workers = sharers(team, workers, gate, boards, q);
+    if workers == 1 {
+        return step_in_place(alloc, boards, source, from, q);
     }
+    let crew = Crew {
+        rt,
+        team,
+        workers,
+        gate,
+    };
+    step_lent(crew, alloc, boards, source, from, q)
 }
 
 /// Grants the boards `q` microseconds, and takes what they have made.

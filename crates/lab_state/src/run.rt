@@ -8,14 +8,17 @@ ghost use Rattle.lab_state.specs.Run.{go_on, lengths, still};
 
 use crate::faults::{LabFault, RunCause, RunFault};
 use crate::lab::Lab;
-use crate::round::RoundLog;
-use crate::team::Team;
+use crate::round::{RoundLog, awake_slots};
+use crate::team::{Team, WORTH_THREADS};
 use dev_core::Device;
 use floor_run::Gate;
 use lab_num::{BoardNo, Key, LAST, Micros, Rows};
 use log_merge::LogItem;
 use std::sync::Wait;
 use std::thread::{Threads, join_mut};
+
+/// The rounds of a run that take longer than starting threads, also where no board is awake.
+const MANY_ROUNDS: u64 = 1_000;
 
 impl<D: Device> Lab<D> {
     /// Whether a run of `d` microseconds may be made: every board has a plan, and the run ends within
@@ -120,6 +123,20 @@ impl<D: Device + Send> Lab<D> {
         })
     }
 
+    /// The helpers of a run, where it is worth them: its boards have slots enough, or it has so many rounds
+    /// that boards which are asleep may wake up meanwhile, or the gate may hold someone.
+    fn team_for<G: Gate>(&self, d: u64, workers: u8, gate: &G) -> Team<D> {
+        if workers == 1 || self.boards.len() <= 1 {
+            return Team::none();
+        }
+        let is_long = self.quantum.saturating_mul(MANY_ROUNDS) <= d
+            || awake_slots(&self.boards, d) >= WORTH_THREADS;
+        if gate.is_open() && !is_long {
+            return Team::none();
+        }
+        Team::new(self.alloc)
+    }
+
     /// The rounds of a run, by the caller alone or with helpers, who live as long as the run.
     fn rounds_by<R: Threads + Wait + Copy + Send + Sync, G: Gate>(
         &mut self,
@@ -138,11 +155,10 @@ impl<D: Device + Send> Lab<D> {
         ensures paused { IfOk result (λ log. log.paused ≡ (run_spec.run self.old.lab d).paused) }
         ensures err { OnErr result (self.new.spent ≡ true) }
     {
-        if workers == 1 {
-            let team = Team::none();
+        let team = self.team_for(d, workers, gate);
+        if !team.has_helpers() {
             return self.rounds(rt, &team, d, workers, gate);
         }
-        let team = Team::new(self.alloc);
         self.rounds_beside(rt, &team, d, workers, gate)
     }
 
@@ -166,7 +182,8 @@ impl<D: Device + Send> Lab<D> {
         ensures err { OnErr result (self.new.spent ≡ true) }
     {
         let alloc = self.alloc;
-        let mut help = move || team.help_by(rt, alloc, workers, gate);
+        let most = usize::from(workers).min(self.boards.len()) as u8;
+        let mut help = move || team.help_by(rt, alloc, most, gate);
         let mut lead = || -> Result<RoundLog, LabFault>
             requires { (self.now.spent ≡ false) × (1 ≤ workers) × (workers ≤ 8)
                 × HaveAllPlans self.now.lab × (self.now.lab.now + d ≤ 10000000000) }

@@ -11,6 +11,12 @@ use std::alloc::Global;
 use std::sync::Wait;
 use std::thread::Threads;
 
+/// The fewest slots for which helpers are called to a round. With fewer it is done sooner in its place.
+const WORTH_HELPERS: u64 = 8_192;
+
+/// The fewest slots for which threads are started.
+pub(crate) const WORTH_THREADS: u64 = 16_384;
+
 /// Helpers who wait for the boards of more than one round, or none: then each round starts its own threads.
 #[derive(Drop)]
 pub struct Team<D: Device + Send> {
@@ -28,6 +34,10 @@ impl<D: Device + Send> Team<D> {
         Team {
             helpers: Helpers::new(alloc).ok(),
         }
+    }
+
+    pub(crate) fn has_helpers(&self) -> bool {
+        self.helpers.is_some()
     }
 
     /// Helpers that make so many workers with their leader, each on a thread of its own where one can be made. It
@@ -48,6 +58,14 @@ impl<D: Device + Send> Team<D> {
     pub fn dismiss(&self) {
         if let Some(helpers) = &self.helpers {
             helpers.dismiss();
+        }
+    }
+
+    /// The fewest slots of a round that is worth more than one worker.
+    pub(crate) fn least_shared(&self) -> u64 {
+        match self.helpers {
+            Some(_) => WORTH_HELPERS,
+            None => WORTH_THREADS,
         }
     }
 
