@@ -19,7 +19,7 @@ pub(crate) const WORTH_THREADS: u64 = 16_384;
 
 /// Helpers who wait for the boards of more than one round, or none: then each round starts its own threads.
 #[derive(Drop)]
-pub struct Team<D: Device + Send> {
+pub(crate) struct Team<D: Device + Send> {
     helpers: Option<Helpers<Parcel<D>>>,
 }
 
