@@ -14,11 +14,12 @@ ghost use Rattle.lab_state.specs.One.{first_without};
 ghost use Rattle.lab_state.specs.Round.{stepped, posts_made, entries_made};
 
 use crate::named_board::{Made, NamedBoard};
+use crate::team::Team;
 use dev_core::{Device, Entry};
 use floor_run::Gate;
 use hub_mail::{Boss, Mail, Pass, arrival_laws};
 use lab_num::{BoardNo, Micros, NoMemory};
-use parcel::{Parcel, run_parcels};
+use parcel::Parcel;
 use std::alloc::Global;
 use std::sync::Wait;
 use std::thread::Threads;
@@ -92,11 +93,12 @@ pub(crate) fn take_all_back<R: Wait, D: Device>(
     Ok(entries)
 }
 
-/// Who runs the boards of a round: so many workers, and the gate that they enter before each turn of a
-/// board that is lent to them.
+/// Who runs the boards of a round: so many workers, the helpers among them, and the gate that they enter
+/// before each turn of a board that is lent to them.
 #[derive(Clone, Copy)]
-pub(crate) struct Crew<'a, R, G> {
+pub(crate) struct Crew<'a, R, D: Device + Send, G> {
     pub(crate) rt: &'a R,
+    pub(crate) team: &'a Team<D>,
     pub(crate) workers: u8,
     pub(crate) gate: &'a G,
 }
@@ -104,7 +106,7 @@ pub(crate) struct Crew<'a, R, G> {
 /// Lends every board to the workers for the slots of its part of the open grant, and takes it back.
 /// All that the boards have posted meanwhile is taken out of their mail.
 pub(crate) fn step_lent<R: Threads + Wait + Copy + Send + Sync, D: Device + Send, G: Gate>(
-    crew: Crew<R, G>,
+    crew: Crew<R, D, G>,
     alloc: Global,
     boards: &mut [NamedBoard<D>],
     source: &mut Source,
@@ -128,10 +130,16 @@ pub(crate) fn step_lent<R: Threads + Wait + Copy + Send + Sync, D: Device + Send
         all_entries made.entries.items ≡ flat_map (entries_made (in_round from.0 q)) boards.old) }
 {
     arrival_laws();
-    let (mut boss, passes) = Mail::begin(crew.rt, alloc, boards.len() as u8)?;
+    let Crew {
+        rt,
+        team,
+        workers,
+        gate,
+    } = crew;
+    let (mut boss, passes) = Mail::begin(rt, alloc, boards.len() as u8)?;
     let parcels = lend_all(alloc, boards, &boss, passes, source, from, q)?;
-    let parcels = run_parcels(crew.rt, alloc, parcels, crew.workers, crew.gate)?;
-    let entries = take_all_back(crew.rt, alloc, boards, source, parcels, &mut boss)?;
-    let posts = boss.drain(crew.rt)?;
+    let parcels = team.run(rt, alloc, parcels, workers, gate)?;
+    let entries = take_all_back(rt, alloc, boards, source, parcels, &mut boss)?;
+    let posts = boss.drain(rt)?;
     Ok(Made { posts, entries })
 }

@@ -18,6 +18,7 @@ mod resume;
 mod round;
 mod run;
 mod spares;
+mod team;
 
 pub use faults::{AddFault, ConnectFault, FitFault, HubNameFault, LabFault, RunCause, RunFault};
 pub use lab::Lab;

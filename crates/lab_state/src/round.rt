@@ -24,6 +24,7 @@ use crate::hub_list::HubList;
 use crate::lab::Lab;
 use crate::lending::{Crew, step_lent};
 use crate::named_board::{Made, NamedBoard};
+use crate::team::Team;
 use board::{
     stretches_keep_plans, stretches_keep_time, stretches_number, stretches_tell_of_devices,
 };
@@ -166,11 +167,45 @@ fn count_awake<D: Device>(boards: &[NamedBoard<D>]) -> usize
     boards.iter().filter(|board| board.is_awake()).count()
 }
 
-/// Gives every board the slots of its part of the open grant, and takes what they have made. One
-/// worker needs no thread, and one board that is awake no second worker: then the boards stay where
-/// they are. A board that is asleep passes over its slots in one step there, and not in turns.
+/// How many slots the boards that are awake take in so many microseconds.
+pub(crate) fn awake_slots<D: Device>(boards: &[NamedBoard<D>], q: u64) -> u64 {
+    boards
+        .iter()
+        .filter(|board| board.is_awake())
+        .fold(0_u64, |slots, board| {
+            slots.saturating_add(u64::from(board.speed()).saturating_mul(q))
+        })
+}
+
+/// How many workers share a round: no more than boards are awake, since a board that is asleep passes over
+/// its slots in one step, and one alone where the boards have too few slots for it and the gate holds nobody.
+fn sharers<D: Device + Send, G: Gate>(
+    team: &Team<D>,
+    workers: u8,
+    gate: &G,
+    boards: &[NamedBoard<D>],
+    q: u64,
+) -> u8
+    requires workers { (1 ≤ workers) × (workers ≤ 8) }
+    requires few { length boards.now ≤ 16 }
+    ensures some { 1 ≤ result }
+    ensures most { result ≤ workers }
+    ensures boards { 1 < result → 1 ≤ length boards.now }
+{
+    let awake = count_awake(boards);
+    if workers == 1 || awake <= 1 {
+        return 1;
+    }
+    if gate.is_open() && awake_slots(boards, q) < team.least_shared() {
+        return 1;
+    }
+    workers.min(awake as u8)
+}
+
+/// Gives every board the slots of its part of the open grant, and takes what they have made. Where one
+/// worker does it the boards stay where they are.
 fn step_boards<R: Threads + Wait + Copy + Send + Sync, D: Device + Send, G: Gate>(
-    crew: Crew<R, G>,
+    crew: Crew<R, D, G>,
     alloc: Global,
     boards: &mut [NamedBoard<D>],
     source: &mut Source,
@@ -194,16 +229,28 @@ fn step_boards<R: Threads + Wait + Copy + Send + Sync, D: Device + Send, G: Gate
         ≡ flat_map (entries_made (in_round from.0 q)) boards.old) }
 {
     stretches_number();
-    if crew.workers == 1 || count_awake(boards) <= 1 {
-        step_in_place(alloc, boards, source, from, q)
-    } else {
-        step_lent(crew, alloc, boards, source, from, q)
+    let Crew {
+        rt,
+        team,
+        workers,
+        gate,
+    } = crew;
+    let workers = sharers(team, workers, gate, boards, q);
+    if workers == 1 {
+        return step_in_place(alloc, boards, source, from, q);
     }
+    let crew = Crew {
+        rt,
+        team,
+        workers,
+        gate,
+    };
+    step_lent(crew, alloc, boards, source, from, q)
 }
 
 /// Grants the boards `q` microseconds, and takes what they have made.
 fn take_slots<R: Threads + Wait + Copy + Send + Sync, D: Device + Send, G: Gate>(
-    crew: Crew<R, G>,
+    crew: Crew<R, D, G>,
     alloc: Global,
     boards: &mut [NamedBoard<D>],
     source: &mut Source,
@@ -253,7 +300,7 @@ fn push_end(
 
 /// Runs the boards for a round of `q` microseconds, and hands over what is due by then.
 fn play<R: Threads + Wait + Copy + Send + Sync, D: Device + Send, G: Gate>(
-    crew: Crew<R, G>,
+    crew: Crew<R, D, G>,
     alloc: Global,
     boards: &mut [NamedBoard<D>],
     source: &mut Source,
@@ -303,6 +350,52 @@ fn play<R: Threads + Wait + Copy + Send + Sync, D: Device + Send, G: Gate>(
 }
 
 impl<D: Device + Send> Lab<D> {
+    /// Runs one round as `round` does. Its workers are the helpers of the team and the caller, if it has any.
+    pub(crate) fn round_by<R: Threads + Wait + Copy + Send + Sync, G: Gate>(
+        &mut self,
+        rt: &R,
+        team: &Team<D>,
+        q: u64,
+        workers: u8,
+        gate: &G,
+    ) -> Result<RoundLog, LabFault>
+        requires some { 0 < q }
+        requires workers { (1 ≤ workers) × (workers ≤ 8) }
+        requires plans { self.old.spent ≡ false → HaveAllPlans self.old.lab }
+        requires within { self.old.spent ≡ false → self.old.lab.now + q ≤ 10000000000 }
+        ensures lab { OnOk result (self.new
+            ≡ record { lab = (round_spec.round self.old.lab q).lab; spent = false }) }
+        ensures lines { IfOk result (λ log. log.lines ≡ (round_spec.round self.old.lab q).items) }
+        ensures paused { IfOk result (λ log.
+            log.paused ≡ (round_spec.round self.old.lab q).paused) }
+        ensures plans { OnOk result (HaveAllPlans self.new.lab) }
+        ensures err { OnErr result (self.new.spent ≡ true) }
+        ensures spent { self.old.spent ≡ true → result ≡ Err LabFault.Memory }
+    {
+        if self.spent {
+            return Err(LabFault::Memory);
+        }
+        let crew = Crew {
+            rt,
+            team,
+            workers,
+            gate,
+        };
+        let Ok(log) = play(
+            crew,
+            self.alloc,
+            &mut self.boards,
+            &mut self.source,
+            &self.hubs,
+            &mut self.pending,
+            q,
+        ) else {
+            self.spent = true;
+            return Err(LabFault::Memory);
+        };
+        Ok(log)
+    }
+
     /// Runs one round of `q` microseconds. Where two boards or more are awake, several workers take
     /// turns of the boards, on threads, and enter the gate before each; else board after board takes
     /// its slots, and nobody enters the gate. `LabFault::Memory` spends the laboratory.
@@ -326,22 +419,7 @@ impl<D: Device + Send> Lab<D> {
         ensures err { OnErr result (self.new.spent ≡ true) }
         ensures spent { self.old.spent ≡ true → result ≡ Err LabFault.Memory }
     {
-        if self.spent {
-            return Err(LabFault::Memory);
-        }
-        let crew = Crew { rt, workers, gate };
-        let Ok(log) = play(
-            crew,
-            self.alloc,
-            &mut self.boards,
-            &mut self.source,
-            &self.hubs,
-            &mut self.pending,
-            q,
-        ) else {
-            self.spent = true;
-            return Err(LabFault::Memory);
-        };
-        Ok(log)
+        let team = Team::none();
+        self.round_by(rt, &team, q, workers, gate)
     }
 }

@@ -8,13 +8,17 @@ ghost use Rattle.lab_state.specs.Run.{go_on, lengths, still};
 
 use crate::faults::{LabFault, RunCause, RunFault};
 use crate::lab::Lab;
-use crate::round::RoundLog;
+use crate::round::{RoundLog, awake_slots};
+use crate::team::{Team, WORTH_THREADS};
 use dev_core::Device;
 use floor_run::Gate;
 use lab_num::{BoardNo, Key, LAST, Micros, Rows};
 use log_merge::LogItem;
 use std::sync::Wait;
-use std::thread::Threads;
+use std::thread::{Threads, join_mut};
+
+/// The rounds of a run that take longer than starting threads, also where no board is awake.
+const MANY_ROUNDS: u64 = 1_000;
 
 impl<D: Device> Lab<D> {
     /// Whether a run of `d` microseconds may be made: every board has a plan, and the run ends within
@@ -58,6 +62,7 @@ impl<D: Device + Send> Lab<D> {
     fn round_onto<R: Threads + Wait + Copy + Send + Sync, G: Gate>(
         &mut self,
         rt: &R,
+        team: &Team<D>,
         lines: &mut Vec<LogItem>,
         q: u64,
         workers: u8,
@@ -76,7 +81,7 @@ impl<D: Device + Send> Lab<D> {
         ensures plans { OnOk result (HaveAllPlans self.new.lab) }
         ensures err { OnErr result (self.new.spent ≡ true) }
     {
-        let log = self.round(rt, q, workers, gate)?;
+        let log = self.round_by(rt, team, q, workers, gate)?;
         if lines.extend_from_slice(log.lines.items()).is_err() {
             self.spent = true;
             return Err(LabFault::Memory);
@@ -88,6 +93,7 @@ impl<D: Device + Send> Lab<D> {
     fn rounds<R: Threads + Wait + Copy + Send + Sync, G: Gate>(
         &mut self,
         rt: &R,
+        team: &Team<D>,
         d: u64,
         workers: u8,
         gate: &G,
@@ -108,13 +114,93 @@ impl<D: Device + Send> Lab<D> {
         let mut left = d;
         'rounds: while left > 0 && paused.is_none() {
             let q = left.min(longest);
-            paused = self.round_onto(rt, &mut lines, q, workers, gate)?;
+            paused = self.round_onto(rt, team, &mut lines, q, workers, gate)?;
             left -= q;
         }
         Ok(RoundLog {
             lines: Rows::of(lines),
             paused,
         })
+    }
+
+    /// The helpers of a run, where it is worth them: its boards have slots enough, or it has so many rounds
+    /// that boards which are asleep may wake up meanwhile, or the gate may hold someone.
+    fn team_for<G: Gate>(&self, d: u64, workers: u8, gate: &G) -> Team<D> {
+        if workers == 1 || self.boards.len() <= 1 {
+            return Team::none();
+        }
+        let is_long = self.quantum.saturating_mul(MANY_ROUNDS) <= d
+            || awake_slots(&self.boards, d) >= WORTH_THREADS;
+        if gate.is_open() && !is_long {
+            return Team::none();
+        }
+        Team::new(self.alloc)
+    }
+
+    /// The rounds of a run, by the caller alone or with helpers, who live as long as the run.
+    fn rounds_by<R: Threads + Wait + Copy + Send + Sync, G: Gate>(
+        &mut self,
+        rt: &R,
+        d: u64,
+        workers: u8,
+        gate: &G,
+    ) -> Result<RoundLog, LabFault>
+        requires unspent { self.old.spent ≡ false }
+        requires workers { (1 ≤ workers) × (workers ≤ 8) }
+        requires plans { HaveAllPlans self.old.lab }
+        requires within { self.old.lab.now + d ≤ 10000000000 }
+        ensures lab { OnOk result (self.new
+            ≡ record { lab = (run_spec.run self.old.lab d).lab; spent = false }) }
+        ensures lines { IfOk result (λ log. log.lines ≡ (run_spec.run self.old.lab d).items) }
+        ensures paused { IfOk result (λ log. log.paused ≡ (run_spec.run self.old.lab d).paused) }
+        ensures err { OnErr result (self.new.spent ≡ true) }
+    {
+        let team = self.team_for(d, workers, gate);
+        if !team.has_helpers() {
+            return self.rounds(rt, &team, d, workers, gate);
+        }
+        self.rounds_beside(rt, &team, d, workers, gate)
+    }
+
+    /// The rounds of a run beside the helpers of a team, who are let go at its end.
+    fn rounds_beside<R: Threads + Wait + Copy + Send + Sync, G: Gate>(
+        &mut self,
+        rt: &R,
+        team: &Team<D>,
+        d: u64,
+        workers: u8,
+        gate: &G,
+    ) -> Result<RoundLog, LabFault>
+        requires unspent { self.old.spent ≡ false }
+        requires workers { (1 ≤ workers) × (workers ≤ 8) }
+        requires plans { HaveAllPlans self.old.lab }
+        requires within { self.old.lab.now + d ≤ 10000000000 }
+        ensures lab { OnOk result (self.new
+            ≡ record { lab = (run_spec.run self.old.lab d).lab; spent = false }) }
+        ensures lines { IfOk result (λ log. log.lines ≡ (run_spec.run self.old.lab d).items) }
+        ensures paused { IfOk result (λ log. log.paused ≡ (run_spec.run self.old.lab d).paused) }
+        ensures err { OnErr result (self.new.spent ≡ true) }
+    {
+        let alloc = self.alloc;
+        let most = usize::from(workers).min(self.boards.len()) as u8;
+        let mut help = move || team.help_by(rt, alloc, most, gate);
+        let mut lead = || -> Result<RoundLog, LabFault>
+            requires { (self.now.spent ≡ false) × (1 ≤ workers) × (workers ≤ 8)
+                × HaveAllPlans self.now.lab × (self.now.lab.now + d ≤ 10000000000) }
+            ensures lab { OnOk result (self.exit.now
+                ≡ record { lab = (run_spec.run self.entry.now.lab d).lab; spent = false }) }
+            ensures lines { IfOk result (λ log.
+                log.lines ≡ (run_spec.run self.entry.now.lab d).items) }
+            ensures paused { IfOk result (λ log.
+                log.paused ≡ (run_spec.run self.entry.now.lab d).paused) }
+            ensures err { OnErr result (self.exit.now.spent ≡ true) }
+        {
+            let run = self.rounds(rt, team, d, workers, gate);
+            team.dismiss();
+            run
+        };
+        let (_, run) = join_mut(rt, &mut help, &mut lead);
+        run
     }
 
     /// Runs for `d` microseconds: rounds of one quantum each, and then a shorter one if the quanta
@@ -147,7 +233,7 @@ impl<D: Device + Send> Lab<D> {
             return Err(RunFault::Memory);
         }
         self.may_run(d)?;
-        let run = self.rounds(rt, d.0, workers, gate)?;
+        let run = self.rounds_by(rt, d.0, workers, gate)?;
         Ok(run)
     }
 }

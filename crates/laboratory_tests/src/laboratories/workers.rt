@@ -1,4 +1,4 @@
-//! One round of four boards, by one worker and by several.
+//! One round of four boards, by itself and as a run, by one worker and by several.
 use super::chip::{Counts, stock};
 use super::{SENDS, adds, fits, is_planned, loads, starts};
 use dev_core::{Device, Kind, Stock, What};
@@ -7,6 +7,8 @@ use lab_num::{BoardNo, Member, Micros, NoMemory};
 use lab_state::Lab;
 use log_merge::{LogItem, Member0};
 use std::alloc::Global;
+use std::fs;
+use std::rt::Files;
 use std::sync::Wait;
 use std::sync::atomic::AtomicU32;
 use std::test::Fail;
@@ -70,11 +72,12 @@ fn logs_all(lines: &[LogItem]) -> bool {
     lines == &[sent(0), sent(1), sent(2), sent(3)][..]
 }
 
-/// A round of 100 microseconds logs a line of each board.
+/// A round of 100 microseconds, or a run of as many, logs a line of each board.
 fn plays<R: Threads + Wait + Copy + Send + Sync, D: Device + Send>(
     rt: &R,
     lab: &mut Lab<D>,
     workers: u8,
+    as_run: bool,
 ) -> bool {
     if workers < 1 || workers > 8 || lab.is_spent() || lab.first_without_plan().is_some() {
         return false;
@@ -82,9 +85,14 @@ fn plays<R: Threads + Wait + Copy + Send + Sync, D: Device + Send>(
     if lab.now().0 > 1_000_000 {
         return false;
     }
-    match lab.round(rt, 100, workers, &NoGate) {
-        Ok(log) => logs_all(log.lines.items()) && log.paused.is_none(),
-        Err(_) => false,
+    let log = if as_run {
+        lab.run_for(rt, Micros(100), workers, &NoGate).ok()
+    } else {
+        lab.round(rt, 100, workers, &NoGate).ok()
+    };
+    match log {
+        Some(log) => logs_all(log.lines.items()) && log.paused.is_none(),
+        None => false,
     }
 }
 
@@ -98,6 +106,7 @@ fn runs_on<R: Threads + Wait + Copy + Send + Sync, D: Device + Send>(
     alloc: Global,
     stock: Stock<D>,
     workers: u8,
+    as_run: bool,
 ) -> Result<bool, NoMemory> {
     if !stock.is_full() {
         return Ok(false);
@@ -108,7 +117,7 @@ fn runs_on<R: Threads + Wait + Copy + Send + Sync, D: Device + Send>(
             return Ok(false);
         }
     }
-    if !plays(rt, &mut lab, workers) {
+    if !plays(rt, &mut lab, workers, as_run) {
         return Ok(false);
     }
     Ok((0..4).all(|n| has_run(&lab, BoardNo(n))))
@@ -118,17 +127,41 @@ fn runs<R: Threads + Wait + Copy + Send + Sync>(
     rt: &R,
     alloc: Global,
     workers: u8,
+    as_run: bool,
 ) -> Result<bool, NoMemory> {
     let counts: Counts = [AtomicU32::new(0), AtomicU32::new(0), AtomicU32::new(0)];
     let stock = stock(alloc, &counts)?;
-    runs_on(rt, alloc, stock, workers)
+    runs_on(rt, alloc, stock, workers, as_run)
 }
 
 #[test]
 fn a_round_logs_the_same_whatever_the_number_of_workers(rt: HostRuntime) -> Result<(), Fail> {
     for workers in [1, 2, 8] {
-        let same = runs(&rt, rt.alloc(), workers)?;
+        let same = runs(&rt, rt.alloc(), workers, false)?;
         assert!(rt; same);
+    }
+    Ok(())
+}
+
+/// How many threads this program has, as the system counts them.
+fn threads<R: Files + AllocGlobal>(rt: &R) -> Option<u64> {
+    let status = fs::read_to_string(rt, "/proc/self/status").ok()?;
+    let line = status
+        .as_str()
+        .lines()
+        .find(|line| line.starts_with("Threads:"))?;
+    line.split_ascii_whitespace().nth(1)?.parse::<u64>().ok()
+}
+
+#[test]
+fn no_thread_outlives_a_run(rt: HostRuntime) -> Result<(), Fail> {
+    let before = threads(&rt);
+    assert!(rt; before.is_some());
+    for workers in [1, 2, 8] {
+        let same = runs(&rt, rt.alloc(), workers, true)?;
+        assert!(rt; same);
+        // the system may count a thread for a moment more
+        assert!(rt; (0..10_000).any(|_| threads(&rt) == before));
     }
     Ok(())
 }

@@ -19,8 +19,8 @@ pub lend_all-requires-clause-count : goal.lend_all-requires-clause-count
 lend_all-requires-clause-count g c =
     ap length c.in_ok-boss.ensures.passes ∙ count_of c.in_ok-boss.boss.mail (length c.args.boards.now)
 
-pub run_parcels-requires-clause-few : goal.run_parcels-requires-clause-few
-run_parcels-requires-clause-few g c κs within =
+pub run-requires-clause-few : goal.run-requires-clause-few
+run-requires-clause-few g c κs within =
     let boards = c.args.boards.now in
     let from = c.args.from.0 in
     let to = from + c.args.q in
@@ -33,22 +33,22 @@ run_parcels-requires-clause-few g c κs within =
       c.requires.few,
     )
 
-pub run_parcels-requires-clause-sent : goal.run_parcels-requires-clause-sent
-run_parcels-requires-clause-sent g c κs within =
+pub run-requires-clause-sent : goal.run-requires-clause-sent
+run-requires-clause-sent g c κs within =
     rw c.in_ok-parcels.ensures.parcels
     (All-weaker HasRoom (λ (p : Parcel). p.board.posts ≡ []) (λ p has. has.quiet) _
     (all_have_room c.in_ok-boss.boss.mail c.args.from.0 c.args.q c.requires.within c.args.boards.now
     c.requires.standing))
 
-pub run_parcels-requires-clause-posts : goal.run_parcels-requires-clause-posts
-run_parcels-requires-clause-posts g c κs within =
+pub run-requires-clause-posts : goal.run-requires-clause-posts
+run-requires-clause-posts g c κs within =
     rw c.in_ok-parcels.ensures.parcels
     (All-weaker HasRoom (λ (p : Parcel). p.board.view.numbers.posted + left p.grant < 2 ^ 64) (λ p has. has.posts) _
     (all_have_room c.in_ok-boss.boss.mail c.args.from.0 c.args.q c.requires.within c.args.boards.now
     c.requires.standing))
 
-pub run_parcels-requires-clause-entries : goal.run_parcels-requires-clause-entries
-run_parcels-requires-clause-entries g c κs within =
+pub run-requires-clause-entries : goal.run-requires-clause-entries
+run-requires-clause-entries g c κs within =
     rw c.in_ok-parcels.ensures.parcels
     (All-weaker HasRoom (λ (p : Parcel). p.board.view.numbers.entered + left p.grant < 2 ^ 64) (λ p has. has.entries) _
     (all_have_room c.in_ok-boss.boss.mail c.args.from.0 c.args.q c.requires.within c.args.boards.now

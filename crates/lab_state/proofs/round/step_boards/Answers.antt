@@ -9,8 +9,8 @@ if_ok : {A E : Type 0} (P Q : A → Type 0) (r : Result A E) → ((v : A) → P 
 if_ok P Q (Ok v) so is = so v is
 if_ok P Q (Err e) so is = tt
 
-pub returns-then-count_awake-le1-clause-keys : goal.returns-then-count_awake-le1-clause-keys
-returns-then-count_awake-le1-clause-keys g c =
+pub returns-then-workers-eq1-clause-keys : goal.returns-then-workers-eq1-clause-keys
+returns-then-workers-eq1-clause-keys g c =
     if_ok _ _ c.step_in_place.result
     (λ made is.
     subst (KeysDiffer post_key) (sym is)

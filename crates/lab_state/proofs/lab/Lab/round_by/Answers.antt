@@ -3,7 +3,7 @@ use Rattle.std.proofs.Common.{◌∙◌, sym, ap, refl, arith, rules}
 use Rattle.lab_state.specs.Lab.{Lab}
 use Rattle.lab_state.specs.One.{HaveAllPlans}
 use Rattle.lab_state.proofs.RoundLemmas.{given_back, plans_kept, round_is}
-use Rattle.lab_state.proofs.lab.Lab.round.Goals as goal
+use Rattle.lab_state.proofs.lab.Lab.round_by.Goals as goal
 
 pub invariant_of-self : goal.invariant_of-self
 invariant_of-self g c h =

@@ -1,0 +1,93 @@
+//! The helpers of a run.
+ghost use Rattle.std.specs.Prelude.{◌≡◌, ◌≤◌, ◌+◌, ◌<◌, ◌^◌, [], length, map, All, IfOk};
+ghost use Rattle.time_handle.specs.Grant.{left};
+ghost use Rattle.parcel.specs.Ran.{ran};
+
+use dev_core::Device;
+use floor_run::{Gate, Helpers};
+use lab_num::NoMemory;
+use parcel::{Parcel, run_parcels, run_parcels_with};
+use std::alloc::Global;
+use std::sync::Wait;
+use std::thread::Threads;
+
+/// The fewest slots for which helpers are called to a round. With fewer it is done sooner in its place.
+const WORTH_HELPERS: u64 = 8_192;
+
+/// The fewest slots for which threads are started.
+pub(crate) const WORTH_THREADS: u64 = 16_384;
+
+/// Helpers who wait for the boards of more than one round, or none: then each round starts its own threads.
+#[derive(Drop)]
+pub(crate) struct Team<D: Device + Send> {
+    helpers: Option<Helpers<Parcel<D>>>,
+}
+
+impl<D: Device + Send> Team<D> {
+    /// No helpers.
+    pub fn none() -> Team<D> {
+        Team { helpers: None }
+    }
+
+    /// Helpers, or none where no memory is found for them.
+    pub fn new(alloc: Global) -> Team<D> {
+        Team {
+            helpers: Helpers::new(alloc).ok(),
+        }
+    }
+
+    pub(crate) fn has_helpers(&self) -> bool {
+        self.helpers.is_some()
+    }
+
+    /// Helpers that make so many workers with their leader, each on a thread of its own where one can be made. It
+    /// returns once they are dismissed.
+    pub fn help_by<R: Threads + Wait + Copy + Send + Sync, G: Gate>(
+        &self,
+        rt: &R,
+        alloc: Global,
+        workers: u8,
+        gate: &G,
+    ) {
+        if let Some(helpers) = &self.helpers {
+            helpers.help_by(rt, alloc, workers, gate);
+        }
+    }
+
+    /// Lets the helpers go.
+    pub fn dismiss(&self) {
+        if let Some(helpers) = &self.helpers {
+            helpers.dismiss();
+        }
+    }
+
+    /// The fewest slots of a round that is worth more than one worker.
+    pub(crate) fn least_shared(&self) -> u64 {
+        match self.helpers {
+            Some(_) => WORTH_HELPERS,
+            None => WORTH_THREADS,
+        }
+    }
+
+    /// Has every board take all slots of its grant, by so many workers.
+    pub(crate) fn run<R: Threads + Wait + Copy + Send + Sync, G: Gate>(
+        &self,
+        rt: &R,
+        alloc: Global,
+        parcels: Vec<Parcel<D>>,
+        workers: u8,
+        gate: &G,
+    ) -> Result<Vec<Parcel<D>>, NoMemory>
+        requires few { length parcels.items ≤ 16 }
+        requires workers { (1 ≤ workers) × (workers ≤ 8) }
+        requires sent { All (λ p. p.board.posts ≡ []) parcels.items }
+        requires posts { All (λ p. p.board.view.numbers.posted + left p.grant < 2 ^ 64) parcels.items }
+        requires entries { All (λ p. p.board.view.numbers.entered + left p.grant < 2 ^ 64) parcels.items }
+        ensures { IfOk result (λ done. done.items ≡ map ran parcels.items) }
+    {
+        match &self.helpers {
+            Some(helpers) => run_parcels_with(rt, alloc, helpers, parcels, workers, gate),
+            None => run_parcels(rt, alloc, parcels, workers, gate),
+        }
+    }
+}
