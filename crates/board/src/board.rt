@@ -15,7 +15,7 @@ use dev_core::{Device, Entry, Payload, Post, Taken};
 use lab_num::{BoardNo, Micros, NoMemory};
 use rv_atomic::Watch;
 use rv_hart::Hart;
-use slots::{SEVERAL, SEVERAL_HALVES, UNWIRED, UNWIRED_HALVES, WIRED, WIRED_HALVES};
+use slots::{SHARED, UNWIRED, UNWIRED_HALVES, WIRED, WIRED_HALVES};
 use std::alloc::Global;
 use std::marker::Model;
 use std::mem;
@@ -165,21 +165,20 @@ impl<D: Device> Board<D> {
             self.skip(n);
             return Turn::Used(n);
         }
-        // loops of their own, so that a board of one processor asks in no slot whose turn is next and what is reserved,
-        // one without timer, interrupt controller and wires asks for no lines, and none asks whether there are
-        // compressed instructions
+        // loops of their own, so that a board of one processor without atomic instructions asks in no slot whose turn is
+        // next and what is reserved, one without timer, interrupt controller and wires asks for no lines, and none asks
+        // whether there are compressed instructions
         let Ways {
-            several,
+            shared,
             wired,
             halves,
         } = self.ways();
-        match (several, wired, halves) {
+        match (shared, wired, halves) {
             (false, false, false) => self.slots::<UNWIRED>(false, false, false, at, n),
             (false, true, false) => self.slots::<WIRED>(false, true, false, at, n),
             (false, false, true) => self.slots::<UNWIRED_HALVES>(false, false, true, at, n),
             (false, true, true) => self.slots::<WIRED_HALVES>(false, true, true, at, n),
-            (true, _, false) => self.slots::<SEVERAL>(true, wired, false, at, n),
-            (true, _, true) => self.slots::<SEVERAL_HALVES>(true, wired, true, at, n),
+            (true, _, _) => self.slots::<SHARED>(true, wired, halves, at, n),
         }
     }
 

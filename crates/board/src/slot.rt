@@ -24,8 +24,8 @@ pub const APART: u8 = 5;
 /// What a board asks once in a turn, and not in each slot.
 #[derive(Clone, Copy)]
 pub struct Ways {
-    /// Whether there are several processors.
-    pub several: bool,
+    /// Whether there are several processors, or atomic instructions.
+    pub shared: bool,
     /// Whether there is a line that may be up.
     pub wired: bool,
     /// Whether there are compressed instructions.

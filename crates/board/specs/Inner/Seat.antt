@@ -1,5 +1,5 @@
 -- A processor in its slot, and how the slots of a board are taken.
-use Rattle.std.specs.Prelude.{ℕ, ◌==◌, ◌++◌, not, Bool, if◌then◌else◌, List, Option, None, length, map, slice_index_or}
+use Rattle.std.specs.Prelude.{ℕ, ◌==◌, ◌||◌, ◌++◌, not, Bool, if◌then◌else◌, List, Option, None, length, map, slice_index_or}
 use Rattle.std.specs.List.{range_with_len}
 use Rattle.std.specs.Option.{option_map_or}
 use Rattle.rv_hart.specs.Core.{Core, initial}
@@ -23,12 +23,12 @@ seen hart core watch w = (hart_state hart core watch w).view
 abbrev pub behind : HartState → HartState → HartState
 behind s run = record { view = run.view; posts = s.posts ++ run.posts; entries = s.entries ++ run.entries }
 
--- whether there are several processors
-abbrev pub has_several : BoardPlan → Bool
-has_several plan = not (length plan.cpus == 1)
+-- whether processors may share words of memory: there are several, or there are atomic instructions
+abbrev pub is_shared : BoardPlan → Bool
+is_shared plan = not (length plan.cpus == 1) || plan.letters.a
 
 abbrev pub ways_of : BoardPlan → Ways
-ways_of plan = record { several = has_several plan; wired = is_wired plan; halves = plan.letters.c }
+ways_of plan = record { shared = is_shared plan; wired = is_wired plan; halves = plan.letters.c }
 
 -- what a word is on a processor of these letters: an atomic instruction, where it has those, or anything else
 abbrev pub shared_of_word : Letters → ℕ → Shared

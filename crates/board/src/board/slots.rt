@@ -19,9 +19,8 @@ use rv_atomic::Watch;
 use rv_hart::Hart;
 
 /// The copies of the interpreter in the loops of a turn, of which each is called from one place, so
-/// that it is inlined there: those of boards of one processor, which are wired or not and have
-/// compressed instructions or not, and those of boards of several, which have compressed instructions
-/// or not.
+/// that it is inlined there: those of boards of one processor without atomic instructions, which are
+/// wired or not and have compressed instructions or not, and one of all other boards.
 pub const UNWIRED: u8 = 0;
 
 pub const WIRED: u8 = 1;
@@ -30,9 +29,7 @@ pub const UNWIRED_HALVES: u8 = 2;
 
 pub const WIRED_HALVES: u8 = 3;
 
-pub const SEVERAL: u8 = 4;
-
-pub const SEVERAL_HALVES: u8 = 6;
+pub const SHARED: u8 = 4;
 
 /// How slots of one microsecond have ended.
 enum Ended {
@@ -52,8 +49,8 @@ fn number_after(harts: u8, number: u8) -> u8
     if number + 1 == harts { 0 } else { number + 1 }
 }
 
-/// The next `count` slots of a board of one processor, all in this microsecond, or those up to an
-/// idle one.
+/// The next `count` slots of a board of one processor without atomic instructions, all in this
+/// microsecond, or those up to an idle one.
 #[inline(always)]
 fn slots_alone<const COPY: u8, D: Device>(
     hart: &mut Hart,
@@ -63,7 +60,7 @@ fn slots_alone<const COPY: u8, D: Device>(
     now: Micros,
     count: u64,
 ) -> Ended
-    requires alone { ways.several ≡ false }
+    requires alone { ways.shared ≡ false }
     requires ways { ways ≡ ways_of wires.old.space.plan }
     requires letters { hart.old.letters ≡ wires.old.space.plan.letters }
     requires harts { length watch.old ≡ length wires.old.space.plan.cpus }
@@ -94,7 +91,7 @@ impl<D: Device> Board<D> {
     {
         let plan = self.wires.space.plan();
         Ways {
-            several: plan.cpus.items().len() != 1,
+            shared: plan.cpus.items().len() != 1 || plan.letters.a,
             wired: self.wires.space.is_wired(),
             halves: plan.letters.c,
         }
@@ -105,19 +102,19 @@ impl<D: Device> Board<D> {
     #[inline(never)]
     pub(super) fn slots<const COPY: u8>(
         &mut self,
-        several: bool,
+        shared: bool,
         wired: bool,
         halves: bool,
         at: SlotAt,
         n: u64,
     ) -> Turn
         requires time { at.from.0 + (at.first + n) / self.old.view.numbers.speed ≤ 10000000000 }
-        requires ways { record { several = several; wired = wired; halves = halves }
+        requires ways { record { shared = shared; wired = wired; halves = halves }
             ≡ ways_of self.old.view.space.plan }
         ensures { IsTurn self.old at.from.0 at.first n result self.new }
     {
         let ways = Ways {
-            several,
+            shared,
             wired,
             halves,
         };
@@ -157,17 +154,17 @@ impl<D: Device> Board<D> {
         ensures ended { HasEnded count result }
         ensures run { self.new ≡ after self.old (stretch self.old.view now.0 0 (taken_of count result)) }
     {
-        if ways.several {
+        if ways.shared {
             self.slots_in_turn::<COPY>(ways, now, count)
         } else {
             self.slots_of_one::<COPY>(ways, now, count)
         }
     }
 
-    /// The same of a board of one processor.
+    /// The same of a board of one processor without atomic instructions.
     #[inline(always)]
     fn slots_of_one<const COPY: u8>(&mut self, ways: Ways, now: Micros, count: u64) -> Ended
-        requires alone { ways.several ≡ false }
+        requires alone { ways.shared ≡ false }
         requires ways { ways ≡ ways_of self.old.view.space.plan }
         requires most { count ≤ self.old.view.numbers.speed }
         ensures ended { HasEnded count result }

@@ -8,7 +8,7 @@ use Rattle.board.specs.Stretch.{stretch}
 use Rattle.board.specs.View.{State, after}
 use Rattle.board.proofs.HoldLemmas.{alone_is, alone_set, holds_set}
 use Rattle.board.proofs.NumberLemmas.{plan-stretch, speed-stretch}
-use Rattle.board.proofs.SeatLemmas.{one-processor}
+use Rattle.board.proofs.SeatLemmas.{not-shared}
 use Rattle.board.proofs.board.Board.slots_of_one.Goals as goal
 
 pub invariant_of-self : goal.invariant_of-self
@@ -28,10 +28,10 @@ returns-clause-run g c =
     let board = c.self.inside in
     let cores = board.harts.items in
     let old = c.index_mut-hart.result.now in
-    let only = one-processor c.args.self.now.view.space.plan
-    (sym (ap {A = Ways} (λ w. w.several) c.requires.ways) ∙ c.requires.alone) in
+    let parts = not-shared c.args.self.now.view.space.plan
+    (sym (ap {A = Ways} (λ w. w.shared) c.requires.ways) ∙ c.requires.alone) in
     let one : length cores ≡ 1 =
-    c.self.invariant.harts ∙ ap {A = State} (λ s. length s.view.space.plan.cpus) c.self.view_is ∙ only in
+    c.self.invariant.harts ∙ ap {A = State} (λ s. length s.view.space.plan.cpus) c.self.view_is ∙ parts.0 in
     let first = c.index_mut-hart.ensures.value ∙ get_or_default cores 0 old initial (omega (arith, one)) in
     let alone = alone_is cores board.next board.watch board.wires one c.self.invariant.next
     ∙ ap (λ core. state_alone core board.watch board.wires) (sym first) in
