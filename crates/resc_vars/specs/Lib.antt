@@ -6,4 +6,6 @@ pub mod Items
 pub mod Variables
 pub mod Script
 pub mod Bodies
+pub mod Behind
+pub mod Coming
 pub mod Inner
