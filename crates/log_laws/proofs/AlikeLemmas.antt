@@ -42,9 +42,9 @@ later_uses n (made ∷ uses) = ap (λ names. made.call.name ∷ names) (later_us
 
 module _ (held other : Held) where
   -- these hold what a run looks at, and they agree on it
-  record Looks (kept stored : Held) (run : Transcript) : Type 0 where
-    reads : Same held other (names_read run.reads)
-    uses : Same kept stored (names_used run.uses)
+  pub record Looks (kept stored : Held) (run : Transcript) : Type 0 where
+    pub reads : Same held other (names_read run.reads)
+    pub uses : Same kept stored (names_used run.uses)
 
   -- what follows in a run is alike with the other files and with another store, where these agree on what it looks at
   abbrev AreAlike : Further → Further → Type 0
@@ -191,7 +191,7 @@ module _ (held other : Held) where
       rw (did_stays held other play s (onward_names first second alike kept stored s done.names done.answer looks))
       (onward_alike first second alike kept stored s done.names done.answer looks)
 
-  begun_alike : (play : Play) (script : List ℕ) (setting : Setting) (content : Content) (kept stored : Held) →
+  pub begun_alike : (play : Play) (script : List ℕ) (setting : Setting) (content : Content) (kept stored : Held) →
       Looks kept stored (begun play held kept script setting content) →
       IsAlike (begun play held kept script setting content) (begun play other stored script setting content)
   begun_alike play script setting Missing kept stored looks =

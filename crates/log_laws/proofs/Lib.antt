@@ -9,3 +9,4 @@ pub mod JoinLemmas
 pub mod CheckLemmas
 pub mod DryLemmas
 pub mod StillLemmas
+pub mod FileLemmas

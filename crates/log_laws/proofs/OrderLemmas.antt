@@ -152,7 +152,7 @@ from_orderly (suc more) play held kept s =
     let done = did play held s in
     onward_orderly (from more play held) (from_orderly more play held) kept s done.names done.answer
 
-begun_orderly : (play : Play) (held kept : Held) (script : List ℕ) (setting : Setting) (content : Content) →
+pub begun_orderly : (play : Play) (held kept : Held) (script : List ℕ) (setting : Setting) (content : Content) →
     IsOrderly kept (begun play held kept script setting content)
 begun_orderly play held kept script setting Missing = ended_orderly kept _
 begun_orderly play held kept script setting (Faulty fault) = ended_orderly kept _
