@@ -1,9 +1,8 @@
 -- A command that enters no body does the same in a state with another script.
-use Rattle.std.proofs.Common.{◌≡◌, ℕ, nat_lt, if◌then◌else◌, Bool, true, false, List, [], length}
+use Rattle.std.proofs.Common.{◌≡◌, ℕ, nat_lt, if◌then◌else◌, Bool, true, false, List, length}
 use Rattle.std.proofs.Common.{Option, None, Some, Result, Ok, Err, refl}
 use Rattle.std.specs.FinMap.{get}
 use Rattle.lab_io.specs.Held.{Held}
-use Rattle.lab_io.specs.Whole.{FileText, Missing, Large, Broken, Readable, file_text}
 use Rattle.lab_num.specs.declared.key.Member.{Member}
 use Rattle.lab_state.specs.Lab.{Lab}
 use Rattle.lab_state.specs.Names.{connected_to}
@@ -24,7 +23,7 @@ use Rattle.elf_load.specs.declared.image.Image.{Image}
 use Rattle.monitor.specs.declared.fault.Cause.{Cause}
 use Rattle.monitor.specs.declared.fault.Cause.TheVariants as cause
 use Rattle.monitor.specs.declared.fault.ScriptFault.{ScriptFault}
-use Rattle.monitor.specs.Answer.{Answer, Goes, Saves, Loads, Ends, Faults, Misses, Did, Done, answer_at, fault_at}
+use Rattle.monitor.specs.Answer.{Answer, Goes, Saves, Loads, Ends, Faults, Misses, Did, Done, answer_at}
 use Rattle.monitor.specs.Answer.{leaves, loads}
 use Rattle.monitor.specs.Answer.{refused, told_at, unread, with_file}
 use Rattle.monitor.specs.Bodies.{include, run_macro}
@@ -36,7 +35,7 @@ use Rattle.monitor.specs.Memory.{read_word, write_bytes, write_word}
 use Rattle.monitor.specs.Processor.{halted, halted_on, mips, mips_on, pc, pc_on}
 use Rattle.monitor.specs.Refusal.{◌>>=◌}
 use Rattle.monitor.specs.Runs.{run_for, start}
-use Rattle.monitor.specs.Selected.{Equipped, bare, equipped}
+use Rattle.monitor.specs.Selected.{Equipped, equipped}
 use Rattle.monitor.specs.State.{State, Place}
 
 -- a fault is the same, or it is told at the place of each line

@@ -1,7 +1,7 @@
 -- The run of a script begins that of the script with more lines behind.
-use Rattle.std.proofs.Common.{◌≡◌, ◌⊎◌, inl, inr, ◌∷◌, ◌++◌, ◌∙◌, ℕ, zero, suc, if◌then◌else◌, Bool, true, false, List}
+use Rattle.std.proofs.Common.{◌≡◌, inl, inr, ◌++◌, ◌∙◌, ℕ, zero, suc, if◌then◌else◌, Bool, true, false, List}
 use Rattle.std.proofs.Common.{[]}
-use Rattle.std.proofs.Common.{length, map, Option, None, Some, refl, sym, ap, subst, append_assoc}
+use Rattle.std.proofs.Common.{Option, None, Some, refl, sym, ap, subst, append_assoc}
 use Rattle.std.specs.FinMap.{get, insert}
 use Rattle.lab_io.specs.Held.{Held}
 use Rattle.lab_io.specs.Store.{StoreUse, get_of, put_of}
@@ -16,14 +16,14 @@ use Rattle.resc_vars.specs.Script.{Kept}
 use Rattle.resc_vars.specs.Script as script
 use Rattle.monitor.specs.declared.fault.ScriptFault.{ScriptFault}
 use Rattle.monitor.specs.Answer.{Answer, Goes, Saves, Loads, Ends, Faults, Misses, Did}
-use Rattle.monitor.specs.Command.{did, without_files}
+use Rattle.monitor.specs.Command.{did}
 use Rattle.monitor.specs.State.{State, Place, bodies_of, joined}
-use Rattle.lab_top.specs.Transcript.{Transcript, Further, Outcome, Done, Script, after, ended, from, is_large}
+use Rattle.lab_top.specs.Transcript.{Transcript, Further, Done, Script, after, ended, from, is_large}
 use Rattle.lab_top.specs.Transcript.{is_occupied, last_line}
 use Rattle.lab_top.specs.Transcript.{loading, loading_kept, onward, refused, resuming, saving, stopped, using}
-use Rattle.script_laws.specs.Beginning.{Begins, GoesOn, behind, followed}
-use Rattle.script_laws.proofs.ApartLemmas.{AreApart, AreAnswers, AreDone, AreTold, alike, apiece}
-use Rattle.script_laws.proofs.StepLemmas.{AreLonger, DoAlike, EndsHere, LinesBehind, did_longer, long}
+use Rattle.script_laws.specs.Beginning.{Begins, behind}
+use Rattle.script_laws.proofs.ApartLemmas.{AreApart, AreAnswers, AreTold, alike, apiece}
+use Rattle.script_laws.proofs.StepLemmas.{AreLonger, EndsHere, LinesBehind, did_longer, long}
 use Rattle.script_laws.proofs.StoreLemmas.{refused_now}
 use Rattle.script_laws.proofs.TranscriptLemmas.{after_followed, nothing_followed}
 

@@ -3,7 +3,7 @@ use Rattle.std.proofs.Common.{◌≡◌, ◌∷◌, ◌∙◌, ◌<◌, ◌≤�
 use Rattle.std.proofs.Common.{Result, Ok, Err, refl, ap, subst, arith}
 use Rattle.std.specs.FinMap.{get}
 use Rattle.lab_io.specs.Held.{Held}
-use Rattle.lab_io.specs.Whole.{FileText, Readable, file_text}
+use Rattle.lab_io.specs.Whole.{Readable, file_text}
 use Rattle.lab_num.specs.Depth.{depth_limit}
 use Rattle.lab_state.specs.Run.{Play}
 use Rattle.resc_read.specs.declared.command.Command.TheVariants as command

@@ -1,5 +1,5 @@
 -- One command of two scripts that mean the same.
-use Rattle.std.proofs.Common.{◌≡◌, ◌⊎◌, inl, inr, ◌∷◌, ◌<◌, ◌≤◌, ℕ, nat_lt, if◌then◌else◌, Bool, true, false, List, []}
+use Rattle.std.proofs.Common.{◌≡◌, ◌⊎◌, inl, inr, ◌<◌, ◌≤◌, ℕ, nat_lt, if◌then◌else◌, Bool, true, false, List, []}
 use Rattle.std.proofs.Common.{length}
 use Rattle.std.proofs.Common.{Result, Ok, Err, refl, ap}
 use Rattle.std.specs.FinMap.{get}
@@ -17,13 +17,13 @@ use Rattle.resc_vars.specs.Coming.{AreNextAlike, AreOpenedAlike, MeansSame, Take
 use Rattle.resc_vars.specs.Script as script
 use Rattle.resc_vars.specs.Script.{next_of}
 use Rattle.monitor.specs.declared.fault.Cause.TheVariants as cause
-use Rattle.monitor.specs.Answer.{Answer, Goes, Saves, Loads, Ends, Faults, Misses, Did, answer_at, reads, unread}
+use Rattle.monitor.specs.Answer.{Answer, Faults, Did, answer_at, reads, unread}
 use Rattle.monitor.specs.Bodies.{entered, include, include_text, run_macro}
 use Rattle.monitor.specs.Boards.{cause_of, equip_loaded, load_onto, load_platform}
 use Rattle.monitor.specs.Command.{by_next, did}
 use Rattle.monitor.specs.Selected.{bare}
 use Rattle.monitor.specs.State.{State, Place}
-use Rattle.script_laws.proofs.ApartLemmas.{AreApart, AreAnswers, AreDone, alike, apiece, onto_apart, line_apart}
+use Rattle.script_laws.proofs.ApartLemmas.{AreAnswers, AreDone, alike, apiece, onto_apart, line_apart}
 use Rattle.script_laws.proofs.RoomLemmas.{IsDeep, OneUnless, load_one}
 
 -- what `resc_vars` promises of places

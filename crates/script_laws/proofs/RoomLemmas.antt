@@ -1,5 +1,5 @@
 -- A platform is loaded alike whatever is open, unless one loading is refused for that.
-use Rattle.std.proofs.Common.{◌≡◌, ◌⊎◌, inl, inr, ◌∷◌, ◌++◌, ◌+◌, ◌-◌, ℕ, zero, suc, nat_le, if◌then◌else◌, Bool, true}
+use Rattle.std.proofs.Common.{◌≡◌, ◌⊎◌, inl, inr, ◌∷◌, ◌+◌, ◌-◌, ℕ, zero, suc, nat_le, if◌then◌else◌, Bool, true}
 use Rattle.std.proofs.Common.{false}
 use Rattle.std.proofs.Common.{List, [], length, Option, None, Some, refl, sym, ap, subst}
 use Rattle.std.specs.FinMap.{get}

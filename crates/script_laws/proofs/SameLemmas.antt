@@ -1,8 +1,7 @@
 -- Two scripts that mean the same go the same way.
-use Rattle.std.proofs.Common.{◌≡◌, ◌⊎◌, inl, inr, ◌∷◌, ◌++◌, ◌∙◌, ◌+◌, ◌<◌, ◌≤◌, ℕ, zero, suc, if◌then◌else◌, Bool}
+use Rattle.std.proofs.Common.{◌≡◌, inl, inr, ◌∷◌, ◌++◌, ◌∙◌, ◌+◌, ◌<◌, ◌≤◌, ℕ, zero, suc, if◌then◌else◌, Bool}
 use Rattle.std.proofs.Common.{true, false}
 use Rattle.std.proofs.Common.{List, [], length, map, Option, None, Some, refl, sym, ap, subst, arith, append_assoc}
-use Rattle.std.proofs.Common.{append-nil}
 use Rattle.std.specs.FinMap.{get, insert}
 use Rattle.lab_io.specs.Held.{Held}
 use Rattle.lab_io.specs.Store.{StoreUse, get_of, put_of}
@@ -13,8 +12,7 @@ use Rattle.lab_state.specs.Names.{names as names_of}
 use Rattle.lab_state.specs.Run.{Play}
 use Rattle.log_text.specs.declared.line.OpenLine.{OpenLine}
 use Rattle.log_text.specs.Log.{rest}
-use Rattle.resc_vars.specs.declared.cause.ScriptCause.{ScriptCause}
-use Rattle.resc_vars.specs.declared.cause.ScriptCause.TheVariants.{Size, Snapshot, Occupied}
+use Rattle.resc_vars.specs.declared.cause.ScriptCause.TheVariants.{Size, Occupied}
 use Rattle.resc_vars.specs.Script as script
 use Rattle.monitor.specs.declared.fault.ScriptFault.{ScriptFault}
 use Rattle.monitor.specs.Answer.{Answer, Goes, Saves, Loads, Ends, Faults, Misses, Did}
@@ -25,8 +23,8 @@ use Rattle.lab_top.specs.Transcript.{is_occupied, last_line}
 use Rattle.lab_top.specs.Transcript.{loading, loading_kept, onward, read_later, read_now, refused, resuming, saving}
 use Rattle.lab_top.specs.Transcript.{stopped, use_later, using}
 use Rattle.resc_vars.specs.Coming.{MeansSame}
-use Rattle.script_laws.specs.Places.{IsAtLimit, EndAlike, AreOneButPlace, AreOneWithinLimits}
-use Rattle.script_laws.proofs.ApartLemmas.{AreApart, AreAnswers, AreDone, AreTold, alike, apiece}
+use Rattle.script_laws.specs.Places.{IsAtLimit, EndAlike, AreOneWithinLimits}
+use Rattle.script_laws.proofs.ApartLemmas.{AreAnswers, AreTold, alike, apiece}
 use Rattle.script_laws.proofs.PlaceLemmas.{AreSame, DoAlike, IsLimit, PlacesAside, did_same}
 
 told_cause : (place at : Place) (one two : ScriptFault) → AreTold place at one two → two.cause ≡ one.cause

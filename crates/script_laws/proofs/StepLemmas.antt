@@ -1,5 +1,5 @@
 -- One command of a script with more behind is that of the shorter script, until that ends.
-use Rattle.std.proofs.Common.{◌≡◌, ◌⊎◌, inl, inr, ◌∷◌, ◌++◌, ◌∙◌, ℕ, nat_lt, List, [], length, Result, Ok, Err, refl}
+use Rattle.std.proofs.Common.{◌≡◌, ◌⊎◌, inl, inr, ◌∙◌, ℕ, nat_lt, List, [], length, Result, Ok, Err, refl}
 use Rattle.std.proofs.Common.{ap}
 use Rattle.std.specs.FinMap.{get}
 use Rattle.lab_io.specs.Held.{Held}
@@ -24,7 +24,7 @@ use Rattle.monitor.specs.Refusal.{require}
 use Rattle.monitor.specs.Selected.{bare}
 use Rattle.monitor.specs.State.{State, Place}
 use Rattle.script_laws.specs.Beginning.{behind}
-use Rattle.script_laws.proofs.ApartLemmas.{AreApart, AreApartBy, AreAnswers, AreDone, alike, apiece, answered_apart}
+use Rattle.script_laws.proofs.ApartLemmas.{AreApartBy, AreAnswers, AreDone, alike, apiece, answered_apart}
 use Rattle.script_laws.proofs.ApartLemmas.{onto_apart, line_apart}
 use Rattle.script_laws.proofs.ApartLemmas.{unread_apart}
 

@@ -1,6 +1,6 @@
 -- A command for the store leaves the laboratory and the open lines. What is refused is refused there.
-use Rattle.std.proofs.Common.{◌≡◌, ◌++◌, ◌∙◌, ℕ, zero, suc, nat_lt, if◌then◌else◌, Bool, true, false, List, [], length}
-use Rattle.std.proofs.Common.{Option, None, Some, Result, Ok, Err, refl, sym, ap, append-nil}
+use Rattle.std.proofs.Common.{◌≡◌, ◌++◌, ℕ, zero, suc, nat_lt, if◌then◌else◌, Bool, true, false, List, [], length}
+use Rattle.std.proofs.Common.{Option, None, Some, Result, Ok, Err, refl, ap, append-nil}
 use Rattle.std.specs.FinMap.{get, insert}
 use Rattle.lab_io.specs.Held.{Held}
 use Rattle.lab_io.specs.Store.{get_of, put_of}
@@ -22,7 +22,7 @@ use Rattle.resc_read.specs.declared.command.Command.TheVariants as command
 use Rattle.resc_read.specs.declared.command.LineCause.{LineCause}
 use Rattle.resc_read.specs.Line.{line_of}
 use Rattle.resc_vars.specs.declared.cause.ScriptCause.{ScriptCause}
-use Rattle.resc_vars.specs.declared.cause.ScriptCause.TheVariants.{Depth, Size, Snapshot, Occupied}
+use Rattle.resc_vars.specs.declared.cause.ScriptCause.TheVariants.{Depth, Size, Occupied}
 use Rattle.resc_vars.specs.Bodies.{enter, source_of}
 use Rattle.resc_vars.specs.Script.{next_of}
 use Rattle.resc_vars.specs.Script as script
@@ -40,8 +40,8 @@ use Rattle.monitor.specs.Images.{elf_image, hex_image, load_image, load_read}
 use Rattle.monitor.specs.Memory.{write_bytes}
 use Rattle.monitor.specs.Refusal.{require}
 use Rattle.monitor.specs.Selected.{Equipped, bare, equipped}
-use Rattle.monitor.specs.State.{State, Place, bodies_of, joined}
-use Rattle.lab_top.specs.Transcript.{Transcript, Outcome as End, Done, Script, from, is_large, is_occupied, last_line}
+use Rattle.monitor.specs.State.{State, Place}
+use Rattle.lab_top.specs.Transcript.{Transcript, Done, Script, from, is_large, is_occupied, last_line}
 use Rattle.lab_top.specs.Transcript.{loading_kept}
 use Rattle.lab_top.specs.Transcript.{onward, refused, resuming, stopped, using}
 

@@ -3,9 +3,8 @@ use Rattle.std.proofs.Common.{◌≡◌, ◌∷◌, ◌++◌, ◌∙◌, ◌+◌
 use Rattle.std.proofs.Common.{length-append}
 use Rattle.std.proofs.lemmas.List.{map-append}
 use Rattle.lab_io.specs.Held.{Held}
-use Rattle.lab_io.specs.Store.{StoreUse}
-use Rattle.lab_top.specs.Transcript.{Transcript, Outcome, Done, Read, Use, after, ended, read_now, read_later}
-use Rattle.lab_top.specs.Transcript.{use_later, using}
+use Rattle.lab_top.specs.Transcript.{Transcript, Done, Read, Use, after, ended, read_now, read_later}
+use Rattle.lab_top.specs.Transcript.{use_later}
 use Rattle.script_laws.specs.Beginning.{followed}
 
 -- two runs are one where they are the same in all

@@ -1,7 +1,6 @@
 -- Runs that are the same but for the place of a refusal.
 use Rattle.std.specs.Prelude.{◌≡◌, ◌⊎◌, ℕ, List, ◌++◌}
-use Rattle.lab_io.specs.Held.{Held}
-use Rattle.lab_top.specs.Transcript.{Transcript, Outcome, Read, Use, Done, Usage, Script, Absent, last_line}
+use Rattle.lab_top.specs.Transcript.{Transcript, Outcome, Done, Usage, Script, Absent, last_line}
 use Rattle.monitor.specs.declared.fault.Cause.TheVariants as cause
 use Rattle.resc_vars.specs.declared.cause.ScriptCause.TheVariants.{Commands, Depth}
 
