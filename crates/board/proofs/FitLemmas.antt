@@ -32,7 +32,8 @@ use Rattle.sys_bus.specs.Plan.{IsValid}
 use Rattle.std.proofs.Math.Seq.{map-set_same}
 use Rattle.board.specs.Changes.{in_memory, is_memory}
 use Rattle.rv_hart.specs.Core.{Core}
-use Rattle.board.specs.New.{first_state, hidden, new_space, reset_core, reset_device, new_timer, new_controller, size_of}
+use Rattle.board.specs.New.{first_state, hidden, new_space, reset_core, reset_device, new_timer, new_controller}
+use Rattle.board.specs.New.{size_of}
 use Rattle.board.specs.New.{reset_timer, reset_controller, reset_core}
 use Rattle.board.specs.Space.{Space, Fitted, memory_at, with_memory, device_at, with_device, with_state}
 use Rattle.board.specs.Inner.Fit.{IsFit, LiesIn, IsInPage, HoldsAccesses}

@@ -1,5 +1,6 @@
 -- Slots of processors that wait or are halted, one after another.
-use Rattle.std.proofs.Common.{◌≡◌, ℕ, zero, suc, ◌+◌, ◌-◌, ◌*◌, ◌/◌, ◌%◌, ◌^◌, ◌<◌, ◌≤◌, ◌==◌, Bool, true, false, not, ◌&&◌}
+use Rattle.std.proofs.Common.{◌≡◌, ℕ, zero, suc, ◌+◌, ◌-◌, ◌*◌, ◌/◌, ◌%◌, ◌^◌, ◌<◌, ◌≤◌, ◌==◌, Bool, true, false, not}
+use Rattle.std.proofs.Common.{◌&&◌}
 use Rattle.std.proofs.Common.{◌||◌, refl, sym, ap, ◌∙◌, subst, inl, inr, arith, length, map, All, add-one}
 use Rattle.std.proofs.Common.{List, ◌++◌, take, drop, slice_index_or}
 use Rattle.std.specs.Prelude.{IsTrue, if◌then◌else◌, slice_set}
@@ -7,7 +8,8 @@ use Rattle.std.specs.List.{range_with_len}
 use Rattle.std.proofs.Math.Nat.{div-lt_iff_lt-mul, le-div_iff_mul-le, div-mul-le_self, mod-eq_of_lt, suc-mod}
 use Rattle.std.proofs.lemmas.Bool.{cases_eq, cases_Bool}
 use Rattle.std.proofs.lemmas.Bool.Decides.{nat_tests}
-use Rattle.std.proofs.lemmas.List.{append-nil, get_or_read, take_all, take-append-le, length-set, get_or-set_same, get_or-set_other}
+use Rattle.std.proofs.lemmas.List.{append-nil, get_or_read, take_all, take-append-le, length-set, get_or-set_same}
+use Rattle.std.proofs.lemmas.List.{get_or-set_other}
 use Rattle.std.proofs.lemmas.List.FromFn.{length-map-range_with_len, get_or-map-range_with_len, fill_by_all}
 use Rattle.std.proofs.lemmas.Nat.{mod_below}
 use Rattle.lab_num.specs.Paid.{slot_at}
@@ -257,8 +259,8 @@ slots-before speed from k until positive begins h =
     (div-lt_iff_lt-mul {k = speed} {x = k} {y = until - from} (omega arith)).1 h in
     omega (arith, fewer)
 
--- Slots that are passed over, all before the microsecond until which the timer's line stays. The board `new` is it after
--- the cycles.
+-- Slots that are passed over, all before the microsecond until which the timer's line stays. The board `new` is it
+-- after the cycles.
 pub passes :
     (s new : State) (from a speed until stop : ℕ) →
     speed ≡ s.view.numbers.speed → 1 ≤ speed → s.view.next < length s.view.cores →

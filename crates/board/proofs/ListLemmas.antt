@@ -1,5 +1,6 @@
 -- What holds of the items of lists.
-use Rattle.std.proofs.Common.{◌≡◌, ◌∙◌, ℕ, zero, suc, ◌+◌, ◌≤◌, ◌<◌, Bool, true, false, ◌&&◌, cond, List, [], ◌∷◌, ◌++◌, length}
+use Rattle.std.proofs.Common.{◌≡◌, ◌∙◌, ℕ, zero, suc, ◌+◌, ◌≤◌, ◌<◌, Bool, true, false, ◌&&◌, cond, List, [], ◌∷◌, ◌++◌}
+use Rattle.std.proofs.Common.{length}
 use Rattle.std.proofs.Common.{All, slice_get, Option, Some, refl, sym, ap, arith, count_by, take, inl, inr}
 use Rattle.std.specs.Prelude.{Any, find, slice_index_or, slice_set, if◌then◌else◌}
 use Rattle.std.specs.List.{list_all, range_with_len}

@@ -26,7 +26,8 @@ use Rattle.board.specs.Wires.{loaded_from, stored_to}
 use Rattle.rv_exec.specs.Effect.{Effect, Done, Load, Store, bus_after, core_after}
 use Rattle.board.specs.View.{View, State, quiet, after, core_at}
 use Rattle.board.specs.Slot.{slot, hart_slot, number_after, running, sampling, awake, asleep, woken, cycle, instruction}
-use Rattle.board.proofs.ToldLemmas.{IsKept, kept_same, kept_after, kept_sampled, kept_load, kept_store, kind_kept, is_own}
+use Rattle.board.proofs.ToldLemmas.{IsKept, kept_same, kept_after, kept_sampled, kept_load, kept_store, kind_kept}
+use Rattle.board.proofs.ToldLemmas.{is_own}
 use Rattle.board.proofs.ToldLemmas.{sends_own, IsSender, sender_kept, device_there, IsTold, told_kept, told_note}
 
 -- the wires with this space, by which all this was made before
@@ -65,7 +66,8 @@ by_effect P w (Store at width value done) each = by_target (target_at w.space at
     by_answer :
         (s : Space) (dev : ℕ) (effect : DeviceEffect) → IsKept w.space s →
         (IsValid w.space.plan → length w.space.devices ≡ length w.space.plan.kinds → dev < length w.space.devices) →
-        IsTrue (is_own (kind_of (device_at w.space dev).state) effect) → P (λ ps es. acted (wires_by w s ps es) dev effect)
+        IsTrue (is_own (kind_of (device_at w.space dev).state) effect) →
+        P (λ ps es. acted (wires_by w s ps es) dev effect)
     by_answer s dev Quiet kept there own = each.nothing s kept
     by_answer s dev (Send payload) kept there own =
         by_note (note_if (device_at s dev).shown dev payload)
@@ -98,7 +100,8 @@ abbrev pub LeavesBy : (HartState → Type 0) → HartView → (List Post → Lis
 LeavesBy P h f = (core : Core) (watch : List (Option ℕ)) → P (hart_state h.hart core watch (f [] []))
 
 by_awake :
-    (P : HartState → Type 0) (h : HartView) (t : ℕ) (lines : Lines) → HoldsOfEach (LeavesBy P h) (wires_of h t) → P (awake h t lines)
+    (P : HartState → Type 0) (h : HartView) (t : ℕ) (lines : Lines) →
+    HoldsOfEach (LeavesBy P h) (wires_of h t) → P (awake h t lines)
 unfolding awake
 by_awake P h t lines each = by_chosen (chosen h.core lines.mip)
   where
@@ -115,7 +118,8 @@ by_if P true a b p q = p
 by_if P false a b p q = q
 
 -- what holds of each way in which a slot leaves a processor holds of its slot
-pub by_slot : (P : HartState → Type 0) (h : HartView) (t : ℕ) → HoldsOfEach (LeavesBy P h) (wires_of h t) → P (hart_slot h t)
+pub by_slot :
+    (P : HartState → Type 0) (h : HartView) (t : ℕ) → HoldsOfEach (LeavesBy P h) (wires_of h t) → P (hart_slot h t)
 unfolding hart_slot
 by_slot P h t each =
     let lines = lines_of (sampled h.space) h.hart t in

@@ -41,7 +41,9 @@ timer_back : (timer : Option Timer) → timer_to timer (option_map (λ t. t.stat
 timer_back None = refl
 timer_back (Some timer) = refl
 
-controller_back : (controller : Option Controller) → controller_to controller (option_map (λ c. c.state) controller) ≡ controller
+controller_back :
+    (controller : Option Controller) →
+    controller_to controller (option_map (λ c. c.state) controller) ≡ controller
 controller_back None = refl
 controller_back (Some controller) = refl
 
@@ -140,7 +142,8 @@ board_there v s fits board = record {
 
 -- ---- what a board keeps that was brought to a state
 
-hart_numbers : (harts : List HartState) → map (λ core. core.number) (map core_of harts) ≡ map (λ hart. hart.number) harts
+hart_numbers :
+    (harts : List HartState) → map (λ core. core.number) (map core_of harts) ≡ map (λ hart. hart.number) harts
 hart_numbers [] = refl
 hart_numbers (hart ∷ harts) = ap (λ rest. hart.number ∷ rest) (hart_numbers harts)
 
@@ -225,7 +228,8 @@ shown_fits :
 shown_fits kinds ds same all =
     let d : Fitted = hidden Finisher in
     let count = length-map ds (λ (f : Fitted). f.shown) in
-    shown_are kinds (map (λ f. f.shown) ds) (count ∙ sym (length-map ds (λ (f : Fitted). kind_of f.state)) ∙ ap length same)
+    shown_are kinds (map (λ f. f.shown) ds)
+      (count ∙ sym (length-map ds (λ (f : Fitted). kind_of f.state)) ∙ ap length same)
     (λ k there.
     let within : k < length ds = omega (arith, there, count) in
     let kind_is = get_or-map (λ (f : Fitted). kind_of f.state) ds k d kind.Finisher within in
@@ -297,7 +301,8 @@ pub all_in :
     devices ≡ devices_in states shown
 all_in devices states shown d same many each =
     let count : length (devices_in states shown) ≡ length states =
-    sym (length-map (devices_in states shown) (λ (f : Fitted). f.state)) ∙ ap length (devices_there states shown same) in
+    sym (length-map (devices_in states shown) (λ (f : Fitted). f.state))
+      ∙ ap length (devices_there states shown same) in
     ext_get_or d devices (devices_in states shown) (many ∙ sym count)
     (λ k there. each k there ∙ sym (device_in states shown k d same (omega (arith, there, many))))
 

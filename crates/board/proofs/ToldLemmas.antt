@@ -1,5 +1,6 @@
 -- What devices send, what a board tells of it, and what stays of the devices meanwhile.
-use Rattle.std.proofs.Common.{◌≡◌, ◌∙◌, ℕ, zero, suc, ◌<◌, Bool, true, false, List, [], ◌∷◌, length, map, get_or, refl, sym, ap}
+use Rattle.std.proofs.Common.{◌≡◌, ◌∙◌, ℕ, zero, suc, ◌<◌, Bool, true, false, List, [], ◌∷◌, length, map, get_or, refl}
+use Rattle.std.proofs.Common.{sym, ap}
 use Rattle.std.proofs.Common.{arith}
 use Rattle.std.specs.Prelude.{IsTrue, IfSome, Option, None, Some, find, if◌then◌else◌, slice_index_or}
 use Rattle.std.specs.Cmp.{second_so}
@@ -196,7 +197,8 @@ pub told_kept : (old new : Space) (note : What) → IsKept old new → IsTold ne
 told_kept old new note kept told = λ v same. told v (kept_after v.space old new same kept)
 
 -- no device that is not there is shown
-shown_there : (devices : List Fitted) (dev : ℕ) → (slice_index_or devices dev absent).shown ≡ true → dev < length devices
+shown_there :
+    (devices : List Fitted) (dev : ℕ) → (slice_index_or devices dev absent).shown ≡ true → dev < length devices
 shown_there [] dev shown = absurd (cc)
 shown_there (d ∷ ds) zero shown = omega arith
 shown_there (d ∷ ds) (suc dev) shown = omega (arith, shown_there ds dev shown)

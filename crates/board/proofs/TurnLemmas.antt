@@ -91,7 +91,8 @@ first_is :
     first_turn harts next hart ≡ (if nat_lt hart next then hart + (harts - next) else hart - next)
 first_is harts next hart below there = elim (cases_lt hart next) [
   | inl before ↦
-      let same : (hart + (harts - next)) % harts ≡ hart + (harts - next) = mod-eq_of_lt (omega (arith, before, below)) in
+      let same : (hart + (harts - next)) % harts ≡ hart + (harts - next) =
+        mod-eq_of_lt (omega (arith, before, below)) in
       grind (arith, nat_tests, before, same)
   | inr after ↦
       let sum : hart + (harts - next) ≡ 1 * harts + (hart - next) = omega (arith, after, below) in
@@ -182,7 +183,9 @@ pub turns_fair :
 turns_fair harts next n hart below there =
     rw (turns_are harts next n hart below there) (share (nat_lt (first_turn harts next hart) (n % harts)))
   where
-    share : (b : Bool) → (n / harts ≤ n / harts + (if b then 1 else 0)) × (n / harts + (if b then 1 else 0) ≤ n / harts + 1)
+    share :
+        (b : Bool) →
+        (n / harts ≤ n / harts + (if b then 1 else 0)) × (n / harts + (if b then 1 else 0) ≤ n / harts + 1)
     share true = (omega arith, omega arith)
     share false = (omega arith, omega arith)
 

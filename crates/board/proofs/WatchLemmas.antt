@@ -1,5 +1,6 @@
 -- What a slot does to the reservations of the processors.
-use Rattle.std.proofs.Common.{◌≡◌, ◌∙◌, ℕ, ◌%◌, ◌==◌, Bool, true, false, List, All, length, map, refl, sym, ap, inl, inr}
+use Rattle.std.proofs.Common.{◌≡◌, ◌∙◌, ℕ, ◌%◌, ◌==◌, Bool, true, false, List, All, length, map, refl, sym, ap, inl}
+use Rattle.std.proofs.Common.{inr}
 use Rattle.std.specs.Prelude.{Option, None, Some, if◌then◌else◌, slice_set}
 use Rattle.std.specs.Option.{option_and_then, option_map_or}
 use Rattle.std.proofs.lemmas.Bool.{cases_lt, eqb-true}
@@ -189,7 +190,8 @@ reservation_at plan watch hart all = elim (cases_lt hart (length watch)) [
 ]
 
 kept_reservation :
-    (plan : BoardPlan) (at width : ℕ) (word : Option ℕ) → IsReservation plan word → IsReservation plan (kept at width word)
+    (plan : BoardPlan) (at width : ℕ) (word : Option ℕ) →
+    IsReservation plan word → IsReservation plan (kept at width word)
 kept_reservation plan at width None is = tt
 kept_reservation plan at width (Some word) is = by_test (reaches at width word)
   where
@@ -239,5 +241,5 @@ unfolding sampled
 reserved_after hart core core' watch watch' w w' t done own all =
     let h = (hart_state hart core watch w).view in
     rw (ap {A = HartState} (λ s. s.view.watch) done)
-    (kept_slot (All (IsReservation w.space.plan)) h t (reservations_kept (wires_of (sampling h) t) core.letters hart own)
-    all)
+    (kept_slot (All (IsReservation w.space.plan)) h t
+      (reservations_kept (wires_of (sampling h) t) core.letters hart own) all)

@@ -1,5 +1,6 @@
 -- What may be changed of a board from outside.
-use Rattle.std.specs.Prelude.{◌≡◌, ℕ, ◌+◌, ◌%◌, ◌≤◌, ◌==◌, length, replicate, take, Bool, true, false, if◌then◌else◌, List, []}
+use Rattle.std.specs.Prelude.{◌≡◌, ℕ, ◌+◌, ◌%◌, ◌≤◌, ◌==◌, length, replicate, take, Bool, true, false, if◌then◌else◌}
+use Rattle.std.specs.Prelude.{List, []}
 use Rattle.std.specs.Prelude.{◌∷◌, Option, None}
 use Rattle.std.specs.List.{list_all, range_with_len}
 use Rattle.dev_core.specs.declared.kind.Kind.{Kind}

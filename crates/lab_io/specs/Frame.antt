@@ -5,8 +5,8 @@
 --     ensures output { OnlyWrites K.Sink Q out.old out.new }
 --     ensures store { OnlyStores S.Store R store.old store.new }
 -- A proof joins such facts by the lemmas of `Rattle.lab_io.proofs.Frames`, where the automatic proof does not:
--- `reads_on`, `writes_on` and `stores_on` for one call after another, `reads_as`, `writes_as` and `stores_as` where P, Q
--- or R says the same in other words, `reads_none`, `writes_none` and `stores_none` for no call.
+-- `reads_on`, `writes_on` and `stores_on` for one call after another, `reads_as`, `writes_as` and `stores_as` where P,
+-- Q or R says the same in other words, `reads_none`, `writes_none` and `stores_none` for no call.
 use Rattle.std.specs.Prelude.{◌≡◌, ◌≤◌}
 use Rattle.lab_io.specs.Known.{Rose}
 use Rattle.lab_io.specs.declared.files.Files.{Ghosts}

@@ -1,5 +1,6 @@
 -- How boards and hubs are found by name, and the names that the log prints.
-use Rattle.std.specs.Prelude.{◌≡◌, ℕ, Bool, false, ◌||◌, ◌==◌, List, [], length, map, find, slice_get, Option, None, Some}
+use Rattle.std.specs.Prelude.{◌≡◌, ℕ, Bool, false, ◌||◌, ◌==◌, List, [], length, map, find, slice_get, Option, None}
+use Rattle.std.specs.Prelude.{Some}
 use Rattle.std.specs.Prelude.{is_some, option_and_then}
 use Rattle.std.specs.List.{position, range_with_len, All, AllPairs}
 use Rattle.std.specs.Option.{option_map, option_map_or}

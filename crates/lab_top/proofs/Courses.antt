@@ -1,6 +1,7 @@
 -- How a run goes on: the course of what is left, after what was read, written and kept before, is the course of the
 -- whole.
-use Rattle.std.proofs.Common.{◌≡◌, ◌≢◌, ◌∙◌, ℕ, ◌+◌, ◌≤◌, List, [], ◌∷◌, ◌++◌, length, map, take, drop, All, Option, None}
+use Rattle.std.proofs.Common.{◌≡◌, ◌≢◌, ◌∙◌, ℕ, ◌+◌, ◌≤◌, List, [], ◌∷◌, ◌++◌, length, map, take, drop, All, Option}
+use Rattle.std.proofs.Common.{None}
 use Rattle.std.proofs.Common.{Some, IfSome, Result, Err, append_assoc, length-append, refl, sym, ap, arith}
 use Rattle.std.proofs.lemmas.List.{take-append-drop, map-append, length-take}
 use Rattle.std.proofs.lemmas.List.Elements.{All-append, All-cons, All-map, All-nil, All-weaker}

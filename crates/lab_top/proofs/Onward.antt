@@ -103,8 +103,8 @@ step_cut more held kept s next text fault step part store =
 
 -- these names were read, and then a command for the store was carried out so
 stored_after :
-    (kept : Held) (old mid new : Outside) (names : List (List ℕ)) (rest : Transcript) (further : Further) (place : Place)
-    (result : Result Running (Halt Running)) →
+    (kept : Held) (old mid new : Outside) (names : List (List ℕ)) (rest : Transcript) (further : Further)
+    (place : Place) (result : Result Running (Halt Running)) →
     mid.written ≡ old.written → mid.asked ≡ grown old.asked names → mid.used ≡ old.used →
     IsStored rest kept further place mid new result → IsStored (after names [] rest) kept further place old new result
 stored_after kept old mid new names rest further place (Ok monitor) wrote asked used on = record {

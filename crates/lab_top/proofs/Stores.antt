@@ -24,7 +24,8 @@ use Rattle.lab_top.specs.declared.snapshots.Halt.{Halt}
 use Rattle.lab_top.specs.declared.snapshots.Halt.TheVariants as halt
 use Rattle.lab_top.specs.declared.status.Status.TheVariants as end_by
 use Rattle.lab_top.specs.Headline.{Course, Outside, kept_by}
-use Rattle.lab_top.specs.Transcript.{Further, Transcript, is_large, is_occupied, loading, loading_kept, refused, resuming}
+use Rattle.lab_top.specs.Transcript.{Further, Transcript, is_large, is_occupied, loading, loading_kept, refused}
+use Rattle.lab_top.specs.Transcript.{resuming}
 use Rattle.lab_top.specs.Transcript.{saving, using}
 use Rattle.lab_top.specs.Inner.Course.{GoesOn}
 use Rattle.lab_top.specs.Inner.Stored.{IsRestored, IsStored}

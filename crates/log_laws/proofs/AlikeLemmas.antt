@@ -20,7 +20,8 @@ use Rattle.lab_top.specs.Content.{Content, Missing, Faulty, Readable, content_of
 use Rattle.lab_top.specs.Headline.{names_read}
 use Rattle.lab_top.specs.Request.{Request, Refused, Run, Gen, request_of}
 use Rattle.lab_top.specs.Transcript.{Absent, Done, Script}
-use Rattle.lab_top.specs.Transcript.{Transcript, Read, Use, Further, read_now, read_later, use_later, after, ended, using}
+use Rattle.lab_top.specs.Transcript.{Transcript, Read, Use, Further, read_now, read_later, use_later, after, ended}
+use Rattle.lab_top.specs.Transcript.{using}
 use Rattle.lab_top.specs.Transcript.{onward, from, saving, loading, loading_kept, resuming, refused, is_large}
 use Rattle.lab_top.specs.Transcript.{is_occupied, begun, run_of, answered, transcript_by}
 use Rattle.log_laws.specs.Agreement.{IsAlike, names_used}

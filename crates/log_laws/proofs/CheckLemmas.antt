@@ -1,5 +1,6 @@
 -- A script whose runs have length 0 goes the same way, whatever boards make of slots.
-use Rattle.std.proofs.Common.{◌≡◌, ◌∷◌, ◌∙◌, ◌-◌, ℕ, zero, suc, if◌then◌else◌, Bool, true, false, List, [], Option, None, Some}
+use Rattle.std.proofs.Common.{◌≡◌, ◌∷◌, ◌∙◌, ◌-◌, ℕ, zero, suc, if◌then◌else◌, Bool, true, false, List, [], Option}
+use Rattle.std.proofs.Common.{None, Some}
 use Rattle.std.proofs.Common.{Result, Ok, Err, refl, ap}
 use Rattle.std.specs.FinMap.{get, insert}
 use Rattle.lab_io.specs.Held.{Held}

@@ -17,7 +17,8 @@ use Rattle.resc_vars.specs.declared.cause.ScriptCause.TheVariants.{Size, Occupie
 use Rattle.lab_top.specs.Content.{Content, Missing, Faulty, Readable, content_of}
 use Rattle.lab_top.specs.Headline.{calls, kept_by}
 use Rattle.lab_top.specs.Request.{Request, Refused, Run, Gen, request_of}
-use Rattle.lab_top.specs.Transcript.{Transcript, Outcome, Read, Use, Further, read_now, read_later, use_later, after, ended}
+use Rattle.lab_top.specs.Transcript.{Transcript, Outcome, Read, Use, Further, read_now, read_later, use_later, after}
+use Rattle.lab_top.specs.Transcript.{ended}
 use Rattle.lab_top.specs.Transcript.{using, onward, from, saving, loading, loading_kept, resuming, refused, is_large}
 use Rattle.lab_top.specs.Transcript.{is_occupied, begun, answered, transcript_by}
 use Rattle.log_laws.specs.Places.{Rises}

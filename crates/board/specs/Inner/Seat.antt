@@ -1,5 +1,6 @@
 -- A processor in its slot, and how the slots of a board are taken.
-use Rattle.std.specs.Prelude.{ℕ, ◌==◌, ◌||◌, ◌++◌, not, Bool, if◌then◌else◌, List, Option, None, length, map, slice_index_or}
+use Rattle.std.specs.Prelude.{ℕ, ◌==◌, ◌||◌, ◌++◌, not, Bool, if◌then◌else◌, List, Option, None, length, map}
+use Rattle.std.specs.Prelude.{slice_index_or}
 use Rattle.std.specs.List.{range_with_len}
 use Rattle.std.specs.Option.{option_map_or}
 use Rattle.rv_hart.specs.Core.{Core, initial}

@@ -1,4 +1,5 @@
-use Rattle.std.proofs.Common.{rules, ◌≡◌, inl, inr, length, ℕ, ◌+◌, ◌/◌, List, [], ◌∷◌, Option, Some, sym, ap, ◌∙◌, arith}
+use Rattle.std.proofs.Common.{rules, ◌≡◌, inl, inr, length, ℕ, ◌+◌, ◌/◌, List, [], ◌∷◌, Option, Some, sym, ap, ◌∙◌}
+use Rattle.std.proofs.Common.{arith}
 use Rattle.atomic_table.specs.Table.{rest}
 use Rattle.floor_run.specs.Bench.{BenchModel, HandModel}
 use Rattle.floor_run.specs.Inner.Hand.{carried}
