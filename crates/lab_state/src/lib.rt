@@ -28,3 +28,4 @@ pub use laws::{
     runs_tell_of_shown_devices, turns_agree, undelayed_rounds_agree,
 };
 pub use round::RoundLog;
+pub use team::Team;

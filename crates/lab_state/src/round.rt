@@ -350,8 +350,9 @@ fn play<R: Threads + Wait + Copy + Send + Sync, D: Device + Send, G: Gate>(
 }
 
 impl<D: Device + Send> Lab<D> {
-    /// Runs one round as `round` does. Its workers are the helpers of the team and the caller, if it has any.
-    pub(crate) fn round_by<R: Threads + Wait + Copy + Send + Sync, G: Gate>(
+    /// Runs one round of `q` microseconds as `round` does. Its workers are the caller and the helpers of the team,
+    /// if it has any. `LabFault::Memory` spends the laboratory.
+    pub fn round_by<R: Threads + Wait + Copy + Send + Sync, G: Gate>(
         &mut self,
         rt: &R,
         team: &Team<D>,

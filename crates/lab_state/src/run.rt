@@ -42,9 +42,9 @@ impl<D: Device> Lab<D> {
         Ok(())
     }
 
-    /// The length of the longest rounds that a run needs: the quantum. Where no board stands and nothing
-    /// waits, only time goes on, and a round may be as long as the time of a laboratory.
-    fn longest_round(&self) -> u64
+    /// The length in microseconds of the longest rounds that a run needs: the quantum. Where no board stands
+    /// and nothing waits, only time goes on, and a round may be as long as the time of a laboratory.
+    pub fn longest_round(&self) -> u64
         requires { self.now.spent ≡ false }
         ensures some { 0 < result }
         ensures same { (d : ℕ) → fold (go_on round) (still self.now.lab) (lengths result d)
@@ -123,9 +123,10 @@ impl<D: Device + Send> Lab<D> {
         })
     }
 
-    /// The helpers of a run, where it is worth them: its boards have slots enough, or it has so many rounds
-    /// that boards which are asleep may wake up meanwhile, or the gate may hold someone.
-    fn team_for<G: Gate>(&self, d: u64, workers: u8, gate: &G) -> Team<D> {
+    /// The helpers of a run of `d` microseconds by so many workers, where it is worth them: its boards have slots
+    /// enough, or it has so many rounds that boards which are asleep may wake up meanwhile, or the gate may hold
+    /// someone. Who leads the run has them `help` beside it, and dismisses them.
+    pub fn team_for<G: Gate>(&self, d: u64, workers: u8, gate: &G) -> Team<D> {
         if workers == 1 || self.boards.len() <= 1 {
             return Team::none();
         }
@@ -134,7 +135,8 @@ impl<D: Device + Send> Lab<D> {
         if gate.is_open() && !is_long {
             return Team::none();
         }
-        Team::new(self.alloc)
+        let most = usize::from(workers).min(self.boards.len()) as u8;
+        Team::new(self.alloc, most)
     }
 
     /// The rounds of a run, by the caller alone or with helpers, who live as long as the run.
@@ -182,8 +184,7 @@ impl<D: Device + Send> Lab<D> {
         ensures err { OnErr result (self.new.spent ≡ true) }
     {
         let alloc = self.alloc;
-        let most = usize::from(workers).min(self.boards.len()) as u8;
-        let mut help = move || team.help_by(rt, alloc, most, gate);
+        let mut help = move || team.help(rt, alloc, gate);
         let mut lead = || -> Result<RoundLog, LabFault>
             requires { (self.now.spent ≡ false) × (1 ≤ workers) × (workers ≤ 8)
                 × HaveAllPlans self.now.lab × (self.now.lab.now + d ≤ 10000000000) }

@@ -17,44 +17,50 @@ const WORTH_HELPERS: u64 = 8_192;
 /// The fewest slots for which threads are started.
 pub(crate) const WORTH_THREADS: u64 = 16_384;
 
-/// Helpers who wait for the boards of more than one round, or none: then each round starts its own threads.
+/// Who runs the boards of the rounds of a run beside its leader: helpers who wait for the boards of more than one
+/// round, or none. Then a round starts threads of its own where it is worth them. No result depends on it.
 #[derive(Drop)]
-pub(crate) struct Team<D: Device + Send> {
+pub struct Team<D: Device + Send> {
     helpers: Option<Helpers<Parcel<D>>>,
+    workers: u8,
 }
 
 impl<D: Device + Send> Team<D> {
     /// No helpers.
-    pub fn none() -> Team<D> {
-        Team { helpers: None }
-    }
-
-    /// Helpers, or none where no memory is found for them.
-    pub fn new(alloc: Global) -> Team<D> {
+    pub(crate) fn none() -> Team<D> {
         Team {
-            helpers: Helpers::new(alloc).ok(),
+            helpers: None,
+            workers: 1,
         }
     }
 
-    pub(crate) fn has_helpers(&self) -> bool {
+    /// Helpers that make so many workers with their leader, or none where no memory is found for them.
+    pub(crate) fn new(alloc: Global, workers: u8) -> Team<D> {
+        Team {
+            helpers: Helpers::new(alloc).ok(),
+            workers,
+        }
+    }
+
+    /// Whether anyone is to `help`.
+    pub fn has_helpers(&self) -> bool {
         self.helpers.is_some()
     }
 
-    /// Helpers that make so many workers with their leader, each on a thread of its own where one can be made. It
-    /// returns once they are dismissed.
-    pub fn help_by<R: Threads + Wait + Copy + Send + Sync, G: Gate>(
+    /// Helps in the rounds of the team until it is dismissed: each helper on a thread of its own where one can be
+    /// made, and all on this one where none can. Where there are no helpers it returns at once.
+    pub fn help<R: Threads + Wait + Copy + Send + Sync, G: Gate>(
         &self,
         rt: &R,
         alloc: Global,
-        workers: u8,
         gate: &G,
     ) {
         if let Some(helpers) = &self.helpers {
-            helpers.help_by(rt, alloc, workers, gate);
+            helpers.help_by(rt, alloc, self.workers, gate);
         }
     }
 
-    /// Lets the helpers go.
+    /// Lets the helpers go: `help` returns.
     pub fn dismiss(&self) {
         if let Some(helpers) = &self.helpers {
             helpers.dismiss();
