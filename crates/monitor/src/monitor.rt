@@ -4,7 +4,7 @@ ghost use Rattle.std.specs.Prelude.{OnOk, OnErr, All};
 ghost use Rattle.std.specs.Option.{ForSome};
 ghost use Rattle.std.specs.String.{string_bytes};
 ghost use Rattle.dev_core.specs.Stock.{IsFull};
-ghost use Rattle.lab_io.specs.Frame.{OnlyReads};
+ghost use Rattle.lab_io.specs.Frame.{OnlyReads, OnlyWrites};
 ghost use Rattle.lab_state.specs.Names.{names};
 ghost use Rattle.lab_state.specs.Run.{run};
 ghost use Rattle.lab_state.specs.Valid.{IsOpen, IsValid};
@@ -12,18 +12,20 @@ ghost use Rattle.log_text.specs.Log.{rest};
 ghost use Rattle.resc_read.specs.Line.{line_of};
 ghost use Rattle.monitor.specs.Answer.{Misses};
 ghost use Rattle.monitor.specs.Command.{did, done_by};
+ghost use Rattle.monitor.specs.Progress.{stands_for, IsProgress};
 ghost use Rattle.monitor.specs.State.{bodies_of, joined, started};
 ghost use Rattle.monitor.specs.Step.{going, IsStep, IsNext, IsCut, IsCounted};
 ghost use Rattle.monitor.specs.Inner.Ruling.{IsAfterLine, IsDone, step_of};
 
 use crate::bodies::Bodies;
 use crate::fault::{Cause, ScriptFault};
+use crate::progress::Progress;
 use crate::setting::Setting;
 use crate::step::Step;
 use crate::stop::{Stop, Storing};
 use dev_core::{Device, Stock};
 use floor_run::Gate;
-use lab_io::Files;
+use lab_io::{Files, Sink, WriteFault, write_whole};
 use lab_num::{BoardNo, Micros, NoMemory, Rows, Text};
 use lab_state::{Lab, runs_keep_lines_open};
 use log_text::Lines;
@@ -238,6 +240,55 @@ impl<D: Device + Send> Monitor<D> {
             Next::End => Step::End,
             Next::Fault { file, line, cause } => fault_at(file, line, Cause::Script(cause)),
             Next::Memory => Step::Memory,
+        }
+    }
+
+    /// Carries out the next command of the script, and writes what it prints. Files that it names are read from
+    /// `files`. Any answer but `Done`, `Save` and `Load` ends the script. Where several workers run several
+    /// boards, each enters the gate before each turn.
+    pub fn step_to<R: Threads + Wait + Copy + Send + Sync, F: Files, K: Sink, G: Gate>(
+        &mut self,
+        rt: &R,
+        files: &mut F,
+        out: &mut K,
+        gate: &G,
+    ) -> Progress
+        requires { self.old.ended ≡ false }
+
+        // It has done what its definition says, has asked for just its names and has written what the command
+        // prints; or was cut short by a read or for want of memory, and has asked for the first of the names; or
+        // by a write or for want of memory, and has written the beginning of the text.
+        ensures step { IfSome (F.held files.old) (λ held.
+            IsProgress (did run held self.old.state) result self.new.state
+            (F.asked files.old) (F.asked files.new) (K.written out.old) (K.written out.new)) }
+
+        // Where a name holds nothing, it is cut short.
+        ensures absent { IfSome (F.held files.old) (λ held.
+            (did run held self.old.state).answer ≡ Misses → IsCut (stands_for result)) }
+
+        // What it leaves, and how many commands it takes, are those of a step.
+        ensures next { IsNext (stands_for result) self.old self.new }
+        ensures counted { IsCounted (stands_for result) self.old.state self.new.state }
+
+        // Of files it only reads, and only a fault that was counted makes it unread. Only one of the output that
+        // was counted makes it unwritten.
+        ensures files { OnlyReads F.Files (result ≡ Progress.Unread) files.old files.new }
+        ensures output { OnlyWrites K.Sink (result ≡ Progress.Cut WriteFault.Unwritten) out.old out.new }
+    {
+        match self.step(rt, files, gate) {
+            Step::Text(text) => match write_whole(out, text.items()) {
+                Ok(()) => Progress::Done,
+                Err(fault) => {
+                    self.ended = true;
+                    Progress::Cut(fault)
+                }
+            },
+            Step::Save { name, file, line } => Progress::Save { name, file, line },
+            Step::Load { name, file, line } => Progress::Load { name, file, line },
+            Step::End => Progress::End,
+            Step::Fault(fault) => Progress::Fault(fault),
+            Step::Unread => Progress::Unread,
+            Step::Memory => Progress::Memory,
         }
     }
 
