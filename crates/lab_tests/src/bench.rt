@@ -27,12 +27,16 @@ const SENDS: &[u8] = b"\xB7\x02\x00\x10\x13\x03\x10\x04\x23\x80\x62\x00\x6F\x00\
 /// lui x5, 0x90000; lw x6, 0(x5); jalr x0, 0(x5): reads where nothing is, and jumps there
 const STRAYS: &[u8] = b"\xB7\x02\x00\x90\x03\xA3\x02\x00\x67\x80\x02\x00";
 
+/// lui x5, 0x90000; lw x6, 0(x5); jal x0, -4: reads where nothing is in each second slot
+const POLLS: &[u8] = b"\xB7\x02\x00\x90\x03\xA3\x02\x00\x6F\xF0\xDF\xFF";
+
 /// The files that scripts name.
-static FILES: [(&str, &[u8]); 5] = [
+static FILES: [(&str, &[u8]); 6] = [
     ("p.repl", PLATFORM),
     ("using.repl", b"using \"p.repl\"\n"),
     ("a.bin", SENDS),
     ("hole.bin", STRAYS),
+    ("polls.bin", POLLS),
     (
         "load.resc",
         b"sysbus LoadBinary @a.bin 0x80000000\ncpu PC 0x80000000\ncpu PC\nshowAnalyzer uart\n",

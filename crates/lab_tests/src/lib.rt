@@ -9,6 +9,8 @@ mod edge;
 #[cfg(test)]
 mod outside;
 #[cfg(test)]
+mod rounds;
+#[cfg(test)]
 mod snapshots;
 #[cfg(test)]
 mod workers;
