@@ -13,4 +13,6 @@ mod rounds;
 #[cfg(test)]
 mod snapshots;
 #[cfg(test)]
+mod steps;
+#[cfg(test)]
 mod workers;

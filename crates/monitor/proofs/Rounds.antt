@@ -129,7 +129,7 @@ pub record IsCome
     (shown : Names) (lines now : List OpenLine) (all rest : Rounded) (out out' : Option (List ℕ)) : Type 0 where
   pub printed : List ℕ
   pub written : out' ≡ grown out printed
-  pub text : text shown lines all.items ≡ printed ++ text shown now rest.items
+  pub says : text shown lines all.items ≡ printed ++ text shown now rest.items
   pub opens : open_lines lines all.items ≡ open_lines now rest.items
   pub lab : all.lab ≡ rest.lab
 
@@ -139,7 +139,7 @@ pub come_none : (shown : Names) (lines : List OpenLine) (all rest : Rounded) (ou
 come_none shown lines all rest out is = record {
   printed = [];
   written = sym (grown-nil out);
-  text = ap (λ (run : Rounded). text shown lines run.items) (sym is);
+  says = ap (λ (run : Rounded). text shown lines run.items) (sym is);
   opens = ap (λ (run : Rounded). open_lines lines run.items) (sym is);
   lab = ap (λ (run : Rounded). run.lab) (sym is);
 }
@@ -180,8 +180,8 @@ module _
     written =
         wrote ∙ ap (λ told. grown told (text shown now made.items)) come.written
         ∙ grown-append out come.printed (text shown now made.items);
-    text =
-        come.text ∙ ap (λ t. come.printed ++ t) rest_text
+    says =
+        come.says ∙ ap (λ t. come.printed ++ t) rest_text
         ∙ sym (append_assoc come.printed (text shown now made.items)
         (text shown (open_lines now made.items) later.items));
     opens =
@@ -194,7 +194,7 @@ module _
       IsPartWritten out (text shown lines all.items) new
   come_part new part =
       subst (λ (t : List ℕ). IsPartWritten out t new)
-      (sym (come.text ∙ ap (λ t. come.printed ++ t) rest_text))
+      (sym (come.says ∙ ap (λ t. come.printed ++ t) rest_text))
       (part_after out out' new come.printed (text shown now made.items)
       (text shown (open_lines now made.items) later.items) come.written part)
 
@@ -206,7 +206,7 @@ module _
   whole_written =
       come.written
       ∙ ap (grown out)
-      (sym (come.text ∙ ap (λ (run : Rounded). come.printed ++ text shown now run.items) ends
+      (sym (come.says ∙ ap (λ (run : Rounded). come.printed ++ text shown now run.items) ends
       ∙ append-nil come.printed))
 
   pub lines_after : now ≡ open_lines lines all.items
@@ -221,7 +221,7 @@ module _ {A K : Type 0} {out : Ghosts K} (shown : Names) (all : Rounded) (old ne
   -- memory ran out before anything was printed
   pub unplayed : new.ended ≡ true → IsPlayed {A = A} out shown all (Err Memory) old new before before
   unplayed ended = record {
-    played = tt;
+    becomes = tt;
     whole = tt;
     part = record { count = 0; written = sym (grown-nil (out.written before)) };
     ended = ended;
@@ -233,7 +233,7 @@ module _ {A K : Type 0} {out : Ghosts K} (shown : Names) (all : Rounded) (old ne
       out.written after ≡ grown (out.written before) (text shown old.state.lines all.items) →
       OnlyWrites out P before after → IsPlayed out shown all (Ok x) old new before after
   played_whole x P is whole writes = record {
-    played = is;
+    becomes = is;
     whole = whole;
     part = tt;
     ended = tt;
@@ -246,4 +246,4 @@ module _ {A K : Type 0} {out : Ghosts K} (shown : Names) (all : Rounded) (old ne
       new.ended ≡ true → OnlyWrites out (IsErrOf {A = A} (Err fault) Unwritten) before after →
       IsPlayed {A = A} out shown all (Err fault) old new before after
   played_part fault part ended writes =
-      record { played = tt; whole = tt; part = part; ended = ended; writes = writes }
+      record { becomes = tt; whole = tt; part = part; ended = ended; writes = writes }

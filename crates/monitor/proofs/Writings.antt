@@ -38,7 +38,7 @@ module _ {F K : Type 0} {files : Ghosts F} {out : SinkGhosts K} where
   stopped_unwritten by stop old new before after start done = record {
     written = λ place held told. (done.carried place held told, refl);
     leaves = done.leaves;
-    open_lines = tt;
+    keeps = tt;
     reads = reads_as (λ same. cc same) done.reads;
     writes = writes_none (λ same. cc same);
   }
@@ -54,7 +54,7 @@ module _ {F K : Type 0} {files : Ghosts F} {out : SinkGhosts K} where
         let carried = done.carried place held told in
         (text.items, carried.0, carried.1, whole);
     leaves = done.leaves;
-    open_lines = done.open_lines;
+    keeps = done.open_lines;
     reads = reads_as (λ same. cc same) done.reads;
     writes = record { faults = writes.faults; counted = λ same. cc same };
   }
@@ -72,7 +72,7 @@ module _ {F K : Type 0} {files : Ghosts F} {out : SinkGhosts K} where
         let carried = done.carried place held told in
         (text.items, new.state, carried.0, carried.1, part);
     leaves = done.leaves.ended;
-    open_lines = tt;
+    keeps = tt;
     reads = reads_as (λ same. cc same) done.reads;
     writes = writes_as (λ same. cc same) writes;
   }
@@ -90,7 +90,7 @@ module _ {F K : Type 0} {files : Ghosts F} {out : SinkGhosts K} where
         written = λ place held told.
             (made.0, ap (answer_at place) made.1.0, sym (grown-nil (files.asked before)), made.1.1.1);
         leaves = made.1.1.0;
-        open_lines = λ open_. rw made.1.0 at (keeps nowhere open_);
+        keeps = λ open_. rw made.1.0 at (keeps nowhere open_);
         reads = reads_none (λ same. cc same);
         writes = writes;
       }
@@ -98,7 +98,7 @@ module _ {F K : Type 0} {files : Ghosts F} {out : SinkGhosts K} where
       let done = done_alone ruling (Err stop) old new before keeps made.0 in record {
         written = λ place held told. (done.carried place held told, made.1);
         leaves = done.leaves;
-        open_lines = tt;
+        keeps = tt;
         reads = reads_as (λ same. cc same) done.reads;
         writes = writes;
       }
@@ -106,7 +106,7 @@ module _ {F K : Type 0} {files : Ghosts F} {out : SinkGhosts K} where
     written = λ place held told.
         (made.0.text, made.0.state, ap (answer_at place) made.1.0, sym (grown-nil (files.asked before)), made.1.1.0);
     leaves = made.1.1.1;
-    open_lines = tt;
+    keeps = tt;
     reads = reads_none (λ same. cc same);
     writes = writes;
   }

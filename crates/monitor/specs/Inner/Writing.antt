@@ -37,7 +37,7 @@ played m rounded = record m {
 pub record IsPlayed
     {A K : Type 0} (out : SinkGhosts K) (shown : Names) (all : Rounded) (result : Result A WriteFault)
     (old new : Running) (before after : K) : Type 0 where
-  pub played : OnOk result (new ≡ played old all)
+  pub becomes : OnOk result (new ≡ played old all)
   pub whole :
       OnOk result (out.written after ≡ grown (out.written before) (text shown old.state.lines all.items))
   pub part :
@@ -82,7 +82,7 @@ pub record IsWritten
       (λ held. IsTextWritten (by held place) place result new.state (files.asked before) (files.asked after)
       (out.written start) (out.written end))
   pub leaves : LeavesOff result old new
-  pub open_lines : IfOk result (λ done. KeepsOpen old.state new.state)
+  pub keeps : IfOk result (λ done. KeepsOpen old.state new.state)
   pub reads : OnlyReads files (result ≡ Err (Stop stop.Unread)) before after
   pub writes : OnlyWrites out (result ≡ Err (Cut Unwritten)) start end
 

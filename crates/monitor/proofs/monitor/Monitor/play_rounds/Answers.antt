@@ -29,13 +29,13 @@ rounds-preserved g c =
     let made = round m.state.lab c.min-q.result in
     let is = c.in-Ok.ensures.played in
     let now : c.play_round.new.self.state.lab.now ≡ m.state.lab.now + c.min-q.result =
-    ap (λ (r : Running). r.state.lab.now) is.played ∙ round_time m.state.lab c.min-q.result in
+    ap (λ (r : Running). r.state.lab.now) is.becomes ∙ round_time m.state.lab c.min-q.result in
     let split =
     one_round c.longest_round-longest.result c.rounds.left m.state.lab c.rounds.paused
     c.longest_round-longest.ensures.some c.rounds-test.true (c.if-is_none.ensures {u = tt}) c.min-q.ensures in
     record {
-      unspent = ap (λ (r : Running). r.spent) is.played ∙ c.rounds.invariant.unspent;
-      waits = ap (λ (r : Running). r.ended) is.played ∙ c.rounds.invariant.waits;
+      unspent = ap (λ (r : Running). r.spent) is.becomes ∙ c.rounds.invariant.unspent;
+      waits = ap (λ (r : Running). r.ended) is.becomes ∙ c.rounds.invariant.waits;
       plans = c.in-Ok.ensures.plans;
       within = omega (arith, now, c.rounds.invariant.within, c.min-q.ensures);
       same = ?;
@@ -51,7 +51,7 @@ returns-in-Err g c =
     one_round c.longest_round-longest.result c.rounds.left m.state.lab c.rounds.paused
     c.longest_round-longest.ensures.some c.rounds-test.true (c.if-is_none.ensures {u = tt}) c.min-q.ensures in
     record {
-      played = tt;
+      becomes = tt;
       whole = tt;
       part =
           come_part c.prints_join.ensures.text c.prints_join.ensures.open c.rounds.invariant.come split
