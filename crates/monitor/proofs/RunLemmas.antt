@@ -71,8 +71,7 @@ module _
       let ruling : run_for run old.state length
       ≡ Ok (record { text = text (names old.state.lab) old.state.lines items; state = new.state }) =
       made run old.state length d all within is
-      ∙ (λ i. Ok (record { text = text (same i) old.state.lines items; state = (sym played i).state })) in
-      (
+      ∙ (λ i. Ok (record { text = text (same i) old.state.lines items; state = (sym played i).state })) in (
         text (names old.state.lab) old.state.lines items,
         ruling,
         record {
