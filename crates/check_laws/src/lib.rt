@@ -1,0 +1,6 @@
+//! What `check` finds of what `run` refuses. Each law is the contract of a function that does nothing when it runs.
+#![tactic(auto)]
+
+mod lines;
+
+pub use lines::checks_refuse_as_runs_do;
