@@ -1,6 +1,8 @@
 -- How a check answers each command that a run answers.
-use Rattle.std.proofs.Common.{◌≡◌, ◌∷◌, ◌∙◌, ◌++◌, ◌+◌, ◌-◌, ◌≤◌, ◌^◌, ◌*◌, ◌%◌, ◌||◌, ◌&&◌, ◌==◌, ℕ, nat_lt, nat_le, not}
-use Rattle.std.proofs.Common.{if◌then◌else◌, Bool, true, false, List, [], length, map, Option, None, Some, Result, Ok, Err}
+use Rattle.std.proofs.Common.{◌≡◌, ◌∷◌, ◌∙◌, ◌++◌, ◌+◌, ◌-◌, ◌≤◌, ◌^◌, ◌*◌, ◌%◌, ◌||◌, ◌&&◌, ◌==◌, ℕ, nat_lt}
+use Rattle.std.proofs.Common.{nat_le, not}
+use Rattle.std.proofs.Common.{if◌then◌else◌, Bool, true, false, List, [], length, map, Option, None, Some, Result}
+use Rattle.std.proofs.Common.{Ok, Err}
 use Rattle.std.proofs.Common.{refl, sym, ap, inl, inr, arith, le_trans}
 use Rattle.std.specs.FinMap.{get}
 use Rattle.std.specs.List.{list_all, range_with_len}
@@ -419,8 +421,9 @@ module _ (s t : State) (alike : IsCheckOf s t) where
       then_same (entry (record { number = b; view = v }) dev) (entry (record { number = b; view = w }) dev) _ _
       (entry_same v w is b dev)
       (λ what.
-      then_same (require (is_some (hub_named s.lab hub)) cause.Name) (require (is_some (hub_named t.lab hub)) cause.Name)
-      _ _ (ap (λ n. require (is_some n) cause.Name) (hub_same hub))
+      then_same (require (is_some (hub_named s.lab hub)) cause.Name)
+      (require (is_some (hub_named t.lab hub)) cause.Name) _ _
+      (ap (λ n. require (is_some n) cause.Name) (hub_same hub))
       (λ there.
       then_same (speaker s b what) (speaker t b what) _ _ (speaker_same b what) (λ m. joins_found hub m))))
 
@@ -447,7 +450,8 @@ module _ (s t : State) (alike : IsCheckOf s t) where
   text_found place path (Broken line) = inr refl
   text_found place path (Readable bytes) =
       rw alike.flow
-      (found_at place (entered s (enter s.flow (source_of path bytes))) (entered t (enter s.flow (source_of path bytes)))
+      (found_at place (entered s (enter s.flow (source_of path bytes)))
+      (entered t (enter s.flow (source_of path bytes)))
       (entered_found (enter s.flow (source_of path bytes))))
 
   include_by : (held : Held) (place : Place) (path : List ℕ) (before : Result (Unit {0}) ScriptCause) →

@@ -5,3 +5,4 @@ pub mod RunLemmas
 pub mod SameLemmas
 pub mod CommandLemmas
 pub mod LineLemmas
+pub mod ScriptLemmas

@@ -101,5 +101,6 @@ module _ (runs : (lab : Lab) (d : _) → IsLater lab (run lab d).lab) (held : He
   pub did_found : (s t : State) → IsCheckOf s t → DidFound (did run held s) (did run held t)
   unfolding did
   did_found s t alike =
-      subst (λ (flow : script.State). DidFound (by_next run held s (next_of s.flow)) (by_next run held t (next_of flow)))
+      subst (λ (flow : script.State).
+      DidFound (by_next run held s (next_of s.flow)) (by_next run held t (next_of flow)))
       (sym alike.flow) (next_found s t alike (next_of s.flow))

@@ -1,6 +1,8 @@
 -- What is the same in a run and its check at a line, and how their answers fit together.
-use Rattle.std.proofs.Common.{◌≡◌, ◌∷◌, ◌∙◌, ◌⊎◌, ◌||◌, ◌==◌, ℕ, zero, suc, nat_lt, not, if◌then◌else◌, Bool, true, false}
-use Rattle.std.proofs.Common.{List, [], length, map, slice_get, Option, None, Some, Result, Ok, Err, refl, sym, ap, inl, inr}
+use Rattle.std.proofs.Common.{◌≡◌, ◌∷◌, ◌∙◌, ◌⊎◌, ◌||◌, ◌==◌, ℕ, zero, suc, nat_lt, not, if◌then◌else◌, Bool, true}
+use Rattle.std.proofs.Common.{false}
+use Rattle.std.proofs.Common.{List, [], length, map, slice_get, Option, None, Some, Result, Ok, Err, refl, sym, ap}
+use Rattle.std.proofs.Common.{inl, inr}
 use Rattle.std.specs.FinMap.{get}
 use Rattle.std.specs.List.{position}
 use Rattle.std.specs.Option.{ok_or, option_map}

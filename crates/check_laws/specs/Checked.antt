@@ -1,9 +1,10 @@
 -- A run of a script and its check, at the same line.
-use Rattle.std.specs.Prelude.{◌≡◌, ℕ, ◌≤◌, ◌⊎◌, true, map}
+use Rattle.std.specs.Prelude.{◌≡◌, ◌≢◌, ℕ, ◌≤◌, ◌⊎◌, true, map}
 use Rattle.monitor.specs.declared.fault.Cause.TheVariants.{Script}
+use Rattle.monitor.specs.declared.fault.ScriptFault.{ScriptFault}
 use Rattle.monitor.specs.Answer.{Answer, Goes, Saves, Loads, Ends, Faults, Misses}
 use Rattle.monitor.specs.State.{State}
-use Rattle.resc_vars.specs.declared.cause.ScriptCause.TheVariants.{LabTime}
+use Rattle.resc_vars.specs.declared.cause.ScriptCause.TheVariants.{LabTime, Occupied}
 use Rattle.check_laws.specs.Standing.{standing}
 
 -- A state of a check is at the line of a state of a run: the same lines, variables and macros are to come; the same
@@ -28,3 +29,9 @@ IsFound Ends Ends = Unit {0}
 IsFound (Faults fault) answer = (fault.cause ≡ Script LabTime) ⊎ (answer ≡ Faults fault)
 IsFound Misses Misses = Unit {0}
 IsFound _ _ = ⊥
+
+-- a check finds a fault, unless it is for the time of the laboratory, or that something was made in the laboratory into
+-- which a snapshot is to be loaded
+pub record IsToBeFound (fault : ScriptFault) : Type 0 where
+  pub time : fault.cause ≢ Script LabTime
+  pub occupied : fault.cause ≢ Script Occupied

@@ -2,5 +2,7 @@
 #![tactic(auto)]
 
 mod lines;
+mod scripts;
 
 pub use lines::checks_refuse_as_runs_do;
+pub use scripts::checks_find_what_runs_refuse;

@@ -1,0 +1,279 @@
+-- What a run is refused for its check is refused for.
+use Rattle.std.proofs.Common.{◌≡◌, ◌≢◌, ◌∷◌, ◌∙◌, ◌++◌, ◌||◌, ◌==◌, ◌≤◌, ℕ, zero, suc, not, if◌then◌else◌, Bool}
+use Rattle.std.proofs.Common.{true, false}
+use Rattle.std.proofs.Common.{List, [], length, map, Option, None, Some, refl, sym, ap, subst, inl, inr, arith, le_refl}
+use Rattle.std.proofs.Common.{zero-le}
+use Rattle.std.specs.FinMap.{get, insert}
+use Rattle.std.specs.Prelude.{option_and_then}
+use Rattle.std.proofs.lemmas.Bool.Decides.{nat_tests}
+use Rattle.lab_io.specs.Held.{Held}
+use Rattle.lab_io.specs.Store.{StoreUse, get_of, put_of}
+use Rattle.lab_snap.specs.Saved.{spelling}
+use Rattle.lab_snap.specs.Snapshot.{snapshot_of}
+use Rattle.lab_state.specs.Lab.{Lab}
+use Rattle.lab_state.specs.Run.{run}
+use Rattle.log_text.specs.declared.line.OpenLine.{OpenLine}
+use Rattle.resc_vars.specs.declared.cause.ScriptCause.TheVariants.{Size, Occupied}
+use Rattle.monitor.specs.declared.fault.ScriptFault.{ScriptFault}
+use Rattle.monitor.specs.declared.setting.Setting.{Setting}
+use Rattle.monitor.specs.Answer.{Answer, Goes, Saves, Loads, Ends, Faults, Misses, Did}
+use Rattle.monitor.specs.Command.{did}
+use Rattle.monitor.specs.State.{State, Place, bodies_of, joined, started}
+use Rattle.lab_top.specs.Content.{Content, Missing, Faulty, Readable, content_of}
+use Rattle.lab_top.specs.Headline.{calls}
+use Rattle.lab_top.specs.Request.{Request, Run, checking, request_of}
+use Rattle.lab_top.specs.Transcript.{Script, Further, Use, answered, begun, from, is_large, is_occupied, loading}
+use Rattle.lab_top.specs.Transcript.{loading_kept, onward, refused, resuming, saving, transcript, use_later, using}
+use Rattle.check_laws.specs.Checked.{IsCheckOf, IsFound, IsToBeFound}
+use Rattle.check_laws.specs.Coming.{GetsOld, SavesFit, ScriptFits, Standpoint, after_answer, after_load, after_save, at}
+use Rattle.check_laws.specs.Coming.{comes_to}
+use Rattle.check_laws.proofs.LineLemmas.{did_found}
+use Rattle.check_laws.proofs.RunLemmas.{IsLater}
+use Rattle.check_laws.proofs.SameLemmas.{length_same}
+
+-- ---- of calls on a store
+
+calls_later : (n : ℕ) (uses : List Use) → calls (map (use_later n) uses) ≡ calls uses
+calls_later n [] = refl
+calls_later n (made ∷ uses) = ap (λ used. made.call ∷ used) (calls_later n uses)
+
+module _ (old kept : Held) where
+  gets_later : (n : ℕ) (uses : List Use) → GetsOld old kept (calls (map (use_later n) uses)) →
+      GetsOld old kept (calls uses)
+  gets_later n uses gets = subst (GetsOld old kept) (calls_later n uses) gets
+
+  gets_after_put : (name bytes : List ℕ) (used : List StoreUse) → GetsOld old kept (put_of name bytes ∷ used) →
+      GetsOld old (insert kept name bytes) used
+  gets_after_put name bytes used gets done more of is =
+      gets (put_of name bytes ∷ done) more of (ap (λ used. put_of name bytes ∷ used) is)
+
+  gets_after_get : (name : List ℕ) (used : List StoreUse) → GetsOld old kept (get_of name ∷ used) →
+      GetsOld old kept used
+  gets_after_get name used gets done more of is =
+      gets (get_of name ∷ done) more of (ap (λ used. get_of name ∷ used) is)
+
+-- ---- of what is refused
+
+same_fault : (one two : ScriptFault) → Script one ≡ Script two → one ≡ two
+same_fault one two is = cc
+
+-- with no more time less is occupied
+less_occupied : (boards hubs now less : ℕ) → less ≤ now →
+    (not (boards == 0) || not (hubs == 0) || not (now == 0)) ≡ false →
+    (not (boards == 0) || not (hubs == 0) || not (less == 0)) ≡ false
+less_occupied boards hubs now less no_more is = grind (arith, nat_tests, no_more, is)
+
+not_occupied : (s t : State) → IsCheckOf s t → is_occupied s.lab ≡ false → is_occupied t.lab ≡ false
+not_occupied s t alike is =
+    rw (length_same s t alike, alike.hubs)
+    (less_occupied (length s.lab.boards) (length s.lab.hubs) s.lab.now t.lab.now alike.now is)
+
+-- a run and its check that load the same snapshot
+joined_alike : (s t : State) → IsCheckOf s t → (lab : Lab) (lines : List OpenLine) →
+    IsCheckOf (joined (bodies_of s) lab lines) (joined (bodies_of t) lab lines)
+joined_alike s t alike lab lines = record {
+  dry = alike.dry;
+  flow = alike.flow;
+  selected = refl;
+  boards = refl;
+  hubs = refl;
+  now = le_refl lab.now;
+  until = alike.until;
+}
+
+begins_alike : (script text : List ℕ) (setting : Setting) →
+    IsCheckOf (started script text setting) (started script text checking)
+begins_alike script text setting = record {
+  dry = refl;
+  flow = refl;
+  selected = refl;
+  boards = refl;
+  hubs = refl;
+  now = le_refl 0;
+  until = zero-le setting.until.0;
+}
+
+module _ (runs : (lab : Lab) (d : ℕ) → IsLater lab (run lab d).lab) (held : Held) (fault : ScriptFault)
+    (known : IsToBeFound fault) where
+  fits_next : (here next : Standpoint) → after_answer here.kept (did run held here.state).answer ≡ Some next →
+      SavesFit held here → SavesFit held next
+  fits_next here next is fits n there name place after comes saves =
+      fits (suc n) there name place after (ap (option_and_then (comes_to held n)) is ∙ comes) saves
+
+  -- what is left of a run finds, in the check, the fault that it ends with
+  abbrev Finds : Further → Type 0
+  Finds further =
+      (kept stored : Held) (s t : State) → IsCheckOf s t → SavesFit held (at kept s) → SavesFit held (at stored t) →
+      GetsOld stored kept (calls (further kept s).uses) → (further kept s).outcome ≡ Script fault →
+      (further stored t).outcome ≡ Script fault
+
+  module _ (further : Further) (rest : Finds further) (kept stored : Held) (s t : State)
+      (fits : SavesFit held (at kept s)) (checked_fits : SavesFit held (at stored t)) where
+    module _ (name : List ℕ) (place of_place : Place) (of : List ℕ) (next after : State) (alike : IsCheckOf next after)
+        (is : (did run held s).answer ≡ Saves name place next)
+        (also : (did run held t).answer ≡ Saves of of_place after) where
+      small : is_large (spelling next.lab next.lines) ≡ false
+      small = fits 0 (at kept s) name place next refl is
+
+      checked_small : is_large (spelling after.lab after.lines) ≡ false
+      checked_small = checked_fits 0 (at stored t) of of_place after refl also
+
+      checked_next : SavesFit held (at stored after)
+      checked_next =
+          let goes : after_answer stored (did run held t).answer ≡ Some (at stored after) =
+          ap (after_answer stored) also ∙ rw (checked_small, alike.dry) refl in
+          fits_next (at stored t) (at stored after) goes checked_fits
+
+      saves_by : (dry : Bool) → next.dry ≡ dry →
+          GetsOld stored kept
+          (calls (saving further kept name place next (spelling next.lab next.lines)).uses) →
+          (saving further kept name place next (spelling next.lab next.lines)).outcome ≡ Script fault →
+          (further stored after).outcome ≡ Script fault
+      saves_by true dry gets out =
+          let goes : after_answer kept (did run held s).answer ≡ Some (at kept next) =
+          ap (after_answer kept) is ∙ rw (small, dry) refl in
+          rest kept stored next after alike (fits_next (at kept s) (at kept next) goes fits) checked_next
+          (rw (small, dry) at gets) (rw (small, dry) at out)
+      saves_by false dry gets out =
+          let bytes = spelling next.lab next.lines in
+          let mine = insert kept name bytes in
+          let goes : after_answer kept (did run held s).answer ≡ Some (at mine next) =
+          ap (after_answer kept) is ∙ rw (small, dry) refl in
+          rest mine stored next after alike (fits_next (at kept s) (at mine next) goes fits) checked_next
+          (gets_after_put stored kept name bytes (calls (further mine next).uses) (rw (small, dry) at gets))
+          (rw (small, dry) at out)
+
+      saves_found :
+          GetsOld stored kept
+          (calls (saving further kept name place next (spelling next.lab next.lines)).uses) →
+          (saving further kept name place next (spelling next.lab next.lines)).outcome ≡ Script fault →
+          (saving further stored of of_place after (spelling after.lab after.lines)).outcome ≡ Script fault
+      saves_found gets out = rw (checked_small, alike.dry) (saves_by next.dry refl gets out)
+
+    module _ (name : List ℕ) (place : Place) (next after : State) (alike : IsCheckOf next after)
+        (is : (did run held s).answer ≡ Loads name place next)
+        (also : (did run held t).answer ≡ Loads name place after)
+        (free : is_occupied next.lab ≡ false) (same : get stored name ≡ get kept name) where
+      module _ (bytes : List ℕ) (there : get kept name ≡ Some bytes) (small : is_large bytes ≡ false) where
+        resumes_found : (read : Option (Lab × List OpenLine)) → snapshot_of bytes ≡ read →
+            GetsOld stored kept (calls (resuming further kept place next read).uses) →
+            (resuming further kept place next read).outcome ≡ Script fault →
+            (resuming further stored place after read).outcome ≡ Script fault
+        resumes_found None none gets out = out
+        resumes_found (Some (lab, lines)) read gets out =
+            let mine = joined (bodies_of next) lab lines in
+            let checks = joined (bodies_of after) lab lines in
+            let goes : after_answer kept (did run held s).answer ≡ Some (at kept mine) =
+            ap (after_answer kept) is ∙ rw (free, there, small, read) refl in
+            let held_there : get stored name ≡ Some bytes = same ∙ there in
+            let checked_free : is_occupied after.lab ≡ false = not_occupied next after alike free in
+            let checks_go : after_answer stored (did run held t).answer ≡ Some (at stored checks) =
+            ap (after_answer stored) also ∙ rw (checked_free, held_there, small, read) refl in
+            rest kept stored mine checks (joined_alike next after alike lab lines)
+            (fits_next (at kept s) (at kept mine) goes fits)
+            (fits_next (at stored t) (at stored checks) checks_go checked_fits) gets out
+
+      sized_found : (bytes : List ℕ) → get kept name ≡ Some bytes → (large : Bool) → is_large bytes ≡ large →
+          GetsOld stored kept
+          (calls (if large then refused kept place next Size
+          else resuming further kept place next (snapshot_of bytes)).uses) →
+          (if large then refused kept place next Size
+          else resuming further kept place next (snapshot_of bytes)).outcome ≡ Script fault →
+          (if large then refused stored place after Size
+          else resuming further stored place after (snapshot_of bytes)).outcome ≡ Script fault
+      sized_found bytes there true large gets out = out
+      sized_found bytes there false small gets out = resumes_found bytes there small (snapshot_of bytes) refl gets out
+
+      kept_found : (there : Option (List ℕ)) → get kept name ≡ there →
+          GetsOld stored kept (calls (loading_kept further kept place next there).uses) →
+          (loading_kept further kept place next there).outcome ≡ Script fault →
+          (loading_kept further stored place after there).outcome ≡ Script fault
+      kept_found None none gets out = absurd (cc)
+      kept_found (Some bytes) there gets out = sized_found bytes there (is_large bytes) refl gets out
+
+    loads_by : (name : List ℕ) (place : Place) (next after : State) → IsCheckOf next after →
+        (did run held s).answer ≡ Loads name place next → (did run held t).answer ≡ Loads name place after →
+        (occupied : Bool) → is_occupied next.lab ≡ occupied →
+        GetsOld stored kept
+        (calls (if occupied then refused kept place next Occupied
+        else using (get_of name) (loading_kept further kept place next (get kept name))).uses) →
+        (if occupied then refused kept place next Occupied
+        else using (get_of name) (loading_kept further kept place next (get kept name))).outcome ≡ Script fault →
+        (loading further stored name place after).outcome ≡ Script fault
+    loads_by name place next after alike is also true occupied gets out =
+        absurd (known.occupied (sym (ap (λ (f : ScriptFault). f.cause) (same_fault _ fault out))))
+    loads_by name place next after alike is also false free gets out =
+        let used = calls (loading_kept further kept place next (get kept name)).uses in
+        let same : get stored name ≡ get kept name = gets [] used name refl in
+        let checked_free : is_occupied after.lab ≡ false = not_occupied next after alike free in
+        rw (checked_free, same)
+        (kept_found name place next after alike is also free same (get kept name) refl
+        (gets_after_get stored kept name used gets) out)
+
+    module _ (mine checks : List (List ℕ)) where
+      abbrev ran : Answer → Did
+      ran answer = record { names = mine; answer = answer }
+
+      abbrev checked : Answer → Did
+      checked answer = record { names = checks; answer = answer }
+
+      onward_found : (one two : Answer) → (did run held s).answer ≡ one → (did run held t).answer ≡ two →
+          IsFound one two → GetsOld stored kept (calls (onward further kept s (ran one)).uses) →
+          (onward further kept s (ran one)).outcome ≡ Script fault →
+          (onward further stored t (checked two)).outcome ≡ Script fault
+      onward_found (Goes text next) (Goes other after) is also alike gets out =
+          rest kept stored next after alike
+          (fits_next (at kept s) (at kept next) (ap (after_answer kept) is) fits)
+          (fits_next (at stored t) (at stored after) (ap (after_answer stored) also) checked_fits)
+          (gets_later stored kept (length text) (further kept next).uses gets) out
+      onward_found (Saves name place next) (Saves of at_place after) is also found gets out =
+          saves_found name place at_place of next after found.2 is also
+          (gets_later stored kept 0 (saving further kept name place next (spelling next.lab next.lines)).uses gets) out
+      onward_found (Loads name place next) (Loads of at_place after) is also found gets out =
+          let here : (did run held t).answer ≡ Loads name place after =
+          also ∙ rw (found.0, found.1) refl in
+          rw (found.0, found.1)
+          (loads_by name place next after found.2 is here (is_occupied next.lab) refl
+          (gets_later stored kept 0 (loading further kept name place next).uses gets) out)
+      onward_found Ends two is also found gets out = absurd (cc)
+      onward_found (Faults f) two is also (inl time) gets out =
+          absurd (known.time (sym (ap (λ (f : ScriptFault). f.cause) (same_fault f fault out)) ∙ time))
+      onward_found (Faults f) two is also (inr same) gets out = rw same out
+      onward_found Misses two is also found gets out = absurd (cc)
+      onward_found _ _ is also found gets out = absurd found
+
+  from_found : (more : ℕ) → Finds (from more run held)
+  unfolding from
+  from_found zero kept stored s t alike fits checked_fits gets out = absurd (cc)
+  from_found (suc more) kept stored s t alike fits checked_fits gets out =
+      let mine = did run held s in
+      let checks = did run held t in
+      onward_found (from more run held) (from_found more) kept stored s t fits checked_fits mine.names checks.names
+      mine.answer checks.answer refl refl (did_found runs held s t alike).1 gets out
+
+  pub commands_found : Finds (from 100001 run held)
+  commands_found = from_found 100001
+
+  begun_found : (kept stored : Held) (script : List ℕ) (setting : Setting) (content : Content) →
+      ((text : List ℕ) → content ≡ Readable text → SavesFit held (at kept (started script text setting))) →
+      ((text : List ℕ) → content ≡ Readable text → SavesFit held (at stored (started script text checking))) →
+      GetsOld stored kept (calls (begun run held kept script setting content).uses) →
+      (begun run held kept script setting content).outcome ≡ Script fault →
+      (begun run held stored script checking content).outcome ≡ Script fault
+  begun_found kept stored script setting Missing fits checked_fits gets out = absurd (cc)
+  begun_found kept stored script setting (Faulty f) fits checked_fits gets out = out
+  begun_found kept stored script setting (Readable text) fits checked_fits gets out =
+      commands_found kept stored (started script text setting) (started script text checking)
+      (begins_alike script text setting) (fits text refl) (checked_fits text refl) gets out
+
+  pub script_found : (kept stored : Held) (one two : Request) (script : List ℕ) (setting : Setting) →
+      one ≡ Run script setting → two ≡ Run script checking →
+      ScriptFits held kept script setting → ScriptFits held stored script checking →
+      GetsOld stored kept (calls (answered run held kept one).uses) →
+      (answered run held kept one).outcome ≡ Script fault →
+      (answered run held stored two).outcome ≡ Script fault
+  script_found kept stored one two script setting is also fits checked_fits gets out =
+      let content = content_of script (get held script) in
+      rw also
+      (begun_found kept stored script setting content fits checked_fits
+      (gets_later stored kept 0 (begun run held kept script setting content).uses (rw is at gets)) (rw is at out))
