@@ -3,6 +3,7 @@ use Rattle.std.proofs.Common.{◌≡◌, ◌∷◌, ◌∙◌, ◌⊎◌, ◌||�
 use Rattle.std.proofs.Common.{false}
 use Rattle.std.proofs.Common.{List, [], length, map, slice_get, Option, None, Some, Result, Ok, Err, refl, sym, ap}
 use Rattle.std.proofs.Common.{inl, inr}
+use Rattle.std.proofs.Common.{le_refl, zero-le}
 use Rattle.std.specs.FinMap.{get}
 use Rattle.std.specs.List.{position}
 use Rattle.std.specs.Option.{ok_or, option_map}
@@ -14,6 +15,7 @@ use Rattle.lab_num.specs.declared.key.Member.{Member}
 use Rattle.dev_core.specs.declared.kind.Kind.{Kind}
 use Rattle.board.specs.View.{View}
 use Rattle.lab_state.specs.Board.{Board}
+use Rattle.lab_state.specs.Lab.{Lab}
 use Rattle.lab_state.specs.Names.{board_named, is_taken}
 use Rattle.lab_state.specs.One.{first_without, kind_at, view_at, view_of}
 use Rattle.resc_vars.specs.declared.cause.ScriptCause.{ScriptCause}
@@ -22,7 +24,10 @@ use Rattle.monitor.specs.declared.fault.Cause.TheVariants.{Script}
 use Rattle.monitor.specs.Answer.{Answer, Did, Done, answer_at, loads, refused, with_file}
 use Rattle.monitor.specs.Refusal.{◌>>=◌, require}
 use Rattle.monitor.specs.Selected.{Equipped, bare, equipped, equipped_as, if_board, selected}
-use Rattle.monitor.specs.State.{State, Place}
+use Rattle.monitor.specs.State.{State, Place, bodies_of, joined, started}
+use Rattle.monitor.specs.declared.setting.Setting.{Setting}
+use Rattle.log_text.specs.declared.line.OpenLine.{OpenLine}
+use Rattle.lab_top.specs.Request.{checking}
 use Rattle.check_laws.specs.Checked.{IsCheckOf, IsFound}
 use Rattle.check_laws.specs.Standing.{Equipment, Standing, equipment_of, standing}
 use Rattle.check_laws.proofs.ListLemmas.{position_same}
@@ -68,6 +73,32 @@ then_on (Err cause) f g next = inr refl
 pub then_same : {A : Type 0} (one two : Result A ScriptCause) (f g : A → Result Done ScriptCause) → two ≡ one →
     ((x : A) → FoundBy (f x) (g x)) → FoundBy (one >>= f) (two >>= g)
 then_same one two f g is next = rw is (then_on one f g next)
+
+-- a run and its check that load the same snapshot
+pub joined_alike : (s t : State) → IsCheckOf s t → (lab : Lab) (lines : List OpenLine) →
+    IsCheckOf (joined (bodies_of s) lab lines) (joined (bodies_of t) lab lines)
+joined_alike s t alike lab lines = record {
+  dry = alike.dry;
+  flow = alike.flow;
+  selected = refl;
+  boards = refl;
+  hubs = refl;
+  now = le_refl lab.now;
+  until = alike.until;
+}
+
+-- a run and its check before the first line
+pub begins_alike : (script text : List ℕ) (setting : Setting) →
+    IsCheckOf (started script text setting) (started script text checking)
+begins_alike script text setting = record {
+  dry = refl;
+  flow = refl;
+  selected = refl;
+  boards = refl;
+  hubs = refl;
+  now = le_refl 0;
+  until = zero-le setting.until.0;
+}
 
 -- ---- of a run and its check
 

@@ -1,8 +1,7 @@
 -- What a run is refused for its check is refused for.
 use Rattle.std.proofs.Common.{◌≡◌, ◌≢◌, ◌∷◌, ◌∙◌, ◌++◌, ◌||◌, ◌==◌, ◌≤◌, ℕ, zero, suc, not, if◌then◌else◌, Bool}
 use Rattle.std.proofs.Common.{true, false}
-use Rattle.std.proofs.Common.{List, [], length, map, Option, None, Some, refl, sym, ap, subst, inl, inr, arith, le_refl}
-use Rattle.std.proofs.Common.{zero-le}
+use Rattle.std.proofs.Common.{List, [], length, map, Option, None, Some, refl, sym, ap, subst, inl, inr, arith}
 use Rattle.std.specs.FinMap.{get, insert}
 use Rattle.std.specs.Prelude.{option_and_then}
 use Rattle.std.proofs.lemmas.Bool.Decides.{nat_tests}
@@ -25,11 +24,11 @@ use Rattle.lab_top.specs.Request.{Request, Run, checking, request_of}
 use Rattle.lab_top.specs.Transcript.{Script, Further, Use, answered, begun, from, is_large, is_occupied, loading}
 use Rattle.lab_top.specs.Transcript.{loading_kept, onward, refused, resuming, saving, transcript, use_later, using}
 use Rattle.check_laws.specs.Checked.{IsCheckOf, IsFound, IsToBeFound}
-use Rattle.check_laws.specs.Coming.{GetsOld, SavesFit, ScriptFits, Standpoint, after_answer, after_load, after_save, at}
-use Rattle.check_laws.specs.Coming.{comes_to}
+use Rattle.check_laws.specs.Coming.{GetsOld, SavesFit, ScriptFits, Standpoint, after_answer, after_load, after_save}
+use Rattle.check_laws.specs.Coming.{comes_to, standpoint}
 use Rattle.check_laws.proofs.LineLemmas.{did_found}
 use Rattle.check_laws.proofs.RunLemmas.{IsLater}
-use Rattle.check_laws.proofs.SameLemmas.{length_same}
+use Rattle.check_laws.proofs.SameLemmas.{begins_alike, joined_alike, length_same}
 
 -- ---- of calls on a store
 
@@ -57,72 +56,52 @@ module _ (old kept : Held) where
 same_fault : (one two : ScriptFault) → Script one ≡ Script two → one ≡ two
 same_fault one two is = cc
 
--- with no more time less is occupied
-less_occupied : (boards hubs now less : ℕ) → less ≤ now →
-    (not (boards == 0) || not (hubs == 0) || not (now == 0)) ≡ false →
-    (not (boards == 0) || not (hubs == 0) || not (less == 0)) ≡ false
-less_occupied boards hubs now less no_more is = grind (arith, nat_tests, no_more, is)
+-- with no more time nothing more is occupied
+none_left : (now less : ℕ) → less ≤ now → not (now == 0) ≡ false → not (less == 0) ≡ false
+none_left now less no_more none = grind (arith, nat_tests, no_more, none)
+
+free_by : (a b c d : Bool) → (c ≡ false → d ≡ false) → (a || b || c) ≡ false → (a || b || d) ≡ false
+free_by true b c d less is = absurd (cc)
+free_by false true c d less is = absurd (cc)
+free_by false false true d less is = absurd (cc)
+free_by false false false d less is = less refl
 
 not_occupied : (s t : State) → IsCheckOf s t → is_occupied s.lab ≡ false → is_occupied t.lab ≡ false
 not_occupied s t alike is =
     rw (length_same s t alike, alike.hubs)
-    (less_occupied (length s.lab.boards) (length s.lab.hubs) s.lab.now t.lab.now alike.now is)
-
--- a run and its check that load the same snapshot
-joined_alike : (s t : State) → IsCheckOf s t → (lab : Lab) (lines : List OpenLine) →
-    IsCheckOf (joined (bodies_of s) lab lines) (joined (bodies_of t) lab lines)
-joined_alike s t alike lab lines = record {
-  dry = alike.dry;
-  flow = alike.flow;
-  selected = refl;
-  boards = refl;
-  hubs = refl;
-  now = le_refl lab.now;
-  until = alike.until;
-}
-
-begins_alike : (script text : List ℕ) (setting : Setting) →
-    IsCheckOf (started script text setting) (started script text checking)
-begins_alike script text setting = record {
-  dry = refl;
-  flow = refl;
-  selected = refl;
-  boards = refl;
-  hubs = refl;
-  now = le_refl 0;
-  until = zero-le setting.until.0;
-}
+    (free_by (not (length s.lab.boards == 0)) (not (length s.lab.hubs == 0)) (not (s.lab.now == 0))
+    (not (t.lab.now == 0)) (none_left s.lab.now t.lab.now alike.now) is)
 
 module _ (runs : (lab : Lab) (d : ℕ) → IsLater lab (run lab d).lab) (held : Held) (fault : ScriptFault)
     (known : IsToBeFound fault) where
   fits_next : (here next : Standpoint) → after_answer here.kept (did run held here.state).answer ≡ Some next →
-      SavesFit held here → SavesFit held next
+      SavesFit held here.kept here.state → SavesFit held next.kept next.state
   fits_next here next is fits n there name place after comes saves =
       fits (suc n) there name place after (ap (option_and_then (comes_to held n)) is ∙ comes) saves
 
   -- what is left of a run finds, in the check, the fault that it ends with
   abbrev Finds : Further → Type 0
   Finds further =
-      (kept stored : Held) (s t : State) → IsCheckOf s t → SavesFit held (at kept s) → SavesFit held (at stored t) →
+      (kept stored : Held) (s t : State) → IsCheckOf s t → SavesFit held kept s → SavesFit held stored t →
       GetsOld stored kept (calls (further kept s).uses) → (further kept s).outcome ≡ Script fault →
       (further stored t).outcome ≡ Script fault
 
   module _ (further : Further) (rest : Finds further) (kept stored : Held) (s t : State)
-      (fits : SavesFit held (at kept s)) (checked_fits : SavesFit held (at stored t)) where
+      (fits : SavesFit held kept s) (checked_fits : SavesFit held stored t) where
     module _ (name : List ℕ) (place of_place : Place) (of : List ℕ) (next after : State) (alike : IsCheckOf next after)
         (is : (did run held s).answer ≡ Saves name place next)
         (also : (did run held t).answer ≡ Saves of of_place after) where
       small : is_large (spelling next.lab next.lines) ≡ false
-      small = fits 0 (at kept s) name place next refl is
+      small = fits 0 (standpoint kept s) name place next refl is
 
       checked_small : is_large (spelling after.lab after.lines) ≡ false
-      checked_small = checked_fits 0 (at stored t) of of_place after refl also
+      checked_small = checked_fits 0 (standpoint stored t) of of_place after refl also
 
-      checked_next : SavesFit held (at stored after)
+      checked_next : SavesFit held stored after
       checked_next =
-          let goes : after_answer stored (did run held t).answer ≡ Some (at stored after) =
+          let goes : after_answer stored (did run held t).answer ≡ Some (standpoint stored after) =
           ap (after_answer stored) also ∙ rw (checked_small, alike.dry) refl in
-          fits_next (at stored t) (at stored after) goes checked_fits
+          fits_next (standpoint stored t) (standpoint stored after) goes checked_fits
 
       saves_by : (dry : Bool) → next.dry ≡ dry →
           GetsOld stored kept
@@ -130,16 +109,18 @@ module _ (runs : (lab : Lab) (d : ℕ) → IsLater lab (run lab d).lab) (held : 
           (saving further kept name place next (spelling next.lab next.lines)).outcome ≡ Script fault →
           (further stored after).outcome ≡ Script fault
       saves_by true dry gets out =
-          let goes : after_answer kept (did run held s).answer ≡ Some (at kept next) =
+          let goes : after_answer kept (did run held s).answer ≡ Some (standpoint kept next) =
           ap (after_answer kept) is ∙ rw (small, dry) refl in
-          rest kept stored next after alike (fits_next (at kept s) (at kept next) goes fits) checked_next
+          rest kept stored next after alike
+          (fits_next (standpoint kept s) (standpoint kept next) goes fits) checked_next
           (rw (small, dry) at gets) (rw (small, dry) at out)
       saves_by false dry gets out =
           let bytes = spelling next.lab next.lines in
           let mine = insert kept name bytes in
-          let goes : after_answer kept (did run held s).answer ≡ Some (at mine next) =
+          let goes : after_answer kept (did run held s).answer ≡ Some (standpoint mine next) =
           ap (after_answer kept) is ∙ rw (small, dry) refl in
-          rest mine stored next after alike (fits_next (at kept s) (at mine next) goes fits) checked_next
+          rest mine stored next after alike
+          (fits_next (standpoint kept s) (standpoint mine next) goes fits) checked_next
           (gets_after_put stored kept name bytes (calls (further mine next).uses) (rw (small, dry) at gets))
           (rw (small, dry) at out)
 
@@ -163,15 +144,15 @@ module _ (runs : (lab : Lab) (d : ℕ) → IsLater lab (run lab d).lab) (held : 
         resumes_found (Some (lab, lines)) read gets out =
             let mine = joined (bodies_of next) lab lines in
             let checks = joined (bodies_of after) lab lines in
-            let goes : after_answer kept (did run held s).answer ≡ Some (at kept mine) =
+            let goes : after_answer kept (did run held s).answer ≡ Some (standpoint kept mine) =
             ap (after_answer kept) is ∙ rw (free, there, small, read) refl in
             let held_there : get stored name ≡ Some bytes = same ∙ there in
             let checked_free : is_occupied after.lab ≡ false = not_occupied next after alike free in
-            let checks_go : after_answer stored (did run held t).answer ≡ Some (at stored checks) =
+            let checks_go : after_answer stored (did run held t).answer ≡ Some (standpoint stored checks) =
             ap (after_answer stored) also ∙ rw (checked_free, held_there, small, read) refl in
             rest kept stored mine checks (joined_alike next after alike lab lines)
-            (fits_next (at kept s) (at kept mine) goes fits)
-            (fits_next (at stored t) (at stored checks) checks_go checked_fits) gets out
+            (fits_next (standpoint kept s) (standpoint kept mine) goes fits)
+            (fits_next (standpoint stored t) (standpoint stored checks) checks_go checked_fits) gets out
 
       sized_found : (bytes : List ℕ) → get kept name ≡ Some bytes → (large : Bool) → is_large bytes ≡ large →
           GetsOld stored kept
@@ -223,8 +204,8 @@ module _ (runs : (lab : Lab) (d : ℕ) → IsLater lab (run lab d).lab) (held : 
           (onward further stored t (checked two)).outcome ≡ Script fault
       onward_found (Goes text next) (Goes other after) is also alike gets out =
           rest kept stored next after alike
-          (fits_next (at kept s) (at kept next) (ap (after_answer kept) is) fits)
-          (fits_next (at stored t) (at stored after) (ap (after_answer stored) also) checked_fits)
+          (fits_next (standpoint kept s) (standpoint kept next) (ap (after_answer kept) is) fits)
+          (fits_next (standpoint stored t) (standpoint stored after) (ap (after_answer stored) also) checked_fits)
           (gets_later stored kept (length text) (further kept next).uses gets) out
       onward_found (Saves name place next) (Saves of at_place after) is also found gets out =
           saves_found name place at_place of next after found.2 is also
@@ -255,8 +236,8 @@ module _ (runs : (lab : Lab) (d : ℕ) → IsLater lab (run lab d).lab) (held : 
   commands_found = from_found 100001
 
   begun_found : (kept stored : Held) (script : List ℕ) (setting : Setting) (content : Content) →
-      ((text : List ℕ) → content ≡ Readable text → SavesFit held (at kept (started script text setting))) →
-      ((text : List ℕ) → content ≡ Readable text → SavesFit held (at stored (started script text checking))) →
+      ((text : List ℕ) → content ≡ Readable text → SavesFit held kept (started script text setting)) →
+      ((text : List ℕ) → content ≡ Readable text → SavesFit held stored (started script text checking)) →
       GetsOld stored kept (calls (begun run held kept script setting content).uses) →
       (begun run held kept script setting content).outcome ≡ Script fault →
       (begun run held stored script checking content).outcome ≡ Script fault

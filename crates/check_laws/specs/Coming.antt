@@ -23,13 +23,13 @@ pub record Standpoint : Type 0 where
   pub kept : Held
   pub state : State
 
-abbrev pub at : Held → State → Standpoint
-at kept s = record { kept = kept; state = s }
+abbrev pub standpoint : Held → State → Standpoint
+standpoint kept s = record { kept = kept; state = s }
 
 -- a snapshot that is small enough was saved; a check has only asked
 abbrev pub after_save : Held → List ℕ → State → List ℕ → Option Standpoint
 after_save kept name next bytes =
-    if is_large bytes then None else Some (at (if next.dry then kept else insert kept name bytes) next)
+    if is_large bytes then None else Some (standpoint (if next.dry then kept else insert kept name bytes) next)
 
 -- what a snapshot holds, if it is one
 abbrev pub read_snapshot : List ℕ → Option (Lab × List OpenLine)
@@ -38,12 +38,12 @@ read_snapshot bytes = if is_large bytes then None else snapshot_of bytes
 abbrev pub after_load : Held → List ℕ → State → Option Standpoint
 after_load kept name next =
     if is_occupied next.lab then None
-    else option_map (λ found. at kept (joined (bodies_of next) found.0 found.1))
+    else option_map (λ found. standpoint kept (joined (bodies_of next) found.0 found.1))
     (option_and_then read_snapshot (get kept name))
 
 -- where a script stands after a command that is answered so, if it goes on
 abbrev pub after_answer : Held → Answer → Option Standpoint
-after_answer kept (Goes text next) = Some (at kept next)
+after_answer kept (Goes text next) = Some (standpoint kept next)
 after_answer kept (Saves name place next) = after_save kept name next (spelling next.lab next.lines)
 after_answer kept (Loads name place next) = after_load kept name next
 after_answer kept Ends = None
@@ -57,10 +57,10 @@ comes_to held (suc n) from =
     option_and_then (comes_to held n) (after_answer from.kept (did run held from.state).answer)
 
 -- each snapshot that a script comes to save from here on is small enough to be saved
-abbrev pub SavesFit : Held → Standpoint → Type 0
-SavesFit held from =
+abbrev pub SavesFit : Held → Held → State → Type 0
+SavesFit held kept s =
     (n : ℕ) (there : Standpoint) (name : List ℕ) (place : Place) (next : State) →
-    comes_to held n from ≡ Some there → (did run held there.state).answer ≡ Saves name place next →
+    comes_to held n (standpoint kept s) ≡ Some there → (did run held there.state).answer ≡ Saves name place next →
     is_large (spelling next.lab next.lines) ≡ false
 
 -- Calls on a store that keeps this get nothing that is not in an old one: where one of them gets what is kept under a
@@ -74,4 +74,4 @@ GetsOld old kept used =
 abbrev pub ScriptFits : Held → Held → List ℕ → Setting → Type 0
 ScriptFits held kept script setting =
     (text : List ℕ) → content_of script (get held script) ≡ Readable text →
-    SavesFit held (at kept (started script text setting))
+    SavesFit held kept (started script text setting)

@@ -9,7 +9,7 @@ ghost use Rattle.monitor.specs.declared.fault.ScriptFault.{ScriptFault};
 ghost use Rattle.monitor.specs.declared.setting.Setting.{Setting};
 ghost use Rattle.monitor.specs.State.{State};
 ghost use Rattle.check_laws.specs.Checked.{IsCheckOf, IsToBeFound};
-ghost use Rattle.check_laws.specs.Coming.{GetsOld, SavesFit, ScriptFits, at};
+ghost use Rattle.check_laws.specs.Coming.{GetsOld, SavesFit, ScriptFits};
 
 use board::stretches_keep_plans;
 
@@ -19,7 +19,7 @@ use board::stretches_keep_plans;
 /// where the check is made: a snapshot that the script itself saves is not.
 pub fn checks_find_what_runs_refuse()
     ensures commands { (held kept stored : Held) (s t : State) (fault : ScriptFault) →
-        IsCheckOf s t → IsToBeFound fault → SavesFit held (at kept s) → SavesFit held (at stored t) →
+        IsCheckOf s t → IsToBeFound fault → SavesFit held kept s → SavesFit held stored t →
         GetsOld stored kept (calls (commands_of run held kept s).uses) →
         (commands_of run held kept s).outcome ≡ Script fault →
         (commands_of run held stored t).outcome ≡ Script fault }
