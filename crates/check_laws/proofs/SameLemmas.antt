@@ -3,7 +3,7 @@ use Rattle.std.proofs.Common.{◌≡◌, ◌∷◌, ◌∙◌, ◌⊎◌, ◌||�
 use Rattle.std.proofs.Common.{false}
 use Rattle.std.proofs.Common.{List, [], length, map, slice_get, Option, None, Some, Result, Ok, Err, refl, sym, ap}
 use Rattle.std.proofs.Common.{inl, inr}
-use Rattle.std.proofs.Common.{le_refl, zero-le}
+use Rattle.std.proofs.Common.{arith, le_refl}
 use Rattle.std.specs.FinMap.{get}
 use Rattle.std.specs.List.{position}
 use Rattle.std.specs.Option.{ok_or, option_map}
@@ -97,7 +97,7 @@ begins_alike script text setting = record {
   boards = refl;
   hubs = refl;
   now = le_refl 0;
-  until = zero-le setting.until.0;
+  until = omega arith;
 }
 
 -- ---- of a run and its check

@@ -103,33 +103,52 @@ module _ (runs : (lab : Lab) (d : ℕ) → IsLater lab (run lab d).lab) (held : 
           ap (after_answer stored) also ∙ rw (checked_small, alike.dry) refl in
           fits_next (standpoint stored t) (standpoint stored after) goes checked_fits
 
-      saves_by : (dry : Bool) → next.dry ≡ dry →
+      abbrev bytes : List ℕ
+      bytes = spelling next.lab next.lines
+
+      abbrev mine : Held
+      mine = insert kept name bytes
+
+      saves_by : (large dry : Bool) → is_large bytes ≡ large → next.dry ≡ dry →
           GetsOld stored kept
-          (calls (saving further kept name place next (spelling next.lab next.lines)).uses) →
-          (saving further kept name place next (spelling next.lab next.lines)).outcome ≡ Script fault →
+          (calls (if large then refused kept place next Size
+          else if dry then further kept next
+          else using (put_of name bytes) (further mine next)).uses) →
+          (if large then refused kept place next Size
+          else if dry then further kept next
+          else using (put_of name bytes) (further mine next)).outcome ≡ Script fault →
           (further stored after).outcome ≡ Script fault
-      saves_by true dry gets out =
+      saves_by true dry large is_dry gets out =
+          let never : true ≡ false = sym large ∙ small in
+          absurd (cc)
+      saves_by false true large dry gets out =
           let goes : after_answer kept (did run held s).answer ≡ Some (standpoint kept next) =
-          ap (after_answer kept) is ∙ rw (small, dry) refl in
+          ap (after_answer kept) is ∙ rw (large, dry) refl in
           rest kept stored next after alike
-          (fits_next (standpoint kept s) (standpoint kept next) goes fits) checked_next
-          (rw (small, dry) at gets) (rw (small, dry) at out)
-      saves_by false dry gets out =
-          let bytes = spelling next.lab next.lines in
-          let mine = insert kept name bytes in
+          (fits_next (standpoint kept s) (standpoint kept next) goes fits) checked_next gets out
+      saves_by false false large dry gets out =
           let goes : after_answer kept (did run held s).answer ≡ Some (standpoint mine next) =
-          ap (after_answer kept) is ∙ rw (small, dry) refl in
+          ap (after_answer kept) is ∙ rw (large, dry) refl in
           rest mine stored next after alike
           (fits_next (standpoint kept s) (standpoint mine next) goes fits) checked_next
-          (gets_after_put stored kept name bytes (calls (further mine next).uses) (rw (small, dry) at gets))
-          (rw (small, dry) at out)
+          (gets_after_put stored kept name bytes (calls (further mine next).uses) gets) out
 
-      saves_found :
-          GetsOld stored kept
-          (calls (saving further kept name place next (spelling next.lab next.lines)).uses) →
-          (saving further kept name place next (spelling next.lab next.lines)).outcome ≡ Script fault →
+      checks_by : (large dry : Bool) (saved : List ℕ) → large ≡ false → dry ≡ true →
+          (further stored after).outcome ≡ Script fault →
+          (if large then refused stored of_place after Size
+          else if dry then further stored after
+          else using (put_of of saved) (further (insert stored of saved) after)).outcome ≡ Script fault
+      checks_by true dry saved fit is_dry out = absurd (cc)
+      checks_by false true saved fit dry out = out
+      checks_by false false saved fit dry out = absurd (cc)
+
+      saves_found : GetsOld stored kept (calls (saving further kept name place next bytes).uses) →
+          (saving further kept name place next bytes).outcome ≡ Script fault →
           (saving further stored of of_place after (spelling after.lab after.lines)).outcome ≡ Script fault
-      saves_found gets out = rw (checked_small, alike.dry) (saves_by next.dry refl gets out)
+      saves_found gets out =
+          let saved = spelling after.lab after.lines in
+          checks_by (is_large saved) after.dry saved checked_small alike.dry
+          (saves_by (is_large bytes) next.dry refl refl gets out)
 
     module _ (name : List ℕ) (place : Place) (next after : State) (alike : IsCheckOf next after)
         (is : (did run held s).answer ≡ Loads name place next)
