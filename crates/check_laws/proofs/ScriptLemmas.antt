@@ -103,20 +103,20 @@ module _ (runs : (lab : Lab) (d : ℕ) → IsLater lab (run lab d).lab) (held : 
           ap (after_answer stored) also ∙ rw (checked_small, alike.dry) refl in
           fits_next (standpoint stored t) (standpoint stored after) goes checked_fits
 
-      abbrev bytes : List ℕ
-      bytes = spelling next.lab next.lines
+      abbrev spelled : List ℕ
+      spelled = spelling next.lab next.lines
 
       abbrev mine : Held
-      mine = insert kept name bytes
+      mine = insert kept name spelled
 
-      saves_by : (large dry : Bool) → is_large bytes ≡ large → next.dry ≡ dry →
+      saves_by : (large dry : Bool) → is_large spelled ≡ large → next.dry ≡ dry →
           GetsOld stored kept
           (calls (if large then refused kept place next Size
           else if dry then further kept next
-          else using (put_of name bytes) (further mine next)).uses) →
+          else using (put_of name spelled) (further mine next)).uses) →
           (if large then refused kept place next Size
           else if dry then further kept next
-          else using (put_of name bytes) (further mine next)).outcome ≡ Script fault →
+          else using (put_of name spelled) (further mine next)).outcome ≡ Script fault →
           (further stored after).outcome ≡ Script fault
       saves_by true dry large is_dry gets out =
           let never : true ≡ false = sym large ∙ small in
@@ -131,7 +131,7 @@ module _ (runs : (lab : Lab) (d : ℕ) → IsLater lab (run lab d).lab) (held : 
           ap (after_answer kept) is ∙ rw (large, dry) refl in
           rest mine stored next after alike
           (fits_next (standpoint kept s) (standpoint mine next) goes fits) checked_next
-          (gets_after_put stored kept name bytes (calls (further mine next).uses) gets) out
+          (gets_after_put stored kept name spelled (calls (further mine next).uses) gets) out
 
       checks_by : (large dry : Bool) (saved : List ℕ) → large ≡ false → dry ≡ true →
           (further stored after).outcome ≡ Script fault →
@@ -142,13 +142,13 @@ module _ (runs : (lab : Lab) (d : ℕ) → IsLater lab (run lab d).lab) (held : 
       checks_by false true saved fit dry out = out
       checks_by false false saved fit dry out = absurd (cc)
 
-      saves_found : GetsOld stored kept (calls (saving further kept name place next bytes).uses) →
-          (saving further kept name place next bytes).outcome ≡ Script fault →
+      saves_found : GetsOld stored kept (calls (saving further kept name place next spelled).uses) →
+          (saving further kept name place next spelled).outcome ≡ Script fault →
           (saving further stored of of_place after (spelling after.lab after.lines)).outcome ≡ Script fault
       saves_found gets out =
           let saved = spelling after.lab after.lines in
           checks_by (is_large saved) after.dry saved checked_small alike.dry
-          (saves_by (is_large bytes) next.dry refl refl gets out)
+          (saves_by (is_large spelled) next.dry refl refl gets out)
 
     module _ (name : List ℕ) (place : Place) (next after : State) (alike : IsCheckOf next after)
         (is : (did run held s).answer ≡ Loads name place next)
