@@ -1,4 +1,4 @@
--- What a reset leaves depends on little.
+-- What a reset leaves depends on what it keeps.
 use Rattle.std.proofs.Common.{◌≡◌, List, [], ◌∷◌, map, Option, Some, None, refl, ap}
 use Rattle.std.specs.Prelude.{option_map}
 use Rattle.clint.specs.Clint.{Timer}
@@ -10,7 +10,7 @@ use Rattle.rv_hart.specs.Core.{Core}
 use Rattle.board.specs.New.{reset_core, reset_device, reset_timer, reset_controller, new_timer, new_controller, size_of}
 use Rattle.board.specs.Space.{Fitted}
 
--- of a device it leaves what its kind says
+-- of a device, on its kind and on whether it is shown
 same_reset : (a b : DevState) → kind_of a ≡ kind_of b → dev_reset a ≡ dev_reset b
 same_reset (state.Uart u) (state.Uart v) same = refl
 same_reset (state.Can u) (state.Can v) same = refl
@@ -35,7 +35,7 @@ same_resets (x ∷ xs) (y ∷ ys) kinds shown =
     let shown' : map (λ f. f.shown) xs ≡ map (λ f. f.shown) ys = cc in
     rw (same_reset x.state y.state kind, seen, same_resets xs ys kinds' shown') refl
 
--- of a processor nothing that it has come to,
+-- of a processor, on whether it is halted, its letters and its number
 pub same_cores :
     (xs ys : List Core) → map (λ core. core.halted) xs ≡ map (λ core. core.halted) ys →
     map (λ core. core.letters) xs ≡ map (λ core. core.letters) ys →
@@ -52,7 +52,7 @@ same_cores (x ∷ xs) (y ∷ ys) halted letters number =
     let numbers : map (λ core. core.number) xs ≡ map (λ core. core.number) ys = cc in
     rw (halted', letters', number', same_cores xs ys halteds lettersets numbers) refl
 
--- nor of a timer or of an interrupt controller
+-- of a timer and of an interrupt controller, on the frequency and on the size
 pub same_timers :
     (a b : Option Timer) → option_map (λ c. c.frequency) a ≡ option_map (λ c. c.frequency) b →
     option_map reset_timer a ≡ option_map reset_timer b

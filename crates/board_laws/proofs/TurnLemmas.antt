@@ -86,17 +86,17 @@ turn_nearer :
     ≡ 1 + until_turn harts (number_after harts place) hart
 turn_nearer harts place hart below there = grind (arith, nat_tests, below, there)
 
--- the slots that a processor has taken, as many times as there are processors, are all slots but for those until its
--- turn, before them and after them
-turns_by_wait :
+-- a processor has taken k of n slots: k times the number of processors, and the slots until its turn at their
+-- beginning, are n and the slots until its turn at their end
+turns_counted :
     (harts next n hart : ℕ) → next < harts → hart < harts →
     turns_of harts next n hart * harts + until_turn harts next hart
     ≡ n + until_turn harts ((next + n) % harts) hart
-turns_by_wait harts next zero hart below there = rw (next_none harts next below) (omega arith)
-turns_by_wait harts next (suc n) hart below there =
+turns_counted harts next zero hart below there = rw (next_none harts next below) (omega arith)
+turns_counted harts next (suc n) hart below there =
     let place = (next + n) % harts in
     let turns = turns_of harts next n hart in
-    let before = turns_by_wait harts next n hart below there in
+    let before = turns_counted harts next n hart below there in
     let nearer = turn_nearer harts place hart (mod_below _ _ (omega (arith, below))) there in
     rw (turns_more harts next n hart, next_more harts next n below, taken (place == hart) turns)
     (omega (arith, before, nearer))
@@ -112,7 +112,7 @@ pub turns_fair :
 turns_fair harts next n hart below there =
     let place = (next + n) % harts in
     let turns = turns_of harts next n hart in
-    let is = turns_by_wait harts next n hart below there in
+    let is = turns_counted harts next n hart below there in
     (at_least turns _ _ is (within next), at_most turns _ _ is (within place))
   where
     within : (place : ℕ) → until_turn harts place hart < harts
