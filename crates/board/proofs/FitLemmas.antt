@@ -31,10 +31,8 @@ use Rattle.sys_bus.specs.Limits.{is_range, is_step, device_in, are_few_memories}
 use Rattle.sys_bus.specs.Plan.{IsValid}
 use Rattle.std.proofs.Math.Seq.{map-set_same}
 use Rattle.board.specs.Changes.{in_memory, is_memory}
-use Rattle.rv_hart.specs.Core.{Core}
-use Rattle.board.specs.New.{first_state, hidden, new_space, reset_core, reset_device, new_timer, new_controller}
+use Rattle.board.specs.New.{first_state, hidden, new_space, reset_device, new_timer, new_controller}
 use Rattle.board.specs.New.{size_of}
-use Rattle.board.specs.New.{reset_timer, reset_controller, reset_core}
 use Rattle.board.specs.Space.{Space, Fitted, memory_at, with_memory, device_at, with_device, with_state}
 use Rattle.board.specs.Inner.Fit.{IsFit, LiesIn, IsInPage, HoldsAccesses}
 use Rattle.sys_bus.specs.declared.near.Place.{Place}
@@ -328,65 +326,6 @@ fit_new plan valid = record {
     kinds : (ks : List Kind) → map (λ f. kind_of f.state) (map hidden (map first_state ks)) ≡ ks
     kinds [] = refl
     kinds (k ∷ ks) = rw (kind k, kinds ks) refl
-
--- what a reset leaves depends on the kind alone
-same_reset : (a b : DevState) → kind_of a ≡ kind_of b → dev_reset a ≡ dev_reset b
-same_reset (state.Uart u) (state.Uart v) same = refl
-same_reset (state.Can u) (state.Can v) same = refl
-same_reset state.Finisher state.Finisher same = refl
-same_reset (state.Uart u) (state.Can v) same = absurd (cc)
-same_reset (state.Uart u) state.Finisher same = absurd (cc)
-same_reset (state.Can u) (state.Uart v) same = absurd (cc)
-same_reset (state.Can u) state.Finisher same = absurd (cc)
-same_reset state.Finisher (state.Uart v) same = absurd (cc)
-same_reset state.Finisher (state.Can v) same = absurd (cc)
-
-pub same_resets :
-    (xs ys : List Fitted) → map (λ f. kind_of f.state) xs ≡ map (λ f. kind_of f.state) ys →
-    map (λ f. f.shown) xs ≡ map (λ f. f.shown) ys → map reset_device xs ≡ map reset_device ys
-same_resets [] [] kinds shown = refl
-same_resets [] (y ∷ ys) kinds shown = absurd (cc)
-same_resets (x ∷ xs) [] kinds shown = absurd (cc)
-same_resets (x ∷ xs) (y ∷ ys) kinds shown =
-    let kind : kind_of x.state ≡ kind_of y.state = cc in
-    let kinds' : map (λ f. kind_of f.state) xs ≡ map (λ f. kind_of f.state) ys = cc in
-    let seen : x.shown ≡ y.shown = cc in
-    let shown' : map (λ f. f.shown) xs ≡ map (λ f. f.shown) ys = cc in
-    rw (same_reset x.state y.state kind, seen, same_resets xs ys kinds' shown') refl
-
--- nor does one of a processor depend on what it has come to,
-pub same_cores :
-    (xs ys : List Core) → map (λ core. core.halted) xs ≡ map (λ core. core.halted) ys →
-    map (λ core. core.letters) xs ≡ map (λ core. core.letters) ys →
-    map (λ core. core.number) xs ≡ map (λ core. core.number) ys → map reset_core xs ≡ map reset_core ys
-same_cores [] [] halted letters number = refl
-same_cores [] (y ∷ ys) halted letters number = absurd (cc)
-same_cores (x ∷ xs) [] halted letters number = absurd (cc)
-same_cores (x ∷ xs) (y ∷ ys) halted letters number =
-    let halted' : x.halted ≡ y.halted = cc in
-    let letters' : x.letters ≡ y.letters = cc in
-    let number' : x.number ≡ y.number = cc in
-    let halteds : map (λ core. core.halted) xs ≡ map (λ core. core.halted) ys = cc in
-    let lettersets : map (λ core. core.letters) xs ≡ map (λ core. core.letters) ys = cc in
-    let numbers : map (λ core. core.number) xs ≡ map (λ core. core.number) ys = cc in
-    rw (halted', letters', number', same_cores xs ys halteds lettersets numbers) refl
-
--- or of a timer or of an interrupt controller
-pub same_timers :
-    (a b : Option Timer) → option_map (λ c. c.frequency) a ≡ option_map (λ c. c.frequency) b →
-    option_map reset_timer a ≡ option_map reset_timer b
-same_timers None None same = refl
-same_timers (Some a) (Some b) same = ap (option_map new_timer) same
-same_timers None (Some b) same = absurd (cc)
-same_timers (Some a) None same = absurd (cc)
-
-pub same_controllers :
-    (a b : Option Controller) → option_map size_of a ≡ option_map size_of b →
-    option_map reset_controller a ≡ option_map reset_controller b
-same_controllers None None same = refl
-same_controllers (Some a) (Some b) same = ap (option_map new_controller) same
-same_controllers None (Some b) same = absurd (cc)
-same_controllers (Some a) None same = absurd (cc)
 
 -- from an address to the end of its memory
 pub room_fits :

@@ -18,7 +18,7 @@ use Rattle.rv_hart.specs.Core.{Core, initial, ticked}
 use Rattle.rv_hart.specs.Trap.{is_ready}
 use Rattle.board.specs.Inner.Seat.{all_passed}
 use Rattle.board.specs.Idle.{IsIdle, IsStillFor, passed, core_passed, is_idle, turns_of, all_halted}
-use Rattle.board.specs.Lines.{sampled, lines_of, timer_up, mip_of}
+use Rattle.board.specs.Lines.{lines_of, timer_up, mip_of}
 use Rattle.board.specs.Slot.{slot, hart_slot, number_after}
 use Rattle.board.specs.Space.{Space}
 use Rattle.board.specs.Stretch.{stretch}
@@ -209,16 +209,6 @@ unfolding lines_of
 idle_by cores s hart t core lines there read lines_is idle =
     let same : core ≡ slice_index_or cores hart initial = get_or_read cores hart core there read initial in
     rw (← same) (ap (λ l. is_idle core l.mip) (sym lines_is) ∙ idle)
-
--- all processors are, so many as there are
-pub idle_all :
-    (v : View) (timer : Bool) (count : ℕ) → v.next < length v.cores → length v.cores ≤ count →
-    (0 < count → sampled v.space ≡ v.space) →
-    ((k : ℕ) → k < count → IsTrue (is_idle (core_at v k) (mip_of v.space timer k))) → IsIdle v timer
-idle_all v timer count below all settled rests = record {
-  settled = settled (omega (arith, below, all));
-  rests = λ hart there. rests hart (omega (arith, there, all));
-}
 
 -- processors that are put back where they stood
 pub passed_back :

@@ -1,7 +1,6 @@
 pub mod CopyLemmas
 pub mod DeviceLemmas
 pub mod FitLemmas
-pub mod HartLemmas
 pub mod HoldLemmas
 pub mod IdleLemmas
 pub mod LineLemmas

@@ -62,7 +62,7 @@ plain_by core w plain = by_letter core.letters.a plain
     by_letter true is = absurd (cc)
 
 -- and what that is by the rules of a hart alone
-pub effect_alone :
+effect_alone :
     PlainAlone → (core : Core) (word : Option ℕ) (w : Wires) (lines : Lines) → core.letters.a ≡ false →
     effect_on (seen 0 core (word ∷ []) w) w lines ≡ leaves (effect core (fetched_by core w) lines) (word ∷ [])
 effect_alone law core word w lines plain =

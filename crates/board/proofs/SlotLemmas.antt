@@ -146,17 +146,6 @@ by_slot P h t each =
           (sender_kept h.space _ dev payload first sender) (told_kept h.space _ note first told);
     }
 
--- an effect keeps the speed
-pub speed-effect : (w : Wires) (effect : Effect) → (bus_after loaded stored w effect).numbers.speed ≡ w.numbers.speed
-speed-effect w effect =
-    by_effect (λ f. (f w.posts w.entries).numbers.speed ≡ w.numbers.speed) w effect
-    (record {
-      nothing = λ s kept. refl;
-      entry = λ s note kept told. refl;
-      post = λ s dev payload kept sender. refl;
-      both = λ s dev payload note kept sender told. refl;
-    })
-
 -- what an effect makes comes after what was made before
 abbrev behind : Wires → Wires → Wires
 behind front w = record w { posts = front.posts ++ w.posts; entries = front.entries ++ w.entries }

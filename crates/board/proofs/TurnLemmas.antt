@@ -1,23 +1,21 @@
 -- How the processors of a board take its slots in turn. Of n slots from the one of `next` on, hart k of h takes
 -- `n / h`, and one more where `(k + (h - next)) % h < n % h`.
-use Rattle.std.proofs.Common.{◌≡◌, ℕ, zero, suc, ◌+◌, ◌-◌, ◌*◌, ◌/◌, ◌%◌, ◌<◌, ◌≤◌, ◌==◌, Bool, true, false, length}
-use Rattle.std.proofs.Common.{nat_lt, refl, sym, ap, ◌∙◌, inl, inr, add-one, arith}
+use Rattle.std.proofs.Common.{◌≡◌, ℕ, zero, suc, ◌+◌, ◌-◌, ◌*◌, ◌/◌, ◌%◌, ◌<◌, ◌==◌, length}
+use Rattle.std.proofs.Common.{nat_lt, sym, ap, ◌∙◌, inl, inr, add-one, arith}
 use Rattle.std.specs.Prelude.{if◌then◌else◌, List, [], ◌∷◌, Option, slice_index_or, slice_set}
-use Rattle.std.proofs.Math.Nat.{suc-mul, suc-mod, mod-eq_of_lt, mod_self}
+use Rattle.std.proofs.Math.Nat.{suc-mul, mod-eq_of_lt, mod_self}
 use Rattle.std.proofs.lemmas.Bool.{cases_eq, cases_lt}
 use Rattle.std.proofs.lemmas.Bool.Decides.{nat_tests}
-use Rattle.std.proofs.lemmas.List.{length-set, map-id}
+use Rattle.std.proofs.lemmas.List.{map-id}
 use Rattle.std.proofs.lemmas.List.FromFn.{sum_by-map-range_with_len_more}
 use Rattle.std.proofs.lemmas.Nat.{div-add-mod', div-mul-add, mod-mul-add, mod_below}
-use Rattle.lab_num.specs.Paid.{slot_at}
 use Rattle.rv_hart.specs.Core.{Core, initial}
 use Rattle.board.specs.HartView.{HartState, hart_state}
 use Rattle.board.specs.Idle.{turns_of}
 use Rattle.board.specs.Inner.Holds.{state_of, state_alone}
 use Rattle.board.specs.Inner.Seat.{behind}
 use Rattle.board.specs.Slot.{slot, hart_slot, number_after}
-use Rattle.board.specs.Stretch.{stretch}
-use Rattle.board.specs.View.{View, after}
+use Rattle.board.specs.View.{after}
 use Rattle.board.specs.Wires.{Wires}
 
 -- ---- whose turn is next
@@ -31,48 +29,7 @@ number_after_is harts hart below = elim (cases_eq (hart + 1) harts) [
       grind (arith, nat_tests, next, same)
 ]
 
-pub cores-slot : (v : View) (t : ℕ) → length (slot v t).view.cores ≡ length v.cores
-unfolding slot
-cores-slot v t = length-set v.cores v.next _
-
-pub next-slot : (v : View) (t : ℕ) → (slot v t).view.next ≡ number_after (length v.cores) v.next
-unfolding slot
-next-slot v t = refl
-
-pub cores-stretch : (v : View) (from a n : ℕ) → length (stretch v from a n).view.cores ≡ length v.cores
-unfolding stretch
-cores-stretch v from a zero = refl
-cores-stretch v from a (suc n) =
-    cores-slot (stretch v from a n).view (slot_at from v.numbers.speed (a + n)) ∙ cores-stretch v from a n
-
-pub next-stretch :
-    (v : View) (from a n : ℕ) → v.next < length v.cores →
-    (stretch v from a n).view.next ≡ (v.next + n) % length v.cores
-unfolding stretch
-next-stretch v from a zero below =
-    let none : v.next + zero ≡ v.next = omega arith in
-    rw none (sym (mod-eq_of_lt below))
-next-stretch v from a (suc n) below =
-    let harts = length v.cores in
-    let run = (stretch v from a n).view in
-    let t = slot_at from v.numbers.speed (a + n) in
-    let is = next-stretch v from a n below in
-    let within : (v.next + n) % harts < harts = mod_below _ _ (omega (arith, below)) in
-    let more : v.next + suc n ≡ suc (v.next + n) = omega arith in
-    next-slot run t
-    ∙ rw (cores-stretch v from a n, is, number_after_is harts _ within, more, suc-mod (v.next + n) harts, add-one) refl
-
--- the one that takes the next slot is one of the processors
-pub below-stretch :
-    (v : View) (from a n : ℕ) → v.next < length v.cores →
-    (stretch v from a n).view.next < length (stretch v from a n).view.cores
-below-stretch v from a n below =
-    rw (cores-stretch v from a n, next-stretch v from a n below) (mod_below _ _ (omega (arith, below)))
-
 -- ---- how many slots each takes
-
-pub turns_none : (harts next hart : ℕ) → turns_of harts next 0 hart ≡ 0
-turns_none harts next hart = refl
 
 pub turns_more :
     (harts next n hart : ℕ) →
@@ -175,23 +132,6 @@ turns_are harts next (suc n) hart below there =
     turns_more harts next n hart
     ∙ rw (turns_are harts next n hart below there, turn_comes harts next n hart below there)
     (one_more harts n first small)
-
--- each takes its share, or one more
-pub turns_fair :
-    (harts next n hart : ℕ) → next < harts → hart < harts →
-    (n / harts ≤ turns_of harts next n hart) × (turns_of harts next n hart ≤ n / harts + 1)
-turns_fair harts next n hart below there =
-    rw (turns_are harts next n hart below there) (share (nat_lt (first_turn harts next hart) (n % harts)))
-  where
-    share :
-        (b : Bool) →
-        (n / harts ≤ n / harts + (if b then 1 else 0)) × (n / harts + (if b then 1 else 0) ≤ n / harts + 1)
-    share true = (omega arith, omega arith)
-    share false = (omega arith, omega arith)
-
--- a board of one processor has no other to take its slots
-pub next_alone : (v : View) (t : ℕ) → length v.cores ≡ 1 → v.next ≡ 0 → (slot v t).view.next ≡ 0
-next_alone v t one first = next-slot v t ∙ rw (one, first) refl
 
 -- ---- a slot that a processor has taken, as one of the board
 

@@ -6,7 +6,6 @@ pub mod Fetch
 pub mod View
 pub mod HartView
 pub mod Slot
-pub mod Alone
 pub mod Stretch
 pub mod Idle
 pub mod Numbered

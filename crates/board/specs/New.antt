@@ -1,5 +1,5 @@
 -- A board at lab time 0, and one that was reset.
-use Rattle.std.specs.Prelude.{◌≡◌, ℕ, false, List, length, map, option_map, replicate, None}
+use Rattle.std.specs.Prelude.{ℕ, false, List, length, map, option_map, replicate, None}
 use Rattle.std.specs.List.{range_with_len}
 use Rattle.clint.specs.Clint.{Timer, clint_reset}
 use Rattle.dev_core.specs.declared.kind.Kind.{Kind}
@@ -7,7 +7,7 @@ use Rattle.dev_core.specs.declared.kind.Kind.TheVariants as kind
 use Rattle.dev_core.specs.declared.state.DevState.{DevState}
 use Rattle.dev_core.specs.declared.state.DevState.TheVariants.{Uart, Can, Finisher}
 use Rattle.dev_core.specs.Can.{can_reset}
-use Rattle.dev_core.specs.Device.{dev_reset, kind_of}
+use Rattle.dev_core.specs.Device.{dev_reset}
 use Rattle.dev_core.specs.Uart.{uart_reset}
 use Rattle.page_ram.specs.Bytes.{zeros}
 use Rattle.plic.specs.State.{Controller, plic_reset}
@@ -105,18 +105,3 @@ reset v =
 -- what a reset keeps of an interrupt controller
 abbrev pub size_of : Controller → PlicSize
 size_of c = record { sources = c.sources; contexts = c.contexts }
-
--- two boards that differ in nothing but in what their processors, timers, interrupt controllers and devices have come
--- to
-pub record IsSameKept (v w : View) : Type 0 where
-  pub numbers : v.numbers ≡ w.numbers
-  pub halted : map (λ core. core.halted) v.cores ≡ map (λ core. core.halted) w.cores
-  pub letters : map (λ core. core.letters) v.cores ≡ map (λ core. core.letters) w.cores
-  pub own_numbers : map (λ core. core.number) v.cores ≡ map (λ core. core.number) w.cores
-  pub harts : length v.watch ≡ length w.watch
-  pub plan : v.space.plan ≡ w.space.plan
-  pub memories : v.space.memories ≡ w.space.memories
-  pub timer : option_map (λ c. c.frequency) v.space.timer ≡ option_map (λ c. c.frequency) w.space.timer
-  pub controller : option_map size_of v.space.controller ≡ option_map size_of w.space.controller
-  pub kinds : map (λ f. kind_of f.state) v.space.devices ≡ map (λ f. kind_of f.state) w.space.devices
-  pub shown : map (λ f. f.shown) v.space.devices ≡ map (λ f. f.shown) w.space.devices

@@ -1,33 +1,21 @@
 //! Laws of boards and of slots one after another. Each is the contract of a function that does
 //! nothing.
-ghost use Rattle.std.specs.Prelude.{◌≡◌, ℕ, ◌+◌, ◌/◌, ◌%◌, ◌<◌, ◌≤◌, ◌^◌, Bool, true, false, List, [], ◌∷◌, sum};
-ghost use Rattle.std.specs.Prelude.{length};
-ghost use Rattle.std.specs.Prelude.{All, Option, map};
-ghost use Rattle.rv_hart.specs.Core.{Core};
-ghost use Rattle.rv_hart.specs.declared.csr.Lines.{Lines};
-ghost use Rattle.rv_exec.specs.Effect.{effect};
-ghost use Rattle.rv_atomic.specs.AtomicEffect.{leaves};
+ghost use Rattle.std.specs.Prelude.{◌≡◌, ℕ, ◌+◌, ◌%◌, ◌<◌, ◌^◌, Bool, true, List, sum, length};
+ghost use Rattle.std.specs.Prelude.{All, map};
 ghost use Rattle.board.specs.declared.state.BoardState.{BoardState};
-ghost use Rattle.board.specs.Alone.{alone_slot};
 ghost use Rattle.board.specs.BoardState.{board_state, brought_to};
-ghost use Rattle.board.specs.Fetch.{effect_on, fetched_by};
-ghost use Rattle.board.specs.HartView.{HartView};
 ghost use Rattle.board.specs.View.{View, quiet, after};
-ghost use Rattle.board.specs.New.{IsSameKept, reset};
-ghost use Rattle.board.specs.Slot.{slot};
 ghost use Rattle.board.specs.Valid.{IsBoard, IsStateFor};
 ghost use Rattle.board.specs.Stretch.{stretch, in_turns};
-ghost use Rattle.board.specs.Idle.{IsIdle, IsStillFor, all_halted, passed, turns_of};
+ghost use Rattle.board.specs.Idle.{IsIdle, IsStillFor, all_halted, passed};
 ghost use Rattle.board.specs.Lines.{sampled};
 ghost use Rattle.board.specs.Space.{Space};
-ghost use Rattle.board.specs.Wires.{Wires};
 ghost use Rattle.board.specs.Numbered.{IsNumbered};
 ghost use Rattle.board.specs.Sent.{IsEnteredIn, IsSentBy, IsSentIn, IsToldBy};
 ghost use Rattle.dev_core.specs.Device.{kind_of};
 ghost use Rattle.sys_bus.specs.Plan.{IsValid};
 
 use plic::second_samples_change_nothing;
-use rv_atomic::alone_as_performed;
 
 /// A stretch of slots and the one after it are one stretch.
 pub fn stretches_join()
@@ -104,31 +92,6 @@ pub fn halted_boards_stay()
         stretch v from a n ≡ quiet (record v { next = (v.next + n) % length v.cores }) }
 {}
 
-/// The processors of a board take its slots in turn: the turn has moved on by each slot, and of n
-/// slots each processor takes n divided by their number, or one more.
-pub fn harts_take_turns()
-    ensures turn { (v : View) (from a n : ℕ) → v.next < length v.cores →
-        (stretch v from a n).view.next ≡ (v.next + n) % length v.cores }
-    ensures fair { (harts next n hart : ℕ) → next < harts → hart < harts →
-        (n / harts ≤ turns_of harts next n hart) × (turns_of harts next n hart ≤ n / harts + 1) }
-{}
-
-/// A slot of a board of one processor without atomic instructions is the slot of a board on which
-/// nothing is asked of turns and reservations: each instruction does what it does on a hart alone,
-/// reservations stay, and the one processor takes every slot.
-pub fn one_hart_goes_on_alone()
-    ensures effect { (v : HartView) (w : Wires) (lines : Lines) (word : Option ℕ) →
-        v.core.letters.a ≡ false → v.hart ≡ 0 → v.watch ≡ word ∷ [] →
-        effect_on v w lines ≡ leaves (effect v.core (fetched_by v.core w) lines) v.watch }
-    ensures turn { (v : View) (t : ℕ) (core : Core) → v.cores ≡ core ∷ [] → v.next ≡ 0 →
-        (slot v t).view.next ≡ 0 }
-    ensures slot { (v : View) (t : ℕ) (core : Core) (word : Option ℕ) →
-        v.cores ≡ core ∷ [] → v.next ≡ 0 → v.watch ≡ word ∷ [] → core.letters.a ≡ false →
-        slot v t ≡ alone_slot v core t }
-{
-    alone_as_performed();
-}
-
 /// A second sample of the same lines changes nothing.
 pub fn samples_settle()
     ensures { (s : Space) → sampled (sampled s) ≡ sampled s }
@@ -142,9 +105,4 @@ pub fn states_are_put_back()
     ensures same { (v : View) → IsBoard v → brought_to v (board_state v) ≡ v }
     ensures brought { (v : View) (s : BoardState) → IsStateFor v.space.plan s → IsBoard v →
         (board_state (brought_to v s) ≡ s) × IsBoard (brought_to v s) }
-{}
-
-/// What a reset leaves depends on nothing that the processor and the devices had come to.
-pub fn resets_agree()
-    ensures { (v w : View) → IsSameKept v w → reset v ≡ reset w }
 {}

@@ -17,9 +17,9 @@ mod wires;
 
 pub use board::{Board, SlotAt, Turn};
 pub use laws::{
-    halted_boards_stay, harts_take_turns, one_hart_goes_on_alone, resets_agree, samples_settle,
-    states_are_put_back, stretches_join, stretches_keep_devices, stretches_keep_plans,
-    stretches_keep_time, stretches_keep_time_of_entries, stretches_number,
-    stretches_tell_of_devices, turns_join, waiting_boards_count_cycles,
+    halted_boards_stay, samples_settle, states_are_put_back, stretches_join,
+    stretches_keep_devices, stretches_keep_plans, stretches_keep_time,
+    stretches_keep_time_of_entries, stretches_number, stretches_tell_of_devices, turns_join,
+    waiting_boards_count_cycles,
 };
 pub use state::{BoardState, state_fits};

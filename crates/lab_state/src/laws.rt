@@ -1,10 +1,8 @@
-//! Laws of rounds and runs. Each is the contract of a function, which but for the last does nothing
-//! when it runs.
-ghost use Rattle.std.specs.Prelude.{◌≡◌, ◌≢◌, ℕ, ◌+◌, ◌%◌, ◌<◌, ◌≤◌, ◌⊎◌, ◌↔◌, true, false, List, [], ◌++◌};
-ghost use Rattle.std.specs.Prelude.{map, filter, sum, All, None, Some, IsSome, IfOk, OnOk, OnErr};
+//! Laws of rounds and runs. Each is the contract of a function that does nothing when it runs.
+ghost use Rattle.std.specs.Prelude.{◌≡◌, ℕ, ◌+◌, ◌%◌, ◌<◌, ◌≤◌, ◌⊎◌, false, List, [], ◌++◌};
+ghost use Rattle.std.specs.Prelude.{map, filter, sum, All, None, IsSome};
 ghost use Rattle.std.specs.List.Sorted.{IsPermutation, IsStrictlySortedBy};
 ghost use Rattle.dev_core.specs.declared.post.Post.{Post};
-ghost use Rattle.lab_num.specs.declared.number.BoardNo.{BoardNo};
 ghost use Rattle.lab_num.specs.Key.{key_cmp, KeysDiffer};
 ghost use Rattle.dev_core.specs.Post.{post_key};
 ghost use Rattle.lab_state.specs.Board.{Board};
@@ -13,7 +11,6 @@ ghost use Rattle.lab_state.specs.Handed.{sent_in, handed_in, handed_over, is_of_
 ghost use Rattle.lab_state.specs.Handed.{slots_in, after_handing, pause_in};
 ghost use Rattle.lab_state.specs.Hub.{Hub};
 ghost use Rattle.lab_state.specs.Lab.{Lab as Laboratory};
-ghost use Rattle.lab_state.specs.One.{first_without, HaveAllPlans};
 ghost use Rattle.lab_state.specs.Pending.{due_at, is_of_a_hub};
 ghost use Rattle.lab_state.specs.Round.{round};
 ghost use Rattle.lab_state.specs.Run.{Play, run, run_by, followed_by, lengths, still, EndsIn};
@@ -23,19 +20,14 @@ ghost use Rattle.lab_state.specs.Valid.{is_shown_before, IsOpen};
 ghost use Rattle.log_text.specs.declared.line.OpenLine.{OpenLine};
 ghost use Rattle.log_text.specs.Log.{open_lines, IsOnBytes};
 
-use crate::faults::RunFault;
 use crate::lab::Lab;
-use crate::round::RoundLog;
 use board::{
     stretches_keep_devices, stretches_keep_time, stretches_keep_time_of_entries, stretches_number,
     stretches_tell_of_devices, turns_join,
 };
 use dev_core::{Device, Post as BoardPost};
-use floor_run::Gate;
-use lab_num::{Micros, key_laws, listing_laws};
+use lab_num::{key_laws, listing_laws};
 use log_text::open_lines_come_of_bytes;
-use std::sync::Wait;
-use std::thread::Threads;
 
 /// A run of a whole number of quanta that does not pause and the run after it are one run.
 pub fn runs_join()
@@ -167,40 +159,3 @@ pub fn rounds_lose_nothing()
     ensures items { (lab : Laboratory) (q : ℕ) → (round lab q).items
         ≡ slots_in lab q ++ (after_handing lab q).notes ++ pause_in lab q }
 {}
-
-/// Two laboratories that are alike run for the same time, each by its own number of workers. If
-/// memory does not run out, each is what one run comes to, and the logs are of that run: whatever the
-/// numbers of workers, and in whatever order the workers come to the boards. Refused runs change neither.
-pub fn any_workers_agree<R: Threads + Wait + Copy + Send + Sync, D: Device + Send, G: Gate>(
-    rt: &R,
-    one: &mut Lab<D>,
-    workers: u8,
-    other: &mut Lab<D>,
-    others: u8,
-    d: Micros,
-    gate: &G,
-) -> Result<(RoundLog, RoundLog), RunFault>
-    requires alike { one.old ≡ other.old }
-    requires workers { (1 ≤ workers) × (workers ≤ 8) }
-    requires others { (1 ≤ others) × (others ≤ 8) }
-    ensures labs { OnOk result (one.new ≡ other.new) }
-    ensures logs { IfOk result (λ logs. logs.0 ≡ logs.1) }
-    ensures lab { OnOk result (one.new
-        ≡ record { lab = (run one.old.lab d.0).lab; spent = false }) }
-    ensures lines { IfOk result (λ logs. logs.0.lines ≡ (run one.old.lab d.0).items) }
-    ensures paused { IfOk result (λ logs. logs.0.paused ≡ (run one.old.lab d.0).paused) }
-    ensures no_plan { (b : BoardNo) → (result ≡ Err (RunFault.NoPlan b))
-        ↔ ((one.old.spent ≡ false) × (first_without one.old.lab.boards ≡ Some b.0)) }
-    ensures too_long { (result ≡ Err RunFault.TooLong)
-        ↔ ((one.old.spent ≡ false) × HaveAllPlans one.old.lab
-        × (10000000000 < one.old.lab.now + d.0)) }
-    ensures unchanged { OnErr result (result ≢ Err RunFault.Memory →
-        (one.new ≡ one.old) × (other.new ≡ other.old)) }
-    ensures memory { result ≡ Err RunFault.Memory →
-        (one.new.spent ≡ true) ⊎ (other.new.spent ≡ true) }
-    ensures spent { one.old.spent ≡ true → result ≡ Err RunFault.Memory }
-{
-    let first = one.run_for(rt, d, workers, gate)?;
-    let second = other.run_for(rt, d, others, gate)?;
-    Ok((first, second))
-}

@@ -1,8 +1,8 @@
 -- The second run is refused exactly where the first is.
 use Rattle.std.proofs.Common.{refl}
 use Rattle.std.proofs.lemmas.Result.{err_from_is_err_and}
-use Rattle.lab_state.proofs.FaultLemmas.{handed_on, both_made, not_refused}
-use Rattle.lab_state.proofs.laws.any_workers_agree.Goals as goal
+use Rattle.lab_laws.proofs.FaultLemmas.{handed_on, both_made, not_refused}
+use Rattle.lab_laws.proofs.workers.any_workers_agree.Goals as goal
 
 pub returns-in_err-first-clause-no_plan : goal.returns-in_err-first-clause-no_plan
 returns-in_err-first-clause-no_plan g c b =

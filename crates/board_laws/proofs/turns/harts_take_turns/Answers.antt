@@ -1,5 +1,5 @@
-use Rattle.board.proofs.TurnLemmas.{next-stretch, turns_fair}
-use Rattle.board.proofs.laws.harts_take_turns.Goals as goal
+use Rattle.board_laws.proofs.TurnLemmas.{next-stretch, turns_fair}
+use Rattle.board_laws.proofs.turns.harts_take_turns.Goals as goal
 
 pub returns-clause-turn : goal.returns-clause-turn
 returns-clause-turn c = next-stretch

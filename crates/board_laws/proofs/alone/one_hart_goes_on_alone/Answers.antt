@@ -1,13 +1,17 @@
 -- A board of one processor without atomic instructions, by the parts of its slot.
-use Rattle.std.proofs.Common.{◌≡◌, ℕ, Bool, true, false, [], ◌∷◌, ap, length, refl}
+use Rattle.std.proofs.Common.{◌≡◌, ◌∙◌, ℕ, Bool, true, false, [], ◌∷◌, ap, length, refl}
 use Rattle.std.specs.Prelude.{if◌then◌else◌, Option, None, Some}
-use Rattle.std.specs.Option.{option_map_or}
+use Rattle.std.specs.Option.{option_and_then, option_map_or}
 use Rattle.rv_hart.specs.declared.csr.Lines.{Lines}
 use Rattle.rv_hart.specs.Core.{Core}
 use Rattle.rv_hart.specs.Trap.{chosen, interrupt, is_ready}
+use Rattle.rv_exec.specs.Effect.{effect}
+use Rattle.rv_atomic.specs.declared.shared.Shared.TheVariants as shared
+use Rattle.rv_atomic.specs.AtomicEffect.{leaves}
 use Rattle.rv_atomic.specs.Laws.{PlainAlone}
-use Rattle.board.specs.Alone as alone
-use Rattle.board.specs.Alone.{alone_slot, awake as awake_alone}
+use Rattle.rv_atomic.specs.Means.{atomic_of}
+use Rattle.rv_atomic.specs.SharedEffect.{shared_effect}
+use Rattle.board.specs.Fetch.{effect_on, fetched_by, word_at_pc}
 use Rattle.board.specs.HartView.{HartView, HartState, still, wires_of}
 use Rattle.board.specs.Lines.{sampled, lines_of}
 use Rattle.board.specs.Numbers.{Numbers}
@@ -15,9 +19,11 @@ use Rattle.board.specs.Slot.{slot, hart_slot, in_turn, running, sampling, asleep
 use Rattle.board.specs.Slot.{instruction}
 use Rattle.board.specs.Space.{Space}
 use Rattle.board.specs.View.{View, State, quiet}
-use Rattle.board.proofs.SeatLemmas.{effect_alone}
-use Rattle.board.proofs.TurnLemmas.{next_alone}
-use Rattle.board.proofs.laws.one_hart_goes_on_alone.Goals as goal
+use Rattle.board.specs.Wires.{Wires, fetched}
+use Rattle.board_laws.specs.Alone as alone
+use Rattle.board_laws.specs.Alone.{alone_slot, awake as awake_alone}
+use Rattle.board_laws.proofs.TurnLemmas.{next_alone}
+use Rattle.board_laws.proofs.alone.one_hart_goes_on_alone.Goals as goal
 
 -- a board of one processor, and as that has it
 abbrev board_of : Numbers → Core → Option ℕ → Space → View
@@ -27,6 +33,23 @@ board_of numbers core word space =
 abbrev hart_of : Numbers → Core → Option ℕ → Space → HartView
 hart_of numbers core word space =
     record { numbers = numbers; hart = 0; core = core; watch = word ∷ []; space = space }
+
+-- without atomic instructions it does what it fetches, by the rules of a hart alone
+effect_alone :
+    PlainAlone → (h : HartView) (word : Option ℕ) (w : Wires) (lines : Lines) → h.core.letters.a ≡ false →
+    h.hart ≡ 0 → h.watch ≡ word ∷ [] →
+    effect_on h w lines ≡ leaves (effect h.core (fetched_by h.core w) lines) h.watch
+effect_alone law h word w lines plain first reserved =
+    rw (first, reserved)
+    (ap (λ what. shared_effect (fetched w) h.core 0 (word ∷ []) what lines) (by_letter h.core.letters.a plain)
+    ∙ law (fetched w) h.core word (fetched_by h.core w) lines)
+  where
+    by_letter :
+        (b : Bool) → b ≡ false →
+        option_map_or shared.Atomic (if b then option_and_then atomic_of (word_at_pc h.core w) else None)
+        (shared.Plain (fetched_by h.core w)) ≡ shared.Plain (fetched_by h.core w)
+    by_letter false is = refl
+    by_letter true is = absurd (cc)
 
 by_test :
     (test : Bool) (v : View) (a b : HartState) (a' b' : State) → in_turn v a ≡ a' → in_turn v b ≡ b' →
@@ -55,7 +78,7 @@ alone_awake law numbers before core word space t lines plain = by_chosen (chosen
         ≡ option_map_or (λ n. alone.cycle v (interrupt core n)) taken (alone.instruction v core t lines)
     by_chosen None =
         ap (λ does. in_turn v (carried_out 0 (wires_of h t) does))
-        (effect_alone law core word (wires_of h t) lines plain)
+        (effect_alone law h word (wires_of h t) lines plain refl refl)
     by_chosen (Some n) = refl
 
 alone_of :
@@ -76,6 +99,9 @@ alone_of law numbers core word space t plain =
     (by_test (is_ready core lines.mip) v (awake (woken now) t lines) (cycle now core) (awake_alone there up t lines)
     (alone.cycle there core) (alone_awake law numbers core up word (sampled space) t lines plain) refl)
     (alone_awake law numbers core core word (sampled space) t lines plain))
+
+pub returns-clause-effect : goal.returns-clause-effect
+returns-clause-effect c = λ v w lines word. effect_alone c.alone_as_performed.ensures v word w lines
 
 pub returns-clause-turn : goal.returns-clause-turn
 returns-clause-turn c = λ v t core one first. next_alone v t (ap length one) first

@@ -1,6 +1,6 @@
 use Rattle.std.proofs.Common.{refl}
-use Rattle.board.proofs.FitLemmas.{same_resets, same_timers, same_controllers, same_cores}
-use Rattle.board.proofs.laws.resets_agree.Goals as goal
+use Rattle.board_laws.proofs.ResetLemmas.{same_resets, same_timers, same_controllers, same_cores}
+use Rattle.board_laws.proofs.resets.resets_agree.Goals as goal
 
 pub returns : goal.returns
 returns c = λ v w same.

@@ -1,0 +1,3 @@
+-- Lemmas of board_laws.
+pub mod ResetLemmas
+pub mod TurnLemmas

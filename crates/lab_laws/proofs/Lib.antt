@@ -1,0 +1,2 @@
+-- Lemmas of lab_laws.
+pub mod FaultLemmas
