@@ -146,11 +146,11 @@ come_none shown lines all rest out is = record {
 
 -- what comes after a front of a piece of which a part was written
 part_after : (out out' new : Option (List ℕ)) (printed mine more : List ℕ) → out' ≡ grown out printed →
-    IsPartWritten out' mine new → IsPartWritten out (printed ++ mine ++ more) new
+    IsPartWritten out' mine new → IsPartWritten out (printed ++ (mine ++ more)) new
 part_after out out' new printed mine more had part =
     let count = min part.count (length mine) in
     let few : count ≤ length mine = omega arith in
-    let front : take (length printed + count) (printed ++ mine ++ more) ≡ printed ++ take part.count mine =
+    let front : take (length printed + count) (printed ++ (mine ++ more)) ≡ printed ++ take part.count mine =
     take-append-add printed (mine ++ more) count
     ∙ ap (λ taken. printed ++ taken) (take-append-le count mine more few ∙ take_min part.count mine) in
     record {
@@ -165,8 +165,8 @@ module _
     text shown lines (items ++ more) ≡ text shown lines items ++ text shown (open_lines lines items) more)
     (opens : (lines : List OpenLine) (items more : List LogItem) →
     open_lines lines (items ++ more) ≡ open_lines (open_lines lines items) more)
-    {shown : Names} {lines now : List OpenLine} {all rest made later : Rounded} {out out' : Option (List ℕ)}
-    (come : IsCome shown lines now all rest out out') (split : rest ≡ followed_by made later) where
+    (made later : Rounded) {shown : Names} {lines now : List OpenLine} {all rest : Rounded}
+    {out out' : Option (List ℕ)} (come : IsCome shown lines now all rest out out') (split : rest ≡ followed_by made later) where
   rest_text : text shown now rest.items
       ≡ text shown now made.items ++ text shown (open_lines now made.items) later.items
   rest_text =
@@ -217,6 +217,37 @@ module _
 
 -- ---- what has become of rounds
 
+-- a monitor with another laboratory and other open lines
+abbrev pub onto : Running → Lab → List OpenLine → Running
+onto m lab lines = record m { state = record m.state { lab = lab; lines = lines } }
+
+-- a round more changes no more
+pub same_but : (first m new : Running) (made : Rounded) → m ≡ onto first m.state.lab m.state.lines →
+    new ≡ played m made → new ≡ onto first new.state.lab new.state.lines
+same_but first m new made same becomes =
+    becomes ∙ ap (λ (r : Running). onto r made.lab (open_lines m.state.lines made.items)) same
+    ∙ (λ i. onto first (sym becomes i).state.lab (sym becomes i).state.lines)
+
+-- all rounds change no more than a run
+pub becomes_all : (first m : Running) (all : Rounded) → m ≡ onto first m.state.lab m.state.lines →
+    m.state.lab ≡ all.lab → m.state.lines ≡ open_lines first.state.lines all.items → m ≡ played first all
+becomes_all first m all same lab lines = same ∙ (λ i. onto first (lab i) (lines i))
+
+-- what is left after a round is what is left in the monitor after it
+pub come_on :
+    {shown : Names} {lines : List OpenLine} {all : Rounded} {out out' : Option (List ℕ)} (longest left : ℕ)
+    (m new : Running) (made : Rounded) (paused : Option Key) → new ≡ played m made → paused ≡ made.paused →
+    IsCome shown lines (open_lines m.state.lines made.items) all (left_of longest left made.lab made.paused) out out' →
+    IsCome shown lines new.state.lines all (left_of longest left new.state.lab paused) out out'
+come_on {shown} {lines} {all} {out} {out'} longest left m new made paused becomes same come =
+    subst
+    (λ (r : Running). IsCome shown lines r.state.lines all (left_of longest left r.state.lab paused) out out')
+    (sym becomes)
+    (subst
+    (λ (p : Option Key). IsCome shown lines (open_lines m.state.lines made.items) all
+    (left_of longest left made.lab p) out out')
+    (sym same) come)
+
 module _ {A K : Type 0} {out : Ghosts K} (shown : Names) (all : Rounded) (old new : Running) (before after : K) where
   -- memory ran out before anything was printed
   pub unplayed : new.ended ≡ true → IsPlayed {A = A} out shown all (Err Memory) old new before before
@@ -243,7 +274,7 @@ module _ {A K : Type 0} {out : Ghosts K} (shown : Names) (all : Rounded) (old ne
   -- a part of it is
   pub played_part : (fault : WriteFault) →
       IsPartWritten (out.written before) (text shown old.state.lines all.items) (out.written after) →
-      new.ended ≡ true → OnlyWrites out (IsErrOf {A = A} (Err fault) Unwritten) before after →
+      new.ended ≡ true → OnlyWrites out (IsErrOf {T = A} (Err fault) Unwritten) before after →
       IsPlayed {A = A} out shown all (Err fault) old new before after
   played_part fault part ended writes =
       record { becomes = tt; whole = tt; part = part; ended = ended; writes = writes }

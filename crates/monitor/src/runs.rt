@@ -18,7 +18,7 @@ use dev_core::Device;
 use floor_run::Gate;
 use lab_io::{Sink, WriteFault, write_whole};
 use lab_num::{Key, Micros, NoMemory};
-use lab_state::{RunCause, Team};
+use lab_state::{LabFault, RoundLog, RunCause, Team};
 use log_merge::{LogItem, Names};
 use log_text::prints_join;
 use resc_vars::ScriptCause;
@@ -79,6 +79,30 @@ impl<D: Device> Monitor<D> {
 }
 
 impl<D: Device + Send> Monitor<D> {
+    /// Plays one round of `q` microseconds. Where memory runs out the laboratory is spent.
+    fn play_silently<R: Threads + Wait + Copy + Send + Sync, G: Gate>(
+        &mut self,
+        rt: &R,
+        team: &Team<D>,
+        q: u64,
+        gate: &G,
+    ) -> Result<RoundLog, LabFault>
+        requires unspent { self.old.spent ≡ false }
+        requires waits { self.old.ended ≡ true }
+        requires some { 0 < q }
+        requires plans { HaveAllPlans self.old.state.lab }
+        requires within { self.old.state.lab.now + q ≤ 10000000000 }
+        ensures lab { OnOk result (self.new ≡ record self.old {
+          state = record self.old.state { lab = (round self.old.state.lab q).lab };
+        }) }
+        ensures lines { IfOk result (λ log. log.lines ≡ (round self.old.state.lab q).items) }
+        ensures paused { IfOk result (λ log. log.paused ≡ (round self.old.state.lab q).paused) }
+        ensures plans { OnOk result (HaveAllPlans self.new.state.lab) }
+        ensures ended { self.new.ended ≡ true }
+    {
+        self.lab.round_by(rt, team, q, self.workers, gate)
+    }
+
     /// Plays one round of `q` microseconds and writes what it prints: by one write of a whole text, and by none where
     /// it has no lines. Gives its pause, if it has one.
     fn play_round<R: Threads + Wait + Copy + Send + Sync, K: Sink, G: Gate>(
@@ -100,7 +124,7 @@ impl<D: Device + Send> Monitor<D> {
         ensures paused { IfOk result (λ paused. paused ≡ (round self.old.state.lab q).paused) }
         ensures plans { OnOk result (HaveAllPlans self.new.state.lab) }
     {
-        let Ok(log) = self.lab.round_by(rt, team, q, self.workers, gate) else {
+        let Ok(log) = self.play_silently(rt, team, q, gate) else {
             return Err(WriteFault::Memory);
         };
         let Ok(text) = self.print(names, log.lines.items()) else {
@@ -135,10 +159,7 @@ impl<D: Device + Send> Monitor<D> {
         let mut left = d;
         'rounds: while left > 0 && paused.is_none() {
             let q = left.min(longest);
-            match self.play_round(rt, team, names, out, q, gate) {
-                Ok(next) => paused = next,
-                Err(fault) => return Err(fault),
-            }
+            paused = self.play_round(rt, team, names, out, q, gate)?;
             left -= q;
         }
         Ok(())

@@ -4,7 +4,7 @@ use Rattle.lab_io.specs.Frame.{OnlyWrites}
 use Rattle.lab_state.specs.One.{HaveAllPlans}
 use Rattle.lab_state.specs.Run.{run}
 use Rattle.monitor.specs.Step.{Running}
-use Rattle.monitor.proofs.Rounds.{IsCome, left_of}
+use Rattle.monitor.proofs.Rounds.{IsCome, left_of, onto}
 use Rattle.monitor.proofs.monitor.Monitor.play_rounds.Given as goal
 
 abbrev pub invariant-rounds : goal.invariant-rounds
@@ -13,11 +13,7 @@ invariant-rounds g l = record {
   waits : l.self.ended ≡ true;
   plans : HaveAllPlans l.self.state.lab;
   within : l.self.state.lab.now + l.left ≤ 10000000000;
-  same :
-      l.self
-      ≡ record l.fn.self {
-        state = record l.fn.self.state { lab = l.self.state.lab; lines = l.self.state.lines };
-      };
+  same : l.self ≡ onto l.fn.self l.self.state.lab l.self.state.lines;
   come :
       IsCome l.names l.fn.self.state.lines l.self.state.lines (run l.fn.self.state.lab l.d)
       (left_of l.longest l.left l.self.state.lab l.paused) (g.K.Sink.written l.fn.out) (g.K.Sink.written l.out);
