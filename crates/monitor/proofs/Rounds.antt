@@ -166,7 +166,8 @@ module _
     (opens : (lines : List OpenLine) (items more : List LogItem) →
     open_lines lines (items ++ more) ≡ open_lines (open_lines lines items) more)
     (made later : Rounded) {shown : Names} {lines now : List OpenLine} {all rest : Rounded}
-    {out out' : Option (List ℕ)} (come : IsCome shown lines now all rest out out') (split : rest ≡ followed_by made later) where
+    {out out' : Option (List ℕ)} (come : IsCome shown lines now all rest out out')
+    (split : rest ≡ followed_by made later) where
   rest_text : text shown now rest.items
       ≡ text shown now made.items ++ text shown (open_lines now made.items) later.items
   rest_text =

@@ -32,8 +32,8 @@ played m rounded = record m {
   state = record m.state { lab = rounded.lab; lines = open_lines m.state.lines rounded.items };
 }
 
--- Rounds were played that come to this, and what is printed of them under these names is written; or a part of it, where
--- a write failed or memory ran out, and then the monitor has ended.
+-- Rounds were played that come to this, and what is printed of them under these names is written; or a part of it,
+-- where a write failed or memory ran out, and then the monitor has ended.
 pub record IsPlayed
     {A K : Type 0} (out : SinkGhosts K) (shown : Names) (all : Rounded) (result : Result A WriteFault)
     (old new : Running) (before after : K) : Type 0 where
