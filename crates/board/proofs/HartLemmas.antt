@@ -33,8 +33,8 @@ comes_next f xs ys i d within so_far =
     let front = map f (range_with_len 0 i) in
     let place : length front ≡ i = length-map-range_with_len f 0 i in
     rw (so_far, rest_is xs i d within)
-      (subst (λ (k : ℕ). slice_index_or (front ++ get_or xs i d ∷ drop (i + 1) xs) k d ≡ get_or xs i d)
-        place (read_after front (get_or xs i d) d (drop (i + 1) xs)))
+    (subst (λ (k : ℕ). slice_index_or (front ++ get_or xs i d ∷ drop (i + 1) xs) k d ≡ get_or xs i d)
+    place (read_after front (get_or xs i d) d (drop (i + 1) xs)))
 
 pub one_more_set :
     {X : Type 0} (f : ℕ → X) (xs ys : List X) (i : ℕ) (d : X) → i < length xs →
@@ -45,8 +45,8 @@ one_more_set f xs ys i d within so_far =
     let place : length front ≡ i = length-map-range_with_len f 0 i in
     rw (so_far, rest_is xs i d within, map-range_with_len_more f 0 i i (omega arith))
     (subst
-      (λ (k : ℕ). slice_set (front ++ get_or xs i d ∷ drop (i + 1) xs) k (f i) ≡ (front ++ f i ∷ []) ++ drop (i + 1) xs)
-      place (set_after front (get_or xs i d) (f i) (drop (i + 1) xs)))
+    (λ (k : ℕ). slice_set (front ++ get_or xs i d ∷ drop (i + 1) xs) k (f i) ≡ (front ++ f i ∷ []) ++ drop (i + 1) xs)
+    place (set_after front (get_or xs i d) (f i) (drop (i + 1) xs)))
 
 -- the processor of a number after so many slots have passed
 abbrev pub passed_at : List Core → ℕ → ℕ → ℕ → Core

@@ -229,7 +229,7 @@ shown_fits kinds ds same all =
     let d : Fitted = hidden Finisher in
     let count = length-map ds (λ (f : Fitted). f.shown) in
     shown_are kinds (map (λ f. f.shown) ds)
-      (count ∙ sym (length-map ds (λ (f : Fitted). kind_of f.state)) ∙ ap length same)
+    (count ∙ sym (length-map ds (λ (f : Fitted). kind_of f.state)) ∙ ap length same)
     (λ k there.
     let within : k < length ds = omega (arith, there, count) in
     let kind_is = get_or-map (λ (f : Fitted). kind_of f.state) ds k d kind.Finisher within in
@@ -302,7 +302,7 @@ pub all_in :
 all_in devices states shown d same many each =
     let count : length (devices_in states shown) ≡ length states =
     sym (length-map (devices_in states shown) (λ (f : Fitted). f.state))
-      ∙ ap length (devices_there states shown same) in
+    ∙ ap length (devices_there states shown same) in
     ext_get_or d devices (devices_in states shown) (many ∙ sym count)
     (λ k there. each k there ∙ sym (device_in states shown k d same (omega (arith, there, many))))
 

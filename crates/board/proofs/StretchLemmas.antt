@@ -103,9 +103,9 @@ after_slots s mid new from a i q r w m now reached taken here within is time =
     λ j h. sym (slot_time now 0 j 0 r j mid.view.numbers.speed (omega arith) (omega (arith, h, within)) speed)
     ∙ omega (arith, time)
     ∙ slot_time from (a + i) j q r (w + j) mid.view.numbers.speed
-      (omega (arith, here)) (omega (arith, h, within)) speed in
+    (omega (arith, here)) (omega (arith, h, within)) speed in
     after_stretch s mid new from a i m reached
-      (taken ∙ ap (after mid) (stretch-same mid.view now 0 from (a + i) m same))
+    (taken ∙ ap (after mid) (stretch-same mid.view now 0 from (a + i) m same))
 
 -- one slot more of the same microsecond
 pub after_next :

@@ -92,7 +92,7 @@ first_is :
 first_is harts next hart below there = elim (cases_lt hart next) [
   | inl before ↦
       let same : (hart + (harts - next)) % harts ≡ hart + (harts - next) =
-        mod-eq_of_lt (omega (arith, before, below)) in
+      mod-eq_of_lt (omega (arith, before, below)) in
       grind (arith, nat_tests, before, same)
   | inr after ↦
       let sum : hart + (harts - next) ≡ 1 * harts + (hart - next) = omega (arith, after, below) in

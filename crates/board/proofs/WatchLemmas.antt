@@ -242,4 +242,4 @@ reserved_after hart core core' watch watch' w w' t done own all =
     let h = (hart_state hart core watch w).view in
     rw (ap {A = HartState} (λ s. s.view.watch) done)
     (kept_slot (All (IsReservation w.space.plan)) h t
-      (reservations_kept (wires_of (sampling h) t) core.letters hart own) all)
+    (reservations_kept (wires_of (sampling h) t) core.letters hart own) all)

@@ -27,12 +27,16 @@ const SENDS: &[u8] = b"\xB7\x02\x00\x10\x13\x03\x10\x04\x23\x80\x62\x00\x6F\x00\
 /// lui x5, 0x90000; lw x6, 0(x5); jalr x0, 0(x5): reads where nothing is, and jumps there
 const STRAYS: &[u8] = b"\xB7\x02\x00\x90\x03\xA3\x02\x00\x67\x80\x02\x00";
 
+/// lui x5, 0x90000; lw x6, 0(x5); jal x0, -4: reads where nothing is in each second slot
+const POLLS: &[u8] = b"\xB7\x02\x00\x90\x03\xA3\x02\x00\x6F\xF0\xDF\xFF";
+
 /// The files that scripts name.
-static FILES: [(&str, &[u8]); 5] = [
+static FILES: [(&str, &[u8]); 6] = [
     ("p.repl", PLATFORM),
     ("using.repl", b"using \"p.repl\"\n"),
     ("a.bin", SENDS),
     ("hole.bin", STRAYS),
+    ("polls.bin", POLLS),
     (
         "load.resc",
         b"sysbus LoadBinary @a.bin 0x80000000\ncpu PC 0x80000000\ncpu PC\nshowAnalyzer uart\n",
@@ -80,16 +84,8 @@ fn run_on<R: Threads + Wait + Copy + Send + Sync, D: Device + Send, G: Gate>(
     Ok(run_lab(rt, alloc, &words, files, out, store, stock, gate))
 }
 
-/// A run by these words, on devices enough for every laboratory: how it ends.
-pub fn run<R: Threads + Wait + Copy + Send + Sync, G: Gate>(
-    rt: &R,
-    alloc: Global,
-    words: &[&str],
-    files: &mut MemFiles,
-    out: &mut MemSink,
-    store: &mut MemStore,
-    gate: &G,
-) -> Result<Status, NoMemory> {
+/// Devices enough for every laboratory.
+pub fn stock_of(alloc: Global) -> Result<Stock<Box<dyn Device + Send>>, NoMemory> {
     let mut uarts: Vec<Box<dyn Device + Send>> = Vec::new(alloc);
     for _ in 0..64 {
         uarts.push(Box::new(alloc, Uart::new())?)?;
@@ -102,10 +98,23 @@ pub fn run<R: Threads + Wait + Copy + Send + Sync, G: Gate>(
     for _ in 0..16 {
         finishers.push(Box::new(alloc, Finisher::new())?)?;
     }
-    let stock = Stock {
+    Ok(Stock {
         uarts,
         cans,
         finishers,
-    };
+    })
+}
+
+/// A run by these words, on devices enough for every laboratory: how it ends.
+pub fn run<R: Threads + Wait + Copy + Send + Sync, G: Gate>(
+    rt: &R,
+    alloc: Global,
+    words: &[&str],
+    files: &mut MemFiles,
+    out: &mut MemSink,
+    store: &mut MemStore,
+    gate: &G,
+) -> Result<Status, NoMemory> {
+    let stock = stock_of(alloc)?;
     run_on(rt, alloc, words, files, out, store, stock, gate)
 }

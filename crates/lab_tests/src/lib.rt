@@ -9,6 +9,10 @@ mod edge;
 #[cfg(test)]
 mod outside;
 #[cfg(test)]
+mod rounds;
+#[cfg(test)]
 mod snapshots;
+#[cfg(test)]
+mod steps;
 #[cfg(test)]
 mod workers;

@@ -31,7 +31,7 @@ use lab_gen::generate;
 use lab_io::{Files, Sink, Store, write_whole};
 use lab_num::Text;
 use lab_words::{UsageCause, WordsFault, usage_line};
-use monitor::{Cause, Monitor, ScriptFault, Step};
+use monitor::{Cause, Monitor, Progress, ScriptFault};
 use std::alloc::Global;
 use std::sync::Wait;
 use std::thread::Threads;
@@ -383,20 +383,18 @@ fn try_command<
     ensures output { OnlyWrites K.Sink (result ≡ Err Status.Unwritten) out.old out.new }
     ensures store { OnlyStores S.Store (result ≡ Err Status.Unstored) store.old store.new }
 {
-    match monitor.step(rt, files, gate) {
-        Step::Text(text) => match write_whole(out, text.items()) {
-            Ok(()) => Ok(None),
-            Err(fault) => Err(Status::from(fault)),
-        },
-        Step::Save { name, file, line } => match keep(alloc, monitor, store, name.as_str()) {
+    match monitor.step_to(rt, files, out, gate) {
+        Progress::Done => Ok(None),
+        Progress::Cut(fault) => Err(Status::from(fault)),
+        Progress::Save { name, file, line } => match keep(alloc, monitor, store, name.as_str()) {
             Ok(()) => Ok(None),
             Err(halt) => Err(stop_by(alloc, monitor, halt, file, line, out)),
         },
-        Step::Load { name, file, line } => Ok(Some(SnapshotLine { name, file, line })),
-        Step::End => Err(stop(monitor, out)),
-        Step::Fault(fault) => Err(stop_at(alloc, monitor, fault, out)),
-        Step::Unread => Err(Status::Unread),
-        Step::Memory => Err(Status::Memory),
+        Progress::Load { name, file, line } => Ok(Some(SnapshotLine { name, file, line })),
+        Progress::End => Err(stop(monitor, out)),
+        Progress::Fault(fault) => Err(stop_at(alloc, monitor, fault, out)),
+        Progress::Unread => Err(Status::Unread),
+        Progress::Memory => Err(Status::Memory),
     }
 }
 

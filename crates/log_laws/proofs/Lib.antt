@@ -4,7 +4,6 @@ pub mod LoadingLemmas
 pub mod CommandLemmas
 pub mod AlikeLemmas
 pub mod OrderLemmas
-pub mod NameLemmas
 pub mod JoinLemmas
 pub mod CheckLemmas
 pub mod DryLemmas

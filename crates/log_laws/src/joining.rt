@@ -5,9 +5,9 @@ ghost use Rattle.monitor.specs.Answer.{Done};
 ghost use Rattle.monitor.specs.Runs.{run_for};
 ghost use Rattle.monitor.specs.State.{State};
 
-use board::stretches_keep_plans;
 use lab_state::runs_join;
 use log_text::prints_join;
+use monitor::runs_keep_names;
 
 /// Two runs one after another print together what one run of both lengths prints, and leave the same
 /// laboratory and the same open lines, where the first is a whole number of quanta long and no
@@ -21,6 +21,6 @@ pub fn runs_of_a_script_join()
         both ≡ record { text = first.text ++ second.text; state = second.state } }
 {
     runs_join();
-    stretches_keep_plans();
+    runs_keep_names();
     prints_join();
 }

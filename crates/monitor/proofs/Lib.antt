@@ -8,9 +8,12 @@ pub mod Loads
 pub mod MachineNames
 pub mod MapLemmas
 pub mod MemoryLemmas
+pub mod NameLemmas
 pub mod OpenLemmas
 pub mod PlaceLemmas
+pub mod Rounds
 pub mod Ruled
 pub mod RunLemmas
 pub mod Steps
 pub mod Within
+pub mod Writings

@@ -24,13 +24,12 @@ use Rattle.resc_vars.specs.declared.cause.ScriptCause.TheVariants.{Unknown, Argu
 use Rattle.monitor.specs.declared.stop.Stop.{Stop}
 use Rattle.monitor.specs.declared.stop.Stop.TheVariants.{Store, Quit, Line, File, Content, Unread, Memory}
 use Rattle.monitor.specs.declared.stop.Storing.TheVariants as storing
-use Rattle.monitor.specs.declared.step.Step.TheVariants as step
 use Rattle.monitor.specs.Answer.{Answer, Did, Done, answer_at, unread}
 use Rattle.monitor.specs.Command.{Work, OnFiles, OnState, OnStore, Quits, does, done_by}
 use Rattle.monitor.specs.State.{State, Place}
-use Rattle.monitor.specs.Step.{Running, IsStep}
+use Rattle.monitor.specs.Step.{Running}
 use Rattle.monitor.specs.Inner.Ruling.{IsCarried, IsDone, IsRuled, IsTold, IsWorked, KeepsOpen, Leaves, line_stop}
-use Rattle.monitor.specs.Inner.Ruling.{ends_script, step_of}
+use Rattle.monitor.specs.Inner.Ruling.{ends_script}
 use Rattle.monitor.proofs.OpenLemmas.{HasOpen, IsKeptBy}
 
 -- what holds if a value is told holds of the value that is told
@@ -190,29 +189,6 @@ module _ {F : Type 0} {files : Ghosts F} where
     open_lines = tt;
     reads = reads_none (λ same. cc same);
   }
-
--- a line after which the monitor does not go on
-pub stop_is_step :
-    (did : Did) (place : Place) (stop : Stop) (after : State) (log log' : Log) →
-    IsCarried did place (Err stop) after log log' → IsStep did (step_of place stop) after log log'
-stop_is_step did place (Store (storing.Save name)) after log log' is = is
-stop_is_step did place (Store (storing.Load name)) after log log' is = is
-stop_is_step did place Quit after log log' is = is
-stop_is_step did place (Line cause) after log log' is = is
-stop_is_step did place (File fault) after log log' is = is
-stop_is_step did place (Content cause) after log log' is = is
-stop_is_step did place Unread after log log' is = is
-stop_is_step did place Memory after log log' is = is
-
-pub stop_unread : (place : Place) (stop : Stop) → step_of place stop ≡ step.Unread → stop ≡ Unread
-stop_unread place (Store (storing.Save name)) is = cc is
-stop_unread place (Store (storing.Load name)) is = cc is
-stop_unread place Quit is = cc is
-stop_unread place (Line cause) is = cc is
-stop_unread place (File fault) is = cc is
-stop_unread place (Content cause) is = cc is
-stop_unread place Unread is = refl
-stop_unread place Memory is = cc is
 
 -- a monitor whose script goes on
 abbrev pub GoesOn : Running → Type 0

@@ -1,18 +1,25 @@
--- Runs that are refused or cut short.
-use Rattle.std.proofs.Common.{◌≡◌, ◌↔◌, ℕ, ◌+◌, ◌<◌, ◌≤◌, nat_le, Bool, true, false, cond, Some, Result, Err}
-use Rattle.std.proofs.Common.{refl, arith}
+-- Runs that are refused, made or cut short.
+use Rattle.std.proofs.Common.{◌≡◌, ◌∙◌, ◌↔◌, ℕ, ◌+◌, ◌<◌, ◌≤◌, nat_le, Bool, true, false, cond, List, Option, Some}
+use Rattle.std.proofs.Common.{Result, Ok, Err, refl, sym, ap, subst, arith}
+use Rattle.std.proofs.lemmas.Bool.Decides.{nat_tests}
+use Rattle.lab_io.specs.declared.sink.WriteFault.{WriteFault}
+use Rattle.lab_io.specs.Known.{grown}
+use Rattle.lab_io.specs.Sink.{IsPartWritten}
+use Rattle.lab_state.specs.Names.{names}
+use Rattle.log_merge.specs.declared.names.Names.{Names}
+use Rattle.log_text.specs.Log.{text}
+use Rattle.monitor.specs.declared.halt.Halt.TheVariants.{Cut}
+use Rattle.monitor.specs.Inner.Writing.{IsRunMade, played}
 use Rattle.std.proofs.lemmas.Bool.{leb-true}
 use Rattle.lab_num.specs.declared.number.BoardNo.{BoardNo}
 use Rattle.lab_state.specs.declared.faults.RunCause.{RunCause}
 use Rattle.lab_state.specs.declared.faults.RunCause.TheVariants as cause
-use Rattle.lab_state.specs.declared.faults.RunFault.{RunFault}
-use Rattle.lab_state.specs.declared.faults.RunFault.TheVariants as fault
 use Rattle.lab_state.specs.One.{first_without, HaveAllPlans}
-use Rattle.lab_state.specs.Run.{Play}
+use Rattle.lab_state.specs.Run.{Play, run}
 use Rattle.resc_vars.specs.declared.cause.ScriptCause.{ScriptCause}
 use Rattle.monitor.specs.Answer.{Done}
-use Rattle.monitor.specs.Inner.Ruling.{IsRuled, may_stop, run_stop}
-use Rattle.monitor.specs.Runs.{length_of, run_for}
+use Rattle.monitor.specs.Inner.Ruling.{IsRuled, may_stop}
+use Rattle.monitor.specs.Runs.{has_run, length_of, run_for}
 use Rattle.monitor.specs.State.{State}
 use Rattle.monitor.specs.Step.{Running}
 
@@ -34,15 +41,6 @@ refused_run play old length cause.TooLong answer plan time is =
     let after = late (old.state.lab.now + length) 10000000000 _ refl long.1 in
     rw (long.0, after) (refl, refl)
 
--- of what cuts a run short want of memory is left
-pub run_cut :
-    {A : Type 0} (ruling : Result Done ScriptCause) (old new : Running) (why : RunFault) (answer : Result A RunFault) →
-    answer ≡ Err why → ((b : BoardNo) → answer ≡ Err (fault.NoPlan b) → ⊥) → (answer ≡ Err fault.TooLong → ⊥) →
-    new.ended ≡ old.ended → IsRuled ruling (Err (run_stop why)) old new
-run_cut ruling old new (fault.NoPlan b) answer is plan time ended = absurd (plan b is)
-run_cut ruling old new fault.TooLong answer is plan time ended = absurd (time is)
-run_cut ruling old new fault.Memory answer is plan time ended = ended
-
 -- a run is no longer than it is asked for
 pub no_longer : (s : State) (length : ℕ) → length_of s length ≤ length
 no_longer s length = either s.dry
@@ -50,3 +48,50 @@ no_longer s length = either s.dry
     either : (dry : Bool) → cond dry 0 length ≤ length
     either true = omega arith
     either false = omega arith
+
+-- ---- a run that may be made
+
+-- it comes to what is played
+made : (play : Play) (s : State) (length d : ℕ) → HaveAllPlans s.lab → s.lab.now + length ≤ 10000000000 →
+    d ≡ length_of s length → run_for play s length ≡ Ok (has_run s (play s.lab d))
+made play s length d all within is =
+    let time : nat_le (s.lab.now + length) 10000000000 ≡ true = grind (arith, nat_tests) in
+    rw (all, time, is) refl
+
+module _
+    (old new : Running) (length d : ℕ) (all : HaveAllPlans old.state.lab)
+    (within : old.state.lab.now + length ≤ 10000000000) (is : d ≡ length_of old.state length)
+    (same : names (run old.state.lab d).lab ≡ names old.state.lab) where
+  -- all of it is printed
+  pub run_made : (out out' : Option (List ℕ)) → old.spent ≡ false → new ≡ played old (run old.state.lab d) →
+      out' ≡ grown out (text (names old.state.lab) old.state.lines (run old.state.lab d).items) →
+      IsRunMade (run_for run old.state length) (Ok tt) old new out out'
+  run_made out out' unspent played wrote =
+      let items = (run old.state.lab d).items in
+      let ruling : run_for run old.state length
+      ≡ Ok (record { text = text (names old.state.lab) old.state.lines items; state = new.state }) =
+      made run old.state length d all within is
+      ∙ (λ i. Ok (record { text = text (same i) old.state.lines items; state = (sym played i).state })) in (
+        text (names old.state.lab) old.state.lines items,
+        ruling,
+        record {
+          workers = ap (λ (r : Running). r.workers) played;
+          spent = ap (λ (r : Running). r.spent) played ∙ unspent;
+          ended = ap (λ (r : Running). r.ended) played;
+          flow = ap (λ (r : Running). r.state.flow.ended) played;
+          kept = ap (λ (r : Running). r.state.flow.kept) played;
+        },
+        wrote,
+      )
+
+  -- a part of it is
+  pub run_cut : (fault : WriteFault) (out out' : Option (List ℕ)) → old.ended ≡ true → new.ended ≡ true →
+      IsPartWritten out (text (names old.state.lab) old.state.lines (run old.state.lab d).items) out' →
+      IsRunMade (run_for run old.state length) (Err (Cut fault)) old new out out'
+  run_cut fault out out' waits ended part =
+      let items = (run old.state.lab d).items in (
+        has_run old.state (run old.state.lab d),
+        made run old.state length d all within is,
+        subst (λ (shown : Names). IsPartWritten out (text shown old.state.lines items) out') (sym same) part,
+        ended ∙ sym waits,
+      )

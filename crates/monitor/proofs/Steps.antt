@@ -1,9 +1,11 @@
 -- What is next in a script, and what comes of it.
-use Rattle.std.proofs.Common.{◌≡◌, ℕ, List, Option, None, Some, refl, sym}
+use Rattle.std.proofs.Common.{◌≡◌, ℕ, List, [], Option, None, Some, refl, sym}
 use Rattle.std.specs.Prelude.{IfSome}
 use Rattle.std.specs.Option.{ForSome}
 use Rattle.lab_io.specs.Asked.{Log}
 use Rattle.lab_io.specs.Held.{Held}
+use Rattle.lab_io.specs.Known.{grown}
+use Rattle.lab_io.proofs.Asking.{asks_all}
 use Rattle.lab_io.proofs.Grown.{grown-nil}
 use Rattle.lab_state.specs.Run.{Play}
 use Rattle.resc_read.specs.Line.{line_of}
@@ -11,60 +13,97 @@ use Rattle.resc_vars.specs.declared.answer.Next.TheVariants as next
 use Rattle.resc_vars.specs.declared.cause.ScriptCause.{ScriptCause}
 use Rattle.resc_vars.specs.Script as script
 use Rattle.resc_vars.specs.Script.{next_of, Says}
-use Rattle.monitor.specs.declared.step.Step.{Step}
+use Rattle.lab_io.specs.declared.sink.WriteFault.{WriteFault}
+use Rattle.monitor.specs.declared.progress.Progress.{Progress}
+use Rattle.monitor.specs.declared.progress.Progress.TheVariants as progress
 use Rattle.monitor.specs.declared.step.Step.TheVariants as step
 use Rattle.monitor.specs.declared.fault.Cause.TheVariants.{Script}
-use Rattle.monitor.specs.Answer.{Answer, Misses}
+use Rattle.monitor.specs.Answer.{Answer, Did, Misses}
 use Rattle.monitor.specs.Command.{did, done_by}
+use Rattle.monitor.specs.Progress.{IsProgress, stands_for}
 use Rattle.monitor.specs.State.{State}
 use Rattle.monitor.specs.Step.{IsStep, IsCut}
 
 module _ (play : Play) (s after : State) (flow : script.State) where
   -- a step has done what the line does that it has taken
   pub line_step :
-      (held : Option Held) (answered : Step) (log log' : Log) (file : List ℕ) (n : ℕ) (text taken : List ℕ) →
+      (held : Option Held) (answered : Progress) (log log' : Log) (out out' : Option (List ℕ)) (file : List ℕ) (n : ℕ)
+      (text taken : List ℕ) →
       Says (next.Line file n text) flow (next_of s.flow) → taken ≡ text →
-      ForSome held (λ held. IsStep
+      ForSome held (λ held. IsProgress
       (done_by play held (record s { flow = flow }) (record { file = file; number = n }) (line_of taken))
-      answered after log log') →
-      IfSome held (λ held. IsStep (did play held s) answered after log log')
+      answered after log log' out out') →
+      IfSome held (λ held. IsProgress (did play held s) answered after log log' out out')
   unfolding did
-  line_step None answered log log' file n text taken is same stepped = tt
-  line_step (Some held) answered log log' file n text taken is same stepped = rw (is, ← same) (stepped held refl)
+  line_step None answered log log' out out' file n text taken is same stepped = tt
+  line_step (Some held) answered log log' out out' file n text taken is same stepped =
+      rw (is, ← same) (stepped held refl)
 
   pub end_is :
-      (held : Option Held) (log : Log) → Says next.End flow (next_of s.flow) →
-      IfSome held (λ held. IsStep (did play held s) step.End after log log)
+      (held : Option Held) (log : Log) (out : Option (List ℕ)) → Says next.End flow (next_of s.flow) →
+      IfSome held (λ held. IsProgress (did play held s) progress.End after log log out out)
   unfolding did
-  end_is None log is = tt
-  end_is (Some held) log is = rw is (refl, sym (grown-nil log))
+  end_is None log out is = tt
+  end_is (Some held) log out is = rw is ((refl, sym (grown-nil log)), refl)
 
   pub fault_is :
-      (held : Option Held) (file : List ℕ) (n : ℕ) (cause : ScriptCause) (log : Log) →
+      (held : Option Held) (file : List ℕ) (n : ℕ) (cause : ScriptCause) (log : Log) (out : Option (List ℕ)) →
       Says (next.Fault file n cause) flow (next_of s.flow) →
       IfSome held
-      (λ held. IsStep (did play held s) (step.Fault (record { file = file; line = n; cause = Script cause })) after log
-      log)
+      (λ held. IsProgress (did play held s) (progress.Fault (record { file = file; line = n; cause = Script cause }))
+      after log log out out)
   unfolding did
-  fault_is None file n cause log is = tt
-  fault_is (Some held) file n cause log is = rw is (refl, sym (grown-nil log))
+  fault_is None file n cause log out is = tt
+  fault_is (Some held) file n cause log out is = rw is ((refl, sym (grown-nil log)), refl)
 
 -- where a name holds nothing, a step is cut short
 absent_is_cut :
-    (answer : Answer) (names : List (List ℕ)) (answered : Step) (after : State) (log log' : Log) →
-    IsStep (record { names = names; answer = answer }) answered after log log' → answer ≡ Misses → IsCut answered
-absent_is_cut answer names (step.Text text) after log log' is misses = cc (is.0, misses)
-absent_is_cut answer names (step.Save name file line) after log log' is misses = cc (is.0, misses)
-absent_is_cut answer names (step.Load name file line) after log log' is misses = cc (is.0, misses)
-absent_is_cut answer names step.End after log log' is misses = cc (is.0, misses)
-absent_is_cut answer names (step.Fault fault) after log log' is misses = cc (is.0, misses)
-absent_is_cut answer names step.Unread after log log' is misses = tt
-absent_is_cut answer names step.Memory after log log' is misses = tt
+    (did : Did) (answered : Progress) (after : State) (log log' : Log) (out out' : Option (List ℕ)) →
+    IsProgress did answered after log log' out out' → did.answer ≡ Misses → IsCut (stands_for answered)
+absent_is_cut did progress.Done after log log' out out' is misses = cc (is.1.0.0, misses)
+absent_is_cut did (progress.Cut fault) after log log' out out' is misses = tt
+absent_is_cut did (progress.Save name file line) after log log' out out' is misses = cc (is.0.0, misses)
+absent_is_cut did (progress.Load name file line) after log log' out out' is misses = cc (is.0.0, misses)
+absent_is_cut did progress.End after log log' out out' is misses = cc (is.0.0, misses)
+absent_is_cut did (progress.Fault fault) after log log' out out' is misses = cc (is.0.0, misses)
+absent_is_cut did progress.Unread after log log' out out' is misses = tt
+absent_is_cut did progress.Memory after log log' out out' is misses = tt
 
 pub step_absent :
-    (play : Play) (s after : State) (held : Option Held) (answered : Step) (log log' : Log) →
-    IfSome held (λ held. IsStep (did play held s) answered after log log') →
-    IfSome held (λ held. (did play held s).answer ≡ Misses → IsCut answered)
-step_absent play s after None answered log log' is = tt
-step_absent play s after (Some held) answered log log' is =
-    absent_is_cut (did play held s).answer (did play held s).names answered after log log' is
+    (play : Play) (s after : State) (held : Option Held) (answered : Progress) (log log' : Log)
+    (out out' : Option (List ℕ)) →
+    IfSome held (λ held. IsProgress (did play held s) answered after log log' out out') →
+    IfSome held (λ held. (did play held s).answer ≡ Misses → IsCut (stands_for answered))
+step_absent play s after None answered log log' out out' is = tt
+step_absent play s after (Some held) answered log log' out out' is =
+    absent_is_cut (did play held s) answered after log log' out out' is
+
+-- ---- a step whose text goes to an output in memory
+
+in_text : (text bytes : List ℕ) → Some bytes ≡ grown (Some []) text → text ≡ bytes
+in_text text bytes is = cc is
+
+-- its text is what was written
+pub says_text :
+    (play : Play) (s after : State) (held : Option Held) (log log' : Log) (none bytes : List ℕ) → none ≡ [] →
+    IfSome held (λ held. IsProgress (did play held s) progress.Done after log log' (Some none) (Some bytes)) →
+    IfSome held (λ held. IsStep (did play held s) (step.Text bytes) after log log')
+says_text play s after None log log' none bytes empty is = tt
+says_text play s after (Some held) log log' none bytes empty is =
+    rw (← in_text is.0 bytes (rw empty at is.1.1)) is.1.0
+
+-- one that was cut short has found no memory
+pub cut_is_memory :
+    (play : Play) (s after : State) (held : Option Held) (fault : WriteFault) (log log' : Log)
+    (out out' : Option (List ℕ)) →
+    IfSome held (λ held. IsProgress (did play held s) (progress.Cut fault) after log log' out out') →
+    IfSome held (λ held. IsStep (did play held s) step.Memory after log log')
+cut_is_memory play s after None fault log log' out out' is = tt
+cut_is_memory play s after (Some held) fault log log' out out' is =
+    asks_all (did play held s).names log log' is.1.1.0.1
+
+-- each other one is the step that it stands for
+pub first_is :
+    {P : Held → Type 0} {Q : Type 0} (held : Option Held) → IfSome held (λ held. P held × Q) → IfSome held P
+first_is None is = tt
+first_is (Some held) is = is.0

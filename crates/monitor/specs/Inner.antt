@@ -2,3 +2,4 @@
 pub mod Places
 pub mod Reading
 pub mod Ruling
+pub mod Writing

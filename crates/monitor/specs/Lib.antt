@@ -12,4 +12,5 @@ pub mod Bodies
 pub mod Runs
 pub mod Command
 pub mod Step
+pub mod Progress
 pub mod Inner

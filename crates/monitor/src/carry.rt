@@ -1,16 +1,20 @@
 //! Each command is carried out.
-ghost use Rattle.std.specs.Prelude.{◌≡◌, true, false};
+ghost use Rattle.std.specs.Prelude.{◌≡◌, ◌≢◌, true, false};
+ghost use Rattle.lab_num.specs.declared.number.Micros.{Micros};
 ghost use Rattle.lab_state.specs.Run.{run};
-ghost use Rattle.monitor.specs.Command.{work};
+ghost use Rattle.monitor.specs.Command.{does, work};
 ghost use Rattle.monitor.specs.Inner.Ruling.{IsWithin, IsWorked};
+ghost use Rattle.monitor.specs.Inner.Writing.{IsWritten};
 
+use crate::halt::Halt;
 use crate::images::Format;
 use crate::load::Load;
 use crate::monitor::Monitor;
 use crate::stop::{Stop, Storing};
 use dev_core::Device;
 use floor_run::Gate;
-use lab_io::Files;
+use lab_io::{Files, Sink, write_whole};
+use lab_state::runs_keep_lines_open;
 use resc_read::{Command, LineFault};
 use resc_vars::ScriptCause;
 use std::sync::Wait;
@@ -32,19 +36,15 @@ impl From<LineFault> for Stop {
     }
 }
 
-impl<D: Device + Send> Monitor<D> {
-    /// Carries out a command.
-    pub(crate) fn carry_out<R: Threads + Wait + Copy + Send + Sync, F: Files, G: Gate>(
-        &mut self,
-        rt: &R,
-        files: &mut F,
-        command: Command,
-        gate: &G,
-    ) -> Result<Vec<u8>, Stop>
+impl<D: Device> Monitor<D> {
+    /// Carries out a command that is no run.
+    fn carry_out<F: Files>(&mut self, files: &mut F, command: Command) -> Result<Vec<u8>, Stop>
         requires unspent { self.old.spent ≡ false }
         requires waits { self.old.ended ≡ true }
         requires goes_on { self.old.state.flow.ended ≡ false }
         requires within { IsWithin command }
+        requires no_run { (length : Micros) → command ≢ Command.RunFor length }
+        requires no_start { command ≢ Command.Start }
         ensures { IsWorked F.Files (work run self.old.state command)
             result self.old self.new files.old files.new }
     {
@@ -66,14 +66,12 @@ impl<D: Device + Send> Monitor<D> {
             Command::Halted { cpu, value } => self.halted(cpu.as_str(), value),
             Command::Mips { cpu, value } => self.mips(cpu.as_str(), value),
             Command::Quantum { length } => Ok(self.quantum(length)),
-            Command::RunFor { length } => self.run_for(rt, length, gate),
             Command::UartHub { name, delay } => self.uart_hub(name.as_str(), delay),
             Command::CanHub { name, delay } => self.can_hub(name.as_str(), delay),
             Command::Connect { dev, hub } => self.connect(dev.as_str(), hub.as_str()),
             Command::Show { dev } => self.show(dev.as_str()),
             Command::RunMacro { name } => self.run_macro(name.as_str()),
             Command::UsingSysbus | Command::Pause => Ok(Vec::new(self.alloc)),
-            Command::Start => self.start(rt, gate),
 
             // Those that are for the store.
             Command::Save { path } => Err(Stop::Store(Storing::Save(path))),
@@ -81,6 +79,62 @@ impl<D: Device + Send> Monitor<D> {
 
             // The one that ends the script.
             Command::Quit => Err(Stop::Quit),
+
+            // Those that run the laboratory.
+            Command::RunFor { length: _ } => unreachable!(),
+            Command::Start => unreachable!(),
+        }
+    }
+}
+
+impl<D: Device + Send> Monitor<D> {
+    /// Carries out a command, and writes what it prints.
+    pub(crate) fn carry_out_to<R: Threads + Wait + Copy + Send + Sync, F: Files, K: Sink, G: Gate>(
+        &mut self,
+        rt: &R,
+        files: &mut F,
+        out: &mut K,
+        command: Command,
+        gate: &G,
+    ) -> Result<(), Halt>
+        requires unspent { self.old.spent ≡ false }
+        requires waits { self.old.ended ≡ true }
+        requires goes_on { self.old.state.flow.ended ≡ false }
+        requires within { IsWithin command }
+        ensures { IsWritten F.Files K.Sink (λ held place. does held place (work run self.old.state command))
+            result self.old self.new files.old files.new out.old out.new }
+    {
+        runs_keep_lines_open(&self.lab);
+        match command {
+            Command::RunFor { length } => self.run_for(rt, out, length, gate),
+            Command::Start => self.start(rt, out, gate),
+            command => self.carry_out_at_once(files, out, command),
+        }
+    }
+
+    /// Carries out a command that is no run, and writes what it prints.
+    fn carry_out_at_once<F: Files, K: Sink>(
+        &mut self,
+        files: &mut F,
+        out: &mut K,
+        command: Command,
+    ) -> Result<(), Halt>
+        requires unspent { self.old.spent ≡ false }
+        requires waits { self.old.ended ≡ true }
+        requires goes_on { self.old.state.flow.ended ≡ false }
+        requires within { IsWithin command }
+        requires no_run { (length : Micros) → command ≢ Command.RunFor length }
+        requires no_start { command ≢ Command.Start }
+        ensures { IsWritten F.Files K.Sink (λ held place. does held place (work run self.old.state command))
+            result self.old self.new files.old files.new out.old out.new }
+    {
+        runs_keep_lines_open(&self.lab);
+        match self.carry_out(files, command) {
+            Ok(text) => match write_whole(out, &text) {
+                Ok(()) => Ok(()),
+                Err(fault) => Err(Halt::Cut(fault)),
+            },
+            Err(stop) => Err(Halt::Stop(stop)),
         }
     }
 }

@@ -1,13 +1,17 @@
-//! The law of images. The function here does nothing when it runs: a proof that needs the law calls
-//! it.
+//! Laws of images and of runs. The functions here do nothing when they run: a proof that needs a law calls it.
 ghost use Rattle.std.specs.Prelude.{◌≡◌, ℕ, List, length, map, true};
 ghost use Rattle.std.specs.List.{list_all};
 ghost use Rattle.std.specs.Option.{option_or};
 ghost use Rattle.board.specs.View.{View};
 ghost use Rattle.elf_load.specs.declared.image.Part.{Part};
 ghost use Rattle.elf_load.specs.Map.{byte_at};
+ghost use Rattle.lab_state.specs.Lab.{Lab};
+ghost use Rattle.lab_state.specs.Names.{names};
+ghost use Rattle.lab_state.specs.Run.{run};
 ghost use Rattle.sys_bus.specs.Plan.{IsValid};
 ghost use Rattle.monitor.specs.Images.{byte_held, holds_part, unreserved, with_parts};
+
+use board::stretches_keep_plans;
 
 /// To load the parts of an image is to load the map from addresses to bytes that they make, in
 /// which the later part counts: each address that it has holds its byte, and each other one what it
@@ -24,3 +28,10 @@ pub fn an_image_is_loaded_as_its_map()
           space = record v.space { memories = (with_parts v parts).space.memories };
         } }
 {}
+
+/// A run changes no name that the log prints.
+pub fn runs_keep_names()
+    ensures { (lab : Lab) (d : ℕ) → names (run lab d).lab ≡ names lab }
+{
+    stretches_keep_plans();
+}

@@ -4,7 +4,7 @@ ghost use Rattle.std.specs.Prelude.{OnOk, OnErr, All};
 ghost use Rattle.std.specs.Option.{ForSome};
 ghost use Rattle.std.specs.String.{string_bytes};
 ghost use Rattle.dev_core.specs.Stock.{IsFull};
-ghost use Rattle.lab_io.specs.Frame.{OnlyReads};
+ghost use Rattle.lab_io.specs.Frame.{OnlyReads, OnlyWrites};
 ghost use Rattle.lab_state.specs.Names.{names};
 ghost use Rattle.lab_state.specs.Run.{run};
 ghost use Rattle.lab_state.specs.Valid.{IsOpen, IsValid};
@@ -12,20 +12,25 @@ ghost use Rattle.log_text.specs.Log.{rest};
 ghost use Rattle.resc_read.specs.Line.{line_of};
 ghost use Rattle.monitor.specs.Answer.{Misses};
 ghost use Rattle.monitor.specs.Command.{did, done_by};
+ghost use Rattle.monitor.specs.Progress.{stands_for, IsProgress};
 ghost use Rattle.monitor.specs.State.{bodies_of, joined, started};
 ghost use Rattle.monitor.specs.Step.{going, IsStep, IsNext, IsCut, IsCounted};
-ghost use Rattle.monitor.specs.Inner.Ruling.{IsAfterLine, IsDone, step_of};
+ghost use Rattle.monitor.specs.Inner.Ruling.{IsAfterLine};
+ghost use Rattle.monitor.specs.Inner.Writing.{IsWritten, progress_of};
 
 use crate::bodies::Bodies;
 use crate::fault::{Cause, ScriptFault};
+use crate::halt::Halt;
+use crate::progress::Progress;
 use crate::setting::Setting;
 use crate::step::Step;
 use crate::stop::{Stop, Storing};
+use crate::text_sink::TextSink;
 use dev_core::{Device, Stock};
 use floor_run::Gate;
-use lab_io::Files;
+use lab_io::{Files, Sink, WriteFault};
 use lab_num::{BoardNo, Micros, NoMemory, Rows, Text};
-use lab_state::{Lab, runs_keep_lines_open};
+use lab_state::Lab;
 use log_text::Lines;
 use resc_read::read_line;
 use resc_vars::{Flow, Next};
@@ -198,8 +203,8 @@ impl<D: Device> Monitor<D> {
 }
 
 impl<D: Device + Send> Monitor<D> {
-    /// Carries out the next command of the script. Files that it names are read from `files`. Any
-    /// answer but `Text`, `Save` and `Load` ends the script. Where several workers run several boards,
+    /// Carries out the next command of the script, and answers what it prints. Files that it names are read from
+    /// `files`. Any answer but `Text`, `Save` and `Load` ends the script. Where several workers run several boards,
     /// each enters the gate before each turn.
     pub fn step<R: Threads + Wait + Copy + Send + Sync, F: Files, G: Gate>(
         &mut self,
@@ -230,89 +235,139 @@ impl<D: Device + Send> Monitor<D> {
         // Of files it only reads, and only a fault that was counted makes it unread.
         ensures files { OnlyReads F.Files (result ≡ Step.Unread) files.old files.new }
     {
+        let mut out = TextSink::new(self.alloc);
+        match self.step_to(rt, files, &mut out, gate) {
+            Progress::Done => Step::Text(Rows::of(out.text)),
+            Progress::Cut(_) => Step::Memory,
+            Progress::Save { name, file, line } => Step::Save { name, file, line },
+            Progress::Load { name, file, line } => Step::Load { name, file, line },
+            Progress::End => Step::End,
+            Progress::Fault(fault) => Step::Fault(fault),
+            Progress::Unread => Step::Unread,
+            Progress::Memory => Step::Memory,
+        }
+    }
+
+    /// Carries out the next command of the script, and writes what it prints. What a round of a run prints is written
+    /// before the next round begins: by one `write_whole`, and by none where it has no lines. Files that the command
+    /// names are read from `files`. Any answer but `Done`, `Save` and `Load` ends the script. Where several workers run
+    /// several boards, each enters the gate before each turn.
+    pub fn step_to<R: Threads + Wait + Copy + Send + Sync, F: Files, K: Sink, G: Gate>(
+        &mut self,
+        rt: &R,
+        files: &mut F,
+        out: &mut K,
+        gate: &G,
+    ) -> Progress
+        requires { self.old.ended ≡ false }
+
+        // It has done what its definition says, has asked for just its names and has written what the command
+        // prints; or was cut short by a read or for want of memory, and has asked for the first of the names; or
+        // by a write or for want of memory, and has written the beginning of the text.
+        ensures step { IfSome (F.held files.old) (λ held.
+            IsProgress (did run held self.old.state) result self.new.state
+            (F.asked files.old) (F.asked files.new) (K.written out.old) (K.written out.new)) }
+
+        // Where a name holds nothing, it is cut short.
+        ensures absent { IfSome (F.held files.old) (λ held.
+            (did run held self.old.state).answer ≡ Misses → IsCut (stands_for result)) }
+
+        // What it leaves, and how many commands it takes, are those of a step.
+        ensures next { IsNext (stands_for result) self.old self.new }
+        ensures counted { IsCounted (stands_for result) self.old.state self.new.state }
+
+        // Of files it only reads, and only a fault that was counted makes it unread. Only one of the output that
+        // was counted makes it unwritten.
+        ensures files { OnlyReads F.Files (result ≡ Progress.Unread) files.old files.new }
+        ensures output { OnlyWrites K.Sink (result ≡ Progress.Cut WriteFault.Unwritten) out.old out.new }
+    {
         self.ended = true;
         match self.flow.next() {
             Next::Line { file, line, text } => {
-                self.take_line(rt, files, file, line, text.as_str(), gate)
+                self.take_line(rt, files, out, file, line, text.as_str(), gate)
             },
-            Next::End => Step::End,
+            Next::End => Progress::End,
             Next::Fault { file, line, cause } => fault_at(file, line, Cause::Script(cause)),
-            Next::Memory => Step::Memory,
+            Next::Memory => Progress::Memory,
         }
     }
 
     /// Does what a line asks for. The script goes on where it says something or is for the store.
-    fn take_line<R: Threads + Wait + Copy + Send + Sync, F: Files, G: Gate>(
+    fn take_line<R: Threads + Wait + Copy + Send + Sync, F: Files, K: Sink, G: Gate>(
         &mut self,
         rt: &R,
         files: &mut F,
+        out: &mut K,
         file: Text,
         line: u32,
         text: &str,
         gate: &G,
-    ) -> Step
+    ) -> Progress
         requires goes_on { self.old.state.flow.ended ≡ false }
         requires unspent { self.old.spent ≡ false }
         requires waits { self.old.ended ≡ true }
         requires open { All (IsOpen self.old.state.lab) self.old.state.lines }
-        ensures step { ForSome (F.held files.old) (λ held. IsStep
+        ensures step { ForSome (F.held files.old) (λ held. IsProgress
             (done_by run held self.old.state (record { file = file; number = line }) (line_of text.now))
-            result self.new.state (F.asked files.old) (F.asked files.new)) }
-        ensures next { IsAfterLine result self.old self.new }
-        ensures files { OnlyReads F.Files (result ≡ Step.Unread) files.old files.new }
+            result self.new.state (F.asked files.old) (F.asked files.new)
+            (K.written out.old) (K.written out.new)) }
+        ensures next { IsAfterLine (stands_for result) self.old self.new }
+        ensures files { OnlyReads F.Files (result ≡ Progress.Unread) files.old files.new }
+        ensures output { OnlyWrites K.Sink (result ≡ Progress.Cut WriteFault.Unwritten) out.old out.new }
     {
-        match self.carry_out_line(rt, files, text, gate) {
-            Ok(text) => {
+        match self.carry_out_line(rt, files, out, text, gate) {
+            Ok(()) => {
                 self.ended = false;
-                Step::Text(Rows::of(text))
+                Progress::Done
             }
-            Err(stop) => {
+            Err(Halt::Stop(stop)) => {
                 self.ended = stop.ends_script();
                 stopped(file, line, stop)
             }
+            Err(Halt::Cut(fault)) => Progress::Cut(fault),
         }
     }
 
     /// Carries out the command of a line.
-    fn carry_out_line<R: Threads + Wait + Copy + Send + Sync, F: Files, G: Gate>(
+    fn carry_out_line<R: Threads + Wait + Copy + Send + Sync, F: Files, K: Sink, G: Gate>(
         &mut self,
         rt: &R,
         files: &mut F,
+        out: &mut K,
         text: &str,
         gate: &G,
-    ) -> Result<Vec<u8>, Stop>
+    ) -> Result<(), Halt>
         requires goes_on { self.old.state.flow.ended ≡ false }
         requires unspent { self.old.spent ≡ false }
         requires waits { self.old.ended ≡ true }
-        ensures { IsDone F.Files
+        ensures { IsWritten F.Files K.Sink
             (λ held place. done_by run held self.old.state place (line_of text.now))
-            result self.old self.new files.old files.new }
+            result self.old self.new files.old files.new out.old out.new }
     {
-        runs_keep_lines_open(&self.lab);
         let command = read_line(self.alloc, text)?;
-        self.carry_out(rt, files, command, gate)
+        self.carry_out_to(rt, files, out, command, gate)
     }
 }
 
 /// A line is refused.
-fn fault_at(file: Text, line: u32, cause: Cause) -> Step
-    ensures { result ≡ Step.Fault (record { file = file; line = line; cause = cause }) }
+fn fault_at(file: Text, line: u32, cause: Cause) -> Progress
+    ensures { result ≡ Progress.Fault (record { file = file; line = line; cause = cause }) }
 {
-    Step::Fault(ScriptFault { file, line, cause })
+    Progress::Fault(ScriptFault { file, line, cause })
 }
 
 /// What a step answers at a line after which the monitor does not go on.
-fn stopped(file: Text, line: u32, stop: Stop) -> Step
-    ensures { result ≡ step_of (record { file = file; number = line }) stop }
+fn stopped(file: Text, line: u32, stop: Stop) -> Progress
+    ensures { result ≡ progress_of (record { file = file; number = line }) stop }
 {
     match stop {
-        Stop::Store(Storing::Save(name)) => Step::Save { name, file, line },
-        Stop::Store(Storing::Load(name)) => Step::Load { name, file, line },
-        Stop::Quit => Step::End,
+        Stop::Store(Storing::Save(name)) => Progress::Save { name, file, line },
+        Stop::Store(Storing::Load(name)) => Progress::Load { name, file, line },
+        Stop::Quit => Progress::End,
         Stop::Line(cause) => fault_at(file, line, Cause::Script(cause)),
-        Stop::File(fault) => Step::Fault(fault),
+        Stop::File(fault) => Progress::Fault(fault),
         Stop::Content(cause) => fault_at(file, line, cause),
-        Stop::Unread => Step::Unread,
-        Stop::Memory => Step::Memory,
+        Stop::Unread => Progress::Unread,
+        Stop::Memory => Progress::Memory,
     }
 }

@@ -25,8 +25,6 @@ use Rattle.lab_state.specs.declared.faults.HubNameFault.{HubNameFault}
 use Rattle.lab_state.specs.declared.faults.HubNameFault.TheVariants as hub_fault
 use Rattle.lab_state.specs.declared.faults.RunCause.{RunCause}
 use Rattle.lab_state.specs.declared.faults.RunCause.TheVariants as run_cause
-use Rattle.lab_state.specs.declared.faults.RunFault.{RunFault}
-use Rattle.lab_state.specs.declared.faults.RunFault.TheVariants as run_fault
 use Rattle.lab_state.specs.Lab.{Lab}
 use Rattle.lab_state.specs.One.{changed, kind_at, view_of}
 use Rattle.lab_state.specs.Valid.{IsOpen}
@@ -83,11 +81,6 @@ hub_stop hub_fault.Memory = Memory
 abbrev pub may_stop : RunCause → Stop
 may_stop (run_cause.NoPlan board) = Line script_cause.Platform
 may_stop run_cause.TooLong = Line script_cause.LabTime
-
-abbrev pub run_stop : RunFault → Stop
-run_stop (run_fault.NoPlan board) = Line script_cause.Platform
-run_stop run_fault.TooLong = Line script_cause.LabTime
-run_stop run_fault.Memory = Memory
 
 abbrev pub connect_stop : ConnectFault → Stop
 connect_stop connect_fault.Name = Line script_cause.Name
@@ -272,17 +265,6 @@ IsWorked files (OnFiles by) result old new before after = IsDone files by result
 IsWorked files (OnState ruling) result old new before after = IsRuled ruling result old new × (after ≡ before)
 IsWorked files (OnStore by) result old new before after = IsForStore by result old × (new ≡ old) × (after ≡ before)
 IsWorked files Quits result old new before after = (result ≡ Err Quit) × (new ≡ old) × (after ≡ before)
-
--- what a step answers at a line after which the monitor does not go on
-abbrev pub step_of : Place → Stop → Step
-step_of place (Store (storing.Save name)) = step.Save name place.file place.number
-step_of place (Store (storing.Load name)) = step.Load name place.file place.number
-step_of place Quit = step.End
-step_of place (Line cause) = step.Fault (fault_at place cause)
-step_of place (File fault) = step.Fault fault
-step_of place (Content cause) = step.Fault (told_at place cause)
-step_of place Unread = step.Unread
-step_of place Memory = step.Memory
 
 -- whether a script ends where the monitor stops so
 abbrev pub ends_script : Stop → Bool

@@ -10,7 +10,7 @@ returns-clause-after c =
     fill_by_all _ _ _ initial c.loop-number.invariant.same
     (λ k there.
     let before : k < c.loop-number.number =
-      omega (arith, there, c.loop-number-test.false, c.loop-number.invariant.same) in
+    omega (arith, there, c.loop-number-test.false, c.loop-number.invariant.same) in
     let passed : nat_lt k c.loop-number.number ≡ true = lt-ltb k c.loop-number.number before in
     rw passed at (c.loop-number.invariant.each k there))
 

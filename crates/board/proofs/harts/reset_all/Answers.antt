@@ -13,7 +13,7 @@ loop-hart-init c = search rules
 pub loop-hart-preserved : goal.loop-hart-preserved
 loop-hart-preserved c =
     rw (c.reset.ensures, ← c.hart-item.is)
-      (map_over_more reset_core _ _ _ c.hart-item.result (omega arith) c.loop-hart.invariant c.hart-item.is)
+    (map_over_more reset_core _ _ _ c.hart-item.result (omega arith) c.loop-hart.invariant c.hart-item.is)
 
 -- src/harts.rt:55:1
 pub returns : goal.returns

@@ -6,4 +6,4 @@ use Rattle.board.proofs.harts.turns_of.Goals as goal
 pub returns : goal.returns
 returns c =
     rw (c.from.ensures, turns_are c.args.harts c.args.next c.args.slots c.args.hart c.requires.next c.requires.hart)
-      (search rules)
+    (search rules)

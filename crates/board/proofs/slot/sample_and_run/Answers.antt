@@ -69,6 +69,6 @@ returns-in_default-clause-err g c =
     ∙ ap {A = Space}
     (λ space. hart_state c.args.number c.args.hart.now c.args.watch.now
     (wires_with c.wires.inside.made space c.wires.inside.at.0))
-      (back c.wires.inside.space c.sample-lines.new.self state c.sample-lines.ensures.space
-      c.controller_state-before.ensures.value)
+    (back c.wires.inside.space c.sample-lines.new.self state c.sample-lines.ensures.space
+    c.controller_state-before.ensures.value)
     ∙ ap {A = Wires} (λ w. hart_state c.args.number c.args.hart.now c.args.watch.now w) c.wires.view_is

@@ -8,7 +8,7 @@ pub invariant_of-self : goal.invariant_of-self
 invariant_of-self g c =
     rw (
       passed_back c.self.inside.harts.len _ _ c.self.inside.harts.items c.from.result c.args.slots
-            c.pass_cycles.ensures.after c.deref_mut.ensures.value (search rules),
+          c.pass_cycles.ensures.after c.deref_mut.ensures.value (search rules),
       c.from.ensures,
     )
     (holds_passed _ c.self.inside.next c.args.slots c.self.invariant c.self.invariant.next)
@@ -18,7 +18,7 @@ returns-clause-after g c =
     c.skip.ensures
     ∙ rw (
       passed_back c.self.inside.harts.len _ _ c.self.inside.harts.items c.from.result c.args.slots
-            c.pass_cycles.ensures.after c.deref_mut.ensures.value (search rules),
+          c.pass_cycles.ensures.after c.deref_mut.ensures.value (search rules),
       c.from.ensures,
       ← c.self.view_is,
     )

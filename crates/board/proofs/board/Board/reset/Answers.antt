@@ -17,4 +17,4 @@ invariant_of-self g c =
     ∙ ap (map reset_core) c.deref_mut.ensures.value in
     rw all
     (holds_reset _ c.clear.new.self c.reset.new.self held
-      (ap {A = Space} (λ s. s.plan) c.reset.ensures) c.clear.ensures)
+    (ap {A = Space} (λ s. s.plan) c.reset.ensures) c.clear.ensures)

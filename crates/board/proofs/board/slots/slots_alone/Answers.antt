@@ -54,7 +54,7 @@ returns-then-idle-clause-reserved g c = λ all.
     let kept = ap {A = State} (λ s. s.view.space.plan) c.loop-i.invariant.run ∙ plan-stretch _ _ _ _ in
     one_more c.loop-i.hart c.slot.new.hart c.loop-i.watch c.slot.new.watch c.loop-i.wires c.slot.new.wires
     c.args.wires.now.space.plan c.args.now.0 kept (c.loop-i.invariant.same.letters ∙ c.requires.letters)
-      c.in-Ok.ensures.ok (c.loop-i.invariant.reserved all)
+    c.in-Ok.ensures.ok (c.loop-i.invariant.reserved all)
 
 pub returns-then-idle-clause-run : goal.returns-then-idle-clause-run
 returns-then-idle-clause-run g c =

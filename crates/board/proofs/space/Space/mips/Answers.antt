@@ -10,9 +10,9 @@ loop-hart-preserved g c = record {
   read = λ k below. elim (cases_eq k c.loop-hart.hart) [
     | inl is ↦
         rw is
-          (get_or-set_same c.loop-hart.mips c.loop-hart.hart _ _
-            (omega (arith, c.loop-hart.invariant.size, c.loop-hart.invariant.few, c.loop-hart-test.true))
-          ∙ c.mip.ensures)
+        (get_or-set_same c.loop-hart.mips c.loop-hart.hart _ _
+        (omega (arith, c.loop-hart.invariant.size, c.loop-hart.invariant.few, c.loop-hart-test.true))
+        ∙ c.mip.ensures)
     | inr other ↦
         get_or-set_other c.loop-hart.mips c.loop-hart.hart k _ _ other
         ∙ c.loop-hart.invariant.read k (omega (arith, below, other))

@@ -35,13 +35,13 @@ loop-dev-preserved g c =
       each =
           set_below
           (λ k. record {
-              state = slice_index_or c.args.states.now k Finisher;
-              shown = slice_index_or c.args.shown.now k false
-            })
+            state = slice_index_or c.args.states.now k Finisher;
+            shown = slice_index_or c.args.shown.now k false;
+          })
           c.loop-dev.devices dev _ (hidden Finisher) there
           (c.bring_to.ensures
           ∙ ap (λ (state : DevState). record { state = state; shown = slice_index_or c.args.shown.now dev false })
-            state_is)
+          state_is)
           now.each;
       rest = λ k above.
           get_or-set_other c.loop-dev.devices dev k _ (hidden Finisher) (λ same. absurd (omega (arith, above, same)))

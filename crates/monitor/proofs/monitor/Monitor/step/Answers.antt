@@ -1,37 +1,33 @@
+-- The text of a step is what was written to an output in memory.
 use Rattle.lab_state.specs.Run.{run}
-use Rattle.monitor.specs.declared.step.Step.TheVariants.{End}
-use Rattle.monitor.proofs.Steps.{line_step, end_is, fault_is, step_absent}
+use Rattle.monitor.proofs.Steps.{cut_is_memory, first_is, says_text}
 use Rattle.monitor.proofs.monitor.Monitor.step.Goals as goal
 
-pub returns-in-Line-clause-step : goal.returns-in-Line-clause-step
-returns-in-Line-clause-step g c =
-    rw (← c.self.view_is)
-    (line_step run _ c.take_line.new.self.state c.next.new.self (g.F.Files.held c.args.files.now) c.take_line.result _ _
-    c.in-Line.file c.in-Line.line c.in-Line.text c.as_str.result.now c.in-Line.ensures.says c.as_str.ensures
-    c.take_line.ensures.step)
+pub returns-in-Done-clause-step : goal.returns-in-Done-clause-step
+returns-in-Done-clause-step g c =
+    rw c.of.ensures
+    (says_text run c.args.self.now.state c.step_to.new.self.state (g.F.Files.held c.args.files.now) _ _ _ _
+    c.new-out.ensures c.in-Done.ensures.step)
 
-pub returns-in-Line-clause-absent : goal.returns-in-Line-clause-absent
-returns-in-Line-clause-absent g c =
-    step_absent run c.args.self.now.state _ (g.F.Files.held c.args.files.now) c.take_line.result _ _
-    (returns-in-Line-clause-step g c)
+pub returns-in-Cut-clause-step : goal.returns-in-Cut-clause-step
+returns-in-Cut-clause-step g c =
+    cut_is_memory run c.args.self.now.state c.step_to.new.self.state (g.F.Files.held c.args.files.now)
+    c.in-Cut.field-0 _ _ _ _ c.in-Cut.ensures.step
+
+pub returns-in-Save-clause-step : goal.returns-in-Save-clause-step
+returns-in-Save-clause-step g c = first_is (g.F.Files.held c.args.files.now) c.in-Save.ensures.step
+
+pub returns-in-Load-clause-step : goal.returns-in-Load-clause-step
+returns-in-Load-clause-step g c = first_is (g.F.Files.held c.args.files.now) c.in-Load.ensures.step
 
 pub returns-in-End-clause-step : goal.returns-in-End-clause-step
-returns-in-End-clause-step g c =
-    rw (← c.self.view_is)
-    (end_is run _ c.args.self.now.state c.next.new.self (g.F.Files.held c.args.files.now) _ c.in-End.ensures.says)
-
-pub returns-in-End-clause-absent : goal.returns-in-End-clause-absent
-returns-in-End-clause-absent g c =
-    step_absent run c.args.self.now.state c.args.self.now.state (g.F.Files.held c.args.files.now) End
-    (g.F.Files.asked c.args.files.now) (g.F.Files.asked c.args.files.now) (returns-in-End-clause-step g c)
+returns-in-End-clause-step g c = first_is (g.F.Files.held c.args.files.now) c.in-End.ensures.step
 
 pub returns-in-Fault-clause-step : goal.returns-in-Fault-clause-step
-returns-in-Fault-clause-step g c =
-    rw (← c.self.view_is, c.fault_at.ensures)
-    (fault_is run _ c.args.self.now.state c.next.new.self (g.F.Files.held c.args.files.now) c.in-Fault.file
-    c.in-Fault.line c.in-Fault.cause _ c.in-Fault.ensures.says)
+returns-in-Fault-clause-step g c = first_is (g.F.Files.held c.args.files.now) c.in-Fault.ensures.step
 
-pub returns-in-Fault-clause-absent : goal.returns-in-Fault-clause-absent
-returns-in-Fault-clause-absent g c =
-    step_absent run c.args.self.now.state _ (g.F.Files.held c.args.files.now) c.fault_at.result _ _
-    (returns-in-Fault-clause-step g c)
+pub returns-in-Unread-clause-step : goal.returns-in-Unread-clause-step
+returns-in-Unread-clause-step g c = first_is (g.F.Files.held c.args.files.now) c.in-Unread.ensures.step
+
+pub returns-clause-step : goal.returns-clause-step
+returns-clause-step g c = first_is (g.F.Files.held c.args.files.now) c.in-Memory.ensures.step

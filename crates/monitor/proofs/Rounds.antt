@@ -1,0 +1,249 @@
+-- A run, round by round: what it prints is what its rounds print.
+use Rattle.std.proofs.Common.{◌≡◌, ◌∙◌, sym, ap, refl, subst, arith, eq-eqb, Bool, true, false, ℕ, ◌+◌, ◌-◌, ◌*◌}
+use Rattle.std.proofs.Common.{◌/◌, ◌%◌, ◌<◌, ◌≤◌, ◌==◌, min, inl, inr, List, [], ◌∷◌, ◌++◌, length, take, fold}
+use Rattle.std.proofs.Common.{Option, None, Some, add-one, append_assoc}
+use Rattle.std.specs.Prelude.{if◌then◌else◌, is_some}
+use Rattle.std.proofs.lemmas.Bool.{cases_lt}
+use Rattle.std.proofs.lemmas.Bool.Decides.{nat_tests}
+use Rattle.std.proofs.lemmas.List.{append-nil, take_min}
+use Rattle.std.proofs.Math.Nat.{div-add-mod, div-eq_of_lt, mod-eq_of_lt, add-div_left, add-mod_left}
+use Rattle.std.proofs.Math.Seq.{take-append-add, take-append-le}
+use Rattle.std.specs.Prelude.{Result, Ok, Err, IsErrOf}
+use Rattle.lab_io.specs.declared.sink.Sink.{Ghosts}
+use Rattle.lab_io.specs.declared.sink.WriteFault.{WriteFault}
+use Rattle.lab_io.specs.declared.sink.WriteFault.TheVariants.{Memory, Unwritten}
+use Rattle.lab_io.specs.Frame.{OnlyWrites}
+use Rattle.lab_io.specs.Known.{grown}
+use Rattle.lab_io.specs.Sink.{IsPartWritten}
+use Rattle.lab_io.proofs.Frames.{writes_none}
+use Rattle.lab_io.proofs.Grown.{grown-append, grown-nil}
+use Rattle.lab_num.specs.declared.key.Key.{Key}
+use Rattle.lab_state.specs.Lab.{Lab}
+use Rattle.lab_state.specs.Round.{Rounded, round, round_by}
+use Rattle.lab_state.specs.Run.{Play, rest_of, lengths, followed_by, go_on}
+use Rattle.log_merge.specs.declared.item.LogItem.{LogItem}
+use Rattle.log_merge.specs.declared.names.Names.{Names}
+use Rattle.log_text.specs.declared.line.OpenLine.{OpenLine}
+use Rattle.log_text.specs.Log.{open_lines, text}
+use Rattle.monitor.specs.Step.{Running}
+use Rattle.monitor.specs.Inner.Writing.{IsPlayed, played}
+
+-- ---- the rounds of a run
+
+-- a run of no length
+none_left : (q : ℕ) → 0 < q → lengths q 0 ≡ []
+none_left q some =
+    let whole : 0 / q ≡ 0 = omega (arith, div-add-mod 0 q) in
+    let rest : 0 % q ≡ 0 = omega (arith, div-add-mod 0 q) in
+    rw (whole, rest) refl
+
+-- the first round of a run
+first_length :
+    (q d : ℕ) {n : ℕ} → 0 < q → 0 < d → n ≡ min d q → lengths q d ≡ n ∷ lengths q (d - n)
+first_length q d {n = n} some more least = elim (cases_lt d q) [
+  | inl short ↦
+      let all : n ≡ d = omega arith in
+      let none : d - d ≡ 0 = omega arith in
+      let one : rest_of d ≡ d ∷ [] = grind (arith, nat_tests) in
+      rw (all, none, none_left q some, div-eq_of_lt short, mod-eq_of_lt short) one
+  | inr long ↦
+      let quantum : n ≡ q = omega arith in
+      let parts : d ≡ q + (d - q) = omega arith in
+      let count : d / q ≡ (d - q) / q + 1 = ap (λ d. d / q) parts ∙ add-div_left (d - q) some in
+      let rest : d % q ≡ (d - q) % q = ap (λ d. d % q) parts ∙ add-mod_left q (d - q) in
+      rw (quantum, count, rest, add-one) refl
+]
+
+on_followed :
+    (paused : Bool) (a b more : Rounded) →
+    (if paused then followed_by a b else followed_by (followed_by a b) more)
+    ≡ followed_by a (if paused then b else followed_by b more)
+on_followed true a b more = refl
+on_followed false a b more =
+    ap (λ items. record { lab = more.lab; items = items; paused = more.paused })
+    (append_assoc a.items b.items more.items)
+
+fold-followed :
+    (a b : Rounded) (qs : List ℕ) →
+    fold (go_on round) (followed_by a b) qs ≡ followed_by a (fold (go_on round) b qs)
+fold-followed a b [] = refl
+fold-followed a b (q ∷ qs) =
+    ap (λ run. fold (go_on round) run qs) (on_followed (is_some b.paused) a b (round b.lab q))
+    ∙ fold-followed a (go_on round b q) qs
+
+-- a laboratory between two rounds of a run, and the pause of the earlier one
+abbrev pub between : Lab → Option Key → Rounded
+between lab paused = record { lab = lab; items = []; paused = paused }
+
+-- what the rounds come to that are left of a run
+abbrev pub left_of : ℕ → ℕ → Lab → Option Key → Rounded
+left_of longest left lab paused = fold (go_on round) (between lab paused) (lengths longest left)
+
+followed-between : (a : Rounded) → a ≡ followed_by a (between a.lab a.paused)
+followed-between a = λ i. record { lab = a.lab; items = sym (append-nil a.items) i; paused = a.paused }
+
+unpaused : (lab : Lab) (paused : Option Key) (q : ℕ) → is_some paused ≡ false →
+    go_on round (between lab paused) q ≡ round lab q
+unpaused lab paused q none = rw none refl
+
+-- as long as something is left and there is no pause, it is one round, and what is left then
+pub one_round :
+    (longest left : ℕ) (lab : Lab) (paused : Option Key) {q : ℕ} → 0 < longest → 0 < left →
+    is_some paused ≡ false → q ≡ min left longest →
+    left_of longest left lab paused
+    ≡ followed_by (round lab q) (left_of longest (left - q) (round lab q).lab (round lab q).paused)
+one_round longest left lab paused {q = q} some more none least =
+    let made = round lab q in
+    ap (fold (go_on round) (between lab paused)) (first_length longest left some more least)
+    ∙ ap (λ run. fold (go_on round) run (lengths longest (left - q)))
+    (unpaused lab paused q none ∙ followed-between made)
+    ∙ fold-followed made (between made.lab made.paused) (lengths longest (left - q))
+
+-- the time after a round
+pub round_time : (lab : Lab) (q : ℕ) → (round lab q).lab.now ≡ lab.now + q
+unfolding round_by
+round_time lab q = refl
+
+-- nothing is left
+pub none_of : (longest left : ℕ) (lab : Lab) (paused : Option Key) → 0 < longest → left ≡ 0 →
+    left_of longest left lab paused ≡ between lab paused
+none_of longest left lab paused some zero =
+    ap (fold (go_on round) (between lab paused)) (ap (lengths longest) zero ∙ none_left longest some)
+
+after_pause :
+    (play : Play) (run : Rounded) (qs : List ℕ) → is_some run.paused ≡ true → fold (go_on play) run qs ≡ run
+after_pause play run [] is = refl
+after_pause play run (q ∷ qs) is =
+    let stays : go_on play run q ≡ run = rw is refl in
+    ap (λ run. fold (go_on play) run qs) stays ∙ after_pause play run qs is
+
+-- a pause ends it
+pub none_after : (longest left : ℕ) (lab : Lab) (paused : Option Key) → is_some paused ≡ true →
+    left_of longest left lab paused ≡ between lab paused
+none_after longest left lab paused is = after_pause round (between lab paused) (lengths longest left) is
+
+-- ---- what is printed of them
+
+-- Of all items that were printed under these names, so much was written, and those of the rest are left.
+pub record IsCome
+    (shown : Names) (lines now : List OpenLine) (all rest : Rounded) (out out' : Option (List ℕ)) : Type 0 where
+  pub printed : List ℕ
+  pub written : out' ≡ grown out printed
+  pub says : text shown lines all.items ≡ printed ++ text shown now rest.items
+  pub opens : open_lines lines all.items ≡ open_lines now rest.items
+  pub lab : all.lab ≡ rest.lab
+
+-- nothing was printed yet
+pub come_none : (shown : Names) (lines : List OpenLine) (all rest : Rounded) (out : Option (List ℕ)) →
+    rest ≡ all → IsCome shown lines lines all rest out out
+come_none shown lines all rest out is = record {
+  printed = [];
+  written = sym (grown-nil out);
+  says = ap (λ (run : Rounded). text shown lines run.items) (sym is);
+  opens = ap (λ (run : Rounded). open_lines lines run.items) (sym is);
+  lab = ap (λ (run : Rounded). run.lab) (sym is);
+}
+
+-- what comes after a front of a piece of which a part was written
+part_after : (out out' new : Option (List ℕ)) (printed mine more : List ℕ) → out' ≡ grown out printed →
+    IsPartWritten out' mine new → IsPartWritten out (printed ++ mine ++ more) new
+part_after out out' new printed mine more had part =
+    let count = min part.count (length mine) in
+    let few : count ≤ length mine = omega arith in
+    let front : take (length printed + count) (printed ++ mine ++ more) ≡ printed ++ take part.count mine =
+    take-append-add printed (mine ++ more) count
+    ∙ ap (λ taken. printed ++ taken) (take-append-le count mine more few ∙ take_min part.count mine) in
+    record {
+      count = length printed + count;
+      written =
+          part.written ∙ ap (λ told. grown told (take part.count mine)) had
+          ∙ grown-append out printed (take part.count mine) ∙ ap (grown out) (sym front);
+    }
+
+module _
+    (prints : (shown : Names) (lines : List OpenLine) (items more : List LogItem) →
+    text shown lines (items ++ more) ≡ text shown lines items ++ text shown (open_lines lines items) more)
+    (opens : (lines : List OpenLine) (items more : List LogItem) →
+    open_lines lines (items ++ more) ≡ open_lines (open_lines lines items) more)
+    {shown : Names} {lines now : List OpenLine} {all rest made later : Rounded} {out out' : Option (List ℕ)}
+    (come : IsCome shown lines now all rest out out') (split : rest ≡ followed_by made later) where
+  rest_text : text shown now rest.items
+      ≡ text shown now made.items ++ text shown (open_lines now made.items) later.items
+  rest_text =
+      ap (λ (run : Rounded). text shown now run.items) split ∙ prints shown now made.items later.items
+
+  -- a round more was printed
+  pub come_more : (new : Option (List ℕ)) → new ≡ grown out' (text shown now made.items) →
+      IsCome shown lines (open_lines now made.items) all later out new
+  come_more new wrote = record {
+    printed = come.printed ++ text shown now made.items;
+    written =
+        wrote ∙ ap (λ told. grown told (text shown now made.items)) come.written
+        ∙ grown-append out come.printed (text shown now made.items);
+    says =
+        come.says ∙ ap (λ t. come.printed ++ t) rest_text
+        ∙ sym (append_assoc come.printed (text shown now made.items)
+        (text shown (open_lines now made.items) later.items));
+    opens =
+        come.opens ∙ ap (λ (run : Rounded). open_lines now run.items) split ∙ opens now made.items later.items;
+    lab = come.lab ∙ ap (λ (run : Rounded). run.lab) split;
+  }
+
+  -- of a round more a part was printed
+  pub come_part : (new : Option (List ℕ)) → IsPartWritten out' (text shown now made.items) new →
+      IsPartWritten out (text shown lines all.items) new
+  come_part new part =
+      subst (λ (t : List ℕ). IsPartWritten out t new)
+      (sym (come.says ∙ ap (λ t. come.printed ++ t) rest_text))
+      (part_after out out' new come.printed (text shown now made.items)
+      (text shown (open_lines now made.items) later.items) come.written part)
+
+-- nothing is left to be printed
+module _
+    {shown : Names} {lines now : List OpenLine} {all rest : Rounded} {out out' : Option (List ℕ)} {lab : Lab}
+    {paused : Option Key} (come : IsCome shown lines now all rest out out') (ends : rest ≡ between lab paused) where
+  pub whole_written : out' ≡ grown out (text shown lines all.items)
+  whole_written =
+      come.written
+      ∙ ap (grown out)
+      (sym (come.says ∙ ap (λ (run : Rounded). come.printed ++ text shown now run.items) ends
+      ∙ append-nil come.printed))
+
+  pub lines_after : now ≡ open_lines lines all.items
+  lines_after = sym (come.opens ∙ ap (λ (run : Rounded). open_lines now run.items) ends)
+
+  pub lab_after : lab ≡ all.lab
+  lab_after = sym (come.lab ∙ ap (λ (run : Rounded). run.lab) ends)
+
+-- ---- what has become of rounds
+
+module _ {A K : Type 0} {out : Ghosts K} (shown : Names) (all : Rounded) (old new : Running) (before after : K) where
+  -- memory ran out before anything was printed
+  pub unplayed : new.ended ≡ true → IsPlayed {A = A} out shown all (Err Memory) old new before before
+  unplayed ended = record {
+    becomes = tt;
+    whole = tt;
+    part = record { count = 0; written = sym (grown-nil (out.written before)) };
+    ended = ended;
+    writes = writes_none (λ is. cc is);
+  }
+
+  -- they were played, and all is written
+  pub played_whole : (x : A) (P : Type 0) → new ≡ played old all →
+      out.written after ≡ grown (out.written before) (text shown old.state.lines all.items) →
+      OnlyWrites out P before after → IsPlayed out shown all (Ok x) old new before after
+  played_whole x P is whole writes = record {
+    becomes = is;
+    whole = whole;
+    part = tt;
+    ended = tt;
+    writes = record { faults = writes.faults; counted = λ failed. absurd (cc failed) };
+  }
+
+  -- a part of it is
+  pub played_part : (fault : WriteFault) →
+      IsPartWritten (out.written before) (text shown old.state.lines all.items) (out.written after) →
+      new.ended ≡ true → OnlyWrites out (IsErrOf {A = A} (Err fault) Unwritten) before after →
+      IsPlayed {A = A} out shown all (Err fault) old new before after
+  played_part fault part ended writes =
+      record { becomes = tt; whole = tt; part = part; ended = ended; writes = writes }
