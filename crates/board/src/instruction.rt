@@ -42,7 +42,7 @@ pub fn instruction<const COPY: u8, D: Device>(
     ensures bus_err { OnErr result (wires.new ≡ wires.old) }
 {
     if ways.shared {
-        return by_sharing::<COPY, D>(hart, number, watch, wires, lines);
+        return by_sharing(hart, number, watch, wires, lines);
     }
     alone_as_performed();
     if ways.halves {
@@ -104,9 +104,10 @@ fn by_halves<const COPY: u8, D: Device>(
     }
 }
 
-/// The same of a processor that may share words of memory.
-#[inline(always)]
-fn by_sharing<const COPY: u8, D: Device>(
+/// The same of a processor that may share words of memory, whatever it does. It is no part of the loops of a turn.
+#[cold]
+#[inline(never)]
+pub fn by_sharing<D: Device>(
     hart: &mut Hart,
     number: u8,
     watch: &mut Watch,
@@ -171,7 +172,7 @@ fn shared_by_halves<D: Device>(hart: &Hart, wires: &mut Wires<D>) -> Shared
 
 /// What a word is on a processor: an atomic instruction, where it has those, or anything else.
 #[inline(always)]
-fn of_word(hart: &Hart, word: u32) -> Shared
+pub fn of_word(hart: &Hart, word: u32) -> Shared
     ensures value { result ≡ shared_of_word hart.now.letters word }
     ensures sharable { IsSharable hart.now.letters result }
 {

@@ -10,6 +10,7 @@ mod laws;
 mod made;
 mod numbers;
 mod remembered;
+mod sharing;
 mod slot;
 mod space;
 mod state;

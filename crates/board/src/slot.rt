@@ -68,7 +68,7 @@ pub fn slot<const COPY: u8, D: Device>(
 /// before, the controller too.
 #[cold]
 #[inline(never)]
-fn sample_and_run<D: Device>(
+pub fn sample_and_run<D: Device>(
     hart: &mut Hart,
     number: u8,
     watch: &mut Watch,
@@ -131,7 +131,7 @@ fn run<const COPY: u8, D: Device>(
 /// before.
 #[cold]
 #[inline(never)]
-fn wait<D: Device>(
+pub fn wait<D: Device>(
     hart: &mut Hart,
     number: u8,
     watch: &mut Watch,
@@ -203,7 +203,7 @@ fn act<const COPY: u8, D: Device>(
 #[cold]
 #[inline(never)]
 #[tactic(auto, unfolding(rv_hart::specs::Core::ticked, rv_hart::specs::Trap::enter))]
-fn enter_interrupt(hart: &mut Hart, n: u8)
+pub fn enter_interrupt(hart: &mut Hart, n: u8)
     ensures after { hart.new ≡ ticked (interrupt hart.old n) }
     ensures same { IsSameHart hart.old hart.new }
 {
@@ -214,7 +214,7 @@ fn enter_interrupt(hart: &mut Hart, n: u8)
 /// The interrupt that is taken now, of those whose lines are set in `mip`. In most slots none is
 /// ready, and then none is sought.
 #[inline(always)]
-fn taken(hart: &Hart, mip: u32) -> Option<u8>
+pub fn taken(hart: &Hart, mip: u32) -> Option<u8>
     ensures { result ≡ chosen hart.now mip }
 {
     if hart.is_ready(mip) {

@@ -5,7 +5,7 @@ ghost use Rattle.rv_atomic.specs.SharedEffect.{IsSharable};
 use crate::step::LINES;
 use crate::step::memory::Memory;
 use lab_num::NoMemory;
-use rv_atomic::{Shared, Watch, decode_atomic, step_shared};
+use rv_atomic::{Shared, Watch, decode_atomic, is_store, step_shared};
 use rv_exec::Fetched;
 use rv_hart::Hart;
 
@@ -209,10 +209,12 @@ fn all(watch: &Watch) -> [Option<u32>; 3] {
 fn reservations_end_by_stores_of_others_and_by_clear(rt: HostRuntime) {
     let mut watch = Watch::new(3);
     let none = all(&watch);
+    let free = watch.is_clear();
     watch.put(0, Some(0xFFFF_FFFC));
     put(&mut watch, 1, Some(0));
     put(&mut watch, 2, Some(0xFFFF_FFFC));
     let set = all(&watch);
+    let held = watch.is_clear();
     if 0 < watch.harts() {
         watch.stored(0, 0xFFFF_FFFF, 1);
     }
@@ -222,4 +224,22 @@ fn reservations_end_by_stores_of_others_and_by_clear(rt: HostRuntime) {
     assert!(rt; set == [Some(0xFFFF_FFFC), Some(0), Some(0xFFFF_FFFC)]);
     assert!(rt; left == [Some(0xFFFF_FFFC), Some(0), None]);
     assert!(rt; all(&watch) == [None, None, None]);
+    assert!(rt; free && !held && watch.is_clear());
+}
+
+/// Words, and whether each has the opcode of stores.
+static STORES: [(u32, bool); 6] = [
+    (SB, true),
+    (SH, true),
+    (SW, true),
+    (LW, false),
+    (SC, false),
+    (AMOADD, false),
+];
+
+#[test]
+fn stores_are_told_by_their_opcode(rt: HostRuntime) {
+    for &(word, wanted) in &STORES {
+        assert!(rt; is_store(word) == wanted, "{word:x}");
+    }
 }

@@ -5,6 +5,7 @@ pub mod Rows
 pub mod Opcodes
 pub mod WatchLemmas
 pub mod SpanLemmas
+pub mod StoreLemmas
 pub mod OtherHarts
 pub mod OwnSteps
 pub mod HistoryLemmas

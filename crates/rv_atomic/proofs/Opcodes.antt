@@ -13,7 +13,7 @@ use Rattle.rv_atomic.specs.Means.{atomic_of, registers_of}
 use Rattle.rv_atomic.specs.Table.{Row, matches, matched_row, table}
 
 -- a word with these bits where a mask has ones has their opcode, if the mask covers it
-same_opcode :
+pub same_opcode :
     (w mask bits : ℕ) → bit_and w mask ≡ bits → (field mask 0 7 == 127) ≡ true → field w 0 7 ≡ field bits 0 7
 same_opcode w mask bits is covers =
     let whole : bit_and (field w 0 7) 127 ≡ field w 0 7 = and_mask (field w 0 7) 7 ∙ omega arith in

@@ -15,5 +15,6 @@ pub use atomic::{Atomic, AtomicOp};
 pub use decoder::{atomic_rows_differ, atomic_words_mean_no_other, decode_atomic};
 pub use laws::{alone_as_performed, reservations_stay, success_needs_reservation};
 pub use shared::Shared;
+pub use span::is_store;
 pub use step::step_shared;
 pub use watch::Watch;

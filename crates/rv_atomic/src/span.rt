@@ -1,15 +1,20 @@
 //! The bytes that an instruction other than an atomic one stores.
-ghost use Rattle.std.specs.Prelude.{◌≡◌, ℕ, ◌<◌, IfSome};
+ghost use Rattle.std.specs.Prelude.{◌≡◌, ◌==◌, ℕ, ◌<◌, IfSome, List, Option, false};
+ghost use Rattle.rv_decode.specs.Immediate.{field};
 ghost use Rattle.rv_hart.specs.declared.csr.Lines.{Lines};
-ghost use Rattle.rv_exec.specs.Effect.{effect, effect_by};
+ghost use Rattle.rv_exec.specs.Effect.{effect, effect_by, of_word};
 ghost use Rattle.rv_decode.specs.Means.{IsInstr};
 ghost use Rattle.rv_exec.specs.Fetched.{IsPerformable};
 ghost use Rattle.rv_atomic.specs.Span.{span_of};
 ghost use Rattle.rv_atomic.specs.Inner.StoreWidth.{aligned_span, store_width};
+ghost use Rattle.rv_atomic.specs.Laws.{EndsNone};
 
-use rv_decode::{Instr, Op, valid_fits};
+use rv_decode::{Instr, Op, bits, valid_fits};
 use rv_exec::Fetched;
 use rv_hart::Hart;
+
+/// The opcode STORE.
+const OPCODE: u32 = 0x23;
 
 /// So many bytes from an address on.
 #[derive(Clone, Copy)]
@@ -70,4 +75,13 @@ pub fn span_stored(hart: &Hart, what: &Fetched) -> Option<Span>
             span_of_instr(hart, instr)
         }
     }
+}
+
+/// Whether a word has the opcode of the stores. Any other word ends no reservation, unless it is an atomic instruction.
+#[inline]
+pub fn is_store(word: u32) -> bool
+    ensures value { result ≡ (field word 0 7 == 0x23) }
+    ensures plain { result ≡ false → (watch : List (Option ℕ)) → EndsNone watch (of_word word) }
+{
+    bits(word, 0, 7) == OPCODE
 }

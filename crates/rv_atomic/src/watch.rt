@@ -1,6 +1,10 @@
 //! The reservations of the harts that share a memory (RISC-V Unprivileged ISA 20191213, section
 //! 8.2).
-ghost use Rattle.std.specs.Prelude.{◌≡◌, ◌+◌, ◌<◌, ◌≤◌, None, length, map, replicate, slice_set};
+ghost use Rattle.std.specs.Prelude.{◌≡◌, ◌+◌, ◌<◌, ◌≤◌, None, length, map, replicate, slice_set, true};
+ghost use Rattle.std.specs.List.{list_all};
+ghost use Rattle.std.specs.Option.{is_none};
+ghost use Rattle.rv_exec.specs.declared.fetched.Fetched.{Fetched};
+ghost use Rattle.rv_atomic.specs.Laws.{EndsNone};
 ghost use Rattle.rv_atomic.specs.Watch.{after_store, kept, reaches, reserved};
 
 use rv_hart::MOST_HARTS;
@@ -50,6 +54,13 @@ fn all_kept(at: u32, width: u8, words: [Option<u32>; MOST_HARTS]) -> [Option<u32
     words.map(|word| kept(at, width, word))
 }
 
+/// Whether none of them reserves a word.
+fn are_none(words: &[Option<u32>]) -> bool
+    ensures { result ≡ list_all is_none words.now }
+{
+    words.iter().all(|word| word.is_none())
+}
+
 impl Watch {
     /// No reservations of so many harts, one to four.
     pub fn new(harts: u8) -> Watch
@@ -77,6 +88,14 @@ impl Watch {
         ensures { result ≡ reserved self.now hart }
     {
         self.words[hart as usize]
+    }
+
+    /// Whether no hart has reserved a word, so that there is none that a store could end.
+    pub fn is_clear(&self) -> bool
+        ensures value { result ≡ list_all is_none self.now }
+        ensures plain { result ≡ true → (what : Fetched) → EndsNone self.now what }
+    {
+        are_none(&self.words[..usize::from(self.harts)])
     }
 
     /// Sets the reservation of a hart, in place of an earlier one, or ends it.

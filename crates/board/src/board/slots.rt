@@ -1,5 +1,5 @@
 //! The slots of a turn.
-ghost use Rattle.std.specs.Prelude.{◌≡◌, ◌+◌, ◌/◌, ◌<◌, ◌≤◌, false, length, All, OnOk, OnErr};
+ghost use Rattle.std.specs.Prelude.{◌≡◌, ◌+◌, ◌/◌, ◌<◌, ◌≤◌, true, false, length, All, OnOk, OnErr};
 ghost use Rattle.rv_exec.specs.Laws.{IsSameHart};
 ghost use Rattle.board.specs.Inner.Ended.{HasEnded, taken_of};
 ghost use Rattle.board.specs.Inner.Holds.{state_alone};
@@ -11,6 +11,7 @@ ghost use Rattle.board.specs.View.{after};
 
 use super::{Board, SlotAt, Turn};
 use crate::harts::all_asleep;
+use crate::sharing::shared_slot;
 use crate::slot::{Ways, slot};
 use crate::wires::Wires;
 use dev_core::Device;
@@ -20,7 +21,7 @@ use rv_hart::Hart;
 
 /// The copies of the interpreter in the loops of a turn, of which each is called from one place, so
 /// that it is inlined there: those of boards of one processor without atomic instructions, which are
-/// wired or not and have compressed instructions or not, and one of all other boards.
+/// wired or not and have compressed instructions or not, and those of all other boards, likewise.
 pub const UNWIRED: u8 = 0;
 
 pub const WIRED: u8 = 1;
@@ -30,6 +31,12 @@ pub const UNWIRED_HALVES: u8 = 2;
 pub const WIRED_HALVES: u8 = 3;
 
 pub const SHARED: u8 = 4;
+
+const SHARED_WIRED: u8 = 6;
+
+const SHARED_HALVES: u8 = 7;
+
+const SHARED_WIRED_HALVES: u8 = 8;
 
 /// How slots of one microsecond have ended.
 enum Ended {
@@ -155,7 +162,7 @@ impl<D: Device> Board<D> {
         ensures run { self.new ≡ after self.old (stretch self.old.view now.0 0 (taken_of count result)) }
     {
         if ways.shared {
-            self.slots_in_turn::<COPY>(ways, now, count)
+            self.slots_of_shared(ways, now, count)
         } else {
             self.slots_of_one::<COPY>(ways, now, count)
         }
@@ -174,14 +181,43 @@ impl<D: Device> Board<D> {
         slots_alone::<COPY, D>(hart, &mut self.watch, &mut self.wires, ways, now, count)
     }
 
-    /// The same of a board whose processors take the slots in turn.
+    /// The same of any other board. Each kind has a loop of its own.
     #[inline(always)]
-    fn slots_in_turn<const COPY: u8>(&mut self, ways: Ways, now: Micros, count: u64) -> Ended
+    fn slots_of_shared(&mut self, ways: Ways, now: Micros, count: u64) -> Ended
+        requires shared { ways.shared ≡ true }
         requires ways { ways ≡ ways_of self.old.view.space.plan }
         requires most { count ≤ self.old.view.numbers.speed }
         ensures ended { HasEnded count result }
         ensures run { self.new ≡ after self.old (stretch self.old.view now.0 0 (taken_of count result)) }
     {
+        match (ways.wired, ways.halves) {
+            (false, false) => self.slots_in_turn::<SHARED>(false, false, now, count),
+            (true, false) => self.slots_in_turn::<SHARED_WIRED>(true, false, now, count),
+            (false, true) => self.slots_in_turn::<SHARED_HALVES>(false, true, now, count),
+            (true, true) => self.slots_in_turn::<SHARED_WIRED_HALVES>(true, true, now, count),
+        }
+    }
+
+    /// The same, wired or not and with compressed instructions or not. It is a function of its own, so that no loop of
+    /// another board holds it.
+    #[inline(never)]
+    fn slots_in_turn<const COPY: u8>(
+        &mut self,
+        wired: bool,
+        halves: bool,
+        now: Micros,
+        count: u64,
+    ) -> Ended
+        requires ways { record { shared = true; wired = wired; halves = halves } ≡ ways_of self.old.view.space.plan }
+        requires most { count ≤ self.old.view.numbers.speed }
+        ensures ended { HasEnded count result }
+        ensures run { self.new ≡ after self.old (stretch self.old.view now.0 0 (taken_of count result)) }
+    {
+        let ways = Ways {
+            shared: true,
+            wired,
+            halves,
+        };
         for i in 0..count {
             let Ok(idle) = self.slot_in_turn::<COPY>(ways, now) else {
                 return Ended::Starved(i);
@@ -204,7 +240,14 @@ impl<D: Device> Board<D> {
     {
         let number = self.next;
         let hart = &mut self.harts[usize::from(number)];
-        let taken = slot::<COPY, D>(hart, number, &mut self.watch, &mut self.wires, ways, now);
+        let taken = shared_slot::<COPY, D>(
+            hart,
+            number,
+            &mut self.watch,
+            &mut self.wires,
+            ways,
+            now,
+        );
         let Ok(idle) = taken else {
             return Err(NoMemory);
         };

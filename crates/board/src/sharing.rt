@@ -1,0 +1,351 @@
+//! One slot of a processor that may share words of memory with others, in the loops of a turn. What can end and make no
+//! reservation is done as on a processor alone. That is asked of an instruction that stores, for which nothing may be
+//! reserved, and of what is none of the other instructions.
+ghost use Rattle.std.specs.Prelude.{◌≡◌, ◌<◌, length, true, false, OnOk, OnErr};
+ghost use Rattle.rv_atomic.specs.Laws.{EndsNone};
+ghost use Rattle.rv_atomic.specs.SharedEffect.{shared_effect};
+ghost use Rattle.rv_atomic.specs.declared.shared.Shared.TheVariants.{Plain};
+ghost use Rattle.rv_exec.specs.Effect.{bus_after, core_after, of_word};
+ghost use Rattle.rv_exec.specs.Laws.{IsSameHart};
+ghost use Rattle.board.specs.Fetch.{effect_on, of_half};
+ghost use Rattle.board.specs.HartView.{hart_state};
+ghost use Rattle.board.specs.Inner.Seat.{behind, seen, shared_of_word, ways_of};
+ghost use Rattle.board.specs.Slot.{awake, hart_slot, running};
+ghost use Rattle.board.specs.Wires.{answer, fetched, loaded, stored};
+
+use crate::instruction::{by_sharing, of_word};
+use crate::slot::{Ways, enter_interrupt, sample_and_run, taken, wait};
+use crate::space::halves::of_half;
+use crate::wires::Wires;
+use dev_core::Device;
+use lab_num::{Micros, NoMemory};
+use rv_atomic::{Shared, Watch, atomic_words_mean_no_other, is_store, step_shared};
+use rv_exec::{Fetched, perform};
+use rv_hart::{Hart, Lines};
+
+/// One slot of the processor of this number, in this microsecond, as `slot` takes it.
+#[inline(always)]
+#[tactic(auto, unfolding(crate::specs::Slot::hart_slot))]
+pub fn shared_slot<const COPY: u8, D: Device>(
+    hart: &mut Hart,
+    number: u8,
+    watch: &mut Watch,
+    wires: &mut Wires<D>,
+    ways: Ways,
+    at: Micros,
+) -> Result<bool, NoMemory>
+    requires ways { ways ≡ ways_of wires.old.space.plan }
+    requires letters { hart.old.letters ≡ wires.old.space.plan.letters }
+    requires number { number < length watch.old }
+    requires harts { length watch.old ≡ length wires.old.space.plan.cpus }
+    ensures ok { let old = hart_state number hart.old watch.old wires.old in
+        OnOk result (hart_state number hart.new watch.new wires.new ≡ behind old (hart_slot old.view at.0)) }
+    ensures same { OnOk result (IsSameHart hart.old hart.new) }
+    ensures watch { OnOk result (length watch.new ≡ length watch.old) }
+    ensures err { OnErr result (hart_state number hart.new watch.new wires.new
+        ≡ hart_state number hart.old watch.old wires.old) }
+{
+    if hart.halted() {
+        return Ok(true);
+    }
+    match wires.space.known_lines(ways.wired, number, at) {
+        Some(lines) => run::<COPY, D>(hart, number, watch, wires, ways, at, lines),
+        None => Ok(sample_and_run(hart, number, watch, wires, ways, at)?),
+    }
+}
+
+/// The rest of a slot whose lines are these. After an `Err` all is as before.
+#[inline(always)]
+fn run<const COPY: u8, D: Device>(
+    hart: &mut Hart,
+    number: u8,
+    watch: &mut Watch,
+    wires: &mut Wires<D>,
+    ways: Ways,
+    at: Micros,
+    lines: Lines,
+) -> Result<bool, NoMemory>
+    requires ways { ways ≡ ways_of wires.old.space.plan }
+    requires letters { hart.old.letters ≡ wires.old.space.plan.letters }
+    requires number { number < length watch.old }
+    requires harts { length watch.old ≡ length wires.old.space.plan.cpus }
+    ensures ok { let old = hart_state number hart.old watch.old wires.old in
+        OnOk result (hart_state number hart.new watch.new wires.new ≡ behind old (running old.view at.0 lines)) }
+    ensures same { OnOk result (IsSameHart hart.old hart.new) }
+    ensures watch { OnOk result (length watch.new ≡ length watch.old) }
+    ensures err { OnErr result (hart_state number hart.new watch.new wires.new
+        ≡ hart_state number hart.old watch.old wires.old) }
+{
+    if hart.waiting() {
+        return Ok(wait(hart, number, watch, wires, ways, at, lines)?);
+    }
+    act::<COPY, D>(hart, number, watch, wires, ways, at, lines)?;
+    Ok(false)
+}
+
+/// Enters the interrupt that is taken now, or else does one instruction. After an `Err` all is as
+/// before.
+#[inline(always)]
+#[tactic(auto, unfolding(crate::specs::Slot::awake))]
+fn act<const COPY: u8, D: Device>(
+    hart: &mut Hart,
+    number: u8,
+    watch: &mut Watch,
+    wires: &mut Wires<D>,
+    ways: Ways,
+    at: Micros,
+    lines: Lines,
+) -> Result<(), NoMemory>
+    requires ways { ways ≡ ways_of wires.old.space.plan }
+    requires letters { hart.old.letters ≡ wires.old.space.plan.letters }
+    requires number { number < length watch.old }
+    requires harts { length watch.old ≡ length wires.old.space.plan.cpus }
+    ensures ok { let old = hart_state number hart.old watch.old wires.old in
+        OnOk result (hart_state number hart.new watch.new wires.new ≡ behind old (awake old.view at.0 lines)) }
+    ensures same { OnOk result (IsSameHart hart.old hart.new) }
+    ensures watch { OnOk result (length watch.new ≡ length watch.old) }
+    ensures err { OnErr result (hart_state number hart.new watch.new wires.new
+        ≡ hart_state number hart.old watch.old wires.old) }
+{
+    if let Some(n) = taken(hart, lines.mip) {
+        enter_interrupt(hart, n);
+        return Ok(());
+    }
+    wires.begin_slot(at);
+    let Ok(()) = instruction::<COPY, D>(hart, number, watch, wires, ways, lines) else {
+        return Err(NoMemory);
+    };
+    Ok(())
+}
+
+/// Does the instruction at the processor's pc, or enters the trap of its exception.
+#[inline(always)]
+fn instruction<const COPY: u8, D: Device>(
+    hart: &mut Hart,
+    number: u8,
+    watch: &mut Watch,
+    wires: &mut Wires<D>,
+    ways: Ways,
+    lines: Lines,
+) -> Result<(), NoMemory>
+    requires ways { ways ≡ ways_of wires.old.space.plan }
+    requires letters { hart.old.letters ≡ wires.old.space.plan.letters }
+    requires number { number < length watch.old }
+    ensures core { let shared = effect_on (seen number hart.old watch.old wires.old) wires.old lines in
+        OnOk result (hart.new ≡ core_after answer wires.old shared.effect) }
+    ensures watch { let shared = effect_on (seen number hart.old watch.old wires.old) wires.old lines in
+        OnOk result (watch.new ≡ shared.watch) }
+    ensures bus { let shared = effect_on (seen number hart.old watch.old wires.old) wires.old lines in
+        OnOk result (wires.new ≡ bus_after loaded stored wires.old shared.effect) }
+    ensures same { OnOk result (IsSameHart hart.old hart.new) }
+    ensures core_err { OnErr result (hart.new ≡ hart.old) }
+    ensures watch_err { OnErr result (watch.new ≡ watch.old) }
+    ensures bus_err { OnErr result (wires.new ≡ wires.old) }
+{
+    if ways.halves {
+        by_halves::<COPY, D>(hart, number, watch, wires, lines)
+    } else {
+        by_words::<COPY, D>(hart, number, watch, wires, lines)
+    }
+}
+
+/// The same of a processor without compressed instructions.
+#[inline(always)]
+fn by_words<const COPY: u8, D: Device>(
+    hart: &mut Hart,
+    number: u8,
+    watch: &mut Watch,
+    wires: &mut Wires<D>,
+    lines: Lines,
+) -> Result<(), NoMemory>
+    requires letters { hart.old.letters.c ≡ false }
+    requires number { number < length watch.old }
+    ensures core { let shared = effect_on (seen number hart.old watch.old wires.old) wires.old lines in
+        OnOk result (hart.new ≡ core_after answer wires.old shared.effect) }
+    ensures watch { let shared = effect_on (seen number hart.old watch.old wires.old) wires.old lines in
+        OnOk result (watch.new ≡ shared.watch) }
+    ensures bus { let shared = effect_on (seen number hart.old watch.old wires.old) wires.old lines in
+        OnOk result (wires.new ≡ bus_after loaded stored wires.old shared.effect) }
+    ensures same { OnOk result (IsSameHart hart.old hart.new) }
+    ensures core_err { OnErr result (hart.new ≡ hart.old) }
+    ensures watch_err { OnErr result (watch.new ≡ watch.old) }
+    ensures bus_err { OnErr result (wires.new ≡ wires.old) }
+{
+    let at = hart.pc();
+    match wires.space.fetch_aligned(at) {
+        Some(word) => do_word::<COPY, D>(hart, number, watch, word, wires, lines),
+        None => by_sharing(hart, number, watch, wires, lines),
+    }
+}
+
+/// The same of a processor with compressed instructions. Each size has a copy of `perform` of its own, so that no size
+/// is asked for in it.
+#[inline(always)]
+fn by_halves<const COPY: u8, D: Device>(
+    hart: &mut Hart,
+    number: u8,
+    watch: &mut Watch,
+    wires: &mut Wires<D>,
+    lines: Lines,
+) -> Result<(), NoMemory>
+    requires letters { hart.old.letters.c ≡ true }
+    requires number { number < length watch.old }
+    ensures core { let shared = effect_on (seen number hart.old watch.old wires.old) wires.old lines in
+        OnOk result (hart.new ≡ core_after answer wires.old shared.effect) }
+    ensures watch { let shared = effect_on (seen number hart.old watch.old wires.old) wires.old lines in
+        OnOk result (watch.new ≡ shared.watch) }
+    ensures bus { let shared = effect_on (seen number hart.old watch.old wires.old) wires.old lines in
+        OnOk result (wires.new ≡ bus_after loaded stored wires.old shared.effect) }
+    ensures same { OnOk result (IsSameHart hart.old hart.new) }
+    ensures core_err { OnErr result (hart.new ≡ hart.old) }
+    ensures watch_err { OnErr result (watch.new ≡ watch.old) }
+    ensures bus_err { OnErr result (wires.new ≡ wires.old) }
+{
+    let at = hart.pc();
+    let Some(half) = wires.space.half(at) else {
+        return by_sharing(hart, number, watch, wires, lines);
+    };
+    if half % 4 != 3 {
+        return do_half::<COPY, D>(hart, number, watch, half, wires, lines);
+    }
+    match wires.space.word_begun(half, at) {
+        Some(word) => do_word::<COPY, D>(hart, number, watch, word, wires, lines),
+        None => by_sharing(hart, number, watch, wires, lines),
+    }
+}
+
+/// Whether a word that is no atomic instruction ends no reservation.
+#[inline(always)]
+fn ends_none(watch: &Watch, word: u32) -> bool
+    ensures { result ≡ true → EndsNone watch.now (of_word word) }
+{
+    !is_store(word) || watch.is_clear()
+}
+
+/// Does a word. Only one that means no other instruction is asked for being an atomic one.
+#[inline(always)]
+fn do_word<const COPY: u8, D: Device>(
+    hart: &mut Hart,
+    number: u8,
+    watch: &mut Watch,
+    word: u32,
+    wires: &mut Wires<D>,
+    lines: Lines,
+) -> Result<(), NoMemory>
+    requires number { number < length watch.old }
+    ensures core { let what = shared_of_word hart.old.letters word in
+        let shared = shared_effect (fetched wires.old) hart.old number watch.old what lines in
+        OnOk result (hart.new ≡ core_after answer wires.old shared.effect) }
+    ensures watch { let what = shared_of_word hart.old.letters word in
+        let shared = shared_effect (fetched wires.old) hart.old number watch.old what lines in
+        OnOk result (watch.new ≡ shared.watch) }
+    ensures bus { let what = shared_of_word hart.old.letters word in
+        let shared = shared_effect (fetched wires.old) hart.old number watch.old what lines in
+        OnOk result (wires.new ≡ bus_after loaded stored wires.old shared.effect) }
+    ensures same { OnOk result (IsSameHart hart.old hart.new) }
+    ensures core_err { OnErr result (hart.new ≡ hart.old) }
+    ensures watch_err { OnErr result (watch.new ≡ watch.old) }
+    ensures bus_err { OnErr result (wires.new ≡ wires.old) }
+{
+    if !ends_none(watch, word) {
+        return do_word_apart(hart, number, watch, word, wires, lines);
+    }
+    atomic_words_mean_no_other();
+    match Fetched::of_word(word) {
+        Fetched::Bad(_) => do_word_apart(hart, number, watch, word, wires, lines),
+        what => perform(hart, what, wires, lines),
+    }
+}
+
+/// The same of a word that is an atomic instruction or none, or that may end a reservation.
+#[cold]
+#[inline(never)]
+fn do_word_apart<D: Device>(
+    hart: &mut Hart,
+    number: u8,
+    watch: &mut Watch,
+    word: u32,
+    wires: &mut Wires<D>,
+    lines: Lines,
+) -> Result<(), NoMemory>
+    requires { number < length watch.old }
+    ensures core { let what = shared_of_word hart.old.letters word in
+        let shared = shared_effect (fetched wires.old) hart.old number watch.old what lines in
+        OnOk result (hart.new ≡ core_after answer wires.old shared.effect) }
+    ensures watch { let what = shared_of_word hart.old.letters word in
+        let shared = shared_effect (fetched wires.old) hart.old number watch.old what lines in
+        OnOk result (watch.new ≡ shared.watch) }
+    ensures bus { let what = shared_of_word hart.old.letters word in
+        let shared = shared_effect (fetched wires.old) hart.old number watch.old what lines in
+        OnOk result (wires.new ≡ bus_after loaded stored wires.old shared.effect) }
+    ensures same { OnOk result (IsSameHart hart.old hart.new) }
+    ensures core_err { OnErr result (hart.new ≡ hart.old) }
+    ensures watch_err { OnErr result (watch.new ≡ watch.old) }
+    ensures bus_err { OnErr result (wires.new ≡ wires.old) }
+{
+    let what = of_word(hart, word);
+    step_shared(hart, number, watch, what, wires, lines)
+}
+
+/// Does a half-word.
+#[inline(always)]
+fn do_half<const COPY: u8, D: Device>(
+    hart: &mut Hart,
+    number: u8,
+    watch: &mut Watch,
+    half: u16,
+    wires: &mut Wires<D>,
+    lines: Lines,
+) -> Result<(), NoMemory>
+    requires letters { hart.old.letters.c ≡ true }
+    requires number { number < length watch.old }
+    ensures core { let what = Plain (of_half half) in
+        let shared = shared_effect (fetched wires.old) hart.old number watch.old what lines in
+        OnOk result (hart.new ≡ core_after answer wires.old shared.effect) }
+    ensures watch { let what = Plain (of_half half) in
+        let shared = shared_effect (fetched wires.old) hart.old number watch.old what lines in
+        OnOk result (watch.new ≡ shared.watch) }
+    ensures bus { let what = Plain (of_half half) in
+        let shared = shared_effect (fetched wires.old) hart.old number watch.old what lines in
+        OnOk result (wires.new ≡ bus_after loaded stored wires.old shared.effect) }
+    ensures same { OnOk result (IsSameHart hart.old hart.new) }
+    ensures core_err { OnErr result (hart.new ≡ hart.old) }
+    ensures watch_err { OnErr result (watch.new ≡ watch.old) }
+    ensures bus_err { OnErr result (wires.new ≡ wires.old) }
+{
+    if !watch.is_clear() {
+        return do_half_apart(hart, number, watch, half, wires, lines);
+    }
+    perform(hart, of_half(half), wires, lines)
+}
+
+/// The same where it may end a reservation.
+#[cold]
+#[inline(never)]
+fn do_half_apart<D: Device>(
+    hart: &mut Hart,
+    number: u8,
+    watch: &mut Watch,
+    half: u16,
+    wires: &mut Wires<D>,
+    lines: Lines,
+) -> Result<(), NoMemory>
+    requires letters { hart.old.letters.c ≡ true }
+    requires number { number < length watch.old }
+    ensures core { let what = Plain (of_half half) in
+        let shared = shared_effect (fetched wires.old) hart.old number watch.old what lines in
+        OnOk result (hart.new ≡ core_after answer wires.old shared.effect) }
+    ensures watch { let what = Plain (of_half half) in
+        let shared = shared_effect (fetched wires.old) hart.old number watch.old what lines in
+        OnOk result (watch.new ≡ shared.watch) }
+    ensures bus { let what = Plain (of_half half) in
+        let shared = shared_effect (fetched wires.old) hart.old number watch.old what lines in
+        OnOk result (wires.new ≡ bus_after loaded stored wires.old shared.effect) }
+    ensures same { OnOk result (IsSameHart hart.old hart.new) }
+    ensures core_err { OnErr result (hart.new ≡ hart.old) }
+    ensures watch_err { OnErr result (watch.new ≡ watch.old) }
+    ensures bus_err { OnErr result (wires.new ≡ wires.old) }
+{
+    let what = Shared::Plain(of_half(half));
+    step_shared(hart, number, watch, what, wires, lines)
+}
