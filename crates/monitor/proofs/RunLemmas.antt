@@ -16,8 +16,6 @@ use Rattle.lab_state.specs.declared.faults.RunCause.{RunCause}
 use Rattle.lab_state.specs.declared.faults.RunCause.TheVariants as cause
 use Rattle.lab_state.specs.One.{first_without, HaveAllPlans}
 use Rattle.lab_state.specs.Run.{Play, run}
-use Rattle.resc_vars.specs.declared.cause.ScriptCause.{ScriptCause}
-use Rattle.monitor.specs.Answer.{Done}
 use Rattle.monitor.specs.Inner.Ruling.{IsRuled, may_stop}
 use Rattle.monitor.specs.Runs.{has_run, length_of, run_for}
 use Rattle.monitor.specs.State.{State}
@@ -71,8 +69,7 @@ module _
       let ruling : run_for run old.state length
       ≡ Ok (record { text = text (names old.state.lab) old.state.lines items; state = new.state }) =
       made run old.state length d all within is
-      ∙ (λ i. Ok (record { text = text (same i) old.state.lines items; state = (sym played i).state })) in
-      (
+      ∙ (λ i. Ok (record { text = text (same i) old.state.lines items; state = (sym played i).state })) in (
         text (names old.state.lab) old.state.lines items,
         ruling,
         record {

@@ -18,7 +18,7 @@ use Rattle.monitor.specs.declared.progress.Progress.{Progress}
 use Rattle.monitor.specs.declared.progress.Progress.TheVariants as progress
 use Rattle.monitor.specs.declared.step.Step.TheVariants as step
 use Rattle.monitor.specs.declared.fault.Cause.TheVariants.{Script}
-use Rattle.monitor.specs.Answer.{Answer, Did, Misses}
+use Rattle.monitor.specs.Answer.{Did, Misses}
 use Rattle.monitor.specs.Command.{did, done_by}
 use Rattle.monitor.specs.Progress.{IsProgress, stands_for}
 use Rattle.monitor.specs.State.{State}

@@ -1,13 +1,12 @@
 -- What a command has done whose text goes to an output, by what it has done and what was written.
 use Rattle.std.proofs.Common.{◌≡◌, ◌∙◌, ℕ, true, false, List, [], Option, Result, Ok, Err, Vec, refl, sym, ap}
-use Rattle.std.specs.Prelude.{IsErrOf}
 use Rattle.std.specs.Global.{Global}
 use Rattle.lab_io.specs.declared.files.Files.{Ghosts}
 use Rattle.lab_io.specs.declared.sink.Sink.{Ghosts as SinkGhosts}
 use Rattle.lab_io.specs.declared.sink.WriteFault.{WriteFault}
 use Rattle.lab_io.specs.declared.sink.WriteFault.TheVariants.{Unwritten}
 use Rattle.lab_io.specs.Asked.{Log}
-use Rattle.lab_io.specs.Frame.{OnlyReads, OnlyWrites}
+use Rattle.lab_io.specs.Frame.{OnlyWrites}
 use Rattle.lab_io.specs.Held.{Held}
 use Rattle.lab_io.specs.Known.{grown}
 use Rattle.lab_io.specs.Sink.{IsPartWritten}
@@ -25,7 +24,7 @@ use Rattle.monitor.specs.Progress.{IsProgress, stands_for}
 use Rattle.monitor.specs.State.{State, Place}
 use Rattle.monitor.specs.Step.{Running}
 use Rattle.monitor.specs.Inner.Ruling.{IsAfterLine, IsCarried, IsDone, Leaves, ends_script}
-use Rattle.monitor.specs.Inner.Writing.{IsRunMade, IsTextWritten, IsWritten, progress_of}
+use Rattle.monitor.specs.Inner.Writing.{IsRunMade, IsWritten, progress_of}
 use Rattle.monitor.proofs.OpenLemmas.{HasOpen, IsKeptBy}
 use Rattle.monitor.proofs.Ruled.{done_alone}
 

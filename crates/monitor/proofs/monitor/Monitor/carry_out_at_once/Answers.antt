@@ -1,5 +1,6 @@
 -- What a command prints is written at once.
-use Rattle.std.proofs.Common.{◌≡◌, List, ℕ, subst}
+use Rattle.std.proofs.Common.{Err, ap, subst}
+use Rattle.lab_io.proofs.Frames.{writes_as}
 use Rattle.lab_state.specs.Run.{run}
 use Rattle.monitor.specs.Command.{does, work}
 use Rattle.monitor.specs.Step.{Running}
@@ -30,7 +31,8 @@ returns-in-Ok g c =
     c.args.files.now c.carry_out.new.files c.args.out.now c.write_whole.new.out c.in-Err-write_whole.fault
     (worked_done (work run s command) _ c.args.self.now c.carry_out.new.self c.args.files.now c.carry_out.new.files
     (λ held place open_. work_keeps s runs open_ held place command) c.in-Ok.ensures)
-    (rw (← c.deref.ensures.value) c.in-Err-write_whole.ensures.part) c.write_whole.ensures.output
+    (rw (← c.deref.ensures.value) c.in-Err-write_whole.ensures.part)
+    (writes_as (λ same. ap Err same) c.in-Err-write_whole.ensures.output)
 
 pub returns : goal.returns
 returns g c =

@@ -10,9 +10,11 @@ use Rattle.monitor.proofs.monitor.Monitor.run_for.Goals as goal
 pub returns-in_err-may_run-clause-made : goal.returns-in_err-may_run-clause-made
 returns-in_err-may_run-clause-made g c =
     let exit = err_from_is_err_and c.from_residual.result c.from_residual.ensures.1 in
-    rw (← c.self.view_is, exit.1, exit.2)
-    (refused_run run _ c.args.length.0 c.in_err-may_run.field-0.0 _ c.in_err-may_run.ensures.no_plan
-    c.in_err-may_run.ensures.too_long refl, refl)
+    rw (← c.self.view_is, exit.1, exit.2) (
+      refused_run run _ c.args.length.0 c.in_err-may_run.field-0.0 _ c.in_err-may_run.ensures.no_plan
+          c.in_err-may_run.ensures.too_long refl,
+      refl,
+    )
 
 pub returns-in-Ok-clause-made : goal.returns-in-Ok-clause-made
 returns-in-Ok-clause-made g c =

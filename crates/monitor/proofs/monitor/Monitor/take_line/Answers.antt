@@ -1,4 +1,4 @@
-use Rattle.std.proofs.Common.{◌∙◌, Err, ap, refl, subst, sym}
+use Rattle.std.proofs.Common.{◌∙◌, ap, refl, subst, sym}
 use Rattle.lab_io.proofs.Frames.{reads_as, writes_as}
 use Rattle.lab_state.specs.Run.{run}
 use Rattle.resc_read.specs.Line.{line_of}
