@@ -23,7 +23,6 @@ use Rattle.resc_vars.specs.declared.cause.ScriptCause.{ScriptCause}
 use Rattle.resc_vars.specs.declared.cause.ScriptCause.TheVariants.{Unknown, Arguments, Time}
 use Rattle.monitor.specs.declared.stop.Stop.{Stop}
 use Rattle.monitor.specs.declared.stop.Stop.TheVariants.{Store, Quit, Line, File, Content, Unread, Memory}
-use Rattle.monitor.specs.declared.stop.Storing.TheVariants as storing
 use Rattle.monitor.specs.Answer.{Answer, Did, Done, answer_at, unread}
 use Rattle.monitor.specs.Command.{Work, OnFiles, OnState, OnStore, Quits, does, done_by}
 use Rattle.monitor.specs.State.{State, Place}

@@ -16,8 +16,6 @@ use Rattle.lab_state.specs.declared.faults.RunCause.{RunCause}
 use Rattle.lab_state.specs.declared.faults.RunCause.TheVariants as cause
 use Rattle.lab_state.specs.One.{first_without, HaveAllPlans}
 use Rattle.lab_state.specs.Run.{Play, run}
-use Rattle.resc_vars.specs.declared.cause.ScriptCause.{ScriptCause}
-use Rattle.monitor.specs.Answer.{Done}
 use Rattle.monitor.specs.Inner.Ruling.{IsRuled, may_stop}
 use Rattle.monitor.specs.Runs.{has_run, length_of, run_for}
 use Rattle.monitor.specs.State.{State}

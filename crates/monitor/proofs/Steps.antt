@@ -1,5 +1,5 @@
 -- What is next in a script, and what comes of it.
-use Rattle.std.proofs.Common.{◌≡◌, ℕ, List, [], Option, None, Some, refl, sym}
+use Rattle.std.proofs.Common.{◌≡◌, ◌∙◌, ℕ, List, [], ◌++◌, Option, None, Some, ap, refl, subst, sym}
 use Rattle.std.specs.Prelude.{IfSome}
 use Rattle.std.specs.Option.{ForSome}
 use Rattle.lab_io.specs.Asked.{Log}
@@ -18,7 +18,7 @@ use Rattle.monitor.specs.declared.progress.Progress.{Progress}
 use Rattle.monitor.specs.declared.progress.Progress.TheVariants as progress
 use Rattle.monitor.specs.declared.step.Step.TheVariants as step
 use Rattle.monitor.specs.declared.fault.Cause.TheVariants.{Script}
-use Rattle.monitor.specs.Answer.{Answer, Did, Misses}
+use Rattle.monitor.specs.Answer.{Did, Misses}
 use Rattle.monitor.specs.Command.{did, done_by}
 use Rattle.monitor.specs.Progress.{IsProgress, stands_for}
 use Rattle.monitor.specs.State.{State}
@@ -58,16 +58,16 @@ module _ (play : Play) (s after : State) (flow : script.State) where
 
 -- where a name holds nothing, a step is cut short
 absent_is_cut :
-    (did : Did) (answered : Progress) (after : State) (log log' : Log) (out out' : Option (List ℕ)) →
-    IsProgress did answered after log log' out out' → did.answer ≡ Misses → IsCut (stands_for answered)
-absent_is_cut did progress.Done after log log' out out' is misses = cc (is.1.0.0, misses)
-absent_is_cut did (progress.Cut fault) after log log' out out' is misses = tt
-absent_is_cut did (progress.Save name file line) after log log' out out' is misses = cc (is.0.0, misses)
-absent_is_cut did (progress.Load name file line) after log log' out out' is misses = cc (is.0.0, misses)
-absent_is_cut did progress.End after log log' out out' is misses = cc (is.0.0, misses)
-absent_is_cut did (progress.Fault fault) after log log' out out' is misses = cc (is.0.0, misses)
-absent_is_cut did progress.Unread after log log' out out' is misses = tt
-absent_is_cut did progress.Memory after log log' out out' is misses = tt
+    (done : Did) (answered : Progress) (after : State) (log log' : Log) (out out' : Option (List ℕ)) →
+    IsProgress done answered after log log' out out' → done.answer ≡ Misses → IsCut (stands_for answered)
+absent_is_cut done progress.Done after log log' out out' is misses = cc (is.1.0, misses)
+absent_is_cut done (progress.Cut fault) after log log' out out' is misses = tt
+absent_is_cut done (progress.Save name file line) after log log' out out' is misses = cc (is.0.0, misses)
+absent_is_cut done (progress.Load name file line) after log log' out out' is misses = cc (is.0.0, misses)
+absent_is_cut done progress.End after log log' out out' is misses = cc (is.0.0, misses)
+absent_is_cut done (progress.Fault fault) after log log' out out' is misses = cc (is.0.0, misses)
+absent_is_cut done progress.Unread after log log' out out' is misses = tt
+absent_is_cut done progress.Memory after log log' out out' is misses = tt
 
 pub step_absent :
     (play : Play) (s after : State) (held : Option Held) (answered : Progress) (log log' : Log)
@@ -80,8 +80,10 @@ step_absent play s after (Some held) answered log log' out out' is =
 
 -- ---- a step whose text goes to an output in memory
 
-in_text : (text bytes : List ℕ) → Some bytes ≡ grown (Some []) text → text ≡ bytes
-in_text text bytes is = cc is
+in_text : (none text bytes : List ℕ) → none ≡ [] → Some bytes ≡ grown (Some none) text → text ≡ bytes
+in_text none text bytes empty is =
+    let same : Some bytes ≡ Some text = is ∙ ap (λ (front : List ℕ). Some (front ++ text)) empty in
+    cc
 
 -- its text is what was written
 pub says_text :
@@ -90,7 +92,8 @@ pub says_text :
     IfSome held (λ held. IsStep (did play held s) (step.Text bytes) after log log')
 says_text play s after None log log' none bytes empty is = tt
 says_text play s after (Some held) log log' none bytes empty is =
-    rw (← in_text is.0 bytes (rw empty at is.1.1)) is.1.0
+    subst (λ (t : List ℕ). IsStep (did play held s) (step.Text t) after log log')
+    (in_text none is.0 bytes empty is.2) is.1
 
 -- one that was cut short has found no memory
 pub cut_is_memory :
@@ -100,10 +103,10 @@ pub cut_is_memory :
     IfSome held (λ held. IsStep (did play held s) step.Memory after log log')
 cut_is_memory play s after None fault log log' out out' is = tt
 cut_is_memory play s after (Some held) fault log log' out out' is =
-    asks_all (did play held s).names log log' is.1.1.0.1
+    asks_all (did play held s).names log log' is.2.1
 
 -- each other one is the step that it stands for
 pub first_is :
-    {P : Held → Type 0} {Q : Type 0} (held : Option Held) → IfSome held (λ held. P held × Q) → IfSome held P
-first_is None is = tt
-first_is (Some held) is = is.0
+    (held : Option Held) (P : Held → Type 0) (Q : Type 0) → IfSome held (λ held. P held × Q) → IfSome held P
+first_is None P Q is = tt
+first_is (Some held) P Q is = is.0

@@ -1,13 +1,12 @@
 -- What a command has done whose text goes to an output, by what it has done and what was written.
-use Rattle.std.proofs.Common.{◌≡◌, ◌∙◌, ℕ, true, List, [], Option, Result, Ok, Err, Vec, refl, sym, ap}
-use Rattle.std.specs.Prelude.{IsErrOf}
+use Rattle.std.proofs.Common.{◌≡◌, ◌∙◌, ℕ, true, false, List, [], Option, Result, Ok, Err, Vec, refl, sym, ap}
 use Rattle.std.specs.Global.{Global}
 use Rattle.lab_io.specs.declared.files.Files.{Ghosts}
 use Rattle.lab_io.specs.declared.sink.Sink.{Ghosts as SinkGhosts}
 use Rattle.lab_io.specs.declared.sink.WriteFault.{WriteFault}
 use Rattle.lab_io.specs.declared.sink.WriteFault.TheVariants.{Unwritten}
 use Rattle.lab_io.specs.Asked.{Log}
-use Rattle.lab_io.specs.Frame.{OnlyReads, OnlyWrites}
+use Rattle.lab_io.specs.Frame.{OnlyWrites}
 use Rattle.lab_io.specs.Held.{Held}
 use Rattle.lab_io.specs.Known.{grown}
 use Rattle.lab_io.specs.Sink.{IsPartWritten}
@@ -25,7 +24,7 @@ use Rattle.monitor.specs.Progress.{IsProgress, stands_for}
 use Rattle.monitor.specs.State.{State, Place}
 use Rattle.monitor.specs.Step.{Running}
 use Rattle.monitor.specs.Inner.Ruling.{IsAfterLine, IsCarried, IsDone, Leaves, ends_script}
-use Rattle.monitor.specs.Inner.Writing.{IsRunMade, IsTextWritten, IsWritten, progress_of}
+use Rattle.monitor.specs.Inner.Writing.{IsRunMade, IsWritten, progress_of}
 use Rattle.monitor.proofs.OpenLemmas.{HasOpen, IsKeptBy}
 use Rattle.monitor.proofs.Ruled.{done_alone}
 
@@ -88,9 +87,9 @@ module _ {F K : Type 0} {files : Ghosts F} {out : SinkGhosts K} where
   run_written ruling (Ok done) old new before start end keeps made writes =
       let nowhere : Place = record { file = []; number = 0 } in record {
         written = λ place held told.
-            (made.0, ap (answer_at place) made.1.0, sym (grown-nil (files.asked before)), made.1.1.1);
-        leaves = made.1.1.0;
-        keeps = λ open_. rw made.1.0 at (keeps nowhere open_);
+            (made.0, ap (answer_at place) made.1, sym (grown-nil (files.asked before)), made.3);
+        leaves = made.2;
+        keeps = λ open_. rw made.1 at (keeps nowhere open_);
         reads = reads_none (λ same. cc same);
         writes = writes;
       }
@@ -104,8 +103,8 @@ module _ {F K : Type 0} {files : Ghosts F} {out : SinkGhosts K} where
       }
   run_written ruling (Err (halt.Cut fault)) old new before start end keeps made writes = record {
     written = λ place held told.
-        (made.0.text, made.0.state, ap (answer_at place) made.1.0, sym (grown-nil (files.asked before)), made.1.1.0);
-    leaves = made.1.1.1;
+        (made.0.text, made.0.state, ap (answer_at place) made.1, sym (grown-nil (files.asked before)), made.2);
+    leaves = made.3;
     keeps = tt;
     reads = reads_none (λ same. cc same);
     writes = writes;
@@ -135,16 +134,18 @@ still old mid same waits = λ i. record {
 
 -- and what it leaves
 pub stop_after :
-    (place : Place) (stop : Stop) (old mid : Running) → Leaves (Err stop) old mid → old.ended ≡ true →
-    IsAfterLine (stands_for (progress_of place stop)) old (record mid { ended = ends_script stop })
-stop_after place (Store (storing.Save name)) old mid same waits = rw same refl
-stop_after place (Store (storing.Load name)) old mid same waits = rw same refl
-stop_after place Quit old mid same waits = still old mid same waits
-stop_after place (Line cause) old mid same waits = still old mid same waits
-stop_after place (File fault) old mid same waits = still old mid same waits
-stop_after place (Content cause) old mid same waits = still old mid same waits
-stop_after place Unread old mid same waits = still old mid same waits
-stop_after place Memory old mid same waits = refl
+    (place : Place) (stop : Stop) (old mid new : Running) → Leaves (Err stop) old mid → old.ended ≡ true →
+    new ≡ record mid { ended = ends_script stop } → IsAfterLine (stands_for (progress_of place stop)) old new
+stop_after place (Store (storing.Save name)) old mid new same waits is =
+    is ∙ ap (λ (r : Running). record r { ended = false }) same
+stop_after place (Store (storing.Load name)) old mid new same waits is =
+    is ∙ ap (λ (r : Running). record r { ended = false }) same
+stop_after place Quit old mid new same waits is = is ∙ still old mid same waits
+stop_after place (Line cause) old mid new same waits is = is ∙ still old mid same waits
+stop_after place (File fault) old mid new same waits is = is ∙ still old mid same waits
+stop_after place (Content cause) old mid new same waits is = is ∙ still old mid same waits
+stop_after place Unread old mid new same waits is = is ∙ still old mid same waits
+stop_after place Memory old mid new same waits is = ap (λ (r : Running). r.ended) is
 
 pub stop_unread : (place : Place) (stop : Stop) → progress_of place stop ≡ progress.Unread → stop ≡ Unread
 stop_unread place (Store (storing.Save name)) is = cc is

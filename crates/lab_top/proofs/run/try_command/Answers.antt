@@ -13,14 +13,14 @@ use Rattle.lab_top.proofs.run.try_command.Goals as goal
 pub returns-in-Done-clause-course : goal.returns-in-Done-clause-course
 returns-in-Done-clause-course g c = λ held is kept keeps more.
     let done = told _ c.in-Done.ensures.step held is in
-    step_says more held kept c.args.monitor.now.state c.step_to.new.self.state done.0 done.1.0 done.1.1
+    step_says more held kept c.args.monitor.now.state c.step_to.new.self.state done.0 done.1 done.2
     (record { used = refl; told = keeps })
 
 pub returns-in-Cut-clause-course : goal.returns-in-Cut-clause-course
 returns-in-Cut-clause-course g c = λ held is kept keeps more.
     let cut = told _ c.in-Cut.ensures.step held is in
     rw c.from.ensures
-    (step_cut more held kept c.args.monitor.now.state cut.1.0 cut.0 c.in-Cut.fault cut.1.1.0 cut.1.1.1
+    (step_cut more held kept c.args.monitor.now.state cut.1 cut.0 c.in-Cut.fault cut.2 cut.3
     (record { used = refl; told = keeps }))
 
 pub returns-in-Ok-clause-course : goal.returns-in-Ok-clause-course

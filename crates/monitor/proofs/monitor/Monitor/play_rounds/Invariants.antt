@@ -3,7 +3,6 @@ use Rattle.std.proofs.Common.{◌≡◌, ◌+◌, ◌≤◌, true, false}
 use Rattle.lab_io.specs.Frame.{OnlyWrites}
 use Rattle.lab_state.specs.One.{HaveAllPlans}
 use Rattle.lab_state.specs.Run.{run}
-use Rattle.monitor.specs.Step.{Running}
 use Rattle.monitor.proofs.Rounds.{IsCome, left_of, onto}
 use Rattle.monitor.proofs.monitor.Monitor.play_rounds.Given as goal
 

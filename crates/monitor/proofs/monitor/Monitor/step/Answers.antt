@@ -15,19 +15,19 @@ returns-in-Cut-clause-step g c =
     c.in-Cut.field-0 _ _ _ _ c.in-Cut.ensures.step
 
 pub returns-in-Save-clause-step : goal.returns-in-Save-clause-step
-returns-in-Save-clause-step g c = first_is (g.F.Files.held c.args.files.now) c.in-Save.ensures.step
+returns-in-Save-clause-step g c = first_is (g.F.Files.held c.args.files.now) _ _ c.in-Save.ensures.step
 
 pub returns-in-Load-clause-step : goal.returns-in-Load-clause-step
-returns-in-Load-clause-step g c = first_is (g.F.Files.held c.args.files.now) c.in-Load.ensures.step
+returns-in-Load-clause-step g c = first_is (g.F.Files.held c.args.files.now) _ _ c.in-Load.ensures.step
 
 pub returns-in-End-clause-step : goal.returns-in-End-clause-step
-returns-in-End-clause-step g c = first_is (g.F.Files.held c.args.files.now) c.in-End.ensures.step
+returns-in-End-clause-step g c = first_is (g.F.Files.held c.args.files.now) _ _ c.in-End.ensures.step
 
 pub returns-in-Fault-clause-step : goal.returns-in-Fault-clause-step
-returns-in-Fault-clause-step g c = first_is (g.F.Files.held c.args.files.now) c.in-Fault.ensures.step
+returns-in-Fault-clause-step g c = first_is (g.F.Files.held c.args.files.now) _ _ c.in-Fault.ensures.step
 
 pub returns-in-Unread-clause-step : goal.returns-in-Unread-clause-step
-returns-in-Unread-clause-step g c = first_is (g.F.Files.held c.args.files.now) c.in-Unread.ensures.step
+returns-in-Unread-clause-step g c = first_is (g.F.Files.held c.args.files.now) _ _ c.in-Unread.ensures.step
 
-pub returns-clause-step : goal.returns-clause-step
-returns-clause-step g c = first_is (g.F.Files.held c.args.files.now) c.in-Memory.ensures.step
+pub returns-in-Memory-clause-step : goal.returns-in-Memory-clause-step
+returns-in-Memory-clause-step g c = first_is (g.F.Files.held c.args.files.now) _ _ c.in-Memory.ensures.step

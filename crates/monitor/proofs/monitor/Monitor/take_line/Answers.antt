@@ -1,4 +1,4 @@
-use Rattle.std.proofs.Common.{◌∙◌, Err, ap, refl, subst, sym}
+use Rattle.std.proofs.Common.{◌∙◌, ap, refl, subst, sym}
 use Rattle.lab_io.proofs.Frames.{reads_as, writes_as}
 use Rattle.lab_state.specs.Run.{run}
 use Rattle.resc_read.specs.Line.{line_of}
@@ -14,7 +14,7 @@ pub returns-in-Ok-clause-step : goal.returns-in-Ok-clause-step
 returns-in-Ok-clause-step g c = λ held is.
     let place : Place = record { file = c.args.file; number = c.args.line } in
     let written = c.in-Ok.ensures.written place held is in
-    rw (ap (λ (r : Running). r.state) c.self.view_is) (written.0, (written.1.0, written.1.1.0), written.1.1.1)
+    rw (ap (λ (r : Running). r.state) c.self.view_is) (written.0, (written.1, written.2), written.3)
 
 pub returns-in-Ok-clause-files : goal.returns-in-Ok-clause-files
 returns-in-Ok-clause-files g c = reads_as (λ same. cc same) c.carry_out_line.ensures.reads
@@ -37,8 +37,9 @@ pub returns-in-Err-Stop-clause-next : goal.returns-in-Err-Stop-clause-next
 returns-in-Err-Stop-clause-next g c =
     let place : Place = record { file = c.args.file; number = c.args.line } in
     let done = rw c.in-Err-Stop.field-0-is at c.in-Err-Stop.ensures in
-    rw (c.stopped.ensures, c.self.view_is, ← c.ends_script-self-inside.ensures)
-    (stop_after place c.in-Err-Stop.stop c.args.self.now c.carry_out_line.new.self done.leaves c.requires.waits)
+    rw c.stopped.ensures
+    (stop_after place c.in-Err-Stop.stop c.args.self.now c.carry_out_line.new.self _ done.leaves c.requires.waits
+    (λ i. record (c.self.view_is i) { ended = c.ends_script-self-inside.ensures i }))
 
 pub returns-in-Err-Stop-clause-files : goal.returns-in-Err-Stop-clause-files
 returns-in-Err-Stop-clause-files g c =
@@ -71,7 +72,7 @@ returns-in-Err-Cut-clause-step g c = λ held is.
     let place : Place = record { file = c.args.file; number = c.args.line } in
     let done = rw c.in-Err-Cut.field-0-is at c.in-Err-Cut.ensures in
     let written = done.written place held is in
-    (written.0, written.1.0, (written.1.1.0, written.1.1.1.0), written.1.1.1.1)
+    (written.0, written.1, (written.2, written.3), written.4)
 
 pub returns-in-Err-Cut-clause-next : goal.returns-in-Err-Cut-clause-next
 returns-in-Err-Cut-clause-next g c =
