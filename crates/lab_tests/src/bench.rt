@@ -84,8 +84,16 @@ fn run_on<R: Threads + Wait + Copy + Send + Sync, D: Device + Send, G: Gate>(
     Ok(run_lab(rt, alloc, &words, files, out, store, stock, gate))
 }
 
-/// Devices enough for every laboratory.
-pub fn stock_of(alloc: Global) -> Result<Stock<Box<dyn Device + Send>>, NoMemory> {
+/// A run by these words, on devices enough for every laboratory: how it ends.
+pub fn run<R: Threads + Wait + Copy + Send + Sync, G: Gate>(
+    rt: &R,
+    alloc: Global,
+    words: &[&str],
+    files: &mut MemFiles,
+    out: &mut MemSink,
+    store: &mut MemStore,
+    gate: &G,
+) -> Result<Status, NoMemory> {
     let mut uarts: Vec<Box<dyn Device + Send>> = Vec::new(alloc);
     for _ in 0..64 {
         uarts.push(Box::new(alloc, Uart::new())?)?;
@@ -98,23 +106,10 @@ pub fn stock_of(alloc: Global) -> Result<Stock<Box<dyn Device + Send>>, NoMemory
     for _ in 0..16 {
         finishers.push(Box::new(alloc, Finisher::new())?)?;
     }
-    Ok(Stock {
+    let stock = Stock {
         uarts,
         cans,
         finishers,
-    })
-}
-
-/// A run by these words, on devices enough for every laboratory: how it ends.
-pub fn run<R: Threads + Wait + Copy + Send + Sync, G: Gate>(
-    rt: &R,
-    alloc: Global,
-    words: &[&str],
-    files: &mut MemFiles,
-    out: &mut MemSink,
-    store: &mut MemStore,
-    gate: &G,
-) -> Result<Status, NoMemory> {
-    let stock = stock_of(alloc)?;
+    };
     run_on(rt, alloc, words, files, out, store, stock, gate)
 }

@@ -13,6 +13,4 @@ mod rounds;
 #[cfg(test)]
 mod snapshots;
 #[cfg(test)]
-mod steps;
-#[cfg(test)]
 mod workers;

@@ -1,4 +1,4 @@
-use Rattle.std.proofs.Common.{suc, refl, subst, sym}
+use Rattle.std.proofs.Common.{suc, refl, subst}
 use Rattle.lab_state.specs.Run.{run}
 use Rattle.monitor.specs.Step.{line_in}
 use Rattle.lab_top.specs.Headline.{outside}
