@@ -47,7 +47,7 @@ pub(crate) fn lend_all<D: Device>(
     ensures parcels { IfOk result (λ parcels.
         parcels.items ≡ flat_map (lent boss.now.mail from.0 (from.0 + q)) boards.old) }
 {
-    let mut parcels = Vec::new(alloc);
+    let mut parcels = Vec::with_capacity(alloc, boards.len())?;
     let mut n = 0;
     for pass in passes {
         let grant = source.handle(BoardNo(n as u8));

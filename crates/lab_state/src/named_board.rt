@@ -178,7 +178,10 @@ fn unwrapped<R: Wait, D: Device>(
 {
     let (mut board, grant, pass) = parcel.into_parts();
     boss.take_in(rt, pass);
-    entries.push(board.take_entries())?;
+    let noted = board.take_entries();
+    if !noted.is_empty() {
+        entries.push(noted)?;
+    }
     Ok((board, grant))
 }
 
