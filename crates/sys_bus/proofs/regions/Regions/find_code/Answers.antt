@@ -16,4 +16,4 @@ invariant_of-self c =
     let found =
     near_found c.self.inside.list.items c.args.at 4 c.in-Ram.part c.in-Some.region c.of-self-inside.result kept.0
     region c.in-Ram.is near.base near.starts near.part in
-    (kept.0, kept.1, found, kept.3)
+    (kept.0, kept.1, found, kept.3, kept.4)
