@@ -40,8 +40,12 @@ pub struct Regions {
     list: Vec<Region>,
     /// The memory of the last fetch.
     of_code: Near,
+    /// The one of the last fetch before that lay in another.
+    of_code_before: Near,
     /// The memory of the last load or store.
     of_data: Near,
+    /// The one of the last load or store before that lay in another.
+    of_data_before: Near,
     /// The device of the last load or store.
     of_device: NearDevice,
 }
@@ -60,7 +64,9 @@ impl Model for Regions {
         IsTrue (are_apart r.list.items)
         × IsTrue (are_addressed r.list.items)
         × IsNear r.list.items r.of_code
+        × IsNear r.list.items r.of_code_before
         × IsNear r.list.items r.of_data
+        × IsNear r.list.items r.of_data_before
         × IsNearDevice r.list.items r.of_device };
 }
 
@@ -74,7 +80,9 @@ impl Regions {
         Regions {
             list,
             of_code: Near::none(),
+            of_code_before: Near::none(),
             of_data: Near::none(),
+            of_data_before: Near::none(),
             of_device: NearDevice::nowhere(0, step),
         }
     }
@@ -124,7 +132,44 @@ impl Regions {
     }
 
     /// What the word of a fetch belongs to. `near_code` knows a memory from then on.
+    #[inline]
     pub fn find_code(&mut self, at: u32) -> Target
+        ensures target { result ≡ target_of self.old at 4 }
+        ensures within { IsWithin self.old 4 result }
+        ensures same { self.new ≡ self.old }
+    {
+        if let Some(place) = self.known_word(at) {
+            return Target::Ram {
+                part: place.part,
+                at: place.at,
+            };
+        }
+        if let Some(place) = self.of_code_before.place(at) {
+            let last = self.of_code;
+            self.of_code = self.of_code_before;
+            self.of_code_before = last;
+            return Target::Ram {
+                part: place.part,
+                at: place.at,
+            };
+        }
+        self.seek_code(at)
+    }
+
+    /// The place of a word in the memory of the last fetch, or of the last load or store: an atomic
+    /// instruction asks so for the word that it changes.
+    #[inline(always)]
+    fn known_word(&self, at: u32) -> Option<Place>
+        ensures { IfSome result (IsPlace self.now at) }
+    {
+        match self.near_code(at) {
+            Some(place) => Some(place),
+            None => self.near_data(at),
+        }
+    }
+
+    /// What the word of a fetch belongs to, by a search of all regions.
+    fn seek_code(&mut self, at: u32) -> Target
         ensures target { result ≡ target_of self.old at 4 }
         ensures within { IsWithin self.old 4 result }
         ensures same { self.new ≡ self.old }
@@ -133,6 +178,7 @@ impl Regions {
             return Target::Nothing;
         };
         if let RegionKind::Ram(part) = region.kind {
+            self.of_code_before = self.of_code;
             self.of_code = Near::of(&region, part);
         }
         region.target(at)
@@ -150,6 +196,15 @@ impl Regions {
             let dev = self.of_device.dev;
             return Target::Dev { dev, at: offset };
         }
+        if let Some(place) = self.of_data_before.place(at) {
+            let last = self.of_data;
+            self.of_data = self.of_data_before;
+            self.of_data_before = last;
+            return Target::Ram {
+                part: place.part,
+                at: place.at,
+            };
+        }
         self.seek_data(at, width)
     }
 
@@ -164,7 +219,10 @@ impl Regions {
             return Target::Nothing;
         };
         match region.kind {
-            RegionKind::Ram(part) => self.of_data = Near::of(&region, part),
+            RegionKind::Ram(part) => {
+                self.of_data_before = self.of_data;
+                self.of_data = Near::of(&region, part);
+            }
             RegionKind::Dev(dev) => {
                 let step = step_in(&self.list, dev);
                 self.of_device = NearDevice::of(&region, dev, step);

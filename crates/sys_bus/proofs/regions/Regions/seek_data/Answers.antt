@@ -22,7 +22,7 @@ invariant_of-self c =
     let found =
     near_found c.self.inside.list.items c.args.at c.args.width c.in-Ram.part c.in-Some.region
     c.of-self-inside.result kept.0 region c.in-Ram.is near.base near.starts near.part in
-    (kept.0, kept.1, kept.2, found, kept.4)
+    (kept.0, kept.1, kept.2, kept.3, found, kept.4, kept.6)
 
 pub invariant_of-self-in-Dev : goal.invariant_of-self-in-Dev
 invariant_of-self-in-Dev c =
@@ -35,4 +35,4 @@ invariant_of-self-in-Dev c =
     let found =
     near_device_found c.self.inside.list.items c.args.at c.args.width c.in-Dev.dev c.in-Some.region
     c.of-self-inside-in-Dev.result kept.0 region c.in-Dev.is near.base near.size near.dev step in
-    (kept.0, kept.1, kept.2, kept.3, found)
+    (kept.0, kept.1, kept.2, kept.3, kept.4, kept.5, found)
