@@ -375,7 +375,8 @@ module _ (m : Member) (lines : List OpenLine) (n : ℕ) (at : n ≡ place_of m l
         subst (λ (line : OpenLine). is_ending line byte ≡ false) (standing_own m lines n at are goes_parts.0)
         goes_parts.1
 
-    module _ (taken longer : OpenLine) (is : taken ≡ get_or lines n taken) (made : longer ≡ gathered taken time byte) where
+    module _ (taken longer : OpenLine) (is : taken ≡ get_or lines n taken)
+        (made : longer ≡ gathered taken time byte) where
       pub lengthened : set lines n longer ≡ with_byte lines m time byte
       lengthened =
           let is_own : taken ≡ own m lines = taken_own m lines n at are taken goes_parts.0 is in
