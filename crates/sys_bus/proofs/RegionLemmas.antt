@@ -9,11 +9,9 @@ use Rattle.sys_bus.specs.declared.region.RegionKind.TheVariants.{Ram, Clint, Pli
 use Rattle.sys_bus.specs.declared.region.Target.TheVariants as to
 use Rattle.sys_bus.specs.Region.{holds, overlaps, count_of_overlaps, are_apart, target, target_by, target_if, target_of}
 use Rattle.sys_bus.specs.Region.{room_if, room_of, further, end_of, are_addressed, HasByte, IsWithin, LiesIn}
-use Rattle.sys_bus.specs.Region.{step_of, IsWidth}
 use Rattle.sys_bus.specs.declared.near.Near.{Near}
-use Rattle.sys_bus.specs.declared.near.NearDevice.{NearDevice}
 use Rattle.sys_bus.specs.declared.near.Place.{Place}
-use Rattle.sys_bus.specs.Inner.Near.{IsNear, IsNearDevice, IsNearPlace, IsPlaceNear}
+use Rattle.sys_bus.specs.Inner.Near.{IsNear, IsNearPlace}
 use Rattle.sys_bus.specs.Place.{IsPlace}
 use Rattle.sys_bus.proofs.CountLemmas.{filtered_within_count, one_place, some_passes, sole_found, found_passes}
 use Rattle.sys_bus.proofs.CountLemmas.{passes_at}
@@ -134,42 +132,3 @@ near_found regions at width part region near apart found kind base starts part_i
     let offset : near.base + i - region.base ≡ i = omega (arith, base) in
     near_holds regions (near.base + i) w there.1.0 region few.0 apart there.1.1 held
     ∙ rw (kind, offset, part_is) refl
-
--- an access of a device that is kept belongs to it
-pub near_register :
-    (regions : List Region) (near : NearDevice) (at width offset : ℕ) →
-    IsNearDevice regions near → IsWidth width → IsPlaceNear near at width offset →
-    (target_of regions at width ≡ to.Dev near.dev offset) × IsWithin regions width (to.Dev near.dev offset)
-near_register regions near at width offset kept wide found =
-    let target : target_of regions at width ≡ to.Dev near.dev offset =
-    rw (← found.address) (kept.places offset width found.within wide) in
-    (target, rw target at (within_target regions at width))
-
--- a device that was found is kept
-pub near_device_found :
-    (regions : List Region) (at width dev : ℕ) (region : Region) (near : NearDevice) →
-    IsTrue (are_apart regions) → find (holds at width) regions ≡ Some region → region.kind ≡ Dev dev →
-    near.base ≡ region.base → near.size ≡ region.size → near.dev ≡ dev → near.step ≡ step_of regions dev →
-    IsNearDevice regions near
-near_device_found regions at width dev region near apart found kind base size dev_is step = record {
-  places = λ i w below wide.
-      let there = found_passes (holds at width) regions region found in
-      let few : 0 < w = grind (arith, wide) in
-      let held : holds (near.base + i) w region ≡ true = grind (arith, nat_tests, base, size, below) in
-      let offset : near.base + i - region.base ≡ i = omega (arith, base) in
-      near_holds regions (near.base + i) w there.1.0 region few apart there.1.1 held
-      ∙ rw (kind, offset, dev_is) refl;
-  step = rw (dev_is) step;
-}
-
--- of a device no place is known
-pub no_place :
-    (regions : List Region) (near : NearDevice) → near.size ≡ 0 → near.step ≡ step_of regions near.dev →
-    IsNearDevice regions near
-no_place regions near none step = record {
-  places = λ i w below wide. absurd (few w wide (omega (arith, none, below)));
-  step = step;
-}
-  where
-    few : (w : ℕ) → IsWidth w → w ≤ 0 → ⊥
-    few w wide none = grind (arith, wide, none)

@@ -1,6 +1,5 @@
-//! The memory and the device in which an access is sought first.
+//! The memory in which an access is sought first.
 ghost use Rattle.std.specs.Prelude.{◌≡◌, ◌+◌, ◌-◌, ◌≤◌, ◌^◌, IfSome};
-ghost use Rattle.sys_bus.specs.Region.{IsWidth};
 
 use crate::region::Region;
 
@@ -64,68 +63,6 @@ impl Near {
                 part: self.part,
                 at: offset,
             })
-        } else {
-            None
-        }
-    }
-}
-
-/// The device in which an access is sought first, with the distance of its registers, likewise.
-#[derive(Clone, Copy)]
-pub(crate) struct NearDevice {
-    /// The address of its first byte.
-    base: u32,
-    /// How many bytes it has. 0 where it is not known where they lie.
-    size: u32,
-    pub(crate) dev: u8,
-    /// How many bytes lie from one register to the next.
-    pub(crate) step: u8,
-    ghost addressed: { base + size ≤ 2 ^ 32 },
-}
-
-impl NearDevice {
-    ghost use Rattle.sys_bus.specs.Region.{end_of};
-    ghost use Rattle.sys_bus.specs.Inner.Near.{IsPlaceNear};
-
-    /// A device of which it is not known where it lies.
-    pub(crate) fn nowhere(dev: u8, step: u8) -> NearDevice
-        ensures size { result.size ≡ 0 }
-        ensures dev { result.dev ≡ dev }
-        ensures step { result.step ≡ step }
-    {
-        NearDevice {
-            base: 0,
-            size: 0,
-            dev,
-            step,
-        }
-    }
-
-    /// The device of this number, in this region.
-    pub(crate) fn of(region: &Region, dev: u8, step: u8) -> NearDevice
-        requires { end_of region.now ≤ 2 ^ 32 }
-        ensures base { result.base ≡ region.now.base }
-        ensures size { result.size ≡ region.now.size }
-        ensures dev { result.dev ≡ dev }
-        ensures step { result.step ≡ step }
-    {
-        NearDevice {
-            base: region.base,
-            size: region.size,
-            dev,
-            step,
-        }
-    }
-
-    /// How far from the device's first byte an address lies, if so many bytes of it lie from there on.
-    #[inline(always)]
-    pub(crate) fn place(&self, at: u32, width: u8) -> Option<u32>
-        requires { IsWidth width }
-        ensures { IfSome result (IsPlaceNear self.now at width) }
-    {
-        let offset = at.wrapping_sub(self.base);
-        if u64::from(offset) + u64::from(width) <= u64::from(self.size) {
-            Some(offset)
         } else {
             None
         }

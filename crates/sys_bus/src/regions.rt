@@ -5,7 +5,7 @@ ghost use Rattle.sys_bus.specs.Region.{holds, overlaps, count_of_overlaps, are_a
 ghost use Rattle.sys_bus.specs.Region.{HasByte, target_if, room_of, step_of, further, IsWithin, IsWidth};
 ghost use Rattle.sys_bus.specs.Place.{IsPlace};
 
-use crate::near::{Near, NearDevice, Place};
+use crate::near::{Near, Place};
 use crate::region::{Region, RegionKind, Target, is_same_part};
 use std::marker::Model;
 
@@ -40,21 +40,15 @@ pub struct Regions {
     list: Vec<Region>,
     /// The memory of the last fetch.
     of_code: Near,
-    /// The one of the last fetch before that lay in another.
-    of_code_before: Near,
     /// The memory of the last load or store.
     of_data: Near,
-    /// The one of the last load or store before that lay in another.
-    of_data_before: Near,
-    /// The device of the last load or store.
-    of_device: NearDevice,
 }
 
 impl Model for Regions {
     ghost use Rattle.std.specs.Prelude.{List, IsTrue};
     ghost use Rattle.sys_bus.specs.declared.region.Region.{Region};
     ghost use Rattle.sys_bus.specs.Region.{are_apart, are_addressed};
-    ghost use Rattle.sys_bus.specs.Inner.Near.{IsNear, IsNearDevice};
+    ghost use Rattle.sys_bus.specs.Inner.Near.{IsNear};
 
     ghost Value = { List Region };
 
@@ -64,10 +58,7 @@ impl Model for Regions {
         IsTrue (are_apart r.list.items)
         × IsTrue (are_addressed r.list.items)
         × IsNear r.list.items r.of_code
-        × IsNear r.list.items r.of_code_before
-        × IsNear r.list.items r.of_data
-        × IsNear r.list.items r.of_data_before
-        × IsNearDevice r.list.items r.of_device };
+        × IsNear r.list.items r.of_data };
 }
 
 impl Regions {
@@ -76,14 +67,10 @@ impl Regions {
         requires addressed { IsTrue (are_addressed list.items) }
         ensures { result ≡ list.items }
     {
-        let step = step_in(&list, 0);
         Regions {
             list,
             of_code: Near::none(),
-            of_code_before: Near::none(),
             of_data: Near::none(),
-            of_data_before: Near::none(),
-            of_device: NearDevice::nowhere(0, step),
         }
     }
 
@@ -132,44 +119,7 @@ impl Regions {
     }
 
     /// What the word of a fetch belongs to. `near_code` knows a memory from then on.
-    #[inline]
     pub fn find_code(&mut self, at: u32) -> Target
-        ensures target { result ≡ target_of self.old at 4 }
-        ensures within { IsWithin self.old 4 result }
-        ensures same { self.new ≡ self.old }
-    {
-        if let Some(place) = self.known_word(at) {
-            return Target::Ram {
-                part: place.part,
-                at: place.at,
-            };
-        }
-        if let Some(place) = self.of_code_before.place(at) {
-            let last = self.of_code;
-            self.of_code = self.of_code_before;
-            self.of_code_before = last;
-            return Target::Ram {
-                part: place.part,
-                at: place.at,
-            };
-        }
-        self.seek_code(at)
-    }
-
-    /// The place of a word in the memory of the last fetch, or of the last load or store: an atomic
-    /// instruction asks so for the word that it changes.
-    #[inline(always)]
-    fn known_word(&self, at: u32) -> Option<Place>
-        ensures { IfSome result (IsPlace self.now at) }
-    {
-        match self.near_code(at) {
-            Some(place) => Some(place),
-            None => self.near_data(at),
-        }
-    }
-
-    /// What the word of a fetch belongs to, by a search of all regions.
-    fn seek_code(&mut self, at: u32) -> Target
         ensures target { result ≡ target_of self.old at 4 }
         ensures within { IsWithin self.old 4 result }
         ensures same { self.new ≡ self.old }
@@ -178,38 +128,13 @@ impl Regions {
             return Target::Nothing;
         };
         if let RegionKind::Ram(part) = region.kind {
-            self.of_code_before = self.of_code;
             self.of_code = Near::of(&region, part);
         }
         region.target(at)
     }
 
     /// What a load or a store of `width` bytes belongs to. `near_data` knows a memory from then on.
-    #[inline]
     pub fn find_data(&mut self, at: u32, width: u8) -> Target
-        requires { IsWidth width }
-        ensures target { result ≡ target_of self.old at width }
-        ensures within { IsWithin self.old width result }
-        ensures same { self.new ≡ self.old }
-    {
-        if let Some(offset) = self.of_device.place(at, width) {
-            let dev = self.of_device.dev;
-            return Target::Dev { dev, at: offset };
-        }
-        if let Some(place) = self.of_data_before.place(at) {
-            let last = self.of_data;
-            self.of_data = self.of_data_before;
-            self.of_data_before = last;
-            return Target::Ram {
-                part: place.part,
-                at: place.at,
-            };
-        }
-        self.seek_data(at, width)
-    }
-
-    /// The same by a search of all regions.
-    fn seek_data(&mut self, at: u32, width: u8) -> Target
         requires { IsWidth width }
         ensures target { result ≡ target_of self.old at width }
         ensures within { IsWithin self.old width result }
@@ -218,16 +143,8 @@ impl Regions {
         let Some(region) = self.holder(at, width) else {
             return Target::Nothing;
         };
-        match region.kind {
-            RegionKind::Ram(part) => {
-                self.of_data_before = self.of_data;
-                self.of_data = Near::of(&region, part);
-            }
-            RegionKind::Dev(dev) => {
-                let step = step_in(&self.list, dev);
-                self.of_device = NearDevice::of(&region, dev, step);
-            }
-            RegionKind::Clint | RegionKind::Plic => {}
+        if let RegionKind::Ram(part) = region.kind {
+            self.of_data = Near::of(&region, part);
         }
         region.target(at)
     }
@@ -246,27 +163,17 @@ impl Regions {
 
     /// How many bytes lie from one register of a device to the next. 1 where no region is the
     /// device's.
-    #[inline(always)]
+    #[inline]
     pub fn step_of(&self, dev: u8) -> u8
         ensures { result ≡ step_of self.now dev }
     {
-        if dev == self.of_device.dev {
-            return self.of_device.step;
+        for region in &self.list {
+            if is_same_part(region.kind, RegionKind::Dev(dev)) {
+                return region.step;
+            }
         }
-        step_in(&self.list, dev)
+        1
     }
-}
-
-/// How many bytes lie from one register of a device to the next, where a board has these regions.
-fn step_in(regions: &[Region], dev: u8) -> u8
-    ensures { result ≡ step_of regions.now dev }
-{
-    for region in regions {
-        if is_same_part(region.kind, RegionKind::Dev(dev)) {
-            return region.step;
-        }
-    }
-    1
 }
 
 /// What an access of `width` bytes belongs to, where a board has these regions.

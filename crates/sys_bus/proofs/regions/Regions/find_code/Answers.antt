@@ -1,14 +1,19 @@
-use Rattle.std.proofs.Common.{Some, inr, refl}
-use Rattle.sys_bus.proofs.RegionLemmas.{near_place}
+use Rattle.std.proofs.Common.{◌∙◌, ap, sym, find}
+use Rattle.sys_bus.specs.Region.{holds}
+use Rattle.sys_bus.proofs.RegionLemmas.{found_addressed, near_found}
 use Rattle.sys_bus.proofs.regions.Regions.find_code.Goals as goal
 
-pub returns-in-Some-clause-within : goal.returns-in-Some-clause-within
-returns-in-Some-clause-within c = let there = c.in-Some.ensures 4 (inr (inr refl)) in there.1
+pub of-self-inside-requires : goal.of-self-inside-requires
+of-self-inside-requires c =
+    found_addressed _ c.args.at 4 _ c.self.invariant.1
+    (ap (find (holds c.args.at 4)) c.self.view_is ∙ sym c.in-Some.ensures.region)
 
-pub returns-in-Some-place-clause-within : goal.returns-in-Some-place-clause-within
-returns-in-Some-place-clause-within c =
-    let near =
-    near_place c.self.inside.list.items _ c.args.at (Some c.in-Some-place.place) c.self.invariant.3
-    c.in-Some-place.ensures in
-    let there = near 4 (inr (inr refl)) in
-    rw c.self.view_is at there.1
+pub invariant_of-self : goal.invariant_of-self
+invariant_of-self c =
+    let kept = c.self.invariant in
+    let near = c.of-self-inside.ensures in
+    let region = ap (find (holds c.args.at 4)) c.self.view_is ∙ sym c.in-Some.ensures.region in
+    let found =
+    near_found c.self.inside.list.items c.args.at 4 c.in-Ram.part c.in-Some.region c.of-self-inside.result kept.0
+    region c.in-Ram.is near.base near.starts near.part in
+    (kept.0, kept.1, found, kept.3)
