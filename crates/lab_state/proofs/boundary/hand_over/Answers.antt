@@ -1,5 +1,5 @@
 -- One device more was handed the payload, unless it sent it.
-use Rattle.std.proofs.Common.{◌≡◌, ap, take}
+use Rattle.std.proofs.Common.{ap, take}
 use Rattle.lab_num.specs.declared.key.Member.{Member}
 use Rattle.lab_num.specs.Route.{others}
 use Rattle.lab_state.specs.Boundary.{Handed}
