@@ -192,8 +192,11 @@ fn sharers<D: Device + Send, G: Gate>(
     ensures most { result ≤ workers }
     ensures boards { 1 < result → 1 ≤ length boards.now }
 {
+    if workers == 1 {
+        return 1;
+    }
     let awake = count_awake(boards);
-    if workers == 1 || awake <= 1 {
+    if awake <= 1 {
         return 1;
     }
     if gate.is_open() && awake_slots(boards, q) < team.least_shared() {
