@@ -107,7 +107,8 @@ pub fn run_lab<
     ensures output { OnlyWrites K.Sink (result ≡ Status.Unwritten) out.old out.new }
     ensures store { OnlyStores S.Store (result ≡ Status.Unstored) store.old store.new }
 {
-    run_words(rt, alloc, words, &mut Outside { files, out, store }, stock, gate)
+    let outside = &mut Outside { files, out, store };
+    run_words(rt, alloc, words, outside, stock, gate)
 }
 
 /// Does what the words ask for.
@@ -317,7 +318,15 @@ fn take_command<
     ensures usage { IfErr result IsNoUsage }
     ensures outside { OnlyUses F.Files K.Sink S.Store (λ status. result ≡ Err status) outside.old outside.new }
 {
-    match try_command(rt, alloc, &mut monitor, outside.files, outside.out, outside.store, gate) {
+    match try_command(
+        rt,
+        alloc,
+        &mut monitor,
+        outside.files,
+        outside.out,
+        outside.store,
+        gate,
+    ) {
         Ok(None) => Ok(monitor),
         Ok(Some(line)) => take_back(alloc, monitor, outside.store, line, outside.out),
         Err(status) => Err(status),
