@@ -31,8 +31,8 @@ Goes files out store meant status old new =
     ForHeld files store old (λ held kept.
     Course (meant held kept) kept status (told_of files out store old) (told_of files out store new))
 
--- What was lent was only read, written and called, and what the files hold has stayed. No fault is forgotten, and where
--- this is an end that a fault brings, one more was counted.
+-- What was lent was only read, written and called: what the files hold has stayed, and no fault is forgotten. `Ends`
+-- says how the run has ended, if it has. Where that is by a fault of one of the three, it has counted one more.
 pub record OnlyUses
     {F K S : Type 0} (files : FilesGhosts F) (out : SinkGhosts K) (store : StoreGhosts S) (Ends : Status → Type 0)
     (old new : Lent F K S) : Type 0 where
