@@ -3,6 +3,7 @@
 
 mod command_line;
 mod laws;
+mod outside;
 mod run;
 mod script;
 mod snapshots;
