@@ -60,8 +60,7 @@ pub fn run_lab<
     stock: Stock<D>,
     gate: &G,
 ) -> Status
-    requires { IsFull (map D.meaning stock.uarts.items) (map D.meaning stock.cans.items)
-        (map D.meaning stock.finishers.items) }
+    requires { IsFull D.meaning stock }
 
     // Where nothing cut the run short, it ended, wrote and kept as its transcript says.
     ensures outcome { IfSome (F.held files.old) (λ held. IfSome (S.kept store.old) (λ kept.
@@ -127,8 +126,7 @@ fn run_words<
     stock: Stock<D>,
     gate: &G,
 ) -> Status
-    requires { IsFull (map D.meaning stock.uarts.items) (map D.meaning stock.cans.items)
-        (map D.meaning stock.finishers.items) }
+    requires { IsFull D.meaning stock }
     ensures course { ForSome (F.held files.old) (λ held. ForSome (S.kept store.old) (λ kept.
         Course (transcript (map string_bytes words.now) held kept) kept result
         (outside F.Files K.Sink S.Store files.old out.old store.old)
@@ -184,8 +182,7 @@ fn run_generated<R: Threads + Wait + Copy + Send + Sync, D: Device + Send, K: Si
     requires some { 1 ≤ boards }
     requires few { boards ≤ 16 }
     requires workers { (1 ≤ workers) × (workers ≤ 8) }
-    requires full { IsFull (map D.meaning stock.uarts.items) (map D.meaning stock.cans.items)
-        (map D.meaning stock.finishers.items) }
+    requires full { IsFull D.meaning stock }
     ensures course { IsEnd (summary_of run seed boards) Done
         result (K.written out.old) (K.written out.new) }
     ensures usage { IsNoUsage result }
@@ -219,8 +216,7 @@ fn run_file<
     stock: Stock<D>,
     gate: &G,
 ) -> Status
-    requires full { IsFull (map D.meaning stock.uarts.items) (map D.meaning stock.cans.items)
-        (map D.meaning stock.finishers.items) }
+    requires full { IsFull D.meaning stock }
     requires some_worker { 1 ≤ request.setting.workers }
     requires few_workers { request.setting.workers ≤ 8 }
     ensures course { ForSome (F.held files.old) (λ held. ForSome (S.kept store.old) (λ kept.
@@ -259,8 +255,7 @@ fn run_script<
     stock: Stock<D>,
     gate: &G,
 ) -> Status
-    requires full { IsFull (map D.meaning stock.uarts.items) (map D.meaning stock.cans.items)
-        (map D.meaning stock.finishers.items) }
+    requires full { IsFull D.meaning stock }
     requires short { length (string_bytes text) ≤ 2 ^ 24 }
     requires some_worker { 1 ≤ request.setting.workers }
     requires few_workers { request.setting.workers ≤ 8 }
