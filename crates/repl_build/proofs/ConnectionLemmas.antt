@@ -146,11 +146,10 @@ begins names plic (Some Plic) before name known stands =
 begins names plic (Some Memory) before name known stands =
     (_, (stands _ refl, λ line from is. absurd (cc)))
 begins names plic (Some Clint) before name known stands = (what.Part part.Clint, (stands _ refl, λ line from is. is))
-begins names plic (Some (Device device)) before name known stands =
-    (
-      what.Part (part.Dev (devices_of before)),
-      (stands _ refl, λ line from is. on_line (row_of device).has_line line from is),
-    )
+begins names plic (Some (Device device)) before name known stands = (
+  what.Part (part.Dev (devices_of before)),
+  (stands _ refl, λ line from is. on_line (row_of device).has_line line from is),
+)
   where
     on_line : (has : Bool) (line : ℕ) (from : WireFrom) →
         cond {A = Option WireFrom} (has && (line == 0)) (Some (Dev (devices_of before))) None ≡ Some from →
