@@ -1,7 +1,7 @@
 -- Where accesses of a valid plan lie.
 use Rattle.std.proofs.Common.{◌≡◌, ℕ, zero, suc, ◌+◌, ◌-◌, ◌%◌, ◌^◌, ◌≤◌, ◌<◌, ◌==◌, Bool, true, false, ◌&&◌, List, []}
 use Rattle.std.proofs.Common.{◌∷◌, length, map, All, slice_get, slice_index, Option, Some, None, ◌⊎◌, inl, inr, nat_le}
-use Rattle.std.proofs.Common.{nat_lt, refl, sym, ap, ◌∙◌, arith, rules}
+use Rattle.std.proofs.Common.{◌||◌, nat_lt, refl, sym, ap, ◌∙◌, arith, rules}
 use Rattle.std.specs.Prelude.{slice_index_or, find, option_map}
 use Rattle.std.specs.List.{list_all, range_with_len}
 use Rattle.std.proofs.lemmas.Bool.Decides.{nat_tests}
@@ -11,6 +11,7 @@ use Rattle.dev_core.specs.Device.{kind_of, dev_reset, IsValid as IsValidState}
 use Rattle.dev_core.specs.declared.state.DevState.{DevState}
 use Rattle.dev_core.specs.declared.state.DevState.TheVariants as state
 use Rattle.dev_core.specs.declared.kind.Kind.{Kind}
+use Rattle.dev_core.specs.Kind.{row_of}
 use Rattle.dev_core.specs.declared.kind.Kind.TheVariants.{Uart, Can, Finisher}
 use Rattle.clint.specs.Clint.{Timer}
 use Rattle.page_ram.specs.Access.{IsInOnePage, IsRamSize}
@@ -156,10 +157,12 @@ accesses_lie s regions at (Some place) fit same one_page is = λ width access.
 
 -- registers begin 1 or 4 bytes apart
 step-is : (kind : Option Kind) (step : ℕ) → is_step kind step ≡ true → (step ≡ 1) ⊎ (step ≡ 4)
-step-is (Some Uart) step is = grind (arith, nat_tests, is)
-step-is (Some Can) step is = inl (grind (arith, nat_tests, is))
-step-is (Some Finisher) step is = inl (grind (arith, nat_tests, is))
 step-is None step is = inl (grind (arith, nat_tests, is))
+step-is (Some k) step is = by_test (row_of k).may_be_wide is
+  where
+    by_test : (wide : Bool) → ((step == 1) || (wide && (step == 4))) ≡ true → (step ≡ 1) ⊎ (step ≡ 4)
+    by_test true one = grind (arith, nat_tests, one)
+    by_test false one = inl (grind (arith, nat_tests, one))
 
 pub one_or_four : (s : Space) (dev : ℕ) → IsFit s → (step_of s.plan.regions dev ≡ 1) ⊎ (step_of s.plan.regions dev ≡ 4)
 one_or_four s dev fit =

@@ -12,7 +12,7 @@ mod saving;
 mod snapshot;
 mod valid;
 
-pub use hub::{HubKind, SavedHub};
+pub use hub::SavedHub;
 pub use lab::{SavedBoard, SavedLab, one_lab_spelling, read_lab};
 pub use loading::load;
 pub use machine::SavedMachine;

@@ -14,15 +14,13 @@ ghost use Rattle.lab_snap.specs.Hub.{hub_form};
 ghost use Rattle.lab_snap.specs.Lab.{board_form};
 ghost use Rattle.lab_snap.specs.MachineForm.{machine_form, memories_form, sized_form};
 ghost use Rattle.lab_snap.specs.Saved.{IsSpellable, saved_board, saved_hub, saved_machine, spelling};
-ghost use Rattle.lab_snap.specs.Saved as saved_spec;
 ghost use Rattle.lab_snap.specs.Snapshot.{snapshot_of};
 
-use crate::hub::HubKind;
 use crate::lab::MARK;
 use crate::memory::put_memory;
 use crate::snapshot::snapshots_are_what_they_spell;
 use board::Board;
-use dev_core::{Device, Kind};
+use dev_core::Device;
 use lab_num::{BoardNo, NoMemory};
 use lab_spell::{Spelled, put_list};
 use lab_state::Lab;
@@ -136,16 +134,6 @@ fn put_boards<D: Device>(lab: &Lab<D>, out: &mut Vec<u8>) -> Result<(), NoMemory
     Ok(())
 }
 
-/// The kind of a hub of devices of this kind. There is no hub of finishers.
-fn hub_kind(kind: Kind) -> HubKind
-    ensures { result ≡ saved_spec.hub_kind kind }
-{
-    match kind {
-        Kind::Uart => HubKind::Uart,
-        Kind::Can | Kind::Finisher => HubKind::Can,
-    }
-}
-
 /// Writes a hub: its kind, its name, its delay and its members.
 #[tactic(auto, unfolding(crate::specs::Hub::hub_form))]
 fn put_hub<D: Device>(lab: &Lab<D>, n: u32, out: &mut Vec<u8>) -> Result<(), NoMemory>
@@ -156,7 +144,7 @@ fn put_hub<D: Device>(lab: &Lab<D>, n: u32, out: &mut Vec<u8>) -> Result<(), NoM
     ensures fits { OnOk result (IfSome (slice_get lab.now.lab.hubs n) (λ hub.
         hub_form.Fits (saved_hub hub))) }
 {
-    hub_kind(lab.hub_kind(n)).put(out)?;
+    lab.hub_kind(n).put(out)?;
     lab.hub_name(n).put(out)?;
     (lab.hub_delay(n) as u32).put(out)?;
     put_list(lab.hub_members(n), out)?;

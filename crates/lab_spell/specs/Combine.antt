@@ -111,6 +111,14 @@ choice tag f g = record {
       if t.0 == tag then (f.parse t.1 >>= λ a. Some (inl a.0, a.1)) else (g.parse bytes >>= λ b. Some (inr b.0, b.1));
 }
 
+-- the byte that is the number of a value; `from` gives the value of a number
+abbrev pub numbered : {X : Type 0} → (X → ℕ) → (ℕ → Option X) → Form X
+numbered to from = record {
+  spell = λ x. to x ∷ [];
+  Fits = λ x. Unit {0};
+  parse = λ bytes. byte_at_front bytes >>= λ b. from b.0 >>= λ x. Some (x, b.1);
+}
+
 -- 0 or 1
 abbrev pub to_flag : Bool → Unit {0} ⊎ Unit {0}
 to_flag false = inl tt

@@ -1,7 +1,12 @@
 -- How the parts of the plan of a board are spelled.
-use Rattle.std.proofs.Common.{refl, ◌≡◌, ◌⊎◌, inl, inr, ℕ}
+use Rattle.std.proofs.Common.{refl, ap, ◌≡◌, ◌∙◌, ◌⊎◌, inl, inr, ℕ, Bool, true, false, cond, Some, None}
+use Rattle.std.specs.Prelude.{◌==◌}
+use Rattle.std.specs.Option.{option_map}
+use Rattle.std.proofs.lemmas.Bool.{eqb-true}
+use Rattle.std.proofs.lemmas.Option.{none-some, same_Some}
 use Rattle.dev_core.specs.declared.kind.Kind.{Kind}
-use Rattle.dev_core.specs.declared.kind.Kind.TheVariants as kind
+use Rattle.dev_core.specs.declared.kind.Kind.TheVariants.{Uart, Can, Finisher}
+use Rattle.dev_core.specs.Kind.{Row, can_row, finisher_row, kind_numbered, row_of, uart_row}
 use Rattle.sys_bus.specs.declared.region.Region.{Region}
 use Rattle.sys_bus.specs.declared.region.RegionKind.{RegionKind}
 use Rattle.sys_bus.specs.declared.region.RegionKind.TheVariants as region
@@ -15,42 +20,39 @@ use Rattle.sys_bus.specs.declared.wire.WirePin.{WirePin}
 use Rattle.sys_bus.specs.declared.wire.WirePin.TheVariants as pin
 use Rattle.sys_bus.specs.declared.wire.Wire.{Wire}
 use Rattle.lab_spell.specs.Form.{Form, IsLawful}
-use Rattle.lab_spell.specs.Combine.{byte, choice, nothing, number, tagged, text, via, ◌⊗◌}
+use Rattle.lab_spell.specs.Combine.{byte, choice, nothing, number, numbered, tagged, text, via, ◌⊗◌}
 use Rattle.lab_spell.specs.Inner.Laws.{avoids_choice, avoids_tagged, byte_lawful, choice_lawful, next_lawful}
-use Rattle.lab_spell.specs.Inner.Laws.{nothing_lawful, number_lawful, tagged_lawful, text_lawful, via_lawful}
+use Rattle.lab_spell.specs.Inner.Laws.{nothing_lawful, number_lawful, numbered_lawful, tagged_lawful, text_lawful}
+use Rattle.lab_spell.specs.Inner.Laws.{via_lawful}
 
-abbrev pub kind_to : Kind → Unit {0} ⊎ (Unit {0} ⊎ Unit {0})
-kind_to kind.Uart = inl tt
-kind_to kind.Can = inr (inl tt)
-kind_to kind.Finisher = inr (inr tt)
-
-abbrev pub kind_from : Unit {0} ⊎ (Unit {0} ⊎ Unit {0}) → Kind
-kind_from (inl x) = kind.Uart
-kind_from (inr (inl x)) = kind.Can
-kind_from (inr (inr x)) = kind.Finisher
-
-kind_again : (x : Kind) → kind_from (kind_to x) ≡ x
-kind_again kind.Uart = refl
-kind_again kind.Can = refl
-kind_again kind.Finisher = refl
-
-kind_back : (a : Unit {0} ⊎ (Unit {0} ⊎ Unit {0})) → kind_to (kind_from a) ≡ a
-kind_back (inl x) = refl
-kind_back (inr (inl x)) = refl
-kind_back (inr (inr x)) = refl
-
--- 0 for a UART, 1 for a CAN controller, 2 for a finisher
+-- the place of a kind in its table
 unfoldable pub kind_form : Form Kind
-kind_form = via kind_to kind_from (choice 0 nothing (choice 1 nothing (tagged 2 nothing)))
+kind_form = numbered (λ kind. (row_of kind).number) kind_numbered
+
+kind_again : (kind : Kind) → kind_numbered (row_of kind).number ≡ Some kind
+kind_again Uart = refl
+kind_again Can = refl
+kind_again Finisher = refl
+
+kind_back : (n : ℕ) (kind : Kind) → kind_numbered n ≡ Some kind → n ≡ (row_of kind).number
+kind_back n kind is = by_tests (n == 0) (n == 1) (n == 2) refl refl refl is
+  where
+    number_is : (own : Kind) → Some own ≡ Some kind → (row_of own).number ≡ (row_of kind).number
+    number_is own same = ap (λ (kind : Kind). (row_of kind).number) (same_Some own kind same)
+
+    by_tests :
+        (uart can finisher : Bool) → (n == 0) ≡ uart → (n == 1) ≡ can → (n == 2) ≡ finisher →
+        option_map (λ (row : Row). row.kind)
+        (cond uart (Some uart_row) (cond can (Some can_row) (cond finisher (Some finisher_row) None))) ≡ Some kind →
+        n ≡ (row_of kind).number
+    by_tests true can finisher a b c is = eqb-true n 0 a ∙ number_is Uart is
+    by_tests false true finisher a b c is = eqb-true n 1 b ∙ number_is Can is
+    by_tests false false true a b c is = eqb-true n 2 c ∙ number_is Finisher is
+    by_tests false false false a b c is = absurd (none-some kind is)
 
 pub kind_lawful : IsLawful kind_form
 unfolding kind_form
-kind_lawful =
-    via_lawful _ _ kind_again kind_back
-    (choice_lawful 0 (avoids_choice nothing (tagged 2 nothing) 0 1 refl
-    (avoids_tagged nothing 0 2 refl)) nothing_lawful
-    (choice_lawful 1 (avoids_tagged nothing 1 2 refl) nothing_lawful
-    (tagged_lawful 2 nothing_lawful)))
+kind_lawful = numbered_lawful kind_again kind_back
 
 abbrev pub region_kind_to : RegionKind → ℕ ⊎ (Unit {0} ⊎ (Unit {0} ⊎ ℕ))
 region_kind_to (region.Ram x) = inl x

@@ -16,21 +16,15 @@ impl Spelled for Kind {
 
     #[tactic(auto, unfolding(crate::specs::PlanParts::kind_form))]
     fn put(&self, out: &mut Vec<u8>) -> Result<(), NoMemory> {
-        match self {
-            Kind::Uart => out.push(0)?,
-            Kind::Can => out.push(1)?,
-            Kind::Finisher => out.push(2)?,
-        }
+        out.push(self.number())?;
         Ok(())
     }
 
     #[tactic(auto, unfolding(crate::specs::PlanParts::kind_form))]
     fn take(_alloc: Global, source: &mut Source<'_>) -> Result<Kind, SnapFault> {
-        match source.byte()? {
-            0 => Ok(Kind::Uart),
-            1 => Ok(Kind::Can),
-            2 => Ok(Kind::Finisher),
-            _ => Err(SnapFault::Bad),
+        match Kind::numbered(source.byte()?) {
+            Some(kind) => Ok(kind),
+            None => Err(SnapFault::Bad),
         }
     }
 }

@@ -31,7 +31,7 @@ use Rattle.log_merge.specs.declared.item.LogItem.TheVariants as item
 use Rattle.log_merge.specs.declared.item.Note.{Note}
 use Rattle.log_text.specs.declared.line.OpenLine.{OpenLine}
 use Rattle.log_text.specs.Log.{device_of, open_lines, IsOnBytes}
-use Rattle.sys_bus.specs.Limits.{is_kind}
+use Rattle.dev_core.specs.Kind.{is_kind}
 use Rattle.board.specs.Changes.{handed}
 use Rattle.board.specs.Sent.{IsEnteredIn, IsShown, IsToldBy}
 use Rattle.board.specs.Space.{Fitted, device_at}

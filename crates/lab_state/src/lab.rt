@@ -73,8 +73,7 @@ impl<D: Device> Lab<D> {
     /// A laboratory at time 0, without boards and hubs, at a quantum of 100 microseconds. Boards
     /// are made of the devices of the stock.
     pub fn new(alloc: Global, stock: Stock<D>) -> Result<Lab<D>, NoMemory>
-        requires { IsFull (map D.meaning stock.uarts.items) (map D.meaning stock.cans.items)
-            (map D.meaning stock.finishers.items) }
+        requires { IsFull D.meaning stock }
         ensures { IfOk result (λ made. made ≡ record {
           lab = record { boards = []; hubs = []; pending = []; now = 0; quantum = 100 };
           spent = false;

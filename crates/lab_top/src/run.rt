@@ -61,8 +61,7 @@ pub fn run_lab<
     stock: Stock<D>,
     gate: &G,
 ) -> Status
-    requires { IsFull (map D.meaning stock.uarts.items) (map D.meaning stock.cans.items)
-        (map D.meaning stock.finishers.items) }
+    requires { IsFull D.meaning stock }
 
     // Where nothing cut the run short, it ended, wrote and kept as its transcript says.
     ensures outcome { IfSome (F.held files.old) (λ held. IfSome (S.kept store.old) (λ kept.
@@ -127,8 +126,7 @@ fn run_words<
     stock: Stock<D>,
     gate: &G,
 ) -> Status
-    requires { IsFull (map D.meaning stock.uarts.items) (map D.meaning stock.cans.items)
-        (map D.meaning stock.finishers.items) }
+    requires { IsFull D.meaning stock }
     ensures course { Goes F.Files K.Sink S.Store (transcript (map string_bytes words.now))
         result outside.old outside.new }
     ensures usage { IsUsageBy (request_of (map string_bytes words.now)) result }
@@ -177,8 +175,7 @@ fn run_generated<R: Threads + Wait + Copy + Send + Sync, D: Device + Send, K: Si
     requires some { 1 ≤ boards }
     requires few { boards ≤ 16 }
     requires workers { (1 ≤ workers) × (workers ≤ 8) }
-    requires full { IsFull (map D.meaning stock.uarts.items) (map D.meaning stock.cans.items)
-        (map D.meaning stock.finishers.items) }
+    requires full { IsFull D.meaning stock }
     ensures course { IsEnd (summary_of run seed boards) Done
         result (K.written out.old) (K.written out.new) }
     ensures usage { IsNoUsage result }
@@ -210,8 +207,7 @@ fn run_file<
     stock: Stock<D>,
     gate: &G,
 ) -> Status
-    requires full { IsFull (map D.meaning stock.uarts.items) (map D.meaning stock.cans.items)
-        (map D.meaning stock.finishers.items) }
+    requires full { IsFull D.meaning stock }
     requires some_worker { 1 ≤ request.setting.workers }
     requires few_workers { request.setting.workers ≤ 8 }
     ensures course { Goes F.Files K.Sink S.Store
@@ -245,8 +241,7 @@ fn run_script<
     stock: Stock<D>,
     gate: &G,
 ) -> Status
-    requires full { IsFull (map D.meaning stock.uarts.items) (map D.meaning stock.cans.items)
-        (map D.meaning stock.finishers.items) }
+    requires full { IsFull D.meaning stock }
     requires short { length (string_bytes text) ≤ 2 ^ 24 }
     requires some_worker { 1 ≤ request.setting.workers }
     requires few_workers { request.setting.workers ≤ 8 }

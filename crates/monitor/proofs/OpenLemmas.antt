@@ -25,7 +25,7 @@ use Rattle.elf_load.specs.Map.{contents}
 use Rattle.sys_bus.specs.declared.plan.BoardPlan.{BoardPlan}
 use Rattle.sys_bus.specs.declared.region.Target.{Target}
 use Rattle.sys_bus.specs.declared.region.Target.TheVariants.{Ram, Clint, Plic, Dev, Nothing}
-use Rattle.sys_bus.specs.Limits.{is_kind}
+use Rattle.dev_core.specs.Kind.{is_kind}
 use Rattle.board.specs.Changes.{copied, put_byte, put_in, with_bytes, with_halted, with_pc, with_shown, with_speed}
 use Rattle.board.specs.New.{hidden, new_board, reset, reset_device}
 use Rattle.board.specs.Space.{Fitted, Space, target_at}

@@ -1,5 +1,5 @@
 //! A script and the laboratory that its commands work on.
-ghost use Rattle.std.specs.Prelude.{◌≡◌, ◌≤◌, ◌^◌, [], length, map, true, false, IfOk, IfSome};
+ghost use Rattle.std.specs.Prelude.{◌≡◌, ◌≤◌, ◌^◌, [], length, true, false, IfOk, IfSome};
 ghost use Rattle.std.specs.Prelude.{OnOk, OnErr, All};
 ghost use Rattle.std.specs.Option.{ForSome};
 ghost use Rattle.std.specs.String.{string_bytes};
@@ -89,8 +89,7 @@ impl<D: Device> Monitor<D> {
         stock: Stock<D>,
         setting: Setting,
     ) -> Result<Monitor<D>, NoMemory>
-        requires full { IsFull (map D.meaning stock.uarts.items) (map D.meaning stock.cans.items)
-            (map D.meaning stock.finishers.items) }
+        requires full { IsFull D.meaning stock }
         requires size { length (string_bytes text) ≤ 2 ^ 24 }
         requires some_worker { 1 ≤ setting.workers }
         requires few_workers { setting.workers ≤ 8 }

@@ -11,8 +11,8 @@ mod regions;
 mod wire;
 
 pub use limits::{
-    LEAST_CLINT, LEAST_PLIC, MOST_CANS, MOST_CONTEXTS, MOST_FINISHERS, MOST_FREQUENCY,
-    MOST_MEMORIES, MOST_MEMORY, MOST_SOURCES, MOST_UARTS, REGION_UNIT, is_speed, least_device_size,
+    LEAST_CLINT, LEAST_PLIC, MOST_CONTEXTS, MOST_FREQUENCY, MOST_MEMORIES, MOST_MEMORY,
+    MOST_SOURCES, REGION_UNIT, is_speed,
 };
 pub use near::Place;
 pub use plan::{BoardPlan, Named, NamedWhat, PlicSize};

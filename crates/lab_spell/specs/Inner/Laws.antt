@@ -17,7 +17,7 @@ use Rattle.byteorder.specs.Numbers.{little_number-reads_back, length-bytes_low_f
 use Rattle.lab_spell.specs.Form.{Form, IsBytes, IsLawful, Spells}
 use Rattle.lab_spell.specs.Reads.{Appends}
 use Rattle.lab_spell.specs.Combine.{◌>>=◌, byte_at_front, byte, number, ◌⊗◌, depend, shown, via, only, nothing}
-use Rattle.lab_spell.specs.Combine.{tagged, choice, to_flag, from_flag, flag, to_option, from_option, option}
+use Rattle.lab_spell.specs.Combine.{numbered, tagged, choice, to_flag, from_flag, flag, to_option, from_option, option}
 use Rattle.lab_spell.specs.Combine.{parse_times, times, bytes, list, text, after, marked, parse_each, each}
 
 -- ---- tools
@@ -117,6 +117,18 @@ number_lawful n = record {
 after_byte : {A : Type 0} (bytes : List ℕ) (f : ℕ × List ℕ → Option A) (y : A) →
     (byte_at_front bytes >>= f) ≡ Some y → (t : ℕ × List ℕ) × (bytes ≡ t.0 ∷ t.1) × (f t ≡ Some y)
 after_byte bytes f y e = let b = bind_some (byte_at_front bytes) f y e in (b.0, front_is bytes b.0 b.1, b.2)
+
+-- values that have numbers of their own
+pub numbered_lawful : {X : Type 0} {to : X → ℕ} {from : ℕ → Option X} → ((x : X) → from (to x) ≡ Some x) →
+    ((n : ℕ) (x : X) → from n ≡ Some x → n ≡ to x) → IsLawful (numbered to from)
+numbered_lawful {to = to} {from = from} there back = record {
+  takes = λ bytes y fits e.
+      let b = after_byte bytes (λ b. from b.0 >>= λ x. Some (x, b.1)) y e in
+      let x = bind_some (from b.0.0) (λ x. Some (x, b.0.1)) y b.2 in
+      subst (Spells (numbered to from) bytes) (same_Some (x.0, b.0.1) y x.2)
+      (b.1 ∙ ap (λ (n : ℕ). n ∷ b.0.1) (back b.0.0 x.0 x.1), tt);
+  again = λ x rest fits. rw (there x) refl;
+}
 
 -- ---- structs
 

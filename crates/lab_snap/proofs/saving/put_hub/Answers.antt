@@ -10,6 +10,6 @@ returns-clause-spelled g c =
     hub_with (λ hub. Appends c.args.out.now.items c.put_list.new.out.items (hub_form.spell hub)) _
     c.hub_kind.result c.hub_name.result.now c.hub_delay.result c.hub_members.result.now
     c.hub_kind.ensures c.hub_name.ensures.value c.hub_delay.ensures.value c.hub_members.ensures.value
-    (appended (rw c.hub_kind-2.ensures at c.in_ok-put.ensures.spelled)
+    (appended c.in_ok-put.ensures.spelled
     (appended c.in_ok-put-2.ensures.spelled
     (appended c.in_ok-put-3.ensures.spelled c.in_ok-put_list.ensures.spelled)))
