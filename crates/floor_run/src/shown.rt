@@ -14,7 +14,7 @@ ghost use Rattle.floor_run.specs.Turns.{slots_left, AfterTurns, IsTurned};
 
 use floor_core::{Job, floors_stay_sound, turns_add_up};
 
-/// Where the rule of the bench holds, its words, slots and views show a floor, which is sound. The
+/// Where the rule of the bench holds, its words, cells and views show a floor, which is sound. The
 /// floor of a bench that is opened is the one that a round begins with. Each step of the bench lets
 /// one legal event happen on the floor that it shows, or none; and the posts that a board sends
 /// while it is out change nothing on the bench. The floor may be closed exactly where each word is
