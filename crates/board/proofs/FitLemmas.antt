@@ -36,7 +36,7 @@ use Rattle.board.specs.New.{first_state, hidden, new_space, reset_device, new_ti
 use Rattle.board.specs.New.{size_of}
 use Rattle.board.specs.Space.{Space, Fitted, memory_at, with_memory, device_at, with_device, with_state}
 use Rattle.board.specs.Inner.Fit.{IsFit, LiesIn, IsInPage, HoldsAccesses}
-use Rattle.sys_bus.specs.declared.near.Place.{Place}
+use Rattle.sys_bus.specs.declared.near.MemoryPlace.{MemoryPlace}
 use Rattle.sys_bus.specs.Place.{IsPlace}
 use Rattle.std.specs.Option.{IfSome}
 use Rattle.board.proofs.ListLemmas.{any_at, passes_at, All-by_place, counted_at, found_passes}
@@ -140,7 +140,7 @@ in_page s at width target fit access one_page is =
 
 -- the place of each access in a memory that is known
 pub accesses_lie :
-    (s : Space) (regions : List Region) (at : ℕ) (place : Option Place) → IsFit s → regions ≡ s.plan.regions →
+    (s : Space) (regions : List Region) (at : ℕ) (place : Option MemoryPlace) → IsFit s → regions ≡ s.plan.regions →
     ((place width : ℕ) → IsWidth width → place % width ≡ 0 → IsInOnePage place width) →
     IfSome place (IsPlace regions at) → IfSome place (HoldsAccesses s at)
 accesses_lie s regions at None fit same one_page is = tt

@@ -30,7 +30,7 @@ use plic::Plic;
 use std::alloc::Global;
 use std::collections::VecDeque;
 use std::marker::Model;
-use sys_bus::{BoardPlan, Place, PlicSize, Regions, Target};
+use sys_bus::{BoardPlan, MemoryPlace, PlicSize, Regions, Target};
 
 /// The memories and devices of a board, in the order of its plan, and its timer and interrupt
 /// controller.
@@ -217,7 +217,7 @@ impl<D: Device> Space<D> {
 
     /// The place of an address in the memory of the last fetch. `None` says nothing.
     #[inline(always)]
-    pub fn near_code(&self, at: u32) -> Option<Place>
+    pub fn near_code(&self, at: u32) -> Option<MemoryPlace>
         ensures { IfSome result (HoldsAccesses self.now at) }
     {
         aligned_numbers_lie_in_one_page();
@@ -226,7 +226,7 @@ impl<D: Device> Space<D> {
 
     /// The place of an address in the memory of the last load or store. `None` says nothing.
     #[inline(always)]
-    pub fn near_data(&self, at: u32) -> Option<Place>
+    pub fn near_data(&self, at: u32) -> Option<MemoryPlace>
         ensures { IfSome result (HoldsAccesses self.now at) }
     {
         aligned_numbers_lie_in_one_page();

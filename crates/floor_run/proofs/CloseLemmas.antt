@@ -10,7 +10,7 @@ use Rattle.std.specs.Slots.Ownership.{Filled}
 use Rattle.atomic_table.proofs.Lists.{at_longer, at_last}
 use Rattle.atomic_table.specs.Table.{Final}
 use Rattle.floor_run.specs.declared.view.View.{View}
-use Rattle.floor_run.specs.Rule.{Place, home, out, done, word_of, Homes, InPlace, Rule}
+use Rattle.floor_run.specs.Rule.{Whereabouts, home, out, done, word_of, Homes, InPlace, Rule}
 use Rattle.floor_run.specs.Close.{ClosedAs, Closing}
 use Rattle.floor_run.specs.Inner.Close.{kept, Takes}
 use Rattle.floor_run.proofs.StepLemmas.{there, below}
@@ -54,7 +54,7 @@ module _ {J : Type 0} (left : J → ℕ) (AfterTurns : J → ℕ → J → Type 
       (same : (y : Option J) → get_elem? homes i ≡ some (some y) → get_elem? cells i ≡ some y)
       (taken : (x : Option J) → get_elem? cells i ≡ some x → get_elem? jobs i ≡ some (kept word x)) where
     closed_at :
-        (place : Place) → word ≡ word_of q place → InPlace left AfterTurns homes views start i q place →
+        (place : Whereabouts) → word ≡ word_of q place → InPlace left AfterTurns homes views start i q place →
         (job : Option J) × (get_elem? jobs i ≡ some job) × ClosedAs left AfterTurns start word job
     closed_at home shown p =
         let quarter : word / 4 ≡ q = omega arith in

@@ -14,7 +14,7 @@ use Rattle.dev_core.specs.declared.post.Post.{Post}
 use Rattle.floor_core.specs.Job.{Job, Rests}
 use Rattle.floor_run.specs.declared.view.View.{View}
 use Rattle.floor_run.specs.Turns.{slots_left, AfterTurns}
-use Rattle.floor_run.specs.Rule.{Place, home, done, Tally, Homes, BoardRule, ViewRule, Rule}
+use Rattle.floor_run.specs.Rule.{Whereabouts, home, done, Tally, Homes, BoardRule, ViewRule, Rule}
 use Rattle.floor_run.specs.View.{fresh}
 use Rattle.floor_run.proofs.StepLemmas.{below}
 use Rattle.floor_run.proofs.TurnLemmas.{begins}
@@ -49,9 +49,9 @@ got_mapped f l i a e = got (map f l) i (f a) 0 (at_map f l i a e)
 pub all_at : {A : Type 0} → (P : A → Type 0) (l : List A) (i : ℕ) (a : A) → All P l → get_elem? l i ≡ some a → P a
 all_at P l i a all e = subst P (got l i a a e) (all i a (below l i a e))
 
-abbrev place_of : Bool → Place
-place_of true = done
-place_of false = home
+abbrev whereabouts_of : Bool → Whereabouts
+whereabouts_of true = done
+whereabouts_of false = home
 
 module _ {J S : Type 0} (meaning : J → Job S) (sent : J → List Post)
     (state_after : S → List (Option Post) → ℕ → S) where
@@ -66,13 +66,13 @@ module _ {J S : Type 0} (meaning : J → Job S) (sent : J → List Post)
 
   abbrev tally_of : maybe.Option J → Tally
   tally_of none = (0, home)
-  tally_of (some start) = (0, place_of (L start == 0))
+  tally_of (some start) = (0, whereabouts_of (L start == 0))
 
   board_at :
       (words : List ℕ) (homes : Homes J) (views : List (View J)) (start : J) (i : ℕ) →
       get_or words (i + 1) 0 ≡ word start → get_elem? homes i ≡ some (some (Some start)) → At start 0 start →
       L start < 18446744073709551616
-      → (b : Bool) → (L start == 0) ≡ b → BoardRule L At words homes views start i (0, place_of b)
+      → (b : Bool) → (L start == 0) ≡ b → BoardRule L At words homes views start i (0, whereabouts_of b)
   board_at words homes views start i shown lies stands fits true is =
       let zero_is : L start ≡ 0 = grind (arith, nat_tests) in
       record {

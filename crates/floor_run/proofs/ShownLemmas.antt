@@ -24,7 +24,7 @@ use Rattle.floor_core.specs.Floor.{Board, Floor, begun, posted_by}
 use Rattle.floor_core.specs.Job.{Job, left, made, aside, after}
 use Rattle.floor_core.specs.Sound.{IsSound, Sound}
 use Rattle.floor_run.specs.declared.view.View.{View}
-use Rattle.floor_run.specs.Rule.{Place, home, out, done, word_of, home_word, Tally, Table, Holds, InPlace, Rule}
+use Rattle.floor_run.specs.Rule.{Whereabouts, home, out, done, word_of, home_word, Tally, Table, Holds, InPlace, Rule}
 use Rattle.floor_run.specs.Shown.{Shows, ShowsBoard, word, turn_slots, opened}
 use Rattle.floor_run.specs.Shown.{after_won, after_missed, after_report, after_split, after_join}
 use Rattle.floor_run.specs.Turns.{slots_left, paid, AfterTurns, IsTurned}
@@ -252,7 +252,7 @@ module _ {J S : Type 0} (meaning : J → Job S) (sent : J → List post.Post)
 
       -- a word whose bit 0 is 0 is that of a board at home with slots left
       even_word :
-          (start : J) (i q : ℕ) (place : Place) → word s i ≡ word_of q place →
+          (start : J) (i q : ℕ) (place : Whereabouts) → word s i ≡ word_of q place →
           InPlace L At s.homes s.views start i q place →
           word s i % 2 ≡ 0 → (word s i ≡ 4 * (word s i / 4)) × (4096 * (word s i / 4) < L start)
       even_word start i q home shown p even =
@@ -263,7 +263,7 @@ module _ {J S : Type 0} (meaning : J → Job S) (sent : J → List post.Post)
 
       -- and one whose bit 0 is 1 keeps it at a claim
       odd_word :
-          (start : J) (i q : ℕ) (place : Place) → word s i ≡ word_of q place → word s i % 2 ≡ 1 →
+          (start : J) (i q : ℕ) (place : Whereabouts) → word s i ≡ word_of q place → word s i % 2 ≡ 1 →
           bit_or (word s i) 1 ≡ word s i
       odd_word start i q home shown odd = absurd (omega arith)
       odd_word start i q (out seat) shown odd = ap (λ (n : ℕ). bit_or n 1) shown ∙ (or_one q ∙ sym shown)
@@ -429,7 +429,7 @@ module _ {J S : Type 0} (meaning : J → Job S) (sent : J → List post.Post)
 
       -- the word of a board at home without slots left
       paid_up :
-          (start : J) (i q : ℕ) (place : Place) → word s i ≡ word_of q place →
+          (start : J) (i q : ℕ) (place : Whereabouts) → word s i ≡ word_of q place →
           InPlace L At s.homes s.views start i q place → word s i % 4 ≡ 3 → L start ≤ 4096 * (word s i / 4)
       paid_up start i q home shown p three = absurd (omega arith)
       paid_up start i q (out seat) shown p three = absurd (omega arith)
@@ -512,7 +512,7 @@ module _ {J S : Type 0} (meaning : J → Job S) (sent : J → List post.Post)
   is_sound start (q, done) = record { job = refl; paid = omega arith; posts = append-nil _ }
 
   is_shown :
-      (s : Table J) (start : J) (i q : ℕ) (place : Place) → word s i ≡ word_of q place →
+      (s : Table J) (start : J) (i q : ℕ) (place : Whereabouts) → word s i ≡ word_of q place →
       InPlace L At s.homes s.views start i q place →
       Shown s start i (board_of start (q, place)) (made (meaning start) (board_of start (q, place)).used)
   is_shown s start i q home shown p =

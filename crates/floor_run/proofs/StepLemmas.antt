@@ -13,7 +13,7 @@ use Rattle.atomic_table.specs.Table.{Splits, Joins}
 use Rattle.atomic_table.proofs.Lists.{at_set, at_snoc, at_longer, set_here, set_else, set_again}
 use Rattle.floor_run.specs.declared.view.View.{View}
 use Rattle.floor_run.specs.Inner.Steps.{Seated, reports, claims}
-use Rattle.floor_run.specs.Rule.{Place, home, out, done, word_of, home_word, Tally, Homes, Holds, Lies, InPlace}
+use Rattle.floor_run.specs.Rule.{Whereabouts, home, out, done, word_of, home_word, Tally, Homes, Holds, Lies, InPlace}
 use Rattle.floor_run.specs.Rule.{BoardRule, ViewRule, Rule}
 use Rattle.floor_run.specs.View.{spent, empty_handed, after_claim}
 
@@ -89,7 +89,8 @@ module _ {J : Type 0} (left : J → ℕ) (AfterTurns : J → ℕ → J → Type 
 
   -- a board stays in its place where its cell and the seat that holds it stay
   stays :
-      (homes homes' : Homes J) (views : List (View J)) (id : ℕ) (v w : View J) (start : J) (j i q : ℕ) (place : Place)
+      (homes homes' : Homes J) (views : List (View J)) (id : ℕ) (v w : View J) (start : J) (j i q : ℕ)
+      (place : Whereabouts)
       → get_elem? views id ≡ some v →
       ((job : J) → v.held ≡ Some job → v.board ≡ i) → j ≢ i → get_elem? homes' j ≡ get_elem? homes j
       → InPlace left AfterTurns homes views start j q place →
@@ -171,7 +172,7 @@ module _ {J : Type 0} (left : J → ℕ) (AfterTurns : J → ℕ → J → Type 
     roomy_word = let a = below starts i start has in let b = r.wide in omega arith
 
     missed :
-        (n q : ℕ) (place : Place) → r.tallies i ≡ (q, place) → n ≡ word_of q place → bit_or n 1 ≡ n →
+        (n q : ℕ) (place : Whereabouts) → r.tallies i ≡ (q, place) → n ≡ word_of q place → bit_or n 1 ≡ n →
         ((n % 4 ≡ 1) ⊎ (n % 4 ≡ 3)) → n % 2 ≡ 1
         → InPlace left AfterTurns s.homes (set s.views id (after_claim me.0 i n None)) start i q place →
         left start < 18446744073709551616 → Goes starts s (i + 1) id me (Claims n) (bit_or n 1)
@@ -195,7 +196,7 @@ module _ {J : Type 0} (left : J → ℕ) (AfterTurns : J → ℕ → J → Type 
         )
 
     claim_at :
-        (q : ℕ) (place : Place) → r.tallies i ≡ (q, place) →
+        (q : ℕ) (place : Whereabouts) → r.tallies i ≡ (q, place) →
         BoardRule left AfterTurns s.words s.homes s.views start i (q, place) →
         Goes starts s (i + 1) id me (Claims (word_of q place)) (bit_or (word_of q place) 1)
     claim_at q home is ok =
@@ -269,7 +270,7 @@ module _ {J : Type 0} (left : J → ℕ) (AfterTurns : J → ℕ → J → Type 
       (holds : me.1 ≡ (i, Some job) ∷ []) (is : r.tallies i ≡ (q, out id)) (stands : AfterTurns start (q + 1) job)
       (fits : left start < 18446744073709551616) (counts : new ≡ home_word left (me.0.found / 4 + 1) job) where
     reported :
-        (place : Place) → new ≡ word_of (q + 1) place →
+        (place : Whereabouts) → new ≡ word_of (q + 1) place →
         InPlace left AfterTurns (set s.homes i (some (Some job))) (set s.views id (empty_handed me.0)) start i
         (q + 1) place
         → Goes starts s (i + 1) id me (reports left (step cells (i + 1) new 0 none) me new) new
@@ -359,7 +360,7 @@ module _ {J : Type 0} (left : J → ℕ) (AfterTurns : J → ℕ → J → Type 
       }
     where
       longer :
-          (x : J) (i q : ℕ) (place : Place) → InPlace left AfterTurns s.homes s.views x i q place →
+          (x : J) (i q : ℕ) (place : Whereabouts) → InPlace left AfterTurns s.homes s.views x i q place →
           InPlace left AfterTurns s.homes (s.views ++ empty_handed v ∷ []) x i q place
       longer x i q home p = p
       longer x i q done p = p
@@ -395,7 +396,7 @@ module _ {J : Type 0} (left : J → ℕ) (AfterTurns : J → ℕ → J → Type 
     where
       kept :
           get_elem? s.views other ≡ some w →
-          (x : J) (i q : ℕ) (place : Place) → InPlace left AfterTurns s.homes s.views x i q place →
+          (x : J) (i q : ℕ) (place : Whereabouts) → InPlace left AfterTurns s.homes s.views x i q place →
           InPlace left AfterTurns s.homes (set s.views other spent) x i q place
       kept there' x i q home p = p
       kept there' x i q done p = p

@@ -9,13 +9,13 @@ use Rattle.atomic_table.specs.Table.{State}
 use Rattle.floor_run.specs.declared.view.View.{View}
 
 -- where a board is: at home with slots left, out with the seat of this number, or at home and paid up
-pub data Place : Type 0 where
-  home : Place
-  out : ℕ → Place
-  done : Place
+pub data Whereabouts : Type 0 where
+  home : Whereabouts
+  out : ℕ → Whereabouts
+  done : Whereabouts
 
 -- the word of a board that was reported so often
-abbrev pub word_of : ℕ → Place → ℕ
+abbrev pub word_of : ℕ → Whereabouts → ℕ
 word_of r home = 4 * r
 word_of r (out seat) = 4 * r + 1
 word_of r done = 4 * r + 3
@@ -26,7 +26,7 @@ home_word left r job = word_of r (if left job == 0 then done else home)
 
 -- how often a board was reported, and where it is
 abbrev pub Tally : Type 0
-Tally = ℕ × Place
+Tally = ℕ × Whereabouts
 
 -- the cells, each with what lies in it unless a seat has taken it
 abbrev pub Homes : Type 0 → Type 0
@@ -48,7 +48,7 @@ module _ {J : Type 0} where
     Lies homes start i r = (job : J) × (get_elem? homes i ≡ some (some (Some job))) × AfterTurns start r job
 
     -- a board is out or at home only with slots left, and paid up only without
-    abbrev pub InPlace : Homes J → List (View J) → J → ℕ → ℕ → Place → Type 0
+    abbrev pub InPlace : Homes J → List (View J) → J → ℕ → ℕ → Whereabouts → Type 0
     InPlace homes views start i r home = (4096 * r < left start) × Lies homes start i r
     InPlace homes views start i r (out seat) = (4096 * r < left start) × Holds views i seat
     InPlace homes views start i r done = (left start ≤ 4096 * r) × Lies homes start i r

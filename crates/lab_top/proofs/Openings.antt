@@ -14,7 +14,7 @@ use Rattle.resc_vars.specs.declared.cause.ScriptCause.{ScriptCause}
 use Rattle.monitor.specs.declared.fault.ScriptFault.{ScriptFault}
 use Rattle.monitor.specs.declared.setting.Setting.{Setting}
 use Rattle.monitor.specs.Answer.{fault_at}
-use Rattle.monitor.specs.State.{Place, started}
+use Rattle.monitor.specs.State.{LinePlace, started}
 use Rattle.lab_top.specs.declared.script.Opened.{Opened}
 use Rattle.lab_top.specs.declared.script.Opened.TheVariants as opened_by
 use Rattle.lab_top.specs.declared.status.Status.{Status}
@@ -37,7 +37,7 @@ told P fact x is = rw is at fact
 -- ---- how a file was opened
 
 -- a file that is faulty was refused so, or memory ran out
-pub refused_content : (is : Content) (name : List ℕ) (place : Place) (cause : ScriptCause) (opened : Opened)
+pub refused_content : (is : Content) (name : List ℕ) (place : LinePlace) (cause : ScriptCause) (opened : Opened)
     (log log' : Log) →
     is ≡ Faulty (fault_at place cause) → log' ≡ grown log (name ∷ []) → IsRefused place cause opened →
     IsOpened is name opened log log'

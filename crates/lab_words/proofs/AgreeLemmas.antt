@@ -7,7 +7,7 @@ use Rattle.clap.specs.Walk.{Row, Walk, settled, walked}
 use Rattle.clap.specs.Simple.{Shape}
 use Rattle.clap.specs.Kinds.{Kinds, or_else}
 use Rattle.clap.specs.Faults.{settle_fault, turn_fault, walk_fault}
-use Rattle.lab_words.specs.Grammar.{Form, Place, Reading, Text, anything, give_plain, plain_only, sort_of, take_any}
+use Rattle.lab_words.specs.Grammar.{Form, Expected, Reading, Text, anything, give_plain, plain_only, sort_of, take_any}
 use Rattle.lab_words.specs.Grammar.{take_at, take_text, take_word, text_of_option, texts_at, texts_from}
 use Rattle.lab_words.proofs.RowLemmas.{rows_of_texts}
 use Rattle.lab_words.proofs.SortLemmas.{sort_facts}
@@ -80,7 +80,7 @@ module _ (s : Shape) (f : Form) (fits : Fits s f) where
   abbrev Steps : Walk → Text → Option Reading → Type 0
   Steps w word next = StepOf s f (turn_fault s [] w word) (walked s.rules [] w word) next
 
-  step_at : (place : Place) (left : List Text) (given : List (Text × Text)) (w : Walk) (word : Text) → IsUtf8 word
+  step_at : (place : Expected) (left : List Text) (given : List (Text × Text)) (w : Walk) (word : Text) → IsUtf8 word
       → Stands s f (reading place left given) w → Steps w word (take_at f place word (reading place left given))
   step_at anything left given w word utf8 (rows, pending, position, is, at, settles) =
       subst (λ v. Steps v word (take_any f (sort_of word) word (reading anything left given))) (sym is)
@@ -97,7 +97,7 @@ module _ (s : Shape) (f : Form) (fits : Fits s f) where
   abbrev AgreesAtEnd : Walk → Option (List (Text × Text)) → Type 0
   AgreesAtEnd w given = Agrees (end_fault s w) (settled s.rules w.held).rows given
 
-  agree_at_end : (place : Place) (left : List Text) (given : List (Text × Text)) (w : Walk)
+  agree_at_end : (place : Expected) (left : List Text) (given : List (Text × Text)) (w : Walk)
       → Stands s f (reading place left given) w → AgreesAtEnd w (texts_at place given)
   agree_at_end anything left given w (rows, pending, position, is, at, settles) =
       subst (λ (v : Walk). AgreesAtEnd v (Some given)) (sym is) settles

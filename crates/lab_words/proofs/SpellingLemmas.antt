@@ -8,7 +8,7 @@ use Rattle.std.proofs.lemmas.Bool.{and_from, and_parts, eqb-true, false≢true, 
 use Rattle.std.proofs.lemmas.List.Sums.{prefix_len_stops, split_at_first, take_while-cons}
 use Rattle.std.proofs.lemmas.Option.{none-some}
 use Rattle.std.proofs.lemmas.Slice.Eq.{bytes_eq-Decides}
-use Rattle.lab_words.specs.Grammar.{Form, Place, Reading, Sort, Text, after_dash, after_two_dashes, anything}
+use Rattle.lab_words.specs.Grammar.{Form, Expected, Reading, Sort, Text, after_dash, after_two_dashes, anything}
 use Rattle.lab_words.specs.Grammar.{check_form}
 use Rattle.lab_words.specs.Grammar.{end_of_options, gen_form, give, give_option, give_plain, is_among, is_complete}
 use Rattle.lab_words.specs.Grammar.{is_dash, is_equals, is_given, option, plain, plain_only, run_form, sort_of}
@@ -189,14 +189,14 @@ spelled (a ∷ rest) = by_first rest (is_dash a) refl
 
 module _ (form : Form) where
   -- the words that may come at a place are those of a line, or its rest
-  abbrev IsRest : Place → List Text → Type 0
+  abbrev IsRest : Expected → List Text → Type 0
   IsRest anything words = AreOf form words
   IsRest (text_of_option name) words =
       (text : Text) × (rest : List Text) × (words ≡ text ∷ rest) × (may_be_plain text ≡ true) × AreOf form rest
   IsRest plain_only words = Unit
 
   abbrev Rests : List Text → Type 0
-  Rests words = (place : Place) (left : List Text) (given out : List (Text × Text))
+  Rests words = (place : Expected) (left : List Text) (given out : List (Text × Text))
       → texts_from form (reading place left given) words ≡ Some out → IsRest place words
 
   abbrev one_more : Part → Line → Line

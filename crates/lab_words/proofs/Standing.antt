@@ -9,7 +9,7 @@ use Rattle.clap.specs.Kinds.{Kinds}
 use Rattle.clap.specs.Faults.{settle_fault}
 use Rattle.clap.specs.declared.builder.action.ArgAction.TheVariants.{Set}
 use Rattle.clap.specs.declared.builder.value_parser.ValueParser.TheVariants as vp
-use Rattle.lab_words.specs.Grammar.{Form, Place, Reading, Text, anything, is_among, plain_only, text_of_option}
+use Rattle.lab_words.specs.Grammar.{Form, Expected, Reading, Text, anything, is_among, plain_only, text_of_option}
 use Rattle.lab_words.proofs.RowLemmas.{rows_of_texts}
 
 -- an argument of our commands, as clap has built it: one text, at most once, and a positional is wanted
@@ -66,7 +66,7 @@ settle s rows pending = settle_fault s.rules s.args_override_self (held rows pen
 abbrev pub Settles : Shape → List Row → Option (Text × List Text) → List (Text × Text) → Type 0
 Settles s rows pending given = (settle s rows pending ≡ []) × (settled_rows s.rules pending rows ≡ rows_of_texts given)
 
-abbrev pub StandsAt : Shape → Form → Place → Reading → Walk → Type 0
+abbrev pub StandsAt : Shape → Form → Expected → Reading → Walk → Type 0
 StandsAt s f anything r w = (rows : List Row) × (pending : Option (Text × List Text)) × (position : ℕ)
     × (w ≡ stand rows pending idle position false) × PlainAt s.rules position r.left × Settles s rows pending r.given
 StandsAt s f plain_only r w = (rows : List Row) × (pending : Option (Text × List Text)) × (position : ℕ)

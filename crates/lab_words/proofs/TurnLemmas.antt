@@ -14,7 +14,7 @@ use Rattle.clap.specs.Kinds.{Kinds, or_else}
 use Rattle.clap.specs.Faults.{flags_fault, step_fault, turn_fault, use_fault}
 use Rattle.clap.specs.declared.error.kind.ErrorKind.{ErrorKind}
 use Rattle.clap.specs.declared.error.kind.ErrorKind.TheVariants as kind
-use Rattle.lab_words.specs.Grammar.{Form, Place, Reading, Sort, Text, anything, end_of_options, give, give_option}
+use Rattle.lab_words.specs.Grammar.{Form, Expected, Reading, Sort, Text, anything, end_of_options, give, give_option}
 use Rattle.lab_words.specs.Grammar.{give_plain, is_among, is_given, option, plain, plain_only, stray, take_any}
 use Rattle.lab_words.specs.Grammar.{take_text}
 use Rattle.lab_words.specs.Grammar.{text_of_option}
@@ -78,11 +78,11 @@ same_text name = (bytes_eq-Decides name name).1 refl
 
 -- ---- a word for a positional
 
-abbrev pub place_of : Bool → Place
+abbrev pub place_of : Bool → Expected
 place_of true = plain_only
 place_of false = anything
 
-abbrev pub reading : Place → List Text → List (Text × Text) → Reading
+abbrev pub reading : Expected → List Text → List (Text × Text) → Reading
 reading place left given = record { place = place; left = left; given = given }
 
 module _ (s : Shape) (t : Bool) (rows : List Row) (pending : Option (Text × List Text)) (position : ℕ)

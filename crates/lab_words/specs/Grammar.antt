@@ -50,17 +50,17 @@ pub record Form : Type 0 where
   pub option_names : List Text
 
 -- what may come next
-pub data Place : Type 0 where
+pub data Expected : Type 0 where
   -- a plain word, an option or the end of the options
-  anything : Place
+  anything : Expected
   -- the text of the option that was named last
-  text_of_option : Text → Place
+  text_of_option : Text → Expected
   -- a plain word, whatever it begins with
-  plain_only : Place
+  plain_only : Expected
 
 -- how far the words are read: the names of plain words that are still to come, and the names that have their text
 pub record Reading : Type 0 where
-  pub place : Place
+  pub expected : Expected
   pub left : List Text
   pub given : List (Text × Text)
 
@@ -83,10 +83,10 @@ give_plain (name ∷ left) text reading = give name text (record reading { left 
 -- an option has its text after `=`, or in the next word
 abbrev pub give_option : Text → Option Text → Reading → Option Reading
 give_option name (Some text) reading = give name text reading
-give_option name None reading = Some (record reading { place = text_of_option name })
+give_option name None reading = Some (record reading { expected = text_of_option name })
 
 abbrev pub take_any : Form → Sort → Text → Reading → Option Reading
-take_any form end_of_options word reading = Some (record reading { place = plain_only })
+take_any form end_of_options word reading = Some (record reading { expected = plain_only })
 take_any form (option name text) word reading =
     if is_among name form.option_names then give_option name text reading else None
 take_any form stray word reading = None
@@ -94,30 +94,30 @@ take_any form plain word reading = give_plain reading.left word reading
 
 -- the text of an option, as a word of its own, does not begin with `-`, or is `-` itself
 abbrev pub take_text : Text → Sort → Text → Reading → Option Reading
-take_text name plain word reading = give name word (record reading { place = anything })
+take_text name plain word reading = give name word (record reading { expected = anything })
 take_text name sort word reading = None
 
-abbrev pub take_at : Form → Place → Text → Reading → Option Reading
+abbrev pub take_at : Form → Expected → Text → Reading → Option Reading
 take_at form anything word reading = take_any form (sort_of word) word reading
 take_at form (text_of_option name) word reading = take_text name (sort_of word) word reading
 take_at form plain_only word reading = give_plain reading.left word reading
 
 -- one word more
 abbrev pub take_word : Form → Reading → Text → Option Reading
-take_word form reading word = take_at form reading.place word reading
+take_word form reading word = take_at form reading.expected word reading
 
 -- at the end no option may want its text
-abbrev pub texts_at : Place → List (Text × Text) → Option (List (Text × Text))
+abbrev pub texts_at : Expected → List (Text × Text) → Option (List (Text × Text))
 texts_at (text_of_option name) given = None
 texts_at place given = Some given
 
 unfoldable pub texts_from : Form → Reading → List Text → Option (List (Text × Text))
-texts_from form reading [] = texts_at reading.place reading.given
+texts_from form reading [] = texts_at reading.expected reading.given
 texts_from form reading (word ∷ words) =
     option_and_then (λ next. texts_from form next words) (take_word form reading word)
 
 abbrev pub start_of : Form → Reading
-start_of form = record { place = anything; left = form.plain_names; given = [] }
+start_of form = record { expected = anything; left = form.plain_names; given = [] }
 
 -- no plain word is missing
 abbrev pub is_complete : Form → List (Text × Text) → Bool

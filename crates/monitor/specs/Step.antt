@@ -7,7 +7,7 @@ use Rattle.resc_vars.specs.Script as script
 use Rattle.monitor.specs.declared.step.Step.{Step}
 use Rattle.monitor.specs.declared.step.Step.TheVariants.{Text, Save, Load, End, Fault, Unread, Memory}
 use Rattle.monitor.specs.Answer.{Goes, Saves, Loads, Ends, Faults, Did}
-use Rattle.monitor.specs.State.{State, Place}
+use Rattle.monitor.specs.State.{State, LinePlace}
 
 -- a monitor, by how many workers its boards are run, whether its laboratory is spent, and whether its script has ended
 pub record Running : Type 0 where
@@ -21,7 +21,7 @@ abbrev pub going : ℕ → State → Running
 going workers s = record { state = s; workers = workers; spent = false; ended = false }
 
 -- the line of this number in a file
-abbrev pub line_in : List ℕ → ℕ → Place
+abbrev pub line_in : List ℕ → ℕ → LinePlace
 line_in file line = record { file = file; number = line }
 
 -- a step has done what a command does and has asked for the names that it reads, or was cut short

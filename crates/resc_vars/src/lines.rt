@@ -17,7 +17,7 @@ use std::rc::Rc;
 
 /// Where lines begin in their text.
 #[derive(Clone, Copy)]
-struct Place {
+struct Extent {
     at: usize,
     /// The number of the first.
     number: u32,
@@ -29,7 +29,7 @@ struct Place {
 #[derive(Drop)]
 pub(crate) struct Lines {
     text: Rc<String>,
-    place: Place,
+    extent: Extent,
 }
 
 impl Model for Lines {
@@ -41,10 +41,10 @@ impl Model for Lines {
 
     ghost Value = { List Line };
 
-    ghost view = { λ l. shown l.place.most l.place.number (drop l.place.at (string_bytes l.text.value)) };
+    ghost view = { λ l. shown l.extent.most l.extent.number (drop l.extent.at (string_bytes l.text.value)) };
 
-    ghost invariant = { λ l. IsCharBoundary (string_bytes l.text.value) l.place.at
-        × numbers_fit l.place.number (drop l.place.at (string_bytes l.text.value)) };
+    ghost invariant = { λ l. IsCharBoundary (string_bytes l.text.value) l.extent.at
+        × numbers_fit l.extent.number (drop l.extent.at (string_bytes l.text.value)) };
 }
 
 /// The first of some lines, and those that follow.
@@ -108,14 +108,14 @@ impl<'a> Rest<'a> {
 }
 
 /// The place where the end of a text begins.
-fn place_of(text: &str, end: &str, number: u32, most: usize) -> Place
+fn extent_of(text: &str, end: &str, number: u32, most: usize) -> Extent
     requires { EndsWith text.now end.now }
     ensures boundary { IsCharBoundary text.now result.at }
     ensures end { drop result.at text.now ≡ end.now }
     ensures number { result.number ≡ number }
     ensures most { result.most ≡ most }
 {
-    Place {
+    Extent {
         at: text.len() - end.len(),
         number,
         most,
@@ -133,10 +133,10 @@ pub(crate) fn lines_at(
     requires fit { numbers_fit number end.now }
     ensures { IfOk result (λ made. made ≡ shown most number end.now) }
 {
-    let place = place_of(text.as_str(), end, number, most);
+    let extent = extent_of(text.as_str(), end, number, most);
     Ok(Lines {
         text: text.clone()?,
-        place,
+        extent,
     })
 }
 
@@ -149,7 +149,7 @@ impl Lines {
         let most = text.as_str().len() + 1;
         Ok(Lines {
             text: Rc::new(alloc, text)?,
-            place: Place {
+            extent: Extent {
                 at: 0,
                 number: 1,
                 most,
@@ -163,7 +163,7 @@ impl Lines {
     {
         Ok(Lines {
             text: self.text.clone()?,
-            place: self.place,
+            extent: self.extent,
         })
     }
 
@@ -171,12 +171,12 @@ impl Lines {
     pub(crate) fn take_item(&mut self, alloc: Global) -> Result<Option<Item>, NoMemory>
         ensures { IfOk result (λ item. Takes (items 0 self.old) item (items 0 self.new)) }
     {
-        let Place { at, number, most } = self.place;
+        let Extent { at, number, most } = self.extent;
         let text = &self.text.as_str()[at..];
         match first_item(alloc, &self.text, Rest { text, number, most })? {
             None => Ok(None),
             Some((item, rest)) => {
-                self.place = place_of(self.text.as_str(), rest.text, rest.number, rest.most);
+                self.extent = extent_of(self.text.as_str(), rest.text, rest.number, rest.most);
                 Ok(Some(item))
             }
         }

@@ -14,7 +14,7 @@ pub use limits::{
     LEAST_CLINT, LEAST_PLIC, MOST_CONTEXTS, MOST_FREQUENCY, MOST_MEMORIES, MOST_MEMORY,
     MOST_SOURCES, REGION_UNIT, is_speed,
 };
-pub use near::Place;
+pub use near::MemoryPlace;
 pub use plan::{BoardPlan, Named, NamedWhat, PlicSize};
 pub use region::{Region, RegionKind, Target};
 pub use regions::{

@@ -5,7 +5,7 @@ use crate::region::Region;
 
 /// A place in a memory. `at` counts in bytes from its first.
 #[derive(Clone, Copy, PartialEq, Eq, Debug)]
-pub struct Place {
+pub struct MemoryPlace {
     pub part: u8,
     pub at: u32,
 }
@@ -54,12 +54,12 @@ impl Near {
 
     /// The place of an address in the memory, if four bytes of it lie from there on.
     #[inline(always)]
-    pub(crate) fn place(&self, at: u32) -> Option<Place>
+    pub(crate) fn place(&self, at: u32) -> Option<MemoryPlace>
         ensures { IfSome result (IsNearPlace self.now at) }
     {
         let offset = at.wrapping_sub(self.base);
         if offset < self.starts {
-            Some(Place {
+            Some(MemoryPlace {
                 part: self.part,
                 at: offset,
             })

@@ -5,7 +5,7 @@ ghost use Rattle.sys_bus.specs.Region.{holds, overlaps, count_of_overlaps, are_a
 ghost use Rattle.sys_bus.specs.Region.{HasByte, target_if, room_of, step_of, further, IsWithin, IsWidth};
 ghost use Rattle.sys_bus.specs.Place.{IsPlace};
 
-use crate::near::{Near, Place};
+use crate::near::{MemoryPlace, Near};
 use crate::region::{Region, RegionKind, Target, is_same_part};
 use std::marker::Model;
 
@@ -104,7 +104,7 @@ impl Regions {
     /// The place of an address in the memory of the last fetch that was sought by `find_code`.
     /// `None` says nothing: `find_code` is to be asked.
     #[inline(always)]
-    pub fn near_code(&self, at: u32) -> Option<Place>
+    pub fn near_code(&self, at: u32) -> Option<MemoryPlace>
         ensures { IfSome result (IsPlace self.now at) }
     {
         self.of_code.place(at)
@@ -112,7 +112,7 @@ impl Regions {
 
     /// The same for loads and stores, which `find_data` seeks.
     #[inline(always)]
-    pub fn near_data(&self, at: u32) -> Option<Place>
+    pub fn near_data(&self, at: u32) -> Option<MemoryPlace>
         ensures { IfSome result (IsPlace self.now at) }
     {
         self.of_data.place(at)

@@ -3,14 +3,14 @@ use Rattle.std.specs.Prelude.{◌≡◌, ℕ, ◌≤◌, ◌^◌, List, [], ◌�
 use Rattle.lab_io.specs.Known.{grown}
 use Rattle.lab_io.specs.Asked.{Log, AsksSome}
 use Rattle.monitor.specs.Answer.{fault_at}
-use Rattle.monitor.specs.State.{Place}
+use Rattle.monitor.specs.State.{LinePlace}
 use Rattle.resc_vars.specs.declared.cause.ScriptCause.{ScriptCause}
 use Rattle.lab_top.specs.declared.script.Opened.{Opened}
 use Rattle.lab_top.specs.declared.script.Opened.TheVariants.{Text, Refused, Unread, Memory}
 use Rattle.lab_top.specs.Content as content
 
 -- a file is refused at this place for this cause, or memory ran out
-abbrev pub IsRefused : Place → ScriptCause → Opened → Type 0
+abbrev pub IsRefused : LinePlace → ScriptCause → Opened → Type 0
 IsRefused place cause (Text text) = ⊥
 IsRefused place cause (Refused fault) = fault ≡ fault_at place cause
 IsRefused place cause Unread = ⊥

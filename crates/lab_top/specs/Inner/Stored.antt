@@ -5,7 +5,7 @@ use Rattle.lab_io.specs.Held.{Held}
 use Rattle.lab_io.specs.declared.store.Store.{Ghosts as StoreGhosts}
 use Rattle.lab_state.specs.Lab.{Lab}
 use Rattle.log_text.specs.declared.line.OpenLine.{OpenLine}
-use Rattle.monitor.specs.State.{Place, bodies_of, joined}
+use Rattle.monitor.specs.State.{LinePlace, bodies_of, joined}
 use Rattle.monitor.specs.Step.{Running, going, line_in}
 use Rattle.resc_vars.specs.declared.cause.ScriptCause.TheVariants.{Snapshot}
 use Rattle.lab_top.specs.declared.snapshots.Halt.{Halt}
@@ -25,7 +25,7 @@ store_of store written asked s =
 
 -- a command at this place was carried out, and the run goes on, or is refused, or is cut short
 abbrev pub IsStored :
-    Transcript → Held → Further → Place → Outside → Outside → Result Running (Halt Running) → Type 0
+    Transcript → Held → Further → LinePlace → Outside → Outside → Result Running (Halt Running) → Type 0
 IsStored all kept further place old mid (Ok monitor) = GoesOn all kept old mid (λ now. further now monitor.state)
 IsStored all kept further place old mid (Err (Refused cause monitor)) =
     GoesOn all kept old mid (λ now. refused now place monitor.state cause)
@@ -54,7 +54,7 @@ lent monitor (Err Memory) = Err Memory
 -- What the name keeps was read, and what a monitor makes of it is what is left of the run then; or the line is refused,
 -- or it was cut short.
 abbrev pub IsFetched :
-    Transcript → Held → Further → Place → Outside → Outside → Running → List ℕ →
+    Transcript → Held → Further → LinePlace → Outside → Outside → Running → List ℕ →
     Result (Unit {0}) (Halt (Unit {0})) → Type 0
 IsFetched all kept further place old mid monitor bytes (Ok none) =
     (restored : Result Running (Halt Running)) → IsRestored monitor (snapshot_of bytes) restored →

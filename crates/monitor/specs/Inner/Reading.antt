@@ -15,7 +15,7 @@ use Rattle.monitor.specs.Boards.{load_onto}
 use Rattle.monitor.specs.Inner.Ruling.{IsCarried}
 use Rattle.monitor.specs.Refusal.{◌>>=◌, require}
 use Rattle.monitor.specs.Selected.{entry, equipped, speaker}
-use Rattle.monitor.specs.State.{State, Place}
+use Rattle.monitor.specs.State.{State, LinePlace}
 
 -- the device of the selected board that goes into a hub of this name
 abbrev pub joining : State → List ℕ → List ℕ → Result Member ScriptCause
@@ -34,5 +34,5 @@ IsPlanRead loading (Ok plan) log log' =
     × (built entries ≡ Ok plan)
     × (log' ≡ grown log loading.names)
 IsPlanRead loading (Err stop) log log' =
-    (s after : State) (place : Place) (b : ℕ) →
+    (s after : State) (place : LinePlace) (b : ℕ) →
     IsCarried (load_onto s place loading (Ok b)) place (Err stop) after log log'

@@ -3,11 +3,11 @@ use Rattle.std.specs.Prelude.{◌≡◌, ℕ, ◌+◌, ◌<◌, List}
 use Rattle.sys_bus.specs.declared.region.Region.{Region}
 use Rattle.sys_bus.specs.declared.region.Target.TheVariants.{Ram}
 use Rattle.sys_bus.specs.declared.near.Near.{Near}
-use Rattle.sys_bus.specs.declared.near.Place.{Place}
+use Rattle.sys_bus.specs.declared.near.MemoryPlace.{MemoryPlace}
 use Rattle.sys_bus.specs.Region.{target_of, IsWidth}
 
 -- an address lies so far in the memory
-pub record IsNearPlace (near : Near) (at : ℕ) (place : Place) : Type 0 where
+pub record IsNearPlace (near : Near) (at : ℕ) (place : MemoryPlace) : Type 0 where
   pub part : place.part ≡ near.part
   pub address : near.base + place.at ≡ at
   pub starts : place.at < near.starts

@@ -13,8 +13,8 @@ first_item-requires-clause-ends c =
     let same : c.as_str.result.now ≡ held = cc in
     rw (c.range_from-text.ensures.value, same) (take at held, sym (take-append-drop at held))
 
-pub place_of-self-inside-requires : goal.place_of-self-inside-requires
-place_of-self-inside-requires c =
+pub extent_of-self-inside-requires : goal.extent_of-self-inside-requires
+extent_of-self-inside-requires c =
     let held = string_bytes c.self.inside.text.value in
     let at = c.self.inside.place.at in
     let same : c.as_str.result.now ≡ held = cc in

@@ -2,7 +2,7 @@
 use Rattle.std.proofs.Common.{◌≡◌, ◌-◌, ap, length, arith}
 use Rattle.std.proofs.lemmas.List.{length-append}
 use Rattle.std.proofs.lemmas.Str.{IsCharBoundary-at_seam}
-use Rattle.resc_vars.proofs.lines.place_of.Goals as goal
+use Rattle.resc_vars.proofs.lines.extent_of.Goals as goal
 
 pub returns-clause-boundary : goal.returns-clause-boundary
 returns-clause-boundary c =
