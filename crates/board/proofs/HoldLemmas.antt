@@ -17,7 +17,7 @@ use Rattle.rv_hart.specs.declared.letters.Letters.{Letters}
 use Rattle.sys_bus.specs.declared.plan.BoardPlan.{BoardPlan}
 use Rattle.board.specs.Idle.{core_passed, turns_of}
 use Rattle.board.specs.Inner.Holds.{Holds, state_alone, state_of}
-use Rattle.board.specs.HartView.{hart_state}
+use Rattle.board.specs.HartView.{slot_state}
 use Rattle.board.specs.Changes.{cleared, copied}
 use Rattle.board.specs.Inner.Copies.{CopiesPrefix}
 use Rattle.board.specs.Inner.Seat.{all_passed, behind}
@@ -80,15 +80,15 @@ holds_set v numbers hart next old core watch space holds speed plan below is sam
 pub kept_in_turn :
     (cores : List Core) (next : ℕ) (old core' : Core) (watch watch' : List (Option ℕ)) (w w' : Wires) (t : ℕ) →
     old ≡ slice_index_or cores next old → next < length cores →
-    hart_state next core' watch' w'
-    ≡ behind (hart_state next old watch w) (hart_slot (hart_state next old watch w).view t) →
+    slot_state next core' watch' w'
+    ≡ behind (slot_state next old watch w) (hart_slot (slot_state next old watch w).view t) →
     (w'.numbers.speed ≡ w.numbers.speed) × (w'.space.plan ≡ w.space.plan)
 kept_in_turn cores next old core' watch watch' w w' t is below done =
     let first : old ≡ slice_index_or cores next initial = is ∙ get_or_default cores next old initial below in
     let taken = taken_in_turn cores next core' watch watch' w w' t
     (subst
-    (λ (core : Core). hart_state next core' watch' w'
-    ≡ behind (hart_state next core watch w) (hart_slot (hart_state next core watch w).view t)) first done) in (
+    (λ (core : Core). slot_state next core' watch' w'
+    ≡ behind (slot_state next core watch w) (hart_slot (slot_state next core watch w).view t)) first done) in (
       ap {A = State} (λ s. s.view.numbers.speed) taken ∙ speed-slot _ t,
       ap {A = State} (λ s. s.view.space.plan) taken ∙ plan-slot _ t,
     )

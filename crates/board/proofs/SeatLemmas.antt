@@ -15,7 +15,7 @@ use Rattle.rv_atomic.specs.Laws.{PlainAlone}
 use Rattle.rv_atomic.specs.SharedEffect.{shared_effect}
 use Rattle.sys_bus.specs.declared.plan.BoardPlan.{BoardPlan}
 use Rattle.board.specs.Fetch.{effect_on, fetched_by, shared_by, word_at_pc}
-use Rattle.board.specs.HartView.{hart_state}
+use Rattle.board.specs.HartView.{slot_state}
 use Rattle.board.specs.Inner.Seat.{behind, is_shared, seen}
 use Rattle.board.specs.Slot.{awake}
 use Rattle.board.specs.Wires.{Wires, answer, fetched, loaded, stored}
@@ -28,13 +28,13 @@ pub awake-instruction :
     core' ≡ core_after answer begun (effect_on (seen hart core watch begun) begun lines).effect →
     watch' ≡ (effect_on (seen hart core watch begun) begun lines).watch →
     w' ≡ bus_after loaded stored begun (effect_on (seen hart core watch begun) begun lines).effect →
-    hart_state hart core' watch' w' ≡ behind (hart_state hart core watch w) (awake (seen hart core watch w) t lines)
+    slot_state hart core' watch' w' ≡ behind (slot_state hart core watch w) (awake (seen hart core watch w) t lines)
 unfolding awake
 awake-instruction hart core core' watch watch' w begun w' t lines none begins core_is watch_is wires_is =
     let begun' : Wires = record w { at = t } in
     let done = effect_on (seen hart core watch begun') begun' lines in
     rw (core_is, watch_is, wires_is, begins, none)
-    (ap (λ now. hart_state hart (core_after answer begun' done.effect) done.watch now)
+    (ap (λ now. slot_state hart (core_after answer begun' done.effect) done.watch now)
     (effect-behind begun' done.effect))
 
 -- ---- a processor alone

@@ -18,7 +18,7 @@ use Rattle.sys_bus.specs.declared.region.Target.{Target}
 use Rattle.sys_bus.specs.declared.region.Target.TheVariants.{Ram, Clint, Plic, Dev, Nothing}
 use Rattle.sys_bus.specs.Plan.{IsValid}
 use Rattle.board.specs.Fetch.{effect_on}
-use Rattle.board.specs.HartView.{HartView, HartState, hart_state, still, wires_of}
+use Rattle.board.specs.HartView.{HartView, SlotState, slot_state, still, wires_of}
 use Rattle.board.specs.Lines.{sampled, lines_of}
 use Rattle.board.specs.Space.{Space, device_at, target_at, device_store, after_store}
 use Rattle.board.specs.Wires.{Wires, answer, posted, entered, entered_if, note_if, sent, acted, loaded, stored}
@@ -96,11 +96,11 @@ by_effect P w (Store at width value done) each = by_target (target_at w.space at
         each.entry w.space (what.Write width at value) (kept_same w.space) (λ v kept. tt)
 
 -- what holds of a processor that an access leaves wired so, whatever it and the reservations have come to
-abbrev pub LeavesBy : (HartState → Type 0) → HartView → (List Post → List Entry → Wires) → Type 0
-LeavesBy P h f = (core : Core) (watch : List (Option ℕ)) → P (hart_state h.hart core watch (f [] []))
+abbrev pub LeavesBy : (SlotState → Type 0) → HartView → (List Post → List Entry → Wires) → Type 0
+LeavesBy P h f = (core : Core) (watch : List (Option ℕ)) → P (slot_state h.hart core watch (f [] []))
 
 by_awake :
-    (P : HartState → Type 0) (h : HartView) (t : ℕ) (lines : Lines) →
+    (P : SlotState → Type 0) (h : HartView) (t : ℕ) (lines : Lines) →
     HoldsOfEach (LeavesBy P h) (wires_of h t) → P (awake h t lines)
 unfolding awake
 by_awake P h t lines each = by_chosen (chosen h.core lines.mip)
@@ -113,13 +113,13 @@ by_awake P h t lines each = by_chosen (chosen h.core lines.mip)
         by_effect (LeavesBy P h) (wires_of h t) shared.effect each core shared.watch
     by_chosen (Some n) = each.nothing h.space (kept_same h.space) (ticked (interrupt h.core n)) h.watch
 
-by_if : (P : HartState → Type 0) (test : Bool) (a b : HartState) → P a → P b → P (if test then a else b)
+by_if : (P : SlotState → Type 0) (test : Bool) (a b : SlotState) → P a → P b → P (if test then a else b)
 by_if P true a b p q = p
 by_if P false a b p q = q
 
 -- what holds of each way in which a slot leaves a processor holds of its slot
 pub by_slot :
-    (P : HartState → Type 0) (h : HartView) (t : ℕ) → HoldsOfEach (LeavesBy P h) (wires_of h t) → P (hart_slot h t)
+    (P : SlotState → Type 0) (h : HartView) (t : ℕ) → HoldsOfEach (LeavesBy P h) (wires_of h t) → P (hart_slot h t)
 unfolding hart_slot
 by_slot P h t each =
     let lines = lines_of (sampled h.space) h.hart t in

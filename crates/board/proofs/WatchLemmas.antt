@@ -29,7 +29,7 @@ use Rattle.sys_bus.specs.declared.region.Target.{Target}
 use Rattle.sys_bus.specs.declared.region.Target.TheVariants.{Ram, Clint, Plic, Dev, Nothing}
 use Rattle.board.specs.Changes.{is_memory}
 use Rattle.board.specs.Fetch.{fetched_by, shared_by, word_at_pc}
-use Rattle.board.specs.HartView.{HartView, HartState, hart_state, still, wires_of}
+use Rattle.board.specs.HartView.{HartView, SlotState, slot_state, still, wires_of}
 use Rattle.board.specs.Inner.Seat.{behind}
 use Rattle.board.specs.Lines.{sampled, lines_of}
 use Rattle.board.specs.Slot.{hart_slot, running, sampling, awake, asleep, woken, cycle, instruction}
@@ -146,7 +146,7 @@ kept_awake P h t lines each holds = by_chosen (chosen h.core lines.mip)
     by_chosen (Some n) = holds
 
 either :
-    (P : List (Option ℕ) → Type 0) (test : Bool) (a b : HartState) → P a.view.watch → P b.view.watch →
+    (P : List (Option ℕ) → Type 0) (test : Bool) (a b : SlotState) → P a.view.watch → P b.view.watch →
     P (if test then a else b).view.watch
 either P true a b p q = p
 either P false a b p q = q
@@ -233,13 +233,13 @@ reservations_kept w letters number own =
 -- after a slot of a processor of the plan's letters too
 pub reserved_after :
     (hart : ℕ) (core core' : Core) (watch watch' : List (Option ℕ)) (w w' : Wires) (t : ℕ) →
-    hart_state hart core' watch' w'
-    ≡ behind (hart_state hart core watch w) (hart_slot (hart_state hart core watch w).view t) →
+    slot_state hart core' watch' w'
+    ≡ behind (slot_state hart core watch w) (hart_slot (slot_state hart core watch w).view t) →
     core.letters ≡ w.space.plan.letters → All (IsReservation w.space.plan) watch →
     All (IsReservation w.space.plan) watch'
 unfolding sampled
 reserved_after hart core core' watch watch' w w' t done own all =
-    let h = (hart_state hart core watch w).view in
-    rw (ap {A = HartState} (λ s. s.view.watch) done)
+    let h = (slot_state hart core watch w).view in
+    rw (ap {A = SlotState} (λ s. s.view.watch) done)
     (kept_slot (All (IsReservation w.space.plan)) h t
     (reservations_kept (wires_of (sampling h) t) core.letters hart own) all)

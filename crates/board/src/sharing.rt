@@ -8,7 +8,7 @@ ghost use Rattle.rv_atomic.specs.declared.shared.Shared.TheVariants.{Plain};
 ghost use Rattle.rv_exec.specs.Effect.{bus_after, core_after, of_word};
 ghost use Rattle.rv_exec.specs.Laws.{IsSameHart};
 ghost use Rattle.board.specs.Fetch.{effect_on, of_half};
-ghost use Rattle.board.specs.HartView.{hart_state};
+ghost use Rattle.board.specs.HartView.{slot_state};
 ghost use Rattle.board.specs.Inner.Seat.{behind, seen, shared_of_word, ways_of};
 ghost use Rattle.board.specs.Slot.{awake, hart_slot, running};
 ghost use Rattle.board.specs.Wires.{answer, fetched, loaded, stored};
@@ -38,12 +38,12 @@ pub fn shared_slot<const COPY: u8, D: Device>(
     requires letters { hart.old.letters ≡ wires.old.space.plan.letters }
     requires number { number < length watch.old }
     requires harts { length watch.old ≡ length wires.old.space.plan.cpus }
-    ensures ok { let old = hart_state number hart.old watch.old wires.old in
-        OnOk result (hart_state number hart.new watch.new wires.new ≡ behind old (hart_slot old.view at.0)) }
+    ensures ok { let old = slot_state number hart.old watch.old wires.old in
+        OnOk result (slot_state number hart.new watch.new wires.new ≡ behind old (hart_slot old.view at.0)) }
     ensures same { OnOk result (IsSameHart hart.old hart.new) }
     ensures watch { OnOk result (length watch.new ≡ length watch.old) }
-    ensures err { OnErr result (hart_state number hart.new watch.new wires.new
-        ≡ hart_state number hart.old watch.old wires.old) }
+    ensures err { OnErr result (slot_state number hart.new watch.new wires.new
+        ≡ slot_state number hart.old watch.old wires.old) }
 {
     if hart.halted() {
         return Ok(true);
@@ -69,12 +69,12 @@ fn run<const COPY: u8, D: Device>(
     requires letters { hart.old.letters ≡ wires.old.space.plan.letters }
     requires number { number < length watch.old }
     requires harts { length watch.old ≡ length wires.old.space.plan.cpus }
-    ensures ok { let old = hart_state number hart.old watch.old wires.old in
-        OnOk result (hart_state number hart.new watch.new wires.new ≡ behind old (running old.view at.0 lines)) }
+    ensures ok { let old = slot_state number hart.old watch.old wires.old in
+        OnOk result (slot_state number hart.new watch.new wires.new ≡ behind old (running old.view at.0 lines)) }
     ensures same { OnOk result (IsSameHart hart.old hart.new) }
     ensures watch { OnOk result (length watch.new ≡ length watch.old) }
-    ensures err { OnErr result (hart_state number hart.new watch.new wires.new
-        ≡ hart_state number hart.old watch.old wires.old) }
+    ensures err { OnErr result (slot_state number hart.new watch.new wires.new
+        ≡ slot_state number hart.old watch.old wires.old) }
 {
     if hart.waiting() {
         return Ok(wait(hart, number, watch, wires, ways, at, lines)?);
@@ -100,12 +100,12 @@ fn act<const COPY: u8, D: Device>(
     requires letters { hart.old.letters ≡ wires.old.space.plan.letters }
     requires number { number < length watch.old }
     requires harts { length watch.old ≡ length wires.old.space.plan.cpus }
-    ensures ok { let old = hart_state number hart.old watch.old wires.old in
-        OnOk result (hart_state number hart.new watch.new wires.new ≡ behind old (awake old.view at.0 lines)) }
+    ensures ok { let old = slot_state number hart.old watch.old wires.old in
+        OnOk result (slot_state number hart.new watch.new wires.new ≡ behind old (awake old.view at.0 lines)) }
     ensures same { OnOk result (IsSameHart hart.old hart.new) }
     ensures watch { OnOk result (length watch.new ≡ length watch.old) }
-    ensures err { OnErr result (hart_state number hart.new watch.new wires.new
-        ≡ hart_state number hart.old watch.old wires.old) }
+    ensures err { OnErr result (slot_state number hart.new watch.new wires.new
+        ≡ slot_state number hart.old watch.old wires.old) }
 {
     if let Some(n) = taken(hart, lines.mip) {
         enter_interrupt(hart, n);

@@ -2,7 +2,7 @@
 ghost use Rattle.std.specs.Prelude.{◌≡◌, ◌<◌, true, length, OnOk, OnErr};
 ghost use Rattle.rv_exec.specs.Laws.{IsSameHart};
 ghost use Rattle.rv_hart.specs.Trap.{chosen, interrupt};
-ghost use Rattle.board.specs.HartView.{hart_state};
+ghost use Rattle.board.specs.HartView.{slot_state};
 ghost use Rattle.board.specs.Inner.Fit.{IsStateOf};
 ghost use Rattle.board.specs.BoardState.{controller_to};
 ghost use Rattle.board.specs.Inner.Seat.{behind, seen, ways_of};
@@ -48,12 +48,12 @@ pub fn slot<const COPY: u8, D: Device>(
     requires letters { hart.old.letters ≡ wires.old.space.plan.letters }
     requires number { number < length watch.old }
     requires harts { length watch.old ≡ length wires.old.space.plan.cpus }
-    ensures ok { let old = hart_state number hart.old watch.old wires.old in
-        OnOk result (hart_state number hart.new watch.new wires.new ≡ behind old (hart_slot old.view at.0)) }
+    ensures ok { let old = slot_state number hart.old watch.old wires.old in
+        OnOk result (slot_state number hart.new watch.new wires.new ≡ behind old (hart_slot old.view at.0)) }
     ensures same { OnOk result (IsSameHart hart.old hart.new) }
     ensures watch { OnOk result (length watch.new ≡ length watch.old) }
-    ensures err { OnErr result (hart_state number hart.new watch.new wires.new
-        ≡ hart_state number hart.old watch.old wires.old) }
+    ensures err { OnErr result (slot_state number hart.new watch.new wires.new
+        ≡ slot_state number hart.old watch.old wires.old) }
 {
     if hart.halted() {
         return Ok(true);
@@ -80,13 +80,13 @@ pub fn sample_and_run<D: Device>(
     requires letters { hart.old.letters ≡ wires.old.space.plan.letters }
     requires number { number < length watch.old }
     requires harts { length watch.old ≡ length wires.old.space.plan.cpus }
-    ensures ok { let old = hart_state number hart.old watch.old wires.old in
-        OnOk result (hart_state number hart.new watch.new wires.new
+    ensures ok { let old = slot_state number hart.old watch.old wires.old in
+        OnOk result (slot_state number hart.new watch.new wires.new
         ≡ behind old (running (sampling old.view) at.0 (lines_of (sampled wires.old.space) number at.0))) }
     ensures same { OnOk result (IsSameHart hart.old hart.new) }
     ensures watch { OnOk result (length watch.new ≡ length watch.old) }
-    ensures err { OnErr result (hart_state number hart.new watch.new wires.new
-        ≡ hart_state number hart.old watch.old wires.old) }
+    ensures err { OnErr result (slot_state number hart.new watch.new wires.new
+        ≡ slot_state number hart.old watch.old wires.old) }
 {
     let before = wires.space.controller_state();
     let lines = wires.space.sample(number, at);
@@ -112,12 +112,12 @@ fn run<const COPY: u8, D: Device>(
     requires letters { hart.old.letters ≡ wires.old.space.plan.letters }
     requires number { number < length watch.old }
     requires harts { length watch.old ≡ length wires.old.space.plan.cpus }
-    ensures ok { let old = hart_state number hart.old watch.old wires.old in
-        OnOk result (hart_state number hart.new watch.new wires.new ≡ behind old (running old.view at.0 lines)) }
+    ensures ok { let old = slot_state number hart.old watch.old wires.old in
+        OnOk result (slot_state number hart.new watch.new wires.new ≡ behind old (running old.view at.0 lines)) }
     ensures same { OnOk result (IsSameHart hart.old hart.new) }
     ensures watch { OnOk result (length watch.new ≡ length watch.old) }
-    ensures err { OnErr result (hart_state number hart.new watch.new wires.new
-        ≡ hart_state number hart.old watch.old wires.old) }
+    ensures err { OnErr result (slot_state number hart.new watch.new wires.new
+        ≡ slot_state number hart.old watch.old wires.old) }
 {
     if hart.waiting() {
         // taken apart, so that other slots test no answer of it
@@ -145,12 +145,12 @@ pub fn wait<D: Device>(
     requires letters { hart.old.letters ≡ wires.old.space.plan.letters }
     requires number { number < length watch.old }
     requires harts { length watch.old ≡ length wires.old.space.plan.cpus }
-    ensures ok { let old = hart_state number hart.old watch.old wires.old in
-        OnOk result (hart_state number hart.new watch.new wires.new ≡ behind old (asleep old.view at.0 lines)) }
+    ensures ok { let old = slot_state number hart.old watch.old wires.old in
+        OnOk result (slot_state number hart.new watch.new wires.new ≡ behind old (asleep old.view at.0 lines)) }
     ensures same { OnOk result (IsSameHart hart.old hart.new) }
     ensures watch { OnOk result (length watch.new ≡ length watch.old) }
-    ensures err { OnErr result (hart_state number hart.new watch.new wires.new
-        ≡ hart_state number hart.old watch.old wires.old) }
+    ensures err { OnErr result (slot_state number hart.new watch.new wires.new
+        ≡ slot_state number hart.old watch.old wires.old) }
 {
     if !hart.is_ready(lines.mip) {
         hart.tick();
@@ -181,12 +181,12 @@ fn act<const COPY: u8, D: Device>(
     requires letters { hart.old.letters ≡ wires.old.space.plan.letters }
     requires number { number < length watch.old }
     requires harts { length watch.old ≡ length wires.old.space.plan.cpus }
-    ensures ok { let old = hart_state number hart.old watch.old wires.old in
-        OnOk result (hart_state number hart.new watch.new wires.new ≡ behind old (awake old.view at.0 lines)) }
+    ensures ok { let old = slot_state number hart.old watch.old wires.old in
+        OnOk result (slot_state number hart.new watch.new wires.new ≡ behind old (awake old.view at.0 lines)) }
     ensures same { OnOk result (IsSameHart hart.old hart.new) }
     ensures watch { OnOk result (length watch.new ≡ length watch.old) }
-    ensures err { OnErr result (hart_state number hart.new watch.new wires.new
-        ≡ hart_state number hart.old watch.old wires.old) }
+    ensures err { OnErr result (slot_state number hart.new watch.new wires.new
+        ≡ slot_state number hart.old watch.old wires.old) }
 {
     if let Some(n) = taken(hart, lines.mip) {
         enter_interrupt(hart, n);

@@ -12,16 +12,16 @@ use Rattle.rv_atomic.specs.Means.{atomic_of}
 use Rattle.sys_bus.specs.declared.plan.BoardPlan.{BoardPlan}
 use Rattle.board.specs.declared.slot.Ways.{Ways}
 use Rattle.board.specs.Idle.{core_passed, turns_of}
-use Rattle.board.specs.HartView.{HartView, HartState, hart_state}
+use Rattle.board.specs.HartView.{HartView, SlotState, slot_state}
 use Rattle.board.specs.Inner.Remembers.{is_wired}
 use Rattle.board.specs.Wires.{Wires}
 
 -- what the processor of a number sees
 abbrev pub seen : ℕ → Core → List (Option ℕ) → Wires → HartView
-seen hart core watch w = (hart_state hart core watch w).view
+seen hart core watch w = (slot_state hart core watch w).view
 
 -- what is made in a slot comes after what was made before
-abbrev pub behind : HartState → HartState → HartState
+abbrev pub behind : SlotState → SlotState → SlotState
 behind s run = record { view = run.view; posts = s.posts ++ run.posts; entries = s.entries ++ run.entries }
 
 -- whether processors may share words of memory: there are several, or there are atomic instructions

@@ -2,7 +2,7 @@ use Rattle.std.proofs.Common.{◌≡◌, ◌∙◌, ap, sym, length}
 use Rattle.std.specs.Prelude.{Option, option_map}
 use Rattle.plic.specs.declared.state.PlicState.{PlicState}
 use Rattle.sys_bus.specs.declared.plan.BoardPlan.{BoardPlan}
-use Rattle.board.specs.HartView.{HartState, hart_state}
+use Rattle.board.specs.HartView.{SlotState, slot_state}
 use Rattle.board.specs.BoardState.{controller_to}
 use Rattle.board.specs.Inner.Made.{wires_with}
 use Rattle.board.specs.Inner.Seat.{ways_of}
@@ -39,12 +39,12 @@ put_controller-requires g c =
     let err = (c.in_default.ensures {u = tt}).err in
     let reached : c.wires-2.inside.space ≡ sampled c.wires.inside.space =
     ap {A = Wires} (λ w. w.space) c.wires-2.view_is
-    ∙ ap {A = HartState} (λ s. s.view.space) err
+    ∙ ap {A = SlotState} (λ s. s.view.space) err
     ∙ c.sample-lines.ensures.space in
     rw reached (still_state _ _ c.controller_state-before.ensures.valid)
 
 -- the controller is put back
-abbrev put_back : Option PlicState → HartState → HartState
+abbrev put_back : Option PlicState → SlotState → SlotState
 put_back state s =
     record s {
       view = record s.view { space = record s.view.space { controller = controller_to s.view.space.controller state } };
@@ -62,13 +62,13 @@ returns-in_default-clause-err g c =
     let core = c.run.new.hart in
     let watch = c.run.new.watch in
     ap {A = Space}
-    (λ space. hart_state c.args.number core watch
+    (λ space. slot_state c.args.number core watch
     (wires_with c.wires-2.inside.made space c.wires-2.inside.at.0)) c.put_controller.ensures
-    ∙ ap {A = Wires} (λ w. put_back state (hart_state c.args.number core watch w)) c.wires-2.view_is
+    ∙ ap {A = Wires} (λ w. put_back state (slot_state c.args.number core watch w)) c.wires-2.view_is
     ∙ ap (put_back state) err
     ∙ ap {A = Space}
-    (λ space. hart_state c.args.number c.args.hart.now c.args.watch.now
+    (λ space. slot_state c.args.number c.args.hart.now c.args.watch.now
     (wires_with c.wires.inside.made space c.wires.inside.at.0))
     (back c.wires.inside.space c.sample-lines.new.self state c.sample-lines.ensures.space
     c.controller_state-before.ensures.value)
-    ∙ ap {A = Wires} (λ w. hart_state c.args.number c.args.hart.now c.args.watch.now w) c.wires.view_is
+    ∙ ap {A = Wires} (λ w. slot_state c.args.number c.args.hart.now c.args.watch.now w) c.wires.view_is

@@ -12,7 +12,7 @@ use Rattle.rv_atomic.specs.Laws.{PlainAlone}
 use Rattle.rv_atomic.specs.Means.{atomic_of}
 use Rattle.rv_atomic.specs.SharedEffect.{shared_effect}
 use Rattle.board.specs.Fetch.{effect_on, fetched_by, word_at_pc}
-use Rattle.board.specs.HartView.{HartView, HartState, still, wires_of}
+use Rattle.board.specs.HartView.{HartView, SlotState, still, wires_of}
 use Rattle.board.specs.Lines.{sampled, lines_of}
 use Rattle.board.specs.Numbers.{Numbers}
 use Rattle.board.specs.Slot.{slot, hart_slot, in_turn, running, sampling, asleep, awake, woken, cycle, carried_out}
@@ -52,7 +52,7 @@ effect_alone law h word w lines plain first reserved =
     by_letter true is = absurd (cc)
 
 by_test :
-    (test : Bool) (v : View) (a b : HartState) (a' b' : State) → in_turn v a ≡ a' → in_turn v b ≡ b' →
+    (test : Bool) (v : View) (a b : SlotState) (a' b' : State) → in_turn v a ≡ a' → in_turn v b ≡ b' →
     in_turn v (if test then a else b) ≡ (if test then a' else b')
 by_test true v a b a' b' p q = p
 by_test false v a b a' b' p q = q

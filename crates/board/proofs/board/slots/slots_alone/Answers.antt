@@ -6,7 +6,7 @@ use Rattle.board.proofs.NumberLemmas.{plan-stretch}
 use Rattle.board.proofs.StretchLemmas.{after_none, after_next}
 use Rattle.board.proofs.TurnLemmas.{taken_alone}
 use Rattle.board.proofs.WatchLemmas.{reserved_after}
-use Rattle.board.specs.HartView.{hart_state}
+use Rattle.board.specs.HartView.{slot_state}
 use Rattle.board.specs.Inner.Seat.{behind, ways_of}
 use Rattle.board.specs.Slot.{hart_slot}
 use Rattle.board.specs.Valid.{IsReservation}
@@ -41,8 +41,8 @@ slot-requires-clause-harts g c =
 one_more :
     (core core' : Core) (watch watch' : List (Option ℕ)) (w w' : Wires) (plan : BoardPlan) (t : ℕ) →
     w.space.plan ≡ plan → core.letters ≡ plan.letters →
-    hart_state 0 core' watch' w'
-    ≡ behind (hart_state 0 core watch w) (hart_slot (hart_state 0 core watch w).view t) →
+    slot_state 0 core' watch' w'
+    ≡ behind (slot_state 0 core watch w) (hart_slot (slot_state 0 core watch w).view t) →
     All (IsReservation plan) watch → All (IsReservation plan) watch'
 one_more core core' watch watch' w w' plan t same own done =
     subst
