@@ -31,7 +31,7 @@ use Rattle.board.specs.Space.{Space}
 use Rattle.board.specs.Slot.{hart_slot, number_after}
 use Rattle.board.specs.Valid.{IsReservation}
 use Rattle.board.specs.View.{View, State, core_at}
-use Rattle.board.specs.Wires.{Wires}
+use Rattle.board.specs.HartBus.{HartBus}
 
 -- what holds of a board holds of another one of its plan, with its speed and as many processors
 pub holds_kept :
@@ -78,7 +78,7 @@ holds_set v numbers hart next old core watch space holds speed plan below is sam
 
 -- a slot of one of them keeps the speed and the plan
 pub kept_in_turn :
-    (cores : List Core) (next : ℕ) (old core' : Core) (watch watch' : List (Option ℕ)) (w w' : Wires) (t : ℕ) →
+    (cores : List Core) (next : ℕ) (old core' : Core) (watch watch' : List (Option ℕ)) (w w' : HartBus) (t : ℕ) →
     old ≡ slice_index_or cores next old → next < length cores →
     slot_state next core' watch' w'
     ≡ behind (slot_state next old watch w) (hart_slot (slot_state next old watch w).view t) →
@@ -179,14 +179,14 @@ one_core (core ∷ []) one = refl
 one_core (core ∷ other ∷ cores) one = absurd (omega (arith, one))
 
 pub alone_is :
-    (cores : List Core) (next : ℕ) (watch : List (Option ℕ)) (w : Wires) → length cores ≡ 1 → next < length cores →
+    (cores : List Core) (next : ℕ) (watch : List (Option ℕ)) (w : HartBus) → length cores ≡ 1 → next < length cores →
     state_of cores next watch w ≡ state_alone (slice_index_or cores 0 initial) watch w
 alone_is cores next watch w one below =
     let first : next ≡ 0 = omega (arith, one, below) in
     rw first (ap (λ all. state_of all 0 watch w) (one_core cores one))
 
 pub alone_set :
-    (cores : List Core) (next : ℕ) (core : Core) (watch : List (Option ℕ)) (w : Wires) → length cores ≡ 1 →
+    (cores : List Core) (next : ℕ) (core : Core) (watch : List (Option ℕ)) (w : HartBus) → length cores ≡ 1 →
     next < length cores → state_of (slice_set cores 0 core) next watch w ≡ state_alone core watch w
 alone_set cores next core watch w one below =
     let first : next ≡ 0 = omega (arith, one, below) in

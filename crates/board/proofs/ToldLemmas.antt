@@ -33,7 +33,7 @@ use Rattle.board.specs.Sent.{is_of_kind, IsShown, IsToldBy}
 use Rattle.board.specs.Space.{Space, Fitted, device_at, with_state, target_at, register_load, register_store}
 use Rattle.board.specs.Space.{after_load, after_store, device_load, device_store}
 use Rattle.board.specs.View.{View}
-use Rattle.board.specs.Wires.{note_of, note_if}
+use Rattle.board.specs.HartBus.{note_of, note_if}
 use Rattle.board.proofs.ListLemmas.{passes_at, found_passes}
 
 -- ---- what stays

@@ -16,7 +16,7 @@ use Rattle.board.specs.Inner.Holds.{state_of, state_alone}
 use Rattle.board.specs.Inner.Seat.{behind}
 use Rattle.board.specs.Slot.{slot, hart_slot, number_after}
 use Rattle.board.specs.View.{after}
-use Rattle.board.specs.Wires.{Wires}
+use Rattle.board.specs.HartBus.{HartBus}
 
 -- ---- whose turn is next
 
@@ -137,7 +137,7 @@ turns_are harts next (suc n) hart below there =
 
 -- the processor `next` has done its slot
 pub taken_in_turn :
-    (cores : List Core) (next : ℕ) (core' : Core) (watch watch' : List (Option ℕ)) (w w' : Wires) (t : ℕ) →
+    (cores : List Core) (next : ℕ) (core' : Core) (watch watch' : List (Option ℕ)) (w w' : HartBus) (t : ℕ) →
     let old = slot_state next (slice_index_or cores next initial) watch w in
     slot_state next core' watch' w' ≡ behind old (hart_slot old.view t) →
     state_of (slice_set cores next core') (number_after (length cores) next) watch' w'
@@ -158,7 +158,7 @@ taken_in_turn cores next core' watch watch' w w' t is =
 
 -- the only processor has done its slot
 pub taken_alone :
-    (core core' : Core) (watch watch' : List (Option ℕ)) (w w' : Wires) (t : ℕ) →
+    (core core' : Core) (watch watch' : List (Option ℕ)) (w w' : HartBus) (t : ℕ) →
     let old = slot_state 0 core watch w in
     slot_state 0 core' watch' w' ≡ behind old (hart_slot old.view t) →
     state_alone core' watch' w'

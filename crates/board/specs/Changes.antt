@@ -14,7 +14,7 @@ use Rattle.page_ram.specs.Bytes.{put_bytes}
 use Rattle.sys_bus.specs.declared.region.Target.{Target}
 use Rattle.sys_bus.specs.declared.region.Target.TheVariants.{Ram, Clint, Plic, Dev, Nothing}
 use Rattle.board.specs.Space.{Space, memory_at, with_memory, device_at, with_device, with_state, target_at}
-use Rattle.board.specs.Wires.{word_in}
+use Rattle.board.specs.HartBus.{word_in}
 use Rattle.board.specs.View.{View, State, core_at, with_core}
 
 -- a board of which a processor's next instruction is at this address

@@ -8,9 +8,9 @@ use Rattle.rv_exec.specs.Effect.{core_after, bus_after}
 use Rattle.rv_atomic.specs.AtomicEffect.{SharedEffect}
 use Rattle.board.specs.Lines.{sampled, lines_of}
 use Rattle.board.specs.Fetch.{effect_on}
-use Rattle.board.specs.Wires.{Wires, answer, loaded, stored}
+use Rattle.board.specs.HartBus.{HartBus, answer, loaded, stored}
 use Rattle.board.specs.View.{View, State}
-use Rattle.board.specs.HartView.{HartView, SlotState, hart_view, slot_state, still, wires_of}
+use Rattle.board.specs.HartView.{HartView, SlotState, hart_view, slot_state, still, bus_of}
 
 -- ---- of the processor that takes it
 
@@ -19,13 +19,13 @@ abbrev pub cycle : HartView → Core → SlotState
 cycle v core = still (record v { core = ticked core })
 
 -- an effect is carried out
-abbrev pub carried_out : ℕ → Wires → SharedEffect → SlotState
+abbrev pub carried_out : ℕ → HartBus → SharedEffect → SlotState
 carried_out hart w shared =
     slot_state hart (core_after answer w shared.effect) shared.watch (bus_after loaded stored w shared.effect)
 
 -- one instruction, or its exception entry
 abbrev pub instruction : HartView → ℕ → Lines → SlotState
-instruction v t lines = carried_out v.hart (wires_of v t) (effect_on v (wires_of v t) lines)
+instruction v t lines = carried_out v.hart (bus_of v t) (effect_on v (bus_of v t) lines)
 
 -- a slot of a processor that does not wait: the entry of the interrupt that is taken now, or with none an instruction
 unfoldable pub awake : HartView → ℕ → Lines → SlotState

@@ -4,6 +4,7 @@
 
 mod board;
 mod fitted;
+mod hart_bus;
 mod harts;
 mod instruction;
 mod laws;
@@ -14,7 +15,6 @@ mod sharing;
 mod slot;
 mod space;
 mod state;
-mod wires;
 
 pub use board::{Board, SlotAt, Turn};
 pub use laws::{

@@ -2,8 +2,8 @@
 ghost use Rattle.std.specs.Prelude.{◌≡◌, ◌↔◌, ℕ, ◌<◌, [], IfOk, OnOk, OnErr, IsTrue};
 ghost use Rattle.std.specs.Vec.{vec_len, vec_capacity};
 ghost use Rattle.board.specs.Space.{Space};
-ghost use Rattle.board.specs.Wires.{posted, entered, entered_if, note_if, post_of, entry_of, key_of};
-ghost use Rattle.board.specs.Inner.Made.{wires_with, HasRoom};
+ghost use Rattle.board.specs.HartBus.{posted, entered, entered_if, note_if, post_of, entry_of, key_of};
+ghost use Rattle.board.specs.Inner.Made.{bus_with, HasRoom};
 
 use crate::numbers::Numbers;
 use dev_core::{Entry, Payload, Post, What};
@@ -38,7 +38,7 @@ impl Made {
 
     /// The key of what the board makes in a slot at this microsecond.
     fn key(&self, at: Micros, number: u64) -> Key
-        ensures { (s : Space) → result ≡ key_of (wires_with self.now s at.0) number }
+        ensures { (s : Space) → result ≡ key_of (bus_with self.now s at.0) number }
     {
         Key {
             at,
@@ -48,7 +48,7 @@ impl Made {
     }
 
     fn post(&self, at: Micros, dev: u8, payload: &Payload) -> Post
-        ensures { (s : Space) → result ≡ post_of (wires_with self.now s at.0) dev payload.now }
+        ensures { (s : Space) → result ≡ post_of (bus_with self.now s at.0) dev payload.now }
     {
         Post {
             key: self.key(at, self.numbers.posted),
@@ -61,7 +61,7 @@ impl Made {
     }
 
     fn entry(&self, at: Micros, what: What) -> Entry
-        ensures { (s : Space) → result ≡ entry_of (wires_with self.now s at.0) what }
+        ensures { (s : Space) → result ≡ entry_of (bus_with self.now s at.0) what }
     {
         Entry {
             key: self.key(at, self.numbers.entered),
@@ -79,8 +79,8 @@ impl Made {
     /// Notes something for the log.
     pub fn enter(&mut self, at: Micros, what: What) -> Result<(), NoMemory>
         ensures ok { OnOk result ((s : Space) →
-            wires_with self.new s at.0 ≡ entered (wires_with self.old s at.0) what) }
-        ensures err { OnErr result ((s : Space) → wires_with self.new s at.0 ≡ wires_with self.old s at.0) }
+            bus_with self.new s at.0 ≡ entered (bus_with self.old s at.0) what) }
+        ensures err { OnErr result ((s : Space) → bus_with self.new s at.0 ≡ bus_with self.old s at.0) }
     {
         let entry = self.entry(at, what);
         if self.entries.push(entry).is_err() {
@@ -94,8 +94,8 @@ impl Made {
     #[inline(always)]
     fn note(&mut self, at: Micros, dev: u8, payload: &Payload, shown: bool)
         requires { vec_len self.old.entries < vec_capacity self.old.entries }
-        ensures { (s : Space) → wires_with self.new s at.0
-            ≡ entered_if (wires_with self.old s at.0) (note_if shown dev payload.now) }
+        ensures { (s : Space) → bus_with self.new s at.0
+            ≡ entered_if (bus_with self.old s at.0) (note_if shown dev payload.now) }
     {
         if let Some(what) = note_if(shown, dev, payload) {
             let entry = self.entry(at, what);
@@ -109,8 +109,8 @@ impl Made {
     #[inline(always)]
     pub fn send(&mut self, at: Micros, dev: u8, payload: &Payload, shown: bool)
         requires { HasRoom self.old }
-        ensures { (s : Space) → wires_with self.new s at.0
-            ≡ entered_if (posted (wires_with self.old s at.0) dev payload.now) (note_if shown dev payload.now) }
+        ensures { (s : Space) → bus_with self.new s at.0
+            ≡ entered_if (posted (bus_with self.old s at.0) dev payload.now) (note_if shown dev payload.now) }
     {
         let post = self.post(at, dev, payload);
         self.posts.push_back_reserved(post);
@@ -121,7 +121,7 @@ impl Made {
     /// Makes room for one more post and one more entry.
     pub fn make_room(&mut self) -> Result<(), NoMemory>
         ensures room { OnOk result (HasRoom self.new) }
-        ensures same { (s : Space) (t : ℕ) → wires_with self.new s t ≡ wires_with self.old s t }
+        ensures same { (s : Space) (t : ℕ) → bus_with self.new s t ≡ bus_with self.old s t }
     {
         if self.entries.reserve(1).is_err() || self.posts.reserve(1).is_err() {
             return Err(NoMemory);

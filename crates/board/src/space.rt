@@ -9,7 +9,7 @@ ghost use Rattle.page_ram.specs.Bytes.{zeros, value_at, put_value};
 ghost use Rattle.sys_bus.specs.Limits.{is_frequency, is_plic_size};
 ghost use Rattle.sys_bus.specs.Plan.{IsValid};
 ghost use Rattle.board.specs.Space.{memory_at, with_memory, target_at};
-ghost use Rattle.board.specs.Wires.{word_in};
+ghost use Rattle.board.specs.HartBus.{word_in};
 ghost use Rattle.board.specs.New.{first_states, hidden, new_space, new_timer, new_controller};
 ghost use Rattle.board.specs.Inner.Fit.{IsFit, LiesIn, IsInPage, HoldsAccesses};
 ghost use Rattle.board.specs.Inner.Remembers.{is_wired};

@@ -8,7 +8,7 @@ ghost use Rattle.board.specs.Fetch.{effect_on, fetched_by};
 ghost use Rattle.board.specs.HartView.{HartView};
 ghost use Rattle.board.specs.Slot.{slot};
 ghost use Rattle.board.specs.View.{View};
-ghost use Rattle.board.specs.Wires.{Wires};
+ghost use Rattle.board.specs.HartBus.{HartBus};
 ghost use Rattle.board_laws.specs.Alone.{alone_slot};
 
 use rv_atomic::alone_as_performed;
@@ -17,7 +17,7 @@ use rv_atomic::alone_as_performed;
 /// nothing is asked of turns and reservations: each instruction does what it does on a hart alone,
 /// reservations stay, and the one processor takes every slot.
 pub fn one_hart_goes_on_alone()
-    ensures effect { (v : HartView) (w : Wires) (lines : Lines) (word : Option ℕ) →
+    ensures effect { (v : HartView) (w : HartBus) (lines : Lines) (word : Option ℕ) →
         v.core.letters.a ≡ false → v.hart ≡ 0 → v.watch ≡ word ∷ [] →
         effect_on v w lines ≡ leaves (effect v.core (fetched_by v.core w) lines) v.watch }
     ensures turn { (v : View) (t : ℕ) (core : Core) → v.cores ≡ core ∷ [] → v.next ≡ 0 →

@@ -4,11 +4,11 @@ use Rattle.std.specs.Vec.{vec_len, vec_capacity}
 use Rattle.std.specs.VecDeque.{deque_len, deque_capacity}
 use Rattle.board.specs.declared.made.Made.{Made}
 use Rattle.board.specs.Space.{Space}
-use Rattle.board.specs.Wires.{Wires}
+use Rattle.board.specs.HartBus.{HartBus}
 
--- the wires of a board that has made this, with this space, in a slot at this microsecond
-abbrev pub wires_with : Made → Space → ℕ → Wires
-wires_with made s t = record {
+-- the bus of a board that has made this, with this space, in a slot at this microsecond
+abbrev pub bus_with : Made → Space → ℕ → HartBus
+bus_with made s t = record {
   numbers = made.numbers;
   space = s;
   at = t;

@@ -14,10 +14,10 @@ use Rattle.board.specs.declared.slot.Ways.{Ways}
 use Rattle.board.specs.Idle.{core_passed, turns_of}
 use Rattle.board.specs.HartView.{HartView, SlotState, slot_state}
 use Rattle.board.specs.Inner.Remembers.{is_wired}
-use Rattle.board.specs.Wires.{Wires}
+use Rattle.board.specs.HartBus.{HartBus}
 
 -- what the processor of a number sees
-abbrev pub seen : ℕ → Core → List (Option ℕ) → Wires → HartView
+abbrev pub seen : ℕ → Core → List (Option ℕ) → HartBus → HartView
 seen hart core watch w = (slot_state hart core watch w).view
 
 -- what is made in a slot comes after what was made before

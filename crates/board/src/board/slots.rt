@@ -10,10 +10,10 @@ ghost use Rattle.board.specs.Valid.{IsReservation};
 ghost use Rattle.board.specs.View.{after};
 
 use super::{Board, SlotAt, Turn};
+use crate::hart_bus::HartBus;
 use crate::harts::all_asleep;
 use crate::sharing::shared_slot;
 use crate::slot::{Ways, slot};
-use crate::wires::Wires;
 use dev_core::Device;
 use lab_num::{Micros, NoMemory};
 use rv_atomic::Watch;
@@ -62,26 +62,26 @@ fn number_after(harts: u8, number: u8) -> u8
 fn slots_alone<const COPY: u8, D: Device>(
     hart: &mut Hart,
     watch: &mut Watch,
-    wires: &mut Wires<D>,
+    bus: &mut HartBus<D>,
     ways: Ways,
     now: Micros,
     count: u64,
 ) -> Ended
     requires alone { ways.shared ≡ false }
-    requires ways { ways ≡ ways_of wires.old.space.plan }
-    requires letters { hart.old.letters ≡ wires.old.space.plan.letters }
-    requires harts { length watch.old ≡ length wires.old.space.plan.cpus }
-    requires most { count ≤ wires.old.numbers.speed }
+    requires ways { ways ≡ ways_of bus.old.space.plan }
+    requires letters { hart.old.letters ≡ bus.old.space.plan.letters }
+    requires harts { length watch.old ≡ length bus.old.space.plan.cpus }
+    requires most { count ≤ bus.old.numbers.speed }
     ensures ended { HasEnded count result }
-    ensures run { let old = state_alone hart.old watch.old wires.old in
-        state_alone hart.new watch.new wires.new ≡ after old (stretch old.view now.0 0 (taken_of count result)) }
+    ensures run { let old = state_alone hart.old watch.old bus.old in
+        state_alone hart.new watch.new bus.new ≡ after old (stretch old.view now.0 0 (taken_of count result)) }
     ensures same { IsSameHart hart.old hart.new }
     ensures watch { length watch.new ≡ length watch.old }
-    ensures reserved { All (IsReservation wires.old.space.plan) watch.old →
-        All (IsReservation wires.old.space.plan) watch.new }
+    ensures reserved { All (IsReservation bus.old.space.plan) watch.old →
+        All (IsReservation bus.old.space.plan) watch.new }
 {
     for i in 0..count {
-        let Ok(idle) = slot::<COPY, D>(hart, 0, watch, wires, ways, now) else {
+        let Ok(idle) = slot::<COPY, D>(hart, 0, watch, bus, ways, now) else {
             return Ended::Starved(i);
         };
         if idle {
@@ -96,10 +96,10 @@ impl<D: Device> Board<D> {
     pub(super) fn ways(&self) -> Ways
         ensures { result ≡ ways_of self.now.view.space.plan }
     {
-        let plan = self.wires.space.plan();
+        let plan = self.bus.space.plan();
         Ways {
             shared: plan.cpus.items().len() != 1 || plan.letters.a,
-            wired: self.wires.space.is_wired(),
+            wired: self.bus.space.is_wired(),
             halves: plan.letters.c,
         }
     }
@@ -178,7 +178,7 @@ impl<D: Device> Board<D> {
         ensures run { self.new ≡ after self.old (stretch self.old.view now.0 0 (taken_of count result)) }
     {
         let hart = &mut self.harts[0];
-        slots_alone::<COPY, D>(hart, &mut self.watch, &mut self.wires, ways, now, count)
+        slots_alone::<COPY, D>(hart, &mut self.watch, &mut self.bus, ways, now, count)
     }
 
     /// The same of any other board. Each kind has a loop of its own.
@@ -240,14 +240,7 @@ impl<D: Device> Board<D> {
     {
         let number = self.next;
         let hart = &mut self.harts[usize::from(number)];
-        let taken = shared_slot::<COPY, D>(
-            hart,
-            number,
-            &mut self.watch,
-            &mut self.wires,
-            ways,
-            now,
-        );
+        let taken = shared_slot::<COPY, D>(hart, number, &mut self.watch, &mut self.bus, ways, now);
         let Ok(idle) = taken else {
             return Err(NoMemory);
         };

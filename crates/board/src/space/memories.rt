@@ -2,7 +2,7 @@
 ghost use Rattle.std.specs.Prelude.{◌≡◌, ◌+◌, ◌<◌, ◌≤◌, ◌%◌, length, take, IsTrue, IfOk, OnOk, OnErr};
 ghost use Rattle.page_ram.specs.Bytes.{zeros};
 ghost use Rattle.board.specs.Space.{memory_at, with_memory};
-ghost use Rattle.board.specs.Wires.{word_in};
+ghost use Rattle.board.specs.HartBus.{word_in};
 ghost use Rattle.board.specs.Changes.{in_memory, holds_each, copied};
 ghost use Rattle.board.specs.Inner.Copies.{CopiesPrefix, HasRoom, IsRoom};
 

@@ -8,10 +8,10 @@ use Rattle.board.proofs.board.Board.is_one_that_can_be.Goals as goal
 
 pub returns : goal.returns
 returns g c =
-    let held = subst (λ (b : Inside g.row.D.Denot). Holds (state_of b.harts.items b.next b.watch b.wires).view)
+    let held = subst (λ (b : Inside g.row.D.Denot). Holds (state_of b.harts.items b.next b.watch b.bus).view)
     (sym c.self-inside.view_is) c.self.invariant in
     subst (λ (s : State). IsBoard s.view) c.self.view_is
-    (subst (λ (b : Inside g.row.D.Denot). IsBoard (state_of b.harts.items b.next b.watch b.wires).view)
+    (subst (λ (b : Inside g.row.D.Denot). IsBoard (state_of b.harts.items b.next b.watch b.bus).view)
     c.self-inside.view_is
     (is_board _ held c.plan-plan.ensures.fit (rw c.deref.ensures.value at c.harts_are_sound.ensures)
     (rw c.controller_state-controller.ensures.value at c.controller_state-controller.ensures.valid)

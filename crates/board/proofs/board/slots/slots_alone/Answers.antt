@@ -11,7 +11,7 @@ use Rattle.board.specs.Inner.Seat.{behind, ways_of}
 use Rattle.board.specs.Slot.{hart_slot}
 use Rattle.board.specs.Valid.{IsReservation}
 use Rattle.board.specs.View.{State}
-use Rattle.board.specs.Wires.{Wires}
+use Rattle.board.specs.HartBus.{HartBus}
 use Rattle.board.proofs.board.slots.slots_alone.Goals as goal
 
 pub loop-i-init : goal.loop-i-init
@@ -39,7 +39,7 @@ slot-requires-clause-harts g c =
 
 -- the reservations after one slot more
 one_more :
-    (core core' : Core) (watch watch' : List (Option ℕ)) (w w' : Wires) (plan : BoardPlan) (t : ℕ) →
+    (core core' : Core) (watch watch' : List (Option ℕ)) (w w' : HartBus) (plan : BoardPlan) (t : ℕ) →
     w.space.plan ≡ plan → core.letters ≡ plan.letters →
     slot_state 0 core' watch' w'
     ≡ behind (slot_state 0 core watch w) (hart_slot (slot_state 0 core watch w).view t) →
@@ -52,21 +52,21 @@ one_more core core' watch watch' w w' plan t same own done =
 pub returns-then-idle-clause-reserved : goal.returns-then-idle-clause-reserved
 returns-then-idle-clause-reserved g c = λ all.
     let kept = ap {A = State} (λ s. s.view.space.plan) c.loop-i.invariant.run ∙ plan-stretch _ _ _ _ in
-    one_more c.loop-i.hart c.slot.new.hart c.loop-i.watch c.slot.new.watch c.loop-i.wires c.slot.new.wires
-    c.args.wires.now.space.plan c.args.now.0 kept (c.loop-i.invariant.same.letters ∙ c.requires.letters)
+    one_more c.loop-i.hart c.slot.new.hart c.loop-i.watch c.slot.new.watch c.loop-i.bus c.slot.new.bus
+    c.args.bus.now.space.plan c.args.now.0 kept (c.loop-i.invariant.same.letters ∙ c.requires.letters)
     c.in-Ok.ensures.ok (c.loop-i.invariant.reserved all)
 
 pub returns-then-idle-clause-run : goal.returns-then-idle-clause-run
 returns-then-idle-clause-run g c =
     after_next _ _ _ _ _ c.loop-i.invariant.run
-    (taken_alone c.loop-i.hart c.slot.new.hart c.loop-i.watch c.slot.new.watch c.loop-i.wires c.slot.new.wires
+    (taken_alone c.loop-i.hart c.slot.new.hart c.loop-i.watch c.slot.new.watch c.loop-i.bus c.slot.new.bus
     c.args.now.0 c.in-Ok.ensures.ok) (omega (arith, c.requires.most, c.loop-i-test.true))
 
 pub loop-i-preserved : goal.loop-i-preserved
 loop-i-preserved g c = record {
   run =
       after_next _ _ _ _ _ c.loop-i.invariant.run
-      (taken_alone c.loop-i.hart c.slot.new.hart c.loop-i.watch c.slot.new.watch c.loop-i.wires c.slot.new.wires
+      (taken_alone c.loop-i.hart c.slot.new.hart c.loop-i.watch c.slot.new.watch c.loop-i.bus c.slot.new.bus
       c.args.now.0 c.in-Ok.ensures.ok) (omega (arith, c.requires.most, c.loop-i-test.true));
   same =
       record {
@@ -76,7 +76,7 @@ loop-i-preserved g c = record {
   watch = c.in-Ok.ensures.watch ∙ c.loop-i.invariant.watch;
   reserved = λ all.
       let kept = ap {A = State} (λ s. s.view.space.plan) c.loop-i.invariant.run ∙ plan-stretch _ _ _ _ in
-      one_more c.loop-i.hart c.slot.new.hart c.loop-i.watch c.slot.new.watch c.loop-i.wires c.slot.new.wires
-      c.args.wires.now.space.plan c.args.now.0 kept (c.loop-i.invariant.same.letters ∙ c.requires.letters)
+      one_more c.loop-i.hart c.slot.new.hart c.loop-i.watch c.slot.new.watch c.loop-i.bus c.slot.new.bus
+      c.args.bus.now.space.plan c.args.now.0 kept (c.loop-i.invariant.same.letters ∙ c.requires.letters)
       c.in-Ok.ensures.ok (c.loop-i.invariant.reserved all);
 }

@@ -1,4 +1,4 @@
-//! What the processor that takes a slot is wired to, and what the board makes by it.
+//! The bus of the processor that takes a slot, and what the board makes by it.
 ghost use Rattle.std.specs.Prelude.{◌≡◌, ◌+◌, ◌^◌, ◌<◌, ◌≤◌, [], length, map, IfOk, OnOk, OnErr};
 ghost use Rattle.std.specs.Vec.{vec_len, vec_capacity};
 ghost use Rattle.dev_core.specs.declared.post.What.TheVariants.{Read};
@@ -6,7 +6,7 @@ ghost use Rattle.page_ram.specs.Access.{IsInOnePage};
 ghost use Rattle.page_ram.specs.Bytes.{zeros};
 ghost use Rattle.rv_exec.specs.Access.{IsAccess, IsWidth};
 ghost use Rattle.sys_bus.specs.declared.region.Target.TheVariants.{Ram, Dev};
-ghost use Rattle.board.specs.Wires.{fetched, answer, loaded, stored, stored_to, entered};
+ghost use Rattle.board.specs.HartBus.{fetched, answer, loaded, stored, stored_to, entered};
 ghost use Rattle.board.specs.New.{first_states, new_numbers, new_space};
 ghost use Rattle.board.specs.Space.{memory_at};
 ghost use Rattle.sys_bus.specs.Plan.{IsValid};
@@ -22,15 +22,15 @@ use sys_bus::{BoardPlan, Target};
 
 /// What a board has but its processors, whose turn is next and what they have reserved.
 #[derive(Drop)]
-pub struct Wires<D: Device> {
+pub struct HartBus<D: Device> {
     pub made: Made,
     pub space: Space<D>,
     /// The microsecond of the slot.
     pub at: Micros,
 }
 
-impl<D: Device> Model for Wires<D> {
-    ghost use Rattle.board.specs.Wires.{Wires as Seen};
+impl<D: Device> Model for HartBus<D> {
+    ghost use Rattle.board.specs.HartBus.{HartBus as Seen};
 
     ghost Value = { Seen };
 
@@ -81,9 +81,9 @@ impl<D: Device> Rooms<D> {
     }
 }
 
-impl<D: Device> Wires<D> {
+impl<D: Device> HartBus<D> {
     /// What a new board of the plan has at lab time 0, of the rooms that were made for the plan.
-    pub fn new(plan: BoardPlan, rooms: Rooms<D>, devices: Vec<D>) -> Wires<D>
+    pub fn new(plan: BoardPlan, rooms: Rooms<D>, devices: Vec<D>) -> HartBus<D>
         requires plan { IsValid plan }
         requires posts { rooms.made.posts.items ≡ [] }
         requires entries { rooms.made.entries.items ≡ [] }
@@ -100,7 +100,7 @@ impl<D: Device> Wires<D> {
           entries = [];
         } }
     {
-        Wires {
+        HartBus {
             made: rooms.made,
             space: Space::new(plan, rooms.parts, devices),
             at: Micros(0),
@@ -126,7 +126,7 @@ impl<D: Device> Wires<D> {
 
     /// Stores in a device, and does what it makes the device do. After an `Err` the device is as
     /// before.
-    #[tactic(auto, unfolding(crate::specs::Wires::sent))]
+    #[tactic(auto, unfolding(crate::specs::HartBus::sent))]
     fn store_in_device(&mut self, dev: u8, at: u32, width: u8, value: u32) -> Result<(), NoMemory>
         requires { dev < length self.old.space.devices }
         ensures ok { OnOk result (self.new ≡ stored_to self.old at width value (Dev dev at)) }
@@ -172,7 +172,7 @@ impl<D: Device> Wires<D> {
 
     /// A load that is not known to lie in a memory.
     #[inline(never)]
-    #[tactic(auto, unfolding(crate::specs::Wires::loaded))]
+    #[tactic(auto, unfolding(crate::specs::HartBus::loaded))]
     fn load_anew(&mut self, at: u32, width: u8) -> Result<u32, NoMemory>
         requires { IsAccess at width }
         ensures answer { IfOk result (λ value. value ≡ answer self.old at width) }
@@ -217,7 +217,7 @@ impl<D: Device> Wires<D> {
 
     /// A store that is not known to lie in a memory.
     #[inline(never)]
-    #[tactic(auto, unfolding(crate::specs::Wires::stored))]
+    #[tactic(auto, unfolding(crate::specs::HartBus::stored))]
     fn store_anew(&mut self, at: u32, width: u8, value: u32) -> Result<(), NoMemory>
         requires { IsAccess at width }
         ensures ok { OnOk result (self.new ≡ stored self.old at width value) }
@@ -239,7 +239,7 @@ impl<D: Device> Wires<D> {
     }
 }
 
-impl<D: Device> Bus for Wires<D> {
+impl<D: Device> Bus for HartBus<D> {
     ghost fetched = { fetched };
 
     ghost answer = { answer };
@@ -254,7 +254,7 @@ impl<D: Device> Bus for Wires<D> {
     }
 
     #[inline(always)]
-    #[tactic(auto, unfolding(crate::specs::Wires::loaded))]
+    #[tactic(auto, unfolding(crate::specs::HartBus::loaded))]
     fn load(&mut self, at: u32, width: u8) -> Result<u32, NoMemory> {
         match self.space.near_data(at) {
             Some(place) => Ok(self.space.load_memory(place.part, place.at, width)),
@@ -264,7 +264,7 @@ impl<D: Device> Bus for Wires<D> {
     }
 
     #[inline(always)]
-    #[tactic(auto, unfolding(crate::specs::Wires::stored))]
+    #[tactic(auto, unfolding(crate::specs::HartBus::stored))]
     fn store(&mut self, at: u32, width: u8, value: u32) -> Result<(), NoMemory> {
         match self.space.near_data(at) {
             Some(place) => self.store_in_memory(place.part, place.at, width, value),
