@@ -10,7 +10,7 @@ mod slots;
 
 use crate::hart_bus::{HartBus, Rooms};
 use crate::harts::{all_asleep, all_halted, new_harts, reset_all};
-use crate::slot::Ways;
+use crate::slot::Features;
 use dev_core::{Device, Entry, Payload, Post, Taken};
 use lab_num::{BoardNo, Micros, NoMemory};
 use rv_atomic::Watch;
@@ -168,11 +168,11 @@ impl<D: Device> Board<D> {
         // loops of their own, so that a board of one processor without atomic instructions asks in no slot whose turn
         // is next and what is reserved, one without timer, interrupt controller and wires asks for no lines, and none
         // asks whether there are compressed instructions
-        let Ways {
+        let Features {
             shared,
             wired,
             halves,
-        } = self.ways();
+        } = self.features();
         match (shared, wired, halves) {
             (false, false, false) => self.slots::<UNWIRED>(false, false, false, at, n),
             (false, true, false) => self.slots::<WIRED>(false, true, false, at, n),

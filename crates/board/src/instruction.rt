@@ -4,11 +4,11 @@ ghost use Rattle.rv_atomic.specs.SharedEffect.{IsSharable};
 ghost use Rattle.rv_exec.specs.Effect.{bus_after, core_after, effect};
 ghost use Rattle.rv_exec.specs.Laws.{IsSameHart};
 ghost use Rattle.board.specs.Fetch.{effect_on, fetched_by, shared_by};
-ghost use Rattle.board.specs.Inner.Seat.{seen, shared_of_word, ways_of};
+ghost use Rattle.board.specs.Inner.Seat.{seen, shared_of_word, features_of};
 ghost use Rattle.board.specs.HartBus.{answer, loaded, stored};
 
 use crate::hart_bus::HartBus;
-use crate::slot::Ways;
+use crate::slot::Features;
 use crate::space::halves::of_half;
 use dev_core::Device;
 use lab_num::NoMemory;
@@ -23,10 +23,10 @@ pub fn instruction<const COPY: u8, D: Device>(
     number: u8,
     watch: &mut Watch,
     bus: &mut HartBus<D>,
-    ways: Ways,
+    features: Features,
     lines: Lines,
 ) -> Result<(), NoMemory>
-    requires ways { ways ≡ ways_of bus.old.space.plan }
+    requires features { features ≡ features_of bus.old.space.plan }
     requires letters { hart.old.letters ≡ bus.old.space.plan.letters }
     requires number { number < length watch.old }
     requires harts { length watch.old ≡ length bus.old.space.plan.cpus }
@@ -41,11 +41,11 @@ pub fn instruction<const COPY: u8, D: Device>(
     ensures watch_err { OnErr result (watch.new ≡ watch.old) }
     ensures bus_err { OnErr result (bus.new ≡ bus.old) }
 {
-    if ways.shared {
+    if features.shared {
         return by_sharing(hart, number, watch, bus, lines);
     }
     alone_as_performed();
-    if ways.halves {
+    if features.halves {
         by_halves::<COPY, D>(hart, bus, lines)
     } else {
         by_words::<COPY, D>(hart, bus, lines)

@@ -9,13 +9,13 @@ ghost use Rattle.rv_exec.specs.Effect.{bus_after, core_after, of_word};
 ghost use Rattle.rv_exec.specs.Laws.{IsSameHart};
 ghost use Rattle.board.specs.Fetch.{effect_on, of_half};
 ghost use Rattle.board.specs.HartView.{slot_state};
-ghost use Rattle.board.specs.Inner.Seat.{behind, seen, shared_of_word, ways_of};
+ghost use Rattle.board.specs.Inner.Seat.{behind, seen, shared_of_word, features_of};
 ghost use Rattle.board.specs.Slot.{awake, hart_slot, running};
 ghost use Rattle.board.specs.HartBus.{answer, fetched, loaded, stored};
 
 use crate::hart_bus::HartBus;
 use crate::instruction::{by_sharing, of_word};
-use crate::slot::{Ways, enter_interrupt, sample_and_run, taken, wait};
+use crate::slot::{Features, enter_interrupt, sample_and_run, taken, wait};
 use crate::space::halves::of_half;
 use dev_core::Device;
 use lab_num::{Micros, NoMemory};
@@ -31,10 +31,10 @@ pub fn shared_slot<const COPY: u8, D: Device>(
     number: u8,
     watch: &mut Watch,
     bus: &mut HartBus<D>,
-    ways: Ways,
+    features: Features,
     at: Micros,
 ) -> Result<bool, NoMemory>
-    requires ways { ways ≡ ways_of bus.old.space.plan }
+    requires features { features ≡ features_of bus.old.space.plan }
     requires letters { hart.old.letters ≡ bus.old.space.plan.letters }
     requires number { number < length watch.old }
     requires harts { length watch.old ≡ length bus.old.space.plan.cpus }
@@ -48,9 +48,9 @@ pub fn shared_slot<const COPY: u8, D: Device>(
     if hart.halted() {
         return Ok(true);
     }
-    match bus.space.known_lines(ways.wired, number, at) {
-        Some(lines) => run::<COPY, D>(hart, number, watch, bus, ways, at, lines),
-        None => Ok(sample_and_run(hart, number, watch, bus, ways, at)?),
+    match bus.space.known_lines(features.wired, number, at) {
+        Some(lines) => run::<COPY, D>(hart, number, watch, bus, features, at, lines),
+        None => Ok(sample_and_run(hart, number, watch, bus, features, at)?),
     }
 }
 
@@ -61,11 +61,11 @@ fn run<const COPY: u8, D: Device>(
     number: u8,
     watch: &mut Watch,
     bus: &mut HartBus<D>,
-    ways: Ways,
+    features: Features,
     at: Micros,
     lines: Lines,
 ) -> Result<bool, NoMemory>
-    requires ways { ways ≡ ways_of bus.old.space.plan }
+    requires features { features ≡ features_of bus.old.space.plan }
     requires letters { hart.old.letters ≡ bus.old.space.plan.letters }
     requires number { number < length watch.old }
     requires harts { length watch.old ≡ length bus.old.space.plan.cpus }
@@ -77,9 +77,9 @@ fn run<const COPY: u8, D: Device>(
         ≡ slot_state number hart.old watch.old bus.old) }
 {
     if hart.waiting() {
-        return Ok(wait(hart, number, watch, bus, ways, at, lines)?);
+        return Ok(wait(hart, number, watch, bus, features, at, lines)?);
     }
-    act::<COPY, D>(hart, number, watch, bus, ways, at, lines)?;
+    act::<COPY, D>(hart, number, watch, bus, features, at, lines)?;
     Ok(false)
 }
 
@@ -92,11 +92,11 @@ fn act<const COPY: u8, D: Device>(
     number: u8,
     watch: &mut Watch,
     bus: &mut HartBus<D>,
-    ways: Ways,
+    features: Features,
     at: Micros,
     lines: Lines,
 ) -> Result<(), NoMemory>
-    requires ways { ways ≡ ways_of bus.old.space.plan }
+    requires features { features ≡ features_of bus.old.space.plan }
     requires letters { hart.old.letters ≡ bus.old.space.plan.letters }
     requires number { number < length watch.old }
     requires harts { length watch.old ≡ length bus.old.space.plan.cpus }
@@ -112,7 +112,7 @@ fn act<const COPY: u8, D: Device>(
         return Ok(());
     }
     bus.begin_slot(at);
-    let Ok(()) = instruction::<COPY, D>(hart, number, watch, bus, ways, lines) else {
+    let Ok(()) = instruction::<COPY, D>(hart, number, watch, bus, features, lines) else {
         return Err(NoMemory);
     };
     Ok(())
@@ -125,10 +125,10 @@ fn instruction<const COPY: u8, D: Device>(
     number: u8,
     watch: &mut Watch,
     bus: &mut HartBus<D>,
-    ways: Ways,
+    features: Features,
     lines: Lines,
 ) -> Result<(), NoMemory>
-    requires ways { ways ≡ ways_of bus.old.space.plan }
+    requires features { features ≡ features_of bus.old.space.plan }
     requires letters { hart.old.letters ≡ bus.old.space.plan.letters }
     requires number { number < length watch.old }
     ensures core { let shared = effect_on (seen number hart.old watch.old bus.old) bus.old lines in
@@ -142,7 +142,7 @@ fn instruction<const COPY: u8, D: Device>(
     ensures watch_err { OnErr result (watch.new ≡ watch.old) }
     ensures bus_err { OnErr result (bus.new ≡ bus.old) }
 {
-    if ways.halves {
+    if features.halves {
         by_halves::<COPY, D>(hart, number, watch, bus, lines)
     } else {
         by_words::<COPY, D>(hart, number, watch, bus, lines)

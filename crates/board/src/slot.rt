@@ -5,7 +5,7 @@ ghost use Rattle.rv_hart.specs.Trap.{chosen, interrupt};
 ghost use Rattle.board.specs.HartView.{slot_state};
 ghost use Rattle.board.specs.Inner.Fit.{IsStateOf};
 ghost use Rattle.board.specs.BoardState.{controller_to};
-ghost use Rattle.board.specs.Inner.Seat.{behind, seen, ways_of};
+ghost use Rattle.board.specs.Inner.Seat.{behind, seen, features_of};
 ghost use Rattle.board.specs.Lines.{sampled, lines_of};
 ghost use Rattle.board.specs.Slot.{hart_slot, running, sampling, awake, asleep};
 ghost use Rattle.rv_hart.specs.Core.{ticked};
@@ -23,7 +23,7 @@ pub const APART: u8 = 5;
 
 /// What a board asks once in a turn, and not in each slot.
 #[derive(Clone, Copy)]
-pub struct Ways {
+pub struct Features {
     /// Whether there are several processors, or atomic instructions.
     pub shared: bool,
     /// Whether there is a line that may be up.
@@ -41,10 +41,10 @@ pub fn slot<const COPY: u8, D: Device>(
     number: u8,
     watch: &mut Watch,
     bus: &mut HartBus<D>,
-    ways: Ways,
+    features: Features,
     at: Micros,
 ) -> Result<bool, NoMemory>
-    requires ways { ways ≡ ways_of bus.old.space.plan }
+    requires features { features ≡ features_of bus.old.space.plan }
     requires letters { hart.old.letters ≡ bus.old.space.plan.letters }
     requires number { number < length watch.old }
     requires harts { length watch.old ≡ length bus.old.space.plan.cpus }
@@ -58,9 +58,9 @@ pub fn slot<const COPY: u8, D: Device>(
     if hart.halted() {
         return Ok(true);
     }
-    match bus.space.known_lines(ways.wired, number, at) {
-        Some(lines) => run::<COPY, D>(hart, number, watch, bus, ways, at, lines),
-        None => Ok(sample_and_run(hart, number, watch, bus, ways, at)?),
+    match bus.space.known_lines(features.wired, number, at) {
+        Some(lines) => run::<COPY, D>(hart, number, watch, bus, features, at, lines),
+        None => Ok(sample_and_run(hart, number, watch, bus, features, at)?),
     }
 }
 
@@ -73,10 +73,10 @@ pub fn sample_and_run<D: Device>(
     number: u8,
     watch: &mut Watch,
     bus: &mut HartBus<D>,
-    ways: Ways,
+    features: Features,
     at: Micros,
 ) -> Result<bool, NoMemory>
-    requires ways { ways ≡ ways_of bus.old.space.plan }
+    requires features { features ≡ features_of bus.old.space.plan }
     requires letters { hart.old.letters ≡ bus.old.space.plan.letters }
     requires number { number < length watch.old }
     requires harts { length watch.old ≡ length bus.old.space.plan.cpus }
@@ -90,7 +90,7 @@ pub fn sample_and_run<D: Device>(
 {
     let before = bus.space.controller_state();
     let lines = bus.space.sample(number, at);
-    let Ok(idle) = run::<APART, D>(hart, number, watch, bus, ways, at, lines) else {
+    let Ok(idle) = run::<APART, D>(hart, number, watch, bus, features, at, lines) else {
         bus.space.put_controller(&before);
         return Err(NoMemory);
     };
@@ -104,11 +104,11 @@ fn run<const COPY: u8, D: Device>(
     number: u8,
     watch: &mut Watch,
     bus: &mut HartBus<D>,
-    ways: Ways,
+    features: Features,
     at: Micros,
     lines: Lines,
 ) -> Result<bool, NoMemory>
-    requires ways { ways ≡ ways_of bus.old.space.plan }
+    requires features { features ≡ features_of bus.old.space.plan }
     requires letters { hart.old.letters ≡ bus.old.space.plan.letters }
     requires number { number < length watch.old }
     requires harts { length watch.old ≡ length bus.old.space.plan.cpus }
@@ -121,9 +121,9 @@ fn run<const COPY: u8, D: Device>(
 {
     if hart.waiting() {
         // taken apart, so that other slots test no answer of it
-        return Ok(wait(hart, number, watch, bus, ways, at, lines)?);
+        return Ok(wait(hart, number, watch, bus, features, at, lines)?);
     }
-    act::<COPY, D>(hart, number, watch, bus, ways, at, lines)?;
+    act::<COPY, D>(hart, number, watch, bus, features, at, lines)?;
     Ok(false)
 }
 
@@ -136,12 +136,12 @@ pub fn wait<D: Device>(
     number: u8,
     watch: &mut Watch,
     bus: &mut HartBus<D>,
-    ways: Ways,
+    features: Features,
     at: Micros,
     lines: Lines,
 ) -> Result<bool, NoMemory>
     requires waiting { hart.old.waiting ≡ true }
-    requires ways { ways ≡ ways_of bus.old.space.plan }
+    requires features { features ≡ features_of bus.old.space.plan }
     requires letters { hart.old.letters ≡ bus.old.space.plan.letters }
     requires number { number < length watch.old }
     requires harts { length watch.old ≡ length bus.old.space.plan.cpus }
@@ -157,7 +157,7 @@ pub fn wait<D: Device>(
         return Ok(true);
     }
     hart.set_waiting(false);
-    let Ok(()) = act::<APART, D>(hart, number, watch, bus, ways, at, lines) else {
+    let Ok(()) = act::<APART, D>(hart, number, watch, bus, features, at, lines) else {
         hart.set_waiting(true);
         return Err(NoMemory);
     };
@@ -173,11 +173,11 @@ fn act<const COPY: u8, D: Device>(
     number: u8,
     watch: &mut Watch,
     bus: &mut HartBus<D>,
-    ways: Ways,
+    features: Features,
     at: Micros,
     lines: Lines,
 ) -> Result<(), NoMemory>
-    requires ways { ways ≡ ways_of bus.old.space.plan }
+    requires features { features ≡ features_of bus.old.space.plan }
     requires letters { hart.old.letters ≡ bus.old.space.plan.letters }
     requires number { number < length watch.old }
     requires harts { length watch.old ≡ length bus.old.space.plan.cpus }
@@ -193,7 +193,7 @@ fn act<const COPY: u8, D: Device>(
         return Ok(());
     }
     bus.begin_slot(at);
-    let Ok(()) = instruction::<COPY, D>(hart, number, watch, bus, ways, lines) else {
+    let Ok(()) = instruction::<COPY, D>(hart, number, watch, bus, features, lines) else {
         return Err(NoMemory);
     };
     Ok(())

@@ -10,7 +10,7 @@ use Rattle.rv_atomic.specs.declared.shared.Shared.{Shared}
 use Rattle.rv_atomic.specs.declared.shared.Shared.TheVariants as shared
 use Rattle.rv_atomic.specs.Means.{atomic_of}
 use Rattle.sys_bus.specs.declared.plan.BoardPlan.{BoardPlan}
-use Rattle.board.specs.declared.slot.Ways.{Ways}
+use Rattle.board.specs.declared.slot.Features.{Features}
 use Rattle.board.specs.Idle.{core_passed, turns_of}
 use Rattle.board.specs.HartView.{HartView, SlotState, slot_state}
 use Rattle.board.specs.Inner.Remembers.{is_wired}
@@ -28,8 +28,8 @@ behind s run = record { view = run.view; posts = s.posts ++ run.posts; entries =
 abbrev pub is_shared : BoardPlan → Bool
 is_shared plan = not (length plan.cpus == 1) || plan.letters.a
 
-abbrev pub ways_of : BoardPlan → Ways
-ways_of plan = record { shared = is_shared plan; wired = is_wired plan; halves = plan.letters.c }
+abbrev pub features_of : BoardPlan → Features
+features_of plan = record { shared = is_shared plan; wired = is_wired plan; halves = plan.letters.c }
 
 -- what a word is on a processor of these letters: an atomic instruction, where it has those, or anything else
 abbrev pub shared_of_word : Letters → ℕ → Shared

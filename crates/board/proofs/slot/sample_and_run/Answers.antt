@@ -5,7 +5,7 @@ use Rattle.sys_bus.specs.declared.plan.BoardPlan.{BoardPlan}
 use Rattle.board.specs.HartView.{SlotState, slot_state}
 use Rattle.board.specs.BoardState.{controller_to}
 use Rattle.board.specs.Inner.Made.{bus_with}
-use Rattle.board.specs.Inner.Seat.{ways_of}
+use Rattle.board.specs.Inner.Seat.{features_of}
 use Rattle.board.specs.Lines.{sampled}
 use Rattle.board.specs.Space.{Space}
 use Rattle.board.specs.HartBus.{HartBus}
@@ -16,11 +16,11 @@ plan_sampled : (now old : Space) → now ≡ sampled old → now.plan ≡ old.pl
 unfolding sampled
 plan_sampled now old is = ap {A = Space} (λ s. s.plan) is
 
-pub run-requires-clause-ways : goal.run-requires-clause-ways
-run-requires-clause-ways g c =
-    c.requires.ways
-    ∙ ap {A = HartBus} (λ w. ways_of w.space.plan) (sym c.bus.view_is)
-    ∙ ap ways_of (sym (plan_sampled _ _ c.sample-lines.ensures.space))
+pub run-requires-clause-features : goal.run-requires-clause-features
+run-requires-clause-features g c =
+    c.requires.features
+    ∙ ap {A = HartBus} (λ w. features_of w.space.plan) (sym c.bus.view_is)
+    ∙ ap features_of (sym (plan_sampled _ _ c.sample-lines.ensures.space))
 
 pub run-requires-clause-letters : goal.run-requires-clause-letters
 run-requires-clause-letters g c =

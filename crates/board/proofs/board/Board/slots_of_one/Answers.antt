@@ -1,7 +1,7 @@
 use Rattle.std.proofs.Common.{◌≡◌, ◌∙◌, ap, sym, length, arith}
 use Rattle.std.proofs.lemmas.List.{get_or_default}
 use Rattle.rv_hart.specs.Core.{initial}
-use Rattle.board.specs.declared.slot.Ways.{Ways}
+use Rattle.board.specs.declared.slot.Features.{Features}
 use Rattle.board.specs.Inner.Ended.{taken_of}
 use Rattle.board.specs.Inner.Holds.{state_alone, state_of}
 use Rattle.board.specs.Stretch.{stretch}
@@ -29,7 +29,7 @@ returns-clause-run g c =
     let cores = board.harts.items in
     let old = c.index_mut-hart.result.now in
     let parts = not-shared c.args.self.now.view.space.plan
-    (sym (ap {A = Ways} (λ w. w.shared) c.requires.ways) ∙ c.requires.alone) in
+    (sym (ap {A = Features} (λ w. w.shared) c.requires.features) ∙ c.requires.alone) in
     let one : length cores ≡ 1 =
     c.self.invariant.harts ∙ ap {A = State} (λ s. length s.view.space.plan.cpus) c.self.view_is ∙ parts.0 in
     let first = c.index_mut-hart.ensures.value ∙ get_or_default cores 0 old initial (omega (arith, one)) in

@@ -7,7 +7,7 @@ use Rattle.board.proofs.StretchLemmas.{after_none, after_next}
 use Rattle.board.proofs.TurnLemmas.{taken_alone}
 use Rattle.board.proofs.WatchLemmas.{reserved_after}
 use Rattle.board.specs.HartView.{slot_state}
-use Rattle.board.specs.Inner.Seat.{behind, ways_of}
+use Rattle.board.specs.Inner.Seat.{behind, features_of}
 use Rattle.board.specs.Slot.{hart_slot}
 use Rattle.board.specs.Valid.{IsReservation}
 use Rattle.board.specs.View.{State}
@@ -22,10 +22,10 @@ loop-i-init g c = record {
   reserved = λ all. all;
 }
 
-pub slot-requires-clause-ways : goal.slot-requires-clause-ways
-slot-requires-clause-ways g c =
+pub slot-requires-clause-features : goal.slot-requires-clause-features
+slot-requires-clause-features g c =
     let kept = ap {A = State} (λ s. s.view.space.plan) c.loop-i.invariant.run ∙ plan-stretch _ _ _ _ in
-    c.requires.ways ∙ ap ways_of (sym kept)
+    c.requires.features ∙ ap features_of (sym kept)
 
 pub slot-requires-clause-letters : goal.slot-requires-clause-letters
 slot-requires-clause-letters g c =
