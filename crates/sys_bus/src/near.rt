@@ -13,7 +13,7 @@ pub struct MemoryPlace {
 /// The memory in which an access is sought first, as plain numbers: then one comparison says whether
 /// the access lies there.
 #[derive(Clone, Copy)]
-pub(crate) struct Near {
+pub(crate) struct NearMemory {
     /// The address of its first byte.
     base: u32,
     /// From how many of its places, counted from the first, four bytes of it lie. 0 where no memory
@@ -23,15 +23,15 @@ pub(crate) struct Near {
     ghost addressed: { base + starts ≤ 2 ^ 32 },
 }
 
-impl Near {
+impl NearMemory {
     ghost use Rattle.sys_bus.specs.Region.{end_of};
     ghost use Rattle.sys_bus.specs.Inner.Near.{IsNearPlace};
 
     /// No memory.
-    pub(crate) fn none() -> Near
+    pub(crate) fn none() -> NearMemory
         ensures { result.starts ≡ 0 }
     {
-        Near {
+        NearMemory {
             base: 0,
             starts: 0,
             part: 0,
@@ -39,13 +39,13 @@ impl Near {
     }
 
     /// The memory of this number, in this region.
-    pub(crate) fn of(region: &Region, part: u8) -> Near
+    pub(crate) fn of(region: &Region, part: u8) -> NearMemory
         requires { end_of region.now ≤ 2 ^ 32 }
         ensures base { result.base ≡ region.now.base }
         ensures starts { result.starts ≡ region.now.size - 3 }
         ensures part { result.part ≡ part }
     {
-        Near {
+        NearMemory {
             base: region.base,
             starts: region.size.saturating_sub(3),
             part,
