@@ -139,7 +139,7 @@ impl<D: Device> Board<D> {
         ensures most { result ≤ 1000 }
         ensures shared { result % length self.now.view.cores ≡ 0 }
     {
-        self.bus.made.numbers.speed
+        self.bus.outbox.numbers.speed
     }
 
     /// Sets the speed, in instructions a microsecond of all processors together.
@@ -149,7 +149,7 @@ impl<D: Device> Board<D> {
         requires shared { speed % length self.old.view.cores ≡ 0 }
         ensures { self.new ≡ record self.old { view = with_speed self.old.view speed } }
     {
-        self.bus.made.numbers.speed = speed;
+        self.bus.outbox.numbers.speed = speed;
     }
 
     /// Takes the next `n` slots, which the processors take in turn. Slot `i` of the call lies in
@@ -195,7 +195,7 @@ impl<D: Device> Board<D> {
     pub fn next_post(&self) -> Option<Post>
         ensures { result ≡ slice_get self.now.posts 0 }
     {
-        self.bus.made.posts.front().copied()
+        self.bus.outbox.posts.front().copied()
     }
 
     /// Drops the oldest post.
@@ -203,7 +203,7 @@ impl<D: Device> Board<D> {
         requires { self.old.posts ≢ [] }
         ensures { self.new ≡ record self.old { posts = drop 1 self.old.posts } }
     {
-        let _ = self.bus.made.posts.pop_front();
+        let _ = self.bus.outbox.posts.pop_front();
     }
 
     /// Hands out the log entries since the last call, in the order in which they were made, and
@@ -212,11 +212,11 @@ impl<D: Device> Board<D> {
         ensures taken { result.items ≡ self.old.entries }
         ensures left { self.new ≡ record self.old { entries = [] } }
     {
-        let none = Vec::new(*self.bus.made.entries.allocator());
-        if self.bus.made.entries.is_empty() {
+        let none = Vec::new(*self.bus.outbox.entries.allocator());
+        if self.bus.outbox.entries.is_empty() {
             return none;
         }
-        mem::replace(&mut self.bus.made.entries, none)
+        mem::replace(&mut self.bus.outbox.entries, none)
     }
 
     /// Shows a UART or a CAN controller: from now on each byte or frame that it sends makes a log
@@ -340,14 +340,14 @@ impl<D: Device> Board<D> {
     pub fn posted(&self) -> u64
         ensures { result ≡ self.now.view.numbers.posted }
     {
-        self.bus.made.numbers.posted
+        self.bus.outbox.numbers.posted
     }
 
     /// How many log entries the board has made so far.
     pub fn entered(&self) -> u64
         ensures { result ≡ self.now.view.numbers.entered }
     {
-        self.bus.made.numbers.entered
+        self.bus.outbox.numbers.entered
     }
 
     /// How many instructions a processor has retired, by its CSR minstret.

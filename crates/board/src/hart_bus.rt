@@ -11,7 +11,7 @@ ghost use Rattle.board.specs.New.{first_states, new_numbers, new_space};
 ghost use Rattle.board.specs.Space.{memory_at};
 ghost use Rattle.sys_bus.specs.Plan.{IsValid};
 
-use crate::made::Made;
+use crate::outbox::Outbox;
 use crate::space::{Parts, Space, regions_and_memories};
 use dev_core::{Device, Effect, What};
 use lab_num::{BoardNo, Micros, NoMemory};
@@ -23,7 +23,7 @@ use sys_bus::{BoardPlan, Target};
 /// What a board has but its processors, whose turn is next and what they have reserved.
 #[derive(Drop)]
 pub struct HartBus<D: Device> {
-    pub made: Made,
+    pub outbox: Outbox,
     pub space: Space<D>,
     /// The microsecond of the slot.
     pub at: Micros,
@@ -35,18 +35,18 @@ impl<D: Device> Model for HartBus<D> {
     ghost Value = { Seen };
 
     ghost view = { λ w. record {
-      numbers = w.made.numbers;
+      numbers = w.outbox.numbers;
       space = w.space;
       at = w.at.0;
-      posts = w.made.posts.items;
-      entries = w.made.entries.items;
+      posts = w.outbox.posts.items;
+      entries = w.outbox.entries.items;
     } };
 }
 
 /// What a new board takes memory for.
 #[derive(Drop)]
 pub struct Rooms<D: Device> {
-    made: Made,
+    outbox: Outbox,
     parts: Parts<D>,
 }
 
@@ -59,19 +59,19 @@ impl<D: Device> Rooms<D> {
         devices: usize,
     ) -> Result<Rooms<D>, NoMemory>
         requires { IsValid plan.now }
-        ensures numbers { IfOk result (λ rooms. rooms.made.numbers ≡ new_numbers number.0 plan.now) }
-        ensures posts { IfOk result (λ rooms. rooms.made.posts.items ≡ []) }
-        ensures entries { IfOk result (λ rooms. rooms.made.entries.items ≡ []) }
+        ensures numbers { IfOk result (λ rooms. rooms.outbox.numbers ≡ new_numbers number.0 plan.now) }
+        ensures posts { IfOk result (λ rooms. rooms.outbox.posts.items ≡ []) }
+        ensures entries { IfOk result (λ rooms. rooms.outbox.entries.items ≡ []) }
         ensures regions { IfOk result (λ rooms. rooms.parts.regions ≡ plan.now.regions) }
         ensures memories { IfOk result (λ rooms. rooms.parts.memories.items ≡ map zeros plan.now.memories) }
         ensures devices { IfOk result (λ rooms. rooms.parts.devices.items ≡ []) }
         ensures room { IfOk result (λ rooms. devices ≤ vec_capacity rooms.parts.devices) }
     {
-        let made = Made::new(alloc, number, plan.speed)?;
+        let outbox = Outbox::new(alloc, number, plan.speed)?;
         let devices = Vec::with_capacity(alloc, devices)?;
         let (regions, memories) = regions_and_memories(alloc, plan)?;
         Ok(Rooms {
-            made,
+            outbox,
             parts: Parts {
                 regions,
                 memories,
@@ -85,15 +85,15 @@ impl<D: Device> HartBus<D> {
     /// What a new board of the plan has at lab time 0, of the rooms that were made for the plan.
     pub fn new(plan: BoardPlan, rooms: Rooms<D>, devices: Vec<D>) -> HartBus<D>
         requires plan { IsValid plan }
-        requires posts { rooms.made.posts.items ≡ [] }
-        requires entries { rooms.made.entries.items ≡ [] }
+        requires posts { rooms.outbox.posts.items ≡ [] }
+        requires entries { rooms.outbox.entries.items ≡ [] }
         requires regions { rooms.parts.regions ≡ plan.regions }
         requires memories { rooms.parts.memories.items ≡ map zeros plan.memories }
         requires none { rooms.parts.devices.items ≡ [] }
         requires room { vec_len devices ≤ vec_capacity rooms.parts.devices }
         requires devices { map D.meaning devices.items ≡ first_states plan }
         ensures { result ≡ record {
-          numbers = rooms.made.numbers;
+          numbers = rooms.outbox.numbers;
           space = new_space plan;
           at = 0;
           posts = [];
@@ -101,7 +101,7 @@ impl<D: Device> HartBus<D> {
         } }
     {
         HartBus {
-            made: rooms.made,
+            outbox: rooms.outbox,
             space: Space::new(plan, rooms.parts, devices),
             at: Micros(0),
         }
@@ -121,7 +121,7 @@ impl<D: Device> HartBus<D> {
         ensures ok { OnOk result (self.new ≡ entered self.old note) }
         ensures err { OnErr result (self.new ≡ self.old) }
     {
-        self.made.enter(self.at, note)
+        self.outbox.enter(self.at, note)
     }
 
     /// Stores in a device, and does what it makes the device do. After an `Err` the device is as
@@ -132,11 +132,11 @@ impl<D: Device> HartBus<D> {
         ensures ok { OnOk result (self.new ≡ stored_to self.old at width value (Dev dev at)) }
         ensures err { OnErr result (self.new ≡ self.old) }
     {
-        if !self.made.has_room() {
+        if !self.outbox.has_room() {
             return self.store_without_room(dev, at, width, value);
         }
         if let Effect::Send(payload) = self.space.store_device(dev, at, width, value) {
-            self.made
+            self.outbox
                 .send(self.at, dev, &payload, self.space.is_shown(dev));
         }
         Ok(())
@@ -161,11 +161,11 @@ impl<D: Device> HartBus<D> {
         let Effect::Send(payload) = self.space.store_device(dev, at, width, value) else {
             return Ok(());
         };
-        if self.made.make_room().is_err() {
+        if self.outbox.make_room().is_err() {
             self.space.put_back(dev, &before);
             return Err(NoMemory);
         }
-        self.made
+        self.outbox
             .send(self.at, dev, &payload, self.space.is_shown(dev));
         Ok(())
     }

@@ -13,7 +13,7 @@ ghost use Rattle.lab_state.specs.Inner.Time.{numbers_of, AreStanding, part_of, u
 ghost use Rattle.lab_state.specs.One.{first_without};
 ghost use Rattle.lab_state.specs.Round.{stepped, posts_made, entries_made};
 
-use crate::named_board::{Made, NamedBoard};
+use crate::named_board::{NamedBoard, RoundOutput};
 use crate::team::Team;
 use dev_core::{Device, Entry};
 use floor_run::Gate;
@@ -112,7 +112,7 @@ pub(crate) fn step_lent<R: Threads + Wait + Copy + Send + Sync, D: Device + Send
     source: &mut Source,
     from: Micros,
     q: u64,
-) -> Result<Made, NoMemory>
+) -> Result<RoundOutput, NoMemory>
     requires workers { (1 ≤ crew.workers) × (crew.workers ≤ 8) }
     requires within { from.0 + q ≤ 10000000000 }
     requires plans { first_without boards.old ≡ None }
@@ -141,5 +141,5 @@ pub(crate) fn step_lent<R: Threads + Wait + Copy + Send + Sync, D: Device + Send
     let parcels = team.run(rt, alloc, parcels, workers, gate)?;
     let entries = take_all_back(rt, alloc, boards, source, parcels, &mut boss)?;
     let posts = boss.drain(rt)?;
-    Ok(Made { posts, entries })
+    Ok(RoundOutput { posts, entries })
 }

@@ -62,17 +62,17 @@ impl<D: Device> Model for NamedBoard<D> {
 
 /// What the boards have made in a round: the posts in any order, the entries in order of the boards.
 #[derive(Drop)]
-pub struct Made {
+pub struct RoundOutput {
     pub posts: Vec<Post>,
     pub entries: Vec<Vec<Entry>>,
 }
 
-impl Made {
-    pub fn new(alloc: Global) -> Made
+impl RoundOutput {
+    pub fn new(alloc: Global) -> RoundOutput
         ensures posts { result.posts.items ≡ [] }
         ensures entries { result.entries.items ≡ [] }
     {
-        Made {
+        RoundOutput {
             posts: Vec::new(alloc),
             entries: Vec::new(alloc),
         }
@@ -127,7 +127,7 @@ fn take_turn<D: Device>(board: &mut Board<D>, grant: &Handle) -> Result<(), NoMe
 fn step_board<D: Device>(
     board: &mut Board<D>,
     grant: &Handle,
-    made: &mut Made,
+    made: &mut RoundOutput,
 ) -> Result<(), NoMemory>
     requires within { grant.now.to ≤ 10000000000 }
     requires part { grant.now
@@ -286,7 +286,7 @@ impl<D: Device> NamedBoard<D> {
 
     /// Gives the board the slots of a grant, and takes what it has made. Without memory for that
     /// it is lost. Where there is no board the slots pass.
-    pub fn step(&mut self, grant: &Handle, made: &mut Made) -> Result<(), NoMemory>
+    pub fn step(&mut self, grant: &Handle, made: &mut RoundOutput) -> Result<(), NoMemory>
         requires within { grant.now.to ≤ 10000000000 }
         requires part { grant.now ≡ part_of grant.now.from grant.now.to self.old }
         requires made { ForSome self.old.view (λ v.

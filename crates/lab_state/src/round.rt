@@ -23,7 +23,7 @@ use crate::faults::LabFault;
 use crate::hub_list::HubList;
 use crate::lab::Lab;
 use crate::lending::{Crew, step_lent};
-use crate::named_board::{Made, NamedBoard};
+use crate::named_board::{NamedBoard, RoundOutput};
 use crate::team::Team;
 use board::{
     stretches_keep_plans, stretches_keep_time, stretches_number, stretches_tell_of_devices,
@@ -61,7 +61,7 @@ fn step_all<D: Device>(
     source: &Source,
     from: Micros,
     q: u64,
-    made: &mut Made,
+    made: &mut RoundOutput,
 ) -> Result<(), NoMemory>
     requires within { from.0 + q ≤ 10000000000 }
     requires standing { AreStanding (1000 * from.0) (numbers_of boards.old) }
@@ -117,14 +117,14 @@ fn items_of(alloc: Global, entries: &[Entry]) -> Result<Vec<LogItem>, NoMemory>
 }
 
 /// What boards have made in a round, in rising order of key.
-fn in_order(alloc: Global, made: Made) -> Result<Slots, NoMemory>
+fn in_order(alloc: Global, made: RoundOutput) -> Result<Slots, NoMemory>
     requires posts { KeysDiffer post_key made.posts.items }
     requires entries { KeysDiffer entry_key (all_entries made.entries.items) }
     ensures posts { IfOk result (λ slots. slots.posts.items ≡ listing post_key made.posts.items) }
     ensures items { IfOk result (λ slots. slots.items.items
         ≡ map round_spec.item_of (listing entry_key (all_entries made.entries.items))) }
 {
-    let Made { posts, entries } = made;
+    let RoundOutput { posts, entries } = made;
     let posts = merge_posts(alloc, posts)?;
     let entries = merge_entries(alloc, entries)?;
     let items = items_of(alloc, &entries)?;
@@ -139,7 +139,7 @@ fn step_in_place<D: Device>(
     source: &mut Source,
     from: Micros,
     q: u64,
-) -> Result<Made, NoMemory>
+) -> Result<RoundOutput, NoMemory>
     requires within { from.0 + q ≤ 10000000000 }
     requires standing { AreStanding (1000 * from.0) (numbers_of boards.old) }
     requires few { length boards.old ≤ 16 }
@@ -153,7 +153,7 @@ fn step_in_place<D: Device>(
     ensures entries { IfOk result (λ made. all_entries made.entries.items
         ≡ flat_map (entries_made (in_round from.0 q)) boards.old) }
 {
-    let mut made = Made::new(alloc);
+    let mut made = RoundOutput::new(alloc);
     step_all(boards, source, from, q, &mut made)?;
     use_up(source, boards.len());
     Ok(made)
@@ -214,7 +214,7 @@ fn step_boards<R: Threads + Wait + Copy + Send + Sync, D: Device + Send, G: Gate
     source: &mut Source,
     from: Micros,
     q: u64,
-) -> Result<Made, NoMemory>
+) -> Result<RoundOutput, NoMemory>
     requires workers { (1 ≤ crew.workers) × (crew.workers ≤ 8) }
     requires within { from.0 + q ≤ 10000000000 }
     requires plans { first_without boards.old ≡ None }

@@ -42,7 +42,7 @@ impl<D: Device> Board<D> {
     {
         let alloc = *self.harts.allocator();
         Ok(BoardState {
-            speed: self.bus.made.numbers.speed,
+            speed: self.bus.outbox.numbers.speed,
             harts: Rows::of(states_of(alloc, &self.harts)?),
             next: self.next,
             reserved: Rows::of(reserved_of(alloc, &self.watch)?),
@@ -50,8 +50,8 @@ impl<D: Device> Board<D> {
             plic: self.bus.space.controller_state(),
             devices: Rows::of(self.bus.space.states(alloc)?),
             shown: Rows::of(self.bus.space.shown(alloc)?),
-            posted: self.bus.made.numbers.posted,
-            entries: self.bus.made.numbers.entered,
+            posted: self.bus.outbox.numbers.posted,
+            entries: self.bus.outbox.numbers.entered,
         })
     }
 
@@ -60,7 +60,7 @@ impl<D: Device> Board<D> {
         requires { IsStateFor self.old.view.space.plan s.now }
         ensures { self.new ≡ record self.old { view = brought_to self.old.view s.now } }
     {
-        self.bus.made.numbers.bring_to(s);
+        self.bus.outbox.numbers.bring_to(s);
         bring_all_to(&mut self.harts, s.harts.items());
         self.next = s.next;
         reserve_all(&mut self.watch, s.reserved.items());

@@ -4,7 +4,7 @@ use Rattle.plic.specs.declared.state.PlicState.{PlicState}
 use Rattle.sys_bus.specs.declared.plan.BoardPlan.{BoardPlan}
 use Rattle.board.specs.HartView.{SlotState, slot_state}
 use Rattle.board.specs.BoardState.{controller_to}
-use Rattle.board.specs.Inner.Made.{bus_with}
+use Rattle.board.specs.Inner.Outbox.{bus_with}
 use Rattle.board.specs.Inner.Seat.{features_of}
 use Rattle.board.specs.Lines.{sampled}
 use Rattle.board.specs.Space.{Space}
@@ -63,12 +63,12 @@ returns-in_default-clause-err g c =
     let watch = c.run.new.watch in
     ap {A = Space}
     (λ space. slot_state c.args.number core watch
-    (bus_with c.bus-2.inside.made space c.bus-2.inside.at.0)) c.put_controller.ensures
+    (bus_with c.bus-2.inside.outbox space c.bus-2.inside.at.0)) c.put_controller.ensures
     ∙ ap {A = HartBus} (λ w. put_back state (slot_state c.args.number core watch w)) c.bus-2.view_is
     ∙ ap (put_back state) err
     ∙ ap {A = Space}
     (λ space. slot_state c.args.number c.args.hart.now c.args.watch.now
-    (bus_with c.bus.inside.made space c.bus.inside.at.0))
+    (bus_with c.bus.inside.outbox space c.bus.inside.at.0))
     (back c.bus.inside.space c.sample-lines.new.self state c.sample-lines.ensures.space
     c.controller_state-before.ensures.value)
     ∙ ap {A = HartBus} (λ w. slot_state c.args.number c.args.hart.now c.args.watch.now w) c.bus.view_is

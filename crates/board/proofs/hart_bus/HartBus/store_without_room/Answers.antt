@@ -1,7 +1,7 @@
 use Rattle.std.proofs.Common.{◌≡◌, ◌∙◌, ap, refl, rules}
 use Rattle.board.specs.Space.{Space, with_state}
 use Rattle.board.specs.HartBus.{HartBus, posted, entered_if, note_if, sent}
-use Rattle.board.specs.Inner.Made.{bus_with}
+use Rattle.board.specs.Inner.Outbox.{bus_with}
 use Rattle.board.proofs.FitLemmas.{put_back_same}
 use Rattle.board.proofs.hart_bus.HartBus.store_without_room.Goals as goal
 
@@ -12,7 +12,7 @@ returns-then-is_err-clause-err g c =
     ∙ ap (λ s. with_state s c.args.dev c.state-before.result) c.store_device.ensures.after
     ∙ rw c.state-before.ensures.value (put_back_same c.self.inside.space c.args.dev _ (search rules)) in
     c.make_room.ensures.same _ _
-    ∙ ap {A = Space} (λ s. bus_with c.self.inside.made s c.self.inside.at.0) back
+    ∙ ap {A = Space} (λ s. bus_with c.self.inside.outbox s c.self.inside.at.0) back
     ∙ c.self.view_is
 
 pub returns-clause-ok : goal.returns-clause-ok

@@ -1,5 +1,5 @@
 use Rattle.std.proofs.Common.{refl}
-use Rattle.board.proofs.made.Made.note.Goals as goal
+use Rattle.board.proofs.outbox.Outbox.note.Goals as goal
 
 pub returns-in-Some : goal.returns-in-Some
 returns-in-Some c = λ s.

@@ -1,5 +1,5 @@
 use Rattle.std.proofs.Common.{refl}
-use Rattle.board.proofs.made.Made.post.Goals as goal
+use Rattle.board.proofs.outbox.Outbox.entry.Goals as goal
 
 pub returns : goal.returns
 returns c = λ s. rw (c.key.ensures s, ← c.self.view_is) refl

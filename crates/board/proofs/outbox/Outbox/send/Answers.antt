@@ -1,5 +1,5 @@
 use Rattle.std.proofs.Common.{refl}
-use Rattle.board.proofs.made.Made.send.Goals as goal
+use Rattle.board.proofs.outbox.Outbox.send.Goals as goal
 
 pub returns : goal.returns
 returns c = λ s.

@@ -1,5 +1,5 @@
 use Rattle.std.proofs.Common.{refl}
-use Rattle.board.proofs.made.Made.entry.Goals as goal
+use Rattle.board.proofs.outbox.Outbox.post.Goals as goal
 
 pub returns : goal.returns
 returns c = λ s. rw (c.key.ensures s, ← c.self.view_is) refl

@@ -3,7 +3,7 @@ ghost use Rattle.std.specs.Prelude.{◌≡◌, ◌↔◌, ℕ, ◌<◌, [], IfOk
 ghost use Rattle.std.specs.Vec.{vec_len, vec_capacity};
 ghost use Rattle.board.specs.Space.{Space};
 ghost use Rattle.board.specs.HartBus.{posted, entered, entered_if, note_if, post_of, entry_of, key_of};
-ghost use Rattle.board.specs.Inner.Made.{bus_with, HasRoom};
+ghost use Rattle.board.specs.Inner.Outbox.{bus_with, HasRoom};
 
 use crate::numbers::Numbers;
 use dev_core::{Entry, Payload, Post, What};
@@ -13,23 +13,23 @@ use std::collections::VecDeque;
 
 /// A board's numbers, and what it has made and nobody has taken yet.
 #[derive(Drop)]
-pub struct Made {
+pub struct Outbox {
     pub numbers: Numbers,
     pub posts: VecDeque<Post>,
     pub entries: Vec<Entry>,
 }
 
-impl Made {
+impl Outbox {
     /// Nothing is made yet. There is room for a post and an entry.
-    pub fn new(alloc: Global, number: BoardNo, speed: u32) -> Result<Made, NoMemory>
-        ensures numbers { IfOk result (λ made.
-            made.numbers ≡ record { number = number.0; speed = speed; posted = 0; entered = 0 }) }
-        ensures posts { IfOk result (λ made. made.posts.items ≡ []) }
-        ensures entries { IfOk result (λ made. made.entries.items ≡ []) }
+    pub fn new(alloc: Global, number: BoardNo, speed: u32) -> Result<Outbox, NoMemory>
+        ensures numbers { IfOk result (λ outbox.
+            outbox.numbers ≡ record { number = number.0; speed = speed; posted = 0; entered = 0 }) }
+        ensures posts { IfOk result (λ outbox. outbox.posts.items ≡ []) }
+        ensures entries { IfOk result (λ outbox. outbox.entries.items ≡ []) }
     {
         let posts = VecDeque::with_capacity(alloc, 1)?;
         let entries = Vec::with_capacity(alloc, 1)?;
-        Ok(Made {
+        Ok(Outbox {
             numbers: Numbers::new(number, speed),
             posts,
             entries,

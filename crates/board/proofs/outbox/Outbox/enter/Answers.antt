@@ -1,5 +1,5 @@
 use Rattle.std.proofs.Common.{◌≡◌, ◌++◌, ◌∷◌, [], refl, rules}
-use Rattle.board.proofs.made.Made.enter.Goals as goal
+use Rattle.board.proofs.outbox.Outbox.enter.Goals as goal
 
 pub returns-clause-ok : goal.returns-clause-ok
 returns-clause-ok c = λ s.
