@@ -34,7 +34,7 @@ use Rattle.std.proofs.Math.Seq.{map-set_same}
 use Rattle.board.specs.Changes.{in_memory, is_memory}
 use Rattle.board.specs.New.{first_state, hidden, new_space, reset_device, new_timer, new_controller}
 use Rattle.board.specs.New.{size_of}
-use Rattle.board.specs.Space.{Space, Fitted, memory_at, with_memory, device_at, with_device, with_state}
+use Rattle.board.specs.Space.{Space, BoardDevice, memory_at, with_memory, device_at, with_device, with_state}
 use Rattle.board.specs.Inner.Fit.{IsFit, LiesIn, IsInPage, HoldsAccesses}
 use Rattle.sys_bus.specs.declared.near.MemoryPlace.{MemoryPlace}
 use Rattle.sys_bus.specs.Place.{IsPlace}
@@ -226,7 +226,7 @@ fit_memory s part bytes d fit same = record {
 }
 
 pub fit_device :
-    (s : Space) (dev : ℕ) (fitted d : Fitted) → IsFit s →
+    (s : Space) (dev : ℕ) (fitted d : BoardDevice) → IsFit s →
     kind_of fitted.state ≡ kind_of (slice_index_or s.devices dev d).state → IsValidState fitted.state →
     IsFit (with_device s dev fitted)
 fit_device s dev fitted d fit same valid = record {
@@ -292,7 +292,7 @@ fit_reset s fit = record {
     kind (state.Can c) = refl
     kind state.Finisher = refl
 
-    kinds : (ds : List Fitted) → map (λ f. kind_of f.state) (map reset_device ds) ≡ map (λ f. kind_of f.state) ds
+    kinds : (ds : List BoardDevice) → map (λ f. kind_of f.state) (map reset_device ds) ≡ map (λ f. kind_of f.state) ds
     kinds [] = refl
     kinds (d ∷ ds) = rw (kind d.state, kinds ds) refl
 
@@ -373,7 +373,7 @@ pub put_back_same :
     (s : Space) (dev : ℕ) (state : DevState) → dev < length s.devices →
     with_state (with_state s dev state) dev (device_at s dev).state ≡ s
 put_back_same s dev state there =
-    let changed : Fitted = record (device_at s dev) { state = state } in
+    let changed : BoardDevice = record (device_at s dev) { state = state } in
     let seen : device_at (with_device s dev changed) dev ≡ changed =
     get_or-set_same s.devices dev changed _ there in
     ap (λ f. with_device (with_device s dev changed) dev (record f { state = (device_at s dev).state })) seen

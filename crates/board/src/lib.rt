@@ -3,7 +3,7 @@
 #![tactic(auto)]
 
 mod board;
-mod fitted;
+mod board_device;
 mod hart_bus;
 mod harts;
 mod instruction;

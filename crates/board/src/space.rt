@@ -20,7 +20,7 @@ mod interrupts;
 mod lines;
 mod memories;
 
-use crate::fitted::Fitted;
+use crate::board_device::BoardDevice;
 use crate::remembered::Remembered;
 use clint::Clint;
 use dev_core::Device;
@@ -42,7 +42,7 @@ pub struct Space<D: Device> {
     memories: Vec<PageRam>,
     timer: Option<Clint>,
     controller: Option<Plic>,
-    devices: Vec<Fitted<D>>,
+    devices: Vec<BoardDevice<D>>,
     /// Whether there is a line that may be up.
     wired: bool,
     /// The lines, as long as nothing was touched since that they depend on.
@@ -82,7 +82,7 @@ pub struct Parts<D: Device> {
     pub regions: Regions,
     pub memories: Vec<PageRam>,
     /// Room for its devices.
-    pub devices: Vec<Fitted<D>>,
+    pub devices: Vec<BoardDevice<D>>,
 }
 
 /// Memories of these sizes, with 0 in each byte.
@@ -112,14 +112,14 @@ pub fn regions_and_memories(
 }
 
 /// Puts devices as those of a board, none of them shown, into a list that has room for them.
-fn fit_all<D: Device>(fitted: &mut Vec<Fitted<D>>, devices: Vec<D>)
+fn fit_all<D: Device>(fitted: &mut Vec<BoardDevice<D>>, devices: Vec<D>)
     requires none { fitted.old.items ≡ [] }
     requires room { vec_len devices ≤ vec_capacity fitted.old }
     ensures { fitted.new.items ≡ map hidden (map D.meaning devices.items) }
 {
     let mut rest = VecDeque::from(devices);
     while let Some(device) = rest.pop_front() {
-        fitted.push_reserved(Fitted::new(device));
+        fitted.push_reserved(BoardDevice::new(device));
     }
 }
 

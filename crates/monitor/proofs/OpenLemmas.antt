@@ -28,7 +28,7 @@ use Rattle.sys_bus.specs.declared.region.Target.TheVariants.{Ram, Clint, Plic, D
 use Rattle.dev_core.specs.Kind.{is_kind}
 use Rattle.board.specs.Changes.{copied, put_byte, put_in, with_bytes, with_halted, with_pc, with_shown, with_speed}
 use Rattle.board.specs.New.{hidden, new_board, reset, reset_device}
-use Rattle.board.specs.Space.{Fitted, Space, target_at}
+use Rattle.board.specs.Space.{BoardDevice, Space, target_at}
 use Rattle.board.specs.View.{View}
 use Rattle.repl_build.specs.Plan.{built}
 use Rattle.repl_files.specs.Loading.{Loading, Outcome, Joined, Refused, Oversized, Absent, load}
@@ -64,10 +64,10 @@ use Rattle.monitor.proofs.RunLemmas.{no_longer}
 
 -- ---- which devices are shown UARTs
 
-abbrev nothing : Fitted
+abbrev nothing : BoardDevice
 nothing = hidden state.Finisher
 
-abbrev is_uart : Fitted → Bool
+abbrev is_uart : BoardDevice → Bool
 is_uart fitted = fitted.shown && is_kind Uart (kind_of fitted.state)
 
 -- what stands under a name tells by numbers of devices which are shown UARTs
@@ -180,7 +180,7 @@ shown_keeps : (dev : ℕ) → Keeps (λ v. with_shown v dev)
 shown_keeps dev v other is = among v.space.devices dev other is
   where
     among :
-        (devices : List Fitted) (dev other : ℕ) → is_uart (get_or devices other nothing) ≡ true →
+        (devices : List BoardDevice) (dev other : ℕ) → is_uart (get_or devices other nothing) ≡ true →
         is_uart (get_or (set devices dev (record (get_or devices dev nothing) { shown = true })) other nothing) ≡ true
     among [] dev other is = is
     among (fitted ∷ devices) zero zero is = (and_parts fitted.shown (is_kind Uart (kind_of fitted.state)) is).1

@@ -4,11 +4,11 @@ use Rattle.dev_core.specs.declared.state.DevState.TheVariants.{Finisher}
 use Rattle.dev_core.specs.Device.{kind_of}
 use Rattle.board.specs.Inner.Parts.{MayBeShown}
 use Rattle.board.specs.New.{hidden}
-use Rattle.board.specs.Space.{Fitted}
+use Rattle.board.specs.Space.{BoardDevice}
 use Rattle.board.proofs.space.devices.shown_ones_may_be.Given as goal
 
 abbrev pub invariant-loop-device : goal.invariant-loop-device
 invariant-loop-device g l =
     (k : ℕ) → k < l.device-index →
-    let f : Fitted = slice_index_or l.devices k (hidden Finisher) in
+    let f : BoardDevice = slice_index_or l.devices k (hidden Finisher) in
     MayBeShown (kind_of f.state) f.shown

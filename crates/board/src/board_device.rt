@@ -15,16 +15,16 @@ use std::marker::Model;
 
 /// A device of a board, and whether it is shown.
 #[derive(Drop)]
-pub struct Fitted<D: Device> {
+pub struct BoardDevice<D: Device> {
     device: D,
     shown: bool,
     /// Whether the interrupt line is up, as long as nothing was done to the device since it was asked.
     up: Option<bool>,
 }
 
-impl<D: Device> Model for Fitted<D> {
+impl<D: Device> Model for BoardDevice<D> {
     ghost use Rattle.dev_core.specs.Device.{IsValid, dev_line, kind_of};
-    ghost use Rattle.board.specs.Space.{Fitted as Seen};
+    ghost use Rattle.board.specs.Space.{BoardDevice as Seen};
     ghost use Rattle.board.specs.Inner.Parts.{MayBeShown};
     ghost use Rattle.board.specs.Inner.Remembers.{IsLine};
 
@@ -38,14 +38,14 @@ impl<D: Device> Model for Fitted<D> {
         × MayBeShown (kind_of (D.meaning f.device)) f.shown };
 }
 
-impl<D: Device> Fitted<D> {
+impl<D: Device> BoardDevice<D> {
     /// A device that is not shown.
-    pub fn new(device: D) -> Fitted<D>
+    pub fn new(device: D) -> BoardDevice<D>
         ensures { result ≡ hidden (D.meaning device) }
     {
         // a state that is asked for is valid
         let _state = device.state();
-        Fitted {
+        BoardDevice {
             device,
             shown: false,
             up: None,
