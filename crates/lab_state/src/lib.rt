@@ -1,9 +1,9 @@
 //! The laboratory: boards and the hubs between them, run round by round by one worker or several.
 #![tactic(auto)]
 
+mod board_change;
 mod boards;
 mod boundary;
-mod change;
 mod changes;
 mod faults;
 mod fit;

@@ -12,7 +12,7 @@ ghost use Rattle.board.specs.View.{quiet};
 ghost use Rattle.time_handle.specs.Grant.{fresh};
 ghost use Rattle.lab_state.specs.Boundary as boundary_spec;
 ghost use Rattle.lab_state.specs.Boundary.{note_by};
-ghost use Rattle.lab_state.specs.Inner.Change.{changed_by, MayChange};
+ghost use Rattle.lab_state.specs.Inner.BoardChange.{changed_by, MayChange};
 ghost use Rattle.lab_state.specs.Inner.Lending.{is_awake, lent, away, put_back};
 ghost use Rattle.lab_state.specs.Inner.Standing.{HasDevices};
 ghost use Rattle.lab_state.specs.Inner.Time.{number_of, part_of, speed_of};
@@ -20,7 +20,7 @@ ghost use Rattle.lab_state.specs.One.{with_view};
 ghost use Rattle.lab_state.specs.Resumed.{resumed_board};
 ghost use Rattle.lab_state.specs.Round.{granted, stepped, posts_made, entries_made};
 
-use crate::change::Change;
+use crate::board_change::BoardChange;
 use board::{Board, BoardState, SlotAt, Turn};
 use dev_core::{Device, Entry, Kind, Payload, Post, Taken};
 use hub_mail::{Boss, Pass};
@@ -369,7 +369,7 @@ impl<D: Device> NamedBoard<D> {
     }
 
     /// Changes the board.
-    pub fn change(&mut self, change: Change)
+    pub fn change(&mut self, change: BoardChange)
         requires { ForSome self.old.view (MayChange change) }
         ensures { self.new ≡ with_view (changed_by change) self.old }
     {

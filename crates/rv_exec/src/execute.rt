@@ -18,7 +18,7 @@ use crate::access::{Shape, load, store};
 use crate::alu::add;
 use crate::bus::Bus;
 use crate::condition::is_taken;
-use crate::csr::{Change, change_csr};
+use crate::csr::{CsrChange, change_csr};
 use crate::ending::{advance, branch, finish, jump, leave, trap, wait};
 use crate::fetched::{Fetched, find};
 use crate::operation::{on_immediate, on_registers};
@@ -103,12 +103,28 @@ fn execute<B: Bus>(
         Op::Ecall => trap(hart, Exception::EnvironmentCall, 0),
         Op::Ebreak => trap(hart, Exception::Breakpoint, hart.pc()),
         // control and status registers
-        Op::Csrrw => change_csr(hart, Change::Write, a, i, size, word, lines),
-        Op::Csrrs => change_csr(hart, Change::Set, a, i, size, word, lines),
-        Op::Csrrc => change_csr(hart, Change::Clear, a, i, size, word, lines),
-        Op::Csrrwi => change_csr(hart, Change::Write, u32::from(i.rs1), i, size, word, lines),
-        Op::Csrrsi => change_csr(hart, Change::Set, u32::from(i.rs1), i, size, word, lines),
-        Op::Csrrci => change_csr(hart, Change::Clear, u32::from(i.rs1), i, size, word, lines),
+        Op::Csrrw => change_csr(hart, CsrChange::Write, a, i, size, word, lines),
+        Op::Csrrs => change_csr(hart, CsrChange::Set, a, i, size, word, lines),
+        Op::Csrrc => change_csr(hart, CsrChange::Clear, a, i, size, word, lines),
+        Op::Csrrwi => change_csr(
+            hart,
+            CsrChange::Write,
+            u32::from(i.rs1),
+            i,
+            size,
+            word,
+            lines,
+        ),
+        Op::Csrrsi => change_csr(hart, CsrChange::Set, u32::from(i.rs1), i, size, word, lines),
+        Op::Csrrci => change_csr(
+            hart,
+            CsrChange::Clear,
+            u32::from(i.rs1),
+            i,
+            size,
+            word,
+            lines,
+        ),
         // privileged
         Op::Mret => leave(hart),
         Op::Wfi => wait(hart, size),

@@ -5,10 +5,10 @@ use Rattle.board.specs.Changes.{with_pc, with_halted, with_shown, with_bytes, ma
 use Rattle.board.specs.New.{reset}
 use Rattle.rv_hart.specs.Core.{alignment}
 use Rattle.board.specs.View.{View}
-use Rattle.lab_state.specs.declared.change.Change.{Change}
-use Rattle.lab_state.specs.declared.change.Change.TheVariants as change
+use Rattle.lab_state.specs.declared.board_change.BoardChange.{BoardChange}
+use Rattle.lab_state.specs.declared.board_change.BoardChange.TheVariants as change
 
-abbrev pub changed_by : Change → View → View
+abbrev pub changed_by : BoardChange → View → View
 changed_by (change.Pc hart pc) v = with_pc v hart pc
 changed_by (change.Halted hart on) v = with_halted v hart on
 changed_by (change.Shown dev) v = with_shown v dev
@@ -16,7 +16,7 @@ changed_by (change.Zero at count) v = with_bytes v at (zeros count)
 changed_by change.Reset v = reset v
 
 -- when it may be
-abbrev pub MayChange : Change → View → Type 0
+abbrev pub MayChange : BoardChange → View → Type 0
 MayChange (change.Pc hart pc) v = (hart < length v.cores) × (pc % alignment v.space.plan.letters ≡ 0)
 MayChange (change.Halted hart on) v = hart < length v.cores
 MayChange (change.Shown dev) v = (dev < length v.space.devices) × IsTrue (may_be_shown v dev)
