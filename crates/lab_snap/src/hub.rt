@@ -4,7 +4,7 @@ ghost use Rattle.lab_snap.specs.Hub.{IsHub};
 
 use dev_core::Kind;
 use lab_num::{MOST_DELAY, Member, NoMemory, Rows, Text, is_name};
-use lab_spell::{SnapFault, Source, Spelled};
+use lab_spell::{ByteReader, SnapFault, Spelled};
 use std::alloc::Global;
 
 /// A hub as a snapshot holds it.
@@ -46,12 +46,12 @@ impl Spelled for SavedHub {
     }
 
     #[tactic(auto, unfolding(crate::specs::Hub::hub_form))]
-    fn take(alloc: Global, source: &mut Source<'_>) -> Result<SavedHub, SnapFault> {
+    fn take(alloc: Global, reader: &mut ByteReader<'_>) -> Result<SavedHub, SnapFault> {
         Ok(SavedHub {
-            kind: Spelled::take(alloc, source)?,
-            name: Spelled::take(alloc, source)?,
-            delay: Spelled::take(alloc, source)?,
-            members: Spelled::take(alloc, source)?,
+            kind: Spelled::take(alloc, reader)?,
+            name: Spelled::take(alloc, reader)?,
+            delay: Spelled::take(alloc, reader)?,
+            members: Spelled::take(alloc, reader)?,
         })
     }
 }

@@ -6,7 +6,7 @@ use crate::hub::SavedHub;
 use crate::machine::SavedMachine;
 use dev_core::Post;
 use lab_num::{Micros, NoMemory, Rows, Text};
-use lab_spell::{SnapFault, Source, Spelled, load, one_spelling};
+use lab_spell::{ByteReader, SnapFault, Spelled, load, one_spelling};
 use log_text::OpenLine;
 use std::alloc::Global;
 
@@ -49,10 +49,10 @@ impl Spelled for SavedBoard {
     }
 
     #[tactic(auto, unfolding(crate::specs::Lab::board_form))]
-    fn take(alloc: Global, source: &mut Source<'_>) -> Result<SavedBoard, SnapFault> {
+    fn take(alloc: Global, reader: &mut ByteReader<'_>) -> Result<SavedBoard, SnapFault> {
         Ok(SavedBoard {
-            name: Spelled::take(alloc, source)?,
-            machine: Spelled::take(alloc, source)?,
+            name: Spelled::take(alloc, reader)?,
+            machine: Spelled::take(alloc, reader)?,
         })
     }
 }
@@ -77,15 +77,15 @@ impl Spelled for SavedLab {
     }
 
     #[tactic(auto, unfolding(crate::specs::Lab::lab_form))]
-    fn take(alloc: Global, source: &mut Source<'_>) -> Result<SavedLab, SnapFault> {
-        source.pass(&MARK)?;
+    fn take(alloc: Global, reader: &mut ByteReader<'_>) -> Result<SavedLab, SnapFault> {
+        reader.pass(&MARK)?;
         Ok(SavedLab {
-            time: Spelled::take(alloc, source)?,
-            quantum: Spelled::take(alloc, source)?,
-            boards: Spelled::take(alloc, source)?,
-            hubs: Spelled::take(alloc, source)?,
-            pending: Spelled::take(alloc, source)?,
-            lines: Spelled::take(alloc, source)?,
+            time: Spelled::take(alloc, reader)?,
+            quantum: Spelled::take(alloc, reader)?,
+            boards: Spelled::take(alloc, reader)?,
+            hubs: Spelled::take(alloc, reader)?,
+            pending: Spelled::take(alloc, reader)?,
+            lines: Spelled::take(alloc, reader)?,
         })
     }
 }

@@ -10,7 +10,7 @@ ghost use Rattle.lab_snap.specs.MachineForm.{valid_plan_form};
 use crate::memories::{put_memories, take_memories};
 use board::BoardState;
 use lab_num::{NoMemory, Rows};
-use lab_spell::{SnapFault, Source, Spelled};
+use lab_spell::{ByteReader, SnapFault, Spelled};
 use page_ram::PageRam;
 use std::alloc::Global;
 use std::marker::Model;
@@ -83,11 +83,11 @@ fn is_valid(plan: &BoardPlan) -> bool
 
 /// Reads a plan that a board can be made by.
 #[tactic(auto, unfolding(crate::specs::MachineForm::valid_plan_form))]
-fn take_plan(alloc: Global, source: &mut Source<'_>) -> Result<BoardPlan, SnapFault>
-    ensures reads { Reads (valid_plan_form.parse source.old) source.new result }
+fn take_plan(alloc: Global, reader: &mut ByteReader<'_>) -> Result<BoardPlan, SnapFault>
+    ensures reads { Reads (valid_plan_form.parse reader.old) reader.new result }
     ensures valid { IfOk result IsValid }
 {
-    let plan = BoardPlan::take(alloc, source)?;
+    let plan = BoardPlan::take(alloc, reader)?;
     if !is_valid(&plan) {
         return Err(SnapFault::Bad);
     }
@@ -110,11 +110,11 @@ impl Spelled for SavedMachine {
     }
 
     #[tactic(auto, unfolding(crate::specs::MachineForm::machine_form))]
-    fn take(alloc: Global, source: &mut Source<'_>) -> Result<SavedMachine, SnapFault> {
-        let plan = take_plan(alloc, source)?;
+    fn take(alloc: Global, reader: &mut ByteReader<'_>) -> Result<SavedMachine, SnapFault> {
+        let plan = take_plan(alloc, reader)?;
         have_whole_pages(&plan);
-        let state = BoardState::take(alloc, source)?;
-        let memories = take_memories(alloc, plan.memories.items(), source)?;
+        let state = BoardState::take(alloc, reader)?;
+        let memories = take_memories(alloc, plan.memories.items(), reader)?;
         Ok(SavedMachine {
             plan,
             state,

@@ -7,7 +7,7 @@ ghost use Rattle.lab_snap.specs.MachineForm.{memories_form, sized_form};
 
 use crate::memory::{put_memory, take_memory};
 use lab_num::{NoMemory, Rows};
-use lab_spell::{SnapFault, Source, Spelled};
+use lab_spell::{ByteReader, SnapFault, Spelled};
 use page_ram::{PAGE_SIZE, PageRam};
 use std::alloc::Global;
 
@@ -29,15 +29,15 @@ fn put_each(sizes: &[u32], memories: &[PageRam], out: &mut Vec<u8>) -> Result<()
 fn take_each(
     alloc: Global,
     sizes: &[u32],
-    source: &mut Source<'_>,
+    reader: &mut ByteReader<'_>,
 ) -> Result<Rows<PageRam>, SnapFault>
     requires { All IsRamSize sizes.now }
-    ensures reads { Reads (parse_each sized_form sizes.now source.old) source.new result }
+    ensures reads { Reads (parse_each sized_form sizes.now reader.old) reader.new result }
     ensures sizes { IfOk result (λ memories. map length memories ≡ sizes.now) }
 {
     let mut memories = Vec::new(alloc);
     for &size in sizes {
-        memories.push(take_memory(alloc, size / PAGE_SIZE, source)?)?;
+        memories.push(take_memory(alloc, size / PAGE_SIZE, reader)?)?;
     }
     Ok(Rows::of(memories))
 }
@@ -64,12 +64,12 @@ pub(crate) fn put_memories(
 pub(crate) fn take_memories(
     alloc: Global,
     sizes: &[u32],
-    source: &mut Source<'_>,
+    reader: &mut ByteReader<'_>,
 ) -> Result<Rows<PageRam>, SnapFault>
     requires { All IsRamSize sizes.now }
-    ensures reads { Reads ((memories_form sizes.now).parse source.old) source.new result }
+    ensures reads { Reads ((memories_form sizes.now).parse reader.old) reader.new result }
     ensures sizes { IfOk result (λ memories. map length memories ≡ sizes.now) }
 {
-    source.pass(&(sizes.len() as u64).to_le_bytes())?;
-    take_each(alloc, sizes, source)
+    reader.pass(&(sizes.len() as u64).to_le_bytes())?;
+    take_each(alloc, sizes, reader)
 }

@@ -27,7 +27,7 @@ ghost use Rattle.lab_snap.specs.Memory.{memory_form, used};
 ghost use Rattle.lab_snap.specs.Page.{page_form};
 
 use lab_num::NoMemory;
-use lab_spell::{SnapFault, Source, Spelled};
+use lab_spell::{ByteReader, SnapFault, Spelled};
 use page_ram::{PAGE_SIZE, PageRam};
 use std::alloc::Global;
 
@@ -95,19 +95,19 @@ fn is_next(pages: u32, low: u32, number: u32, page: &[u8]) -> bool
 /// Reads so many pages into a memory of 0.
 fn take_pages(
     alloc: Global,
-    source: &mut Source<'_>,
+    reader: &mut ByteReader<'_>,
     count: u64,
     pages: u32,
     memory: &mut PageRam,
 ) -> Result<(), SnapFault>
     requires { memory.old ≡ zeros (page_size * pages) }
-    ensures reads { ReadsInto (memory_read page_size pages count source.old) memory.new source.new result }
+    ensures reads { ReadsInto (memory_read page_size pages count reader.old) memory.new reader.new result }
     ensures size { length memory.new ≡ page_size * pages }
 {
     let mut low = 0;
     for _ in 0..count {
-        let number = u32::take(alloc, source)?;
-        let page = source.front(PAGE_SIZE as usize)?;
+        let number = u32::take(alloc, reader)?;
+        let page = reader.front(PAGE_SIZE as usize)?;
         if !is_next(pages, low, number, page) {
             return Err(SnapFault::Bad);
         }
@@ -118,15 +118,19 @@ fn take_pages(
 }
 
 /// Reads the memory of so many pages that is spelled at the front, as a part of a larger value.
-fn take_as_part(alloc: Global, pages: u32, source: &mut Source<'_>) -> Result<PageRam, SnapFault>
+fn take_as_part(
+    alloc: Global,
+    pages: u32,
+    reader: &mut ByteReader<'_>,
+) -> Result<PageRam, SnapFault>
     requires some { 1 ≤ pages }
     requires few { pages ≤ 16384 }
-    ensures reads { Reads ((memory_form pages).parse source.old) source.new result }
+    ensures reads { Reads ((memory_form pages).parse reader.old) reader.new result }
     ensures size { IfOk result (λ memory. length memory ≡ page_size * pages) }
 {
-    let count = u64::take(alloc, source)?;
+    let count = u64::take(alloc, reader)?;
     let mut memory = PageRam::new(alloc, PAGE_SIZE * pages)?;
-    take_pages(alloc, source, count, pages, &mut memory)?;
+    take_pages(alloc, reader, count, pages, &mut memory)?;
     Ok(memory)
 }
 
@@ -146,18 +150,22 @@ pub fn put_memory(memory: &PageRam, pages: u32, out: &mut Vec<u8>) -> Result<(),
 /// and what is spelled so is read, whatever follows it, unless memory runs out (`only`): so `Bad` comes
 /// only where no memory is spelled there. `part` says the same for a memory that is read as a part of
 /// a larger value.
-pub fn take_memory(alloc: Global, pages: u32, source: &mut Source<'_>) -> Result<PageRam, SnapFault>
+pub fn take_memory(
+    alloc: Global,
+    pages: u32,
+    reader: &mut ByteReader<'_>,
+) -> Result<PageRam, SnapFault>
     requires some { 1 ≤ pages }
     requires few { pages ≤ 16384 }
     ensures found { IfOk result (λ memory.
-        IsBytes source.old → Spells (memory_form pages) source.old (memory, source.new)) }
+        IsBytes reader.old → Spells (memory_form pages) reader.old (memory, reader.new)) }
     ensures only { (memory rest : List ℕ) → (memory_form pages).Fits memory →
-        source.old ≡ (memory_form pages).spell memory ++ rest →
-        MatchResult result (λ loaded. (loaded ≡ memory) × (source.new ≡ rest)) (λ fault. fault ≡ SnapFault.Memory) }
-    ensures part { Reads ((memory_form pages).parse source.old) source.new result }
+        reader.old ≡ (memory_form pages).spell memory ++ rest →
+        MatchResult result (λ loaded. (loaded ≡ memory) × (reader.new ≡ rest)) (λ fault. fault ≡ SnapFault.Memory) }
+    ensures part { Reads ((memory_form pages).parse reader.old) reader.new result }
     ensures size { IfOk result (λ memory. length memory ≡ page_size * pages) }
 {
-    take_as_part(alloc, pages, source)
+    take_as_part(alloc, pages, reader)
 }
 
 /// No spelling of a memory of so many pages begins another, and different memories have different

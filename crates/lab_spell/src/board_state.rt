@@ -1,6 +1,6 @@
 //! What of a board changes, its memories aside.
+use crate::byte_reader::ByteReader;
 use crate::fault::SnapFault;
-use crate::source::Source;
 use crate::spelled::Spelled;
 use board::BoardState;
 use lab_num::NoMemory;
@@ -29,18 +29,18 @@ impl Spelled for BoardState {
     }
 
     #[tactic(auto, unfolding(crate::specs::BoardState::board_state_form))]
-    fn take(alloc: Global, source: &mut Source<'_>) -> Result<BoardState, SnapFault> {
+    fn take(alloc: Global, reader: &mut ByteReader<'_>) -> Result<BoardState, SnapFault> {
         Ok(BoardState {
-            speed: Spelled::take(alloc, source)?,
-            harts: Spelled::take(alloc, source)?,
-            next: Spelled::take(alloc, source)?,
-            reserved: Spelled::take(alloc, source)?,
-            clint: Spelled::take(alloc, source)?,
-            plic: Spelled::take(alloc, source)?,
-            devices: Spelled::take(alloc, source)?,
-            shown: Spelled::take(alloc, source)?,
-            posted: Spelled::take(alloc, source)?,
-            entries: Spelled::take(alloc, source)?,
+            speed: Spelled::take(alloc, reader)?,
+            harts: Spelled::take(alloc, reader)?,
+            next: Spelled::take(alloc, reader)?,
+            reserved: Spelled::take(alloc, reader)?,
+            clint: Spelled::take(alloc, reader)?,
+            plic: Spelled::take(alloc, reader)?,
+            devices: Spelled::take(alloc, reader)?,
+            shown: Spelled::take(alloc, reader)?,
+            posted: Spelled::take(alloc, reader)?,
+            entries: Spelled::take(alloc, reader)?,
         })
     }
 }

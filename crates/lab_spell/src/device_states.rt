@@ -1,6 +1,6 @@
 //! The states of devices.
+use crate::byte_reader::ByteReader;
 use crate::fault::SnapFault;
-use crate::source::Source;
 use crate::spelled::Spelled;
 use dev_core::{CanState, DevState, UartState};
 use lab_num::NoMemory;
@@ -30,19 +30,19 @@ impl Spelled for UartState {
     }
 
     #[tactic(auto, unfolding(crate::specs::DeviceStates::uart_form))]
-    fn take(alloc: Global, source: &mut Source<'_>) -> Result<UartState, SnapFault> {
+    fn take(alloc: Global, reader: &mut ByteReader<'_>) -> Result<UartState, SnapFault> {
         Ok(UartState {
-            ier: Spelled::take(alloc, source)?,
-            lcr: Spelled::take(alloc, source)?,
-            mcr: Spelled::take(alloc, source)?,
-            scr: Spelled::take(alloc, source)?,
-            dll: Spelled::take(alloc, source)?,
-            dlm: Spelled::take(alloc, source)?,
-            fifos: Spelled::take(alloc, source)?,
-            trigger: Spelled::take(alloc, source)?,
-            received: Spelled::take(alloc, source)?,
-            oe: Spelled::take(alloc, source)?,
-            thr: Spelled::take(alloc, source)?,
+            ier: Spelled::take(alloc, reader)?,
+            lcr: Spelled::take(alloc, reader)?,
+            mcr: Spelled::take(alloc, reader)?,
+            scr: Spelled::take(alloc, reader)?,
+            dll: Spelled::take(alloc, reader)?,
+            dlm: Spelled::take(alloc, reader)?,
+            fifos: Spelled::take(alloc, reader)?,
+            trigger: Spelled::take(alloc, reader)?,
+            received: Spelled::take(alloc, reader)?,
+            oe: Spelled::take(alloc, reader)?,
+            thr: Spelled::take(alloc, reader)?,
         })
     }
 }
@@ -73,21 +73,21 @@ impl Spelled for CanState {
     }
 
     #[tactic(auto, unfolding(crate::specs::DeviceStates::can_form))]
-    fn take(alloc: Global, source: &mut Source<'_>) -> Result<CanState, SnapFault> {
+    fn take(alloc: Global, reader: &mut ByteReader<'_>) -> Result<CanState, SnapFault> {
         Ok(CanState {
-            control: Spelled::take(alloc, source)?,
-            code: Spelled::take(alloc, source)?,
-            mask: Spelled::take(alloc, source)?,
-            timing0: Spelled::take(alloc, source)?,
-            timing1: Spelled::take(alloc, source)?,
-            output: Spelled::take(alloc, source)?,
-            divider: Spelled::take(alloc, source)?,
-            transmit: Spelled::take(alloc, source)?,
-            received: Spelled::take(alloc, source)?,
-            dos: Spelled::take(alloc, source)?,
-            ri: Spelled::take(alloc, source)?,
-            ti: Spelled::take(alloc, source)?,
-            doi: Spelled::take(alloc, source)?,
+            control: Spelled::take(alloc, reader)?,
+            code: Spelled::take(alloc, reader)?,
+            mask: Spelled::take(alloc, reader)?,
+            timing0: Spelled::take(alloc, reader)?,
+            timing1: Spelled::take(alloc, reader)?,
+            output: Spelled::take(alloc, reader)?,
+            divider: Spelled::take(alloc, reader)?,
+            transmit: Spelled::take(alloc, reader)?,
+            received: Spelled::take(alloc, reader)?,
+            dos: Spelled::take(alloc, reader)?,
+            ri: Spelled::take(alloc, reader)?,
+            ti: Spelled::take(alloc, reader)?,
+            doi: Spelled::take(alloc, reader)?,
         })
     }
 }
@@ -116,10 +116,10 @@ impl Spelled for DevState {
     }
 
     #[tactic(auto, unfolding(crate::specs::DeviceStates::device_form))]
-    fn take(alloc: Global, source: &mut Source<'_>) -> Result<DevState, SnapFault> {
-        match source.byte()? {
-            0 => Ok(DevState::Uart(Spelled::take(alloc, source)?)),
-            1 => Ok(DevState::Can(Spelled::take(alloc, source)?)),
+    fn take(alloc: Global, reader: &mut ByteReader<'_>) -> Result<DevState, SnapFault> {
+        match reader.byte()? {
+            0 => Ok(DevState::Uart(Spelled::take(alloc, reader)?)),
+            1 => Ok(DevState::Can(Spelled::take(alloc, reader)?)),
             2 => Ok(DevState::Finisher),
             _ => Err(SnapFault::Bad),
         }

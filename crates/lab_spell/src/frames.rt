@@ -3,9 +3,9 @@ ghost use Rattle.std.specs.Prelude.{◌≡◌, ◌<◌, ◌≤◌, ◌==◌, tru
 ghost use Rattle.std.specs.List.{list_all};
 ghost use Rattle.lab_spell.specs.Frames.{frame_of};
 
+use crate::byte_reader::ByteReader;
 use crate::fault::SnapFault;
 use crate::lists::put_each;
-use crate::source::Source;
 use crate::spelled::Spelled;
 use dev_core::{ByteRow, Frame, FrameRow};
 use lab_num::{NoMemory, Rows};
@@ -73,11 +73,11 @@ impl Spelled for Frame {
     }
 
     #[tactic(auto, unfolding(crate::specs::Frames::frame_form, crate::specs::Frames::frame_fields))]
-    fn take(alloc: Global, source: &mut Source<'_>) -> Result<Frame, SnapFault> {
-        let id = u16::take(alloc, source)?;
-        let remote = bool::take(alloc, source)?;
-        let len = u8::take(alloc, source)?;
-        let bytes: [u8; 8] = Spelled::take(alloc, source)?;
+    fn take(alloc: Global, reader: &mut ByteReader<'_>) -> Result<Frame, SnapFault> {
+        let id = u16::take(alloc, reader)?;
+        let remote = bool::take(alloc, reader)?;
+        let len = u8::take(alloc, reader)?;
+        let bytes: [u8; 8] = Spelled::take(alloc, reader)?;
         match frame_of(id, remote, len, &bytes) {
             Some(frame) => Ok(frame),
             None => Err(SnapFault::Bad),
@@ -101,8 +101,8 @@ impl Spelled for ByteRow {
     }
 
     #[tactic(auto, unfolding(crate::specs::Frames::byte_row_form))]
-    fn take(alloc: Global, source: &mut Source<'_>) -> Result<ByteRow, SnapFault> {
-        let bytes: Rows<u8> = Spelled::take(alloc, source)?;
+    fn take(alloc: Global, reader: &mut ByteReader<'_>) -> Result<ByteRow, SnapFault> {
+        let bytes: Rows<u8> = Spelled::take(alloc, reader)?;
         let bytes = bytes.items();
         if bytes.len() > 16 {
             return Err(SnapFault::Bad);
@@ -127,8 +127,8 @@ impl Spelled for FrameRow {
     }
 
     #[tactic(auto, unfolding(crate::specs::Frames::frame_row_form))]
-    fn take(alloc: Global, source: &mut Source<'_>) -> Result<FrameRow, SnapFault> {
-        let frames: Rows<Frame> = Spelled::take(alloc, source)?;
+    fn take(alloc: Global, reader: &mut ByteReader<'_>) -> Result<FrameRow, SnapFault> {
+        let frames: Rows<Frame> = Spelled::take(alloc, reader)?;
         let frames = frames.items();
         if frames.len() > 32 {
             return Err(SnapFault::Bad);

@@ -1,6 +1,6 @@
 //! The states of processors.
+use crate::byte_reader::ByteReader;
 use crate::fault::SnapFault;
-use crate::source::Source;
 use crate::spelled::Spelled;
 use lab_num::NoMemory;
 use rv_hart::{HartState, Letters};
@@ -21,10 +21,10 @@ impl Spelled for Letters {
     }
 
     #[tactic(auto, unfolding(crate::specs::HartStates::letters_form))]
-    fn take(alloc: Global, source: &mut Source<'_>) -> Result<Letters, SnapFault> {
+    fn take(alloc: Global, reader: &mut ByteReader<'_>) -> Result<Letters, SnapFault> {
         Ok(Letters {
-            a: Spelled::take(alloc, source)?,
-            c: Spelled::take(alloc, source)?,
+            a: Spelled::take(alloc, reader)?,
+            c: Spelled::take(alloc, reader)?,
         })
     }
 }
@@ -58,24 +58,24 @@ impl Spelled for HartState {
     }
 
     #[tactic(auto, unfolding(crate::specs::HartStates::hart_form))]
-    fn take(alloc: Global, source: &mut Source<'_>) -> Result<HartState, SnapFault> {
+    fn take(alloc: Global, reader: &mut ByteReader<'_>) -> Result<HartState, SnapFault> {
         Ok(HartState {
-            registers: Spelled::take(alloc, source)?,
-            pc: Spelled::take(alloc, source)?,
-            on: Spelled::take(alloc, source)?,
-            before: Spelled::take(alloc, source)?,
-            mie: Spelled::take(alloc, source)?,
-            mtvec: Spelled::take(alloc, source)?,
-            mscratch: Spelled::take(alloc, source)?,
-            mepc: Spelled::take(alloc, source)?,
-            mcause: Spelled::take(alloc, source)?,
-            mtval: Spelled::take(alloc, source)?,
-            mcycle: Spelled::take(alloc, source)?,
-            minstret: Spelled::take(alloc, source)?,
-            waiting: Spelled::take(alloc, source)?,
-            halted: Spelled::take(alloc, source)?,
-            letters: Spelled::take(alloc, source)?,
-            number: Spelled::take(alloc, source)?,
+            registers: Spelled::take(alloc, reader)?,
+            pc: Spelled::take(alloc, reader)?,
+            on: Spelled::take(alloc, reader)?,
+            before: Spelled::take(alloc, reader)?,
+            mie: Spelled::take(alloc, reader)?,
+            mtvec: Spelled::take(alloc, reader)?,
+            mscratch: Spelled::take(alloc, reader)?,
+            mepc: Spelled::take(alloc, reader)?,
+            mcause: Spelled::take(alloc, reader)?,
+            mtval: Spelled::take(alloc, reader)?,
+            mcycle: Spelled::take(alloc, reader)?,
+            minstret: Spelled::take(alloc, reader)?,
+            waiting: Spelled::take(alloc, reader)?,
+            halted: Spelled::take(alloc, reader)?,
+            letters: Spelled::take(alloc, reader)?,
+            number: Spelled::take(alloc, reader)?,
         })
     }
 }

@@ -1,6 +1,6 @@
 //! The states of timers and interrupt controllers.
+use crate::byte_reader::ByteReader;
 use crate::fault::SnapFault;
-use crate::source::Source;
 use crate::spelled::Spelled;
 use clint::ClintState;
 use lab_num::NoMemory;
@@ -23,11 +23,11 @@ impl Spelled for ClintState {
     }
 
     #[tactic(auto, unfolding(crate::specs::InterruptStates::clint_form))]
-    fn take(alloc: Global, source: &mut Source<'_>) -> Result<ClintState, SnapFault> {
+    fn take(alloc: Global, reader: &mut ByteReader<'_>) -> Result<ClintState, SnapFault> {
         Ok(ClintState {
-            msip: Spelled::take(alloc, source)?,
-            mtimecmp: Spelled::take(alloc, source)?,
-            offset: Spelled::take(alloc, source)?,
+            msip: Spelled::take(alloc, reader)?,
+            mtimecmp: Spelled::take(alloc, reader)?,
+            offset: Spelled::take(alloc, reader)?,
         })
     }
 }
@@ -50,13 +50,13 @@ impl Spelled for PlicState {
     }
 
     #[tactic(auto, unfolding(crate::specs::InterruptStates::plic_form))]
-    fn take(alloc: Global, source: &mut Source<'_>) -> Result<PlicState, SnapFault> {
+    fn take(alloc: Global, reader: &mut ByteReader<'_>) -> Result<PlicState, SnapFault> {
         Ok(PlicState {
-            priorities: Spelled::take(alloc, source)?,
-            pending: Spelled::take(alloc, source)?,
-            shut: Spelled::take(alloc, source)?,
-            enables: Spelled::take(alloc, source)?,
-            thresholds: Spelled::take(alloc, source)?,
+            priorities: Spelled::take(alloc, reader)?,
+            pending: Spelled::take(alloc, reader)?,
+            shut: Spelled::take(alloc, reader)?,
+            enables: Spelled::take(alloc, reader)?,
+            thresholds: Spelled::take(alloc, reader)?,
         })
     }
 }

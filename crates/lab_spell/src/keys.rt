@@ -1,6 +1,6 @@
 //! Times, numbers of boards and posts, keys and members: their fields in order.
+use crate::byte_reader::ByteReader;
 use crate::fault::SnapFault;
-use crate::source::Source;
 use crate::spelled::Spelled;
 use lab_num::{BoardNo, Key, Member, Micros, NoMemory, PostNo};
 use std::alloc::Global;
@@ -19,8 +19,8 @@ impl Spelled for Micros {
     }
 
     #[tactic(auto, unfolding(crate::specs::Keys::micros_form))]
-    fn take(alloc: Global, source: &mut Source<'_>) -> Result<Micros, SnapFault> {
-        Ok(Micros(Spelled::take(alloc, source)?))
+    fn take(alloc: Global, reader: &mut ByteReader<'_>) -> Result<Micros, SnapFault> {
+        Ok(Micros(Spelled::take(alloc, reader)?))
     }
 }
 
@@ -38,8 +38,8 @@ impl Spelled for BoardNo {
     }
 
     #[tactic(auto, unfolding(crate::specs::Keys::board_no_form))]
-    fn take(alloc: Global, source: &mut Source<'_>) -> Result<BoardNo, SnapFault> {
-        Ok(BoardNo(Spelled::take(alloc, source)?))
+    fn take(alloc: Global, reader: &mut ByteReader<'_>) -> Result<BoardNo, SnapFault> {
+        Ok(BoardNo(Spelled::take(alloc, reader)?))
     }
 }
 
@@ -57,8 +57,8 @@ impl Spelled for PostNo {
     }
 
     #[tactic(auto, unfolding(crate::specs::Keys::post_no_form))]
-    fn take(alloc: Global, source: &mut Source<'_>) -> Result<PostNo, SnapFault> {
-        Ok(PostNo(Spelled::take(alloc, source)?))
+    fn take(alloc: Global, reader: &mut ByteReader<'_>) -> Result<PostNo, SnapFault> {
+        Ok(PostNo(Spelled::take(alloc, reader)?))
     }
 }
 
@@ -78,11 +78,11 @@ impl Spelled for Key {
     }
 
     #[tactic(auto, unfolding(crate::specs::Keys::key_form))]
-    fn take(alloc: Global, source: &mut Source<'_>) -> Result<Key, SnapFault> {
+    fn take(alloc: Global, reader: &mut ByteReader<'_>) -> Result<Key, SnapFault> {
         Ok(Key {
-            at: Spelled::take(alloc, source)?,
-            board: Spelled::take(alloc, source)?,
-            number: Spelled::take(alloc, source)?,
+            at: Spelled::take(alloc, reader)?,
+            board: Spelled::take(alloc, reader)?,
+            number: Spelled::take(alloc, reader)?,
         })
     }
 }
@@ -102,10 +102,10 @@ impl Spelled for Member {
     }
 
     #[tactic(auto, unfolding(crate::specs::Keys::member_form))]
-    fn take(alloc: Global, source: &mut Source<'_>) -> Result<Member, SnapFault> {
+    fn take(alloc: Global, reader: &mut ByteReader<'_>) -> Result<Member, SnapFault> {
         Ok(Member {
-            board: Spelled::take(alloc, source)?,
-            dev: Spelled::take(alloc, source)?,
+            board: Spelled::take(alloc, reader)?,
+            dev: Spelled::take(alloc, reader)?,
         })
     }
 }

@@ -5,6 +5,7 @@
 #![tactic(auto)]
 
 mod board_state;
+mod byte_reader;
 mod device_states;
 mod fault;
 mod frames;
@@ -18,13 +19,12 @@ mod options;
 mod plan;
 mod plan_parts;
 mod posts;
-mod source;
 mod spelled;
 mod texts;
 mod whole;
 
+pub use byte_reader::ByteReader;
 pub use fault::SnapFault;
 pub use lists::put_list;
-pub use source::Source;
 pub use spelled::Spelled;
 pub use whole::{load, one_spelling, save};

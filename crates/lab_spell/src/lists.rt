@@ -5,8 +5,8 @@ ghost use Rattle.lab_spell.specs.Combine.{list, parse_times, times};
 ghost use Rattle.lab_spell.specs.Reads.{Appends, Reads};
 ghost use Rattle.lab_spell.specs.Inner.Laws.{list_lawful, times_lawful};
 
+use crate::byte_reader::ByteReader;
 use crate::fault::SnapFault;
-use crate::source::Source;
 use crate::spelled::Spelled;
 use lab_num::{NoMemory, Rows};
 use std::alloc::Global;
@@ -37,13 +37,13 @@ pub fn put_list<T: Spelled>(items: &[T], out: &mut Vec<u8>) -> Result<(), NoMemo
 fn take_times<T: Spelled + Drop>(
     alloc: Global,
     count: u64,
-    source: &mut Source<'_>,
+    reader: &mut ByteReader<'_>,
 ) -> Result<Rows<T>, SnapFault>
-    ensures { Reads (parse_times T.form count source.old) source.new result }
+    ensures { Reads (parse_times T.form count reader.old) reader.new result }
 {
     let mut items = Vec::new(alloc);
     for _ in 0..count {
-        items.push(T::take(alloc, source)?)?;
+        items.push(T::take(alloc, reader)?)?;
     }
     Ok(Rows::of(items))
 }
@@ -57,9 +57,9 @@ impl<T: Spelled + Drop> Spelled for Rows<T> {
         put_list(self.items(), out)
     }
 
-    fn take(alloc: Global, source: &mut Source<'_>) -> Result<Rows<T>, SnapFault> {
-        let count = u64::take(alloc, source)?;
-        take_times(alloc, count, source)
+    fn take(alloc: Global, reader: &mut ByteReader<'_>) -> Result<Rows<T>, SnapFault> {
+        let count = u64::take(alloc, reader)?;
+        take_times(alloc, count, reader)
     }
 }
 
@@ -72,10 +72,10 @@ impl<T: Spelled + Default + Copy, const N: usize> Spelled for [T; N] {
         put_each(self, out)
     }
 
-    fn take(alloc: Global, source: &mut Source<'_>) -> Result<[T; N], SnapFault> {
+    fn take(alloc: Global, reader: &mut ByteReader<'_>) -> Result<[T; N], SnapFault> {
         let mut values = [T::default(); N];
         for i in 0..N {
-            values[i] = T::take(alloc, source)?;
+            values[i] = T::take(alloc, reader)?;
         }
         Ok(values)
     }

@@ -2,8 +2,8 @@
 ghost use Rattle.lab_spell.specs.Combine.{byte, flag, number};
 ghost use Rattle.lab_spell.specs.Inner.Laws.{byte_lawful, flag_lawful, number_lawful};
 
+use crate::byte_reader::ByteReader;
 use crate::fault::SnapFault;
-use crate::source::Source;
 use crate::spelled::Spelled;
 use byteorder::{ByteOrder, LittleEndian};
 use lab_num::NoMemory;
@@ -19,8 +19,8 @@ impl Spelled for u8 {
         Ok(())
     }
 
-    fn take(_alloc: Global, source: &mut Source<'_>) -> Result<u8, SnapFault> {
-        source.byte()
+    fn take(_alloc: Global, reader: &mut ByteReader<'_>) -> Result<u8, SnapFault> {
+        reader.byte()
     }
 }
 
@@ -34,8 +34,8 @@ impl Spelled for u16 {
         Ok(())
     }
 
-    fn take(_alloc: Global, source: &mut Source<'_>) -> Result<u16, SnapFault> {
-        Ok(LittleEndian::read_u16(source.front(2)?))
+    fn take(_alloc: Global, reader: &mut ByteReader<'_>) -> Result<u16, SnapFault> {
+        Ok(LittleEndian::read_u16(reader.front(2)?))
     }
 }
 
@@ -49,8 +49,8 @@ impl Spelled for u32 {
         Ok(())
     }
 
-    fn take(_alloc: Global, source: &mut Source<'_>) -> Result<u32, SnapFault> {
-        Ok(LittleEndian::read_u32(source.front(4)?))
+    fn take(_alloc: Global, reader: &mut ByteReader<'_>) -> Result<u32, SnapFault> {
+        Ok(LittleEndian::read_u32(reader.front(4)?))
     }
 }
 
@@ -64,8 +64,8 @@ impl Spelled for u64 {
         Ok(())
     }
 
-    fn take(_alloc: Global, source: &mut Source<'_>) -> Result<u64, SnapFault> {
-        Ok(LittleEndian::read_u64(source.front(8)?))
+    fn take(_alloc: Global, reader: &mut ByteReader<'_>) -> Result<u64, SnapFault> {
+        Ok(LittleEndian::read_u64(reader.front(8)?))
     }
 }
 
@@ -79,8 +79,8 @@ impl Spelled for u128 {
         Ok(())
     }
 
-    fn take(_alloc: Global, source: &mut Source<'_>) -> Result<u128, SnapFault> {
-        Ok(LittleEndian::read_u128(source.front(16)?))
+    fn take(_alloc: Global, reader: &mut ByteReader<'_>) -> Result<u128, SnapFault> {
+        Ok(LittleEndian::read_u128(reader.front(16)?))
     }
 }
 
@@ -94,8 +94,8 @@ impl Spelled for bool {
         Ok(())
     }
 
-    fn take(_alloc: Global, source: &mut Source<'_>) -> Result<bool, SnapFault> {
-        match source.byte()? {
+    fn take(_alloc: Global, reader: &mut ByteReader<'_>) -> Result<bool, SnapFault> {
+        match reader.byte()? {
             0 => Ok(false),
             1 => Ok(true),
             _ => Err(SnapFault::Bad),

@@ -1,6 +1,6 @@
 //! The open lines of UARTs.
+use crate::byte_reader::ByteReader;
 use crate::fault::SnapFault;
-use crate::source::Source;
 use crate::spelled::Spelled;
 use lab_num::NoMemory;
 use log_text::OpenLine;
@@ -22,11 +22,11 @@ impl Spelled for OpenLine {
     }
 
     #[tactic(auto, unfolding(crate::specs::OpenLines::open_line_form))]
-    fn take(alloc: Global, source: &mut Source<'_>) -> Result<OpenLine, SnapFault> {
+    fn take(alloc: Global, reader: &mut ByteReader<'_>) -> Result<OpenLine, SnapFault> {
         Ok(OpenLine {
-            member: Spelled::take(alloc, source)?,
-            at: Spelled::take(alloc, source)?,
-            bytes: Spelled::take(alloc, source)?,
+            member: Spelled::take(alloc, reader)?,
+            at: Spelled::take(alloc, reader)?,
+            bytes: Spelled::take(alloc, reader)?,
         })
     }
 }

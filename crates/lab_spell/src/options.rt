@@ -2,8 +2,8 @@
 ghost use Rattle.lab_spell.specs.Combine.{option};
 ghost use Rattle.lab_spell.specs.Inner.Laws.{option_lawful};
 
+use crate::byte_reader::ByteReader;
 use crate::fault::SnapFault;
-use crate::source::Source;
 use crate::spelled::Spelled;
 use lab_num::NoMemory;
 use std::alloc::Global;
@@ -24,10 +24,10 @@ impl<T: Spelled> Spelled for Option<T> {
         Ok(())
     }
 
-    fn take(alloc: Global, source: &mut Source<'_>) -> Result<Option<T>, SnapFault> {
-        match source.byte()? {
+    fn take(alloc: Global, reader: &mut ByteReader<'_>) -> Result<Option<T>, SnapFault> {
+        match reader.byte()? {
             0 => Ok(None),
-            1 => Ok(Some(T::take(alloc, source)?)),
+            1 => Ok(Some(T::take(alloc, reader)?)),
             _ => Err(SnapFault::Bad),
         }
     }

@@ -1,7 +1,7 @@
 //! The plan of a board. What is read has the form of a plan; whether a board can be made by it is a
 //! test of its own, `BoardPlan::is_valid`.
+use crate::byte_reader::ByteReader;
 use crate::fault::SnapFault;
-use crate::source::Source;
 use crate::spelled::Spelled;
 use lab_num::NoMemory;
 use std::alloc::Global;
@@ -30,18 +30,18 @@ impl Spelled for BoardPlan {
     }
 
     #[tactic(auto, unfolding(crate::specs::Plan::plan_form))]
-    fn take(alloc: Global, source: &mut Source<'_>) -> Result<BoardPlan, SnapFault> {
+    fn take(alloc: Global, reader: &mut ByteReader<'_>) -> Result<BoardPlan, SnapFault> {
         Ok(BoardPlan {
-            names: Spelled::take(alloc, source)?,
-            regions: Spelled::take(alloc, source)?,
-            memories: Spelled::take(alloc, source)?,
-            kinds: Spelled::take(alloc, source)?,
-            frequency: Spelled::take(alloc, source)?,
-            plic: Spelled::take(alloc, source)?,
-            wires: Spelled::take(alloc, source)?,
-            speed: Spelled::take(alloc, source)?,
-            cpus: Spelled::take(alloc, source)?,
-            letters: Spelled::take(alloc, source)?,
+            names: Spelled::take(alloc, reader)?,
+            regions: Spelled::take(alloc, reader)?,
+            memories: Spelled::take(alloc, reader)?,
+            kinds: Spelled::take(alloc, reader)?,
+            frequency: Spelled::take(alloc, reader)?,
+            plic: Spelled::take(alloc, reader)?,
+            wires: Spelled::take(alloc, reader)?,
+            speed: Spelled::take(alloc, reader)?,
+            cpus: Spelled::take(alloc, reader)?,
+            letters: Spelled::take(alloc, reader)?,
         })
     }
 }

@@ -1,6 +1,6 @@
 //! The parts of the plan of a board.
+use crate::byte_reader::ByteReader;
 use crate::fault::SnapFault;
-use crate::source::Source;
 use crate::spelled::Spelled;
 use dev_core::Kind;
 use lab_num::NoMemory;
@@ -21,8 +21,8 @@ impl Spelled for Kind {
     }
 
     #[tactic(auto, unfolding(crate::specs::PlanParts::kind_form))]
-    fn take(_alloc: Global, source: &mut Source<'_>) -> Result<Kind, SnapFault> {
-        match Kind::numbered(source.byte()?) {
+    fn take(_alloc: Global, reader: &mut ByteReader<'_>) -> Result<Kind, SnapFault> {
+        match Kind::numbered(reader.byte()?) {
             Some(kind) => Ok(kind),
             None => Err(SnapFault::Bad),
         }
@@ -54,12 +54,12 @@ impl Spelled for RegionKind {
     }
 
     #[tactic(auto, unfolding(crate::specs::PlanParts::region_kind_form))]
-    fn take(alloc: Global, source: &mut Source<'_>) -> Result<RegionKind, SnapFault> {
-        match source.byte()? {
-            0 => Ok(RegionKind::Ram(Spelled::take(alloc, source)?)),
+    fn take(alloc: Global, reader: &mut ByteReader<'_>) -> Result<RegionKind, SnapFault> {
+        match reader.byte()? {
+            0 => Ok(RegionKind::Ram(Spelled::take(alloc, reader)?)),
             1 => Ok(RegionKind::Clint),
             2 => Ok(RegionKind::Plic),
-            3 => Ok(RegionKind::Dev(Spelled::take(alloc, source)?)),
+            3 => Ok(RegionKind::Dev(Spelled::take(alloc, reader)?)),
             _ => Err(SnapFault::Bad),
         }
     }
@@ -82,12 +82,12 @@ impl Spelled for Region {
     }
 
     #[tactic(auto, unfolding(crate::specs::PlanParts::region_form))]
-    fn take(alloc: Global, source: &mut Source<'_>) -> Result<Region, SnapFault> {
+    fn take(alloc: Global, reader: &mut ByteReader<'_>) -> Result<Region, SnapFault> {
         Ok(Region {
-            base: Spelled::take(alloc, source)?,
-            size: Spelled::take(alloc, source)?,
-            kind: Spelled::take(alloc, source)?,
-            step: Spelled::take(alloc, source)?,
+            base: Spelled::take(alloc, reader)?,
+            size: Spelled::take(alloc, reader)?,
+            kind: Spelled::take(alloc, reader)?,
+            step: Spelled::take(alloc, reader)?,
         })
     }
 }
@@ -112,10 +112,10 @@ impl Spelled for NamedWhat {
     }
 
     #[tactic(auto, unfolding(crate::specs::PlanParts::named_what_form))]
-    fn take(alloc: Global, source: &mut Source<'_>) -> Result<NamedWhat, SnapFault> {
-        match source.byte()? {
+    fn take(alloc: Global, reader: &mut ByteReader<'_>) -> Result<NamedWhat, SnapFault> {
+        match reader.byte()? {
             0 => Ok(NamedWhat::Cpu),
-            1 => Ok(NamedWhat::Part(Spelled::take(alloc, source)?)),
+            1 => Ok(NamedWhat::Part(Spelled::take(alloc, reader)?)),
             _ => Err(SnapFault::Bad),
         }
     }
@@ -136,10 +136,10 @@ impl Spelled for Named {
     }
 
     #[tactic(auto, unfolding(crate::specs::PlanParts::named_form))]
-    fn take(alloc: Global, source: &mut Source<'_>) -> Result<Named, SnapFault> {
+    fn take(alloc: Global, reader: &mut ByteReader<'_>) -> Result<Named, SnapFault> {
         Ok(Named {
-            name: Spelled::take(alloc, source)?,
-            what: Spelled::take(alloc, source)?,
+            name: Spelled::take(alloc, reader)?,
+            what: Spelled::take(alloc, reader)?,
         })
     }
 }
@@ -159,10 +159,10 @@ impl Spelled for PlicSize {
     }
 
     #[tactic(auto, unfolding(crate::specs::PlanParts::plic_size_form))]
-    fn take(alloc: Global, source: &mut Source<'_>) -> Result<PlicSize, SnapFault> {
+    fn take(alloc: Global, reader: &mut ByteReader<'_>) -> Result<PlicSize, SnapFault> {
         Ok(PlicSize {
-            sources: Spelled::take(alloc, source)?,
-            contexts: Spelled::take(alloc, source)?,
+            sources: Spelled::take(alloc, reader)?,
+            contexts: Spelled::take(alloc, reader)?,
         })
     }
 }
@@ -192,12 +192,12 @@ impl Spelled for WireFrom {
     }
 
     #[tactic(auto, unfolding(crate::specs::PlanParts::wire_from_form))]
-    fn take(alloc: Global, source: &mut Source<'_>) -> Result<WireFrom, SnapFault> {
-        match source.byte()? {
+    fn take(alloc: Global, reader: &mut ByteReader<'_>) -> Result<WireFrom, SnapFault> {
+        match reader.byte()? {
             0 => Ok(WireFrom::Soft),
             1 => Ok(WireFrom::Timer),
-            2 => Ok(WireFrom::Context(Spelled::take(alloc, source)?)),
-            3 => Ok(WireFrom::Dev(Spelled::take(alloc, source)?)),
+            2 => Ok(WireFrom::Context(Spelled::take(alloc, reader)?)),
+            3 => Ok(WireFrom::Dev(Spelled::take(alloc, reader)?)),
             _ => Err(SnapFault::Bad),
         }
     }
@@ -227,13 +227,13 @@ impl Spelled for WirePin {
     }
 
     #[tactic(auto, unfolding(crate::specs::PlanParts::wire_pin_form))]
-    fn take(alloc: Global, source: &mut Source<'_>) -> Result<WirePin, SnapFault> {
-        match source.byte()? {
+    fn take(alloc: Global, reader: &mut ByteReader<'_>) -> Result<WirePin, SnapFault> {
+        match reader.byte()? {
             0 => Ok(WirePin::Cpu {
-                hart: Spelled::take(alloc, source)?,
-                pin: Spelled::take(alloc, source)?,
+                hart: Spelled::take(alloc, reader)?,
+                pin: Spelled::take(alloc, reader)?,
             }),
-            1 => Ok(WirePin::Source(Spelled::take(alloc, source)?)),
+            1 => Ok(WirePin::Source(Spelled::take(alloc, reader)?)),
             _ => Err(SnapFault::Bad),
         }
     }
@@ -254,10 +254,10 @@ impl Spelled for Wire {
     }
 
     #[tactic(auto, unfolding(crate::specs::PlanParts::wire_form))]
-    fn take(alloc: Global, source: &mut Source<'_>) -> Result<Wire, SnapFault> {
+    fn take(alloc: Global, reader: &mut ByteReader<'_>) -> Result<Wire, SnapFault> {
         Ok(Wire {
-            from: Spelled::take(alloc, source)?,
-            pin: Spelled::take(alloc, source)?,
+            from: Spelled::take(alloc, reader)?,
+            pin: Spelled::take(alloc, reader)?,
         })
     }
 }

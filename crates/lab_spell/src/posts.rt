@@ -1,6 +1,6 @@
 //! What is on its way from device to device.
+use crate::byte_reader::ByteReader;
 use crate::fault::SnapFault;
-use crate::source::Source;
 use crate::spelled::Spelled;
 use dev_core::{Finish, Payload, Post};
 use lab_num::NoMemory;
@@ -26,10 +26,10 @@ impl Spelled for Finish {
     }
 
     #[tactic(auto, unfolding(crate::specs::Posts::finish_form))]
-    fn take(alloc: Global, source: &mut Source<'_>) -> Result<Finish, SnapFault> {
-        match source.byte()? {
+    fn take(alloc: Global, reader: &mut ByteReader<'_>) -> Result<Finish, SnapFault> {
+        match reader.byte()? {
             0 => Ok(Finish::Pass),
-            1 => Ok(Finish::Fail(Spelled::take(alloc, source)?)),
+            1 => Ok(Finish::Fail(Spelled::take(alloc, reader)?)),
             _ => Err(SnapFault::Bad),
         }
     }
@@ -62,11 +62,11 @@ impl Spelled for Payload {
     }
 
     #[tactic(auto, unfolding(crate::specs::Posts::payload_form))]
-    fn take(alloc: Global, source: &mut Source<'_>) -> Result<Payload, SnapFault> {
-        match source.byte()? {
-            0 => Ok(Payload::Byte(Spelled::take(alloc, source)?)),
-            1 => Ok(Payload::Frame(Spelled::take(alloc, source)?)),
-            2 => Ok(Payload::Finish(Spelled::take(alloc, source)?)),
+    fn take(alloc: Global, reader: &mut ByteReader<'_>) -> Result<Payload, SnapFault> {
+        match reader.byte()? {
+            0 => Ok(Payload::Byte(Spelled::take(alloc, reader)?)),
+            1 => Ok(Payload::Frame(Spelled::take(alloc, reader)?)),
+            2 => Ok(Payload::Finish(Spelled::take(alloc, reader)?)),
             _ => Err(SnapFault::Bad),
         }
     }
@@ -88,11 +88,11 @@ impl Spelled for Post {
     }
 
     #[tactic(auto, unfolding(crate::specs::Posts::post_form))]
-    fn take(alloc: Global, source: &mut Source<'_>) -> Result<Post, SnapFault> {
+    fn take(alloc: Global, reader: &mut ByteReader<'_>) -> Result<Post, SnapFault> {
         Ok(Post {
-            key: Spelled::take(alloc, source)?,
-            from: Spelled::take(alloc, source)?,
-            payload: Spelled::take(alloc, source)?,
+            key: Spelled::take(alloc, reader)?,
+            from: Spelled::take(alloc, reader)?,
+            payload: Spelled::take(alloc, reader)?,
         })
     }
 }

@@ -3,8 +3,8 @@ ghost use Rattle.std.specs.Prelude.{OnOk};
 ghost use Rattle.lab_spell.specs.Form.{Form, IsLawful};
 ghost use Rattle.lab_spell.specs.Reads.{Appends, Reads};
 
+use crate::byte_reader::ByteReader;
 use crate::fault::SnapFault;
-use crate::source::Source;
 use lab_num::NoMemory;
 use std::alloc::Global;
 
@@ -19,8 +19,8 @@ pub trait Spelled: Sized {
         ensures fits { OnOk result (form.Fits self.now) };
 
     /// Reads the value that is spelled at the front. `Bad` comes where none is.
-    fn take(alloc: Global, source: &mut Source<'_>) -> Result<Self, SnapFault>
-        ensures { Reads (form.parse source.old) source.new result };
+    fn take(alloc: Global, reader: &mut ByteReader<'_>) -> Result<Self, SnapFault>
+        ensures { Reads (form.parse reader.old) reader.new result };
 
     /// What is read is spelled so, and what is spelled so is read.
     ghost lawful: { IsLawful form };

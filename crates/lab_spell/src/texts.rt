@@ -1,7 +1,7 @@
 //! A text is a list of bytes, which are UTF-8.
+use crate::byte_reader::ByteReader;
 use crate::fault::SnapFault;
 use crate::lists::put_list;
-use crate::source::Source;
 use crate::spelled::Spelled;
 use lab_num::{NoMemory, Rows, Text};
 use std::alloc::Global;
@@ -22,8 +22,8 @@ impl Spelled for Text {
     }
 
     #[tactic(auto, unfolding(crate::specs::Combine::text))]
-    fn take(alloc: Global, source: &mut Source<'_>) -> Result<Text, SnapFault> {
-        let bytes: Rows<u8> = Spelled::take(alloc, source)?;
+    fn take(alloc: Global, reader: &mut ByteReader<'_>) -> Result<Text, SnapFault> {
+        let bytes: Rows<u8> = Spelled::take(alloc, reader)?;
         match str::from_utf8(bytes.items()) {
             Ok(text) => Ok(Text::of(alloc, text)?),
             Err(_) => Err(SnapFault::Bad),

@@ -2,8 +2,8 @@
 ghost use Rattle.std.specs.Prelude.{◌≡◌, ◌++◌, IfOk, List, MatchResult, OnOk, ℕ};
 ghost use Rattle.lab_spell.specs.Inner.Whole.{Gives, value_of};
 
+use crate::byte_reader::ByteReader;
 use crate::fault::SnapFault;
-use crate::source::Source;
 use crate::spelled::Spelled;
 use lab_num::NoMemory;
 use std::alloc::Global;
@@ -22,9 +22,9 @@ pub fn save<T: Spelled>(alloc: Global, value: &T) -> Result<Vec<u8>, NoMemory>
 fn read<T: Spelled + Drop>(alloc: Global, bytes: &[u8]) -> Result<T, SnapFault>
     ensures { Gives (value_of T.form bytes.now) result }
 {
-    let mut source = Source::new(bytes);
-    let value = T::take(alloc, &mut source)?;
-    if !source.is_empty() {
+    let mut reader = ByteReader::new(bytes);
+    let value = T::take(alloc, &mut reader)?;
+    if !reader.is_empty() {
         return Err(SnapFault::Bad);
     }
     Ok(value)

@@ -21,7 +21,7 @@ pub(crate) struct Line {
 
 /// The lines of a file, or those of a macro's body.
 #[derive(Drop)]
-pub(crate) struct Source {
+pub(crate) struct SourceLines {
     pub(crate) file: Text,
     pub(crate) lines: Lines,
 }
@@ -50,23 +50,23 @@ fn line_of(alloc: Global, number: u32, text: &str) -> Result<Line, NoMemory>
 }
 
 /// The same lines of the same file.
-pub(crate) fn copy_source(alloc: Global, source: &Source) -> Result<Source, NoMemory>
+pub(crate) fn copy_source(alloc: Global, source: &SourceLines) -> Result<SourceLines, NoMemory>
     ensures { IfOk result (λ made. made ≡ source.now) }
 {
-    Ok(Source {
+    Ok(SourceLines {
         file: Text::of(alloc, source.file.as_str())?,
         lines: source.lines.share()?,
     })
 }
 
 /// A file of this name with this text.
-pub(crate) fn source_of(alloc: Global, name: &str, text: String) -> Result<Source, NoMemory>
+pub(crate) fn source_of(alloc: Global, name: &str, text: String) -> Result<SourceLines, NoMemory>
     requires { length (string_bytes text) ≤ 2 ^ 24 }
     ensures { IfOk result (λ made. made ≡ source_of name.now (string_bytes text)) }
 {
     let file = Text::of(alloc, name)?;
     let lines = Lines::of(alloc, text)?;
-    Ok(Source { file, lines })
+    Ok(SourceLines { file, lines })
 }
 
 /// How many lines stand before the first `"""`, and what follows that.

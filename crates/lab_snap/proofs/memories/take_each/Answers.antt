@@ -9,7 +9,7 @@ pub returns-in_err-take_memory-clause-reads : goal.returns-in_err-take_memory-cl
 returns-in_err-take_memory-clause-reads c =
     let p = err_from_is_err_and c.from_residual.result c.from_residual.ensures.1 in
     rw (p.1, p.2)
-    (is_fault c.in_err-take_memory.field-0.0 _ _ c.take_memory.new.source c.in_err-take_memory.ensures.part
+    (is_fault c.in_err-take_memory.field-0.0 _ _ c.take_memory.new.reader c.in_err-take_memory.ensures.part
     (λ none. half_read_bad _ _ _ _ _ _ 0 c.loop-size-test.true none c.loop-size.invariant.so_far))
 
 pub loop-size-preserved : goal.loop-size-preserved

@@ -5,6 +5,6 @@ use Rattle.lab_snap.proofs.memories.take_each.Given as goal
 
 abbrev pub invariant-loop-size : goal.invariant-loop-size
 invariant-loop-size l = record {
-  so_far : IsHalfRead sized_form l.sizes l.fn.source l.memories.items l.size-index l.source;
+  so_far : IsHalfRead sized_form l.sizes l.fn.reader l.memories.items l.size-index l.reader;
   sizes : map length l.memories.items ≡ take l.size-index l.sizes;
 }

@@ -4,10 +4,10 @@ use Rattle.lab_snap.proofs.memory.take_memory.Goals as goal
 
 pub returns-clause-found : goal.returns-clause-found
 returns-clause-found c =
-    found (memory_lawful c.args.pages c.requires.few) c.args.source.now c.take_as_part.new.source c.take_as_part.result
+    found (memory_lawful c.args.pages c.requires.few) c.args.reader.now c.take_as_part.new.reader c.take_as_part.result
     c.take_as_part.ensures.reads
 
 pub returns-clause-only : goal.returns-clause-only
 returns-clause-only c =
-    only (memory_lawful c.args.pages c.requires.few) c.args.source.now c.take_as_part.new.source c.take_as_part.result
+    only (memory_lawful c.args.pages c.requires.few) c.args.reader.now c.take_as_part.new.reader c.take_as_part.result
     c.take_as_part.ensures.reads

@@ -10,13 +10,13 @@ use Rattle.lab_snap.proofs.memory.take_pages.Goals as goal
 pub loop-init : goal.loop-init
 loop-init c = record {
   size = ap length c.requires ∙ length-replicate (4096 * c.args.pages) 0;
-  so_far = half_loaded_none 4096 c.args.pages c.args.count c.args.source.now c.args.memory.now;
+  so_far = half_loaded_none 4096 c.args.pages c.args.count c.args.reader.now c.args.memory.now;
 }
 
 pub returns-in_err-number-clause-reads : goal.returns-in_err-number-clause-reads
 returns-in_err-number-clause-reads c =
     let p = err_from_is_err_and c.from_residual.result c.from_residual.ensures.1 in
-    rw (p.1, p.2) (into_fault c.in_err-number.field-0.0 _ _ c.take.new.source c.loop.memory c.take.new.source
+    rw (p.1, p.2) (into_fault c.in_err-number.field-0.0 _ _ c.take.new.reader c.loop.memory c.take.new.reader
     c.in_err-number.ensures
     (λ none. half_loaded_bad 4096 _ _ _ _ _ _ _ _ c.requires c.loop-test.true (no_page 4096 _ none)
     c.loop.invariant.so_far))
@@ -31,7 +31,7 @@ returns-in_err-page-clause-reads c =
 pub returns-then-not-is_next-clause-reads : goal.returns-then-not-is_next-clause-reads
 returns-then-not-is_next-clause-reads c =
     let read = page_read 4096 _ _ _ c.in_ok-number.ensures c.in_ok-page.ensures.long in
-    let refused : is_next c.args.pages c.loop.low (c.in_ok-number.number, take 4096 c.take.new.source) ≡ false =
+    let refused : is_next c.args.pages c.loop.low (c.in_ok-number.number, take 4096 c.take.new.reader) ≡ false =
     rw (← c.in_ok-page.ensures.front) (sym c.if-not-is_next.ensures) in
     half_loaded_refused 4096 _ _ _ _ _ _ _ _ _ _ _ c.requires c.loop-test.true read refused c.loop.invariant.so_far
 
@@ -46,12 +46,12 @@ put_page-requires-clause-fits c =
 pub put_page-requires-clause-size : goal.put_page-requires-clause-size
 put_page-requires-clause-size c =
     rw c.in_ok-page.ensures.front
-    (let long = c.in_ok-page.ensures.long in omega (arith, length-take 4096 c.take.new.source))
+    (let long = c.in_ok-page.ensures.long in omega (arith, length-take 4096 c.take.new.reader))
 
 pub loop-preserved : goal.loop-preserved
 loop-preserved c =
     let read = page_read 4096 _ _ _ c.in_ok-number.ensures c.in_ok-page.ensures.long in
-    let next : is_next c.args.pages c.loop.low (c.in_ok-number.number, take 4096 c.take.new.source) ≡ true =
+    let next : is_next c.args.pages c.loop.low (c.in_ok-number.number, take 4096 c.take.new.reader) ≡ true =
     rw (← c.in_ok-page.ensures.front) (sym c.if-not-is_next.ensures) in
     record {
       size = c.in_ok-put_page.ensures.size ∙ c.loop.invariant.size;

@@ -7,7 +7,7 @@ pub returns-in_err-take : goal.returns-in_err-take
 returns-in_err-take g c =
     let p = err_from_is_err_and c.from_residual.result c.from_residual.ensures.1 in
     rw (p.1, p.2)
-    (is_fault c.in_err-take.field-0.0 _ _ c.take.new.source c.in_err-take.ensures
+    (is_fault c.in_err-take.field-0.0 _ _ c.take.new.reader c.in_err-take.ensures
     (λ none. half_read_bad _ _ _ _ _ _ c.loop-test.true none c.loop.invariant))
 
 pub loop-preserved : goal.loop-preserved

@@ -9,7 +9,7 @@ pub returns-in_err-values : goal.returns-in_err-values
 returns-in_err-values g c =
     let p = err_from_is_err_and c.from_residual.result c.from_residual.ensures.1 in
     rw (p.1, p.2)
-    (is_fault c.in_err-values.field-0.0 _ _ c.take.new.source c.in_err-values.ensures
+    (is_fault c.in_err-values.field-0.0 _ _ c.take.new.reader c.in_err-values.ensures
     (λ none. half_read_bad _ _ _ _ _ _ c.loop-i-test.true none c.loop-i.invariant.so_far))
 
 pub loop-i-preserved : goal.loop-i-preserved

@@ -8,11 +8,11 @@ use std::marker::Model;
 
 /// The bytes that are left, which contracts see as their list.
 #[derive(Drop)]
-pub struct Source<'a> {
+pub struct ByteReader<'a> {
     rest: &'a [u8],
 }
 
-impl<'a> Model for Source<'a> {
+impl<'a> Model for ByteReader<'a> {
     ghost use Rattle.std.specs.Prelude.{List, ℕ};
 
     ghost Value = { List ℕ };
@@ -20,11 +20,11 @@ impl<'a> Model for Source<'a> {
     ghost view = { λ s. s.rest.now };
 }
 
-impl<'a> Source<'a> {
-    pub fn new(bytes: &'a [u8]) -> Source<'a>
+impl<'a> ByteReader<'a> {
+    pub fn new(bytes: &'a [u8]) -> ByteReader<'a>
         ensures { result ≡ bytes.now }
     {
-        Source { rest: bytes }
+        ByteReader { rest: bytes }
     }
 
     /// Whether no byte is left.
