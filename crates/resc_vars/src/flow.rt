@@ -16,7 +16,7 @@ use crate::body::Body;
 use crate::cause::ScriptCause;
 use crate::form::Assignment;
 use crate::item::{Item, Line, SourceLines, copy_source, source_of};
-use crate::lines::Lines;
+use crate::lines::TextLines;
 use crate::variables::{Variables, command_text, put, set_variable};
 use indexmap::IndexMap;
 use lab_num::{DEPTH_LIMIT, NoMemory, Text};
@@ -256,7 +256,7 @@ impl Flow {
     }
 
     /// Keeps a macro.
-    fn keep(&mut self, name: Text, lines: Lines) -> Result<(), NoMemory>
+    fn keep(&mut self, name: Text, lines: TextLines) -> Result<(), NoMemory>
         requires { self.old.kept.taken < command_limit }
         ensures ok { OnOk result (self.new ≡ record self.old {
           kept = defined self.old.kept self.old.current.file name lines;
@@ -269,7 +269,7 @@ impl Flow {
         Ok(())
     }
 
-    fn define(&mut self, line: u32, name: Text, lines: Lines) -> Option<Next>
+    fn define(&mut self, line: u32, name: Text, lines: TextLines) -> Option<Next>
         requires { self.old.ended ≡ false }
         ensures acts { Acts result self.new (next_with (items.Define line name lines) self.old) }
         ensures bodies { IsSameBodies self.old self.new }

@@ -27,12 +27,12 @@ struct Extent {
 
 /// Lines that stand together in a text. Those of a macro share the text with their file.
 #[derive(Drop)]
-pub(crate) struct Lines {
+pub(crate) struct TextLines {
     text: Rc<String>,
     extent: Extent,
 }
 
-impl Model for Lines {
+impl Model for TextLines {
     ghost use Rattle.std.specs.Prelude.{List, drop};
     ghost use Rattle.std.specs.Str.{IsCharBoundary};
     ghost use Rattle.std.specs.String.{string_bytes};
@@ -128,26 +128,26 @@ pub(crate) fn lines_at(
     end: &str,
     number: u32,
     most: usize,
-) -> Result<Lines, NoMemory>
+) -> Result<TextLines, NoMemory>
     requires ends { EndsWith (string_bytes text.now.value) end.now }
     requires fit { numbers_fit number end.now }
     ensures { IfOk result (λ made. made ≡ shown most number end.now) }
 {
     let extent = extent_of(text.as_str(), end, number, most);
-    Ok(Lines {
+    Ok(TextLines {
         text: text.clone()?,
         extent,
     })
 }
 
-impl Lines {
+impl TextLines {
     /// All lines of a text.
-    pub(crate) fn of(alloc: Global, text: String) -> Result<Lines, NoMemory>
+    pub(crate) fn of(alloc: Global, text: String) -> Result<TextLines, NoMemory>
         requires { length (string_bytes text) ≤ 2 ^ 24 }
         ensures { IfOk result (λ made. made ≡ numbered 1 (lines (string_bytes text))) }
     {
         let most = text.as_str().len() + 1;
-        Ok(Lines {
+        Ok(TextLines {
             text: Rc::new(alloc, text)?,
             extent: Extent {
                 at: 0,
@@ -158,10 +158,10 @@ impl Lines {
     }
 
     /// The same lines.
-    pub(crate) fn share(&self) -> Result<Lines, NoMemory>
+    pub(crate) fn share(&self) -> Result<TextLines, NoMemory>
         ensures { IfOk result (λ made. made ≡ self.now) }
     {
-        Ok(Lines {
+        Ok(TextLines {
             text: self.text.clone()?,
             extent: self.extent,
         })

@@ -4,7 +4,7 @@ use Rattle.std.specs.String.{string_bytes}
 use Rattle.std.proofs.lemmas.List.{take-append-drop}
 use Rattle.resc_vars.specs.Inner.Rest.{EndsWith}
 use Rattle.resc_vars.proofs.RestLemmas.{ends_join}
-use Rattle.resc_vars.proofs.lines.Lines.take_item.Goals as goal
+use Rattle.resc_vars.proofs.lines.TextLines.take_item.Goals as goal
 
 pub first_item-requires-clause-ends : goal.first_item-requires-clause-ends
 first_item-requires-clause-ends c =

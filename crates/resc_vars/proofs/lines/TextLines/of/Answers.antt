@@ -3,7 +3,7 @@ use Rattle.std.proofs.Common.{◌≡◌, ap, length, arith}
 use Rattle.std.specs.String.{string_bytes}
 use Rattle.std.proofs.lemmas.Str.{IsCharBoundary-start, IsUtf8-string_bytes}
 use Rattle.resc_vars.proofs.LineLemmas.{shown_all}
-use Rattle.resc_vars.proofs.lines.Lines.of.Goals as goal
+use Rattle.resc_vars.proofs.lines.TextLines.of.Goals as goal
 
 pub invariant_of-result : goal.invariant_of-result
 invariant_of-result c =
