@@ -2,7 +2,7 @@
 use Rattle.std.proofs.Common.{◌≡◌, ◌∙◌, ℕ, List, [], ◌∷◌, Option, IfSome, sym, refl}
 use Rattle.std.specs.FinMap.{get}
 use Rattle.std.specs.Option.{ForSome}
-use Rattle.lab_io.specs.Asked.{Log, AsksSome}
+use Rattle.lab_io.specs.Asked.{AskedNames, AsksSome}
 use Rattle.lab_io.specs.Known.{grown}
 use Rattle.lab_io.specs.Held.{Held}
 use Rattle.lab_io.proofs.Asking.{asks_all, asks_one}
@@ -38,7 +38,7 @@ told P fact x is = rw is at fact
 
 -- a file that is faulty was refused so, or memory ran out
 pub refused_content : (is : Content) (name : List ℕ) (place : LinePlace) (cause : ScriptCause) (opened : Opened)
-    (log log' : Log) →
+    (log log' : AskedNames) →
     is ≡ Faulty (fault_at place cause) → log' ≡ grown log (name ∷ []) → IsRefused place cause opened →
     IsOpened is name opened log log'
 refused_content is name place cause (opened_by.Text text) log log' so asked refused = absurd refused

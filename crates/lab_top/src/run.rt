@@ -4,7 +4,7 @@ ghost use Rattle.std.specs.Prelude.{Err, IfSome, IfOk, IfErr, Result};
 ghost use Rattle.std.specs.Option.{ForSome};
 ghost use Rattle.dev_core.specs.Stock.{IsFull};
 ghost use Rattle.lab_gen.specs.Summary.{summary_of};
-ghost use Rattle.lab_io.specs.Asked.{Log};
+ghost use Rattle.lab_io.specs.Asked.{AskedNames};
 ghost use Rattle.lab_io.specs.Frame.{OnlyReads, OnlyStores, OnlyWrites};
 ghost use Rattle.lab_io.specs.Held.{Held};
 ghost use Rattle.lab_io.specs.Known.{Rose};
@@ -384,7 +384,7 @@ fn take_back<D: Device, K: Sink, S: Store>(
 ) -> Result<Monitor<D>, Status>
     requires { monitor.ended ≡ false }
     ensures course { ForSome (S.kept store.old) (λ kept.
-        (all : Transcript) (further : Further) (old : Outside) (asked : Log) →
+        (all : Transcript) (further : Further) (old : Outside) (asked : AskedNames) →
         ((new : Outside) (stored : Result Running (Halt Running)) →
         IsStored (loading further kept line.name (line_in line.file line.line) monitor.state) kept further
         (line_in line.file line.line) (store_of S.Store (K.written out.old) asked store.old) new stored →

@@ -1,7 +1,7 @@
 //! What a script asks of the store: its laboratory is kept under a name, or taken back from one.
 ghost use Rattle.std.specs.Prelude.{◌≡◌, ℕ, List, [], Option, false, IfOk, OnOk};
 ghost use Rattle.std.specs.Option.{ForSome};
-ghost use Rattle.lab_io.specs.Asked.{Log};
+ghost use Rattle.lab_io.specs.Asked.{AskedNames};
 ghost use Rattle.lab_io.specs.Frame.{OnlyStores};
 ghost use Rattle.lab_snap.specs.Saved.{spelling};
 ghost use Rattle.lab_snap.specs.Snapshot.{snapshot_of};
@@ -52,7 +52,7 @@ pub fn keep<D: Device, S: Store>(
 ) -> Result<(), Halt<()>>
     requires goes_on { monitor.now.ended ≡ false }
     ensures stored { ForSome (S.kept store.old) (λ kept.
-        (further : Further) (place : LinePlace) (written : Option (List ℕ)) (asked : Log) →
+        (further : Further) (place : LinePlace) (written : Option (List ℕ)) (asked : AskedNames) →
         IsStored (saving further kept name.now place monitor.now.state
         (spelling monitor.now.state.lab monitor.now.state.lines)) kept further place
         (store_of S.Store written asked store.old) (store_of S.Store written asked store.new)
@@ -85,7 +85,7 @@ pub fn fetch<D: Device, S: Store>(
     requires goes_on { monitor.now.ended ≡ false }
     requires empty { into.old.items ≡ [] }
     ensures fetched { ForSome (S.kept store.old) (λ kept.
-        (further : Further) (place : LinePlace) (written : Option (List ℕ)) (asked : Log) →
+        (further : Further) (place : LinePlace) (written : Option (List ℕ)) (asked : AskedNames) →
         IsFetched (loading further kept name.now place monitor.now.state) kept further place
         (store_of S.Store written asked store.old) (store_of S.Store written asked store.new)
         monitor.now into.new.items result) }

@@ -8,7 +8,7 @@ use Rattle.std.proofs.lemmas.Bool.Decides.{nat_tests}
 use Rattle.elf_load.specs.declared.image.Image.{Image}
 use Rattle.lab_io.specs.declared.whole.ReadFault.{ReadFault}
 use Rattle.lab_io.specs.declared.whole.ReadFault.TheVariants as read_fault
-use Rattle.lab_io.specs.Asked.{Log}
+use Rattle.lab_io.specs.Asked.{AskedNames}
 use Rattle.lab_io.specs.Held.{Held}
 use Rattle.lab_io.specs.Known.{grown}
 use Rattle.lab_io.specs.Whole.{IsFileRead}
@@ -47,7 +47,7 @@ read_unread read_fault.TooLarge is = cc is
 read_unread read_fault.Memory is = cc is
 
 module _ (held : Held) (s : State) (place : LinePlace) (path : List ℕ) (use_ : Equipped → List ℕ → Answer) (b : ℕ)
-    (is : IsBoard s (equipped s) b) (log log' : Log) where
+    (is : IsBoard s (equipped s) b) (log log' : AskedNames) where
   -- the file is not read
   pub load_stops :
       (fault : ReadFault) (after : State) → IsFileRead (get held path) path (Err fault) log log' →

@@ -6,7 +6,7 @@ use Rattle.std.specs.FinMap.{empty}
 use Rattle.std.specs.Global.{Global}
 use Rattle.std.specs.Option.{ForSome}
 use Rattle.lab_io.specs.declared.files.Files.{Ghosts}
-use Rattle.lab_io.specs.Asked.{Log}
+use Rattle.lab_io.specs.Asked.{AskedNames}
 use Rattle.lab_io.specs.Frame.{OnlyReads}
 use Rattle.lab_io.specs.Held.{Held}
 use Rattle.lab_io.specs.Known.{grown}
@@ -78,7 +78,7 @@ stop_leaves Memory old = refl
 
 -- a command that has asked for its names and is answered so
 told_carried :
-    (did : Did) (place : LinePlace) (result : Result (Vec ℕ Global) Stop) (after : State) (log log' : Log) →
+    (did : Did) (place : LinePlace) (result : Result (Vec ℕ Global) Stop) (after : State) (log log' : AskedNames) →
     log' ≡ grown log did.names → IsTold place did.answer result after → IsCarried did place result after log log'
 told_carried did place (Ok text) after log log' asked told = (told, asked)
 told_carried did place (Err (Store store)) after log log' asked told = (told, asked)

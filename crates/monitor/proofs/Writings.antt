@@ -5,7 +5,7 @@ use Rattle.lab_io.specs.declared.files.Files.{Ghosts}
 use Rattle.lab_io.specs.declared.sink.Sink.{Ghosts as SinkGhosts}
 use Rattle.lab_io.specs.declared.sink.WriteFault.{WriteFault}
 use Rattle.lab_io.specs.declared.sink.WriteFault.TheVariants.{Unwritten}
-use Rattle.lab_io.specs.Asked.{Log}
+use Rattle.lab_io.specs.Asked.{AskedNames}
 use Rattle.lab_io.specs.Frame.{OnlyWrites}
 use Rattle.lab_io.specs.Held.{Held}
 use Rattle.lab_io.specs.Known.{grown}
@@ -112,7 +112,7 @@ module _ {F K : Type 0} {files : Ghosts F} {out : SinkGhosts K} where
 
 -- a line after which the monitor does not go on
 pub stop_is_progress :
-    (did : Did) (place : LinePlace) (stop : Stop) (after : State) (log log' : Log) (out out' : Option (List ℕ)) →
+    (did : Did) (place : LinePlace) (stop : Stop) (after : State) (log log' : AskedNames) (out out' : Option (List ℕ)) →
     IsCarried did place (Err stop) after log log' → out' ≡ out →
     IsProgress did (progress_of place stop) after log log' out out'
 stop_is_progress did place (Store (storing.Save name)) after log log' out out' is same = (is, same)

@@ -1,6 +1,6 @@
 -- What one step of a monitor has done.
 use Rattle.std.specs.Prelude.{◌≡◌, ℕ, ◌<◌, ◌≤◌, Bool, true, false, List}
-use Rattle.lab_io.specs.Asked.{Log, AsksSome, AsksUpTo}
+use Rattle.lab_io.specs.Asked.{AskedNames, AsksSome, AsksUpTo}
 use Rattle.lab_io.specs.Known.{grown}
 use Rattle.resc_vars.specs.Script.{Outcome, next_of}
 use Rattle.resc_vars.specs.Script as script
@@ -25,7 +25,7 @@ abbrev pub line_in : List ℕ → ℕ → LinePlace
 line_in file line = record { file = file; number = line }
 
 -- a step has done what a command does and has asked for the names that it reads, or was cut short
-abbrev pub IsStep : Did → Step → State → Log → Log → Type 0
+abbrev pub IsStep : Did → Step → State → AskedNames → AskedNames → Type 0
 IsStep did (Text text) after log log' = (did.answer ≡ Goes text after) × (log' ≡ grown log did.names)
 IsStep did (Save name file line) after log log' =
     (did.answer ≡ Saves name (line_in file line) after) × (log' ≡ grown log did.names)

@@ -1,7 +1,7 @@
 -- How the file of a script was opened.
 use Rattle.std.specs.Prelude.{◌≡◌, ℕ, ◌≤◌, ◌^◌, List, [], ◌∷◌, length, string_bytes}
 use Rattle.lab_io.specs.Known.{grown}
-use Rattle.lab_io.specs.Asked.{Log, AsksSome}
+use Rattle.lab_io.specs.Asked.{AskedNames, AsksSome}
 use Rattle.monitor.specs.Answer.{fault_at}
 use Rattle.monitor.specs.State.{LinePlace}
 use Rattle.resc_vars.specs.declared.cause.ScriptCause.{ScriptCause}
@@ -17,7 +17,7 @@ IsRefused place cause Unread = ⊥
 IsRefused place cause Memory = Unit {0}
 
 -- a file of this name was opened as what it is, or its read was cut short
-abbrev pub IsOpened : content.Content → List ℕ → Opened → Log → Log → Type 0
+abbrev pub IsOpened : content.Content → List ℕ → Opened → AskedNames → AskedNames → Type 0
 IsOpened is name (Text text) log log' = (is ≡ content.Readable (string_bytes text)) × (log' ≡ grown log (name ∷ []))
 IsOpened is name (Refused fault) log log' = (is ≡ content.Faulty fault) × (log' ≡ grown log (name ∷ []))
 IsOpened is name Unread log log' = log' ≡ grown log (name ∷ [])

@@ -1,6 +1,6 @@
 -- What became of a command for the store.
 use Rattle.std.specs.Prelude.{◌≡◌, ℕ, false, List, Option, None, Some, Result, Ok, Err}
-use Rattle.lab_io.specs.Asked.{Log}
+use Rattle.lab_io.specs.Asked.{AskedNames}
 use Rattle.lab_io.specs.Held.{Held}
 use Rattle.lab_io.specs.declared.store.Store.{Ghosts as StoreGhosts}
 use Rattle.lab_state.specs.Lab.{Lab}
@@ -19,7 +19,7 @@ use Rattle.lab_top.specs.Transcript.{Further, Transcript, loading, refused}
 use Rattle.lab_top.specs.Inner.Course.{GoesOn}
 
 -- what is told of the outside of a run that has written this and asked for these names, by its store
-abbrev pub store_of : {S : Type 0} → StoreGhosts S → Option (List ℕ) → Log → S → Outside
+abbrev pub store_of : {S : Type 0} → StoreGhosts S → Option (List ℕ) → AskedNames → S → Outside
 store_of store written asked s =
     record { written = written; asked = asked; used = store.uses s; kept = store.kept s }
 

@@ -1,6 +1,6 @@
 -- What the parts of a command have read of files and of the laboratory.
 use Rattle.std.specs.Prelude.{◌≡◌, ℕ, List, is_some, Result, Ok, Err}
-use Rattle.lab_io.specs.Asked.{Log}
+use Rattle.lab_io.specs.Asked.{AskedNames}
 use Rattle.lab_io.specs.Known.{grown}
 use Rattle.lab_num.specs.declared.key.Member.{Member}
 use Rattle.lab_state.specs.Names.{hub_named}
@@ -27,7 +27,7 @@ joining s dev hub = do
 
 -- the files of a platform were read as this plan, or stop a command that loads them so
 abbrev pub IsPlanRead :
-    Loading → Result BoardPlan Stop → Log → Log → Type 0
+    Loading → Result BoardPlan Stop → AskedNames → AskedNames → Type 0
 IsPlanRead loading (Ok plan) log log' =
     (entries : List Entry)
     × (loading.outcome ≡ Joined entries)

@@ -8,7 +8,7 @@ use Rattle.lab_io.specs.declared.whole.ReadFault.{ReadFault}
 use Rattle.lab_io.specs.declared.whole.ReadFault.TheVariants as read_fault
 use Rattle.lab_io.specs.declared.whole.TextFault.{TextFault}
 use Rattle.lab_io.specs.declared.whole.TextFault.TheVariants as text_fault
-use Rattle.lab_io.specs.Asked.{Log, AsksSome, AsksUpTo}
+use Rattle.lab_io.specs.Asked.{AskedNames, AsksSome, AsksUpTo}
 use Rattle.lab_io.specs.Frame.{OnlyReads}
 use Rattle.lab_io.specs.Held.{Held}
 use Rattle.lab_io.specs.Known.{grown}
@@ -216,7 +216,7 @@ IsTold place answer (Err Unread) after = ⊥
 IsTold place answer (Err Memory) after = Unit {0}
 
 -- a command was carried out or refused as it is and has asked for the names that it reads, or was cut short
-abbrev pub IsCarried : Did → LinePlace → Result (Vec ℕ Global) Stop → State → Log → Log → Type 0
+abbrev pub IsCarried : Did → LinePlace → Result (Vec ℕ Global) Stop → State → AskedNames → AskedNames → Type 0
 IsCarried did place (Ok text) after log log' = (did.answer ≡ Goes text.items after) × (log' ≡ grown log did.names)
 IsCarried did place (Err (Store asked)) after log log' =
     (did.answer ≡ asks_store asked place after) × (log' ≡ grown log did.names)

@@ -5,7 +5,7 @@ use Rattle.lab_io.specs.declared.files.Files.{Ghosts}
 use Rattle.lab_io.specs.declared.sink.Sink.{Ghosts as SinkGhosts}
 use Rattle.lab_io.specs.declared.sink.WriteFault.{WriteFault}
 use Rattle.lab_io.specs.declared.sink.WriteFault.TheVariants.{Unwritten}
-use Rattle.lab_io.specs.Asked.{Log}
+use Rattle.lab_io.specs.Asked.{AskedNames}
 use Rattle.lab_io.specs.Frame.{OnlyReads, OnlyWrites}
 use Rattle.lab_io.specs.Held.{Held}
 use Rattle.lab_io.specs.Known.{grown}
@@ -58,7 +58,8 @@ IsRunMade ruling (Err (Cut fault)) old new out out' =
 -- a command is answered as it should be and its text written, or a part of the text; or it stops the script, or was cut
 -- short before it says anything
 abbrev pub IsTextWritten :
-    Did → LinePlace → Result (Unit {0}) Halt → State → Log → Log → Option (List ℕ) → Option (List ℕ) → Type 0
+    Did → LinePlace → Result (Unit {0}) Halt → State → AskedNames → AskedNames → Option (List ℕ) → Option (List ℕ) →
+    Type 0
 IsTextWritten did place (Ok done) after log log' out out' =
     (printed : List ℕ) × (did.answer ≡ Goes printed after) × (log' ≡ grown log did.names) × (out' ≡ grown out printed)
 IsTextWritten did place (Err (Stop stop)) after log log' out out' =
