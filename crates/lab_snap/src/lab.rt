@@ -78,7 +78,7 @@ impl Spelled for SavedLab {
 
     #[tactic(auto, unfolding(crate::specs::Lab::lab_form))]
     fn take(alloc: Global, reader: &mut ByteReader<'_>) -> Result<SavedLab, SnapFault> {
-        reader.pass(&MARK)?;
+        reader.skip_mark(&MARK)?;
         Ok(SavedLab {
             time: Spelled::take(alloc, reader)?,
             quantum: Spelled::take(alloc, reader)?,

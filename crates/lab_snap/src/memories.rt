@@ -70,6 +70,6 @@ pub(crate) fn take_memories(
     ensures reads { Reads ((memories_form sizes.now).parse reader.old) reader.new result }
     ensures sizes { IfOk result (λ memories. map length memories ≡ sizes.now) }
 {
-    reader.pass(&(sizes.len() as u64).to_le_bytes())?;
+    reader.skip_mark(&(sizes.len() as u64).to_le_bytes())?;
     take_each(alloc, sizes, reader)
 }

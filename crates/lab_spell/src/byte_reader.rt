@@ -60,7 +60,7 @@ impl<'a> ByteReader<'a> {
         Ok(front)
     }
     /// Passes over a mark, which is to stand in front.
-    pub fn pass(&mut self, mark: &[u8]) -> Result<(), SnapFault>
+    pub fn skip_mark(&mut self, mark: &[u8]) -> Result<(), SnapFault>
         ensures ok { OnOk result (after mark.now self.old ≡ Some self.new) }
         ensures err { IfErr result (λ e. (e ≡ SnapFault.Bad) × (after mark.now self.old ≡ None)) }
     {
