@@ -37,21 +37,21 @@ impl Spelled for SavedHub {
     ghost lawful = { hub_lawful };
 
     #[tactic(auto, unfolding(crate::specs::Hub::hub_form))]
-    fn put(&self, out: &mut Vec<u8>) -> Result<(), NoMemory> {
-        self.kind.put(out)?;
-        self.name.put(out)?;
-        self.delay.put(out)?;
-        self.members.put(out)?;
+    fn encode(&self, out: &mut Vec<u8>) -> Result<(), NoMemory> {
+        self.kind.encode(out)?;
+        self.name.encode(out)?;
+        self.delay.encode(out)?;
+        self.members.encode(out)?;
         Ok(())
     }
 
     #[tactic(auto, unfolding(crate::specs::Hub::hub_form))]
-    fn take(alloc: Global, reader: &mut ByteReader<'_>) -> Result<SavedHub, SnapFault> {
+    fn decode(alloc: Global, reader: &mut ByteReader<'_>) -> Result<SavedHub, SnapFault> {
         Ok(SavedHub {
-            kind: Spelled::take(alloc, reader)?,
-            name: Spelled::take(alloc, reader)?,
-            delay: Spelled::take(alloc, reader)?,
-            members: Spelled::take(alloc, reader)?,
+            kind: Spelled::decode(alloc, reader)?,
+            name: Spelled::decode(alloc, reader)?,
+            delay: Spelled::decode(alloc, reader)?,
+            members: Spelled::decode(alloc, reader)?,
         })
     }
 }

@@ -42,17 +42,17 @@ impl Spelled for SavedBoard {
     ghost lawful = { board_lawful };
 
     #[tactic(auto, unfolding(crate::specs::Lab::board_form))]
-    fn put(&self, out: &mut Vec<u8>) -> Result<(), NoMemory> {
-        self.name.put(out)?;
-        self.machine.put(out)?;
+    fn encode(&self, out: &mut Vec<u8>) -> Result<(), NoMemory> {
+        self.name.encode(out)?;
+        self.machine.encode(out)?;
         Ok(())
     }
 
     #[tactic(auto, unfolding(crate::specs::Lab::board_form))]
-    fn take(alloc: Global, reader: &mut ByteReader<'_>) -> Result<SavedBoard, SnapFault> {
+    fn decode(alloc: Global, reader: &mut ByteReader<'_>) -> Result<SavedBoard, SnapFault> {
         Ok(SavedBoard {
-            name: Spelled::take(alloc, reader)?,
-            machine: Spelled::take(alloc, reader)?,
+            name: Spelled::decode(alloc, reader)?,
+            machine: Spelled::decode(alloc, reader)?,
         })
     }
 }
@@ -65,27 +65,27 @@ impl Spelled for SavedLab {
     ghost lawful = { lab_lawful };
 
     #[tactic(auto, unfolding(crate::specs::Lab::lab_form))]
-    fn put(&self, out: &mut Vec<u8>) -> Result<(), NoMemory> {
+    fn encode(&self, out: &mut Vec<u8>) -> Result<(), NoMemory> {
         out.extend_from_slice(&MARK)?;
-        self.time.put(out)?;
-        self.quantum.put(out)?;
-        self.boards.put(out)?;
-        self.hubs.put(out)?;
-        self.pending.put(out)?;
-        self.lines.put(out)?;
+        self.time.encode(out)?;
+        self.quantum.encode(out)?;
+        self.boards.encode(out)?;
+        self.hubs.encode(out)?;
+        self.pending.encode(out)?;
+        self.lines.encode(out)?;
         Ok(())
     }
 
     #[tactic(auto, unfolding(crate::specs::Lab::lab_form))]
-    fn take(alloc: Global, reader: &mut ByteReader<'_>) -> Result<SavedLab, SnapFault> {
+    fn decode(alloc: Global, reader: &mut ByteReader<'_>) -> Result<SavedLab, SnapFault> {
         reader.skip_mark(&MARK)?;
         Ok(SavedLab {
-            time: Spelled::take(alloc, reader)?,
-            quantum: Spelled::take(alloc, reader)?,
-            boards: Spelled::take(alloc, reader)?,
-            hubs: Spelled::take(alloc, reader)?,
-            pending: Spelled::take(alloc, reader)?,
-            lines: Spelled::take(alloc, reader)?,
+            time: Spelled::decode(alloc, reader)?,
+            quantum: Spelled::decode(alloc, reader)?,
+            boards: Spelled::decode(alloc, reader)?,
+            hubs: Spelled::decode(alloc, reader)?,
+            pending: Spelled::decode(alloc, reader)?,
+            lines: Spelled::decode(alloc, reader)?,
         })
     }
 }

@@ -5,14 +5,14 @@ ghost use Rattle.lab_spell.specs.Combine.{each, parse_each};
 ghost use Rattle.lab_spell.specs.Reads.{Appends, Reads};
 ghost use Rattle.lab_snap.specs.MachineForm.{memories_form, sized_form};
 
-use crate::memory::{put_memory, take_memory};
+use crate::memory::{decode_memory, encode_memory};
 use lab_num::{NoMemory, Rows};
 use lab_spell::{ByteReader, SnapFault, Spelled};
 use page_ram::{PAGE_SIZE, PageRam};
 use std::alloc::Global;
 
 /// Writes the memories, one after another.
-fn put_each(sizes: &[u32], memories: &[PageRam], out: &mut Vec<u8>) -> Result<(), NoMemory>
+fn encode_each(sizes: &[u32], memories: &[PageRam], out: &mut Vec<u8>) -> Result<(), NoMemory>
     requires whole { All IsRamSize sizes.now }
     requires sizes { map length memories.now ≡ sizes.now }
     ensures spelled { OnOk result
@@ -20,13 +20,13 @@ fn put_each(sizes: &[u32], memories: &[PageRam], out: &mut Vec<u8>) -> Result<()
     ensures fits { OnOk result ((each sized_form sizes.now).Fits memories.now) }
 {
     for k in 0..sizes.len() {
-        put_memory(&memories[k], sizes[k] / PAGE_SIZE, out)?;
+        encode_memory(&memories[k], sizes[k] / PAGE_SIZE, out)?;
     }
     Ok(())
 }
 
 /// Reads a memory of each size.
-fn take_each(
+fn decode_each(
     alloc: Global,
     sizes: &[u32],
     reader: &mut ByteReader<'_>,
@@ -37,14 +37,14 @@ fn take_each(
 {
     let mut memories = Vec::new(alloc);
     for &size in sizes {
-        memories.push(take_memory(alloc, size / PAGE_SIZE, reader)?)?;
+        memories.push(decode_memory(alloc, size / PAGE_SIZE, reader)?)?;
     }
     Ok(Rows::of(memories))
 }
 
 /// Writes the list of the memories.
 #[tactic(auto, unfolding(crate::specs::MachineForm::memories_form))]
-pub(crate) fn put_memories(
+pub(crate) fn encode_memories(
     sizes: &[u32],
     memories: &[PageRam],
     out: &mut Vec<u8>,
@@ -55,13 +55,13 @@ pub(crate) fn put_memories(
         (Appends out.old.items out.new.items ((memories_form sizes.now).spell memories.now)) }
     ensures fits { OnOk result ((memories_form sizes.now).Fits memories.now) }
 {
-    (sizes.len() as u64).put(out)?;
-    put_each(sizes, memories, out)
+    (sizes.len() as u64).encode(out)?;
+    encode_each(sizes, memories, out)
 }
 
 /// Reads the list of the memories of these sizes.
 #[tactic(auto, unfolding(crate::specs::MachineForm::memories_form))]
-pub(crate) fn take_memories(
+pub(crate) fn decode_memories(
     alloc: Global,
     sizes: &[u32],
     reader: &mut ByteReader<'_>,
@@ -71,5 +71,5 @@ pub(crate) fn take_memories(
     ensures sizes { IfOk result (λ memories. map length memories ≡ sizes.now) }
 {
     reader.skip_mark(&(sizes.len() as u64).to_le_bytes())?;
-    take_each(alloc, sizes, reader)
+    decode_each(alloc, sizes, reader)
 }

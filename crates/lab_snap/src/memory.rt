@@ -52,7 +52,7 @@ fn used_count(memory: &PageRam, pages: u32) -> u64
 }
 
 /// Writes the number of a page and the page, if it has a byte other than 0.
-fn put_used(memory: &PageRam, number: u32, out: &mut Vec<u8>) -> Result<(), NoMemory>
+fn encode_used(memory: &PageRam, number: u32, out: &mut Vec<u8>) -> Result<(), NoMemory>
     requires { page_size * (number + 1) ≤ length memory.now }
     ensures spelled { OnOk result
         (Appends out.old.items out.new.items (spell_used page_size number (page_of memory.now number))) }
@@ -60,21 +60,21 @@ fn put_used(memory: &PageRam, number: u32, out: &mut Vec<u8>) -> Result<(), NoMe
 {
     if let Some(page) = memory.used_page(number) {
         are_bytes(page);
-        number.put(out)?;
+        number.encode(out)?;
         out.extend_from_slice(page)?;
     }
     Ok(())
 }
 
 /// Writes all pages that have a byte other than 0.
-fn put_pages(memory: &PageRam, pages: u32, out: &mut Vec<u8>) -> Result<(), NoMemory>
+fn encode_pages(memory: &PageRam, pages: u32, out: &mut Vec<u8>) -> Result<(), NoMemory>
     requires { length memory.now ≡ page_size * pages }
     ensures spelled { OnOk result (Appends out.old.items out.new.items
         (flat_map (page_form page_size).spell (used page_size pages memory.now))) }
     ensures bytes { OnOk result (AllByRecursion (λ b. b < 256) memory.now) }
 {
     for k in 0..pages {
-        put_used(memory, k, out)?;
+        encode_used(memory, k, out)?;
     }
     Ok(())
 }
@@ -93,7 +93,7 @@ fn is_next(pages: u32, low: u32, number: u32, page: &[u8]) -> bool
 }
 
 /// Reads so many pages into a memory of 0.
-fn take_pages(
+fn decode_pages(
     alloc: Global,
     reader: &mut ByteReader<'_>,
     count: u64,
@@ -106,7 +106,7 @@ fn take_pages(
 {
     let mut low = 0;
     for _ in 0..count {
-        let number = u32::take(alloc, reader)?;
+        let number = u32::decode(alloc, reader)?;
         let page = reader.front(PAGE_SIZE as usize)?;
         if !is_next(pages, low, number, page) {
             return Err(SnapFault::Bad);
@@ -118,7 +118,7 @@ fn take_pages(
 }
 
 /// Reads the memory of so many pages that is spelled at the front, as a part of a larger value.
-fn take_as_part(
+fn decode_as_part(
     alloc: Global,
     pages: u32,
     reader: &mut ByteReader<'_>,
@@ -128,21 +128,21 @@ fn take_as_part(
     ensures reads { Reads ((memory_form pages).parse reader.old) reader.new result }
     ensures size { IfOk result (λ memory. length memory ≡ page_size * pages) }
 {
-    let count = u64::take(alloc, reader)?;
+    let count = u64::decode(alloc, reader)?;
     let mut memory = PageRam::new(alloc, PAGE_SIZE * pages)?;
-    take_pages(alloc, reader, count, pages, &mut memory)?;
+    decode_pages(alloc, reader, count, pages, &mut memory)?;
     Ok(memory)
 }
 
 /// Writes the spelling of a memory of so many pages at the end. Where memory runs out a part of it may
 /// stand there.
-pub fn put_memory(memory: &PageRam, pages: u32, out: &mut Vec<u8>) -> Result<(), NoMemory>
+pub fn encode_memory(memory: &PageRam, pages: u32, out: &mut Vec<u8>) -> Result<(), NoMemory>
     requires { length memory.now ≡ page_size * pages }
     ensures spelled { OnOk result (Appends out.old.items out.new.items ((memory_form pages).spell memory.now)) }
     ensures fits { OnOk result ((memory_form pages).Fits memory.now) }
 {
-    used_count(memory, pages).put(out)?;
-    put_pages(memory, pages, out)?;
+    used_count(memory, pages).encode(out)?;
+    encode_pages(memory, pages, out)?;
     Ok(())
 }
 
@@ -150,7 +150,7 @@ pub fn put_memory(memory: &PageRam, pages: u32, out: &mut Vec<u8>) -> Result<(),
 /// and what is spelled so is read, whatever follows it, unless memory runs out (`only`): so `Bad` comes
 /// only where no memory is spelled there. `part` says the same for a memory that is read as a part of
 /// a larger value.
-pub fn take_memory(
+pub fn decode_memory(
     alloc: Global,
     pages: u32,
     reader: &mut ByteReader<'_>,
@@ -165,7 +165,7 @@ pub fn take_memory(
     ensures part { Reads ((memory_form pages).parse reader.old) reader.new result }
     ensures size { IfOk result (λ memory. length memory ≡ page_size * pages) }
 {
-    take_as_part(alloc, pages, reader)
+    decode_as_part(alloc, pages, reader)
 }
 
 /// No spelling of a memory of so many pages begins another, and different memories have different

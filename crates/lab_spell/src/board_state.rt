@@ -14,33 +14,33 @@ impl Spelled for BoardState {
     ghost lawful = { board_state_lawful };
 
     #[tactic(auto, unfolding(crate::specs::BoardState::board_state_form))]
-    fn put(&self, out: &mut Vec<u8>) -> Result<(), NoMemory> {
-        self.speed.put(out)?;
-        self.harts.put(out)?;
-        self.next.put(out)?;
-        self.reserved.put(out)?;
-        self.clint.put(out)?;
-        self.plic.put(out)?;
-        self.devices.put(out)?;
-        self.shown.put(out)?;
-        self.posted.put(out)?;
-        self.entries.put(out)?;
+    fn encode(&self, out: &mut Vec<u8>) -> Result<(), NoMemory> {
+        self.speed.encode(out)?;
+        self.harts.encode(out)?;
+        self.next.encode(out)?;
+        self.reserved.encode(out)?;
+        self.clint.encode(out)?;
+        self.plic.encode(out)?;
+        self.devices.encode(out)?;
+        self.shown.encode(out)?;
+        self.posted.encode(out)?;
+        self.entries.encode(out)?;
         Ok(())
     }
 
     #[tactic(auto, unfolding(crate::specs::BoardState::board_state_form))]
-    fn take(alloc: Global, reader: &mut ByteReader<'_>) -> Result<BoardState, SnapFault> {
+    fn decode(alloc: Global, reader: &mut ByteReader<'_>) -> Result<BoardState, SnapFault> {
         Ok(BoardState {
-            speed: Spelled::take(alloc, reader)?,
-            harts: Spelled::take(alloc, reader)?,
-            next: Spelled::take(alloc, reader)?,
-            reserved: Spelled::take(alloc, reader)?,
-            clint: Spelled::take(alloc, reader)?,
-            plic: Spelled::take(alloc, reader)?,
-            devices: Spelled::take(alloc, reader)?,
-            shown: Spelled::take(alloc, reader)?,
-            posted: Spelled::take(alloc, reader)?,
-            entries: Spelled::take(alloc, reader)?,
+            speed: Spelled::decode(alloc, reader)?,
+            harts: Spelled::decode(alloc, reader)?,
+            next: Spelled::decode(alloc, reader)?,
+            reserved: Spelled::decode(alloc, reader)?,
+            clint: Spelled::decode(alloc, reader)?,
+            plic: Spelled::decode(alloc, reader)?,
+            devices: Spelled::decode(alloc, reader)?,
+            shown: Spelled::decode(alloc, reader)?,
+            posted: Spelled::decode(alloc, reader)?,
+            entries: Spelled::decode(alloc, reader)?,
         })
     }
 }

@@ -14,35 +14,35 @@ impl Spelled for UartState {
     ghost lawful = { uart_lawful };
 
     #[tactic(auto, unfolding(crate::specs::DeviceStates::uart_form))]
-    fn put(&self, out: &mut Vec<u8>) -> Result<(), NoMemory> {
-        self.ier.put(out)?;
-        self.lcr.put(out)?;
-        self.mcr.put(out)?;
-        self.scr.put(out)?;
-        self.dll.put(out)?;
-        self.dlm.put(out)?;
-        self.fifos.put(out)?;
-        self.trigger.put(out)?;
-        self.received.put(out)?;
-        self.oe.put(out)?;
-        self.thr.put(out)?;
+    fn encode(&self, out: &mut Vec<u8>) -> Result<(), NoMemory> {
+        self.ier.encode(out)?;
+        self.lcr.encode(out)?;
+        self.mcr.encode(out)?;
+        self.scr.encode(out)?;
+        self.dll.encode(out)?;
+        self.dlm.encode(out)?;
+        self.fifos.encode(out)?;
+        self.trigger.encode(out)?;
+        self.received.encode(out)?;
+        self.oe.encode(out)?;
+        self.thr.encode(out)?;
         Ok(())
     }
 
     #[tactic(auto, unfolding(crate::specs::DeviceStates::uart_form))]
-    fn take(alloc: Global, reader: &mut ByteReader<'_>) -> Result<UartState, SnapFault> {
+    fn decode(alloc: Global, reader: &mut ByteReader<'_>) -> Result<UartState, SnapFault> {
         Ok(UartState {
-            ier: Spelled::take(alloc, reader)?,
-            lcr: Spelled::take(alloc, reader)?,
-            mcr: Spelled::take(alloc, reader)?,
-            scr: Spelled::take(alloc, reader)?,
-            dll: Spelled::take(alloc, reader)?,
-            dlm: Spelled::take(alloc, reader)?,
-            fifos: Spelled::take(alloc, reader)?,
-            trigger: Spelled::take(alloc, reader)?,
-            received: Spelled::take(alloc, reader)?,
-            oe: Spelled::take(alloc, reader)?,
-            thr: Spelled::take(alloc, reader)?,
+            ier: Spelled::decode(alloc, reader)?,
+            lcr: Spelled::decode(alloc, reader)?,
+            mcr: Spelled::decode(alloc, reader)?,
+            scr: Spelled::decode(alloc, reader)?,
+            dll: Spelled::decode(alloc, reader)?,
+            dlm: Spelled::decode(alloc, reader)?,
+            fifos: Spelled::decode(alloc, reader)?,
+            trigger: Spelled::decode(alloc, reader)?,
+            received: Spelled::decode(alloc, reader)?,
+            oe: Spelled::decode(alloc, reader)?,
+            thr: Spelled::decode(alloc, reader)?,
         })
     }
 }
@@ -55,39 +55,39 @@ impl Spelled for CanState {
     ghost lawful = { can_lawful };
 
     #[tactic(auto, unfolding(crate::specs::DeviceStates::can_form))]
-    fn put(&self, out: &mut Vec<u8>) -> Result<(), NoMemory> {
-        self.control.put(out)?;
-        self.code.put(out)?;
-        self.mask.put(out)?;
-        self.timing0.put(out)?;
-        self.timing1.put(out)?;
-        self.output.put(out)?;
-        self.divider.put(out)?;
-        self.transmit.put(out)?;
-        self.received.put(out)?;
-        self.dos.put(out)?;
-        self.ri.put(out)?;
-        self.ti.put(out)?;
-        self.doi.put(out)?;
+    fn encode(&self, out: &mut Vec<u8>) -> Result<(), NoMemory> {
+        self.control.encode(out)?;
+        self.code.encode(out)?;
+        self.mask.encode(out)?;
+        self.timing0.encode(out)?;
+        self.timing1.encode(out)?;
+        self.output.encode(out)?;
+        self.divider.encode(out)?;
+        self.transmit.encode(out)?;
+        self.received.encode(out)?;
+        self.dos.encode(out)?;
+        self.ri.encode(out)?;
+        self.ti.encode(out)?;
+        self.doi.encode(out)?;
         Ok(())
     }
 
     #[tactic(auto, unfolding(crate::specs::DeviceStates::can_form))]
-    fn take(alloc: Global, reader: &mut ByteReader<'_>) -> Result<CanState, SnapFault> {
+    fn decode(alloc: Global, reader: &mut ByteReader<'_>) -> Result<CanState, SnapFault> {
         Ok(CanState {
-            control: Spelled::take(alloc, reader)?,
-            code: Spelled::take(alloc, reader)?,
-            mask: Spelled::take(alloc, reader)?,
-            timing0: Spelled::take(alloc, reader)?,
-            timing1: Spelled::take(alloc, reader)?,
-            output: Spelled::take(alloc, reader)?,
-            divider: Spelled::take(alloc, reader)?,
-            transmit: Spelled::take(alloc, reader)?,
-            received: Spelled::take(alloc, reader)?,
-            dos: Spelled::take(alloc, reader)?,
-            ri: Spelled::take(alloc, reader)?,
-            ti: Spelled::take(alloc, reader)?,
-            doi: Spelled::take(alloc, reader)?,
+            control: Spelled::decode(alloc, reader)?,
+            code: Spelled::decode(alloc, reader)?,
+            mask: Spelled::decode(alloc, reader)?,
+            timing0: Spelled::decode(alloc, reader)?,
+            timing1: Spelled::decode(alloc, reader)?,
+            output: Spelled::decode(alloc, reader)?,
+            divider: Spelled::decode(alloc, reader)?,
+            transmit: Spelled::decode(alloc, reader)?,
+            received: Spelled::decode(alloc, reader)?,
+            dos: Spelled::decode(alloc, reader)?,
+            ri: Spelled::decode(alloc, reader)?,
+            ti: Spelled::decode(alloc, reader)?,
+            doi: Spelled::decode(alloc, reader)?,
         })
     }
 }
@@ -100,15 +100,15 @@ impl Spelled for DevState {
     ghost lawful = { device_lawful };
 
     #[tactic(auto, unfolding(crate::specs::DeviceStates::device_form))]
-    fn put(&self, out: &mut Vec<u8>) -> Result<(), NoMemory> {
+    fn encode(&self, out: &mut Vec<u8>) -> Result<(), NoMemory> {
         match self {
             DevState::Uart(uart) => {
                 out.push(0)?;
-                uart.put(out)?;
+                uart.encode(out)?;
             }
             DevState::Can(can) => {
                 out.push(1)?;
-                can.put(out)?;
+                can.encode(out)?;
             }
             DevState::Finisher => out.push(2)?,
         }
@@ -116,10 +116,10 @@ impl Spelled for DevState {
     }
 
     #[tactic(auto, unfolding(crate::specs::DeviceStates::device_form))]
-    fn take(alloc: Global, reader: &mut ByteReader<'_>) -> Result<DevState, SnapFault> {
+    fn decode(alloc: Global, reader: &mut ByteReader<'_>) -> Result<DevState, SnapFault> {
         match reader.byte()? {
-            0 => Ok(DevState::Uart(Spelled::take(alloc, reader)?)),
-            1 => Ok(DevState::Can(Spelled::take(alloc, reader)?)),
+            0 => Ok(DevState::Uart(Spelled::decode(alloc, reader)?)),
+            1 => Ok(DevState::Can(Spelled::decode(alloc, reader)?)),
             2 => Ok(DevState::Finisher),
             _ => Err(SnapFault::Bad),
         }

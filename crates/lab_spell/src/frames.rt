@@ -5,7 +5,7 @@ ghost use Rattle.lab_spell.specs.Frames.{frame_of};
 
 use crate::byte_reader::ByteReader;
 use crate::fault::SnapFault;
-use crate::lists::put_each;
+use crate::lists::encode_each;
 use crate::spelled::Spelled;
 use dev_core::{ByteRow, Frame, FrameRow};
 use lab_num::{NoMemory, Rows};
@@ -64,20 +64,20 @@ impl Spelled for Frame {
     ghost lawful = { frame_lawful };
 
     #[tactic(auto, unfolding(crate::specs::Frames::frame_form, crate::specs::Frames::frame_fields))]
-    fn put(&self, out: &mut Vec<u8>) -> Result<(), NoMemory> {
-        self.id().put(out)?;
-        self.is_remote().put(out)?;
-        self.len().put(out)?;
-        self.places().put(out)?;
+    fn encode(&self, out: &mut Vec<u8>) -> Result<(), NoMemory> {
+        self.id().encode(out)?;
+        self.is_remote().encode(out)?;
+        self.len().encode(out)?;
+        self.places().encode(out)?;
         Ok(())
     }
 
     #[tactic(auto, unfolding(crate::specs::Frames::frame_form, crate::specs::Frames::frame_fields))]
-    fn take(alloc: Global, reader: &mut ByteReader<'_>) -> Result<Frame, SnapFault> {
-        let id = u16::take(alloc, reader)?;
-        let remote = bool::take(alloc, reader)?;
-        let len = u8::take(alloc, reader)?;
-        let bytes: [u8; 8] = Spelled::take(alloc, reader)?;
+    fn decode(alloc: Global, reader: &mut ByteReader<'_>) -> Result<Frame, SnapFault> {
+        let id = u16::decode(alloc, reader)?;
+        let remote = bool::decode(alloc, reader)?;
+        let len = u8::decode(alloc, reader)?;
+        let bytes: [u8; 8] = Spelled::decode(alloc, reader)?;
         match frame_of(id, remote, len, &bytes) {
             Some(frame) => Ok(frame),
             None => Err(SnapFault::Bad),
@@ -93,16 +93,16 @@ impl Spelled for ByteRow {
     ghost lawful = { byte_row_lawful };
 
     #[tactic(auto, unfolding(crate::specs::Frames::byte_row_form))]
-    fn put(&self, out: &mut Vec<u8>) -> Result<(), NoMemory> {
+    fn encode(&self, out: &mut Vec<u8>) -> Result<(), NoMemory> {
         let bytes = self.items();
-        (bytes.len() as u64).put(out)?;
-        put_each(bytes, out)?;
+        (bytes.len() as u64).encode(out)?;
+        encode_each(bytes, out)?;
         Ok(())
     }
 
     #[tactic(auto, unfolding(crate::specs::Frames::byte_row_form))]
-    fn take(alloc: Global, reader: &mut ByteReader<'_>) -> Result<ByteRow, SnapFault> {
-        let bytes: Rows<u8> = Spelled::take(alloc, reader)?;
+    fn decode(alloc: Global, reader: &mut ByteReader<'_>) -> Result<ByteRow, SnapFault> {
+        let bytes: Rows<u8> = Spelled::decode(alloc, reader)?;
         let bytes = bytes.items();
         if bytes.len() > 16 {
             return Err(SnapFault::Bad);
@@ -119,16 +119,16 @@ impl Spelled for FrameRow {
     ghost lawful = { frame_row_lawful };
 
     #[tactic(auto, unfolding(crate::specs::Frames::frame_row_form))]
-    fn put(&self, out: &mut Vec<u8>) -> Result<(), NoMemory> {
+    fn encode(&self, out: &mut Vec<u8>) -> Result<(), NoMemory> {
         let frames = self.items();
-        (frames.len() as u64).put(out)?;
-        put_each(frames, out)?;
+        (frames.len() as u64).encode(out)?;
+        encode_each(frames, out)?;
         Ok(())
     }
 
     #[tactic(auto, unfolding(crate::specs::Frames::frame_row_form))]
-    fn take(alloc: Global, reader: &mut ByteReader<'_>) -> Result<FrameRow, SnapFault> {
-        let frames: Rows<Frame> = Spelled::take(alloc, reader)?;
+    fn decode(alloc: Global, reader: &mut ByteReader<'_>) -> Result<FrameRow, SnapFault> {
+        let frames: Rows<Frame> = Spelled::decode(alloc, reader)?;
         let frames = frames.items();
         if frames.len() > 32 {
             return Err(SnapFault::Bad);

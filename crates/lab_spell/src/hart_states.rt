@@ -14,17 +14,17 @@ impl Spelled for Letters {
     ghost lawful = { letters_lawful };
 
     #[tactic(auto, unfolding(crate::specs::HartStates::letters_form))]
-    fn put(&self, out: &mut Vec<u8>) -> Result<(), NoMemory> {
-        self.a.put(out)?;
-        self.c.put(out)?;
+    fn encode(&self, out: &mut Vec<u8>) -> Result<(), NoMemory> {
+        self.a.encode(out)?;
+        self.c.encode(out)?;
         Ok(())
     }
 
     #[tactic(auto, unfolding(crate::specs::HartStates::letters_form))]
-    fn take(alloc: Global, reader: &mut ByteReader<'_>) -> Result<Letters, SnapFault> {
+    fn decode(alloc: Global, reader: &mut ByteReader<'_>) -> Result<Letters, SnapFault> {
         Ok(Letters {
-            a: Spelled::take(alloc, reader)?,
-            c: Spelled::take(alloc, reader)?,
+            a: Spelled::decode(alloc, reader)?,
+            c: Spelled::decode(alloc, reader)?,
         })
     }
 }
@@ -37,45 +37,45 @@ impl Spelled for HartState {
     ghost lawful = { hart_lawful };
 
     #[tactic(auto, unfolding(crate::specs::HartStates::hart_form))]
-    fn put(&self, out: &mut Vec<u8>) -> Result<(), NoMemory> {
-        self.registers.put(out)?;
-        self.pc.put(out)?;
-        self.on.put(out)?;
-        self.before.put(out)?;
-        self.mie.put(out)?;
-        self.mtvec.put(out)?;
-        self.mscratch.put(out)?;
-        self.mepc.put(out)?;
-        self.mcause.put(out)?;
-        self.mtval.put(out)?;
-        self.mcycle.put(out)?;
-        self.minstret.put(out)?;
-        self.waiting.put(out)?;
-        self.halted.put(out)?;
-        self.letters.put(out)?;
-        self.number.put(out)?;
+    fn encode(&self, out: &mut Vec<u8>) -> Result<(), NoMemory> {
+        self.registers.encode(out)?;
+        self.pc.encode(out)?;
+        self.on.encode(out)?;
+        self.before.encode(out)?;
+        self.mie.encode(out)?;
+        self.mtvec.encode(out)?;
+        self.mscratch.encode(out)?;
+        self.mepc.encode(out)?;
+        self.mcause.encode(out)?;
+        self.mtval.encode(out)?;
+        self.mcycle.encode(out)?;
+        self.minstret.encode(out)?;
+        self.waiting.encode(out)?;
+        self.halted.encode(out)?;
+        self.letters.encode(out)?;
+        self.number.encode(out)?;
         Ok(())
     }
 
     #[tactic(auto, unfolding(crate::specs::HartStates::hart_form))]
-    fn take(alloc: Global, reader: &mut ByteReader<'_>) -> Result<HartState, SnapFault> {
+    fn decode(alloc: Global, reader: &mut ByteReader<'_>) -> Result<HartState, SnapFault> {
         Ok(HartState {
-            registers: Spelled::take(alloc, reader)?,
-            pc: Spelled::take(alloc, reader)?,
-            on: Spelled::take(alloc, reader)?,
-            before: Spelled::take(alloc, reader)?,
-            mie: Spelled::take(alloc, reader)?,
-            mtvec: Spelled::take(alloc, reader)?,
-            mscratch: Spelled::take(alloc, reader)?,
-            mepc: Spelled::take(alloc, reader)?,
-            mcause: Spelled::take(alloc, reader)?,
-            mtval: Spelled::take(alloc, reader)?,
-            mcycle: Spelled::take(alloc, reader)?,
-            minstret: Spelled::take(alloc, reader)?,
-            waiting: Spelled::take(alloc, reader)?,
-            halted: Spelled::take(alloc, reader)?,
-            letters: Spelled::take(alloc, reader)?,
-            number: Spelled::take(alloc, reader)?,
+            registers: Spelled::decode(alloc, reader)?,
+            pc: Spelled::decode(alloc, reader)?,
+            on: Spelled::decode(alloc, reader)?,
+            before: Spelled::decode(alloc, reader)?,
+            mie: Spelled::decode(alloc, reader)?,
+            mtvec: Spelled::decode(alloc, reader)?,
+            mscratch: Spelled::decode(alloc, reader)?,
+            mepc: Spelled::decode(alloc, reader)?,
+            mcause: Spelled::decode(alloc, reader)?,
+            mtval: Spelled::decode(alloc, reader)?,
+            mcycle: Spelled::decode(alloc, reader)?,
+            minstret: Spelled::decode(alloc, reader)?,
+            waiting: Spelled::decode(alloc, reader)?,
+            halted: Spelled::decode(alloc, reader)?,
+            letters: Spelled::decode(alloc, reader)?,
+            number: Spelled::decode(alloc, reader)?,
         })
     }
 }

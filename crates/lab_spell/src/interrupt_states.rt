@@ -15,19 +15,19 @@ impl Spelled for ClintState {
     ghost lawful = { clint_lawful };
 
     #[tactic(auto, unfolding(crate::specs::InterruptStates::clint_form))]
-    fn put(&self, out: &mut Vec<u8>) -> Result<(), NoMemory> {
-        self.msip.put(out)?;
-        self.mtimecmp.put(out)?;
-        self.offset.put(out)?;
+    fn encode(&self, out: &mut Vec<u8>) -> Result<(), NoMemory> {
+        self.msip.encode(out)?;
+        self.mtimecmp.encode(out)?;
+        self.offset.encode(out)?;
         Ok(())
     }
 
     #[tactic(auto, unfolding(crate::specs::InterruptStates::clint_form))]
-    fn take(alloc: Global, reader: &mut ByteReader<'_>) -> Result<ClintState, SnapFault> {
+    fn decode(alloc: Global, reader: &mut ByteReader<'_>) -> Result<ClintState, SnapFault> {
         Ok(ClintState {
-            msip: Spelled::take(alloc, reader)?,
-            mtimecmp: Spelled::take(alloc, reader)?,
-            offset: Spelled::take(alloc, reader)?,
+            msip: Spelled::decode(alloc, reader)?,
+            mtimecmp: Spelled::decode(alloc, reader)?,
+            offset: Spelled::decode(alloc, reader)?,
         })
     }
 }
@@ -40,23 +40,23 @@ impl Spelled for PlicState {
     ghost lawful = { plic_lawful };
 
     #[tactic(auto, unfolding(crate::specs::InterruptStates::plic_form))]
-    fn put(&self, out: &mut Vec<u8>) -> Result<(), NoMemory> {
-        self.priorities.put(out)?;
-        self.pending.put(out)?;
-        self.shut.put(out)?;
-        self.enables.put(out)?;
-        self.thresholds.put(out)?;
+    fn encode(&self, out: &mut Vec<u8>) -> Result<(), NoMemory> {
+        self.priorities.encode(out)?;
+        self.pending.encode(out)?;
+        self.shut.encode(out)?;
+        self.enables.encode(out)?;
+        self.thresholds.encode(out)?;
         Ok(())
     }
 
     #[tactic(auto, unfolding(crate::specs::InterruptStates::plic_form))]
-    fn take(alloc: Global, reader: &mut ByteReader<'_>) -> Result<PlicState, SnapFault> {
+    fn decode(alloc: Global, reader: &mut ByteReader<'_>) -> Result<PlicState, SnapFault> {
         Ok(PlicState {
-            priorities: Spelled::take(alloc, reader)?,
-            pending: Spelled::take(alloc, reader)?,
-            shut: Spelled::take(alloc, reader)?,
-            enables: Spelled::take(alloc, reader)?,
-            thresholds: Spelled::take(alloc, reader)?,
+            priorities: Spelled::decode(alloc, reader)?,
+            pending: Spelled::decode(alloc, reader)?,
+            shut: Spelled::decode(alloc, reader)?,
+            enables: Spelled::decode(alloc, reader)?,
+            thresholds: Spelled::decode(alloc, reader)?,
         })
     }
 }

@@ -13,14 +13,14 @@ impl Spelled for Micros {
     ghost lawful = { micros_lawful };
 
     #[tactic(auto, unfolding(crate::specs::Keys::micros_form))]
-    fn put(&self, out: &mut Vec<u8>) -> Result<(), NoMemory> {
-        self.0.put(out)?;
+    fn encode(&self, out: &mut Vec<u8>) -> Result<(), NoMemory> {
+        self.0.encode(out)?;
         Ok(())
     }
 
     #[tactic(auto, unfolding(crate::specs::Keys::micros_form))]
-    fn take(alloc: Global, reader: &mut ByteReader<'_>) -> Result<Micros, SnapFault> {
-        Ok(Micros(Spelled::take(alloc, reader)?))
+    fn decode(alloc: Global, reader: &mut ByteReader<'_>) -> Result<Micros, SnapFault> {
+        Ok(Micros(Spelled::decode(alloc, reader)?))
     }
 }
 
@@ -32,14 +32,14 @@ impl Spelled for BoardNo {
     ghost lawful = { board_no_lawful };
 
     #[tactic(auto, unfolding(crate::specs::Keys::board_no_form))]
-    fn put(&self, out: &mut Vec<u8>) -> Result<(), NoMemory> {
-        self.0.put(out)?;
+    fn encode(&self, out: &mut Vec<u8>) -> Result<(), NoMemory> {
+        self.0.encode(out)?;
         Ok(())
     }
 
     #[tactic(auto, unfolding(crate::specs::Keys::board_no_form))]
-    fn take(alloc: Global, reader: &mut ByteReader<'_>) -> Result<BoardNo, SnapFault> {
-        Ok(BoardNo(Spelled::take(alloc, reader)?))
+    fn decode(alloc: Global, reader: &mut ByteReader<'_>) -> Result<BoardNo, SnapFault> {
+        Ok(BoardNo(Spelled::decode(alloc, reader)?))
     }
 }
 
@@ -51,14 +51,14 @@ impl Spelled for PostNo {
     ghost lawful = { post_no_lawful };
 
     #[tactic(auto, unfolding(crate::specs::Keys::post_no_form))]
-    fn put(&self, out: &mut Vec<u8>) -> Result<(), NoMemory> {
-        self.0.put(out)?;
+    fn encode(&self, out: &mut Vec<u8>) -> Result<(), NoMemory> {
+        self.0.encode(out)?;
         Ok(())
     }
 
     #[tactic(auto, unfolding(crate::specs::Keys::post_no_form))]
-    fn take(alloc: Global, reader: &mut ByteReader<'_>) -> Result<PostNo, SnapFault> {
-        Ok(PostNo(Spelled::take(alloc, reader)?))
+    fn decode(alloc: Global, reader: &mut ByteReader<'_>) -> Result<PostNo, SnapFault> {
+        Ok(PostNo(Spelled::decode(alloc, reader)?))
     }
 }
 
@@ -70,19 +70,19 @@ impl Spelled for Key {
     ghost lawful = { key_lawful };
 
     #[tactic(auto, unfolding(crate::specs::Keys::key_form))]
-    fn put(&self, out: &mut Vec<u8>) -> Result<(), NoMemory> {
-        self.at.put(out)?;
-        self.board.put(out)?;
-        self.number.put(out)?;
+    fn encode(&self, out: &mut Vec<u8>) -> Result<(), NoMemory> {
+        self.at.encode(out)?;
+        self.board.encode(out)?;
+        self.number.encode(out)?;
         Ok(())
     }
 
     #[tactic(auto, unfolding(crate::specs::Keys::key_form))]
-    fn take(alloc: Global, reader: &mut ByteReader<'_>) -> Result<Key, SnapFault> {
+    fn decode(alloc: Global, reader: &mut ByteReader<'_>) -> Result<Key, SnapFault> {
         Ok(Key {
-            at: Spelled::take(alloc, reader)?,
-            board: Spelled::take(alloc, reader)?,
-            number: Spelled::take(alloc, reader)?,
+            at: Spelled::decode(alloc, reader)?,
+            board: Spelled::decode(alloc, reader)?,
+            number: Spelled::decode(alloc, reader)?,
         })
     }
 }
@@ -95,17 +95,17 @@ impl Spelled for Member {
     ghost lawful = { member_lawful };
 
     #[tactic(auto, unfolding(crate::specs::Keys::member_form))]
-    fn put(&self, out: &mut Vec<u8>) -> Result<(), NoMemory> {
-        self.board.put(out)?;
-        self.dev.put(out)?;
+    fn encode(&self, out: &mut Vec<u8>) -> Result<(), NoMemory> {
+        self.board.encode(out)?;
+        self.dev.encode(out)?;
         Ok(())
     }
 
     #[tactic(auto, unfolding(crate::specs::Keys::member_form))]
-    fn take(alloc: Global, reader: &mut ByteReader<'_>) -> Result<Member, SnapFault> {
+    fn decode(alloc: Global, reader: &mut ByteReader<'_>) -> Result<Member, SnapFault> {
         Ok(Member {
-            board: Spelled::take(alloc, reader)?,
-            dev: Spelled::take(alloc, reader)?,
+            board: Spelled::decode(alloc, reader)?,
+            dev: Spelled::decode(alloc, reader)?,
         })
     }
 }

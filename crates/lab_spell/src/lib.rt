@@ -25,6 +25,6 @@ mod whole;
 
 pub use byte_reader::ByteReader;
 pub use fault::SnapFault;
-pub use lists::put_list;
+pub use lists::encode_list;
 pub use spelled::Spelled;
 pub use whole::{load, one_spelling, save};

@@ -12,29 +12,29 @@ use lab_num::{NoMemory, Rows};
 use std::alloc::Global;
 
 /// Writes the spellings of all items, one after another.
-pub(crate) fn put_each<T: Spelled>(items: &[T], out: &mut Vec<u8>) -> Result<(), NoMemory>
+pub(crate) fn encode_each<T: Spelled>(items: &[T], out: &mut Vec<u8>) -> Result<(), NoMemory>
     ensures spelled { OnOk result (Appends out.old.items out.new.items (flat_map T.form.spell items.now)) }
     ensures fits { OnOk result (AllByRecursion T.form.Fits items.now) }
 {
     for item in items {
-        item.put(out)?;
+        item.encode(out)?;
     }
     Ok(())
 }
 
 /// Writes the spelling of the list of these items at the end. Where memory runs out a part of it may
 /// stand there.
-pub fn put_list<T: Spelled>(items: &[T], out: &mut Vec<u8>) -> Result<(), NoMemory>
+pub fn encode_list<T: Spelled>(items: &[T], out: &mut Vec<u8>) -> Result<(), NoMemory>
     ensures spelled { OnOk result
         (Appends out.old.items out.new.items ((list T.form).spell items.now)) }
     ensures fits { OnOk result ((list T.form).Fits items.now) }
 {
-    (items.len() as u64).put(out)?;
-    put_each(items, out)
+    (items.len() as u64).encode(out)?;
+    encode_each(items, out)
 }
 
 /// Reads `count` items. Nothing is reserved for a count, which may be larger than the bytes.
-fn take_times<T: Spelled + Drop>(
+fn decode_times<T: Spelled + Drop>(
     alloc: Global,
     count: u64,
     reader: &mut ByteReader<'_>,
@@ -43,7 +43,7 @@ fn take_times<T: Spelled + Drop>(
 {
     let mut items = Vec::new(alloc);
     for _ in 0..count {
-        items.push(T::take(alloc, reader)?)?;
+        items.push(T::decode(alloc, reader)?)?;
     }
     Ok(Rows::of(items))
 }
@@ -53,13 +53,13 @@ impl<T: Spelled + Drop> Spelled for Rows<T> {
 
     ghost lawful = { list_lawful T.lawful };
 
-    fn put(&self, out: &mut Vec<u8>) -> Result<(), NoMemory> {
-        put_list(self.items(), out)
+    fn encode(&self, out: &mut Vec<u8>) -> Result<(), NoMemory> {
+        encode_list(self.items(), out)
     }
 
-    fn take(alloc: Global, reader: &mut ByteReader<'_>) -> Result<Rows<T>, SnapFault> {
-        let count = u64::take(alloc, reader)?;
-        take_times(alloc, count, reader)
+    fn decode(alloc: Global, reader: &mut ByteReader<'_>) -> Result<Rows<T>, SnapFault> {
+        let count = u64::decode(alloc, reader)?;
+        decode_times(alloc, count, reader)
     }
 }
 
@@ -68,14 +68,14 @@ impl<T: Spelled + Default + Copy, const N: usize> Spelled for [T; N] {
 
     ghost lawful = { times_lawful N T.lawful };
 
-    fn put(&self, out: &mut Vec<u8>) -> Result<(), NoMemory> {
-        put_each(self, out)
+    fn encode(&self, out: &mut Vec<u8>) -> Result<(), NoMemory> {
+        encode_each(self, out)
     }
 
-    fn take(alloc: Global, reader: &mut ByteReader<'_>) -> Result<[T; N], SnapFault> {
+    fn decode(alloc: Global, reader: &mut ByteReader<'_>) -> Result<[T; N], SnapFault> {
         let mut values = [T::default(); N];
         for i in 0..N {
-            values[i] = T::take(alloc, reader)?;
+            values[i] = T::decode(alloc, reader)?;
         }
         Ok(values)
     }

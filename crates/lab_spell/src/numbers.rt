@@ -14,12 +14,12 @@ impl Spelled for u8 {
 
     ghost lawful = { byte_lawful };
 
-    fn put(&self, out: &mut Vec<u8>) -> Result<(), NoMemory> {
+    fn encode(&self, out: &mut Vec<u8>) -> Result<(), NoMemory> {
         out.push(*self)?;
         Ok(())
     }
 
-    fn take(_alloc: Global, reader: &mut ByteReader<'_>) -> Result<u8, SnapFault> {
+    fn decode(_alloc: Global, reader: &mut ByteReader<'_>) -> Result<u8, SnapFault> {
         reader.byte()
     }
 }
@@ -29,12 +29,12 @@ impl Spelled for u16 {
 
     ghost lawful = { number_lawful 2 };
 
-    fn put(&self, out: &mut Vec<u8>) -> Result<(), NoMemory> {
+    fn encode(&self, out: &mut Vec<u8>) -> Result<(), NoMemory> {
         out.extend_from_slice(&self.to_le_bytes())?;
         Ok(())
     }
 
-    fn take(_alloc: Global, reader: &mut ByteReader<'_>) -> Result<u16, SnapFault> {
+    fn decode(_alloc: Global, reader: &mut ByteReader<'_>) -> Result<u16, SnapFault> {
         Ok(LittleEndian::read_u16(reader.front(2)?))
     }
 }
@@ -44,12 +44,12 @@ impl Spelled for u32 {
 
     ghost lawful = { number_lawful 4 };
 
-    fn put(&self, out: &mut Vec<u8>) -> Result<(), NoMemory> {
+    fn encode(&self, out: &mut Vec<u8>) -> Result<(), NoMemory> {
         out.extend_from_slice(&self.to_le_bytes())?;
         Ok(())
     }
 
-    fn take(_alloc: Global, reader: &mut ByteReader<'_>) -> Result<u32, SnapFault> {
+    fn decode(_alloc: Global, reader: &mut ByteReader<'_>) -> Result<u32, SnapFault> {
         Ok(LittleEndian::read_u32(reader.front(4)?))
     }
 }
@@ -59,12 +59,12 @@ impl Spelled for u64 {
 
     ghost lawful = { number_lawful 8 };
 
-    fn put(&self, out: &mut Vec<u8>) -> Result<(), NoMemory> {
+    fn encode(&self, out: &mut Vec<u8>) -> Result<(), NoMemory> {
         out.extend_from_slice(&self.to_le_bytes())?;
         Ok(())
     }
 
-    fn take(_alloc: Global, reader: &mut ByteReader<'_>) -> Result<u64, SnapFault> {
+    fn decode(_alloc: Global, reader: &mut ByteReader<'_>) -> Result<u64, SnapFault> {
         Ok(LittleEndian::read_u64(reader.front(8)?))
     }
 }
@@ -74,12 +74,12 @@ impl Spelled for u128 {
 
     ghost lawful = { number_lawful 16 };
 
-    fn put(&self, out: &mut Vec<u8>) -> Result<(), NoMemory> {
+    fn encode(&self, out: &mut Vec<u8>) -> Result<(), NoMemory> {
         out.extend_from_slice(&self.to_le_bytes())?;
         Ok(())
     }
 
-    fn take(_alloc: Global, reader: &mut ByteReader<'_>) -> Result<u128, SnapFault> {
+    fn decode(_alloc: Global, reader: &mut ByteReader<'_>) -> Result<u128, SnapFault> {
         Ok(LittleEndian::read_u128(reader.front(16)?))
     }
 }
@@ -89,12 +89,12 @@ impl Spelled for bool {
 
     ghost lawful = { flag_lawful };
 
-    fn put(&self, out: &mut Vec<u8>) -> Result<(), NoMemory> {
+    fn encode(&self, out: &mut Vec<u8>) -> Result<(), NoMemory> {
         out.push(u8::from(*self))?;
         Ok(())
     }
 
-    fn take(_alloc: Global, reader: &mut ByteReader<'_>) -> Result<bool, SnapFault> {
+    fn decode(_alloc: Global, reader: &mut ByteReader<'_>) -> Result<bool, SnapFault> {
         match reader.byte()? {
             0 => Ok(false),
             1 => Ok(true),

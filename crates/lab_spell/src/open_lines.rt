@@ -14,19 +14,19 @@ impl Spelled for OpenLine {
     ghost lawful = { open_line_lawful };
 
     #[tactic(auto, unfolding(crate::specs::OpenLines::open_line_form))]
-    fn put(&self, out: &mut Vec<u8>) -> Result<(), NoMemory> {
-        self.member.put(out)?;
-        self.at.put(out)?;
-        self.bytes.put(out)?;
+    fn encode(&self, out: &mut Vec<u8>) -> Result<(), NoMemory> {
+        self.member.encode(out)?;
+        self.at.encode(out)?;
+        self.bytes.encode(out)?;
         Ok(())
     }
 
     #[tactic(auto, unfolding(crate::specs::OpenLines::open_line_form))]
-    fn take(alloc: Global, reader: &mut ByteReader<'_>) -> Result<OpenLine, SnapFault> {
+    fn decode(alloc: Global, reader: &mut ByteReader<'_>) -> Result<OpenLine, SnapFault> {
         Ok(OpenLine {
-            member: Spelled::take(alloc, reader)?,
-            at: Spelled::take(alloc, reader)?,
-            bytes: Spelled::take(alloc, reader)?,
+            member: Spelled::decode(alloc, reader)?,
+            at: Spelled::decode(alloc, reader)?,
+            bytes: Spelled::decode(alloc, reader)?,
         })
     }
 }

@@ -13,21 +13,21 @@ impl<T: Spelled> Spelled for Option<T> {
 
     ghost lawful = { option_lawful T.lawful };
 
-    fn put(&self, out: &mut Vec<u8>) -> Result<(), NoMemory> {
+    fn encode(&self, out: &mut Vec<u8>) -> Result<(), NoMemory> {
         match self {
             None => out.push(0)?,
             Some(value) => {
                 out.push(1)?;
-                value.put(out)?;
+                value.encode(out)?;
             }
         }
         Ok(())
     }
 
-    fn take(alloc: Global, reader: &mut ByteReader<'_>) -> Result<Option<T>, SnapFault> {
+    fn decode(alloc: Global, reader: &mut ByteReader<'_>) -> Result<Option<T>, SnapFault> {
         match reader.byte()? {
             0 => Ok(None),
-            1 => Ok(Some(T::take(alloc, reader)?)),
+            1 => Ok(Some(T::decode(alloc, reader)?)),
             _ => Err(SnapFault::Bad),
         }
     }

@@ -15,33 +15,33 @@ impl Spelled for BoardPlan {
     ghost lawful = { plan_lawful };
 
     #[tactic(auto, unfolding(crate::specs::Plan::plan_form))]
-    fn put(&self, out: &mut Vec<u8>) -> Result<(), NoMemory> {
-        self.names.put(out)?;
-        self.regions.put(out)?;
-        self.memories.put(out)?;
-        self.kinds.put(out)?;
-        self.frequency.put(out)?;
-        self.plic.put(out)?;
-        self.wires.put(out)?;
-        self.speed.put(out)?;
-        self.cpus.put(out)?;
-        self.letters.put(out)?;
+    fn encode(&self, out: &mut Vec<u8>) -> Result<(), NoMemory> {
+        self.names.encode(out)?;
+        self.regions.encode(out)?;
+        self.memories.encode(out)?;
+        self.kinds.encode(out)?;
+        self.frequency.encode(out)?;
+        self.plic.encode(out)?;
+        self.wires.encode(out)?;
+        self.speed.encode(out)?;
+        self.cpus.encode(out)?;
+        self.letters.encode(out)?;
         Ok(())
     }
 
     #[tactic(auto, unfolding(crate::specs::Plan::plan_form))]
-    fn take(alloc: Global, reader: &mut ByteReader<'_>) -> Result<BoardPlan, SnapFault> {
+    fn decode(alloc: Global, reader: &mut ByteReader<'_>) -> Result<BoardPlan, SnapFault> {
         Ok(BoardPlan {
-            names: Spelled::take(alloc, reader)?,
-            regions: Spelled::take(alloc, reader)?,
-            memories: Spelled::take(alloc, reader)?,
-            kinds: Spelled::take(alloc, reader)?,
-            frequency: Spelled::take(alloc, reader)?,
-            plic: Spelled::take(alloc, reader)?,
-            wires: Spelled::take(alloc, reader)?,
-            speed: Spelled::take(alloc, reader)?,
-            cpus: Spelled::take(alloc, reader)?,
-            letters: Spelled::take(alloc, reader)?,
+            names: Spelled::decode(alloc, reader)?,
+            regions: Spelled::decode(alloc, reader)?,
+            memories: Spelled::decode(alloc, reader)?,
+            kinds: Spelled::decode(alloc, reader)?,
+            frequency: Spelled::decode(alloc, reader)?,
+            plic: Spelled::decode(alloc, reader)?,
+            wires: Spelled::decode(alloc, reader)?,
+            speed: Spelled::decode(alloc, reader)?,
+            cpus: Spelled::decode(alloc, reader)?,
+            letters: Spelled::decode(alloc, reader)?,
         })
     }
 }

@@ -15,13 +15,13 @@ impl Spelled for Kind {
     ghost lawful = { kind_lawful };
 
     #[tactic(auto, unfolding(crate::specs::PlanParts::kind_form))]
-    fn put(&self, out: &mut Vec<u8>) -> Result<(), NoMemory> {
+    fn encode(&self, out: &mut Vec<u8>) -> Result<(), NoMemory> {
         out.push(self.number())?;
         Ok(())
     }
 
     #[tactic(auto, unfolding(crate::specs::PlanParts::kind_form))]
-    fn take(_alloc: Global, reader: &mut ByteReader<'_>) -> Result<Kind, SnapFault> {
+    fn decode(_alloc: Global, reader: &mut ByteReader<'_>) -> Result<Kind, SnapFault> {
         match Kind::numbered(reader.byte()?) {
             Some(kind) => Ok(kind),
             None => Err(SnapFault::Bad),
@@ -37,29 +37,29 @@ impl Spelled for RegionKind {
     ghost lawful = { region_kind_lawful };
 
     #[tactic(auto, unfolding(crate::specs::PlanParts::region_kind_form))]
-    fn put(&self, out: &mut Vec<u8>) -> Result<(), NoMemory> {
+    fn encode(&self, out: &mut Vec<u8>) -> Result<(), NoMemory> {
         match self {
             RegionKind::Ram(part) => {
                 out.push(0)?;
-                part.put(out)?;
+                part.encode(out)?;
             }
             RegionKind::Clint => out.push(1)?,
             RegionKind::Plic => out.push(2)?,
             RegionKind::Dev(dev) => {
                 out.push(3)?;
-                dev.put(out)?;
+                dev.encode(out)?;
             }
         }
         Ok(())
     }
 
     #[tactic(auto, unfolding(crate::specs::PlanParts::region_kind_form))]
-    fn take(alloc: Global, reader: &mut ByteReader<'_>) -> Result<RegionKind, SnapFault> {
+    fn decode(alloc: Global, reader: &mut ByteReader<'_>) -> Result<RegionKind, SnapFault> {
         match reader.byte()? {
-            0 => Ok(RegionKind::Ram(Spelled::take(alloc, reader)?)),
+            0 => Ok(RegionKind::Ram(Spelled::decode(alloc, reader)?)),
             1 => Ok(RegionKind::Clint),
             2 => Ok(RegionKind::Plic),
-            3 => Ok(RegionKind::Dev(Spelled::take(alloc, reader)?)),
+            3 => Ok(RegionKind::Dev(Spelled::decode(alloc, reader)?)),
             _ => Err(SnapFault::Bad),
         }
     }
@@ -73,21 +73,21 @@ impl Spelled for Region {
     ghost lawful = { region_lawful };
 
     #[tactic(auto, unfolding(crate::specs::PlanParts::region_form))]
-    fn put(&self, out: &mut Vec<u8>) -> Result<(), NoMemory> {
-        self.base.put(out)?;
-        self.size.put(out)?;
-        self.kind.put(out)?;
-        self.step.put(out)?;
+    fn encode(&self, out: &mut Vec<u8>) -> Result<(), NoMemory> {
+        self.base.encode(out)?;
+        self.size.encode(out)?;
+        self.kind.encode(out)?;
+        self.step.encode(out)?;
         Ok(())
     }
 
     #[tactic(auto, unfolding(crate::specs::PlanParts::region_form))]
-    fn take(alloc: Global, reader: &mut ByteReader<'_>) -> Result<Region, SnapFault> {
+    fn decode(alloc: Global, reader: &mut ByteReader<'_>) -> Result<Region, SnapFault> {
         Ok(Region {
-            base: Spelled::take(alloc, reader)?,
-            size: Spelled::take(alloc, reader)?,
-            kind: Spelled::take(alloc, reader)?,
-            step: Spelled::take(alloc, reader)?,
+            base: Spelled::decode(alloc, reader)?,
+            size: Spelled::decode(alloc, reader)?,
+            kind: Spelled::decode(alloc, reader)?,
+            step: Spelled::decode(alloc, reader)?,
         })
     }
 }
@@ -100,22 +100,22 @@ impl Spelled for NamedWhat {
     ghost lawful = { named_what_lawful };
 
     #[tactic(auto, unfolding(crate::specs::PlanParts::named_what_form))]
-    fn put(&self, out: &mut Vec<u8>) -> Result<(), NoMemory> {
+    fn encode(&self, out: &mut Vec<u8>) -> Result<(), NoMemory> {
         match self {
             NamedWhat::Cpu => out.push(0)?,
             NamedWhat::Part(kind) => {
                 out.push(1)?;
-                kind.put(out)?;
+                kind.encode(out)?;
             }
         }
         Ok(())
     }
 
     #[tactic(auto, unfolding(crate::specs::PlanParts::named_what_form))]
-    fn take(alloc: Global, reader: &mut ByteReader<'_>) -> Result<NamedWhat, SnapFault> {
+    fn decode(alloc: Global, reader: &mut ByteReader<'_>) -> Result<NamedWhat, SnapFault> {
         match reader.byte()? {
             0 => Ok(NamedWhat::Cpu),
-            1 => Ok(NamedWhat::Part(Spelled::take(alloc, reader)?)),
+            1 => Ok(NamedWhat::Part(Spelled::decode(alloc, reader)?)),
             _ => Err(SnapFault::Bad),
         }
     }
@@ -129,17 +129,17 @@ impl Spelled for Named {
     ghost lawful = { named_lawful };
 
     #[tactic(auto, unfolding(crate::specs::PlanParts::named_form))]
-    fn put(&self, out: &mut Vec<u8>) -> Result<(), NoMemory> {
-        self.name.put(out)?;
-        self.what.put(out)?;
+    fn encode(&self, out: &mut Vec<u8>) -> Result<(), NoMemory> {
+        self.name.encode(out)?;
+        self.what.encode(out)?;
         Ok(())
     }
 
     #[tactic(auto, unfolding(crate::specs::PlanParts::named_form))]
-    fn take(alloc: Global, reader: &mut ByteReader<'_>) -> Result<Named, SnapFault> {
+    fn decode(alloc: Global, reader: &mut ByteReader<'_>) -> Result<Named, SnapFault> {
         Ok(Named {
-            name: Spelled::take(alloc, reader)?,
-            what: Spelled::take(alloc, reader)?,
+            name: Spelled::decode(alloc, reader)?,
+            what: Spelled::decode(alloc, reader)?,
         })
     }
 }
@@ -152,17 +152,17 @@ impl Spelled for PlicSize {
     ghost lawful = { plic_size_lawful };
 
     #[tactic(auto, unfolding(crate::specs::PlanParts::plic_size_form))]
-    fn put(&self, out: &mut Vec<u8>) -> Result<(), NoMemory> {
-        self.sources.put(out)?;
-        self.contexts.put(out)?;
+    fn encode(&self, out: &mut Vec<u8>) -> Result<(), NoMemory> {
+        self.sources.encode(out)?;
+        self.contexts.encode(out)?;
         Ok(())
     }
 
     #[tactic(auto, unfolding(crate::specs::PlanParts::plic_size_form))]
-    fn take(alloc: Global, reader: &mut ByteReader<'_>) -> Result<PlicSize, SnapFault> {
+    fn decode(alloc: Global, reader: &mut ByteReader<'_>) -> Result<PlicSize, SnapFault> {
         Ok(PlicSize {
-            sources: Spelled::take(alloc, reader)?,
-            contexts: Spelled::take(alloc, reader)?,
+            sources: Spelled::decode(alloc, reader)?,
+            contexts: Spelled::decode(alloc, reader)?,
         })
     }
 }
@@ -175,29 +175,29 @@ impl Spelled for WireFrom {
     ghost lawful = { wire_from_lawful };
 
     #[tactic(auto, unfolding(crate::specs::PlanParts::wire_from_form))]
-    fn put(&self, out: &mut Vec<u8>) -> Result<(), NoMemory> {
+    fn encode(&self, out: &mut Vec<u8>) -> Result<(), NoMemory> {
         match self {
             WireFrom::Soft => out.push(0)?,
             WireFrom::Timer => out.push(1)?,
             WireFrom::Context(context) => {
                 out.push(2)?;
-                context.put(out)?;
+                context.encode(out)?;
             }
             WireFrom::Dev(dev) => {
                 out.push(3)?;
-                dev.put(out)?;
+                dev.encode(out)?;
             }
         }
         Ok(())
     }
 
     #[tactic(auto, unfolding(crate::specs::PlanParts::wire_from_form))]
-    fn take(alloc: Global, reader: &mut ByteReader<'_>) -> Result<WireFrom, SnapFault> {
+    fn decode(alloc: Global, reader: &mut ByteReader<'_>) -> Result<WireFrom, SnapFault> {
         match reader.byte()? {
             0 => Ok(WireFrom::Soft),
             1 => Ok(WireFrom::Timer),
-            2 => Ok(WireFrom::Context(Spelled::take(alloc, reader)?)),
-            3 => Ok(WireFrom::Dev(Spelled::take(alloc, reader)?)),
+            2 => Ok(WireFrom::Context(Spelled::decode(alloc, reader)?)),
+            3 => Ok(WireFrom::Dev(Spelled::decode(alloc, reader)?)),
             _ => Err(SnapFault::Bad),
         }
     }
@@ -211,29 +211,29 @@ impl Spelled for WirePin {
     ghost lawful = { wire_pin_lawful };
 
     #[tactic(auto, unfolding(crate::specs::PlanParts::wire_pin_form))]
-    fn put(&self, out: &mut Vec<u8>) -> Result<(), NoMemory> {
+    fn encode(&self, out: &mut Vec<u8>) -> Result<(), NoMemory> {
         match self {
             WirePin::Cpu { hart, pin } => {
                 out.push(0)?;
-                hart.put(out)?;
-                pin.put(out)?;
+                hart.encode(out)?;
+                pin.encode(out)?;
             }
             WirePin::Source(source) => {
                 out.push(1)?;
-                source.put(out)?;
+                source.encode(out)?;
             }
         }
         Ok(())
     }
 
     #[tactic(auto, unfolding(crate::specs::PlanParts::wire_pin_form))]
-    fn take(alloc: Global, reader: &mut ByteReader<'_>) -> Result<WirePin, SnapFault> {
+    fn decode(alloc: Global, reader: &mut ByteReader<'_>) -> Result<WirePin, SnapFault> {
         match reader.byte()? {
             0 => Ok(WirePin::Cpu {
-                hart: Spelled::take(alloc, reader)?,
-                pin: Spelled::take(alloc, reader)?,
+                hart: Spelled::decode(alloc, reader)?,
+                pin: Spelled::decode(alloc, reader)?,
             }),
-            1 => Ok(WirePin::Source(Spelled::take(alloc, reader)?)),
+            1 => Ok(WirePin::Source(Spelled::decode(alloc, reader)?)),
             _ => Err(SnapFault::Bad),
         }
     }
@@ -247,17 +247,17 @@ impl Spelled for Wire {
     ghost lawful = { wire_lawful };
 
     #[tactic(auto, unfolding(crate::specs::PlanParts::wire_form))]
-    fn put(&self, out: &mut Vec<u8>) -> Result<(), NoMemory> {
-        self.from.put(out)?;
-        self.pin.put(out)?;
+    fn encode(&self, out: &mut Vec<u8>) -> Result<(), NoMemory> {
+        self.from.encode(out)?;
+        self.pin.encode(out)?;
         Ok(())
     }
 
     #[tactic(auto, unfolding(crate::specs::PlanParts::wire_form))]
-    fn take(alloc: Global, reader: &mut ByteReader<'_>) -> Result<Wire, SnapFault> {
+    fn decode(alloc: Global, reader: &mut ByteReader<'_>) -> Result<Wire, SnapFault> {
         Ok(Wire {
-            from: Spelled::take(alloc, reader)?,
-            pin: Spelled::take(alloc, reader)?,
+            from: Spelled::decode(alloc, reader)?,
+            pin: Spelled::decode(alloc, reader)?,
         })
     }
 }

@@ -14,22 +14,22 @@ impl Spelled for Finish {
     ghost lawful = { finish_lawful };
 
     #[tactic(auto, unfolding(crate::specs::Posts::finish_form))]
-    fn put(&self, out: &mut Vec<u8>) -> Result<(), NoMemory> {
+    fn encode(&self, out: &mut Vec<u8>) -> Result<(), NoMemory> {
         match self {
             Finish::Pass => out.push(0)?,
             Finish::Fail(code) => {
                 out.push(1)?;
-                code.put(out)?;
+                code.encode(out)?;
             }
         }
         Ok(())
     }
 
     #[tactic(auto, unfolding(crate::specs::Posts::finish_form))]
-    fn take(alloc: Global, reader: &mut ByteReader<'_>) -> Result<Finish, SnapFault> {
+    fn decode(alloc: Global, reader: &mut ByteReader<'_>) -> Result<Finish, SnapFault> {
         match reader.byte()? {
             0 => Ok(Finish::Pass),
-            1 => Ok(Finish::Fail(Spelled::take(alloc, reader)?)),
+            1 => Ok(Finish::Fail(Spelled::decode(alloc, reader)?)),
             _ => Err(SnapFault::Bad),
         }
     }
@@ -43,30 +43,30 @@ impl Spelled for Payload {
     ghost lawful = { payload_lawful };
 
     #[tactic(auto, unfolding(crate::specs::Posts::payload_form))]
-    fn put(&self, out: &mut Vec<u8>) -> Result<(), NoMemory> {
+    fn encode(&self, out: &mut Vec<u8>) -> Result<(), NoMemory> {
         match self {
             Payload::Byte(byte) => {
                 out.push(0)?;
-                byte.put(out)?;
+                byte.encode(out)?;
             }
             Payload::Frame(frame) => {
                 out.push(1)?;
-                frame.put(out)?;
+                frame.encode(out)?;
             }
             Payload::Finish(finish) => {
                 out.push(2)?;
-                finish.put(out)?;
+                finish.encode(out)?;
             }
         }
         Ok(())
     }
 
     #[tactic(auto, unfolding(crate::specs::Posts::payload_form))]
-    fn take(alloc: Global, reader: &mut ByteReader<'_>) -> Result<Payload, SnapFault> {
+    fn decode(alloc: Global, reader: &mut ByteReader<'_>) -> Result<Payload, SnapFault> {
         match reader.byte()? {
-            0 => Ok(Payload::Byte(Spelled::take(alloc, reader)?)),
-            1 => Ok(Payload::Frame(Spelled::take(alloc, reader)?)),
-            2 => Ok(Payload::Finish(Spelled::take(alloc, reader)?)),
+            0 => Ok(Payload::Byte(Spelled::decode(alloc, reader)?)),
+            1 => Ok(Payload::Frame(Spelled::decode(alloc, reader)?)),
+            2 => Ok(Payload::Finish(Spelled::decode(alloc, reader)?)),
             _ => Err(SnapFault::Bad),
         }
     }
@@ -80,19 +80,19 @@ impl Spelled for Post {
     ghost lawful = { post_lawful };
 
     #[tactic(auto, unfolding(crate::specs::Posts::post_form))]
-    fn put(&self, out: &mut Vec<u8>) -> Result<(), NoMemory> {
-        self.key.put(out)?;
-        self.from.put(out)?;
-        self.payload.put(out)?;
+    fn encode(&self, out: &mut Vec<u8>) -> Result<(), NoMemory> {
+        self.key.encode(out)?;
+        self.from.encode(out)?;
+        self.payload.encode(out)?;
         Ok(())
     }
 
     #[tactic(auto, unfolding(crate::specs::Posts::post_form))]
-    fn take(alloc: Global, reader: &mut ByteReader<'_>) -> Result<Post, SnapFault> {
+    fn decode(alloc: Global, reader: &mut ByteReader<'_>) -> Result<Post, SnapFault> {
         Ok(Post {
-            key: Spelled::take(alloc, reader)?,
-            from: Spelled::take(alloc, reader)?,
-            payload: Spelled::take(alloc, reader)?,
+            key: Spelled::decode(alloc, reader)?,
+            from: Spelled::decode(alloc, reader)?,
+            payload: Spelled::decode(alloc, reader)?,
         })
     }
 }

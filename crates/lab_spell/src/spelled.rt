@@ -14,12 +14,12 @@ pub trait Spelled: Sized {
     ghost form: { Form Self };
 
     /// Writes the spelling at the end. Where memory runs out a part of it may stand there.
-    fn put(&self, out: &mut Vec<u8>) -> Result<(), NoMemory>
+    fn encode(&self, out: &mut Vec<u8>) -> Result<(), NoMemory>
         ensures spelled { OnOk result (Appends out.old.items out.new.items (form.spell self.now)) }
         ensures fits { OnOk result (form.Fits self.now) };
 
     /// Reads the value that is spelled at the front. `Bad` comes where none is.
-    fn take(alloc: Global, reader: &mut ByteReader<'_>) -> Result<Self, SnapFault>
+    fn decode(alloc: Global, reader: &mut ByteReader<'_>) -> Result<Self, SnapFault>
         ensures { Reads (form.parse reader.old) reader.new result };
 
     /// What is read is spelled so, and what is spelled so is read.

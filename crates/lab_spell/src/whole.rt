@@ -14,7 +14,7 @@ pub fn save<T: Spelled>(alloc: Global, value: &T) -> Result<Vec<u8>, NoMemory>
     ensures fits { OnOk result (T.form.Fits value.now) }
 {
     let mut out = Vec::new(alloc);
-    value.put(&mut out)?;
+    value.encode(&mut out)?;
     Ok(out)
 }
 
@@ -23,7 +23,7 @@ fn read<T: Spelled + Drop>(alloc: Global, bytes: &[u8]) -> Result<T, SnapFault>
     ensures { Gives (value_of T.form bytes.now) result }
 {
     let mut reader = ByteReader::new(bytes);
-    let value = T::take(alloc, &mut reader)?;
+    let value = T::decode(alloc, &mut reader)?;
     if !reader.is_empty() {
         return Err(SnapFault::Bad);
     }

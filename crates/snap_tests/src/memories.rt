@@ -1,6 +1,6 @@
 //! Memories and their pages.
 use crate::bytes::{joined, part};
-use lab_snap::{put_memory, take_memory};
+use lab_snap::{decode_memory, encode_memory};
 use lab_spell::{ByteReader, SnapFault};
 use page_ram::PageRam;
 use std::alloc::Global;
@@ -9,7 +9,7 @@ use std::test::Fail;
 /// Whether bytes do not begin with a memory of three pages.
 fn is_no_memory(alloc: Global, bytes: &[u8]) -> bool {
     matches!(
-        take_memory(alloc, 3, &mut ByteReader::new(bytes)),
+        decode_memory(alloc, 3, &mut ByteReader::new(bytes)),
         Err(SnapFault::Bad)
     )
 }
@@ -37,10 +37,10 @@ fn a_memory_is_its_pages_that_are_not_zero(rt: HostRuntime) -> Result<(), Fail> 
     )?;
     let whole = part(&bytes, 0, 8208);
     let mut saved = Vec::new(alloc);
-    put_memory(&memory, 3, &mut saved)?;
+    encode_memory(&memory, 3, &mut saved)?;
     assert!(rt; saved.as_slice() == whole);
     let mut reader = ByteReader::new(&bytes);
-    let taken = take_memory(alloc, 3, &mut reader)?;
+    let taken = decode_memory(alloc, 3, &mut reader)?;
     assert!(rt; taken.load(0, 4) == 5 && taken.load(4096, 4) == 0 && taken.load(8192, 4) == 6);
     let after = reader.byte()?;
     assert!(rt; after == 7 && reader.is_empty());
