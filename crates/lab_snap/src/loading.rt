@@ -40,7 +40,7 @@ fn read_valid(alloc: Global, bytes: &[u8]) -> Result<SavedLab, SnapFault>
 }
 
 /// Nothing waits in a laboratory in which no time has passed. Nothing is changed and told when this runs.
-fn has_nothing_pending<D: Device>(lab: &Lab<D>)
+fn nothing_pending_law<D: Device>(lab: &Lab<D>)
     requires unspent { lab.now.spent ≡ false }
     requires new { lab.now.lab.now ≡ 0 }
     ensures { lab.now.lab.pending ≡ [] }
@@ -65,7 +65,7 @@ fn build<D: Device>(
     ensures lines { IfOk result (λ lines. lines.items ≡ saved.lines) }
     ensures unspent { lab.new.spent ≡ false }
 {
-    has_nothing_pending(lab);
+    nothing_pending_law(lab);
     let SavedLab {
         time,
         quantum,

@@ -52,7 +52,7 @@ impl SavedMachine {
 
     /// At every moment a board can be made by the plan, and the memories have its sizes. This function
     /// does nothing when it runs: a proof that needs the fact calls it.
-    pub(crate) fn is_one_that_can_be(&self)
+    pub(crate) fn validity_law(&self)
         ensures { IsMachine self.now }
     {
         let _plan = &self.plan;

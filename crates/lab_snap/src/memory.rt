@@ -32,7 +32,7 @@ use page_ram::{PAGE_SIZE, PageRam};
 use std::alloc::Global;
 
 /// Each item is a byte: a proof that needs this calls it.
-fn are_bytes(bytes: &[u8])
+fn bytes_law(bytes: &[u8])
     ensures { IsBytes bytes.now }
 {}
 
@@ -59,7 +59,7 @@ fn encode_used(memory: &PageRam, number: u32, out: &mut Vec<u8>) -> Result<(), N
     ensures bytes { OnOk result (AllByRecursion (λ b. b < 256) (page_of memory.now number)) }
 {
     if let Some(page) = memory.used_page(number) {
-        are_bytes(page);
+        bytes_law(page);
         number.encode(out)?;
         out.extend_from_slice(page)?;
     }

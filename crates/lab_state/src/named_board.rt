@@ -228,16 +228,16 @@ impl<D: Device> NamedBoard<D> {
     }
 
     /// A board is one that there can be. Nothing is changed and told when this runs.
-    pub fn is_one_that_can_be(&self)
+    pub fn validity_law(&self)
         ensures { ForSome self.now.view IsBoard }
     {
         if let Some(board) = &self.board {
-            board.is_one_that_can_be();
+            board.validity_law();
         }
     }
 
     /// A board has the devices of its plan. Nothing is changed and told when this runs.
-    pub fn has_its_devices(&self)
+    pub fn devices_law(&self)
         ensures { ForSome self.now.view HasDevices }
     {
         if let Some(board) = &self.board {

@@ -17,7 +17,7 @@ ghost use Rattle.lab_state.specs.Pending.{ArePending};
 ghost use Rattle.lab_state.specs.Round as round_spec;
 ghost use Rattle.lab_state.specs.Round.{stepped, posts_made, entries_made, slot_items};
 
-use crate::boards::have_their_devices;
+use crate::boards::devices_laws;
 use crate::boundary::{hand_over_due, pause_of, push_pause};
 use crate::faults::LabFault;
 use crate::hub_list::HubList;
@@ -340,7 +340,7 @@ fn play<R: Threads + Wait + Copy + Send + Sync, D: Device + Send, G: Gate>(
     stretches_number();
     stretches_tell_of_devices();
     listing_laws::<Post>();
-    have_their_devices(boards);
+    devices_laws(boards);
     let Slots { posts, mut items } = take_slots(crew, alloc, boards, source, q)?;
     let at = source.elapsed();
     let notes = hand_over_due(alloc, boards, hubs, pending, &posts, at)?;

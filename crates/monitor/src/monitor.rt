@@ -117,7 +117,7 @@ impl<D: Device> Monitor<D> {
         ensures unspent { self.now.ended ≡ false → self.now.spent ≡ false }
         ensures valid { self.now.ended ≡ false → IsValid self.now.state.lab self.now.state.lines }
     {
-        self.may_go_on();
+        self.validity_law();
         &self.lab
     }
 
@@ -136,12 +136,12 @@ impl<D: Device> Monitor<D> {
     }
 
     /// Of a monitor whose script has not ended the laboratory and the open lines can go on. This changes nothing.
-    fn may_go_on(&self)
+    fn validity_law(&self)
         ensures unspent { self.now.ended ≡ false → self.now.spent ≡ false }
         ensures valid { self.now.ended ≡ false → IsValid self.now.state.lab self.now.state.lines }
     {
         if !self.ended {
-            self.lab.is_one_that_can_be();
+            self.lab.validity_law();
             let _lines = self.lines.unended();
         }
     }
@@ -155,7 +155,7 @@ impl<D: Device> Monitor<D> {
         ensures unspent { self.ended ≡ false → self.spent ≡ false }
         ensures valid { self.ended ≡ false → IsValid self.state.lab self.state.lines }
     {
-        self.may_go_on();
+        self.validity_law();
         let bodies = Bodies {
             alloc: self.alloc,
             flow: self.flow,

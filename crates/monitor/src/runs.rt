@@ -239,7 +239,7 @@ impl<D: Device + Send> Monitor<D> {
             out.old out.new }
     {
         runs_keep_names();
-        self.lab.may_run(length)?;
+        self.lab.admit_run(length)?;
         let played = self.length_of(length);
         match self.play(rt, out, played, gate) {
             Ok(()) => Ok(()),

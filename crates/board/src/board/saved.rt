@@ -6,7 +6,7 @@ ghost use Rattle.board.specs.Space.{memory_at};
 ghost use Rattle.board.specs.Valid.{IsBoard, IsStateFor};
 
 use super::Board;
-use crate::harts::{bring_all_to, harts_are_sound, states_of};
+use crate::harts::{bring_all_to, sound_harts_law, states_of};
 use crate::state::BoardState;
 use dev_core::Device;
 use lab_num::{NoMemory, Rows};
@@ -87,12 +87,12 @@ impl<D: Device> Board<D> {
 
     /// At every moment a board is one that there can be. Nothing is changed and told when this
     /// runs: a proof that needs the fact calls it.
-    pub fn is_one_that_can_be(&self)
+    pub fn validity_law(&self)
         ensures { IsBoard self.now.view }
     {
         let _plan = self.bus.space.plan();
-        harts_are_sound(&self.harts);
+        sound_harts_law(&self.harts);
         let _controller = self.bus.space.controller_state();
-        self.bus.space.shown_ones_may_be();
+        self.bus.space.shown_devices_law();
     }
 }

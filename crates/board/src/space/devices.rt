@@ -28,7 +28,7 @@ fn register_at(step: u8, at: u32) -> Option<u32>
 }
 
 /// Devices are shown only where they may be.
-fn shown_ones_may_be<D: Device>(devices: &[BoardDevice<D>])
+fn shown_devices_law<D: Device>(devices: &[BoardDevice<D>])
     ensures { All (λ f. MayBeShown (kind_of f.state) f.shown) devices.now }
 {
     for device in devices {
@@ -110,10 +110,10 @@ impl<D: Device> Space<D> {
     }
 
     /// At every moment a device that is shown is a UART or a CAN controller.
-    pub fn shown_ones_may_be(&self)
+    pub fn shown_devices_law(&self)
         ensures { All (λ f. MayBeShown (kind_of f.state) f.shown) self.now.devices }
     {
-        shown_ones_may_be(&self.devices);
+        shown_devices_law(&self.devices);
     }
 
     /// The states of the devices.

@@ -5,7 +5,7 @@ use Rattle.lab_snap.proofs.memory.encode_used.Goals as goal
 
 pub returns-in_ok-extend_from_slice-clause-bytes : goal.returns-in_ok-extend_from_slice-clause-bytes
 returns-in_ok-extend_from_slice-clause-bytes c =
-    rw (← c.in-Some.ensures.page) (all_bytes _ c.are_bytes.ensures)
+    rw (← c.in-Some.ensures.page) (all_bytes _ c.bytes_law.ensures)
 
 pub returns-in_default-clause-bytes : goal.returns-in_default-clause-bytes
 returns-in_default-clause-bytes c =

@@ -4,7 +4,7 @@ use Rattle.board.specs.Inner.Holds.{Holds, state_of}
 use Rattle.board.specs.Valid.{IsBoard}
 use Rattle.board.specs.View.{State}
 use Rattle.board.proofs.StateLemmas.{is_board}
-use Rattle.board.proofs.board.Board.is_one_that_can_be.Goals as goal
+use Rattle.board.proofs.board.Board.validity_law.Goals as goal
 
 pub returns : goal.returns
 returns g c =
@@ -13,6 +13,6 @@ returns g c =
     subst (λ (s : State). IsBoard s.view) c.self.view_is
     (subst (λ (b : Inside g.row.D.Denot). IsBoard (state_of b.harts.items b.next b.watch b.bus).view)
     c.self-inside.view_is
-    (is_board _ held c.plan-plan.ensures.fit (rw c.deref.ensures.value at c.harts_are_sound.ensures)
+    (is_board _ held c.plan-plan.ensures.fit (rw c.deref.ensures.value at c.sound_harts_law.ensures)
     (rw c.controller_state-controller.ensures.value at c.controller_state-controller.ensures.valid)
-    c.shown_ones_may_be.ensures))
+    c.shown_devices_law.ensures))

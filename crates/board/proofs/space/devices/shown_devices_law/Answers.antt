@@ -4,7 +4,7 @@ use Rattle.dev_core.specs.declared.state.DevState.TheVariants.{Finisher}
 use Rattle.dev_core.specs.Device.{kind_of}
 use Rattle.board.specs.Inner.Parts.{MayBeShown}
 use Rattle.board.specs.New.{hidden}
-use Rattle.board.proofs.space.devices.shown_ones_may_be.Goals as goal
+use Rattle.board.proofs.space.devices.shown_devices_law.Goals as goal
 
 pub returns : goal.returns
 returns g c =

@@ -1,5 +1,5 @@
 use Rattle.lab_snap.proofs.BoardLemmas.{none_before}
-use Rattle.lab_snap.proofs.loading.has_nothing_pending.Goals as goal
+use Rattle.lab_snap.proofs.loading.nothing_pending_law.Goals as goal
 
 pub returns : goal.returns
 returns g c =

@@ -2,7 +2,7 @@ use Rattle.std.proofs.Common.{arith}
 use Rattle.std.proofs.lemmas.List.Elements.{All-from_get_or}
 use Rattle.rv_hart.specs.Core.{initial}
 use Rattle.rv_hart.specs.HartState.{state_of, IsHartState}
-use Rattle.board.proofs.harts.harts_are_sound.Goals as goal
+use Rattle.board.proofs.harts.sound_harts_law.Goals as goal
 
 pub returns : goal.returns
 returns c =

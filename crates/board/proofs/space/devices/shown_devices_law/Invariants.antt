@@ -5,7 +5,7 @@ use Rattle.dev_core.specs.Device.{kind_of}
 use Rattle.board.specs.Inner.Parts.{MayBeShown}
 use Rattle.board.specs.New.{hidden}
 use Rattle.board.specs.Space.{BoardDevice}
-use Rattle.board.proofs.space.devices.shown_ones_may_be.Given as goal
+use Rattle.board.proofs.space.devices.shown_devices_law.Given as goal
 
 abbrev pub invariant-loop-device : goal.invariant-loop-device
 invariant-loop-device g l =
