@@ -12,11 +12,11 @@ use Rattle.std.proofs.Math.Nat.{mul-suc, mul-zero, mul-add, mul-one}
 use Rattle.std.proofs.Math.Seq.{take-add}
 use Rattle.page_ram.specs.Bytes.{put_bytes, zeros}
 use Rattle.page_ram.specs.Pages.{is_zero}
-use Rattle.lab_spell.specs.declared.fault.SnapFault.{SnapFault}
-use Rattle.lab_spell.specs.declared.fault.SnapFault.TheVariants.{Bad, Memory}
-use Rattle.lab_spell.specs.Combine.{◌>>=◌, bytes, number, parse_times}
-use Rattle.lab_spell.specs.Inner.Laws.{bind_some, chosen}
-use Rattle.lab_spell.specs.Reads.{Reads}
+use Rattle.lab_encoding.specs.declared.fault.SnapFault.{SnapFault}
+use Rattle.lab_encoding.specs.declared.fault.SnapFault.TheVariants.{Bad, Memory}
+use Rattle.lab_encoding.specs.Combine.{◌>>=◌, bytes, number, parse_times}
+use Rattle.lab_encoding.specs.Inner.Laws.{bind_some, chosen}
+use Rattle.lab_encoding.specs.Reads.{Reads}
 use Rattle.lab_snap.specs.Inner.Pages.{is_next, memory_read, spell_used}
 use Rattle.lab_snap.specs.Inner.ReadsInto.{ReadsInto}
 use Rattle.lab_snap.specs.Memory.{are_used, memory_of, pages, pages_form, pages_from, used, used_pages}

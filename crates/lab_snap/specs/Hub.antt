@@ -3,11 +3,11 @@ use Rattle.std.proofs.Common.{refl, ◌≤◌}
 use Rattle.std.specs.Prelude.{IsTrue}
 use Rattle.dev_core.specs.Kind.{row_of}
 use Rattle.lab_num.specs.Name.{is_name}
-use Rattle.lab_spell.specs.Form.{Form, IsLawful}
-use Rattle.lab_spell.specs.Combine.{list, number, text, via, ◌⊗◌}
-use Rattle.lab_spell.specs.Inner.Laws.{list_lawful, next_lawful, number_lawful, text_lawful, via_lawful}
-use Rattle.lab_spell.specs.Keys.{member_form, member_lawful}
-use Rattle.lab_spell.specs.PlanParts.{kind_form, kind_lawful}
+use Rattle.lab_encoding.specs.Form.{Form, IsLawful}
+use Rattle.lab_encoding.specs.Combine.{list, number, text, via, ◌⊗◌}
+use Rattle.lab_encoding.specs.Inner.Laws.{list_lawful, next_lawful, number_lawful, text_lawful, via_lawful}
+use Rattle.lab_encoding.specs.Keys.{member_form, member_lawful}
+use Rattle.lab_encoding.specs.PlanParts.{kind_form, kind_lawful}
 use Rattle.lab_snap.specs.declared.hub.SavedHub.{SavedHub}
 
 -- kind, name, delay and members

@@ -3,8 +3,8 @@ ghost use Rattle.std.specs.Prelude.{◌↔◌, IsTrue};
 ghost use Rattle.lab_snap.specs.Hub.{IsHub};
 
 use dev_core::Kind;
+use lab_encoding::{ByteReader, SnapFault, Spelled};
 use lab_num::{MOST_DELAY, Member, NoMemory, Rows, Text, is_name};
-use lab_spell::{ByteReader, SnapFault, Spelled};
 use std::alloc::Global;
 
 /// A hub as a snapshot holds it.

@@ -5,8 +5,8 @@ ghost use Rattle.lab_snap.specs.Lab.{lab_form};
 use crate::hub::SavedHub;
 use crate::machine::SavedMachine;
 use dev_core::Post;
+use lab_encoding::{ByteReader, SnapFault, Spelled, load, one_spelling};
 use lab_num::{Micros, NoMemory, Rows, Text};
-use lab_spell::{ByteReader, SnapFault, Spelled, load, one_spelling};
 use log_text::OpenLine;
 use std::alloc::Global;
 

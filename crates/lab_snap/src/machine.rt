@@ -2,15 +2,15 @@
 ghost use Rattle.std.specs.Prelude.{◌≡◌, All, IfOk, IsTrue};
 ghost use Rattle.page_ram.specs.Access.{IsRamSize};
 ghost use Rattle.sys_bus.specs.Plan.{IsValid};
-ghost use Rattle.lab_spell.specs.Reads.{Reads};
+ghost use Rattle.lab_encoding.specs.Reads.{Reads};
 ghost use Rattle.lab_snap.specs.Inner.ValidPlan.{is_valid_plan};
 ghost use Rattle.lab_snap.specs.Machine.{IsMachine};
 ghost use Rattle.lab_snap.specs.MachineForm.{valid_plan_form};
 
 use crate::memories::{decode_memories, encode_memories};
 use board::BoardState;
+use lab_encoding::{ByteReader, SnapFault, Spelled};
 use lab_num::{NoMemory, Rows};
-use lab_spell::{ByteReader, SnapFault, Spelled};
 use page_ram::PageRam;
 use std::alloc::Global;
 use std::marker::Model;

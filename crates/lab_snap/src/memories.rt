@@ -1,13 +1,13 @@
 //! The memories of a board, one for each size of its plan.
 ghost use Rattle.std.specs.Prelude.{◌≡◌, All, IfOk, OnOk, length, map};
 ghost use Rattle.page_ram.specs.Access.{IsRamSize};
-ghost use Rattle.lab_spell.specs.Combine.{each, parse_each};
-ghost use Rattle.lab_spell.specs.Reads.{Appends, Reads};
+ghost use Rattle.lab_encoding.specs.Combine.{each, parse_each};
+ghost use Rattle.lab_encoding.specs.Reads.{Appends, Reads};
 ghost use Rattle.lab_snap.specs.MachineForm.{memories_form, sized_form};
 
 use crate::memory::{decode_memory, encode_memory};
+use lab_encoding::{ByteReader, SnapFault, Spelled};
 use lab_num::{NoMemory, Rows};
-use lab_spell::{ByteReader, SnapFault, Spelled};
 use page_ram::{PAGE_SIZE, PageRam};
 use std::alloc::Global;
 

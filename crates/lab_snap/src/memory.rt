@@ -18,16 +18,16 @@ ghost use Rattle.page_ram.specs.Access.{page_size};
 ghost use Rattle.page_ram.specs.Bytes.{zeros};
 ghost use Rattle.page_ram.specs.Pages.{page_of};
 ghost use Rattle.page_ram.specs.Pages as pages_spec;
-ghost use Rattle.lab_spell.specs.Form.{IsBytes, Spells};
-ghost use Rattle.lab_spell.specs.Reads.{Appends, Reads};
+ghost use Rattle.lab_encoding.specs.Form.{IsBytes, Spells};
+ghost use Rattle.lab_encoding.specs.Reads.{Appends, Reads};
 ghost use Rattle.lab_snap.specs.Inner.Pages.{memory_read, spell_used};
 ghost use Rattle.lab_snap.specs.Inner.Pages as inner;
 ghost use Rattle.lab_snap.specs.Inner.ReadsInto.{ReadsInto};
 ghost use Rattle.lab_snap.specs.Memory.{memory_form, used};
 ghost use Rattle.lab_snap.specs.Page.{page_form};
 
+use lab_encoding::{ByteReader, SnapFault, Spelled};
 use lab_num::NoMemory;
-use lab_spell::{ByteReader, SnapFault, Spelled};
 use page_ram::{PAGE_SIZE, PageRam};
 use std::alloc::Global;
 

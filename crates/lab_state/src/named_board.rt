@@ -22,12 +22,12 @@ ghost use Rattle.lab_state.specs.Round.{granted, stepped, posts_made, entries_ma
 
 use crate::board_change::BoardChange;
 use board::{Board, BoardState, SlotAt, Turn};
+use board_job::{BoardJob, BoxedBoardJob};
 use dev_core::{Device, Entry, Kind, Payload, Post, Taken};
 use hub_mail::{Boss, Pass};
 use lab_num::{NoMemory, Text};
 use log_merge::Note;
 use page_ram::PageRam;
-use parcel::{BoxedParcel, Parcel};
 use std::alloc::Global;
 use std::marker::Model;
 use std::sync::Wait;
@@ -152,7 +152,7 @@ fn step_board<D: Device>(
 }
 
 /// A board with a grant at its speed and a new pass, as the workers take it.
-fn wrapped<D: Device>(board: Board<D>, grant: Handle, pass: Pass) -> Parcel<D>
+fn wrapped<D: Device>(board: Board<D>, grant: Handle, pass: Pass) -> BoardJob<D>
     requires within { grant.to ≤ 10000000000 }
     requires part { grant ≡ fresh grant.from grant.to board.view.numbers.speed }
     requires posts { board.view.numbers.posted ≤ 10000000000000 }
@@ -164,7 +164,7 @@ fn wrapped<D: Device>(board: Board<D>, grant: Handle, pass: Pass) -> Parcel<D>
 {
     // a grant has at most ten million million slots left
     let _left = grant.left();
-    Parcel::new(board, grant, pass)
+    BoardJob::new(board, grant, pass)
 }
 
 /// What the log notes of a payload that a shown device was handed and answered so.
@@ -312,7 +312,7 @@ impl<D: Device> NamedBoard<D> {
         alloc: Global,
         grant: Handle,
         pass: Pass,
-        parcels: &mut Vec<BoxedParcel<D>>,
+        jobs: &mut Vec<BoxedBoardJob<D>>,
     ) -> Result<(), NoMemory>
         requires within { grant.to ≤ 10000000000 }
         requires part { grant ≡ part_of grant.from grant.to self.old }
@@ -321,11 +321,11 @@ impl<D: Device> NamedBoard<D> {
         requires own { ForSome self.old.view (λ v. pass.board ≡ v.numbers.number) }
         requires new { pass.posted ≡ [] }
         ensures board { self.new ≡ away self.old }
-        ensures parcels { OnOk result (parcels.new.items
-            ≡ parcels.old.items ++ lent pass.mail grant.from grant.to self.old) }
+        ensures jobs { OnOk result (jobs.new.items
+            ≡ jobs.old.items ++ lent pass.mail grant.from grant.to self.old) }
     {
         if let Some(board) = self.board.take() {
-            parcels.push(BoxedParcel::new(alloc, wrapped(board, grant, pass))?)?;
+            jobs.push(BoxedBoardJob::new(alloc, wrapped(board, grant, pass))?)?;
         }
         Ok(())
     }
@@ -335,20 +335,20 @@ impl<D: Device> NamedBoard<D> {
     pub fn take_back<R: Wait>(
         &mut self,
         rt: &R,
-        parcel: BoxedParcel<D>,
+        job: BoxedBoardJob<D>,
         boss: &mut Boss,
         entries: &mut Vec<Vec<Entry>>,
     ) -> Result<Handle, NoMemory>
-        requires quiet { parcel.board.posts ≡ [] }
-        requires mail { parcel.pass.mail ≡ boss.old.mail }
-        ensures board { OnOk result (self.new ≡ put_back self.old parcel) }
-        ensures grant { IfOk result (λ grant. grant ≡ parcel.grant) }
+        requires quiet { job.board.posts ≡ [] }
+        requires mail { job.pass.mail ≡ boss.old.mail }
+        ensures board { OnOk result (self.new ≡ put_back self.old job) }
+        ensures grant { IfOk result (λ grant. grant ≡ job.grant) }
         ensures posts { boss.new
-            ≡ record boss.old { taken = boss.old.taken ++ sent_by parcel.pass ∷ [] } }
+            ≡ record boss.old { taken = boss.old.taken ++ sent_by job.pass ∷ [] } }
         ensures entries { OnOk result (all_entries entries.new.items
-            ≡ all_entries entries.old.items ++ parcel.board.entries) }
+            ≡ all_entries entries.old.items ++ job.board.entries) }
     {
-        let (mut board, grant, pass) = parcel.into_parcel().into_parts();
+        let (mut board, grant, pass) = job.into_board_job().into_parts();
         boss.take_in(rt, pass);
         let noted = board.take_entries();
         self.fit(board);

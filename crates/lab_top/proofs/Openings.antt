@@ -8,8 +8,8 @@ use Rattle.lab_io.specs.Held.{Held}
 use Rattle.lab_io.proofs.Asking.{asks_all, asks_one}
 use Rattle.lab_io.proofs.Grown.{grown-nil}
 use Rattle.lab_state.specs.Run.{run}
-use Rattle.lab_words.specs.declared.request.UsageCause.{UsageCause}
-use Rattle.lab_words.specs.Usage.{usage_line}
+use Rattle.lab_arguments.specs.declared.request.UsageCause.{UsageCause}
+use Rattle.lab_arguments.specs.Usage.{usage_line}
 use Rattle.resc_vars.specs.declared.cause.ScriptCause.{ScriptCause}
 use Rattle.monitor.specs.declared.fault.ScriptFault.{ScriptFault}
 use Rattle.monitor.specs.declared.setting.Setting.{Setting}

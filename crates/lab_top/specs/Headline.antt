@@ -15,7 +15,7 @@ use Rattle.lab_io.specs.declared.sink.WriteFault.{WriteFault}
 use Rattle.lab_io.specs.declared.sink.WriteFault.TheVariants as write_fault
 use Rattle.lab_top.specs.declared.status.Status.{Status}
 use Rattle.lab_top.specs.declared.status.Status.TheVariants.{Done, Memory, Usage, Script, Unread, Unwritten, Unstored}
-use Rattle.lab_words.specs.Usage.{usage_line}
+use Rattle.lab_arguments.specs.Usage.{usage_line}
 use Rattle.lab_top.specs.Request.{Request, Refused, Run, Gen}
 use Rattle.lab_top.specs.Transcript.{Outcome, Read, Use, Transcript}
 use Rattle.lab_top.specs.Transcript as run

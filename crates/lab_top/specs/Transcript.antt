@@ -12,8 +12,8 @@ use Rattle.lab_state.specs.Names.{names as names_of}
 use Rattle.lab_state.specs.Run.{Play, run}
 use Rattle.log_text.specs.Log.{rest}
 use Rattle.log_text.specs.declared.line.OpenLine.{OpenLine}
-use Rattle.lab_words.specs.Usage.{usage_line}
-use Rattle.lab_words.specs.declared.request.UsageCause.{UsageCause}
+use Rattle.lab_arguments.specs.Usage.{usage_line}
+use Rattle.lab_arguments.specs.declared.request.UsageCause.{UsageCause}
 use Rattle.monitor.specs.declared.fault.ScriptFault.{ScriptFault}
 use Rattle.monitor.specs.declared.setting.Setting.{Setting}
 use Rattle.monitor.specs.Answer.{Did, Goes, Saves, Loads, Ends, Faults, Misses, fault_at}

@@ -11,7 +11,7 @@ mod status;
 mod words;
 
 pub use command_line::{command_words, words_after_name};
-pub use lab_words::UsageCause;
+pub use lab_arguments::UsageCause;
 pub use laws::{
     checks_run_nothing, cut_runs_go_on, returns_agree, transcripts_agree, workers_agree,
 };

@@ -11,10 +11,10 @@ ghost use Rattle.lab_top.specs.Transcript as transcript;
 ghost use Rattle.lab_top.specs.Inner.Stored.{IsFetched, IsRestored, IsStored, IsUnspent, lent, store_of};
 
 use dev_core::Device;
+use lab_encoding::SnapFault;
 use lab_io::{ReadAnswer, Store, StoreAnswer};
 use lab_num::{Micros, Text};
 use lab_snap::{load, save};
-use lab_spell::SnapFault;
 use lab_state::Lab;
 use monitor::Monitor;
 use resc_vars::ScriptCause;

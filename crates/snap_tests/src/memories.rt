@@ -1,7 +1,7 @@
 //! Memories and their pages.
 use crate::bytes::{joined, part};
+use lab_encoding::{ByteReader, SnapFault};
 use lab_snap::{decode_memory, encode_memory};
-use lab_spell::{ByteReader, SnapFault};
 use page_ram::PageRam;
 use std::alloc::Global;
 use std::test::Fail;

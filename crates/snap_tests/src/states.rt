@@ -4,9 +4,9 @@ use crate::spelled::is_spelled;
 use dev_core::{
     ByteRow, CanState, DevState, Finish, Frame, FrameRow, Kind, Payload, Post, UartState,
 };
+use lab_encoding::{SnapFault, Spelled, load, save};
 use lab_num::{BoardNo, Key, Member, Micros, PostNo, Rows, Text};
 use lab_snap::SavedHub;
-use lab_spell::{SnapFault, Spelled, load, save};
 use rv_hart::{HartState, Letters};
 use std::alloc::{AllocError, Global};
 use std::test::Fail;

@@ -1,7 +1,7 @@
 use Rattle.std.proofs.Common.{◌≡◌, length, refl, arith, slice_index_or}
 use Rattle.std.proofs.lemmas.List.{map_push, take_more}
 use Rattle.std.proofs.lemmas.Result.{err_from_is_err_and}
-use Rattle.lab_spell.specs.Inner.Fronts.{is_fault}
+use Rattle.lab_encoding.specs.Inner.Fronts.{is_fault}
 use Rattle.lab_snap.proofs.EachLoops.{half_read_all, half_read_bad, half_read_more}
 use Rattle.lab_snap.proofs.memories.decode_each.Goals as goal
 

@@ -1,4 +1,4 @@
-use Rattle.lab_spell.specs.Inner.Laws.{all_bytes}
+use Rattle.lab_encoding.specs.Inner.Laws.{all_bytes}
 use Rattle.page_ram.specs.Pages.{page_of}
 use Rattle.lab_snap.specs.Inner.MemoryLaws.{zeros_are_bytes}
 use Rattle.lab_snap.proofs.memory.encode_used.Goals as goal

@@ -1,5 +1,5 @@
-use Rattle.lab_spell.specs.Inner.Laws.{appended}
-use Rattle.lab_spell.specs.Reads.{Appends}
+use Rattle.lab_encoding.specs.Inner.Laws.{appended}
+use Rattle.lab_encoding.specs.Reads.{Appends}
 use Rattle.lab_snap.specs.Hub.{hub_form}
 use Rattle.lab_snap.proofs.SavedParts.{hub_with}
 use Rattle.lab_snap.proofs.saving.encode_hub.Goals as goal

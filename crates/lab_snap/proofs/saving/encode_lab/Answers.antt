@@ -1,4 +1,4 @@
-use Rattle.lab_spell.specs.Inner.Laws.{appended}
+use Rattle.lab_encoding.specs.Inner.Laws.{appended}
 use Rattle.lab_snap.specs.Lab.{lab_form}
 use Rattle.lab_snap.proofs.SavedParts.{time_of}
 use Rattle.lab_snap.proofs.saving.encode_lab.Goals as goal

@@ -1,5 +1,5 @@
 use Rattle.std.proofs.Common.{◌≡◌, ◌∙◌, ap}
-use Rattle.lab_spell.specs.Inner.Laws.{appended}
+use Rattle.lab_encoding.specs.Inner.Laws.{appended}
 use Rattle.lab_snap.specs.MachineForm.{machine_form, valid_plan_form}
 use Rattle.lab_snap.proofs.PlanLemmas.{ram_sizes}
 use Rattle.lab_snap.proofs.saving.encode_machine.Goals as goal

@@ -1,4 +1,4 @@
-use Rattle.lab_spell.specs.Inner.Laws.{appended}
+use Rattle.lab_encoding.specs.Inner.Laws.{appended}
 use Rattle.lab_snap.specs.Hub.{hub_form}
 use Rattle.lab_snap.proofs.hub.SavedHubSpelled.encode.Goals as goal
 
