@@ -12,7 +12,7 @@ use crate::slot::Features;
 use crate::space::halves::of_half;
 use dev_core::Device;
 use lab_num::NoMemory;
-use rv_atomic::{Shared, Watch, alone_as_performed, decode_atomic, step_shared};
+use rv_atomic::{Shared, Watch, decode_atomic, laws, step_shared};
 use rv_exec::{Fetched, perform};
 use rv_hart::{Hart, Lines};
 
@@ -44,7 +44,7 @@ pub fn instruction<const COPY: u8, D: Device>(
     if features.shared {
         return by_sharing(hart, number, watch, bus, lines);
     }
-    alone_as_performed();
+    laws::alone_as_performed();
     if features.halves {
         by_halves::<COPY, D>(hart, bus, lines)
     } else {

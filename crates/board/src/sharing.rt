@@ -19,7 +19,7 @@ use crate::slot::{Features, enter_interrupt, sample_and_run, taken, wait};
 use crate::space::halves::of_half;
 use dev_core::Device;
 use lab_num::{Micros, NoMemory};
-use rv_atomic::{Shared, Watch, atomic_words_mean_no_other, is_store, step_shared};
+use rv_atomic::{Shared, Watch, is_store, laws, step_shared};
 use rv_exec::{Fetched, perform};
 use rv_hart::{Hart, Lines};
 
@@ -250,7 +250,7 @@ fn do_word<const COPY: u8, D: Device>(
     if !ends_none(watch, word) {
         return do_word_apart(hart, number, watch, word, bus, lines);
     }
-    atomic_words_mean_no_other();
+    laws::atomic_words_mean_no_other();
     match Fetched::of_word(word) {
         Fetched::Bad(_) => do_word_apart(hart, number, watch, word, bus, lines),
         what => perform(hart, what, bus, lines),

@@ -25,7 +25,7 @@ use crate::remembered::Remembered;
 use clint::Clint;
 use dev_core::Device;
 use lab_num::NoMemory;
-use page_ram::{PageRam, aligned_numbers_lie_in_one_page};
+use page_ram::{PageRam, laws};
 use plic::Plic;
 use std::alloc::Global;
 use std::collections::VecDeque;
@@ -220,7 +220,7 @@ impl<D: Device> Space<D> {
     pub fn near_code(&self, at: u32) -> Option<MemoryPlace>
         ensures { IfSome result (HoldsAccesses self.now at) }
     {
-        aligned_numbers_lie_in_one_page();
+        laws::aligned_numbers_lie_in_one_page();
         self.regions.near_code(at)
     }
 
@@ -229,7 +229,7 @@ impl<D: Device> Space<D> {
     pub fn near_data(&self, at: u32) -> Option<MemoryPlace>
         ensures { IfSome result (HoldsAccesses self.now at) }
     {
-        aligned_numbers_lie_in_one_page();
+        laws::aligned_numbers_lie_in_one_page();
         self.regions.near_data(at)
     }
 
@@ -241,7 +241,7 @@ impl<D: Device> Space<D> {
         ensures page { IsInPage width result }
         ensures same { self.new ≡ self.old }
     {
-        aligned_numbers_lie_in_one_page();
+        laws::aligned_numbers_lie_in_one_page();
         self.regions.find_data(at, width)
     }
 

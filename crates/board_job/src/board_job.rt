@@ -4,8 +4,8 @@ ghost use Rattle.dev_core.specs.declared.post.Post as post;
 ghost use Rattle.board_job.specs.Inner.Posting.{MayPost};
 ghost use Rattle.time_handle.specs.Grant.{left as left_of};
 
-use crate::laws::turns_are_stretches;
-use board::{Board, SlotAt, Turn as Stretch, stretches_number};
+use crate::laws;
+use board::{Board, SlotAt, Turn as Stretch};
 use dev_core::{Device, Post};
 use floor_core::{Job, Turn};
 use hub_mail::Pass;
@@ -113,8 +113,8 @@ impl<D: Device + Send> Job for BoardJob<D> {
     }
 
     fn turn(&mut self, limit: u64) -> Turn {
-        turns_are_stretches();
-        stretches_number();
+        laws::turns_are_stretches();
+        board::laws::stretches_number();
         let n = limit.min(self.handle.left());
         let at = SlotAt {
             from: self.handle.from(),

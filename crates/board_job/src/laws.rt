@@ -7,8 +7,6 @@ ghost use Rattle.hub_mail.specs.Pass.{Pass};
 ghost use Rattle.board_job.specs.Slots.{job_of, state_after, stepped, spent};
 ghost use Rattle.time_handle.specs.Grant.{Grant, left};
 
-use board::{stretches_join, stretches_number};
-
 /// The job of a board after n slots is that of the board after its stretch of n slots, which its
 /// grant pays. So the turns of a whole grant, however they are cut, are the board's stretch.
 pub fn turns_are_stretches()
@@ -16,6 +14,6 @@ pub fn turns_are_stretches()
         b.view.numbers.posted + n < 2 ^ 64 → b.view.numbers.entered + n < 2 ^ 64 →
         after state_after (job_of b g pass) n ≡ job_of (stepped b g n) (spent g n) pass }
 {
-    stretches_join();
-    stretches_number();
+    board::laws::stretches_join();
+    board::laws::stretches_number();
 }

@@ -4,10 +4,9 @@
 
 mod board_job;
 mod boxed;
-mod laws;
+pub mod laws;
 mod round;
 
 pub use board_job::BoardJob;
 pub use boxed::BoxedBoardJob;
-pub use laws::turns_are_stretches;
 pub use round::{run_board_jobs, run_board_jobs_with};

@@ -4,7 +4,7 @@ ghost use Rattle.time_handle.specs.Grant.{left};
 ghost use Rattle.board_job.specs.Ran.{ran};
 
 use crate::boxed::BoxedBoardJob;
-use crate::laws::turns_are_stretches;
+use crate::laws;
 use dev_core::Device;
 use floor_run::{Gate, Helpers, run_round, run_round_with};
 use lab_num::NoMemory;
@@ -30,7 +30,7 @@ pub fn run_board_jobs<R: Threads + Wait + Copy + Send + Sync, D: Device + Send, 
     requires entries { All (λ p. p.board.view.numbers.entered + left p.grant < 2 ^ 64) board_jobs.items }
     ensures { IfOk result (λ done. done.items ≡ map ran board_jobs.items) }
 {
-    turns_are_stretches();
+    laws::turns_are_stretches();
     let done = run_round(rt, alloc, board_jobs, workers, gate)?;
     Ok(done)
 }
@@ -51,7 +51,7 @@ pub fn run_board_jobs_with<R: Threads + Wait + Copy + Send + Sync, D: Device + S
     requires entries { All (λ p. p.board.view.numbers.entered + left p.grant < 2 ^ 64) board_jobs.items }
     ensures { IfOk result (λ done. done.items ≡ map ran board_jobs.items) }
 {
-    turns_are_stretches();
+    laws::turns_are_stretches();
     let done = run_round_with(rt, alloc, helpers, board_jobs, workers, gate)?;
     Ok(done)
 }

@@ -11,8 +11,7 @@ ghost use Rattle.board.specs.View.{View};
 ghost use Rattle.board.specs.HartBus.{HartBus};
 ghost use Rattle.board_laws.specs.Alone.{alone_slot};
 
-use rv_atomic::alone_as_performed;
-
+use rv_atomic::laws;
 /// A slot of a board of one processor without atomic instructions is the slot of a board on which
 /// nothing is asked of turns and reservations: each instruction does what it does on a hart alone,
 /// reservations stay, and the one processor takes every slot.
@@ -26,5 +25,5 @@ pub fn one_hart_goes_on_alone()
         v.cores ≡ core ∷ [] → v.next ≡ 0 → v.watch ≡ word ∷ [] → core.letters.a ≡ false →
         slot v t ≡ alone_slot v core t }
 {
-    alone_as_performed();
+    laws::alone_as_performed();
 }

@@ -7,7 +7,7 @@ use crate::opening::{cells_of, words_of};
 use crate::rule::{BenchRule, Claim, Further, Report, TakesIn};
 use crate::view::View;
 use atomic_table::Table;
-use floor_core::{Job, turns_add_up};
+use floor_core::{Job, laws};
 use lab_num::{BoardNo, NoMemory};
 use std::alloc::Global;
 use std::marker::Model;
@@ -112,7 +112,7 @@ impl<J: Job> Bench<J> {
         ensures bench { hand.new.bench ≡ hand.old.bench }
         ensures seen { hand.new.sees ≡ empty_handed hand.old.sees }
     {
-        turns_add_up::<J>();
+        laws::turns_add_up::<J>();
         let turns = 4 * (hand.reports + 1);
         let word = if job.left() == 0 { turns + 3 } else { turns };
         let index = usize::from(hand.board.0);

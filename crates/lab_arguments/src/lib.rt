@@ -2,13 +2,12 @@
 #![tactic(auto)]
 
 mod command;
-mod laws;
+pub mod laws;
 mod read;
 mod request;
 mod text;
 mod usage;
 
-pub use laws::lines_are_read;
 pub use read::read_words;
 pub use request::{Request, UsageCause, WordsFault};
 pub use usage::usage_line;

@@ -16,7 +16,7 @@ mod hubs;
 use crate::lab::{SavedLab, read_lab};
 use crate::snapshot::snapshots_are_what_they_spell;
 use crate::valid::is_valid;
-use board::states_are_put_back;
+use board::laws;
 use dev_core::Device;
 use lab_encoding::SnapFault;
 use lab_num::NoMemory;
@@ -87,7 +87,7 @@ pub(crate) fn saving_agrees()
     ensures fit { (l : Laboratory) (ls : List Line) → IsLab l → FitTheirPlans (saved l ls).boards }
     ensures saved { (s : Snapshot) → FitTheirPlans s.boards → saved (loaded s) s.lines ≡ s }
 {
-    states_are_put_back();
+    laws::states_are_put_back();
 }
 
 /// Loads as `load` does, but leaves a laboratory unspent for which memory ran out, with a part of what

@@ -18,7 +18,7 @@ use crate::team::Team;
 use board_job::BoxedBoardJob;
 use dev_core::{Device, Entry};
 use floor_run::Gate;
-use hub_mail::{Boss, Mail, Pass, arrival_laws};
+use hub_mail::{Boss, Mail, Pass, laws};
 use lab_num::{BoardNo, Micros, NoMemory};
 use std::alloc::Global;
 use std::sync::Wait;
@@ -129,7 +129,7 @@ pub(crate) fn step_lent<R: Threads + Wait + Copy + Send + Sync, D: Device + Send
     ensures entries { IfOk result (λ made.
         all_entries made.entries.items ≡ flat_map (entries_made (in_round from.0 q)) boards.old) }
 {
-    arrival_laws();
+    laws::arrival_laws();
     let Crew {
         rt,
         team,

@@ -25,9 +25,7 @@ use crate::lab::Lab;
 use crate::lending::{Crew, step_lent};
 use crate::named_board::{NamedBoard, RoundOutput};
 use crate::team::Team;
-use board::{
-    stretches_keep_plans, stretches_keep_time, stretches_number, stretches_tell_of_devices,
-};
+use board::laws;
 use dev_core::{Device, Entry, Post};
 use floor_run::Gate;
 use lab_num::{BoardNo, Key, Micros, NoMemory, Rows, listing_laws};
@@ -231,7 +229,7 @@ fn step_boards<R: Threads + Wait + Copy + Send + Sync, D: Device + Send, G: Gate
     ensures entries { IfOk result (λ made. all_entries made.entries.items
         ≡ flat_map (entries_made (in_round from.0 q)) boards.old) }
 {
-    stretches_number();
+    laws::stretches_number();
     let Crew {
         rt,
         team,
@@ -273,7 +271,7 @@ fn take_slots<R: Threads + Wait + Copy + Send + Sync, D: Device + Send, G: Gate>
     ensures items { IfOk result (λ slots. slots.items.items
         ≡ slot_items (in_round source.old.end q) boards.old) }
 {
-    stretches_number();
+    laws::stretches_number();
     let from = source.elapsed();
     source.grant(q);
     let made = step_boards(crew, alloc, boards, source, from, q)?;
@@ -335,10 +333,10 @@ fn play<R: Threads + Wait + Copy + Send + Sync, D: Device + Send, G: Gate>(
     ensures sent { OnOk result (All (IsFromBoard (outlines boards.new) (numbers_of boards.new))
         pending.new.items) }
 {
-    stretches_keep_plans();
-    stretches_keep_time();
-    stretches_number();
-    stretches_tell_of_devices();
+    laws::stretches_keep_plans();
+    laws::stretches_keep_time();
+    laws::stretches_number();
+    laws::stretches_tell_of_devices();
     listing_laws::<Post>();
     devices_laws(boards);
     let Slots { posts, mut items } = take_slots(crew, alloc, boards, source, q)?;

@@ -19,8 +19,6 @@ ghost use Rattle.lab_top.specs.Transcript.{Further, begun, is_occupied, loading,
 ghost use Rattle.lab_top.specs.Transcript.{transcript_by, using};
 
 use lab_snap::snapshots_are_what_they_spell;
-use lab_state::turns_agree;
-use resc_vars::return_law;
 
 /// However the boards take the slots of their grants in turns, the program writes the same bytes,
 /// ends in the same way and reads the same files.
@@ -28,7 +26,7 @@ pub fn transcripts_agree()
     ensures { (cut : Cut) → IsWhole cut → (words : List (List ℕ)) (held kept : Held) →
         transcript_by (run_in_turns cut) words held kept ≡ transcript words held kept }
 {
-    turns_agree();
+    lab_state::laws::turns_agree();
 }
 
 /// Words that ask for the same run by another number of workers make the program write the same
@@ -47,7 +45,7 @@ pub fn returns_agree()
         begun run held kept script setting (Readable (with_returns text))
         ≡ begun run held kept script setting (Readable text) }
 {
-    return_law();
+    resc_vars::laws::return_law();
 }
 
 /// Where each run has length 0, a command that runs the boards prints nothing and leaves all as it

@@ -23,8 +23,8 @@ use crate::ending::{advance, branch, finish, jump, leave, trap, wait};
 use crate::fetched::{Fetched, find};
 use crate::operation::{on_immediate, on_registers};
 use lab_num::NoMemory;
-use rv_decode::{Instr, Op, offsets_are_even, valid_fits};
-use rv_hart::{Exception, Hart, Lines, zero_register};
+use rv_decode::{Instr, Op};
+use rv_hart::{Exception, Hart, Lines};
 
 /// Does an instruction. `NoMemory` comes only where the bus refuses its load or its store.
 #[tactic(auto, unfolding(crate::specs::Effect::effect_by))]
@@ -152,8 +152,8 @@ fn execute_fetched<B: Bus>(
         Fetched::Fault(at) => trap(hart, Exception::InstructionAccessFault, at),
         Fetched::Bad(word) => trap(hart, Exception::IllegalInstruction, word),
         Fetched::Good { instr, size, word } => {
-            valid_fits();
-            offsets_are_even();
+            rv_decode::laws::valid_fits();
+            rv_decode::laws::offsets_are_even();
             return execute(hart, bus, &instr, size, word, lines);
         }
     }
@@ -191,7 +191,7 @@ pub fn perform<B: Bus>(
     ensures same { OnOk result (IsSameHart hart.old hart.new) }
 {
     execute_fetched(hart, what, bus, lines)?;
-    zero_register(hart);
+    rv_hart::laws::zero_register(hart);
     Ok(())
 }
 

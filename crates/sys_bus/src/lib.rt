@@ -1,6 +1,7 @@
 //! The plan of a board, when it is valid, and the one region that an access belongs to.
 #![tactic(auto)]
 
+pub mod laws;
 mod limits;
 mod name;
 mod near;
@@ -17,8 +18,5 @@ pub use limits::{
 pub use near::MemoryPlace;
 pub use plan::{BoardPlan, Named, NamedWhat, PlicSize};
 pub use region::{Region, RegionKind, Target};
-pub use regions::{
-    Regions, accesses_belong_to_one_region, an_address_lies_in_one_region,
-    bytes_of_a_region_belong_together, target_of,
-};
+pub use regions::{Regions, target_of};
 pub use wire::{Wire, WireFrom, WirePin, is_context, may_end};
