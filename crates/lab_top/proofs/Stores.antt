@@ -20,8 +20,8 @@ use Rattle.log_text.specs.declared.line.OpenLine.{OpenLine}
 use Rattle.monitor.specs.State.{State, LinePlace, bodies_of, joined}
 use Rattle.monitor.specs.Step.{Running}
 use Rattle.resc_vars.specs.declared.cause.ScriptCause.TheVariants.{Size, Snapshot, Occupied}
-use Rattle.lab_top.specs.declared.snapshots.Halt.{Halt}
-use Rattle.lab_top.specs.declared.snapshots.Halt.TheVariants as halt
+use Rattle.lab_top.specs.declared.snapshots.StoreHalt.{StoreHalt}
+use Rattle.lab_top.specs.declared.snapshots.StoreHalt.TheVariants as halt
 use Rattle.lab_top.specs.declared.status.Status.TheVariants as end_by
 use Rattle.lab_top.specs.Headline.{Course, Outside, kept_by}
 use Rattle.lab_top.specs.Transcript.{Further, Transcript, is_large, is_occupied, loading, loading_kept, refused}
@@ -139,7 +139,7 @@ goes_still {kept} further told = record { now = kept; told = told; course = λ s
 
 -- want of memory is no fault of the store
 pub memory_alone :
-    {A M : Type 0} (result : Result A (Halt M)) → result ≡ Err halt.Memory → result ≡ Err halt.Unstored → ⊥
+    {A M : Type 0} (result : Result A (StoreHalt M)) → result ≡ Err halt.Memory → result ≡ Err halt.Unstored → ⊥
 memory_alone result is failed = cc
 
 -- ---- a laboratory is kept
@@ -241,7 +241,7 @@ take_failed further kept name place s free wrote asked used told =
 
 restored :
     (old mid : Outside) (further : Further) (kept : Held) (name : List ℕ) (place : LinePlace) (m : Running)
-    (snapshot : Option (Lab × List OpenLine)) (result : Result Running (Halt Running)) →
+    (snapshot : Option (Lab × List OpenLine)) (result : Result Running (StoreHalt Running)) →
     mid.written ≡ old.written → mid.asked ≡ old.asked → mid.used ≡ grown old.used (get_of name ∷ []) →
     mid.kept ≡ Some kept → IsRestored m snapshot result →
     IsStored (using (get_of name) (resuming further kept place m.state snapshot)) kept further place old mid result
@@ -259,7 +259,7 @@ restored old mid further kept name place m snapshot (Err halt.Memory) wrote aske
 -- what the name keeps was read, and what became of that
 pub take_read :
     (old mid : Outside) (further : Further) (kept : Held) (name : List ℕ) (place : LinePlace) (m : Running)
-    (bytes : List ℕ) (result : Result Running (Halt Running)) →
+    (bytes : List ℕ) (result : Result Running (StoreHalt Running)) →
     is_occupied m.state.lab ≡ false → get kept name ≡ Some bytes → length bytes ≤ 67108864 →
     mid.written ≡ old.written → mid.asked ≡ old.asked → mid.used ≡ grown old.used (get_of name ∷ []) →
     mid.kept ≡ Some kept → IsRestored m (snapshot_of bytes) result →

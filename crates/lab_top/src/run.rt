@@ -24,7 +24,7 @@ ghost use Rattle.lab_top.specs.Inner.Stored.{IsStored, IsTried, IsUnspent, lent,
 
 use crate::outside::Outside;
 use crate::script::{Opened, open};
-use crate::snapshots::{Halt, SnapshotLine, fetch, keep, restore};
+use crate::snapshots::{SnapshotLine, StoreHalt, fetch, keep, restore};
 use crate::status::Status;
 use crate::words::{Asked, ScriptRun, read_request};
 use dev_core::{Device, Stock};
@@ -385,7 +385,7 @@ fn take_back<D: Device, K: Sink, S: Store>(
     requires { monitor.ended ≡ false }
     ensures course { ForSome (S.kept store.old) (λ kept.
         (all : Transcript) (further : Further) (old : Outside) (asked : AskedNames) →
-        ((new : Outside) (stored : Result Running (Halt Running)) →
+        ((new : Outside) (stored : Result Running (StoreHalt Running)) →
         IsStored (loading further kept line.name (line_in line.file line.line) monitor.state) kept further
         (line_in line.file line.line) (store_of S.Store (K.written out.old) asked store.old) new stored →
         IsStored all kept further (line_in line.file line.line) old new stored) →
@@ -412,7 +412,7 @@ fn take_back<D: Device, K: Sink, S: Store>(
 fn stop_by<D: Device, K: Sink>(
     alloc: Global,
     monitor: &mut Monitor<D>,
-    halt: Halt<()>,
+    halt: StoreHalt<()>,
     file: Text,
     line: u32,
     out: &mut K,
@@ -424,23 +424,23 @@ fn stop_by<D: Device, K: Sink>(
         Course all kept result old (record mid { written = K.written out.new }) }
     ensures usage { IsNoUsage result }
     ensures never { result ≢ Status.Unread }
-    ensures unstored { result ≡ Status.Unstored → halt ≡ Halt.Unstored }
+    ensures unstored { result ≡ Status.Unstored → halt ≡ StoreHalt.Unstored }
     ensures output { OnlyWrites K.Sink (result ≡ Status.Unwritten) out.old out.new }
 {
     match halt {
-        Halt::Refused(cause, ()) => {
+        StoreHalt::Refused(cause, ()) => {
             let cause = Cause::Script(cause);
             stop_at(alloc, monitor, ScriptFault { file, line, cause }, out)
         }
-        Halt::Unstored => Status::Unstored,
-        Halt::Memory => Status::Memory,
+        StoreHalt::Unstored => Status::Unstored,
+        StoreHalt::Memory => Status::Memory,
     }
 }
 
 /// Goes on after a command for the store, which stands in this line of this file, or ends the run.
 fn go_on<D: Device, K: Sink>(
     alloc: Global,
-    stored: Result<Monitor<D>, Halt<Monitor<D>>>,
+    stored: Result<Monitor<D>, StoreHalt<Monitor<D>>>,
     file: Text,
     line: u32,
     out: &mut K,
@@ -452,17 +452,17 @@ fn go_on<D: Device, K: Sink>(
     ensures same { IfOk result (λ monitor. stored ≡ Ok monitor) }
     ensures usage { IfErr result IsNoUsage }
     ensures never { result ≢ Err Status.Unread }
-    ensures unstored { result ≡ Err Status.Unstored → stored ≡ Err Halt.Unstored }
+    ensures unstored { result ≡ Err Status.Unstored → stored ≡ Err StoreHalt.Unstored }
     ensures output { OnlyWrites K.Sink (result ≡ Err Status.Unwritten) out.old out.new }
 {
     match stored {
         Ok(monitor) => Ok(monitor),
-        Err(Halt::Refused(cause, mut monitor)) => {
+        Err(StoreHalt::Refused(cause, mut monitor)) => {
             let cause = Cause::Script(cause);
             Err(stop_at(alloc, &mut monitor, ScriptFault { file, line, cause }, out))
         }
-        Err(Halt::Unstored) => Err(Status::Unstored),
-        Err(Halt::Memory) => Err(Status::Memory),
+        Err(StoreHalt::Unstored) => Err(Status::Unstored),
+        Err(StoreHalt::Memory) => Err(Status::Memory),
     }
 }
 
