@@ -132,7 +132,7 @@ impl Regions {
     }
 
     /// What the word of a fetch belongs to. `near_code` knows a memory from then on.
-    #[inline]
+    #[inline(always)]
     pub fn find_code(&mut self, at: u32) -> Target
         ensures target { result ≡ target_of self.old at 4 }
         ensures within { IsWithin self.old 4 result }
@@ -144,16 +144,7 @@ impl Regions {
                 at: place.at,
             };
         }
-        if let Some(place) = self.of_code_before.place(at) {
-            let last = self.of_code;
-            self.of_code = self.of_code_before;
-            self.of_code_before = last;
-            return Target::Ram {
-                part: place.part,
-                at: place.at,
-            };
-        }
-        self.seek_code(at)
+        self.find_other_code(at)
     }
 
     /// The place of a word in the memory of the last fetch, or of the last load or store: an atomic
@@ -168,7 +159,26 @@ impl Regions {
         }
     }
 
-    /// What the word of a fetch belongs to, by a search of all regions.
+    /// What a word belongs to that is not known to lie in the memory of the last fetch.
+    #[inline(never)]
+    fn find_other_code(&mut self, at: u32) -> Target
+        ensures target { result ≡ target_of self.old at 4 }
+        ensures within { IsWithin self.old 4 result }
+        ensures same { self.new ≡ self.old }
+    {
+        if let Some(place) = self.of_code_before.place(at) {
+            let last = self.of_code;
+            self.of_code = self.of_code_before;
+            self.of_code_before = last;
+            return Target::Ram {
+                part: place.part,
+                at: place.at,
+            };
+        }
+        self.seek_code(at)
+    }
+
+    /// The same by a search of all regions.
     fn seek_code(&mut self, at: u32) -> Target
         ensures target { result ≡ target_of self.old at 4 }
         ensures within { IsWithin self.old 4 result }
@@ -185,7 +195,7 @@ impl Regions {
     }
 
     /// What a load or a store of `width` bytes belongs to. `near_data` knows a memory from then on.
-    #[inline]
+    #[inline(always)]
     pub fn find_data(&mut self, at: u32, width: u8) -> Target
         requires { IsWidth width }
         ensures target { result ≡ target_of self.old at width }
@@ -196,6 +206,17 @@ impl Regions {
             let dev = self.of_device.dev;
             return Target::Dev { dev, at: offset };
         }
+        self.find_other_data(at, width)
+    }
+
+    /// The same of an access that is not known to lie in the device of the last one.
+    #[inline(never)]
+    fn find_other_data(&mut self, at: u32, width: u8) -> Target
+        requires { IsWidth width }
+        ensures target { result ≡ target_of self.old at width }
+        ensures within { IsWithin self.old width result }
+        ensures same { self.new ≡ self.old }
+    {
         if let Some(place) = self.of_data_before.place(at) {
             let last = self.of_data;
             self.of_data = self.of_data_before;

@@ -1,14 +1,5 @@
-use Rattle.std.proofs.Common.{Some, inr, refl}
-use Rattle.sys_bus.proofs.RegionLemmas.{near_place}
+use Rattle.std.proofs.Common.{inr, refl}
 use Rattle.sys_bus.proofs.regions.Regions.find_code.Goals as goal
 
 pub returns-in-Some-clause-within : goal.returns-in-Some-clause-within
 returns-in-Some-clause-within c = let there = c.in-Some.ensures 4 (inr (inr refl)) in there.1
-
-pub returns-in-Some-place-clause-within : goal.returns-in-Some-place-clause-within
-returns-in-Some-place-clause-within c =
-    let near =
-    near_place c.self.inside.list.items _ c.args.at (Some c.in-Some-place.place) c.self.invariant.3
-    c.in-Some-place.ensures in
-    let there = near 4 (inr (inr refl)) in
-    rw c.self.view_is at there.1

@@ -1,5 +1,4 @@
-use Rattle.std.proofs.Common.{Some}
-use Rattle.sys_bus.proofs.RegionLemmas.{near_place, near_register}
+use Rattle.sys_bus.proofs.RegionLemmas.{near_register}
 use Rattle.sys_bus.proofs.regions.Regions.find_data.Goals as goal
 
 pub returns-in-Some-clause-within : goal.returns-in-Some-clause-within
@@ -8,11 +7,3 @@ returns-in-Some-clause-within c =
     near_register c.self.inside.list.items c.self.inside.of_device c.args.at c.args.width c.in-Some.offset
     c.self.invariant.6 c.requires c.in-Some.ensures in
     rw c.self.view_is at near.1
-
-pub returns-in-Some-place-clause-within : goal.returns-in-Some-place-clause-within
-returns-in-Some-place-clause-within c =
-    let near =
-    near_place c.self.inside.list.items _ c.args.at (Some c.in-Some-place.place) c.self.invariant.5
-    c.in-Some-place.ensures in
-    let there = near c.args.width c.requires in
-    rw c.self.view_is at there.1
