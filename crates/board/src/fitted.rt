@@ -70,6 +70,7 @@ impl<D: Device> Fitted<D> {
     }
 
     /// Loads a register by an access of `width` bytes, or gives 0 where the access is at none.
+    #[inline(always)]
     pub fn load(&mut self, register: Option<u32>, width: u8) -> u32
         requires { IsWidth width }
         ensures answer { result ≡ (register_load self.old.state width register).answer }
@@ -88,6 +89,7 @@ impl<D: Device> Fitted<D> {
     }
 
     /// Stores a value of `width` bytes in a register, or does nothing where the access is at none.
+    #[inline(always)]
     pub fn store(&mut self, register: Option<u32>, width: u8, value: u32) -> Effect
         ensures answer { result ≡ (register_store self.old.state width value register).answer }
         ensures after { self.new ≡ record self.old {

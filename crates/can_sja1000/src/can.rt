@@ -179,10 +179,12 @@ impl Device for Can {
         Kind::Can
     }
 
+    #[inline(never)]
     fn load(&mut self, reg: u32, _width: u8) -> u32 {
         u32::from(self.load_byte(reg))
     }
 
+    #[inline(never)]
     fn store(&mut self, reg: u32, _width: u8, value: u32) -> Effect {
         self.store_byte(reg, (value & 0xFF) as u8)
     }

@@ -26,6 +26,7 @@ impl Device for Chip {
         }
     }
 
+    #[inline(always)]
     fn load(&mut self, reg: u32, width: u8) -> u32 {
         match self {
             Chip::Uart(uart) => (**uart).load(reg, width),
@@ -34,6 +35,7 @@ impl Device for Chip {
         }
     }
 
+    #[inline(always)]
     fn store(&mut self, reg: u32, width: u8, value: u32) -> Effect {
         match self {
             Chip::Uart(uart) => (**uart).store(reg, width, value),

@@ -89,6 +89,7 @@ impl Uart {
         self.state.ier = byte & 0x0F;
     }
 
+    #[inline(always)]
     #[tactic(auto, unfolding(dev_core::specs::Uart::uart_load))]
     fn load_byte(&mut self, reg: u32) -> u8
         ensures answer { result ≡ (uart_load self.old reg).answer }
@@ -110,6 +111,7 @@ impl Uart {
         }
     }
 
+    #[inline(always)]
     #[tactic(auto, unfolding(dev_core::specs::Uart::uart_store_byte))]
     fn store_byte(&mut self, reg: u32, byte: u8) -> Effect
         ensures answer { result ≡ (uart_store_byte self.old reg byte).answer }
@@ -143,10 +145,12 @@ impl Device for Uart {
         Kind::Uart
     }
 
+    #[inline(always)]
     fn load(&mut self, reg: u32, _width: u8) -> u32 {
         u32::from(self.load_byte(reg))
     }
 
+    #[inline(always)]
     fn store(&mut self, reg: u32, _width: u8, value: u32) -> Effect {
         self.store_byte(reg, (value & 0xFF) as u8)
     }
