@@ -7,4 +7,3 @@ pub mod Arguments
 pub mod Table
 pub mod Line
 pub mod Laws
-pub mod Inner

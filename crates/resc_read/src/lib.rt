@@ -4,7 +4,6 @@
 mod arguments;
 mod command;
 mod laws;
-mod one_text;
 mod read;
 mod sorts;
 mod variable;

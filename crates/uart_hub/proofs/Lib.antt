@@ -1,3 +1,2 @@
 -- Lemmas of uart_hub.
 pub mod HubLemmas
-pub mod RankLemmas

@@ -3,7 +3,6 @@
 
 mod hub;
 mod hubs;
-mod ranks;
 
 pub use hub::Hub;
 pub use hubs::{HubFault, UartHubs};

@@ -1,0 +1,5 @@
+//! Tests of the mailbox, on one thread and on two.
+#![tactic(auto)]
+
+#[cfg(test)]
+mod mails;

@@ -1,2 +1,0 @@
--- What serves private contracts and proofs alone.
-pub mod Rank
