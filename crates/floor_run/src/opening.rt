@@ -21,7 +21,7 @@ pub(crate) fn words_of<J: Job>(alloc: Global, jobs: &[J]) -> Result<Vec<u64>, No
         0 ∷ map (λ job. if slots_left J.meaning job == 0 then 3 else 0) jobs.now) }
     ensures fit { IfOk result (λ w. All (λ job. slots_left J.meaning job < 2 ^ 64) jobs.now) }
 {
-    let mut words = Vec::new(alloc);
+    let mut words = Vec::with_capacity(alloc, jobs.len() + 1)?;
     words.push(0)?;
     for job in jobs {
         words.push(first_word(job))?;
@@ -33,7 +33,7 @@ pub(crate) fn words_of<J: Job>(alloc: Global, jobs: &[J]) -> Result<Vec<u64>, No
 pub(crate) fn slots_of<J: Job>(alloc: Global, jobs: Vec<J>) -> Result<Vec<Option<J>>, NoMemory>
     ensures { IfOk result (λ s. s.items ≡ map Some jobs.items) }
 {
-    let mut slots = Vec::new(alloc);
+    let mut slots = Vec::with_capacity(alloc, jobs.len())?;
     for job in jobs {
         slots.push(Some(job))?;
     }

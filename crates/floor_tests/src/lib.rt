@@ -1,5 +1,5 @@
-//! Tests of grants and their source, of floors, of toys and boards with their grants on them, and of
-//! rounds on threads.
+//! Tests of grants and their source, of floors, of mailboxes, of toys and boards with their grants on
+//! them, and of rounds on threads.
 #![tactic(auto)]
 
 #[cfg(test)]
@@ -14,6 +14,8 @@ mod handle;
 mod hands;
 #[cfg(test)]
 mod helped;
+#[cfg(test)]
+mod mails;
 #[cfg(test)]
 mod parcels;
 #[cfg(test)]

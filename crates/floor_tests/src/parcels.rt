@@ -8,7 +8,7 @@ use floor_core::{Job, Turn};
 use floor_run::NoGate;
 use hub_mail::{Boss, Mail};
 use lab_num::{BoardNo, NoMemory};
-use parcel::{Parcel, run_parcels};
+use parcel::{BoxedParcel, Parcel, run_parcels};
 use std::alloc::Global;
 use std::process::Abort;
 use std::sync::Wait;
@@ -53,11 +53,11 @@ fn posts_of_two<R: Abort + Threads + Wait + Copy + Send + Sync>(
     requires { (1 ≤ workers) × (workers ≤ 8) }
 {
     let (mut boss, mut passes) = Mail::begin(rt, alloc, 2)?;
-    let second = parcel(rt, alloc, passes.pop().unwrap(), BoardNo(1))?;
-    let first = parcel(rt, alloc, passes.pop().unwrap(), BoardNo(0))?;
+    let second = BoxedParcel::new(alloc, parcel(rt, alloc, passes.pop().unwrap(), BoardNo(1))?)?;
+    let first = BoxedParcel::new(alloc, parcel(rt, alloc, passes.pop().unwrap(), BoardNo(0))?)?;
     let mut done = run_parcels(rt, alloc, vec![in alloc; first, second]?, workers, &NoGate)?;
-    let second = done.pop().unwrap();
-    let first = done.pop().unwrap();
+    let second = done.pop().unwrap().into_parcel();
+    let first = done.pop().unwrap().into_parcel();
     assert!(rt; is_done(rt, &mut boss, first));
     assert!(rt; is_done(rt, &mut boss, second));
     let posts = boss.drain(rt)?;

@@ -156,7 +156,7 @@ impl Mail {
         ensures passes { IfOk result (λ made. made.1.items ≡ fresh_passes made.0.mail n) }
     {
         let mut boss = Boss::begin(alloc)?;
-        let mut passes = Vec::new(alloc);
+        let mut passes = Vec::with_capacity(alloc, usize::from(n))?;
         for _ in 0..n {
             passes.push(boss.split()?)?;
         }

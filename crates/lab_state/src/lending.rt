@@ -19,7 +19,7 @@ use dev_core::{Device, Entry};
 use floor_run::Gate;
 use hub_mail::{Boss, Mail, Pass, arrival_laws};
 use lab_num::{BoardNo, Micros, NoMemory};
-use parcel::Parcel;
+use parcel::BoxedParcel;
 use std::alloc::Global;
 use std::sync::Wait;
 use std::thread::Threads;
@@ -35,7 +35,7 @@ pub(crate) fn lend_all<D: Device>(
     source: &Source,
     from: Micros,
     q: u64,
-) -> Result<Vec<Parcel<D>>, NoMemory>
+) -> Result<Vec<BoxedParcel<D>>, NoMemory>
     requires within { from.0 + q ≤ 10000000000 }
     requires standing { AreStanding (1000 * from.0) (numbers_of boards.old) }
     requires few { length boards.old ≤ 16 }
@@ -47,11 +47,11 @@ pub(crate) fn lend_all<D: Device>(
     ensures parcels { IfOk result (λ parcels.
         parcels.items ≡ flat_map (lent boss.now.mail from.0 (from.0 + q)) boards.old) }
 {
-    let mut parcels = Vec::new(alloc);
+    let mut parcels = Vec::with_capacity(alloc, boards.len())?;
     let mut n = 0;
     for pass in passes {
         let grant = source.handle(BoardNo(n as u8));
-        boards[n].lend(grant, pass, &mut parcels)?;
+        boards[n].lend(alloc, grant, pass, &mut parcels)?;
         n += 1;
     }
     Ok(parcels)
@@ -64,7 +64,7 @@ pub(crate) fn take_all_back<R: Wait, D: Device>(
     alloc: Global,
     boards: &mut [NamedBoard<D>],
     source: &mut Source,
-    parcels: Vec<Parcel<D>>,
+    parcels: Vec<BoxedParcel<D>>,
     boss: &mut Boss,
 ) -> Result<Vec<Vec<Entry>>, NoMemory>
     requires few { length boards.old ≤ 16 }

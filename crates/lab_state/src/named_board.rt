@@ -27,7 +27,7 @@ use hub_mail::{Boss, Pass};
 use lab_num::{NoMemory, Text};
 use log_merge::Note;
 use page_ram::PageRam;
-use parcel::Parcel;
+use parcel::{BoxedParcel, Parcel};
 use std::alloc::Global;
 use std::marker::Model;
 use std::sync::Wait;
@@ -92,6 +92,17 @@ fn take_posts<D: Device>(board: &mut Board<D>, posts: &mut Vec<Post>) -> Result<
     if starved { Err(NoMemory) } else { Ok(()) }
 }
 
+/// Puts what a board has noted at the end of the rest. Without memory for it it is lost.
+fn put_entries(entries: &mut Vec<Vec<Entry>>, noted: Vec<Entry>) -> Result<(), NoMemory>
+    ensures { OnOk result (all_entries entries.new.items ≡ all_entries entries.old.items ++ noted.items) }
+{
+    if noted.is_empty() {
+        return Ok(());
+    }
+    entries.push(noted)?;
+    Ok(())
+}
+
 /// Gives a board the slots of a grant.
 fn take_turn<D: Device>(board: &mut Board<D>, grant: &Handle) -> Result<(), NoMemory>
     requires within { grant.now.to ≤ 10000000000 }
@@ -135,10 +146,7 @@ fn step_board<D: Device>(
 {
     let stepped = take_turn(board, grant);
     let taken = take_posts(board, &mut made.posts);
-    let entries = board.take_entries();
-    if !entries.is_empty() {
-        made.entries.push(entries)?;
-    }
+    put_entries(&mut made.entries, board.take_entries())?;
     stepped?;
     taken
 }
@@ -157,29 +165,6 @@ fn wrapped<D: Device>(board: Board<D>, grant: Handle, pass: Pass) -> Parcel<D>
     // a grant has at most ten million million slots left
     let _left = grant.left();
     Parcel::new(board, grant, pass)
-}
-
-/// The board of a parcel and its grant. What the board has noted is put to the rest, and its pass is
-/// taken in.
-fn unwrapped<R: Wait, D: Device>(
-    rt: &R,
-    parcel: Parcel<D>,
-    boss: &mut Boss,
-    entries: &mut Vec<Vec<Entry>>,
-) -> Result<(Board<D>, Handle), NoMemory>
-    requires quiet { parcel.board.posts ≡ [] }
-    requires mail { parcel.pass.mail ≡ boss.old.mail }
-    ensures board { IfOk result (λ both. both.0 ≡ quiet parcel.board.view) }
-    ensures grant { IfOk result (λ both. both.1 ≡ parcel.grant) }
-    ensures posts { boss.new
-        ≡ record boss.old { taken = boss.old.taken ++ sent_by parcel.pass ∷ [] } }
-    ensures entries { OnOk result (all_entries entries.new.items
-        ≡ all_entries entries.old.items ++ parcel.board.entries) }
-{
-    let (mut board, grant, pass) = parcel.into_parts();
-    boss.take_in(rt, pass);
-    entries.push(board.take_entries())?;
-    Ok((board, grant))
 }
 
 /// What the log notes of a payload that a shown device was handed and answered so.
@@ -324,9 +309,10 @@ impl<D: Device> NamedBoard<D> {
     /// memory for that it is lost. Where there is no board nothing is put there.
     pub fn lend(
         &mut self,
+        alloc: Global,
         grant: Handle,
         pass: Pass,
-        parcels: &mut Vec<Parcel<D>>,
+        parcels: &mut Vec<BoxedParcel<D>>,
     ) -> Result<(), NoMemory>
         requires within { grant.to ≤ 10000000000 }
         requires part { grant ≡ part_of grant.from grant.to self.old }
@@ -339,7 +325,7 @@ impl<D: Device> NamedBoard<D> {
             ≡ parcels.old.items ++ lent pass.mail grant.from grant.to self.old) }
     {
         if let Some(board) = self.board.take() {
-            parcels.push(wrapped(board, grant, pass))?;
+            parcels.push(BoxedParcel::new(alloc, wrapped(board, grant, pass))?)?;
         }
         Ok(())
     }
@@ -349,7 +335,7 @@ impl<D: Device> NamedBoard<D> {
     pub fn take_back<R: Wait>(
         &mut self,
         rt: &R,
-        parcel: Parcel<D>,
+        parcel: BoxedParcel<D>,
         boss: &mut Boss,
         entries: &mut Vec<Vec<Entry>>,
     ) -> Result<Handle, NoMemory>
@@ -362,8 +348,11 @@ impl<D: Device> NamedBoard<D> {
         ensures entries { OnOk result (all_entries entries.new.items
             ≡ all_entries entries.old.items ++ parcel.board.entries) }
     {
-        let (board, grant) = unwrapped(rt, parcel, boss, entries)?;
+        let (mut board, grant, pass) = parcel.into_parcel().into_parts();
+        boss.take_in(rt, pass);
+        let noted = board.take_entries();
         self.fit(board);
+        put_entries(entries, noted)?;
         Ok(grant)
     }
 

@@ -6,7 +6,7 @@ ghost use Rattle.parcel.specs.Ran.{ran};
 use dev_core::Device;
 use floor_run::{Gate, Helpers};
 use lab_num::NoMemory;
-use parcel::{Parcel, run_parcels, run_parcels_with};
+use parcel::{BoxedParcel, run_parcels, run_parcels_with};
 use std::alloc::Global;
 use std::sync::Wait;
 use std::thread::Threads;
@@ -21,7 +21,7 @@ pub(crate) const WORTH_THREADS: u64 = 16_384;
 /// round, or none. Then a round starts threads of its own where it is worth them. No result depends on it.
 #[derive(Drop)]
 pub struct Team<D: Device + Send> {
-    helpers: Option<Helpers<Parcel<D>>>,
+    helpers: Option<Helpers<BoxedParcel<D>>>,
     workers: u8,
 }
 
@@ -80,10 +80,10 @@ impl<D: Device + Send> Team<D> {
         &self,
         rt: &R,
         alloc: Global,
-        parcels: Vec<Parcel<D>>,
+        parcels: Vec<BoxedParcel<D>>,
         workers: u8,
         gate: &G,
-    ) -> Result<Vec<Parcel<D>>, NoMemory>
+    ) -> Result<Vec<BoxedParcel<D>>, NoMemory>
         requires few { length parcels.items ≤ 16 }
         requires workers { (1 ≤ workers) × (workers ≤ 8) }
         requires sent { All (λ p. p.board.posts ≡ []) parcels.items }

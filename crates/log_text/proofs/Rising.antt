@@ -1,8 +1,8 @@
 -- Open lines that rise by member.
 use Rattle.std.proofs.Common.{◌≡◌, ◌∙◌, ℕ, zero, suc, ◌+◌, ◌-◌, ◌<◌, ◌≤◌, Bool, true, false, not, ◌==◌, ◌&&◌, nat_lt}
 use Rattle.std.proofs.Common.{Option, unwrap_or, List, [], ◌∷◌, ◌++◌, length, get_or, take, drop, filter, refl, sym, ap}
-use Rattle.std.proofs.Common.{subst, inl, inr, append_assoc, arith, length-append}
-use Rattle.std.proofs.lemmas.List.{drop_at, drop_more, get_or_default, take_at}
+use Rattle.std.proofs.Common.{subst, inl, inr, append_assoc, arith, length-append, set}
+use Rattle.std.proofs.lemmas.List.{drop_at, drop_more, get_or_default, length-take-le, set_split, set-get_or, take_at}
 use Rattle.std.specs.List.{list_all, list_any}
 use Rattle.std.proofs.lemmas.Bool.{cases_Bool, and_parts, and_from, and_cases, ltb-true, ltb-false, false≢true}
 use Rattle.std.proofs.lemmas.Bool.Decides.{nat_tests}
@@ -13,7 +13,7 @@ use Rattle.lab_num.specs.Key.{same_member}
 use Rattle.log_text.specs.declared.line.OpenLine.{OpenLine}
 use Rattle.log_text.specs.Line.{are_unended, blank, gathered, higher, is_ending, is_lower, is_unended, lower, own, rise}
 use Rattle.log_text.specs.Line.{with_byte}
-use Rattle.log_text.specs.Inner.Place.{place_of, stands_at}
+use Rattle.log_text.specs.Inner.Place.{goes_on, place_of, stands_at}
 use Rattle.log_text.proofs.Parts.{Apart, Found, Parted, Unfound, found, unfound, low_count, filter_passes, find_keeps}
 use Rattle.log_text.proofs.Parts.{find_passes, list_all-filter, list_all-weaker}
 
@@ -251,6 +251,17 @@ gathered_unended :
     is_unended (gathered line at byte) ≡ true
 gathered_unended line at byte none goes_on = grind (arith, nat_tests, list_any-append, length-append)
 
+-- ---- a line that is as it was
+
+pub kept :
+    (lines : List OpenLine) (n : ℕ) (line after : OpenLine) → line ≡ get_or lines n line → after ≡ line →
+    set lines n after ≡ lines
+kept lines n line after is same = ap (set lines n) (same ∙ is) ∙ set-get_or lines n line
+
+not_true : (b : Bool) → not b ≡ true → b ≡ false
+not_true false is = refl
+not_true true is = absurd (false≢true is)
+
 -- ---- taking a member's own line out, and putting one in
 
 module _ (m : Member) (lines : List OpenLine) (n : ℕ) (at : n ≡ place_of m lines) (are : are_unended lines ≡ true) where
@@ -278,6 +289,10 @@ module _ (m : Member) (lines : List OpenLine) (n : ℕ) (at : n ≡ place_of m l
       let within = (stands_parts stands).0 in
       is ∙ get_or_default lines n line (blank m) within
       ∙ sym (ap (λ (o : Option OpenLine). unwrap_or o (blank m)) (standing stands).first)
+
+  pub standing_own : stands_at m lines n ≡ true → get_or lines n (blank m) ≡ own m lines
+  standing_own stands =
+      sym (ap (λ (o : Option OpenLine). unwrap_or o (blank m)) (standing stands).first)
 
   pub taken_others : stands_at m lines n ≡ true → take n lines ++ drop (suc n) lines ≡ lower m lines ++ higher m lines
   taken_others stands = sym (standing stands).others
@@ -344,3 +359,39 @@ module _ (m : Member) (lines : List OpenLine) (n : ℕ) (at : n ≡ place_of m l
       ∙ put_back (lower m lines ++ higher m lines) (own m lines) longer_own refl refl refl goes_on_own)
       (between_unended m lines longer_own are
       (gathered_unended (own m lines) time byte (own_no_feed m lines are) goes_on_own) (own_member m lines))
+
+  -- a byte that ends no line, added to the member's own line in its place
+  module _ (goes : goes_on m lines n byte ≡ true) where
+    goes_parts : (stands_at m lines n ≡ true) × (is_ending (get_or lines n (blank m)) byte ≡ false)
+    goes_parts =
+        let parts = and_parts (stands_at m lines n) (not (is_ending (get_or lines n (blank m)) byte)) goes in
+        (parts.0, not_true (is_ending (get_or lines n (blank m)) byte) parts.1)
+
+    pub goes_within : n < length lines
+    goes_within = (stands_parts m lines n at are goes_parts.0).0
+
+    pub goes_open : is_ending (own m lines) byte ≡ false
+    goes_open =
+        subst (λ (line : OpenLine). is_ending line byte ≡ false) (standing_own m lines n at are goes_parts.0)
+        goes_parts.1
+
+    module _ (taken longer : OpenLine) (is : taken ≡ get_or lines n taken)
+        (made : longer ≡ gathered taken time byte) where
+      pub lengthened : set lines n longer ≡ with_byte lines m time byte
+      lengthened =
+          let is_own : taken ≡ own m lines = taken_own m lines n at are taken goes_parts.0 is in
+          let others = take n lines ++ drop (suc n) lines in
+          let count : length (take n lines) ≡ n = length-take-le n lines (omega (arith, goes_within)) in
+          let same : take n others ++ longer ∷ drop n others ≡ take n lines ++ longer ∷ drop (suc n) lines =
+          rw (
+            take_at (take n lines) (drop (suc n) lines) n count,
+            drop_at (take n lines) (drop (suc n) lines) n count,
+          ) refl in
+          set_split lines n longer goes_within ∙ sym same
+          ∙ put_back others taken longer (taken_others m lines n at are goes_parts.0) is_own made
+          (subst (λ (line : OpenLine). is_ending line byte ≡ false) (sym is_own) goes_open)
+
+      pub lengthened_unended : are_unended (set lines n longer) ≡ true
+      lengthened_unended =
+          subst (λ (after : List OpenLine). are_unended after ≡ true) (sym lengthened)
+          (with_byte_unended (own m lines) refl goes_open)

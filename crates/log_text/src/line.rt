@@ -1,14 +1,17 @@
 //! The line of one UART.
-ghost use Rattle.std.specs.Prelude.{◌≡◌, ◌++◌, OnOk, IfOk, string_bytes};
+ghost use Rattle.std.specs.Prelude.{◌≡◌, ◌++◌, ◌∷◌, [], OnErr, OnOk, codes, string_bytes};
 ghost use Rattle.std.specs.List.{flat_map};
 ghost use Rattle.log_text.specs.Line as line_spec;
 ghost use Rattle.log_text.specs.Log as log_spec;
+ghost use Rattle.log_text.specs.Names.{place_name};
+ghost use Rattle.log_text.specs.Number.{seconds};
 
 use crate::names::{board_name, device_name};
 use crate::number::Seconds;
 use lab_num::{Member, Micros, NoMemory, Rows};
 use log_merge::Names;
 use std::alloc::Global;
+use std::mem;
 
 /// The most bytes of a line.
 const MOST_BYTES: usize = 128;
@@ -22,14 +25,15 @@ pub struct OpenLine {
     pub bytes: Rows<u8>,
 }
 
-/// A line of this device that has not begun.
-pub fn blank(alloc: Global, member: Member) -> OpenLine
+/// A line of this device that has not begun, in the room of another one.
+pub fn blank(mut room: Vec<u8>, member: Member) -> OpenLine
     ensures { result ≡ line_spec.blank member }
 {
+    room.clear();
     OpenLine {
         member,
         at: Micros(0),
-        bytes: Rows::of(Vec::new(alloc)),
+        bytes: Rows::of(room),
     }
 }
 
@@ -48,19 +52,29 @@ pub fn is_ending(line: &OpenLine, byte: u8) -> bool
     byte == b'\n' || line.bytes.items().len() + 1 >= MOST_BYTES
 }
 
-/// The line with one byte more, sent at this time. A line feed is no part of it.
-pub fn gathered(line: OpenLine, at: Micros, byte: u8) -> Result<OpenLine, NoMemory>
-    ensures { IfOk result (λ longer. longer ≡ line_spec.gathered line at byte) }
+/// Adds a byte to the line, sent at this time. A line feed is no part of it. After an `Err` the line is as it
+/// was.
+pub fn gather(alloc: Global, line: &mut OpenLine, at: Micros, byte: u8) -> Result<(), NoMemory>
+    ensures ok { OnOk result (line.new ≡ line_spec.gathered line.old at byte) }
+    ensures err { OnErr result (line.new ≡ line.old) }
 {
-    let mut bytes = line.bytes.into_items();
     if byte != b'\n' {
-        bytes.push(byte)?;
+        push(alloc, &mut line.bytes, byte)?;
     }
-    Ok(OpenLine {
-        member: line.member,
-        at,
-        bytes: Rows::of(bytes),
-    })
+    line.at = at;
+    Ok(())
+}
+
+/// Puts a byte at the end of a list.
+fn push(alloc: Global, list: &mut Rows<u8>, byte: u8) -> Result<(), NoMemory>
+    ensures ok { OnOk result (list.new ≡ list.old ++ byte ∷ []) }
+    ensures err { OnErr result (list.new ≡ list.old) }
+{
+    let mut bytes = mem::replace(list, Rows::of(Vec::new(alloc))).into_items();
+    let pushed = bytes.push(byte);
+    *list = Rows::of(bytes);
+    pushed?;
+    Ok(())
 }
 
 /// Writes the line to the end of the text.
@@ -69,12 +83,32 @@ pub fn print(line: &OpenLine, names: &Names, text: &mut String) -> Result<(), No
     ensures { OnOk result (string_bytes text.new
         ≡ string_bytes text.old ++ log_spec.uart_line names.now line.now) }
 {
-    let at = Seconds(line.at);
-    let board = board_name(names, line.member.board);
-    let device = device_name(names, line.member);
-    write!(text, "[{at}] {board}/{device}: ")?;
+    print_time(line.at, text)?;
+    print_place(line.member, names, text)?;
     print_bytes(line.bytes.items(), text)?;
     text.push('\n')?;
+    Ok(())
+}
+
+/// Writes a time in brackets and a blank.
+fn print_time(at: Micros, text: &mut String) -> Result<(), NoMemory>
+    ensures { OnOk result (string_bytes text.new
+        ≡ string_bytes text.old ++ codes "[" ++ seconds at ++ codes "] ") }
+{
+    let at = Seconds(at);
+    write!(text, "[{at}] ")?;
+    Ok(())
+}
+
+/// Writes the name of a device, a colon and a blank.
+fn print_place(member: Member, names: &Names, text: &mut String) -> Result<(), NoMemory>
+    ensures { OnOk result (string_bytes text.new
+        ≡ string_bytes text.old ++ place_name names.now member ++ codes ": ") }
+{
+    text.push_str(board_name(names, member.board))?;
+    text.push('/')?;
+    text.push_str(device_name(names, member))?;
+    text.push_str(": ")?;
     Ok(())
 }
 

@@ -1,18 +1,19 @@
 //! The lines of all UARTs, and the text that items of the log make of them.
 ghost use Rattle.std.specs.Prelude.{◌≡◌, ◌++◌, ◌≤◌, [], length, Some, None, if◌then◌else◌, OnOk, OnErr};
-ghost use Rattle.std.specs.Prelude.{IfOk, IsTrue, string_bytes};
+ghost use Rattle.std.specs.Prelude.{IfOk, IsTrue, string_bytes, true};
 ghost use Rattle.std.specs.List.{list_all};
 ghost use Rattle.log_text.specs.Line as line_spec;
 ghost use Rattle.log_text.specs.Log as log_spec;
 ghost use Rattle.log_text.specs.Inner.Place as place_spec;
 
 use crate::item::{print_frame, print_note, print_pause, print_read, print_write};
-use crate::line::{OpenLine, blank, gathered, is_ending, is_unended, print};
+use crate::line::{OpenLine, blank, gather, is_ending, is_unended, print};
 use dev_core::What;
 use lab_num::{Member, Micros, NoMemory};
 use log_merge::{LogItem, Member0, Names};
 use std::alloc::Global;
 use std::marker::Model;
+use std::mem;
 
 /// The lines that have bytes and are not ended, which contracts see as their list, rising by
 /// member.
@@ -20,6 +21,9 @@ use std::marker::Model;
 pub struct Lines {
     alloc: Global,
     lines: Vec<OpenLine>,
+
+    /// The room of a line that has been printed, for one that begins.
+    room: Vec<u8>,
 }
 
 impl Model for Lines {
@@ -42,6 +46,7 @@ impl Lines {
         Lines {
             alloc,
             lines: Vec::new(alloc),
+            room: Vec::new(alloc),
         }
     }
 
@@ -54,7 +59,11 @@ impl Lines {
             return None;
         }
         let alloc = *list.allocator();
-        Some(Lines { alloc, lines: list })
+        Some(Lines {
+            alloc,
+            lines: list,
+            room: Vec::new(alloc),
+        })
     }
 
     /// The open lines, in rising order of their members.
@@ -104,6 +113,7 @@ impl Lines {
         Ok(Lines {
             alloc: self.alloc,
             lines: self.lines.clone()?,
+            room: Vec::new(self.alloc),
         })
     }
 
@@ -154,13 +164,44 @@ impl Lines {
         ensures lines { OnOk result (self.new ≡ line_spec.with_byte self.old member at byte) }
     {
         let place = self.place_of(member);
-        let line = self.take_out(place, member);
+        if self.goes_on(place, member, byte) {
+            self.lengthen(place, member, at, byte)?;
+            return Ok(());
+        }
+        let mut line = self.take_out(place, member);
         let is_ended = is_ending(&line, byte);
-        let line = gathered(line, at, byte)?;
+        gather(self.alloc, &mut line, at, byte)?;
         if is_ended {
-            return print(&line, names, text);
+            print(&line, names, text)?;
+            self.room = line.bytes.into_items();
+            return Ok(());
         }
         self.lines.insert(place, line)?;
+        Ok(())
+    }
+
+    /// Whether the member's own line stands at a place, and a byte does not end it.
+    fn goes_on(&self, place: usize, member: Member, byte: u8) -> bool
+        ensures { result ≡ place_spec.goes_on member self.now place byte }
+    {
+        self.stands_at(place, member) && !is_ending(&self.lines[place], byte)
+    }
+
+    /// Adds a byte to the member's own line, which stands at this place and does not end with it. After an `Err`
+    /// the lines are as they were.
+    fn lengthen(
+        &mut self,
+        place: usize,
+        member: Member,
+        at: Micros,
+        byte: u8,
+    ) -> Result<(), NoMemory>
+        requires place { place ≡ place_spec.place_of member self.old }
+        requires unended { IsTrue (line_spec.are_unended self.old) }
+        requires goes_on { place_spec.goes_on member self.old place byte ≡ true }
+        ensures { OnOk result (self.new ≡ line_spec.with_byte self.old member at byte) }
+    {
+        gather(self.alloc, &mut self.lines[place], at, byte)?;
         Ok(())
     }
 
@@ -186,7 +227,8 @@ impl Lines {
         ensures lines { self.new ≡ line_spec.lower member self.old ++ line_spec.higher member self.old }
     {
         if !self.stands_at(place, member) {
-            return blank(self.alloc, member);
+            let room = mem::replace(&mut self.room, Vec::new(self.alloc));
+            return blank(room, member);
         }
         self.lines.remove(place)
     }

@@ -7,3 +7,4 @@ pub mod Arguments
 pub mod Table
 pub mod Line
 pub mod Laws
+pub mod Inner

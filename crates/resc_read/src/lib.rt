@@ -4,6 +4,7 @@
 mod arguments;
 mod command;
 mod laws;
+mod one_text;
 mod read;
 mod sorts;
 mod variable;

@@ -9,9 +9,10 @@ ghost use Rattle.resc_read.specs.Table as table;
 
 use crate::arguments::{
     entry, name, name_and_delay, no_word, number, number_or_none, one_word, path, quantum,
-    speed_or_none, time, truth_or_none, two_words, variable,
+    speed_or_none, time, truth_or_none, two_words,
 };
 use crate::command::{Command, LineFault};
+use crate::one_text::{OneText, one_text};
 use crate::variable::is_assignment;
 use crate::words::words_of;
 use lab_num::Text;
@@ -70,26 +71,6 @@ fn create(alloc: Global, words: &[&str]) -> Result<Command, LineFault>
     }
 }
 
-fn select(alloc: Global, words: &[&str]) -> Result<Command, LineFault>
-    ensures { IsReadAs
-        (arguments.one arguments.name commands.Select (map (λ w. w.now) words.now)) result }
-{
-    let name = name(one_word(words)?)?;
-    Ok(Command::Select {
-        name: Text::of(alloc, name)?,
-    })
-}
-
-fn load_platform(alloc: Global, words: &[&str]) -> Result<Command, LineFault>
-    ensures { IsReadAs
-        (arguments.one arguments.path commands.LoadPlatform (map (λ w. w.now) words.now)) result }
-{
-    let path = path(one_word(words)?)?;
-    Ok(Command::LoadPlatform {
-        path: Text::of(alloc, path)?,
-    })
-}
-
 fn load_binary(alloc: Global, words: &[&str]) -> Result<Command, LineFault>
     ensures { IsReadAs
         (arguments.two arguments.path arguments.number commands.LoadBinary
@@ -101,26 +82,6 @@ fn load_binary(alloc: Global, words: &[&str]) -> Result<Command, LineFault>
     Ok(Command::LoadBinary {
         path: Text::of(alloc, path)?,
         at,
-    })
-}
-
-fn load_elf(alloc: Global, words: &[&str]) -> Result<Command, LineFault>
-    ensures { IsReadAs
-        (arguments.one arguments.path commands.LoadElf (map (λ w. w.now) words.now)) result }
-{
-    let path = path(one_word(words)?)?;
-    Ok(Command::LoadElf {
-        path: Text::of(alloc, path)?,
-    })
-}
-
-fn load_hex(alloc: Global, words: &[&str]) -> Result<Command, LineFault>
-    ensures { IsReadAs
-        (arguments.one arguments.path commands.LoadHex (map (λ w. w.now) words.now)) result }
-{
-    let path = path(one_word(words)?)?;
-    Ok(Command::LoadHex {
-        path: Text::of(alloc, path)?,
     })
 }
 
@@ -195,56 +156,6 @@ fn connect(alloc: Global, words: &[&str]) -> Result<Command, LineFault>
     })
 }
 
-fn show(alloc: Global, words: &[&str]) -> Result<Command, LineFault>
-    ensures { IsReadAs
-        (arguments.one arguments.entry commands.Show (map (λ w. w.now) words.now)) result }
-{
-    let dev = entry(one_word(words)?)?;
-    Ok(Command::Show {
-        dev: Text::of(alloc, dev)?,
-    })
-}
-
-fn include(alloc: Global, words: &[&str]) -> Result<Command, LineFault>
-    ensures { IsReadAs
-        (arguments.one arguments.path commands.Include (map (λ w. w.now) words.now)) result }
-{
-    let path = path(one_word(words)?)?;
-    Ok(Command::Include {
-        path: Text::of(alloc, path)?,
-    })
-}
-
-fn run_macro(alloc: Global, words: &[&str]) -> Result<Command, LineFault>
-    ensures { IsReadAs
-        (arguments.one arguments.variable commands.RunMacro (map (λ w. w.now) words.now)) result }
-{
-    let name = variable(one_word(words)?)?;
-    Ok(Command::RunMacro {
-        name: Text::of(alloc, name)?,
-    })
-}
-
-fn save(alloc: Global, words: &[&str]) -> Result<Command, LineFault>
-    ensures { IsReadAs
-        (arguments.one arguments.path commands.Save (map (λ w. w.now) words.now)) result }
-{
-    let path = path(one_word(words)?)?;
-    Ok(Command::Save {
-        path: Text::of(alloc, path)?,
-    })
-}
-
-fn load(alloc: Global, words: &[&str]) -> Result<Command, LineFault>
-    ensures { IsReadAs
-        (arguments.one arguments.path commands.Load (map (λ w. w.now) words.now)) result }
-{
-    let path = path(one_word(words)?)?;
-    Ok(Command::Load {
-        path: Text::of(alloc, path)?,
-    })
-}
-
 /// A command without arguments.
 fn alone(command: Command, words: &[&str]) -> Result<Command, LineFault>
     ensures { IsReadAs (arguments.none command (map (λ w. w.now) words.now)) result }
@@ -314,11 +225,11 @@ fn by_memory_words(alloc: Global, words: &[&str]) -> Result<Command, LineFault>
 {
     let after = words_from(words, 2);
     if begins(words, "sysbus", "LoadELF") {
-        load_elf(alloc, after)
+        one_text(alloc, OneText::LoadElf, after)
     } else if begins(words, "sysbus", "LoadBinary") {
         load_binary(alloc, after)
     } else if begins(words, "sysbus", "LoadHEX") {
-        load_hex(alloc, after)
+        one_text(alloc, OneText::LoadHex, after)
     } else if begins(words, "sysbus", "ReadDoubleWord") {
         read_word(after)
     } else if begins(words, "sysbus", "WriteDoubleWord") {
@@ -337,9 +248,9 @@ fn by_machine_words(alloc: Global, words: &[&str]) -> Result<Command, LineFault>
     if begins(words, "mach", "create") {
         create(alloc, after)
     } else if begins(words, "mach", "set") {
-        select(alloc, after)
+        one_text(alloc, OneText::Select, after)
     } else if begins(words, "machine", "LoadPlatformDescription") {
-        load_platform(alloc, after)
+        one_text(alloc, OneText::LoadPlatform, after)
     } else if begins(words, "machine", "Reset") {
         alone(Command::Reset, after)
     } else {
@@ -354,11 +265,11 @@ fn by_first_word(alloc: Global, words: &[&str]) -> Result<Command, LineFault>
 {
     let after = words_from(words, 1);
     match word_at(words, 0) {
-        "showAnalyzer" => show(alloc, after),
-        "include" => include(alloc, after),
-        "runMacro" => run_macro(alloc, after),
-        "Save" => save(alloc, after),
-        "Load" => load(alloc, after),
+        "showAnalyzer" => one_text(alloc, OneText::Show, after),
+        "include" => one_text(alloc, OneText::Include, after),
+        "runMacro" => one_text(alloc, OneText::RunMacro, after),
+        "Save" => one_text(alloc, OneText::Save, after),
+        "Load" => one_text(alloc, OneText::Load, after),
         "pause" => alone(Command::Pause, after),
         "start" => alone(Command::Start, after),
         "quit" => alone(Command::Quit, after),

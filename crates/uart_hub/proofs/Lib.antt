@@ -1,2 +1,3 @@
 -- Lemmas of uart_hub.
 pub mod HubLemmas
+pub mod RankLemmas

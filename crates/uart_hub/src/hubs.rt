@@ -8,6 +8,7 @@ ghost use Rattle.lab_num.specs.Route as routes;
 ghost use Rattle.uart_hub.specs.Hub.{members_of, delay_of, with_member};
 
 use crate::hub::Hub;
+use crate::ranks::Ranks;
 use lab_num::{Member, NoMemory};
 use std::alloc::Global;
 use std::marker::Model;
@@ -38,18 +39,21 @@ impl From<NoMemory> for HubFault {
 pub struct UartHubs {
     alloc: Global,
     hubs: Vec<Hub>,
+    ranks: Ranks,
 }
 
 impl Model for UartHubs {
     ghost use Rattle.std.specs.Prelude.{List};
     ghost use Rattle.lab_num.specs.Route.{StandOnce};
     ghost use Rattle.uart_hub.specs.Hub as hub_spec;
+    ghost use Rattle.uart_hub.specs.Inner.Rank.{AreRanks};
 
     ghost Value = { List hub_spec.Hub };
 
     ghost view = { λ h. h.hubs.items };
 
-    ghost invariant = { λ h. StandOnce (hub_spec.members_of h.hubs.items) };
+    ghost invariant = { λ h.
+        StandOnce (hub_spec.members_of h.hubs.items) × AreRanks h.ranks h.hubs.items };
 }
 
 impl UartHubs {
@@ -60,6 +64,7 @@ impl UartHubs {
         UartHubs {
             alloc,
             hubs: Vec::new(alloc),
+            ranks: Ranks::new(alloc),
         }
     }
 
@@ -96,7 +101,11 @@ impl UartHubs {
         ensures { option_map (λ hub. hub.now) result
             ≡ find (λ hub. has_member hub.members member) self.now }
     {
-        self.hubs.iter().find(|hub| hub.contains(member))
+        let rank = self.ranks.of(member);
+        if rank == 0 {
+            return None;
+        }
+        Some(&self.hubs[rank - 1])
     }
 
     fn is_connected(&self, member: Member) -> bool
@@ -116,7 +125,9 @@ impl UartHubs {
         if self.is_connected(member) {
             return Err(HubFault::Already);
         }
+        self.ranks.reach(member)?;
         self.hubs[hub as usize].push(member)?;
+        self.ranks.put(member, hub as usize + 1);
         Ok(())
     }
 

@@ -3,6 +3,7 @@
 
 mod hub;
 mod hubs;
+mod ranks;
 
 pub use hub::Hub;
 pub use hubs::{HubFault, UartHubs};

@@ -20,7 +20,7 @@ returns-then-begins-3 c =
       sym c.begins-else-begins.ensures ∙ c.if-begins-2.false,
       sym c.begins-else-begins-2.ensures ∙ c.if-begins-3.true,
       sym c.words_from-after.ensures,
-    ) c.load_hex.ensures
+    ) c.one_text-then-begins-3.ensures
 
 pub returns-then-begins-4 : goal.returns-then-begins-4
 unfolding by_memory_rows

@@ -3,8 +3,8 @@ use Rattle.log_text.specs.declared.line.OpenLine.{OpenLine}
 use Rattle.log_text.proofs.Rising.{absent_own, absent_others, others_unended, taken_own, taken_others}
 use Rattle.log_text.proofs.lines.Lines.take_out.Goals as goal
 
-pub invariant_of-self : goal.invariant_of-self
-invariant_of-self c =
+pub invariant_of-self-2 : goal.invariant_of-self-2
+invariant_of-self-2 c =
     let held : c.self.inside.lines.items ≡ c.args.self.now = c.self.view_is in
     let stands = sym c.stands_at.ensures ∙ c.if-not-stands_at.false in
     rw (
@@ -21,7 +21,8 @@ returns-then-not-stands_at-clause-line c =
 
 pub returns-then-not-stands_at-clause-lines : goal.returns-then-not-stands_at-clause-lines
 returns-then-not-stands_at-clause-lines c =
-    absent_others c.args.member c.args.self.now c.args.place c.requires.place c.requires.unended
+    c.self.view_is
+    ∙ absent_others c.args.member c.args.self.now c.args.place c.requires.place c.requires.unended
     (sym c.stands_at.ensures ∙ c.if-not-stands_at.true)
 
 pub returns-clause-line : goal.returns-clause-line

@@ -5,21 +5,30 @@ use Rattle.lab_num.specs.Change.{change_at}
 use Rattle.lab_num.specs.Route.{is_connected}
 use Rattle.uart_hub.specs.Hub.{Hub, members_of, with_member}
 use Rattle.uart_hub.proofs.HubLemmas.{connected_once, set-member, members-connected}
+use Rattle.uart_hub.proofs.RankLemmas.{ranks_connected, ranks_kept}
 use Rattle.uart_hub.proofs.hubs.UartHubs.connect.Goals as goal
 
 pub invariant_of-self-2 : goal.invariant_of-self-2
 invariant_of-self-2 c =
     let hubs = c.self.inside.hubs.items in
-    let below : c.args.hub < length (members_of c.self.inside.hubs.items) =
-    omega (arith, ap length c.self.view_is, length-map c.self.inside.hubs.items (λ (hub : Hub). hub.members)) in
-    let absent : is_connected (members_of c.self.inside.hubs.items) c.args.member ≡ false =
-    ap (λ hubs. is_connected (members_of hubs) c.args.member) c.self.view_is ∙ sym c.is_connected.ensures
+    let m = c.args.member in
+    let i = c.args.hub in
+    let within : i < length hubs = omega (arith, ap length c.self.view_is) in
+    let below : i < length (members_of hubs) = omega (arith, within, length-map hubs (λ (hub : Hub). hub.members)) in
+    let absent : is_connected (members_of hubs) m ≡ false =
+    ap (λ hubs. is_connected (members_of hubs) m) c.self.view_is ∙ sym c.is_connected.ensures
     ∙ c.if-is_connected.false in
+    let low = c.reach.ensures.low in
     rw (
-      set-member hubs c.args.hub c.args.member c.index_mut.ensures.value c.in_ok-push.ensures.ok,
-      members-connected hubs c.args.hub c.args.member,
+      set-member hubs i m c.index_mut.ensures.value c.in_ok-push.ensures.ok,
+      members-connected hubs i m,
+      c.put.ensures,
+    ) (
+      connected_once (members_of hubs) i m below absent c.self.invariant.0,
+      ranks_connected c.reach.new.self hubs i m
+          (ranks_kept c.self.inside.ranks c.reach.new.self hubs c.reach.ensures.same c.self.invariant.1) low
+          (c.in_ok-reach.ensures {u = tt}).room absent within,
     )
-    (connected_once (members_of hubs) c.args.hub c.args.member below absent c.self.invariant)
 
 pub returns-clause-ok : goal.returns-clause-ok
 returns-clause-ok c =

@@ -1,7 +1,7 @@
 use Rattle.std.proofs.Common.{◌≡◌, ◌∙◌, length, sym, ap, arith}
 use Rattle.hub_mail.specs.Pass.{Pass}
-use Rattle.mail_tests.proofs.Passes.{last_pass, none_ready, one_ready}
-use Rattle.mail_tests.proofs.mails.all_posted.Goals as goal
+use Rattle.floor_tests.proofs.Passes.{last_pass, none_ready, one_ready}
+use Rattle.floor_tests.proofs.mails.all_posted.Goals as goal
 
 pub loop-pass-init : goal.loop-pass-init
 loop-pass-init g c =

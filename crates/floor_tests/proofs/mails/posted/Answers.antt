@@ -1,6 +1,6 @@
 use Rattle.std.proofs.Common.{◌∙◌}
-use Rattle.mail_tests.proofs.Passes.{one_posted}
-use Rattle.mail_tests.proofs.mails.posted.Goals as goal
+use Rattle.floor_tests.proofs.Passes.{one_posted}
+use Rattle.floor_tests.proofs.mails.posted.Goals as goal
 
 pub loop-number-preserved : goal.loop-number-preserved
 loop-number-preserved g c =

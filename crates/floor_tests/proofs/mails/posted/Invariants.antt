@@ -1,6 +1,6 @@
 use Rattle.std.proofs.Common.{◌≡◌}
 use Rattle.hub_mail.specs.Posts.{IsAbove}
-use Rattle.mail_tests.proofs.mails.posted.Given as goal
+use Rattle.floor_tests.proofs.mails.posted.Given as goal
 
 abbrev pub invariant-loop-number : goal.invariant-loop-number
 invariant-loop-number g l = record {

@@ -1,6 +1,6 @@
 use Rattle.std.proofs.Common.{◌≡◌, ◌+◌, All, length}
 use Rattle.hub_mail.specs.Pass.{fresh_passes}
-use Rattle.mail_tests.proofs.mails.all_posted.Given as goal
+use Rattle.floor_tests.proofs.mails.all_posted.Given as goal
 
 abbrev pub invariant-loop-pass : goal.invariant-loop-pass
 invariant-loop-pass g l = record {

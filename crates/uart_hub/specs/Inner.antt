@@ -1,0 +1,2 @@
+-- What serves private contracts and proofs alone.
+pub mod Rank
