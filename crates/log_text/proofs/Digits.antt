@@ -1,6 +1,7 @@
 -- What a format writes of numbers.
 use Rattle.std.proofs.Common.{◌≡◌, ◌∙◌, ℕ, ◌+◌, ◌-◌, ◌/◌, ◌%◌, ◌^◌, ◌<◌, ◌≤◌, List, [], ◌∷◌, ◌++◌, false, codes, ◌⊎◌}
-use Rattle.std.proofs.Common.{append-nil, append_assoc, arith, ap, sym, refl, inl, inr, length, length-append, nat_lt, replicate}
+use Rattle.std.proofs.Common.{append-nil, append_assoc, arith, ap, sym, refl, inl, inr, length, length-append, nat_lt}
+use Rattle.std.proofs.Common.{replicate}
 use Rattle.std.proofs.Math.Nat.{sub-zero, div-div-eq-div-mul, div-eq_of_lt, div-le_self, mod-eq_of_lt}
 use Rattle.std.proofs.lemmas.Bool.{cases_Bool, ltb-true, ltb-false}
 use Rattle.std.proofs.lemmas.Fmt.{decimal_digit, decimal_step}
