@@ -7,7 +7,7 @@ ghost use Rattle.log_text.specs.Names.{place_name};
 ghost use Rattle.log_text.specs.Number.{seconds};
 
 use crate::names::{board_name, device_name};
-use crate::number::write_seconds;
+use crate::number::Seconds;
 use lab_num::{Member, Micros, NoMemory, Rows};
 use log_merge::Names;
 use std::alloc::Global;
@@ -95,9 +95,8 @@ fn print_time(at: Micros, text: &mut String) -> Result<(), NoMemory>
     ensures { OnOk result (string_bytes text.new
         ≡ string_bytes text.old ++ codes "[" ++ seconds at ++ codes "] ") }
 {
-    text.push('[')?;
-    write_seconds(at, text)?;
-    text.push_str("] ")?;
+    let at = Seconds(at);
+    write!(text, "[{at}] ")?;
     Ok(())
 }
 

@@ -1,9 +1,5 @@
 //! Numbers as the log prints them.
-ghost use Rattle.std.specs.Prelude.{◌≡◌, ◌+◌, ◌<◌, ◌++◌, ◌∷◌, [], OnOk, string_bytes};
-ghost use Rattle.std.specs.Fmt.{decimal};
-ghost use Rattle.log_text.specs.Number.{filled, seconds};
-
-use lab_num::{Micros, NoMemory};
+use lab_num::Micros;
 use std::fmt;
 
 /// A time, shown in seconds with six digits of microseconds.
@@ -21,51 +17,6 @@ impl fmt::Display for Seconds {
         let part = self.0.0 % 1_000_000;
         write!(f, "{whole}.{part:06}")
     }
-}
-
-/// Writes a time as `Seconds` shows it.
-#[tactic(auto, unfolding(crate::specs::Number::seconds))]
-pub fn write_seconds(at: Micros, text: &mut String) -> Result<(), NoMemory>
-    ensures { OnOk result (string_bytes text.new ≡ string_bytes text.old ++ seconds at) }
-{
-    write_whole(at.0 / 1_000_000, text)?;
-    text.push('.')?;
-    write_part(at.0 % 1_000_000, text)
-}
-
-/// Writes the digits of a number.
-#[tactic(auto, using(std::proofs::lemmas::Fmt::decimal_digit))]
-fn write_whole(number: u64, text: &mut String) -> Result<(), NoMemory>
-    ensures { OnOk result (string_bytes text.new ≡ string_bytes text.old ++ decimal number) }
-{
-    if number < 10 {
-        return write_digit(number, text);
-    }
-    write!(text, "{number}")?;
-    Ok(())
-}
-
-/// Writes the six digits of a number below a million.
-fn write_part(number: u64, text: &mut String) -> Result<(), NoMemory>
-    requires { number < 1000000 }
-    ensures { OnOk result (string_bytes text.new ≡ string_bytes text.old ++ filled 6 (decimal number)) }
-{
-    write_digit(number / 100_000, text)?;
-    write_digit(number / 10_000 % 10, text)?;
-    write_digit(number / 1_000 % 10, text)?;
-    write_digit(number / 100 % 10, text)?;
-    write_digit(number / 10 % 10, text)?;
-    write_digit(number % 10, text)?;
-    Ok(())
-}
-
-/// Writes a digit.
-fn write_digit(digit: u64, text: &mut String) -> Result<(), NoMemory>
-    requires { digit < 10 }
-    ensures { OnOk result (string_bytes text.new ≡ string_bytes text.old ++ (48 + digit) ∷ []) }
-{
-    text.push(char::from(b'0' + digit as u8))?;
-    Ok(())
 }
 
 /// An address or a value, shown as `0x` and eight lower-case hexadecimal digits.
