@@ -128,11 +128,11 @@ module _ (s : Shape) (f : Form) (fits : Fits s f) where
       → AgreesFrom w words (texts_from f r words)
   unfolding texts_from
   agree [] utf8 r w stands =
-      subst (λ k. Agrees k (settled s.rules w.held).rows (texts_at r.place r.given)) (sym (rest_none s w))
-      (agree_at_end r.place r.left r.given w stands)
+      subst (λ k. Agrees k (settled s.rules w.held).rows (texts_at r.expected r.given)) (sym (rest_none s w))
+      (agree_at_end r.expected r.left r.given w stands)
   agree (word ∷ words) utf8 r w stands =
       go (λ next st. agree words utf8.1 next (walked s.rules [] w word) st) (take_word f r word)
-      (step_at r.place r.left r.given w word utf8.0 stands)
+      (step_at r.expected r.left r.given w word utf8.0 stands)
     where
       go : ((next : Reading) → Stands s f next (walked s.rules [] w word)
           → AgreesFrom (walked s.rules [] w word) words (texts_from f next words))

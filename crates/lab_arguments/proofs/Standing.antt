@@ -76,7 +76,7 @@ StandsAt s f (text_of_option name) r w = (rows : List Row) × (position : ℕ)
     × (rows ≡ rows_of_texts r.given) × (is_among name f.option_names ≡ true)
 
 abbrev pub Stands : Shape → Form → Reading → Walk → Type 0
-Stands s f r w = StandsAt s f r.place r w
+Stands s f r w = StandsAt s f r.expected r w
 
 -- the walk holds a fault that each next word, and the end, will find
 abbrev pub IsDoomed : Shape → Walk → Type 0

@@ -84,7 +84,7 @@ place_of true = plain_only
 place_of false = anything
 
 abbrev pub reading : Expected → List Text → List (Text × Text) → Reading
-reading place left given = record { place = place; left = left; given = given }
+reading place left given = record { expected = place; left = left; given = given }
 
 module _ (s : Shape) (t : Bool) (rows : List Row) (pending : Option (Text × List Text)) (position : ℕ)
     (left : List Text) (w : Walk) (is : w ≡ stand rows pending idle position (t || false))
