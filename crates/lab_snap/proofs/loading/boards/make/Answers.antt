@@ -9,13 +9,13 @@ use Rattle.lab_snap.proofs.MadeBoard.{few_memories, for_fitted, half_made, has_f
 use Rattle.lab_snap.proofs.MadeBoard.{one_more_memory}
 use Rattle.lab_snap.proofs.loading.boards.make.Goals as goal
 
-pub encode_memory-requires-clause-has_plan : goal.encode_memory-requires-clause-has_plan
-encode_memory-requires-clause-has_plan g c =
+pub put_memory-requires-clause-has_plan : goal.put_memory-requires-clause-has_plan
+put_memory-requires-clause-has_plan g c =
     has_fitted c.args.lab.now c.args.b.0 (half_made c.args.b.0 c.args.plan c.loop-memory.yielded)
     c.loop-memory.invariant.lab c.requires.exists
 
-pub encode_memory-requires-clause-part : goal.encode_memory-requires-clause-part
-encode_memory-requires-clause-part g c =
+pub put_memory-requires-clause-part : goal.put_memory-requires-clause-part
+put_memory-requires-clause-part g c =
     let turn = YieldsList-turn
     (YieldsList-from_vec {s = c.into_iter-memory-iterator.result} c.args.memories (search rules) (search rules))
     c.loop-memory.yielded c.loop-memory.memory-iterator c.loop-memory.yielded_by c.next.result c.next.new.self
@@ -26,8 +26,8 @@ encode_memory-requires-clause-part g c =
     (next_below c.args.b.0 c.args.plan c.args.memories c.loop-memory.yielded c.in-Some.memory c.requires.sizes
     turn.0 turn.1))
 
-pub encode_memory-requires-clause-size : goal.encode_memory-requires-clause-size
-encode_memory-requires-clause-size g c =
+pub put_memory-requires-clause-size : goal.put_memory-requires-clause-size
+put_memory-requires-clause-size g c =
     let turn = YieldsList-turn
     (YieldsList-from_vec {s = c.into_iter-memory-iterator.result} c.args.memories (search rules) (search rules))
     c.loop-memory.yielded c.loop-memory.memory-iterator c.loop-memory.yielded_by c.next.result c.next.new.self
@@ -62,7 +62,7 @@ loop-memory-preserved g c =
       part = omega (arith, c.loop-memory.invariant.part, length_push c.loop-memory.yielded c.in-Some.memory);
       lab =
           one_more_memory c.args.lab.now c.args.b.0 c.args.plan c.loop-memory.yielded c.in-Some.memory
-          c.loop-memory.invariant.part c.loop-memory.invariant.lab c.encode_memory.ensures
+          c.loop-memory.invariant.part c.loop-memory.invariant.lab c.put_memory.ensures
           (next_made c.args.b.0 c.args.plan c.args.memories c.loop-memory.yielded c.in-Some.memory c.requires.sizes
           turn.0 turn.1);
     }
