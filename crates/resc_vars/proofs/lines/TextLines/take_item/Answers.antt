@@ -9,14 +9,14 @@ use Rattle.resc_vars.proofs.lines.TextLines.take_item.Goals as goal
 pub first_item-requires-clause-ends : goal.first_item-requires-clause-ends
 first_item-requires-clause-ends c =
     let held = string_bytes c.self.inside.text.value in
-    let at = c.self.inside.place.at in
+    let at = c.self.inside.extent.at in
     let same : c.as_str.result.now ≡ held = cc in
     rw (c.range_from-text.ensures.value, same) (take at held, sym (take-append-drop at held))
 
 pub extent_of-self-inside-requires : goal.extent_of-self-inside-requires
 extent_of-self-inside-requires c =
     let held = string_bytes c.self.inside.text.value in
-    let at = c.self.inside.place.at in
+    let at = c.self.inside.extent.at in
     let same : c.as_str.result.now ≡ held = cc in
     let also : c.as_str-in-Some.result.now ≡ held = cc in
     let text : c.range_from-text.result.now ≡ drop at held = c.range_from-text.ensures.value ∙ ap (drop at) same in
