@@ -17,7 +17,7 @@ ghost use Rattle.lab_top.specs.Request.{request_of};
 ghost use Rattle.lab_top.specs.Transcript.{Further, Transcript, transcript, run_of, commands_of, from, loading};
 ghost use Rattle.lab_top.specs.Transcript.{Script, Usage, Done};
 ghost use Rattle.lab_top.specs.Headline.{Course, IsWhole, WritesPart, WritesUsage, AsksPart, IsUncut, outside};
-ghost use Rattle.lab_top.specs.Headline.{Outside, IsUsageBy, IsNoUsage, OnRefused, final};
+ghost use Rattle.lab_top.specs.Headline.{Outside as Seen, IsUsageBy, IsNoUsage, OnRefused, final};
 ghost use Rattle.lab_top.specs.Inner.Course.{IsEnd, IsTaken};
 ghost use Rattle.lab_top.specs.Inner.Lent.{ForHeld, Goes, OnlyUses, told_of};
 ghost use Rattle.lab_top.specs.Inner.Stored.{IsStored, IsTried, IsUnspent, lent, store_of};
@@ -384,8 +384,8 @@ fn take_back<D: Device, K: Sink, S: Store>(
 ) -> Result<Monitor<D>, Status>
     requires { monitor.ended ≡ false }
     ensures course { ForSome (S.kept store.old) (λ kept.
-        (all : Transcript) (further : Further) (old : Outside) (asked : AskedNames) →
-        ((new : Outside) (stored : Result Running (StoreHalt Running)) →
+        (all : Transcript) (further : Further) (old : Seen) (asked : AskedNames) →
+        ((new : Seen) (stored : Result Running (StoreHalt Running)) →
         IsStored (loading further kept line.name (line_in line.file line.line) monitor.state) kept further
         (line_in line.file line.line) (store_of S.Store (K.written out.old) asked store.old) new stored →
         IsStored all kept further (line_in line.file line.line) old new stored) →
@@ -418,7 +418,7 @@ fn stop_by<D: Device, K: Sink>(
     out: &mut K,
 ) -> Status
     requires { monitor.old.spent ≡ false }
-    ensures course { (all : Transcript) (kept : Held) (further : Further) (old mid : Outside) →
+    ensures course { (all : Transcript) (kept : Held) (further : Further) (old mid : Seen) →
         IsStored all kept further (line_in file line) old (record mid { written = K.written out.old })
         (lent monitor.old (Err halt)) →
         Course all kept result old (record mid { written = K.written out.new }) }
@@ -446,7 +446,7 @@ fn go_on<D: Device, K: Sink>(
     out: &mut K,
 ) -> Result<Monitor<D>, Status>
     requires { IsUnspent stored }
-    ensures course { (all : Transcript) (kept : Held) (further : Further) (old mid : Outside) →
+    ensures course { (all : Transcript) (kept : Held) (further : Further) (old mid : Seen) →
         IsStored all kept further (line_in file line) old (record mid { written = K.written out.old }) stored →
         IsTaken all kept further old (record mid { written = K.written out.new }) result }
     ensures same { IfOk result (λ monitor. stored ≡ Ok monitor) }
