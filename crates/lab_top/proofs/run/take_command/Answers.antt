@@ -1,4 +1,4 @@
-use Rattle.std.proofs.Common.{suc}
+use Rattle.std.proofs.Common.{rules, suc}
 use Rattle.lab_state.specs.Run.{run}
 use Rattle.lab_top.specs.Transcript.{from}
 use Rattle.lab_top.specs.Inner.Lent.{told_of}
@@ -15,3 +15,13 @@ returns-in-Ok-Some-clause-course g c = λ held is kept keeps more.
     (c.try_command.ensures.course held is kept keeps more) in
     c.take_back.ensures.course kept tried.0 (from (suc more) run held kept c.args.monitor.state) (from more run held)
     before (g.F.Files.asked c.try_command.new.files) tried.1
+
+pub returns-in-Err-clause-outside : goal.returns-in-Err-clause-outside
+returns-in-Err-clause-outside g c = record {
+  files_same = search rules;
+  out_same = search rules;
+  store_same = search rules;
+  reads = search rules;
+  writes = search rules;
+  stores = search rules;
+}
