@@ -43,6 +43,7 @@ use Rattle.board.proofs.ListLemmas.{any_at, passes_at, All-by_place, counted_at,
 use Rattle.board.proofs.ListLemmas.{range_passes, set_set}
 use Rattle.std.proofs.lemmas.List.Elements.{All-map, All-set}
 use Rattle.std.proofs.lemmas.List.Sums.{get_or-le-sum_by}
+use Rattle.std.proofs.lemmas.Bool.{and_parts}
 
 -- the bytes of a memory of the plan
 memory-size :
@@ -61,15 +62,6 @@ memory-count s fit = rw (← fit.sizes) (length-map s.memories length)
 device-count : (s : Space) → IsFit s → length s.plan.kinds ≡ length s.devices
 device-count s fit = rw (← fit.kinds) (length-map s.devices (λ f. kind_of f.state))
 
--- of two tests that are passed
-second_of : (a b : Bool) → (a && b) ≡ true → b ≡ true
-second_of true b both = both
-second_of false b both = absurd (cc)
-
-first_one : (a b : Bool) → (a && b) ≡ true → a ≡ true
-first_one true b both = refl
-first_one false b both = absurd (cc)
-
 -- regions stand for memories and devices that there are
 is-part :
     (s : Space) (i : ℕ) (region : Region) → IsFit s → slice_get s.plan.regions i ≡ Some region →
@@ -77,7 +69,7 @@ is-part :
 is-part s i region fit there =
     rw (memory-count s fit, device-count s fit) at
     (passes_at (λ r. is_part (length s.plan.memories) (length s.plan.kinds) r.kind) s.plan.regions i region
-    (second_of _ _ fit.plan.no_others) there)
+    (and_parts _ _ fit.plan.no_others).1 there)
 
 -- what lies in a region lies in what stands there
 pub lies :

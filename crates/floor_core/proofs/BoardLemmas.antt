@@ -1,7 +1,7 @@
 -- One item of a list, by its place.
 use Rattle.std.proofs.Common.{◌≡◌, ◌≢◌, ◌⊎◌, ◌↔◌, ℕ, zero, suc, ◌<◌, List, [], ◌∷◌, length, get_or, drop}
 use Rattle.std.proofs.Common.{refl, sym, ◌∙◌, ap, subst, inl, inr, arith, Option, Some, None, IsSomeAnd, slice_get, set}
-use Rattle.std.proofs.lemmas.Option.{slice_get_read}
+use Rattle.std.proofs.lemmas.Option.{slice_get_read, same_Some}
 use Rattle.lab_num.specs.Change.{change_at}
 
 -- what is said of an item that may be there is said of the item that was read
@@ -50,21 +50,12 @@ pub said_of :
     i ≡ k → k < length items → x ≡ get_or items i x → IsSomeAnd (slice_get items k) P → P x
 said_of P items k i x place below read said = subst (λ o. IsSomeAnd o P) (read_at items k i x place below read) said
 
-pub length-changed :
-    {A : Type 0} (step : A → A) (xs : List A) (i : ℕ) → length (change_at xs i step) ≡ length xs
-length-changed step [] i = refl
-length-changed step (x ∷ xs) zero = refl
-length-changed step (x ∷ xs) (suc i) = ap suc (length-changed step xs i)
-
-unsome : {A : Type 0} (x y : A) → Some x ≡ Some y → x ≡ y
-unsome x y is = cc
-
 -- after a change an item is the changed one, or one that was there
 pub changed_get :
     {A : Type 0} (step : A → A) (xs : List A) (k i : ℕ) (y : A) → slice_get (change_at xs k step) i ≡ Some y →
     ((i ≡ k) × (x : A) × (slice_get xs i ≡ Some x) × (y ≡ step x)) ⊎ ((i ≢ k) × (slice_get xs i ≡ Some y))
 changed_get step [] k i y is = absurd (cc)
-changed_get step (x ∷ xs) zero zero y is = inl (refl, x, refl, sym (unsome (step x) y is))
+changed_get step (x ∷ xs) zero zero y is = inl (refl, x, refl, sym (same_Some (step x) y is))
 changed_get step (x ∷ xs) zero (suc i) y is = inr ((λ h. omega arith), is)
 changed_get step (x ∷ xs) (suc k) zero y is = inr ((λ h. omega arith), is)
 changed_get step (x ∷ xs) (suc k) (suc i) y is =
@@ -81,7 +72,3 @@ changed_get step (x ∷ xs) (suc k) (suc i) y is =
 pub first_of : {A : Type 0} (xs : List A) → xs ≢ [] → (x : A) × (xs ≡ x ∷ drop 1 xs)
 first_of [] some = absurd (some refl)
 first_of (x ∷ xs) some = (x, refl)
-
-pub first_none : {A : Type 0} (xs : List A) → slice_get xs 0 ≡ None → xs ≡ []
-first_none [] is = refl
-first_none (x ∷ xs) is = absurd (cc)

@@ -21,16 +21,6 @@ use Rattle.lab_snap.specs.Inner.Building.{with_memories}
 
 -- ---- the last of a list
 
-changed_last :
-    {A : Type 0} (xs : List A) (x : A) (f : A → A) → change_at (xs ++ x ∷ []) (length xs) f ≡ xs ++ f x ∷ []
-changed_last [] x f = refl
-changed_last (y ∷ ys) x f = ap (λ l. y ∷ l) (changed_last ys x f)
-
-pub change_last :
-    {A : Type 0} (xs : List A) (i : ℕ) (x : A) (f : A → A) → i ≡ length xs →
-    change_at (xs ++ x ∷ []) i f ≡ xs ++ f x ∷ []
-change_last xs i x f is = rw is (changed_last xs x f)
-
 -- ---- a board that was made, and its memories
 
 -- its first memories are these, and the others have 0

@@ -4,6 +4,7 @@ use Rattle.std.proofs.Common.{[], ◌∷◌, arith}
 use Rattle.std.specs.Prelude.{Option, Some, None, nat_lt, if◌then◌else◌, find, Contains}
 use Rattle.std.proofs.lemmas.Bool.{cases_Bool}
 use Rattle.std.specs.Option.{option_map}
+use Rattle.std.proofs.lemmas.Option.{same_Some}
 use Rattle.rv_decode.specs.declared.instruction.Op.{Op}
 use Rattle.rv_decode.specs.declared.instruction.Format.{Format}
 use Rattle.rv_decode.specs.declared.instruction.Format.TheVariants.{R, I, IShift, IUnsigned, S, B, U, J, Fixed}
@@ -92,10 +93,6 @@ op-fields_by U op w = refl
 op-fields_by J op w = refl
 op-fields_by Fixed op w = refl
 
--- two answers that are one
-pub Some-is : {m n : ℕ} → Some m ≡ Some n → m ≡ n
-Some-is is = cc
-
 -- a row that is found is in the table
 Contains-found : (p : Row → Bool) (rs : List Row) (r : Row) → find p rs ≡ Some r → Contains rs r
 Contains-found p [] r found = cc
@@ -180,7 +177,7 @@ found_fields :
 found_fields None i f a b c some p q r s = cc
 found_fields (Some row) i f a b c some p q r s =
     let format : row.format ≡ f = cc in
-    rw (format, fixed_of-fields f row.bits some, Some-is q, Some-is r, Some-is s) refl
+    rw (format, fixed_of-fields f row.bits some, same_Some _ _ q, same_Some _ _ r, same_Some _ _ s) refl
 
 -- the word of an instruction of a format with fields
 pub encoded-fields :
