@@ -37,11 +37,11 @@ cores_back : (cores : List Core) → map core_of (map state_of cores) ≡ cores
 cores_back [] = refl
 cores_back (core ∷ cores) = ap (λ rest. core ∷ rest) (cores_back cores)
 
-timer_back : (timer : Option Timer) → timer_to timer (option_map (λ t. t.state) timer) ≡ timer
+pub timer_back : (timer : Option Timer) → timer_to timer (option_map (λ t. t.state) timer) ≡ timer
 timer_back None = refl
 timer_back (Some timer) = refl
 
-controller_back :
+pub controller_back :
     (controller : Option Controller) →
     controller_to controller (option_map (λ c. c.state) controller) ≡ controller
 controller_back None = refl
@@ -62,7 +62,7 @@ brought_back v =
 
 -- ---- the state of a board that was brought to one
 
-states_there : (harts : List HartState) → map state_of (map core_of harts) ≡ harts
+pub states_there : (harts : List HartState) → map state_of (map core_of harts) ≡ harts
 states_there [] = refl
 states_there (hart ∷ harts) = ap (λ rest. hart ∷ rest) (states_there harts)
 
@@ -82,7 +82,7 @@ controller_there (Some controller) (Some state) fits = refl
 controller_there None (Some state) fits = absurd fits
 controller_there (Some controller) None fits = absurd fits
 
-devices_there :
+pub devices_there :
     (states : List DevState) (shown : List Bool) → length shown ≡ length states →
     map (λ f. f.state) (devices_in states shown) ≡ states
 devices_there [] shown same = refl
@@ -91,7 +91,7 @@ devices_there (state ∷ states) (flag ∷ shown) same =
     let rest : length shown ≡ length states = omega (arith, same) in
     ap (λ all. state ∷ all) (devices_there states shown rest)
 
-shown_there :
+pub shown_there :
     (states : List DevState) (shown : List Bool) → length shown ≡ length states →
     map (λ f. f.shown) (devices_in states shown) ≡ shown
 shown_there [] [] same = refl

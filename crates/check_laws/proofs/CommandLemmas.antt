@@ -43,6 +43,7 @@ use Rattle.lab_state.specs.Lab.{Lab}
 use Rattle.lab_state.specs.Names.{board_named, connected_to, hub_named, is_taken, kind_named}
 use Rattle.lab_state.specs.One.{changed, first_without, fitted, kind_at, with_member, with_view}
 use Rattle.lab_state.specs.Run.{run, still}
+use Rattle.lab_state.proofs.RunLemmas.{run_none}
 use Rattle.lab_num.specs.Change.{change_at}
 use Rattle.resc_vars.specs.Bodies.{enter, run_of, source_of}
 use Rattle.resc_vars.specs.Script as script
@@ -68,7 +69,7 @@ use Rattle.check_laws.specs.Standing.{Equipment, Standing, equipment_of, standin
 use Rattle.check_laws.proofs.KeepLemmas.{Keeps, bytes_keep, halted_keeps, image_keeps, pc_keeps, reset_keeps}
 use Rattle.check_laws.proofs.KeepLemmas.{shown_keeps, speed_keeps, stands}
 use Rattle.check_laws.proofs.ListLemmas.{change_seen, change_unseen}
-use Rattle.check_laws.proofs.RunLemmas.{IsLater, run_none}
+use Rattle.check_laws.proofs.RunLemmas.{IsLater}
 use Rattle.check_laws.proofs.SameLemmas.{AreAlike, DidFound, FoundBy, bare_same, found_at, kind_same, length_same}
 use Rattle.check_laws.proofs.SameLemmas.{loads_found, named_same, selected_same, taken_same, then_equipped, then_on}
 use Rattle.check_laws.proofs.SameLemmas.{then_same, there_same, without_same}

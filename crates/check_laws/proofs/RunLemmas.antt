@@ -1,9 +1,8 @@
 -- What a run keeps of a laboratory.
-use Rattle.std.proofs.Common.{◌≡◌, ◌∷◌, ◌∙◌, ◌+◌, ◌≤◌, ℕ, Bool, true, false, List, [], map, arith, refl, ap}
-use Rattle.std.proofs.Common.{le_trans, le_refl, le-add_right}
+use Rattle.std.proofs.Common.{◌≡◌, ◌∷◌, ◌∙◌, ◌+◌, ◌≤◌, ℕ, Bool, true, false, List, [], map, arith, refl}
+use Rattle.std.proofs.Common.{le_trans, le_refl}
 use Rattle.std.specs.List.{flat_map, fold}
 use Rattle.std.specs.Prelude.{is_some}
-use Rattle.std.proofs.Math.Nat.{zero-div, zero-mod}
 use Rattle.dev_core.specs.declared.payload.Payload.{Payload}
 use Rattle.dev_core.specs.declared.post.Post.{Post}
 use Rattle.lab_num.specs.Paid.{paid}
@@ -63,11 +62,6 @@ later_yet old mid new first second = record {
 
 same_lab : (lab : Lab) → IsLater lab lab
 same_lab lab = record { boards = refl; hubs = refl; now = le_refl lab.now }
-
--- a run of length 0 has no round
-pub run_none : (lab : Lab) → run lab 0 ≡ still lab
-unfolding run_by
-run_none lab = rw (zero-div lab.quantum, zero-mod lab.quantum) refl
 
 module _ (plans : (v : View) (from a n : ℕ) → (stretch v from a n).view.space.plan ≡ v.space.plan) where
   round_later : (lab : Lab) (q : ℕ) → IsLater lab (round lab q).lab

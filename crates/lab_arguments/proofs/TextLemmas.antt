@@ -14,7 +14,7 @@ use Rattle.lab_num.specs.Time.{clock_of, cut, digits, fraction_of, micros_of, su
 use Rattle.lab_num.specs.declared.number.Micros.{Micros}
 use Rattle.lab_num.specs.declared.time.TimeFault.{TimeFault}
 use Rattle.lab_num.specs.declared.time.TimeFault.TheVariants.{Limit}
-use Rattle.lab_num.proofs.DigitLemmas.{own}
+use Rattle.lab_num.proofs.DigitLemmas.{decimal_texts}
 use Rattle.lab_arguments.specs.declared.request.UsageCause.TheVariants.{Value}
 use Rattle.lab_arguments.specs.Grammar.{Text, is_dash}
 use Rattle.lab_arguments.specs.Requests.{has_number_form, has_time_form, is_option_text, number_of}
@@ -27,7 +27,7 @@ pub too_large : {E : Type 0} (e : E) (bits : ℕ) (text : Text) (least most : �
 too_large e bits text least most form fits parsed =
     let parts = and_parts _ (list_all is_ascii_digit text) form in
     let some : 1 ≤ length text = leb-true _ _ (and_parts _ _ parts.0).0 in
-    let fails = parse_digits own bits text (Err e) parsed parts.1 in
+    let fails = parse_digits decimal_texts bits text (Err e) parsed parts.1 in
     let large : 2 ^ bits ≤ digits_value 10 text =
     ⊎_elim (λ below. absurd (fails (some, below))) (λ past. past) (cases_lt (digits_value 10 text) (2 ^ bits)) in
     let past : nat_le (digits_value 10 text) most ≡ false = lt-leb (digits_value 10 text) most (omega arith) in

@@ -1,5 +1,5 @@
 -- A board more in a generated laboratory.
-use Rattle.std.proofs.Common.{◌≡◌, ◌∙◌, ℕ, zero, suc, ◌+◌, ◌<◌, ◌^◌, List, [], ◌∷◌, ◌++◌, length, map, codes}
+use Rattle.std.proofs.Common.{◌≡◌, ◌∙◌, ℕ, ◌+◌, ◌<◌, ◌^◌, List, [], ◌∷◌, ◌++◌, length, map, codes}
 use Rattle.std.proofs.Common.{Option, Some, None, slice_get, true, refl, sym, ap, subst, arith, zero-add}
 use Rattle.std.specs.Prelude.{IsTrue, IsSome}
 use Rattle.std.proofs.Common.{false, length-append}
@@ -10,12 +10,10 @@ use Rattle.std.proofs.lemmas.Bool.Decides.{nat_tests}
 use Rattle.std.proofs.lemmas.List.FromFn.{length-map-range_with_len, map-range_with_len_more}
 use Rattle.lab_num.specs.Name.{is_name}
 use Rattle.dev_core.specs.declared.kind.Kind.TheVariants.{Uart}
-use Rattle.sys_bus.specs.declared.region.Target.{Target}
-use Rattle.sys_bus.specs.declared.region.Target.TheVariants.{Ram, Clint, Plic, Dev, Nothing}
-use Rattle.board.specs.Changes.{copied, holds_each, put_byte, put_in, with_bytes, with_pc}
+use Rattle.board.specs.Changes.{holds_each, with_bytes, with_pc}
 use Rattle.board.specs.New.{new_board, new_space}
-use Rattle.board.specs.Space.{Space, target_at}
 use Rattle.board.specs.View.{View}
+use Rattle.board.proofs.CopyLemmas.{plan-copied}
 use Rattle.lab_state.specs.Board.{Board}
 use Rattle.lab_num.specs.Change.{change_at}
 use Rattle.lab_num.proofs.NameLemmas.{digits_are}
@@ -23,6 +21,7 @@ use Rattle.lab_num.proofs.ListLemmas.{change_last}
 use Rattle.lab_state.specs.Lab.{Seen}
 use Rattle.lab_state.specs.Names.{hub_named, kind_named}
 use Rattle.lab_state.specs.One.{view_at, view_of, with_view, changed, connected, fitted, kind_at}
+use Rattle.lab_state.proofs.ChangeLemmas.{view_changed}
 use Rattle.lab_gen.specs.Firmware.{program}
 use Rattle.lab_gen.specs.Generated.{board, generated, uart_of}
 use Rattle.lab_gen.specs.Plan.{plan}
@@ -42,14 +41,6 @@ view_last [] x = refl
 view_last (y ∷ ys) x = view_last ys x
 
 -- ---- one board
-
--- what stands under the name of a board that was changed
-pub view_changed :
-    (boards : List Board) (b : ℕ) (f : View → View) →
-    view_at (change_at boards b (with_view f)) b ≡ option_map f (view_at boards b)
-view_changed [] b f = refl
-view_changed (board ∷ boards) zero f = refl
-view_changed (board ∷ boards) (suc b) f = view_changed boards b f
 
 still_some : (o : Option View) (f : View → View) → IsSome o → IsSome (option_map f o)
 still_some (Some v) f is = refl
@@ -73,19 +64,6 @@ pub changed_for :
     (boards : List Board) (b : ℕ) (f : View → View) (P : View → Type 0) →
     ForSome (view_at boards b) (λ v. P (f v)) → ForSome (view_at (change_at boards b (with_view f)) b) P
 changed_for boards b f P holds = rw (view_changed boards b f) (for_map (view_at boards b) f P holds)
-
--- bytes that are copied leave the plan
-plan_put : (s : Space) (byte : ℕ) (target : Target) → (put_in s byte target).plan ≡ s.plan
-plan_put s byte (Ram part at) = refl
-plan_put s byte (Dev dev at) = refl
-plan_put s byte (Clint at) = refl
-plan_put s byte (Plic at) = refl
-plan_put s byte Nothing = refl
-
-plan_copied : (s : Space) (at : ℕ) (bytes : List ℕ) → (copied s at bytes).plan ≡ s.plan
-plan_copied s at [] = refl
-plan_copied s at (byte ∷ bytes) =
-    plan_copied (put_byte s at byte) (at + 1) bytes ∙ plan_put s byte (target_at s at 1)
 
 -- ---- a board more
 
@@ -174,7 +152,7 @@ pub last_has_uart :
     (seed n : ℕ) (s : Seen) → IsWith seed n (board seed n) s → kind_at s.lab.boards (uart_of n) ≡ Some Uart
 last_has_uart seed n s is =
     rw (is, last_view seed n (board seed n))
-    (ap (λ plan. slice_get plan.kinds 0) (plan_copied (new_space plan) 0x80000000 (program seed n)))
+    (ap (λ plan. slice_get plan.kinds 0) (plan-copied (new_space plan) 0x80000000 (program seed n)))
 
 pub first_hub :
     (seed n : ℕ) (s : Seen) → IsWith seed n (board seed n) s → hub_named s.lab (codes "hub") ≡ Some 0

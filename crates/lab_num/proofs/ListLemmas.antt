@@ -3,7 +3,7 @@ use Rattle.std.proofs.Common.{◌≡◌, ◌∙◌, ℕ, zero, suc, ◌+◌, ◌
 use Rattle.std.proofs.Common.{length, map, get_or, slice_get, find, Option, Some, None, All, refl, ap, arith}
 use Rattle.std.specs.Prelude.{is_some}
 use Rattle.std.specs.List.{list_all, range_with_len, AllByRecursion}
-use Rattle.std.proofs.lemmas.Bool.{and_parts}
+use Rattle.std.proofs.lemmas.Bool.{and_parts, false≢true}
 use Rattle.std.proofs.lemmas.List.Elements.{All-cons, All-head, All-nil, All-tail}
 use Rattle.std.proofs.lemmas.Option.{same_Some, slice_get-get_or}
 use Rattle.lab_num.specs.Change.{change_at}
@@ -69,6 +69,14 @@ all_of_range p a (suc n) each =
     let rest = all_of_range p (a + 1) n
     (λ i within. let same : a + suc i ≡ a + 1 + i = omega arith in rw same at (each (suc i) (omega (arith, within)))) in
     rw (first, rest) refl
+
+-- a test that follows from two others is no more
+pub implied :
+    (p q r s : Bool) → (p ≡ true → r ≡ true → q ≡ true) → ((p && q) && (r && s)) ≡ (p && (r && s))
+implied false q r s follows = refl
+implied true true r s follows = refl
+implied true false true s follows = absurd (false≢true (follows refl refl))
+implied true false false s follows = refl
 
 -- ---- what holds of each item
 

@@ -83,9 +83,6 @@ module _ {A : Type 0} where
 none_reserved : (harts : ℕ) → cleared (replicate harts None) ≡ replicate harts None
 none_reserved harts = ap (λ k. replicate k None) (length-replicate harts None)
 
-length_zeros : (n : ℕ) → length (zeros n) ≡ n
-length_zeros n = length-replicate n 0
-
 module _ (n : ℕ) (plan : BoardPlan) (all memories : List (List ℕ)) (memory : List ℕ)
     (sizes : map length all ≡ plan.memories) (below : length memories < length all)
     (next : memory ≡ get_or all (length memories) memory) where
@@ -107,7 +104,7 @@ module _ (n : ℕ) (plan : BoardPlan) (all memories : List (List ℕ)) (memory :
       let is : get_or blank i [] ≡ zeros (get_or plan.memories i 0) = get_or-map zeros plan.memories i 0 [] within in
       let size : get_or plan.memories i 0 ≡ length (get_or all i memory) =
       ap (λ l. get_or l i 0) (sym sizes) ∙ get_or-map (λ (m : List ℕ). length m) all i memory 0 below in
-      sym (ap length (get_next memories blank [] ∙ is) ∙ length_zeros (get_or plan.memories i 0) ∙ size
+      sym (ap length (get_next memories blank [] ∙ is) ∙ length-replicate (get_or plan.memories i 0) 0 ∙ size
       ∙ ap length (sym next))
 
   pub next_made : with_memory_in (half_made n plan memories) (length memories) memory

@@ -4,7 +4,7 @@ use Rattle.std.proofs.Common.{Option, unwrap_or, List, [], ◌∷◌, ◌++◌, 
 use Rattle.std.proofs.Common.{subst, inl, inr, append_assoc, arith, length-append, set}
 use Rattle.std.proofs.lemmas.List.{drop_at, drop_more, get_or_default, length-take-le, set_split, set-get_or, take_at}
 use Rattle.std.specs.List.{list_all, list_any}
-use Rattle.std.proofs.lemmas.Bool.{cases_Bool, and_parts, and_from, and_cases, ltb-true, ltb-false, false≢true}
+use Rattle.std.proofs.lemmas.Bool.{cases_Bool, and_parts, and_from, and_cases, ltb-true, ltb-false}
 use Rattle.std.proofs.lemmas.Bool.Decides.{nat_tests}
 use Rattle.std.proofs.lemmas.List.Folds.{list_all-append, list_any-append}
 use Rattle.std.proofs.lemmas.Bool.{not-true}
@@ -12,6 +12,7 @@ use Rattle.lab_num.specs.declared.key.Member.{Member}
 use Rattle.lab_num.specs.declared.number.Micros.{Micros}
 use Rattle.lab_num.specs.Key.{same_member}
 use Rattle.lab_num.proofs.KeyLemmas.{same_itself, member_is}
+use Rattle.lab_num.proofs.ListLemmas.{implied}
 use Rattle.log_text.specs.declared.line.OpenLine.{OpenLine}
 use Rattle.log_text.specs.Line.{are_unended, blank, gathered, higher, is_ending, is_lower, is_unended, lower, own, rise}
 use Rattle.log_text.specs.Line.{with_byte}
@@ -106,14 +107,6 @@ rise-append m (line ∷ front) back up_front up_back below above =
     ∙ and_from (list_all (λ later. is_lower line.member later.member) front)
     (list_all (λ later. is_lower line.member later.member) back) up.0 beyond)
     (rise-append m front back up.1 up_back lows.1 above)
-
--- a test that follows from two others is no more
-implied :
-    (p q r s : Bool) → (p ≡ true → r ≡ true → q ≡ true) → ((p && q) && (r && s)) ≡ (p && (r && s))
-implied false q r s follows = refl
-implied true true r s follows = refl
-implied true false true s follows = absurd (false≢true (follows refl refl))
-implied true false false s follows = refl
 
 -- it is enough to compare each line with the next
 rise_two :

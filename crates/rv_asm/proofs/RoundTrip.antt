@@ -13,6 +13,7 @@ use Rattle.rv_decode.specs.Immediate.{field, sign_extended}
 use Rattle.rv_decode.specs.Table.{Row, table, matches, matched_row, row_of}
 use Rattle.rv_decode.specs.FixedBits.{fixed_of}
 use Rattle.rv_decode.specs.Means.{means, fields_by}
+use Rattle.rv_decode.proofs.Formats.{op-fields_by}
 use Rattle.rv_asm.specs.Encoded.{encoded, encoded_by, placed_s, placed_b, placed_j}
 
 -- the fixed bits of the fixed bits
@@ -80,18 +81,6 @@ put_together J op w fits =
     (omega arith) (omega arith))
     (omega arith)
 put_together Fixed op w fits = refl
-
--- what the fields of a word keep
-op-fields_by : (f : Format) (op : Op) (w : ℕ) → (fields_by f op w).op ≡ op
-op-fields_by R op w = refl
-op-fields_by I op w = refl
-op-fields_by IShift op w = refl
-op-fields_by IUnsigned op w = refl
-op-fields_by S op w = refl
-op-fields_by B op w = refl
-op-fields_by U op w = refl
-op-fields_by J op w = refl
-op-fields_by Fixed op w = refl
 
 -- a row that is found is in the table
 Contains-found : (p : Row → Bool) (rs : List Row) (r : Row) → find p rs ≡ Some r → Contains rs r
