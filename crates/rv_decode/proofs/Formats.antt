@@ -90,7 +90,6 @@ means-some w op f is has =
     (λ r found. same_row r (row_of r.op) (holds-found (matches w) is_own table r is_own-table found)) is has
 
 -- what the fields of a word keep
--- the fields of a word are those of its instruction
 pub op-fields_by : (f : Format) (o : Op) (w : ℕ) → (fields_by f o w).op ≡ o
 op-fields_by R o w = refl
 op-fields_by I o w = refl

@@ -21,5 +21,6 @@ returns-else-starved-clause-board g c =
 pub returns-else-starved-clause-posts : goal.returns-else-starved-clause-posts
 returns-else-starved-clause-posts g c =
     sym (append-nil c.loop-post.posts.items)
-    ∙ ap (λ posts. c.loop-post.posts.items ++ posts) (sym (first_none c.loop-post.board.posts (sym c.in_default.ensures)))
+    ∙ ap (λ posts. c.loop-post.posts.items ++ posts)
+    (sym (first_none c.loop-post.board.posts (sym c.in_default.ensures)))
     ∙ c.loop-post.invariant.posts c.if-starved.false
