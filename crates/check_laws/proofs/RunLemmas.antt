@@ -8,6 +8,7 @@ use Rattle.dev_core.specs.declared.post.Post.{Post}
 use Rattle.lab_num.specs.Paid.{paid}
 use Rattle.lab_num.specs.Route.{route}
 use Rattle.lab_num.specs.declared.key.Member.{Member}
+use Rattle.lab_num.proofs.ListLemmas.{map-change, map-map_same}
 use Rattle.board.specs.Changes.{handed}
 use Rattle.board.specs.Stretch.{stretch}
 use Rattle.board.specs.View.{View}
@@ -19,7 +20,6 @@ use Rattle.lab_state.specs.One.{with_view}
 use Rattle.lab_state.specs.Round.{Rounded, round, round_by, granted, posts_made, stepped}
 use Rattle.lab_state.specs.Run.{run, run_by, go_on, still, lengths}
 use Rattle.check_laws.specs.Standing.{Standing, standing}
-use Rattle.check_laws.proofs.ListLemmas.{all_unseen, change_unseen}
 use Rattle.check_laws.proofs.KeepLemmas.{handed_keeps, stands, stretch_keeps}
 
 abbrev pub all_standing : List Board → List Standing
@@ -30,7 +30,7 @@ to_members_keep : (at : ℕ) (payload : Payload) (members : List Member) (h : Ha
 to_members_keep at payload [] h = refl
 to_members_keep at payload (m ∷ members) h =
     to_members_keep at payload members (to_member at payload h m)
-    ∙ change_unseen standing (with_view (λ v. handed v m.dev payload))
+    ∙ map-change standing (with_view (λ v. handed v m.dev payload))
     (stands (λ v. handed v m.dev payload) (handed_keeps m.dev payload)) h.boards m.board.0
 
 to_routes_keep : (at : ℕ) (hubs : List (List Member)) (posts : List Post) (h : Handed) →
@@ -74,7 +74,7 @@ module _ (plans : (v : View) (from a n : ℕ) → (stretch v from a n).view.spac
       record {
         boards =
             boundary_keeps to lab.hubs stepped_all lab.pending sent
-            ∙ all_unseen standing (stepped (granted lab.now to))
+            ∙ map-map_same standing (stepped (granted lab.now to))
             (stands (λ v. (granted lab.now to v).view) keeps) lab.boards;
         hubs = refl;
         now = omega arith;

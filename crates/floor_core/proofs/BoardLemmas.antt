@@ -3,6 +3,7 @@ use Rattle.std.proofs.Common.{◌≡◌, ◌≢◌, ◌⊎◌, ◌↔◌, ℕ, z
 use Rattle.std.proofs.Common.{refl, sym, ◌∙◌, ap, subst, inl, inr, arith, Option, Some, None, IsSomeAnd, slice_get, set}
 use Rattle.std.proofs.lemmas.Option.{slice_get_read, same_Some}
 use Rattle.lab_num.specs.Change.{change_at}
+use Rattle.lab_num.proofs.ListLemmas.{set-change}
 
 -- what is said of an item that may be there is said of the item that was read
 pub there :
@@ -20,23 +21,12 @@ within P [] i h = absurd h
 within P (x ∷ xs) zero h = omega arith
 within P (x ∷ xs) (suc i) h = let rest = within P xs i h in omega arith
 
--- to write the changed item is to change it
-pub changed_set :
-    {A : Type 0} (step : A → A) (xs : List A) (i : ℕ) (x : A) →
-    i < length xs → x ≡ get_or xs i x → change_at xs i step ≡ set xs i (step x)
-changed_set step [] i x below read = refl
-changed_set step (y ∷ xs) zero x below read = ap (λ z. step z ∷ xs) (sym read)
-changed_set step (y ∷ xs) (suc i) x below read = ap (λ zs. y ∷ zs) (changed_set step xs i x (omega arith) read)
-
--- to write it where the list is known by another name, as is the place
+-- to write the changed item is to change it, also where the list is known by another name, as is the place
 pub placed :
     {A : Type 0} (step : A → A) (bs items : List A) (k i : ℕ) (x y : A) →
     bs ≡ items → i ≡ k → k < length bs → x ≡ get_or items i x → y ≡ step x → set items i y ≡ change_at bs k step
 placed step bs items k i x y same place below read is =
-    ap (λ z. set items i z) is ∙
-    (sym (changed_set step items i x (subst (λ (l : List _). i < length l) same (subst (λ (j : ℕ). j < length bs)
-    (sym place) below)) read) ∙
-    (λ j. change_at (sym same j) (place j) step))
+    set-change step items i read is ∙ (λ j. change_at (sym same j) (place j) step)
 
 -- what was read at a place is there
 pub read_at :

@@ -1,11 +1,12 @@
 -- Lists: what holds of their items, and a change of one place.
-use Rattle.std.proofs.Common.{◌≡◌, ◌∙◌, ℕ, zero, suc, ◌+◌, ◌<◌, Bool, true, false, ◌&&◌, cond, List, [], ◌∷◌, ◌++◌}
+use Rattle.std.proofs.Common.{◌≡◌, ◌∙◌, ℕ, zero, suc, ◌+◌, ◌<◌, Bool, true, false, ◌&&◌, cond, List, [], ◌∷◌, ◌++◌, set}
 use Rattle.std.proofs.Common.{length, map, get_or, slice_get, find, Option, Some, None, All, refl, ap, arith}
 use Rattle.std.specs.Prelude.{is_some}
 use Rattle.std.specs.List.{list_all, range_with_len, AllByRecursion}
 use Rattle.std.proofs.lemmas.Bool.{and_parts, false≢true}
 use Rattle.std.proofs.lemmas.List.Elements.{All-cons, All-head, All-nil, All-tail}
 use Rattle.std.proofs.lemmas.Option.{same_Some, slice_get-get_or}
+use Rattle.std.proofs.lemmas.Simd.{map-map}
 use Rattle.lab_num.specs.Change.{change_at}
 
 -- ---- an item and its place
@@ -99,6 +100,34 @@ All-unmap P f (x ∷ xs) all =
     All-cons (λ x. P (f x)) x xs (All-head P (f x) (map f xs) all) (All-unmap P f xs (All-tail P (f x) (map f xs) all))
 
 -- ---- a change of one place
+
+-- a write of what a change makes of the item that was read
+pub set-change :
+    {A : Type 0} (F : A → A) (xs : List A) (i : ℕ) {old new : A} → old ≡ get_or xs i old → new ≡ F old →
+    set xs i new ≡ change_at xs i F
+set-change F [] i is made = refl
+set-change F (x ∷ xs) zero is made = ap (λ y. y ∷ xs) (made ∙ ap F is)
+set-change F (x ∷ xs) (suc i) is made = ap (λ ys. x ∷ ys) (set-change F xs i is made)
+
+-- a change, and a map, of what a map does not look at
+pub map-change :
+    {A B : Type 0} (g : A → B) (F : A → A) → ((x : A) → g (F x) ≡ g x) → (xs : List A) (i : ℕ) →
+    map g (change_at xs i F) ≡ map g xs
+map-change g F same [] i = refl
+map-change g F same (x ∷ xs) zero = ap (λ y. y ∷ map g xs) (same x)
+map-change g F same (x ∷ xs) (suc i) = ap (λ ys. g x ∷ ys) (map-change g F same xs i)
+
+pub map-map_same :
+    {A B : Type 0} (g : A → B) (F : A → A) → ((x : A) → g (F x) ≡ g x) → (xs : List A) → map g (map F xs) ≡ map g xs
+map-map_same g F same xs = map-map g F xs ∙ (λ i. map (λ x. same x i) xs)
+
+-- a place that is changed twice
+pub change_twice :
+    {A : Type 0} (xs : List A) (i : ℕ) (f g h : A → A) → ((x : A) → g (f x) ≡ h x) →
+    change_at (change_at xs i f) i g ≡ change_at xs i h
+change_twice [] i f g h same = refl
+change_twice (x ∷ xs) zero f g h same = ap (λ y. y ∷ xs) (same x)
+change_twice (x ∷ xs) (suc i) f g h same = ap (λ ys. x ∷ ys) (change_twice xs i f g h same)
 
 pub length-change : {A : Type 0} (F : A → A) (xs : List A) (i : ℕ) → length (change_at xs i F) ≡ length xs
 length-change F [] i = refl

@@ -7,6 +7,7 @@ use Rattle.std.proofs.lemmas.Bool.Decides.{nat_tests}
 use Rattle.std.proofs.lemmas.List.{get_or-map, length-map}
 use Rattle.std.proofs.lemmas.List.{length-replicate}
 use Rattle.lab_num.specs.Change.{change_at}
+use Rattle.lab_num.proofs.ListLemmas.{change_twice}
 use Rattle.page_ram.specs.Bytes.{zeros}
 use Rattle.board.specs.Changes.{cleared, with_memory_in}
 use Rattle.board.specs.New.{new_board}
@@ -35,17 +36,11 @@ view_fitted [] b v below = absurd (omega arith)
 view_fitted (board ∷ boards) zero v below = refl
 view_fitted (board ∷ boards) (suc b) v below = view_fitted boards b v (omega arith)
 
--- and was changed then
-change_fitted : (boards : List Board) (b : ℕ) (v : View) (f : View → View) →
-    change_at (change_at boards b (λ board. record board { view = Some v })) b (with_view f)
-    ≡ change_at boards b (λ board. record board { view = Some (f v) })
-change_fitted [] b v f = refl
-change_fitted (board ∷ boards) zero v f = refl
-change_fitted (board ∷ boards) (suc b) v f = ap (λ l. board ∷ l) (change_fitted boards b v f)
-
 changed_fitted : (lab : Lab) (b : ℕ) (v : View) (f : View → View) →
     changed (fitted lab b v) b f ≡ fitted lab b (f v)
-changed_fitted lab b v f = ap (λ boards. record lab { boards = boards }) (change_fitted lab.boards b v f)
+changed_fitted lab b v f = ap (λ boards. record lab { boards = boards }) (change_twice lab.boards b
+    (λ board. record board { view = Some v }) (with_view f) (λ board. record board { view = Some (f v) })
+    (λ board. refl))
 
 -- what stands there now
 pub has_fitted : (seen : Seen) (b : ℕ) (v : View) {now : Seen} → now ≡ record seen { lab = fitted seen.lab b v } →

@@ -9,7 +9,6 @@ use Rattle.std.specs.Ordering.{is_lt}
 use Rattle.std.specs.Str.{bytes_eq}
 use Rattle.std.proofs.lemmas.Bool.Decides.{nat_tests}
 use Rattle.std.proofs.lemmas.Grind.{common_steps}
-use Rattle.std.proofs.lemmas.Simd.{map-map}
 use Rattle.std.proofs.lemmas.List.{take_more, take_all, length-map, flat_map_more}
 use Rattle.std.proofs.lemmas.List.Elements.{All-nil, All-map, All-append, All-push, All-cons, All-head, All-tail}
 use Rattle.std.proofs.lemmas.List.Quantifiers.{all_pairs_push}
@@ -26,28 +25,6 @@ use Rattle.lab_state.specs.Board.{Board}
 use Rattle.lab_state.specs.One.{view_at}
 use Rattle.lab_state.specs.Names.{NamesDiffer, AreNames}
 use Rattle.lab_state.specs.Inner.Time.{numbers_of}
-
--- ---- a change of one place
-
--- a write of what a change makes of the item that was read
-pub set-change :
-    {A : Type 0} (F : A → A) (xs : List A) (i : ℕ) {old new : A} → old ≡ get_or xs i old → new ≡ F old →
-    set xs i new ≡ change_at xs i F
-set-change F [] i is made = refl
-set-change F (x ∷ xs) zero is made = ap (λ y. y ∷ xs) (made ∙ ap F is)
-set-change F (x ∷ xs) (suc i) is made = ap (λ ys. x ∷ ys) (set-change F xs i is made)
-
--- a change, and a map, of what a map does not look at
-pub map-change :
-    {A B : Type 0} (g : A → B) (F : A → A) → ((x : A) → g (F x) ≡ g x) → (xs : List A) (i : ℕ) →
-    map g (change_at xs i F) ≡ map g xs
-map-change g F same [] i = refl
-map-change g F same (x ∷ xs) zero = ap (λ y. y ∷ map g xs) (same x)
-map-change g F same (x ∷ xs) (suc i) = ap (λ ys. g x ∷ ys) (map-change g F same xs i)
-
-pub map-map_same :
-    {A B : Type 0} (g : A → B) (F : A → A) → ((x : A) → g (F x) ≡ g x) → (xs : List A) → map g (map F xs) ≡ map g xs
-map-map_same g F same xs = map-map g F xs ∙ (λ i. map (λ x. same x i) xs)
 
 -- ---- items
 

@@ -22,6 +22,7 @@ use Rattle.board.proofs.CopyLemmas.{copied-append, plan-copied}
 use Rattle.rv_hart.specs.Core.{alignment}
 use Rattle.lab_state.specs.Board.{Board}
 use Rattle.lab_num.specs.Change.{change_at}
+use Rattle.lab_num.proofs.ListLemmas.{change_twice}
 use Rattle.lab_state.specs.Lab.{Lab}
 use Rattle.lab_state.specs.One.{changed, view_at, view_of, with_view}
 use Rattle.lab_state.proofs.ChangeLemmas.{view_changed}
@@ -29,14 +30,6 @@ use Rattle.monitor.specs.Images.{holds_part, is_entry, load_image, size, unreser
 use Rattle.monitor.specs.Images.{with_parts}
 use Rattle.monitor.specs.Inner.Ruling.{IsChanged, IsOnward}
 use Rattle.monitor.specs.Step.{Running}
-
--- a place of a list that is changed twice
-change_twice :
-    {A : Type 0} (xs : List A) (i : ℕ) (f g h : A → A) → ((x : A) → g (f x) ≡ h x) →
-    change_at (change_at xs i f) i g ≡ change_at xs i h
-change_twice [] i f g h same = refl
-change_twice (x ∷ xs) zero f g h same = ap (λ y. y ∷ xs) (same x)
-change_twice (x ∷ xs) (suc i) f g h same = ap (λ ys. x ∷ ys) (change_twice xs i f g h same)
 
 map_twice :
     {A : Type 0} (x : Option A) (f g h : A → A) → ((a : A) → g (f a) ≡ h a) →

@@ -1,5 +1,5 @@
 -- A run changes no name that the log prints.
-use Rattle.std.proofs.Common.{◌≡◌, ◌∷◌, ◌∙◌, ◌+◌, ℕ, zero, suc, Bool, true, false, List, [], map}
+use Rattle.std.proofs.Common.{◌≡◌, ◌∷◌, ◌∙◌, ◌+◌, ℕ, Bool, true, false, List, [], map}
 use Rattle.std.proofs.Common.{Option, None, Some, refl, ap}
 use Rattle.std.specs.List.{flat_map, fold}
 use Rattle.std.specs.Prelude.{is_some}
@@ -9,6 +9,7 @@ use Rattle.lab_num.specs.Change.{change_at}
 use Rattle.lab_num.specs.Paid.{paid}
 use Rattle.lab_num.specs.Route.{route}
 use Rattle.lab_num.specs.declared.key.Member.{Member}
+use Rattle.lab_num.proofs.ListLemmas.{map-change, map-map_same}
 use Rattle.log_merge.specs.declared.names.BoardNames.{BoardNames}
 use Rattle.log_merge.specs.declared.names.Names.{Names}
 use Rattle.board.specs.Changes.{handed}
@@ -40,15 +41,11 @@ board_keeps f keeps board = one_keeps f keeps board.name board.view
 
 change_keeps : (f : View → View) → KeepsPlan f → (boards : List Board) (n : ℕ) →
     all_names (change_at boards n (with_view f)) ≡ all_names boards
-change_keeps f keeps [] n = refl
-change_keeps f keeps (board ∷ boards) zero = ap (λ first. first ∷ all_names boards) (board_keeps f keeps board)
-change_keeps f keeps (board ∷ boards) (suc n) = ap (λ rest. board_names board ∷ rest) (change_keeps f keeps boards n)
+change_keeps f keeps boards n = map-change board_names (with_view f) (board_keeps f keeps) boards n
 
 map_keeps : (f : View → View) → KeepsPlan f → (boards : List Board) →
     all_names (map (with_view f) boards) ≡ all_names boards
-map_keeps f keeps [] = refl
-map_keeps f keeps (board ∷ boards) =
-    rw (board_keeps f keeps board, map_keeps f keeps boards) refl
+map_keeps f keeps boards = map-map_same board_names (with_view f) (board_keeps f keeps) boards
 
 to_members_keep : (at : ℕ) (payload : Payload) (members : List Member) (h : Handed) →
     all_names (fold (to_member at payload) h members).boards ≡ all_names h.boards
