@@ -3,49 +3,31 @@ use Rattle.std.proofs.Common.{◌≡◌, ◌∷◌, ◌∙◌, ◌+◌, ◌≤�
 use Rattle.std.proofs.Common.{le_trans, le_refl}
 use Rattle.std.specs.List.{flat_map, fold}
 use Rattle.std.specs.Prelude.{is_some}
-use Rattle.dev_core.specs.declared.payload.Payload.{Payload}
 use Rattle.dev_core.specs.declared.post.Post.{Post}
 use Rattle.lab_num.specs.Paid.{paid}
-use Rattle.lab_num.specs.Route.{route}
-use Rattle.lab_num.specs.declared.key.Member.{Member}
-use Rattle.lab_num.proofs.ListLemmas.{map-change, map-map_same}
+use Rattle.lab_num.proofs.ListLemmas.{map-map_same}
 use Rattle.board.specs.Changes.{handed}
 use Rattle.board.specs.Stretch.{stretch}
 use Rattle.board.specs.View.{View}
 use Rattle.lab_state.specs.Board.{Board}
-use Rattle.lab_state.specs.Boundary.{Handed, to_member, to_route, boundary, due, waiting}
+use Rattle.lab_state.specs.Boundary.{boundary, due, waiting}
 use Rattle.lab_state.specs.Hub.{Hub, members_of}
 use Rattle.lab_state.specs.Lab.{Lab}
-use Rattle.lab_state.specs.One.{with_view}
 use Rattle.lab_state.specs.Round.{Rounded, round, round_by, granted, posts_made, stepped}
 use Rattle.lab_state.specs.Run.{run, run_by, go_on, still, lengths}
+use Rattle.lab_state.proofs.RoundLemmas.{map-routes}
 use Rattle.check_laws.specs.Standing.{Standing, standing}
 use Rattle.check_laws.proofs.KeepLemmas.{handed_keeps, stands, stretch_keeps}
 
 abbrev pub all_standing : List Board → List Standing
 all_standing boards = map standing boards
 
-to_members_keep : (at : ℕ) (payload : Payload) (members : List Member) (h : Handed) →
-    all_standing (fold (to_member at payload) h members).boards ≡ all_standing h.boards
-to_members_keep at payload [] h = refl
-to_members_keep at payload (m ∷ members) h =
-    to_members_keep at payload members (to_member at payload h m)
-    ∙ map-change standing (with_view (λ v. handed v m.dev payload))
-    (stands (λ v. handed v m.dev payload) (handed_keeps m.dev payload)) h.boards m.board.0
-
-to_routes_keep : (at : ℕ) (hubs : List (List Member)) (posts : List Post) (h : Handed) →
-    all_standing (fold (to_route at hubs) h posts).boards ≡ all_standing h.boards
-to_routes_keep at hubs [] h = refl
-to_routes_keep at hubs (post ∷ posts) h =
-    to_routes_keep at hubs posts (to_route at hubs h post)
-    ∙ to_members_keep at post.payload (route hubs post.from) h
-
 boundary_keeps : (at : ℕ) (hubs : List Hub) (boards : List Board) (pending posts : List Post) →
     all_standing (boundary at hubs boards pending posts).boards ≡ all_standing boards
 unfolding boundary
 boundary_keeps at hubs boards pending posts =
-    to_routes_keep at (members_of hubs) (due at hubs (waiting hubs pending posts))
-    (record { boards = boards; notes = [] })
+    map-routes standing (λ dev payload. stands (λ v. handed v dev payload) (handed_keeps dev payload)) at
+    (members_of hubs) (record { boards = boards; notes = [] }) (due at hubs (waiting hubs pending posts))
 
 -- a laboratory after some time: its boards stand as they did, its hubs are the same, and time has not gone back
 pub record IsLater (old new : Lab) : Type 0 where
