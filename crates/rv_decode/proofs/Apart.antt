@@ -27,7 +27,7 @@ all_apart is_apart (r ∷ rs) = list_all (is_apart r) rs && all_apart is_apart r
 module _ {X : Type 0} (is_apart : X → X → Bool) (matches : X → Bool)
     (apart-matched : (r s : X) → matches r ≡ true → matches s ≡ true → is_apart r s ≡ false) where
   -- what is apart from a row that matches does not match
-  pub not_matched : (r s : X) → matches r ≡ true → is_apart r s ≡ true → matches s ≡ false
+  not_matched : (r s : X) → matches r ≡ true → is_apart r s ≡ true → matches s ≡ false
   not_matched r s p far =
       false_from_ne_true (matches s) (λ q. both_ways (is_apart r s) (apart-matched r s p q) far)
 
