@@ -91,15 +91,15 @@ devices_there (state ∷ states) (flag ∷ shown) same =
     let rest : length shown ≡ length states = omega (arith, same) in
     ap (λ all. state ∷ all) (devices_there states shown rest)
 
-pub shown_there :
+pub flags_there :
     (states : List DevState) (shown : List Bool) → length shown ≡ length states →
     map (λ f. f.shown) (devices_in states shown) ≡ shown
-shown_there [] [] same = refl
-shown_there [] (flag ∷ shown) same = absurd (cc)
-shown_there (state ∷ states) [] same = refl
-shown_there (state ∷ states) (flag ∷ shown) same =
+flags_there [] [] same = refl
+flags_there [] (flag ∷ shown) same = absurd (cc)
+flags_there (state ∷ states) [] same = refl
+flags_there (state ∷ states) (flag ∷ shown) same =
     let rest : length shown ≡ length states = omega (arith, same) in
-    ap (λ all. flag ∷ all) (shown_there states shown rest)
+    ap (λ all. flag ∷ all) (flags_there states shown rest)
 
 -- a flag for each device
 flags_count : (plan : BoardPlan) (s : BoardState) → IsStateFor plan s → length s.shown ≡ length s.devices
@@ -114,7 +114,7 @@ state_there v s fits board =
       timer_there v.space.timer s.clint (rw board.timer fits.clint),
       controller_there v.space.controller s.plic (rw board.controller fits.plic),
       devices_there s.devices s.shown flags,
-      shown_there s.devices s.shown flags,
+      flags_there s.devices s.shown flags,
     ) refl
 
 timer_kept :

@@ -11,7 +11,7 @@ use Rattle.sys_bus.specs.declared.plan.PlicSize.{PlicSize}
 use Rattle.board.specs.BoardState.{board_state, controller_to, devices_in, timer_to}
 use Rattle.board.specs.New.{new_controller, new_timer, size_of}
 use Rattle.board.specs.Valid.{IsBoard, IsClintFor, IsPlicFor, IsStateFor}
-use Rattle.board.proofs.StateLemmas.{devices_there, shown_there, states_there}
+use Rattle.board.proofs.StateLemmas.{devices_there, flags_there, states_there}
 use Rattle.lab_snap.specs.Inner.Parts.{is_uart, shown_uart}
 use Rattle.lab_snap.specs.Loaded.{loaded_view}
 use Rattle.lab_snap.specs.Machine.{IsMachine, Machine}
@@ -41,7 +41,7 @@ state_loaded number m fits =
       timer_loaded m.plan.frequency m.state.clint fits.clint,
       controller_loaded m.plan.plic m.state.plic fits.plic,
       devices_there m.state.devices m.state.shown flags,
-      shown_there m.state.devices m.state.shown flags,
+      flags_there m.state.devices m.state.shown flags,
     ) refl
 
 -- ---- the board
