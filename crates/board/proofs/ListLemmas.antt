@@ -1,12 +1,12 @@
 -- What holds of the items of lists.
 use Rattle.std.proofs.Common.{◌≡◌, ◌∙◌, ℕ, zero, suc, ◌+◌, ◌≤◌, ◌<◌, Bool, true, List, ◌++◌}
 use Rattle.std.proofs.Common.{length}
-use Rattle.std.proofs.Common.{All, slice_get, Some, refl, sym, arith, take, inl, inr}
+use Rattle.std.proofs.Common.{slice_get, Some, refl, sym, arith, take, inl, inr}
 use Rattle.std.specs.Prelude.{Any, slice_index_or, slice_set}
 use Rattle.std.specs.List.{list_all, range_with_len}
 use Rattle.std.proofs.lemmas.Bool.{cases_eq}
 use Rattle.std.proofs.lemmas.List.{get_or-set_same, get_or-set_other, take_all, take-append-le}
-use Rattle.std.proofs.lemmas.Option.{slice_get_read, slice_get-get_or}
+use Rattle.std.proofs.lemmas.Option.{slice_get_read}
 
 -- an item of which something holds, and its place
 pub any_at :
@@ -15,12 +15,6 @@ pub any_at :
 any_at P xs found =
     let there = slice_get_read xs (length xs) found.0 found.1 refl found.2 (sym found.3) in
     (found.0, (found.1, (there, found.4)))
-
--- what holds of each item by its place
-pub All-by_place :
-    {X : Type 0} (P : X → Type 0) (xs : List X) →
-    ((i : ℕ) (x : X) → slice_get xs i ≡ Some x → P x) → All P xs
-All-by_place P xs each k d within = each k (slice_index_or xs k d) (slice_get-get_or xs k d within)
 
 -- a range as its first numbers and those after them
 pub all_of_parts :
