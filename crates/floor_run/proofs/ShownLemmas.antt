@@ -24,6 +24,7 @@ use Rattle.floor_core.specs.Floor.{Board, Floor, begun, posted_by}
 use Rattle.floor_core.specs.Job.{Job, left, made, aside, after}
 use Rattle.floor_core.specs.Sound.{IsSound, Sound}
 use Rattle.floor_core.proofs.SoundLemmas.{posted_more}
+use Rattle.floor_core.proofs.BoardLemmas.{changed_get}
 use Rattle.floor_run.specs.declared.view.View.{View}
 use Rattle.floor_run.specs.Rule.{Whereabouts, home, out, done, word_of, home_word, Tally, Table, Holds, InPlace, Rule}
 use Rattle.floor_run.specs.Shown.{Shows, ShowsBoard, word, turn_slots, opened}
@@ -33,20 +34,6 @@ use Rattle.floor_run.specs.View.{spent, after_claim, empty_handed}
 use Rattle.floor_run.proofs.OpenLemmas.{all_at, got, got_mapped}
 use Rattle.floor_run.proofs.StepLemmas.{there, below, or_even, or_one, or_three, set_there}
 use Rattle.floor_run.proofs.TurnLemmas.{TurnsAdd, PostsAdd, next}
-
--- after a change an item is the changed one, or one that was there
-changed_at :
-    {A : Type 0} (step : A → A) (xs : List A) (k i : ℕ) (y : A) → get_elem? (change_at xs k step) i ≡ some y →
-    ((i ≡ k) × (x : A) × (get_elem? xs i ≡ some x) × (y ≡ step x)) ⊎ ((i ≢ k) × (get_elem? xs i ≡ some y))
-changed_at step [] k i y is = absurd (some-ne-none y (sym is))
-changed_at step (x ∷ xs) zero zero y is = inl (refl, x, refl, sym (some-injective (step x) y is))
-changed_at step (x ∷ xs) zero (suc i) y is = inr ((λ h. omega arith), is)
-changed_at step (x ∷ xs) (suc k) zero y is = inr ((λ h. omega arith), is)
-changed_at step (x ∷ xs) (suc k) (suc i) y is =
-    elim (changed_at step xs k i y is) [
-      | inl h ↦ inl (ap suc h.0, h.1, h.2, h.3)
-      | inr h ↦ inr ((λ e. h.0 (omega arith)), h.1)
-    ]
 
 -- the same item by either way of reading a list
 read : {A : Type 0} (xs : List A) (i : ℕ) (x : A) → get_elem? xs i ≡ some x → slice_get xs i ≡ Some x
@@ -58,6 +45,16 @@ unread : {A : Type 0} (xs : List A) (i : ℕ) (x : A) → slice_get xs i ≡ Som
 unread [] i x e = let bad : None ≡ Some x = e in absurd (cc)
 unread (y ∷ xs) zero x e = ap some (same_Some y x e)
 unread (y ∷ xs) (suc i) x e = unread xs i x e
+
+-- after a change an item is the changed one, or one that was there
+changed_at :
+    {A : Type 0} (step : A → A) (xs : List A) (k i : ℕ) (y : A) → get_elem? (change_at xs k step) i ≡ some y →
+    ((i ≡ k) × (x : A) × (get_elem? xs i ≡ some x) × (y ≡ step x)) ⊎ ((i ≢ k) × (get_elem? xs i ≡ some y))
+changed_at step xs k i y is =
+    elim (changed_get step xs k i y (read (change_at xs k step) i y is)) [
+      | inl h ↦ inl (h.0, h.1, unread xs i h.1 h.2, h.3)
+      | inr h ↦ inr (h.0, unread xs i y h.1)
+    ]
 
 unmapped :
     {A B : Type 0} (g : A → B) (xs : List A) (i : ℕ) (y : B) → get_elem? (map g xs) i ≡ some y →
