@@ -8,5 +8,5 @@ use Rattle.board.proofs.space.Space.sources_up.Given as goal
 abbrev pub invariant-loop-wire : goal.invariant-loop-wire
 invariant-loop-wire g l = record {
   fits : l.set < 2 ^ 128;
-  each : (s : ℕ) → s < 128 → has l.set s ≡ list_any (brings_source_up l.self s) (take l.wire-index l.bus);
+  each : (s : ℕ) → s < 128 → has l.set s ≡ list_any (brings_source_up l.self s) (take l.wire-index l.wires);
 }
