@@ -1,31 +1,25 @@
 -- What a processor does in its slot, as its board has it.
 use Rattle.std.proofs.Common.{◌≡◌, ◌∙◌, ℕ, ◌<◌, ◌==◌, Bool, true, false, not, List, [], ◌∷◌, length, refl}
 use Rattle.std.proofs.Common.{ap, sym, arith, OnOk}
-use Rattle.std.specs.Prelude.{Option, None, Some, Result, Ok, Err, if◌then◌else◌}
+use Rattle.std.specs.Prelude.{Option, None, Result, Ok, Err, if◌then◌else◌}
 use Rattle.std.specs.Option.{option_and_then, option_map_or}
 use Rattle.std.proofs.lemmas.Bool.{eqb-true, or_parts}
 use Rattle.rv_hart.specs.declared.csr.Lines.{Lines}
-use Rattle.rv_hart.specs.declared.letters.Letters.{Letters}
 use Rattle.rv_hart.specs.Core.{Core}
 use Rattle.rv_hart.specs.Trap.{chosen}
-use Rattle.rv_exec.specs.declared.fetched.Fetched.{Fetched}
-use Rattle.rv_exec.specs.declared.fetched.Fetched.TheVariants.{Bad, Good}
-use Rattle.rv_exec.specs.Effect.{Effect, effect, core_after, bus_after, of_word}
+use Rattle.rv_exec.specs.Effect.{effect, core_after, bus_after}
 use Rattle.rv_exec.specs.Laws.{IsSameHart}
-use Rattle.rv_atomic.specs.declared.shared.Shared.{Shared}
 use Rattle.rv_atomic.specs.declared.shared.Shared.TheVariants as shared
 use Rattle.rv_atomic.specs.AtomicEffect.{SharedEffect, leaves}
 use Rattle.rv_atomic.specs.Means.{atomic_of}
-use Rattle.rv_atomic.specs.declared.atomic.Atomic.{Atomic}
-use Rattle.rv_atomic.specs.Laws.{EndsNone, MeansNoOther, PlainAlone}
+use Rattle.rv_atomic.specs.Laws.{PlainAlone}
 use Rattle.rv_atomic.specs.SharedEffect.{shared_effect}
 use Rattle.sys_bus.specs.declared.plan.BoardPlan.{BoardPlan}
 use Rattle.board.specs.Fetch.{effect_on, fetched_by, shared_by, word_at_pc}
 use Rattle.board.specs.HartView.{slot_state}
 use Rattle.board.specs.declared.seat.Seat.{Seat}
 use Rattle.board.specs.declared.slot.Features.{Features}
-use Rattle.board.specs.Inner.Seat.{behind, board_at, effect_of, is_shared, seen, shared_at, shared_of_word, state_at}
-use Rattle.board.specs.Inner.Seat.{HasDone, IsSeat}
+use Rattle.board.specs.Inner.Seat.{behind, board_at, is_shared, seen, shared_at, state_at, HasDone, IsSeat}
 use Rattle.board.specs.Slot.{awake, hart_slot, slot}
 use Rattle.board.specs.View.{after}
 use Rattle.board.specs.HartBus.{HartBus, answer, fetched, loaded, stored}
@@ -101,70 +95,24 @@ alone_effect law hart core watch w lines shares letters below harts =
 
 -- ---- a seat
 
--- what is known part by part
-pub has_done :
-    {D T E : Type 0} {what : Shared} {lines : Lines} {old new : Seat D} (result : Result T E) →
-    OnOk result (new.hart.now ≡ core_after answer old.bus.now (effect_of old what lines).effect) →
-    OnOk result (new.watch.now ≡ (effect_of old what lines).watch) →
-    OnOk result (new.bus.now ≡ bus_after loaded stored old.bus.now (effect_of old what lines).effect) →
-    OnOk result (IsSameHart old.hart.now new.hart.now) → OnOk result (HasDone what lines old new)
-has_done (Ok value) core watch bus same = record { core = core; watch = watch; bus = bus; same = same }
-has_done (Err error) core watch bus same = tt
-
--- it has done what this effect does on a processor alone, and the reservations stay
-done_as :
-    {D T E : Type 0} {what : Shared} {lines : Lines} {old new : Seat D} (alone : Effect) (result : Result T E) →
-    effect_of old what lines ≡ leaves alone old.watch.now → new.watch.now ≡ old.watch.now →
-    OnOk result (new.hart.now ≡ core_after answer old.bus.now alone) →
-    OnOk result (new.bus.now ≡ bus_after loaded stored old.bus.now alone) →
-    OnOk result (IsSameHart old.hart.now new.hart.now) → OnOk result (HasDone what lines old new)
-done_as {old = old} alone (Ok value) is watch core bus same = record {
-  core = core ∙ ap {A = SharedEffect} (λ done. core_after answer old.bus.now done.effect) (sym is);
-  watch = watch ∙ ap {A = SharedEffect} (λ done. done.watch) (sym is);
-  bus = bus ∙ ap {A = SharedEffect} (λ done. bus_after loaded stored old.bus.now done.effect) (sym is);
-  same = same;
-}
-done_as alone (Err error) is watch core bus same = tt
-
 -- a processor alone has done what it fetches
 pub alone_done :
-    {D T E : Type 0} {features : Features} {lines : Lines} {old new : Seat D} → PlainAlone → (result : Result T E) →
+    {D T E : Type 0} {features : Features} → PlainAlone → (old new : Seat D) (lines : Lines) (result : Result T E) →
     is_shared old.bus.now.space.plan ≡ false → IsSeat features old → new.watch.now ≡ old.watch.now →
     let alone = effect old.hart.now (fetched_by old.hart.now old.bus.now) lines in
     OnOk result (new.hart.now ≡ core_after answer old.bus.now alone) →
     OnOk result (new.bus.now ≡ bus_after loaded stored old.bus.now alone) →
     OnOk result (IsSameHart old.hart.now new.hart.now) → OnOk result (HasDone (shared_at old) lines old new)
-alone_done {lines = lines} {old = old} law result none seat =
-    done_as (effect old.hart.now (fetched_by old.hart.now old.bus.now) lines) result
-    (alone_effect law old.number old.hart.now old.watch.now old.bus.now lines none seat.letters seat.number seat.harts)
-
--- one has done what ends no reservation
-pub plain_done :
-    {D T E : Type 0} {lines : Lines} {old new : Seat D} (what done : Fetched) (result : Result T E) →
-    EndsNone old.watch.now what → old.number < length old.watch.now → done ≡ what →
-    new.watch.now ≡ old.watch.now →
-    OnOk result (new.hart.now ≡ core_after answer old.bus.now (effect old.hart.now done lines)) →
-    OnOk result (new.bus.now ≡ bus_after loaded stored old.bus.now (effect old.hart.now done lines)) →
-    OnOk result (IsSameHart old.hart.now new.hart.now) → OnOk result (HasDone (shared.Plain what) lines old new)
-plain_done {lines = lines} {old = old} what done result ends below is =
-    done_as (effect old.hart.now done lines) result
-    (ends (fetched old.bus.now) old.hart.now old.number lines below
-    ∙ ap (λ now. leaves (effect old.hart.now now lines) old.watch.now) (sym is))
-
--- a word that means another instruction is no atomic one
-pub plain_word :
-    MeansNoOther → (letters : Letters) (word : ℕ) → ((raw : ℕ) → of_word word ≡ Bad raw → ⊥) →
-    shared_of_word letters word ≡ shared.Plain (of_word word)
-plain_word law letters word other = by_letter letters.a (atomic_of word) refl
-  where
-    by_letter :
-        (a : Bool) (found : Option Atomic) → atomic_of word ≡ found →
-        option_map_or shared.Atomic (if a then found else None) (shared.Plain (of_word word))
-        ≡ shared.Plain (of_word word)
-    by_letter false found is = refl
-    by_letter true None is = refl
-    by_letter true (Some atomic) is =
-        absurd (other word (ap (λ means. option_map_or (λ i. Good i 4 word) means (Bad word)) (law word (rw is refl))))
+alone_done law old new lines (Ok value) none seat watch core bus same =
+    let is = alone_effect law old.number old.hart.now old.watch.now old.bus.now lines none seat.letters seat.number
+    seat.harts in
+    record {
+      core = core ∙ ap {A = SharedEffect} (λ done. core_after answer old.bus.now done.effect) (sym is);
+      watch = watch ∙ ap {A = SharedEffect} (λ done. done.watch) (sym is);
+      bus = bus ∙ ap {A = SharedEffect} (λ done. bus_after loaded stored old.bus.now done.effect) (sym is);
+      same = same;
+    }
+alone_done law old new lines (Err error) none seat watch core bus same = tt
 
 -- a slot of a board's only processor is one of the board
 pub alone_taken :

@@ -1,12 +1,6 @@
-use Rattle.board.proofs.SeatLemmas.{has_done}
+-- What a half-word is may be performed.
 use Rattle.board.proofs.sharing.do_half_apart.Goals as goal
 
-pub returns-clause-ok : goal.returns-clause-ok
-returns-clause-ok g c =
-    has_done c.step_shared.result c.step_shared.ensures.core c.step_shared.ensures.watch c.step_shared.ensures.bus
-    c.step_shared.ensures.same
-
--- what a half-word is may be performed
 pub step_shared-requires-clause-sharable : goal.step_shared-requires-clause-sharable
 step_shared-requires-clause-sharable g c =
     c.of_half.ensures.performable c.args.seat.now.hart.now.letters c.requires.letters

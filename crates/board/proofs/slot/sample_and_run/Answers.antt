@@ -33,8 +33,8 @@ run-requires g c =
 pub put_controller-requires : goal.put_controller-requires
 put_controller-requires g c =
     let err = (c.in_default.ensures {u = tt}).err in
-    let reached : c.bus-2.inside.space ≡ sampled c.bus.inside.space =
-    ap {A = HartBus} (λ w. w.space) c.bus-2.view_is
+    let reached : c.bus-in_default.inside.space ≡ sampled c.bus.inside.space =
+    ap {A = HartBus} (λ w. w.space) c.bus-in_default.view_is
     ∙ ap {A = SlotState} (λ s. s.view.space) err
     ∙ c.sample-lines.ensures.space in
     rw reached (still_state _ _ c.controller_state-before.ensures.valid)
@@ -59,8 +59,8 @@ returns-in_default-clause-err g c =
     let new = c.run.new.seat in
     ap {A = Space}
     (λ space. slot_state new.number new.hart.now new.watch.now
-    (bus_with c.bus-2.inside.outbox space c.bus-2.inside.at.0)) c.put_controller.ensures
-    ∙ ap {A = HartBus} (λ w. put_back state (slot_state new.number new.hart.now new.watch.now w)) c.bus-2.view_is
+    (bus_with c.bus-in_default.inside.outbox space c.bus-in_default.inside.at.0)) c.put_controller.ensures
+    ∙ ap {A = HartBus} (λ w. put_back state (slot_state new.number new.hart.now new.watch.now w)) c.bus-in_default.view_is
     ∙ ap (put_back state) err
     ∙ ap {A = Space}
     (λ space. slot_state old.number old.hart.now old.watch.now
