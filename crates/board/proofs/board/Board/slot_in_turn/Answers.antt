@@ -1,4 +1,4 @@
-use Rattle.std.proofs.Common.{◌≡◌, ◌∙◌, ◌<◌, ap, length}
+use Rattle.std.proofs.Common.{◌≡◌, ◌∙◌, ◌<◌, ap, length, rules}
 use Rattle.std.specs.Prelude.{slice_index_or}
 use Rattle.rv_hart.specs.Core.{Core}
 use Rattle.board.specs.Inner.Holds.{state_of}
@@ -24,7 +24,8 @@ invariant_of-self-2 g c =
     c.args.now.0 done (ap {A = Core} (λ core. core.letters) is ∙ own) c.self.invariant.reserved in
     let next : c.number_after-self-inside.result < length cores =
     rw (c.number_after-self-inside.ensures, count) (after_below (length cores) board.next c.self.invariant.next) in
-    rw c.from.ensures
+    let back : c.hart-1.given.0 ≡ new.hart.now = search rules in
+    rw (c.from.ensures, back)
     (holds_set (state_of cores board.next board.watch board.bus).view new.bus.now.numbers board.next
     c.number_after-self-inside.result old new.hart.now new.watch.now new.bus.now.space c.self.invariant kept.0 kept.1
     c.self.invariant.next is ok.kept.hart ok.kept.count next reserved)
