@@ -18,7 +18,8 @@ plan_sampled now old is = ap {A = Space} (λ s. s.plan) is
 
 pub run-requires : goal.run-requires
 run-requires g c =
-    let was = ap {A = HartBus} (λ w. w.space.plan) (sym c.bus.view_is) ∙ sym (plan_sampled _ _ c.sample-lines.ensures.space)
+    let was = ap {A = HartBus} (λ w. w.space.plan) (sym c.bus.view_is)
+    ∙ sym (plan_sampled _ _ c.sample-lines.ensures.space)
     in
     record {
       seat =
@@ -60,7 +61,8 @@ returns-in_default-clause-err g c =
     ap {A = Space}
     (λ space. slot_state new.number new.hart.now new.watch.now
     (bus_with c.bus-in_default.inside.outbox space c.bus-in_default.inside.at.0)) c.put_controller.ensures
-    ∙ ap {A = HartBus} (λ w. put_back state (slot_state new.number new.hart.now new.watch.now w)) c.bus-in_default.view_is
+    ∙ ap {A = HartBus} (λ w. put_back state (slot_state new.number new.hart.now new.watch.now w))
+    c.bus-in_default.view_is
     ∙ ap (put_back state) err
     ∙ ap {A = Space}
     (λ space. slot_state old.number old.hart.now old.watch.now
