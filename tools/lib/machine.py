@@ -68,7 +68,7 @@ class Hart:
 
 @dataclass(frozen=True)
 class Device:
-    """A UART, a CAN controller or a finisher, with its state."""
+    """A UART, a CAN controller, a finisher or a bank of pins, with its state."""
 
     name: str
     kind: str
@@ -87,6 +87,8 @@ class Device:
             )
         if self.kind == "can":
             return bool(held["receive_interrupt"] or held["transmit_interrupt"] or held["overrun_interrupt"])
+        if self.kind == "pins":
+            return bool(held["pins"] & held["mask"])
         return False
 
 

@@ -140,7 +140,7 @@ def plan(r: Reader) -> Read:
         ("names", r.list_of(named)),
         ("regions", r.list_of(r.struct(("base", address), ("size", u32), ("what", part), ("step", u8)))),
         ("memories", r.list_of(u32)),
-        ("kinds", r.list_of(r.variant(("uart", []), ("can", []), ("finisher", [])))),
+        ("kinds", r.list_of(r.variant(("uart", []), ("can", []), ("finisher", []), ("pins", [])))),
         ("frequency", r.optional(u32)),
         ("controller", r.optional(r.struct(("sources", u8), ("contexts", u8)))),
         ("wires", r.list_of(r.struct(("from", begins), ("to", ends)))),
@@ -189,6 +189,10 @@ def can(r: Reader) -> Fields:
     ]
 
 
+def pins(r: Reader) -> Fields:
+    return [(name, r.bits(1)) for name in ("pins", "latch", "mask")]
+
+
 def controller(r: Reader) -> Read:
     u8, sources = r.number(1), r.bits(16)
     return r.struct(
@@ -209,7 +213,7 @@ def state(r: Reader) -> Read:
         ("reservations", r.list_of(r.optional(r.bits(4)))),
         ("timer", r.optional(r.struct(("msip", r.flag), ("mtimecmp", u64), ("offset", u64)))),
         ("controller", r.optional(controller(r))),
-        ("devices", r.list_of(r.variant(("uart", uart(r)), ("can", can(r)), ("finisher", [])))),
+        ("devices", r.list_of(r.variant(("uart", uart(r)), ("can", can(r)), ("finisher", []), ("pins", pins(r))))),
         ("shown", r.list_of(r.flag)),
         ("posts", u64),
         ("entries", u64),

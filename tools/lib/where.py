@@ -270,7 +270,7 @@ def board_report(held: Dict[str, Any], time: int, paths: List[str]) -> BoardRepo
         name=held["name"],
         images=paths,
         harts=[board.hart(hart) for hart in machine.harts],
-        devices=[waiting(device) for device in machine.devices if device.kind != "finisher"],
+        devices=[waiting(device) for device in machine.devices if device.kind in ("uart", "can")],
         claimed=board.claims(),
         warnings=warnings + board.memory_warnings(),
     )

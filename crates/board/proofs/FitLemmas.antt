@@ -12,7 +12,7 @@ use Rattle.dev_core.specs.declared.state.DevState.{DevState}
 use Rattle.dev_core.specs.declared.state.DevState.TheVariants as state
 use Rattle.dev_core.specs.declared.kind.Kind.{Kind}
 use Rattle.dev_core.specs.Kind.{row_of}
-use Rattle.dev_core.specs.declared.kind.Kind.TheVariants.{Uart, Can, Finisher}
+use Rattle.dev_core.specs.declared.kind.Kind.TheVariants.{Uart, Can, Finisher, Gpio}
 use Rattle.clint.specs.Clint.{Timer}
 use Rattle.page_ram.specs.Access.{IsInOnePage, IsRamSize}
 use Rattle.plic.specs.State.{Controller}
@@ -268,11 +268,13 @@ valid_reset : (s : DevState) → IsValidState (dev_reset s)
 valid_reset (state.Uart u) = search rules
 valid_reset (state.Can c) = search rules
 valid_reset state.Finisher = tt
+valid_reset (state.Gpio g) = tt
 
 valid_first : (k : Kind) → IsValidState (first_state k)
 valid_first Uart = valid_reset (first_state Uart)
 valid_first Can = valid_reset (first_state Can)
 valid_first Finisher = tt
+valid_first Gpio = tt
 
 -- all devices were reset
 pub fit_reset : (s : Space) → IsFit s → IsFit (record s { devices = map reset_device s.devices })
@@ -291,6 +293,7 @@ fit_reset s fit = record {
     kind (state.Uart u) = refl
     kind (state.Can c) = refl
     kind state.Finisher = refl
+    kind (state.Gpio g) = refl
 
     kinds : (ds : List BoardDevice) → map (λ f. kind_of f.state) (map reset_device ds) ≡ map (λ f. kind_of f.state) ds
     kinds [] = refl
@@ -325,6 +328,7 @@ fit_new plan valid = record {
     kind Uart = refl
     kind Can = refl
     kind Finisher = refl
+    kind Gpio = refl
 
     kinds : (ks : List Kind) → map (λ f. kind_of f.state) (map hidden (map first_state ks)) ≡ ks
     kinds [] = refl

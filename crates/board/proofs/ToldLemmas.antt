@@ -16,10 +16,11 @@ use Rattle.dev_core.specs.declared.payload.Payload.{Payload}
 use Rattle.dev_core.specs.declared.payload.Payload.TheVariants.{Byte, Frame, Finish}
 use Rattle.dev_core.specs.declared.post.What.{What}
 use Rattle.dev_core.specs.declared.state.DevState.{DevState}
-use Rattle.dev_core.specs.declared.state.DevState.TheVariants.{Uart, Can, Finisher}
+use Rattle.dev_core.specs.declared.state.DevState.TheVariants.{Uart, Can, Finisher, Gpio}
 use Rattle.dev_core.specs.Can.{can_store_byte}
 use Rattle.dev_core.specs.Device.{kind_of}
 use Rattle.dev_core.specs.Frame.{FrameData}
+use Rattle.dev_core.specs.Gpio.{gpio_store}
 use Rattle.dev_core.specs.Uart.{uart_store_byte}
 use Rattle.sys_bus.specs.declared.region.RegionKind.{RegionKind}
 use Rattle.sys_bus.specs.declared.region.RegionKind.TheVariants as part
@@ -97,6 +98,7 @@ kind_loaded d width None = refl
 kind_loaded (Uart u) width (Some reg) = refl
 kind_loaded (Can c) width (Some reg) = refl
 kind_loaded Finisher width (Some reg) = refl
+kind_loaded (Gpio g) width (Some reg) = refl
 
 kind_stored :
     (d : DevState) (width value : ℕ) (register : Option ℕ) →
@@ -105,6 +107,7 @@ kind_stored d width value None = refl
 kind_stored (Uart u) width value (Some reg) = refl
 kind_stored (Can c) width value (Some reg) = refl
 kind_stored Finisher width value (Some reg) = refl
+kind_stored (Gpio g) width value (Some reg) = refl
 
 pub kept_load : (s : Space) (width : ℕ) (target : Target) → IsKept s (after_load s width target)
 kept_load s width (Ram n at) = kept_same s
@@ -142,11 +145,12 @@ own_if k false a b p q = q
 pub sends_own :
     (d : DevState) (width value : ℕ) (register : Option ℕ) →
     IsTrue (is_own (kind_of d) (register_store d width value register).answer)
-unfolding uart_store_byte can_store_byte
+unfolding uart_store_byte can_store_byte gpio_store
 sends_own d width value None = refl
 sends_own (Uart u) width value (Some reg) = search own_if
 sends_own (Can c) width value (Some reg) = search own_if
 sends_own Finisher width value (Some reg) = search own_if
+sends_own (Gpio g) width value (Some reg) = refl
 
 -- an access that reaches a device by a valid plan reaches one that is there
 pub device_there :
@@ -218,11 +222,13 @@ byte_kind : (k : Kind) (byte : ℕ) → IsTrue (is_of_kind k (Byte byte)) → k 
 byte_kind kind.Uart byte own = refl
 byte_kind kind.Can byte own = absurd (cc)
 byte_kind kind.Finisher byte own = absurd (cc)
+byte_kind kind.Gpio byte own = absurd (cc)
 
 frame_kind : (k : Kind) (frame : FrameData) → IsTrue (is_of_kind k (Frame frame)) → k ≡ kind.Can
 frame_kind kind.Uart frame own = absurd (cc)
 frame_kind kind.Can frame own = refl
 frame_kind kind.Finisher frame own = absurd (cc)
+frame_kind kind.Gpio frame own = absurd (cc)
 
 -- what is noted of what a device sends is told of a shown one
 pub told_note :

@@ -5,9 +5,10 @@ use Rattle.clint.specs.Clint.{Timer, clint_reset}
 use Rattle.dev_core.specs.declared.kind.Kind.{Kind}
 use Rattle.dev_core.specs.declared.kind.Kind.TheVariants as kind
 use Rattle.dev_core.specs.declared.state.DevState.{DevState}
-use Rattle.dev_core.specs.declared.state.DevState.TheVariants.{Uart, Can, Finisher}
+use Rattle.dev_core.specs.declared.state.DevState.TheVariants.{Uart, Can, Finisher, Gpio}
 use Rattle.dev_core.specs.Can.{can_reset}
 use Rattle.dev_core.specs.Device.{dev_reset}
+use Rattle.dev_core.specs.Gpio.{gpio_reset}
 use Rattle.dev_core.specs.Uart.{uart_reset}
 use Rattle.page_ram.specs.Bytes.{zeros}
 use Rattle.plic.specs.State.{Controller, plic_reset}
@@ -25,6 +26,7 @@ abbrev pub first_state : Kind → DevState
 first_state kind.Uart = Uart uart_reset
 first_state kind.Can = Can can_reset
 first_state kind.Finisher = Finisher
+first_state kind.Gpio = Gpio gpio_reset
 
 abbrev pub first_states : BoardPlan → List DevState
 first_states plan = map first_state plan.kinds

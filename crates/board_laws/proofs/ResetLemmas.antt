@@ -15,12 +15,8 @@ same_reset : (a b : DevState) → kind_of a ≡ kind_of b → dev_reset a ≡ de
 same_reset (state.Uart u) (state.Uart v) same = refl
 same_reset (state.Can u) (state.Can v) same = refl
 same_reset state.Finisher state.Finisher same = refl
-same_reset (state.Uart u) (state.Can v) same = absurd (cc)
-same_reset (state.Uart u) state.Finisher same = absurd (cc)
-same_reset (state.Can u) (state.Uart v) same = absurd (cc)
-same_reset (state.Can u) state.Finisher same = absurd (cc)
-same_reset state.Finisher (state.Uart v) same = absurd (cc)
-same_reset state.Finisher (state.Can v) same = absurd (cc)
+same_reset (state.Gpio u) (state.Gpio v) same = refl
+same_reset _ _ same = absurd (cc)
 
 pub same_resets :
     (xs ys : List BoardDevice) → map (λ f. kind_of f.state) xs ≡ map (λ f. kind_of f.state) ys →

@@ -1,6 +1,7 @@
 //! A device of the program, each kind in a box of its own.
 use can_sja1000::Can;
 use dev_core::{DevState, Device, Effect, Kind, Payload, Taken};
+use gpio_bank8::Gpio;
 use test_finisher::Finisher;
 use uart_16550::Uart;
 
@@ -11,6 +12,7 @@ pub enum Chip {
     Uart(Box<Uart>),
     Can(Box<Can>),
     Finisher(Box<Finisher>),
+    Gpio(Box<Gpio>),
 }
 
 impl Device for Chip {
@@ -23,6 +25,7 @@ impl Device for Chip {
             Chip::Uart(_) => Kind::Uart,
             Chip::Can(_) => Kind::Can,
             Chip::Finisher(_) => Kind::Finisher,
+            Chip::Gpio(_) => Kind::Gpio,
         }
     }
 
@@ -31,6 +34,7 @@ impl Device for Chip {
             Chip::Uart(uart) => (**uart).load(reg, width),
             Chip::Can(can) => (**can).load(reg, width),
             Chip::Finisher(finisher) => (**finisher).load(reg, width),
+            Chip::Gpio(gpio) => (**gpio).load(reg, width),
         }
     }
 
@@ -39,6 +43,7 @@ impl Device for Chip {
             Chip::Uart(uart) => (**uart).store(reg, width, value),
             Chip::Can(can) => (**can).store(reg, width, value),
             Chip::Finisher(finisher) => (**finisher).store(reg, width, value),
+            Chip::Gpio(gpio) => (**gpio).store(reg, width, value),
         }
     }
 
@@ -47,6 +52,7 @@ impl Device for Chip {
             Chip::Uart(uart) => (**uart).take(payload),
             Chip::Can(can) => (**can).take(payload),
             Chip::Finisher(finisher) => (**finisher).take(payload),
+            Chip::Gpio(gpio) => (**gpio).take(payload),
         }
     }
 
@@ -55,6 +61,7 @@ impl Device for Chip {
             Chip::Uart(uart) => (**uart).line(),
             Chip::Can(can) => (**can).line(),
             Chip::Finisher(finisher) => (**finisher).line(),
+            Chip::Gpio(gpio) => (**gpio).line(),
         }
     }
 
@@ -63,6 +70,7 @@ impl Device for Chip {
             Chip::Uart(uart) => (**uart).reset(),
             Chip::Can(can) => (**can).reset(),
             Chip::Finisher(finisher) => (**finisher).reset(),
+            Chip::Gpio(gpio) => (**gpio).reset(),
         }
     }
 
@@ -71,6 +79,7 @@ impl Device for Chip {
             Chip::Uart(uart) => (**uart).state(),
             Chip::Can(can) => (**can).state(),
             Chip::Finisher(finisher) => (**finisher).state(),
+            Chip::Gpio(gpio) => (**gpio).state(),
         }
     }
 
@@ -79,6 +88,7 @@ impl Device for Chip {
             Chip::Uart(uart) => (**uart).put(state),
             Chip::Can(can) => (**can).put(state),
             Chip::Finisher(finisher) => (**finisher).put(state),
+            Chip::Gpio(gpio) => (**gpio).put(state),
         }
     }
 }

@@ -1,6 +1,7 @@
 //! Devices enough for each board that a laboratory can have.
 ghost use Rattle.std.specs.Prelude.{◌≡◌, IfOk, map, replicate};
 ghost use Rattle.dev_core.specs.Can.{can_reset};
+ghost use Rattle.dev_core.specs.Gpio.{gpio_reset};
 ghost use Rattle.dev_core.specs.Stock.{IsFull};
 ghost use Rattle.dev_core.specs.Uart.{uart_reset};
 ghost use Rattle.dev_core.specs.declared.state.DevState.TheVariants as state;
@@ -8,23 +9,26 @@ ghost use Rattle.chips.specs.Chip.{state_of};
 
 use crate::chip::Chip;
 use can_sja1000::Can;
-use dev_core::{STOCK_CANS, STOCK_FINISHERS, STOCK_UARTS, Stock};
+use dev_core::{STOCK_CANS, STOCK_FINISHERS, STOCK_GPIOS, STOCK_UARTS, Stock};
+use gpio_bank8::Gpio;
 use lab_num::NoMemory;
 use std::alloc::Global;
 use test_finisher::Finisher;
 use uart_16550::Uart;
 
-/// 64 UARTs, 64 CAN controllers and 16 finishers, each in its reset state.
+/// 64 UARTs, 64 CAN controllers, 16 finishers and 32 banks of pins, each in its reset state.
 pub fn full_stock(alloc: Global) -> Result<Stock<Chip>, NoMemory>
     ensures { IfOk result (λ stock. IsFull state_of stock) }
 {
     let uarts = uarts(alloc)?;
     let cans = cans(alloc)?;
     let finishers = finishers(alloc)?;
+    let gpios = gpios(alloc)?;
     Ok(Stock {
         uarts,
         cans,
         finishers,
+        gpios,
     })
 }
 
@@ -56,4 +60,14 @@ fn finishers(alloc: Global) -> Result<Vec<Chip>, NoMemory>
         finishers.push(Chip::Finisher(Box::new(alloc, Finisher::new())?))?;
     }
     Ok(finishers)
+}
+
+fn gpios(alloc: Global) -> Result<Vec<Chip>, NoMemory>
+    ensures { IfOk result (λ gpios. map state_of gpios.items ≡ replicate 32 (state.Gpio gpio_reset)) }
+{
+    let mut gpios = Vec::new(alloc);
+    for _made in 0..STOCK_GPIOS {
+        gpios.push(Chip::Gpio(Box::new(alloc, Gpio::new())?))?;
+    }
+    Ok(gpios)
 }

@@ -4,7 +4,7 @@ use Rattle.std.specs.Prelude.{codes, find}
 use Rattle.std.specs.Option.{option_map}
 use Rattle.std.specs.Str.{bytes_eq}
 use Rattle.dev_core.specs.declared.kind.Kind.{Kind}
-use Rattle.dev_core.specs.declared.kind.Kind.TheVariants.{Uart, Can, Finisher}
+use Rattle.dev_core.specs.declared.kind.Kind.TheVariants.{Uart, Can, Finisher, Gpio}
 use Rattle.dev_core.specs.declared.payload.Payload.{Payload}
 use Rattle.dev_core.specs.declared.payload.Payload.TheVariants.{Byte, Frame, Finish}
 
@@ -104,14 +104,33 @@ finisher_row =
       number = 2;
     }
 
+-- three registers
+abbrev pub gpio_row : Row
+gpio_row =
+    record {
+      kind = Gpio;
+      name = codes "GPIOPort.Bank8";
+      sends = is_none;
+      takes = is_none;
+      has_line = true;
+      joins_hubs = false;
+      may_be_shown = false;
+      least_size = 4;
+      usual_size = 0x100;
+      may_be_wide = false;
+      most = 2;
+      number = 3;
+    }
+
 abbrev pub rows : List Row
-rows = uart_row ∷ can_row ∷ finisher_row ∷ []
+rows = uart_row ∷ can_row ∷ finisher_row ∷ gpio_row ∷ []
 
 -- the row of a kind
 abbrev pub row_of : Kind → Row
 row_of Uart = uart_row
 row_of Can = can_row
 row_of Finisher = finisher_row
+row_of Gpio = gpio_row
 
 -- the same kind
 abbrev pub is_kind : Kind → Kind → Bool

@@ -7,6 +7,7 @@ pub mod CanFrame
 pub mod Device
 pub mod Finisher
 pub mod Frame
+pub mod Gpio
 pub mod Inner
 pub mod Kind
 pub mod Post

@@ -14,10 +14,12 @@ pub enum Kind {
     Can,
     /// The register by which a program ends a test.
     Finisher,
+    /// A bank of eight pins.
+    Gpio,
 }
 
 /// All kinds, in the order of their places in a snapshot.
-pub const KINDS: [Kind; 3] = [Kind::Uart, Kind::Can, Kind::Finisher];
+pub const KINDS: [Kind; 4] = [Kind::Uart, Kind::Can, Kind::Finisher, Kind::Gpio];
 
 impl Kind {
     /// The kind of the devices that have this type in platform files.
@@ -28,6 +30,7 @@ impl Kind {
             "UART.NS16550" => Some(Kind::Uart),
             "CAN.SJA1000" => Some(Kind::Can),
             "Miscellaneous.SiFiveTest" => Some(Kind::Finisher),
+            "GPIOPort.Bank8" => Some(Kind::Gpio),
             _ => None,
         }
     }
@@ -40,6 +43,7 @@ impl Kind {
             Kind::Uart => 0,
             Kind::Can => 1,
             Kind::Finisher => 2,
+            Kind::Gpio => 3,
         }
     }
 
@@ -58,6 +62,7 @@ impl Kind {
             0 => Some(Kind::Uart),
             1 => Some(Kind::Can),
             2 => Some(Kind::Finisher),
+            3 => Some(Kind::Gpio),
             _ => None,
         }
     }
@@ -79,7 +84,7 @@ impl Kind {
         ensures { result ≡ (row_of self).has_line }
     {
         match self {
-            Kind::Uart | Kind::Can => true,
+            Kind::Uart | Kind::Can | Kind::Gpio => true,
             Kind::Finisher => false,
         }
     }
@@ -90,7 +95,7 @@ impl Kind {
     {
         match self {
             Kind::Uart | Kind::Can => true,
-            Kind::Finisher => false,
+            Kind::Finisher | Kind::Gpio => false,
         }
     }
 
@@ -100,7 +105,7 @@ impl Kind {
     {
         match self {
             Kind::Uart | Kind::Can => true,
-            Kind::Finisher => false,
+            Kind::Finisher | Kind::Gpio => false,
         }
     }
 
@@ -110,7 +115,7 @@ impl Kind {
     {
         match self {
             Kind::Uart => true,
-            Kind::Can | Kind::Finisher => false,
+            Kind::Can | Kind::Finisher | Kind::Gpio => false,
         }
     }
 
@@ -129,7 +134,7 @@ impl Kind {
             Kind::Uart if step == 4 => 32,
             Kind::Uart => 8,
             Kind::Can => 32,
-            Kind::Finisher => 4,
+            Kind::Finisher | Kind::Gpio => 4,
         }
     }
 
@@ -138,7 +143,7 @@ impl Kind {
         ensures { result ≡ (row_of self).usual_size }
     {
         match self {
-            Kind::Uart | Kind::Can => 0x100,
+            Kind::Uart | Kind::Can | Kind::Gpio => 0x100,
             Kind::Finisher => 0x1000,
         }
     }
@@ -150,6 +155,7 @@ impl Kind {
         match self {
             Kind::Uart | Kind::Can => 4,
             Kind::Finisher => 1,
+            Kind::Gpio => 2,
         }
     }
 }

@@ -3,6 +3,7 @@ ghost use Rattle.std.specs.Prelude.{◌≡◌, ◌↔◌, IsTrue};
 ghost use Rattle.dev_core.specs.Device.{kind_of, IsValid};
 
 use crate::can_state::CanState;
+use crate::gpio_state::GpioState;
 use crate::kind::Kind;
 use crate::uart_state::UartState;
 
@@ -13,6 +14,7 @@ pub enum DevState {
     Can(CanState),
     /// A finisher holds nothing.
     Finisher,
+    Gpio(GpioState),
 }
 
 impl DevState {
@@ -24,6 +26,7 @@ impl DevState {
             DevState::Uart(_) => Kind::Uart,
             DevState::Can(_) => Kind::Can,
             DevState::Finisher => Kind::Finisher,
+            DevState::Gpio(_) => Kind::Gpio,
         }
     }
 }
@@ -35,6 +38,6 @@ pub fn is_valid_state(s: &DevState) -> bool
     match s {
         DevState::Uart(uart) => uart.is_valid(),
         DevState::Can(can) => can.is_valid(),
-        DevState::Finisher => true,
+        DevState::Finisher | DevState::Gpio(_) => true,
     }
 }

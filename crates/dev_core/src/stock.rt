@@ -3,9 +3,11 @@ ghost use Rattle.std.specs.Prelude.{◌≡◌, ◌↔◌, IsTrue, map, replicate
 ghost use Rattle.dev_core.specs.Stock.{IsFull};
 ghost use Rattle.dev_core.specs.Uart.{uart_reset};
 ghost use Rattle.dev_core.specs.Can.{can_reset};
+ghost use Rattle.dev_core.specs.Gpio.{gpio_reset};
 
 use crate::can_state::CanState;
 use crate::device::Device;
+use crate::gpio_state::GpioState;
 use crate::state::DevState;
 use crate::uart_state::UartState;
 
@@ -18,12 +20,16 @@ pub const STOCK_CANS: usize = 64;
 /// How many finishers a full stock has: one for each of 16 boards.
 pub const STOCK_FINISHERS: usize = 16;
 
+/// How many banks of pins a full stock has: two for each of 16 boards.
+pub const STOCK_GPIOS: usize = 32;
+
 /// The devices that boards are made of. No bound stands on the type, so that it may hold boxes.
 #[derive(Drop)]
 pub struct Stock<D> {
     pub uarts: Vec<D>,
     pub cans: Vec<D>,
     pub finishers: Vec<D>,
+    pub gpios: Vec<D>,
 }
 
 /// Whether this is the reset state of a UART.
@@ -53,6 +59,16 @@ fn is_finisher(state: &DevState) -> bool
     matches!(state, DevState::Finisher)
 }
 
+/// Whether this is the reset state of a bank of pins.
+fn is_reset_gpio(state: &DevState) -> bool
+    ensures { IsTrue result ↔ (state.now ≡ DevState.Gpio gpio_reset) }
+{
+    match state {
+        DevState::Gpio(gpio) => *gpio == GpioState::reset(),
+        _ => false,
+    }
+}
+
 /// Whether each device is a UART in its reset state.
 fn are_reset_uarts<D: Device>(devices: &[D]) -> bool
     ensures { IsTrue result ↔ All (λ d. D.meaning d ≡ DevState.Uart uart_reset) devices.now }
@@ -72,6 +88,13 @@ fn are_finishers<D: Device>(devices: &[D]) -> bool
     ensures { IsTrue result ↔ All (λ d. D.meaning d ≡ DevState.Finisher) devices.now }
 {
     devices.iter().all(|device| is_finisher(&device.state()))
+}
+
+/// Whether each device is a bank of pins in its reset state.
+fn are_reset_gpios<D: Device>(devices: &[D]) -> bool
+    ensures { IsTrue result ↔ All (λ d. D.meaning d ≡ DevState.Gpio gpio_reset) devices.now }
+{
+    devices.iter().all(|device| is_reset_gpio(&device.state()))
 }
 
 /// Whether there are so many UARTs, each in its reset state.
@@ -97,13 +120,22 @@ fn are_so_many_finishers<D: Device>(devices: &[D], count: usize) -> bool
     devices.len() == count && are_finishers(devices)
 }
 
+/// Whether there are so many banks of pins, each in its reset state.
+fn are_so_many_gpios<D: Device>(devices: &[D], count: usize) -> bool
+    ensures { IsTrue result ↔
+        (map D.meaning devices.now ≡ replicate count (DevState.Gpio gpio_reset)) }
+{
+    devices.len() == count && are_reset_gpios(devices)
+}
+
 impl<D: Device> Stock<D> {
-    /// Whether there are 64 UARTs, 64 CAN controllers and 16 finishers, each in its reset state.
+    /// Whether there are 64 UARTs, 64 CAN controllers, 16 finishers and 32 banks of pins, each in its reset state.
     pub fn is_full(&self) -> bool
         ensures { IsTrue result ↔ IsFull D.meaning self.now }
     {
         are_so_many_uarts(self.uarts.as_slice(), STOCK_UARTS)
             && are_so_many_cans(self.cans.as_slice(), STOCK_CANS)
             && are_so_many_finishers(self.finishers.as_slice(), STOCK_FINISHERS)
+            && are_so_many_gpios(self.gpios.as_slice(), STOCK_GPIOS)
     }
 }

@@ -46,6 +46,7 @@ fn is_full_stock(alloc: Global, finisher: Box<dyn Device + Send>) -> Result<bool
         uarts: Vec::new(alloc),
         cans: Vec::new(alloc),
         finishers: vec![in alloc; finisher]?,
+        gpios: Vec::new(alloc),
     };
     Ok(stock.is_full())
 }

@@ -6,6 +6,8 @@ mod can;
 #[cfg(test)]
 mod finisher;
 #[cfg(test)]
+mod gpio;
+#[cfg(test)]
 mod interrupt_controller;
 #[cfg(test)]
 mod memory;

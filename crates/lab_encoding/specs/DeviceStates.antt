@@ -2,6 +2,7 @@
 use Rattle.std.proofs.Common.{refl, ◌≡◌, ◌⊎◌, inl, inr, ℕ, List, Bool}
 use Rattle.dev_core.specs.declared.uart_state.UartState.{UartState}
 use Rattle.dev_core.specs.declared.can_state.CanState.{CanState}
+use Rattle.dev_core.specs.declared.gpio_state.GpioState.{GpioState}
 use Rattle.dev_core.specs.declared.state.DevState.{DevState}
 use Rattle.dev_core.specs.declared.state.DevState.TheVariants as device
 use Rattle.dev_core.specs.Frame.{FrameData}
@@ -95,35 +96,59 @@ can_lawful =
     (next_lawful (times_lawful 10 byte_lawful) (next_lawful frame_row_lawful (next_lawful flag_lawful
     (next_lawful flag_lawful (next_lawful flag_lawful flag_lawful))))))))))))
 
-abbrev pub device_to : DevState → UartState ⊎ (CanState ⊎ Unit {0})
+-- the fields of a bank of pins
+unfoldable pub gpio_form : Form GpioState
+gpio_form =
+    via
+    (λ s. (s.pins, (s.latch, s.mask)))
+    (λ (pins, (latch, mask)). record { pins = pins; latch = latch; mask = mask })
+    (byte  -- pins
+    ⊗ byte  -- latch
+    ⊗ byte)  -- mask
+
+pub gpio_lawful : IsLawful gpio_form
+unfolding gpio_form
+gpio_lawful =
+    via_lawful _ _ (λ x. refl) (λ a. refl) (next_lawful byte_lawful (next_lawful byte_lawful byte_lawful))
+
+abbrev pub device_to : DevState → UartState ⊎ (CanState ⊎ (Unit {0} ⊎ GpioState))
 device_to (device.Uart x) = inl x
 device_to (device.Can x) = inr (inl x)
-device_to device.Finisher = inr (inr tt)
+device_to device.Finisher = inr (inr (inl tt))
+device_to (device.Gpio x) = inr (inr (inr x))
 
-abbrev pub device_from : UartState ⊎ (CanState ⊎ Unit {0}) → DevState
+abbrev pub device_from : UartState ⊎ (CanState ⊎ (Unit {0} ⊎ GpioState)) → DevState
 device_from (inl x) = device.Uart x
 device_from (inr (inl x)) = device.Can x
-device_from (inr (inr x)) = device.Finisher
+device_from (inr (inr (inl x))) = device.Finisher
+device_from (inr (inr (inr x))) = device.Gpio x
 
 device_again : (x : DevState) → device_from (device_to x) ≡ x
 device_again (device.Uart x) = refl
 device_again (device.Can x) = refl
 device_again device.Finisher = refl
+device_again (device.Gpio x) = refl
 
-device_back : (a : UartState ⊎ (CanState ⊎ Unit {0})) → device_to (device_from a) ≡ a
+device_back : (a : UartState ⊎ (CanState ⊎ (Unit {0} ⊎ GpioState))) → device_to (device_from a) ≡ a
 device_back (inl x) = refl
 device_back (inr (inl x)) = refl
-device_back (inr (inr x)) = refl
+device_back (inr (inr (inl x))) = refl
+device_back (inr (inr (inr x))) = refl
 
--- 0 and a UART, 1 and a CAN controller, or 2 for a finisher
+-- 0 and a UART, 1 and a CAN controller, 2 for a finisher, or 3 and a bank of pins
 unfoldable pub device_form : Form DevState
-device_form = via device_to device_from (choice 0 uart_form (choice 1 can_form (tagged 2 nothing)))
+device_form =
+    via device_to device_from
+    (choice 0 uart_form (choice 1 can_form (choice 2 nothing (tagged 3 gpio_form))))
 
 pub device_lawful : IsLawful device_form
 unfolding device_form
 device_lawful =
     via_lawful _ _ device_again device_back
-    (choice_lawful 0 (avoids_choice can_form (tagged 2 nothing) 0 1 refl
-    (avoids_tagged nothing 0 2 refl)) uart_lawful
-    (choice_lawful 1 (avoids_tagged nothing 1 2 refl) can_lawful
-    (tagged_lawful 2 nothing_lawful)))
+    (choice_lawful 0 (avoids_choice can_form (choice 2 nothing (tagged 3 gpio_form)) 0 1 refl
+    (avoids_choice nothing (tagged 3 gpio_form) 0 2 refl
+    (avoids_tagged gpio_form 0 3 refl))) uart_lawful
+    (choice_lawful 1 (avoids_choice nothing (tagged 3 gpio_form) 1 2 refl
+    (avoids_tagged gpio_form 1 3 refl)) can_lawful
+    (choice_lawful 2 (avoids_tagged gpio_form 2 3 refl) nothing_lawful
+    (tagged_lawful 3 gpio_lawful))))

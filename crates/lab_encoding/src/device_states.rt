@@ -2,7 +2,7 @@
 use crate::byte_reader::ByteReader;
 use crate::fault::SnapFault;
 use crate::spelled::Spelled;
-use dev_core::{CanState, DevState, UartState};
+use dev_core::{CanState, DevState, GpioState, UartState};
 use lab_num::NoMemory;
 use std::alloc::Global;
 
@@ -92,6 +92,31 @@ impl Spelled for CanState {
     }
 }
 
+impl Spelled for GpioState {
+    ghost use Rattle.lab_encoding.specs.DeviceStates.{gpio_form, gpio_lawful};
+
+    ghost form = { gpio_form };
+
+    ghost lawful = { gpio_lawful };
+
+    #[tactic(auto, unfolding(crate::specs::DeviceStates::gpio_form))]
+    fn encode(&self, out: &mut Vec<u8>) -> Result<(), NoMemory> {
+        self.pins.encode(out)?;
+        self.latch.encode(out)?;
+        self.mask.encode(out)?;
+        Ok(())
+    }
+
+    #[tactic(auto, unfolding(crate::specs::DeviceStates::gpio_form))]
+    fn decode(alloc: Global, reader: &mut ByteReader<'_>) -> Result<GpioState, SnapFault> {
+        Ok(GpioState {
+            pins: Spelled::decode(alloc, reader)?,
+            latch: Spelled::decode(alloc, reader)?,
+            mask: Spelled::decode(alloc, reader)?,
+        })
+    }
+}
+
 impl Spelled for DevState {
     ghost use Rattle.lab_encoding.specs.DeviceStates.{device_form, device_lawful};
 
@@ -111,6 +136,10 @@ impl Spelled for DevState {
                 can.encode(out)?;
             }
             DevState::Finisher => out.push(2)?,
+            DevState::Gpio(gpio) => {
+                out.push(3)?;
+                gpio.encode(out)?;
+            }
         }
         Ok(())
     }
@@ -121,6 +150,7 @@ impl Spelled for DevState {
             0 => Ok(DevState::Uart(Spelled::decode(alloc, reader)?)),
             1 => Ok(DevState::Can(Spelled::decode(alloc, reader)?)),
             2 => Ok(DevState::Finisher),
+            3 => Ok(DevState::Gpio(Spelled::decode(alloc, reader)?)),
             _ => Err(SnapFault::Bad),
         }
     }

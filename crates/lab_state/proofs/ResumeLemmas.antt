@@ -15,7 +15,7 @@ use Rattle.lab_num.specs.Key.{same_member}
 use Rattle.lab_num.specs.Route.{has_member}
 use Rattle.dev_core.specs.Kind.{row_of}
 use Rattle.dev_core.specs.declared.kind.Kind.{Kind}
-use Rattle.dev_core.specs.declared.kind.Kind.TheVariants.{Uart, Can, Finisher}
+use Rattle.dev_core.specs.declared.kind.Kind.TheVariants.{Uart, Can, Finisher, Gpio}
 use Rattle.dev_core.specs.declared.payload.Payload.{Payload}
 use Rattle.dev_core.specs.declared.payload.Payload.TheVariants as payload
 use Rattle.dev_core.specs.declared.post.Post.{Post}
@@ -203,6 +203,7 @@ unfinished kind (payload.Frame frame) shown of = refl
 unfinished Uart (payload.Finish finish) shown of = absurd (cc)
 unfinished Can (payload.Finish finish) shown of = absurd (cc)
 unfinished Finisher (payload.Finish finish) shown of = absurd (cc)
+unfinished Gpio (payload.Finish finish) shown of = absurd (cc)
 
 viewed :
     (o : Option View) (dev : ℕ) (kind : Kind) →

@@ -15,7 +15,7 @@ use Rattle.std.proofs.lemmas.List.Elements.{All-nil, All-weaker, All-push}
 use Rattle.std.proofs.lemmas.List.Sums.{sum_by_push, sum_by-set, count_by-le-length}
 use Rattle.std.proofs.lemmas.Option.{slice_get-get_or, slice_get-map, slice_get_past, slice_get_read, same_Some}
 use Rattle.lab_num.specs.declared.key.Member.{Member}
-use Rattle.dev_core.specs.declared.kind.Kind.TheVariants.{Uart, Can, Finisher}
+use Rattle.dev_core.specs.declared.kind.Kind.TheVariants.{Uart, Can, Finisher, Gpio}
 use Rattle.board.specs.Changes.{with_speed}
 use Rattle.board.specs.New.{new_board, new_numbers}
 use Rattle.board.specs.Numbers.{Numbers}
@@ -308,6 +308,7 @@ record IsSmall (plan : BoardPlan) : Type 0 where
   uarts : count_of plan.kinds Uart ≤ 4
   cans : count_of plan.kinds Can ≤ 4
   finishers : count_of plan.kinds Finisher ≤ 1
+  gpios : count_of plan.kinds Gpio ≤ 2
   least : 1 ≤ plan.speed
   most : plan.speed ≤ 1000
 
@@ -316,6 +317,7 @@ small plan valid = record {
   uarts = grind (arith, nat_tests, valid.few_devices);
   cans = grind (arith, nat_tests, valid.few_devices);
   finishers = grind (arith, nat_tests, valid.few_devices);
+  gpios = grind (arith, nat_tests, valid.few_devices);
   least = grind (arith, nat_tests, valid.speed);
   most = grind (arith, nat_tests, valid.speed);
 }
@@ -379,6 +381,7 @@ module _ {lab : Lab} {spares : Spares} {source : Tree} (i : ℕ) (plan : BoardPl
       each Uart = omega (arith, (small plan valid).uarts, sound.shape.enough.uarts, few)
       each Can = omega (arith, (small plan valid).cans, sound.shape.enough.cans, few)
       each Finisher = omega (arith, (small plan valid).finishers, sound.shape.enough.finishers, few)
+      each Gpio = omega (arith, (small plan valid).gpios, sound.shape.enough.gpios, few)
 
   pub sound-fit :
       (left : Spares) {old : Board} → old ≡ get_or lab.boards i old → AreTaken spares left plan.kinds →
@@ -406,6 +409,7 @@ module _ {lab : Lab} {spares : Spares} {source : Tree} (i : ℕ) (plan : BoardPl
                 uarts = omega (arith, taken Uart, is_small.uarts, plans, sound.shape.enough.uarts);
                 cans = omega (arith, taken Can, is_small.cans, plans, sound.shape.enough.cans);
                 finishers = omega (arith, taken Finisher, is_small.finishers, plans, sound.shape.enough.finishers);
+                gpios = omega (arith, taken Gpio, is_small.gpios, plans, sound.shape.enough.gpios);
               };
             });
         times = sound.times;

@@ -6,7 +6,7 @@ use Rattle.std.proofs.lemmas.List.Elements.{All-from_recursion}
 use Rattle.std.proofs.lemmas.List.Sums.{count_by_more_yes, sum_by-take-le}
 use Rattle.std.specs.List.{All, AllByRecursion}
 use Rattle.dev_core.specs.declared.kind.Kind.{Kind}
-use Rattle.dev_core.specs.declared.kind.Kind.TheVariants.{Uart, Can, Finisher}
+use Rattle.dev_core.specs.declared.kind.Kind.TheVariants.{Uart, Can, Finisher, Gpio}
 use Rattle.dev_core.specs.declared.state.DevState.{DevState}
 use Rattle.dev_core.specs.Device.{kind_of}
 use Rattle.dev_core.specs.Kind.{is_kind}
@@ -44,19 +44,21 @@ still_left all now kinds i d has taken below =
     same Uart = refl
     same Can = refl
     same Finisher = refl
+    same Gpio = refl
 
 -- devices that were taken and are put back
 pub all_back :
     (all left back : Spares) (kinds : List Kind) → AreTaken all left kinds → AreTaken back left kinds → back ≡ all
 all_back all left back kinds taken given =
     let same : (kind : Kind) → left_of back kind ≡ left_of all kind = λ kind. sym (given kind) ∙ taken kind in
-    λ i. record { uarts = same Uart i; cans = same Can i; finishers = same Finisher i }
+    λ i. record { uarts = same Uart i; cans = same Can i; finishers = same Finisher i; gpios = same Gpio i }
 
 -- a device in its first state tells its kind
 kind_first : (kind : Kind) → kind_of (first_state kind) ≡ kind
 kind_first Uart = refl
 kind_first Can = refl
 kind_first Finisher = refl
+kind_first Gpio = refl
 
 pub kinds_first : (kinds : List Kind) → kinds_of (map first_state kinds) ≡ kinds
 kinds_first [] = refl

@@ -113,6 +113,7 @@ take-kind : (state : DevState) (payload : Payload) → kind_of (dev_take state p
 take-kind (state.Uart u) payload = refl
 take-kind (state.Can c) payload = refl
 take-kind state.Finisher payload = refl
+take-kind (state.Gpio g) payload = refl
 
 handed-uart : (dev : ℕ) (payload : Payload) (v : View) (other : ℕ) →
     is_shown_uart (handed v dev payload) other ≡ is_shown_uart v other

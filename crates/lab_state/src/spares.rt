@@ -18,13 +18,14 @@ pub struct Spares<D: Device> {
     uarts: VecDeque<D>,
     cans: VecDeque<D>,
     finishers: VecDeque<D>,
+    gpios: VecDeque<D>,
 }
 
 impl<D: Device> Model for Spares<D> {
     ghost use Rattle.std.specs.Prelude.{◌≡◌, ◌≤◌, length};
     ghost use Rattle.std.specs.List.{AllByRecursion};
     ghost use Rattle.std.specs.VecDeque.{deque_capacity};
-    ghost use Rattle.dev_core.specs.declared.kind.Kind.TheVariants.{Uart, Can, Finisher};
+    ghost use Rattle.dev_core.specs.declared.kind.Kind.TheVariants.{Uart, Can, Finisher, Gpio};
     ghost use Rattle.board.specs.New.{first_state};
     ghost use Rattle.lab_state.specs.Inner.Spares.{Spares as Seen, full};
 
@@ -34,15 +35,18 @@ impl<D: Device> Model for Spares<D> {
       uarts = length s.uarts.items;
       cans = length s.cans.items;
       finishers = length s.finishers.items;
+      gpios = length s.gpios.items;
     } };
 
     ghost invariant = { λ s.
         AllByRecursion (λ d. D.meaning d ≡ first_state Uart) s.uarts.items
         × AllByRecursion (λ d. D.meaning d ≡ first_state Can) s.cans.items
         × AllByRecursion (λ d. D.meaning d ≡ first_state Finisher) s.finishers.items
+        × AllByRecursion (λ d. D.meaning d ≡ first_state Gpio) s.gpios.items
         × (full.uarts ≤ deque_capacity s.uarts)
         × (full.cans ≤ deque_capacity s.cans)
-        × (full.finishers ≤ deque_capacity s.finishers) };
+        × (full.finishers ≤ deque_capacity s.finishers)
+        × (full.gpios ≤ deque_capacity s.gpios) };
 }
 
 impl<D: Device> Spares<D> {
@@ -55,6 +59,7 @@ impl<D: Device> Spares<D> {
             uarts: VecDeque::from(stock.uarts),
             cans: VecDeque::from(stock.cans),
             finishers: VecDeque::from(stock.finishers),
+            gpios: VecDeque::from(stock.gpios),
         }
     }
 
@@ -68,6 +73,7 @@ impl<D: Device> Spares<D> {
             Kind::Uart => self.uarts.pop_front().unwrap(),
             Kind::Can => self.cans.pop_front().unwrap(),
             Kind::Finisher => self.finishers.pop_front().unwrap(),
+            Kind::Gpio => self.gpios.pop_front().unwrap(),
         }
     }
 
@@ -97,6 +103,7 @@ impl<D: Device> Spares<D> {
             Kind::Uart => self.uarts.push_front_reserved(device),
             Kind::Can => self.cans.push_front_reserved(device),
             Kind::Finisher => self.finishers.push_front_reserved(device),
+            Kind::Gpio => self.gpios.push_front_reserved(device),
         }
     }
 

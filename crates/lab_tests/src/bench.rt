@@ -2,6 +2,7 @@
 use can_sja1000::Can;
 use dev_core::{Device, Stock};
 use floor_run::Gate;
+use gpio_bank8::Gpio;
 use lab_io::{MemFiles, MemSink, MemStore};
 use lab_num::NoMemory;
 use lab_top::{Status, run_lab};
@@ -106,10 +107,15 @@ pub fn run<R: Threads + Wait + Copy + Send + Sync, G: Gate>(
     for _ in 0..16 {
         finishers.push(Box::new(alloc, Finisher::new())?)?;
     }
+    let mut gpios: Vec<Box<dyn Device + Send>> = Vec::new(alloc);
+    for _ in 0..32 {
+        gpios.push(Box::new(alloc, Gpio::new())?)?;
+    }
     let stock = Stock {
         uarts,
         cans,
         finishers,
+        gpios,
     };
     run_on(rt, alloc, words, files, out, store, stock, gate)
 }

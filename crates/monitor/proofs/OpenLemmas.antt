@@ -167,6 +167,7 @@ reset_kind : (s : DevState) → kind_of (dev_reset s) ≡ kind_of s
 reset_kind (state.Uart u) = refl
 reset_kind (state.Can c) = refl
 reset_kind state.Finisher = refl
+reset_kind (state.Gpio g) = refl
 
 reset_keeps : Keeps reset
 reset_keeps v dev is =

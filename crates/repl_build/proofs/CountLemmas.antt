@@ -3,7 +3,7 @@ use Rattle.std.proofs.Common.{◌≡◌, ℕ, ◌+◌, ◌<◌, ◌≤◌, ◌�
 use Rattle.std.proofs.Common.{Option, None, Some, nat_le, arith, append_assoc, if◌then◌else◌}
 use Rattle.std.proofs.lemmas.Bool.Decides.{nat_tests}
 use Rattle.std.proofs.lemmas.List.{append-nil}
-use Rattle.dev_core.specs.declared.kind.Kind.TheVariants.{Uart, Can, Finisher}
+use Rattle.dev_core.specs.declared.kind.Kind.TheVariants.{Uart, Can, Finisher, Gpio}
 use Rattle.repl_build.specs.declared.merge.Peripheral.{Peripheral}
 use Rattle.repl_build.specs.declared.rules.Rule.TheVariants.{Counts}
 use Rattle.repl_build.specs.declared.types.PeripheralType.{PeripheralType}
@@ -54,18 +54,21 @@ pub few_of : (all : List Peripheral) (k : PeripheralType) → broken Counts all 
 few_of all k none = counted all k [] all (omega arith) none
 
 -- a device is of one of the kinds
-of_a_kind : (o : Option PeripheralType) (a b c : ℕ) →
-    (if is_device o then 1 else 0) + (a + b + c)
+of_a_kind : (o : Option PeripheralType) (a b c d : ℕ) →
+    (if is_device o then 1 else 0) + (a + b + c + d)
     ≡ ((if is_type (Device Uart) o then 1 else 0) + a) + ((if is_type (Device Can) o then 1 else 0) + b)
-    + ((if is_type (Device Finisher) o then 1 else 0) + c)
-of_a_kind None a b c = omega arith
-of_a_kind (Some (Device Uart)) a b c = omega arith
-of_a_kind (Some (Device Can)) a b c = omega arith
-of_a_kind (Some (Device Finisher)) a b c = omega arith
-of_a_kind _ a b c = omega arith
+    + ((if is_type (Device Finisher) o then 1 else 0) + c) + ((if is_type (Device Gpio) o then 1 else 0) + d)
+of_a_kind None a b c d = omega arith
+of_a_kind (Some (Device Uart)) a b c d = omega arith
+of_a_kind (Some (Device Can)) a b c d = omega arith
+of_a_kind (Some (Device Finisher)) a b c d = omega arith
+of_a_kind (Some (Device Gpio)) a b c d = omega arith
+of_a_kind _ a b c d = omega arith
 
 devices_by_kind : (all : List Peripheral) →
-    devices_of all ≡ count_of all (Device Uart) + count_of all (Device Can) + count_of all (Device Finisher)
+    devices_of all
+    ≡ count_of all (Device Uart) + count_of all (Device Can) + count_of all (Device Finisher)
+    + count_of all (Device Gpio)
 devices_by_kind [] = refl
 devices_by_kind (p ∷ ps) =
     let rest = devices_by_kind ps in
@@ -73,8 +76,11 @@ devices_by_kind (p ∷ ps) =
     let uart = count_cons (λ q. is_type (Device Uart) q.kind) p ps in
     let can = count_cons (λ q. is_type (Device Can) q.kind) p ps in
     let finisher = count_cons (λ q. is_type (Device Finisher) q.kind) p ps in
-    let sum = of_a_kind p.kind (count_of ps (Device Uart)) (count_of ps (Device Can)) (count_of ps (Device Finisher)) in
-    omega (arith, rest, device, uart, can, finisher, sum)
+    let gpio = count_cons (λ q. is_type (Device Gpio) q.kind) p ps in
+    let sum =
+    of_a_kind p.kind (count_of ps (Device Uart)) (count_of ps (Device Can)) (count_of ps (Device Finisher))
+    (count_of ps (Device Gpio)) in
+    omega (arith, rest, device, uart, can, finisher, gpio, sum)
 
 pub are_few : (all : List Peripheral) → broken Counts all ≡ None → AreFew all
 are_few all none =
@@ -82,4 +88,5 @@ are_few all none =
     let uarts = few_of all (Device Uart) none in
     let cans = few_of all (Device Can) none in
     let finishers = few_of all (Device Finisher) none in
-    (omega (arith, memories), omega (arith, devices_by_kind all, uarts, cans, finishers))
+    let gpios = few_of all (Device Gpio) none in
+    (omega (arith, memories), omega (arith, devices_by_kind all, uarts, cans, finishers, gpios))

@@ -4,7 +4,7 @@ use Rattle.std.proofs.Common.{◌++◌}
 use Rattle.std.proofs.Common.{Option, None, Some, nat_le, cond, codes, slice_get}
 use Rattle.std.specs.List.{list_all}
 use Rattle.dev_core.specs.declared.kind.Kind.{Kind}
-use Rattle.dev_core.specs.declared.kind.Kind.TheVariants.{Uart, Can, Finisher}
+use Rattle.dev_core.specs.declared.kind.Kind.TheVariants.{Uart, Can, Finisher, Gpio}
 use Rattle.dev_core.specs.Kind.{least_size_of, row_of}
 use Rattle.repl_read.specs.declared.entry.Place.{Place}
 use Rattle.repl_read.specs.declared.entry.Place.TheVariants.{Address, Range}
@@ -46,6 +46,7 @@ usual_unit : (kind : Kind) → ((row_of kind).usual_size % region_unit == 0) ≡
 usual_unit Uart = refl
 usual_unit Can = refl
 usual_unit Finisher = refl
+usual_unit Gpio = refl
 
 usual_enough : (kind : Kind) (wide : Bool) →
     nat_le (least_size_of kind (cond {A = ℕ} ((row_of kind).may_be_wide && wide) 4 1)) (row_of kind).usual_size ≡ true
@@ -53,6 +54,7 @@ usual_enough Uart true = refl
 usual_enough Uart false = refl
 usual_enough Can wide = refl
 usual_enough Finisher wide = refl
+usual_enough Gpio wide = refl
 
 ranged :
     (t : Option PeripheralType) (base size : ℕ) (items : List PlacedItem) →

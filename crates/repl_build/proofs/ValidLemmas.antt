@@ -4,7 +4,7 @@ use Rattle.std.proofs.Common.{nat_le, length, sum, arith, [], IfOk, IsTrue}
 use Rattle.std.proofs.lemmas.Bool.Decides.{nat_tests}
 use Rattle.std.specs.Option.{option_map}
 use Rattle.dev_core.specs.declared.kind.Kind.{Kind}
-use Rattle.dev_core.specs.declared.kind.Kind.TheVariants.{Uart, Can, Finisher}
+use Rattle.dev_core.specs.declared.kind.Kind.TheVariants.{Uart, Can, Finisher, Gpio}
 use Rattle.repl_read.specs.declared.entry.Entry.{Entry}
 use Rattle.repl_read.specs.declared.fault.PlatFault.{PlatFault}
 use Rattle.sys_bus.specs.Limits.{most_memory}
@@ -65,7 +65,7 @@ plic_good all (Some p) keeps found =
 
 devices_few : (all : List Peripheral) → Keeps all → limit.are_few_devices (kinds_of all) ≡ true
 devices_few all keeps =
-    both_true _ _ (few Uart) (both_true _ _ (few Can) (both_true _ _ (few Finisher) refl))
+    both_true _ _ (few Uart) (both_true _ _ (few Can) (both_true _ _ (few Finisher) (both_true _ _ (few Gpio) refl)))
   where
     few : (kind : Kind) → limit.are_few_of (kinds_of all) kind ≡ true
     few kind = at_most _ _ (omega (arith, few_of all (Device kind) keeps.counts, kinds_count kind all))

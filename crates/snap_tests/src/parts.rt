@@ -54,7 +54,12 @@ static REGIONS: [(RegionKind, &[u8]); 4] = [
     (RegionKind::Dev(7), &[3, 7]),
 ];
 
-static KINDS: [(Kind, u8); 3] = [(Kind::Uart, 0), (Kind::Can, 1), (Kind::Finisher, 2)];
+static KINDS: [(Kind, u8); 4] = [
+    (Kind::Uart, 0),
+    (Kind::Can, 1),
+    (Kind::Finisher, 2),
+    (Kind::Gpio, 3),
+];
 
 static WIRES: [(WireFrom, &[u8]); 4] = [
     (WireFrom::Soft, &[0]),

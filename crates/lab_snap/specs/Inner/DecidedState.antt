@@ -123,11 +123,13 @@ device_decided : (s : DevState) → Decided (IsValid s)
 device_decided (device.Uart u) = uart_decided u
 device_decided (device.Can c) = can_decided c
 device_decided device.Finisher = holds tt
+device_decided (device.Gpio g) = holds tt
 
 pub same_kind : (a b : Kind) → Decided (a ≡ b)
 same_kind kind.Uart kind.Uart = holds refl
 same_kind kind.Can kind.Can = holds refl
 same_kind kind.Finisher kind.Finisher = holds refl
+same_kind kind.Gpio kind.Gpio = holds refl
 same_kind a b = fails (λ e. absurd (cc))
 
 not_past : (flags : List Bool) (dev : ℕ) → length flags ≤ dev → slice_index_or flags dev false ≡ true → ⊥

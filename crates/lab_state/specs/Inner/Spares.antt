@@ -1,7 +1,7 @@
 -- The devices that no board has yet.
 use Rattle.std.specs.Prelude.{◌≡◌, ℕ, ◌+◌, ◌≤◌, List, map}
 use Rattle.dev_core.specs.declared.kind.Kind.{Kind}
-use Rattle.dev_core.specs.declared.kind.Kind.TheVariants.{Uart, Can, Finisher}
+use Rattle.dev_core.specs.declared.kind.Kind.TheVariants.{Uart, Can, Finisher, Gpio}
 use Rattle.dev_core.specs.declared.state.DevState.{DevState}
 use Rattle.dev_core.specs.Device.{kind_of}
 use Rattle.sys_bus.specs.Limits.{count_of}
@@ -11,11 +11,13 @@ pub record Spares : Type 0 where
   pub uarts : ℕ
   pub cans : ℕ
   pub finishers : ℕ
+  pub gpios : ℕ
 
 abbrev pub left_of : Spares → Kind → ℕ
 left_of s Uart = s.uarts
 left_of s Can = s.cans
 left_of s Finisher = s.finishers
+left_of s Gpio = s.gpios
 
 -- devices enough of these kinds
 abbrev pub HasFor : Spares → List Kind → Type 0
@@ -27,7 +29,7 @@ AreTaken all left kinds = (kind : Kind) → left_of left kind + count_of kinds k
 
 -- how many there are in a full stock
 abbrev pub full : Spares
-full = record { uarts = 64; cans = 64; finishers = 16 }
+full = record { uarts = 64; cans = 64; finishers = 16; gpios = 32 }
 
 -- the kinds of devices in these states
 abbrev pub kinds_of : List DevState → List Kind

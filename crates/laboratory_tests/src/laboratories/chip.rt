@@ -1,6 +1,7 @@
 //! Devices that count how often they are called.
 use can_sja1000::Can;
 use dev_core::{DevState, Device, Effect, Kind, Payload, Stock, Taken};
+use gpio_bank8::Gpio;
 use lab_num::NoMemory;
 use std::alloc::Global;
 use std::sync::atomic::{AtomicU32, Ordering};
@@ -69,6 +70,7 @@ fn device(alloc: Global, kind: Kind) -> Result<Box<dyn Device + Send>, NoMemory>
         Kind::Uart => Ok(Box::new(alloc, Uart::new())?),
         Kind::Can => Ok(Box::new(alloc, Can::new())?),
         Kind::Finisher => Ok(Box::new(alloc, Finisher::new())?),
+        Kind::Gpio => Ok(Box::new(alloc, Gpio::new())?),
     }
 }
 
@@ -99,7 +101,8 @@ fn fill<'a>(
 ) -> Result<(), NoMemory> {
     add(&mut stock.uarts, alloc, Kind::Uart, 64, counts)?;
     add(&mut stock.cans, alloc, Kind::Can, 64, counts)?;
-    add(&mut stock.finishers, alloc, Kind::Finisher, 16, counts)
+    add(&mut stock.finishers, alloc, Kind::Finisher, 16, counts)?;
+    add(&mut stock.gpios, alloc, Kind::Gpio, 32, counts)
 }
 
 /// The devices of a full stock.
@@ -108,6 +111,7 @@ pub fn stock(alloc: Global, counts: &Counts) -> Result<Stock<Chip<'_>>, NoMemory
         uarts: Vec::new(alloc),
         cans: Vec::new(alloc),
         finishers: Vec::new(alloc),
+        gpios: Vec::new(alloc),
     };
     fill(&mut stock, alloc, counts)?;
     Ok(stock)
