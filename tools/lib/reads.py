@@ -465,6 +465,7 @@ DOES: Dict[str, Callable[[Walk, str, List[Any]], None]] = {
     "sysbus LoadHEX": Walk.image,
     "sysbus ReadDoubleWord": Walk.on_board,
     "sysbus WriteDoubleWord": Walk.on_board,
+    "sysbus Clear": Walk.on_board,
     "emulation RunFor": Walk.run,
     "emulation CreateUARTHub": Walk.hub,
     "emulation CreateCANHub": Walk.hub,

@@ -310,6 +310,7 @@ ROWS = (
     Row(("sysbus", "LoadHEX"), 1, (a_path,)),
     Row(("sysbus", "ReadDoubleWord"), 1, (a_number,)),
     Row(("sysbus", "WriteDoubleWord"), 2, (a_number, a_number)),
+    Row(("sysbus", "Clear"), 2, (a_number, a_number)),
     Row(("emulation", "SetGlobalQuantum"), 1, (a_quantum,)),
     Row(("emulation", "RunFor"), 1, (a_time,)),
     Row(("emulation", "CreateUARTHub"), 1, (a_name, a_delay)),

@@ -19,6 +19,7 @@ use Rattle.lab_num.specs.declared.key.Member.{Member}
 use Rattle.dev_core.specs.declared.kind.Kind.{Kind}
 use Rattle.elf_load.specs.declared.image.Image.{Image}
 use Rattle.elf_load.specs.declared.image.Part.{Part}
+use Rattle.page_ram.specs.Bytes.{zeros}
 use Rattle.page_ram.specs.LittleEndian.{little_endian}
 use Rattle.repl_build.specs.Plan.{built}
 use Rattle.repl_files.specs.Loading.{Loading, Outcome, Joined, Refused, Oversized, Absent, load}
@@ -56,7 +57,7 @@ use Rattle.monitor.specs.Boards.{made, reset_board, select, with_new_board}
 use Rattle.monitor.specs.Hubs.{agree, connect, hub_for, show, with_hub}
 use Rattle.monitor.specs.Images.{elf_image, hex_image, is_entry, holds_part, load_elf, load_hex, load_image, load_read}
 use Rattle.monitor.specs.Images.{size, with_entry, with_parts}
-use Rattle.monitor.specs.Memory.{is_word, load_binary, read_word, word_line, write_bytes, write_word}
+use Rattle.monitor.specs.Memory.{clear, is_word, load_binary, read_word, word_line, write_bytes, write_word}
 use Rattle.monitor.specs.Processor.{halted, halted_on, may_go_at, mips, mips_on, pc, pc_on, speed_of}
 use Rattle.monitor.specs.Refusal.{◌>>=◌, require}
 use Rattle.monitor.specs.Runs.{has_run, length_of, quantum, run_for, start}
@@ -228,6 +229,17 @@ module _ (s t : State) (alike : IsCheckOf s t) where
       (λ b v w is.
       then_same (require (is_word v at) cause.Address) (require (is_word w at) cause.Address) _ _
       (ap (λ (e : Equipment). require (at % 4 == 0 && holds_by e at 4) cause.Address) is)
+      (λ fits. board_changed b (λ v. with_bytes v at bytes) (λ v. with_bytes v at bytes) (bytes_keep at bytes)
+      (bytes_keep at bytes)))
+
+  pub clear_found : (at count : ℕ) → FoundBy (clear s at count) (clear t at count)
+  clear_found at count =
+      let bytes = zeros count in
+      then_equipped s t alike _ _
+      (λ b v w is.
+      then_same (require (holds_each v.space at count) cause.Address)
+      (require (holds_each w.space at count) cause.Address) _ _
+      (ap (λ (e : Equipment). require (holds_by e at count) cause.Address) is)
       (λ fits. board_changed b (λ v. with_bytes v at bytes) (λ v. with_bytes v at bytes) (bytes_keep at bytes)
       (bytes_keep at bytes)))
 

@@ -16,7 +16,7 @@ use Rattle.monitor.specs.Boards.{create, reset_board, select}
 use Rattle.monitor.specs.Bodies.{run_macro}
 use Rattle.monitor.specs.Command.{work, does, done_by, by_next, did}
 use Rattle.monitor.specs.Hubs.{can_hub, connect, show, uart_hub}
-use Rattle.monitor.specs.Memory.{read_word, write_word}
+use Rattle.monitor.specs.Memory.{clear, read_word, write_word}
 use Rattle.monitor.specs.Processor.{halted, mips, pc}
 use Rattle.monitor.specs.Runs.{run_for, start}
 use Rattle.monitor.specs.State.{State, LinePlace}
@@ -47,6 +47,8 @@ module _ (runs : (lab : Lab) (d : _) → IsLater lab (run lab d).lab) (held : He
       unread_found place (read_word s at) (read_word t at) (of.read_word_found s t alike at)
   work_found s t alike place (command.WriteWord at value) =
       unread_found place (write_word s at value) (write_word t at value) (of.write_word_found s t alike at value)
+  work_found s t alike place (command.Clear at count) =
+      unread_found place (clear s at count) (clear t at count) (of.clear_found s t alike at count)
   work_found s t alike place (command.Pc cpu value) =
       unread_found place (pc s cpu value) (pc t cpu value) (of.pc_found s t alike cpu value)
   work_found s t alike place (command.Halted cpu value) =

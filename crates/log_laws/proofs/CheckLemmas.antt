@@ -47,6 +47,7 @@ module _ (one two : Play) (none : IsNothing one) (nothing : IsNothing two) (held
   work_same s command.Reset dry = refl
   work_same s (command.ReadWord at) dry = refl
   work_same s (command.WriteWord at value) dry = refl
+  work_same s (command.Clear at count) dry = refl
   work_same s (command.Pc cpu value) dry = refl
   work_same s (command.Halted cpu value) dry = refl
   work_same s (command.Mips cpu value) dry = refl

@@ -66,6 +66,7 @@ module _ (held other : Held) where
   work_stays play s place command.Reset same = refl
   work_stays play s place (command.ReadWord at) same = refl
   work_stays play s place (command.WriteWord at value) same = refl
+  work_stays play s place (command.Clear at count) same = refl
   work_stays play s place (command.Pc cpu value) same = refl
   work_stays play s place (command.Halted cpu value) same = refl
   work_stays play s place (command.Mips cpu value) same = refl

@@ -32,7 +32,7 @@ use Rattle.monitor.specs.Boards.{create, equip, equip_loaded, load_onto, reset_b
 use Rattle.monitor.specs.Command.{work, does, done_by, by_next, did}
 use Rattle.monitor.specs.Hubs.{can_hub, connect, show, uart_hub}
 use Rattle.monitor.specs.Images.{elf_image, hex_image, load_image, load_read}
-use Rattle.monitor.specs.Memory.{read_word, write_bytes, write_word}
+use Rattle.monitor.specs.Memory.{clear, read_word, write_bytes, write_word}
 use Rattle.monitor.specs.Processor.{halted, halted_on, mips, mips_on, pc, pc_on}
 use Rattle.monitor.specs.Refusal.{◌>>=◌, require}
 use Rattle.monitor.specs.Runs.{has_run, length_of, run_for, start}
@@ -171,6 +171,9 @@ module _ (play : Play) (nothing : (lab : Lab) → play lab 0 ≡ still lab) (hel
       (search (rests_then, same s))
   work_rests s place (command.WriteWord at value) dry =
       answered_at s place (write_word s at value)
+      (search (rests_then, same s))
+  work_rests s place (command.Clear at count) dry =
+      answered_at s place (clear s at count)
       (search (rests_then, same s))
   work_rests s place (command.Pc cpu value) dry =
       answered_at s place (pc s cpu value)

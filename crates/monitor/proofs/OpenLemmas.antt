@@ -54,7 +54,7 @@ use Rattle.monitor.specs.Command.{does, work}
 use Rattle.monitor.specs.Hubs.{can_hub, connect, show, uart_hub}
 use Rattle.monitor.specs.Images.{elf_image, hex_image, load_image, load_read}
 use Rattle.monitor.specs.Images.{unreserved, with_entry, with_part, with_parts}
-use Rattle.monitor.specs.Memory.{read_word, write_bytes, write_word}
+use Rattle.monitor.specs.Memory.{clear, read_word, write_bytes, write_word}
 use Rattle.monitor.specs.Processor.{halted, halted_on, mips, mips_on, pc, pc_on, speed_of}
 use Rattle.monitor.specs.Refusal.{◌>>=◌, require}
 use Rattle.monitor.specs.Runs.{length_of, run_for, start}
@@ -387,6 +387,8 @@ module _ (s : State) (runs : RunsKeep s.lab) (open_ : HasOpen s) where
   work_keeps held place (command.ReadWord at) = kept_answer place (read_word s at) (search (kept_then, open_))
   work_keeps held place (command.WriteWord at value) =
       kept_answer place (write_word s at value) (search (kept_then, bytes_put s open_))
+  work_keeps held place (command.Clear at count) =
+      kept_answer place (clear s at count) (search (kept_then, bytes_put s open_))
   work_keeps held place (command.Pc cpu value) = kept_answer place (pc s cpu value) (search (kept_then, pc_set s open_))
   work_keeps held place (command.Halted cpu value) =
       kept_answer place (halted s cpu value) (search (kept_then, halted_set s open_))

@@ -200,7 +200,10 @@ memory_good line =
           (λ _ line. good_one path command.LoadHex line (λ word x is. tt)),
           (
             (λ _ line. good_one number command.ReadWord line (λ word x is. tt)),
-            ((λ _ line. good_two number number command.WriteWord line (λ x y. tt)), tt),
+            (
+              (λ _ line. good_two number number command.WriteWord line (λ x y. tt)),
+              ((λ _ line. good_two number number command.Clear line (λ x y. tt)), tt),
+            ),
           ),
         ),
       ),

@@ -16,7 +16,7 @@ use Rattle.monitor.specs.Bodies.{include, run_macro}
 use Rattle.monitor.specs.Boards.{create, select, load_platform, reset_board}
 use Rattle.monitor.specs.Hubs.{uart_hub, can_hub, connect, show}
 use Rattle.monitor.specs.Images.{load_elf, load_hex}
-use Rattle.monitor.specs.Memory.{load_binary, read_word, write_word}
+use Rattle.monitor.specs.Memory.{clear, load_binary, read_word, write_word}
 use Rattle.monitor.specs.Processor.{pc, halted, mips}
 use Rattle.monitor.specs.Runs.{quantum, run_for, start}
 use Rattle.monitor.specs.State.{State, LinePlace}
@@ -41,6 +41,7 @@ work play s (command.Select name) = OnState (select s name)
 work play s command.Reset = OnState (reset_board s)
 work play s (command.ReadWord at) = OnState (read_word s at)
 work play s (command.WriteWord at value) = OnState (write_word s at value)
+work play s (command.Clear at count) = OnState (clear s at count)
 work play s (command.Pc cpu value) = OnState (pc s cpu value)
 work play s (command.Halted cpu value) = OnState (halted s cpu value)
 work play s (command.Mips cpu value) = OnState (mips s cpu value)

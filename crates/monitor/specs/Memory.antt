@@ -3,6 +3,7 @@ use Rattle.std.specs.Prelude.{ℕ, ◌%◌, ◌==◌, ◌&&◌, Bool, List, ◌+
 use Rattle.std.specs.Option.{ok_or}
 use Rattle.lab_io.specs.Held.{Held}
 use Rattle.log_text.specs.Number.{word}
+use Rattle.page_ram.specs.Bytes.{zeros}
 use Rattle.page_ram.specs.LittleEndian.{little_endian}
 use Rattle.board.specs.Changes.{holds_each, with_bytes, word_held}
 use Rattle.board.specs.View.{View}
@@ -34,6 +35,13 @@ write_word s at value = do
   on ← equipped s
   is ← require (is_word on.view at) Address
   Ok (leaves (with_board s on (λ v. with_bytes v at (little_endian 4 value))))
+
+-- sysbus Clear at count: zeros are written from an address on, if each has its place in a memory
+abbrev pub clear : State → ℕ → ℕ → Result Done ScriptCause
+clear s at count = do
+  on ← equipped s
+  fits ← require (holds_each on.view.space at count) Address
+  Ok (leaves (with_board s on (λ v. with_bytes v at (zeros count))))
 
 -- bytes are written from an address on, if each has its place in a memory
 abbrev pub write_bytes : State → Equipped → ℕ → List ℕ → Result Done ScriptCause

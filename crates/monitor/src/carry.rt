@@ -62,6 +62,7 @@ impl<D: Device> Monitor<D> {
             Command::Reset => self.reset_board(),
             Command::ReadWord { at } => self.read_word(at),
             Command::WriteWord { at, value } => self.write_word(at, value),
+            Command::Clear { at, count } => self.clear(at, count),
             Command::Pc { cpu, value } => self.pc(cpu.as_str(), value),
             Command::Halted { cpu, value } => self.halted(cpu.as_str(), value),
             Command::Mips { cpu, value } => self.mips(cpu.as_str(), value),

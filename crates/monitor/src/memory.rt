@@ -59,6 +59,20 @@ impl<D: Device> Monitor<D> {
         Ok(Vec::new(self.alloc))
     }
 
+    /// Puts zeros into so many bytes from an address on.
+    pub(crate) fn clear(&mut self, at: u32, count: u32) -> Result<Vec<u8>, Stop>
+        requires unspent { self.old.spent ≡ false }
+        requires waits { self.old.ended ≡ true }
+        ensures { IsRuled (memory.clear self.old.state at count) result self.old self.new }
+    {
+        let b = self.equipped()?;
+        if !self.lab.board(b).holds(at, count) {
+            return Err(Stop::Line(ScriptCause::Address));
+        }
+        self.lab.zero(b, at, count);
+        Ok(Vec::new(self.alloc))
+    }
+
     /// Writes bytes from an address on.
     pub(crate) fn write_bytes(&mut self, b: BoardNo, at: u32, bytes: &[u8]) -> Result<Vec<u8>, Stop>
         requires unspent { self.old.spent ≡ false }

@@ -78,6 +78,7 @@ memory_rows =
     row (Two (codes "sysbus") (codes "LoadHEX")) (one path commands.LoadHex) ∷
     row (Two (codes "sysbus") (codes "ReadDoubleWord")) (one number commands.ReadWord) ∷
     row (Two (codes "sysbus") (codes "WriteDoubleWord")) (two number number commands.WriteWord) ∷
+    row (Two (codes "sysbus") (codes "Clear")) (two number number commands.Clear) ∷
     []
 
 -- commands for the whole emulation

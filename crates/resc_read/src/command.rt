@@ -24,6 +24,8 @@ pub enum Command {
     ReadWord { at: u32 },
     /// `sysbus WriteDoubleWord at value`: store a word of memory.
     WriteWord { at: u32, value: u32 },
+    /// `sysbus Clear at count`: put zeros into so many bytes of memory.
+    Clear { at: u32, count: u32 },
     /// `cpu PC [value]`: print or set the program counter.
     Pc { cpu: Text, value: Option<u32> },
     /// `cpu IsHalted [value]`: print or set whether the processor is halted.

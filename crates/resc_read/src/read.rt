@@ -104,6 +104,17 @@ fn write_word(words: &[&str]) -> Result<Command, LineFault>
     Ok(Command::WriteWord { at, value })
 }
 
+fn clear(words: &[&str]) -> Result<Command, LineFault>
+    ensures { IsReadAs
+        (arguments.two arguments.number arguments.number commands.Clear
+        (map (λ w. w.now) words.now)) result }
+{
+    let (address, bytes) = two_words(words)?;
+    let at = number(address)?;
+    let count = number(bytes)?;
+    Ok(Command::Clear { at, count })
+}
+
 fn set_quantum(words: &[&str]) -> Result<Command, LineFault>
     ensures { IsReadAs
         (arguments.one arguments.quantum commands.Quantum (map (λ w. w.now) words.now)) result }
@@ -234,6 +245,8 @@ fn by_memory_words(alloc: Global, words: &[&str]) -> Result<Command, LineFault>
         read_word(after)
     } else if begins(words, "sysbus", "WriteDoubleWord") {
         write_word(after)
+    } else if begins(words, "sysbus", "Clear") {
+        clear(after)
     } else {
         by_emulation_words(alloc, words)
     }

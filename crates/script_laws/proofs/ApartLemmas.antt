@@ -31,7 +31,7 @@ use Rattle.monitor.specs.Boards.{create, equip, equip_loaded, load_onto, load_pl
 use Rattle.monitor.specs.Command.{cause_of, does, done_by, work}
 use Rattle.monitor.specs.Hubs.{can_hub, connect, show, uart_hub}
 use Rattle.monitor.specs.Images.{elf_image, hex_image, load_image, load_read}
-use Rattle.monitor.specs.Memory.{read_word, write_bytes, write_word}
+use Rattle.monitor.specs.Memory.{clear, read_word, write_bytes, write_word}
 use Rattle.monitor.specs.Processor.{halted, halted_on, mips, mips_on, pc, pc_on}
 use Rattle.monitor.specs.Refusal.{◌>>=◌}
 use Rattle.monitor.specs.Runs.{run_for, start}
@@ -203,6 +203,8 @@ module _ (AreFlows : script.State → script.State → Type 0) where
             done_apart (read_word s from) (read_word other from) (search (then_apart, left))
         work_apart (command.WriteWord to value) =
             done_apart (write_word s to value) (write_word other to value) (search (then_apart, left))
+        work_apart (command.Clear from count) =
+            done_apart (clear s from count) (clear other from count) (search (then_apart, left))
         work_apart (command.Pc cpu value) =
             done_apart (pc s cpu value) (pc other cpu value) (search (then_apart, pc_apart))
         work_apart (command.Halted cpu value) =

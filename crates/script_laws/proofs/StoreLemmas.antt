@@ -125,6 +125,7 @@ module _ (play : Play) (held : Held) where
   work_stays s place command.Reset = answered s place _
   work_stays s place (command.ReadWord at) = answered s place _
   work_stays s place (command.WriteWord at value) = answered s place _
+  work_stays s place (command.Clear at count) = answered s place _
   work_stays s place (command.Pc cpu value) = answered s place _
   work_stays s place (command.Halted cpu value) = answered s place _
   work_stays s place (command.Mips cpu value) = answered s place _

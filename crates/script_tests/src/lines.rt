@@ -16,7 +16,7 @@ fn asks_for(alloc: Global, line: &str, expected: &str) -> Result<bool, Fail> {
 }
 
 /// Each row: a line, and the command that it asks for.
-static COMMANDS: [(&str, &str); 74] = [
+static COMMANDS: [(&str, &str); 75] = [
     ("mach create", "Ok(Create { name: None })"),
     (
         "mach create m0",
@@ -92,6 +92,10 @@ static COMMANDS: [(&str, &str); 74] = [
     (
         "sysbus WriteDoubleWord 0x80000000 65",
         "Ok(WriteWord { at: 2147483648, value: 65 })",
+    ),
+    (
+        "sysbus Clear 0x80000000 4096",
+        "Ok(Clear { at: 2147483648, count: 4096 })",
     ),
     (
         "cpu PC",
@@ -402,7 +406,7 @@ fn first_words_that_are_no_command_come_before_all_else(rt: HostRuntime) {
 }
 
 /// Lines about boards, memory and processors with a wrong number, sort or range of words.
-static BOARDS: [&str; 59] = [
+static BOARDS: [&str; 61] = [
     "mach create \"x",
     "mach create \"x y",
     "mach create a b",
@@ -449,6 +453,8 @@ static BOARDS: [&str; 59] = [
     "sysbus WriteDoubleWord 1",
     "sysbus WriteDoubleWord 1 x",
     "sysbus WriteDoubleWord 1 2 3",
+    "sysbus Clear 1",
+    "sysbus Clear 1 2 3",
     "cpu PC \"0\"",
     "cpu PC 1 2",
     "cpu PC \"x",

@@ -45,13 +45,27 @@ returns-then-begins-5 c =
       sym c.words_from-after.ensures,
     ) c.write_word.ensures
 
-pub returns-else-begins-5 : goal.returns-else-begins-5
+pub returns-then-begins-6 : goal.returns-then-begins-6
 unfolding by_memory_rows
-returns-else-begins-5 c =
+returns-then-begins-6 c =
     rw (
       sym c.begins.ensures ∙ c.if-begins.false,
       sym c.begins-else-begins.ensures ∙ c.if-begins-2.false,
       sym c.begins-else-begins-2.ensures ∙ c.if-begins-3.false,
       sym c.begins-else-begins-3.ensures ∙ c.if-begins-4.false,
       sym c.begins-else-begins-4.ensures ∙ c.if-begins-5.false,
+      sym c.begins-else-begins-5.ensures ∙ c.if-begins-6.true,
+      sym c.words_from-after.ensures,
+    ) c.clear.ensures
+
+pub returns-else-begins-6 : goal.returns-else-begins-6
+unfolding by_memory_rows
+returns-else-begins-6 c =
+    rw (
+      sym c.begins.ensures ∙ c.if-begins.false,
+      sym c.begins-else-begins.ensures ∙ c.if-begins-2.false,
+      sym c.begins-else-begins-2.ensures ∙ c.if-begins-3.false,
+      sym c.begins-else-begins-3.ensures ∙ c.if-begins-4.false,
+      sym c.begins-else-begins-4.ensures ∙ c.if-begins-5.false,
+      sym c.begins-else-begins-5.ensures ∙ c.if-begins-6.false,
     ) c.by_emulation_words.ensures
