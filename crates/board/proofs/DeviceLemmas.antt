@@ -3,16 +3,16 @@ use Rattle.std.proofs.Common.{◌≡◌, ℕ, ◌<◌, List, Option, length, ap,
 use Rattle.std.specs.Prelude.{slice_index_or}
 use Rattle.std.proofs.lemmas.List.{get_or_default}
 use Rattle.dev_core.specs.declared.state.DevState.{DevState}
-use Rattle.board.specs.Space.{Space, Fitted, device_at, with_device, with_state, register_of}
+use Rattle.board.specs.Space.{Space, BoardDevice, device_at, with_device, with_state, register_of}
 
 device-is :
-    (s : Space) (dev from : ℕ) (d f : Fitted) → dev < length s.devices → from ≡ dev →
+    (s : Space) (dev from : ℕ) (d f : BoardDevice) → dev < length s.devices → from ≡ dev →
     f ≡ slice_index_or s.devices from d → f ≡ device_at s dev
 device-is s dev from d f there from_is is =
     is ∙ ap (λ i. slice_index_or s.devices i d) from_is ∙ get_or_default s.devices dev d _ there
 
 pub answered :
-    {A : Type 0} (s : Space) (dev at from : ℕ) (register : Option ℕ) (devices : List Fitted) (d f : Fitted)
+    {A : Type 0} (s : Space) (dev at from : ℕ) (register : Option ℕ) (devices : List BoardDevice) (d f : BoardDevice)
     (answer : DevState → Option ℕ → A) (result : A) → dev < length s.devices → from ≡ dev → devices ≡ s.devices →
     f ≡ slice_index_or devices from d → register ≡ register_of s dev at → result ≡ answer f.state register →
     result ≡ answer (device_at s dev).state (register_of s dev at)
@@ -20,10 +20,10 @@ answered s dev at from register devices d f answer result there from_is devices_
     let found : f ≡ slice_index_or s.devices from d = is ∙ ap (λ fs. slice_index_or fs from d) devices_are in
     result_is
     ∙ ap (answer f.state) register_is
-    ∙ ap {A = Fitted} (λ f. answer f.state (register_of s dev at)) (device-is s dev from d f there from_is found)
+    ∙ ap {A = BoardDevice} (λ f. answer f.state (register_of s dev at)) (device-is s dev from d f there from_is found)
 
 pub left :
-    (s : Space) (dev at from : ℕ) (register : Option ℕ) (d f new : Fitted)
+    (s : Space) (dev at from : ℕ) (register : Option ℕ) (d f new : BoardDevice)
     (after : DevState → Option ℕ → DevState) → dev < length s.devices → from ≡ dev →
     f ≡ slice_index_or s.devices from d → register ≡ register_of s dev at →
     new ≡ record f { state = after f.state register } →
@@ -32,5 +32,5 @@ left s dev at from register d f new after there from_is is register_is new_is =
     ap (λ i. with_device s i new) from_is
     ∙ ap (with_device s dev) new_is
     ∙ ap (λ r. with_device s dev (record f { state = after f.state r })) register_is
-    ∙ ap {A = Fitted} (λ f. with_device s dev (record f { state = after f.state (register_of s dev at) }))
+    ∙ ap {A = BoardDevice} (λ f. with_device s dev (record f { state = after f.state (register_of s dev at) }))
     (device-is s dev from d f there from_is is)

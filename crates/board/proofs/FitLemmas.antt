@@ -1,7 +1,7 @@
 -- Where accesses of a valid plan lie.
 use Rattle.std.proofs.Common.{◌≡◌, ℕ, zero, suc, ◌+◌, ◌-◌, ◌%◌, ◌^◌, ◌≤◌, ◌<◌, ◌==◌, Bool, true, false, ◌&&◌, List, []}
 use Rattle.std.proofs.Common.{◌∷◌, length, map, All, slice_get, slice_index, Option, Some, None, ◌⊎◌, inl, inr, nat_le}
-use Rattle.std.proofs.Common.{nat_lt, refl, sym, ap, ◌∙◌, arith, rules}
+use Rattle.std.proofs.Common.{◌||◌, nat_lt, refl, sym, ap, ◌∙◌, arith, rules}
 use Rattle.std.specs.Prelude.{slice_index_or, find, option_map}
 use Rattle.std.specs.List.{list_all, range_with_len}
 use Rattle.std.proofs.lemmas.Bool.Decides.{nat_tests}
@@ -11,6 +11,7 @@ use Rattle.dev_core.specs.Device.{kind_of, dev_reset, IsValid as IsValidState}
 use Rattle.dev_core.specs.declared.state.DevState.{DevState}
 use Rattle.dev_core.specs.declared.state.DevState.TheVariants as state
 use Rattle.dev_core.specs.declared.kind.Kind.{Kind}
+use Rattle.dev_core.specs.Kind.{row_of}
 use Rattle.dev_core.specs.declared.kind.Kind.TheVariants.{Uart, Can, Finisher}
 use Rattle.clint.specs.Clint.{Timer}
 use Rattle.page_ram.specs.Access.{IsInOnePage, IsRamSize}
@@ -33,9 +34,9 @@ use Rattle.std.proofs.Math.Seq.{map-set_same}
 use Rattle.board.specs.Changes.{in_memory, is_memory}
 use Rattle.board.specs.New.{first_state, hidden, new_space, reset_device, new_timer, new_controller}
 use Rattle.board.specs.New.{size_of}
-use Rattle.board.specs.Space.{Space, Fitted, memory_at, with_memory, device_at, with_device, with_state}
+use Rattle.board.specs.Space.{Space, BoardDevice, memory_at, with_memory, device_at, with_device, with_state}
 use Rattle.board.specs.Inner.Fit.{IsFit, LiesIn, IsInPage, HoldsAccesses}
-use Rattle.sys_bus.specs.declared.near.Place.{Place}
+use Rattle.sys_bus.specs.declared.near.MemoryPlace.{MemoryPlace}
 use Rattle.sys_bus.specs.Place.{IsPlace}
 use Rattle.std.specs.Option.{IfSome}
 use Rattle.board.proofs.ListLemmas.{any_at, passes_at, All-by_place, counted_at, found_passes}
@@ -139,7 +140,7 @@ in_page s at width target fit access one_page is =
 
 -- the place of each access in a memory that is known
 pub accesses_lie :
-    (s : Space) (regions : List Region) (at : ℕ) (place : Option Place) → IsFit s → regions ≡ s.plan.regions →
+    (s : Space) (regions : List Region) (at : ℕ) (place : Option MemoryPlace) → IsFit s → regions ≡ s.plan.regions →
     ((place width : ℕ) → IsWidth width → place % width ≡ 0 → IsInOnePage place width) →
     IfSome place (IsPlace regions at) → IfSome place (HoldsAccesses s at)
 accesses_lie s regions at None fit same one_page is = tt
@@ -156,10 +157,12 @@ accesses_lie s regions at (Some place) fit same one_page is = λ width access.
 
 -- registers begin 1 or 4 bytes apart
 step-is : (kind : Option Kind) (step : ℕ) → is_step kind step ≡ true → (step ≡ 1) ⊎ (step ≡ 4)
-step-is (Some Uart) step is = grind (arith, nat_tests, is)
-step-is (Some Can) step is = inl (grind (arith, nat_tests, is))
-step-is (Some Finisher) step is = inl (grind (arith, nat_tests, is))
 step-is None step is = inl (grind (arith, nat_tests, is))
+step-is (Some k) step is = by_test (row_of k).may_be_wide is
+  where
+    by_test : (wide : Bool) → ((step == 1) || (wide && (step == 4))) ≡ true → (step ≡ 1) ⊎ (step ≡ 4)
+    by_test true one = grind (arith, nat_tests, one)
+    by_test false one = inl (grind (arith, nat_tests, one))
 
 pub one_or_four : (s : Space) (dev : ℕ) → IsFit s → (step_of s.plan.regions dev ≡ 1) ⊎ (step_of s.plan.regions dev ≡ 4)
 one_or_four s dev fit =
@@ -223,7 +226,7 @@ fit_memory s part bytes d fit same = record {
 }
 
 pub fit_device :
-    (s : Space) (dev : ℕ) (fitted d : Fitted) → IsFit s →
+    (s : Space) (dev : ℕ) (fitted d : BoardDevice) → IsFit s →
     kind_of fitted.state ≡ kind_of (slice_index_or s.devices dev d).state → IsValidState fitted.state →
     IsFit (with_device s dev fitted)
 fit_device s dev fitted d fit same valid = record {
@@ -289,7 +292,7 @@ fit_reset s fit = record {
     kind (state.Can c) = refl
     kind state.Finisher = refl
 
-    kinds : (ds : List Fitted) → map (λ f. kind_of f.state) (map reset_device ds) ≡ map (λ f. kind_of f.state) ds
+    kinds : (ds : List BoardDevice) → map (λ f. kind_of f.state) (map reset_device ds) ≡ map (λ f. kind_of f.state) ds
     kinds [] = refl
     kinds (d ∷ ds) = rw (kind d.state, kinds ds) refl
 
@@ -370,7 +373,7 @@ pub put_back_same :
     (s : Space) (dev : ℕ) (state : DevState) → dev < length s.devices →
     with_state (with_state s dev state) dev (device_at s dev).state ≡ s
 put_back_same s dev state there =
-    let changed : Fitted = record (device_at s dev) { state = state } in
+    let changed : BoardDevice = record (device_at s dev) { state = state } in
     let seen : device_at (with_device s dev changed) dev ≡ changed =
     get_or-set_same s.devices dev changed _ there in
     ap (λ f. with_device (with_device s dev changed) dev (record f { state = (device_at s dev).state })) seen

@@ -17,7 +17,7 @@ use Rattle.rv_hart.specs.declared.letters.Letters.{Letters}
 use Rattle.sys_bus.specs.declared.plan.BoardPlan.{BoardPlan}
 use Rattle.board.specs.Idle.{core_passed, turns_of}
 use Rattle.board.specs.Inner.Holds.{Holds, state_alone, state_of}
-use Rattle.board.specs.HartView.{hart_state}
+use Rattle.board.specs.HartView.{slot_state}
 use Rattle.board.specs.Changes.{cleared, copied}
 use Rattle.board.specs.Inner.Copies.{CopiesPrefix}
 use Rattle.board.specs.Inner.Seat.{all_passed, behind}
@@ -31,7 +31,7 @@ use Rattle.board.specs.Space.{Space}
 use Rattle.board.specs.Slot.{hart_slot, number_after}
 use Rattle.board.specs.Valid.{IsReservation}
 use Rattle.board.specs.View.{View, State, core_at}
-use Rattle.board.specs.Wires.{Wires}
+use Rattle.board.specs.HartBus.{HartBus}
 
 -- what holds of a board holds of another one of its plan, with its speed and as many processors
 pub holds_kept :
@@ -78,17 +78,17 @@ holds_set v numbers hart next old core watch space holds speed plan below is sam
 
 -- a slot of one of them keeps the speed and the plan
 pub kept_in_turn :
-    (cores : List Core) (next : ℕ) (old core' : Core) (watch watch' : List (Option ℕ)) (w w' : Wires) (t : ℕ) →
+    (cores : List Core) (next : ℕ) (old core' : Core) (watch watch' : List (Option ℕ)) (w w' : HartBus) (t : ℕ) →
     old ≡ slice_index_or cores next old → next < length cores →
-    hart_state next core' watch' w'
-    ≡ behind (hart_state next old watch w) (hart_slot (hart_state next old watch w).view t) →
+    slot_state next core' watch' w'
+    ≡ behind (slot_state next old watch w) (hart_slot (slot_state next old watch w).view t) →
     (w'.numbers.speed ≡ w.numbers.speed) × (w'.space.plan ≡ w.space.plan)
 kept_in_turn cores next old core' watch watch' w w' t is below done =
     let first : old ≡ slice_index_or cores next initial = is ∙ get_or_default cores next old initial below in
     let taken = taken_in_turn cores next core' watch watch' w w' t
     (subst
-    (λ (core : Core). hart_state next core' watch' w'
-    ≡ behind (hart_state next core watch w) (hart_slot (hart_state next core watch w).view t)) first done) in (
+    (λ (core : Core). slot_state next core' watch' w'
+    ≡ behind (slot_state next core watch w) (hart_slot (slot_state next core watch w).view t)) first done) in (
       ap {A = State} (λ s. s.view.numbers.speed) taken ∙ speed-slot _ t,
       ap {A = State} (λ s. s.view.space.plan) taken ∙ plan-slot _ t,
     )
@@ -179,14 +179,14 @@ one_core (core ∷ []) one = refl
 one_core (core ∷ other ∷ cores) one = absurd (omega (arith, one))
 
 pub alone_is :
-    (cores : List Core) (next : ℕ) (watch : List (Option ℕ)) (w : Wires) → length cores ≡ 1 → next < length cores →
+    (cores : List Core) (next : ℕ) (watch : List (Option ℕ)) (w : HartBus) → length cores ≡ 1 → next < length cores →
     state_of cores next watch w ≡ state_alone (slice_index_or cores 0 initial) watch w
 alone_is cores next watch w one below =
     let first : next ≡ 0 = omega (arith, one, below) in
     rw first (ap (λ all. state_of all 0 watch w) (one_core cores one))
 
 pub alone_set :
-    (cores : List Core) (next : ℕ) (core : Core) (watch : List (Option ℕ)) (w : Wires) → length cores ≡ 1 →
+    (cores : List Core) (next : ℕ) (core : Core) (watch : List (Option ℕ)) (w : HartBus) → length cores ≡ 1 →
     next < length cores → state_of (slice_set cores 0 core) next watch w ≡ state_alone core watch w
 alone_set cores next core watch w one below =
     let first : next ≡ 0 = omega (arith, one, below) in

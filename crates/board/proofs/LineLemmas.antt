@@ -29,7 +29,7 @@ use Rattle.board.specs.Inner.Remembers.{is_wired, still, remembered_lines, IsRea
 use Rattle.board.specs.Lines.{sampled, sampled_by, sources_up, timer_up, device_up, mip_of}
 use Rattle.board.specs.Lines.{mtime_of, lines_of, is_up, is_from_device, ends_at_source, ends_at_pin, pin_up}
 use Rattle.board.specs.New.{size_of}
-use Rattle.board.specs.Space.{Space, Fitted, with_device}
+use Rattle.board.specs.Space.{Space, BoardDevice, with_device}
 
 -- lines do not depend on what memories hold
 pub right_memories :
@@ -87,7 +87,7 @@ unwired_lines s hart t fit none =
 
 -- nor on a device whose line stays as it was
 same_line :
-    (s : Space) (dev : ℕ) (fitted d : Fitted) (k : ℕ) → dev < length s.devices →
+    (s : Space) (dev : ℕ) (fitted d : BoardDevice) (k : ℕ) → dev < length s.devices →
     dev_line fitted.state ≡ dev_line (slice_index_or s.devices dev d).state →
     device_up (with_device s dev fitted) k ≡ device_up s k
 same_line s dev fitted d k there same = elim (cases_eq k dev) [
@@ -98,7 +98,7 @@ same_line s dev fitted d k there same = elim (cases_eq k dev) [
 ]
 
 same_wire :
-    (s : Space) (dev : ℕ) (fitted d : Fitted) (timer : Bool) (from : WireFrom) → dev < length s.devices →
+    (s : Space) (dev : ℕ) (fitted d : BoardDevice) (timer : Bool) (from : WireFrom) → dev < length s.devices →
     dev_line fitted.state ≡ dev_line (slice_index_or s.devices dev d).state →
     (is_up (with_device s dev fitted) timer from ≡ is_up s timer from)
     × (is_from_device (with_device s dev fitted) from ≡ is_from_device s from)
@@ -109,7 +109,7 @@ same_wire s dev fitted d timer (Dev k) there same =
     let line = same_line s dev fitted d k there same in (line, line)
 
 same_sources :
-    (s : Space) (dev : ℕ) (fitted d : Fitted) → dev < length s.devices →
+    (s : Space) (dev : ℕ) (fitted d : BoardDevice) → dev < length s.devices →
     dev_line fitted.state ≡ dev_line (slice_index_or s.devices dev d).state →
     sources_up (with_device s dev fitted) ≡ sources_up s
 same_sources s dev fitted d there same =
@@ -117,7 +117,7 @@ same_sources s dev fitted d there same =
     ap (λ up. ends_at_source source wire.pin && up) (same_wire s dev fitted d false wire.from there same).1))))
 
 same_mip :
-    (s : Space) (dev : ℕ) (fitted d : Fitted) (timer : Bool) (hart : ℕ) → dev < length s.devices →
+    (s : Space) (dev : ℕ) (fitted d : BoardDevice) (timer : Bool) (hart : ℕ) → dev < length s.devices →
     dev_line fitted.state ≡ dev_line (slice_index_or s.devices dev d).state →
     mip_of (with_device s dev fitted) timer hart ≡ mip_of s timer hart
 unfolding mip_of
@@ -128,7 +128,7 @@ same_mip s dev fitted d timer hart there same =
     rw (pin software_interrupt, pin timer_interrupt, pin external_interrupt) refl
 
 right_same :
-    (s : Space) (dev : ℕ) (fitted d : Fitted) (r : Remembered) → IsRight s (Some r) → dev < length s.devices →
+    (s : Space) (dev : ℕ) (fitted d : BoardDevice) (r : Remembered) → IsRight s (Some r) → dev < length s.devices →
     dev_line fitted.state ≡ dev_line (slice_index_or s.devices dev d).state →
     IsRight (with_device s dev fitted) (Some r)
 unfolding sampled
@@ -142,7 +142,7 @@ right_same s dev fitted d r right there same = (
 )
 
 pub right_device :
-    (s : Space) (dev : ℕ) (old new d : Fitted) (r : Option Remembered) (before after : Bool) → IsRight s r →
+    (s : Space) (dev : ℕ) (old new d : BoardDevice) (r : Option Remembered) (before after : Bool) → IsRight s r →
     dev < length s.devices → old ≡ slice_index_or s.devices dev d → before ≡ dev_line old.state →
     after ≡ dev_line new.state → IsRight (with_device s dev new) (still r before after)
 right_device s dev old new d r before after right there at was is =

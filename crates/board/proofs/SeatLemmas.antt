@@ -15,26 +15,26 @@ use Rattle.rv_atomic.specs.Laws.{PlainAlone}
 use Rattle.rv_atomic.specs.SharedEffect.{shared_effect}
 use Rattle.sys_bus.specs.declared.plan.BoardPlan.{BoardPlan}
 use Rattle.board.specs.Fetch.{effect_on, fetched_by, shared_by, word_at_pc}
-use Rattle.board.specs.HartView.{hart_state}
+use Rattle.board.specs.HartView.{slot_state}
 use Rattle.board.specs.Inner.Seat.{behind, is_shared, seen}
 use Rattle.board.specs.Slot.{awake}
-use Rattle.board.specs.Wires.{Wires, answer, fetched, loaded, stored}
+use Rattle.board.specs.HartBus.{HartBus, answer, fetched, loaded, stored}
 use Rattle.board.proofs.SlotLemmas.{effect-behind}
 
 -- a slot in which an instruction is done, at the beginning and at the end of it
 pub awake-instruction :
-    (hart : ℕ) (core core' : Core) (watch watch' : List (Option ℕ)) (w begun w' : Wires) (t : ℕ) (lines : Lines) →
+    (hart : ℕ) (core core' : Core) (watch watch' : List (Option ℕ)) (w begun w' : HartBus) (t : ℕ) (lines : Lines) →
     chosen core lines.mip ≡ None → begun ≡ record w { at = t } →
     core' ≡ core_after answer begun (effect_on (seen hart core watch begun) begun lines).effect →
     watch' ≡ (effect_on (seen hart core watch begun) begun lines).watch →
     w' ≡ bus_after loaded stored begun (effect_on (seen hart core watch begun) begun lines).effect →
-    hart_state hart core' watch' w' ≡ behind (hart_state hart core watch w) (awake (seen hart core watch w) t lines)
+    slot_state hart core' watch' w' ≡ behind (slot_state hart core watch w) (awake (seen hart core watch w) t lines)
 unfolding awake
-awake-instruction hart core core' watch watch' w begun w' t lines none begins core_is watch_is wires_is =
-    let begun' : Wires = record w { at = t } in
+awake-instruction hart core core' watch watch' w begun w' t lines none begins core_is watch_is bus_is =
+    let begun' : HartBus = record w { at = t } in
     let done = effect_on (seen hart core watch begun') begun' lines in
-    rw (core_is, watch_is, wires_is, begins, none)
-    (ap (λ now. hart_state hart (core_after answer begun' done.effect) done.watch now)
+    rw (core_is, watch_is, bus_is, begins, none)
+    (ap (λ now. slot_state hart (core_after answer begun' done.effect) done.watch now)
     (effect-behind begun' done.effect))
 
 -- ---- a processor alone
@@ -51,7 +51,7 @@ not-shared plan none =
     one false is = absurd (cc)
 
 -- without atomic instructions it does what it fetches
-plain_by : (core : Core) (w : Wires) → core.letters.a ≡ false → shared_by core w ≡ shared.Plain (fetched_by core w)
+plain_by : (core : Core) (w : HartBus) → core.letters.a ≡ false → shared_by core w ≡ shared.Plain (fetched_by core w)
 plain_by core w plain = by_letter core.letters.a plain
   where
     by_letter :
@@ -63,7 +63,7 @@ plain_by core w plain = by_letter core.letters.a plain
 
 -- and what that is by the rules of a hart alone
 effect_alone :
-    PlainAlone → (core : Core) (word : Option ℕ) (w : Wires) (lines : Lines) → core.letters.a ≡ false →
+    PlainAlone → (core : Core) (word : Option ℕ) (w : HartBus) (lines : Lines) → core.letters.a ≡ false →
     effect_on (seen 0 core (word ∷ []) w) w lines ≡ leaves (effect core (fetched_by core w) lines) (word ∷ [])
 effect_alone law core word w lines plain =
     ap (λ what. shared_effect (fetched w) core 0 (word ∷ []) what lines) (plain_by core w plain)
@@ -71,7 +71,7 @@ effect_alone law core word w lines plain =
 
 -- so does a processor whose board shares nothing
 pub alone_effect :
-    PlainAlone → (hart : ℕ) (core : Core) (watch : List (Option ℕ)) (w : Wires) (lines : Lines) →
+    PlainAlone → (hart : ℕ) (core : Core) (watch : List (Option ℕ)) (w : HartBus) (lines : Lines) →
     is_shared w.space.plan ≡ false → core.letters ≡ w.space.plan.letters → hart < length watch →
     length watch ≡ length w.space.plan.cpus →
     effect_on (seen hart core watch w) w lines ≡ leaves (effect core (fetched_by core w) lines) watch

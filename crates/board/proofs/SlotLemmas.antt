@@ -18,11 +18,11 @@ use Rattle.sys_bus.specs.declared.region.Target.{Target}
 use Rattle.sys_bus.specs.declared.region.Target.TheVariants.{Ram, Clint, Plic, Dev, Nothing}
 use Rattle.sys_bus.specs.Plan.{IsValid}
 use Rattle.board.specs.Fetch.{effect_on}
-use Rattle.board.specs.HartView.{HartView, HartState, hart_state, still, wires_of}
+use Rattle.board.specs.HartView.{HartView, SlotState, slot_state, still, bus_of}
 use Rattle.board.specs.Lines.{sampled, lines_of}
 use Rattle.board.specs.Space.{Space, device_at, target_at, device_store, after_store}
-use Rattle.board.specs.Wires.{Wires, answer, posted, entered, entered_if, note_if, sent, acted, loaded, stored}
-use Rattle.board.specs.Wires.{loaded_from, stored_to}
+use Rattle.board.specs.HartBus.{HartBus, answer, posted, entered, entered_if, note_if, sent, acted, loaded, stored}
+use Rattle.board.specs.HartBus.{loaded_from, stored_to}
 use Rattle.rv_exec.specs.Effect.{Effect, Done, Load, Store, bus_after, core_after}
 use Rattle.board.specs.View.{View, State, quiet, after, core_at}
 use Rattle.board.specs.Slot.{slot, hart_slot, number_after, running, sampling, awake, asleep, woken, cycle, instruction}
@@ -30,32 +30,32 @@ use Rattle.board.proofs.ToldLemmas.{IsKept, kept_same, kept_after, kept_sampled,
 use Rattle.board.proofs.ToldLemmas.{is_own}
 use Rattle.board.proofs.ToldLemmas.{sends_own, IsSender, sender_kept, device_there, IsTold, told_kept, told_note}
 
--- the wires with this space, by which all this was made before
-abbrev pub wires_by : Wires → Space → List Post → List Entry → Wires
-wires_by w s posts entries = record w { space = s; posts = posts; entries = entries }
+-- the bus with this space, by which all this was made before
+abbrev pub bus_by : HartBus → Space → List Post → List Entry → HartBus
+bus_by w s posts entries = record w { space = s; posts = posts; entries = entries }
 
--- What holds of each way in which an access leaves the wires, whatever was made before: it makes nothing, an entry, a
+-- What holds of each way in which an access leaves the bus, whatever was made before: it makes nothing, an entry, a
 -- post or both. Plan and devices stay, but for the states of devices, and what is sent and told of is of devices.
-pub record HoldsOfEach (P : (List Post → List Entry → Wires) → Type 0) (w : Wires) : Type 0 where
-  pub nothing : (s : Space) → IsKept w.space s → P (wires_by w s)
+pub record HoldsOfEach (P : (List Post → List Entry → HartBus) → Type 0) (w : HartBus) : Type 0 where
+  pub nothing : (s : Space) → IsKept w.space s → P (bus_by w s)
   pub entry :
       (s : Space) (note : What) → IsKept w.space s → IsTold w.space note →
-      P (λ ps es. entered (wires_by w s ps es) note)
+      P (λ ps es. entered (bus_by w s ps es) note)
   pub post :
       (s : Space) (dev : ℕ) (payload : Payload) → IsKept w.space s → IsSender w.space dev payload →
-      P (λ ps es. posted (wires_by w s ps es) dev payload)
+      P (λ ps es. posted (bus_by w s ps es) dev payload)
   pub both :
       (s : Space) (dev : ℕ) (payload : Payload) (note : What) → IsKept w.space s → IsSender w.space dev payload →
-      IsTold w.space note → P (λ ps es. entered (posted (wires_by w s ps es) dev payload) note)
+      IsTold w.space note → P (λ ps es. entered (posted (bus_by w s ps es) dev payload) note)
 
 pub by_effect :
-    (P : (List Post → List Entry → Wires) → Type 0) (w : Wires) (effect : Effect) → HoldsOfEach P w →
-    P (λ ps es. bus_after loaded stored (wires_by w w.space ps es) effect)
+    (P : (List Post → List Entry → HartBus) → Type 0) (w : HartBus) (effect : Effect) → HoldsOfEach P w →
+    P (λ ps es. bus_after loaded stored (bus_by w w.space ps es) effect)
 unfolding loaded stored sent
 by_effect P w (Done done) each = each.nothing w.space (kept_same w.space)
 by_effect P w (Load at width complete) each = by_target (target_at w.space at width)
   where
-    by_target : (target : Target) → P (λ ps es. loaded_from (wires_by w w.space ps es) at width target)
+    by_target : (target : Target) → P (λ ps es. loaded_from (bus_by w w.space ps es) at width target)
     by_target (Ram part offset) = each.nothing w.space (kept_same w.space)
     by_target (Dev dev offset) = each.nothing _ (kept_load w.space width (Dev dev offset))
     by_target (Clint offset) = each.nothing w.space (kept_same w.space)
@@ -67,7 +67,7 @@ by_effect P w (Store at width value done) each = by_target (target_at w.space at
         (s : Space) (dev : ℕ) (effect : DeviceEffect) → IsKept w.space s →
         (IsValid w.space.plan → length w.space.devices ≡ length w.space.plan.kinds → dev < length w.space.devices) →
         IsTrue (is_own (kind_of (device_at w.space dev).state) effect) →
-        P (λ ps es. acted (wires_by w s ps es) dev effect)
+        P (λ ps es. acted (bus_by w s ps es) dev effect)
     by_answer s dev Quiet kept there own = each.nothing s kept
     by_answer s dev (Send payload) kept there own =
         by_note (note_if (device_at s dev).shown dev payload)
@@ -78,13 +78,13 @@ by_effect P w (Store at width value done) each = by_target (target_at w.space at
 
         by_note :
             (note : Option What) → IfSome note (IsTold s) →
-            P (λ ps es. entered_if (posted (wires_by w s ps es) dev payload) note)
+            P (λ ps es. entered_if (posted (bus_by w s ps es) dev payload) note)
         by_note None told = each.post s dev payload kept sender
         by_note (Some note) told = each.both s dev payload note kept sender (told_kept w.space s note kept told)
 
     by_target :
         (target : Target) → target_at w.space at width ≡ target →
-        P (λ ps es. stored_to (wires_by w w.space ps es) at width value target)
+        P (λ ps es. stored_to (bus_by w w.space ps es) at width value target)
     by_target (Ram part offset) reached = each.nothing _ (kept_store w.space w.at width value (Ram part offset))
     by_target (Dev dev offset) reached =
         by_answer (after_store w.space w.at width value (Dev dev offset)) dev
@@ -96,30 +96,30 @@ by_effect P w (Store at width value done) each = by_target (target_at w.space at
         each.entry w.space (what.Write width at value) (kept_same w.space) (λ v kept. tt)
 
 -- what holds of a processor that an access leaves wired so, whatever it and the reservations have come to
-abbrev pub LeavesBy : (HartState → Type 0) → HartView → (List Post → List Entry → Wires) → Type 0
-LeavesBy P h f = (core : Core) (watch : List (Option ℕ)) → P (hart_state h.hart core watch (f [] []))
+abbrev pub LeavesBy : (SlotState → Type 0) → HartView → (List Post → List Entry → HartBus) → Type 0
+LeavesBy P h f = (core : Core) (watch : List (Option ℕ)) → P (slot_state h.hart core watch (f [] []))
 
 by_awake :
-    (P : HartState → Type 0) (h : HartView) (t : ℕ) (lines : Lines) →
-    HoldsOfEach (LeavesBy P h) (wires_of h t) → P (awake h t lines)
+    (P : SlotState → Type 0) (h : HartView) (t : ℕ) (lines : Lines) →
+    HoldsOfEach (LeavesBy P h) (bus_of h t) → P (awake h t lines)
 unfolding awake
 by_awake P h t lines each = by_chosen (chosen h.core lines.mip)
   where
     by_chosen :
         (taken : Option ℕ) → P (option_map_or (λ n. cycle h (interrupt h.core n)) taken (instruction h t lines))
     by_chosen None =
-        let shared = effect_on h (wires_of h t) lines in
-        let core = core_after answer (wires_of h t) shared.effect in
-        by_effect (LeavesBy P h) (wires_of h t) shared.effect each core shared.watch
+        let shared = effect_on h (bus_of h t) lines in
+        let core = core_after answer (bus_of h t) shared.effect in
+        by_effect (LeavesBy P h) (bus_of h t) shared.effect each core shared.watch
     by_chosen (Some n) = each.nothing h.space (kept_same h.space) (ticked (interrupt h.core n)) h.watch
 
-by_if : (P : HartState → Type 0) (test : Bool) (a b : HartState) → P a → P b → P (if test then a else b)
+by_if : (P : SlotState → Type 0) (test : Bool) (a b : SlotState) → P a → P b → P (if test then a else b)
 by_if P true a b p q = p
 by_if P false a b p q = q
 
 -- what holds of each way in which a slot leaves a processor holds of its slot
 pub by_slot :
-    (P : HartState → Type 0) (h : HartView) (t : ℕ) → HoldsOfEach (LeavesBy P h) (wires_of h t) → P (hart_slot h t)
+    (P : SlotState → Type 0) (h : HartView) (t : ℕ) → HoldsOfEach (LeavesBy P h) (bus_of h t) → P (hart_slot h t)
 unfolding hart_slot
 by_slot P h t each =
     let lines = lines_of (sampled h.space) h.hart t in
@@ -134,7 +134,7 @@ by_slot P h t each =
     first : IsKept h.space (sampled h.space)
     first = kept_sampled h.space
 
-    sampling_each : HoldsOfEach (LeavesBy P h) (wires_of (sampling h) t)
+    sampling_each : HoldsOfEach (LeavesBy P h) (bus_of (sampling h) t)
     sampling_each = record {
       nothing = λ s kept. each.nothing s (kept_after _ _ s first kept);
       entry = λ s note kept told.
@@ -147,11 +147,11 @@ by_slot P h t each =
     }
 
 -- what an effect makes comes after what was made before
-abbrev behind : Wires → Wires → Wires
+abbrev behind : HartBus → HartBus → HartBus
 behind front w = record w { posts = front.posts ++ w.posts; entries = front.entries ++ w.entries }
 
 pub effect-behind :
-    (w : Wires) (effect : Effect) →
+    (w : HartBus) (effect : Effect) →
     bus_after loaded stored w effect
     ≡ behind w (bus_after loaded stored (record w { posts = []; entries = [] }) effect)
 effect-behind w effect =

@@ -23,7 +23,7 @@ use Rattle.sys_bus.specs.declared.plan.BoardPlan.{BoardPlan}
 use Rattle.board.specs.declared.state.BoardState.{BoardState}
 use Rattle.board.specs.BoardState.{board_state, brought_to, controller_to, devices_in, timer_to}
 use Rattle.board.specs.New.{hidden, size_of}
-use Rattle.board.specs.Space.{Space, Fitted}
+use Rattle.board.specs.Space.{Space, BoardDevice}
 use Rattle.board.specs.Valid.{IsBoard, IsClintFor, IsPlicFor, IsStateFor}
 use Rattle.board.specs.View.{View}
 use Rattle.board.specs.Inner.Fit.{IsFit, IsStateOf}
@@ -47,7 +47,7 @@ controller_back :
 controller_back None = refl
 controller_back (Some controller) = refl
 
-devices_back : (ds : List Fitted) → devices_in (map (λ f. f.state) ds) (map (λ f. f.shown) ds) ≡ ds
+devices_back : (ds : List BoardDevice) → devices_in (map (λ f. f.state) ds) (map (λ f. f.shown) ds) ≡ ds
 devices_back [] = refl
 devices_back (d ∷ ds) = ap (λ rest. d ∷ rest) (devices_back ds)
 
@@ -181,12 +181,12 @@ kinds_there (state ∷ states) (flag ∷ shown) same =
     ap (λ all. kind_of state ∷ all) (kinds_there states shown rest)
 
 All-states :
-    (ds : List Fitted) (states : List DevState) → map (λ f. f.state) ds ≡ states → All IsValidState states →
+    (ds : List BoardDevice) (states : List DevState) → map (λ f. f.state) ds ≡ states → All IsValidState states →
     All (λ f. IsValidState f.state) ds
 All-states ds states same all = λ k d within.
-    subst IsValidState (get_or-map (λ (f : Fitted). f.state) ds k d d.state within)
+    subst IsValidState (get_or-map (λ (f : BoardDevice). f.state) ds k d d.state within)
     (All-get_or IsValidState (map (λ f. f.state) ds) k d.state
-    (omega (arith, within, length-map ds (λ (f : Fitted). f.state))) (rw same all))
+    (omega (arith, within, length-map ds (λ (f : BoardDevice). f.state))) (rw same all))
 
 pub fit_devices :
     (s : Space) (states : List DevState) (shown : List Bool) → IsFit s → AreDevices s.plan.kinds states →
@@ -208,7 +208,7 @@ core_numbers : (cores : List Core) → map (λ hart. hart.number) (map state_of 
 core_numbers [] = refl
 core_numbers (core ∷ cores) = ap (λ rest. core.number ∷ rest) (core_numbers cores)
 
-device_kinds : (ds : List Fitted) → map kind_of (map (λ f. f.state) ds) ≡ map (λ f. kind_of f.state) ds
+device_kinds : (ds : List BoardDevice) → map kind_of (map (λ f. f.state) ds) ≡ map (λ f. kind_of f.state) ds
 device_kinds [] = refl
 device_kinds (d ∷ ds) = ap (λ rest. kind_of d.state ∷ rest) (device_kinds ds)
 
@@ -223,17 +223,17 @@ plic_fits None is = tt
 plic_fits (Some controller) is = is
 
 shown_fits :
-    (kinds : List Kind) (ds : List Fitted) → map (λ f. kind_of f.state) ds ≡ kinds →
+    (kinds : List Kind) (ds : List BoardDevice) → map (λ f. kind_of f.state) ds ≡ kinds →
     All (λ f. MayBeShown (kind_of f.state) f.shown) ds → AreShown kinds (map (λ f. f.shown) ds)
 shown_fits kinds ds same all =
-    let d : Fitted = hidden Finisher in
-    let count = length-map ds (λ (f : Fitted). f.shown) in
+    let d : BoardDevice = hidden Finisher in
+    let count = length-map ds (λ (f : BoardDevice). f.shown) in
     shown_are kinds (map (λ f. f.shown) ds)
-    (count ∙ sym (length-map ds (λ (f : Fitted). kind_of f.state)) ∙ ap length same)
+    (count ∙ sym (length-map ds (λ (f : BoardDevice). kind_of f.state)) ∙ ap length same)
     (λ k there.
     let within : k < length ds = omega (arith, there, count) in
-    let kind_is = get_or-map (λ (f : Fitted). kind_of f.state) ds k d kind.Finisher within in
-    let shown_is = get_or-map (λ (f : Fitted). f.shown) ds k d false within in
+    let kind_is = get_or-map (λ (f : BoardDevice). kind_of f.state) ds k d kind.Finisher within in
+    let shown_is = get_or-map (λ (f : BoardDevice). f.shown) ds k d false within in
     rw (← same, kind_is, shown_is)
     (All-get_or (λ f. MayBeShown (kind_of f.state) f.shown) ds k d within all))
 
@@ -282,7 +282,7 @@ plic_there s plic fit fits = by_size s.controller plic (rw fit.controller fits)
     by_size (Some controller) (Some state) fits = fits
 
 device_in :
-    (states : List DevState) (shown : List Bool) (k : ℕ) (d : Fitted) → length shown ≡ length states →
+    (states : List DevState) (shown : List Bool) (k : ℕ) (d : BoardDevice) → length shown ≡ length states →
     k < length states →
     slice_index_or (devices_in states shown) k d
     ≡ record { state = slice_index_or states k Finisher; shown = slice_index_or shown k false }
@@ -293,7 +293,8 @@ device_in (state ∷ states) (flag ∷ shown) (suc k) d same within =
     device_in states shown k d (omega (arith, same)) (omega (arith, within))
 
 pub all_in :
-    (devices : List Fitted) (states : List DevState) (shown : List Bool) (d : Fitted) → length shown ≡ length states →
+    (devices : List BoardDevice) (states : List DevState) (shown : List Bool) (d : BoardDevice) →
+    length shown ≡ length states →
     length devices ≡ length states →
     ((k : ℕ) → k < length devices →
     slice_index_or devices k d
@@ -301,21 +302,22 @@ pub all_in :
     devices ≡ devices_in states shown
 all_in devices states shown d same many each =
     let count : length (devices_in states shown) ≡ length states =
-    sym (length-map (devices_in states shown) (λ (f : Fitted). f.state))
+    sym (length-map (devices_in states shown) (λ (f : BoardDevice). f.state))
     ∙ ap length (devices_there states shown same) in
     ext_get_or d devices (devices_in states shown) (many ∙ sym count)
     (λ k there. each k there ∙ sym (device_in states shown k d same (omega (arith, there, many))))
 
 -- a device is of the kind of its new state
 pub kind_there :
-    (devices : List Fitted) (states : List DevState) (k : ℕ) (d : Fitted) (state : DevState) (f : Fitted) →
+    (devices : List BoardDevice) (states : List DevState) (k : ℕ) (d : BoardDevice) (state : DevState)
+    (f : BoardDevice) →
     AreDevices (map (λ f. kind_of f.state) devices) states → k < length devices →
     state ≡ slice_index_or states k state → f ≡ slice_index_or devices k d → kind_of state ≡ kind_of f.state
 kind_there devices states k d state f are within is f_is =
-    let kinds = map (λ (f : Fitted). kind_of f.state) devices in
+    let kinds = map (λ (f : BoardDevice). kind_of f.state) devices in
     let there : k < length states =
-    omega (arith, within, devices_count kinds states are, length-map devices (λ (f : Fitted). kind_of f.state)) in
+    omega (arith, within, devices_count kinds states are, length-map devices (λ (f : BoardDevice). kind_of f.state)) in
     ap kind_of is
     ∙ (device_kind kinds states k state (kind_of d.state) are there).same
-    ∙ get_or-map (λ (f : Fitted). kind_of f.state) devices k d (kind_of d.state) within
-    ∙ sym (ap {A = Fitted} (λ f. kind_of f.state) f_is)
+    ∙ get_or-map (λ (f : BoardDevice). kind_of f.state) devices k d (kind_of d.state) within
+    ∙ sym (ap {A = BoardDevice} (λ f. kind_of f.state) f_is)

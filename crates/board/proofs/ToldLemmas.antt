@@ -30,10 +30,10 @@ use Rattle.sys_bus.specs.Plan.{IsValid}
 use Rattle.sys_bus.specs.Region.{holds, target_if, target_by}
 use Rattle.board.specs.Lines.{sampled}
 use Rattle.board.specs.Sent.{is_of_kind, IsShown, IsToldBy}
-use Rattle.board.specs.Space.{Space, Fitted, device_at, with_state, target_at, register_load, register_store}
+use Rattle.board.specs.Space.{Space, BoardDevice, device_at, with_state, target_at, register_load, register_store}
 use Rattle.board.specs.Space.{after_load, after_store, device_load, device_store}
 use Rattle.board.specs.View.{View}
-use Rattle.board.specs.Wires.{note_of, note_if}
+use Rattle.board.specs.HartBus.{note_of, note_if}
 use Rattle.board.proofs.ListLemmas.{passes_at, found_passes}
 
 -- ---- what stays
@@ -55,7 +55,7 @@ kept_after a b c first second = record {
 }
 
 -- what stands at the number of no device
-abbrev absent : Fitted
+abbrev absent : BoardDevice
 absent = record { state = Finisher; shown = false }
 
 pub kind_kept :
@@ -84,7 +84,7 @@ kept_state :
     (s : Space) (dev : ℕ) (state : DevState) → kind_of state ≡ kind_of (device_at s dev).state →
     IsKept s (with_state s dev state)
 kept_state s dev state same =
-    let fitted : Fitted = record (device_at s dev) { state = state } in
+    let fitted : BoardDevice = record (device_at s dev) { state = state } in
     record {
       plan = refl;
       kinds = map-set_same (λ f. kind_of f.state) s.devices dev fitted absent same;
@@ -198,7 +198,7 @@ told_kept old new note kept told = λ v same. told v (kept_after v.space old new
 
 -- no device that is not there is shown
 shown_there :
-    (devices : List Fitted) (dev : ℕ) → (slice_index_or devices dev absent).shown ≡ true → dev < length devices
+    (devices : List BoardDevice) (dev : ℕ) → (slice_index_or devices dev absent).shown ≡ true → dev < length devices
 shown_there [] dev shown = absurd (cc)
 shown_there (d ∷ ds) zero shown = omega arith
 shown_there (d ∷ ds) (suc dev) shown = omega (arith, shown_there ds dev shown)

@@ -10,13 +10,13 @@ use Rattle.std.proofs.lemmas.List.{map-id}
 use Rattle.std.proofs.lemmas.List.FromFn.{sum_by-map-range_with_len_more}
 use Rattle.std.proofs.lemmas.Nat.{div-add-mod', div-mul-add, mod-mul-add, mod_below}
 use Rattle.rv_hart.specs.Core.{Core, initial}
-use Rattle.board.specs.HartView.{HartState, hart_state}
+use Rattle.board.specs.HartView.{SlotState, slot_state}
 use Rattle.board.specs.Idle.{turns_of}
 use Rattle.board.specs.Inner.Holds.{state_of, state_alone}
 use Rattle.board.specs.Inner.Seat.{behind}
 use Rattle.board.specs.Slot.{slot, hart_slot, number_after}
 use Rattle.board.specs.View.{after}
-use Rattle.board.specs.Wires.{Wires}
+use Rattle.board.specs.HartBus.{HartBus}
 
 -- ---- whose turn is next
 
@@ -137,14 +137,14 @@ turns_are harts next (suc n) hart below there =
 
 -- the processor `next` has done its slot
 pub taken_in_turn :
-    (cores : List Core) (next : ℕ) (core' : Core) (watch watch' : List (Option ℕ)) (w w' : Wires) (t : ℕ) →
-    let old = hart_state next (slice_index_or cores next initial) watch w in
-    hart_state next core' watch' w' ≡ behind old (hart_slot old.view t) →
+    (cores : List Core) (next : ℕ) (core' : Core) (watch watch' : List (Option ℕ)) (w w' : HartBus) (t : ℕ) →
+    let old = slot_state next (slice_index_or cores next initial) watch w in
+    slot_state next core' watch' w' ≡ behind old (hart_slot old.view t) →
     state_of (slice_set cores next core') (number_after (length cores) next) watch' w'
     ≡ after (state_of cores next watch w) (slot (state_of cores next watch w).view t)
 unfolding slot
 taken_in_turn cores next core' watch watch' w w' t is =
-    ap {A = HartState} (λ h. record {
+    ap {A = SlotState} (λ h. record {
       view = record {
         numbers = h.view.numbers;
         cores = slice_set cores next h.view.core;
@@ -158,9 +158,9 @@ taken_in_turn cores next core' watch watch' w w' t is =
 
 -- the only processor has done its slot
 pub taken_alone :
-    (core core' : Core) (watch watch' : List (Option ℕ)) (w w' : Wires) (t : ℕ) →
-    let old = hart_state 0 core watch w in
-    hart_state 0 core' watch' w' ≡ behind old (hart_slot old.view t) →
+    (core core' : Core) (watch watch' : List (Option ℕ)) (w w' : HartBus) (t : ℕ) →
+    let old = slot_state 0 core watch w in
+    slot_state 0 core' watch' w' ≡ behind old (hart_slot old.view t) →
     state_alone core' watch' w'
     ≡ after (state_alone core watch w) (slot (state_alone core watch w).view t)
 taken_alone core core' watch watch' w w' t is = taken_in_turn (core ∷ []) 0 core' watch watch' w w' t is

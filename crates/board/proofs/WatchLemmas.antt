@@ -29,13 +29,13 @@ use Rattle.sys_bus.specs.declared.region.Target.{Target}
 use Rattle.sys_bus.specs.declared.region.Target.TheVariants.{Ram, Clint, Plic, Dev, Nothing}
 use Rattle.board.specs.Changes.{is_memory}
 use Rattle.board.specs.Fetch.{fetched_by, shared_by, word_at_pc}
-use Rattle.board.specs.HartView.{HartView, HartState, hart_state, still, wires_of}
+use Rattle.board.specs.HartView.{HartView, SlotState, slot_state, still, bus_of}
 use Rattle.board.specs.Inner.Seat.{behind}
 use Rattle.board.specs.Lines.{sampled, lines_of}
 use Rattle.board.specs.Slot.{hart_slot, running, sampling, awake, asleep, woken, cycle, instruction}
 use Rattle.board.specs.Space.{Space, target_at}
 use Rattle.board.specs.Valid.{IsReservation}
-use Rattle.board.specs.Wires.{Wires, fetched, word_at}
+use Rattle.board.specs.HartBus.{HartBus, fetched, word_at}
 
 -- What stays true of the reservations, whatever a processor does: a store of it, the end of its own reservation, and,
 -- where it has atomic instructions, a new one of a word that a memory holds.
@@ -121,7 +121,7 @@ kept_shared P memory core number watch (shared.Atomic a) lines each letter holds
     kept_atomic P memory core number watch a each (letter a refl) holds
 
 -- a processor without atomic instructions does none
-lettered : (core : Core) (w : Wires) (a : Atomic) → shared_by core w ≡ shared.Atomic a → core.letters.a ≡ true
+lettered : (core : Core) (w : HartBus) (a : Atomic) → shared_by core w ≡ shared.Atomic a → core.letters.a ≡ true
 lettered core w a is =
     elim core.letters.a as
     (λ b. core.letters.a ≡ b →
@@ -133,7 +133,7 @@ lettered core w a is =
 
 kept_awake :
     (P : List (Option ℕ) → Type 0) (h : HartView) (t : ℕ) (lines : Lines) →
-    IsKept P (fetched (wires_of h t)) h.core.letters h.hart → P h.watch → P (awake h t lines).view.watch
+    IsKept P (fetched (bus_of h t)) h.core.letters h.hart → P h.watch → P (awake h t lines).view.watch
 unfolding awake
 kept_awake P h t lines each holds = by_chosen (chosen h.core lines.mip)
   where
@@ -141,19 +141,19 @@ kept_awake P h t lines each holds = by_chosen (chosen h.core lines.mip)
         (taken : Option ℕ) →
         P (option_map_or (λ n. cycle h (interrupt h.core n)) taken (instruction h t lines)).view.watch
     by_chosen None =
-        kept_shared P (fetched (wires_of h t)) h.core h.hart h.watch (shared_by h.core (wires_of h t)) lines each
-        (lettered h.core (wires_of h t)) holds
+        kept_shared P (fetched (bus_of h t)) h.core h.hart h.watch (shared_by h.core (bus_of h t)) lines each
+        (lettered h.core (bus_of h t)) holds
     by_chosen (Some n) = holds
 
 either :
-    (P : List (Option ℕ) → Type 0) (test : Bool) (a b : HartState) → P a.view.watch → P b.view.watch →
+    (P : List (Option ℕ) → Type 0) (test : Bool) (a b : SlotState) → P a.view.watch → P b.view.watch →
     P (if test then a else b).view.watch
 either P true a b p q = p
 either P false a b p q = q
 
 kept_slot :
     (P : List (Option ℕ) → Type 0) (h : HartView) (t : ℕ) →
-    IsKept P (fetched (wires_of (sampling h) t)) h.core.letters h.hart → P h.watch → P (hart_slot h t).view.watch
+    IsKept P (fetched (bus_of (sampling h) t)) h.core.letters h.hart → P h.watch → P (hart_slot h t).view.watch
 unfolding hart_slot
 kept_slot P h t each holds =
     let lines = lines_of (sampled h.space) h.hart t in
@@ -168,7 +168,7 @@ kept_slot P h t each holds =
 
 -- what a slot does keeps the number of those that may have a reservation
 pub length-shared :
-    (memory : ℕ → Option ℕ) (core : Core) (hart : ℕ) (watch : List (Option ℕ)) (w : Wires) (lines : Lines) →
+    (memory : ℕ → Option ℕ) (core : Core) (hart : ℕ) (watch : List (Option ℕ)) (w : HartBus) (lines : Lines) →
     length (shared_effect memory core hart watch (shared_by core w) lines).watch ≡ length watch
 length-shared memory core hart watch w lines =
     kept_shared (λ now. length now ≡ length watch) memory core hart watch (shared_by core w) lines
@@ -208,7 +208,7 @@ held_by_memory s (Plic at) word held = absurd (cc)
 held_by_memory s Nothing word held = absurd (cc)
 
 reservations_kept :
-    (w : Wires) (letters : Letters) (number : ℕ) → letters ≡ w.space.plan.letters →
+    (w : HartBus) (letters : Letters) (number : ℕ) → letters ≡ w.space.plan.letters →
     IsKept (All (IsReservation w.space.plan)) (fetched w) letters number
 reservations_kept w letters number own =
     let plan = w.space.plan in
@@ -232,14 +232,14 @@ reservations_kept w letters number own =
 
 -- after a slot of a processor of the plan's letters too
 pub reserved_after :
-    (hart : ℕ) (core core' : Core) (watch watch' : List (Option ℕ)) (w w' : Wires) (t : ℕ) →
-    hart_state hart core' watch' w'
-    ≡ behind (hart_state hart core watch w) (hart_slot (hart_state hart core watch w).view t) →
+    (hart : ℕ) (core core' : Core) (watch watch' : List (Option ℕ)) (w w' : HartBus) (t : ℕ) →
+    slot_state hart core' watch' w'
+    ≡ behind (slot_state hart core watch w) (hart_slot (slot_state hart core watch w).view t) →
     core.letters ≡ w.space.plan.letters → All (IsReservation w.space.plan) watch →
     All (IsReservation w.space.plan) watch'
 unfolding sampled
 reserved_after hart core core' watch watch' w w' t done own all =
-    let h = (hart_state hart core watch w).view in
-    rw (ap {A = HartState} (λ s. s.view.watch) done)
+    let h = (slot_state hart core watch w).view in
+    rw (ap {A = SlotState} (λ s. s.view.watch) done)
     (kept_slot (All (IsReservation w.space.plan)) h t
-    (reservations_kept (wires_of (sampling h) t) core.letters hart own) all)
+    (reservations_kept (bus_of (sampling h) t) core.letters hart own) all)

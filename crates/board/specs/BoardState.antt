@@ -8,7 +8,7 @@ use Rattle.plic.specs.State.{Controller}
 use Rattle.rv_hart.specs.HartState.{core_of, state_of}
 use Rattle.board.specs.declared.state.BoardState.{BoardState}
 use Rattle.board.specs.Numbers.{Numbers}
-use Rattle.board.specs.Space.{Space, Fitted}
+use Rattle.board.specs.Space.{Space, BoardDevice}
 use Rattle.board.specs.View.{View}
 
 -- the state of a board: its speed, its processors, which of them is next, what they have reserved, its timer and its
@@ -40,7 +40,7 @@ controller_to (Some controller) None = Some controller
 controller_to None state = None
 
 -- devices in these states, shown or not
-abbrev pub devices_in : List DevState → List Bool → List Fitted
+abbrev pub devices_in : List DevState → List Bool → List BoardDevice
 devices_in states shown = map (λ (state, shown). record { state = state; shown = shown }) (zip states shown)
 
 abbrev pub space_to : Space → BoardState → Space

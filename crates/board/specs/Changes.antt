@@ -4,17 +4,17 @@ use Rattle.std.specs.Prelude.{List, []}
 use Rattle.std.specs.Prelude.{◌∷◌, Option, None}
 use Rattle.std.specs.List.{list_all, range_with_len}
 use Rattle.dev_core.specs.declared.kind.Kind.{Kind}
-use Rattle.dev_core.specs.declared.kind.Kind.TheVariants.{Uart, Can, Finisher}
 use Rattle.dev_core.specs.declared.payload.Payload.{Payload}
 use Rattle.dev_core.specs.declared.payload.Taken.{Taken}
 use Rattle.dev_core.specs.declared.state.DevState.{DevState}
 use Rattle.dev_core.specs.Answered.{Answered}
 use Rattle.dev_core.specs.Device.{dev_take, kind_of}
+use Rattle.dev_core.specs.Kind.{row_of}
 use Rattle.page_ram.specs.Bytes.{put_bytes}
 use Rattle.sys_bus.specs.declared.region.Target.{Target}
 use Rattle.sys_bus.specs.declared.region.Target.TheVariants.{Ram, Clint, Plic, Dev, Nothing}
 use Rattle.board.specs.Space.{Space, memory_at, with_memory, device_at, with_device, with_state, target_at}
-use Rattle.board.specs.Wires.{word_in}
+use Rattle.board.specs.HartBus.{word_in}
 use Rattle.board.specs.View.{View, State, core_at, with_core}
 
 -- a board of which a processor's next instruction is at this address
@@ -29,11 +29,9 @@ with_halted v hart on = with_core v hart (record (core_at v hart) { halted = on 
 abbrev pub with_speed : View → ℕ → View
 with_speed v speed = record v { numbers = record v.numbers { speed = speed } }
 
--- UARTs and CAN controllers may be shown
+-- devices of the kind may be shown
 abbrev pub is_shown_kind : Kind → Bool
-is_shown_kind Uart = true
-is_shown_kind Can = true
-is_shown_kind Finisher = false
+is_shown_kind kind = (row_of kind).may_be_shown
 
 abbrev pub may_be_shown : View → ℕ → Bool
 may_be_shown v dev = is_shown_kind (kind_of (device_at v.space dev).state)

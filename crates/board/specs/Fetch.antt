@@ -18,7 +18,7 @@ use Rattle.rv_atomic.specs.SharedEffect.{shared_effect}
 use Rattle.sys_bus.specs.declared.region.Target.{Target}
 use Rattle.sys_bus.specs.declared.region.Target.TheVariants.{Ram, Clint, Plic, Dev, Nothing}
 use Rattle.board.specs.Space.{Space, memory_at, target_at}
-use Rattle.board.specs.Wires.{Wires, fetched}
+use Rattle.board.specs.HartBus.{HartBus, fetched}
 use Rattle.board.specs.HartView.{HartView}
 
 -- the half-word at an address, if a memory holds it
@@ -60,7 +60,7 @@ abbrev pub halves_at : Space → ℕ → Fetched
 halves_at s at = halves_from s at (half_in s at)
 
 -- what a core fetches
-abbrev pub fetched_by : Core → Wires → Fetched
+abbrev pub fetched_by : Core → HartBus → Fetched
 fetched_by core w =
     if core.letters.c then halves_at w.space core.pc else found_at core.pc (fetched w core.pc)
 
@@ -68,18 +68,18 @@ fetched_by core w =
 abbrev pub word_by_halves : Space → ℕ → ℕ → Option ℕ
 word_by_halves s at half = if is_lower half then word_begun s at half else None
 
-abbrev pub word_at_pc : Core → Wires → Option ℕ
+abbrev pub word_at_pc : Core → HartBus → Option ℕ
 word_at_pc core w =
     if core.letters.c then option_and_then (word_by_halves w.space core.pc) (half_in w.space core.pc)
     else fetched w core.pc
 
 -- the atomic instruction that this word is, on a core that has them
-abbrev pub atomic_by : Core → Wires → Option Atomic
+abbrev pub atomic_by : Core → HartBus → Option Atomic
 atomic_by core w = if core.letters.a then option_and_then atomic_of (word_at_pc core w) else None
 
 -- what a core does by what it fetches: an atomic instruction, or anything else
-abbrev pub shared_by : Core → Wires → Shared
+abbrev pub shared_by : Core → HartBus → Shared
 shared_by core w = option_map_or shared.Atomic (atomic_by core w) (shared.Plain (fetched_by core w))
 
-abbrev pub effect_on : HartView → Wires → Lines → SharedEffect
+abbrev pub effect_on : HartView → HartBus → Lines → SharedEffect
 effect_on v w lines = shared_effect (fetched w) v.core v.hart v.watch (shared_by v.core w) lines

@@ -6,7 +6,7 @@ use Rattle.rv_hart.specs.Core.{Core}
 use Rattle.board.specs.Numbers.{Numbers}
 use Rattle.board.specs.Space.{Space}
 use Rattle.board.specs.View.{View, core_at}
-use Rattle.board.specs.Wires.{Wires}
+use Rattle.board.specs.HartBus.{HartBus}
 
 -- the board's numbers, the processor's number and its core, the words that all processors have reserved, and what
 -- they reach
@@ -18,7 +18,7 @@ pub record HartView : Type 0 where
   pub space : Space
 
 -- with what is made in the slot
-pub record HartState : Type 0 where
+pub record SlotState : Type 0 where
   pub view : HartView
   pub posts : List Post
   pub entries : List Entry
@@ -33,16 +33,16 @@ hart_view v hart = record {
 }
 
 -- nothing is made
-abbrev pub still : HartView → HartState
+abbrev pub still : HartView → SlotState
 still v = record { view = v; posts = []; entries = [] }
 
--- what the processor is wired to in a slot at this microsecond, in which nothing was made yet
-abbrev pub wires_of : HartView → ℕ → Wires
-wires_of v t = record { numbers = v.numbers; space = v.space; at = t; posts = []; entries = [] }
+-- the bus of the processor in a slot at this microsecond, in which nothing was made yet
+abbrev pub bus_of : HartView → ℕ → HartBus
+bus_of v t = record { numbers = v.numbers; space = v.space; at = t; posts = []; entries = [] }
 
--- the processor of a number, with this core, these reservations and these wires
-abbrev pub hart_state : ℕ → Core → List (Option ℕ) → Wires → HartState
-hart_state hart core watch w = record {
+-- the processor of a number, with this core, these reservations and this bus
+abbrev pub slot_state : ℕ → Core → List (Option ℕ) → HartBus → SlotState
+slot_state hart core watch w = record {
   view = record { numbers = w.numbers; hart = hart; core = core; watch = watch; space = w.space };
   posts = w.posts;
   entries = w.entries;

@@ -1,7 +1,7 @@
 pub mod Numbers
 pub mod Space
 pub mod Lines
-pub mod Wires
+pub mod HartBus
 pub mod Fetch
 pub mod View
 pub mod HartView

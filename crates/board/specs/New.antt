@@ -16,7 +16,7 @@ use Rattle.rv_hart.specs.declared.letters.Letters.{Letters}
 use Rattle.sys_bus.specs.declared.plan.BoardPlan.{BoardPlan}
 use Rattle.sys_bus.specs.declared.plan.PlicSize.{PlicSize}
 use Rattle.board.specs.Numbers.{Numbers}
-use Rattle.board.specs.Space.{Space, Fitted}
+use Rattle.board.specs.Space.{Space, BoardDevice}
 use Rattle.board.specs.Changes.{cleared}
 use Rattle.board.specs.View.{View}
 
@@ -30,7 +30,7 @@ abbrev pub first_states : BoardPlan → List DevState
 first_states plan = map first_state plan.kinds
 
 -- a device that is not shown
-abbrev pub hidden : DevState → Fitted
+abbrev pub hidden : DevState → BoardDevice
 hidden state = record { state = state; shown = false }
 
 -- a timer of a frequency, and an interrupt controller of a size, in their reset states
@@ -70,7 +70,7 @@ new_board number plan = record {
 }
 
 -- a device after a reset, which stays shown
-abbrev pub reset_device : Fitted → Fitted
+abbrev pub reset_device : BoardDevice → BoardDevice
 reset_device fitted = record fitted { state = dev_reset fitted.state }
 
 -- a timer and an interrupt controller after a reset, which keep their frequency and their size

@@ -3,12 +3,12 @@ use Rattle.std.specs.Prelude.{◌≡◌, ℕ, ◌+◌, ◌<◌, Bool, true, fals
 use Rattle.dev_core.specs.declared.kind.Kind.{Kind}
 use Rattle.dev_core.specs.declared.kind.Kind.TheVariants as kind
 use Rattle.dev_core.specs.declared.payload.Payload.{Payload}
-use Rattle.dev_core.specs.declared.payload.Payload.TheVariants as payload
 use Rattle.dev_core.specs.declared.post.Entry.{Entry}
 use Rattle.dev_core.specs.declared.post.Post.{Post}
 use Rattle.dev_core.specs.declared.post.What.{What}
 use Rattle.dev_core.specs.declared.post.What.TheVariants as what
 use Rattle.dev_core.specs.Device.{kind_of}
+use Rattle.dev_core.specs.Kind.{row_of}
 use Rattle.lab_num.specs.declared.key.Key.{Key}
 use Rattle.lab_num.specs.Paid.{slot_at}
 use Rattle.board.specs.Space.{device_at}
@@ -28,12 +28,9 @@ IsSentIn from a n speed post = IsMadeIn from a n speed post.key
 abbrev pub IsEnteredIn : ℕ → ℕ → ℕ → ℕ → Entry → Type 0
 IsEnteredIn from a n speed entry = IsMadeIn from a n speed entry.key
 
--- UARTs send bytes, CAN controllers frames, and finishers how a test ended
+-- devices of the kind send such a payload
 abbrev pub is_of_kind : Kind → Payload → Bool
-is_of_kind kind.Uart (payload.Byte byte) = true
-is_of_kind kind.Can (payload.Frame frame) = true
-is_of_kind kind.Finisher (payload.Finish finish) = true
-is_of_kind _ _ = false
+is_of_kind kind payload = (row_of kind).sends payload
 
 -- a post of a device of the board
 pub record IsSentBy (v : View) (post : Post) : Type 0 where

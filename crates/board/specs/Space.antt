@@ -18,7 +18,7 @@ use Rattle.sys_bus.specs.declared.region.Target.TheVariants.{Ram, Clint, Plic, D
 use Rattle.sys_bus.specs.Region.{target_of, step_of}
 
 -- a device of a board, and whether it is shown
-pub record Fitted : Type 0 where
+pub record BoardDevice : Type 0 where
   pub state : DevState
   pub shown : Bool
 
@@ -29,7 +29,7 @@ pub record Space : Type 0 where
   pub memories : List (List ℕ)
   pub timer : Option Timer
   pub controller : Option Controller
-  pub devices : List Fitted
+  pub devices : List BoardDevice
 
 -- the memory of a number
 abbrev pub memory_at : Space → ℕ → List ℕ
@@ -39,10 +39,10 @@ abbrev pub with_memory : Space → ℕ → List ℕ → Space
 with_memory s part bytes = record s { memories = slice_set s.memories part bytes }
 
 -- the device of a number
-abbrev pub device_at : Space → ℕ → Fitted
+abbrev pub device_at : Space → ℕ → BoardDevice
 device_at s dev = slice_index_or s.devices dev (record { state = Finisher; shown = false })
 
-abbrev pub with_device : Space → ℕ → Fitted → Space
+abbrev pub with_device : Space → ℕ → BoardDevice → Space
 with_device s dev fitted = record s { devices = slice_set s.devices dev fitted }
 
 abbrev pub with_state : Space → ℕ → DevState → Space

@@ -8,9 +8,9 @@ mod idle;
 mod saved;
 mod slots;
 
+use crate::hart_bus::{HartBus, Rooms};
 use crate::harts::{all_asleep, all_halted, new_harts, reset_all};
-use crate::slot::Ways;
-use crate::wires::{Rooms, Wires};
+use crate::slot::Features;
 use dev_core::{Device, Entry, Payload, Post, Taken};
 use lab_num::{BoardNo, Micros, NoMemory};
 use rv_atomic::Watch;
@@ -47,7 +47,7 @@ pub struct Board<D: Device> {
     /// The number of the one that takes the next slot.
     next: u8,
     watch: Watch,
-    wires: Wires<D>,
+    bus: HartBus<D>,
 }
 
 impl<D: Device> Model for Board<D> {
@@ -56,9 +56,9 @@ impl<D: Device> Model for Board<D> {
 
     ghost Value = { State };
 
-    ghost view = { λ b. state_of b.harts.items b.next b.watch b.wires };
+    ghost view = { λ b. state_of b.harts.items b.next b.watch b.bus };
 
-    ghost invariant = { λ b. Holds (state_of b.harts.items b.next b.watch b.wires).view };
+    ghost invariant = { λ b. Holds (state_of b.harts.items b.next b.watch b.bus).view };
 }
 
 impl<D: Device> Board<D> {
@@ -106,7 +106,7 @@ impl<D: Device> Board<D> {
             harts,
             next: 0,
             watch: Watch::new(count),
-            wires: Wires::new(plan, rooms, devices),
+            bus: HartBus::new(plan, rooms, devices),
         })
     }
 
@@ -129,7 +129,7 @@ impl<D: Device> Board<D> {
         ensures numbers { map (λ core. core.number) self.now.view.cores
             ≡ range_with_len 0 (length result.now.cpus) }
     {
-        self.wires.space.plan()
+        self.bus.space.plan()
     }
 
     /// Instructions a microsecond of all processors together, 1 to 1,000.
@@ -139,7 +139,7 @@ impl<D: Device> Board<D> {
         ensures most { result ≤ 1000 }
         ensures shared { result % length self.now.view.cores ≡ 0 }
     {
-        self.wires.made.numbers.speed
+        self.bus.outbox.numbers.speed
     }
 
     /// Sets the speed, in instructions a microsecond of all processors together.
@@ -149,7 +149,7 @@ impl<D: Device> Board<D> {
         requires shared { speed % length self.old.view.cores ≡ 0 }
         ensures { self.new ≡ record self.old { view = with_speed self.old.view speed } }
     {
-        self.wires.made.numbers.speed = speed;
+        self.bus.outbox.numbers.speed = speed;
     }
 
     /// Takes the next `n` slots, which the processors take in turn. Slot `i` of the call lies in
@@ -168,11 +168,11 @@ impl<D: Device> Board<D> {
         // loops of their own, so that a board of one processor without atomic instructions asks in no slot whose turn
         // is next and what is reserved, one without timer, interrupt controller and wires asks for no lines, and none
         // asks whether there are compressed instructions
-        let Ways {
+        let Features {
             shared,
             wired,
             halves,
-        } = self.ways();
+        } = self.features();
         match (shared, wired, halves) {
             (false, false, false) => self.slots::<UNWIRED>(false, false, false, at, n),
             (false, true, false) => self.slots::<WIRED>(false, true, false, at, n),
@@ -188,14 +188,14 @@ impl<D: Device> Board<D> {
         ensures taken { result ≡ taken_by self.old.view dev payload.now }
         ensures after { self.new ≡ record self.old { view = handed self.old.view dev payload.now } }
     {
-        self.wires.space.take(dev, payload)
+        self.bus.space.take(dev, payload)
     }
 
     /// The oldest post that was not dropped yet.
     pub fn next_post(&self) -> Option<Post>
         ensures { result ≡ slice_get self.now.posts 0 }
     {
-        self.wires.made.posts.front().copied()
+        self.bus.outbox.posts.front().copied()
     }
 
     /// Drops the oldest post.
@@ -203,7 +203,7 @@ impl<D: Device> Board<D> {
         requires { self.old.posts ≢ [] }
         ensures { self.new ≡ record self.old { posts = drop 1 self.old.posts } }
     {
-        let _ = self.wires.made.posts.pop_front();
+        let _ = self.bus.outbox.posts.pop_front();
     }
 
     /// Hands out the log entries since the last call, in the order in which they were made, and
@@ -212,11 +212,11 @@ impl<D: Device> Board<D> {
         ensures taken { result.items ≡ self.old.entries }
         ensures left { self.new ≡ record self.old { entries = [] } }
     {
-        let none = Vec::new(*self.wires.made.entries.allocator());
-        if self.wires.made.entries.is_empty() {
+        let none = Vec::new(*self.bus.outbox.entries.allocator());
+        if self.bus.outbox.entries.is_empty() {
             return none;
         }
-        mem::replace(&mut self.wires.made.entries, none)
+        mem::replace(&mut self.bus.outbox.entries, none)
     }
 
     /// Shows a UART or a CAN controller: from now on each byte or frame that it sends makes a log
@@ -226,7 +226,7 @@ impl<D: Device> Board<D> {
         requires kind { IsTrue (may_be_shown self.old.view dev) }
         ensures { self.new ≡ record self.old { view = with_shown self.old.view dev } }
     {
-        self.wires.space.show(dev);
+        self.bus.space.show(dev);
     }
 
     /// Whether a device is shown.
@@ -234,7 +234,7 @@ impl<D: Device> Board<D> {
         requires { dev < length self.now.view.space.devices }
         ensures { result ≡ (device_at self.now.view.space dev).shown }
     {
-        self.wires.space.is_shown(dev)
+        self.bus.space.is_shown(dev)
     }
 
     /// Whether each of `count` bytes from an address on lies in a memory. Where `count` is 0, that
@@ -242,7 +242,7 @@ impl<D: Device> Board<D> {
     pub fn holds(&self, at: u32, count: u32) -> bool
         ensures { result ≡ holds_each self.now.view.space at count }
     {
-        self.wires.space.holds(at, count)
+        self.bus.space.holds(at, count)
     }
 
     /// Writes bytes into the memories from an address on, and ends all reservations, where there are
@@ -254,7 +254,7 @@ impl<D: Device> Board<D> {
         ensures err { OnErr result (WritesPrefix self.old self.new at bytes.now) }
     {
         self.watch.clear(); // where there are no bytes too
-        self.wires.space.copy_in(at, bytes)
+        self.bus.space.copy_in(at, bytes)
     }
 
     /// Puts 0 into `count` bytes of the memories from an address on, and ends all reservations.
@@ -263,7 +263,7 @@ impl<D: Device> Board<D> {
         ensures { self.new ≡ record self.old { view = with_bytes self.old.view at (zeros count) } }
     {
         self.watch.clear();
-        self.wires.space.zero(at, count);
+        self.bus.space.zero(at, count);
     }
 
     /// Brings the processors, the timer, the interrupt controller and the devices into their first
@@ -276,7 +276,7 @@ impl<D: Device> Board<D> {
         reset_all(&mut self.harts);
         self.next = 0;
         self.watch.clear();
-        self.wires.space.reset();
+        self.bus.space.reset();
     }
 
     /// Sets the address of a processor's next instruction, which is divisible by 4, or with
@@ -293,7 +293,7 @@ impl<D: Device> Board<D> {
     pub fn aligns(&self, pc: u32) -> bool
         ensures { result ≡ (pc % alignment self.now.view.space.plan.letters == 0) }
     {
-        self.wires.space.plan().letters.aligns(pc)
+        self.bus.space.plan().letters.aligns(pc)
     }
 
     /// The address of a processor's next instruction.
@@ -340,14 +340,14 @@ impl<D: Device> Board<D> {
     pub fn posted(&self) -> u64
         ensures { result ≡ self.now.view.numbers.posted }
     {
-        self.wires.made.numbers.posted
+        self.bus.outbox.numbers.posted
     }
 
     /// How many log entries the board has made so far.
     pub fn entered(&self) -> u64
         ensures { result ≡ self.now.view.numbers.entered }
     {
-        self.wires.made.numbers.entered
+        self.bus.outbox.numbers.entered
     }
 
     /// How many instructions a processor has retired, by its CSR minstret.
@@ -366,6 +366,6 @@ impl<D: Device> Board<D> {
         if at % 4 != 0 {
             return None;
         }
-        self.wires.space.word(at)
+        self.bus.space.word(at)
     }
 }

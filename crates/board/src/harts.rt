@@ -114,7 +114,7 @@ pub fn states_of(alloc: Global, harts: &[Hart]) -> Result<Vec<HartState>, NoMemo
 }
 
 /// At every moment a processor is in a state that there is.
-pub fn harts_are_sound(harts: &[Hart])
+pub fn sound_harts_law(harts: &[Hart])
     ensures { All (λ core. IsHartState (state_of core)) harts.now }
 {
     for hart in harts {

@@ -4,15 +4,15 @@ ghost use Rattle.rv_atomic.specs.SharedEffect.{IsSharable};
 ghost use Rattle.rv_exec.specs.Effect.{bus_after, core_after, effect};
 ghost use Rattle.rv_exec.specs.Laws.{IsSameHart};
 ghost use Rattle.board.specs.Fetch.{effect_on, fetched_by, shared_by};
-ghost use Rattle.board.specs.Inner.Seat.{seen, shared_of_word, ways_of};
-ghost use Rattle.board.specs.Wires.{answer, loaded, stored};
+ghost use Rattle.board.specs.Inner.Seat.{seen, shared_of_word, features_of};
+ghost use Rattle.board.specs.HartBus.{answer, loaded, stored};
 
-use crate::slot::Ways;
+use crate::hart_bus::HartBus;
+use crate::slot::Features;
 use crate::space::halves::of_half;
-use crate::wires::Wires;
 use dev_core::Device;
 use lab_num::NoMemory;
-use rv_atomic::{Shared, Watch, alone_as_performed, decode_atomic, step_shared};
+use rv_atomic::{Shared, Watch, decode_atomic, laws, step_shared};
 use rv_exec::{Fetched, perform};
 use rv_hart::{Hart, Lines};
 
@@ -22,33 +22,33 @@ pub fn instruction<const COPY: u8, D: Device>(
     hart: &mut Hart,
     number: u8,
     watch: &mut Watch,
-    wires: &mut Wires<D>,
-    ways: Ways,
+    bus: &mut HartBus<D>,
+    features: Features,
     lines: Lines,
 ) -> Result<(), NoMemory>
-    requires ways { ways ≡ ways_of wires.old.space.plan }
-    requires letters { hart.old.letters ≡ wires.old.space.plan.letters }
+    requires features { features ≡ features_of bus.old.space.plan }
+    requires letters { hart.old.letters ≡ bus.old.space.plan.letters }
     requires number { number < length watch.old }
-    requires harts { length watch.old ≡ length wires.old.space.plan.cpus }
-    ensures core { let shared = effect_on (seen number hart.old watch.old wires.old) wires.old lines in
-        OnOk result (hart.new ≡ core_after answer wires.old shared.effect) }
-    ensures watch { let shared = effect_on (seen number hart.old watch.old wires.old) wires.old lines in
+    requires harts { length watch.old ≡ length bus.old.space.plan.cpus }
+    ensures core { let shared = effect_on (seen number hart.old watch.old bus.old) bus.old lines in
+        OnOk result (hart.new ≡ core_after answer bus.old shared.effect) }
+    ensures watch { let shared = effect_on (seen number hart.old watch.old bus.old) bus.old lines in
         OnOk result (watch.new ≡ shared.watch) }
-    ensures bus { let shared = effect_on (seen number hart.old watch.old wires.old) wires.old lines in
-        OnOk result (wires.new ≡ bus_after loaded stored wires.old shared.effect) }
+    ensures bus { let shared = effect_on (seen number hart.old watch.old bus.old) bus.old lines in
+        OnOk result (bus.new ≡ bus_after loaded stored bus.old shared.effect) }
     ensures same { OnOk result (IsSameHart hart.old hart.new) }
     ensures core_err { OnErr result (hart.new ≡ hart.old) }
     ensures watch_err { OnErr result (watch.new ≡ watch.old) }
-    ensures bus_err { OnErr result (wires.new ≡ wires.old) }
+    ensures bus_err { OnErr result (bus.new ≡ bus.old) }
 {
-    if ways.shared {
-        return by_sharing(hart, number, watch, wires, lines);
+    if features.shared {
+        return by_sharing(hart, number, watch, bus, lines);
     }
-    alone_as_performed();
-    if ways.halves {
-        by_halves::<COPY, D>(hart, wires, lines)
+    laws::alone_as_performed();
+    if features.halves {
+        by_halves::<COPY, D>(hart, bus, lines)
     } else {
-        by_words::<COPY, D>(hart, wires, lines)
+        by_words::<COPY, D>(hart, bus, lines)
     }
 }
 
@@ -56,23 +56,23 @@ pub fn instruction<const COPY: u8, D: Device>(
 #[inline(always)]
 fn by_words<const COPY: u8, D: Device>(
     hart: &mut Hart,
-    wires: &mut Wires<D>,
+    bus: &mut HartBus<D>,
     lines: Lines,
 ) -> Result<(), NoMemory>
     requires { hart.old.letters.c ≡ false }
-    ensures core { let effect = effect hart.old (fetched_by hart.old wires.old) lines in
-        OnOk result (hart.new ≡ core_after answer wires.old effect) }
-    ensures bus { let effect = effect hart.old (fetched_by hart.old wires.old) lines in
-        OnOk result (wires.new ≡ bus_after loaded stored wires.old effect) }
+    ensures core { let effect = effect hart.old (fetched_by hart.old bus.old) lines in
+        OnOk result (hart.new ≡ core_after answer bus.old effect) }
+    ensures bus { let effect = effect hart.old (fetched_by hart.old bus.old) lines in
+        OnOk result (bus.new ≡ bus_after loaded stored bus.old effect) }
     ensures same { OnOk result (IsSameHart hart.old hart.new) }
     ensures core_err { OnErr result (hart.new ≡ hart.old) }
-    ensures bus_err { OnErr result (wires.new ≡ wires.old) }
+    ensures bus_err { OnErr result (bus.new ≡ bus.old) }
 {
     let at = hart.pc();
-    let Some(word) = wires.space.fetch_aligned(at) else {
-        return perform(hart, Fetched::Fault(at), wires, lines);
+    let Some(word) = bus.space.fetch_aligned(at) else {
+        return perform(hart, Fetched::Fault(at), bus, lines);
     };
-    perform(hart, Fetched::of_word(word), wires, lines)
+    perform(hart, Fetched::of_word(word), bus, lines)
 }
 
 /// The same of a processor alone, without atomic instructions and with compressed ones. Each size
@@ -80,27 +80,27 @@ fn by_words<const COPY: u8, D: Device>(
 #[inline(always)]
 fn by_halves<const COPY: u8, D: Device>(
     hart: &mut Hart,
-    wires: &mut Wires<D>,
+    bus: &mut HartBus<D>,
     lines: Lines,
 ) -> Result<(), NoMemory>
     requires { hart.old.letters.c ≡ true }
-    ensures core { let effect = effect hart.old (fetched_by hart.old wires.old) lines in
-        OnOk result (hart.new ≡ core_after answer wires.old effect) }
-    ensures bus { let effect = effect hart.old (fetched_by hart.old wires.old) lines in
-        OnOk result (wires.new ≡ bus_after loaded stored wires.old effect) }
+    ensures core { let effect = effect hart.old (fetched_by hart.old bus.old) lines in
+        OnOk result (hart.new ≡ core_after answer bus.old effect) }
+    ensures bus { let effect = effect hart.old (fetched_by hart.old bus.old) lines in
+        OnOk result (bus.new ≡ bus_after loaded stored bus.old effect) }
     ensures same { OnOk result (IsSameHart hart.old hart.new) }
     ensures core_err { OnErr result (hart.new ≡ hart.old) }
-    ensures bus_err { OnErr result (wires.new ≡ wires.old) }
+    ensures bus_err { OnErr result (bus.new ≡ bus.old) }
 {
     let at = hart.pc();
-    let Some(half) = wires.space.half(at) else {
-        return perform(hart, Fetched::Fault(at), wires, lines);
+    let Some(half) = bus.space.half(at) else {
+        return perform(hart, Fetched::Fault(at), bus, lines);
     };
     if half % 4 == 3 {
-        let what = wires.space.begun_by(half, at);
-        perform(hart, what, wires, lines)
+        let what = bus.space.begun_by(half, at);
+        perform(hart, what, bus, lines)
     } else {
-        perform(hart, of_half(half), wires, lines)
+        perform(hart, of_half(half), bus, lines)
     }
 }
 
@@ -111,39 +111,39 @@ pub fn by_sharing<D: Device>(
     hart: &mut Hart,
     number: u8,
     watch: &mut Watch,
-    wires: &mut Wires<D>,
+    bus: &mut HartBus<D>,
     lines: Lines,
 ) -> Result<(), NoMemory>
     requires number { number < length watch.old }
-    ensures core { let shared = effect_on (seen number hart.old watch.old wires.old) wires.old lines in
-        OnOk result (hart.new ≡ core_after answer wires.old shared.effect) }
-    ensures watch { let shared = effect_on (seen number hart.old watch.old wires.old) wires.old lines in
+    ensures core { let shared = effect_on (seen number hart.old watch.old bus.old) bus.old lines in
+        OnOk result (hart.new ≡ core_after answer bus.old shared.effect) }
+    ensures watch { let shared = effect_on (seen number hart.old watch.old bus.old) bus.old lines in
         OnOk result (watch.new ≡ shared.watch) }
-    ensures bus { let shared = effect_on (seen number hart.old watch.old wires.old) wires.old lines in
-        OnOk result (wires.new ≡ bus_after loaded stored wires.old shared.effect) }
+    ensures bus { let shared = effect_on (seen number hart.old watch.old bus.old) bus.old lines in
+        OnOk result (bus.new ≡ bus_after loaded stored bus.old shared.effect) }
     ensures same { OnOk result (IsSameHart hart.old hart.new) }
     ensures core_err { OnErr result (hart.new ≡ hart.old) }
     ensures watch_err { OnErr result (watch.new ≡ watch.old) }
-    ensures bus_err { OnErr result (wires.new ≡ wires.old) }
+    ensures bus_err { OnErr result (bus.new ≡ bus.old) }
 {
     let what = if hart.letters().c {
-        shared_by_halves(hart, wires)
+        shared_by_halves(hart, bus)
     } else {
-        shared_by_words(hart, wires)
+        shared_by_words(hart, bus)
     };
-    step_shared(hart, number, watch, what, wires, lines)
+    step_shared(hart, number, watch, what, bus, lines)
 }
 
 /// What a processor without compressed instructions does at its pc.
 #[inline(always)]
-fn shared_by_words<D: Device>(hart: &Hart, wires: &mut Wires<D>) -> Shared
+fn shared_by_words<D: Device>(hart: &Hart, bus: &mut HartBus<D>) -> Shared
     requires { hart.now.letters.c ≡ false }
-    ensures value { result ≡ shared_by hart.now wires.old }
+    ensures value { result ≡ shared_by hart.now bus.old }
     ensures sharable { IsSharable hart.now.letters result }
-    ensures same { wires.new ≡ wires.old }
+    ensures same { bus.new ≡ bus.old }
 {
     let at = hart.pc();
-    match wires.space.fetch_aligned(at) {
+    match bus.space.fetch_aligned(at) {
         Some(word) => of_word(hart, word),
         None => Shared::Plain(Fetched::Fault(at)),
     }
@@ -151,20 +151,20 @@ fn shared_by_words<D: Device>(hart: &Hart, wires: &mut Wires<D>) -> Shared
 
 /// What a processor with compressed instructions does at its pc.
 #[inline(always)]
-fn shared_by_halves<D: Device>(hart: &Hart, wires: &mut Wires<D>) -> Shared
+fn shared_by_halves<D: Device>(hart: &Hart, bus: &mut HartBus<D>) -> Shared
     requires { hart.now.letters.c ≡ true }
-    ensures value { result ≡ shared_by hart.now wires.old }
+    ensures value { result ≡ shared_by hart.now bus.old }
     ensures sharable { IsSharable hart.now.letters result }
-    ensures same { wires.new ≡ wires.old }
+    ensures same { bus.new ≡ bus.old }
 {
     let at = hart.pc();
-    let Some(half) = wires.space.half(at) else {
+    let Some(half) = bus.space.half(at) else {
         return Shared::Plain(Fetched::Fault(at));
     };
     if half % 4 != 3 {
         return Shared::Plain(of_half(half));
     }
-    match wires.space.word_begun(half, at) {
+    match bus.space.word_begun(half, at) {
         Some(word) => of_word(hart, word),
         None => Shared::Plain(Fetched::Fault(at.wrapping_add(2))),
     }

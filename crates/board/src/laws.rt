@@ -15,8 +15,6 @@ ghost use Rattle.board.specs.Sent.{IsEnteredIn, IsSentBy, IsSentIn, IsToldBy};
 ghost use Rattle.dev_core.specs.Device.{kind_of};
 ghost use Rattle.sys_bus.specs.Plan.{IsValid};
 
-use plic::second_samples_change_nothing;
-
 /// A stretch of slots and the one after it are one stretch.
 pub fn stretches_join()
     ensures { (v : View) (from a m n : ℕ) →
@@ -96,7 +94,7 @@ pub fn halted_boards_stay()
 pub fn samples_settle()
     ensures { (s : Space) → sampled (sampled s) ≡ sampled s }
 {
-    second_samples_change_nothing();
+    plic::laws::second_samples_change_nothing();
 }
 
 /// A board that is brought to the state in which it is stays as it is. One that is brought to any

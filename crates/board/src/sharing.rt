@@ -8,18 +8,18 @@ ghost use Rattle.rv_atomic.specs.declared.shared.Shared.TheVariants.{Plain};
 ghost use Rattle.rv_exec.specs.Effect.{bus_after, core_after, of_word};
 ghost use Rattle.rv_exec.specs.Laws.{IsSameHart};
 ghost use Rattle.board.specs.Fetch.{effect_on, of_half};
-ghost use Rattle.board.specs.HartView.{hart_state};
-ghost use Rattle.board.specs.Inner.Seat.{behind, seen, shared_of_word, ways_of};
+ghost use Rattle.board.specs.HartView.{slot_state};
+ghost use Rattle.board.specs.Inner.Seat.{behind, seen, shared_of_word, features_of};
 ghost use Rattle.board.specs.Slot.{awake, hart_slot, running};
-ghost use Rattle.board.specs.Wires.{answer, fetched, loaded, stored};
+ghost use Rattle.board.specs.HartBus.{answer, fetched, loaded, stored};
 
+use crate::hart_bus::HartBus;
 use crate::instruction::{by_sharing, of_word};
-use crate::slot::{Ways, enter_interrupt, sample_and_run, taken, wait};
+use crate::slot::{Features, enter_interrupt, sample_and_run, taken, wait};
 use crate::space::halves::of_half;
-use crate::wires::Wires;
 use dev_core::Device;
 use lab_num::{Micros, NoMemory};
-use rv_atomic::{Shared, Watch, atomic_words_mean_no_other, is_store, step_shared};
+use rv_atomic::{Shared, Watch, is_store, laws, step_shared};
 use rv_exec::{Fetched, perform};
 use rv_hart::{Hart, Lines};
 
@@ -30,27 +30,27 @@ pub fn shared_slot<const COPY: u8, D: Device>(
     hart: &mut Hart,
     number: u8,
     watch: &mut Watch,
-    wires: &mut Wires<D>,
-    ways: Ways,
+    bus: &mut HartBus<D>,
+    features: Features,
     at: Micros,
 ) -> Result<bool, NoMemory>
-    requires ways { ways ≡ ways_of wires.old.space.plan }
-    requires letters { hart.old.letters ≡ wires.old.space.plan.letters }
+    requires features { features ≡ features_of bus.old.space.plan }
+    requires letters { hart.old.letters ≡ bus.old.space.plan.letters }
     requires number { number < length watch.old }
-    requires harts { length watch.old ≡ length wires.old.space.plan.cpus }
-    ensures ok { let old = hart_state number hart.old watch.old wires.old in
-        OnOk result (hart_state number hart.new watch.new wires.new ≡ behind old (hart_slot old.view at.0)) }
+    requires harts { length watch.old ≡ length bus.old.space.plan.cpus }
+    ensures ok { let old = slot_state number hart.old watch.old bus.old in
+        OnOk result (slot_state number hart.new watch.new bus.new ≡ behind old (hart_slot old.view at.0)) }
     ensures same { OnOk result (IsSameHart hart.old hart.new) }
     ensures watch { OnOk result (length watch.new ≡ length watch.old) }
-    ensures err { OnErr result (hart_state number hart.new watch.new wires.new
-        ≡ hart_state number hart.old watch.old wires.old) }
+    ensures err { OnErr result (slot_state number hart.new watch.new bus.new
+        ≡ slot_state number hart.old watch.old bus.old) }
 {
     if hart.halted() {
         return Ok(true);
     }
-    match wires.space.known_lines(ways.wired, number, at) {
-        Some(lines) => run::<COPY, D>(hart, number, watch, wires, ways, at, lines),
-        None => Ok(sample_and_run(hart, number, watch, wires, ways, at)?),
+    match bus.space.known_lines(features.wired, number, at) {
+        Some(lines) => run::<COPY, D>(hart, number, watch, bus, features, at, lines),
+        None => Ok(sample_and_run(hart, number, watch, bus, features, at)?),
     }
 }
 
@@ -60,26 +60,26 @@ fn run<const COPY: u8, D: Device>(
     hart: &mut Hart,
     number: u8,
     watch: &mut Watch,
-    wires: &mut Wires<D>,
-    ways: Ways,
+    bus: &mut HartBus<D>,
+    features: Features,
     at: Micros,
     lines: Lines,
 ) -> Result<bool, NoMemory>
-    requires ways { ways ≡ ways_of wires.old.space.plan }
-    requires letters { hart.old.letters ≡ wires.old.space.plan.letters }
+    requires features { features ≡ features_of bus.old.space.plan }
+    requires letters { hart.old.letters ≡ bus.old.space.plan.letters }
     requires number { number < length watch.old }
-    requires harts { length watch.old ≡ length wires.old.space.plan.cpus }
-    ensures ok { let old = hart_state number hart.old watch.old wires.old in
-        OnOk result (hart_state number hart.new watch.new wires.new ≡ behind old (running old.view at.0 lines)) }
+    requires harts { length watch.old ≡ length bus.old.space.plan.cpus }
+    ensures ok { let old = slot_state number hart.old watch.old bus.old in
+        OnOk result (slot_state number hart.new watch.new bus.new ≡ behind old (running old.view at.0 lines)) }
     ensures same { OnOk result (IsSameHart hart.old hart.new) }
     ensures watch { OnOk result (length watch.new ≡ length watch.old) }
-    ensures err { OnErr result (hart_state number hart.new watch.new wires.new
-        ≡ hart_state number hart.old watch.old wires.old) }
+    ensures err { OnErr result (slot_state number hart.new watch.new bus.new
+        ≡ slot_state number hart.old watch.old bus.old) }
 {
     if hart.waiting() {
-        return Ok(wait(hart, number, watch, wires, ways, at, lines)?);
+        return Ok(wait(hart, number, watch, bus, features, at, lines)?);
     }
-    act::<COPY, D>(hart, number, watch, wires, ways, at, lines)?;
+    act::<COPY, D>(hart, number, watch, bus, features, at, lines)?;
     Ok(false)
 }
 
@@ -91,28 +91,28 @@ fn act<const COPY: u8, D: Device>(
     hart: &mut Hart,
     number: u8,
     watch: &mut Watch,
-    wires: &mut Wires<D>,
-    ways: Ways,
+    bus: &mut HartBus<D>,
+    features: Features,
     at: Micros,
     lines: Lines,
 ) -> Result<(), NoMemory>
-    requires ways { ways ≡ ways_of wires.old.space.plan }
-    requires letters { hart.old.letters ≡ wires.old.space.plan.letters }
+    requires features { features ≡ features_of bus.old.space.plan }
+    requires letters { hart.old.letters ≡ bus.old.space.plan.letters }
     requires number { number < length watch.old }
-    requires harts { length watch.old ≡ length wires.old.space.plan.cpus }
-    ensures ok { let old = hart_state number hart.old watch.old wires.old in
-        OnOk result (hart_state number hart.new watch.new wires.new ≡ behind old (awake old.view at.0 lines)) }
+    requires harts { length watch.old ≡ length bus.old.space.plan.cpus }
+    ensures ok { let old = slot_state number hart.old watch.old bus.old in
+        OnOk result (slot_state number hart.new watch.new bus.new ≡ behind old (awake old.view at.0 lines)) }
     ensures same { OnOk result (IsSameHart hart.old hart.new) }
     ensures watch { OnOk result (length watch.new ≡ length watch.old) }
-    ensures err { OnErr result (hart_state number hart.new watch.new wires.new
-        ≡ hart_state number hart.old watch.old wires.old) }
+    ensures err { OnErr result (slot_state number hart.new watch.new bus.new
+        ≡ slot_state number hart.old watch.old bus.old) }
 {
     if let Some(n) = taken(hart, lines.mip) {
         enter_interrupt(hart, n);
         return Ok(());
     }
-    wires.begin_slot(at);
-    let Ok(()) = instruction::<COPY, D>(hart, number, watch, wires, ways, lines) else {
+    bus.begin_slot(at);
+    let Ok(()) = instruction::<COPY, D>(hart, number, watch, bus, features, lines) else {
         return Err(NoMemory);
     };
     Ok(())
@@ -124,28 +124,28 @@ fn instruction<const COPY: u8, D: Device>(
     hart: &mut Hart,
     number: u8,
     watch: &mut Watch,
-    wires: &mut Wires<D>,
-    ways: Ways,
+    bus: &mut HartBus<D>,
+    features: Features,
     lines: Lines,
 ) -> Result<(), NoMemory>
-    requires ways { ways ≡ ways_of wires.old.space.plan }
-    requires letters { hart.old.letters ≡ wires.old.space.plan.letters }
+    requires features { features ≡ features_of bus.old.space.plan }
+    requires letters { hart.old.letters ≡ bus.old.space.plan.letters }
     requires number { number < length watch.old }
-    ensures core { let shared = effect_on (seen number hart.old watch.old wires.old) wires.old lines in
-        OnOk result (hart.new ≡ core_after answer wires.old shared.effect) }
-    ensures watch { let shared = effect_on (seen number hart.old watch.old wires.old) wires.old lines in
+    ensures core { let shared = effect_on (seen number hart.old watch.old bus.old) bus.old lines in
+        OnOk result (hart.new ≡ core_after answer bus.old shared.effect) }
+    ensures watch { let shared = effect_on (seen number hart.old watch.old bus.old) bus.old lines in
         OnOk result (watch.new ≡ shared.watch) }
-    ensures bus { let shared = effect_on (seen number hart.old watch.old wires.old) wires.old lines in
-        OnOk result (wires.new ≡ bus_after loaded stored wires.old shared.effect) }
+    ensures bus { let shared = effect_on (seen number hart.old watch.old bus.old) bus.old lines in
+        OnOk result (bus.new ≡ bus_after loaded stored bus.old shared.effect) }
     ensures same { OnOk result (IsSameHart hart.old hart.new) }
     ensures core_err { OnErr result (hart.new ≡ hart.old) }
     ensures watch_err { OnErr result (watch.new ≡ watch.old) }
-    ensures bus_err { OnErr result (wires.new ≡ wires.old) }
+    ensures bus_err { OnErr result (bus.new ≡ bus.old) }
 {
-    if ways.halves {
-        by_halves::<COPY, D>(hart, number, watch, wires, lines)
+    if features.halves {
+        by_halves::<COPY, D>(hart, number, watch, bus, lines)
     } else {
-        by_words::<COPY, D>(hart, number, watch, wires, lines)
+        by_words::<COPY, D>(hart, number, watch, bus, lines)
     }
 }
 
@@ -155,26 +155,26 @@ fn by_words<const COPY: u8, D: Device>(
     hart: &mut Hart,
     number: u8,
     watch: &mut Watch,
-    wires: &mut Wires<D>,
+    bus: &mut HartBus<D>,
     lines: Lines,
 ) -> Result<(), NoMemory>
     requires letters { hart.old.letters.c ≡ false }
     requires number { number < length watch.old }
-    ensures core { let shared = effect_on (seen number hart.old watch.old wires.old) wires.old lines in
-        OnOk result (hart.new ≡ core_after answer wires.old shared.effect) }
-    ensures watch { let shared = effect_on (seen number hart.old watch.old wires.old) wires.old lines in
+    ensures core { let shared = effect_on (seen number hart.old watch.old bus.old) bus.old lines in
+        OnOk result (hart.new ≡ core_after answer bus.old shared.effect) }
+    ensures watch { let shared = effect_on (seen number hart.old watch.old bus.old) bus.old lines in
         OnOk result (watch.new ≡ shared.watch) }
-    ensures bus { let shared = effect_on (seen number hart.old watch.old wires.old) wires.old lines in
-        OnOk result (wires.new ≡ bus_after loaded stored wires.old shared.effect) }
+    ensures bus { let shared = effect_on (seen number hart.old watch.old bus.old) bus.old lines in
+        OnOk result (bus.new ≡ bus_after loaded stored bus.old shared.effect) }
     ensures same { OnOk result (IsSameHart hart.old hart.new) }
     ensures core_err { OnErr result (hart.new ≡ hart.old) }
     ensures watch_err { OnErr result (watch.new ≡ watch.old) }
-    ensures bus_err { OnErr result (wires.new ≡ wires.old) }
+    ensures bus_err { OnErr result (bus.new ≡ bus.old) }
 {
     let at = hart.pc();
-    match wires.space.fetch_aligned(at) {
-        Some(word) => do_word::<COPY, D>(hart, number, watch, word, wires, lines),
-        None => by_sharing(hart, number, watch, wires, lines),
+    match bus.space.fetch_aligned(at) {
+        Some(word) => do_word::<COPY, D>(hart, number, watch, word, bus, lines),
+        None => by_sharing(hart, number, watch, bus, lines),
     }
 }
 
@@ -185,32 +185,32 @@ fn by_halves<const COPY: u8, D: Device>(
     hart: &mut Hart,
     number: u8,
     watch: &mut Watch,
-    wires: &mut Wires<D>,
+    bus: &mut HartBus<D>,
     lines: Lines,
 ) -> Result<(), NoMemory>
     requires letters { hart.old.letters.c ≡ true }
     requires number { number < length watch.old }
-    ensures core { let shared = effect_on (seen number hart.old watch.old wires.old) wires.old lines in
-        OnOk result (hart.new ≡ core_after answer wires.old shared.effect) }
-    ensures watch { let shared = effect_on (seen number hart.old watch.old wires.old) wires.old lines in
+    ensures core { let shared = effect_on (seen number hart.old watch.old bus.old) bus.old lines in
+        OnOk result (hart.new ≡ core_after answer bus.old shared.effect) }
+    ensures watch { let shared = effect_on (seen number hart.old watch.old bus.old) bus.old lines in
         OnOk result (watch.new ≡ shared.watch) }
-    ensures bus { let shared = effect_on (seen number hart.old watch.old wires.old) wires.old lines in
-        OnOk result (wires.new ≡ bus_after loaded stored wires.old shared.effect) }
+    ensures bus { let shared = effect_on (seen number hart.old watch.old bus.old) bus.old lines in
+        OnOk result (bus.new ≡ bus_after loaded stored bus.old shared.effect) }
     ensures same { OnOk result (IsSameHart hart.old hart.new) }
     ensures core_err { OnErr result (hart.new ≡ hart.old) }
     ensures watch_err { OnErr result (watch.new ≡ watch.old) }
-    ensures bus_err { OnErr result (wires.new ≡ wires.old) }
+    ensures bus_err { OnErr result (bus.new ≡ bus.old) }
 {
     let at = hart.pc();
-    let Some(half) = wires.space.half(at) else {
-        return by_sharing(hart, number, watch, wires, lines);
+    let Some(half) = bus.space.half(at) else {
+        return by_sharing(hart, number, watch, bus, lines);
     };
     if half % 4 != 3 {
-        return do_half::<COPY, D>(hart, number, watch, half, wires, lines);
+        return do_half::<COPY, D>(hart, number, watch, half, bus, lines);
     }
-    match wires.space.word_begun(half, at) {
-        Some(word) => do_word::<COPY, D>(hart, number, watch, word, wires, lines),
-        None => by_sharing(hart, number, watch, wires, lines),
+    match bus.space.word_begun(half, at) {
+        Some(word) => do_word::<COPY, D>(hart, number, watch, word, bus, lines),
+        None => by_sharing(hart, number, watch, bus, lines),
     }
 }
 
@@ -229,31 +229,31 @@ fn do_word<const COPY: u8, D: Device>(
     number: u8,
     watch: &mut Watch,
     word: u32,
-    wires: &mut Wires<D>,
+    bus: &mut HartBus<D>,
     lines: Lines,
 ) -> Result<(), NoMemory>
     requires number { number < length watch.old }
     ensures core { let what = shared_of_word hart.old.letters word in
-        let shared = shared_effect (fetched wires.old) hart.old number watch.old what lines in
-        OnOk result (hart.new ≡ core_after answer wires.old shared.effect) }
+        let shared = shared_effect (fetched bus.old) hart.old number watch.old what lines in
+        OnOk result (hart.new ≡ core_after answer bus.old shared.effect) }
     ensures watch { let what = shared_of_word hart.old.letters word in
-        let shared = shared_effect (fetched wires.old) hart.old number watch.old what lines in
+        let shared = shared_effect (fetched bus.old) hart.old number watch.old what lines in
         OnOk result (watch.new ≡ shared.watch) }
     ensures bus { let what = shared_of_word hart.old.letters word in
-        let shared = shared_effect (fetched wires.old) hart.old number watch.old what lines in
-        OnOk result (wires.new ≡ bus_after loaded stored wires.old shared.effect) }
+        let shared = shared_effect (fetched bus.old) hart.old number watch.old what lines in
+        OnOk result (bus.new ≡ bus_after loaded stored bus.old shared.effect) }
     ensures same { OnOk result (IsSameHart hart.old hart.new) }
     ensures core_err { OnErr result (hart.new ≡ hart.old) }
     ensures watch_err { OnErr result (watch.new ≡ watch.old) }
-    ensures bus_err { OnErr result (wires.new ≡ wires.old) }
+    ensures bus_err { OnErr result (bus.new ≡ bus.old) }
 {
     if !ends_none(watch, word) {
-        return do_word_apart(hart, number, watch, word, wires, lines);
+        return do_word_apart(hart, number, watch, word, bus, lines);
     }
-    atomic_words_mean_no_other();
+    laws::atomic_words_mean_no_other();
     match Fetched::of_word(word) {
-        Fetched::Bad(_) => do_word_apart(hart, number, watch, word, wires, lines),
-        what => perform(hart, what, wires, lines),
+        Fetched::Bad(_) => do_word_apart(hart, number, watch, word, bus, lines),
+        what => perform(hart, what, bus, lines),
     }
 }
 
@@ -265,26 +265,26 @@ fn do_word_apart<D: Device>(
     number: u8,
     watch: &mut Watch,
     word: u32,
-    wires: &mut Wires<D>,
+    bus: &mut HartBus<D>,
     lines: Lines,
 ) -> Result<(), NoMemory>
     requires { number < length watch.old }
     ensures core { let what = shared_of_word hart.old.letters word in
-        let shared = shared_effect (fetched wires.old) hart.old number watch.old what lines in
-        OnOk result (hart.new ≡ core_after answer wires.old shared.effect) }
+        let shared = shared_effect (fetched bus.old) hart.old number watch.old what lines in
+        OnOk result (hart.new ≡ core_after answer bus.old shared.effect) }
     ensures watch { let what = shared_of_word hart.old.letters word in
-        let shared = shared_effect (fetched wires.old) hart.old number watch.old what lines in
+        let shared = shared_effect (fetched bus.old) hart.old number watch.old what lines in
         OnOk result (watch.new ≡ shared.watch) }
     ensures bus { let what = shared_of_word hart.old.letters word in
-        let shared = shared_effect (fetched wires.old) hart.old number watch.old what lines in
-        OnOk result (wires.new ≡ bus_after loaded stored wires.old shared.effect) }
+        let shared = shared_effect (fetched bus.old) hart.old number watch.old what lines in
+        OnOk result (bus.new ≡ bus_after loaded stored bus.old shared.effect) }
     ensures same { OnOk result (IsSameHart hart.old hart.new) }
     ensures core_err { OnErr result (hart.new ≡ hart.old) }
     ensures watch_err { OnErr result (watch.new ≡ watch.old) }
-    ensures bus_err { OnErr result (wires.new ≡ wires.old) }
+    ensures bus_err { OnErr result (bus.new ≡ bus.old) }
 {
     let what = of_word(hart, word);
-    step_shared(hart, number, watch, what, wires, lines)
+    step_shared(hart, number, watch, what, bus, lines)
 }
 
 /// Does a half-word.
@@ -294,29 +294,29 @@ fn do_half<const COPY: u8, D: Device>(
     number: u8,
     watch: &mut Watch,
     half: u16,
-    wires: &mut Wires<D>,
+    bus: &mut HartBus<D>,
     lines: Lines,
 ) -> Result<(), NoMemory>
     requires letters { hart.old.letters.c ≡ true }
     requires number { number < length watch.old }
     ensures core { let what = Plain (of_half half) in
-        let shared = shared_effect (fetched wires.old) hart.old number watch.old what lines in
-        OnOk result (hart.new ≡ core_after answer wires.old shared.effect) }
+        let shared = shared_effect (fetched bus.old) hart.old number watch.old what lines in
+        OnOk result (hart.new ≡ core_after answer bus.old shared.effect) }
     ensures watch { let what = Plain (of_half half) in
-        let shared = shared_effect (fetched wires.old) hart.old number watch.old what lines in
+        let shared = shared_effect (fetched bus.old) hart.old number watch.old what lines in
         OnOk result (watch.new ≡ shared.watch) }
     ensures bus { let what = Plain (of_half half) in
-        let shared = shared_effect (fetched wires.old) hart.old number watch.old what lines in
-        OnOk result (wires.new ≡ bus_after loaded stored wires.old shared.effect) }
+        let shared = shared_effect (fetched bus.old) hart.old number watch.old what lines in
+        OnOk result (bus.new ≡ bus_after loaded stored bus.old shared.effect) }
     ensures same { OnOk result (IsSameHart hart.old hart.new) }
     ensures core_err { OnErr result (hart.new ≡ hart.old) }
     ensures watch_err { OnErr result (watch.new ≡ watch.old) }
-    ensures bus_err { OnErr result (wires.new ≡ wires.old) }
+    ensures bus_err { OnErr result (bus.new ≡ bus.old) }
 {
     if !watch.is_clear() {
-        return do_half_apart(hart, number, watch, half, wires, lines);
+        return do_half_apart(hart, number, watch, half, bus, lines);
     }
-    perform(hart, of_half(half), wires, lines)
+    perform(hart, of_half(half), bus, lines)
 }
 
 /// The same where it may end a reservation.
@@ -327,25 +327,25 @@ fn do_half_apart<D: Device>(
     number: u8,
     watch: &mut Watch,
     half: u16,
-    wires: &mut Wires<D>,
+    bus: &mut HartBus<D>,
     lines: Lines,
 ) -> Result<(), NoMemory>
     requires letters { hart.old.letters.c ≡ true }
     requires number { number < length watch.old }
     ensures core { let what = Plain (of_half half) in
-        let shared = shared_effect (fetched wires.old) hart.old number watch.old what lines in
-        OnOk result (hart.new ≡ core_after answer wires.old shared.effect) }
+        let shared = shared_effect (fetched bus.old) hart.old number watch.old what lines in
+        OnOk result (hart.new ≡ core_after answer bus.old shared.effect) }
     ensures watch { let what = Plain (of_half half) in
-        let shared = shared_effect (fetched wires.old) hart.old number watch.old what lines in
+        let shared = shared_effect (fetched bus.old) hart.old number watch.old what lines in
         OnOk result (watch.new ≡ shared.watch) }
     ensures bus { let what = Plain (of_half half) in
-        let shared = shared_effect (fetched wires.old) hart.old number watch.old what lines in
-        OnOk result (wires.new ≡ bus_after loaded stored wires.old shared.effect) }
+        let shared = shared_effect (fetched bus.old) hart.old number watch.old what lines in
+        OnOk result (bus.new ≡ bus_after loaded stored bus.old shared.effect) }
     ensures same { OnOk result (IsSameHart hart.old hart.new) }
     ensures core_err { OnErr result (hart.new ≡ hart.old) }
     ensures watch_err { OnErr result (watch.new ≡ watch.old) }
-    ensures bus_err { OnErr result (wires.new ≡ wires.old) }
+    ensures bus_err { OnErr result (bus.new ≡ bus.old) }
 {
     let what = Shared::Plain(of_half(half));
-    step_shared(hart, number, watch, what, wires, lines)
+    step_shared(hart, number, watch, what, bus, lines)
 }

@@ -2,16 +2,16 @@
 ghost use Rattle.std.specs.Prelude.{◌≡◌, ◌<◌, true, length, OnOk, OnErr};
 ghost use Rattle.rv_exec.specs.Laws.{IsSameHart};
 ghost use Rattle.rv_hart.specs.Trap.{chosen, interrupt};
-ghost use Rattle.board.specs.HartView.{hart_state};
+ghost use Rattle.board.specs.HartView.{slot_state};
 ghost use Rattle.board.specs.Inner.Fit.{IsStateOf};
 ghost use Rattle.board.specs.BoardState.{controller_to};
-ghost use Rattle.board.specs.Inner.Seat.{behind, seen, ways_of};
+ghost use Rattle.board.specs.Inner.Seat.{behind, seen, features_of};
 ghost use Rattle.board.specs.Lines.{sampled, lines_of};
 ghost use Rattle.board.specs.Slot.{hart_slot, running, sampling, awake, asleep};
 ghost use Rattle.rv_hart.specs.Core.{ticked};
 
+use crate::hart_bus::HartBus;
 use crate::instruction::instruction;
-use crate::wires::Wires;
 use dev_core::Device;
 use lab_num::{Micros, NoMemory};
 use rv_atomic::Watch;
@@ -23,7 +23,7 @@ pub const APART: u8 = 5;
 
 /// What a board asks once in a turn, and not in each slot.
 #[derive(Clone, Copy)]
-pub struct Ways {
+pub struct Features {
     /// Whether there are several processors, or atomic instructions.
     pub shared: bool,
     /// Whether there is a line that may be up.
@@ -40,27 +40,27 @@ pub fn slot<const COPY: u8, D: Device>(
     hart: &mut Hart,
     number: u8,
     watch: &mut Watch,
-    wires: &mut Wires<D>,
-    ways: Ways,
+    bus: &mut HartBus<D>,
+    features: Features,
     at: Micros,
 ) -> Result<bool, NoMemory>
-    requires ways { ways ≡ ways_of wires.old.space.plan }
-    requires letters { hart.old.letters ≡ wires.old.space.plan.letters }
+    requires features { features ≡ features_of bus.old.space.plan }
+    requires letters { hart.old.letters ≡ bus.old.space.plan.letters }
     requires number { number < length watch.old }
-    requires harts { length watch.old ≡ length wires.old.space.plan.cpus }
-    ensures ok { let old = hart_state number hart.old watch.old wires.old in
-        OnOk result (hart_state number hart.new watch.new wires.new ≡ behind old (hart_slot old.view at.0)) }
+    requires harts { length watch.old ≡ length bus.old.space.plan.cpus }
+    ensures ok { let old = slot_state number hart.old watch.old bus.old in
+        OnOk result (slot_state number hart.new watch.new bus.new ≡ behind old (hart_slot old.view at.0)) }
     ensures same { OnOk result (IsSameHart hart.old hart.new) }
     ensures watch { OnOk result (length watch.new ≡ length watch.old) }
-    ensures err { OnErr result (hart_state number hart.new watch.new wires.new
-        ≡ hart_state number hart.old watch.old wires.old) }
+    ensures err { OnErr result (slot_state number hart.new watch.new bus.new
+        ≡ slot_state number hart.old watch.old bus.old) }
 {
     if hart.halted() {
         return Ok(true);
     }
-    match wires.space.known_lines(ways.wired, number, at) {
-        Some(lines) => run::<COPY, D>(hart, number, watch, wires, ways, at, lines),
-        None => Ok(sample_and_run(hart, number, watch, wires, ways, at)?),
+    match bus.space.known_lines(features.wired, number, at) {
+        Some(lines) => run::<COPY, D>(hart, number, watch, bus, features, at, lines),
+        None => Ok(sample_and_run(hart, number, watch, bus, features, at)?),
     }
 }
 
@@ -72,26 +72,26 @@ pub fn sample_and_run<D: Device>(
     hart: &mut Hart,
     number: u8,
     watch: &mut Watch,
-    wires: &mut Wires<D>,
-    ways: Ways,
+    bus: &mut HartBus<D>,
+    features: Features,
     at: Micros,
 ) -> Result<bool, NoMemory>
-    requires ways { ways ≡ ways_of wires.old.space.plan }
-    requires letters { hart.old.letters ≡ wires.old.space.plan.letters }
+    requires features { features ≡ features_of bus.old.space.plan }
+    requires letters { hart.old.letters ≡ bus.old.space.plan.letters }
     requires number { number < length watch.old }
-    requires harts { length watch.old ≡ length wires.old.space.plan.cpus }
-    ensures ok { let old = hart_state number hart.old watch.old wires.old in
-        OnOk result (hart_state number hart.new watch.new wires.new
-        ≡ behind old (running (sampling old.view) at.0 (lines_of (sampled wires.old.space) number at.0))) }
+    requires harts { length watch.old ≡ length bus.old.space.plan.cpus }
+    ensures ok { let old = slot_state number hart.old watch.old bus.old in
+        OnOk result (slot_state number hart.new watch.new bus.new
+        ≡ behind old (running (sampling old.view) at.0 (lines_of (sampled bus.old.space) number at.0))) }
     ensures same { OnOk result (IsSameHart hart.old hart.new) }
     ensures watch { OnOk result (length watch.new ≡ length watch.old) }
-    ensures err { OnErr result (hart_state number hart.new watch.new wires.new
-        ≡ hart_state number hart.old watch.old wires.old) }
+    ensures err { OnErr result (slot_state number hart.new watch.new bus.new
+        ≡ slot_state number hart.old watch.old bus.old) }
 {
-    let before = wires.space.controller_state();
-    let lines = wires.space.sample(number, at);
-    let Ok(idle) = run::<APART, D>(hart, number, watch, wires, ways, at, lines) else {
-        wires.space.put_controller(&before);
+    let before = bus.space.controller_state();
+    let lines = bus.space.sample(number, at);
+    let Ok(idle) = run::<APART, D>(hart, number, watch, bus, features, at, lines) else {
+        bus.space.put_controller(&before);
         return Err(NoMemory);
     };
     Ok(idle)
@@ -103,27 +103,27 @@ fn run<const COPY: u8, D: Device>(
     hart: &mut Hart,
     number: u8,
     watch: &mut Watch,
-    wires: &mut Wires<D>,
-    ways: Ways,
+    bus: &mut HartBus<D>,
+    features: Features,
     at: Micros,
     lines: Lines,
 ) -> Result<bool, NoMemory>
-    requires ways { ways ≡ ways_of wires.old.space.plan }
-    requires letters { hart.old.letters ≡ wires.old.space.plan.letters }
+    requires features { features ≡ features_of bus.old.space.plan }
+    requires letters { hart.old.letters ≡ bus.old.space.plan.letters }
     requires number { number < length watch.old }
-    requires harts { length watch.old ≡ length wires.old.space.plan.cpus }
-    ensures ok { let old = hart_state number hart.old watch.old wires.old in
-        OnOk result (hart_state number hart.new watch.new wires.new ≡ behind old (running old.view at.0 lines)) }
+    requires harts { length watch.old ≡ length bus.old.space.plan.cpus }
+    ensures ok { let old = slot_state number hart.old watch.old bus.old in
+        OnOk result (slot_state number hart.new watch.new bus.new ≡ behind old (running old.view at.0 lines)) }
     ensures same { OnOk result (IsSameHart hart.old hart.new) }
     ensures watch { OnOk result (length watch.new ≡ length watch.old) }
-    ensures err { OnErr result (hart_state number hart.new watch.new wires.new
-        ≡ hart_state number hart.old watch.old wires.old) }
+    ensures err { OnErr result (slot_state number hart.new watch.new bus.new
+        ≡ slot_state number hart.old watch.old bus.old) }
 {
     if hart.waiting() {
         // taken apart, so that other slots test no answer of it
-        return Ok(wait(hart, number, watch, wires, ways, at, lines)?);
+        return Ok(wait(hart, number, watch, bus, features, at, lines)?);
     }
-    act::<COPY, D>(hart, number, watch, wires, ways, at, lines)?;
+    act::<COPY, D>(hart, number, watch, bus, features, at, lines)?;
     Ok(false)
 }
 
@@ -135,29 +135,29 @@ pub fn wait<D: Device>(
     hart: &mut Hart,
     number: u8,
     watch: &mut Watch,
-    wires: &mut Wires<D>,
-    ways: Ways,
+    bus: &mut HartBus<D>,
+    features: Features,
     at: Micros,
     lines: Lines,
 ) -> Result<bool, NoMemory>
     requires waiting { hart.old.waiting ≡ true }
-    requires ways { ways ≡ ways_of wires.old.space.plan }
-    requires letters { hart.old.letters ≡ wires.old.space.plan.letters }
+    requires features { features ≡ features_of bus.old.space.plan }
+    requires letters { hart.old.letters ≡ bus.old.space.plan.letters }
     requires number { number < length watch.old }
-    requires harts { length watch.old ≡ length wires.old.space.plan.cpus }
-    ensures ok { let old = hart_state number hart.old watch.old wires.old in
-        OnOk result (hart_state number hart.new watch.new wires.new ≡ behind old (asleep old.view at.0 lines)) }
+    requires harts { length watch.old ≡ length bus.old.space.plan.cpus }
+    ensures ok { let old = slot_state number hart.old watch.old bus.old in
+        OnOk result (slot_state number hart.new watch.new bus.new ≡ behind old (asleep old.view at.0 lines)) }
     ensures same { OnOk result (IsSameHart hart.old hart.new) }
     ensures watch { OnOk result (length watch.new ≡ length watch.old) }
-    ensures err { OnErr result (hart_state number hart.new watch.new wires.new
-        ≡ hart_state number hart.old watch.old wires.old) }
+    ensures err { OnErr result (slot_state number hart.new watch.new bus.new
+        ≡ slot_state number hart.old watch.old bus.old) }
 {
     if !hart.is_ready(lines.mip) {
         hart.tick();
         return Ok(true);
     }
     hart.set_waiting(false);
-    let Ok(()) = act::<APART, D>(hart, number, watch, wires, ways, at, lines) else {
+    let Ok(()) = act::<APART, D>(hart, number, watch, bus, features, at, lines) else {
         hart.set_waiting(true);
         return Err(NoMemory);
     };
@@ -172,28 +172,28 @@ fn act<const COPY: u8, D: Device>(
     hart: &mut Hart,
     number: u8,
     watch: &mut Watch,
-    wires: &mut Wires<D>,
-    ways: Ways,
+    bus: &mut HartBus<D>,
+    features: Features,
     at: Micros,
     lines: Lines,
 ) -> Result<(), NoMemory>
-    requires ways { ways ≡ ways_of wires.old.space.plan }
-    requires letters { hart.old.letters ≡ wires.old.space.plan.letters }
+    requires features { features ≡ features_of bus.old.space.plan }
+    requires letters { hart.old.letters ≡ bus.old.space.plan.letters }
     requires number { number < length watch.old }
-    requires harts { length watch.old ≡ length wires.old.space.plan.cpus }
-    ensures ok { let old = hart_state number hart.old watch.old wires.old in
-        OnOk result (hart_state number hart.new watch.new wires.new ≡ behind old (awake old.view at.0 lines)) }
+    requires harts { length watch.old ≡ length bus.old.space.plan.cpus }
+    ensures ok { let old = slot_state number hart.old watch.old bus.old in
+        OnOk result (slot_state number hart.new watch.new bus.new ≡ behind old (awake old.view at.0 lines)) }
     ensures same { OnOk result (IsSameHart hart.old hart.new) }
     ensures watch { OnOk result (length watch.new ≡ length watch.old) }
-    ensures err { OnErr result (hart_state number hart.new watch.new wires.new
-        ≡ hart_state number hart.old watch.old wires.old) }
+    ensures err { OnErr result (slot_state number hart.new watch.new bus.new
+        ≡ slot_state number hart.old watch.old bus.old) }
 {
     if let Some(n) = taken(hart, lines.mip) {
         enter_interrupt(hart, n);
         return Ok(());
     }
-    wires.begin_slot(at);
-    let Ok(()) = instruction::<COPY, D>(hart, number, watch, wires, ways, lines) else {
+    bus.begin_slot(at);
+    let Ok(()) = instruction::<COPY, D>(hart, number, watch, bus, features, lines) else {
         return Err(NoMemory);
     };
     Ok(())

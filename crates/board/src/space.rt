@@ -9,7 +9,7 @@ ghost use Rattle.page_ram.specs.Bytes.{zeros, value_at, put_value};
 ghost use Rattle.sys_bus.specs.Limits.{is_frequency, is_plic_size};
 ghost use Rattle.sys_bus.specs.Plan.{IsValid};
 ghost use Rattle.board.specs.Space.{memory_at, with_memory, target_at};
-ghost use Rattle.board.specs.Wires.{word_in};
+ghost use Rattle.board.specs.HartBus.{word_in};
 ghost use Rattle.board.specs.New.{first_states, hidden, new_space, new_timer, new_controller};
 ghost use Rattle.board.specs.Inner.Fit.{IsFit, LiesIn, IsInPage, HoldsAccesses};
 ghost use Rattle.board.specs.Inner.Remembers.{is_wired};
@@ -20,17 +20,17 @@ mod interrupts;
 mod lines;
 mod memories;
 
-use crate::fitted::Fitted;
+use crate::board_device::BoardDevice;
 use crate::remembered::Remembered;
 use clint::Clint;
 use dev_core::Device;
 use lab_num::NoMemory;
-use page_ram::{PageRam, aligned_numbers_lie_in_one_page};
+use page_ram::{PageRam, laws};
 use plic::Plic;
 use std::alloc::Global;
 use std::collections::VecDeque;
 use std::marker::Model;
-use sys_bus::{BoardPlan, Place, PlicSize, Regions, Target};
+use sys_bus::{BoardPlan, MemoryPlace, PlicSize, Regions, Target};
 
 /// The memories and devices of a board, in the order of its plan, and its timer and interrupt
 /// controller.
@@ -42,7 +42,7 @@ pub struct Space<D: Device> {
     memories: Vec<PageRam>,
     timer: Option<Clint>,
     controller: Option<Plic>,
-    devices: Vec<Fitted<D>>,
+    devices: Vec<BoardDevice<D>>,
     /// Whether there is a line that may be up.
     wired: bool,
     /// The lines, as long as nothing was touched since that they depend on.
@@ -82,7 +82,7 @@ pub struct Parts<D: Device> {
     pub regions: Regions,
     pub memories: Vec<PageRam>,
     /// Room for its devices.
-    pub devices: Vec<Fitted<D>>,
+    pub devices: Vec<BoardDevice<D>>,
 }
 
 /// Memories of these sizes, with 0 in each byte.
@@ -112,14 +112,14 @@ pub fn regions_and_memories(
 }
 
 /// Puts devices as those of a board, none of them shown, into a list that has room for them.
-fn fit_all<D: Device>(fitted: &mut Vec<Fitted<D>>, devices: Vec<D>)
+fn fit_all<D: Device>(fitted: &mut Vec<BoardDevice<D>>, devices: Vec<D>)
     requires none { fitted.old.items ≡ [] }
     requires room { vec_len devices ≤ vec_capacity fitted.old }
     ensures { fitted.new.items ≡ map hidden (map D.meaning devices.items) }
 {
     let mut rest = VecDeque::from(devices);
     while let Some(device) = rest.pop_front() {
-        fitted.push_reserved(Fitted::new(device));
+        fitted.push_reserved(BoardDevice::new(device));
     }
 }
 
@@ -217,19 +217,19 @@ impl<D: Device> Space<D> {
 
     /// The place of an address in the memory of the last fetch. `None` says nothing.
     #[inline(always)]
-    pub fn near_code(&self, at: u32) -> Option<Place>
+    pub fn near_code(&self, at: u32) -> Option<MemoryPlace>
         ensures { IfSome result (HoldsAccesses self.now at) }
     {
-        aligned_numbers_lie_in_one_page();
+        laws::aligned_numbers_lie_in_one_page();
         self.regions.near_code(at)
     }
 
     /// The place of an address in the memory of the last load or store. `None` says nothing.
     #[inline(always)]
-    pub fn near_data(&self, at: u32) -> Option<Place>
+    pub fn near_data(&self, at: u32) -> Option<MemoryPlace>
         ensures { IfSome result (HoldsAccesses self.now at) }
     {
-        aligned_numbers_lie_in_one_page();
+        laws::aligned_numbers_lie_in_one_page();
         self.regions.near_data(at)
     }
 
@@ -241,7 +241,7 @@ impl<D: Device> Space<D> {
         ensures page { IsInPage width result }
         ensures same { self.new ≡ self.old }
     {
-        aligned_numbers_lie_in_one_page();
+        laws::aligned_numbers_lie_in_one_page();
         self.regions.find_data(at, width)
     }
 

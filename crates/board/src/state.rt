@@ -2,7 +2,7 @@
 ghost use Rattle.std.specs.Prelude.{◌≡◌, ◌↔◌, All, IsTrue};
 ghost use Rattle.sys_bus.specs.Limits.{is_plic_size};
 ghost use Rattle.sys_bus.specs.Plan.{IsValid};
-ghost use Rattle.board.specs.Changes.{is_memory, is_shown_kind};
+ghost use Rattle.board.specs.Changes.{is_memory};
 ghost use Rattle.board.specs.Valid.{IsClintFor, IsPlicFor, IsReservation, IsStateFor};
 ghost use Rattle.board.specs.Inner.Parts.{AreDevices, AreHarts, AreShown, IsStateOfHart, IsStateOfKind, MayBeShown};
 ghost use Rattle.board.specs.Inner.Parts.{HasDevices, HasInterrupts, HasProcessors, HasReservations};
@@ -126,21 +126,11 @@ fn are_devices(kinds: &[Kind], devices: &[DevState]) -> bool
     true
 }
 
-/// UARTs and CAN controllers may be shown.
-fn is_shown_kind(kind: Kind) -> bool
-    ensures { result ≡ is_shown_kind kind }
-{
-    match kind {
-        Kind::Uart | Kind::Can => true,
-        Kind::Finisher => false,
-    }
-}
-
 /// Whether a device of a kind may be shown, or not be shown.
 fn may_be_shown(kind: Kind, shown: bool) -> bool
     ensures { IsTrue result ↔ MayBeShown kind shown }
 {
-    !shown || is_shown_kind(kind)
+    !shown || kind.may_be_shown()
 }
 
 /// Whether devices of these kinds may be shown like this.

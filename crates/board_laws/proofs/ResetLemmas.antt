@@ -8,7 +8,7 @@ use Rattle.dev_core.specs.declared.state.DevState.TheVariants as state
 use Rattle.plic.specs.State.{Controller}
 use Rattle.rv_hart.specs.Core.{Core}
 use Rattle.board.specs.New.{reset_core, reset_device, reset_timer, reset_controller, new_timer, new_controller, size_of}
-use Rattle.board.specs.Space.{Fitted}
+use Rattle.board.specs.Space.{BoardDevice}
 
 -- of a device, on its kind and on whether it is shown
 same_reset : (a b : DevState) → kind_of a ≡ kind_of b → dev_reset a ≡ dev_reset b
@@ -23,7 +23,7 @@ same_reset state.Finisher (state.Uart v) same = absurd (cc)
 same_reset state.Finisher (state.Can v) same = absurd (cc)
 
 pub same_resets :
-    (xs ys : List Fitted) → map (λ f. kind_of f.state) xs ≡ map (λ f. kind_of f.state) ys →
+    (xs ys : List BoardDevice) → map (λ f. kind_of f.state) xs ≡ map (λ f. kind_of f.state) ys →
     map (λ f. f.shown) xs ≡ map (λ f. f.shown) ys → map reset_device xs ≡ map reset_device ys
 same_resets [] [] kinds shown = refl
 same_resets [] (y ∷ ys) kinds shown = absurd (cc)

@@ -8,14 +8,14 @@ use Rattle.rv_exec.specs.Effect.{Effect, effect, core_after, bus_after}
 use Rattle.board.specs.Fetch.{fetched_by}
 use Rattle.board.specs.Lines.{sampled, lines_of}
 use Rattle.board.specs.View.{View, State, quiet}
-use Rattle.board.specs.Wires.{Wires, answer, loaded, stored}
+use Rattle.board.specs.HartBus.{HartBus, answer, loaded, stored}
 
--- what the processor is wired to in a slot at this microsecond, in which nothing was made yet
-abbrev pub wires_of : View → ℕ → Wires
-wires_of v t = record { numbers = v.numbers; space = v.space; at = t; posts = []; entries = [] }
+-- the bus of the processor in a slot at this microsecond, in which nothing was made yet
+abbrev pub bus_of : View → ℕ → HartBus
+bus_of v t = record { numbers = v.numbers; space = v.space; at = t; posts = []; entries = [] }
 
--- a board of this processor and these wires: whose turn is next and what is reserved stay
-abbrev pub state_of : View → Core → Wires → State
+-- a board of this processor and this bus: whose turn is next and what is reserved stay
+abbrev pub state_of : View → Core → HartBus → State
 state_of v core w = record {
   view = record v { numbers = w.numbers; cores = core ∷ []; space = w.space };
   posts = w.posts;
@@ -27,12 +27,12 @@ abbrev pub cycle : View → Core → State
 cycle v core = quiet (record v { cores = ticked core ∷ [] })
 
 -- an effect is carried out
-abbrev pub carried_out : View → Wires → Effect → State
+abbrev pub carried_out : View → HartBus → Effect → State
 carried_out v w does = state_of v (core_after answer w does) (bus_after loaded stored w does)
 
 -- one instruction, or its exception entry, as on a hart alone
 abbrev pub instruction : View → Core → ℕ → Lines → State
-instruction v core t lines = carried_out v (wires_of v t) (effect core (fetched_by core (wires_of v t)) lines)
+instruction v core t lines = carried_out v (bus_of v t) (effect core (fetched_by core (bus_of v t)) lines)
 
 -- a slot of a processor that does not wait: the entry of the interrupt that is taken now, or with none an instruction
 unfoldable pub awake : View → Core → ℕ → Lines → State

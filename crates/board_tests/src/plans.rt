@@ -11,8 +11,8 @@ use std::alloc::Global;
 use std::process::Abort;
 use std::test::Fail;
 use sys_bus::{
-    BoardPlan, NamedWhat, Place, PlicSize, Region, RegionKind, Regions, Target, Wire, WireFrom,
-    WirePin,
+    BoardPlan, MemoryPlace, NamedWhat, PlicSize, Region, RegionKind, Regions, Target, Wire,
+    WireFrom, WirePin,
 };
 
 /// Each row: how many names, regions, memories and devices of the small board there are.
@@ -516,12 +516,12 @@ static ACCESSES: [(u32, u8, Target); 17] = [
 
 /// Addresses, and their places in the memory of the usual board once it was found: those from which
 /// four bytes of it lie.
-static PLACES: [(u32, Option<Place>); 6] = [
+static PLACES: [(u32, Option<MemoryPlace>); 6] = [
     (0x7FFF_FFFF, None),
-    (0x8000_0000, Some(Place { part: 0, at: 0 })),
+    (0x8000_0000, Some(MemoryPlace { part: 0, at: 0 })),
     (
         0x8000_FFFC,
-        Some(Place {
+        Some(MemoryPlace {
             part: 0,
             at: 0xFFFC,
         }),
@@ -541,7 +541,7 @@ fn assert_accesses(rt: &impl Abort, regions: &mut Regions, rows: &[(u32, u8, Tar
     }
 }
 
-fn assert_places(rt: &impl Abort, regions: &Regions, rows: &[(u32, Option<Place>)]) {
+fn assert_places(rt: &impl Abort, regions: &Regions, rows: &[(u32, Option<MemoryPlace>)]) {
     for (at, place) in rows {
         assert!(rt; regions.near_code(*at) == *place);
         assert!(rt; regions.near_data(*at) == *place);

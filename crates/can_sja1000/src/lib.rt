@@ -7,9 +7,8 @@ mod buffers;
 mod can;
 mod filter;
 mod interrupts;
-mod laws;
+pub mod laws;
 mod receiver;
 mod registers;
 
 pub use can::Can;
-pub use laws::{acceptance_laws, carrying_laws, state_laws};

@@ -36,7 +36,7 @@ use Rattle.board.specs.Changes.{is_memory, with_bytes, with_halted, with_pc, wit
 use Rattle.board.specs.New.{new_board, reset}
 use Rattle.board.specs.Space.{Space, target_at}
 use Rattle.board.specs.View.{View}
-use Rattle.board.specs.Wires.{word_at}
+use Rattle.board.specs.HartBus.{word_at}
 use Rattle.lab_state.specs.Board.{Board}
 use Rattle.lab_state.specs.Hub.{members_of}
 use Rattle.lab_state.specs.Lab.{Lab}
@@ -62,7 +62,7 @@ use Rattle.monitor.specs.Refusal.{◌>>=◌, require}
 use Rattle.monitor.specs.Runs.{has_run, length_of, quantum, run_for, start}
 use Rattle.monitor.specs.Selected.{Equipped, bare, entry, entry_in, entry_name, equipped, hart_in, member, processor}
 use Rattle.monitor.specs.Selected.{speaker, with_board}
-use Rattle.monitor.specs.State.{State, Place}
+use Rattle.monitor.specs.State.{State, LinePlace}
 use Rattle.check_laws.specs.Checked.{IsCheckOf, IsFound}
 use Rattle.check_laws.specs.Standing.{Equipment, Standing, equipment_of, standing}
 use Rattle.check_laws.proofs.KeepLemmas.{Keeps, bytes_keep, halted_keeps, image_keeps, pc_keeps, reset_keeps}
@@ -231,7 +231,7 @@ module _ (s t : State) (alike : IsCheckOf s t) where
       (λ fits. board_changed b (λ v. with_bytes v at bytes) (λ v. with_bytes v at bytes) (bytes_keep at bytes)
       (bytes_keep at bytes)))
 
-  pub load_binary_found : (held : Held) (place : Place) (path : List ℕ) (at : ℕ) →
+  pub load_binary_found : (held : Held) (place : LinePlace) (path : List ℕ) (at : ℕ) →
       DidFound (load_binary held s place path at) (load_binary held t place path at)
   load_binary_found held place path at =
       loads_found s t alike held place path _ _
@@ -255,7 +255,7 @@ module _ (s t : State) (alike : IsCheckOf s t) where
       (ap (λ fits. require fits cause.Address) (fits_same v w is image.parts image.entry))
       (λ fits. board_changed b f f (image_keeps image.parts image.entry) (image_keeps image.parts image.entry))
 
-  read_image_found : (place : Place) (b : ℕ) (v w : View) → AreAlike v w → (image : Result Image Cause) →
+  read_image_found : (place : LinePlace) (b : ℕ) (v w : View) → AreAlike v w → (image : Result Image Cause) →
       IsFound (load_read s place (record { number = b; view = v }) image)
       (load_read t place (record { number = b; view = w }) image)
   read_image_found place b v w is (Ok image) =
@@ -263,13 +263,13 @@ module _ (s t : State) (alike : IsCheckOf s t) where
       (load_image t (record { number = b; view = w }) image) (image_found b v w is image)
   read_image_found place b v w is (Err cause) = inr refl
 
-  pub load_elf_found : (held : Held) (place : Place) (path : List ℕ) →
+  pub load_elf_found : (held : Held) (place : LinePlace) (path : List ℕ) →
       DidFound (load_elf held s place path) (load_elf held t place path)
   load_elf_found held place path =
       loads_found s t alike held place path _ _
       (λ b v w bytes is. read_image_found place b v w is (elf_image bytes))
 
-  pub load_hex_found : (held : Held) (place : Place) (path : List ℕ) →
+  pub load_hex_found : (held : Held) (place : LinePlace) (path : List ℕ) →
       DidFound (load_hex held s place path) (load_hex held t place path)
   load_hex_found held place path =
       loads_found s t alike held place path _ _
@@ -443,7 +443,7 @@ module _ (s t : State) (alike : IsCheckOf s t) where
   pub run_macro_found : (name : List ℕ) → FoundBy (run_macro s name) (run_macro t name)
   run_macro_found name = rw alike.flow (entered_found (run_of s.flow name))
 
-  text_found : (place : Place) (path : List ℕ) (text : FileText) →
+  text_found : (place : LinePlace) (path : List ℕ) (text : FileText) →
       IsFound (include_text s place path text) (include_text t place path text)
   text_found place path Missing = tt
   text_found place path Large = inr refl
@@ -454,13 +454,13 @@ module _ (s t : State) (alike : IsCheckOf s t) where
       (entered t (enter s.flow (source_of path bytes)))
       (entered_found (enter s.flow (source_of path bytes))))
 
-  include_by : (held : Held) (place : Place) (path : List ℕ) (before : Result (Unit {0}) ScriptCause) →
+  include_by : (held : Held) (place : LinePlace) (path : List ℕ) (before : Result (Unit {0}) ScriptCause) →
       DidFound (reads place path before (λ _. include_text s place path (file_text (get held path))))
       (reads place path before (λ _. include_text t place path (file_text (get held path))))
   include_by held place path (Ok done) = (refl, text_found place path (file_text (get held path)))
   include_by held place path (Err cause) = (refl, inr refl)
 
-  pub include_found : (held : Held) (place : Place) (path : List ℕ) →
+  pub include_found : (held : Held) (place : LinePlace) (path : List ℕ) →
       DidFound (include held s place path) (include held t place path)
   include_found held place path =
       let same : nat_lt (length t.flow.outer) depth_limit ≡ nat_lt (length s.flow.outer) depth_limit =
@@ -489,19 +489,19 @@ module _ (s t : State) (alike : IsCheckOf s t) where
   equip_found b names (Err (plat_fault.At file line cause)) = inr refl
   equip_found b names (Err plat_fault.Memory) = tt
 
-  loaded_found : (place : Place) (b : ℕ) (names : List (List ℕ)) (outcome : Outcome) →
+  loaded_found : (place : LinePlace) (b : ℕ) (names : List (List ℕ)) (outcome : Outcome) →
       IsFound (equip_loaded s place b names outcome) (equip_loaded t place b names outcome)
   loaded_found place b names (Joined entries) = equip_found b names (built entries)
   loaded_found place b names (Refused fault) = inr refl
   loaded_found place b names Oversized = inr refl
   loaded_found place b names Absent = tt
 
-  onto_found : (place : Place) (loading : Loading) (before : Result ℕ ScriptCause) →
+  onto_found : (place : LinePlace) (loading : Loading) (before : Result ℕ ScriptCause) →
       DidFound (load_onto s place loading before) (load_onto t place loading before)
   onto_found place loading (Ok b) = (refl, loaded_found place b loading.names loading.outcome)
   onto_found place loading (Err cause) = (refl, inr refl)
 
-  pub load_platform_found : (held : Held) (place : Place) (path : List ℕ) →
+  pub load_platform_found : (held : Held) (place : LinePlace) (path : List ℕ) →
       DidFound (load_platform held s place path) (load_platform held t place path)
   load_platform_found held place path =
       let deep : length t.flow.outer ≡ length s.flow.outer =

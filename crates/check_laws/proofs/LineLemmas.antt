@@ -19,18 +19,18 @@ use Rattle.monitor.specs.Hubs.{can_hub, connect, show, uart_hub}
 use Rattle.monitor.specs.Memory.{read_word, write_word}
 use Rattle.monitor.specs.Processor.{halted, mips, pc}
 use Rattle.monitor.specs.Runs.{run_for, start}
-use Rattle.monitor.specs.State.{State, Place}
+use Rattle.monitor.specs.State.{State, LinePlace}
 use Rattle.check_laws.specs.Checked.{IsCheckOf, IsFound}
 use Rattle.check_laws.proofs.CommandLemmas as of
 use Rattle.check_laws.proofs.RunLemmas.{IsLater}
 use Rattle.check_laws.proofs.SameLemmas.{DidFound, FoundBy, found_at}
 
-unread_found : (place : Place) (one two : Result Done ScriptCause) → FoundBy one two →
+unread_found : (place : LinePlace) (one two : Result Done ScriptCause) → FoundBy one two →
     DidFound (unread place one) (unread place two)
 unread_found place one two found = (refl, found_at place one two found)
 
 module _ (runs : (lab : Lab) (d : _) → IsLater lab (run lab d).lab) (held : Held) where
-  work_found : (s t : State) → IsCheckOf s t → (place : Place) (line : Command) →
+  work_found : (s t : State) → IsCheckOf s t → (place : LinePlace) (line : Command) →
       DidFound (does held place (work run s line)) (does held place (work run t line))
   work_found s t alike place (command.LoadPlatform path) = of.load_platform_found s t alike held place path
   work_found s t alike place (command.LoadElf path) = of.load_elf_found s t alike held place path
@@ -76,7 +76,7 @@ module _ (runs : (lab : Lab) (d : _) → IsLater lab (run lab d).lab) (held : He
   work_found s t alike place (command.Load path) = (refl, (refl, refl, alike))
   work_found s t alike place command.Quit = (refl, tt)
 
-  line_found : (s t : State) → IsCheckOf s t → (place : Place) (line : Result Command LineCause) →
+  line_found : (s t : State) → IsCheckOf s t → (place : LinePlace) (line : Result Command LineCause) →
       DidFound (done_by run held s place line) (done_by run held t place line)
   line_found s t alike place (Ok line) = work_found s t alike place line
   line_found s t alike place (Err cause) = (refl, inr refl)

@@ -24,7 +24,7 @@ use Rattle.monitor.specs.declared.fault.Cause.TheVariants.{Script}
 use Rattle.monitor.specs.Answer.{Answer, Did, Done, answer_at, loads, refused, with_file}
 use Rattle.monitor.specs.Refusal.{◌>>=◌, require}
 use Rattle.monitor.specs.Selected.{Equipped, bare, equipped, equipped_as, if_board, selected}
-use Rattle.monitor.specs.State.{State, Place, bodies_of, joined, started}
+use Rattle.monitor.specs.State.{State, LinePlace, bodies_of, joined, started}
 use Rattle.monitor.specs.declared.setting.Setting.{Setting}
 use Rattle.log_text.specs.declared.line.OpenLine.{OpenLine}
 use Rattle.lab_top.specs.Request.{checking}
@@ -57,7 +57,7 @@ FoundBy (Err cause) two = (cause ≡ LabTime) ⊎ (two ≡ Err cause)
 abbrev pub DidFound : Did → Did → Type 0
 DidFound one two = (two.names ≡ one.names) × IsFound one.answer two.answer
 
-pub found_at : (place : Place) (one two : Result Done ScriptCause) → FoundBy one two →
+pub found_at : (place : LinePlace) (one two : Result Done ScriptCause) → FoundBy one two →
     IsFound (answer_at place one) (answer_at place two)
 found_at place (Ok one) (Ok two) found = found
 found_at place (Ok one) (Err other) found = absurd found
@@ -194,7 +194,7 @@ module _ (s t : State) (alike : IsCheckOf s t) where
     then_equipped = rw selected_same (on_board (selected s))
 
   -- the same of a command that reads a file
-  module _ (held : Held) (place : Place) (path : List ℕ) (f g : Equipped → List ℕ → Answer)
+  module _ (held : Held) (place : LinePlace) (path : List ℕ) (f g : Equipped → List ℕ → Answer)
       (next : (b : ℕ) (v w : View) (bytes : List ℕ) → AreAlike v w →
       IsFound (f (record { number = b; view = v }) bytes) (g (record { number = b; view = w }) bytes)) where
     sized_found : (large : Bool) (bytes : List ℕ) (b : ℕ) (v w : View) → AreAlike v w →

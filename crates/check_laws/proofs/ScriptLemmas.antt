@@ -17,7 +17,7 @@ use Rattle.monitor.specs.declared.fault.ScriptFault.{ScriptFault}
 use Rattle.monitor.specs.declared.setting.Setting.{Setting}
 use Rattle.monitor.specs.Answer.{Answer, Goes, Saves, Loads, Ends, Faults, Misses, Did}
 use Rattle.monitor.specs.Command.{did}
-use Rattle.monitor.specs.State.{State, Place, bodies_of, joined, started}
+use Rattle.monitor.specs.State.{State, LinePlace, bodies_of, joined, started}
 use Rattle.lab_top.specs.Content.{Content, Missing, Faulty, Readable, content_of}
 use Rattle.lab_top.specs.Headline.{calls}
 use Rattle.lab_top.specs.Request.{Request, Run, checking, request_of}
@@ -88,7 +88,8 @@ module _ (runs : (lab : Lab) (d : ℕ) → IsLater lab (run lab d).lab) (held : 
 
   module _ (further : Further) (rest : Finds further) (kept stored : Held) (s t : State)
       (fits : SavesFit held kept s) (checked_fits : SavesFit held stored t) where
-    module _ (name : List ℕ) (place of_place : Place) (of : List ℕ) (next after : State) (alike : IsCheckOf next after)
+    module _ (name : List ℕ) (place of_place : LinePlace) (of : List ℕ) (next after : State)
+        (alike : IsCheckOf next after)
         (is : (did run held s).answer ≡ Saves name place next)
         (also : (did run held t).answer ≡ Saves of of_place after) where
       small : is_large (spelling next.lab next.lines) ≡ false
@@ -150,7 +151,7 @@ module _ (runs : (lab : Lab) (d : ℕ) → IsLater lab (run lab d).lab) (held : 
           checks_by (is_large saved) after.dry saved checked_small alike.dry
           (saves_by (is_large spelled) next.dry refl refl gets out)
 
-    module _ (name : List ℕ) (place : Place) (next after : State) (alike : IsCheckOf next after)
+    module _ (name : List ℕ) (place : LinePlace) (next after : State) (alike : IsCheckOf next after)
         (is : (did run held s).answer ≡ Loads name place next)
         (also : (did run held t).answer ≡ Loads name place after)
         (free : is_occupied next.lab ≡ false) (same : get stored name ≡ get kept name) where
@@ -191,7 +192,7 @@ module _ (runs : (lab : Lab) (d : ℕ) → IsLater lab (run lab d).lab) (held : 
       kept_found None none gets out = absurd (cc)
       kept_found (Some bytes) there gets out = sized_found bytes there (is_large bytes) refl gets out
 
-    loads_by : (name : List ℕ) (place : Place) (next after : State) → IsCheckOf next after →
+    loads_by : (name : List ℕ) (place : LinePlace) (next after : State) → IsCheckOf next after →
         (did run held s).answer ≡ Loads name place next → (did run held t).answer ≡ Loads name place after →
         (occupied : Bool) → is_occupied next.lab ≡ occupied →
         GetsOld stored kept

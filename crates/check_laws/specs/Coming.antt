@@ -13,7 +13,7 @@ use Rattle.log_text.specs.declared.line.OpenLine.{OpenLine}
 use Rattle.monitor.specs.declared.setting.Setting.{Setting}
 use Rattle.monitor.specs.Answer.{Answer, Goes, Saves, Loads, Ends, Faults, Misses}
 use Rattle.monitor.specs.Command.{did}
-use Rattle.monitor.specs.State.{State, Place, bodies_of, joined, started}
+use Rattle.monitor.specs.State.{State, LinePlace, bodies_of, joined, started}
 use Rattle.lab_top.specs.Content.{Readable, content_of}
 use Rattle.lab_top.specs.Headline.{kept_by}
 use Rattle.lab_top.specs.Transcript.{is_large, is_occupied}
@@ -59,7 +59,7 @@ comes_to held (suc n) from =
 -- each snapshot that a script comes to save from here on is small enough to be saved
 abbrev pub SavesFit : Held → Held → State → Type 0
 SavesFit held kept s =
-    (n : ℕ) (there : Standpoint) (name : List ℕ) (place : Place) (next : State) →
+    (n : ℕ) (there : Standpoint) (name : List ℕ) (place : LinePlace) (next : State) →
     comes_to held n (standpoint kept s) ≡ Some there → (did run held there.state).answer ≡ Saves name place next →
     is_large (spelling next.lab next.lines) ≡ false
 

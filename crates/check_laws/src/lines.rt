@@ -10,8 +10,7 @@ ghost use Rattle.monitor.specs.Command.{did};
 ghost use Rattle.monitor.specs.State.{State, bodies_of, joined, started};
 ghost use Rattle.check_laws.specs.Checked.{IsCheckOf, IsFound};
 
-use board::stretches_keep_plans;
-
+use board::laws;
 /// At a line a check reads the files that the run reads, and answers as the run does. What the run
 /// refuses the check refuses, for the same cause and at the same place, unless it is for the time of
 /// the laboratory. Where the run goes on the check goes on beside it, also where both load one
@@ -26,5 +25,5 @@ pub fn checks_refuse_as_runs_do()
     ensures begun { (script text : List ℕ) (setting : Setting) →
         IsCheckOf (started script text setting) (started script text checking) }
 {
-    stretches_keep_plans();
+    laws::stretches_keep_plans();
 }

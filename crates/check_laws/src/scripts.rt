@@ -11,8 +11,7 @@ ghost use Rattle.monitor.specs.State.{State};
 ghost use Rattle.check_laws.specs.Checked.{IsCheckOf, IsToBeFound};
 ghost use Rattle.check_laws.specs.Coming.{GetsOld, SavesFit, ScriptFits};
 
-use board::stretches_keep_plans;
-
+use board::laws;
 /// What a run of a script is refused for its check is refused for, at the same place: all but the
 /// time of the laboratory and a laboratory that is not empty. For that the snapshots that the run saves
 /// and those that the check comes to save have to be small enough, and what the run loads has to be kept
@@ -31,5 +30,5 @@ pub fn checks_find_what_runs_refuse()
         (transcript words held kept).outcome ≡ Script fault →
         (transcript others held stored).outcome ≡ Script fault }
 {
-    stretches_keep_plans();
+    laws::stretches_keep_plans();
 }

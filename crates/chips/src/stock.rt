@@ -16,8 +16,7 @@ use uart_16550::Uart;
 
 /// 64 UARTs, 64 CAN controllers and 16 finishers, each in its reset state.
 pub fn full_stock(alloc: Global) -> Result<Stock<Chip>, NoMemory>
-    ensures { IfOk result (λ stock. IsFull (map state_of stock.uarts.items) (map state_of stock.cans.items)
-        (map state_of stock.finishers.items)) }
+    ensures { IfOk result (λ stock. IsFull state_of stock) }
 {
     let uarts = uarts(alloc)?;
     let cans = cans(alloc)?;

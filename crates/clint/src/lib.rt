@@ -4,10 +4,9 @@
 
 mod clint;
 mod counter;
-mod laws;
+pub mod laws;
 mod registers;
 mod state;
 
 pub use clint::Clint;
-pub use laws::timer_lines_change_at_most_twice;
 pub use state::ClintState;

@@ -8,6 +8,7 @@ pub mod Device
 pub mod Finisher
 pub mod Frame
 pub mod Inner
+pub mod Kind
 pub mod Post
 pub mod Stock
 pub mod Uart

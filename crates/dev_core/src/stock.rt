@@ -100,8 +100,7 @@ fn are_so_many_finishers<D: Device>(devices: &[D], count: usize) -> bool
 impl<D: Device> Stock<D> {
     /// Whether there are 64 UARTs, 64 CAN controllers and 16 finishers, each in its reset state.
     pub fn is_full(&self) -> bool
-        ensures { IsTrue result ↔ IsFull (map D.meaning self.now.uarts.items)
-            (map D.meaning self.now.cans.items) (map D.meaning self.now.finishers.items) }
+        ensures { IsTrue result ↔ IsFull D.meaning self.now }
     {
         are_so_many_uarts(self.uarts.as_slice(), STOCK_UARTS)
             && are_so_many_cans(self.cans.as_slice(), STOCK_CANS)

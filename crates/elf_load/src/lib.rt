@@ -4,10 +4,9 @@
 mod bytes;
 mod fields;
 mod image;
-mod laws;
+pub mod laws;
 mod load;
 
 pub use bytes::Bytes;
 pub use image::{ElfFault, Image, Part};
-pub use laws::{later_parts_count, parts_lie_within_the_file};
 pub use load::read_elf;

@@ -6,9 +6,8 @@ mod desk;
 mod event;
 mod floor;
 mod job;
-mod laws;
+pub mod laws;
 
 pub use event::{Event, Mailed, Ran};
 pub use floor::Floor;
 pub use job::{Job, Turn};
-pub use laws::{floors_stay_sound, no_board_passes_its_grant, orders_agree, turns_add_up};

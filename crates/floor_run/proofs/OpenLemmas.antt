@@ -14,7 +14,7 @@ use Rattle.dev_core.specs.declared.post.Post.{Post}
 use Rattle.floor_core.specs.Job.{Job, Rests}
 use Rattle.floor_run.specs.declared.view.View.{View}
 use Rattle.floor_run.specs.Turns.{slots_left, AfterTurns}
-use Rattle.floor_run.specs.Rule.{Place, home, done, Cell, Homes, BoardRule, ViewRule, Rule}
+use Rattle.floor_run.specs.Rule.{Whereabouts, home, done, Tally, Homes, BoardRule, ViewRule, Rule}
 use Rattle.floor_run.specs.View.{fresh}
 use Rattle.floor_run.proofs.StepLemmas.{below}
 use Rattle.floor_run.proofs.TurnLemmas.{begins}
@@ -49,9 +49,9 @@ got_mapped f l i a e = got (map f l) i (f a) 0 (at_map f l i a e)
 pub all_at : {A : Type 0} → (P : A → Type 0) (l : List A) (i : ℕ) (a : A) → All P l → get_elem? l i ≡ some a → P a
 all_at P l i a all e = subst P (got l i a a e) (all i a (below l i a e))
 
-abbrev place_of : Bool → Place
-place_of true = done
-place_of false = home
+abbrev whereabouts_of : Bool → Whereabouts
+whereabouts_of true = done
+whereabouts_of false = home
 
 module _ {J S : Type 0} (meaning : J → Job S) (sent : J → List Post)
     (state_after : S → List (Option Post) → ℕ → S) where
@@ -64,15 +64,15 @@ module _ {J S : Type 0} (meaning : J → Job S) (sent : J → List Post)
   abbrev word : J → ℕ
   word job = if L job == 0 then 3 else 0
 
-  abbrev cell_of : maybe.Option J → Cell
-  cell_of none = (0, home)
-  cell_of (some start) = (0, place_of (L start == 0))
+  abbrev tally_of : maybe.Option J → Tally
+  tally_of none = (0, home)
+  tally_of (some start) = (0, whereabouts_of (L start == 0))
 
   board_at :
       (words : List ℕ) (homes : Homes J) (views : List (View J)) (start : J) (i : ℕ) →
       get_or words (i + 1) 0 ≡ word start → get_elem? homes i ≡ some (some (Some start)) → At start 0 start →
       L start < 18446744073709551616
-      → (b : Bool) → (L start == 0) ≡ b → BoardRule L At words homes views start i (0, place_of b)
+      → (b : Bool) → (L start == 0) ≡ b → BoardRule L At words homes views start i (0, whereabouts_of b)
   board_at words homes views start i shown lies stands fits true is =
       let zero_is : L start ≡ 0 = grind (arith, nat_tests) in
       record {
@@ -89,21 +89,21 @@ module _ {J S : Type 0} (meaning : J → Job S) (sent : J → List Post)
       }
 
   pub opens :
-      Rests state_after → (starts : List J) (words : List ℕ) (slots : List (Option J)) → words ≡ 0 ∷ map word starts →
-      slots ≡ map Some starts → All (λ job. (meaning job).unsent ≡ []) starts →
+      Rests state_after → (starts : List J) (words : List ℕ) (cells : List (Option J)) → words ≡ 0 ∷ map word starts →
+      cells ≡ map Some starts → All (λ job. (meaning job).unsent ≡ []) starts →
       All (λ job. L job < 18446744073709551616) starts
-      → Rule L At starts (opening words slots (fresh starts))
-  opens rests starts words slots words_are slots_are clean fit = let homes : Homes J = map some slots in record {
-    cells = λ i. cell_of (get_elem? starts i);
+      → Rule L At starts (opening words cells (fresh starts))
+  opens rests starts words cells words_are cells_are clean fit = let homes : Homes J = map some cells in record {
+    tallies = λ i. tally_of (get_elem? starts i);
     wide = ap length words_are ∙ (omega (arith, length-map starts word));
-    roomy = length-map slots some ∙ (ap length slots_are ∙ length-map starts Some);
+    roomy = length-map cells some ∙ (ap length cells_are ∙ length-map starts Some);
     zero_is = ap (λ (l : List ℕ). get_or l 0 0) words_are;
     each_board = λ i start e.
         let shown : get_or words (i + 1) 0 ≡ word start = ap (λ (l : List ℕ). get_or l (i + 1) 0) words_are ∙
         (rw add-one (got_mapped word starts i start e)) in
-        let lies : get_elem? homes i ≡ some (some (Some start)) = at_map some slots i (Some start)
-        (ap (λ (l : List (Option J)). get_elem? l i) slots_are ∙ at_map Some starts i start e) in
-        subst (BoardRule L At words homes (fresh starts ∷ []) start i) (ap cell_of (sym e))
+        let lies : get_elem? homes i ≡ some (some (Some start)) = at_map some cells i (Some start)
+        (ap (λ (l : List (Option J)). get_elem? l i) cells_are ∙ at_map Some starts i start e) in
+        subst (BoardRule L At words homes (fresh starts ∷ []) start i) (ap tally_of (sym e))
         (board_at words homes (fresh starts ∷ []) start i shown lies
         (begins meaning sent state_after rests start
         (all_at (λ job. (meaning job).unsent ≡ []) starts i start clean e))
@@ -113,9 +113,9 @@ module _ {J S : Type 0} (meaning : J → Job S) (sent : J → List Post)
     where
       view_at :
           (seat : ℕ) (v : View J) → get_elem? (fresh starts ∷ []) seat ≡ some v →
-          ViewRule L At starts (λ i. cell_of (get_elem? starts i)) seat v
+          ViewRule L At starts (λ i. tally_of (get_elem? starts i)) seat v
       view_at zero v e =
-          subst (ViewRule L At starts (λ i. cell_of (get_elem? starts i)) 0)
+          subst (ViewRule L At starts (λ i. tally_of (get_elem? starts i)) 0)
           (some-injective (fresh starts) v e) record {
             same = λ _. refl;
             claimed = λ job h. let bad : None ≡ Some job = h in cc;

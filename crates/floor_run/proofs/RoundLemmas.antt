@@ -70,10 +70,10 @@ module _ {J S : Type 0} (meaning : J → Job S) (sent : J → List Post)
 
   -- what was closed and then finished is ended
   pub round :
-      TurnsAdd state_after → PostsAdd state_after → (starts : List J) (slots : List (Option J)) (jobs : List J) →
-      Closing L Turned starts slots → Pairs (Finished meaning sent state_after) slots jobs →
+      TurnsAdd state_after → PostsAdd state_after → (starts : List J) (cells : List (Option J)) (jobs : List J) →
+      Closing L Turned starts cells → Pairs (Finished meaning sent state_after) cells jobs →
       Pairs (Ended meaning sent state_after) starts jobs
-  round turns more starts slots jobs closed done = (
+  round turns more starts cells jobs closed done = (
     done.0 ∙ closed.1,
     λ i start e. let c = closed.2 i start e in
         let d = done.1 i c.0 c.1 in

@@ -24,7 +24,7 @@ use Rattle.floor_core.specs.Floor.{Board, Floor, begun, posted_by}
 use Rattle.floor_core.specs.Job.{Job, left, made, aside, after}
 use Rattle.floor_core.specs.Sound.{IsSound, Sound}
 use Rattle.floor_run.specs.declared.view.View.{View}
-use Rattle.floor_run.specs.Rule.{Place, home, out, done, word_of, home_word, Cell, Table, Holds, InPlace, Rule}
+use Rattle.floor_run.specs.Rule.{Whereabouts, home, out, done, word_of, home_word, Tally, Table, Holds, InPlace, Rule}
 use Rattle.floor_run.specs.Shown.{Shows, ShowsBoard, word, turn_slots, opened}
 use Rattle.floor_run.specs.Shown.{after_won, after_missed, after_report, after_split, after_join}
 use Rattle.floor_run.specs.Turns.{slots_left, paid, AfterTurns, IsTurned}
@@ -104,7 +104,7 @@ oldest_else i j None apart = refl
 oldest_else i j (Some p) apart = posted_else i j (p ∷ []) apart
 
 -- the seat that a board is out with
-abbrev seat_of : Cell → ℕ
+abbrev seat_of : Tally → ℕ
 seat_of (q, home) = 0
 seat_of (q, out seat) = seat
 seat_of (q, done) = 0
@@ -141,19 +141,19 @@ module _ {J S : Type 0} (meaning : J → Job S) (sent : J → List post.Post)
   StaysSound = (starts : List (Job S)) (f : Floor S) (e : Event) → Sound state_after starts f → IsLegal f e →
       Sound state_after starts (happened state_after f e)
 
-  -- a board whose word and slot stay, and whose holder goes on holding it, is shown as before
+  -- a board whose word and cell stay, and whose holder goes on holding it, is shown as before
   stays :
       (s s' : Table J) (start : J) (j : ℕ) (b : Board S) (posted : List post.Post) → word s' j ≡ word s j →
       get_elem? s'.homes j ≡ get_elem? s.homes j → ((k : ℕ) → Holds s.views j k → Holds s'.views j k) →
       Shown s start j b posted → Shown s' start j b posted
-  stays s s' start j b posted same slot holder (inl h) = inl record {
+  stays s s' start j b posted same cell holder (inl h) = inl record {
     word_is = subst (λ (n : ℕ). (n % 4 ≡ 0) ⊎ (n % 4 ≡ 3)) (sym same) h.word_is;
     worker = h.worker;
     used = h.used ∙ ap (λ (n : ℕ). paid meaning start (n / 4)) (sym same);
     all_sent = h.all_sent;
-    job = (h.job.0, slot ∙ h.job.1, h.job.2, h.job.3);
+    job = (h.job.0, cell ∙ h.job.1, h.job.2, h.job.3);
   }
-  stays s s' start j b posted same slot holder (inr h) = inr record {
+  stays s s' start j b posted same cell holder (inr h) = inr record {
     word_is = subst (λ (n : ℕ). n % 4 ≡ 1) (sym same) h.word_is;
     used = h.used ∙ ap (λ (n : ℕ). paid meaning start (n / 4 + 1)) (sym same);
     worker = (h.worker.0, h.worker.1, holder h.worker.0 h.worker.2);
@@ -252,7 +252,7 @@ module _ {J S : Type 0} (meaning : J → Job S) (sent : J → List post.Post)
 
       -- a word whose bit 0 is 0 is that of a board at home with slots left
       even_word :
-          (start : J) (i q : ℕ) (place : Place) → word s i ≡ word_of q place →
+          (start : J) (i q : ℕ) (place : Whereabouts) → word s i ≡ word_of q place →
           InPlace L At s.homes s.views start i q place →
           word s i % 2 ≡ 0 → (word s i ≡ 4 * (word s i / 4)) × (4096 * (word s i / 4) < L start)
       even_word start i q home shown p even =
@@ -263,7 +263,7 @@ module _ {J S : Type 0} (meaning : J → Job S) (sent : J → List post.Post)
 
       -- and one whose bit 0 is 1 keeps it at a claim
       odd_word :
-          (start : J) (i q : ℕ) (place : Place) → word s i ≡ word_of q place → word s i % 2 ≡ 1 →
+          (start : J) (i q : ℕ) (place : Whereabouts) → word s i ≡ word_of q place → word s i % 2 ≡ 1 →
           bit_or (word s i) 1 ≡ word s i
       odd_word start i q home shown odd = absurd (omega arith)
       odd_word start i q (out seat) shown odd = ap (λ (n : ℕ). bit_or n 1) shown ∙ (or_one q ∙ sym shown)
@@ -274,7 +274,7 @@ module _ {J S : Type 0} (meaning : J → Job S) (sent : J → List post.Post)
           v.held ≡ None → word s i % 2 ≡ 1 → Floors starts (after_missed s seat v i) f
       missed seat i v start has at empty odd =
           let ok = r.each_board i start has in
-          let same = odd_word start i (r.cells i).0 (r.cells i).1 ok.shows odd in
+          let same = odd_word start i (r.tallies i).0 (r.tallies i).1 ok.shows odd in
           none_changed (after_missed s seat v i) (λ j other c e.
           stays s (after_missed s seat v i) other j c (posted_by j f.mail)
           (dite (ℕ_discrete j i)
@@ -294,7 +294,7 @@ module _ {J S : Type 0} (meaning : J → Job S) (sent : J → List post.Post)
             (happened state_after f (Claim seat (record { 0 = i }) (turn_slots meaning job)))
         won stays_sound seat i v start job has at empty even lies =
             let ok = r.each_board i start has in
-            let says = even_word start i (r.cells i).0 (r.cells i).1 ok.shows ok.stands even in
+            let says = even_word start i (r.tallies i).0 (r.tallies i).1 ok.shows ok.stands even in
             let found = board_at i start has in
             let b : Board S = found.0 in
             let sound = sound_at i start b has found.1 in
@@ -365,7 +365,7 @@ module _ {J S : Type 0} (meaning : J → Job S) (sent : J → List post.Post)
             let q : ℕ = v.found / 4 in
             let mine = (r.each_view seat v at).claimed claim held in
             let ok = r.each_board i start has in
-            let word_is : word s i ≡ 4 * q + 1 = ok.shows ∙ ap (λ (c : Cell). word_of c.0 c.1) mine.0 in
+            let word_is : word s i ≡ 4 * q + 1 = ok.shows ∙ ap (λ (c : Tally). word_of c.0 c.1) mine.0 in
             let sound = sound_at i start b has found in
             elim (shows.each i start b has found) [
               | inl p ↦ absurd (elim p.word_is [ inl w ↦ omega arith | inr w ↦ omega arith ])
@@ -373,7 +373,7 @@ module _ {J S : Type 0} (meaning : J → Job S) (sent : J → List post.Post)
                   let h = p.worker.2 in
                   let theirs = (r.each_view p.worker.0 h.0 h.2).claimed h.1 h.3 in
                   let same : p.worker.0 ≡ seat =
-                  ap seat_of (sym theirs.0 ∙ (ap r.cells h.4 ∙ mine.0)) in
+                  ap seat_of (sym theirs.0 ∙ (ap r.tallies h.4 ∙ mine.0)) in
                   let new : ℕ = home_word L (q + 1) job in
                   let s' : Table J = after_report s seat v i new job in
                   let says = home_word_says (q + 1) (L job == 0) in
@@ -429,7 +429,7 @@ module _ {J S : Type 0} (meaning : J → Job S) (sent : J → List post.Post)
 
       -- the word of a board at home without slots left
       paid_up :
-          (start : J) (i q : ℕ) (place : Place) → word s i ≡ word_of q place →
+          (start : J) (i q : ℕ) (place : Whereabouts) → word s i ≡ word_of q place →
           InPlace L At s.homes s.views start i q place → word s i % 4 ≡ 3 → L start ≤ 4096 * (word s i / 4)
       paid_up start i q home shown p three = absurd (omega arith)
       paid_up start i q (out seat) shown p three = absurd (omega arith)
@@ -451,7 +451,8 @@ module _ {J S : Type 0} (meaning : J → Job S) (sent : J → List post.Post)
           let ok = r.each_board i start has in
           let n : ℕ = L start in
           let rest = left_is i start b has at in
-          let full : n ≤ 4096 * (word s i / 4) = paid_up start i (r.cells i).0 (r.cells i).1 ok.shows ok.stands three in
+          let full : n ≤ 4096 * (word s i / 4) =
+          paid_up start i (r.tallies i).0 (r.tallies i).1 ok.shows ok.stands three in
           elim (shows.each i start b has at) [
             | inl p ↦
                 let used_is : b.used ≡ min n (4096 * (word s i / 4)) = p.used in
@@ -467,7 +468,7 @@ module _ {J S : Type 0} (meaning : J → Job S) (sent : J → List post.Post)
           | inl zero_is ↦
               let ok = r.each_board i start has in
               let n : ℕ = L start in
-              let says = even_word start i (r.cells i).0 (r.cells i).1 ok.shows ok.stands (omega arith) in
+              let says = even_word start i (r.tallies i).0 (r.tallies i).1 ok.shows ok.stands (omega arith) in
               let used_is : b.used ≡ min n (4096 * (word s i / 4)) = p.used in
               let rest = left_is i start b has at in
               let nothing : left b.job ≡ 0 = is_done.1 in
@@ -498,20 +499,20 @@ module _ {J S : Type 0} (meaning : J → Job S) (sent : J → List post.Post)
   seated start used worker =
       record { job = aside (after state_after (meaning start) used); worker = worker; used = used }
 
-  abbrev board_of : J → Cell → Board S
+  abbrev board_of : J → Tally → Board S
   board_of start (q, home) = seated start (paid meaning start q) None
   board_of start (q, out seat) = seated start (paid meaning start (q + 1)) (Some seat)
   board_of start (q, done) = seated start (paid meaning start q) None
 
   is_sound :
-      (start : J) (c : Cell) → IsSound state_after (meaning start) (board_of start c)
+      (start : J) (c : Tally) → IsSound state_after (meaning start) (board_of start c)
       (made (meaning start) (board_of start c).used)
   is_sound start (q, home) = record { job = refl; paid = omega arith; posts = append-nil _ }
   is_sound start (q, out seat) = record { job = refl; paid = omega arith; posts = append-nil _ }
   is_sound start (q, done) = record { job = refl; paid = omega arith; posts = append-nil _ }
 
   is_shown :
-      (s : Table J) (start : J) (i q : ℕ) (place : Place) → word s i ≡ word_of q place →
+      (s : Table J) (start : J) (i q : ℕ) (place : Whereabouts) → word s i ≡ word_of q place →
       InPlace L At s.homes s.views start i q place →
       Shown s start i (board_of start (q, place)) (made (meaning start) (board_of start (q, place)).used)
   is_shown s start i q home shown p =
@@ -541,92 +542,92 @@ module _ {J S : Type 0} (meaning : J → Job S) (sent : J → List post.Post)
       }
 
   -- the boards from number n on, and a mail that has all that each of them has made
-  abbrev boards_of : (ℕ → Cell) → ℕ → List J → List (Board S)
-  boards_of cells n [] = []
-  boards_of cells n (x ∷ xs) = board_of x (cells n) ∷ boards_of cells (suc n) xs
+  abbrev boards_of : (ℕ → Tally) → ℕ → List J → List (Board S)
+  boards_of tallies n [] = []
+  boards_of tallies n (x ∷ xs) = board_of x (tallies n) ∷ boards_of tallies (suc n) xs
 
-  abbrev made_at : (ℕ → Cell) → ℕ → J → List post.Post
-  made_at cells n x = made (meaning x) (board_of x (cells n)).used
+  abbrev made_at : (ℕ → Tally) → ℕ → J → List post.Post
+  made_at tallies n x = made (meaning x) (board_of x (tallies n)).used
 
-  abbrev mail_of : (ℕ → Cell) → ℕ → List J → List Mailed
-  mail_of cells n [] = []
-  mail_of cells n (x ∷ xs) = map (letter n) (made_at cells n x) ++ mail_of cells (suc n) xs
+  abbrev mail_of : (ℕ → Tally) → ℕ → List J → List Mailed
+  mail_of tallies n [] = []
+  mail_of tallies n (x ∷ xs) = map (letter n) (made_at tallies n x) ++ mail_of tallies (suc n) xs
 
-  as_many : (cells : ℕ → Cell) (n : ℕ) (xs : List J) → length (boards_of cells n xs) ≡ length xs
-  as_many cells n [] = refl
-  as_many cells n (x ∷ xs) = ap suc (as_many cells (suc n) xs)
+  as_many : (tallies : ℕ → Tally) (n : ℕ) (xs : List J) → length (boards_of tallies n xs) ≡ length xs
+  as_many tallies n [] = refl
+  as_many tallies n (x ∷ xs) = ap suc (as_many tallies (suc n) xs)
 
   is_at :
-      (cells : ℕ → Cell) (n : ℕ) (xs : List J) (i : ℕ) (x : J) → get_elem? xs i ≡ some x →
-      get_elem? (boards_of cells n xs) i ≡ some (board_of x (cells (n + i)))
-  is_at cells n [] i x e = absurd (some-ne-none x (sym e))
-  is_at cells n (y ∷ xs) zero x e =
+      (tallies : ℕ → Tally) (n : ℕ) (xs : List J) (i : ℕ) (x : J) → get_elem? xs i ≡ some x →
+      get_elem? (boards_of tallies n xs) i ≡ some (board_of x (tallies (n + i)))
+  is_at tallies n [] i x e = absurd (some-ne-none x (sym e))
+  is_at tallies n (y ∷ xs) zero x e =
       let here : n ≡ n + 0 = omega arith in
-      λ t. some (board_of (some-injective y x e t) (cells (here t)))
-  is_at cells n (y ∷ xs) (suc i) x e =
+      λ t. some (board_of (some-injective y x e t) (tallies (here t)))
+  is_at tallies n (y ∷ xs) (suc i) x e =
       let there_is : suc n + i ≡ n + suc i = omega arith in
-      is_at cells (suc n) xs i x e ∙ ap (λ (k : ℕ). some (board_of x (cells k))) there_is
+      is_at tallies (suc n) xs i x e ∙ ap (λ (k : ℕ). some (board_of x (tallies k))) there_is
 
-  none_before : (cells : ℕ → Cell) (n m : ℕ) (xs : List J) → m < n → posted_by m (mail_of cells n xs) ≡ []
-  none_before cells n m [] less = refl
-  none_before cells n m (x ∷ xs) less =
-      posted_more m (map (letter n) (made_at cells n x)) (mail_of cells (suc n) xs) ∙
-      (λ t. posted_else n m (made_at cells n x) (λ same. omega arith) t ++
-      none_before cells (suc n) m xs (omega arith) t)
+  none_before : (tallies : ℕ → Tally) (n m : ℕ) (xs : List J) → m < n → posted_by m (mail_of tallies n xs) ≡ []
+  none_before tallies n m [] less = refl
+  none_before tallies n m (x ∷ xs) less =
+      posted_more m (map (letter n) (made_at tallies n x)) (mail_of tallies (suc n) xs) ∙
+      (λ t. posted_else n m (made_at tallies n x) (λ same. omega arith) t ++
+      none_before tallies (suc n) m xs (omega arith) t)
 
   mailed_at :
-      (cells : ℕ → Cell) (n : ℕ) (xs : List J) (i : ℕ) (x : J) → get_elem? xs i ≡ some x →
-      posted_by (n + i) (mail_of cells n xs) ≡ made_at cells (n + i) x
-  mailed_at cells n [] i x e = absurd (some-ne-none x (sym e))
-  mailed_at cells n (y ∷ xs) zero x e =
+      (tallies : ℕ → Tally) (n : ℕ) (xs : List J) (i : ℕ) (x : J) → get_elem? xs i ≡ some x →
+      posted_by (n + i) (mail_of tallies n xs) ≡ made_at tallies (n + i) x
+  mailed_at tallies n [] i x e = absurd (some-ne-none x (sym e))
+  mailed_at tallies n (y ∷ xs) zero x e =
       let here : n + 0 ≡ n = omega arith in
-      let P : ℕ → Type 0 = λ k. posted_by k (mail_of cells n (y ∷ xs)) ≡ made_at cells k x in
+      let P : ℕ → Type 0 = λ k. posted_by k (mail_of tallies n (y ∷ xs)) ≡ made_at tallies k x in
       subst P (sym here)
-      (posted_more n (map (letter n) (made_at cells n y)) (mail_of cells (suc n) xs) ∙
-      ((λ t. posted_own n (made_at cells n y) t ++ none_before cells (suc n) n xs (omega arith) t) ∙
-      (append-nil (made_at cells n y) ∙ ap (made_at cells n) (some-injective y x e))))
-  mailed_at cells n (y ∷ xs) (suc i) x e =
+      (posted_more n (map (letter n) (made_at tallies n y)) (mail_of tallies (suc n) xs) ∙
+      ((λ t. posted_own n (made_at tallies n y) t ++ none_before tallies (suc n) n xs (omega arith) t) ∙
+      (append-nil (made_at tallies n y) ∙ ap (made_at tallies n) (some-injective y x e))))
+  mailed_at tallies n (y ∷ xs) (suc i) x e =
       let there_is : suc n + i ≡ n + suc i = omega arith in
-      let P : ℕ → Type 0 = λ k. posted_by k (mail_of cells n (y ∷ xs)) ≡ made_at cells k x in
+      let P : ℕ → Type 0 = λ k. posted_by k (mail_of tallies n (y ∷ xs)) ≡ made_at tallies k x in
       subst P there_is
-      (posted_more (suc n + i) (map (letter n) (made_at cells n y)) (mail_of cells (suc n) xs) ∙
-      ((λ t. posted_else n (suc n + i) (made_at cells n y) (λ same. omega arith) t ++
-      mailed_at cells (suc n) xs i x e t)))
+      (posted_more (suc n + i) (map (letter n) (made_at tallies n y)) (mail_of tallies (suc n) xs) ∙
+      ((λ t. posted_else n (suc n + i) (made_at tallies n y) (λ same. omega arith) t ++
+      mailed_at tallies (suc n) xs i x e t)))
 
   pub shown : (starts : List J) (s : Table J) → Rule L At starts s → (f : Floor S) × Floors starts s f
   shown starts s r = (
-    record { boards = boards_of r.cells 0 starts; mail = mail_of r.cells 0 starts; is_ended = false },
+    record { boards = boards_of r.tallies 0 starts; mail = mail_of r.tallies 0 starts; is_ended = false },
     record {
       sound = record {
-        boards = as_many r.cells 0 starts ∙ sym (length-map starts meaning);
+        boards = as_many r.tallies 0 starts ∙ sym (length-map starts meaning);
         each = λ i start b e e'.
             let x = unmapped meaning starts i start (unread (map meaning starts) i start e) in
-            let is : b ≡ board_of x.0 (r.cells i) = board_is i x.0 b x.1 (unread _ i b e') in
+            let is : b ≡ board_of x.0 (r.tallies i) = board_is i x.0 b x.1 (unread _ i b e') in
             subst (λ (z : Job S × Board S × List post.Post). IsSound state_after z.0 z.1 z.2)
-            (λ t. (x.2 t, sym is t, sym (mail_is i x.0 x.1) t)) (is_sound x.0 (r.cells i));
+            (λ t. (x.2 t, sym is t, sym (mail_is i x.0 x.1) t)) (is_sound x.0 (r.tallies i));
       };
       each = λ i start b e e'.
           let ok = r.each_board i start e in
           subst (λ (z : Board S × List post.Post). Shown s start i z.0 z.1)
           (λ t. (sym (board_is i start b e e') t, sym (mail_is i start e) t))
-          (is_shown s start i (r.cells i).0 (r.cells i).1 ok.shows ok.stands);
+          (is_shown s start i (r.tallies i).0 (r.tallies i).1 ok.shows ok.stands);
       goes_on = refl;
     },
   )
     where
       board_is :
           (i : ℕ) (x : J) (b : Board S) → get_elem? starts i ≡ some x →
-          get_elem? (boards_of r.cells 0 starts) i ≡ some b → b ≡ board_of x (r.cells i)
+          get_elem? (boards_of r.tallies 0 starts) i ≡ some b → b ≡ board_of x (r.tallies i)
       board_is i x b e e' =
-          some-injective b (board_of x (r.cells i))
-          (sym e' ∙ (is_at r.cells 0 starts i x e ∙ ap (λ (k : ℕ). some (board_of x (r.cells k))) (zero-add i)))
+          some-injective b (board_of x (r.tallies i))
+          (sym e' ∙ (is_at r.tallies 0 starts i x e ∙ ap (λ (k : ℕ). some (board_of x (r.tallies k))) (zero-add i)))
 
       mail_is :
           (i : ℕ) (x : J) → get_elem? starts i ≡ some x →
-          posted_by i (mail_of r.cells 0 starts) ≡ made_at r.cells i x
+          posted_by i (mail_of r.tallies 0 starts) ≡ made_at r.tallies i x
       mail_is i x e =
-          let P : ℕ → Type 0 = λ k. posted_by k (mail_of r.cells 0 starts) ≡ made_at r.cells k x in
-          subst P (zero-add i) (mailed_at r.cells 0 starts i x e)
+          let P : ℕ → Type 0 = λ k. posted_by k (mail_of r.tallies 0 starts) ≡ made_at r.tallies k x in
+          subst P (zero-add i) (mailed_at r.tallies 0 starts i x e)
 
   -- as a round begins
   pub opens :

@@ -1,4 +1,4 @@
--- The floor of floor_core that words, slots and views show, and what the steps of the bench do to them.
+-- The floor of floor_core that words, cells and views show, and what the steps of the bench do to them.
 use Rattle.std.specs.Prelude.{◌≡◌, ℕ, ◌+◌, ◌/◌, ◌%◌, ◌⊎◌, false, List, [], ◌∷◌, ◌++◌, min, map}
 use Rattle.std.specs.Prelude.{Option, Some, None, slice_index_or, slice_set}
 use mathlib.Core.Option.{some}
@@ -19,7 +19,7 @@ module _ {J : Type 0} where
   abbrev pub word : Table J → ℕ → ℕ
   word s i = slice_index_or s.words (i + 1) 0
 
-  -- a claim of board i that wins its job: it sets bit 0 of the word and takes the slot
+  -- a claim of board i that wins its job: it sets bit 0 of the word and takes the cell
   abbrev pub after_won : Table J → ℕ → View J → ℕ → J → Table J
   after_won s seat v i job =
       stepped s (i + 1) (bit_or (word s i) 1) seat [] (after_claim v i (word s i) (Some job)) (takes i (Some job))
@@ -29,7 +29,7 @@ module _ {J : Type 0} where
   after_missed s seat v i =
       stepped s (i + 1) (bit_or (word s i) 1) seat [] (after_claim v i (word s i) None) keeps
 
-  -- a report of board i: it stores the word and gives the slot back, with the job in it
+  -- a report of board i: it stores the word and gives the cell back, with the job in it
   abbrev pub after_report : Table J → ℕ → View J → ℕ → ℕ → J → Table J
   after_report s seat v i new job = stepped s (i + 1) new seat ((i, Some job) ∷ []) (empty_handed v) gives
 
@@ -44,7 +44,7 @@ module _ {J S : Type 0} (meaning : J → Job S) where
   abbrev pub turn_slots : J → ℕ
   turn_slots job = min 4096 (slots_left meaning job)
 
-  -- words, slots and views as the bench is opened
+  -- words, cells and views as the bench is opened
   abbrev pub opened : List J → Table J
   opened starts = opening (0 ∷ map (home_word (slots_left meaning) 0) starts) (map Some starts) (fresh starts)
 
@@ -55,7 +55,7 @@ module _ {J S : Type 0} (meaning : J → Job S) where
     pub worker : (seat : ℕ) × (b.worker ≡ Some seat) × Holds s.views i seat
 
   module _ (sent : J → List Post) where
-    -- At home: the word says how many slots are used, and the job lies in the slot. What that has sent is what its
+    -- At home: the word says how many slots are used, and the job lies in the cell. What that has sent is what its
     -- start had sent, and then what the floor has posted for it.
     pub record ShowsHome (s : Table J) (start : J) (i : ℕ) (b : Board S) (posted : List Post) : Type 0 where
       pub word_is : (word s i % 4 ≡ 0) ⊎ (word s i % 4 ≡ 3)

@@ -3,18 +3,18 @@ ghost use Rattle.std.specs.Prelude.{◌≡◌, ◌+◌, ◌<◌, ◌≤◌, [], 
 
 use crate::closing::jobs_of;
 use crate::hand::Hand;
-use crate::opening::{slots_of, words_of};
+use crate::opening::{cells_of, words_of};
 use crate::rule::{BenchRule, Claim, Further, Report, TakesIn};
 use crate::view::View;
 use atomic_table::Table;
-use floor_core::{Job, turns_add_up};
+use floor_core::{Job, laws};
 use lab_num::{BoardNo, NoMemory};
 use std::alloc::Global;
 use std::marker::Model;
 use std::snapshot::Snapshot;
 
 /// The boards of a round, each with its job, which hands take up and put down. Word 0 of the table
-/// stays 0; word i + 1 says where board i is, and slot i holds its job.
+/// stays 0; word i + 1 says where board i is, and cell i holds its job.
 #[derive(Drop)]
 pub struct Bench<J: Job> {
     table: Table<Option<J>, View<J>, Snapshot<Vec<J>>, BenchRule, Global>,
@@ -51,8 +51,8 @@ impl<J: Job> Bench<J> {
     {
         let starts = Snapshot::of(&jobs);
         let words = words_of(alloc, jobs.as_slice())?;
-        let slots = slots_of(alloc, jobs)?;
-        match Table::new(alloc, words.as_slice(), slots, &starts) {
+        let cells = cells_of(alloc, jobs)?;
+        match Table::new(alloc, words.as_slice(), cells, &starts) {
             Ok((table, seat)) => Ok((
                 Bench { table, alloc },
                 Hand {
@@ -112,7 +112,7 @@ impl<J: Job> Bench<J> {
         ensures bench { hand.new.bench ≡ hand.old.bench }
         ensures seen { hand.new.sees ≡ empty_handed hand.old.sees }
     {
-        turns_add_up::<J>();
+        laws::turns_add_up::<J>();
         let turns = 4 * (hand.reports + 1);
         let word = if job.left() == 0 { turns + 3 } else { turns };
         let index = usize::from(hand.board.0);

@@ -7,7 +7,7 @@ use atomic_table::Closed;
 use floor_core::Job;
 use std::alloc::Global;
 
-/// What lay in a slot, unless its board is out.
+/// What lay in a cell, unless its board is out.
 fn keep<J: Job>(word: u64, job: Option<J>) -> Option<J>
     ensures { result ≡ kept word job }
 {

@@ -1,4 +1,4 @@
-//! The words and the slots that a bench begins with.
+//! The words and the cells that a bench begins with.
 ghost use Rattle.std.specs.Prelude.{◌≡◌, ◌==◌, ◌^◌, ◌<◌, ◌≤◌, ◌∷◌, length, map, All, IfOk, if◌then◌else◌};
 ghost use Rattle.floor_run.specs.Turns.{slots_left};
 
@@ -29,13 +29,13 @@ pub(crate) fn words_of<J: Job>(alloc: Global, jobs: &[J]) -> Result<Vec<u64>, No
     Ok(words)
 }
 
-/// A slot for each board, with its job.
-pub(crate) fn slots_of<J: Job>(alloc: Global, jobs: Vec<J>) -> Result<Vec<Option<J>>, NoMemory>
+/// A cell for each board, with its job.
+pub(crate) fn cells_of<J: Job>(alloc: Global, jobs: Vec<J>) -> Result<Vec<Option<J>>, NoMemory>
     ensures { IfOk result (λ s. s.items ≡ map Some jobs.items) }
 {
-    let mut slots = Vec::with_capacity(alloc, jobs.len())?;
+    let mut cells = Vec::with_capacity(alloc, jobs.len())?;
     for job in jobs {
-        slots.push(Some(job))?;
+        cells.push(Some(job))?;
     }
-    Ok(slots)
+    Ok(cells)
 }

@@ -12,9 +12,9 @@ ghost use Rattle.floor_run.specs.Shown.{Shows, word, turn_slots, opened};
 ghost use Rattle.floor_run.specs.Shown.{after_won, after_missed, after_report, after_split, after_join};
 ghost use Rattle.floor_run.specs.Turns.{slots_left, AfterTurns, IsTurned};
 
-use floor_core::{Job, floors_stay_sound, turns_add_up};
+use floor_core::{Job, laws};
 
-/// Where the rule of the bench holds, its words, slots and views show a floor, which is sound. The
+/// Where the rule of the bench holds, its words, cells and views show a floor, which is sound. The
 /// floor of a bench that is opened is the one that a round begins with. Each step of the bench lets
 /// one legal event happen on the floor that it shows, or none; and the posts that a board sends
 /// while it is out change nothing on the bench. The floor may be closed exactly where each word is
@@ -66,6 +66,6 @@ pub fn bench_shows_a_floor<J: Job>()
         Shows J.meaning J.sent J.state_after starts s f →
         IsLegal f Close ↔ ((i : ℕ) → i < length starts → word s i % 4 ≡ 3) }
 {
-    turns_add_up::<J>();
-    floors_stay_sound::<J>();
+    laws::turns_add_up::<J>();
+    laws::floors_stay_sound::<J>();
 }

@@ -4,10 +4,10 @@ ghost use Rattle.dev_core.specs.declared.kind.Kind.TheVariants.{Uart as uart};
 ghost use Rattle.time_handle.specs.Grant.{left};
 
 use board::Board;
+use board_job::BoardJob;
 use dev_core::{Kind, Payload, Post};
 use hub_mail::Pass;
 use lab_num::{BoardNo, Key, Member, Micros, NoMemory, PostNo, Rows};
-use parcel::Parcel;
 use sample_boards::usual_board;
 use std::alloc::Global;
 use std::process::Abort;
@@ -66,24 +66,24 @@ fn board(rt: &impl Abort, alloc: Global, number: BoardNo) -> Result<Board<Uart>,
 }
 
 /// The board of this pass, with a grant from microsecond 7 to 12.
-pub fn parcel(
+pub fn board_job(
     rt: &impl Abort,
     alloc: Global,
     pass: Pass,
     number: BoardNo,
-) -> Result<Parcel<Uart>, Fail>
+) -> Result<BoardJob<Uart>, Fail>
     requires own { pass.board ≡ number.0 }
     requires new { pass.posted ≡ [] }
-    ensures pass { IfOk result (λ parcel. parcel.pass ≡ pass) }
-    ensures none { IfOk result (λ parcel. parcel.board.posts ≡ []) }
-    ensures posts { IfOk result (λ parcel. parcel.board.view.numbers.posted + left parcel.grant < 2 ^ 64) }
-    ensures entries { IfOk result (λ parcel. parcel.board.view.numbers.entered + left parcel.grant < 2 ^ 64) }
+    ensures pass { IfOk result (λ board_job. board_job.pass ≡ pass) }
+    ensures none { IfOk result (λ board_job. board_job.board.posts ≡ []) }
+    ensures posts { IfOk result (λ board_job. board_job.board.view.numbers.posted + left board_job.grant < 2 ^ 64) }
+    ensures entries { IfOk result (λ board_job. board_job.board.view.numbers.entered + left board_job.grant < 2 ^ 64) }
 {
     let board = board(rt, alloc, number)?;
     let handle = Handle::new(Micros(7), Micros(12), 2);
     assert!(rt; board.speed() == 2);
     assert!(rt; board.posted() == 0 && board.entered() == 0);
-    Ok(Parcel::new(board, handle, pass))
+    Ok(BoardJob::new(board, handle, pass))
 }
 
 /// What the board sends: the third slot lies in microsecond 8.

@@ -1,31 +1,31 @@
 //! Orders of what workers do with two boards.
 ghost use Rattle.std.specs.Prelude.{◌≡◌, ◌<◌, length, IfOk};
 
-use crate::boards::{parcel, post};
+use crate::boards::{board_job, post};
 use crate::words::events_of;
+use board_job::BoardJob;
 use dev_core::Post;
 use floor_core::{Floor, Job, Ran};
 use hub_mail::Mail;
 use lab_num::{BoardNo, Micros, NoMemory};
-use parcel::Parcel;
 use std::alloc::Global;
 use std::process::Abort;
 use std::sync::Wait;
 use std::test::Fail;
 use uart_16550::Uart;
 
-fn two_boards<R: Abort + Wait>(rt: &R, alloc: Global) -> Result<Floor<Parcel<Uart>>, Fail>
+fn two_boards<R: Abort + Wait>(rt: &R, alloc: Global) -> Result<Floor<BoardJob<Uart>>, Fail>
     ensures { IfOk result (λ floor. length floor.boards ≡ 2) }
 {
     let (_, mut passes) = Mail::begin(rt, alloc, 2)?;
-    let second = parcel(rt, alloc, passes.pop().unwrap(), BoardNo(1))?;
-    let first = parcel(rt, alloc, passes.pop().unwrap(), BoardNo(0))?;
+    let second = board_job(rt, alloc, passes.pop().unwrap(), BoardNo(1))?;
+    let first = board_job(rt, alloc, passes.pop().unwrap(), BoardNo(0))?;
     let floor = Floor::begin(alloc, vec![in alloc; first, second]?)?;
     Ok(floor)
 }
 
 /// The posts in the mail, in order of their keys.
-fn posts_of(alloc: Global, floor: &Floor<Parcel<Uart>>) -> Result<Vec<Post>, NoMemory> {
+fn posts_of(alloc: Global, floor: &Floor<BoardJob<Uart>>) -> Result<Vec<Post>, NoMemory> {
     let mut posts = Vec::new(alloc);
     for mailed in floor.mail() {
         posts.push(mailed.post)?;
@@ -35,7 +35,7 @@ fn posts_of(alloc: Global, floor: &Floor<Parcel<Uart>>) -> Result<Vec<Post>, NoM
 }
 
 /// Whether the posts of these boards are in the mail, in this order, and no others.
-fn has_mail_of(floor: &Floor<Parcel<Uart>>, boards: &[u8]) -> bool {
+fn has_mail_of(floor: &Floor<BoardJob<Uart>>, boards: &[u8]) -> bool {
     floor.mail().len() == boards.len()
         && floor
             .mail()
@@ -83,7 +83,7 @@ static ORDERS: [&str; 2] = [
 ];
 
 /// The board has taken all slots of its grant, and goes round in one place.
-fn is_done(floor: &Floor<Parcel<Uart>>, board: u8) -> bool
+fn is_done(floor: &Floor<BoardJob<Uart>>, board: u8) -> bool
     requires { board < length floor.now.boards }
 {
     let job = floor.job(BoardNo(board));

@@ -3,6 +3,8 @@
 #![tactic(auto)]
 
 #[cfg(test)]
+mod board_jobs;
+#[cfg(test)]
 mod boards;
 #[cfg(test)]
 mod events;
@@ -16,8 +18,6 @@ mod hands;
 mod helped;
 #[cfg(test)]
 mod mails;
-#[cfg(test)]
-mod parcels;
 #[cfg(test)]
 mod rounds;
 #[cfg(test)]

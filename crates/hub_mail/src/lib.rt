@@ -3,10 +3,9 @@
 //! order.
 #![tactic(auto)]
 
-mod laws;
+pub mod laws;
 mod mail;
 mod rule;
 mod view;
 
-pub use laws::arrival_laws;
 pub use mail::{Boss, Mail, Pass};

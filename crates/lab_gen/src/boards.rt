@@ -1,5 +1,5 @@
 //! The laboratory is made: its hub, and then a board after another.
-ghost use Rattle.std.specs.Prelude.{◌≡◌, ◌+◌, ◌<◌, ◌≤◌, ◌∷◌, ◌++◌, [], false, map, Some, IsSome, IsTrue, IfOk, OnOk};
+ghost use Rattle.std.specs.Prelude.{◌≡◌, ◌+◌, ◌<◌, ◌≤◌, ◌∷◌, ◌++◌, [], false, Some, IsSome, IsTrue, IfOk, OnOk};
 ghost use Rattle.std.specs.Prelude.{ℕ, codes, length, None};
 ghost use Rattle.std.specs.Fmt.{decimal};
 ghost use Rattle.std.specs.Option.{ForSome};
@@ -150,8 +150,7 @@ pub(crate) fn laboratory<D: Device>(
     stock: Stock<D>,
 ) -> Result<Lab<D>, NoMemory>
     requires few { boards ≤ 16 }
-    requires full { IsFull (map D.meaning stock.uarts.items) (map D.meaning stock.cans.items)
-        (map D.meaning stock.finishers.items) }
+    requires full { IsFull D.meaning stock }
     ensures { IfOk result (λ lab. IsGenerated seed boards lab) }
 {
     let mut lab = Lab::new(alloc, stock)?;

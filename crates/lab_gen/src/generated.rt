@@ -1,5 +1,5 @@
 //! The generated laboratory, run.
-ghost use Rattle.std.specs.Prelude.{◌≡◌, ◌≤◌, false, map, None, IfOk, OnOk};
+ghost use Rattle.std.specs.Prelude.{◌≡◌, ◌≤◌, false, None, IfOk, OnOk};
 ghost use Rattle.dev_core.specs.Stock.{IsFull};
 ghost use Rattle.lab_state.specs.One.{first_without};
 ghost use Rattle.lab_state.specs.Run.{run};
@@ -56,8 +56,7 @@ pub fn generate<R: Threads + Wait + Copy + Send + Sync, D: Device + Send, G: Gat
     requires some { 1 ≤ boards }
     requires few { boards ≤ 16 }
     requires workers { (1 ≤ workers) × (workers ≤ 8) }
-    requires full { IsFull (map D.meaning stock.uarts.items) (map D.meaning stock.cans.items)
-        (map D.meaning stock.finishers.items) }
+    requires full { IsFull D.meaning stock }
     ensures { IfOk result (λ bytes. bytes.items ≡ summary_of run seed boards) }
 {
     let mut lab = laboratory(alloc, seed, boards, stock)?;

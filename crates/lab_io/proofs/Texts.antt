@@ -5,7 +5,7 @@ use Rattle.std.proofs.lemmas.Bool.Decides.{nat_tests}
 use Rattle.std.specs.Str.{IsUtf8, is_utf8}
 use Rattle.std.specs.Str.Lossy.{utf8_valid_len}
 use Rattle.std.proofs.lemmas.Str.{is_utf8-from_IsUtf8, IsUtf8-from_is_utf8}
-use Rattle.lab_io.specs.Asked.{Log}
+use Rattle.lab_io.specs.Asked.{AskedNames}
 use Rattle.lab_io.specs.Whole.{FileText, Broken, Large, Readable, bad_line, bytes_text, file_text, text_fault}
 use Rattle.lab_io.specs.Whole.{IsFileRead, IsTextRead}
 use Rattle.lab_io.specs.declared.whole.ReadFault.{ReadFault}
@@ -39,7 +39,7 @@ large_file (Some bytes) large =
     let much : nat_lt 16777216 (length bytes) ≡ true = grind (arith, nat_tests, large) in rw much refl
 
 -- where its bytes are not read, its text is not
-pub unread_text : (there : Option (List ℕ)) (name : List ℕ) (fault : ReadFault) (log log' : Log) →
+pub unread_text : (there : Option (List ℕ)) (name : List ℕ) (fault : ReadFault) (log log' : AskedNames) →
     IsFileRead there name (Err fault) log log' → IsTextRead there name (Err (text_fault fault)) log log'
 unread_text there name Unread log log' read = read
 unread_text there name TooLarge log log' read = (large_file there read.0, read.1)

@@ -3,18 +3,18 @@ use Rattle.std.specs.Prelude.{◌≡◌, ℕ, List, [], ◌∷◌, ◌++◌, Opt
 use Rattle.lab_io.specs.Known.{grown}
 
 -- the names that have been asked for so far, in order, where they are told
-abbrev pub Log : Type 0
-Log = Option (List (List ℕ))
+abbrev pub AskedNames : Type 0
+AskedNames = Option (List (List ℕ))
 
 -- some of these names have been asked for, from the first on
-pub record AsksSome (names : List (List ℕ)) (log log' : Log) : Type 0 where
+pub record AsksSome (names : List (List ℕ)) (log log' : AskedNames) : Type 0 where
   pub passed : List (List ℕ)
   pub coming : List (List ℕ)
   pub all : names ≡ passed ++ coming
   pub asked : log' ≡ grown log passed
 
 -- the names up to one of these have been asked for
-pub record AsksUpTo (names : List (List ℕ)) (log log' : Log) : Type 0 where
+pub record AsksUpTo (names : List (List ℕ)) (log log' : AskedNames) : Type 0 where
   pub earlier : List (List ℕ)
   pub name : List ℕ
   pub coming : List (List ℕ)

@@ -5,7 +5,7 @@ use Rattle.std.specs.Global.{Global}
 use Rattle.std.specs.Str.{is_utf8, byte}
 use Rattle.std.specs.Str.Lossy.{utf8_valid_len}
 use Rattle.lab_io.specs.Known.{grown}
-use Rattle.lab_io.specs.Asked.{Log, AsksSome}
+use Rattle.lab_io.specs.Asked.{AskedNames, AsksSome}
 use Rattle.lab_io.specs.declared.whole.ReadFault.{ReadFault}
 use Rattle.lab_io.specs.declared.whole.ReadFault.TheVariants as read_fault
 use Rattle.lab_io.specs.declared.whole.TextFault.{TextFault}
@@ -38,7 +38,7 @@ text_fault read_fault.TooLarge = TooLarge
 text_fault read_fault.Memory = Memory
 
 -- The file of this name was read and these are its bytes, or it is too large, or the read was cut short.
-abbrev pub IsFileRead : Option (List ℕ) → List ℕ → Result (Vec ℕ Global) ReadFault → Log → Log → Type 0
+abbrev pub IsFileRead : Option (List ℕ) → List ℕ → Result (Vec ℕ Global) ReadFault → AskedNames → AskedNames → Type 0
 IsFileRead there name (Ok bytes) log log' = (there ≡ Some bytes.items) × (log' ≡ grown log (name ∷ []))
 IsFileRead there name (Err read_fault.Unread) log log' = log' ≡ grown log (name ∷ [])
 IsFileRead there name (Err read_fault.TooLarge) log log' =
@@ -46,7 +46,7 @@ IsFileRead there name (Err read_fault.TooLarge) log log' =
 IsFileRead there name (Err read_fault.Memory) log log' = AsksSome (name ∷ []) log log'
 
 -- The file of this name was read and this is its text, or it has none, or the read was cut short.
-abbrev pub IsTextRead : Option (List ℕ) → List ℕ → Result (String Global) TextFault → Log → Log → Type 0
+abbrev pub IsTextRead : Option (List ℕ) → List ℕ → Result (String Global) TextFault → AskedNames → AskedNames → Type 0
 IsTextRead there name (Ok text) log log' =
     (file_text there ≡ Readable (string_bytes text)) × (log' ≡ grown log (name ∷ []))
 IsTextRead there name (Err Unread) log log' = log' ≡ grown log (name ∷ [])

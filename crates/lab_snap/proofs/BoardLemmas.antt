@@ -229,6 +229,7 @@ can_be_created s valid =
     let names : map (λ board. board.name) boards ≡ map (λ board. board.name) (made_boards 0 s.boards) =
     board_names 0 s.boards ∙ sym (names_made 0 s.boards) in
     record {
+      kinds = λ k d below. (each k d below).kind;
       forms = λ k d below. (each k d below).name;
       delays = λ k d below. (each k d below).delay;
       names = rw (names, hub_names s.hubs) at valid.names;

@@ -4,9 +4,9 @@ use Rattle.std.proofs.Common.{ap, ◌∙◌}
 use Rattle.std.specs.Prelude.{slice_index_or}
 use Rattle.std.specs.List.{AllByRecursion, zip}
 use Rattle.std.proofs.lemmas.List.{append-nil, drop_more, drop_all}
-use Rattle.lab_spell.specs.Form.{Form}
-use Rattle.lab_spell.specs.Combine.{each, parse_each}
-use Rattle.lab_spell.specs.Inner.Fronts.{regroup, with_front}
+use Rattle.lab_encoding.specs.Form.{Form}
+use Rattle.lab_encoding.specs.Combine.{each, parse_each}
+use Rattle.lab_encoding.specs.Inner.Fronts.{regroup, with_front}
 
 -- ---- reading
 

@@ -2,10 +2,10 @@
 use Rattle.std.proofs.Common.{◌≡◌, ◌∙◌, ℕ, List, ◌++◌, refl, sym, ap}
 use Rattle.std.specs.Prelude.{Result, Ok, Err, MatchResult, IfOk}
 use Rattle.std.proofs.lemmas.Option.{none-some, same_Some}
-use Rattle.lab_spell.specs.declared.fault.SnapFault.{SnapFault}
-use Rattle.lab_spell.specs.declared.fault.SnapFault.TheVariants.{Bad, Memory}
-use Rattle.lab_spell.specs.Form.{Form, IsBytes, IsLawful, Spells}
-use Rattle.lab_spell.specs.Reads.{Reads}
+use Rattle.lab_encoding.specs.declared.fault.SnapFault.{SnapFault}
+use Rattle.lab_encoding.specs.declared.fault.SnapFault.TheVariants.{Bad, Memory}
+use Rattle.lab_encoding.specs.Form.{Form, IsBytes, IsLawful, Spells}
+use Rattle.lab_encoding.specs.Reads.{Reads}
 
 -- what was read is spelled there
 pub found : {X : Type 0} {f : Form X} → IsLawful f → (bytes rest : List ℕ) (result : Result X SnapFault) →

@@ -22,7 +22,7 @@ use Rattle.lab_state.specs.Names.{board_named, connected_to, hub_named, is_taken
 use Rattle.lab_state.specs.One.{kind_at, with_member}
 use Rattle.lab_snap.specs.declared.hub.SavedHub.{SavedHub}
 use Rattle.lab_snap.specs.Inner.Building.{with_hubs, CanBeCreated}
-use Rattle.lab_snap.specs.Loaded.{kind_of_hub, loaded_hub}
+use Rattle.lab_snap.specs.Loaded.{loaded_hub}
 use Rattle.lab_snap.proofs.BoardLemmas.{apart_before, not_found}
 use Rattle.lab_snap.proofs.LoadedParts.{hub_names, members_loaded}
 use Rattle.lab_snap.proofs.MadeBoard.{change_last}
@@ -142,12 +142,12 @@ module _ (seen : Seen) (hub : SavedHub) (free : is_taken seen.lab hub.name ≡ f
       (none_is (hub_named seen.lab hub.name) taken.1) (nat_list_eq_equiv.refl hub.name)
 
   pub last_kind : (members : List Member) {now : Seen} → now ≡ with_half seen hub members → (m : Member) →
-      kind_at seen.lab.boards m ≡ Some (kind_of_hub hub.kind) →
+      kind_at seen.lab.boards m ≡ Some hub.kind →
       kind_named now.lab hub.name ≡ kind_at now.lab.boards m
   last_kind members is m kind =
       let found = named members in
       let here : option_map (λ (hub : Hub). hub.kind)
-      (slice_get (seen.lab.hubs ++ half_hub hub members ∷ []) (length seen.lab.hubs)) ≡ Some (kind_of_hub hub.kind) =
+      (slice_get (seen.lab.hubs ++ half_hub hub members ∷ []) (length seen.lab.hubs)) ≡ Some hub.kind =
       ap (option_map (λ (hub : Hub). hub.kind)) (get_last seen.lab.hubs (half_hub hub members)) in
       rw (is, found) (here ∙ sym kind)
 

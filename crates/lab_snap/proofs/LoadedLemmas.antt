@@ -7,27 +7,22 @@ use Rattle.std.proofs.lemmas.List.Elements.{All-cons, All-head, All-tail}
 use Rattle.clint.specs.Clint.{Timer}
 use Rattle.plic.specs.State.{Controller}
 use Rattle.board.specs.BoardState.{board_state, brought_to, controller_to, timer_to}
-use Rattle.board.specs.Changes.{is_shown_kind}
 use Rattle.board.specs.New.{new_controller, new_timer, size_of}
 use Rattle.board.specs.Valid.{IsBoard, IsStateFor}
 use Rattle.board.specs.View.{View}
-use Rattle.dev_core.specs.declared.kind.Kind.{Kind}
-use Rattle.dev_core.specs.declared.kind.Kind.TheVariants as kind
 use Rattle.log_text.specs.declared.line.OpenLine.{OpenLine}
 use Rattle.lab_state.specs.Board.{Board}
 use Rattle.lab_state.specs.Hub.{Hub}
 use Rattle.lab_state.specs.Lab.{Lab}
 use Rattle.lab_state.specs.One.{view_at}
-use Rattle.lab_state.specs.Valid.{IsHub, IsLab}
-use Rattle.lab_snap.specs.declared.hub.HubKind.{HubKind}
-use Rattle.lab_snap.specs.declared.hub.HubKind.TheVariants.{Uart, Can}
+use Rattle.lab_state.specs.Valid.{IsLab}
 use Rattle.lab_snap.specs.declared.hub.SavedHub.{SavedHub}
 use Rattle.lab_snap.specs.declared.lab.SavedBoard.{SavedBoard}
 use Rattle.lab_snap.specs.declared.lab.SavedLab.{SavedLab}
 use Rattle.lab_snap.specs.Inner.Parts.{FitTheirPlans}
-use Rattle.lab_snap.specs.Loaded.{kind_of_hub, loaded, loaded_boards, loaded_hub, loaded_view}
+use Rattle.lab_snap.specs.Loaded.{loaded, loaded_boards, loaded_hub, loaded_view}
 use Rattle.lab_snap.specs.Machine.{Machine}
-use Rattle.lab_snap.specs.Saved.{hub_kind, saved, saved_board, saved_hub, saved_machine}
+use Rattle.lab_snap.specs.Saved.{saved, saved_board, saved_hub, saved_machine}
 use Rattle.lab_snap.proofs.LoadedView.{state_loaded}
 
 -- a law of `states_are_put_back`
@@ -97,24 +92,15 @@ boards_again same n (board ∷ boards) are =
     (λ b v is. let next = are (suc b) v is in (next.0, next.1 ∙ omega arith)) in
     λ i. record board { view = first i } ∷ rest i
 
-kind_again : (k : Kind) → IsTrue (is_shown_kind k) → kind_of_hub (hub_kind k) ≡ k
-kind_again kind.Uart is = refl
-kind_again kind.Can is = refl
-kind_again kind.Finisher is = absurd (cc)
-
-hubs_again :
-    (boards : List Board) (hubs : List Hub) → All (IsHub boards) hubs → map loaded_hub (map saved_hub hubs) ≡ hubs
-hubs_again boards [] are = refl
-hubs_again boards (hub ∷ hubs) are =
-    let first = kind_again hub.kind (All-head (IsHub boards) hub hubs are).kind in
-    let rest = hubs_again boards hubs (All-tail (IsHub boards) hub hubs are) in
-    λ i. record hub { kind = first i } ∷ rest i
+hubs_again : (hubs : List Hub) → map loaded_hub (map saved_hub hubs) ≡ hubs
+hubs_again [] = refl
+hubs_again (hub ∷ hubs) = ap (λ (rest : List Hub). hub ∷ rest) (hubs_again hubs)
 
 pub loaded_saved : Same → (l : Lab) (ls : List OpenLine) → IsLab l → loaded (saved l ls) ≡ l
 loaded_saved same l ls valid =
     let boards = boards_again same 0 l.boards
     (λ b v at. let is = valid.boards b v at in (is.board, is.number ∙ omega arith)) in
-    let hubs = hubs_again l.boards l.hubs valid.hubs in
+    let hubs = hubs_again l.hubs in
     λ i. record l { boards = boards i; hubs = hubs i }
 
 -- the states of boards that there can be fit their plans
@@ -154,16 +140,9 @@ saved_boards_again n (board ∷ boards) fits =
     let rest = saved_boards_again (suc n) boards (All-tail P board boards fits) in
     λ i. record board { machine = first i } ∷ rest i
 
-hub_kind_again : (k : HubKind) → hub_kind (kind_of_hub k) ≡ k
-hub_kind_again Uart = refl
-hub_kind_again Can = refl
-
 saved_hubs_again : (hubs : List SavedHub) → map saved_hub (map loaded_hub hubs) ≡ hubs
 saved_hubs_again [] = refl
-saved_hubs_again (hub ∷ hubs) =
-    let first = hub_kind_again hub.kind in
-    let rest = saved_hubs_again hubs in
-    λ i. record hub { kind = first i } ∷ rest i
+saved_hubs_again (hub ∷ hubs) = ap (λ (rest : List SavedHub). hub ∷ rest) (saved_hubs_again hubs)
 
 pub saved_loaded : (s : SavedLab) → FitTheirPlans s.boards → saved (loaded s) s.lines ≡ s
 saved_loaded s fits =

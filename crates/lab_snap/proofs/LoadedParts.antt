@@ -7,7 +7,6 @@ use Rattle.std.specs.Option.{ForSome, option_map}
 use Rattle.std.proofs.lemmas.Bool.{leb-true, le-leb}
 use Rattle.std.proofs.lemmas.List.{get_or-map, length-map}
 use Rattle.std.proofs.lemmas.List.Elements.{All-cons, All-head, All-map, All-nil, All-tail, All-weaker}
-use Rattle.board.specs.Changes.{is_shown_kind}
 use Rattle.board.specs.Valid.{IsStateFor}
 use Rattle.board.specs.View.{View}
 use Rattle.lab_num.specs.declared.key.Member.{Member}
@@ -16,13 +15,11 @@ use Rattle.lab_num.specs.Route.{has_member}
 use Rattle.lab_state.specs.Hub.{delay_of, members_of}
 use Rattle.lab_state.specs.One.{kind_at, view_at}
 use Rattle.lab_state.specs.Valid as valid
-use Rattle.lab_snap.specs.declared.hub.HubKind.{HubKind}
-use Rattle.lab_snap.specs.declared.hub.HubKind.TheVariants.{Uart, Can}
 use Rattle.lab_snap.specs.declared.hub.SavedHub.{SavedHub}
 use Rattle.lab_snap.specs.declared.lab.SavedBoard.{SavedBoard}
 use Rattle.lab_snap.specs.Inner.Parts.{FitTheirPlans, IsBoardAt, IsHubIn, IsMachineAt, IsMemberOf, delay_in, kind_in}
 use Rattle.lab_snap.specs.Inner.Parts.{machine_at, members_in}
-use Rattle.lab_snap.specs.Loaded.{kind_of_hub, loaded_board, loaded_boards, loaded_hub, loaded_view}
+use Rattle.lab_snap.specs.Loaded.{loaded_board, loaded_boards, loaded_hub, loaded_view}
 use Rattle.lab_snap.specs.Machine.{Machine}
 use Rattle.lab_snap.proofs.LoadedView.{board_loaded}
 
@@ -141,10 +138,6 @@ delay_loaded (hub ∷ hubs) m = by_test (has_member hub.members m) (delay_loaded
     by_test true rest = refl
     by_test false rest = rest
 
-hub_kind_shown : (kind : HubKind) → IsTrue (is_shown_kind (kind_of_hub kind))
-hub_kind_shown Uart = refl
-hub_kind_shown Can = refl
-
 pub hubs_loaded : (boards : List SavedBoard) (hubs : List SavedHub) → All (IsHubIn boards) hubs →
     All (valid.IsHub (loaded_boards 0 boards)) (map loaded_hub hubs)
 hubs_loaded boards hubs all =
@@ -152,11 +145,11 @@ hubs_loaded boards hubs all =
     (All-weaker (IsHubIn boards) (λ hub. valid.IsHub (loaded_boards 0 boards) (loaded_hub hub))
     (λ hub is. record {
       name = is.own.name;
-      kind = hub_kind_shown hub.kind;
+      kind = is.own.kind;
       delay = is.own.delay;
       members =
           All-weaker (IsMemberOf boards hub.kind)
-          (λ m. kind_at (loaded_boards 0 boards) m ≡ Some (kind_of_hub hub.kind))
+          (λ m. kind_at (loaded_boards 0 boards) m ≡ Some hub.kind)
           (λ m own. kind_loaded boards m ∙ own) hub.members is.members;
     }) hubs all)
 
@@ -170,9 +163,9 @@ pub hubs_from : (boards : List SavedBoard) (hubs : List SavedHub) →
 hubs_from boards hubs all =
     All-weaker (λ hub. valid.IsHub (loaded_boards 0 boards) (loaded_hub hub)) (IsHubIn boards)
     (λ hub is. record {
-      own = record { name = is.name; delay = is.delay };
+      own = record { kind = is.kind; name = is.name; delay = is.delay };
       members =
-          All-weaker (λ m. kind_at (loaded_boards 0 boards) m ≡ Some (kind_of_hub hub.kind))
+          All-weaker (λ m. kind_at (loaded_boards 0 boards) m ≡ Some hub.kind)
           (IsMemberOf boards hub.kind)
           (λ m own. sym (kind_loaded boards m) ∙ own) hub.members is.members;
     }) hubs (unmapped (valid.IsHub (loaded_boards 0 boards)) loaded_hub hubs all)

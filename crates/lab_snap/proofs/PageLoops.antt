@@ -12,11 +12,11 @@ use Rattle.std.proofs.Math.Nat.{mul-suc, mul-zero, mul-add, mul-one}
 use Rattle.std.proofs.Math.Seq.{take-add}
 use Rattle.page_ram.specs.Bytes.{put_bytes, zeros}
 use Rattle.page_ram.specs.Pages.{is_zero}
-use Rattle.lab_spell.specs.declared.fault.SnapFault.{SnapFault}
-use Rattle.lab_spell.specs.declared.fault.SnapFault.TheVariants.{Bad, Memory}
-use Rattle.lab_spell.specs.Combine.{◌>>=◌, bytes, number, parse_times}
-use Rattle.lab_spell.specs.Inner.Laws.{bind_some, chosen}
-use Rattle.lab_spell.specs.Reads.{Reads}
+use Rattle.lab_encoding.specs.declared.fault.SnapFault.{SnapFault}
+use Rattle.lab_encoding.specs.declared.fault.SnapFault.TheVariants.{Bad, Memory}
+use Rattle.lab_encoding.specs.Combine.{◌>>=◌, bytes, number, parse_times}
+use Rattle.lab_encoding.specs.Inner.Laws.{bind_some, chosen}
+use Rattle.lab_encoding.specs.Reads.{Reads}
 use Rattle.lab_snap.specs.Inner.Pages.{is_next, memory_read, spell_used}
 use Rattle.lab_snap.specs.Inner.ReadsInto.{ReadsInto}
 use Rattle.lab_snap.specs.Memory.{are_used, memory_of, pages, pages_form, pages_from, used, used_pages}
@@ -182,18 +182,18 @@ next_length : (done page : List ℕ) (s k : ℕ) → length done ≡ s * k → l
 next_length done page s k len size = omega (arith, length-append done page, mul-suc s k)
 
 -- pages put into zeros are those of the memory that has them
-put_pages : (s n k top : ℕ) (ps : List (ℕ × List ℕ)) (done : List ℕ) → k + n ≡ top → rise_from k top ps ≡ true →
+encode_pages : (s n k top : ℕ) (ps : List (ℕ × List ℕ)) (done : List ℕ) → k + n ≡ top → rise_from k top ps ≡ true →
     AllByRecursion (λ (page : ℕ × List ℕ). length page.1 ≡ s) ps → length done ≡ s * k →
     put_all s (done ++ zeros (s * n)) ps ≡ done ++ pages_from s k n ps
-put_pages s n k top [] done all up sizes len = rw (no_pages s k n) refl
-put_pages s zero k top (page ∷ others) done all up sizes len =
+encode_pages s n k top [] done all up sizes len = rw (no_pages s k n) refl
+encode_pages s zero k top (page ∷ others) done all up sizes len =
     let next = (split k top page others up).next in
     let low = next.from_low in
     let high = next.below_top in
     absurd (omega arith)
-put_pages s (suc n) k top (page ∷ others) done all up sizes len =
+encode_pages s (suc n) k top (page ∷ others) done all up sizes len =
     by_test (eqb page.0 k) refl (split k top page others up)
-    (λ ps done' up' sizes' len'. put_pages s n (suc k) top ps done' (omega arith) up' sizes' len')
+    (λ ps done' up' sizes' len'. encode_pages s n (suc k) top ps done' (omega arith) up' sizes' len')
   where
     by_test : (b : Bool) → eqb page.0 k ≡ b → Splits k top page others →
         ((ps : List (ℕ × List ℕ)) (done' : List ℕ) → rise_from (suc k) top ps ≡ true →
@@ -267,7 +267,7 @@ loads s top count text =
         (b : Bool) → rise_from 0 top ps ≡ b →
         if_rise s top 0 (zeros (s * top)) (ps, rest) ≡ if_used (ps, rest)
     by_test ps rest sizes true h =
-        let put = put_pages s top 0 top ps [] (omega arith) h sizes (sym (mul-zero s)) in
+        let put = encode_pages s top 0 top ps [] (omega arith) h sizes (sym (mul-zero s)) in
         rw (are_used-rise top ps, h) (ap (λ (m : List ℕ). Some (m, rest)) put)
     by_test ps rest sizes false h = rw (are_used-rise top ps, h) refl
 

@@ -6,8 +6,8 @@ use Rattle.std.specs.List.{AllByRecursion, flat_map}
 use Rattle.std.proofs.lemmas.Grind.{flat_map-append}
 use Rattle.std.proofs.lemmas.List.{append-nil, map-append, take_all, take_more}
 use Rattle.std.proofs.lemmas.Option.{get_or_from_slice_get, slice_get_cases, slice_get_within}
-use Rattle.lab_spell.specs.Form.{Form}
-use Rattle.lab_spell.specs.Reads.{Appends}
+use Rattle.lab_encoding.specs.Form.{Form}
+use Rattle.lab_encoding.specs.Reads.{Appends}
 
 -- what the first n items are saved as stands at the end, and fits
 pub record AreWritten {A B : Type 0} (f : Form A) (saved : B → A) (items : List B) (n : ℕ)

@@ -7,14 +7,14 @@ use Rattle.lab_num.specs.declared.key.Member.{Member}
 use Rattle.lab_num.specs.declared.number.Micros.{Micros}
 use Rattle.lab_state.specs.Hub.{Hub}
 use Rattle.lab_snap.specs.declared.hub.SavedHub.{SavedHub}
-use Rattle.lab_snap.specs.Saved.{hub_kind, saved_hub}
+use Rattle.lab_snap.specs.Saved.{saved_hub}
 
 -- what is said of a hub that is saved with these parts is said of the hub that has them
 pub hub_with : (P : SavedHub → Type 0) (hub : Option Hub) (kind : Kind) (name : List ℕ) (delay : ℕ)
     (members : List Member) → Some kind ≡ option_map (λ hub. hub.kind) hub →
     Some name ≡ option_map (λ hub. hub.name) hub → Some delay ≡ option_map (λ hub. hub.delay) hub →
     Some members ≡ option_map (λ hub. hub.members) hub →
-    P (record { kind = hub_kind kind; name = name; delay = delay; members = members }) →
+    P (record { kind = kind; name = name; delay = delay; members = members }) →
     IfSome hub (λ hub. P (saved_hub hub))
 hub_with P None kind name delay members k n d m is = tt
 hub_with P (Some hub) kind name delay members k n d m is =

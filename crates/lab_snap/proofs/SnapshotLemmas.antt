@@ -4,9 +4,9 @@ use Rattle.std.specs.Prelude.{Option, None, Some, Result, Err, MatchResult, ifâ—
 use Rattle.std.proofs.lemmas.List.{append-nil}
 use Rattle.std.proofs.lemmas.Option.{none-some, same_Some}
 use Rattle.log_text.specs.declared.line.OpenLine.{OpenLine}
-use Rattle.lab_spell.specs.declared.fault.SnapFault.{SnapFault}
-use Rattle.lab_spell.specs.declared.fault.SnapFault.TheVariants.{Bad, Memory}
-use Rattle.lab_spell.specs.Form.{IsBytes}
+use Rattle.lab_encoding.specs.declared.fault.SnapFault.{SnapFault}
+use Rattle.lab_encoding.specs.declared.fault.SnapFault.TheVariants.{Bad, Memory}
+use Rattle.lab_encoding.specs.Form.{IsBytes}
 use Rattle.lab_state.specs.Lab.{Lab}
 use Rattle.lab_state.specs.Valid.{IsLab, IsValid}
 use Rattle.lab_snap.specs.declared.lab.SavedLab.{SavedLab}

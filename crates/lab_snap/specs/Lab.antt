@@ -1,13 +1,13 @@
 -- How a whole laboratory is spelled.
 use Rattle.std.proofs.Common.{refl, ℕ, List}
 use Rattle.std.specs.Prelude.{codes}
-use Rattle.lab_spell.specs.Form.{Form, IsLawful}
-use Rattle.lab_spell.specs.Combine.{list, marked, number, option, text, via, ◌⊗◌}
-use Rattle.lab_spell.specs.Inner.Laws.{list_lawful, marked_lawful, next_lawful, number_lawful, option_lawful}
-use Rattle.lab_spell.specs.Inner.Laws.{text_lawful, via_lawful}
-use Rattle.lab_spell.specs.Keys.{micros_form, micros_lawful}
-use Rattle.lab_spell.specs.OpenLines.{open_line_form, open_line_lawful}
-use Rattle.lab_spell.specs.Posts.{post_form, post_lawful}
+use Rattle.lab_encoding.specs.Form.{Form, IsLawful}
+use Rattle.lab_encoding.specs.Combine.{list, marked, number, option, text, via, ◌⊗◌}
+use Rattle.lab_encoding.specs.Inner.Laws.{list_lawful, marked_lawful, next_lawful, number_lawful, option_lawful}
+use Rattle.lab_encoding.specs.Inner.Laws.{text_lawful, via_lawful}
+use Rattle.lab_encoding.specs.Keys.{micros_form, micros_lawful}
+use Rattle.lab_encoding.specs.OpenLines.{open_line_form, open_line_lawful}
+use Rattle.lab_encoding.specs.Posts.{post_form, post_lawful}
 use Rattle.lab_snap.specs.declared.lab.SavedBoard.{SavedBoard}
 use Rattle.lab_snap.specs.declared.lab.SavedLab.{SavedLab}
 use Rattle.lab_snap.specs.Hub.{hub_form, hub_lawful}

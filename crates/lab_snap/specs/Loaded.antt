@@ -4,13 +4,9 @@ use Rattle.std.specs.Option.{option_map}
 use Rattle.board.specs.BoardState.{brought_to}
 use Rattle.board.specs.New.{new_board}
 use Rattle.board.specs.View.{View}
-use Rattle.dev_core.specs.declared.kind.Kind.{Kind}
-use Rattle.dev_core.specs.declared.kind.Kind.TheVariants as kind
 use Rattle.lab_state.specs.Board.{Board}
 use Rattle.lab_state.specs.Hub.{Hub}
 use Rattle.lab_state.specs.Lab.{Lab}
-use Rattle.lab_snap.specs.declared.hub.HubKind.{HubKind}
-use Rattle.lab_snap.specs.declared.hub.HubKind.TheVariants.{Uart, Can}
 use Rattle.lab_snap.specs.declared.hub.SavedHub.{SavedHub}
 use Rattle.lab_snap.specs.declared.lab.SavedBoard.{SavedBoard}
 use Rattle.lab_snap.specs.declared.lab.SavedLab.{SavedLab}
@@ -30,12 +26,8 @@ unfoldable pub loaded_boards : ℕ → List SavedBoard → List Board
 loaded_boards number [] = []
 loaded_boards number (board ∷ boards) = loaded_board number board ∷ loaded_boards (suc number) boards
 
-abbrev pub kind_of_hub : HubKind → Kind
-kind_of_hub Uart = kind.Uart
-kind_of_hub Can = kind.Can
-
 abbrev pub loaded_hub : SavedHub → Hub
-loaded_hub hub = record { name = hub.name; kind = kind_of_hub hub.kind; delay = hub.delay; members = hub.members }
+loaded_hub hub = record { name = hub.name; kind = hub.kind; delay = hub.delay; members = hub.members }
 
 abbrev pub loaded : SavedLab → Lab
 loaded s = record {

@@ -4,12 +4,12 @@ use Rattle.std.specs.List.{AllByRecursion}
 use Rattle.page_ram.specs.Access.{page_size}
 use Rattle.sys_bus.specs.declared.plan.BoardPlan.{BoardPlan}
 use Rattle.sys_bus.specs.Plan.{IsValid}
-use Rattle.lab_spell.specs.Form.{Form, IsLawful}
-use Rattle.lab_spell.specs.BoardState.{board_state_form, board_state_lawful}
-use Rattle.lab_spell.specs.Combine.{depend, each, marked, number, only, shown, via, ◌⊗◌}
-use Rattle.lab_spell.specs.Inner.Laws.{depend_lawful, each_lawful, marked_lawful, next_lawful, only_lawful}
-use Rattle.lab_spell.specs.Inner.Laws.{shown_lawful, via_lawful}
-use Rattle.lab_spell.specs.Plan.{plan_form, plan_lawful}
+use Rattle.lab_encoding.specs.Form.{Form, IsLawful}
+use Rattle.lab_encoding.specs.BoardState.{board_state_form, board_state_lawful}
+use Rattle.lab_encoding.specs.Combine.{depend, each, marked, number, only, shown, via, ◌⊗◌}
+use Rattle.lab_encoding.specs.Inner.Laws.{depend_lawful, each_lawful, marked_lawful, next_lawful, only_lawful}
+use Rattle.lab_encoding.specs.Inner.Laws.{shown_lawful, via_lawful}
+use Rattle.lab_encoding.specs.Plan.{plan_form, plan_lawful}
 use Rattle.lab_snap.specs.Inner.MemoryLaws.{pages_lawful}
 use Rattle.lab_snap.specs.Inner.ValidPlan.{is_valid_plan, valid_plan_decides}
 use Rattle.lab_snap.specs.Machine.{Machine}

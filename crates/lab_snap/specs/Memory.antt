@@ -6,8 +6,8 @@ use Rattle.std.specs.List.{list_all, AllByRecursion}
 use Rattle.page_ram.specs.Access.{page_size}
 use Rattle.page_ram.specs.Bytes.{zeros}
 use Rattle.page_ram.specs.Pages.{is_zero}
-use Rattle.lab_spell.specs.Form.{Form}
-use Rattle.lab_spell.specs.Combine.{list, only, shown}
+use Rattle.lab_encoding.specs.Form.{Form}
+use Rattle.lab_encoding.specs.Combine.{list, only, shown}
 use Rattle.lab_snap.specs.Page.{page_form}
 use Rattle.lab_snap.specs.Rising.{rise_by}
 

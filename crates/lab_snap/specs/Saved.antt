@@ -3,14 +3,10 @@ use Rattle.std.specs.Prelude.{ℕ, List, map}
 use Rattle.std.specs.Option.{option_map}
 use Rattle.board.specs.BoardState.{board_state}
 use Rattle.board.specs.View.{View}
-use Rattle.dev_core.specs.declared.kind.Kind.{Kind}
-use Rattle.dev_core.specs.declared.kind.Kind.TheVariants as kind
 use Rattle.log_text.specs.declared.line.OpenLine.{OpenLine}
 use Rattle.lab_state.specs.Board.{Board}
 use Rattle.lab_state.specs.Hub.{Hub}
 use Rattle.lab_state.specs.Lab.{Lab}
-use Rattle.lab_snap.specs.declared.hub.HubKind.{HubKind}
-use Rattle.lab_snap.specs.declared.hub.HubKind.TheVariants.{Uart, Can}
 use Rattle.lab_snap.specs.declared.hub.SavedHub.{SavedHub}
 use Rattle.lab_snap.specs.declared.lab.SavedBoard.{SavedBoard}
 use Rattle.lab_snap.specs.declared.lab.SavedLab.{SavedLab}
@@ -24,14 +20,8 @@ saved_machine v = record { plan = v.space.plan; state = board_state v; memories 
 abbrev pub saved_board : Board → SavedBoard
 saved_board board = record { name = board.name; machine = option_map saved_machine board.view }
 
--- hubs are of UARTs or of CAN controllers; there is none of finishers
-abbrev pub hub_kind : Kind → HubKind
-hub_kind kind.Uart = Uart
-hub_kind kind.Can = Can
-hub_kind kind.Finisher = Can
-
 abbrev pub saved_hub : Hub → SavedHub
-saved_hub hub = record { kind = hub_kind hub.kind; name = hub.name; delay = hub.delay; members = hub.members }
+saved_hub hub = record { kind = hub.kind; name = hub.name; delay = hub.delay; members = hub.members }
 
 -- a laboratory and its open lines
 abbrev pub saved : Lab → List OpenLine → SavedLab

@@ -2,23 +2,16 @@
 ghost use Rattle.std.specs.Prelude.{◌↔◌, IsTrue};
 ghost use Rattle.lab_snap.specs.Hub.{IsHub};
 
+use dev_core::Kind;
+use lab_encoding::{ByteReader, SnapFault, Spelled};
 use lab_num::{MOST_DELAY, Member, NoMemory, Rows, Text, is_name};
-use lab_spell::{SnapFault, Source, Spelled};
 use std::alloc::Global;
-
-/// The kinds of hubs.
-#[derive(Clone, Copy, PartialEq, Eq, Debug)]
-pub enum HubKind {
-    /// It connects UARTs.
-    Uart,
-    /// It connects CAN controllers.
-    Can,
-}
 
 /// A hub as a snapshot holds it.
 #[derive(PartialEq, Eq, Drop, Debug)]
 pub struct SavedHub {
-    pub kind: HubKind,
+    /// The kind of devices that it connects.
+    pub kind: Kind,
     pub name: Text,
     /// In microseconds.
     pub delay: u32,
@@ -27,37 +20,12 @@ pub struct SavedHub {
 }
 
 impl SavedHub {
-    /// Whether the hub can stand in a laboratory: it has a name, and no longer delay than a second.
+    /// Whether the hub can stand in a laboratory: its devices join hubs, it has a name, and no longer
+    /// delay than a second.
     pub fn is_valid(&self) -> bool
         ensures { IsTrue result ↔ IsHub self.now }
     {
-        is_name(self.name.as_str()) && self.delay <= MOST_DELAY
-    }
-}
-
-impl Spelled for HubKind {
-    ghost use Rattle.lab_snap.specs.Hub.{hub_kind_form, hub_kind_lawful};
-
-    ghost form = { hub_kind_form };
-
-    ghost lawful = { hub_kind_lawful };
-
-    #[tactic(auto, unfolding(crate::specs::Hub::hub_kind_form))]
-    fn put(&self, out: &mut Vec<u8>) -> Result<(), NoMemory> {
-        match self {
-            HubKind::Uart => out.push(0)?,
-            HubKind::Can => out.push(1)?,
-        }
-        Ok(())
-    }
-
-    #[tactic(auto, unfolding(crate::specs::Hub::hub_kind_form))]
-    fn take(_alloc: Global, source: &mut Source<'_>) -> Result<HubKind, SnapFault> {
-        match source.byte()? {
-            0 => Ok(HubKind::Uart),
-            1 => Ok(HubKind::Can),
-            _ => Err(SnapFault::Bad),
-        }
+        self.kind.joins_hubs() && is_name(self.name.as_str()) && self.delay <= MOST_DELAY
     }
 }
 
@@ -69,21 +37,21 @@ impl Spelled for SavedHub {
     ghost lawful = { hub_lawful };
 
     #[tactic(auto, unfolding(crate::specs::Hub::hub_form))]
-    fn put(&self, out: &mut Vec<u8>) -> Result<(), NoMemory> {
-        self.kind.put(out)?;
-        self.name.put(out)?;
-        self.delay.put(out)?;
-        self.members.put(out)?;
+    fn encode(&self, out: &mut Vec<u8>) -> Result<(), NoMemory> {
+        self.kind.encode(out)?;
+        self.name.encode(out)?;
+        self.delay.encode(out)?;
+        self.members.encode(out)?;
         Ok(())
     }
 
     #[tactic(auto, unfolding(crate::specs::Hub::hub_form))]
-    fn take(alloc: Global, source: &mut Source<'_>) -> Result<SavedHub, SnapFault> {
+    fn decode(alloc: Global, reader: &mut ByteReader<'_>) -> Result<SavedHub, SnapFault> {
         Ok(SavedHub {
-            kind: Spelled::take(alloc, source)?,
-            name: Spelled::take(alloc, source)?,
-            delay: Spelled::take(alloc, source)?,
-            members: Spelled::take(alloc, source)?,
+            kind: Spelled::decode(alloc, reader)?,
+            name: Spelled::decode(alloc, reader)?,
+            delay: Spelled::decode(alloc, reader)?,
+            members: Spelled::decode(alloc, reader)?,
         })
     }
 }

@@ -5,8 +5,8 @@ ghost use Rattle.lab_snap.specs.Lab.{lab_form};
 use crate::hub::SavedHub;
 use crate::machine::SavedMachine;
 use dev_core::Post;
+use lab_encoding::{ByteReader, SnapFault, Spelled, load, one_spelling};
 use lab_num::{Micros, NoMemory, Rows, Text};
-use lab_spell::{SnapFault, Source, Spelled, load, one_spelling};
 use log_text::OpenLine;
 use std::alloc::Global;
 
@@ -42,17 +42,17 @@ impl Spelled for SavedBoard {
     ghost lawful = { board_lawful };
 
     #[tactic(auto, unfolding(crate::specs::Lab::board_form))]
-    fn put(&self, out: &mut Vec<u8>) -> Result<(), NoMemory> {
-        self.name.put(out)?;
-        self.machine.put(out)?;
+    fn encode(&self, out: &mut Vec<u8>) -> Result<(), NoMemory> {
+        self.name.encode(out)?;
+        self.machine.encode(out)?;
         Ok(())
     }
 
     #[tactic(auto, unfolding(crate::specs::Lab::board_form))]
-    fn take(alloc: Global, source: &mut Source<'_>) -> Result<SavedBoard, SnapFault> {
+    fn decode(alloc: Global, reader: &mut ByteReader<'_>) -> Result<SavedBoard, SnapFault> {
         Ok(SavedBoard {
-            name: Spelled::take(alloc, source)?,
-            machine: Spelled::take(alloc, source)?,
+            name: Spelled::decode(alloc, reader)?,
+            machine: Spelled::decode(alloc, reader)?,
         })
     }
 }
@@ -65,27 +65,27 @@ impl Spelled for SavedLab {
     ghost lawful = { lab_lawful };
 
     #[tactic(auto, unfolding(crate::specs::Lab::lab_form))]
-    fn put(&self, out: &mut Vec<u8>) -> Result<(), NoMemory> {
+    fn encode(&self, out: &mut Vec<u8>) -> Result<(), NoMemory> {
         out.extend_from_slice(&MARK)?;
-        self.time.put(out)?;
-        self.quantum.put(out)?;
-        self.boards.put(out)?;
-        self.hubs.put(out)?;
-        self.pending.put(out)?;
-        self.lines.put(out)?;
+        self.time.encode(out)?;
+        self.quantum.encode(out)?;
+        self.boards.encode(out)?;
+        self.hubs.encode(out)?;
+        self.pending.encode(out)?;
+        self.lines.encode(out)?;
         Ok(())
     }
 
     #[tactic(auto, unfolding(crate::specs::Lab::lab_form))]
-    fn take(alloc: Global, source: &mut Source<'_>) -> Result<SavedLab, SnapFault> {
-        source.pass(&MARK)?;
+    fn decode(alloc: Global, reader: &mut ByteReader<'_>) -> Result<SavedLab, SnapFault> {
+        reader.skip_mark(&MARK)?;
         Ok(SavedLab {
-            time: Spelled::take(alloc, source)?,
-            quantum: Spelled::take(alloc, source)?,
-            boards: Spelled::take(alloc, source)?,
-            hubs: Spelled::take(alloc, source)?,
-            pending: Spelled::take(alloc, source)?,
-            lines: Spelled::take(alloc, source)?,
+            time: Spelled::decode(alloc, reader)?,
+            quantum: Spelled::decode(alloc, reader)?,
+            boards: Spelled::decode(alloc, reader)?,
+            hubs: Spelled::decode(alloc, reader)?,
+            pending: Spelled::decode(alloc, reader)?,
+            lines: Spelled::decode(alloc, reader)?,
         })
     }
 }

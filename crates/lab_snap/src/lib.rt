@@ -12,10 +12,10 @@ mod saving;
 mod snapshot;
 mod valid;
 
-pub use hub::{HubKind, SavedHub};
+pub use hub::SavedHub;
 pub use lab::{SavedBoard, SavedLab, one_lab_spelling, read_lab};
 pub use loading::load;
 pub use machine::SavedMachine;
-pub use memory::{one_memory_spelling, put_memory, take_memory};
+pub use memory::{decode_memory, encode_memory, one_memory_spelling};
 pub use saving::save;
 pub use snapshot::snapshots_are_what_they_spell;

@@ -16,10 +16,10 @@ mod hubs;
 use crate::lab::{SavedLab, read_lab};
 use crate::snapshot::snapshots_are_what_they_spell;
 use crate::valid::is_valid;
-use board::states_are_put_back;
+use board::laws;
 use dev_core::Device;
+use lab_encoding::SnapFault;
 use lab_num::NoMemory;
-use lab_spell::SnapFault;
 use lab_state::Lab;
 use log_text::{Lines, OpenLine};
 use std::alloc::Global;
@@ -40,7 +40,7 @@ fn read_valid(alloc: Global, bytes: &[u8]) -> Result<SavedLab, SnapFault>
 }
 
 /// Nothing waits in a laboratory in which no time has passed. Nothing is changed and told when this runs.
-fn has_nothing_pending<D: Device>(lab: &Lab<D>)
+fn nothing_pending_law<D: Device>(lab: &Lab<D>)
     requires unspent { lab.now.spent ≡ false }
     requires new { lab.now.lab.now ≡ 0 }
     ensures { lab.now.lab.pending ≡ [] }
@@ -65,7 +65,7 @@ fn build<D: Device>(
     ensures lines { IfOk result (λ lines. lines.items ≡ saved.lines) }
     ensures unspent { lab.new.spent ≡ false }
 {
-    has_nothing_pending(lab);
+    nothing_pending_law(lab);
     let SavedLab {
         time,
         quantum,
@@ -87,7 +87,7 @@ pub(crate) fn saving_agrees()
     ensures fit { (l : Laboratory) (ls : List Line) → IsLab l → FitTheirPlans (saved l ls).boards }
     ensures saved { (s : Snapshot) → FitTheirPlans s.boards → saved (loaded s) s.lines ≡ s }
 {
-    states_are_put_back();
+    laws::states_are_put_back();
 }
 
 /// Loads as `load` does, but leaves a laboratory unspent for which memory ran out, with a part of what

@@ -2,15 +2,15 @@
 ghost use Rattle.std.specs.Prelude.{◌≡◌, All, IfOk, IsTrue};
 ghost use Rattle.page_ram.specs.Access.{IsRamSize};
 ghost use Rattle.sys_bus.specs.Plan.{IsValid};
-ghost use Rattle.lab_spell.specs.Reads.{Reads};
+ghost use Rattle.lab_encoding.specs.Reads.{Reads};
 ghost use Rattle.lab_snap.specs.Inner.ValidPlan.{is_valid_plan};
 ghost use Rattle.lab_snap.specs.Machine.{IsMachine};
 ghost use Rattle.lab_snap.specs.MachineForm.{valid_plan_form};
 
-use crate::memories::{put_memories, take_memories};
+use crate::memories::{decode_memories, encode_memories};
 use board::BoardState;
+use lab_encoding::{ByteReader, SnapFault, Spelled};
 use lab_num::{NoMemory, Rows};
-use lab_spell::{SnapFault, Source, Spelled};
 use page_ram::PageRam;
 use std::alloc::Global;
 use std::marker::Model;
@@ -52,7 +52,7 @@ impl SavedMachine {
 
     /// At every moment a board can be made by the plan, and the memories have its sizes. This function
     /// does nothing when it runs: a proof that needs the fact calls it.
-    pub(crate) fn is_one_that_can_be(&self)
+    pub(crate) fn validity_law(&self)
         ensures { IsMachine self.now }
     {
         let _plan = &self.plan;
@@ -83,11 +83,11 @@ fn is_valid(plan: &BoardPlan) -> bool
 
 /// Reads a plan that a board can be made by.
 #[tactic(auto, unfolding(crate::specs::MachineForm::valid_plan_form))]
-fn take_plan(alloc: Global, source: &mut Source<'_>) -> Result<BoardPlan, SnapFault>
-    ensures reads { Reads (valid_plan_form.parse source.old) source.new result }
+fn decode_plan(alloc: Global, reader: &mut ByteReader<'_>) -> Result<BoardPlan, SnapFault>
+    ensures reads { Reads (valid_plan_form.parse reader.old) reader.new result }
     ensures valid { IfOk result IsValid }
 {
-    let plan = BoardPlan::take(alloc, source)?;
+    let plan = BoardPlan::decode(alloc, reader)?;
     if !is_valid(&plan) {
         return Err(SnapFault::Bad);
     }
@@ -102,19 +102,19 @@ impl Spelled for SavedMachine {
     ghost lawful = { machine_lawful };
 
     #[tactic(auto, unfolding(crate::specs::MachineForm::machine_form, crate::specs::MachineForm::valid_plan_form))]
-    fn put(&self, out: &mut Vec<u8>) -> Result<(), NoMemory> {
+    fn encode(&self, out: &mut Vec<u8>) -> Result<(), NoMemory> {
         have_whole_pages(&self.plan);
-        self.plan.put(out)?;
-        self.state.put(out)?;
-        put_memories(self.plan.memories.items(), self.memories.items(), out)
+        self.plan.encode(out)?;
+        self.state.encode(out)?;
+        encode_memories(self.plan.memories.items(), self.memories.items(), out)
     }
 
     #[tactic(auto, unfolding(crate::specs::MachineForm::machine_form))]
-    fn take(alloc: Global, source: &mut Source<'_>) -> Result<SavedMachine, SnapFault> {
-        let plan = take_plan(alloc, source)?;
+    fn decode(alloc: Global, reader: &mut ByteReader<'_>) -> Result<SavedMachine, SnapFault> {
+        let plan = decode_plan(alloc, reader)?;
         have_whole_pages(&plan);
-        let state = BoardState::take(alloc, source)?;
-        let memories = take_memories(alloc, plan.memories.items(), source)?;
+        let state = BoardState::decode(alloc, reader)?;
+        let memories = decode_memories(alloc, plan.memories.items(), reader)?;
         Ok(SavedMachine {
             plan,
             state,

@@ -1,18 +1,18 @@
 //! The memories of a board, one for each size of its plan.
 ghost use Rattle.std.specs.Prelude.{◌≡◌, All, IfOk, OnOk, length, map};
 ghost use Rattle.page_ram.specs.Access.{IsRamSize};
-ghost use Rattle.lab_spell.specs.Combine.{each, parse_each};
-ghost use Rattle.lab_spell.specs.Reads.{Appends, Reads};
+ghost use Rattle.lab_encoding.specs.Combine.{each, parse_each};
+ghost use Rattle.lab_encoding.specs.Reads.{Appends, Reads};
 ghost use Rattle.lab_snap.specs.MachineForm.{memories_form, sized_form};
 
-use crate::memory::{put_memory, take_memory};
+use crate::memory::{decode_memory, encode_memory};
+use lab_encoding::{ByteReader, SnapFault, Spelled};
 use lab_num::{NoMemory, Rows};
-use lab_spell::{SnapFault, Source, Spelled};
 use page_ram::{PAGE_SIZE, PageRam};
 use std::alloc::Global;
 
 /// Writes the memories, one after another.
-fn put_each(sizes: &[u32], memories: &[PageRam], out: &mut Vec<u8>) -> Result<(), NoMemory>
+fn encode_each(sizes: &[u32], memories: &[PageRam], out: &mut Vec<u8>) -> Result<(), NoMemory>
     requires whole { All IsRamSize sizes.now }
     requires sizes { map length memories.now ≡ sizes.now }
     ensures spelled { OnOk result
@@ -20,31 +20,31 @@ fn put_each(sizes: &[u32], memories: &[PageRam], out: &mut Vec<u8>) -> Result<()
     ensures fits { OnOk result ((each sized_form sizes.now).Fits memories.now) }
 {
     for k in 0..sizes.len() {
-        put_memory(&memories[k], sizes[k] / PAGE_SIZE, out)?;
+        encode_memory(&memories[k], sizes[k] / PAGE_SIZE, out)?;
     }
     Ok(())
 }
 
 /// Reads a memory of each size.
-fn take_each(
+fn decode_each(
     alloc: Global,
     sizes: &[u32],
-    source: &mut Source<'_>,
+    reader: &mut ByteReader<'_>,
 ) -> Result<Rows<PageRam>, SnapFault>
     requires { All IsRamSize sizes.now }
-    ensures reads { Reads (parse_each sized_form sizes.now source.old) source.new result }
+    ensures reads { Reads (parse_each sized_form sizes.now reader.old) reader.new result }
     ensures sizes { IfOk result (λ memories. map length memories ≡ sizes.now) }
 {
     let mut memories = Vec::new(alloc);
     for &size in sizes {
-        memories.push(take_memory(alloc, size / PAGE_SIZE, source)?)?;
+        memories.push(decode_memory(alloc, size / PAGE_SIZE, reader)?)?;
     }
     Ok(Rows::of(memories))
 }
 
 /// Writes the list of the memories.
 #[tactic(auto, unfolding(crate::specs::MachineForm::memories_form))]
-pub(crate) fn put_memories(
+pub(crate) fn encode_memories(
     sizes: &[u32],
     memories: &[PageRam],
     out: &mut Vec<u8>,
@@ -55,21 +55,21 @@ pub(crate) fn put_memories(
         (Appends out.old.items out.new.items ((memories_form sizes.now).spell memories.now)) }
     ensures fits { OnOk result ((memories_form sizes.now).Fits memories.now) }
 {
-    (sizes.len() as u64).put(out)?;
-    put_each(sizes, memories, out)
+    (sizes.len() as u64).encode(out)?;
+    encode_each(sizes, memories, out)
 }
 
 /// Reads the list of the memories of these sizes.
 #[tactic(auto, unfolding(crate::specs::MachineForm::memories_form))]
-pub(crate) fn take_memories(
+pub(crate) fn decode_memories(
     alloc: Global,
     sizes: &[u32],
-    source: &mut Source<'_>,
+    reader: &mut ByteReader<'_>,
 ) -> Result<Rows<PageRam>, SnapFault>
     requires { All IsRamSize sizes.now }
-    ensures reads { Reads ((memories_form sizes.now).parse source.old) source.new result }
+    ensures reads { Reads ((memories_form sizes.now).parse reader.old) reader.new result }
     ensures sizes { IfOk result (λ memories. map length memories ≡ sizes.now) }
 {
-    source.pass(&(sizes.len() as u64).to_le_bytes())?;
-    take_each(alloc, sizes, source)
+    reader.skip_mark(&(sizes.len() as u64).to_le_bytes())?;
+    decode_each(alloc, sizes, reader)
 }

@@ -18,21 +18,21 @@ ghost use Rattle.page_ram.specs.Access.{page_size};
 ghost use Rattle.page_ram.specs.Bytes.{zeros};
 ghost use Rattle.page_ram.specs.Pages.{page_of};
 ghost use Rattle.page_ram.specs.Pages as pages_spec;
-ghost use Rattle.lab_spell.specs.Form.{IsBytes, Spells};
-ghost use Rattle.lab_spell.specs.Reads.{Appends, Reads};
+ghost use Rattle.lab_encoding.specs.Form.{IsBytes, Spells};
+ghost use Rattle.lab_encoding.specs.Reads.{Appends, Reads};
 ghost use Rattle.lab_snap.specs.Inner.Pages.{memory_read, spell_used};
 ghost use Rattle.lab_snap.specs.Inner.Pages as inner;
 ghost use Rattle.lab_snap.specs.Inner.ReadsInto.{ReadsInto};
 ghost use Rattle.lab_snap.specs.Memory.{memory_form, used};
 ghost use Rattle.lab_snap.specs.Page.{page_form};
 
+use lab_encoding::{ByteReader, SnapFault, Spelled};
 use lab_num::NoMemory;
-use lab_spell::{SnapFault, Source, Spelled};
 use page_ram::{PAGE_SIZE, PageRam};
 use std::alloc::Global;
 
 /// Each item is a byte: a proof that needs this calls it.
-fn are_bytes(bytes: &[u8])
+fn bytes_law(bytes: &[u8])
     ensures { IsBytes bytes.now }
 {}
 
@@ -52,29 +52,29 @@ fn used_count(memory: &PageRam, pages: u32) -> u64
 }
 
 /// Writes the number of a page and the page, if it has a byte other than 0.
-fn put_used(memory: &PageRam, number: u32, out: &mut Vec<u8>) -> Result<(), NoMemory>
+fn encode_used(memory: &PageRam, number: u32, out: &mut Vec<u8>) -> Result<(), NoMemory>
     requires { page_size * (number + 1) ≤ length memory.now }
     ensures spelled { OnOk result
         (Appends out.old.items out.new.items (spell_used page_size number (page_of memory.now number))) }
     ensures bytes { OnOk result (AllByRecursion (λ b. b < 256) (page_of memory.now number)) }
 {
     if let Some(page) = memory.used_page(number) {
-        are_bytes(page);
-        number.put(out)?;
+        bytes_law(page);
+        number.encode(out)?;
         out.extend_from_slice(page)?;
     }
     Ok(())
 }
 
 /// Writes all pages that have a byte other than 0.
-fn put_pages(memory: &PageRam, pages: u32, out: &mut Vec<u8>) -> Result<(), NoMemory>
+fn encode_pages(memory: &PageRam, pages: u32, out: &mut Vec<u8>) -> Result<(), NoMemory>
     requires { length memory.now ≡ page_size * pages }
     ensures spelled { OnOk result (Appends out.old.items out.new.items
         (flat_map (page_form page_size).spell (used page_size pages memory.now))) }
     ensures bytes { OnOk result (AllByRecursion (λ b. b < 256) memory.now) }
 {
     for k in 0..pages {
-        put_used(memory, k, out)?;
+        encode_used(memory, k, out)?;
     }
     Ok(())
 }
@@ -93,21 +93,21 @@ fn is_next(pages: u32, low: u32, number: u32, page: &[u8]) -> bool
 }
 
 /// Reads so many pages into a memory of 0.
-fn take_pages(
+fn decode_pages(
     alloc: Global,
-    source: &mut Source<'_>,
+    reader: &mut ByteReader<'_>,
     count: u64,
     pages: u32,
     memory: &mut PageRam,
 ) -> Result<(), SnapFault>
     requires { memory.old ≡ zeros (page_size * pages) }
-    ensures reads { ReadsInto (memory_read page_size pages count source.old) memory.new source.new result }
+    ensures reads { ReadsInto (memory_read page_size pages count reader.old) memory.new reader.new result }
     ensures size { length memory.new ≡ page_size * pages }
 {
     let mut low = 0;
     for _ in 0..count {
-        let number = u32::take(alloc, source)?;
-        let page = source.front(PAGE_SIZE as usize)?;
+        let number = u32::decode(alloc, reader)?;
+        let page = reader.front(PAGE_SIZE as usize)?;
         if !is_next(pages, low, number, page) {
             return Err(SnapFault::Bad);
         }
@@ -118,27 +118,31 @@ fn take_pages(
 }
 
 /// Reads the memory of so many pages that is spelled at the front, as a part of a larger value.
-fn take_as_part(alloc: Global, pages: u32, source: &mut Source<'_>) -> Result<PageRam, SnapFault>
+fn decode_as_part(
+    alloc: Global,
+    pages: u32,
+    reader: &mut ByteReader<'_>,
+) -> Result<PageRam, SnapFault>
     requires some { 1 ≤ pages }
     requires few { pages ≤ 16384 }
-    ensures reads { Reads ((memory_form pages).parse source.old) source.new result }
+    ensures reads { Reads ((memory_form pages).parse reader.old) reader.new result }
     ensures size { IfOk result (λ memory. length memory ≡ page_size * pages) }
 {
-    let count = u64::take(alloc, source)?;
+    let count = u64::decode(alloc, reader)?;
     let mut memory = PageRam::new(alloc, PAGE_SIZE * pages)?;
-    take_pages(alloc, source, count, pages, &mut memory)?;
+    decode_pages(alloc, reader, count, pages, &mut memory)?;
     Ok(memory)
 }
 
 /// Writes the spelling of a memory of so many pages at the end. Where memory runs out a part of it may
 /// stand there.
-pub fn put_memory(memory: &PageRam, pages: u32, out: &mut Vec<u8>) -> Result<(), NoMemory>
+pub fn encode_memory(memory: &PageRam, pages: u32, out: &mut Vec<u8>) -> Result<(), NoMemory>
     requires { length memory.now ≡ page_size * pages }
     ensures spelled { OnOk result (Appends out.old.items out.new.items ((memory_form pages).spell memory.now)) }
     ensures fits { OnOk result ((memory_form pages).Fits memory.now) }
 {
-    used_count(memory, pages).put(out)?;
-    put_pages(memory, pages, out)?;
+    used_count(memory, pages).encode(out)?;
+    encode_pages(memory, pages, out)?;
     Ok(())
 }
 
@@ -146,18 +150,22 @@ pub fn put_memory(memory: &PageRam, pages: u32, out: &mut Vec<u8>) -> Result<(),
 /// and what is spelled so is read, whatever follows it, unless memory runs out (`only`): so `Bad` comes
 /// only where no memory is spelled there. `part` says the same for a memory that is read as a part of
 /// a larger value.
-pub fn take_memory(alloc: Global, pages: u32, source: &mut Source<'_>) -> Result<PageRam, SnapFault>
+pub fn decode_memory(
+    alloc: Global,
+    pages: u32,
+    reader: &mut ByteReader<'_>,
+) -> Result<PageRam, SnapFault>
     requires some { 1 ≤ pages }
     requires few { pages ≤ 16384 }
     ensures found { IfOk result (λ memory.
-        IsBytes source.old → Spells (memory_form pages) source.old (memory, source.new)) }
+        IsBytes reader.old → Spells (memory_form pages) reader.old (memory, reader.new)) }
     ensures only { (memory rest : List ℕ) → (memory_form pages).Fits memory →
-        source.old ≡ (memory_form pages).spell memory ++ rest →
-        MatchResult result (λ loaded. (loaded ≡ memory) × (source.new ≡ rest)) (λ fault. fault ≡ SnapFault.Memory) }
-    ensures part { Reads ((memory_form pages).parse source.old) source.new result }
+        reader.old ≡ (memory_form pages).spell memory ++ rest →
+        MatchResult result (λ loaded. (loaded ≡ memory) × (reader.new ≡ rest)) (λ fault. fault ≡ SnapFault.Memory) }
+    ensures part { Reads ((memory_form pages).parse reader.old) reader.new result }
     ensures size { IfOk result (λ memory. length memory ≡ page_size * pages) }
 {
-    take_as_part(alloc, pages, source)
+    decode_as_part(alloc, pages, reader)
 }
 
 /// No spelling of a memory of so many pages begins another, and different memories have different

@@ -2,11 +2,11 @@
 ghost use Rattle.std.specs.Prelude.{◌≡◌, ◌<◌, All, IfOk, IfSome, OnOk, Some, false, length, map, slice_get};
 ghost use Rattle.std.specs.Option.{option_map};
 ghost use Rattle.board.specs.BoardState.{board_state};
-ghost use Rattle.lab_spell.specs.BoardState.{board_state_form};
-ghost use Rattle.lab_spell.specs.Combine.{each, list, option};
-ghost use Rattle.lab_spell.specs.OpenLines.{open_line_form};
-ghost use Rattle.lab_spell.specs.Posts.{post_form};
-ghost use Rattle.lab_spell.specs.Reads.{Appends};
+ghost use Rattle.lab_encoding.specs.BoardState.{board_state_form};
+ghost use Rattle.lab_encoding.specs.Combine.{each, list, option};
+ghost use Rattle.lab_encoding.specs.OpenLines.{open_line_form};
+ghost use Rattle.lab_encoding.specs.Posts.{post_form};
+ghost use Rattle.lab_encoding.specs.Reads.{Appends};
 ghost use Rattle.lab_state.specs.One.{view_of};
 ghost use Rattle.lab_state.specs.Valid.{IsValid};
 ghost use Rattle.page_ram.specs.Access.{IsRamSize};
@@ -14,24 +14,22 @@ ghost use Rattle.lab_snap.specs.Hub.{hub_form};
 ghost use Rattle.lab_snap.specs.Lab.{board_form};
 ghost use Rattle.lab_snap.specs.MachineForm.{machine_form, memories_form, sized_form};
 ghost use Rattle.lab_snap.specs.Saved.{IsSpellable, saved_board, saved_hub, saved_machine, spelling};
-ghost use Rattle.lab_snap.specs.Saved as saved_spec;
 ghost use Rattle.lab_snap.specs.Snapshot.{snapshot_of};
 
-use crate::hub::HubKind;
 use crate::lab::MARK;
-use crate::memory::put_memory;
+use crate::memory::encode_memory;
 use crate::snapshot::snapshots_are_what_they_spell;
 use board::Board;
-use dev_core::{Device, Kind};
+use dev_core::Device;
+use lab_encoding::{Spelled, encode_list};
 use lab_num::{BoardNo, NoMemory};
-use lab_spell::{Spelled, put_list};
 use lab_state::Lab;
 use log_text::Lines;
 use page_ram::PAGE_SIZE;
 use std::alloc::Global;
 
 /// Writes the memories of a board, which have these sizes, one after another.
-fn put_each_memory<D: Device>(
+fn encode_each_memory<D: Device>(
     board: &Board<D>,
     sizes: &[u32],
     out: &mut Vec<u8>,
@@ -44,14 +42,14 @@ fn put_each_memory<D: Device>(
     ensures fits { OnOk result ((each sized_form sizes.now).Fits board.now.view.space.memories) }
 {
     for k in 0..sizes.len() {
-        put_memory(board.memory(k as u8), sizes[k] / PAGE_SIZE, out)?;
+        encode_memory(board.memory(k as u8), sizes[k] / PAGE_SIZE, out)?;
     }
     Ok(())
 }
 
 /// Writes the list of the memories of a board.
 #[tactic(auto, unfolding(crate::specs::MachineForm::memories_form))]
-fn put_memories<D: Device>(
+fn encode_memories<D: Device>(
     board: &Board<D>,
     sizes: &[u32],
     out: &mut Vec<u8>,
@@ -63,36 +61,36 @@ fn put_memories<D: Device>(
         ((memories_form sizes.now).spell board.now.view.space.memories)) }
     ensures fits { OnOk result ((memories_form sizes.now).Fits board.now.view.space.memories) }
 {
-    (sizes.len() as u64).put(out)?;
-    put_each_memory(board, sizes, out)
+    (sizes.len() as u64).encode(out)?;
+    encode_each_memory(board, sizes, out)
 }
 
 /// Writes what of a board changes, its memories aside.
-fn put_state<D: Device>(board: &Board<D>, out: &mut Vec<u8>) -> Result<(), NoMemory>
+fn encode_state<D: Device>(board: &Board<D>, out: &mut Vec<u8>) -> Result<(), NoMemory>
     ensures spelled { OnOk result (Appends out.old.items out.new.items
         (board_state_form.spell (board_state board.now.view))) }
     ensures fits { OnOk result (board_state_form.Fits (board_state board.now.view)) }
 {
     let state = board.state()?;
-    state.put(out)
+    state.encode(out)
 }
 
 /// Writes a board that has a plan: the plan, what of the board changes, and its memories.
 #[tactic(auto, unfolding(crate::specs::MachineForm::machine_form, crate::specs::MachineForm::valid_plan_form))]
-fn put_machine<D: Device>(board: &Board<D>, out: &mut Vec<u8>) -> Result<(), NoMemory>
+fn encode_machine<D: Device>(board: &Board<D>, out: &mut Vec<u8>) -> Result<(), NoMemory>
     ensures spelled { OnOk result (Appends out.old.items out.new.items
         (machine_form.spell (saved_machine board.now.view))) }
     ensures fits { OnOk result (machine_form.Fits (saved_machine board.now.view)) }
 {
     let plan = board.plan();
-    plan.put(out)?;
-    put_state(board, out)?;
-    put_memories(board, plan.memories.items(), out)?;
+    plan.encode(out)?;
+    encode_state(board, out)?;
+    encode_memories(board, plan.memories.items(), out)?;
     Ok(())
 }
 
 /// Writes what stands under the name of a board, if anything does.
-fn put_under_name<D: Device>(lab: &Lab<D>, b: BoardNo, out: &mut Vec<u8>) -> Result<(), NoMemory>
+fn encode_under_name<D: Device>(lab: &Lab<D>, b: BoardNo, out: &mut Vec<u8>) -> Result<(), NoMemory>
     requires unspent { lab.now.spent ≡ false }
     requires exists { b.0 < length lab.now.lab.boards }
     ensures spelled { OnOk result (Appends out.old.items out.new.items
@@ -105,12 +103,12 @@ fn put_under_name<D: Device>(lab: &Lab<D>, b: BoardNo, out: &mut Vec<u8>) -> Res
         return Ok(());
     }
     out.push(1)?;
-    put_machine(lab.board(b), out)
+    encode_machine(lab.board(b), out)
 }
 
 /// Writes a board: its name, and what stands under it.
 #[tactic(auto, unfolding(crate::specs::Lab::board_form))]
-fn put_board<D: Device>(lab: &Lab<D>, b: BoardNo, out: &mut Vec<u8>) -> Result<(), NoMemory>
+fn encode_board<D: Device>(lab: &Lab<D>, b: BoardNo, out: &mut Vec<u8>) -> Result<(), NoMemory>
     requires unspent { lab.now.spent ≡ false }
     requires exists { b.0 < length lab.now.lab.boards }
     ensures spelled { OnOk result (IfSome (slice_get lab.now.lab.boards b.0) (λ board.
@@ -118,37 +116,27 @@ fn put_board<D: Device>(lab: &Lab<D>, b: BoardNo, out: &mut Vec<u8>) -> Result<(
     ensures fits { OnOk result (IfSome (slice_get lab.now.lab.boards b.0) (λ board.
         board_form.Fits (saved_board board))) }
 {
-    lab.board_name(b).put(out)?;
-    put_under_name(lab, b, out)
+    lab.board_name(b).encode(out)?;
+    encode_under_name(lab, b, out)
 }
 
 /// Writes the list of the boards.
-fn put_boards<D: Device>(lab: &Lab<D>, out: &mut Vec<u8>) -> Result<(), NoMemory>
+fn encode_boards<D: Device>(lab: &Lab<D>, out: &mut Vec<u8>) -> Result<(), NoMemory>
     requires unspent { lab.now.spent ≡ false }
     ensures spelled { OnOk result (Appends out.old.items out.new.items
         ((list board_form).spell (map saved_board lab.now.lab.boards))) }
     ensures fits { OnOk result ((list board_form).Fits (map saved_board lab.now.lab.boards)) }
 {
-    (lab.boards() as u64).put(out)?;
+    (lab.boards() as u64).encode(out)?;
     for b in 0..lab.boards() {
-        put_board(lab, BoardNo(b), out)?;
+        encode_board(lab, BoardNo(b), out)?;
     }
     Ok(())
 }
 
-/// The kind of a hub of devices of this kind. There is no hub of finishers.
-fn hub_kind(kind: Kind) -> HubKind
-    ensures { result ≡ saved_spec.hub_kind kind }
-{
-    match kind {
-        Kind::Uart => HubKind::Uart,
-        Kind::Can | Kind::Finisher => HubKind::Can,
-    }
-}
-
 /// Writes a hub: its kind, its name, its delay and its members.
 #[tactic(auto, unfolding(crate::specs::Hub::hub_form))]
-fn put_hub<D: Device>(lab: &Lab<D>, n: u32, out: &mut Vec<u8>) -> Result<(), NoMemory>
+fn encode_hub<D: Device>(lab: &Lab<D>, n: u32, out: &mut Vec<u8>) -> Result<(), NoMemory>
     requires unspent { lab.now.spent ≡ false }
     requires exists { n < length lab.now.lab.hubs }
     ensures spelled { OnOk result (IfSome (slice_get lab.now.lab.hubs n) (λ hub.
@@ -156,61 +144,61 @@ fn put_hub<D: Device>(lab: &Lab<D>, n: u32, out: &mut Vec<u8>) -> Result<(), NoM
     ensures fits { OnOk result (IfSome (slice_get lab.now.lab.hubs n) (λ hub.
         hub_form.Fits (saved_hub hub))) }
 {
-    hub_kind(lab.hub_kind(n)).put(out)?;
-    lab.hub_name(n).put(out)?;
-    (lab.hub_delay(n) as u32).put(out)?;
-    put_list(lab.hub_members(n), out)?;
+    lab.hub_kind(n).encode(out)?;
+    lab.hub_name(n).encode(out)?;
+    (lab.hub_delay(n) as u32).encode(out)?;
+    encode_list(lab.hub_members(n), out)?;
     Ok(())
 }
 
 /// Writes the list of the hubs.
-fn put_hubs<D: Device>(lab: &Lab<D>, out: &mut Vec<u8>) -> Result<(), NoMemory>
+fn encode_hubs<D: Device>(lab: &Lab<D>, out: &mut Vec<u8>) -> Result<(), NoMemory>
     requires unspent { lab.now.spent ≡ false }
     ensures spelled { OnOk result (Appends out.old.items out.new.items
         ((list hub_form).spell (map saved_hub lab.now.lab.hubs))) }
     ensures fits { OnOk result ((list hub_form).Fits (map saved_hub lab.now.lab.hubs)) }
 {
-    (lab.hubs() as u64).put(out)?;
+    (lab.hubs() as u64).encode(out)?;
     for n in 0..lab.hubs() {
-        put_hub(lab, n, out)?;
+        encode_hub(lab, n, out)?;
     }
     Ok(())
 }
 
 /// Writes the list of the posts that wait.
-fn put_pending<D: Device>(lab: &Lab<D>, out: &mut Vec<u8>) -> Result<(), NoMemory>
+fn encode_pending<D: Device>(lab: &Lab<D>, out: &mut Vec<u8>) -> Result<(), NoMemory>
     requires { lab.now.spent ≡ false }
     ensures spelled { OnOk result (Appends out.old.items out.new.items
         ((list post_form).spell lab.now.lab.pending)) }
     ensures fits { OnOk result ((list post_form).Fits lab.now.lab.pending) }
 {
-    put_list(lab.pending(), out)
+    encode_list(lab.pending(), out)
 }
 
 /// Writes the list of the open lines.
-fn put_lines(lines: &Lines, out: &mut Vec<u8>) -> Result<(), NoMemory>
+fn encode_lines(lines: &Lines, out: &mut Vec<u8>) -> Result<(), NoMemory>
     ensures spelled { OnOk result (Appends out.old.items out.new.items
         ((list open_line_form).spell lines.now)) }
     ensures fits { OnOk result ((list open_line_form).Fits lines.now) }
 {
-    put_list(lines.unended(), out)
+    encode_list(lines.unended(), out)
 }
 
 /// Writes a laboratory and its open lines.
 #[tactic(auto, unfolding(crate::specs::Lab::lab_form))]
-fn put_lab<D: Device>(lab: &Lab<D>, lines: &Lines, out: &mut Vec<u8>) -> Result<(), NoMemory>
+fn encode_lab<D: Device>(lab: &Lab<D>, lines: &Lines, out: &mut Vec<u8>) -> Result<(), NoMemory>
     requires { lab.now.spent ≡ false }
     ensures spelled { OnOk result
         (Appends out.old.items out.new.items (spelling lab.now.lab lines.now)) }
     ensures fits { OnOk result (IsSpellable lab.now.lab lines.now) }
 {
     out.extend_from_slice(&MARK)?;
-    lab.now().put(out)?;
-    lab.quantum().put(out)?;
-    put_boards(lab, out)?;
-    put_hubs(lab, out)?;
-    put_pending(lab, out)?;
-    put_lines(lines, out)?;
+    lab.now().encode(out)?;
+    lab.quantum().encode(out)?;
+    encode_boards(lab, out)?;
+    encode_hubs(lab, out)?;
+    encode_pending(lab, out)?;
+    encode_lines(lines, out)?;
     Ok(())
 }
 
@@ -225,6 +213,6 @@ pub fn save<D: Device>(alloc: Global, lab: &Lab<D>, lines: &Lines) -> Result<Vec
 {
     snapshots_are_what_they_spell();
     let mut out = Vec::new(alloc);
-    put_lab(lab, lines, &mut out)?;
+    encode_lab(lab, lines, &mut out)?;
     Ok(out)
 }

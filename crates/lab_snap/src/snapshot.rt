@@ -1,7 +1,7 @@
 //! What the bytes of a snapshot hold.
 ghost use Rattle.std.specs.Prelude.{◌≡◌, ℕ, List, Some};
 ghost use Rattle.log_text.specs.declared.line.OpenLine.{OpenLine as Line};
-ghost use Rattle.lab_spell.specs.Form.{IsBytes};
+ghost use Rattle.lab_encoding.specs.Form.{IsBytes};
 ghost use Rattle.lab_state.specs.Lab.{Lab as Laboratory};
 ghost use Rattle.lab_state.specs.Valid.{IsValid};
 ghost use Rattle.lab_snap.specs.Saved.{IsSpellable, spelling};

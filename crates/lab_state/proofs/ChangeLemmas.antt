@@ -7,11 +7,11 @@ use Rattle.page_ram.specs.Bytes.{zeros}
 use Rattle.board.specs.Changes.{put_in, put_byte, copied, with_bytes}
 use Rattle.board.specs.Space.{Space, target_at}
 use Rattle.board.specs.View.{View}
-use Rattle.lab_state.specs.declared.change.Change.{Change}
-use Rattle.lab_state.specs.declared.change.Change.TheVariants as change
+use Rattle.lab_state.specs.declared.board_change.BoardChange.{BoardChange}
+use Rattle.lab_state.specs.declared.board_change.BoardChange.TheVariants as change
 use Rattle.lab_state.specs.Board.{Board}
 use Rattle.lab_state.specs.One.{with_view}
-use Rattle.lab_state.specs.Inner.Change.{changed_by}
+use Rattle.lab_state.specs.Inner.BoardChange.{changed_by}
 use Rattle.lab_state.specs.Inner.Standing.{outline}
 
 -- a part of a view that a change leaves
@@ -47,7 +47,7 @@ copied-plan s at (byte ∷ bytes) =
 pub bytes-leave : (at : ℕ) (bytes : List ℕ) → Leaves (λ v. with_bytes v at bytes)
 bytes-leave at bytes v = (copied-plan v.space at bytes, refl)
 
-pub change-leaves : (c : Change) → Leaves (changed_by c)
+pub change-leaves : (c : BoardChange) → Leaves (changed_by c)
 change-leaves (change.Pc hart pc) v = (refl, refl)
 change-leaves (change.Halted hart on) v = (refl, refl)
 change-leaves (change.Shown dev) v = (refl, refl)

@@ -19,14 +19,14 @@ use Rattle.dev_core.specs.declared.post.Post.{Post}
 use Rattle.hub_mail.specs.declared.view.Sent.{Sent}
 use Rattle.hub_mail.specs.Boss.{Boss, sent_by}
 use Rattle.hub_mail.specs.Pass.{MailId, Pass, fresh_passes, fresh as new_pass}
-use Rattle.parcel.specs.Parcel.{Parcel}
-use Rattle.parcel.specs.Ran.{ran}
+use Rattle.board_job.specs.BoardJob.{BoardJob}
+use Rattle.board_job.specs.Ran.{ran}
 use Rattle.time_handle.specs.Grant.{Grant, fresh, left}
 use Rattle.time_source.specs.Tree.{Tree, IsLater}
 use Rattle.lab_state.specs.Board.{Board}
 use Rattle.lab_state.specs.One.{first_without}
 use Rattle.lab_state.specs.Round.{granted, stepped, posts_made, entries_made}
-use Rattle.lab_state.specs.Inner.Lending.{parcel_of, lent, away, put_back, unused, each_by, its_grant}
+use Rattle.lab_state.specs.Inner.Lending.{board_job_of, lent, away, put_back, unused, each_by, its_grant}
 use Rattle.lab_state.specs.Inner.Time.{part_of, used_up, numbers_of, StandsAt, AreStanding}
 use Rattle.lab_state.proofs.TimeLemmas.{few_slots}
 
@@ -63,23 +63,23 @@ module _ {A P : Type 0} (f : A → P → A) where
   none_by [] = refl
   none_by (x ∷ xs) = refl
 
--- ---- one parcel more
+-- ---- one job more
 
-module _ (ps : List Parcel) (p : Parcel) {n : ℕ} (at : n ≡ length ps) where
+module _ (ps : List BoardJob) (p : BoardJob) {n : ℕ} (at : n ≡ length ps) where
   -- its grant is that of the member, of which nothing was used before
   pub came_later :
-      (items : List Parcel) (first : List Grant) {handles : List Grant} {grant : Grant} →
-      handles ≡ each_by its_grant first ps → first ≡ map (λ (p : Parcel). unused p.grant) items →
+      (items : List BoardJob) (first : List Grant) {handles : List Grant} {grant : Grant} →
+      handles ≡ each_by its_grant first ps → first ≡ map (λ (p : BoardJob). unused p.grant) items →
       length ps < length items → p ≡ get_or items (length ps) p → grant ≡ p.grant → (old : Grant) →
       slice_get handles n ≡ Some old → IsLater old grant
   came_later items first so_far parts below here given old found =
-      let free : Parcel → Grant = λ (p : Parcel). unused p.grant in
+      let free : BoardJob → Grant = λ (p : BoardJob). unused p.grant in
       let is : old ≡ unused p.grant =
       same_Some old (unused p.grant)
       (sym found ∙ (λ k. slice_get (so_far k) (at k)) ∙ next_at its_grant first ps
       ∙ ap (λ (gs : List Grant). slice_get gs (length ps)) parts ∙ slice_get-map free items (length ps)
       ∙ ap (option_map free) (slice_get-get_or items (length ps) p below)
-      ∙ ap (λ (q : Parcel). Some (free q)) (sym here))
+      ∙ ap (λ (q : BoardJob). Some (free q)) (sym here))
       in
       rw (is, given) (record { from = refl; to = refl; speed = refl; used = omega arith })
 
@@ -126,7 +126,7 @@ planned boards none =
 
 -- ---- a board that is lent has room for what it makes
 
-pub record HasRoom (p : Parcel) : Type 0 where
+pub record HasRoom (p : BoardJob) : Type 0 where
   pub quiet : p.board.posts ≡ []
   pub posts : p.board.view.numbers.posted + left p.grant < 2 ^ 64
   pub entries : p.board.view.numbers.entered + left p.grant < 2 ^ 64
@@ -143,8 +143,8 @@ all_have_room mail from q within boards are =
 
     one :
         (b : ℕ) (o : Option View) → StandsAt (1000 * from) b (Some (option_map (λ v. v.numbers) o)) →
-        (ps : List Parcel) → AllByRecursion HasRoom ps →
-        AllByRecursion HasRoom (option_map_or (λ v. parcel_of mail from (from + q) v ∷ []) o [] ++ ps)
+        (ps : List BoardJob) → AllByRecursion HasRoom ps →
+        AllByRecursion HasRoom (option_map_or (λ v. board_job_of mail from (from + q) v ∷ []) o [] ++ ps)
     one b None is ps rest = rest
     one b (Some v) is ps rest =
         let own = is v.numbers refl in
@@ -168,18 +168,18 @@ all_have_room mail from q within boards are =
 
 -- ---- what comes back of boards that are lent
 
--- what the board of a parcel has posted
-abbrev pub sent_of : Parcel → Sent
+-- what the board of a job has posted
+abbrev pub sent_of : BoardJob → Sent
 sent_of p = sent_by p.pass
 
 -- all posts of some passes, one pass after another
-abbrev pub all_sent : List Parcel → List Post
+abbrev pub all_sent : List BoardJob → List Post
 all_sent ps = flat_map (λ (s : Sent). s.posts) (map sent_of ps)
 
 module _ (mail : MailId) (from to : ℕ) where
   -- one board
   ran_is :
-      (v : View) → ran (parcel_of mail from to v) ≡ record {
+      (v : View) → ran (board_job_of mail from to v) ≡ record {
         board = record (granted from to v) { posts = [] };
         grant = used_up (fresh from to v.numbers.speed);
         pass = record (new_pass mail v.numbers.number) { posted = (granted from to v).posts };
@@ -191,13 +191,13 @@ module _ (mail : MailId) (from to : ℕ) where
       rw (whole, used) refl
 
   -- and all of them
-  pub record Comes (boards : List Board) (ps : List Parcel) : Type 0 where
+  pub record Comes (boards : List Board) (ps : List BoardJob) : Type 0 where
     pub back : each_by put_back (map away boards) ps ≡ map (stepped (granted from to)) boards
     pub posts : all_sent ps ≡ flat_map (posts_made (granted from to)) boards
-    pub entries : flat_map (λ (p : Parcel). p.board.entries) ps ≡ flat_map (entries_made (granted from to)) boards
-    pub parts : map (part_of from to) boards ≡ map (λ (p : Parcel). unused p.grant) ps
+    pub entries : flat_map (λ (p : BoardJob). p.board.entries) ps ≡ flat_map (entries_made (granted from to)) boards
+    pub parts : map (part_of from to) boards ≡ map (λ (p : BoardJob). unused p.grant) ps
     pub grants : each_by its_grant (map (part_of from to) boards) ps ≡ map used_up (map (part_of from to) boards)
-    pub mails : AllByRecursion (λ (p : Parcel). p.pass.mail ≡ mail) ps
+    pub mails : AllByRecursion (λ (p : BoardJob). p.pass.mail ≡ mail) ps
     pub count : length ps ≡ length boards
 
   pub come : (boards : List Board) → Planned boards → Comes boards (map ran (flat_map (lent mail from to) boards))
@@ -239,14 +239,14 @@ its_pass mail count pass {k = k} {n = n} at are below here =
 
 -- ---- one pass more is taken in
 
--- what holds of all parcels holds of the one at this place
+-- what holds of all jobs holds of the one at this place
 pub at_place :
-    (P : Parcel → Type 0) (items ps : List Parcel) (p : Parcel) → All P items → length ps < length items →
+    (P : BoardJob → Type 0) (items ps : List BoardJob) (p : BoardJob) → All P items → length ps < length items →
     p ≡ get_or items (length ps) p → P p
 at_place P items ps p all below here = subst P (sym here) (all (length ps) p below)
 
 pub boss_more :
-    (ps : List Parcel) (p : Parcel) (first : Boss) {boss : Boss} →
+    (ps : List BoardJob) (p : BoardJob) (first : Boss) {boss : Boss} →
     boss ≡ record first { taken = first.taken ++ map sent_of ps } →
     record boss { taken = boss.taken ++ sent_of p ∷ [] }
     ≡ record first { taken = first.taken ++ map sent_of (ps ++ p ∷ []) }
@@ -256,9 +256,9 @@ boss_more ps p first so_far =
     (append_assoc first.taken (map sent_of ps) (sent_of p ∷ [])
     ∙ ap (λ (sent : List Sent). first.taken ++ sent) (sym (map-append sent_of ps (p ∷ []))))
 
--- in the end the boss has those of all parcels
+-- in the end the boss has those of all jobs
 pub taken_are :
-    (ps : List Parcel) {first boss : Boss} → first.taken ≡ [] →
+    (ps : List BoardJob) {first boss : Boss} → first.taken ≡ [] →
     boss ≡ record first { taken = first.taken ++ map sent_of ps } → boss.taken ≡ map sent_of ps
 taken_are ps none is =
     ap (λ (b : Boss). b.taken) is ∙ ap (λ (sent : List Sent). sent ++ map sent_of ps) none

@@ -13,6 +13,7 @@ use Rattle.lab_num.specs.declared.key.Member.{Member}
 use Rattle.lab_num.specs.declared.number.BoardNo.{BoardNo}
 use Rattle.lab_num.specs.Key.{same_member}
 use Rattle.lab_num.specs.Route.{has_member}
+use Rattle.dev_core.specs.Kind.{row_of}
 use Rattle.dev_core.specs.declared.kind.Kind.{Kind}
 use Rattle.dev_core.specs.declared.kind.Kind.TheVariants.{Uart, Can, Finisher}
 use Rattle.dev_core.specs.declared.payload.Payload.{Payload}
@@ -21,7 +22,6 @@ use Rattle.dev_core.specs.declared.post.Post.{Post}
 use Rattle.sys_bus.specs.Limits.{is_speed}
 use Rattle.board.specs.declared.state.BoardState.{BoardState}
 use Rattle.board.specs.BoardState.{brought_to}
-use Rattle.board.specs.Changes.{is_shown_kind}
 use Rattle.board.specs.Sent.{is_of_kind}
 use Rattle.board.specs.Valid.{IsStateFor}
 use Rattle.board.specs.View.{View}
@@ -171,7 +171,7 @@ member_kind boards kind (x ∷ xs) m all is =
 record HasHubKind (boards : List Board) (m : Member) : Type 0 where
   kind : Kind
   device : kind_at boards m ≡ Some kind
-  of_a_hub : IsTrue (is_shown_kind kind)
+  of_a_hub : IsTrue (row_of kind).joins_hubs
 
 hub_kind :
     (boards : List Board) (hubs : List Hub) (m : Member) → All (IsHub boards) hubs → IsSome (delay_of hubs m) →
@@ -196,7 +196,7 @@ hub_kind boards (h ∷ hs) m all some =
 
 -- what such devices send finishes nothing
 unfinished :
-    (kind : Kind) (p : Payload) → IsTrue (is_shown_kind kind) → IsTrue (is_of_kind kind p) →
+    (kind : Kind) (p : Payload) → IsTrue (row_of kind).joins_hubs → IsTrue (is_of_kind kind p) →
     is_some (finish_of p) ≡ false
 unfinished kind (payload.Byte byte) shown of = refl
 unfinished kind (payload.Frame frame) shown of = refl

@@ -6,11 +6,15 @@ use Rattle.std.proofs.Common.{◌<◌, ◌≤◌, List, [], ◌∷◌, ◌++◌,
 use Rattle.std.proofs.Common.{Option, Some, None, take, drop, add-zero, zero-add, arith}
 use Rattle.std.specs.Prelude.{IsSome, is_none}
 use Rattle.std.proofs.lemmas.List.{map-append}
-use Rattle.std.proofs.lemmas.List.Elements.{All-nil, All-append, All-filter, All-head, All-tail, All-weaker}
+use Rattle.std.proofs.lemmas.List.Elements.{All-nil, All-append, All-head, All-tail, All-weaker}
 use Rattle.std.proofs.lemmas.Grind.{common_steps}
 use Rattle.std.proofs.lemmas.Option.{slice_get_past, slice_get-map, slice_get-get_or}
 use Rattle.std.proofs.Math.Seq.{take-append_seam}
 use Rattle.std.specs.List.{flat_map, All, position}
+use Rattle.std.specs.Prelude.{filter}
+use Rattle.std.proofs.lemmas.List.{take_more}
+use Rattle.std.proofs.lemmas.List.Elements.{filter-append}
+use Rattle.std.proofs.lemmas.List.Sums.{fold-append}
 use Rattle.std.specs.Option.{option_map, option_map_or, ForSome}
 use Rattle.lab_num.specs.declared.key.Key.{Key}
 use Rattle.lab_num.specs.declared.key.Member.{Member}
@@ -18,7 +22,7 @@ use Rattle.lab_num.specs.Key.{same_member, KeysDiffer}
 use Rattle.lab_num.specs.Paid.{paid, slot_at}
 use Rattle.std.proofs.lemmas.Nat.{div_below}
 use Rattle.lab_state.proofs.PendingLemmas.{AreOfRound}
-use Rattle.lab_num.specs.Route.{route, hub_of, has_member}
+use Rattle.lab_num.specs.Route.{route, hub_of, has_member, others}
 use Rattle.dev_core.specs.declared.payload.Payload.{Payload}
 use Rattle.dev_core.specs.declared.post.Post.{Post}
 use Rattle.dev_core.specs.Post.{post_key, entry_key}
@@ -83,8 +87,28 @@ module _ (at : ℕ) (hubs : List Hub) (boards : List Board) (posts : List Post) 
       (λ dev payload board. same_part (λ v. v.numbers) (λ v. handed v dev payload) (λ v. refl) board.view) at
       (members_of hubs) (record { boards = boards; notes = [] }) posts
 
+pub outlines-members :
+    (at : ℕ) (payload : Payload) (h : Handed) (to : List Member) →
+    outlines (fold (to_member at payload) h to).boards ≡ outlines h.boards
+outlines-members at payload h to = map-members outline handed-outline at payload h to
+
+-- a payload is handed to one member more, unless it is of that one
+pub handed-more_others :
+    (at : ℕ) (payload : Payload) (from : Member) (start : Handed) {old new : Handed} (members : List Member) (i : ℕ)
+    (m : Member) →
+    i < length members → old ≡ fold (to_member at payload) start (others (take i members) from) →
+    new ≡ fold (to_member at payload) old (others (get_or members i m ∷ []) from) →
+    new ≡ fold (to_member at payload) start (others (take (i + 1) members) from)
+handed-more_others at payload from start members i m below before step =
+    let f = to_member at payload in
+    let p = λ (other : Member). not (same_member other from) in
+    step ∙ ap (λ h. fold f h (others (get_or members i m ∷ []) from)) before
+    ∙ sym (fold-append f start (others (take i members) from) (others (get_or members i m ∷ []) from))
+    ∙ ap (fold f start) (sym (ap (filter p) (take_more members i m below)
+    ∙ filter-append p (take i members) (get_or members i m ∷ [])))
+
 -- a device of a board can be handed something
-can_take :
+pub can_take :
     (boards : List Board) (b dev : ℕ) (d : Board) → IsSome (kind_of_outline dev (slice_get (outlines boards) b)) →
     (b < length boards) × ForSome (get_or boards b d).view (λ v. dev < length v.space.plan.kinds)
 can_take boards b dev d is =
@@ -97,38 +121,22 @@ can_take boards b dev d is =
       slice_get_past,
     )
 
--- and so can a member that a loop has not come to, whose board is as it is by then
-pub deliverable :
-    {boards : List Board} (h : Handed) (at : ℕ) (payload : Payload) (to : List Member) (i : ℕ) (m : Member)
-    (d : Board) →
-    boards ≡ (fold (to_member at payload) h (take i to)).boards → All (IsDevice (outlines h.boards)) to →
-    i < length to →
-    ((get_or to i m).board.0 < length boards)
-    × ForSome (get_or boards (get_or to i m).board.0 d).view (λ v. (get_or to i m).dev < length v.space.plan.kinds)
-deliverable {boards = boards} h at payload to i m d is all below =
-    can_take boards (get_or to i m).board.0 (get_or to i m).dev d
-    (rw (ap outlines is ∙ map-members outline handed-outline at payload h (take i to)) (all i m below))
-
--- the members that a device's posts go to are devices of boards
-pub route_devices :
+-- the members of a device's hub are devices of boards
+pub hub_devices :
     (os : List Outline) (hubs : List Hub) (m : Member) → AreDevices os hubs →
-    All (IsDevice os) (route (members_of hubs) m)
-route_devices os hubs m all =
-    All-filter (λ other. not (same_member other m)) (IsDevice os) (hub_of (members_of hubs) m) (hub_devices hubs all)
+    All (IsDevice os) (hub_of (members_of hubs) m)
+hub_devices os [] m all = All-nil (IsDevice os)
+hub_devices os (hub ∷ hubs) m all =
+    found (has_member hub.members m) hub.members (find (λ h. has_member h m) (members_of hubs))
+    (All-weaker (λ m. kind_in os m ≡ Some hub.kind) (IsDevice os) (λ m is. rw is refl) hub.members
+    (All-head (AreMembers os) hub hubs all))
+    (hub_devices os hubs m (All-tail (AreMembers os) hub hubs all))
   where
     found :
         (here : Bool) (hub : List Member) (rest : Option (List Member)) → All (IsDevice os) hub →
         All (IsDevice os) (unwrap_or rest []) → All (IsDevice os) (unwrap_or (cond here (Some hub) rest) [])
     found true hub rest all others = all
     found false hub rest all others = others
-
-    hub_devices : (hubs : List Hub) → AreDevices os hubs → All (IsDevice os) (hub_of (members_of hubs) m)
-    hub_devices [] all = All-nil (IsDevice os)
-    hub_devices (hub ∷ hubs) all =
-        found (has_member hub.members m) hub.members (find (λ h. has_member h m) (members_of hubs))
-        (All-weaker (λ m. kind_in os m ≡ Some hub.kind) (IsDevice os) (λ m is. rw is refl) hub.members
-        (All-head (AreMembers os) hub hubs all))
-        (hub_devices hubs (All-tail (AreMembers os) hub hubs all))
 
 -- ---- what all boards make
 

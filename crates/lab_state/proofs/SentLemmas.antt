@@ -18,7 +18,7 @@ use Rattle.dev_core.specs.Device.{kind_of}
 use Rattle.dev_core.specs.Post.{post_key}
 use Rattle.board.specs.Numbers.{Numbers}
 use Rattle.board.specs.Sent.{IsSentBy}
-use Rattle.board.specs.Space.{Fitted, Space, device_at}
+use Rattle.board.specs.Space.{BoardDevice, Space, device_at}
 use Rattle.board.specs.Stretch.{stretch}
 use Rattle.board.specs.View.{View, State}
 use Rattle.sys_bus.specs.Plan.{IsValid}
@@ -56,10 +56,11 @@ keys_below b first (key ∷ keys) are =
 -- the kind of a device that is there
 kind_here :
     (s : Space) (dev : ℕ) → dev < length s.devices →
-    slice_get (map (λ (fitted : Fitted). kind_of fitted.state) s.devices) dev ≡ Some (kind_of (device_at s dev).state)
+    slice_get (map (λ (fitted : BoardDevice). kind_of fitted.state) s.devices) dev ≡ Some
+    (kind_of (device_at s dev).state)
 kind_here s dev below =
-    slice_get-map (λ (fitted : Fitted). kind_of fitted.state) s.devices dev
-    ∙ ap (option_map (λ (fitted : Fitted). kind_of fitted.state))
+    slice_get-map (λ (fitted : BoardDevice). kind_of fitted.state) s.devices dev
+    ∙ ap (option_map (λ (fitted : BoardDevice). kind_of fitted.state))
     (slice_get-get_or s.devices dev (record { state = Finisher; shown = false }) below)
 
 pub kind_there :
@@ -107,7 +108,7 @@ module _ (number : Numbering) (send : Sending) (from q : ℕ) (within : from + q
       let made = numbered number from q within b v (stands b v at) in
       let post = get_or (in_round from q v).posts k d in
       let many : length v.space.devices ≡ length v.space.plan.kinds =
-      sym (length-map v.space.devices (λ (fitted : Fitted). kind_of fitted.state)) ∙ ap length has.kinds in
+      sym (length-map v.space.devices (λ (fitted : BoardDevice). kind_of fitted.state)) ∙ ap length has.kinds in
       let sent = send v from 0 (paid from (from + q) v.numbers.speed) has.plan many k d below in
       let posts = (in_round from q v).posts in
       let numbered_so =

@@ -31,10 +31,10 @@ use Rattle.log_merge.specs.declared.item.LogItem.TheVariants as item
 use Rattle.log_merge.specs.declared.item.Note.{Note}
 use Rattle.log_text.specs.declared.line.OpenLine.{OpenLine}
 use Rattle.log_text.specs.Log.{device_of, open_lines, IsOnBytes}
-use Rattle.sys_bus.specs.Limits.{is_kind}
+use Rattle.dev_core.specs.Kind.{is_kind}
 use Rattle.board.specs.Changes.{handed}
 use Rattle.board.specs.Sent.{IsEnteredIn, IsShown, IsToldBy}
-use Rattle.board.specs.Space.{Fitted, device_at}
+use Rattle.board.specs.Space.{BoardDevice, device_at}
 use Rattle.board.specs.Stretch.{stretch}
 use Rattle.board.specs.View.{View}
 use Rattle.lab_state.specs.Board.{Board}
@@ -79,20 +79,21 @@ among (board ∷ boards) (suc b) dev = among boards b dev
 -- devices of the same kinds, of which the same are shown
 uart-same :
     (v w : View) →
-    map (λ (fitted : Fitted). kind_of fitted.state) v.space.devices
-    ≡ map (λ (fitted : Fitted). kind_of fitted.state) w.space.devices →
-    map (λ (fitted : Fitted). fitted.shown) v.space.devices ≡ map (λ (fitted : Fitted). fitted.shown) w.space.devices →
+    map (λ (fitted : BoardDevice). kind_of fitted.state) v.space.devices
+    ≡ map (λ (fitted : BoardDevice). kind_of fitted.state) w.space.devices →
+    map (λ (fitted : BoardDevice). fitted.shown) v.space.devices ≡ map (λ (fitted : BoardDevice). fitted.shown)
+    w.space.devices →
     (dev : ℕ) → is_shown_uart v dev ≡ is_shown_uart w dev
 uart-same v w kinds shown dev =
-    let hidden : Fitted = record { state = state.Finisher; shown = false } in
+    let hidden : BoardDevice = record { state = state.Finisher; shown = false } in
     let same_kind : kind_of (device_at v.space dev).state ≡ kind_of (device_at w.space dev).state =
-    sym (get_or-map (λ (fitted : Fitted). kind_of fitted.state) v.space.devices dev hidden)
+    sym (get_or-map (λ (fitted : BoardDevice). kind_of fitted.state) v.space.devices dev hidden)
     ∙ ap (λ kinds. get_or kinds dev (kind_of hidden.state)) kinds
-    ∙ get_or-map (λ (fitted : Fitted). kind_of fitted.state) w.space.devices dev hidden in
+    ∙ get_or-map (λ (fitted : BoardDevice). kind_of fitted.state) w.space.devices dev hidden in
     let same_shown : (device_at v.space dev).shown ≡ (device_at w.space dev).shown =
-    sym (get_or-map (λ (fitted : Fitted). fitted.shown) v.space.devices dev hidden)
+    sym (get_or-map (λ (fitted : BoardDevice). fitted.shown) v.space.devices dev hidden)
     ∙ ap (λ shown. get_or shown dev false) shown
-    ∙ get_or-map (λ (fitted : Fitted). fitted.shown) w.space.devices dev hidden in
+    ∙ get_or-map (λ (fitted : BoardDevice). fitted.shown) w.space.devices dev hidden in
     λ i. same_shown i && is_kind Uart (same_kind i)
 
 uarts-same :
@@ -117,12 +118,12 @@ handed-uart : (dev : ℕ) (payload : Payload) (v : View) (other : ℕ) →
     is_shown_uart (handed v dev payload) other ≡ is_shown_uart v other
 handed-uart dev payload v =
     let old = device_at v.space dev in
-    let new : Fitted = record old { state = (dev_take old.state payload).after } in
-    let hidden : Fitted = record { state = state.Finisher; shown = false } in
+    let new : BoardDevice = record old { state = (dev_take old.state payload).after } in
+    let hidden : BoardDevice = record { state = state.Finisher; shown = false } in
     uart-same (handed v dev payload) v
-    (map-set_same (λ (fitted : Fitted). kind_of fitted.state) v.space.devices dev new hidden
+    (map-set_same (λ (fitted : BoardDevice). kind_of fitted.state) v.space.devices dev new hidden
     (take-kind old.state payload))
-    (map-set_same (λ (fitted : Fitted). fitted.shown) v.space.devices dev new hidden refl)
+    (map-set_same (λ (fitted : BoardDevice). fitted.shown) v.space.devices dev new hidden refl)
 
 -- ---- what a round tells of
 
@@ -194,14 +195,14 @@ Telling = (v : View) (from a n : ℕ) → All (λ entry. IsToldBy v entry.what) 
 abbrev pub KindKeeping : Type 0
 KindKeeping =
     (v : View) (from a n : ℕ) →
-    map (λ (fitted : Fitted). kind_of fitted.state) (stretch v from a n).view.space.devices
-    ≡ map (λ (fitted : Fitted). kind_of fitted.state) v.space.devices
+    map (λ (fitted : BoardDevice). kind_of fitted.state) (stretch v from a n).view.space.devices
+    ≡ map (λ (fitted : BoardDevice). kind_of fitted.state) v.space.devices
 
 abbrev pub ShownKeeping : Type 0
 ShownKeeping =
     (v : View) (from a n : ℕ) →
-    map (λ (fitted : Fitted). fitted.shown) (stretch v from a n).view.space.devices
-    ≡ map (λ (fitted : Fitted). fitted.shown) v.space.devices
+    map (λ (fitted : BoardDevice). fitted.shown) (stretch v from a n).view.space.devices
+    ≡ map (λ (fitted : BoardDevice). fitted.shown) v.space.devices
 
 -- a line of a member and a time that pass a test, and the law that items open such lines
 abbrev pub IsIn : (Member → Micros → Bool) → OpenLine → Type 0

@@ -1,5 +1,5 @@
 -- What serves private contracts and proofs alone.
-pub mod Change
+pub mod BoardChange
 pub mod End
 pub mod Fault
 pub mod Hubs

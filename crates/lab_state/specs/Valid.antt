@@ -3,7 +3,6 @@ use Rattle.std.specs.Prelude.{◌≡◌, ℕ, ◌*◌, ◌^◌, ◌<◌, ◌≤�
 use Rattle.std.specs.List.{All}
 use Rattle.std.specs.List.Sorted.{IsStrictlySortedBy}
 use Rattle.std.specs.Option.{ForSome, option_map_or}
-use Rattle.board.specs.Changes.{is_shown_kind}
 use Rattle.board.specs.Sent.{is_of_kind}
 use Rattle.board.specs.Space.{device_at}
 use Rattle.board.specs.Valid.{IsBoard}
@@ -17,7 +16,7 @@ use Rattle.lab_num.specs.declared.number.Micros.{Micros}
 use Rattle.lab_num.specs.Key.{key_cmp}
 use Rattle.lab_num.specs.Name.{is_name}
 use Rattle.lab_num.specs.Route.{StandOnce}
-use Rattle.sys_bus.specs.Limits.{is_kind}
+use Rattle.dev_core.specs.Kind.{is_kind, row_of}
 use Rattle.log_text.specs.declared.line.OpenLine.{OpenLine}
 use Rattle.log_text.specs.Line.{are_unended}
 use Rattle.lab_state.specs.Board.{Board}
@@ -34,10 +33,10 @@ pub record IsStanding (now b : ℕ) (v : View) : Type 0 where
   pub posted : v.numbers.posted ≤ 1000 * now
   pub entries : v.numbers.entered ≤ 1000 * now
 
--- a hub of UARTs or of CAN controllers, whose members are devices of this kind
+-- a hub of a kind of devices that joins hubs, whose members are devices of this kind
 pub record IsHub (boards : List Board) (hub : Hub) : Type 0 where
   pub name : IsTrue (is_name hub.name)
-  pub kind : IsTrue (is_shown_kind hub.kind)
+  pub kind : IsTrue (row_of hub.kind).joins_hubs
   pub delay : hub.delay ≤ 1000000
   pub members : All (λ m. kind_at boards m ≡ Some hub.kind) hub.members
 

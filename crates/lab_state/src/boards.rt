@@ -34,20 +34,20 @@ fn first_bare<D: Device>(boards: &[NamedBoard<D>]) -> Option<usize>
 }
 
 /// Each board is one that there can be. Nothing is changed and told when this runs.
-pub fn can_all_be<D: Device>(boards: &[NamedBoard<D>])
+pub fn validity_laws<D: Device>(boards: &[NamedBoard<D>])
     ensures { All (λ board. ForSome board.view IsBoard) boards.now }
 {
     for board in boards {
-        board.is_one_that_can_be();
+        board.validity_law();
     }
 }
 
 /// Each board has the devices of its plan. Nothing is changed and told when this runs.
-pub fn have_their_devices<D: Device>(boards: &[NamedBoard<D>])
+pub fn devices_laws<D: Device>(boards: &[NamedBoard<D>])
     ensures { All (λ board. ForSome board.view HasDevices) boards.now }
 {
     for board in boards {
-        board.has_its_devices();
+        board.devices_law();
     }
 }
 

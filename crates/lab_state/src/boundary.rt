@@ -1,6 +1,7 @@
 //! The boundary between two rounds: what the boards have sent is handed over as far as it is due.
 ghost use Rattle.std.specs.Prelude.{◌≡◌, ◌+◌, ◌++◌, ◌∷◌, [], true, nat_le, All, filter, fold, find, OnOk, IfOk};
 ghost use Rattle.std.specs.Option.{option_map, option_to_list};
+ghost use Rattle.lab_num.specs.Route as routes;
 ghost use Rattle.lab_state.specs.Boundary.{Handed, note_item, to_member, to_route, to_routes, due, not_due};
 ghost use Rattle.lab_state.specs.Pending as pending_spec;
 ghost use Rattle.lab_state.specs.Pending.{is_finish, is_of_a_hub};
@@ -32,12 +33,21 @@ fn is_finish(post: &Post) -> bool
     finish_of(&post.payload).is_some()
 }
 
-/// A note of a device as an item of the log, if there is one.
-fn note_item(at: Micros, member: Member, note: Option<Note>) -> Option<LogItem>
-    ensures { result ≡ option_map (note_item at.0 member) note }
+/// Puts a note of a device at the end of the items of the log, if there is one.
+fn push_note(
+    items: &mut Vec<LogItem>,
+    at: Micros,
+    member: Member,
+    note: Option<Note>,
+) -> Result<(), NoMemory>
+    ensures { OnOk result (items.new.items
+        ≡ items.old.items ++ option_to_list (option_map (note_item at.0 member) note)) }
 {
-    let note = note?;
-    Some(LogItem::Note { at, member, note })
+    if let Some(note) = note {
+        let item = LogItem::Note { at, member, note };
+        items.extend_from_slice(slice::from_ref(&item))?;
+    }
+    Ok(())
 }
 
 /// Puts an item at the end of the items, if there is one.
@@ -50,23 +60,48 @@ fn push(items: &mut Vec<LogItem>, item: &Option<LogItem>) -> Result<(), NoMemory
     Ok(())
 }
 
-/// Hands a payload to each of these devices, and notes what the log says of it.
-fn hand_over<D: Device>(
+/// Hands a payload to a device that is not the one that sent it, and notes what the log says of it.
+fn hand_to_other<D: Device>(
     boards: &mut [NamedBoard<D>],
-    to: &[Member],
+    member: Member,
+    from: Member,
     payload: &Payload,
     at: Micros,
     notes: &mut Vec<LogItem>,
 ) -> Result<(), NoMemory>
-    requires { All (IsDevice (outlines boards.old)) to.now }
+    requires { IsDevice (outlines boards.old) member }
     ensures { OnOk result (◌≡◌ {A = Handed}
         (record { boards = boards.new; notes = notes.new.items })
         (fold (to_member at.0 payload.now)
-        (record { boards = boards.old; notes = notes.old.items }) to.now)) }
+        (record { boards = boards.old; notes = notes.old.items })
+        (routes.others (member ∷ []) from))) }
 {
-    for member in to {
-        let note = boards[member.board.0 as usize].deliver(member.dev, payload);
-        push(notes, &note_item(at, *member, note))?;
+    if member == from {
+        return Ok(());
+    }
+    let note = boards[member.board.0 as usize].deliver(member.dev, payload);
+    push_note(notes, at, member, note)?;
+    Ok(())
+}
+
+/// Hands a payload to each of these devices but the one that sent it, and notes what the log says of it.
+fn hand_over<D: Device>(
+    boards: &mut [NamedBoard<D>],
+    members: &[Member],
+    from: Member,
+    payload: &Payload,
+    at: Micros,
+    notes: &mut Vec<LogItem>,
+) -> Result<(), NoMemory>
+    requires { All (IsDevice (outlines boards.old)) members.now }
+    ensures { OnOk result (◌≡◌ {A = Handed}
+        (record { boards = boards.new; notes = notes.new.items })
+        (fold (to_member at.0 payload.now)
+        (record { boards = boards.old; notes = notes.old.items })
+        (routes.others members.now from))) }
+{
+    for member in members {
+        hand_to_other(boards, *member, from, payload, at, notes)?;
     }
     Ok(())
 }
@@ -81,7 +116,6 @@ fn is_due(sent: Micros, delay: u64, at: Micros) -> bool
 /// Hands a post to the other members of its device's hub if it is due by now, and keeps it if not. One
 /// that is for no other device goes to nobody.
 fn hand_or_keep<D: Device>(
-    alloc: Global,
     boards: &mut [NamedBoard<D>],
     hubs: &HubList,
     post: &Post,
@@ -105,8 +139,7 @@ fn hand_or_keep<D: Device>(
         return Ok(());
     }
     if is_due(post.key.at, hub.delay(), at) {
-        let to = hub.others(alloc, post.from)?;
-        hand_over(boards, &to, &post.payload, at, notes)
+        hand_over(boards, hub.members(), post.from, &post.payload, at, notes)
     } else {
         kept.push(*post)?;
         Ok(())
@@ -116,7 +149,6 @@ fn hand_or_keep<D: Device>(
 /// Hands over those of these posts that are due by now, one after another, and keeps the others that
 /// are for other devices, in their order.
 fn hand_or_keep_all<D: Device>(
-    alloc: Global,
     boards: &mut [NamedBoard<D>],
     hubs: &HubList,
     posts: &[Post],
@@ -134,7 +166,7 @@ fn hand_or_keep_all<D: Device>(
         ++ not_due at.0 hubs.now (filter (is_of_a_hub hubs.now) posts.now)) }
 {
     for post in posts {
-        hand_or_keep(alloc, boards, hubs, post, at, kept, notes)?;
+        hand_or_keep(boards, hubs, post, at, kept, notes)?;
     }
     Ok(())
 }
@@ -160,8 +192,8 @@ pub fn hand_over_due<D: Device>(
 {
     let mut notes = Vec::new(alloc);
     let waited = mem::replace(pending, Vec::new(alloc));
-    hand_or_keep_all(alloc, boards, hubs, &waited, at, pending, &mut notes)?;
-    hand_or_keep_all(alloc, boards, hubs, posts, at, pending, &mut notes)?;
+    hand_or_keep_all(boards, hubs, &waited, at, pending, &mut notes)?;
+    hand_or_keep_all(boards, hubs, posts, at, pending, &mut notes)?;
     Ok(notes)
 }
 

@@ -7,10 +7,10 @@ ghost use Rattle.board.specs.Changes.{with_pc, with_halted, with_speed, with_sho
 ghost use Rattle.board.specs.Changes.{holds_each, with_memory_in};
 ghost use Rattle.board.specs.Space.{memory_at};
 ghost use Rattle.board.specs.New as board_spec;
-ghost use Rattle.lab_state.specs.Inner.Change.{changed_by, MayChange};
+ghost use Rattle.lab_state.specs.Inner.BoardChange.{changed_by, MayChange};
 ghost use Rattle.lab_state.specs.One.{view_of, changed, WritesPrefix};
 
-use crate::change::Change;
+use crate::board_change::BoardChange;
 use crate::lab::Lab;
 use dev_core::Device;
 use lab_num::{BoardNo, Member, NoMemory};
@@ -18,7 +18,7 @@ use page_ram::PageRam;
 
 impl<D: Device> Lab<D> {
     /// Changes a board.
-    fn change(&mut self, b: BoardNo, change: Change)
+    fn change(&mut self, b: BoardNo, change: BoardChange)
         requires unspent { self.old.spent ≡ false }
         requires has_plan { IsSome (view_of self.old.lab b.0) }
         requires may { ForSome (view_of self.old.lab b.0) (MayChange change) }
@@ -55,7 +55,7 @@ impl<D: Device> Lab<D> {
           lab = changed self.old.lab b.0 (λ v. with_bytes v at (zeros count));
         } }
     {
-        self.change(b, Change::Zero { at, count });
+        self.change(b, BoardChange::Zero { at, count });
     }
 
     /// Puts another memory of the same size in the place of one of a board, and ends its reservations.
@@ -84,7 +84,7 @@ impl<D: Device> Lab<D> {
           lab = changed self.old.lab b.0 (λ v. with_pc v hart pc);
         } }
     {
-        self.change(b, Change::Pc { hart, pc });
+        self.change(b, BoardChange::Pc { hart, pc });
     }
 
     /// Halts a processor of a board, or lets it run. The slots of a halted one pass, and change
@@ -97,7 +97,7 @@ impl<D: Device> Lab<D> {
           lab = changed self.old.lab b.0 (λ v. with_halted v hart on);
         } }
     {
-        self.change(b, Change::Halted { hart, on });
+        self.change(b, BoardChange::Halted { hart, on });
     }
 
     /// Sets the speed of a board for the rounds to come, in instructions a microsecond of all its
@@ -129,7 +129,7 @@ impl<D: Device> Lab<D> {
           lab = changed self.old.lab member.board.0 (λ v. with_shown v member.dev);
         } }
     {
-        self.change(member.board, Change::Shown(member.dev));
+        self.change(member.board, BoardChange::Shown(member.dev));
     }
 
     /// Brings the processors and the devices of a board into their first states, with each pc at 0.
@@ -142,6 +142,6 @@ impl<D: Device> Lab<D> {
           lab = changed self.old.lab b.0 board_spec.reset;
         } }
     {
-        self.change(b, Change::Reset);
+        self.change(b, BoardChange::Reset);
     }
 }

@@ -5,8 +5,8 @@ ghost use Rattle.std.specs.Prelude.{IfSome, IfOk, IfErr, IsSome, IsTrue, OnOk, O
 ghost use Rattle.std.specs.Option.{option_map};
 ghost use Rattle.lab_num.specs.Name as name_spec;
 ghost use Rattle.lab_num.specs.Route.{StandOnce, is_connected};
-ghost use Rattle.board.specs.Changes.{is_shown_kind};
 ghost use Rattle.dev_core.specs.declared.kind.Kind.TheVariants.{Uart, Can};
+ghost use Rattle.dev_core.specs.Kind.{row_of};
 ghost use Rattle.lab_state.specs.Hub.{members_of};
 ghost use Rattle.lab_state.specs.Names as names_spec;
 ghost use Rattle.lab_state.specs.One.{kind_at};
@@ -42,11 +42,12 @@ impl<D: Device> Lab<D> {
         }
     }
 
-    /// Creates a hub that connects devices of this kind, without members.
-    fn create_hub(&mut self, name: &str, kind: Kind, delay: u64) -> Result<(), HubNameFault>
+    /// Creates a hub that connects devices of this kind, without members. It holds back what its
+    /// members send for `delay` microseconds, at most a second.
+    pub fn create_hub(&mut self, name: &str, kind: Kind, delay: u64) -> Result<(), HubNameFault>
         requires unspent { self.old.spent ≡ false }
         requires is_name { IsTrue (name_spec.is_name name.now) }
-        requires kind { IsTrue (is_shown_kind kind) }
+        requires kind { IsTrue (row_of kind).joins_hubs }
         requires delay { delay ≤ 1000000 }
         requires room { length self.old.lab.hubs + 1 < 2 ^ 32 }
         ensures ok { OnOk result (self.new ≡ record self.old {

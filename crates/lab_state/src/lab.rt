@@ -7,7 +7,7 @@ ghost use Rattle.lab_state.specs.Hub.{delay_of};
 ghost use Rattle.lab_state.specs.Pending.{is_finish, due_at};
 ghost use Rattle.lab_state.specs.Valid.{IsLab};
 
-use crate::boards::can_all_be;
+use crate::boards::validity_laws;
 use crate::hub_list::HubList;
 use crate::named_board::NamedBoard;
 use crate::spares::Spares;
@@ -73,8 +73,7 @@ impl<D: Device> Lab<D> {
     /// A laboratory at time 0, without boards and hubs, at a quantum of 100 microseconds. Boards
     /// are made of the devices of the stock.
     pub fn new(alloc: Global, stock: Stock<D>) -> Result<Lab<D>, NoMemory>
-        requires { IsFull (map D.meaning stock.uarts.items) (map D.meaning stock.cans.items)
-            (map D.meaning stock.finishers.items) }
+        requires { IsFull D.meaning stock }
         ensures { IfOk result (λ made. made ≡ record {
           lab = record { boards = []; hubs = []; pending = []; now = 0; quantum = 100 };
           spent = false;
@@ -137,12 +136,12 @@ impl<D: Device> Lab<D> {
 
     /// At every moment a laboratory that is not spent is one that there can be. Nothing is changed and
     /// told when this runs: a proof that needs the fact calls it.
-    pub fn is_one_that_can_be(&self)
+    pub fn validity_law(&self)
         requires { self.now.spent ≡ false }
         ensures { IsLab self.now.lab }
     {
         let _hubs = self.hubs.len();
-        can_all_be(&self.boards);
+        validity_laws(&self.boards);
     }
 
     /// Leaves the laboratory spent, as it is where memory runs out inside a round: for who found no

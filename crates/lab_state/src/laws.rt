@@ -21,13 +21,8 @@ ghost use Rattle.log_text.specs.declared.line.OpenLine.{OpenLine};
 ghost use Rattle.log_text.specs.Log.{open_lines, IsOnBytes};
 
 use crate::lab::Lab;
-use board::{
-    stretches_keep_devices, stretches_keep_time, stretches_keep_time_of_entries, stretches_number,
-    stretches_tell_of_devices, turns_join,
-};
 use dev_core::{Device, Post as BoardPost};
 use lab_num::{key_laws, listing_laws};
-use log_text::open_lines_come_of_bytes;
 
 /// A run of a whole number of quanta that does not pause and the run after it are one run.
 pub fn runs_join()
@@ -48,7 +43,7 @@ pub fn runs_end()
 pub fn turns_agree()
     ensures { (cut : Cut) → IsWhole cut → (lab : Laboratory) (d : ℕ) → run_in_turns cut lab d ≡ run lab d }
 {
-    turns_join();
+    board::laws::turns_join();
 }
 
 /// What a boundary comes to does not depend on the order in which the posts were gathered.
@@ -77,8 +72,8 @@ pub fn undelayed_rounds_agree<D: Device>(lab: &Lab<D>)
         (round lab.now.lab q).lab.pending ≡ [] }
 {
     let _spent = lab.spent;
-    stretches_number();
-    stretches_keep_time();
+    board::laws::stretches_number();
+    board::laws::stretches_keep_time();
     listing_laws::<BoardPost>();
 }
 
@@ -90,10 +85,10 @@ pub fn runs_tell_of_shown_devices<D: Device>(lab: &Lab<D>)
         All (IsOnBytes (is_shown_before lab.now.lab (run lab.now.lab d).lab.now)) (run lab.now.lab d).items }
 {
     let _spent = lab.spent;
-    stretches_number();
-    stretches_keep_time_of_entries();
-    stretches_tell_of_devices();
-    stretches_keep_devices();
+    board::laws::stretches_number();
+    board::laws::stretches_keep_time_of_entries();
+    board::laws::stretches_tell_of_devices();
+    board::laws::stretches_keep_devices();
 }
 
 /// Lines of shown UARTs that are open before a run, and those that its log leaves open, are open in the
@@ -105,11 +100,11 @@ pub fn runs_keep_lines_open<D: Device>(lab: &Lab<D>)
         All (IsOpen (run lab.now.lab d).lab) (open_lines lines (run lab.now.lab d).items) }
 {
     let _spent = lab.spent;
-    stretches_number();
-    stretches_keep_time_of_entries();
-    stretches_tell_of_devices();
-    stretches_keep_devices();
-    open_lines_come_of_bytes();
+    board::laws::stretches_number();
+    board::laws::stretches_keep_time_of_entries();
+    board::laws::stretches_tell_of_devices();
+    board::laws::stretches_keep_devices();
+    log_text::laws::open_lines_come_of_bytes();
 }
 
 /// In rounds of any lengths, however a run is cut into them, what the devices of one hub have sent is
@@ -121,8 +116,8 @@ pub fn hubs_keep_order<D: Device>(lab: &Lab<D>)
         (filter (is_of_hub lab.now.lab.hubs n) (handed_over lab.now.lab qs))) }
 {
     let _spent = lab.spent;
-    stretches_number();
-    stretches_keep_time();
+    board::laws::stretches_number();
+    board::laws::stretches_keep_time();
     listing_laws::<BoardPost>();
 }
 
@@ -142,8 +137,8 @@ pub fn posts_are_handed_over_once<D: Device>(lab: &Lab<D>)
 {
     let _spent = lab.spent;
     key_laws();
-    stretches_number();
-    stretches_keep_time();
+    board::laws::stretches_number();
+    board::laws::stretches_keep_time();
     listing_laws::<BoardPost>();
 }
 

@@ -13,13 +13,13 @@ ghost use Rattle.lab_state.specs.Inner.Time.{numbers_of, AreStanding, part_of, u
 ghost use Rattle.lab_state.specs.One.{first_without};
 ghost use Rattle.lab_state.specs.Round.{stepped, posts_made, entries_made};
 
-use crate::named_board::{Made, NamedBoard};
+use crate::named_board::{NamedBoard, RoundOutput};
 use crate::team::Team;
+use board_job::BoxedBoardJob;
 use dev_core::{Device, Entry};
 use floor_run::Gate;
-use hub_mail::{Boss, Mail, Pass, arrival_laws};
+use hub_mail::{Boss, Mail, Pass, laws};
 use lab_num::{BoardNo, Micros, NoMemory};
-use parcel::BoxedParcel;
 use std::alloc::Global;
 use std::sync::Wait;
 use std::thread::Threads;
@@ -35,7 +35,7 @@ pub(crate) fn lend_all<D: Device>(
     source: &Source,
     from: Micros,
     q: u64,
-) -> Result<Vec<BoxedParcel<D>>, NoMemory>
+) -> Result<Vec<BoxedBoardJob<D>>, NoMemory>
     requires within { from.0 + q ≤ 10000000000 }
     requires standing { AreStanding (1000 * from.0) (numbers_of boards.old) }
     requires few { length boards.old ≤ 16 }
@@ -44,17 +44,17 @@ pub(crate) fn lend_all<D: Device>(
     requires opened { source.now.is_open ≡ true }
     requires parts { source.now.handles ≡ map (part_of from.0 (from.0 + q)) boards.old }
     ensures boards { OnOk result (boards.new ≡ map away boards.old) }
-    ensures parcels { IfOk result (λ parcels.
-        parcels.items ≡ flat_map (lent boss.now.mail from.0 (from.0 + q)) boards.old) }
+    ensures jobs { IfOk result (λ jobs.
+        jobs.items ≡ flat_map (lent boss.now.mail from.0 (from.0 + q)) boards.old) }
 {
-    let mut parcels = Vec::with_capacity(alloc, boards.len())?;
+    let mut jobs = Vec::with_capacity(alloc, boards.len())?;
     let mut n = 0;
     for pass in passes {
         let grant = source.handle(BoardNo(n as u8));
-        boards[n].lend(alloc, grant, pass, &mut parcels)?;
+        boards[n].lend(alloc, grant, pass, &mut jobs)?;
         n += 1;
     }
-    Ok(parcels)
+    Ok(jobs)
 }
 
 /// Takes every board back that was lent, in order of board, with what it has noted and its pass. The
@@ -64,29 +64,29 @@ pub(crate) fn take_all_back<R: Wait, D: Device>(
     alloc: Global,
     boards: &mut [NamedBoard<D>],
     source: &mut Source,
-    parcels: Vec<BoxedParcel<D>>,
+    jobs: Vec<BoxedBoardJob<D>>,
     boss: &mut Boss,
 ) -> Result<Vec<Vec<Entry>>, NoMemory>
     requires few { length boards.old ≤ 16 }
-    requires count { length parcels.items ≡ length boards.old }
+    requires count { length jobs.items ≡ length boards.old }
     requires opened { source.old.is_open ≡ true }
-    requires parts { source.old.handles ≡ map (λ p. unused p.grant) parcels.items }
-    requires quiet { All (λ p. p.board.posts ≡ []) parcels.items }
-    requires mail { All (λ p. p.pass.mail ≡ boss.old.mail) parcels.items }
+    requires parts { source.old.handles ≡ map (λ p. unused p.grant) jobs.items }
+    requires quiet { All (λ p. p.board.posts ≡ []) jobs.items }
+    requires mail { All (λ p. p.pass.mail ≡ boss.old.mail) jobs.items }
     ensures source { OnOk result (source.new ≡ record source.old {
-      handles = each_by its_grant source.old.handles parcels.items;
+      handles = each_by its_grant source.old.handles jobs.items;
     }) }
-    ensures boards { OnOk result (boards.new ≡ each_by put_back boards.old parcels.items) }
+    ensures boards { OnOk result (boards.new ≡ each_by put_back boards.old jobs.items) }
     ensures posts { OnOk result (boss.new ≡ record boss.old {
-      taken = boss.old.taken ++ map (λ p. sent_by p.pass) parcels.items;
+      taken = boss.old.taken ++ map (λ p. sent_by p.pass) jobs.items;
     }) }
     ensures entries { IfOk result (λ entries.
-        all_entries entries.items ≡ flat_map (λ p. p.board.entries) parcels.items) }
+        all_entries entries.items ≡ flat_map (λ p. p.board.entries) jobs.items) }
 {
     let mut entries = Vec::new(alloc);
     let mut n = 0;
-    for parcel in parcels {
-        let grant = boards[n].take_back(rt, parcel, boss, &mut entries)?;
+    for job in jobs {
+        let grant = boards[n].take_back(rt, job, boss, &mut entries)?;
         source.put(BoardNo(n as u8), grant);
         n += 1;
     }
@@ -112,7 +112,7 @@ pub(crate) fn step_lent<R: Threads + Wait + Copy + Send + Sync, D: Device + Send
     source: &mut Source,
     from: Micros,
     q: u64,
-) -> Result<Made, NoMemory>
+) -> Result<RoundOutput, NoMemory>
     requires workers { (1 ≤ crew.workers) × (crew.workers ≤ 8) }
     requires within { from.0 + q ≤ 10000000000 }
     requires plans { first_without boards.old ≡ None }
@@ -129,7 +129,7 @@ pub(crate) fn step_lent<R: Threads + Wait + Copy + Send + Sync, D: Device + Send
     ensures entries { IfOk result (λ made.
         all_entries made.entries.items ≡ flat_map (entries_made (in_round from.0 q)) boards.old) }
 {
-    arrival_laws();
+    laws::arrival_laws();
     let Crew {
         rt,
         team,
@@ -137,9 +137,9 @@ pub(crate) fn step_lent<R: Threads + Wait + Copy + Send + Sync, D: Device + Send
         gate,
     } = crew;
     let (mut boss, passes) = Mail::begin(rt, alloc, boards.len() as u8)?;
-    let parcels = lend_all(alloc, boards, &boss, passes, source, from, q)?;
-    let parcels = team.run(rt, alloc, parcels, workers, gate)?;
-    let entries = take_all_back(rt, alloc, boards, source, parcels, &mut boss)?;
+    let jobs = lend_all(alloc, boards, &boss, passes, source, from, q)?;
+    let jobs = team.run(rt, alloc, jobs, workers, gate)?;
+    let entries = take_all_back(rt, alloc, boards, source, jobs, &mut boss)?;
     let posts = boss.drain(rt)?;
-    Ok(Made { posts, entries })
+    Ok(RoundOutput { posts, entries })
 }

@@ -12,7 +12,7 @@ ghost use Rattle.board.specs.View.{quiet};
 ghost use Rattle.time_handle.specs.Grant.{fresh};
 ghost use Rattle.lab_state.specs.Boundary as boundary_spec;
 ghost use Rattle.lab_state.specs.Boundary.{note_by};
-ghost use Rattle.lab_state.specs.Inner.Change.{changed_by, MayChange};
+ghost use Rattle.lab_state.specs.Inner.BoardChange.{changed_by, MayChange};
 ghost use Rattle.lab_state.specs.Inner.Lending.{is_awake, lent, away, put_back};
 ghost use Rattle.lab_state.specs.Inner.Standing.{HasDevices};
 ghost use Rattle.lab_state.specs.Inner.Time.{number_of, part_of, speed_of};
@@ -20,14 +20,14 @@ ghost use Rattle.lab_state.specs.One.{with_view};
 ghost use Rattle.lab_state.specs.Resumed.{resumed_board};
 ghost use Rattle.lab_state.specs.Round.{granted, stepped, posts_made, entries_made};
 
-use crate::change::Change;
+use crate::board_change::BoardChange;
 use board::{Board, BoardState, SlotAt, Turn};
+use board_job::{BoardJob, BoxedBoardJob};
 use dev_core::{Device, Entry, Kind, Payload, Post, Taken};
 use hub_mail::{Boss, Pass};
 use lab_num::{NoMemory, Text};
 use log_merge::Note;
 use page_ram::PageRam;
-use parcel::{BoxedParcel, Parcel};
 use std::alloc::Global;
 use std::marker::Model;
 use std::sync::Wait;
@@ -62,17 +62,17 @@ impl<D: Device> Model for NamedBoard<D> {
 
 /// What the boards have made in a round: the posts in any order, the entries in order of the boards.
 #[derive(Drop)]
-pub struct Made {
+pub struct RoundOutput {
     pub posts: Vec<Post>,
     pub entries: Vec<Vec<Entry>>,
 }
 
-impl Made {
-    pub fn new(alloc: Global) -> Made
+impl RoundOutput {
+    pub fn new(alloc: Global) -> RoundOutput
         ensures posts { result.posts.items ≡ [] }
         ensures entries { result.entries.items ≡ [] }
     {
-        Made {
+        RoundOutput {
             posts: Vec::new(alloc),
             entries: Vec::new(alloc),
         }
@@ -127,7 +127,7 @@ fn take_turn<D: Device>(board: &mut Board<D>, grant: &Handle) -> Result<(), NoMe
 fn step_board<D: Device>(
     board: &mut Board<D>,
     grant: &Handle,
-    made: &mut Made,
+    made: &mut RoundOutput,
 ) -> Result<(), NoMemory>
     requires within { grant.now.to ≤ 10000000000 }
     requires part { grant.now
@@ -152,7 +152,7 @@ fn step_board<D: Device>(
 }
 
 /// A board with a grant at its speed and a new pass, as the workers take it.
-fn wrapped<D: Device>(board: Board<D>, grant: Handle, pass: Pass) -> Parcel<D>
+fn wrapped<D: Device>(board: Board<D>, grant: Handle, pass: Pass) -> BoardJob<D>
     requires within { grant.to ≤ 10000000000 }
     requires part { grant ≡ fresh grant.from grant.to board.view.numbers.speed }
     requires posts { board.view.numbers.posted ≤ 10000000000000 }
@@ -164,7 +164,7 @@ fn wrapped<D: Device>(board: Board<D>, grant: Handle, pass: Pass) -> Parcel<D>
 {
     // a grant has at most ten million million slots left
     let _left = grant.left();
-    Parcel::new(board, grant, pass)
+    BoardJob::new(board, grant, pass)
 }
 
 /// What the log notes of a payload that a shown device was handed and answered so.
@@ -228,16 +228,16 @@ impl<D: Device> NamedBoard<D> {
     }
 
     /// A board is one that there can be. Nothing is changed and told when this runs.
-    pub fn is_one_that_can_be(&self)
+    pub fn validity_law(&self)
         ensures { ForSome self.now.view IsBoard }
     {
         if let Some(board) = &self.board {
-            board.is_one_that_can_be();
+            board.validity_law();
         }
     }
 
     /// A board has the devices of its plan. Nothing is changed and told when this runs.
-    pub fn has_its_devices(&self)
+    pub fn devices_law(&self)
         ensures { ForSome self.now.view HasDevices }
     {
         if let Some(board) = &self.board {
@@ -286,7 +286,7 @@ impl<D: Device> NamedBoard<D> {
 
     /// Gives the board the slots of a grant, and takes what it has made. Without memory for that
     /// it is lost. Where there is no board the slots pass.
-    pub fn step(&mut self, grant: &Handle, made: &mut Made) -> Result<(), NoMemory>
+    pub fn step(&mut self, grant: &Handle, made: &mut RoundOutput) -> Result<(), NoMemory>
         requires within { grant.now.to ≤ 10000000000 }
         requires part { grant.now ≡ part_of grant.now.from grant.now.to self.old }
         requires made { ForSome self.old.view (λ v.
@@ -312,7 +312,7 @@ impl<D: Device> NamedBoard<D> {
         alloc: Global,
         grant: Handle,
         pass: Pass,
-        parcels: &mut Vec<BoxedParcel<D>>,
+        jobs: &mut Vec<BoxedBoardJob<D>>,
     ) -> Result<(), NoMemory>
         requires within { grant.to ≤ 10000000000 }
         requires part { grant ≡ part_of grant.from grant.to self.old }
@@ -321,11 +321,11 @@ impl<D: Device> NamedBoard<D> {
         requires own { ForSome self.old.view (λ v. pass.board ≡ v.numbers.number) }
         requires new { pass.posted ≡ [] }
         ensures board { self.new ≡ away self.old }
-        ensures parcels { OnOk result (parcels.new.items
-            ≡ parcels.old.items ++ lent pass.mail grant.from grant.to self.old) }
+        ensures jobs { OnOk result (jobs.new.items
+            ≡ jobs.old.items ++ lent pass.mail grant.from grant.to self.old) }
     {
         if let Some(board) = self.board.take() {
-            parcels.push(BoxedParcel::new(alloc, wrapped(board, grant, pass))?)?;
+            jobs.push(BoxedBoardJob::new(alloc, wrapped(board, grant, pass))?)?;
         }
         Ok(())
     }
@@ -335,20 +335,20 @@ impl<D: Device> NamedBoard<D> {
     pub fn take_back<R: Wait>(
         &mut self,
         rt: &R,
-        parcel: BoxedParcel<D>,
+        job: BoxedBoardJob<D>,
         boss: &mut Boss,
         entries: &mut Vec<Vec<Entry>>,
     ) -> Result<Handle, NoMemory>
-        requires quiet { parcel.board.posts ≡ [] }
-        requires mail { parcel.pass.mail ≡ boss.old.mail }
-        ensures board { OnOk result (self.new ≡ put_back self.old parcel) }
-        ensures grant { IfOk result (λ grant. grant ≡ parcel.grant) }
+        requires quiet { job.board.posts ≡ [] }
+        requires mail { job.pass.mail ≡ boss.old.mail }
+        ensures board { OnOk result (self.new ≡ put_back self.old job) }
+        ensures grant { IfOk result (λ grant. grant ≡ job.grant) }
         ensures posts { boss.new
-            ≡ record boss.old { taken = boss.old.taken ++ sent_by parcel.pass ∷ [] } }
+            ≡ record boss.old { taken = boss.old.taken ++ sent_by job.pass ∷ [] } }
         ensures entries { OnOk result (all_entries entries.new.items
-            ≡ all_entries entries.old.items ++ parcel.board.entries) }
+            ≡ all_entries entries.old.items ++ job.board.entries) }
     {
-        let (mut board, grant, pass) = parcel.into_parcel().into_parts();
+        let (mut board, grant, pass) = job.into_board_job().into_parts();
         boss.take_in(rt, pass);
         let noted = board.take_entries();
         self.fit(board);
@@ -369,7 +369,7 @@ impl<D: Device> NamedBoard<D> {
     }
 
     /// Changes the board.
-    pub fn change(&mut self, change: Change)
+    pub fn change(&mut self, change: BoardChange)
         requires { ForSome self.old.view (MayChange change) }
         ensures { self.new ≡ with_view (changed_by change) self.old }
     {

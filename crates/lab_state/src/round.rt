@@ -17,17 +17,15 @@ ghost use Rattle.lab_state.specs.Pending.{ArePending};
 ghost use Rattle.lab_state.specs.Round as round_spec;
 ghost use Rattle.lab_state.specs.Round.{stepped, posts_made, entries_made, slot_items};
 
-use crate::boards::have_their_devices;
+use crate::boards::devices_laws;
 use crate::boundary::{hand_over_due, pause_of, push_pause};
 use crate::faults::LabFault;
 use crate::hub_list::HubList;
 use crate::lab::Lab;
 use crate::lending::{Crew, step_lent};
-use crate::named_board::{Made, NamedBoard};
+use crate::named_board::{NamedBoard, RoundOutput};
 use crate::team::Team;
-use board::{
-    stretches_keep_plans, stretches_keep_time, stretches_number, stretches_tell_of_devices,
-};
+use board::laws;
 use dev_core::{Device, Entry, Post};
 use floor_run::Gate;
 use lab_num::{BoardNo, Key, Micros, NoMemory, Rows, listing_laws};
@@ -61,7 +59,7 @@ fn step_all<D: Device>(
     source: &Source,
     from: Micros,
     q: u64,
-    made: &mut Made,
+    made: &mut RoundOutput,
 ) -> Result<(), NoMemory>
     requires within { from.0 + q ≤ 10000000000 }
     requires standing { AreStanding (1000 * from.0) (numbers_of boards.old) }
@@ -117,14 +115,14 @@ fn items_of(alloc: Global, entries: &[Entry]) -> Result<Vec<LogItem>, NoMemory>
 }
 
 /// What boards have made in a round, in rising order of key.
-fn in_order(alloc: Global, made: Made) -> Result<Slots, NoMemory>
+fn in_order(alloc: Global, made: RoundOutput) -> Result<Slots, NoMemory>
     requires posts { KeysDiffer post_key made.posts.items }
     requires entries { KeysDiffer entry_key (all_entries made.entries.items) }
     ensures posts { IfOk result (λ slots. slots.posts.items ≡ listing post_key made.posts.items) }
     ensures items { IfOk result (λ slots. slots.items.items
         ≡ map round_spec.item_of (listing entry_key (all_entries made.entries.items))) }
 {
-    let Made { posts, entries } = made;
+    let RoundOutput { posts, entries } = made;
     let posts = merge_posts(alloc, posts)?;
     let entries = merge_entries(alloc, entries)?;
     let items = items_of(alloc, &entries)?;
@@ -139,7 +137,7 @@ fn step_in_place<D: Device>(
     source: &mut Source,
     from: Micros,
     q: u64,
-) -> Result<Made, NoMemory>
+) -> Result<RoundOutput, NoMemory>
     requires within { from.0 + q ≤ 10000000000 }
     requires standing { AreStanding (1000 * from.0) (numbers_of boards.old) }
     requires few { length boards.old ≤ 16 }
@@ -153,7 +151,7 @@ fn step_in_place<D: Device>(
     ensures entries { IfOk result (λ made. all_entries made.entries.items
         ≡ flat_map (entries_made (in_round from.0 q)) boards.old) }
 {
-    let mut made = Made::new(alloc);
+    let mut made = RoundOutput::new(alloc);
     step_all(boards, source, from, q, &mut made)?;
     use_up(source, boards.len());
     Ok(made)
@@ -192,8 +190,11 @@ fn sharers<D: Device + Send, G: Gate>(
     ensures most { result ≤ workers }
     ensures boards { 1 < result → 1 ≤ length boards.now }
 {
+    if workers == 1 {
+        return 1;
+    }
     let awake = count_awake(boards);
-    if workers == 1 || awake <= 1 {
+    if awake <= 1 {
         return 1;
     }
     if gate.is_open() && awake_slots(boards, q) < team.least_shared() {
@@ -211,7 +212,7 @@ fn step_boards<R: Threads + Wait + Copy + Send + Sync, D: Device + Send, G: Gate
     source: &mut Source,
     from: Micros,
     q: u64,
-) -> Result<Made, NoMemory>
+) -> Result<RoundOutput, NoMemory>
     requires workers { (1 ≤ crew.workers) × (crew.workers ≤ 8) }
     requires within { from.0 + q ≤ 10000000000 }
     requires plans { first_without boards.old ≡ None }
@@ -228,7 +229,7 @@ fn step_boards<R: Threads + Wait + Copy + Send + Sync, D: Device + Send, G: Gate
     ensures entries { IfOk result (λ made. all_entries made.entries.items
         ≡ flat_map (entries_made (in_round from.0 q)) boards.old) }
 {
-    stretches_number();
+    laws::stretches_number();
     let Crew {
         rt,
         team,
@@ -270,7 +271,7 @@ fn take_slots<R: Threads + Wait + Copy + Send + Sync, D: Device + Send, G: Gate>
     ensures items { IfOk result (λ slots. slots.items.items
         ≡ slot_items (in_round source.old.end q) boards.old) }
 {
-    stretches_number();
+    laws::stretches_number();
     let from = source.elapsed();
     source.grant(q);
     let made = step_boards(crew, alloc, boards, source, from, q)?;
@@ -332,12 +333,12 @@ fn play<R: Threads + Wait + Copy + Send + Sync, D: Device + Send, G: Gate>(
     ensures sent { OnOk result (All (IsFromBoard (outlines boards.new) (numbers_of boards.new))
         pending.new.items) }
 {
-    stretches_keep_plans();
-    stretches_keep_time();
-    stretches_number();
-    stretches_tell_of_devices();
+    laws::stretches_keep_plans();
+    laws::stretches_keep_time();
+    laws::stretches_number();
+    laws::stretches_tell_of_devices();
     listing_laws::<Post>();
-    have_their_devices(boards);
+    devices_laws(boards);
     let Slots { posts, mut items } = take_slots(crew, alloc, boards, source, q)?;
     let at = source.elapsed();
     let notes = hand_over_due(alloc, boards, hubs, pending, &posts, at)?;

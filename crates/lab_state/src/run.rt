@@ -24,7 +24,7 @@ impl<D: Device> Lab<D> {
     /// Whether a run of `d` microseconds may be made: every board has a plan, and the run ends within
     /// the time that a laboratory has. The first board without a plan is named, even where the run would
     /// be too long.
-    pub fn may_run(&self, d: Micros) -> Result<(), RunCause>
+    pub fn admit_run(&self, d: Micros) -> Result<(), RunCause>
         requires { self.now.spent ≡ false }
         ensures ok { IfOk result (λ _. HaveAllPlans self.now.lab
             × (self.now.lab.now + d.0 ≤ 10000000000)) }
@@ -233,7 +233,7 @@ impl<D: Device + Send> Lab<D> {
         if self.spent {
             return Err(RunFault::Memory);
         }
-        self.may_run(d)?;
+        self.admit_run(d)?;
         let run = self.rounds_by(rt, d.0, workers, gate)?;
         Ok(run)
     }

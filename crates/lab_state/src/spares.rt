@@ -48,8 +48,7 @@ impl<D: Device> Model for Spares<D> {
 impl<D: Device> Spares<D> {
     /// The devices of a full stock.
     pub fn of(stock: Stock<D>) -> Spares<D>
-        requires { IsFull (map D.meaning stock.uarts.items) (map D.meaning stock.cans.items)
-            (map D.meaning stock.finishers.items) }
+        requires { IsFull D.meaning stock }
         ensures { result ≡ full }
     {
         Spares {

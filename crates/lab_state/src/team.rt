@@ -1,12 +1,12 @@
 //! The helpers of a run.
 ghost use Rattle.std.specs.Prelude.{◌≡◌, ◌≤◌, ◌+◌, ◌<◌, ◌^◌, [], length, map, All, IfOk};
 ghost use Rattle.time_handle.specs.Grant.{left};
-ghost use Rattle.parcel.specs.Ran.{ran};
+ghost use Rattle.board_job.specs.Ran.{ran};
 
+use board_job::{BoxedBoardJob, run_board_jobs, run_board_jobs_with};
 use dev_core::Device;
 use floor_run::{Gate, Helpers};
 use lab_num::NoMemory;
-use parcel::{BoxedParcel, run_parcels, run_parcels_with};
 use std::alloc::Global;
 use std::sync::Wait;
 use std::thread::Threads;
@@ -21,7 +21,7 @@ pub(crate) const WORTH_THREADS: u64 = 16_384;
 /// round, or none. Then a round starts threads of its own where it is worth them. No result depends on it.
 #[derive(Drop)]
 pub struct Team<D: Device + Send> {
-    helpers: Option<Helpers<BoxedParcel<D>>>,
+    helpers: Option<Helpers<BoxedBoardJob<D>>>,
     workers: u8,
 }
 
@@ -80,20 +80,20 @@ impl<D: Device + Send> Team<D> {
         &self,
         rt: &R,
         alloc: Global,
-        parcels: Vec<BoxedParcel<D>>,
+        jobs: Vec<BoxedBoardJob<D>>,
         workers: u8,
         gate: &G,
-    ) -> Result<Vec<BoxedParcel<D>>, NoMemory>
-        requires few { length parcels.items ≤ 16 }
+    ) -> Result<Vec<BoxedBoardJob<D>>, NoMemory>
+        requires few { length jobs.items ≤ 16 }
         requires workers { (1 ≤ workers) × (workers ≤ 8) }
-        requires sent { All (λ p. p.board.posts ≡ []) parcels.items }
-        requires posts { All (λ p. p.board.view.numbers.posted + left p.grant < 2 ^ 64) parcels.items }
-        requires entries { All (λ p. p.board.view.numbers.entered + left p.grant < 2 ^ 64) parcels.items }
-        ensures { IfOk result (λ done. done.items ≡ map ran parcels.items) }
+        requires sent { All (λ p. p.board.posts ≡ []) jobs.items }
+        requires posts { All (λ p. p.board.view.numbers.posted + left p.grant < 2 ^ 64) jobs.items }
+        requires entries { All (λ p. p.board.view.numbers.entered + left p.grant < 2 ^ 64) jobs.items }
+        ensures { IfOk result (λ done. done.items ≡ map ran jobs.items) }
     {
         match &self.helpers {
-            Some(helpers) => run_parcels_with(rt, alloc, helpers, parcels, workers, gate),
-            None => run_parcels(rt, alloc, parcels, workers, gate),
+            Some(helpers) => run_board_jobs_with(rt, alloc, helpers, jobs, workers, gate),
+            None => run_board_jobs(rt, alloc, jobs, workers, gate),
         }
     }
 }

@@ -93,6 +93,13 @@ uncut end_by.Unread read wrote stored p q r = absurd (p (read refl))
 uncut end_by.Unwritten read wrote stored p q r = absurd (q (wrote refl))
 uncut end_by.Unstored read wrote stored p q r = absurd (r (stored refl))
 
+-- the same course, where what is told of the outside at its end is said in other words
+pub course_there :
+    {o p : Option Held} (words : List (List ℕ)) {status : Status} {old new other : Outside} →
+    ForSome o (λ held. ForSome p (λ kept. Course (transcript words held kept) kept status old new)) → new ≡ other →
+    ForSome o (λ held. ForSome p (λ kept. Course (transcript words held kept) kept status old other))
+course_there words course is = rw (← is) course
+
 -- the same of whatever is told of files and store
 pub whole_told :
     (o p : Option Held) (words : List (List ℕ)) (status : Status) (old new : Outside) →
@@ -124,5 +131,3 @@ pub asks_told :
 asks_told o p words status old new course =
     if_both o p (λ held kept. AsksPart (transcript words held kept) old.asked new.asked)
     (λ held is kept keeps. asks_of (course held is kept keeps))
-
-pub ruleset headlines = (whole_told, asks_told, uncut)

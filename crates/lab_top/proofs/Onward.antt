@@ -15,11 +15,11 @@ use Rattle.monitor.specs.declared.fault.ScriptFault.{ScriptFault}
 use Rattle.monitor.specs.declared.step.Step.TheVariants.{Text, Save, Load, End, Fault, Unread, Memory}
 use Rattle.monitor.specs.Answer.{Answer, Goes, Saves, Loads, Ends, Faults, Misses, Did, fault_at}
 use Rattle.monitor.specs.Command.{did}
-use Rattle.monitor.specs.State.{State, Place}
+use Rattle.monitor.specs.State.{State, LinePlace}
 use Rattle.monitor.specs.Step.{Running, IsStep, IsOver, line_in}
 use Rattle.resc_vars.specs.declared.cause.ScriptCause.{ScriptCause}
-use Rattle.lab_top.specs.declared.snapshots.Halt.{Halt}
-use Rattle.lab_top.specs.declared.snapshots.Halt.TheVariants as halt
+use Rattle.lab_top.specs.declared.snapshots.StoreHalt.{StoreHalt}
+use Rattle.lab_top.specs.declared.snapshots.StoreHalt.TheVariants as halt
 use Rattle.lab_top.specs.declared.status.Status.{Status}
 use Rattle.lab_top.specs.declared.status.Status.TheVariants as end_by
 use Rattle.lab_top.specs.Transcript.{Further, Transcript, Done, Script, Absent}
@@ -40,14 +40,14 @@ onward_goes :
 onward_goes further kept s done text next is = rw is refl
 
 onward_saves :
-    (further : Further) (kept : Held) (s : State) (done : Did) (name : List ℕ) (place : Place) (next : State) →
+    (further : Further) (kept : Held) (s : State) (done : Did) (name : List ℕ) (place : LinePlace) (next : State) →
     done.answer ≡ Saves name place next →
     onward further kept s done
     ≡ after done.names [] (saving further kept name place next (spelling next.lab next.lines))
 onward_saves further kept s done name place next is = rw is refl
 
 onward_loads :
-    (further : Further) (kept : Held) (s : State) (done : Did) (name : List ℕ) (place : Place) (next : State) →
+    (further : Further) (kept : Held) (s : State) (done : Did) (name : List ℕ) (place : LinePlace) (next : State) →
     done.answer ≡ Loads name place next →
     onward further kept s done ≡ after done.names [] (loading further kept name place next)
 onward_loads further kept s done name place next is = rw is refl
@@ -104,7 +104,7 @@ step_cut more held kept s next text fault step part store =
 -- these names were read, and then a command for the store was carried out so
 stored_after :
     (kept : Held) (old mid new : Outside) (names : List (List ℕ)) (rest : Transcript) (further : Further)
-    (place : Place) (result : Result Running (Halt Running)) →
+    (place : LinePlace) (result : Result Running (StoreHalt Running)) →
     mid.written ≡ old.written → mid.asked ≡ grown old.asked names → mid.used ≡ old.used →
     IsStored rest kept further place mid new result → IsStored (after names [] rest) kept further place old new result
 stored_after kept old mid new names rest further place (Ok monitor) wrote asked used on = record {
@@ -127,7 +127,7 @@ stored_after kept old mid new names rest further place (Err halt.Memory) wrote a
 -- the laboratory is to be kept, and what became of that
 pub step_saves :
     (old mid new : Outside) (more : ℕ) (held kept : Held) (s next : State) (name file : List ℕ) (line : ℕ)
-    (result : Result Running (Halt Running)) →
+    (result : Result Running (StoreHalt Running)) →
     IsStep (did run held s) (Save name file line) next old.asked mid.asked →
     mid.written ≡ old.written → mid.used ≡ old.used →
     IsStored (saving (from more run held) kept name (line_in file line) next (spelling next.lab next.lines)) kept
@@ -144,7 +144,7 @@ step_saves old mid new more held kept s next name file line result step wrote us
 -- it is to be taken back, and what became of that
 pub step_loads :
     (old mid new : Outside) (more : ℕ) (held kept : Held) (s next : State) (name file : List ℕ) (line : ℕ)
-    (result : Result Running (Halt Running)) →
+    (result : Result Running (StoreHalt Running)) →
     IsStep (did run held s) (Load name file line) next old.asked mid.asked →
     mid.written ≡ old.written → mid.used ≡ old.used →
     IsStored (loading (from more run held) kept name (line_in file line) next) kept (from more run held)
@@ -262,7 +262,7 @@ turn_goes turn held kept s next within goes =
 
 -- a line that is for the store is refused
 pub refused_ends :
-    (all : Transcript) (kept : Held) (old mid : Outside) (place : Place) (cause : ScriptCause) (m : Running)
+    (all : Transcript) (kept : Held) (old mid : Outside) (place : LinePlace) (cause : ScriptCause) (m : Running)
     (status : Status) (out out' : Option (List ℕ)) →
     GoesOn all kept old (record mid { written = out }) (λ now. refused now place m.state cause) →
     IsEnd (left m) (Script (fault_at place cause)) status out out' →

@@ -2,19 +2,19 @@
 use Rattle.std.proofs.Common.{◌≡◌, ◌∙◌, ℕ, List, [], ◌∷◌, Option, IfSome, sym, refl}
 use Rattle.std.specs.FinMap.{get}
 use Rattle.std.specs.Option.{ForSome}
-use Rattle.lab_io.specs.Asked.{Log, AsksSome}
+use Rattle.lab_io.specs.Asked.{AskedNames, AsksSome}
 use Rattle.lab_io.specs.Known.{grown}
 use Rattle.lab_io.specs.Held.{Held}
 use Rattle.lab_io.proofs.Asking.{asks_all, asks_one}
 use Rattle.lab_io.proofs.Grown.{grown-nil}
 use Rattle.lab_state.specs.Run.{run}
-use Rattle.lab_words.specs.declared.request.UsageCause.{UsageCause}
-use Rattle.lab_words.specs.Usage.{usage_line}
+use Rattle.lab_arguments.specs.declared.request.UsageCause.{UsageCause}
+use Rattle.lab_arguments.specs.Usage.{usage_line}
 use Rattle.resc_vars.specs.declared.cause.ScriptCause.{ScriptCause}
 use Rattle.monitor.specs.declared.fault.ScriptFault.{ScriptFault}
 use Rattle.monitor.specs.declared.setting.Setting.{Setting}
 use Rattle.monitor.specs.Answer.{fault_at}
-use Rattle.monitor.specs.State.{Place, started}
+use Rattle.monitor.specs.State.{LinePlace, started}
 use Rattle.lab_top.specs.declared.script.Opened.{Opened}
 use Rattle.lab_top.specs.declared.script.Opened.TheVariants as opened_by
 use Rattle.lab_top.specs.declared.status.Status.{Status}
@@ -37,8 +37,8 @@ told P fact x is = rw is at fact
 -- ---- how a file was opened
 
 -- a file that is faulty was refused so, or memory ran out
-pub refused_content : (is : Content) (name : List ℕ) (place : Place) (cause : ScriptCause) (opened : Opened)
-    (log log' : Log) →
+pub refused_content : (is : Content) (name : List ℕ) (place : LinePlace) (cause : ScriptCause) (opened : Opened)
+    (log log' : AskedNames) →
     is ≡ Faulty (fault_at place cause) → log' ≡ grown log (name ∷ []) → IsRefused place cause opened →
     IsOpened is name opened log log'
 refused_content is name place cause (opened_by.Text text) log log' so asked refused = absurd refused

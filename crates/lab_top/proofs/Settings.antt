@@ -10,7 +10,7 @@ use Rattle.lab_state.specs.Run.{Play, run, run_by, still}
 use Rattle.monitor.specs.declared.setting.Setting.{Setting}
 use Rattle.resc_vars.specs.declared.cause.ScriptCause.{ScriptCause}
 use Rattle.resc_vars.specs.declared.cause.ScriptCause.TheVariants.{LabTime, Platform}
-use Rattle.resc_vars.specs.declared.item.Source.{Source}
+use Rattle.resc_vars.specs.declared.item.SourceLines.{SourceLines}
 use Rattle.resc_vars.specs.Bodies as flow
 use Rattle.resc_vars.specs.Bodies.{source_of}
 use Rattle.monitor.specs.Answer.{Done, leaves}
@@ -63,7 +63,7 @@ runs_nothing s length done dry is =
     passed _ _ _ done (sym (ap (ran_for s length) (no_length s length dry)) ∙ is) ∙ ran_none s
 
 -- a monitor before the first line of a script with these lines
-started_with : Source → Setting → State
+started_with : SourceLines → Setting → State
 started_with source setting = record {
   flow = flow.begun source;
   lab = empty_lab;

@@ -17,11 +17,11 @@ use Rattle.lab_snap.specs.Snapshot.{snapshot_of}
 use Rattle.lab_state.specs.Lab.{Lab}
 use Rattle.lab_state.specs.Valid.{IsOpen, is_shown_before}
 use Rattle.log_text.specs.declared.line.OpenLine.{OpenLine}
-use Rattle.monitor.specs.State.{State, Place, bodies_of, joined}
+use Rattle.monitor.specs.State.{State, LinePlace, bodies_of, joined}
 use Rattle.monitor.specs.Step.{Running}
 use Rattle.resc_vars.specs.declared.cause.ScriptCause.TheVariants.{Size, Snapshot, Occupied}
-use Rattle.lab_top.specs.declared.snapshots.Halt.{Halt}
-use Rattle.lab_top.specs.declared.snapshots.Halt.TheVariants as halt
+use Rattle.lab_top.specs.declared.snapshots.StoreHalt.{StoreHalt}
+use Rattle.lab_top.specs.declared.snapshots.StoreHalt.TheVariants as halt
 use Rattle.lab_top.specs.declared.status.Status.TheVariants as end_by
 use Rattle.lab_top.specs.Headline.{Course, Outside, kept_by}
 use Rattle.lab_top.specs.Transcript.{Further, Transcript, is_large, is_occupied, loading, loading_kept, refused}
@@ -85,30 +85,30 @@ no_line lab (line ∷ lines) none all =
 -- ---- what is left of a run, by the tests
 
 saving_large :
-    (further : Further) (kept : Held) (name : List ℕ) (place : Place) (s : State) (bytes : List ℕ) →
+    (further : Further) (kept : Held) (name : List ℕ) (place : LinePlace) (s : State) (bytes : List ℕ) →
     is_large bytes ≡ true → saving further kept name place s bytes ≡ refused kept place s Size
 saving_large further kept name place s bytes is = rw is refl
 
 saving_dry :
-    (further : Further) (kept : Held) (name : List ℕ) (place : Place) (s : State) (bytes : List ℕ) →
+    (further : Further) (kept : Held) (name : List ℕ) (place : LinePlace) (s : State) (bytes : List ℕ) →
     is_large bytes ≡ false → s.dry ≡ true → saving further kept name place s bytes ≡ further kept s
 saving_dry further kept name place s bytes is dry = rw (is, dry) refl
 
 saving_wet :
-    (further : Further) (kept : Held) (name : List ℕ) (place : Place) (s : State) (bytes : List ℕ) →
+    (further : Further) (kept : Held) (name : List ℕ) (place : LinePlace) (s : State) (bytes : List ℕ) →
     is_large bytes ≡ false → s.dry ≡ false →
     saving further kept name place s bytes ≡ using (put_of name bytes) (further (insert kept name bytes) s)
 saving_wet further kept name place s bytes is dry = rw (is, dry) refl
 
 pub saves_on :
-    (rest : Further) (kept : Held) (name : List ℕ) (place : Place) (s : State) (bytes : List ℕ) →
+    (rest : Further) (kept : Held) (name : List ℕ) (place : LinePlace) (s : State) (bytes : List ℕ) →
     length bytes ≤ 67108864 → s.dry ≡ false →
     saving rest kept name place s bytes ≡ using (put_of name bytes) (rest (insert kept name bytes) s)
 saves_on rest kept name place s bytes within dry =
     saving_wet rest kept name place s bytes (small bytes within) dry
 
 pub loads_on :
-    (rest : Further) (kept : Held) (name : List ℕ) (place : Place) (s t : State) →
+    (rest : Further) (kept : Held) (name : List ℕ) (place : LinePlace) (s t : State) →
     length (spelling s.lab s.lines) ≤ 67108864 → is_occupied t.lab ≡ false →
     snapshot_of (spelling s.lab s.lines) ≡ Some (s.lab, s.lines) →
     loading rest (insert kept name (spelling s.lab s.lines)) name place t
@@ -139,14 +139,15 @@ goes_still {kept} further told = record { now = kept; told = told; course = λ s
 
 -- want of memory is no fault of the store
 pub memory_alone :
-    {A M : Type 0} (result : Result A (Halt M)) → result ≡ Err halt.Memory → result ≡ Err halt.Unstored → ⊥
+    {A M : Type 0} (result : Result A (StoreHalt M)) → result ≡ Err halt.Memory → result ≡ Err halt.Unstored → ⊥
 memory_alone result is failed = cc
 
 -- ---- a laboratory is kept
 
 -- it is too large
 pub keep_large :
-    {at : Outside} (further : Further) (kept : Held) (name : List ℕ) (place : Place) (m : Running) (bytes : List ℕ) →
+    {at : Outside} (further : Further) (kept : Held) (name : List ℕ) (place : LinePlace) (m : Running)
+    (bytes : List ℕ) →
     67108864 < length bytes → at.kept ≡ Some kept →
     IsStored (saving further kept name place m.state bytes) kept further place at at (Err (halt.Refused Size m))
 keep_large further kept name place m bytes beyond told =
@@ -155,7 +156,8 @@ keep_large further kept name place m bytes beyond told =
 
 -- each run has length 0
 pub keep_dry :
-    {at : Outside} (further : Further) (kept : Held) (name : List ℕ) (place : Place) (m : Running) (bytes : List ℕ) →
+    {at : Outside} (further : Further) (kept : Held) (name : List ℕ) (place : LinePlace) (m : Running)
+    (bytes : List ℕ) →
     length bytes ≤ 67108864 → m.state.dry ≡ true → at.kept ≡ Some kept →
     IsStored (saving further kept name place m.state bytes) kept further place at at (Ok m)
 keep_dry further kept name place m bytes within dry told =
@@ -164,7 +166,7 @@ keep_dry further kept name place m bytes within dry told =
 
 -- it was kept
 pub keep_done :
-    {old mid : Outside} (further : Further) (kept : Held) (name : List ℕ) (place : Place) (m : Running)
+    {old mid : Outside} (further : Further) (kept : Held) (name : List ℕ) (place : LinePlace) (m : Running)
     (bytes : List ℕ) →
     length bytes ≤ 67108864 → m.state.dry ≡ false →
     mid.written ≡ old.written → mid.asked ≡ old.asked → mid.used ≡ grown old.used (put_of name bytes ∷ []) →
@@ -176,7 +178,7 @@ keep_done further kept name place m bytes within dry wrote asked used told =
 
 -- the store failed
 pub keep_failed :
-    {old new : Outside} (further : Further) (kept : Held) (name : List ℕ) (place : Place) (s : State)
+    {old new : Outside} (further : Further) (kept : Held) (name : List ℕ) (place : LinePlace) (s : State)
     (bytes : List ℕ) →
     length bytes ≤ 67108864 → s.dry ≡ false →
     new.written ≡ old.written → new.asked ≡ old.asked → new.used ≡ grown old.used (put_of name bytes ∷ []) →
@@ -189,19 +191,19 @@ keep_failed further kept name place s bytes within dry wrote asked used told =
 -- ---- a laboratory is taken back
 
 loading_occupied :
-    (further : Further) (kept : Held) (name : List ℕ) (place : Place) (s : State) → is_occupied s.lab ≡ true →
+    (further : Further) (kept : Held) (name : List ℕ) (place : LinePlace) (s : State) → is_occupied s.lab ≡ true →
     loading further kept name place s ≡ refused kept place s Occupied
 loading_occupied further kept name place s is = rw is refl
 
 loading_free :
-    (further : Further) (kept : Held) (name : List ℕ) (place : Place) (s : State) → is_occupied s.lab ≡ false →
+    (further : Further) (kept : Held) (name : List ℕ) (place : LinePlace) (s : State) → is_occupied s.lab ≡ false →
     loading further kept name place s
     ≡ using (get_of name) (loading_kept further kept place s (get kept name))
 loading_free further kept name place s is = rw is refl
 
 -- something is there
 pub take_occupied :
-    {at : Outside} (further : Further) (kept : Held) (name : List ℕ) (place : Place) (m : Running) →
+    {at : Outside} (further : Further) (kept : Held) (name : List ℕ) (place : LinePlace) (m : Running) →
     is_occupied m.state.lab ≡ true → at.kept ≡ Some kept →
     IsStored (loading further kept name place m.state) kept further place at at (Err (halt.Refused Occupied m))
 take_occupied further kept name place m is told =
@@ -216,7 +218,7 @@ some_large (Some bytes) beyond = (bytes, refl, beyond)
 
 -- the name keeps too much
 pub take_large :
-    {old mid : Outside} (further : Further) (kept : Held) (name : List ℕ) (place : Place) (m : Running) →
+    {old mid : Outside} (further : Further) (kept : Held) (name : List ℕ) (place : LinePlace) (m : Running) →
     is_occupied m.state.lab ≡ false → IsSomeAnd (get kept name) (λ bytes. 67108864 < length bytes) →
     mid.written ≡ old.written → mid.asked ≡ old.asked → mid.used ≡ grown old.used (get_of name ∷ []) →
     mid.kept ≡ Some kept →
@@ -228,7 +230,7 @@ take_large further kept name place m free beyond wrote asked used told =
 
 -- the store failed
 pub take_failed :
-    {old new : Outside} (further : Further) (kept : Held) (name : List ℕ) (place : Place) (s : State) →
+    {old new : Outside} (further : Further) (kept : Held) (name : List ℕ) (place : LinePlace) (s : State) →
     is_occupied s.lab ≡ false →
     new.written ≡ old.written → new.asked ≡ old.asked → new.used ≡ grown old.used (get_of name ∷ []) →
     new.kept ≡ Some kept →
@@ -238,8 +240,8 @@ take_failed further kept name place s free wrote asked used told =
     (course_unstored (get_of name) (loading_kept further kept place s (get kept name)) wrote asked used told)
 
 restored :
-    (old mid : Outside) (further : Further) (kept : Held) (name : List ℕ) (place : Place) (m : Running)
-    (snapshot : Option (Lab × List OpenLine)) (result : Result Running (Halt Running)) →
+    (old mid : Outside) (further : Further) (kept : Held) (name : List ℕ) (place : LinePlace) (m : Running)
+    (snapshot : Option (Lab × List OpenLine)) (result : Result Running (StoreHalt Running)) →
     mid.written ≡ old.written → mid.asked ≡ old.asked → mid.used ≡ grown old.used (get_of name ∷ []) →
     mid.kept ≡ Some kept → IsRestored m snapshot result →
     IsStored (using (get_of name) (resuming further kept place m.state snapshot)) kept further place old mid result
@@ -256,8 +258,8 @@ restored old mid further kept name place m snapshot (Err halt.Memory) wrote aske
 
 -- what the name keeps was read, and what became of that
 pub take_read :
-    (old mid : Outside) (further : Further) (kept : Held) (name : List ℕ) (place : Place) (m : Running)
-    (bytes : List ℕ) (result : Result Running (Halt Running)) →
+    (old mid : Outside) (further : Further) (kept : Held) (name : List ℕ) (place : LinePlace) (m : Running)
+    (bytes : List ℕ) (result : Result Running (StoreHalt Running)) →
     is_occupied m.state.lab ≡ false → get kept name ≡ Some bytes → length bytes ≤ 67108864 →
     mid.written ≡ old.written → mid.asked ≡ old.asked → mid.used ≡ grown old.used (get_of name ∷ []) →
     mid.kept ≡ Some kept → IsRestored m (snapshot_of bytes) result →

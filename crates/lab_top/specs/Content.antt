@@ -5,7 +5,7 @@ use Rattle.lab_io.specs.Whole as text
 use Rattle.resc_vars.specs.declared.cause.ScriptCause.TheVariants.{Size, Utf8}
 use Rattle.monitor.specs.declared.fault.ScriptFault.{ScriptFault}
 use Rattle.monitor.specs.Answer.{fault_at}
-use Rattle.monitor.specs.State.{Place}
+use Rattle.monitor.specs.State.{LinePlace}
 
 -- a file that is missing, one that is refused at a place of it, or one with a text
 pub data Content : Type 0 where
@@ -14,7 +14,7 @@ pub data Content : Type 0 where
   Readable : List ℕ → Content
 
 -- a file as a whole, where a fault of it stands
-abbrev pub whole : List ℕ → Place
+abbrev pub whole : List ℕ → LinePlace
 whole file = record { file = file; number = 0 }
 
 -- what a file of this name is, by its text

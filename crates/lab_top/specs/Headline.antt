@@ -3,7 +3,7 @@ use Rattle.std.specs.Prelude.{◌≡◌, ℕ, ◌≤◌, ◌⊎◌, List, [], �
 use Rattle.std.specs.Prelude.{Result, Ok, Err, IfSome, IsSome}
 use Rattle.std.specs.FinMap.{insert}
 use Rattle.std.specs.Option.{option_map_or}
-use Rattle.lab_io.specs.Asked.{Log}
+use Rattle.lab_io.specs.Asked.{AskedNames}
 use Rattle.lab_io.specs.Known.{grown}
 use Rattle.lab_io.specs.Held.{Held}
 use Rattle.lab_io.specs.Store.{StoreUse}
@@ -15,7 +15,7 @@ use Rattle.lab_io.specs.declared.sink.WriteFault.{WriteFault}
 use Rattle.lab_io.specs.declared.sink.WriteFault.TheVariants as write_fault
 use Rattle.lab_top.specs.declared.status.Status.{Status}
 use Rattle.lab_top.specs.declared.status.Status.TheVariants.{Done, Memory, Usage, Script, Unread, Unwritten, Unstored}
-use Rattle.lab_words.specs.Usage.{usage_line}
+use Rattle.lab_arguments.specs.Usage.{usage_line}
 use Rattle.lab_top.specs.Request.{Request, Refused, Run, Gen}
 use Rattle.lab_top.specs.Transcript.{Outcome, Read, Use, Transcript}
 use Rattle.lab_top.specs.Transcript as run
@@ -54,7 +54,7 @@ refusal write_fault.Memory = Memory
 -- what it keeps.
 pub record Outside : Type 0 where
   pub written : Option (List ℕ)
-  pub asked : Log
+  pub asked : AskedNames
   pub used : Option (List StoreUse)
   pub kept : Option Held
 
@@ -75,7 +75,7 @@ abbrev pub names_read : List Read → List (List ℕ)
 names_read reads = map (λ read. read.name) reads
 
 -- the last name that was asked for is that of a read that comes after so many bytes
-pub record ReadsLast (reads : List Read) (bytes : ℕ) (log log' : Log) : Type 0 where
+pub record ReadsLast (reads : List Read) (bytes : ℕ) (log log' : AskedNames) : Type 0 where
   pub earlier : List Read
   pub last : Read
   pub coming : List Read
@@ -125,7 +125,7 @@ pub record WritesPart (all : Transcript) (kept : Held) (status : Status) (old ne
   pub unread : status ≡ Unread → ReadsLast all.reads (length bytes) old.asked new.asked
 
 -- the names that were asked for are those of the first reads of the transcript
-pub record AsksPart (all : Transcript) (log log' : Log) : Type 0 where
+pub record AsksPart (all : Transcript) (log log' : AskedNames) : Type 0 where
   pub passed : List Read
   pub coming : List Read
   pub all_reads : all.reads ≡ passed ++ coming

@@ -3,3 +3,4 @@ pub mod Course
 pub mod Words
 pub mod Opened
 pub mod Stored
+pub mod Lent

@@ -1,9 +1,9 @@
 -- What the words ask for.
 use Rattle.std.specs.Prelude.{ℕ, true, false, List, Result, Ok, Err}
-use Rattle.lab_words.specs.declared.request.Request.TheVariants as words
-use Rattle.lab_words.specs.declared.request.Request as read
-use Rattle.lab_words.specs.declared.request.UsageCause.{UsageCause}
-use Rattle.lab_words.specs.Requests as requests
+use Rattle.lab_arguments.specs.declared.request.Request.TheVariants as words
+use Rattle.lab_arguments.specs.declared.request.Request as read
+use Rattle.lab_arguments.specs.declared.request.UsageCause.{UsageCause}
+use Rattle.lab_arguments.specs.Requests as requests
 use Rattle.monitor.specs.declared.setting.Setting.{Setting}
 
 -- a script, by the name of its file, and how it is run; or the laboratory of a seed, with so many boards

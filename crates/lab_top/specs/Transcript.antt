@@ -12,14 +12,14 @@ use Rattle.lab_state.specs.Names.{names as names_of}
 use Rattle.lab_state.specs.Run.{Play, run}
 use Rattle.log_text.specs.Log.{rest}
 use Rattle.log_text.specs.declared.line.OpenLine.{OpenLine}
-use Rattle.lab_words.specs.Usage.{usage_line}
-use Rattle.lab_words.specs.declared.request.UsageCause.{UsageCause}
+use Rattle.lab_arguments.specs.Usage.{usage_line}
+use Rattle.lab_arguments.specs.declared.request.UsageCause.{UsageCause}
 use Rattle.monitor.specs.declared.fault.ScriptFault.{ScriptFault}
 use Rattle.monitor.specs.declared.setting.Setting.{Setting}
 use Rattle.monitor.specs.Answer.{Did, Goes, Saves, Loads, Ends, Faults, Misses, fault_at}
 use Rattle.monitor.specs.Command.{did}
 use Rattle.monitor.specs.Fault.{fault_text}
-use Rattle.monitor.specs.State.{State, Place, bodies_of, joined, started}
+use Rattle.monitor.specs.State.{State, LinePlace, bodies_of, joined, started}
 use Rattle.resc_vars.specs.declared.cause.ScriptCause.{ScriptCause}
 use Rattle.resc_vars.specs.declared.cause.ScriptCause.TheVariants.{Size, Snapshot, Occupied}
 use Rattle.lab_top.specs.Content.{Content, Missing, Faulty, Readable, content_of}
@@ -90,7 +90,7 @@ abbrev pub stopped : Held → List (List ℕ) → State → Outcome → Transcri
 stopped kept names s outcome = after names (rest (names_of s.lab) s.lines) (ended kept outcome)
 
 -- a line is refused that is for the store
-abbrev pub refused : Held → Place → State → ScriptCause → Transcript
+abbrev pub refused : Held → LinePlace → State → ScriptCause → Transcript
 refused kept place s cause = stopped kept [] s (Script (fault_at place cause))
 
 -- whether a snapshot has more bytes than it may have
@@ -103,19 +103,19 @@ Further = Held → State → Transcript
 
 -- The laboratory and its open lines are kept under a name, as they are spelled. Where each run has length 0 it is only
 -- asked whether they can be.
-abbrev pub saving : Further → Held → List ℕ → Place → State → List ℕ → Transcript
+abbrev pub saving : Further → Held → List ℕ → LinePlace → State → List ℕ → Transcript
 saving further kept name place s bytes =
     if is_large bytes then refused kept place s Size
     else if s.dry then further kept s
     else using (put_of name bytes) (further (insert kept name bytes) s)
 
 -- how a run goes on with what was read of a snapshot
-abbrev pub resuming : Further → Held → Place → State → Option (Lab × List OpenLine) → Transcript
+abbrev pub resuming : Further → Held → LinePlace → State → Option (Lab × List OpenLine) → Transcript
 resuming further kept place s None = refused kept place s Snapshot
 resuming further kept place s (Some (lab, lines)) = further kept (joined (bodies_of s) lab lines)
 
 -- how a run goes on with what is kept under a name
-abbrev pub loading_kept : Further → Held → Place → State → Option (List ℕ) → Transcript
+abbrev pub loading_kept : Further → Held → LinePlace → State → Option (List ℕ) → Transcript
 loading_kept further kept place s None = ended kept Absent
 loading_kept further kept place s (Some bytes) =
     if is_large bytes then refused kept place s Size else resuming further kept place s (snapshot_of bytes)
@@ -125,7 +125,7 @@ abbrev pub is_occupied : Lab → Bool
 is_occupied lab = not (length lab.boards == 0) || not (length lab.hubs == 0) || not (lab.now == 0)
 
 -- the laboratory and its open lines are taken back from a name, into a laboratory in which nothing was made
-abbrev pub loading : Further → Held → List ℕ → Place → State → Transcript
+abbrev pub loading : Further → Held → List ℕ → LinePlace → State → Transcript
 loading further kept name place s =
     if is_occupied s.lab then refused kept place s Occupied
     else using (get_of name) (loading_kept further kept place s (get kept name))

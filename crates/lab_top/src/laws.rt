@@ -12,15 +12,13 @@ ghost use Rattle.lab_num.specs.Returns.{is_no_return, with_returns};
 ghost use Rattle.monitor.specs.declared.setting.Setting.{Setting};
 ghost use Rattle.monitor.specs.Answer.{Done, leaves};
 ghost use Rattle.monitor.specs.Runs.{run_for};
-ghost use Rattle.monitor.specs.State.{State, Place, bodies_of, joined};
+ghost use Rattle.monitor.specs.State.{State, LinePlace, bodies_of, joined};
 ghost use Rattle.lab_top.specs.Content.{Readable};
 ghost use Rattle.lab_top.specs.Request.{Run, request_of};
 ghost use Rattle.lab_top.specs.Transcript.{Further, begun, is_occupied, loading, saving, transcript};
 ghost use Rattle.lab_top.specs.Transcript.{transcript_by, using};
 
 use lab_snap::snapshots_are_what_they_spell;
-use lab_state::turns_agree;
-use resc_vars::return_law;
 
 /// However the boards take the slots of their grants in turns, the program writes the same bytes,
 /// ends in the same way and reads the same files.
@@ -28,7 +26,7 @@ pub fn transcripts_agree()
     ensures { (cut : Cut) → IsWhole cut → (words : List (List ℕ)) (held kept : Held) →
         transcript_by (run_in_turns cut) words held kept ≡ transcript words held kept }
 {
-    turns_agree();
+    lab_state::laws::turns_agree();
 }
 
 /// Words that ask for the same run by another number of workers make the program write the same
@@ -47,7 +45,7 @@ pub fn returns_agree()
         begun run held kept script setting (Readable (with_returns text))
         ≡ begun run held kept script setting (Readable text) }
 {
-    return_law();
+    resc_vars::laws::return_law();
 }
 
 /// Where each run has length 0, a command that runs the boards prints nothing and leaves all as it
@@ -62,10 +60,10 @@ pub fn checks_run_nothing()
 /// laboratory nothing was made, goes on with the laboratory and the open lines that were saved, with no board
 /// selected, and with its own script: the lines to come, the variables and the macros.
 pub fn cut_runs_go_on()
-    ensures saved { (further : Further) (kept : Held) (name : List ℕ) (place : Place) (s : State) (bytes : List ℕ) →
+    ensures saved { (further : Further) (kept : Held) (name : List ℕ) (place : LinePlace) (s : State) (bytes : List ℕ) →
         length bytes ≤ 67108864 → s.dry ≡ false →
         saving further kept name place s bytes ≡ using (put_of name bytes) (further (insert kept name bytes) s) }
-    ensures loaded { (further : Further) (kept : Held) (name : List ℕ) (place : Place) (s t : State) →
+    ensures loaded { (further : Further) (kept : Held) (name : List ℕ) (place : LinePlace) (s t : State) →
         IsValid s.lab s.lines → IsSpellable s.lab s.lines → length (spelling s.lab s.lines) ≤ 67108864 →
         is_occupied t.lab ≡ false →
         loading further (insert kept name (spelling s.lab s.lines)) name place t

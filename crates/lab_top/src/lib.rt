@@ -2,7 +2,8 @@
 #![tactic(auto)]
 
 mod command_line;
-mod laws;
+pub mod laws;
+mod outside;
 mod run;
 mod script;
 mod snapshots;
@@ -10,9 +11,6 @@ mod status;
 mod words;
 
 pub use command_line::{command_words, words_after_name};
-pub use lab_words::UsageCause;
-pub use laws::{
-    checks_run_nothing, cut_runs_go_on, returns_agree, transcripts_agree, workers_agree,
-};
+pub use lab_arguments::UsageCause;
 pub use run::run_lab;
 pub use status::{Status, exit_code};

@@ -4,7 +4,7 @@ ghost use Rattle.std.specs.Prelude.{Err, IfSome, IfOk, IfErr, Result};
 ghost use Rattle.std.specs.Option.{ForSome};
 ghost use Rattle.dev_core.specs.Stock.{IsFull};
 ghost use Rattle.lab_gen.specs.Summary.{summary_of};
-ghost use Rattle.lab_io.specs.Asked.{Log};
+ghost use Rattle.lab_io.specs.Asked.{AskedNames};
 ghost use Rattle.lab_io.specs.Frame.{OnlyReads, OnlyStores, OnlyWrites};
 ghost use Rattle.lab_io.specs.Held.{Held};
 ghost use Rattle.lab_io.specs.Known.{Rose};
@@ -17,20 +17,22 @@ ghost use Rattle.lab_top.specs.Request.{request_of};
 ghost use Rattle.lab_top.specs.Transcript.{Further, Transcript, transcript, run_of, commands_of, from, loading};
 ghost use Rattle.lab_top.specs.Transcript.{Script, Usage, Done};
 ghost use Rattle.lab_top.specs.Headline.{Course, IsWhole, WritesPart, WritesUsage, AsksPart, IsUncut, outside};
-ghost use Rattle.lab_top.specs.Headline.{Outside, IsUsageBy, IsNoUsage, OnRefused, final};
+ghost use Rattle.lab_top.specs.Headline.{Outside as Seen, IsUsageBy, IsNoUsage, OnRefused, final};
 ghost use Rattle.lab_top.specs.Inner.Course.{IsEnd, IsTaken};
+ghost use Rattle.lab_top.specs.Inner.Lent.{ForHeld, Goes, OnlyUses, told_of};
 ghost use Rattle.lab_top.specs.Inner.Stored.{IsStored, IsTried, IsUnspent, lent, store_of};
 
+use crate::outside::Outside;
 use crate::script::{Opened, open};
-use crate::snapshots::{Halt, SnapshotLine, fetch, keep, restore};
+use crate::snapshots::{SnapshotLine, StoreHalt, fetch, keep, restore};
 use crate::status::Status;
 use crate::words::{Asked, ScriptRun, read_request};
 use dev_core::{Device, Stock};
 use floor_run::Gate;
+use lab_arguments::{UsageCause, WordsFault, usage_line};
 use lab_gen::generate;
 use lab_io::{Files, Sink, Store, write_whole};
 use lab_num::Text;
-use lab_words::{UsageCause, WordsFault, usage_line};
 use monitor::{Cause, Monitor, Progress, ScriptFault};
 use std::alloc::Global;
 use std::sync::Wait;
@@ -42,7 +44,6 @@ const MOST_STEPS: u32 = 100_001;
 /// Runs the program for its command words, reading from `files`, writing to `out`, and keeping snapshots in
 /// `store`. As many workers as the words name run the boards. Where several run several boards, each enters
 /// the gate before each turn.
-#[tactic(auto, using(crate::proofs::Headlines::headlines))]
 pub fn run_lab<
     R: Threads + Wait + Copy + Send + Sync,
     D: Device + Send,
@@ -60,8 +61,7 @@ pub fn run_lab<
     stock: Stock<D>,
     gate: &G,
 ) -> Status
-    requires { IsFull (map D.meaning stock.uarts.items) (map D.meaning stock.cans.items)
-        (map D.meaning stock.finishers.items) }
+    requires { IsFull D.meaning stock }
 
     // Where nothing cut the run short, it ended, wrote and kept as its transcript says.
     ensures outcome { IfSome (F.held files.old) (λ held. IfSome (S.kept store.old) (λ kept.
@@ -106,7 +106,8 @@ pub fn run_lab<
     ensures output { OnlyWrites K.Sink (result ≡ Status.Unwritten) out.old out.new }
     ensures store { OnlyStores S.Store (result ≡ Status.Unstored) store.old store.new }
 {
-    run_words(rt, alloc, words, files, out, store, stock, gate)
+    let outside = &mut Outside { files, out, store };
+    run_words(rt, alloc, words, outside, stock, gate)
 }
 
 /// Does what the words ask for.
@@ -121,38 +122,28 @@ fn run_words<
     rt: &R,
     alloc: Global,
     words: &[String],
-    files: &mut F,
-    out: &mut K,
-    store: &mut S,
+    outside: &mut Outside<'_, '_, '_, F, K, S>,
     stock: Stock<D>,
     gate: &G,
 ) -> Status
-    requires { IsFull (map D.meaning stock.uarts.items) (map D.meaning stock.cans.items)
-        (map D.meaning stock.finishers.items) }
-    ensures course { ForSome (F.held files.old) (λ held. ForSome (S.kept store.old) (λ kept.
-        Course (transcript (map string_bytes words.now) held kept) kept result
-        (outside F.Files K.Sink S.Store files.old out.old store.old)
-        (outside F.Files K.Sink S.Store files.new out.new store.new))) }
+    requires { IsFull D.meaning stock }
+    ensures course { Goes F.Files K.Sink S.Store (transcript (map string_bytes words.now))
+        result outside.old outside.new }
     ensures usage { IsUsageBy (request_of (map string_bytes words.now)) result }
     ensures refused { OnRefused (request_of (map string_bytes words.now)) (WritesUsage result
-        (outside F.Files K.Sink S.Store files.old out.old store.old)
-        (outside F.Files K.Sink S.Store files.new out.new store.new)) }
-    ensures files { OnlyReads F.Files (result ≡ Status.Unread) files.old files.new }
-    ensures output { OnlyWrites K.Sink (result ≡ Status.Unwritten) out.old out.new }
-    ensures store { OnlyStores S.Store (result ≡ Status.Unstored) store.old store.new }
+        (told_of F.Files K.Sink S.Store outside.old) (told_of F.Files K.Sink S.Store outside.new)) }
+    ensures outside { OnlyUses F.Files K.Sink S.Store (λ status. result ≡ status) outside.old outside.new }
 {
     match read_request(alloc, words) {
-        Ok(Asked::Script(request)) => {
-            run_file(rt, alloc, request, files, out, store, stock, gate)
-        }
+        Ok(Asked::Script(request)) => run_file(rt, alloc, request, outside, stock, gate),
         Ok(
             Asked::Generated {
                 seed,
                 boards,
                 workers,
             },
-        ) => run_generated(rt, alloc, seed, boards, workers, out, stock, gate),
-        Err(WordsFault::Usage(cause)) => refuse_words(cause, out),
+        ) => run_generated(rt, alloc, seed, boards, workers, outside.out, stock, gate),
+        Err(WordsFault::Usage(cause)) => refuse_words(cause, outside.out),
         Err(WordsFault::Memory) => Status::Memory,
     }
 }
@@ -184,8 +175,7 @@ fn run_generated<R: Threads + Wait + Copy + Send + Sync, D: Device + Send, K: Si
     requires some { 1 ≤ boards }
     requires few { boards ≤ 16 }
     requires workers { (1 ≤ workers) × (workers ≤ 8) }
-    requires full { IsFull (map D.meaning stock.uarts.items) (map D.meaning stock.cans.items)
-        (map D.meaning stock.finishers.items) }
+    requires full { IsFull D.meaning stock }
     ensures course { IsEnd (summary_of run seed boards) Done
         result (K.written out.old) (K.written out.new) }
     ensures usage { IsNoUsage result }
@@ -213,28 +203,22 @@ fn run_file<
     rt: &R,
     alloc: Global,
     request: ScriptRun,
-    files: &mut F,
-    out: &mut K,
-    store: &mut S,
+    outside: &mut Outside<'_, '_, '_, F, K, S>,
     stock: Stock<D>,
     gate: &G,
 ) -> Status
-    requires full { IsFull (map D.meaning stock.uarts.items) (map D.meaning stock.cans.items)
-        (map D.meaning stock.finishers.items) }
+    requires full { IsFull D.meaning stock }
     requires some_worker { 1 ≤ request.setting.workers }
     requires few_workers { request.setting.workers ≤ 8 }
-    ensures course { ForSome (F.held files.old) (λ held. ForSome (S.kept store.old) (λ kept.
-        Course (run_of run held kept request.script request.setting) kept result
-        (outside F.Files K.Sink S.Store files.old out.old store.old)
-        (outside F.Files K.Sink S.Store files.new out.new store.new))) }
+    ensures course { Goes F.Files K.Sink S.Store
+        (λ held kept. run_of run held kept request.script request.setting)
+        result outside.old outside.new }
     ensures usage { IsNoUsage result }
-    ensures files { OnlyReads F.Files (result ≡ Status.Unread) files.old files.new }
-    ensures output { OnlyWrites K.Sink (result ≡ Status.Unwritten) out.old out.new }
-    ensures store { OnlyStores S.Store (result ≡ Status.Unstored) store.old store.new }
+    ensures outside { OnlyUses F.Files K.Sink S.Store (λ status. result ≡ status) outside.old outside.new }
 {
-    match open(alloc, files, request.script.as_str()) {
-        Opened::Text(text) => run_script(rt, alloc, request, text, files, out, store, stock, gate),
-        Opened::Refused(fault) => tell(alloc, fault, out),
+    match open(alloc, outside.files, request.script.as_str()) {
+        Opened::Text(text) => run_script(rt, alloc, request, text, outside, stock, gate),
+        Opened::Refused(fault) => tell(alloc, fault, outside.out),
         Opened::Unread => Status::Unread,
         Opened::Memory => Status::Memory,
     }
@@ -253,31 +237,25 @@ fn run_script<
     alloc: Global,
     request: ScriptRun,
     text: String,
-    files: &mut F,
-    out: &mut K,
-    store: &mut S,
+    outside: &mut Outside<'_, '_, '_, F, K, S>,
     stock: Stock<D>,
     gate: &G,
 ) -> Status
-    requires full { IsFull (map D.meaning stock.uarts.items) (map D.meaning stock.cans.items)
-        (map D.meaning stock.finishers.items) }
+    requires full { IsFull D.meaning stock }
     requires short { length (string_bytes text) ≤ 2 ^ 24 }
     requires some_worker { 1 ≤ request.setting.workers }
     requires few_workers { request.setting.workers ≤ 8 }
-    ensures course { ForSome (F.held files.old) (λ held. ForSome (S.kept store.old) (λ kept.
-        Course (commands_of run held kept (started request.script (string_bytes text) request.setting)) kept result
-        (outside F.Files K.Sink S.Store files.old out.old store.old)
-        (outside F.Files K.Sink S.Store files.new out.new store.new))) }
+    ensures course { Goes F.Files K.Sink S.Store
+        (λ held kept. commands_of run held kept (started request.script (string_bytes text) request.setting))
+        result outside.old outside.new }
     ensures usage { IsNoUsage result }
-    ensures files { OnlyReads F.Files (result ≡ Status.Unread) files.old files.new }
-    ensures output { OnlyWrites K.Sink (result ≡ Status.Unwritten) out.old out.new }
-    ensures store { OnlyStores S.Store (result ≡ Status.Unstored) store.old store.new }
+    ensures outside { OnlyUses F.Files K.Sink S.Store (λ status. result ≡ status) outside.old outside.new }
 {
     let ScriptRun { script, setting } = request;
     let Ok(monitor) = Monitor::new(alloc, script.as_str(), text, stock, setting) else {
         return Status::Memory;
     };
-    take_commands(rt, alloc, monitor, files, out, store, gate)
+    take_commands(rt, alloc, monitor, outside, gate)
 }
 
 /// Takes the commands of a script to its end, the first fault or the first failure.
@@ -292,24 +270,18 @@ fn take_commands<
     rt: &R,
     alloc: Global,
     mut monitor: Monitor<D>,
-    files: &mut F,
-    out: &mut K,
-    store: &mut S,
+    outside: &mut Outside<'_, '_, '_, F, K, S>,
     gate: &G,
 ) -> Status
     requires goes_on { monitor.ended ≡ false }
     requires few { monitor.state.flow.kept.taken ≤ 100000 }
-    ensures course { ForSome (F.held files.old) (λ held. ForSome (S.kept store.old) (λ kept.
-        Course (commands_of run held kept monitor.state) kept result
-        (outside F.Files K.Sink S.Store files.old out.old store.old)
-        (outside F.Files K.Sink S.Store files.new out.new store.new))) }
+    ensures course { Goes F.Files K.Sink S.Store (λ held kept. commands_of run held kept monitor.state)
+        result outside.old outside.new }
     ensures usage { IsNoUsage result }
-    ensures files { OnlyReads F.Files (result ≡ Status.Unread) files.old files.new }
-    ensures output { OnlyWrites K.Sink (result ≡ Status.Unwritten) out.old out.new }
-    ensures store { OnlyStores S.Store (result ≡ Status.Unstored) store.old store.new }
+    ensures outside { OnlyUses F.Files K.Sink S.Store (λ status. result ≡ status) outside.old outside.new }
 {
     'commands: for _turn in 0..MOST_STEPS {
-        match take_command(rt, alloc, monitor, files, out, store, gate) {
+        match take_command(rt, alloc, monitor, outside, gate) {
             Ok(next) => monitor = next,
             Err(status) => return status,
         }
@@ -329,26 +301,29 @@ fn take_command<
     rt: &R,
     alloc: Global,
     mut monitor: Monitor<D>,
-    files: &mut F,
-    out: &mut K,
-    store: &mut S,
+    outside: &mut Outside<'_, '_, '_, F, K, S>,
     gate: &G,
 ) -> Result<Monitor<D>, Status>
     requires { monitor.ended ≡ false }
-    ensures course { ForSome (F.held files.old) (λ held. ForSome (S.kept store.old) (λ kept. (more : ℕ) →
+    ensures course { ForHeld F.Files S.Store outside.old (λ held kept. (more : ℕ) →
         IsTaken (from (suc more) run held kept monitor.state) kept (from more run held)
-        (outside F.Files K.Sink S.Store files.old out.old store.old)
-        (outside F.Files K.Sink S.Store files.new out.new store.new) result)) }
+        (told_of F.Files K.Sink S.Store outside.old) (told_of F.Files K.Sink S.Store outside.new) result) }
     ensures next { IfOk result (λ next. (next.ended ≡ false) × (next.workers ≡ monitor.workers)
         × TakesSome monitor.state next.state) }
     ensures usage { IfErr result IsNoUsage }
-    ensures files { OnlyReads F.Files (result ≡ Err Status.Unread) files.old files.new }
-    ensures output { OnlyWrites K.Sink (result ≡ Err Status.Unwritten) out.old out.new }
-    ensures store { OnlyStores S.Store (result ≡ Err Status.Unstored) store.old store.new }
+    ensures outside { OnlyUses F.Files K.Sink S.Store (λ status. result ≡ Err status) outside.old outside.new }
 {
-    match try_command(rt, alloc, &mut monitor, files, out, store, gate) {
+    match try_command(
+        rt,
+        alloc,
+        &mut monitor,
+        outside.files,
+        outside.out,
+        outside.store,
+        gate,
+    ) {
         Ok(None) => Ok(monitor),
-        Ok(Some(line)) => take_back(alloc, monitor, store, line, out),
+        Ok(Some(line)) => take_back(alloc, monitor, outside.store, line, outside.out),
         Err(status) => Err(status),
     }
 }
@@ -409,8 +384,8 @@ fn take_back<D: Device, K: Sink, S: Store>(
 ) -> Result<Monitor<D>, Status>
     requires { monitor.ended ≡ false }
     ensures course { ForSome (S.kept store.old) (λ kept.
-        (all : Transcript) (further : Further) (old : Outside) (asked : Log) →
-        ((new : Outside) (stored : Result Running (Halt Running)) →
+        (all : Transcript) (further : Further) (old : Seen) (asked : AskedNames) →
+        ((new : Seen) (stored : Result Running (StoreHalt Running)) →
         IsStored (loading further kept line.name (line_in line.file line.line) monitor.state) kept further
         (line_in line.file line.line) (store_of S.Store (K.written out.old) asked store.old) new stored →
         IsStored all kept further (line_in line.file line.line) old new stored) →
@@ -437,57 +412,57 @@ fn take_back<D: Device, K: Sink, S: Store>(
 fn stop_by<D: Device, K: Sink>(
     alloc: Global,
     monitor: &mut Monitor<D>,
-    halt: Halt<()>,
+    halt: StoreHalt<()>,
     file: Text,
     line: u32,
     out: &mut K,
 ) -> Status
     requires { monitor.old.spent ≡ false }
-    ensures course { (all : Transcript) (kept : Held) (further : Further) (old mid : Outside) →
+    ensures course { (all : Transcript) (kept : Held) (further : Further) (old mid : Seen) →
         IsStored all kept further (line_in file line) old (record mid { written = K.written out.old })
         (lent monitor.old (Err halt)) →
         Course all kept result old (record mid { written = K.written out.new }) }
     ensures usage { IsNoUsage result }
     ensures never { result ≢ Status.Unread }
-    ensures unstored { result ≡ Status.Unstored → halt ≡ Halt.Unstored }
+    ensures unstored { result ≡ Status.Unstored → halt ≡ StoreHalt.Unstored }
     ensures output { OnlyWrites K.Sink (result ≡ Status.Unwritten) out.old out.new }
 {
     match halt {
-        Halt::Refused(cause, ()) => {
+        StoreHalt::Refused(cause, ()) => {
             let cause = Cause::Script(cause);
             stop_at(alloc, monitor, ScriptFault { file, line, cause }, out)
         }
-        Halt::Unstored => Status::Unstored,
-        Halt::Memory => Status::Memory,
+        StoreHalt::Unstored => Status::Unstored,
+        StoreHalt::Memory => Status::Memory,
     }
 }
 
 /// Goes on after a command for the store, which stands in this line of this file, or ends the run.
 fn go_on<D: Device, K: Sink>(
     alloc: Global,
-    stored: Result<Monitor<D>, Halt<Monitor<D>>>,
+    stored: Result<Monitor<D>, StoreHalt<Monitor<D>>>,
     file: Text,
     line: u32,
     out: &mut K,
 ) -> Result<Monitor<D>, Status>
     requires { IsUnspent stored }
-    ensures course { (all : Transcript) (kept : Held) (further : Further) (old mid : Outside) →
+    ensures course { (all : Transcript) (kept : Held) (further : Further) (old mid : Seen) →
         IsStored all kept further (line_in file line) old (record mid { written = K.written out.old }) stored →
         IsTaken all kept further old (record mid { written = K.written out.new }) result }
     ensures same { IfOk result (λ monitor. stored ≡ Ok monitor) }
     ensures usage { IfErr result IsNoUsage }
     ensures never { result ≢ Err Status.Unread }
-    ensures unstored { result ≡ Err Status.Unstored → stored ≡ Err Halt.Unstored }
+    ensures unstored { result ≡ Err Status.Unstored → stored ≡ Err StoreHalt.Unstored }
     ensures output { OnlyWrites K.Sink (result ≡ Err Status.Unwritten) out.old out.new }
 {
     match stored {
         Ok(monitor) => Ok(monitor),
-        Err(Halt::Refused(cause, mut monitor)) => {
+        Err(StoreHalt::Refused(cause, mut monitor)) => {
             let cause = Cause::Script(cause);
             Err(stop_at(alloc, &mut monitor, ScriptFault { file, line, cause }, out))
         }
-        Err(Halt::Unstored) => Err(Status::Unstored),
-        Err(Halt::Memory) => Err(Status::Memory),
+        Err(StoreHalt::Unstored) => Err(Status::Unstored),
+        Err(StoreHalt::Memory) => Err(Status::Memory),
     }
 }
 

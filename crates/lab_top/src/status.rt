@@ -2,9 +2,9 @@
 ghost use Rattle.std.specs.Prelude.{◌≡◌};
 ghost use Rattle.lab_top.specs.Headline.{exit_number};
 
+use lab_arguments::UsageCause;
 use lab_io::WriteFault;
 use lab_num::NoMemory;
-use lab_words::UsageCause;
 use monitor::ScriptFault;
 
 /// How a run of the program ends.

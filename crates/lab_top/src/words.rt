@@ -1,11 +1,11 @@
 //! What the words ask for: a script and how it is run, or a generated laboratory.
 ghost use Rattle.std.specs.Prelude.{IfOk, Ok, map, string_bytes};
-ghost use Rattle.lab_words.specs.Requests.{IsWithin};
+ghost use Rattle.lab_arguments.specs.Requests.{IsWithin};
 ghost use Rattle.lab_top.specs.Request.{by_reading, request_of};
 ghost use Rattle.lab_top.specs.Inner.Words.{IsAsked, IsInRange};
 
+use lab_arguments::{Request, WordsFault, read_words};
 use lab_num::{Micros, Text};
-use lab_words::{Request, WordsFault, read_words};
 use monitor::Setting;
 use std::alloc::Global;
 

@@ -14,7 +14,7 @@ use Rattle.log_text.specs.Log.{rest}
 use Rattle.monitor.specs.declared.setting.Setting.{Setting}
 use Rattle.monitor.specs.Answer.{Answer, Goes, Saves, Loads, Ends, Faults, Misses, Did}
 use Rattle.monitor.specs.Command.{did}
-use Rattle.monitor.specs.State.{State, Place, bodies_of, joined, started}
+use Rattle.monitor.specs.State.{State, LinePlace, bodies_of, joined, started}
 use Rattle.resc_vars.specs.declared.cause.ScriptCause.TheVariants.{Size, Occupied}
 use Rattle.lab_top.specs.Content.{Content, Missing, Faulty, Readable, content_of}
 use Rattle.lab_top.specs.Headline.{names_read}
@@ -88,7 +88,7 @@ module _ (held other : Held) where
     uses = ap (λ uses. record { call = call; before = 0 } ∷ uses) alike.uses;
   }
 
-  module _ (first second : Further) (alike : AreAlike first second) (kept stored : Held) (place : Place) where
+  module _ (first second : Further) (alike : AreAlike first second) (kept stored : Held) (place : LinePlace) where
     saving_by : (a b : Bool) (name bytes : List ℕ) (s : State) →
         Looks kept stored
         (if a then refused kept place s Size

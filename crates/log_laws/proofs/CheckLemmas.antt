@@ -21,7 +21,7 @@ use Rattle.monitor.specs.declared.setting.Setting.{Setting}
 use Rattle.monitor.specs.Answer.{Answer, Goes, Saves, Loads, Ends, Faults, Misses}
 use Rattle.monitor.specs.Command.{OnState, work, does, done_by, by_next, did}
 use Rattle.monitor.specs.Runs.{run_for}
-use Rattle.monitor.specs.State.{State, Place, bodies_of, joined, started}
+use Rattle.monitor.specs.State.{State, LinePlace, bodies_of, joined, started}
 use Rattle.lab_top.specs.Content.{Content, Missing, Faulty, Readable, content_of}
 use Rattle.lab_top.specs.Request.{Run, request_of}
 use Rattle.lab_top.specs.Transcript.{Further, after, begun, from, is_large, is_occupied, loading_kept}
@@ -64,7 +64,7 @@ module _ (one two : Play) (none : IsNothing one) (nothing : IsNothing two) (held
   work_same s (command.Load path) dry = refl
   work_same s command.Quit dry = refl
 
-  line_same : (s : State) (place : Place) (line : Result Command LineCause) → s.dry ≡ true →
+  line_same : (s : State) (place : LinePlace) (line : Result Command LineCause) → s.dry ≡ true →
       done_by one held s place line ≡ done_by two held s place line
   line_same s place (Ok line) dry = ap (does held place) (work_same s line dry)
   line_same s place (Err cause) dry = refl
@@ -83,7 +83,7 @@ module _ (one two : Play) (none : IsNothing one) (nothing : IsNothing two) (held
   abbrev AreSame : Further → Further → Type 0
   AreSame first second = (kept : Held) (s : State) → s.dry ≡ true → first kept s ≡ second kept s
 
-  module _ (first second : Further) (same : AreSame first second) (kept : Held) (place : Place) where
+  module _ (first second : Further) (same : AreSame first second) (kept : Held) (place : LinePlace) where
     saving_same : (large dry : Bool) (name bytes : List ℕ) (s : State) → s.dry ≡ true → dry ≡ true →
         (if large then refused kept place s Size
         else if dry then first kept s

@@ -22,7 +22,7 @@ use Rattle.monitor.specs.Images.{elf_image, hex_image, load_read}
 use Rattle.monitor.specs.Memory.{write_bytes}
 use Rattle.monitor.specs.Refusal.{require}
 use Rattle.monitor.specs.Selected.{bare, equipped}
-use Rattle.monitor.specs.State.{State, Place}
+use Rattle.monitor.specs.State.{State, LinePlace}
 use Rattle.log_laws.proofs.AgreementLemmas.{Same}
 use Rattle.log_laws.proofs.LoadingLemmas.{load_stays}
 
@@ -31,26 +31,26 @@ module _ (held other : Held) where
   abbrev Stays : Did → Did → Type 0
   Stays first second = Same held other first.names → second ≡ first
 
-  loads_stay : {A : Type 0} (place : Place) (name : List ℕ) (before : Result A ScriptCause)
+  loads_stay : {A : Type 0} (place : LinePlace) (name : List ℕ) (before : Result A ScriptCause)
       (answer : A → List ℕ → Answer) →
       Stays (loads held place name before answer) (loads other place name before answer)
   loads_stay place name (Ok x) answer same = rw same.0 refl
   loads_stay place name (Err cause) answer same = refl
 
-  onto_stays : (s : State) (place : Place) (path : List ℕ) (before : Result ℕ ScriptCause) →
+  onto_stays : (s : State) (place : LinePlace) (path : List ℕ) (before : Result ℕ ScriptCause) →
       Stays (load_onto s place (load held (length s.flow.outer) path) before)
       (load_onto s place (load other (length s.flow.outer) path) before)
   onto_stays s place path (Ok b) same =
       ap (λ loading. load_onto s place loading (Ok b)) (load_stays held other (length s.flow.outer) path same)
   onto_stays s place path (Err cause) same = refl
 
-  include_by : (s : State) (place : Place) (path : List ℕ) (before : Result (Unit {0}) ScriptCause) →
+  include_by : (s : State) (place : LinePlace) (path : List ℕ) (before : Result (Unit {0}) ScriptCause) →
       Stays (reads place path before (λ _. include_text s place path (file_text (get held path))))
       (reads place path before (λ _. include_text s place path (file_text (get other path))))
   include_by s place path (Ok done) same = rw same.0 refl
   include_by s place path (Err cause) same = refl
 
-  work_stays : (play : Play) (s : State) (place : Place) (line : Command) →
+  work_stays : (play : Play) (s : State) (place : LinePlace) (line : Command) →
       Stays (does held place (work play s line)) (does other place (work play s line))
   work_stays play s place (command.LoadPlatform path) same = onto_stays s place path (bare s) same
   work_stays play s place (command.LoadElf path) same =
@@ -83,7 +83,7 @@ module _ (held other : Held) where
   work_stays play s place (command.Load path) same = refl
   work_stays play s place command.Quit same = refl
 
-  line_stays : (play : Play) (s : State) (place : Place) (line : Result Command LineCause) →
+  line_stays : (play : Play) (s : State) (place : LinePlace) (line : Result Command LineCause) →
       Stays (done_by play held s place line) (done_by play other s place line)
   line_stays play s place (Ok line) same = work_stays play s place line same
   line_stays play s place (Err cause) same = refl

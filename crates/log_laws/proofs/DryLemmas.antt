@@ -37,7 +37,7 @@ use Rattle.monitor.specs.Processor.{halted, halted_on, mips, mips_on, pc, pc_on}
 use Rattle.monitor.specs.Refusal.{◌>>=◌, require}
 use Rattle.monitor.specs.Runs.{has_run, length_of, run_for, start}
 use Rattle.monitor.specs.Selected.{Equipped, bare, equipped}
-use Rattle.monitor.specs.State.{State, Place}
+use Rattle.monitor.specs.State.{State, LinePlace}
 use Rattle.log_laws.specs.Checking.{IfOn}
 
 -- a state is as it was in its time and in whether runs have length 0
@@ -61,53 +61,53 @@ rests_then : {A : Type 0} (s : State) (test : Result A ScriptCause) (next : A �
 rests_then s (Ok x) next rests = rests x
 rests_then s (Err cause) next rests = tt
 
-answered_at : (s : State) (place : Place) (ruling : Result Done ScriptCause) → RestsBy s ruling →
+answered_at : (s : State) (place : LinePlace) (ruling : Result Done ScriptCause) → RestsBy s ruling →
     RestsAs s (answer_at place ruling)
 answered_at s place (Ok done) rests = rests
 answered_at s place (Err cause) rests = tt
 
-made_by : (s : State) (place : Place) (b : ℕ) (names : List (List ℕ)) (plan : Result BoardPlan PlatFault) →
+made_by : (s : State) (place : LinePlace) (b : ℕ) (names : List (List ℕ)) (plan : Result BoardPlan PlatFault) →
     RestsAs s (equip s b names plan)
 made_by s place b names (Ok plan) = same s
 made_by s place b names (Err (plat_fault.At file line cause)) = tt
 made_by s place b names (Err plat_fault.Memory) = tt
 
-loaded_as : (s : State) (place : Place) (b : ℕ) (names : List (List ℕ)) (outcome : Outcome) →
+loaded_as : (s : State) (place : LinePlace) (b : ℕ) (names : List (List ℕ)) (outcome : Outcome) →
     RestsAs s (equip_loaded s place b names outcome)
 loaded_as s place b names (Joined entries) = made_by s place b names (built entries)
 loaded_as s place b names (Refused fault) = tt
 loaded_as s place b names Oversized = tt
 loaded_as s place b names Absent = tt
 
-onto : (s : State) (place : Place) (loading : Loading) (before : Result ℕ ScriptCause) →
+onto : (s : State) (place : LinePlace) (loading : Loading) (before : Result ℕ ScriptCause) →
     RestsAs s (load_onto s place loading before).answer
 onto s place loading (Ok b) = loaded_as s place b loading.names loading.outcome
 onto s place loading (Err cause) = tt
 
-with_bytes_of : (s : State) (place : Place) (large : Bool) (answer : Answer) → RestsAs s answer →
+with_bytes_of : (s : State) (place : LinePlace) (large : Bool) (answer : Answer) → RestsAs s answer →
     RestsAs s (if large then refused place Size else answer)
 with_bytes_of s place true answer rests = tt
 with_bytes_of s place false answer rests = rests
 
-with_file_of : (s : State) (place : Place) (there : Option (List ℕ)) (answer : List ℕ → Answer) →
+with_file_of : (s : State) (place : LinePlace) (there : Option (List ℕ)) (answer : List ℕ → Answer) →
     ((bytes : List ℕ) → RestsAs s (answer bytes)) → RestsAs s (with_file place there answer)
 with_file_of s place None answer rests = tt
 with_file_of s place (Some bytes) answer rests =
     with_bytes_of s place (nat_lt 16777216 (length bytes)) (answer bytes) (rests bytes)
 
-loads_of : {A : Type 0} (held : Held) (s : State) (place : Place) (name : List ℕ) (before : Result A ScriptCause)
+loads_of : {A : Type 0} (held : Held) (s : State) (place : LinePlace) (name : List ℕ) (before : Result A ScriptCause)
     (answer : A → List ℕ → Answer) → ((x : A) (bytes : List ℕ) → RestsAs s (answer x bytes)) →
     RestsAs s (loads held place name before answer).answer
 loads_of held s place name (Ok x) answer rests = with_file_of s place (get held name) (answer x) (rests x)
 loads_of held s place name (Err cause) answer rests = tt
 
-image_of : (s : State) (place : Place) (on : Equipped) (image : Result Image Cause) →
+image_of : (s : State) (place : LinePlace) (on : Equipped) (image : Result Image Cause) →
     RestsAs s (load_read s place on image)
 image_of s place on (Ok image) =
     answered_at s place (load_image s on image) (search (rests_then, same s))
 image_of s place on (Err cause) = tt
 
-text_of : (s : State) (place : Place) (path : List ℕ) (text : FileText) → RestsAs s (include_text s place path text)
+text_of : (s : State) (place : LinePlace) (path : List ℕ) (text : FileText) → RestsAs s (include_text s place path text)
 text_of s place path Missing = tt
 text_of s place path Large = tt
 text_of s place path (Broken line) = tt
@@ -115,7 +115,8 @@ text_of s place path (Readable bytes) =
     answered_at s place (entered s (enter s.flow (source_of path bytes)))
     (search (rests_then, same s))
 
-include_of : (s : State) (place : Place) (path : List ℕ) (text : FileText) (before : Result (Unit {0}) ScriptCause) →
+include_of : (s : State) (place : LinePlace) (path : List ℕ) (text : FileText)
+    (before : Result (Unit {0}) ScriptCause) →
     RestsAs s (reads place path before (λ _. include_text s place path text)).answer
 include_of s place path text (Ok done) = text_of s place path text
 include_of s place path text (Err cause) = tt
@@ -142,7 +143,7 @@ module _ (play : Play) (nothing : (lab : Lab) → play lab 0 ≡ still lab) (hel
       let stays : Rests s (has_run s (play s.lab (length_of s length))).state = (rw (dry, nothing s.lab) refl, refl) in
       search (rests_then, stays)
 
-  work_rests : (s : State) (place : Place) (line : Command) → s.dry ≡ true →
+  work_rests : (s : State) (place : LinePlace) (line : Command) → s.dry ≡ true →
       RestsAs s (does held place (work play s line)).answer
   work_rests s place (command.LoadPlatform path) dry =
       onto s place (load held (length s.flow.outer) path) (bare s)
@@ -203,7 +204,7 @@ module _ (play : Play) (nothing : (lab : Lab) → play lab 0 ≡ still lab) (hel
   work_rests s place (command.Load path) dry = same s
   work_rests s place command.Quit dry = tt
 
-  line_rests : (s : State) (place : Place) (line : Result Command LineCause) → s.dry ≡ true →
+  line_rests : (s : State) (place : LinePlace) (line : Result Command LineCause) → s.dry ≡ true →
       RestsAs s (done_by play held s place line).answer
   line_rests s place (Ok line) dry = work_rests s place line dry
   line_rests s place (Err cause) dry = tt

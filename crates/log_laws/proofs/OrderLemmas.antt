@@ -12,7 +12,7 @@ use Rattle.log_text.specs.declared.line.OpenLine.{OpenLine}
 use Rattle.monitor.specs.declared.setting.Setting.{Setting}
 use Rattle.monitor.specs.Answer.{Answer, Goes, Saves, Loads, Ends, Faults, Misses}
 use Rattle.monitor.specs.Command.{did}
-use Rattle.monitor.specs.State.{State, Place, bodies_of, joined, started}
+use Rattle.monitor.specs.State.{State, LinePlace, bodies_of, joined, started}
 use Rattle.resc_vars.specs.declared.cause.ScriptCause.TheVariants.{Size, Occupied}
 use Rattle.lab_top.specs.Content.{Content, Missing, Faulty, Readable, content_of}
 use Rattle.lab_top.specs.Headline.{calls, kept_by}
@@ -93,12 +93,12 @@ put_orderly kept name bytes rest is = record { keeps = is.keeps; reads = is.read
 abbrev AreOrderly : Further → Type 0
 AreOrderly further = (kept : Held) (s : State) → IsOrderly kept (further kept s)
 
-refused_orderly : (kept : Held) (place : Place) (s : State) (bytes : List ℕ) (outcome : Outcome) →
+refused_orderly : (kept : Held) (place : LinePlace) (s : State) (bytes : List ℕ) (outcome : Outcome) →
     IsOrderly kept (after [] bytes (ended kept outcome))
 refused_orderly kept place s bytes outcome =
     after_orderly kept [] bytes (ended kept outcome) (ended_orderly kept outcome)
 
-module _ (further : Further) (are : AreOrderly further) (kept : Held) (place : Place) where
+module _ (further : Further) (are : AreOrderly further) (kept : Held) (place : LinePlace) where
   saving_by : (a b : Bool) (name bytes : List ℕ) (s : State) →
       IsOrderly kept
       (if a then refused kept place s Size

@@ -5,10 +5,6 @@ ghost use Rattle.monitor.specs.Answer.{Done};
 ghost use Rattle.monitor.specs.Runs.{run_for};
 ghost use Rattle.monitor.specs.State.{State};
 
-use lab_state::runs_join;
-use log_text::prints_join;
-use monitor::runs_keep_names;
-
 /// Two runs one after another print together what one run of both lengths prints, and leave the same
 /// laboratory and the same open lines, where the first is a whole number of quanta long and no
 /// finisher ends it. Where the first ends within a quantum, there is one boundary more, and what was
@@ -20,7 +16,7 @@ pub fn runs_of_a_script_join()
         run_for run s (d + e) ≡ Ok both →
         both ≡ record { text = first.text ++ second.text; state = second.state } }
 {
-    runs_join();
-    runs_keep_names();
-    prints_join();
+    lab_state::laws::runs_join();
+    monitor::laws::runs_keep_names();
+    log_text::laws::prints_join();
 }

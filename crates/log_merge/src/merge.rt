@@ -8,6 +8,7 @@ ghost use Rattle.log_merge.specs.Merge.{all_entries};
 use dev_core::{Entry, Post};
 use lab_num::{NoMemory, listing_laws};
 use std::alloc::Global;
+use std::mem;
 
 /// The entries of all the lists, one list after another.
 fn join(alloc: Global, lists: &[Vec<Entry>]) -> Result<Vec<Entry>, NoMemory>
@@ -20,6 +21,16 @@ fn join(alloc: Global, lists: &[Vec<Entry>]) -> Result<Vec<Entry>, NoMemory>
     Ok(joined)
 }
 
+/// The entries of all the lists, one list after another. Those of one list stay where they are.
+fn joined(alloc: Global, mut lists: Vec<Vec<Entry>>) -> Result<Vec<Entry>, NoMemory>
+    ensures { IfOk result (λ joined. joined.items ≡ all_entries lists.items) }
+{
+    if lists.len() == 1 {
+        return Ok(mem::replace(&mut lists[0], Vec::new(alloc)));
+    }
+    join(alloc, &lists)
+}
+
 /// The entries of all the lists together, in rising order of key.
 pub fn merge_entries(alloc: Global, lists: Vec<Vec<Entry>>) -> Result<Vec<Entry>, NoMemory>
     requires { KeysDiffer entry_key (all_entries lists.items) }
@@ -28,7 +39,7 @@ pub fn merge_entries(alloc: Global, lists: Vec<Vec<Entry>>) -> Result<Vec<Entry>
     ensures value { IfOk result (λ list. list.items ≡ listing entry_key (all_entries lists.items)) }
 {
     listing_laws::<Entry>();
-    let mut list = join(alloc, &lists)?;
+    let mut list = joined(alloc, lists)?;
     list.sort_by_key(|entry| entry.key)?;
     Ok(list)
 }

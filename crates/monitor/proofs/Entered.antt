@@ -6,7 +6,7 @@ use Rattle.std.specs.Global.{Global}
 use Rattle.std.proofs.lemmas.Bool.Decides.{nat_tests}
 use Rattle.lab_io.specs.declared.whole.TextFault.{TextFault}
 use Rattle.lab_io.specs.declared.whole.TextFault.TheVariants as text_fault
-use Rattle.lab_io.specs.Asked.{Log}
+use Rattle.lab_io.specs.Asked.{AskedNames}
 use Rattle.lab_io.specs.Held.{Held}
 use Rattle.lab_io.specs.Known.{grown}
 use Rattle.lab_io.specs.Whole.{IsTextRead, file_text}
@@ -18,12 +18,12 @@ use Rattle.monitor.specs.declared.stop.Stop.{Stop}
 use Rattle.monitor.specs.declared.stop.Stop.TheVariants.{Store, Quit, Line, File, Content, Unread, Memory}
 use Rattle.monitor.specs.Answer.{Did, Faults, answer_at}
 use Rattle.monitor.specs.Bodies.{entered, include, include_text}
-use Rattle.monitor.specs.State.{State, Place}
+use Rattle.monitor.specs.State.{State, LinePlace}
 use Rattle.monitor.specs.Inner.Ruling.{IsCarried, IsFileStop, IsTextStop}
 
 -- a command that stops at a place of a file, or for want of memory
 file_carried :
-    (did : Did) (place : Place) (fault : ScriptFault) (stop : Stop) (after : State) (log log' : Log) →
+    (did : Did) (place : LinePlace) (fault : ScriptFault) (stop : Stop) (after : State) (log log' : AskedNames) →
     did.answer ≡ Faults fault → log' ≡ grown log did.names → IsFileStop fault stop →
     IsCarried did place (Err stop) after log log'
 file_carried did place fault (Store store) after log log' answer asked is = absurd is
@@ -45,8 +45,8 @@ text_unread name text_fault.TooLarge stop is same = cc (is, same)
 text_unread name (text_fault.NotText line) stop is same = absurd (file_unread _ stop is same)
 text_unread name text_fault.Memory stop is same = cc (is, same)
 
-module _ (held : Held) (s : State) (place : Place) (path : List ℕ) (room : length s.flow.outer < 8)
-    (log log' : Log) where
+module _ (held : Held) (s : State) (place : LinePlace) (path : List ℕ) (room : length s.flow.outer < 8)
+    (log log' : AskedNames) where
   -- fewer than 8 bodies are open
   include_reads :
       include held s place path

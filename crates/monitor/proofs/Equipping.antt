@@ -1,6 +1,6 @@
 -- What comes of a platform that a command loads.
 use Rattle.std.proofs.Common.{◌≡◌, ◌∙◌, ℕ, List, length, Result, Ok, Err, refl, sym, ap, subst}
-use Rattle.lab_io.specs.Asked.{Log}
+use Rattle.lab_io.specs.Asked.{AskedNames}
 use Rattle.lab_io.specs.Held.{Held}
 use Rattle.lab_io.specs.Known.{grown}
 use Rattle.lab_io.proofs.Asking.{asks_all}
@@ -17,13 +17,13 @@ use Rattle.monitor.specs.declared.stop.Stop.TheVariants.{Store, Quit, Line, File
 use Rattle.monitor.specs.Answer.{answer_at}
 use Rattle.monitor.specs.Boards.{equip, equip_loaded, load_onto, load_platform, made}
 use Rattle.monitor.specs.Selected.{bare}
-use Rattle.monitor.specs.State.{State, Place}
+use Rattle.monitor.specs.State.{State, LinePlace}
 use Rattle.monitor.specs.Inner.Reading.{IsPlanRead}
 use Rattle.monitor.specs.Inner.Ruling.{IsCarried, IsPlan, load_stop}
 
 -- a board is selected that has no platform
 platform_is :
-    (held : Held) (s : State) (place : Place) (path : List ℕ) (b depth : ℕ) → bare s ≡ Ok b →
+    (held : Held) (s : State) (place : LinePlace) (path : List ℕ) (b depth : ℕ) → bare s ≡ Ok b →
     depth ≡ length s.flow.outer → load_platform held s place path ≡ load_onto s place (load held depth path) (Ok b)
 platform_is held s place path b depth is same =
     ap (load_onto s place (load held (length s.flow.outer) path)) is
@@ -31,7 +31,7 @@ platform_is held s place path b depth is same =
 
 -- the files are loaded, and the entries make this plan or are refused
 pub loaded_answer :
-    (s : State) (place : Place) (b : ℕ) (loading : Loading) (all : Loaded) (log log' : Log) →
+    (s : State) (place : LinePlace) (b : ℕ) (loading : Loading) (all : Loaded) (log log' : AskedNames) →
     IsLoaded loading (Ok all) log log' →
     equip_loaded s place b loading.names loading.outcome ≡ equip s b all.names.items (built all.entries.items)
 loaded_answer s place b loading all log log' is =
@@ -39,8 +39,8 @@ loaded_answer s place b loading all log log' is =
 
 -- they are refused
 pub plan_stops :
-    (s after : State) (place : Place) (b : ℕ) (loading : Loading) (all : Loaded) (stop : Stop)
-    (log log' : Log) → IsLoaded loading (Ok all) log log' → IsPlan all (Err stop) →
+    (s after : State) (place : LinePlace) (b : ℕ) (loading : Loading) (all : Loaded) (stop : Stop)
+    (log log' : AskedNames) → IsLoaded loading (Ok all) log log' → IsPlan all (Err stop) →
     IsCarried (load_onto s place loading (Ok b)) place (Err stop) after log log'
 plan_stops s after place b loading all (Store asked) log log' is plan = absurd plan
 plan_stops s after place b loading all Quit log log' is plan = absurd plan
@@ -54,7 +54,7 @@ plan_stops s after place b loading all Memory log log' is plan =
 
 -- the files were loaded, and their entries make a plan or are refused
 pub plan_read :
-    (loading : Loading) (all : Loaded) (result : Result BoardPlan Stop) (log log' : Log) →
+    (loading : Loading) (all : Loaded) (result : Result BoardPlan Stop) (log log' : AskedNames) →
     IsLoaded loading (Ok all) log log' → IsPlan all result → IsPlanRead loading result log log'
 plan_read loading all (Ok plan) log log' is made = (all.entries.items, is.0, made, is.2)
 plan_read loading all (Err stop) log log' is made = λ s after place b.
@@ -62,7 +62,7 @@ plan_read loading all (Err stop) log log' is made = λ s after place b.
 
 -- they were not
 pub load_stops :
-    (loading : Loading) (fault : LoadFault) (log log' : Log) →
+    (loading : Loading) (fault : LoadFault) (log log' : AskedNames) →
     IsStopped loading fault log log' → IsPlanRead loading (Err (load_stop fault)) log log'
 load_stops loading (At fault) log log' is = λ s after place b.
     (ap (equip_loaded s place b loading.names) is.0, is.1)
@@ -72,7 +72,8 @@ load_stops loading load_fault.Memory log log' is = λ s after place b. is
 
 -- a platform whose files stop the command
 pub platform_stops :
-    (held : Held) (s after : State) (place : Place) (path : List ℕ) (b depth : ℕ) (stop : Stop) (log log' : Log) →
+    (held : Held) (s after : State) (place : LinePlace) (path : List ℕ) (b depth : ℕ) (stop : Stop)
+    (log log' : AskedNames) →
     bare s ≡ Ok b → depth ≡ length s.flow.outer → IsPlanRead (load held depth path) (Err stop) log log' →
     IsCarried (load_platform held s place path) place (Err stop) after log log'
 platform_stops held s after place path b depth stop log log' is same read =
@@ -81,7 +82,8 @@ platform_stops held s after place path b depth stop log log' is same read =
 
 -- a platform by whose plan the board is made
 pub platform_goes :
-    (held : Held) (s : State) (place : Place) (path : List ℕ) (b depth : ℕ) (plan : BoardPlan) (log log' : Log) →
+    (held : Held) (s : State) (place : LinePlace) (path : List ℕ) (b depth : ℕ) (plan : BoardPlan)
+    (log log' : AskedNames) →
     bare s ≡ Ok b → depth ≡ length s.flow.outer → IsPlanRead (load held depth path) (Ok plan) log log' →
     ((load_platform held s place path).answer ≡ answer_at place (Ok (made s b plan)))
     × (log' ≡ grown log (load_platform held s place path).names)

@@ -8,7 +8,7 @@ use Rattle.std.proofs.lemmas.Bool.Decides.{nat_tests}
 use Rattle.elf_load.specs.declared.image.Image.{Image}
 use Rattle.lab_io.specs.declared.whole.ReadFault.{ReadFault}
 use Rattle.lab_io.specs.declared.whole.ReadFault.TheVariants as read_fault
-use Rattle.lab_io.specs.Asked.{Log}
+use Rattle.lab_io.specs.Asked.{AskedNames}
 use Rattle.lab_io.specs.Held.{Held}
 use Rattle.lab_io.specs.Known.{grown}
 use Rattle.lab_io.specs.Whole.{IsFileRead}
@@ -24,19 +24,19 @@ use Rattle.monitor.specs.Images.{load_read}
 use Rattle.monitor.specs.Inner.Ruling.{IsBoard, IsCarried, IsImage, IsTold, Leaves, image_by, loaded_by, read_stop}
 use Rattle.monitor.specs.Memory.{write_bytes}
 use Rattle.monitor.specs.Selected.{Equipped, equipped}
-use Rattle.monitor.specs.State.{State, Place}
+use Rattle.monitor.specs.State.{State, LinePlace}
 use Rattle.monitor.specs.Step.{Running}
 use Rattle.monitor.proofs.OpenLemmas.{HasOpen, IsKeptBy, bytes_written, image_read, kept_answer}
 
 too_large :
-    (place : Place) (content : Option (List ℕ)) (use_ : List ℕ → Answer) →
+    (place : LinePlace) (content : Option (List ℕ)) (use_ : List ℕ → Answer) →
     IsSomeAnd content (λ bytes. 16777216 < length bytes) → with_file place content use_ ≡ refused place Size
 too_large place None use_ is = absurd is
 too_large place (Some bytes) use_ is =
     let over : nat_lt 16777216 (length bytes) ≡ true = grind (arith, nat_tests, is) in rw over refl
 
 fits :
-    (place : Place) (bytes : List ℕ) (use_ : List ℕ → Answer) → length bytes ≤ 16777216 →
+    (place : LinePlace) (bytes : List ℕ) (use_ : List ℕ → Answer) → length bytes ≤ 16777216 →
     with_file place (Some bytes) use_ ≡ use_ bytes
 fits place bytes use_ few =
     let over : nat_lt 16777216 (length bytes) ≡ false = grind (arith, nat_tests, few) in rw over refl
@@ -46,8 +46,8 @@ read_unread read_fault.Unread is = refl
 read_unread read_fault.TooLarge is = cc is
 read_unread read_fault.Memory is = cc is
 
-module _ (held : Held) (s : State) (place : Place) (path : List ℕ) (use_ : Equipped → List ℕ → Answer) (b : ℕ)
-    (is : IsBoard s (equipped s) b) (log log' : Log) where
+module _ (held : Held) (s : State) (place : LinePlace) (path : List ℕ) (use_ : Equipped → List ℕ → Answer) (b : ℕ)
+    (is : IsBoard s (equipped s) b) (log log' : AskedNames) where
   -- the file is not read
   pub load_stops :
       (fault : ReadFault) (after : State) → IsFileRead (get held path) path (Err fault) log log' →
@@ -67,7 +67,7 @@ module _ (held : Held) (s : State) (place : Place) (path : List ℕ) (use_ : Equ
 
 -- the bytes are no image
 pub image_told :
-    (s after : State) (place : Place) (on : Equipped) (meant : Result Image Cause) (stop : Stop) →
+    (s after : State) (place : LinePlace) (on : Equipped) (meant : Result Image Cause) (stop : Stop) →
     IsImage meant (Err stop) → IsTold place (load_read s place on meant) (Err stop) after
 image_told s after place on meant (Store asked) is = absurd is
 image_told s after place on meant Quit is = absurd is
@@ -89,7 +89,7 @@ image_leaves meant Memory old is = refl
 
 -- what is loaded keeps the lines that are open
 pub load_keeps :
-    (s : State) → HasOpen s → (place : Place) (kind : Load) (on : Equipped) (bytes : List ℕ) →
+    (s : State) → HasOpen s → (place : LinePlace) (kind : Load) (on : Equipped) (bytes : List ℕ) →
     IsKeptBy (loaded_by kind s place on bytes)
 load_keeps s open_ place (load.Image format) on bytes = image_read s open_ place on (image_by format bytes)
 load_keeps s open_ place (load.Bytes at) on bytes =

@@ -25,10 +25,10 @@ use Rattle.elf_load.specs.Map.{contents}
 use Rattle.sys_bus.specs.declared.plan.BoardPlan.{BoardPlan}
 use Rattle.sys_bus.specs.declared.region.Target.{Target}
 use Rattle.sys_bus.specs.declared.region.Target.TheVariants.{Ram, Clint, Plic, Dev, Nothing}
-use Rattle.sys_bus.specs.Limits.{is_kind}
+use Rattle.dev_core.specs.Kind.{is_kind}
 use Rattle.board.specs.Changes.{copied, put_byte, put_in, with_bytes, with_halted, with_pc, with_shown, with_speed}
 use Rattle.board.specs.New.{hidden, new_board, reset, reset_device}
-use Rattle.board.specs.Space.{Fitted, Space, target_at}
+use Rattle.board.specs.Space.{BoardDevice, Space, target_at}
 use Rattle.board.specs.View.{View}
 use Rattle.repl_build.specs.Plan.{built}
 use Rattle.repl_files.specs.Loading.{Loading, Outcome, Joined, Refused, Oversized, Absent, load}
@@ -59,15 +59,15 @@ use Rattle.monitor.specs.Processor.{halted, halted_on, mips, mips_on, pc, pc_on,
 use Rattle.monitor.specs.Refusal.{◌>>=◌, require}
 use Rattle.monitor.specs.Runs.{length_of, run_for, start}
 use Rattle.monitor.specs.Selected.{Equipped, bare, equipped, selected, with_board}
-use Rattle.monitor.specs.State.{State, Place}
+use Rattle.monitor.specs.State.{State, LinePlace}
 use Rattle.monitor.proofs.RunLemmas.{no_longer}
 
 -- ---- which devices are shown UARTs
 
-abbrev nothing : Fitted
+abbrev nothing : BoardDevice
 nothing = hidden state.Finisher
 
-abbrev is_uart : Fitted → Bool
+abbrev is_uart : BoardDevice → Bool
 is_uart fitted = fitted.shown && is_kind Uart (kind_of fitted.state)
 
 -- what stands under a name tells by numbers of devices which are shown UARTs
@@ -180,7 +180,7 @@ shown_keeps : (dev : ℕ) → Keeps (λ v. with_shown v dev)
 shown_keeps dev v other is = among v.space.devices dev other is
   where
     among :
-        (devices : List Fitted) (dev other : ℕ) → is_uart (get_or devices other nothing) ≡ true →
+        (devices : List BoardDevice) (dev other : ℕ) → is_uart (get_or devices other nothing) ≡ true →
         is_uart (get_or (set devices dev (record (get_or devices dev nothing) { shown = true })) other nothing) ≡ true
     among [] dev other is = is
     among (fitted ∷ devices) zero zero is = (and_parts fitted.shown (is_kind Uart (kind_of fitted.state)) is).1
@@ -208,18 +208,18 @@ kept_then :
 kept_then (Ok x) f kept = kept x refl
 kept_then (Err cause) f kept = tt
 
-pub kept_answer : (place : Place) (r : Result Done ScriptCause) → IsKept r → IsKeptBy (answer_at place r)
+pub kept_answer : (place : LinePlace) (r : Result Done ScriptCause) → IsKept r → IsKeptBy (answer_at place r)
 kept_answer place (Ok done) kept = kept
 kept_answer place (Err cause) kept = tt
 
 kept_reads :
-    {A : Type 0} (place : Place) (name : List ℕ) (before : Result A ScriptCause) (answer : A → Answer) →
+    {A : Type 0} (place : LinePlace) (name : List ℕ) (before : Result A ScriptCause) (answer : A → Answer) →
     ((x : A) → IsKeptBy (answer x)) → IsKeptBy (reads place name before answer).answer
 kept_reads place name (Ok x) answer kept = kept x
 kept_reads place name (Err cause) answer kept = tt
 
 kept_file :
-    (place : Place) (content : Option (List ℕ)) (answer : List ℕ → Answer) →
+    (place : LinePlace) (content : Option (List ℕ)) (answer : List ℕ → Answer) →
     ((bytes : List ℕ) → IsKeptBy (answer bytes)) → IsKeptBy (with_file place content answer)
 kept_file place None answer kept = tt
 kept_file place (Some bytes) answer kept = by_size (nat_lt 16777216 (length bytes))
@@ -229,7 +229,7 @@ kept_file place (Some bytes) answer kept = by_size (nat_lt 16777216 (length byte
     by_size false = kept bytes
 
 kept_loads :
-    {A : Type 0} (held : Held) (place : Place) (name : List ℕ) (before : Result A ScriptCause)
+    {A : Type 0} (held : Held) (place : LinePlace) (name : List ℕ) (before : Result A ScriptCause)
     (answer : A → List ℕ → Answer) → ((x : A) (bytes : List ℕ) → IsKeptBy (answer x bytes)) →
     IsKeptBy (loads held place name before answer).answer
 kept_loads held place name before answer kept =
@@ -300,7 +300,7 @@ module _ (s : State) (open_ : HasOpen s) where
   made_by b names none (Err plat_fault.Memory) = tt
 
   made_of :
-      (place : Place) (b : ℕ) (names : List (List ℕ)) → view_of s.lab b ≡ None → (outcome : Outcome) →
+      (place : LinePlace) (b : ℕ) (names : List (List ℕ)) → view_of s.lab b ≡ None → (outcome : Outcome) →
       IsKeptBy (equip_loaded s place b names outcome)
   made_of place b names none (Joined entries) = made_by b names none (built entries)
   made_of place b names none (Refused fault) = tt
@@ -308,7 +308,7 @@ module _ (s : State) (open_ : HasOpen s) where
   made_of place b names none Absent = tt
 
   loaded_onto :
-      (place : Place) (loading : Loading) (r : Result ℕ ScriptCause) → bare s ≡ r →
+      (place : LinePlace) (loading : Loading) (r : Result ℕ ScriptCause) → bare s ≡ r →
       IsKeptBy (load_onto s place loading r).answer
   loaded_onto place loading (Ok b) is = made_of place b loading.names (bare_is s b is) loading.outcome
   loaded_onto place loading (Err cause) is = tt
@@ -321,7 +321,7 @@ module _ (s : State) (open_ : HasOpen s) where
       same_devices (λ v. with_entry (with_parts v image.parts) image.entry)
       (λ v. entry_devices (with_parts v image.parts) image.entry ∙ parts_devices (unreserved v) image.parts) on
 
-  pub image_read : (place : Place) (on : Equipped) (r : Result Image Cause) → IsKeptBy (load_read s place on r)
+  pub image_read : (place : LinePlace) (on : Equipped) (r : Result Image Cause) → IsKeptBy (load_read s place on r)
   image_read place on (Ok image) = kept_answer place (load_image s on image) (search (kept_then, image_put on image))
   image_read place on (Err cause) = tt
 
@@ -343,7 +343,7 @@ module _ (s : State) (open_ : HasOpen s) where
   pub body_entered : (flow : Result script.State ScriptCause) → IsKept (entered s flow)
   body_entered flow = kept_then flow _ (λ after _. open_)
 
-  text_entered : (place : Place) (path : List ℕ) (text : FileText) → IsKeptBy (include_text s place path text)
+  text_entered : (place : LinePlace) (path : List ℕ) (text : FileText) → IsKeptBy (include_text s place path text)
   text_entered place path Missing = tt
   text_entered place path Large = tt
   text_entered place path (Broken line) = tt
@@ -366,7 +366,7 @@ module _ (s : State) (runs : RunsKeep s.lab) (open_ : HasOpen s) where
       runs (length_of s length) s.lines (omega (arith, within, no_longer s length)) open_))
 
   -- each command
-  pub work_keeps : (held : Held) (place : Place) (c : Command) → IsKeptBy (does held place (work run s c)).answer
+  pub work_keeps : (held : Held) (place : LinePlace) (c : Command) → IsKeptBy (does held place (work run s c)).answer
   work_keeps held place (command.LoadPlatform path) =
       loaded_onto s open_ place (load held (length s.flow.outer) path) (bare s) refl
   work_keeps held place (command.LoadElf path) =

@@ -6,7 +6,7 @@ use Rattle.std.specs.FinMap.{empty}
 use Rattle.std.specs.Global.{Global}
 use Rattle.std.specs.Option.{ForSome}
 use Rattle.lab_io.specs.declared.files.Files.{Ghosts}
-use Rattle.lab_io.specs.Asked.{Log}
+use Rattle.lab_io.specs.Asked.{AskedNames}
 use Rattle.lab_io.specs.Frame.{OnlyReads}
 use Rattle.lab_io.specs.Held.{Held}
 use Rattle.lab_io.specs.Known.{grown}
@@ -25,7 +25,7 @@ use Rattle.monitor.specs.declared.stop.Stop.{Stop}
 use Rattle.monitor.specs.declared.stop.Stop.TheVariants.{Store, Quit, Line, File, Content, Unread, Memory}
 use Rattle.monitor.specs.Answer.{Answer, Did, Done, answer_at, unread}
 use Rattle.monitor.specs.Command.{Work, OnFiles, OnState, OnStore, Quits, does, done_by}
-use Rattle.monitor.specs.State.{State, Place}
+use Rattle.monitor.specs.State.{State, LinePlace}
 use Rattle.monitor.specs.Step.{Running}
 use Rattle.monitor.specs.Inner.Ruling.{IsCarried, IsDone, IsRuled, IsTold, IsWorked, KeepsOpen, Leaves, line_stop}
 use Rattle.monitor.specs.Inner.Ruling.{ends_script}
@@ -37,7 +37,7 @@ told P fact x is = rw is at fact
 
 -- how a command is answered that is ruled so
 pub ruled_told :
-    (place : Place) (ruling : Result Done ScriptCause) (result : Result (Vec ℕ Global) Stop) (old new : Running) →
+    (place : LinePlace) (ruling : Result Done ScriptCause) (result : Result (Vec ℕ Global) Stop) (old new : Running) →
     IsRuled ruling result old new → IsTold place (answer_at place ruling) result new.state
 ruled_told place ruling (Ok text) old new is = ap (answer_at place) is.0
 ruled_told place ruling (Err (Store asked)) old new is = absurd is
@@ -62,7 +62,7 @@ ruled_leaves ruling (Err Memory) old new is = is
 
 -- what is answered keeps the lines that are open
 pub told_open :
-    (place : Place) (answer : Answer) (result : Result (Vec ℕ Global) Stop) (s after : State) →
+    (place : LinePlace) (answer : Answer) (result : Result (Vec ℕ Global) Stop) (s after : State) →
     (HasOpen s → IsKeptBy answer) → IsTold place answer result after → IfOk result (λ text. KeepsOpen s after)
 told_open place answer (Ok text) s after keeps told = λ open_. rw told at (keeps open_)
 told_open place answer (Err stop) s after keeps told = tt
@@ -78,7 +78,7 @@ stop_leaves Memory old = refl
 
 -- a command that has asked for its names and is answered so
 told_carried :
-    (did : Did) (place : Place) (result : Result (Vec ℕ Global) Stop) (after : State) (log log' : Log) →
+    (did : Did) (place : LinePlace) (result : Result (Vec ℕ Global) Stop) (after : State) (log log' : AskedNames) →
     log' ≡ grown log did.names → IsTold place did.answer result after → IsCarried did place result after log log'
 told_carried did place (Ok text) after log log' asked told = (told, asked)
 told_carried did place (Err (Store store)) after log log' asked told = (told, asked)
@@ -90,23 +90,24 @@ told_carried did place (Err Unread) after log log' asked told = absurd told
 told_carried did place (Err Memory) after log log' asked told = asks_all did.names log log' asked
 
 told_read :
-    (place : Place) (answer : Answer) (result : Result (Vec ℕ Global) Stop) (after : State) →
+    (place : LinePlace) (answer : Answer) (result : Result (Vec ℕ Global) Stop) (after : State) →
     IsTold place answer result after → result ≡ Err Unread → ⊥
 told_read place answer result after told same = rw same at told
 
 module _ {F : Type 0} {files : Ghosts F} {P : Type 0} where
   -- a command has read what it reads, and is answered so
   pub done_told :
-      (by : Held → Place → Did) (answer : Place → Answer) (result : Result (Vec ℕ Global) Stop) (old new : Running)
+      (by : Held → LinePlace → Did) (answer : LinePlace → Answer) (result : Result (Vec ℕ Global) Stop)
+      (old new : Running)
       (before after : F) →
-      ((place : Place) → ForSome (files.held before)
+      ((place : LinePlace) → ForSome (files.held before)
       (λ held. ((by held place).answer ≡ answer place)
       × (files.asked after ≡ grown (files.asked before) (by held place).names))) →
-      ((place : Place) → IsTold place (answer place) result new.state) → Leaves result old new →
-      ((place : Place) → HasOpen old.state → IsKeptBy (answer place)) →
+      ((place : LinePlace) → IsTold place (answer place) result new.state) → Leaves result old new →
+      ((place : LinePlace) → HasOpen old.state → IsKeptBy (answer place)) →
       OnlyReads files P before after → IsDone files by result old new before after
   done_told by answer result old new before after read told leaves keeps reads =
-      let nowhere : Place = record { file = []; number = 0 } in record {
+      let nowhere : LinePlace = record { file = []; number = 0 } in record {
         carried = λ place held is.
             let asked = read place held is in
             told_carried (by held place) place result new.state (files.asked before) (files.asked after) asked.1
@@ -118,8 +119,8 @@ module _ {F : Type 0} {files : Ghosts F} {P : Type 0} where
 
   -- a command was stopped where it reads
   pub done_stopped :
-      (by : Held → Place → Did) (stop : Stop) (old : Running) (before after : F) →
-      ((place : Place) → ForSome (files.held before)
+      (by : Held → LinePlace → Did) (stop : Stop) (old : Running) (before after : F) →
+      ((place : LinePlace) → ForSome (files.held before)
       (λ held. IsCarried (by held place) place (Err stop) old.state (files.asked before) (files.asked after))) →
       (stop ≡ Unread → P) → OnlyReads files P before after →
       IsDone files by (Err stop) old old before after
@@ -135,7 +136,7 @@ module _ {F : Type 0} {files : Ghosts F} where
   -- a command that reads no file
   pub done_alone :
       (ruling : Result Done ScriptCause) (result : Result (Vec ℕ Global) Stop) (old new : Running) (before : F) →
-      ((place : Place) → HasOpen old.state → IsKeptBy (answer_at place ruling)) → IsRuled ruling result old new →
+      ((place : LinePlace) → HasOpen old.state → IsKeptBy (answer_at place ruling)) → IsRuled ruling result old new →
       IsDone files (λ held place. unread place ruling) result old new before before
   done_alone ruling result old new before keeps is =
       done_told {P = ⊥} (λ held place. unread place ruling) (λ place. answer_at place ruling) result old new before
@@ -153,7 +154,7 @@ module _ {F : Type 0} {files : Ghosts F} where
   -- a command of each sort
   pub worked_done :
       (work : Work) (result : Result (Vec ℕ Global) Stop) (old new : Running) (before after : F) →
-      ((held : Held) (place : Place) → HasOpen old.state → IsKeptBy (does held place work).answer) →
+      ((held : Held) (place : LinePlace) → HasOpen old.state → IsKeptBy (does held place work).answer) →
       IsWorked files work result old new before after →
       IsDone files (λ held place. does held place work) result old new before after
   worked_done (OnFiles by) result old new before after keeps is = is

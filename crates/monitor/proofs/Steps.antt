@@ -2,7 +2,7 @@
 use Rattle.std.proofs.Common.{◌≡◌, ◌∙◌, ℕ, List, [], ◌++◌, Option, None, Some, ap, refl, subst, sym}
 use Rattle.std.specs.Prelude.{IfSome}
 use Rattle.std.specs.Option.{ForSome}
-use Rattle.lab_io.specs.Asked.{Log}
+use Rattle.lab_io.specs.Asked.{AskedNames}
 use Rattle.lab_io.specs.Held.{Held}
 use Rattle.lab_io.specs.Known.{grown}
 use Rattle.lab_io.proofs.Asking.{asks_all}
@@ -27,7 +27,8 @@ use Rattle.monitor.specs.Step.{IsStep, IsCut}
 module _ (play : Play) (s after : State) (flow : script.State) where
   -- a step has done what the line does that it has taken
   pub line_step :
-      (held : Option Held) (answered : Progress) (log log' : Log) (out out' : Option (List ℕ)) (file : List ℕ) (n : ℕ)
+      (held : Option Held) (answered : Progress) (log log' : AskedNames) (out out' : Option (List ℕ)) (file : List ℕ)
+      (n : ℕ)
       (text taken : List ℕ) →
       Says (next.Line file n text) flow (next_of s.flow) → taken ≡ text →
       ForSome held (λ held. IsProgress
@@ -40,14 +41,14 @@ module _ (play : Play) (s after : State) (flow : script.State) where
       rw (is, ← same) (stepped held refl)
 
   pub end_is :
-      (held : Option Held) (log : Log) (out : Option (List ℕ)) → Says next.End flow (next_of s.flow) →
+      (held : Option Held) (log : AskedNames) (out : Option (List ℕ)) → Says next.End flow (next_of s.flow) →
       IfSome held (λ held. IsProgress (did play held s) progress.End after log log out out)
   unfolding did
   end_is None log out is = tt
   end_is (Some held) log out is = rw is ((refl, sym (grown-nil log)), refl)
 
   pub fault_is :
-      (held : Option Held) (file : List ℕ) (n : ℕ) (cause : ScriptCause) (log : Log) (out : Option (List ℕ)) →
+      (held : Option Held) (file : List ℕ) (n : ℕ) (cause : ScriptCause) (log : AskedNames) (out : Option (List ℕ)) →
       Says (next.Fault file n cause) flow (next_of s.flow) →
       IfSome held
       (λ held. IsProgress (did play held s) (progress.Fault (record { file = file; line = n; cause = Script cause }))
@@ -58,7 +59,7 @@ module _ (play : Play) (s after : State) (flow : script.State) where
 
 -- where a name holds nothing, a step is cut short
 absent_is_cut :
-    (done : Did) (answered : Progress) (after : State) (log log' : Log) (out out' : Option (List ℕ)) →
+    (done : Did) (answered : Progress) (after : State) (log log' : AskedNames) (out out' : Option (List ℕ)) →
     IsProgress done answered after log log' out out' → done.answer ≡ Misses → IsCut (stands_for answered)
 absent_is_cut done progress.Done after log log' out out' is misses = cc (is.1.0, misses)
 absent_is_cut done (progress.Cut fault) after log log' out out' is misses = tt
@@ -70,7 +71,7 @@ absent_is_cut done progress.Unread after log log' out out' is misses = tt
 absent_is_cut done progress.Memory after log log' out out' is misses = tt
 
 pub step_absent :
-    (play : Play) (s after : State) (held : Option Held) (answered : Progress) (log log' : Log)
+    (play : Play) (s after : State) (held : Option Held) (answered : Progress) (log log' : AskedNames)
     (out out' : Option (List ℕ)) →
     IfSome held (λ held. IsProgress (did play held s) answered after log log' out out') →
     IfSome held (λ held. (did play held s).answer ≡ Misses → IsCut (stands_for answered))
@@ -87,7 +88,7 @@ in_text none text bytes empty is =
 
 -- its text is what was written
 pub says_text :
-    (play : Play) (s after : State) (held : Option Held) (log log' : Log) (none bytes : List ℕ) → none ≡ [] →
+    (play : Play) (s after : State) (held : Option Held) (log log' : AskedNames) (none bytes : List ℕ) → none ≡ [] →
     IfSome held (λ held. IsProgress (did play held s) progress.Done after log log' (Some none) (Some bytes)) →
     IfSome held (λ held. IsStep (did play held s) (step.Text bytes) after log log')
 says_text play s after None log log' none bytes empty is = tt
@@ -97,7 +98,7 @@ says_text play s after (Some held) log log' none bytes empty is =
 
 -- one that was cut short has found no memory
 pub cut_is_memory :
-    (play : Play) (s after : State) (held : Option Held) (fault : WriteFault) (log log' : Log)
+    (play : Play) (s after : State) (held : Option Held) (fault : WriteFault) (log log' : AskedNames)
     (out out' : Option (List ℕ)) →
     IfSome held (λ held. IsProgress (did play held s) (progress.Cut fault) after log log' out out') →
     IfSome held (λ held. IsStep (did play held s) step.Memory after log log')

@@ -5,7 +5,7 @@ use Rattle.lab_io.specs.declared.files.Files.{Ghosts}
 use Rattle.lab_io.specs.declared.sink.Sink.{Ghosts as SinkGhosts}
 use Rattle.lab_io.specs.declared.sink.WriteFault.{WriteFault}
 use Rattle.lab_io.specs.declared.sink.WriteFault.TheVariants.{Unwritten}
-use Rattle.lab_io.specs.Asked.{Log}
+use Rattle.lab_io.specs.Asked.{AskedNames}
 use Rattle.lab_io.specs.Frame.{OnlyWrites}
 use Rattle.lab_io.specs.Held.{Held}
 use Rattle.lab_io.specs.Known.{grown}
@@ -21,7 +21,7 @@ use Rattle.monitor.specs.declared.stop.Stop.TheVariants.{Store, Quit, Line, File
 use Rattle.monitor.specs.declared.stop.Storing.TheVariants as storing
 use Rattle.monitor.specs.Answer.{Did, Done, answer_at, unread}
 use Rattle.monitor.specs.Progress.{IsProgress, stands_for}
-use Rattle.monitor.specs.State.{State, Place}
+use Rattle.monitor.specs.State.{State, LinePlace}
 use Rattle.monitor.specs.Step.{Running}
 use Rattle.monitor.specs.Inner.Ruling.{IsAfterLine, IsCarried, IsDone, Leaves, ends_script}
 use Rattle.monitor.specs.Inner.Writing.{IsRunMade, IsWritten, progress_of}
@@ -31,7 +31,7 @@ use Rattle.monitor.proofs.Ruled.{done_alone}
 module _ {F K : Type 0} {files : Ghosts F} {out : SinkGhosts K} where
   -- a command stops the script, and nothing is written
   pub stopped_unwritten :
-      (by : Held → Place → Did) (stop : Stop) (old new : Running) (before after : F) (start : K) →
+      (by : Held → LinePlace → Did) (stop : Stop) (old new : Running) (before after : F) (start : K) →
       IsDone files by (Err stop) old new before after →
       IsWritten files out by (Err (halt.Stop stop)) old new before after start start
   stopped_unwritten by stop old new before after start done = record {
@@ -44,7 +44,7 @@ module _ {F K : Type 0} {files : Ghosts F} {out : SinkGhosts K} where
 
   -- what it prints is written
   pub text_written :
-      (by : Held → Place → Did) (text : Vec ℕ Global) (old new : Running) (before after : F) (start end : K)
+      (by : Held → LinePlace → Did) (text : Vec ℕ Global) (old new : Running) (before after : F) (start end : K)
       (P : Type 0) →
       IsDone files by (Ok text) old new before after → out.written end ≡ grown (out.written start) text.items →
       OnlyWrites out P start end → IsWritten files out by (Ok tt) old new before after start end
@@ -60,7 +60,7 @@ module _ {F K : Type 0} {files : Ghosts F} {out : SinkGhosts K} where
 
   -- a part of it is
   pub text_cut :
-      (by : Held → Place → Did) (text : Vec ℕ Global) (old new : Running) (before after : F) (start end : K)
+      (by : Held → LinePlace → Did) (text : Vec ℕ Global) (old new : Running) (before after : F) (start end : K)
       (fault : WriteFault) →
       IsDone files by (Ok text) old new before after →
       IsPartWritten (out.written start) text.items (out.written end) →
@@ -80,12 +80,12 @@ module _ {F K : Type 0} {files : Ghosts F} {out : SinkGhosts K} where
   pub run_written :
       (ruling : Result Done ScriptCause) (result : Result (Unit {0}) Halt) (old new : Running) (before : F)
       (start end : K) →
-      ((place : Place) → HasOpen old.state → IsKeptBy (answer_at place ruling)) →
+      ((place : LinePlace) → HasOpen old.state → IsKeptBy (answer_at place ruling)) →
       IsRunMade ruling result old new (out.written start) (out.written end) →
       OnlyWrites out (result ≡ Err (halt.Cut Unwritten)) start end →
       IsWritten files out (λ held place. unread place ruling) result old new before before start end
   run_written ruling (Ok done) old new before start end keeps made writes =
-      let nowhere : Place = record { file = []; number = 0 } in record {
+      let nowhere : LinePlace = record { file = []; number = 0 } in record {
         written = λ place held told.
             (made.0, ap (answer_at place) made.1, sym (grown-nil (files.asked before)), made.3);
         leaves = made.2;
@@ -112,7 +112,7 @@ module _ {F K : Type 0} {files : Ghosts F} {out : SinkGhosts K} where
 
 -- a line after which the monitor does not go on
 pub stop_is_progress :
-    (did : Did) (place : Place) (stop : Stop) (after : State) (log log' : Log) (out out' : Option (List ℕ)) →
+    (did : Did) (place : LinePlace) (stop : Stop) (after : State) (log log' : AskedNames) (out out' : Option (List ℕ)) →
     IsCarried did place (Err stop) after log log' → out' ≡ out →
     IsProgress did (progress_of place stop) after log log' out out'
 stop_is_progress did place (Store (storing.Save name)) after log log' out out' is same = (is, same)
@@ -134,7 +134,7 @@ still old mid same waits = λ i. record {
 
 -- and what it leaves
 pub stop_after :
-    (place : Place) (stop : Stop) (old mid new : Running) → Leaves (Err stop) old mid → old.ended ≡ true →
+    (place : LinePlace) (stop : Stop) (old mid new : Running) → Leaves (Err stop) old mid → old.ended ≡ true →
     new ≡ record mid { ended = ends_script stop } → IsAfterLine (stands_for (progress_of place stop)) old new
 stop_after place (Store (storing.Save name)) old mid new same waits is =
     is ∙ ap (λ (r : Running). record r { ended = false }) same
@@ -147,7 +147,7 @@ stop_after place (Content cause) old mid new same waits is = is ∙ still old mi
 stop_after place Unread old mid new same waits is = is ∙ still old mid same waits
 stop_after place Memory old mid new same waits is = ap (λ (r : Running). r.ended) is
 
-pub stop_unread : (place : Place) (stop : Stop) → progress_of place stop ≡ progress.Unread → stop ≡ Unread
+pub stop_unread : (place : LinePlace) (stop : Stop) → progress_of place stop ≡ progress.Unread → stop ≡ Unread
 stop_unread place (Store (storing.Save name)) is = cc is
 stop_unread place (Store (storing.Load name)) is = cc is
 stop_unread place Quit is = cc is
@@ -157,7 +157,8 @@ stop_unread place (Content cause) is = cc is
 stop_unread place Unread is = refl
 stop_unread place Memory is = cc is
 
-pub stop_uncut : (place : Place) (stop : Stop) (fault : WriteFault) → progress_of place stop ≡ progress.Cut fault → ⊥
+pub stop_uncut : (place : LinePlace) (stop : Stop) (fault : WriteFault) → progress_of place stop ≡ progress.Cut fault →
+    ⊥
 stop_uncut place (Store (storing.Save name)) fault is = cc is
 stop_uncut place (Store (storing.Load name)) fault is = cc is
 stop_uncut place Quit fault is = cc is

@@ -25,7 +25,7 @@ use Rattle.monitor.specs.declared.fault.ScriptFault.{ScriptFault}
 use Rattle.monitor.specs.Answer.{Answer, Goes, Faults, Misses, Did, Done, leaves, refused}
 use Rattle.monitor.specs.Refusal.{◌>>=◌, require}
 use Rattle.monitor.specs.Selected.{bare, equipped, if_board, with_board}
-use Rattle.monitor.specs.State.{State, Place}
+use Rattle.monitor.specs.State.{State, LinePlace}
 
 -- the name of a board that is made: without a name, `machine-` and its number
 abbrev pub board_name : Lab → Option (List ℕ) → List ℕ
@@ -87,18 +87,18 @@ equip s b names (Err (plat_fault.At file line cause)) =
 equip s b names (Err plat_fault.Memory) = Misses
 
 -- how a board is equipped with what comes of the loading of its files
-abbrev pub equip_loaded : State → Place → ℕ → List (List ℕ) → Outcome → Answer
+abbrev pub equip_loaded : State → LinePlace → ℕ → List (List ℕ) → Outcome → Answer
 equip_loaded s place b names (Joined entries) = equip s b names (built entries)
 equip_loaded s place b names (Refused fault) = Faults (file_fault fault)
 equip_loaded s place b names Oversized = refused place Size
 equip_loaded s place b names Absent = Misses
 
 -- a board is equipped, unless the line is refused before a file is read
-abbrev pub load_onto : State → Place → Loading → Result ℕ ScriptCause → Did
+abbrev pub load_onto : State → LinePlace → Loading → Result ℕ ScriptCause → Did
 load_onto s place loading (Ok b) =
     record { names = loading.names; answer = equip_loaded s place b loading.names loading.outcome }
 load_onto s place loading (Err cause) = record { names = []; answer = refused place cause }
 
 -- machine LoadPlatformDescription @path
-abbrev pub load_platform : Held → State → Place → List ℕ → Did
+abbrev pub load_platform : Held → State → LinePlace → List ℕ → Did
 load_platform held s place path = load_onto s place (load held (length s.flow.outer) path) (bare s)

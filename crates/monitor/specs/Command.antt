@@ -19,14 +19,14 @@ use Rattle.monitor.specs.Images.{load_elf, load_hex}
 use Rattle.monitor.specs.Memory.{load_binary, read_word, write_word}
 use Rattle.monitor.specs.Processor.{pc, halted, mips}
 use Rattle.monitor.specs.Runs.{quantum, run_for, start}
-use Rattle.monitor.specs.State.{State, Place}
+use Rattle.monitor.specs.State.{State, LinePlace}
 
 -- what a command is: one that reads files, one that changes the laboratory or the bodies alone, one that is for the
 -- store, or one that ends
 pub data Work : Type 0 where
-  OnFiles : (Held → Place → Did) → Work
+  OnFiles : (Held → LinePlace → Did) → Work
   OnState : Result Done ScriptCause → Work
-  OnStore : (Place → Answer) → Work
+  OnStore : (LinePlace → Answer) → Work
   Quits : Work
 
 -- each command, and what it is
@@ -63,7 +63,7 @@ abbrev pub without_files : Answer → Did
 without_files answer = record { names = []; answer = answer }
 
 -- what a command does, at a line of this place
-abbrev pub does : Held → Place → Work → Did
+abbrev pub does : Held → LinePlace → Work → Did
 does held place (OnFiles by) = by held place
 does held place (OnState ruling) = unread place ruling
 does held place (OnStore by) = without_files (by place)
@@ -76,7 +76,7 @@ cause_of line_cause.Arguments = Arguments
 cause_of line_cause.Time = Time
 
 -- what a line does
-abbrev pub done_by : Play → Held → State → Place → Result Command LineCause → Did
+abbrev pub done_by : Play → Held → State → LinePlace → Result Command LineCause → Did
 done_by play held s place (Ok command) = does held place (work play s command)
 done_by play held s place (Err cause) = unread place (Err (cause_of cause))
 

@@ -3,7 +3,7 @@ use Rattle.std.specs.Prelude.{ℕ, Bool, false, not, is_some, List, [], ◌∷�
 use Rattle.lab_num.specs.Route.{is_connected}
 use Rattle.dev_core.specs.declared.kind.Kind.{Kind}
 use Rattle.dev_core.specs.declared.kind.Kind.TheVariants as kind
-use Rattle.sys_bus.specs.Limits.{is_kind}
+use Rattle.dev_core.specs.Kind.{is_kind}
 use Rattle.board.specs.Changes.{with_shown}
 use Rattle.lab_state.specs.Hub.{members_of}
 use Rattle.lab_state.specs.Lab.{Lab}

@@ -22,7 +22,7 @@ use Rattle.monitor.specs.declared.fault.Cause.TheVariants.{Elf, Hex}
 use Rattle.monitor.specs.Answer.{Answer, Faults, Did, Done, leaves, told_at, answer_at, loads}
 use Rattle.monitor.specs.Refusal.{◌>>=◌, require}
 use Rattle.monitor.specs.Selected.{Equipped, equipped, with_board}
-use Rattle.monitor.specs.State.{State, Place}
+use Rattle.monitor.specs.State.{State, LinePlace}
 
 -- how many bytes a part gives, its zeros among them
 abbrev pub size : Part → ℕ
@@ -75,17 +75,17 @@ abbrev pub hex_image : List ℕ → Result Image Cause
 hex_image bytes = result_map_both (λ image. image) (λ fault. Hex fault) (hex.image_of bytes)
 
 -- the image of a file is loaded, or its fault is told at the line
-abbrev pub load_read : State → Place → Equipped → Result Image Cause → Answer
+abbrev pub load_read : State → LinePlace → Equipped → Result Image Cause → Answer
 load_read s place on (Ok image) = answer_at place (load_image s on image)
 load_read s place on (Err cause) = Faults (told_at place cause)
 
 -- sysbus LoadELF @path
-abbrev pub load_elf : Held → State → Place → List ℕ → Did
+abbrev pub load_elf : Held → State → LinePlace → List ℕ → Did
 load_elf held s place path =
     loads held place path (equipped s) (λ on bytes. load_read s place on (elf_image bytes))
 
 -- sysbus LoadHEX @path: such an image has no entry, and each processor goes on where it is
-abbrev pub load_hex : Held → State → Place → List ℕ → Did
+abbrev pub load_hex : Held → State → LinePlace → List ℕ → Did
 load_hex held s place path =
     loads held place path (equipped s) (λ on bytes. load_read s place on (hex_image bytes))
 

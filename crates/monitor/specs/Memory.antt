@@ -11,7 +11,7 @@ use Rattle.resc_vars.specs.declared.cause.ScriptCause.TheVariants.{Address}
 use Rattle.monitor.specs.Answer.{Did, Done, says, leaves, answer_at, loads}
 use Rattle.monitor.specs.Refusal.{◌>>=◌, require}
 use Rattle.monitor.specs.Selected.{Equipped, equipped, with_board}
-use Rattle.monitor.specs.State.{State, Place}
+use Rattle.monitor.specs.State.{State, LinePlace}
 
 -- a word as it is printed
 abbrev pub word_line : ℕ → List ℕ
@@ -42,6 +42,6 @@ write_bytes s on at bytes = do
   Ok (leaves (with_board s on (λ v. with_bytes v at bytes)))
 
 -- sysbus LoadBinary @path at
-abbrev pub load_binary : Held → State → Place → List ℕ → ℕ → Did
+abbrev pub load_binary : Held → State → LinePlace → List ℕ → ℕ → Did
 load_binary held s place path at =
     loads held place path (equipped s) (λ on bytes. answer_at place (write_bytes s on at bytes))

@@ -1,6 +1,6 @@
 -- What one step of a monitor has done whose text goes to an output.
 use Rattle.std.specs.Prelude.{◌≡◌, ℕ, List, [], Option}
-use Rattle.lab_io.specs.Asked.{Log}
+use Rattle.lab_io.specs.Asked.{AskedNames}
 use Rattle.lab_io.specs.Known.{grown}
 use Rattle.lab_io.specs.Sink.{IsPartWritten}
 use Rattle.monitor.specs.declared.progress.Progress.{Progress}
@@ -14,7 +14,7 @@ use Rattle.monitor.specs.Step.{IsStep}
 -- A step has done what a command does and has asked for the names that it reads, or was cut short; and what the
 -- command prints was written. Where that was cut short a part of it was written, and what the monitor is left in is not
 -- told.
-abbrev pub IsProgress : Did → Progress → State → Log → Log → Option (List ℕ) → Option (List ℕ) → Type 0
+abbrev pub IsProgress : Did → Progress → State → AskedNames → AskedNames → Option (List ℕ) → Option (List ℕ) → Type 0
 IsProgress did Done after log log' out out' =
     (text : List ℕ) × IsStep did (step.Text text) after log log' × (out' ≡ grown out text)
 IsProgress did (Cut fault) after log log' out out' =

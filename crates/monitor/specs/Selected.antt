@@ -79,11 +79,11 @@ processor on word = do
 abbrev pub member : ℕ → ℕ → Member
 member b dev = record { board = record { 0 = b }; dev = dev }
 
--- whether a device is a UART or a CAN controller
+-- whether a device may be shown
 abbrev pub speaks : State → Member → Bool
 speaks s m = option_map_or is_shown_kind (kind_at s.lab.boards m) false
 
--- S8: what a word names is a UART or a CAN controller
+-- S8: what a word names is a device that may be shown
 abbrev pub speaker : State → ℕ → NamedWhat → Result Member ScriptCause
 speaker s b (Part (Dev dev)) = if speaks s (member b dev) then Ok (member b dev) else Err Kind
 speaker s b _ = Err Kind

@@ -42,7 +42,7 @@ joined bodies lab lines = record {
 }
 
 -- where a line stands: its file, and its number from 1 on
-pub record Place : Type 0 where
+pub record LinePlace : Type 0 where
   pub file : List ℕ
   pub number : ℕ
 

@@ -1,13 +1,13 @@
 -- What one step of a monitor has done.
 use Rattle.std.specs.Prelude.{◌≡◌, ℕ, ◌<◌, ◌≤◌, Bool, true, false, List}
-use Rattle.lab_io.specs.Asked.{Log, AsksSome, AsksUpTo}
+use Rattle.lab_io.specs.Asked.{AskedNames, AsksSome, AsksUpTo}
 use Rattle.lab_io.specs.Known.{grown}
 use Rattle.resc_vars.specs.Script.{Outcome, next_of}
 use Rattle.resc_vars.specs.Script as script
 use Rattle.monitor.specs.declared.step.Step.{Step}
 use Rattle.monitor.specs.declared.step.Step.TheVariants.{Text, Save, Load, End, Fault, Unread, Memory}
 use Rattle.monitor.specs.Answer.{Goes, Saves, Loads, Ends, Faults, Did}
-use Rattle.monitor.specs.State.{State, Place}
+use Rattle.monitor.specs.State.{State, LinePlace}
 
 -- a monitor, by how many workers its boards are run, whether its laboratory is spent, and whether its script has ended
 pub record Running : Type 0 where
@@ -21,11 +21,11 @@ abbrev pub going : ℕ → State → Running
 going workers s = record { state = s; workers = workers; spent = false; ended = false }
 
 -- the line of this number in a file
-abbrev pub line_in : List ℕ → ℕ → Place
+abbrev pub line_in : List ℕ → ℕ → LinePlace
 line_in file line = record { file = file; number = line }
 
 -- a step has done what a command does and has asked for the names that it reads, or was cut short
-abbrev pub IsStep : Did → Step → State → Log → Log → Type 0
+abbrev pub IsStep : Did → Step → State → AskedNames → AskedNames → Type 0
 IsStep did (Text text) after log log' = (did.answer ≡ Goes text after) × (log' ≡ grown log did.names)
 IsStep did (Save name file line) after log log' =
     (did.answer ≡ Saves name (line_in file line) after) × (log' ≡ grown log did.names)

@@ -22,7 +22,7 @@ use dev_core::Device;
 use lab_io::Files;
 use lab_num::{BoardNo, Text, number_of};
 use lab_state::{AddFault, FitFault};
-use repl_build::{build, entries_of_a_text_are_named};
+use repl_build::{build, laws};
 use repl_files::{FileCause, FileFault, LoadFault, Loaded, load_platform};
 use repl_read::{PlatCause, PlatFault};
 use resc_vars::ScriptCause;
@@ -201,7 +201,7 @@ fn plan_of(alloc: Global, loaded: Loaded) -> Result<BoardPlan, Stop>
     ensures plan { IsPlan loaded result }
     ensures valid { IfOk result IsValid }
 {
-    entries_of_a_text_are_named();
+    laws::entries_of_a_text_are_named();
     let Loaded { names, entries } = loaded;
     match build(alloc, entries) {
         Ok(plan) => Ok(plan),

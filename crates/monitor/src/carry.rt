@@ -14,7 +14,7 @@ use crate::stop::{Stop, Storing};
 use dev_core::Device;
 use floor_run::Gate;
 use lab_io::{Files, Sink, write_whole};
-use lab_state::runs_keep_lines_open;
+use lab_state::laws;
 use resc_read::{Command, LineFault};
 use resc_vars::ScriptCause;
 use std::sync::Wait;
@@ -104,7 +104,7 @@ impl<D: Device + Send> Monitor<D> {
         ensures { IsWritten F.Files K.Sink (λ held place. does held place (work run self.old.state command))
             result self.old self.new files.old files.new out.old out.new }
     {
-        runs_keep_lines_open(&self.lab);
+        laws::runs_keep_lines_open(&self.lab);
         match command {
             Command::RunFor { length } => self.run_for(rt, out, length, gate),
             Command::Start => self.start(rt, out, gate),
@@ -128,7 +128,7 @@ impl<D: Device + Send> Monitor<D> {
         ensures { IsWritten F.Files K.Sink (λ held place. does held place (work run self.old.state command))
             result self.old self.new files.old files.new out.old out.new }
     {
-        runs_keep_lines_open(&self.lab);
+        laws::runs_keep_lines_open(&self.lab);
         match self.carry_out(files, command) {
             Ok(text) => match write_whole(out, &text) {
                 Ok(()) => Ok(()),

@@ -11,8 +11,6 @@ ghost use Rattle.lab_state.specs.Run.{run};
 ghost use Rattle.sys_bus.specs.Plan.{IsValid};
 ghost use Rattle.monitor.specs.Images.{byte_held, holds_part, unreserved, with_parts};
 
-use board::stretches_keep_plans;
-
 /// To load the parts of an image is to load the map from addresses to bytes that they make, in
 /// which the later part counts: each address that it has holds its byte, and each other one what it
 /// held, on a board of a valid plan whose memories have the plan's sizes. Of the board only
@@ -33,5 +31,5 @@ pub fn an_image_is_loaded_as_its_map()
 pub fn runs_keep_names()
     ensures { (lab : Lab) (d : ℕ) → names (run lab d).lab ≡ names lab }
 {
-    stretches_keep_plans();
+    board::laws::stretches_keep_plans();
 }

@@ -8,7 +8,7 @@ mod fault;
 mod halt;
 mod hubs;
 mod images;
-mod laws;
+pub mod laws;
 mod load;
 mod memory;
 mod monitor;
@@ -23,7 +23,6 @@ mod text_sink;
 
 pub use bodies::Bodies;
 pub use fault::{Cause, ScriptFault};
-pub use laws::{an_image_is_loaded_as_its_map, runs_keep_names};
 pub use monitor::Monitor;
 pub use progress::Progress;
 pub use setting::Setting;

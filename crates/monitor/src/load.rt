@@ -4,7 +4,7 @@ ghost use Rattle.std.specs.Option.{ForSome};
 ghost use Rattle.lab_state.specs.One.{view_of};
 ghost use Rattle.monitor.specs.Answer.{loads};
 ghost use Rattle.monitor.specs.Selected as selected;
-ghost use Rattle.monitor.specs.State.{Place};
+ghost use Rattle.monitor.specs.State.{LinePlace};
 ghost use Rattle.monitor.specs.Inner.Ruling.{IsDone, IsTold, Leaves, loaded_by};
 
 use crate::images::{Format, read_image};
@@ -49,7 +49,7 @@ impl<D: Device> Monitor<D> {
         requires waits { self.old.ended ≡ true }
         requires has_plan { IsSome (view_of self.old.state.lab b.0) }
         requires few { length bytes.now ≤ 16777216 }
-        ensures { (place : Place) → ForSome (view_of self.old.state.lab b.0) (λ v.
+        ensures { (place : LinePlace) → ForSome (view_of self.old.state.lab b.0) (λ v.
             IsTold place
             (loaded_by load self.old.state place (record { number = b.0; view = v }) bytes.now)
             result self.new.state

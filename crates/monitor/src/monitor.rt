@@ -1,5 +1,5 @@
 //! A script and the laboratory that its commands work on.
-ghost use Rattle.std.specs.Prelude.{◌≡◌, ◌≤◌, ◌^◌, [], length, map, true, false, IfOk, IfSome};
+ghost use Rattle.std.specs.Prelude.{◌≡◌, ◌≤◌, ◌^◌, [], length, true, false, IfOk, IfSome};
 ghost use Rattle.std.specs.Prelude.{OnOk, OnErr, All};
 ghost use Rattle.std.specs.Option.{ForSome};
 ghost use Rattle.std.specs.String.{string_bytes};
@@ -89,8 +89,7 @@ impl<D: Device> Monitor<D> {
         stock: Stock<D>,
         setting: Setting,
     ) -> Result<Monitor<D>, NoMemory>
-        requires full { IsFull (map D.meaning stock.uarts.items) (map D.meaning stock.cans.items)
-            (map D.meaning stock.finishers.items) }
+        requires full { IsFull D.meaning stock }
         requires size { length (string_bytes text) ≤ 2 ^ 24 }
         requires some_worker { 1 ≤ setting.workers }
         requires few_workers { setting.workers ≤ 8 }
@@ -118,7 +117,7 @@ impl<D: Device> Monitor<D> {
         ensures unspent { self.now.ended ≡ false → self.now.spent ≡ false }
         ensures valid { self.now.ended ≡ false → IsValid self.now.state.lab self.now.state.lines }
     {
-        self.may_go_on();
+        self.validity_law();
         &self.lab
     }
 
@@ -137,12 +136,12 @@ impl<D: Device> Monitor<D> {
     }
 
     /// Of a monitor whose script has not ended the laboratory and the open lines can go on. This changes nothing.
-    fn may_go_on(&self)
+    fn validity_law(&self)
         ensures unspent { self.now.ended ≡ false → self.now.spent ≡ false }
         ensures valid { self.now.ended ≡ false → IsValid self.now.state.lab self.now.state.lines }
     {
         if !self.ended {
-            self.lab.is_one_that_can_be();
+            self.lab.validity_law();
             let _lines = self.lines.unended();
         }
     }
@@ -156,7 +155,7 @@ impl<D: Device> Monitor<D> {
         ensures unspent { self.ended ≡ false → self.spent ≡ false }
         ensures valid { self.ended ≡ false → IsValid self.state.lab self.state.lines }
     {
-        self.may_go_on();
+        self.validity_law();
         let bodies = Bodies {
             alloc: self.alloc,
             flow: self.flow,

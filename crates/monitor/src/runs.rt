@@ -11,7 +11,7 @@ ghost use Rattle.monitor.specs.Inner.Ruling.{IsOnward};
 ghost use Rattle.monitor.specs.Inner.Writing.{IsPlayed, IsRunMade};
 
 use crate::halt::Halt;
-use crate::laws::runs_keep_names;
+use crate::laws;
 use crate::monitor::Monitor;
 use crate::stop::Stop;
 use dev_core::Device;
@@ -20,7 +20,6 @@ use lab_io::{Sink, WriteFault, write_whole};
 use lab_num::{Key, Micros, NoMemory};
 use lab_state::{LabFault, RoundLog, RunCause, Team};
 use log_merge::{LogItem, Names};
-use log_text::prints_join;
 use resc_vars::ScriptCause;
 use std::sync::Wait;
 use std::thread::{Threads, join_mut};
@@ -153,7 +152,7 @@ impl<D: Device + Send> Monitor<D> {
         ensures { IsPlayed K.Sink names.now (run self.old.state.lab d)
             result self.old self.new out.old out.new }
     {
-        prints_join();
+        log_text::laws::prints_join();
         let longest = self.lab.longest_round();
         let mut paused = None;
         let mut left = d;
@@ -238,8 +237,8 @@ impl<D: Device + Send> Monitor<D> {
         ensures output { OnlyWrites K.Sink (result ≡ Err (Halt.Cut WriteFault.Unwritten))
             out.old out.new }
     {
-        runs_keep_names();
-        self.lab.may_run(length)?;
+        laws::runs_keep_names();
+        self.lab.admit_run(length)?;
         let played = self.length_of(length);
         match self.play(rt, out, played, gate) {
             Ok(()) => Ok(()),

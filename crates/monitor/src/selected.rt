@@ -7,7 +7,7 @@ ghost use Rattle.monitor.specs.Selected as selected;
 ghost use Rattle.monitor.specs.Inner.Ruling.{IsBoard, IsSpeaker};
 
 use crate::monitor::Monitor;
-use dev_core::{Device, Kind};
+use dev_core::Device;
 use lab_num::{BoardNo, Member};
 use resc_vars::ScriptCause;
 use sys_bus::{BoardPlan, Named, NamedWhat, RegionKind};
@@ -128,7 +128,7 @@ impl<D: Device> Monitor<D> {
         }
     }
 
-    /// A UART or a CAN controller.
+    /// A device that may be shown.
     pub(crate) fn speaker(&self, b: BoardNo, what: NamedWhat) -> Result<Member, ScriptCause>
         requires unspent { self.now.spent ≡ false }
         requires has_plan { IsSome (view_of self.now.state.lab b.0) }
@@ -139,8 +139,8 @@ impl<D: Device> Monitor<D> {
             return Err(ScriptCause::Kind);
         };
         match self.lab.board(b).plan().kinds.items().get(dev as usize) {
-            Some(Kind::Uart | Kind::Can) => Ok(Member { board: b, dev }),
-            Some(Kind::Finisher) | None => Err(ScriptCause::Kind),
+            Some(kind) if kind.may_be_shown() => Ok(Member { board: b, dev }),
+            _ => Err(ScriptCause::Kind),
         }
     }
 }

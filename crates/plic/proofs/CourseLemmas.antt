@@ -12,7 +12,7 @@ use Rattle.plic.specs.Gateway.{is_enabled, is_raised, raised, sample, complete}
 use Rattle.plic.specs.Claim.{claim, after_claim}
 use Rattle.plic.specs.Map.{reached}
 use Rattle.plic.specs.Registers.{loaded_at, stored_at, plic_loaded, plic_stored}
-use Rattle.plic.specs.Course.{Step, Samples, Claims, Completes, Loads, Stores, after, course, is_completion}
+use Rattle.plic.specs.Course.{PlicStep, Samples, Claims, Completes, Loads, Stores, after, course, is_completion}
 use Rattle.plic.specs.Course.{is_completion_at, is_completed}
 use Rattle.plic.specs.Laws.{SamplesOnce, StaysShut, AwaitsCompletion}
 use Rattle.plic.proofs.SetLemmas.{has-union, has-raised, has-without, union-lt, union-stays}
@@ -115,7 +115,7 @@ waits-stored n p (Some (Threshold context)) value source may h waits other =
 waits-stored n p (Some (Claim context)) value source may h waits other =
     waits-complete p context value source may h waits other
 
-waits-step : (c : Controller) (step : Step) (source : ℕ) (may : Bool) → source < 128 → Waits c.state source may →
+waits-step : (c : Controller) (step : PlicStep) (source : ℕ) (may : Bool) → source < 128 → Waits c.state source may →
     is_completion c step source ≡ false → Waits (after c step).state source may
 unfolding plic_loaded plic_stored
 waits-step c (Samples lines) source may h waits other = waits-sample c.sources c.state lines source may h waits
@@ -127,7 +127,7 @@ waits-step c (Loads at width) source may h waits other =
 waits-step c (Stores at width value) source may h waits other =
     waits-stored c.sources c.state (reached c.sources c.contexts at width) value source may h waits other
 
-waits-course : (c : Controller) (steps : List Step) (source : ℕ) (may : Bool) → source < 128 →
+waits-course : (c : Controller) (steps : List PlicStep) (source : ℕ) (may : Bool) → source < 128 →
     Waits c.state source may → is_completed c steps source ≡ false → Waits (course c steps).state source may
 waits-course c [] source may h waits never = waits
 waits-course c (step ∷ steps) source may h waits never =

@@ -11,24 +11,24 @@ use Rattle.plic.specs.State.{Controller}
 
 -- these lines are sampled, a context claims, a context completes a source, or a word is loaded from or stored at an
 -- address: the address, the width and the value
-pub data Step : Type 0 where
-  Samples : ℕ → Step
-  Claims : ℕ → Step
-  Completes : ℕ → ℕ → Step
-  Loads : ℕ → ℕ → Step
-  Stores : ℕ → ℕ → ℕ → Step
+pub data PlicStep : Type 0 where
+  Samples : ℕ → PlicStep
+  Claims : ℕ → PlicStep
+  Completes : ℕ → ℕ → PlicStep
+  Loads : ℕ → ℕ → PlicStep
+  Stores : ℕ → ℕ → ℕ → PlicStep
 
-abbrev pub state_after : Controller → Step → PlicState
+abbrev pub state_after : Controller → PlicStep → PlicState
 state_after c (Samples lines) = sample c.sources c.state lines
 state_after c (Claims context) = after_claim c.sources c.state context
 state_after c (Completes context source) = complete c.state context source
 state_after c (Loads at width) = plic_loaded c at width
 state_after c (Stores at width value) = plic_stored c at width value
 
-abbrev pub after : Controller → Step → Controller
+abbrev pub after : Controller → PlicStep → Controller
 after c step = record c { state = state_after c step }
 
-abbrev pub course : Controller → List Step → Controller
+abbrev pub course : Controller → List PlicStep → Controller
 course c [] = c
 course c (step ∷ steps) = course (after c step) steps
 
@@ -43,7 +43,7 @@ is_completion_at p (Some (Threshold context)) number source = false
 is_completion_at p (Some (Claim context)) number source = number == source && is_enabled p context number
 
 -- whether a step completes a source
-abbrev pub is_completion : Controller → Step → ℕ → Bool
+abbrev pub is_completion : Controller → PlicStep → ℕ → Bool
 is_completion c (Samples lines) source = false
 is_completion c (Claims context) source = false
 is_completion c (Completes context number) source = is_completion_at c.state (Some (Claim context)) number source
@@ -52,6 +52,6 @@ is_completion c (Stores at width value) source =
     is_completion_at c.state (reached c.sources c.contexts at width) value source
 
 -- whether some step of a course does
-abbrev pub is_completed : Controller → List Step → ℕ → Bool
+abbrev pub is_completed : Controller → List PlicStep → ℕ → Bool
 is_completed c [] source = false
 is_completed c (step ∷ steps) source = is_completion c step source || is_completed (after c step) steps source

@@ -5,7 +5,7 @@ use Rattle.plic.specs.Sources.{has, is_source, set_of}
 use Rattle.plic.specs.State.{Controller, IsController}
 use Rattle.plic.specs.Gateway.{sample, is_enabled}
 use Rattle.plic.specs.Claim.{priority, threshold, is_claimable, output, claim}
-use Rattle.plic.specs.Course.{Step, Claims, after, course, is_completed}
+use Rattle.plic.specs.Course.{PlicStep, Claims, after, course, is_completed}
 
 -- in the set that a test gives is what passes it
 abbrev pub HasWhatPasses : Type 0
@@ -23,7 +23,7 @@ SamplesOnce = (n : ℕ) (p : PlicState) (lines : ℕ) → sample n (sample n p l
 -- a gateway that is shut stays shut until its source is completed, whatever befalls the PLIC
 abbrev pub StaysShut : Type 0
 StaysShut =
-    (c : Controller) (steps : List Step) (source : ℕ) → source < 128 →
+    (c : Controller) (steps : List PlicStep) (source : ℕ) → source < 128 →
     has c.state.shut source ≡ true → is_completed c steps source ≡ false →
     has (course c steps).state.shut source ≡ true
 
@@ -31,7 +31,7 @@ StaysShut =
 -- else is claimed, completed, loaded and stored.
 abbrev pub AwaitsCompletion : Type 0
 AwaitsCompletion =
-    (c : Controller) (context : ℕ) (steps : List Step) → IsController c →
+    (c : Controller) (context : ℕ) (steps : List PlicStep) → IsController c →
     let source = claim c.sources c.state context in
     0 < source → IsTrue (has c.state.shut source) →
     is_completed (after c (Claims context)) steps source ≡ false →

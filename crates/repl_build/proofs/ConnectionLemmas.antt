@@ -2,7 +2,7 @@
 use Rattle.std.proofs.Common.{◌≡◌, ◌∙◌, ℕ, ◌<◌, suc, zero, Bool, true, false, not, ◌&&◌, ◌||◌, refl, sym, ap, List, []}
 use Rattle.std.proofs.Common.{◌∷◌, ◌++◌, map, append_assoc, cond, subst, arith}
 use Rattle.std.proofs.Common.{Option, None, Some, Ok, is_none, slice_get, slice_set, get_or, length}
-use Rattle.std.proofs.Common.{position}
+use Rattle.std.proofs.Common.{◌==◌, position}
 use Rattle.std.proofs.lemmas.Grind.{flat_map-append}
 use Rattle.std.proofs.lemmas.List.{append-nil}
 use Rattle.std.proofs.lemmas.List.Quantifiers.{position-Some}
@@ -25,14 +25,15 @@ use Rattle.sys_bus.specs.declared.plan.PlicSize.{PlicSize}
 use Rattle.sys_bus.specs.declared.region.RegionKind.TheVariants as part
 use Rattle.sys_bus.specs.declared.wire.Wire.{Wire}
 use Rattle.sys_bus.specs.declared.wire.WireFrom.{WireFrom}
-use Rattle.sys_bus.specs.declared.wire.WireFrom.TheVariants.{Context}
+use Rattle.sys_bus.specs.declared.wire.WireFrom.TheVariants.{Context, Dev}
 use Rattle.sys_bus.specs.declared.wire.WirePin.{WirePin}
 use Rattle.sys_bus.specs.Wire.{is_context, may_end}
+use Rattle.dev_core.specs.Kind.{row_of}
 use Rattle.repl_build.specs.declared.merge.Peripheral.{Peripheral}
 use Rattle.repl_build.specs.declared.merge.PlacedItem.{PlacedItem}
 use Rattle.repl_build.specs.declared.rules.Rule.TheVariants.{References}
 use Rattle.repl_build.specs.declared.types.PeripheralType.{PeripheralType}
-use Rattle.repl_build.specs.declared.types.PeripheralType.TheVariants.{Cpu, Memory, Clint, Plic, Uart, Can, Finisher}
+use Rattle.repl_build.specs.declared.types.PeripheralType.TheVariants.{Cpu, Memory, Clint, Plic, Device}
 use Rattle.repl_build.specs.Connections.{Connection, numbers, connection, connections_in, further_connections}
 use Rattle.repl_build.specs.Connections.{connections_by, connections, line_from, IsPin, StandsFor, Leads, AreLed}
 use Rattle.repl_build.specs.Connections.{AreConnected}
@@ -144,13 +145,17 @@ begins names plic (Some Plic) before name known stands =
         line_from (what.Part part.Plic) line ≡ Some from) [ true ↦ λ is. is | false ↦ λ is. absurd (cc) ] is
 begins names plic (Some Memory) before name known stands =
     (_, (stands _ refl, λ line from is. absurd (cc)))
-begins names plic (Some Finisher) before name known stands =
-    (_, (stands _ refl, λ line from is. absurd (cc)))
 begins names plic (Some Clint) before name known stands = (what.Part part.Clint, (stands _ refl, λ line from is. is))
-begins names plic (Some Uart) before name known stands =
-    (what.Part (part.Dev (devices_of before)), (stands _ refl, λ line from is. is))
-begins names plic (Some Can) before name known stands =
-    (what.Part (part.Dev (devices_of before)), (stands _ refl, λ line from is. is))
+begins names plic (Some (Device device)) before name known stands = (
+  what.Part (part.Dev (devices_of before)),
+  (stands _ refl, λ line from is. on_line (row_of device).has_line line from is),
+)
+  where
+    on_line : (has : Bool) (line : ℕ) (from : WireFrom) →
+        cond {A = Option WireFrom} (has && (line == 0)) (Some (Dev (devices_of before))) None ≡ Some from →
+        line_from (what.Part (part.Dev (devices_of before))) line ≡ Some from
+    on_line true line from is = is
+    on_line false line from is = absurd (cc)
 
 -- what a wire ends at
 abbrev Ending : List Named → List (List ℕ) → List ℕ → Option ℕ → Type 0

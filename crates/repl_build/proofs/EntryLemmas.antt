@@ -15,16 +15,15 @@ use Rattle.sys_bus.specs.declared.plan.NamedWhat.{NamedWhat}
 use Rattle.sys_bus.specs.declared.plan.NamedWhat.TheVariants as what
 use Rattle.repl_build.specs.declared.merge.Peripheral.{Peripheral}
 use Rattle.repl_build.specs.declared.types.PeripheralType.{PeripheralType}
-use Rattle.repl_build.specs.declared.types.PeripheralType.TheVariants.{Cpu, Uart, Can, Finisher}
+use Rattle.repl_build.specs.declared.types.PeripheralType.TheVariants.{Cpu, Device}
 use Rattle.repl_build.specs.Laws.{typed_name, typed_type, processor_name, place_at, typed_place, place_in, part_of}
 use Rattle.repl_build.specs.Laws.{type_by, type_in}
 use Rattle.repl_build.specs.Merge.{peripheral_by, peripheral_of, merged}
-use Rattle.repl_build.specs.Numbers.{devices_of, what_of}
+use Rattle.repl_build.specs.Numbers.{devices_of, what_of, is_device}
 use Rattle.repl_build.specs.Places.{is_registered}
 use Rattle.repl_build.specs.Plan.{each, name_by, name_of, region_by, region_of, kinds_of, kind_by, built}
 use Rattle.repl_build.specs.Processors.{cpus_of}
 use Rattle.repl_build.specs.Types.{is_type}
-use Rattle.repl_build.proofs.PartCounts.{is_device}
 use Rattle.repl_build.proofs.ProcessorLemmas.{cpus_cons}
 use Rattle.repl_build.proofs.SoundLemmas.{Fits, Sound, sound}
 use Rattle.repl_build.proofs.ValidLemmas.{made}
@@ -83,9 +82,7 @@ type_one : (t : Option PeripheralType) (name : List ℕ) (before : List Peripher
     is_none t ≡ false → (is_device t ≡ true → slice_get kinds (devices_of before) ≡ kind_by t) →
     map (λ n. type_in kinds n.what) (name_by name (what_of before t)) ≡ t ∷ []
 type_one None name before kinds known found = absurd (cc)
-type_one (Some Uart) name before kinds known found = ap (λ kind. type_by kind ∷ []) (found refl)
-type_one (Some Can) name before kinds known found = ap (λ kind. type_by kind ∷ []) (found refl)
-type_one (Some Finisher) name before kinds known found = ap (λ kind. type_by kind ∷ []) (found refl)
+type_one (Some (Device device)) name before kinds known found = ap (λ kind. type_by kind ∷ []) (found refl)
 type_one _ name before kinds known found = refl
 
 type_said : (all : List Entry) (e : Entry) (head : Head) →

@@ -26,18 +26,17 @@ use Rattle.sys_bus.specs.Part.{is_part, names_part, has_no_others, has_region}
 use Rattle.sys_bus.specs.Region.{same_part}
 use Rattle.repl_build.specs.declared.merge.Peripheral.{Peripheral}
 use Rattle.repl_build.specs.declared.types.PeripheralType.{PeripheralType}
-use Rattle.repl_build.specs.declared.types.PeripheralType.TheVariants.{Cpu, Memory, Clint, Plic, Uart, Can, Finisher}
+use Rattle.repl_build.specs.declared.types.PeripheralType.TheVariants.{Cpu, Memory, Clint, Plic, Device}
 use Rattle.repl_build.specs.Counts.{count_of, first_with, has_type}
 use Rattle.repl_build.specs.First.{first_fault}
 use Rattle.repl_build.specs.Merge.{peripheral_by, peripheral_of, merged}
 use Rattle.repl_build.specs.Names.{is_named, are_named, types_name, is_typed, repeats_name, repeated_in, repeated}
-use Rattle.repl_build.specs.Numbers.{devices_of, what_of}
+use Rattle.repl_build.specs.Numbers.{devices_of, what_of, is_device}
 use Rattle.repl_build.specs.Plan.{each, name_by, name_of, region_by, region_of}
 use Rattle.repl_build.specs.Types.{is_type}
 use Rattle.repl_build.proofs.ListLemmas.{count_cons, count_append, both_true, all_append, or_false, NoneBefore}
 use Rattle.repl_build.proofs.ListLemmas.{self_alone}
 use Rattle.repl_build.proofs.NoneLemmas.{no_fault, first_none}
-use Rattle.repl_build.proofs.PartCounts.{is_device}
 use Rattle.repl_build.proofs.RangeLemmas.{and_true}
 use Rattle.repl_build.proofs.RegionLemmas.{each_append, regions_pass}
 use Rattle.repl_build.proofs.SoundLemmas.{Sound}
@@ -72,13 +71,11 @@ device_before :
     (all before : List Peripheral) (p : Peripheral) (ps : List Peripheral) → all ≡ before ++ p ∷ ps →
     is_device p.kind ≡ true → devices_of before < devices_of all
 device_before all before p ps whole is =
-    let uarts = count_append (λ q. is_type Uart q.kind) before (p ∷ ps) in
-    let cans = count_append (λ q. is_type Can q.kind) before (p ∷ ps) in
-    let finishers = count_append (λ q. is_type Finisher q.kind) before (p ∷ ps) in
+    let two = count_append (λ q. is_device q.kind) before (p ∷ ps) in
     let three = device_cons p ps in
     let one : cond {A = ℕ} (is_device p.kind) 1 0 ≡ 1 = rw is refl in
     let same = ap devices_of whole in
-    omega (arith, one, uarts, cans, finishers, three, same)
+    omega (arith, one, two, three, same)
 
 in_parts :
     (t : Option PeripheralType) (before : List Peripheral) (k : RegionKind) (m d : ℕ) →

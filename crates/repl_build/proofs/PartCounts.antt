@@ -11,9 +11,9 @@ use Rattle.sys_bus.specs.Part.{names_of, regions_of}
 use Rattle.sys_bus.specs.Region.{same_part}
 use Rattle.repl_build.specs.declared.merge.Peripheral.{Peripheral}
 use Rattle.repl_build.specs.declared.types.PeripheralType.{PeripheralType}
-use Rattle.repl_build.specs.declared.types.PeripheralType.TheVariants.{Cpu, Memory, Clint, Plic, Uart, Can, Finisher}
+use Rattle.repl_build.specs.declared.types.PeripheralType.TheVariants.{Cpu, Memory, Clint, Plic, Device}
 use Rattle.repl_build.specs.Counts.{count_of}
-use Rattle.repl_build.specs.Numbers.{devices_of, what_of}
+use Rattle.repl_build.specs.Numbers.{devices_of, what_of, is_device}
 use Rattle.repl_build.specs.Plan.{each, name_by, name_of, region_by, region_of}
 use Rattle.repl_build.specs.Types.{is_type}
 use Rattle.repl_build.proofs.ListLemmas.{count_push, count_append, count_cons}
@@ -139,12 +139,6 @@ memories_numbered =
       numbered = memory_hit;
     }
 
-abbrev pub is_device : Option PeripheralType → Bool
-is_device (Some Uart) = true
-is_device (Some Can) = true
-is_device (Some Finisher) = true
-is_device _ = false
-
 device_hit :
     (before : List Peripheral) (o : Option PeripheralType) (i : ℕ) →
     hit (part.Dev i) (what_of before o) ≡ (if is_device o then (if devices_of before == i then 1 else 0) else 0)
@@ -152,22 +146,9 @@ device_hit before None i = refl
 device_hit before (Some Cpu) i = refl
 device_hit before _ i = refl
 
-pub either : (o : Option PeripheralType) (a b c : ℕ) →
-    (a + (if is_type Uart o then 1 else 0)) + (b + (if is_type Can o then 1 else 0))
-    + (c + (if is_type Finisher o then 1 else 0))
-    ≡ (a + b + c) + (if is_device o then 1 else 0)
-either None a b c = omega arith
-either (Some Cpu) a b c = omega arith
-either _ a b c = omega arith
-
 device_push : (before : List Peripheral) (p : Peripheral) →
     devices_of (before ++ p ∷ []) ≡ devices_of before + (if is_device p.kind then 1 else 0)
-device_push before p =
-    let uart = count_push (λ q. is_type Uart q.kind) before p in
-    let can = count_push (λ q. is_type Can q.kind) before p in
-    let finisher = count_push (λ q. is_type Finisher q.kind) before p in
-    let sum = either p.kind (count_of before Uart) (count_of before Can) (count_of before Finisher) in
-    omega (arith, uart, can, finisher, sum)
+device_push before p = count_push (λ q. is_device q.kind) before p
 
 pub devices_numbered : IsNumbering devices_of part.Dev is_device
 devices_numbered = record { empty = refl; push = device_push; numbered = device_hit }

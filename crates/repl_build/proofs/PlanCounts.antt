@@ -7,7 +7,7 @@ use Rattle.std.proofs.lemmas.List.{append-nil}
 use Rattle.std.proofs.lemmas.List.Sums.{sum_by-cons, sum_by_push}
 use Rattle.std.specs.List.{cons_option, sum_by}
 use Rattle.dev_core.specs.declared.kind.Kind.{Kind}
-use Rattle.dev_core.specs.declared.kind.Kind.TheVariants as device
+use Rattle.dev_core.specs.Kind.{is_kind}
 use Rattle.sys_bus.specs.Limits.{most_memory}
 use Rattle.sys_bus.specs.declared.plan.Named.{Named}
 use Rattle.sys_bus.specs.declared.region.Region.{Region}
@@ -17,16 +17,16 @@ use Rattle.sys_bus.specs.Limits as limit
 use Rattle.sys_bus.specs.Part.{names_of, regions_of, has_one_each, has_at_most_one_each, has_parts}
 use Rattle.repl_build.specs.declared.merge.Peripheral.{Peripheral}
 use Rattle.repl_build.specs.declared.types.PeripheralType.{PeripheralType}
-use Rattle.repl_build.specs.declared.types.PeripheralType.TheVariants.{Cpu, Memory, Clint, Plic, Uart, Can, Finisher}
+use Rattle.repl_build.specs.declared.types.PeripheralType.TheVariants.{Cpu, Memory, Clint, Plic, Device}
 use Rattle.repl_build.specs.Counts.{count_of, bytes_of, has_type}
-use Rattle.repl_build.specs.Numbers.{devices_of}
+use Rattle.repl_build.specs.Numbers.{devices_of, is_device}
 use Rattle.repl_build.specs.Places.{size_of}
 use Rattle.repl_build.specs.Plan.{each, name_of, region_of, kind_by, kinds_of, memories_of}
 use Rattle.repl_build.specs.Types.{is_type}
 use Rattle.repl_build.proofs.ListLemmas.{count_cons, both_true, all_in_range}
 use Rattle.repl_build.proofs.PartCounts.{names_hits, regions_hits, one_each, memories_numbered, devices_numbered}
 use Rattle.repl_build.proofs.PartCounts.{clint_hits}
-use Rattle.repl_build.proofs.PartCounts.{plic_hits, is_device}
+use Rattle.repl_build.proofs.PartCounts.{plic_hits}
 use Rattle.repl_build.proofs.SoundLemmas.{Sound}
 use Rattle.repl_build.proofs.WhatLemmas.{device_cons}
 
@@ -92,50 +92,21 @@ counted_type k (p ∷ ps) is =
     ] is sum
 
 -- devices
-uart_kind : (t : Option PeripheralType) (kinds : List Kind) →
-    limit.count_of (cons_option (kind_by t) kinds) device.Uart ≡ cond {A = ℕ}
-    (is_type Uart t) 1 0 + limit.count_of kinds device.Uart
-uart_kind (Some Uart) kinds = count_cons (limit.is_kind device.Uart) device.Uart kinds
-uart_kind (Some Can) kinds = count_cons (limit.is_kind device.Uart) device.Can kinds
-uart_kind (Some Finisher) kinds = count_cons (limit.is_kind device.Uart) device.Finisher kinds
-uart_kind _ kinds = omega arith
+kind_counted : (kind : Kind) (t : Option PeripheralType) (kinds : List Kind) →
+    limit.count_of (cons_option (kind_by t) kinds) kind ≡ cond {A = ℕ}
+    (is_type (Device kind) t) 1 0 + limit.count_of kinds kind
+kind_counted kind (Some (Device other)) kinds = count_cons (is_kind kind) other kinds
+kind_counted kind _ kinds = omega arith
 
-finisher_kind : (t : Option PeripheralType) (kinds : List Kind) →
-    limit.count_of (cons_option (kind_by t) kinds) device.Finisher ≡ cond {A = ℕ}
-    (is_type Finisher t) 1 0 + limit.count_of kinds device.Finisher
-finisher_kind (Some Uart) kinds = count_cons (limit.is_kind device.Finisher) device.Uart kinds
-finisher_kind (Some Can) kinds = count_cons (limit.is_kind device.Finisher) device.Can kinds
-finisher_kind (Some Finisher) kinds = count_cons (limit.is_kind device.Finisher) device.Finisher kinds
-finisher_kind _ kinds = omega arith
-
-can_kind : (t : Option PeripheralType) (kinds : List Kind) →
-    limit.count_of (cons_option (kind_by t) kinds) device.Can ≡ cond {A = ℕ}
-    (is_type Can t) 1 0 + limit.count_of kinds device.Can
-can_kind (Some Uart) kinds = count_cons (limit.is_kind device.Can) device.Uart kinds
-can_kind (Some Can) kinds = count_cons (limit.is_kind device.Can) device.Can kinds
-can_kind (Some Finisher) kinds = count_cons (limit.is_kind device.Can) device.Finisher kinds
-can_kind _ kinds = omega arith
-
-devices_counted :
-    (kind : Kind) (k : PeripheralType) → ((t : Option PeripheralType) (kinds : List Kind) →
-    limit.count_of (cons_option (kind_by t) kinds) kind
-    ≡ cond {A = ℕ} (is_type k t) 1 0 + limit.count_of kinds kind) → (all : List Peripheral) →
-    limit.count_of (kinds_of all) kind ≡ count_of all k
-devices_counted kind k one [] = refl
-devices_counted kind k one (p ∷ ps) =
-    let rest = devices_counted kind k one ps in
-    let here = one p.kind (kinds_of ps) in
-    let sum = count_cons (λ q. is_type k q.kind) p ps in
+-- of each kind a plan has as many devices as there are entries of it
+pub kinds_count : (kind : Kind) (all : List Peripheral) →
+    limit.count_of (kinds_of all) kind ≡ count_of all (Device kind)
+kinds_count kind [] = refl
+kinds_count kind (p ∷ ps) =
+    let rest = kinds_count kind ps in
+    let here = kind_counted kind p.kind (kinds_of ps) in
+    let sum = count_cons (λ q. is_type (Device kind) q.kind) p ps in
     omega (arith, rest, here, sum)
-
-pub uarts_count : (all : List Peripheral) → limit.count_of (kinds_of all) device.Uart ≡ count_of all Uart
-uarts_count = devices_counted device.Uart Uart uart_kind
-
-pub finishers_count : (all : List Peripheral) → limit.count_of (kinds_of all) device.Finisher ≡ count_of all Finisher
-finishers_count = devices_counted device.Finisher Finisher finisher_kind
-
-pub cans_count : (all : List Peripheral) → limit.count_of (kinds_of all) device.Can ≡ count_of all Can
-cans_count = devices_counted device.Can Can can_kind
 
 device_length : (t : Option PeripheralType) (kinds : List Kind) →
     length (cons_option (kind_by t) kinds) ≡ cond {A = ℕ} (is_device t) 1 0 + length kinds

@@ -4,7 +4,8 @@ use Rattle.std.proofs.Common.{◌++◌}
 use Rattle.std.proofs.Common.{Option, None, Some, nat_le, cond, codes, slice_get}
 use Rattle.std.specs.List.{list_all}
 use Rattle.dev_core.specs.declared.kind.Kind.{Kind}
-use Rattle.dev_core.specs.declared.kind.Kind.TheVariants as device
+use Rattle.dev_core.specs.declared.kind.Kind.TheVariants.{Uart, Can, Finisher}
+use Rattle.dev_core.specs.Kind.{least_size_of, row_of}
 use Rattle.repl_read.specs.declared.entry.Place.{Place}
 use Rattle.repl_read.specs.declared.entry.Place.TheVariants.{Address, Range}
 use Rattle.page_ram.specs.Access.{page_size}
@@ -12,20 +13,19 @@ use Rattle.sys_bus.specs.Limits.{region_unit}
 use Rattle.sys_bus.specs.declared.plan.NamedWhat.{NamedWhat}
 use Rattle.sys_bus.specs.declared.plan.NamedWhat.TheVariants as what
 use Rattle.sys_bus.specs.declared.region.RegionKind.{RegionKind}
-use Rattle.sys_bus.specs.Limits.{least_device_size, is_range, are_ranges}
+use Rattle.sys_bus.specs.Limits.{is_range, are_ranges}
 use Rattle.repl_build.specs.declared.merge.Peripheral.{Peripheral}
 use Rattle.repl_build.specs.declared.merge.PlacedItem.{PlacedItem}
 use Rattle.repl_build.specs.declared.types.PeripheralType.{PeripheralType}
-use Rattle.repl_build.specs.declared.types.PeripheralType.TheVariants.{Cpu, Memory, Uart, Can, Finisher}
+use Rattle.repl_build.specs.declared.types.PeripheralType.TheVariants.{Cpu, Memory, Device}
 use Rattle.repl_build.specs.Attributes.{is_memory_size, number_of, is_set, has_attribute, item_of}
-use Rattle.repl_build.specs.Numbers.{devices_of, what_of}
+use Rattle.repl_build.specs.Numbers.{devices_of, what_of, is_device}
 use Rattle.repl_build.specs.Places.{is_registered, has_range, has_required, step_of, least_of, is_unit, is_place}
 use Rattle.repl_build.specs.Places.{usual_size, size_at, base_at}
 use Rattle.repl_build.specs.Plan.{each, region_by, region_of, kinds_of, kind_by}
 use Rattle.repl_build.specs.Types.{is_type}
 use Rattle.repl_build.proofs.ListLemmas.{both_true}
 use Rattle.repl_build.proofs.NumberLemmas.{memory_sized}
-use Rattle.repl_build.proofs.PartCounts.{is_device}
 use Rattle.repl_build.proofs.PartLemmas.{any_found}
 use Rattle.repl_build.proofs.RegionLemmas.{regions_pass}
 use Rattle.repl_build.proofs.SoundLemmas.{Fits, Sound}
@@ -41,9 +41,18 @@ record IsPlaced (t : Option PeripheralType) (at : Place) (items : List PlacedIte
   unit : is_unit t (size_at (usual_size t items) at) ≡ true
   least : nat_le (least_of t (step_of t items)) (size_at (usual_size t items) at) ≡ true
 
-wide : (b : Bool) → nat_le (least_device_size device.Uart (cond {A = ℕ} b 4 1)) 0x100 ≡ true
-wide true = refl
-wide false = refl
+-- the usual size of a device is whole words, and enough
+usual_unit : (kind : Kind) → ((row_of kind).usual_size % region_unit == 0) ≡ true
+usual_unit Uart = refl
+usual_unit Can = refl
+usual_unit Finisher = refl
+
+usual_enough : (kind : Kind) (wide : Bool) →
+    nat_le (least_size_of kind (cond {A = ℕ} ((row_of kind).may_be_wide && wide) 4 1)) (row_of kind).usual_size ≡ true
+usual_enough Uart true = refl
+usual_enough Uart false = refl
+usual_enough Can wide = refl
+usual_enough Finisher wide = refl
 
 ranged :
     (t : Option PeripheralType) (base size : ℕ) (items : List PlacedItem) →
@@ -65,8 +74,8 @@ placed t (Range base size) items before part is memory registered good = ranged 
 placed (Some Memory) (Address base) items before part is memory registered good =
     let size = and_true (number_of (codes "size") 0 items % page_size == 0) _ (memory refl refl) in
     record { base = good; unit = size.0; least = size.1 }
-placed (Some Uart) (Address base) items before part is memory registered good =
-    record { base = good; unit = refl; least = wide (is_set (codes "wideRegisters") items) }
+placed (Some (Device kind)) (Address base) items before part is memory registered good =
+    record { base = good; unit = usual_unit kind; least = usual_enough kind (is_set (codes "wideRegisters") items) }
 placed _ (Address base) items before part is memory registered good =
     record { base = good; unit = refl; least = refl }
 placed _ _ items before part is memory registered good = absurd (cc)
@@ -87,15 +96,7 @@ range_of :
     }) ≡ true
 range_of None at items before part kinds is found good = absurd (cc)
 range_of (Some Cpu) at items before part kinds is found good = absurd (cc)
-range_of (Some Uart) at items before part kinds is found good =
-    let same = same_part_of _ _ is in
-    let kind = found refl in
-    rw (same, kind) (all_three _ _ _ good.base good.unit good.least)
-range_of (Some Can) at items before part kinds is found good =
-    let same = same_part_of _ _ is in
-    let kind = found refl in
-    rw (same, kind) (all_three _ _ _ good.base good.unit good.least)
-range_of (Some Finisher) at items before part kinds is found good =
+range_of (Some (Device device)) at items before part kinds is found good =
     let same = same_part_of _ _ is in
     let kind = found refl in
     rw (same, kind) (all_three _ _ _ good.base good.unit good.least)

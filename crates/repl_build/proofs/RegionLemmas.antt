@@ -1,5 +1,5 @@
 -- The regions of peripherals that keep all rules.
-use Rattle.std.proofs.Common.{◌≡◌, ℕ, ◌+◌, ◌^◌, ◌==◌, ◌∙◌, Bool, true, false, refl, sym, ap, List}
+use Rattle.std.proofs.Common.{◌≡◌, ℕ, ◌+◌, ◌^◌, ◌==◌, ◌∙◌, Bool, true, false, ◌&&◌, ◌||◌, refl, sym, ap, List}
 use Rattle.std.proofs.Common.{[], ◌∷◌, ◌++◌, Option, None, Some, nat_lt, nat_le, arith, append_assoc}
 use Rattle.std.proofs.Common.{cond, codes, subst}
 use Rattle.std.proofs.lemmas.Bool.Decides.{nat_tests}
@@ -12,20 +12,19 @@ use Rattle.sys_bus.specs.declared.region.RegionKind.{RegionKind}
 use Rattle.sys_bus.specs.Limits.{device_in, is_step, are_steps}
 use Rattle.sys_bus.specs.Part.{has_memory_size, have_memory_sizes}
 use Rattle.std.specs.Prelude.{slice_index}
-use Rattle.dev_core.specs.declared.kind.Kind.TheVariants as device
+use Rattle.dev_core.specs.Kind.{row_of}
 use Rattle.sys_bus.specs.declared.plan.NamedWhat.{NamedWhat}
 use Rattle.sys_bus.specs.declared.plan.NamedWhat.TheVariants as what
 use Rattle.sys_bus.specs.Region.{overlaps, end_of, count_of_overlaps, are_apart, are_addressed}
 use Rattle.repl_build.specs.declared.merge.Peripheral.{Peripheral}
 use Rattle.repl_build.specs.declared.types.PeripheralType.{PeripheralType}
-use Rattle.repl_build.specs.declared.types.PeripheralType.TheVariants.{Cpu, Memory, Uart, Can, Finisher}
+use Rattle.repl_build.specs.declared.types.PeripheralType.TheVariants.{Cpu, Memory, Device}
 use Rattle.repl_build.specs.Attributes.{is_set}
 use Rattle.repl_build.specs.Counts.{count_of}
-use Rattle.repl_build.specs.Numbers.{what_of}
+use Rattle.repl_build.specs.Numbers.{is_device, what_of}
 use Rattle.repl_build.specs.Places as place
 use Rattle.repl_build.specs.Plan.{each, region_by, region_of, memories_of, kinds_of, kind_by}
 use Rattle.repl_build.specs.Types.{is_type}
-use Rattle.repl_build.proofs.PartCounts.{is_device}
 use Rattle.repl_build.proofs.WhatLemmas.{same_part_of, memory_at, kind_at}
 use Rattle.repl_build.proofs.ListLemmas.{both_true, all_append, or_false, NoneBefore, self_alone}
 use Rattle.repl_build.proofs.SoundLemmas.{Fits, Sound}
@@ -93,27 +92,24 @@ memory_sizes all sound =
     regions_pass (λ region. has_memory_size (memories_of all) region.kind region.size) all [] all
     (λ before p ps o fits whole is. sized_one all before p ps o whole is) refl sound
 
+-- the step of a device is one that its kind allows
+allowed : (may_be_wide wide : Bool) →
+    ((cond {A = ℕ} (may_be_wide && wide) 4 1 == 1) || (may_be_wide && (cond {A = ℕ} (may_be_wide && wide) 4 1 == 4)))
+    ≡ true
+allowed true true = refl
+allowed true false = refl
+allowed false wide = refl
+
 step_one :
     (t : Option PeripheralType) (p : Peripheral) (before ps : List Peripheral) (part : RegionKind) → p.kind ≡ t →
     Some (what.Part part) ≡ what_of before t →
     is_step (device_in (kinds_of (before ++ p ∷ ps)) part) (place.step_of t p.items) ≡ true
 step_one None p before ps part kind is = absurd (cc)
 step_one (Some Cpu) p before ps part kind is = absurd (cc)
-step_one (Some Uart) p before ps part kind is =
+step_one (Some (Device device)) p before ps part kind is =
     let same = same_part_of _ _ is in
     let at = kind_at before p ps (ap is_device kind) ∙ ap kind_by kind in
-    let steps : is_step (Some device.Uart) (place.step_of (Some Uart) p.items) ≡ true =
-    elim (is_set (codes "wideRegisters") p.items) as
-    (λ b. is_step (Some device.Uart) (cond {A = ℕ} b 4 1) ≡ true) [ true ↦ refl | false ↦ refl ] in
-    rw same (rw at steps)
-step_one (Some Can) p before ps part kind is =
-    let same = same_part_of _ _ is in
-    let at = kind_at before p ps (ap is_device kind) ∙ ap kind_by kind in
-    rw same (rw at refl)
-step_one (Some Finisher) p before ps part kind is =
-    let same = same_part_of _ _ is in
-    let at = kind_at before p ps (ap is_device kind) ∙ ap kind_by kind in
-    rw same (rw at refl)
+    rw same (rw at (allowed (row_of device).may_be_wide (is_set (codes "wideRegisters") p.items)))
 step_one _ p before ps part kind is = rw (same_part_of _ _ is) refl
 
 stepped_one :

@@ -3,7 +3,8 @@ use Rattle.std.proofs.Common.{◌≡◌, ℕ, ◌≤◌, ◌∙◌, true, ◌&&�
 use Rattle.std.proofs.Common.{nat_le, length, sum, arith, [], IfOk, IsTrue}
 use Rattle.std.proofs.lemmas.Bool.Decides.{nat_tests}
 use Rattle.std.specs.Option.{option_map}
-use Rattle.dev_core.specs.declared.kind.Kind.TheVariants as device
+use Rattle.dev_core.specs.declared.kind.Kind.{Kind}
+use Rattle.dev_core.specs.declared.kind.Kind.TheVariants.{Uart, Can, Finisher}
 use Rattle.repl_read.specs.declared.entry.Entry.{Entry}
 use Rattle.repl_read.specs.declared.fault.PlatFault.{PlatFault}
 use Rattle.sys_bus.specs.Limits.{most_memory}
@@ -13,7 +14,7 @@ use Rattle.sys_bus.specs.Limits as limit
 use Rattle.sys_bus.specs.Plan.{IsValid}
 use Rattle.sys_bus.specs.Region.{are_apart}
 use Rattle.repl_build.specs.declared.merge.Peripheral.{Peripheral}
-use Rattle.repl_build.specs.declared.types.PeripheralType.TheVariants.{Cpu, Memory, Clint, Plic, Uart, Can, Finisher}
+use Rattle.repl_build.specs.declared.types.PeripheralType.TheVariants.{Cpu, Memory, Clint, Plic, Device}
 use Rattle.repl_build.specs.Counts.{count_of, first_with, has_type}
 use Rattle.repl_build.specs.Merge.{merged}
 use Rattle.repl_build.specs.Processors.{cpus_of}
@@ -26,9 +27,8 @@ use Rattle.repl_build.proofs.NameLemmas.{names_good, differ, distinct, no_others
 use Rattle.repl_build.proofs.NameLemmas.{found_type}
 use Rattle.repl_build.proofs.NumberLemmas.{IsBetween}
 use Rattle.repl_build.proofs.PartLemmas.{both, plic_numbers, clint_number}
-use Rattle.repl_build.proofs.PlanCounts.{memories_count, memories_sum, few_bytes, counted_type, uarts_count}
-use Rattle.repl_build.proofs.PlanCounts.{finishers_count}
-use Rattle.repl_build.proofs.PlanCounts.{cans_count, devices_count, parts}
+use Rattle.repl_build.proofs.PlanCounts.{memories_count, memories_sum, few_bytes, counted_type, kinds_count}
+use Rattle.repl_build.proofs.PlanCounts.{devices_count, parts}
 use Rattle.repl_build.proofs.ProcessorLemmas.{cpus_count, cpus_named}
 use Rattle.repl_build.proofs.RangeLemmas.{ranges}
 use Rattle.repl_build.proofs.RegionLemmas.{addressed, memory_sizes, steps, apart}
@@ -65,13 +65,10 @@ plic_good all (Some p) keeps found =
 
 devices_few : (all : List Peripheral) → Keeps all → limit.are_few_devices (kinds_of all) ≡ true
 devices_few all keeps =
-    let uarts = few_of all Uart keeps.counts in
-    let cans = few_of all Can keeps.counts in
-    let finishers = few_of all Finisher keeps.counts in
-    both_true _ _
-    (both_true _ _ (at_most (limit.count_of (kinds_of all) device.Uart) 4 (omega (arith, uarts, uarts_count all)))
-    (at_most (limit.count_of (kinds_of all) device.Can) 4 (omega (arith, cans, cans_count all))))
-    (at_most (limit.count_of (kinds_of all) device.Finisher) 1 (omega (arith, finishers, finishers_count all)))
+    both_true _ _ (few Uart) (both_true _ _ (few Can) (both_true _ _ (few Finisher) refl))
+  where
+    few : (kind : Kind) → limit.are_few_of (kinds_of all) kind ≡ true
+    few kind = at_most _ _ (omega (arith, few_of all (Device kind) keeps.counts, kinds_count kind all))
 
 memories_few : (all : List Peripheral) → Keeps all → has_type Memory all ≡ true →
     limit.are_few_memories (memories_of all) ≡ true

@@ -9,14 +9,13 @@ use Rattle.sys_bus.specs.declared.plan.NamedWhat.TheVariants as what
 use Rattle.sys_bus.specs.declared.region.RegionKind.{RegionKind}
 use Rattle.repl_build.specs.declared.merge.Peripheral.{Peripheral}
 use Rattle.repl_build.specs.declared.types.PeripheralType.{PeripheralType}
-use Rattle.repl_build.specs.declared.types.PeripheralType.TheVariants.{Memory, Uart, Can, Finisher}
+use Rattle.repl_build.specs.declared.types.PeripheralType.TheVariants.{Memory, Device}
 use Rattle.repl_build.specs.Counts.{count_of}
-use Rattle.repl_build.specs.Numbers.{devices_of}
+use Rattle.repl_build.specs.Numbers.{devices_of, is_device}
 use Rattle.repl_build.specs.Places.{size_of}
 use Rattle.repl_build.specs.Plan.{kind_by, kinds_of, memories_of}
 use Rattle.repl_build.specs.Types.{is_type}
 use Rattle.repl_build.proofs.ListLemmas.{count_cons}
-use Rattle.repl_build.proofs.PartCounts.{is_device, either}
 
 pub same_part_of : (a b : RegionKind) → (let x : Option NamedWhat = Some (what.Part a) in x) ≡ Some (what.Part b) →
     a ≡ b
@@ -44,26 +43,17 @@ memory_at (q ∷ qs) p ps is =
 
 pub device_cons : (q : Peripheral) (qs : List Peripheral) →
     devices_of (q ∷ qs) ≡ (if is_device q.kind then 1 else 0) + devices_of qs
-device_cons q qs =
-    let uart = count_cons (λ r. is_type Uart r.kind) q qs in
-    let can = count_cons (λ r. is_type Can r.kind) q qs in
-    let finisher = count_cons (λ r. is_type Finisher r.kind) q qs in
-    let sum = either q.kind (count_of qs Uart) (count_of qs Can) (count_of qs Finisher) in
-    omega (arith, uart, can, finisher, sum)
+device_cons q qs = count_cons (λ r. is_device r.kind) q qs
 
 kind_next :
     (t : Option PeripheralType) (kinds : List Kind) (n m : ℕ) (k : Option Kind) →
     n ≡ (if is_device t then 1 else 0) + m → slice_get kinds m ≡ k → slice_get (cons_option (kind_by t) kinds) n ≡ k
-kind_next (Some Uart) kinds n m k next is = let same : n ≡ suc m = omega (arith, next) in rw same is
-kind_next (Some Can) kinds n m k next is = let same : n ≡ suc m = omega (arith, next) in rw same is
-kind_next (Some Finisher) kinds n m k next is = let same : n ≡ suc m = omega (arith, next) in rw same is
+kind_next (Some (Device kind)) kinds n m k next is = let same : n ≡ suc m = omega (arith, next) in rw same is
 kind_next _ kinds n m k next is = let same : n ≡ m = omega (arith, next) in rw same is
 
 kind_first : (t : Option PeripheralType) (kinds : List Kind) → is_device t ≡ true →
     slice_get (cons_option (kind_by t) kinds) 0 ≡ kind_by t
-kind_first (Some Uart) kinds is = refl
-kind_first (Some Can) kinds is = refl
-kind_first (Some Finisher) kinds is = refl
+kind_first (Some (Device kind)) kinds is = refl
 kind_first _ kinds is = absurd (cc)
 
 -- the device with the number of devices before it

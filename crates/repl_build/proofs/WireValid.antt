@@ -3,6 +3,7 @@ use Rattle.std.proofs.Common.{◌≡◌, ℕ, ◌==◌, ◌∙◌, Bool, true, f
 use Rattle.std.proofs.Common.{Option}
 use Rattle.std.proofs.Common.{None, Some, Result, Ok, Err, cond, slice_get, append_assoc, length}
 use Rattle.std.specs.List.{list_all}
+use Rattle.dev_core.specs.Kind.{row_of}
 use Rattle.dev_core.specs.declared.kind.Kind.{Kind}
 use Rattle.repl_read.specs.declared.entry.ItemWhat.{ItemWhat}
 use Rattle.repl_read.specs.declared.entry.ItemWhat.TheVariants as item
@@ -19,10 +20,10 @@ use Rattle.sys_bus.specs.Wire.{is_context, has_line, kind_has_line, is_from, may
 use Rattle.repl_build.specs.declared.merge.Peripheral.{Peripheral}
 use Rattle.repl_build.specs.declared.merge.PlacedItem.{PlacedItem}
 use Rattle.repl_build.specs.declared.types.PeripheralType.{PeripheralType}
-use Rattle.repl_build.specs.declared.types.PeripheralType.TheVariants.{Cpu, Clint, Plic, Uart, Can}
+use Rattle.repl_build.specs.declared.types.PeripheralType.TheVariants.{Cpu, Clint, Plic, Device}
 use Rattle.repl_build.specs.Counts.{count_of, has_type}
 use Rattle.repl_build.specs.First.{◌>>=◌}
-use Rattle.repl_build.specs.Numbers.{devices_of}
+use Rattle.repl_build.specs.Numbers.{devices_of, is_device}
 use Rattle.repl_build.specs.Plan.{each, region_of, kinds_of, kind_by, plic_of, wires_from, wires_of}
 use Rattle.repl_build.specs.Processors.{cpus_of, hart_of}
 use Rattle.repl_build.specs.Types.{is_type}
@@ -30,7 +31,6 @@ use Rattle.repl_build.specs.Wires.{ends_of, line_of, pin_by, wire_by, wire_at, i
 use Rattle.repl_build.specs.Wires.{item_wires, wires_or, placed_wires, items_wires}
 use Rattle.repl_build.proofs.ListLemmas.{both_true, all_append}
 use Rattle.repl_build.proofs.NameLemmas.{clint_there}
-use Rattle.repl_build.proofs.PartCounts.{is_device}
 use Rattle.repl_build.proofs.ProcessorLemmas.{cpus_count}
 use Rattle.repl_build.proofs.WhatLemmas.{kind_at}
 
@@ -169,20 +169,15 @@ lines_by (Some Plic) kinds regions plic dev clint device line from is =
       | true ↦ λ there is. rw (← same_some _ _ is) there
       | false ↦ λ there is. absurd (cc)
     ] refl is
-lines_by (Some Uart) kinds regions plic dev clint device line from is =
-    let uart : has_line kinds dev ≡ true = ap kind_has_line (device refl) in
-    elim (line == 0) as (λ b. cond {A = Option WireFrom} b (Some (Dev dev)) None ≡ Some from →
-    is_from kinds regions plic from ≡ true) [
-      | true ↦ λ is. rw (← same_some _ _ is) uart
-      | false ↦ λ is. absurd (cc)
-    ] is
-lines_by (Some Can) kinds regions plic dev clint device line from is =
-    let can : has_line kinds dev ≡ true = ap kind_has_line (device refl) in
-    elim (line == 0) as (λ b. cond {A = Option WireFrom} b (Some (Dev dev)) None ≡ Some from →
-    is_from kinds regions plic from ≡ true) [
-      | true ↦ λ is. rw (← same_some _ _ is) can
-      | false ↦ λ is. absurd (cc)
-    ] is
+lines_by (Some (Device own)) kinds regions plic dev clint device line from is =
+    by_line (row_of own).has_line (line == 0) (ap kind_has_line (device refl)) is
+  where
+    by_line : (has first : Bool) → has_line kinds dev ≡ has →
+        cond {A = Option WireFrom} (has && first) (Some (Dev dev)) None ≡ Some from →
+        is_from kinds regions plic from ≡ true
+    by_line true true here is = rw (← same_some _ _ is) here
+    by_line true false here is = absurd (cc)
+    by_line false first here is = absurd (cc)
 lines_by _ kinds regions plic dev clint device line from is = absurd (cc)
 
 from_good :

@@ -9,6 +9,8 @@ use Rattle.repl_read.specs.declared.entry.Place.{Place}
 use Rattle.repl_read.specs.declared.entry.Place.TheVariants.{Absent, Bus, Address, Range}
 use Rattle.repl_read.specs.declared.entry.Value.{Value}
 use Rattle.repl_read.specs.declared.entry.Value.TheVariants.{Number, Words, Truth, Name}
+use Rattle.dev_core.specs.declared.kind.Kind.{Kind}
+use Rattle.dev_core.specs.Kind.{row_of}
 use Rattle.page_ram.specs.Access.{page_size}
 use Rattle.sys_bus.specs.Limits.{most_speed, most_frequency, most_sources, most_contexts}
 use Rattle.repl_build.specs.declared.attributes.Sort.{Sort}
@@ -44,8 +46,10 @@ plic_sort key =
     else if bytes_eq key (codes "prioritiesEnabled") then Some Yes
     else None
 
-abbrev pub uart_sort : List ℕ → Option Sort
-uart_sort key = if bytes_eq key (codes "wideRegisters") then Some Flag else None
+-- devices whose registers may lie four bytes apart say so by `wideRegisters`
+abbrev pub device_sort : Kind → List ℕ → Option Sort
+device_sort device key =
+    if (row_of device).may_be_wide && bytes_eq key (codes "wideRegisters") then Some Flag else None
 
 -- what an attribute of a type takes, if the type has it
 abbrev pub sort_of : Option PeripheralType → List ℕ → Option Sort
@@ -53,9 +57,7 @@ sort_of (Some kind.Cpu) key = cpu_sort key
 sort_of (Some kind.Memory) key = memory_sort key
 sort_of (Some kind.Clint) key = clint_sort key
 sort_of (Some kind.Plic) key = plic_sort key
-sort_of (Some kind.Uart) key = uart_sort key
-sort_of (Some kind.Can) key = None
-sort_of (Some kind.Finisher) key = None
+sort_of (Some (kind.Device device)) key = device_sort device key
 sort_of None key = None
 
 -- test 4: an attribute that is unknown for its type

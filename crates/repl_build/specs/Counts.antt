@@ -2,10 +2,11 @@
 use Rattle.std.specs.Prelude.{ℕ, ◌+◌, nat_le, nat_lt, Bool, false, not, ◌&&◌, ◌||◌, List, Option, Some, None}
 use Rattle.std.specs.Prelude.{count_by, find, if◌then◌else◌}
 use Rattle.std.specs.List.{list_any, sum_by}
-use Rattle.sys_bus.specs.Limits.{most_processors, most_memories, most_memory, most_uarts, most_cans, most_finishers}
+use Rattle.dev_core.specs.Kind.{row_of}
+use Rattle.sys_bus.specs.Limits.{most_processors, most_memories, most_memory}
 use Rattle.repl_build.specs.declared.merge.Peripheral.{Peripheral}
 use Rattle.repl_build.specs.declared.types.PeripheralType.{PeripheralType}
-use Rattle.repl_build.specs.declared.types.PeripheralType.TheVariants.{Cpu, Memory, Clint, Plic, Uart, Can, Finisher}
+use Rattle.repl_build.specs.declared.types.PeripheralType.TheVariants.{Cpu, Memory, Clint, Plic, Device}
 use Rattle.repl_build.specs.Places.{size_of}
 use Rattle.repl_build.specs.Types.{is_type}
 
@@ -14,9 +15,7 @@ most_of Cpu = most_processors
 most_of Memory = most_memories
 most_of Clint = 1
 most_of Plic = 1
-most_of Uart = most_uarts
-most_of Can = most_cans
-most_of Finisher = most_finishers
+most_of (Device kind) = (row_of kind).most
 
 abbrev pub count_of : List Peripheral → PeripheralType → ℕ
 count_of peripherals type_ = count_by (λ p. is_type type_ p.kind) peripherals

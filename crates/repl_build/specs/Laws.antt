@@ -1,7 +1,6 @@
 -- Words in which the laws of plans are said: what the entries with types tell, and what a plan has.
 use Rattle.std.specs.Prelude.{ℕ, List, [], ◌∷◌, Option, None, Some, slice_get, if◌then◌else◌}
 use Rattle.dev_core.specs.declared.kind.Kind.{Kind}
-use Rattle.dev_core.specs.declared.kind.Kind.TheVariants as device
 use Rattle.repl_read.specs.declared.entry.Entry.{Entry}
 use Rattle.repl_read.specs.declared.entry.Head.{Head}
 use Rattle.repl_read.specs.declared.entry.Head.TheVariants.{Using, Typed, Update}
@@ -15,7 +14,7 @@ use Rattle.sys_bus.specs.declared.region.RegionKind.{RegionKind}
 use Rattle.sys_bus.specs.declared.region.RegionKind.TheVariants as part
 use Rattle.repl_build.specs.declared.merge.PlacedItem.{PlacedItem}
 use Rattle.repl_build.specs.declared.types.PeripheralType.{PeripheralType}
-use Rattle.repl_build.specs.declared.types.PeripheralType.TheVariants.{Cpu, Memory, Clint, Plic, Uart, Can, Finisher}
+use Rattle.repl_build.specs.declared.types.PeripheralType.TheVariants.{Cpu, Memory, Clint, Plic, Device}
 use Rattle.repl_build.specs.Merge.{merged_items}
 use Rattle.repl_build.specs.Places.{usual_size}
 use Rattle.repl_build.specs.Types.{is_type, type_of}
@@ -66,9 +65,7 @@ part_of named = part_by named.what
 
 -- the type of what a name stands for, where these are the kinds of the devices
 abbrev pub type_by : Option Kind → Option PeripheralType
-type_by (Some device.Uart) = Some Uart
-type_by (Some device.Can) = Some Can
-type_by (Some device.Finisher) = Some Finisher
+type_by (Some kind) = Some (Device kind)
 type_by None = None
 
 abbrev pub type_in : List Kind → NamedWhat → Option PeripheralType

@@ -4,13 +4,13 @@ use Rattle.std.specs.Prelude.{List, Option, Some, None, if◌then◌else◌, cod
 use Rattle.std.specs.List.{list_any}
 use Rattle.repl_read.specs.declared.entry.Place.{Place}
 use Rattle.repl_read.specs.declared.entry.Place.TheVariants.{Absent, Bus, Address, Range}
-use Rattle.dev_core.specs.declared.kind.Kind.TheVariants as device
+use Rattle.dev_core.specs.Kind.{least_size_of, row_of}
 use Rattle.page_ram.specs.Access.{page_size}
-use Rattle.sys_bus.specs.Limits.{region_unit, least_clint, least_plic, least_device_size}
+use Rattle.sys_bus.specs.Limits.{region_unit, least_clint, least_plic}
 use Rattle.repl_build.specs.declared.merge.Peripheral.{Peripheral}
 use Rattle.repl_build.specs.declared.merge.PlacedItem.{PlacedItem}
 use Rattle.repl_build.specs.declared.types.PeripheralType.{PeripheralType}
-use Rattle.repl_build.specs.declared.types.PeripheralType.TheVariants.{Cpu, Memory, Clint, Plic, Uart, Can, Finisher}
+use Rattle.repl_build.specs.declared.types.PeripheralType.TheVariants.{Cpu, Memory, Clint, Plic, Device}
 use Rattle.repl_build.specs.Attributes.{has_attribute, number_of, is_set}
 
 -- a processor is registered without an address, and all else with one
@@ -32,18 +32,17 @@ has_required (Some Cpu) at items = has_attribute (codes "cpuType") items
 has_required (Some Memory) at items = has_range at || has_attribute (codes "size") items
 has_required (Some Clint) at items = has_attribute (codes "frequency") items
 has_required (Some Plic) at items = has_attribute (codes "numberOfSources") items
-has_required (Some Uart) at items = true
-has_required (Some Can) at items = true
-has_required (Some Finisher) at items = true
+has_required (Some (Device kind)) at items = true
 has_required None at items = true
 
 -- test 5: a required attribute or registration is absent, or a processor has an address, or another type has none
 abbrev pub is_lacking : Peripheral → Bool
 is_lacking p = not (is_registered p.kind p.at && has_required p.kind p.at p.items)
 
--- the registers of a UART lie 4 bytes apart where `wideRegisters` says so, and those of all else 1
+-- the registers of a device that may be wide lie 4 bytes apart where `wideRegisters` says so, and those of all else 1
 abbrev pub step_of : Option PeripheralType → List PlacedItem → ℕ
-step_of (Some Uart) items = if is_set (codes "wideRegisters") items then 4 else 1
+step_of (Some (Device kind)) items =
+    if (row_of kind).may_be_wide && is_set (codes "wideRegisters") items then 4 else 1
 step_of _ items = 1
 
 -- the fewest bytes
@@ -52,9 +51,7 @@ least_of (Some Cpu) step = 0
 least_of (Some Memory) step = page_size
 least_of (Some Clint) step = least_clint
 least_of (Some Plic) step = least_plic
-least_of (Some Uart) step = least_device_size device.Uart step
-least_of (Some Can) step = least_device_size device.Can step
-least_of (Some Finisher) step = least_device_size device.Finisher step
+least_of (Some (Device kind)) step = least_size_of kind step
 least_of None step = 0
 
 -- a memory has whole pages, and all else whole words
@@ -79,9 +76,7 @@ usual_size (Some Cpu) items = 0
 usual_size (Some Memory) items = number_of (codes "size") 0 items
 usual_size (Some Clint) items = 0x1_0000
 usual_size (Some Plic) items = 0x400_0000
-usual_size (Some Uart) items = 0x100
-usual_size (Some Can) items = 0x100
-usual_size (Some Finisher) items = 0x1000
+usual_size (Some (Device kind)) items = (row_of kind).usual_size
 usual_size None items = 0
 
 abbrev pub size_at : ℕ → Place → ℕ

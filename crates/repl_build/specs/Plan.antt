@@ -4,7 +4,6 @@ use Rattle.std.specs.Prelude.{codes, map, filter, false}
 use Rattle.std.specs.List.{filter_map, sum_by}
 use Rattle.std.specs.Option.{option_map}
 use Rattle.dev_core.specs.declared.kind.Kind.{Kind}
-use Rattle.dev_core.specs.declared.kind.Kind.TheVariants as device
 use Rattle.repl_read.specs.declared.entry.Entry.{Entry}
 use Rattle.repl_read.specs.declared.fault.PlatCause.TheVariants.{Count}
 use Rattle.repl_read.specs.declared.fault.PlatFault.{PlatFault}
@@ -59,9 +58,7 @@ abbrev pub memories_of : List Peripheral → List ℕ
 memories_of all = map size_of (filter (λ p. is_type kind.Memory p.kind) all)
 
 abbrev pub kind_by : Option PeripheralType → Option Kind
-kind_by (Some kind.Uart) = Some device.Uart
-kind_by (Some kind.Can) = Some device.Can
-kind_by (Some kind.Finisher) = Some device.Finisher
+kind_by (Some (kind.Device device)) = Some device
 kind_by _ = None
 
 abbrev pub kinds_of : List Peripheral → List Kind

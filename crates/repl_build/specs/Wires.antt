@@ -1,7 +1,8 @@
 -- The wires: interrupt lines, connected one by one with pins of the processors or sources of the PLIC.
-use Rattle.std.specs.Prelude.{ℕ, ◌+◌, ◌-◌, ◌==◌, nat_le, Bool, true, ◌||◌, if◌then◌else◌, List, []}
+use Rattle.std.specs.Prelude.{ℕ, ◌+◌, ◌-◌, ◌==◌, nat_le, Bool, true, false, ◌&&◌, if◌then◌else◌, List, []}
 use Rattle.std.specs.Prelude.{◌∷◌, ◌++◌, Option, Some, None, Result, Ok, Err}
 use Rattle.std.specs.List.{list_all, flat_map, range_with_len}
+use Rattle.dev_core.specs.Kind.{row_of}
 use Rattle.repl_read.specs.declared.entry.Ends.{Ends}
 use Rattle.repl_read.specs.declared.entry.Ends.TheVariants.{Absent, Irq, Spans}
 use Rattle.repl_read.specs.declared.entry.ItemWhat.{ItemWhat}
@@ -25,7 +26,6 @@ use Rattle.repl_build.specs.declared.types.PeripheralType.TheVariants as kind
 use Rattle.repl_build.specs.Counts.{count_of}
 use Rattle.repl_build.specs.First.{◌>>=◌}
 use Rattle.repl_build.specs.Processors.{hart_of}
-use Rattle.repl_build.specs.Types.{is_type}
 
 abbrev pub numbers_of : Span → List ℕ
 numbers_of span = range_with_len span.first (span.last + 1 - span.first)
@@ -40,13 +40,13 @@ ends_of Absent = Some (0 ∷ [])
 ends_of Irq = Some (0 ∷ [])
 ends_of (Spans spans) = if list_all is_low spans then Some (flat_map numbers_of spans) else None
 
--- the line of this number: the CLINT has 0 (software) and 1 (timer), the PLIC its contexts, a UART and a CAN controller
--- 0, and nothing else has one
+-- the line of this number: the CLINT has 0 (software) and 1 (timer), the PLIC its contexts, a device of a kind with a
+-- line 0, and nothing else has one
 abbrev pub line_of : Option PlicSize → Option PeripheralType → ℕ → ℕ → Option WireFrom
 line_of plic (Some kind.Clint) dev line = if line == 0 then Some Soft else if line == 1 then Some Timer else None
 line_of plic (Some kind.Plic) dev line = if is_context plic line then Some (Context line) else None
-line_of plic (Some kind.Uart) dev line = if line == 0 then Some (Dev dev) else None
-line_of plic (Some kind.Can) dev line = if line == 0 then Some (Dev dev) else None
+line_of plic (Some (kind.Device device)) dev line =
+    if (row_of device).has_line && (line == 0) then Some (Dev dev) else None
 line_of plic _ dev line = None
 
 -- the pin of the processor of this number, or else a source of the PLIC
@@ -81,9 +81,14 @@ abbrev pub wired_ends : (ℕ → ℕ → Option Wire) → Option (List ℕ) → 
 wired_ends wire (Some lines) (Some pins) = wired wire lines pins
 wired_ends wire _ _ = None
 
--- `IRQ` is the one line of a UART or a CAN controller
+-- devices of a type have a line of their own
+abbrev pub has_line : Option PeripheralType → Bool
+has_line (Some (kind.Device device)) = (row_of device).has_line
+has_line _ = false
+
+-- `IRQ` is the one line of a device
 abbrev pub has_ends : Option PeripheralType → Ends → Bool
-has_ends type_ Irq = is_type kind.Uart type_ || is_type kind.Can type_
+has_ends type_ Irq = has_line type_
 has_ends type_ _ = true
 
 abbrev pub wires_between : Option PlicSize → ℕ → Option PeripheralType → ℕ → Option ℕ → Ends → Ends →

@@ -8,6 +8,7 @@ use crate::counts::count_of;
 use crate::merge::{Peripheral, PlacedItem};
 use crate::names::has_key;
 use crate::types::PeripheralType;
+use dev_core::Kind;
 use lab_num::MOST_SPEED;
 use page_ram::PAGE_SIZE;
 use repl_read::{ItemWhat, Place, Value};
@@ -88,12 +89,13 @@ fn plic_sort(key: &str) -> Option<Sort>
     }
 }
 
-fn uart_sort(key: &str) -> Option<Sort>
-    ensures { result ≡ attribute.uart_sort key.now }
+fn device_sort(kind: Kind, key: &str) -> Option<Sort>
+    ensures { result ≡ attribute.device_sort kind key.now }
 {
-    match key {
-        "wideRegisters" => Some(Sort::Flag),
-        _ => None,
+    if kind.may_be_wide() && key == "wideRegisters" {
+        Some(Sort::Flag)
+    } else {
+        None
     }
 }
 
@@ -106,8 +108,8 @@ fn sort_of(kind: Option<PeripheralType>, key: &str) -> Option<Sort>
         Some(PeripheralType::Memory) => memory_sort(key),
         Some(PeripheralType::Clint) => clint_sort(key),
         Some(PeripheralType::Plic) => plic_sort(key),
-        Some(PeripheralType::Uart) => uart_sort(key),
-        Some(PeripheralType::Can | PeripheralType::Finisher) | None => None,
+        Some(PeripheralType::Device(kind)) => device_sort(kind, key),
+        None => None,
     }
 }
 

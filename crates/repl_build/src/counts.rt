@@ -9,7 +9,7 @@ use crate::merge::Peripheral;
 use crate::places::size_of;
 use crate::types::{PeripheralType, is_type};
 use rv_hart::MOST_HARTS;
-use sys_bus::{MOST_CANS, MOST_FINISHERS, MOST_MEMORIES, MOST_MEMORY, MOST_UARTS};
+use sys_bus::{MOST_MEMORIES, MOST_MEMORY};
 
 fn most_of(kind: PeripheralType) -> usize
     ensures { result ≡ counts_spec.most_of kind }
@@ -19,9 +19,7 @@ fn most_of(kind: PeripheralType) -> usize
         PeripheralType::Memory => MOST_MEMORIES,
         PeripheralType::Clint => 1,
         PeripheralType::Plic => 1,
-        PeripheralType::Uart => MOST_UARTS,
-        PeripheralType::Can => MOST_CANS,
-        PeripheralType::Finisher => MOST_FINISHERS,
+        PeripheralType::Device(kind) => kind.most(),
     }
 }
 

@@ -18,8 +18,6 @@ ghost use Rattle.repl_build.specs.Plan.{built};
 ghost use Rattle.repl_build.specs.Questions.{IsFirstBroken, is_kept, questions};
 ghost use Rattle.repl_build.specs.Updates.{IsWrittenIn, KeepNames, is_updated};
 
-use sys_bus::an_address_lies_in_one_region;
-
 /// In entries as a platform text gives them each name that is given a type has its form.
 pub fn entries_of_a_text_are_named()
     ensures { (entries : List Entry) → IsTrue (list_all is_entry entries) → IsTrue (are_named entries) }
@@ -41,7 +39,7 @@ pub fn an_address_has_one_part()
         slice_get plan.regions i ≡ Some one → HasByte one at →
         slice_get plan.regions j ≡ Some other → HasByte other at → i ≡ j }
 {
-    an_address_lies_in_one_region();
+    sys_bus::laws::an_address_lies_in_one_region();
 }
 
 /// The names of a plan are those of the entries with types, in the order of the text, and each stands

@@ -8,17 +8,29 @@ use crate::merge::Peripheral;
 use crate::types::PeripheralType;
 use sys_bus::{NamedWhat, RegionKind};
 
+fn is_device(kind: Option<PeripheralType>) -> bool
+    ensures { result ≡ numbers_spec.is_device kind }
+{
+    match kind {
+        Some(PeripheralType::Device(_)) => true,
+        _ => false,
+    }
+}
+
+/// How many devices there are.
+fn devices_of(all: &[Peripheral]) -> usize
+    ensures { result ≡ numbers_spec.devices_of all.now }
+{
+    all.iter().filter(|p| is_device(p.kind)).count()
+}
+
 /// The number of the device at `i`, if a device is there: how many are before it.
 pub(crate) fn device_number(all: &[Peripheral], i: usize) -> u8
     requires few { numbers_spec.devices_of all.now < 256 }
     requires inside { i ≤ length all.now }
     ensures { result ≡ numbers_spec.devices_of (take i all.now) }
 {
-    let before = &all[..i];
-    let uarts = count_of(before, PeripheralType::Uart);
-    let cans = count_of(before, PeripheralType::Can);
-    let finishers = count_of(before, PeripheralType::Finisher);
-    (uarts + cans + finishers) as u8
+    devices_of(&all[..i]) as u8
 }
 
 /// The number of the memory at `i`, if a memory is there: how many are before it.
@@ -45,9 +57,7 @@ pub(crate) fn what_of(
         PeripheralType::Memory => RegionKind::Ram(memory_number(all, i)),
         PeripheralType::Clint => RegionKind::Clint,
         PeripheralType::Plic => RegionKind::Plic,
-        PeripheralType::Uart | PeripheralType::Can | PeripheralType::Finisher => {
-            RegionKind::Dev(device_number(all, i))
-        }
+        PeripheralType::Device(_) => RegionKind::Dev(device_number(all, i)),
     };
     Some(NamedWhat::Part(part))
 }

@@ -6,10 +6,9 @@ ghost use Rattle.repl_build.specs.Places as place;
 use crate::attributes::{has_attribute, is_set, number_of};
 use crate::merge::{Peripheral, PlacedItem};
 use crate::types::PeripheralType;
-use dev_core::Kind;
 use page_ram::PAGE_SIZE;
 use repl_read::Place;
-use sys_bus::{LEAST_CLINT, LEAST_PLIC, REGION_UNIT, least_device_size};
+use sys_bus::{LEAST_CLINT, LEAST_PLIC, REGION_UNIT};
 
 fn is_registered(kind: Option<PeripheralType>, at: Place) -> bool
     ensures { result ≡ place.is_registered kind at }
@@ -39,7 +38,7 @@ fn has_required(kind: Option<PeripheralType>, at: Place, items: &[PlacedItem]) -
         Some(PeripheralType::Memory) => has_range(at) || has_attribute("size", items),
         Some(PeripheralType::Clint) => has_attribute("frequency", items),
         Some(PeripheralType::Plic) => has_attribute("numberOfSources", items),
-        Some(PeripheralType::Uart | PeripheralType::Can | PeripheralType::Finisher) | None => true,
+        Some(PeripheralType::Device(_)) | None => true,
     }
 }
 
@@ -56,7 +55,9 @@ pub(crate) fn step_of(kind: Option<PeripheralType>, items: &[PlacedItem]) -> u8
     ensures { result ≡ place.step_of kind items.now }
 {
     match kind {
-        Some(PeripheralType::Uart) => { if is_set("wideRegisters", items) { 4 } else { 1 } }
+        Some(PeripheralType::Device(kind)) if kind.may_be_wide() => {
+            if is_set("wideRegisters", items) { 4 } else { 1 }
+        }
         _ => 1,
     }
 }
@@ -69,9 +70,7 @@ fn least_of(kind: Option<PeripheralType>, step: u8) -> u32
         Some(PeripheralType::Memory) => PAGE_SIZE,
         Some(PeripheralType::Clint) => LEAST_CLINT,
         Some(PeripheralType::Plic) => LEAST_PLIC,
-        Some(PeripheralType::Uart) => least_device_size(Kind::Uart, step),
-        Some(PeripheralType::Can) => least_device_size(Kind::Can, step),
-        Some(PeripheralType::Finisher) => least_device_size(Kind::Finisher, step),
+        Some(PeripheralType::Device(kind)) => kind.least_size(step),
         Some(PeripheralType::Cpu) | None => 0,
     }
 }
@@ -112,8 +111,7 @@ fn usual_size(kind: Option<PeripheralType>, items: &[PlacedItem]) -> u32
         Some(PeripheralType::Memory) => number_of("size", 0, items),
         Some(PeripheralType::Clint) => 0x1_0000,
         Some(PeripheralType::Plic) => 0x400_0000,
-        Some(PeripheralType::Uart | PeripheralType::Can) => 0x100,
-        Some(PeripheralType::Finisher) => 0x1000,
+        Some(PeripheralType::Device(kind)) => kind.usual_size(),
         Some(PeripheralType::Cpu) | None => 0,
     }
 }

@@ -83,9 +83,7 @@ fn kind_by(kind: Option<PeripheralType>) -> Option<Kind>
     ensures { result ≡ plan_spec.kind_by kind }
 {
     match kind {
-        Some(PeripheralType::Uart) => Some(Kind::Uart),
-        Some(PeripheralType::Can) => Some(Kind::Can),
-        Some(PeripheralType::Finisher) => Some(Kind::Finisher),
+        Some(PeripheralType::Device(kind)) => Some(kind),
         _ => None,
     }
 }

@@ -2,6 +2,8 @@
 ghost use Rattle.std.specs.Prelude.{◌≡◌, Some};
 ghost use Rattle.repl_build.specs.Types as types_spec;
 
+use dev_core::Kind;
+
 /// A type of peripheral that a board may have.
 #[derive(Clone, Copy)]
 pub(crate) enum PeripheralType {
@@ -9,9 +11,7 @@ pub(crate) enum PeripheralType {
     Memory,
     Clint,
     Plic,
-    Uart,
-    Can,
-    Finisher,
+    Device(Kind),
 }
 
 /// The type of this name.
@@ -23,26 +23,21 @@ pub(crate) fn type_of(name: &str) -> Option<PeripheralType>
         "Memory.MappedMemory" => Some(PeripheralType::Memory),
         "IRQControllers.CoreLevelInterruptor" => Some(PeripheralType::Clint),
         "IRQControllers.PlatformLevelInterruptController" => Some(PeripheralType::Plic),
-        "UART.NS16550" => Some(PeripheralType::Uart),
-        "CAN.SJA1000" => Some(PeripheralType::Can),
-        "Miscellaneous.SiFiveTest" => Some(PeripheralType::Finisher),
-        _ => None,
+        _ => Kind::called(name).map(PeripheralType::Device),
     }
 }
 
 fn is_same(kind: PeripheralType, other: PeripheralType) -> bool
     ensures { result ≡ types_spec.is_type kind (Some other) }
 {
-    matches!(
-        (kind, other),
-        (PeripheralType::Cpu, PeripheralType::Cpu)
-            | (PeripheralType::Memory, PeripheralType::Memory)
-            | (PeripheralType::Clint, PeripheralType::Clint)
-            | (PeripheralType::Plic, PeripheralType::Plic)
-            | (PeripheralType::Uart, PeripheralType::Uart)
-            | (PeripheralType::Can, PeripheralType::Can)
-            | (PeripheralType::Finisher, PeripheralType::Finisher)
-    )
+    match (kind, other) {
+        (PeripheralType::Cpu, PeripheralType::Cpu) => true,
+        (PeripheralType::Memory, PeripheralType::Memory) => true,
+        (PeripheralType::Clint, PeripheralType::Clint) => true,
+        (PeripheralType::Plic, PeripheralType::Plic) => true,
+        (PeripheralType::Device(a), PeripheralType::Device(b)) => a.is(b),
+        _ => false,
+    }
 }
 
 /// Whether a peripheral's type is this one.

@@ -10,7 +10,7 @@ use crate::counts::count_of;
 use crate::merge::{Peripheral, PlacedItem};
 use crate::numbers::device_number;
 use crate::processors::hart_of;
-use crate::types::{PeripheralType, is_type};
+use crate::types::PeripheralType;
 use lab_num::Rows;
 use repl_read::{Ends, ItemWhat, PlatCause, PlatFault, Span};
 use std::alloc::Global;
@@ -81,7 +81,7 @@ fn line_of(
         (Some(PeripheralType::Clint), 0) => Some(WireFrom::Soft),
         (Some(PeripheralType::Clint), 1) => Some(WireFrom::Timer),
         (Some(PeripheralType::Plic), _) if is_context(plic, line) => Some(WireFrom::Context(line)),
-        (Some(PeripheralType::Uart | PeripheralType::Can), 0) => Some(WireFrom::Dev(dev)),
+        (Some(PeripheralType::Device(kind)), 0) if kind.has_line() => Some(WireFrom::Dev(dev)),
         _ => None,
     }
 }
@@ -147,12 +147,22 @@ fn wired(
     Ok(Some(Rows::of(wires)))
 }
 
-/// Whether a device may have such an end: `IRQ` is the one line of a UART or a CAN controller.
+/// Whether devices of a type have a line of their own.
+fn has_line(kind: Option<PeripheralType>) -> bool
+    ensures { result ≡ wires_spec.has_line kind }
+{
+    match kind {
+        Some(PeripheralType::Device(kind)) => kind.has_line(),
+        _ => false,
+    }
+}
+
+/// Whether a peripheral may have such an end: `IRQ` is the one line of a device.
 fn has_ends(kind: Option<PeripheralType>, ends: &Ends) -> bool
     ensures { result ≡ wires_spec.has_ends kind ends.now }
 {
     match ends {
-        Ends::Irq => is_type(PeripheralType::Uart, kind) || is_type(PeripheralType::Can, kind),
+        Ends::Irq => has_line(kind),
         _ => true,
     }
 }

@@ -1,7 +1,7 @@
 -- What the read of a file says of what it is.
 use Rattle.std.proofs.Common.{◌≡◌, ◌∷◌, ℕ, List, [], ap}
 use Rattle.lab_io.specs.Known.{grown}
-use Rattle.lab_io.specs.Asked.{Log}
+use Rattle.lab_io.specs.Asked.{AskedNames}
 use Rattle.lab_io.proofs.Asking.{asks_all}
 use Rattle.repl_files.specs.declared.fault.FileCause.{FileCause}
 use Rattle.repl_files.specs.declared.fault.LoadFault.{LoadFault}
@@ -21,7 +21,7 @@ told_faulty content name line cause Unread is so = absurd so
 told_faulty content name line cause Memory is so = tt
 
 -- a file was read, and is what was told of it
-pub opened_content : (content : Content) (name : List ℕ) (opened : Opened) (log log' : Log) →
+pub opened_content : (content : Content) (name : List ℕ) (opened : Opened) (log log' : AskedNames) →
     log' ≡ grown log (name ∷ []) → IsContent content name opened → IsOpened content name opened log log'
 opened_content content name (opened_by.Entries entries) log log' asked is = (is, asked)
 opened_content content name opened_by.TooLarge log log' asked is = absurd is

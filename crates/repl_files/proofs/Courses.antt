@@ -5,7 +5,7 @@ use Rattle.repl_read.specs.declared.entry.Entry.{Entry}
 use Rattle.repl_files.specs.declared.fault.LoadFault.{LoadFault}
 use Rattle.repl_files.specs.declared.fault.LoadFault.TheVariants.{At, TooLarge, Unread, Memory}
 use Rattle.repl_files.specs.declared.load.Loaded.{Loaded}
-use Rattle.lab_io.specs.Asked.{Log}
+use Rattle.lab_io.specs.Asked.{AskedNames}
 use Rattle.repl_files.specs.Loaded.{IsStopped}
 use Rattle.repl_files.specs.Loading.{Gives, Loading, Outcome, Joined, Refused, Oversized, Absent, go_on, one, in_order}
 use Rattle.repl_files.specs.Inner.Course.{Adds, IsCourse}
@@ -22,7 +22,8 @@ rest_names names Absent rest = ([], sym (append-nil names))
 
 -- a part was joined, and then the rest went by its course
 pub course_after :
-    (first rest : Loading) (result : Result (Unit {0}) LoadFault) (old mid new : Loaded) (log between log' : Log) →
+    (first rest : Loading) (result : Result (Unit {0}) LoadFault) (old mid new : Loaded)
+    (log between log' : AskedNames) →
     Adds first old mid log between → IsCourse rest result mid new between log' →
     IsCourse (go_on first.names first.outcome rest) result old new log log'
 course_after first rest (Ok done) old mid new log between log' adds course = record {
@@ -42,7 +43,7 @@ course_after first rest (Err Memory) old mid new log between log' adds course =
     rw adds.outcome (some_behind first.names rest.names log between log' adds.asked course)
 
 -- a part was stopped or cut short, and with it the whole
-stopped_in : (first rest : Loading) (fault : LoadFault) (log log' : Log) →
+stopped_in : (first rest : Loading) (fault : LoadFault) (log log' : AskedNames) →
     IsStopped first fault log log' → IsStopped (go_on first.names first.outcome rest) fault log log'
 stopped_in first rest (At fault) log log' stop = rw stop.0 (refl, stop.1)
 stopped_in first rest TooLarge log log' stop = rw stop.0 (refl, stop.1)
@@ -54,7 +55,8 @@ stopped_in first rest Memory log log' stop =
 module _ (gives : Gives) (file : List ℕ) (number : ℕ) where
   -- an entry was joined, and then those after it went by their course
   course_more : (entry : Entry) (entries : List Entry) (result : Result (Unit {0}) LoadFault) (old mid new : Loaded)
-      (log between log' : Log) → Adds (one gives file number (length old.names.items) entry) old mid log between →
+      (log between log' : AskedNames) → Adds (one gives file number (length old.names.items) entry)
+      old mid log between →
       IsCourse (in_order gives file number (length mid.names.items) entries) result mid new between log' →
       IsCourse (in_order gives file number (length old.names.items) (entry ∷ entries)) result old new log log'
   course_more entry entries result old mid new log between log' adds course =
@@ -65,7 +67,7 @@ module _ (gives : Gives) (file : List ℕ) (number : ℕ) where
 
   -- the first of these entries was joined, and then those after it went by their course
   pub course_step : (all : List Entry) (entry : Entry) (entries : List Entry) (result : Result (Unit {0}) LoadFault)
-      (old mid new : Loaded) (log between log' : Log) → all ≡ entry ∷ entries →
+      (old mid new : Loaded) (log between log' : AskedNames) → all ≡ entry ∷ entries →
       Adds (one gives file number (length old.names.items) entry) old mid log between →
       IsCourse (in_order gives file number (length mid.names.items) entries) result mid new between log' →
       IsCourse (in_order gives file number (length old.names.items) all) result old new log log'
@@ -74,13 +76,13 @@ module _ (gives : Gives) (file : List ℕ) (number : ℕ) where
 
   -- the first of these entries was stopped or cut short
   pub stopped_step : (count : ℕ) (all : List Entry) (entry : Entry) (entries : List Entry) (fault : LoadFault)
-      (log log' : Log) → all ≡ entry ∷ entries → IsStopped (one gives file number count entry) fault log log' →
+      (log log' : AskedNames) → all ≡ entry ∷ entries → IsStopped (one gives file number count entry) fault log log' →
       IsStopped (in_order gives file number count all) fault log log'
   stopped_step count all entry entries fault log log' is stop =
       rw is (stopped_in (one gives file number count entry) _ fault log log' stop)
 
   -- no entry is left
-  pub course_end : (all : List Entry) (old : Loaded) (log : Log) → all ≡ [] →
+  pub course_end : (all : List Entry) (old : Loaded) (log : AskedNames) → all ≡ [] →
       Adds (in_order gives file number (length old.names.items) all) old old log log
   course_end all old log is = rw is (record {
     added = [];

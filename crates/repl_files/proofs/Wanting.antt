@@ -3,14 +3,15 @@ use Rattle.std.proofs.Common.{◌≡◌, Result, Err}
 use Rattle.repl_files.specs.declared.fault.FileFault.{FileFault}
 use Rattle.repl_files.specs.declared.fault.LoadFault.{LoadFault}
 use Rattle.repl_files.specs.declared.fault.LoadFault.TheVariants.{Unread, Memory}
-use Rattle.lab_io.specs.Asked.{Log}
+use Rattle.lab_io.specs.Asked.{AskedNames}
 use Rattle.repl_files.specs.Loaded.{IsStopped}
 use Rattle.repl_files.specs.Loading.{Loading}
 use Rattle.repl_files.specs.Inner.Course.{IsFaultAt}
 use Rattle.lab_io.proofs.Asking.{asks_none}
 
 -- memory ran out before a name was asked for
-pub wanting : (loading : Loading) (fault : LoadFault) (log : Log) → fault ≡ Memory → IsStopped loading fault log log
+pub wanting : (loading : Loading) (fault : LoadFault) (log : AskedNames) → fault ≡ Memory →
+    IsStopped loading fault log log
 wanting loading fault log is = rw is (asks_none loading.names log)
 
 unread_not : (fault : FileFault) (told : LoadFault) → IsFaultAt fault told → told ≡ Unread → ⊥

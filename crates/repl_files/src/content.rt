@@ -9,7 +9,7 @@ ghost use Rattle.repl_files.specs.Inner.Course.{AreRead, IsContent, IsOpened};
 
 use crate::fault::{FileCause, LoadFault, fault_at};
 use lab_io::{Files, TextFault, read_text};
-use repl_read::{Entry, PlatFault, platform_laws, read_platform};
+use repl_read::{Entry, PlatFault, laws, read_platform};
 use std::alloc::Global;
 
 /// How a file was opened.
@@ -48,7 +48,7 @@ fn entries_of(alloc: Global, name: &str, text: &str) -> Opened
     ensures content { IsContent (text_content (platform text.now)) name.now result }
     ensures read { AreRead result }
 {
-    platform_laws();
+    laws::platform_laws();
     match read_platform(alloc, text) {
         Ok(entries) => Opened::Entries(entries),
         Err(PlatFault::At { line, cause, .. }) => {

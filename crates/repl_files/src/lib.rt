@@ -3,9 +3,8 @@
 
 mod content;
 mod fault;
-mod laws;
+pub mod laws;
 mod load;
 
 pub use fault::{FileCause, FileFault, LoadFault};
-pub use laws::loading_laws;
 pub use load::{Loaded, load_platform};

@@ -12,7 +12,7 @@ use Rattle.std.proofs.lemmas.Str.{IsCharBoundary-before_ascii, IsCharBoundary-af
 use Rattle.repl_read.specs.Comments.{quote}
 use Rattle.repl_read.specs.Tokens.{is_blank, is_word_byte, glue, dash, tokens_of}
 use Rattle.repl_read.specs.Inner.Steps.{is_no_quote, IsStep}
-use Rattle.repl_read.specs.declared.tokens.Step.{Step}
+use Rattle.repl_read.specs.declared.tokens.TokenStep.{TokenStep}
 use Rattle.repl_read.specs.declared.tokens.Token.{Token}
 use Rattle.repl_read.specs.declared.tokens.Token.TheVariants.{Word, Quoted, Minus, Arrow, Other}
 
@@ -207,14 +207,14 @@ quote_end line start text inside string = IsCharBoundary-after_ascii line start 
 
 -- a token more, and what stands after it
 pub token_more :
-    (line : List ℕ) (start : ℕ) (step : Step) (token : Token) (made whole : List Token) → IsStep line start step →
+    (line : List ℕ) (start : ℕ) (step : TokenStep) (token : Token) (made whole : List Token) → IsStep line start step →
     step.token ≡ Some token → made ++ tokens_of false (drop start line) ≡ whole →
     (made ++ token ∷ []) ++ tokens_of false (drop step.end line) ≡ whole
 token_more line start step token made whole here is read =
     append_assoc made (token ∷ []) (tokens_of false (drop step.end line)) ∙ (rw (here.token, is) at read)
 
 pub no_token_more :
-    (line : List ℕ) (start : ℕ) (step : Step) (made whole : List Token) → IsStep line start step →
+    (line : List ℕ) (start : ℕ) (step : TokenStep) (made whole : List Token) → IsStep line start step →
     step.token ≡ None → made ++ tokens_of false (drop start line) ≡ whole →
     made ++ tokens_of false (drop step.end line) ≡ whole
 no_token_more line start step made whole here is read = rw (here.token, is) at read

@@ -8,7 +8,7 @@ mod fault;
 mod features;
 mod heads;
 mod items;
-mod laws;
+pub mod laws;
 mod lines;
 mod numbers;
 mod platform;
@@ -16,5 +16,4 @@ mod tokens;
 
 pub use entry::{Ends, Entry, Head, Item, ItemWhat, Place, Span, Value};
 pub use fault::{PlatCause, PlatFault};
-pub use laws::{comment_laws, platform_laws};
 pub use platform::read_platform;

@@ -80,7 +80,7 @@ fn sign_of(b: u8) -> Token
 
 /// One token, or none for a blank, and the place in the line where it ends.
 #[derive(Drop)]
-struct Step {
+struct TokenStep {
     token: Option<Token>,
     end: usize,
 }
@@ -114,21 +114,21 @@ fn string_length(bytes: &[u8]) -> usize
 }
 
 /// The word whose first byte stands at `start`.
-fn word_at(alloc: Global, line: &str, start: usize) -> Result<Step, NoMemory>
+fn word_at(alloc: Global, line: &str, start: usize) -> Result<TokenStep, NoMemory>
     requires inside { start < length line.now }
     requires word { is_word_byte (slice_index line.now start) ≡ true }
     ensures { IfOk result (IsStep line.now start) }
 {
     let end = start + word_length(&line.as_bytes()[start..]);
     let word = Text::of(alloc, &line[start..end])?;
-    Ok(Step {
+    Ok(TokenStep {
         token: Some(Token::Word(word)),
         end,
     })
 }
 
 /// The string whose first quote stands at `start`.
-fn string_at(alloc: Global, line: &str, start: usize) -> Result<Step, NoMemory>
+fn string_at(alloc: Global, line: &str, start: usize) -> Result<TokenStep, NoMemory>
     requires inside { start < length line.now }
     requires string { slice_index line.now start ≡ quote }
     ensures { IfOk result (IsStep line.now start) }
@@ -136,32 +136,32 @@ fn string_at(alloc: Global, line: &str, start: usize) -> Result<Step, NoMemory>
     let first = start + 1;
     let last = first + string_length(&line.as_bytes()[first..]);
     if last == line.len() {
-        return Ok(Step {
+        return Ok(TokenStep {
             token: Some(Token::Other),
             end: last,
         });
     }
     let words = Text::of(alloc, &line[first..last])?;
-    Ok(Step {
+    Ok(TokenStep {
         token: Some(Token::Quoted(words)),
         end: last + 1,
     })
 }
 
 /// The dash at `start`, or the arrow that it begins.
-fn dash_at(line: &[u8], start: usize) -> Step
+fn dash_at(line: &[u8], start: usize) -> TokenStep
     requires inside { start < length line.now }
     requires dash { slice_index line.now start ≡ byte "-" }
     ensures { IsStep line.now start result }
 {
     let end = start + 1;
     if first_byte(&line[end..]) == b'>' {
-        Step {
+        TokenStep {
             token: Some(Token::Arrow),
             end: end + 1,
         }
     } else {
-        Step {
+        TokenStep {
             token: Some(Token::Minus),
             end,
         }
@@ -169,7 +169,7 @@ fn dash_at(line: &[u8], start: usize) -> Step
 }
 
 /// The blank or the sign at `start`.
-fn sign_at(line: &[u8], start: usize) -> Step
+fn sign_at(line: &[u8], start: usize) -> TokenStep
     requires inside { start < length line.now }
     requires no_word { is_word_byte (slice_index line.now start) ≡ false }
     requires no_string { slice_index line.now start ≢ quote }
@@ -177,11 +177,11 @@ fn sign_at(line: &[u8], start: usize) -> Step
 {
     match line[start] {
         b'-' => dash_at(line, start),
-        b if is_blank(b) => Step {
+        b if is_blank(b) => TokenStep {
             token: None,
             end: start + 1,
         },
-        b => Step {
+        b => TokenStep {
             token: Some(sign_of(b)),
             end: start + 1,
         },
@@ -189,7 +189,7 @@ fn sign_at(line: &[u8], start: usize) -> Step
 }
 
 /// What stands at `start`.
-fn token_at(alloc: Global, line: &str, start: usize) -> Result<Step, NoMemory>
+fn token_at(alloc: Global, line: &str, start: usize) -> Result<TokenStep, NoMemory>
     requires { start < length line.now }
     ensures { IfOk result (IsStep line.now start) }
 {
@@ -208,7 +208,7 @@ fn tokens_of(alloc: Global, line: &str) -> Result<Rows<Token>, NoMemory>
     let mut made = Vec::new(alloc);
     let mut start = 0;
     'tokens: while start < line.len() {
-        let Step { token, end } = token_at(alloc, line, start)?;
+        let TokenStep { token, end } = token_at(alloc, line, start)?;
         if let Some(token) = token {
             made.push(token)?;
         }

@@ -3,7 +3,7 @@
 
 mod arguments;
 mod command;
-mod laws;
+pub mod laws;
 mod one_text;
 mod read;
 mod sorts;
@@ -11,7 +11,6 @@ mod variable;
 mod words;
 
 pub use command::{Command, LineCause, LineFault};
-pub use laws::{line_laws, prefix_law};
 pub use read::read_line;
 pub use sorts::{cut, path_of, text_of};
 pub use variable::{is_variable_name, variable_of};

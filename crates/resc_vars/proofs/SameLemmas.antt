@@ -7,7 +7,7 @@ use Rattle.lab_num.specs.Depth.{depth_limit}
 use Rattle.resc_vars.specs.declared.cause.ScriptCause.{ScriptCause}
 use Rattle.resc_vars.specs.declared.cause.ScriptCause.TheVariants.{Depth}
 use Rattle.resc_vars.specs.declared.item.Item.{Item}
-use Rattle.resc_vars.specs.declared.item.Source.{Source}
+use Rattle.resc_vars.specs.declared.item.SourceLines.{SourceLines}
 use Rattle.resc_vars.specs.Behind.{longer, main_file, opened_behind, with_behind}
 use Rattle.resc_vars.specs.Bodies.{enter, opened, run_of, source_of}
 use Rattle.resc_vars.specs.Coming.{AreNextAlike, AreOpenedAlike, MeansSame, Thing, bodies, coming, texts, thing}
@@ -68,12 +68,13 @@ tails : {A : Type 0} (x y : A) (xs ys : List A) → x ∷ xs ≡ y ∷ ys → xs
 tails x y xs ys is = cc
 
 -- what is found among macros that mean the same
-abbrev FoundAlike : Option Source → Option Source → Type 0
+abbrev FoundAlike : Option SourceLines → Option SourceLines → Type 0
 FoundAlike None None = Unit {0}
 FoundAlike (Some source) (Some other) = texts other.lines ≡ texts source.lines
 FoundAlike _ _ = ⊥
 
-found_by : (b : Bool) (source other : Source) (found others : Option Source) → texts other.lines ≡ texts source.lines →
+found_by : (b : Bool) (source other : SourceLines) (found others : Option SourceLines) →
+    texts other.lines ≡ texts source.lines →
     FoundAlike found others → FoundAlike (if b then Some source else found) (if b then Some other else others)
 found_by true source other found others same are = same
 found_by false source other found others same are = are
@@ -96,7 +97,7 @@ found_alike name [] (other ∷ others) same = absurd (cc)
 found_alike name (macro ∷ macros) [] same = absurd (cc)
 
 -- a body is opened within the others
-abbrev within : State → Source → State
+abbrev within : State → SourceLines → State
 within flow source = record flow { current = opened source; outer = flow.current ∷ flow.outer }
 
 abbrev done : State → Result State ScriptCause
@@ -106,7 +107,7 @@ done_one : (one two : State) → done one ≡ done two → one ≡ two
 done_one one two is = cc
 
 -- what is to come with the body of a source opened
-coming_by : (room : Bool) (flow after : State) (source : Source) →
+coming_by : (room : Bool) (flow after : State) (source : SourceLines) →
     (if room then done (within flow source) else Err Depth) ≡ done after →
     coming after ≡ map thing (items 0 source.lines) ++ coming flow
 coming_by true flow after source is = ap coming (sym (done_one (within flow source) after is))
@@ -118,7 +119,7 @@ coming_opened flow after file text is =
     coming_by (nat_lt (length flow.outer) depth_limit) flow after (source_of file text) is
 
 module _ (flow other : State) (means : MeansSame flow other) where
-  enter_by : (b c : Bool) (source source' : Source) → texts source'.lines ≡ texts source.lines →
+  enter_by : (b c : Bool) (source source' : SourceLines) → texts source'.lines ≡ texts source.lines →
       AreOpenedAlike (if b then Ok (within flow source) else Err Depth)
       (if c then Ok (within other source') else Err Depth)
   enter_by true true source source' same =
@@ -133,7 +134,7 @@ module _ (flow other : State) (means : MeansSame flow other) where
   enter_by false c source source' same = inl refl
   enter_by true false source source' same = inr (inl refl)
 
-  enter_alike : (source source' : Source) → texts source'.lines ≡ texts source.lines →
+  enter_alike : (source source' : SourceLines) → texts source'.lines ≡ texts source.lines →
       AreOpenedAlike (enter flow source) (enter other source')
   enter_alike source source' same =
       enter_by (nat_lt (length flow.outer) depth_limit) (nat_lt (length other.outer) depth_limit) source source' same
@@ -142,7 +143,7 @@ module _ (flow other : State) (means : MeansSame flow other) where
       AreOpenedAlike (enter flow (source_of file text)) (enter other (source_of file text))
   file_alike file text = enter_alike (source_of file text) (source_of file text) refl
 
-  macro_by : (name : List ℕ) (one two : Option Source) → lookup (pointwise nat_eq name) flow.kept.macros ≡ one →
+  macro_by : (name : List ℕ) (one two : Option SourceLines) → lookup (pointwise nat_eq name) flow.kept.macros ≡ one →
       lookup (pointwise nat_eq name) other.kept.macros ≡ two → FoundAlike one two →
       AreOpenedAlike (run_of flow name) (run_of other name)
   macro_by name None None one two found = rw (one, two) (inr (inr refl))
@@ -161,18 +162,18 @@ pub longer_length : (more : List Item) (outer : List Open) → length (longer mo
 longer_length more [] = refl
 longer_length more (body ∷ outer) = ap suc (longer_length more outer)
 
-behind_by : (more : List Item) (room : Bool) (flow : State) (source : Source) →
+behind_by : (more : List Item) (room : Bool) (flow : State) (source : SourceLines) →
     (if room then Ok (within (with_behind more flow) source) else Err Depth)
     ≡ opened_behind more (if room then Ok (within flow source) else Err Depth)
 behind_by more true flow source = refl
 behind_by more false flow source = refl
 
-pub enter_behind : (more : List Item) (flow : State) (source : Source) →
+pub enter_behind : (more : List Item) (flow : State) (source : SourceLines) →
     enter (with_behind more flow) source ≡ opened_behind more (enter flow source)
 enter_behind more flow source =
     rw (longer_length more flow.outer) (behind_by more (nat_lt (length flow.outer) depth_limit) flow source)
 
-run_by : (more : List Item) (flow : State) (name : List ℕ) (found : Option Source) →
+run_by : (more : List Item) (flow : State) (name : List ℕ) (found : Option SourceLines) →
     lookup (pointwise nat_eq name) flow.kept.macros ≡ found →
     run_of (with_behind more flow) name ≡ opened_behind more (run_of flow name)
 run_by more flow name None found = rw found refl
@@ -193,15 +194,15 @@ IfOpened (Err why) P = Unit {0}
 abbrev Within : State → State → Type 0
 Within flow after = (after.kept ≡ flow.kept) × (main_file after ≡ main_file flow)
 
-within_by : (room : Bool) (flow : State) (source : Source) →
+within_by : (room : Bool) (flow : State) (source : SourceLines) →
     IfOpened (if room then Ok (within flow source) else Err Depth) (Within flow)
 within_by true flow source = (refl, refl)
 within_by false flow source = tt
 
-enter_within : (flow : State) (source : Source) → IfOpened (enter flow source) (Within flow)
+enter_within : (flow : State) (source : SourceLines) → IfOpened (enter flow source) (Within flow)
 enter_within flow source = within_by (nat_lt (length flow.outer) depth_limit) flow source
 
-run_within_by : (flow : State) (name : List ℕ) (found : Option Source) →
+run_within_by : (flow : State) (name : List ℕ) (found : Option SourceLines) →
     lookup (pointwise nat_eq name) flow.kept.macros ≡ found → IfOpened (run_of flow name) (Within flow)
 run_within_by flow name None found = rw found tt
 run_within_by flow name (Some source) found = rw found (enter_within flow source)

@@ -6,7 +6,7 @@ use Rattle.std.specs.Cmp.Lexicographic.{pointwise}
 use Rattle.std.specs.Map.{lookup}
 use Rattle.std.specs.Str.Lines.{lines}
 use Rattle.lab_num.specs.Depth.{depth_limit}
-use Rattle.resc_vars.specs.declared.item.Source.{Source}
+use Rattle.resc_vars.specs.declared.item.SourceLines.{SourceLines}
 use Rattle.resc_vars.specs.declared.answer.FlowFault.{FlowFault}
 use Rattle.resc_vars.specs.declared.answer.FlowFault.TheVariants as fault
 use Rattle.resc_vars.specs.declared.cause.ScriptCause.{ScriptCause}
@@ -16,14 +16,14 @@ use Rattle.resc_vars.specs.Numbered.{numbered}
 use Rattle.resc_vars.specs.Script.{State, Open}
 
 -- a file with this text
-abbrev pub source_of : List ℕ → List ℕ → Source
+abbrev pub source_of : List ℕ → List ℕ → SourceLines
 source_of file text = record { file = file; lines = numbered 1 (lines text) }
 
-abbrev pub opened : Source → Open
+abbrev pub opened : SourceLines → Open
 opened source = record { file = source.file; items = items 0 source.lines }
 
 -- a script before its first line
-abbrev pub begun : Source → State
+abbrev pub begun : SourceLines → State
 begun source =
     record {
       ended = false;
@@ -33,7 +33,7 @@ begun source =
     }
 
 -- a body opened within the others, unless there are too many
-abbrev pub enter : State → Source → Result State ScriptCause
+abbrev pub enter : State → SourceLines → Result State ScriptCause
 enter s source =
     if nat_lt (length s.outer) depth_limit
     then Ok (record s { current = opened source; outer = s.current ∷ s.outer })
@@ -43,7 +43,7 @@ enter s source =
 abbrev pub run_of : State → List ℕ → Result State ScriptCause
 run_of s name = enter_macro (lookup (pointwise nat_eq name) s.kept.macros)
   where
-    enter_macro : Option Source → Result State ScriptCause
+    enter_macro : Option SourceLines → Result State ScriptCause
     enter_macro None = Err Variable
     enter_macro (Some source) = enter s source
 

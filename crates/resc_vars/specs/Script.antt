@@ -10,7 +10,7 @@ use Rattle.resc_vars.specs.declared.form.Assignment.{Assignment}
 use Rattle.resc_vars.specs.declared.item.Item.{Item}
 use Rattle.resc_vars.specs.declared.item.Item.TheVariants.{Command, Malformed, Assign, Define, Unclosed}
 use Rattle.resc_vars.specs.declared.item.Line.{Line}
-use Rattle.resc_vars.specs.declared.item.Source.{Source}
+use Rattle.resc_vars.specs.declared.item.SourceLines.{SourceLines}
 use Rattle.resc_vars.specs.declared.answer.Next.{Next}
 use Rattle.resc_vars.specs.declared.answer.Next.TheVariants as next
 use Rattle.resc_vars.specs.Variables.{Variables, stands_for, command_text, with_value}
@@ -22,7 +22,7 @@ pub record Open : Type 0 where
 
 -- the macros by name, each with its file and the lines of its body
 abbrev pub Macros : Type 0
-Macros = List (List ℕ × Source)
+Macros = List (List ℕ × SourceLines)
 
 -- what commands are taken with: the variables, the macros, and how many commands were taken
 pub record Kept : Type 0 where

@@ -3,7 +3,7 @@ ghost use Rattle.std.specs.Prelude.{◌≡◌, ◌∷◌, ◌++◌, [], IfOk, On
 ghost use Rattle.resc_vars.specs.Inner.Steps.{Takes};
 ghost use Rattle.resc_vars.specs.Bodies.{opened};
 
-use crate::item::{Item, Source};
+use crate::item::{Item, SourceLines};
 use lab_num::{NoMemory, Text};
 use std::alloc::Global;
 use std::marker::Model;
@@ -11,7 +11,7 @@ use std::marker::Model;
 /// The lines of a body that are not taken yet.
 #[derive(Drop)]
 pub(crate) struct Body {
-    source: Source,
+    source: SourceLines,
 }
 
 impl Model for Body {
@@ -24,7 +24,7 @@ impl Model for Body {
 }
 
 impl Body {
-    pub(crate) fn of(source: Source) -> Body
+    pub(crate) fn of(source: SourceLines) -> Body
         ensures { result ≡ opened source }
     {
         Body { source }
@@ -45,7 +45,11 @@ impl Body {
     }
 
     /// Opens the body of a file, and puts the one that was open on those around it.
-    pub(crate) fn enter(&mut self, outer: &mut Vec<Body>, source: Source) -> Result<(), NoMemory>
+    pub(crate) fn enter(
+        &mut self,
+        outer: &mut Vec<Body>,
+        source: SourceLines,
+    ) -> Result<(), NoMemory>
         ensures body { OnOk result (self.new ≡ opened source) }
         ensures outer { OnOk result (outer.new.items ≡ outer.old.items ++ self.old ∷ []) }
         ensures refused { OnErr result ((self.new ≡ self.old) × (outer.new.items ≡ outer.old.items)) }

@@ -15,8 +15,8 @@ use crate::answer::{FlowFault, Next};
 use crate::body::Body;
 use crate::cause::ScriptCause;
 use crate::form::Assignment;
-use crate::item::{Item, Line, Source, copy_source, source_of};
-use crate::lines::Lines;
+use crate::item::{Item, Line, SourceLines, copy_source, source_of};
+use crate::lines::TextLines;
 use crate::variables::{Variables, command_text, put, set_variable};
 use indexmap::IndexMap;
 use lab_num::{DEPTH_LIMIT, NoMemory, Text};
@@ -33,7 +33,7 @@ pub struct Flow {
     body: Body,
     outer: Vec<Body>,
     variables: Variables,
-    macros: IndexMap<Text, Source>,
+    macros: IndexMap<Text, SourceLines>,
     taken: u32,
     ended: bool,
 }
@@ -256,7 +256,7 @@ impl Flow {
     }
 
     /// Keeps a macro.
-    fn keep(&mut self, name: Text, lines: Lines) -> Result<(), NoMemory>
+    fn keep(&mut self, name: Text, lines: TextLines) -> Result<(), NoMemory>
         requires { self.old.kept.taken < command_limit }
         ensures ok { OnOk result (self.new ≡ record self.old {
           kept = defined self.old.kept self.old.current.file name lines;
@@ -264,12 +264,12 @@ impl Flow {
         ensures bodies { IsSameBodies self.old self.new }
     {
         let file = Text::of(self.alloc, self.body.file().as_str())?;
-        put(&mut self.macros, name, Source { file, lines })?;
+        put(&mut self.macros, name, SourceLines { file, lines })?;
         self.taken += 1;
         Ok(())
     }
 
-    fn define(&mut self, line: u32, name: Text, lines: Lines) -> Option<Next>
+    fn define(&mut self, line: u32, name: Text, lines: TextLines) -> Option<Next>
         requires { self.old.ended ≡ false }
         ensures acts { Acts result self.new (next_with (items.Define line name lines) self.old) }
         ensures bodies { IsSameBodies self.old self.new }
@@ -284,7 +284,7 @@ impl Flow {
     }
 
     /// Opens the body of a file within the others.
-    fn enter(&mut self, source: Source) -> Result<(), FlowFault>
+    fn enter(&mut self, source: SourceLines) -> Result<(), FlowFault>
         requires { self.old.ended ≡ false }
         ensures leaves { Leaves result self.old self.new (enter self.old source) }
         ensures goes_on { self.new.ended ≡ false }
@@ -329,7 +329,7 @@ impl Flow {
     }
 
     /// A copy of the macro of this name, if there is one.
-    fn macro_of(&self, name: &str) -> Result<Option<Source>, NoMemory>
+    fn macro_of(&self, name: &str) -> Result<Option<SourceLines>, NoMemory>
         ensures { IfOk result (λ found. found ≡ lookup (pointwise nat_eq name.now) self.now.kept.macros) }
     {
         match self.macros.get(name) {

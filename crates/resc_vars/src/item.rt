@@ -7,7 +7,7 @@ ghost use Rattle.resc_vars.specs.Inner.Rest.{Begins, EndsWith, First, IsItem, Is
 ghost use Rattle.resc_vars.specs.Numbered.{numbers_fit};
 
 use crate::form::{Assignment, Form, form_of, is_fence, is_passed};
-use crate::lines::{Lines, Rest, lines_at};
+use crate::lines::{Rest, TextLines, lines_at};
 use lab_num::{NoMemory, Text};
 use std::alloc::Global;
 use std::rc::Rc;
@@ -21,9 +21,9 @@ pub(crate) struct Line {
 
 /// The lines of a file, or those of a macro's body.
 #[derive(Drop)]
-pub(crate) struct Source {
+pub(crate) struct SourceLines {
     pub(crate) file: Text,
-    pub(crate) lines: Lines,
+    pub(crate) lines: TextLines,
 }
 
 /// What a line asks for, or a macro's lines together. Each counts as a command.
@@ -33,8 +33,15 @@ pub(crate) enum Item {
     Command(Line),
     /// A `macro` line or an assignment that is not of its form, which stays as it is.
     Malformed(Line),
-    Assign { line: u32, assignment: Assignment },
-    Define { line: u32, name: Text, lines: Lines },
+    Assign {
+        line: u32,
+        assignment: Assignment,
+    },
+    Define {
+        line: u32,
+        name: Text,
+        lines: TextLines,
+    },
     /// A macro at this line whose body does not end.
     Unclosed(u32),
 }
@@ -50,23 +57,23 @@ fn line_of(alloc: Global, number: u32, text: &str) -> Result<Line, NoMemory>
 }
 
 /// The same lines of the same file.
-pub(crate) fn copy_source(alloc: Global, source: &Source) -> Result<Source, NoMemory>
+pub(crate) fn copy_source(alloc: Global, source: &SourceLines) -> Result<SourceLines, NoMemory>
     ensures { IfOk result (λ made. made ≡ source.now) }
 {
-    Ok(Source {
+    Ok(SourceLines {
         file: Text::of(alloc, source.file.as_str())?,
         lines: source.lines.share()?,
     })
 }
 
 /// A file of this name with this text.
-pub(crate) fn source_of(alloc: Global, name: &str, text: String) -> Result<Source, NoMemory>
+pub(crate) fn source_of(alloc: Global, name: &str, text: String) -> Result<SourceLines, NoMemory>
     requires { length (string_bytes text) ≤ 2 ^ 24 }
     ensures { IfOk result (λ made. made ≡ source_of name.now (string_bytes text)) }
 {
     let file = Text::of(alloc, name)?;
-    let lines = Lines::of(alloc, text)?;
-    Ok(Source { file, lines })
+    let lines = TextLines::of(alloc, text)?;
+    Ok(SourceLines { file, lines })
 }
 
 /// How many lines stand before the first `"""`, and what follows that.

@@ -17,7 +17,7 @@ use std::rc::Rc;
 
 /// Where lines begin in their text.
 #[derive(Clone, Copy)]
-struct Place {
+struct Extent {
     at: usize,
     /// The number of the first.
     number: u32,
@@ -27,12 +27,12 @@ struct Place {
 
 /// Lines that stand together in a text. Those of a macro share the text with their file.
 #[derive(Drop)]
-pub(crate) struct Lines {
+pub(crate) struct TextLines {
     text: Rc<String>,
-    place: Place,
+    extent: Extent,
 }
 
-impl Model for Lines {
+impl Model for TextLines {
     ghost use Rattle.std.specs.Prelude.{List, drop};
     ghost use Rattle.std.specs.Str.{IsCharBoundary};
     ghost use Rattle.std.specs.String.{string_bytes};
@@ -41,10 +41,10 @@ impl Model for Lines {
 
     ghost Value = { List Line };
 
-    ghost view = { λ l. shown l.place.most l.place.number (drop l.place.at (string_bytes l.text.value)) };
+    ghost view = { λ l. shown l.extent.most l.extent.number (drop l.extent.at (string_bytes l.text.value)) };
 
-    ghost invariant = { λ l. IsCharBoundary (string_bytes l.text.value) l.place.at
-        × numbers_fit l.place.number (drop l.place.at (string_bytes l.text.value)) };
+    ghost invariant = { λ l. IsCharBoundary (string_bytes l.text.value) l.extent.at
+        × numbers_fit l.extent.number (drop l.extent.at (string_bytes l.text.value)) };
 }
 
 /// The first of some lines, and those that follow.
@@ -108,14 +108,14 @@ impl<'a> Rest<'a> {
 }
 
 /// The place where the end of a text begins.
-fn place_of(text: &str, end: &str, number: u32, most: usize) -> Place
+fn extent_of(text: &str, end: &str, number: u32, most: usize) -> Extent
     requires { EndsWith text.now end.now }
     ensures boundary { IsCharBoundary text.now result.at }
     ensures end { drop result.at text.now ≡ end.now }
     ensures number { result.number ≡ number }
     ensures most { result.most ≡ most }
 {
-    Place {
+    Extent {
         at: text.len() - end.len(),
         number,
         most,
@@ -128,28 +128,28 @@ pub(crate) fn lines_at(
     end: &str,
     number: u32,
     most: usize,
-) -> Result<Lines, NoMemory>
+) -> Result<TextLines, NoMemory>
     requires ends { EndsWith (string_bytes text.now.value) end.now }
     requires fit { numbers_fit number end.now }
     ensures { IfOk result (λ made. made ≡ shown most number end.now) }
 {
-    let place = place_of(text.as_str(), end, number, most);
-    Ok(Lines {
+    let extent = extent_of(text.as_str(), end, number, most);
+    Ok(TextLines {
         text: text.clone()?,
-        place,
+        extent,
     })
 }
 
-impl Lines {
+impl TextLines {
     /// All lines of a text.
-    pub(crate) fn of(alloc: Global, text: String) -> Result<Lines, NoMemory>
+    pub(crate) fn of(alloc: Global, text: String) -> Result<TextLines, NoMemory>
         requires { length (string_bytes text) ≤ 2 ^ 24 }
         ensures { IfOk result (λ made. made ≡ numbered 1 (lines (string_bytes text))) }
     {
         let most = text.as_str().len() + 1;
-        Ok(Lines {
+        Ok(TextLines {
             text: Rc::new(alloc, text)?,
-            place: Place {
+            extent: Extent {
                 at: 0,
                 number: 1,
                 most,
@@ -158,12 +158,12 @@ impl Lines {
     }
 
     /// The same lines.
-    pub(crate) fn share(&self) -> Result<Lines, NoMemory>
+    pub(crate) fn share(&self) -> Result<TextLines, NoMemory>
         ensures { IfOk result (λ made. made ≡ self.now) }
     {
-        Ok(Lines {
+        Ok(TextLines {
             text: self.text.clone()?,
-            place: self.place,
+            extent: self.extent,
         })
     }
 
@@ -171,12 +171,12 @@ impl Lines {
     pub(crate) fn take_item(&mut self, alloc: Global) -> Result<Option<Item>, NoMemory>
         ensures { IfOk result (λ item. Takes (items 0 self.old) item (items 0 self.new)) }
     {
-        let Place { at, number, most } = self.place;
+        let Extent { at, number, most } = self.extent;
         let text = &self.text.as_str()[at..];
         match first_item(alloc, &self.text, Rest { text, number, most })? {
             None => Ok(None),
             Some((item, rest)) => {
-                self.place = place_of(self.text.as_str(), rest.text, rest.number, rest.most);
+                self.extent = extent_of(self.text.as_str(), rest.text, rest.number, rest.most);
                 Ok(Some(item))
             }
         }

@@ -7,7 +7,7 @@ ghost use Rattle.rv_decode.specs.Means.{means, IsInstr, IsValid};
 ghost use Rattle.rv_asm.specs.Encoded.{encoded, placed_s, placed_b, placed_j};
 ghost use Rattle.rv_asm.specs.Inner.Fields.{Fit, with_op};
 
-use rv_decode::{Format, Instr, Op, bits, decode, rows_differ, rows_match_fields, valid_fits};
+use rv_decode::{Format, Instr, Op, bits, decode, laws};
 
 /// Bits 6 to 0 of the instruction's words.
 #[tactic(auto, unfolding(rv_decode::specs::Table::row_of))]
@@ -204,9 +204,9 @@ pub fn encode(i: &Instr) -> u32
     ensures meaning { means result ≡ Some i.now }
     ensures inverse { (word : ℕ) → word < 2 ^ 32 → means word ≡ Some i.now → result ≡ word }
 {
-    rows_differ();
-    rows_match_fields();
-    valid_fits();
+    laws::rows_differ();
+    laws::rows_match_fields();
+    laws::valid_fits();
     word_with(i)
 }
 
@@ -214,8 +214,8 @@ pub fn encode(i: &Instr) -> u32
 pub fn is_valid(i: &Instr) -> bool
     ensures { IsTrue result ↔ IsValid i.now }
 {
-    rows_differ();
-    rows_match_fields();
-    valid_fits();
+    laws::rows_differ();
+    laws::rows_match_fields();
+    laws::valid_fits();
     fits(i) && is_meant(word_with(i), i)
 }

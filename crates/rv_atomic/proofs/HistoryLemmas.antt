@@ -17,14 +17,14 @@ use Rattle.rv_atomic.specs.AtomicEffect.{leaves, address, access_fault_cause, at
 use Rattle.rv_atomic.specs.SharedEffect.{shared_effect}
 use Rattle.rv_atomic.specs.Span.{span_of}
 use Rattle.rv_atomic.specs.Watch.{has_reserved, reserved}
-use Rattle.rv_atomic.specs.History.{Step, NoOtherStores, Reserves, ReservedSince, Succeeds, step_effect, stores_in}
+use Rattle.rv_atomic.specs.History.{HartStep, NoOtherStores, Reserves, ReservedSince, Succeeds, step_effect, stores_in}
 use Rattle.rv_atomic.specs.History.{watch_after}
 use Rattle.rv_atomic.proofs.OtherHarts.{shared-other}
 use Rattle.rv_atomic.proofs.OwnSteps.{shared-own}
 
 -- a reservation after a step was there, and no other hart has stored in its word, or the step has made it
 one_step :
-    (step : Step) (hart word : ℕ) (watch : List (Option ℕ)) →
+    (step : HartStep) (hart word : ℕ) (watch : List (Option ℕ)) →
     reserved (step_effect watch step).watch hart ≡ Some word →
     ((reserved watch hart ≡ Some word) ×
     (step.number ≢ hart → stores_in word (step_effect watch step).effect ≡ false)) ⊎
@@ -58,7 +58,7 @@ one_step step hart word watch is =
     ]
 
 history :
-    (steps : List Step) (hart word : ℕ) (watch : List (Option ℕ)) →
+    (steps : List HartStep) (hart word : ℕ) (watch : List (Option ℕ)) →
     reserved (watch_after watch steps) hart ≡ Some word →
     ((reserved watch hart ≡ Some word) × NoOtherStores hart word watch steps) ⊎ ReservedSince hart word watch steps
 history [] hart word watch is = inl (is, tt)
@@ -138,7 +138,7 @@ shared-reserved what memory core number watch a lines does is =
     rw does (atomic-reserved memory core number watch a is)
 
 pub needs_reservation :
-    (watch : List (Option ℕ)) (steps : List Step) (sc : Step) (a : Atomic) →
+    (watch : List (Option ℕ)) (steps : List HartStep) (sc : HartStep) (a : Atomic) →
     reserved watch sc.number ≡ None → Succeeds a (watch_after watch steps) sc →
     ReservedSince sc.number (address sc.core a) watch steps
 needs_reservation watch steps sc a none succeeds =

@@ -20,7 +20,7 @@ use Rattle.rv_atomic.specs.AtomicEffect.{SharedEffect, leaves, address, access_f
 use Rattle.rv_atomic.specs.SharedEffect.{after_effect, shared_effect}
 use Rattle.rv_atomic.specs.Span.{span_of}
 use Rattle.rv_atomic.specs.Watch.{after_store, has_reserved, kept, reaches, reserved}
-use Rattle.rv_atomic.specs.History.{Step, NoOtherStores, NoOwnPairs, pairs, pairs_by, step_effect, stores_in}
+use Rattle.rv_atomic.specs.History.{HartStep, NoOtherStores, NoOwnPairs, pairs, pairs_by, step_effect, stores_in}
 use Rattle.rv_atomic.specs.History.{watch_after}
 use Rattle.rv_atomic.proofs.OtherHarts.{put-other}
 use Rattle.rv_atomic.proofs.OwnSteps.{inside}
@@ -154,7 +154,7 @@ shared-single (shared.Atomic a) memory core hart word watch lines single is =
     atomic-own memory core hart word watch a single is
 
 stays_by_one :
-    (step : Step) (hart word : ℕ) (watch : List (Option ℕ)) → reserved watch hart ≡ Some word →
+    (step : HartStep) (hart word : ℕ) (watch : List (Option ℕ)) → reserved watch hart ≡ Some word →
     (step.number ≢ hart → stores_in word (step_effect watch step).effect ≡ false) →
     (step.number ≡ hart → pairs step.what ≡ false) → reserved (step_effect watch step).watch hart ≡ Some word
 stays_by_one step hart word watch is beside single =
@@ -168,7 +168,7 @@ stays_by_one step hart word watch is beside single =
     ]
 
 pub stays :
-    (hart word : ℕ) (watch : List (Option ℕ)) (steps : List Step) →
+    (hart word : ℕ) (watch : List (Option ℕ)) (steps : List HartStep) →
     reserved watch hart ≡ Some word → NoOtherStores hart word watch steps → NoOwnPairs hart steps →
     reserved (watch_after watch steps) hart ≡ Some word
 stays hart word watch [] is beside single = is

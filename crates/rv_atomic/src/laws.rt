@@ -2,6 +2,8 @@
 ghost use Rattle.rv_atomic.specs.History.{ReservationsStay, SuccessNeedsReservation};
 ghost use Rattle.rv_atomic.specs.Laws.{PlainAlone};
 
+pub use crate::decoder::{atomic_rows_differ, atomic_words_mean_no_other};
+
 /// An SC that succeeds comes after an LR of its hart for the same word, and no other hart has stored
 /// in that word since.
 pub fn success_needs_reservation()

@@ -9,7 +9,7 @@ ghost use Rattle.rv_atomic.specs.Span.{span_of};
 ghost use Rattle.rv_atomic.specs.Inner.StoreWidth.{aligned_span, store_width};
 ghost use Rattle.rv_atomic.specs.Laws.{EndsNone};
 
-use rv_decode::{Instr, Op, bits, valid_fits};
+use rv_decode::{Instr, Op, bits, laws};
 use rv_exec::Fetched;
 use rv_hart::Hart;
 
@@ -71,7 +71,7 @@ pub fn span_stored(hart: &Hart, what: &Fetched) -> Option<Span>
     match what {
         Fetched::Fault(_) | Fetched::Bad(_) => None,
         Fetched::Good { instr, .. } => {
-            valid_fits();
+            laws::valid_fits();
             span_of_instr(hart, instr)
         }
     }

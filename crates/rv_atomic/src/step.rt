@@ -22,7 +22,7 @@ use crate::span::span_stored;
 use crate::watch::Watch;
 use lab_num::NoMemory;
 use rv_exec::{Bus, Fetched, perform};
-use rv_hart::{Hart, Lines, zero_register};
+use rv_hart::{Hart, Lines, laws};
 
 /// Whether a hart has reserved this word.
 fn has_reserved(watch: &Watch, number: u8, at: u32) -> bool
@@ -216,6 +216,6 @@ pub fn step_shared<B: Bus>(
         Shared::Plain(what) => step_plain(hart, number, watch, what, bus, lines)?,
         Shared::Atomic(a) => step_atomic(hart, number, watch, &a, bus)?,
     }
-    zero_register(hart);
+    laws::zero_register(hart);
     Ok(())
 }

@@ -4,8 +4,9 @@
 mod decoder;
 mod immediate;
 mod instruction;
+pub mod laws;
 mod opcodes;
 
-pub use decoder::{decode, offsets_are_even, rows_differ, rows_match_fields, valid_fits};
+pub use decoder::decode;
 pub use immediate::{bits, register, sign_extend};
 pub use instruction::{Format, Instr, Op};

@@ -18,8 +18,8 @@ use Rattle.rv_hart.specs.Trap.{enter, leave}
 use Rattle.rv_hart.specs.Csr.{csr_read, csr_written, counter_of}
 use Rattle.rv_exec.specs.declared.access.Shape.{Shape}
 use Rattle.rv_exec.specs.declared.access.Shape.TheVariants.{Unsigned, SignedByte, SignedHalf}
-use Rattle.rv_exec.specs.declared.csr.Change.{Change}
-use Rattle.rv_exec.specs.declared.csr.Change.TheVariants.{Write, Set, Clear}
+use Rattle.rv_exec.specs.declared.csr.CsrChange.{CsrChange}
+use Rattle.rv_exec.specs.declared.csr.CsrChange.TheVariants.{Write, Set, Clear}
 use Rattle.rv_exec.specs.declared.ending.Ending.TheVariants.{Retired}
 use Rattle.rv_exec.specs.declared.fetched.Fetched.TheVariants.{Good}
 use Rattle.rv_exec.specs.Word.{add}
@@ -78,7 +78,7 @@ unfolding csr_written
 same_written core number value other = grind (arith, common_steps)
 
 same_old :
-    (change : Change) (core : Core) (i : Instr) (lines : Lines) → i.imm ≢ MISA →
+    (change : CsrChange) (core : Core) (i : Instr) (lines : Lines) → i.imm ≢ MISA →
     old_value change (with_c core true) i lines ≡ old_value change (with_c core false) i lines
 same_old change core i lines other =
     elim (cases_Bool (reads change i)) [
@@ -87,7 +87,7 @@ same_old change core i lines other =
     ]
 
 same_after :
-    (change : Change) (value : ℕ) (core : Core) (i : Instr) → i.imm ≢ MEPC →
+    (change : CsrChange) (value : ℕ) (core : Core) (i : Instr) → i.imm ≢ MEPC →
     after_write change value (with_c core true) i
     ≡ option_map (λ after. with_c after true) (after_write change value (with_c core false) i)
 same_after change value core i other =
@@ -123,7 +123,7 @@ same_reading core word a b None each = refl
 same_reading core word a b (Some value) each = each value
 
 same_change :
-    (change : Change) (operand : ℕ) (core : Core) (i : Instr) (size word : ℕ) (lines : Lines) →
+    (change : CsrChange) (operand : ℕ) (core : Core) (i : Instr) (size word : ℕ) (lines : Lines) →
     i.imm ≢ MISA → i.imm ≢ MEPC →
     changes change operand (with_c core true) i size word lines
     ≡ outcome_with_c (changes change operand (with_c core false) i size word lines)

@@ -18,8 +18,8 @@ use Rattle.rv_hart.specs.Trap.{enter, leave}
 use Rattle.rv_hart.specs.Csr.{csr_written, counter_of}
 use Rattle.rv_exec.specs.declared.access.Shape.{Shape}
 use Rattle.rv_exec.specs.declared.access.Shape.TheVariants.{Unsigned, SignedByte, SignedHalf}
-use Rattle.rv_exec.specs.declared.csr.Change.{Change}
-use Rattle.rv_exec.specs.declared.csr.Change.TheVariants.{Write, Set, Clear}
+use Rattle.rv_exec.specs.declared.csr.CsrChange.{CsrChange}
+use Rattle.rv_exec.specs.declared.csr.CsrChange.TheVariants.{Write, Set, Clear}
 use Rattle.rv_exec.specs.declared.ending.Ending.{Ending}
 use Rattle.rv_exec.specs.declared.ending.Ending.TheVariants.{Retired, Trapped}
 use Rattle.rv_exec.specs.declared.fetched.Fetched.{Fetched}
@@ -138,7 +138,7 @@ read-keeps core cause word then_write None kept = traps-keeps core cause word
 read-keeps core cause word then_write (Some value) kept = kept value
 
 changes-keeps :
-    (change : Change) (operand : ℕ) (core : Core) (i : Instr) (size word : ℕ) (lines : Lines) →
+    (change : CsrChange) (operand : ℕ) (core : Core) (i : Instr) (size word : ℕ) (lines : Lines) →
     KeepsCounters core (changes change operand core i size word lines)
 changes-keeps change operand core i size word lines =
     read-keeps core _ word _ (old_value change core i lines)

@@ -19,8 +19,8 @@ use Rattle.rv_hart.specs.Core.{Core, reg, next, finish, jump}
 use Rattle.rv_hart.specs.Trap.{leave}
 use Rattle.rv_exec.specs.declared.access.Shape.{Shape}
 use Rattle.rv_exec.specs.declared.access.Shape.TheVariants.{Unsigned, SignedByte, SignedHalf}
-use Rattle.rv_exec.specs.declared.csr.Change.{Change}
-use Rattle.rv_exec.specs.declared.csr.Change.TheVariants.{Write, Set, Clear}
+use Rattle.rv_exec.specs.declared.csr.CsrChange.{CsrChange}
+use Rattle.rv_exec.specs.declared.csr.CsrChange.TheVariants.{Write, Set, Clear}
 use Rattle.rv_exec.specs.declared.fetched.Fetched.{Fetched}
 use Rattle.rv_exec.specs.declared.fetched.Fetched.TheVariants.{Fault, Bad, Good}
 use Rattle.rv_exec.specs.Word.{signed, add, sub, shift_left, shift_right, shift_right_signed, less, less_unsigned}
@@ -76,7 +76,7 @@ stores core i size width =
 
 -- an access of a CSR, or an exception where it is illegal, which changes nothing else (Unprivileged ISA 9.1, Privileged
 -- ISA 2.1)
-abbrev pub changes : Change → ℕ → Core → Instr → ℕ → ℕ → Lines → Outcome
+abbrev pub changes : CsrChange → ℕ → Core → Instr → ℕ → ℕ → Lines → Outcome
 changes change operand core i size word lines =
     unwrap_or (accessed change operand core i size lines) (traps core illegal_instruction word)
 

@@ -20,7 +20,7 @@ use rv_hart::{Counter, CsrFault, Exception, Hart, Lines, counter_of};
 
 /// What becomes of a CSR by an operand.
 #[derive(Clone, Copy, PartialEq, Eq, Debug)]
-pub enum Change {
+pub enum CsrChange {
     /// The operand is written.
     Write,
     /// The bits of the operand are set.
@@ -29,14 +29,14 @@ pub enum Change {
     Clear,
 }
 
-impl Change {
+impl CsrChange {
     /// Whether the instruction reads the CSR.
     fn reads(self, i: &Instr) -> bool
         ensures { result ≡ reads self i.now }
     {
         match self {
-            Change::Write => i.rd != 0,
-            Change::Set | Change::Clear => true,
+            CsrChange::Write => i.rd != 0,
+            CsrChange::Set | CsrChange::Clear => true,
         }
     }
 
@@ -45,8 +45,8 @@ impl Change {
         ensures { result ≡ writes self i.now }
     {
         match self {
-            Change::Write => true,
-            Change::Set | Change::Clear => i.rs1 != 0,
+            CsrChange::Write => true,
+            CsrChange::Set | CsrChange::Clear => i.rs1 != 0,
         }
     }
 
@@ -55,16 +55,16 @@ impl Change {
         ensures { result ≡ changed self old operand }
     {
         match self {
-            Change::Write => operand,
-            Change::Set => old | operand,
-            Change::Clear => old & !operand,
+            CsrChange::Write => operand,
+            CsrChange::Set => old | operand,
+            CsrChange::Clear => old & !operand,
         }
     }
 }
 
 /// Reads the CSR if the instruction does.
 #[inline(always)]
-fn read(hart: &Hart, change: Change, i: &Instr, lines: Lines) -> Result<u32, CsrFault>
+fn read(hart: &Hart, change: CsrChange, i: &Instr, lines: Lines) -> Result<u32, CsrFault>
     ensures { result ≡ ok_or (old_value change hart.now i.now lines) CsrFault.Illegal }
 {
     if change.reads(i) {
@@ -78,7 +78,7 @@ fn read(hart: &Hart, change: Change, i: &Instr, lines: Lines) -> Result<u32, Csr
 #[inline(always)]
 fn write(
     hart: &mut Hart,
-    change: Change,
+    change: CsrChange,
     value: u32,
     i: &Instr,
 ) -> Result<Option<Counter>, CsrFault>
@@ -99,7 +99,7 @@ fn write(
 #[inline(always)]
 fn access(
     hart: &mut Hart,
-    change: Change,
+    change: CsrChange,
     operand: u32,
     i: &Instr,
     size: u8,
@@ -122,7 +122,7 @@ fn access(
 #[inline(always)]
 pub fn change_csr(
     hart: &mut Hart,
-    change: Change,
+    change: CsrChange,
     operand: u32,
     i: &Instr,
     size: u8,

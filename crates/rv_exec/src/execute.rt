@@ -18,13 +18,13 @@ use crate::access::{Shape, load, store};
 use crate::alu::add;
 use crate::bus::Bus;
 use crate::condition::is_taken;
-use crate::csr::{Change, change_csr};
+use crate::csr::{CsrChange, change_csr};
 use crate::ending::{advance, branch, finish, jump, leave, trap, wait};
 use crate::fetched::{Fetched, find};
 use crate::operation::{on_immediate, on_registers};
 use lab_num::NoMemory;
-use rv_decode::{Instr, Op, offsets_are_even, valid_fits};
-use rv_hart::{Exception, Hart, Lines, zero_register};
+use rv_decode::{Instr, Op};
+use rv_hart::{Exception, Hart, Lines};
 
 /// Does an instruction. `NoMemory` comes only where the bus refuses its load or its store.
 #[tactic(auto, unfolding(crate::specs::Effect::effect_by))]
@@ -103,12 +103,28 @@ fn execute<B: Bus>(
         Op::Ecall => trap(hart, Exception::EnvironmentCall, 0),
         Op::Ebreak => trap(hart, Exception::Breakpoint, hart.pc()),
         // control and status registers
-        Op::Csrrw => change_csr(hart, Change::Write, a, i, size, word, lines),
-        Op::Csrrs => change_csr(hart, Change::Set, a, i, size, word, lines),
-        Op::Csrrc => change_csr(hart, Change::Clear, a, i, size, word, lines),
-        Op::Csrrwi => change_csr(hart, Change::Write, u32::from(i.rs1), i, size, word, lines),
-        Op::Csrrsi => change_csr(hart, Change::Set, u32::from(i.rs1), i, size, word, lines),
-        Op::Csrrci => change_csr(hart, Change::Clear, u32::from(i.rs1), i, size, word, lines),
+        Op::Csrrw => change_csr(hart, CsrChange::Write, a, i, size, word, lines),
+        Op::Csrrs => change_csr(hart, CsrChange::Set, a, i, size, word, lines),
+        Op::Csrrc => change_csr(hart, CsrChange::Clear, a, i, size, word, lines),
+        Op::Csrrwi => change_csr(
+            hart,
+            CsrChange::Write,
+            u32::from(i.rs1),
+            i,
+            size,
+            word,
+            lines,
+        ),
+        Op::Csrrsi => change_csr(hart, CsrChange::Set, u32::from(i.rs1), i, size, word, lines),
+        Op::Csrrci => change_csr(
+            hart,
+            CsrChange::Clear,
+            u32::from(i.rs1),
+            i,
+            size,
+            word,
+            lines,
+        ),
         // privileged
         Op::Mret => leave(hart),
         Op::Wfi => wait(hart, size),
@@ -136,8 +152,8 @@ fn execute_fetched<B: Bus>(
         Fetched::Fault(at) => trap(hart, Exception::InstructionAccessFault, at),
         Fetched::Bad(word) => trap(hart, Exception::IllegalInstruction, word),
         Fetched::Good { instr, size, word } => {
-            valid_fits();
-            offsets_are_even();
+            rv_decode::laws::valid_fits();
+            rv_decode::laws::offsets_are_even();
             return execute(hart, bus, &instr, size, word, lines);
         }
     }
@@ -175,7 +191,7 @@ pub fn perform<B: Bus>(
     ensures same { OnOk result (IsSameHart hart.old hart.new) }
 {
     execute_fetched(hart, what, bus, lines)?;
-    zero_register(hart);
+    rv_hart::laws::zero_register(hart);
     Ok(())
 }
 

@@ -9,10 +9,9 @@ mod csr;
 mod ending;
 mod execute;
 mod fetched;
-mod laws;
+pub mod laws;
 mod operation;
 
 pub use bus::{Bus, low_bytes};
 pub use execute::{perform, step};
 pub use fetched::Fetched;
-pub use laws::long_instructions_agree;

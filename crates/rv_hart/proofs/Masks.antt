@@ -54,11 +54,11 @@ eqb-set word n set =
 -- there is no interrupt to take exactly where MIE is 0 or none is both pending and enabled
 pub is_none-chosen :
     (core : Core) (mip : ℕ) → bit_and core.mie interrupt_bits ≡ core.mie →
-    is_none (chosen core mip) ≡ (not core.on || bit_and mip core.mie == 0)
+    is_none (chosen core mip) ≡ (not core.mstatus_mie || bit_and mip core.mie == 0)
 unfolding chosen most_urgent
 is_none-chosen core mip enables =
     let word = bit_and mip core.mie in
-    elim (cases_Bool core.on) [
+    elim (cases_Bool core.mstatus_mie) [
       | inr off ↦ rw off refl
       | inl on ↦ elim (cases_Bool (is_set word 11)) [
         | inl set ↦ rw (on, set) (sym (eqb-set word 11 set))

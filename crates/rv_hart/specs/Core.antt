@@ -6,13 +6,13 @@ use Rattle.rv_hart.specs.declared.letters.Letters.{Letters}
 use Rattle.rv_hart.specs.Cause.{interrupt_bits}
 
 -- the registers x0 to x31 and the pc (Unprivileged ISA 2.1), the CSRs of machine mode (Privileged ISA
--- 3.1), of mstatus the bits MIE (`on`) and MPIE (`before`), whether the hart waits or is halted, the letters of its
--- optional extensions and its number
+-- 3.1), of mstatus the bits MIE (`mstatus_mie`) and MPIE (`mstatus_mpie`), whether the hart waits or is halted, the
+-- letters of its optional extensions and its number
 pub record Core : Type 0 where
   pub x : List ℕ
   pub pc : ℕ
-  pub on : Bool
-  pub before : Bool
+  pub mstatus_mie : Bool
+  pub mstatus_mpie : Bool
   pub mie : ℕ
   pub mtvec : ℕ
   pub mscratch : ℕ
@@ -31,8 +31,8 @@ abbrev pub initial_with : Letters → ℕ → Core
 initial_with letters number = record {
   x = replicate 32 0;
   pc = 0;
-  on = false;
-  before = false;
+  mstatus_mie = false;
+  mstatus_mpie = false;
   mie = 0;
   mtvec = 0;
   mscratch = 0;

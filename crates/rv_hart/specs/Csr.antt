@@ -18,7 +18,7 @@ flag bit = if bit then 1 else 0
 
 -- mstatus: MIE at bit 3, MPIE at bit 7, and MPP, which is always machine mode, at bits 11 and 12 (Privileged ISA 3.1.6)
 abbrev pub status : Core → ℕ
-status core = flag core.on * 2 ^ 3 + flag core.before * 2 ^ 7 + 3 * 2 ^ 11
+status core = flag core.mstatus_mie * 2 ^ 3 + flag core.mstatus_mpie * 2 ^ 7 + 3 * 2 ^ 11
 
 -- misa: 32 bits wide, with the base instructions and the extension M, which are the letters I and M, and with the
 -- letters A and C that the hart has (Privileged ISA 3.1.1)
@@ -55,7 +55,8 @@ ignored core value = core
 abbrev pub rows : List Row
 rows =
     -- machine trap setup
-    read_write 0x300 "mstatus" (λ c l. status c) (λ c v. record c { on = is_set v 3; before = is_set v 7 }) ∷
+    read_write 0x300 "mstatus" (λ c l. status c)
+    (λ c v. record c { mstatus_mie = is_set v 3; mstatus_mpie = is_set v 7 }) ∷
     read_write 0x310 "mstatush" zero_word ignored ∷
     read_write 0x301 "misa" (λ c l. extensions c.letters) ignored ∷
     read_write 0x304 "mie" (λ c l. c.mie) (λ c v. record c { mie = bit_and v interrupt_bits }) ∷

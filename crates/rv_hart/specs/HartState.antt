@@ -7,8 +7,8 @@ abbrev pub core_of : HartState → Core
 core_of s = record {
   x = s.registers;
   pc = s.pc;
-  on = s.on;
-  before = s.before;
+  mstatus_mie = s.on;
+  mstatus_mpie = s.before;
   mie = s.mie;
   mtvec = s.mtvec;
   mscratch = s.mscratch;
@@ -28,8 +28,8 @@ abbrev pub state_of : Core → HartState
 state_of core = record {
   registers = core.x;
   pc = core.pc;
-  on = core.on;
-  before = core.before;
+  on = core.mstatus_mie;
+  before = core.mstatus_mpie;
   mie = core.mie;
   mtvec = core.mtvec;
   mscratch = core.mscratch;

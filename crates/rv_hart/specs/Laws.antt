@@ -13,7 +13,7 @@ ReturnsToPc = (core : Core) (cause value : ℕ) → (leave (enter core cause val
 
 -- a return after an entry gives MIE back
 abbrev pub ReturnsMie : Type 0
-ReturnsMie = (core : Core) (cause value : ℕ) → (leave (enter core cause value)).on ≡ core.on
+ReturnsMie = (core : Core) (cause value : ℕ) → (leave (enter core cause value)).mstatus_mie ≡ core.mstatus_mie
 
 -- a CSR that holds a word reads back what was written, under the mask of the bits that it holds
 abbrev pub ReadsBack : ℕ → ℕ → Type 0

@@ -29,8 +29,8 @@ enter core cause value =
       mepc = core.pc;
       mcause = cause;
       mtval = value;
-      before = core.on;
-      on = false;
+      mstatus_mpie = core.mstatus_mie;
+      mstatus_mie = false;
     }
 
 -- the entry of the interrupt n
@@ -39,7 +39,7 @@ interrupt core n = enter core (interrupt_cause n) 0
 
 -- the return from a trap, MRET (Privileged ISA 3.1.6.1, 3.3.2)
 unfoldable pub leave : Core → Core
-leave core = record core { pc = core.mepc; on = core.before; before = true }
+leave core = record core { pc = core.mepc; mstatus_mie = core.mstatus_mpie; mstatus_mpie = true }
 
 -- of the interrupts whose bits are set the most urgent: external, then software, then timer (Privileged ISA 3.1.9)
 unfoldable pub most_urgent : ℕ → Option ℕ
@@ -47,7 +47,7 @@ most_urgent ready = find (λ n. is_set ready n) (external_interrupt ∷ software
 
 -- the interrupt that is taken now: none where MIE is 0, and else the most urgent that is both pending and enabled
 unfoldable pub chosen : Core → ℕ → Option ℕ
-chosen core mip = if core.on then most_urgent (bit_and mip core.mie) else None
+chosen core mip = if core.mstatus_mie then most_urgent (bit_and mip core.mie) else None
 
 -- whether an interrupt is both pending and enabled, which ends a wait whatever MIE is (Privileged ISA 3.3.3)
 abbrev pub is_ready : Core → ℕ → Bool

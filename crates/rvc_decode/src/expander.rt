@@ -14,7 +14,7 @@ use crate::immediate::{
     immediate_lwsp, immediate_shift, immediate_small, immediate_swsp, immediate_word,
 };
 use crate::register::{rd, rd_short, rs2, rs2_short};
-use rv_decode::{Instr, Op, bits, rows_match_fields};
+use rv_decode::{Instr, Op, bits, laws};
 
 /// The link register.
 const LINK: u8 = 1;
@@ -266,7 +266,7 @@ pub fn expand(half: u16) -> Option<Instr>
     ensures valid { IfSome result IsValid }
     ensures long { field half 0 2 ≡ 3 → result ≡ None }
 {
-    rows_match_fields();
+    laws::rows_match_fields();
     by_quadrant(u32::from(half))
 }
 

@@ -4,6 +4,7 @@
 
 mod expander;
 mod immediate;
+pub mod laws;
 mod register;
 
-pub use expander::{expand, rows_differ};
+pub use expander::expand;

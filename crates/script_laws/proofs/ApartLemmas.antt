@@ -36,10 +36,10 @@ use Rattle.monitor.specs.Processor.{halted, halted_on, mips, mips_on, pc, pc_on}
 use Rattle.monitor.specs.Refusal.{◌>>=◌}
 use Rattle.monitor.specs.Runs.{run_for, start}
 use Rattle.monitor.specs.Selected.{Equipped, equipped}
-use Rattle.monitor.specs.State.{State, Place}
+use Rattle.monitor.specs.State.{State, LinePlace}
 
 -- a fault is the same, or it is told at the place of each line
-pub data AreTold (place at : Place) : ScriptFault → ScriptFault → Type 0 where
+pub data AreTold (place at : LinePlace) : ScriptFault → ScriptFault → Type 0 where
   alike : (fault : ScriptFault) → AreTold place at fault fault
   apiece : (why : Cause) → AreTold place at (told_at place why) (told_at at why)
 
@@ -61,7 +61,7 @@ module _ (AreFlows : script.State → script.State → Type 0) where
   then_apart (Ok x) next other are = are x
   then_apart (Err cause) next other are = refl
 
-  module _ (place at : Place) where
+  module _ (place at : LinePlace) where
     abbrev pub AreAnswers : Answer → Answer → Type 0
     AreAnswers (Goes text next) (Goes same other) = (same ≡ text) × AreApart next other
     AreAnswers (Saves name where_ next) (Saves same there other) =

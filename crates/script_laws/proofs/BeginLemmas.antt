@@ -17,7 +17,7 @@ use Rattle.resc_vars.specs.Script as script
 use Rattle.monitor.specs.declared.fault.ScriptFault.{ScriptFault}
 use Rattle.monitor.specs.Answer.{Answer, Goes, Saves, Loads, Ends, Faults, Misses, Did}
 use Rattle.monitor.specs.Command.{did}
-use Rattle.monitor.specs.State.{State, Place, bodies_of, joined}
+use Rattle.monitor.specs.State.{State, LinePlace, bodies_of, joined}
 use Rattle.lab_top.specs.Transcript.{Transcript, Further, Done, Script, after, ended, from, is_large}
 use Rattle.lab_top.specs.Transcript.{is_occupied, last_line}
 use Rattle.lab_top.specs.Transcript.{loading, loading_kept, onward, refused, resuming, saving, stopped, using}
@@ -28,7 +28,7 @@ use Rattle.script_laws.proofs.StoreLemmas.{refused_now}
 use Rattle.script_laws.proofs.TranscriptLemmas.{after_followed, nothing_followed}
 
 -- a fault that is told at one place of both is one
-told_same : (place : Place) (one two : ScriptFault) → AreTold place place one two → two ≡ one
+told_same : (place : LinePlace) (one two : ScriptFault) → AreTold place place one two → two ≡ one
 told_same place one two (alike fault) = refl
 told_same place one two (apiece why) = refl
 
@@ -95,7 +95,7 @@ module _ (facts : LinesBehind) (play : Play) (held : Held) (main text more : Lis
   AllBegin further = (kept : Held) (s : State) → main_file s.flow ≡ main →
       Starts (further kept s) (further kept (longest s))
 
-  module _ (further : Further) (begin : AllBegin further) (kept : Held) (place : Place) (s : State)
+  module _ (further : Further) (begin : AllBegin further) (kept : Held) (place : LinePlace) (s : State)
       (is : main_file s.flow ≡ main) where
     saving_by : (large dry : Bool) (name bytes : List ℕ) →
         Starts
@@ -143,7 +143,7 @@ module _ (facts : LinesBehind) (play : Play) (held : Held) (main text more : Lis
   is_long next other apart = sym (apart.same ∙ ap (λ flow. record next { flow = flow }) apart.flows.0)
 
   module _ (further : Further) (begin : AllBegin further) (kept : Held) (s : State) (names : List (List ℕ))
-      (place : Place) where
+      (place : LinePlace) where
     abbrev goes : State → Answer → Transcript
     goes state answer = onward further kept state (record { names = names; answer = answer })
 

@@ -18,7 +18,7 @@ use Rattle.monitor.specs.Answer.{Did, answer_at, reads, unread}
 use Rattle.monitor.specs.Bodies.{entered, include_text}
 use Rattle.monitor.specs.Command.{by_next, did, done_by}
 use Rattle.monitor.specs.Refusal.{require}
-use Rattle.monitor.specs.State.{State, Place}
+use Rattle.monitor.specs.State.{State, LinePlace}
 use Rattle.lab_top.specs.Transcript.{after, from, onward}
 use Rattle.script_laws.specs.Places.{AreOneWithinLimits}
 use Rattle.script_laws.proofs.PlaceLemmas.{PlacesAside}
@@ -48,7 +48,7 @@ room_by false one two is = absurd (cc)
 module _ (facts : PlacesAside) (play : Play) (held kept : Held) (s : State) (g : script.State) (file : List ℕ) (n : ℕ)
     (line : List ℕ) (flow opened : script.State) (next : next_of s.flow ≡ Gives file n line flow)
     (few : g.kept.taken ≤ 100000) (same : MeansSame opened g) where
-  abbrev at : Place
+  abbrev at : LinePlace
   at = record { file = file; number = n }
 
   abbrev before : State

@@ -22,7 +22,7 @@ use Rattle.monitor.specs.Bodies.{entered, include, include_text, run_macro}
 use Rattle.monitor.specs.Boards.{cause_of, equip_loaded, load_onto, load_platform}
 use Rattle.monitor.specs.Command.{by_next, did}
 use Rattle.monitor.specs.Selected.{bare}
-use Rattle.monitor.specs.State.{State, Place}
+use Rattle.monitor.specs.State.{State, LinePlace}
 use Rattle.script_laws.proofs.ApartLemmas.{AreAnswers, AreDone, alike, apiece, onto_apart, line_apart}
 use Rattle.script_laws.proofs.RoomLemmas.{IsDeep, OneUnless, load_one}
 
@@ -53,7 +53,7 @@ pub record AreSame (t u : ℕ) (flow other : script.State) : Type 0 where
   pub within_too : other.kept.taken ≤ 100000
 
 module _ (facts : PlacesAside) (t u : ℕ) (s : State) (g : script.State) (are : AreSame t u s.flow g)
-    (place at : Place) where
+    (place at : LinePlace) where
   abbrev other : State
   other = record s { flow = g }
 
@@ -72,7 +72,8 @@ module _ (facts : PlacesAside) (t u : ℕ) (s : State) (g : script.State) (are :
   no_names one two (inl does) = inl (record { names = refl; answers = does })
   no_names one two (inr limit) = inr limit
 
-  deep_onto : (names : List (List ℕ)) (b : ℕ) (state : State) (where_ : Place) (outcome : Outcome) → IsDeep outcome →
+  deep_onto : (names : List (List ℕ)) (b : ℕ) (state : State) (where_ : LinePlace) (outcome : Outcome) →
+      IsDeep outcome →
       IsLimit (equip_loaded state where_ b names outcome)
   deep_onto names b state where_ (Refused fault) deep = inl (ap cause_of deep)
   deep_onto names b state where_ (Joined entries) deep = absurd deep
@@ -153,17 +154,17 @@ module _ (facts : PlacesAside) (t u : ℕ) (s : State) (g : script.State) (are :
 -- One command of each does the same at its place, or is refused for what is open or for the commands that were taken.
 abbrev pub DoAlike : ℕ → ℕ → Did → Did → Type 0
 DoAlike t u one two =
-    ((place : Place) × (at : Place) × AreDone (AreSame t u) place at one two)
+    ((place : LinePlace) × (at : LinePlace) × AreDone (AreSame t u) place at one two)
     ⊎ IsLimit one.answer
     ⊎ IsLimit two.answer
 
-at_places : (t u : ℕ) (place at : Place) (one two : Did) →
+at_places : (t u : ℕ) (place at : LinePlace) (one two : Did) →
     AreDone (AreSame t u) place at one two ⊎ IsLimit one.answer ⊎ IsLimit two.answer → DoAlike t u one two
 at_places t u place at one two (inl does) = inl (place, at, does)
 at_places t u place at one two (inr limit) = inr limit
 
 module _ (facts : PlacesAside) (play : Play) (held : Held) (s : State) (g : script.State) where
-  line_same : (t u : ℕ) (place at : Place) (text : List ℕ) (flow other : script.State) → AreSame t u flow other →
+  line_same : (t u : ℕ) (place at : LinePlace) (text : List ℕ) (flow other : script.State) → AreSame t u flow other →
       DoAlike t u (by_next play held s (script.Gives place.file place.number text flow))
       (by_next play held (record s { flow = g }) (script.Gives at.file at.number text other))
   line_same t u place at text flow other are =
@@ -195,7 +196,7 @@ module _ (facts : PlacesAside) (play : Play) (held : Held) (s : State) (g : scri
         within_too = takes_too.1;
       }))
   next_same t u (script.Ends kept) (script.Ends kept') (inr (inr are)) takes takes_too =
-      let place : Place = record { file = []; number = 0 } in
+      let place : LinePlace = record { file = []; number = 0 } in
       inl (place, place, record { names = refl; answers = tt })
   next_same t u (script.Refuses file n why kept) (script.Refuses file' n' why' kept') (inr (inr are)) takes takes_too =
       rw are

@@ -17,7 +17,7 @@ use Rattle.resc_vars.specs.Script as script
 use Rattle.monitor.specs.declared.fault.ScriptFault.{ScriptFault}
 use Rattle.monitor.specs.Answer.{Answer, Goes, Saves, Loads, Ends, Faults, Misses, Did}
 use Rattle.monitor.specs.Command.{did}
-use Rattle.monitor.specs.State.{State, Place, bodies_of, joined}
+use Rattle.monitor.specs.State.{State, LinePlace, bodies_of, joined}
 use Rattle.lab_top.specs.Transcript.{Transcript, Further, Outcome, Done, Script, Absent, after, ended, from, is_large}
 use Rattle.lab_top.specs.Transcript.{is_occupied, last_line}
 use Rattle.lab_top.specs.Transcript.{loading, loading_kept, onward, read_later, read_now, refused, resuming, saving}
@@ -27,7 +27,7 @@ use Rattle.script_laws.specs.Places.{IsAtLimit, EndAlike, AreOneWithinLimits}
 use Rattle.script_laws.proofs.ApartLemmas.{AreAnswers, AreTold, alike, apiece}
 use Rattle.script_laws.proofs.PlaceLemmas.{AreSame, DoAlike, IsLimit, PlacesAside, did_same}
 
-told_cause : (place at : Place) (one two : ScriptFault) → AreTold place at one two → two.cause ≡ one.cause
+told_cause : (place at : LinePlace) (one two : ScriptFault) → AreTold place at one two → two.cause ≡ one.cause
 told_cause place at one two (alike fault) = refl
 told_cause place at one two (apiece why) = refl
 
@@ -94,7 +94,7 @@ limit_ends further kept s names Misses limit = absurd limit
 
 module _ (first second : Further) (t u : ℕ)
     (all : (kept : Held) (s : State) (g : script.State) → AreSame t u s.flow g →
-    AreOneWithinLimits (first kept s) (second kept (record s { flow = g }))) (place at : Place) where
+    AreOneWithinLimits (first kept s) (second kept (record s { flow = g }))) (place at : LinePlace) where
   module _ (kept : Held) (s : State) (g : script.State) (are : AreSame t u s.flow g) where
     abbrev other : State
     other = record s { flow = g }

@@ -22,7 +22,7 @@ use Rattle.monitor.specs.Boards.{load_platform}
 use Rattle.monitor.specs.Command.{by_next, did, without_files}
 use Rattle.monitor.specs.Refusal.{require}
 use Rattle.monitor.specs.Selected.{bare}
-use Rattle.monitor.specs.State.{State, Place}
+use Rattle.monitor.specs.State.{State, LinePlace}
 use Rattle.script_laws.specs.Beginning.{behind}
 use Rattle.script_laws.proofs.ApartLemmas.{AreApartBy, AreAnswers, AreDone, alike, apiece, answered_apart}
 use Rattle.script_laws.proofs.ApartLemmas.{onto_apart, line_apart}
@@ -55,7 +55,7 @@ module _ (facts : LinesBehind) (main text more : List ℕ) where
   abbrev pub long : State → State
   long s = record s { flow = with_behind (items_behind text more) s.flow }
 
-  module _ (play : Play) (held : Held) (s : State) (is : main_file s.flow ≡ main) (place : Place) where
+  module _ (play : Play) (held : Held) (s : State) (is : main_file s.flow ≡ main) (place : LinePlace) where
     abbrev ApartBy : Result answer.Done ScriptCause → Result answer.Done ScriptCause → Type 0
     ApartBy = AreApartBy AreLonger
 
@@ -114,7 +114,7 @@ module _ (facts : LinesBehind) (main text more : List ℕ) where
 
   -- Both scripts do the same, at one place, or the first has ended and the other does what the lines behind do.
   abbrev pub DoAlike : Did → Did → Type 0
-  DoAlike one two = (place : Place) × AreDone AreLonger place place one two
+  DoAlike one two = (place : LinePlace) × AreDone AreLonger place place one two
 
   abbrev pub EndsHere : Play → Held → State → Did → Did → Type 0
   EndsHere play held s one two =
@@ -127,7 +127,7 @@ module _ (facts : LinesBehind) (main text more : List ℕ) where
         ⊎ EndsHere play held s (by_next play held s next) (by_next play held (long s) longest)
     unfolding did
     step (script.Gives file n line flow) longest longest_is keeps =
-        let place : Place = record { file = file; number = n } in
+        let place : LinePlace = record { file = file; number = n } in
         let before : State = record s { flow = flow } in
         rw longest_is
         (inl (
@@ -147,7 +147,7 @@ module _ (facts : LinesBehind) (main text more : List ℕ) where
               kept)),
         )
     step (script.Refuses file n why kept) longest longest_is keeps =
-        let place : Place = record { file = file; number = n } in
+        let place : LinePlace = record { file = file; number = n } in
         rw longest_is (inl (place, record { names = refl; answers = alike _ }))
 
   gives_main : (one two : List ℕ) (next : script.Outcome) → one ≡ two →

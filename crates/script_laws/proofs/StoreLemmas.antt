@@ -40,7 +40,7 @@ use Rattle.monitor.specs.Images.{elf_image, hex_image, load_image, load_read}
 use Rattle.monitor.specs.Memory.{write_bytes}
 use Rattle.monitor.specs.Refusal.{require}
 use Rattle.monitor.specs.Selected.{Equipped, bare, equipped}
-use Rattle.monitor.specs.State.{State, Place}
+use Rattle.monitor.specs.State.{State, LinePlace}
 use Rattle.lab_top.specs.Transcript.{Transcript, Done, Script, from, is_large, is_occupied, last_line}
 use Rattle.lab_top.specs.Transcript.{loading_kept}
 use Rattle.lab_top.specs.Transcript.{onward, refused, resuming, stopped, using}
@@ -51,7 +51,7 @@ Stays s (Saves name place next) = (next.lab ≡ s.lab) × (next.lines ≡ s.line
 Stays s (Loads name place next) = (next.lab ≡ s.lab) × (next.lines ≡ s.lines)
 Stays s _ = Unit {0}
 
-answered : (s : State) (place : Place) (ruling : Result answer.Done ScriptCause) → Stays s (answer_at place ruling)
+answered : (s : State) (place : LinePlace) (ruling : Result answer.Done ScriptCause) → Stays s (answer_at place ruling)
 answered s place (Ok done) = tt
 answered s place (Err why) = tt
 
@@ -61,52 +61,53 @@ made_by s b names (Ok plan) = tt
 made_by s b names (Err (plat_fault.At file line why)) = tt
 made_by s b names (Err plat_fault.Memory) = tt
 
-loaded_as : (s : State) (place : Place) (b : ℕ) (names : List (List ℕ)) (outcome : Outcome) →
+loaded_as : (s : State) (place : LinePlace) (b : ℕ) (names : List (List ℕ)) (outcome : Outcome) →
     Stays s (equip_loaded s place b names outcome)
 loaded_as s place b names (Joined entries) = made_by s b names (built entries)
 loaded_as s place b names (Refused fault) = tt
 loaded_as s place b names Oversized = tt
 loaded_as s place b names Absent = tt
 
-onto : (s : State) (place : Place) (loading : Loading) (before : Result ℕ ScriptCause) →
+onto : (s : State) (place : LinePlace) (loading : Loading) (before : Result ℕ ScriptCause) →
     Stays s (load_onto s place loading before).answer
 onto s place loading (Ok b) = loaded_as s place b loading.names loading.outcome
 onto s place loading (Err why) = tt
 
-large_or : (s : State) (place : Place) (large : Bool) (one : Answer) → Stays s one →
+large_or : (s : State) (place : LinePlace) (large : Bool) (one : Answer) → Stays s one →
     Stays s (if large then answer.refused place Size else one)
 large_or s place true one stays = tt
 large_or s place false one stays = stays
 
-file_of : (s : State) (place : Place) (there : Option (List ℕ)) (one : List ℕ → Answer) →
+file_of : (s : State) (place : LinePlace) (there : Option (List ℕ)) (one : List ℕ → Answer) →
     ((bytes : List ℕ) → Stays s (one bytes)) → Stays s (with_file place there one)
 file_of s place None one stay = tt
 file_of s place (Some bytes) one stay = large_or s place (nat_lt 16777216 (length bytes)) (one bytes) (stay bytes)
 
-loads_of : {A : Type 0} (held : Held) (s : State) (place : Place) (name : List ℕ) (before : Result A ScriptCause)
+loads_of : {A : Type 0} (held : Held) (s : State) (place : LinePlace) (name : List ℕ) (before : Result A ScriptCause)
     (one : A → List ℕ → Answer) → ((x : A) (bytes : List ℕ) → Stays s (one x bytes)) →
     Stays s (loads held place name before one).answer
 loads_of held s place name (Ok x) one stay = file_of s place (get held name) (one x) (stay x)
 loads_of held s place name (Err why) one stay = tt
 
-image_of : (s : State) (place : Place) (on : Equipped) (image : Result Image Cause) →
+image_of : (s : State) (place : LinePlace) (on : Equipped) (image : Result Image Cause) →
     Stays s (load_read s place on image)
 image_of s place on (Ok image) = answered s place (load_image s on image)
 image_of s place on (Err why) = tt
 
-text_of : (s : State) (place : Place) (path : List ℕ) (text : FileText) → Stays s (include_text s place path text)
+text_of : (s : State) (place : LinePlace) (path : List ℕ) (text : FileText) → Stays s (include_text s place path text)
 text_of s place path Missing = tt
 text_of s place path Large = tt
 text_of s place path (Broken line) = tt
 text_of s place path (Readable bytes) = answered s place (entered s (enter s.flow (source_of path bytes)))
 
-include_of : (s : State) (place : Place) (path : List ℕ) (text : FileText) (before : Result (Unit {0}) ScriptCause) →
+include_of : (s : State) (place : LinePlace) (path : List ℕ) (text : FileText)
+    (before : Result (Unit {0}) ScriptCause) →
     Stays s (reads place path before (λ _. include_text s place path text)).answer
 include_of s place path text (Ok done) = text_of s place path text
 include_of s place path text (Err why) = tt
 
 module _ (play : Play) (held : Held) where
-  work_stays : (s : State) (place : Place) (line : Command) → Stays s (does held place (work play s line)).answer
+  work_stays : (s : State) (place : LinePlace) (line : Command) → Stays s (does held place (work play s line)).answer
   work_stays s place (command.LoadPlatform path) = onto s place (load held (length s.flow.outer) path) (bare s)
   work_stays s place (command.LoadElf path) =
       loads_of held s place path (equipped s) (λ on bytes. load_read s place on (elf_image bytes))
@@ -141,7 +142,7 @@ module _ (play : Play) (held : Held) where
   work_stays s place (command.Load path) = (refl, refl)
   work_stays s place command.Quit = tt
 
-  line_stays : (s : State) (place : Place) (line : Result Command LineCause) →
+  line_stays : (s : State) (place : LinePlace) (line : Result Command LineCause) →
       Stays s (done_by play held s place line).answer
   line_stays s place (Ok line) = work_stays s place line
   line_stays s place (Err why) = tt
@@ -169,7 +170,7 @@ module _ (play : Play) (held : Held) where
       rw (lab, lines, append-nil (rest (names_of s.lab) s.lines))
       (ap (λ end. rest (names_of s.lab) s.lines ++ last_line end) is)
 
-  module _ (n : ℕ) (kept : Held) (s next : State) (place : Place) (fault : ScriptFault) (lab : next.lab ≡ s.lab)
+  module _ (n : ℕ) (kept : Held) (s next : State) (place : LinePlace) (fault : ScriptFault) (lab : next.lab ≡ s.lab)
       (lines : next.lines ≡ s.lines) where
     saving_refused : (large dry : Bool) (name bytes : List ℕ) →
         (if large then refused kept place next Size

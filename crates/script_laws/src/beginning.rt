@@ -12,7 +12,7 @@ ghost use Rattle.resc_vars.specs.Behind.{ClosesMacros, EndsLine};
 ghost use Rattle.script_laws.specs.Beginning.{Begins, IsText};
 
 use log_laws::only_what_is_read_matters;
-use resc_vars::{lines_behind_come_last, lines_leave_the_script};
+use resc_vars::laws;
 
 /// What the run of a script writes, without the open lines at its end, is the beginning of what the
 /// script writes with more lines behind: where the first one is refused, is without a file or ends
@@ -31,6 +31,6 @@ pub fn longer_scripts_begin_alike()
         Begins run other script text more (transcript words held kept) (transcript words other kept) }
 {
     only_what_is_read_matters();
-    lines_behind_come_last();
-    lines_leave_the_script();
+    laws::lines_behind_come_last();
+    laws::lines_leave_the_script();
 }

@@ -13,8 +13,7 @@ ghost use Rattle.resc_vars.specs.Coming.{MeansSame};
 ghost use Rattle.resc_vars.specs.Script as script;
 ghost use Rattle.script_laws.specs.Places.{AreOneWithinLimits};
 
-use resc_vars::{lines_leave_the_script, places_change_no_line};
-
+use resc_vars::laws;
 /// Places do not matter. Where the same lines are to come, in whatever files and macros they stand,
 /// with the same variables and macros and in the same laboratory, a run writes, reads and keeps the
 /// same, but for file and line of a refusal; unless one of the two is refused because too much is
@@ -25,8 +24,8 @@ pub fn places_do_not_matter()
         MeansSame s.flow other →
         AreOneWithinLimits (commands_of run held kept s) (commands_of run held kept (record s { flow = other })) }
 {
-    places_change_no_line();
-    lines_leave_the_script();
+    laws::places_change_no_line();
+    laws::lines_leave_the_script();
 }
 
 /// So the lines of a file stand for the line that includes it, and those of a macro for the line that
@@ -48,6 +47,6 @@ pub fn lines_stand_for_their_body()
         AreOneWithinLimits (commands_of run held kept s)
         (after [] [] (commands_of run held kept (record s { flow = other }))) }
 {
-    places_change_no_line();
-    lines_leave_the_script();
+    laws::places_change_no_line();
+    laws::lines_leave_the_script();
 }

@@ -1,5 +1,5 @@
 //! Command lines and what they ask for.
-use lab_words::{Request, WordsFault, read_words};
+use lab_arguments::{Request, WordsFault, read_words};
 use std::alloc::Global;
 use std::process::Abort;
 use std::test::Fail;

@@ -1,8 +1,8 @@
 //! A whole laboratory and its bytes.
 use crate::bytes::{joined, part};
+use lab_encoding::{SnapFault, save};
 use lab_num::NoMemory;
 use lab_snap::{SavedBoard, read_lab};
-use lab_spell::{SnapFault, save};
 use std::alloc::{AllocError, Global};
 use std::test::Fail;
 

@@ -1,7 +1,7 @@
 //! Memories and their pages.
 use crate::bytes::{joined, part};
-use lab_snap::{put_memory, take_memory};
-use lab_spell::{SnapFault, Source};
+use lab_encoding::{ByteReader, SnapFault};
+use lab_snap::{decode_memory, encode_memory};
 use page_ram::PageRam;
 use std::alloc::Global;
 use std::test::Fail;
@@ -9,7 +9,7 @@ use std::test::Fail;
 /// Whether bytes do not begin with a memory of three pages.
 fn is_no_memory(alloc: Global, bytes: &[u8]) -> bool {
     matches!(
-        take_memory(alloc, 3, &mut Source::new(bytes)),
+        decode_memory(alloc, 3, &mut ByteReader::new(bytes)),
         Err(SnapFault::Bad)
     )
 }
@@ -37,13 +37,13 @@ fn a_memory_is_its_pages_that_are_not_zero(rt: HostRuntime) -> Result<(), Fail> 
     )?;
     let whole = part(&bytes, 0, 8208);
     let mut saved = Vec::new(alloc);
-    put_memory(&memory, 3, &mut saved)?;
+    encode_memory(&memory, 3, &mut saved)?;
     assert!(rt; saved.as_slice() == whole);
-    let mut source = Source::new(&bytes);
-    let taken = take_memory(alloc, 3, &mut source)?;
+    let mut reader = ByteReader::new(&bytes);
+    let taken = decode_memory(alloc, 3, &mut reader)?;
     assert!(rt; taken.load(0, 4) == 5 && taken.load(4096, 4) == 0 && taken.load(8192, 4) == 6);
-    let after = source.byte()?;
-    assert!(rt; after == 7 && source.is_empty());
+    let after = reader.byte()?;
+    assert!(rt; after == 7 && reader.is_empty());
     assert!(rt;
         is_no_memory(alloc, part(&bytes, 0, 8207)) && is_no_memory(alloc, part(&bytes, 0, 9))
     );

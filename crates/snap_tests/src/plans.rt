@@ -2,8 +2,8 @@
 use crate::bytes::{joined, one, part};
 use crate::spelled::is_spelled;
 use dev_core::Kind;
+use lab_encoding::{SnapFault, load};
 use lab_num::{NoMemory, Rows, Text};
-use lab_spell::{SnapFault, load};
 use rv_hart::Letters;
 use std::alloc::{AllocError, Global};
 use std::test::Fail;

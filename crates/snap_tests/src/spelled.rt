@@ -1,6 +1,6 @@
 //! Values and the bytes that the rules ask for.
+use lab_encoding::{SnapFault, Spelled, load, save};
 use lab_num::NoMemory;
-use lab_spell::{SnapFault, Spelled, load, save};
 use std::alloc::Global;
 
 /// Whether a value is saved as these bytes, and what they spell is saved so again.

@@ -1,6 +1,6 @@
 //! Values and their bytes, and bytes that spell nothing.
+use lab_encoding::{SnapFault, Spelled, load, save};
 use lab_num::{NoMemory, Rows, Text};
-use lab_spell::{SnapFault, Spelled, load, save};
 use std::alloc::Global;
 use std::process::Abort;
 use std::test::Fail;

@@ -1,10 +1,12 @@
 //! States and their bytes, written out by the rules of spelling, and bytes near them.
 use crate::bytes::{joined, one, part};
 use crate::spelled::is_spelled;
-use dev_core::{ByteRow, CanState, DevState, Finish, Frame, FrameRow, Payload, Post, UartState};
+use dev_core::{
+    ByteRow, CanState, DevState, Finish, Frame, FrameRow, Kind, Payload, Post, UartState,
+};
+use lab_encoding::{SnapFault, Spelled, load, save};
 use lab_num::{BoardNo, Key, Member, Micros, PostNo, Rows, Text};
-use lab_snap::{HubKind, SavedHub};
-use lab_spell::{SnapFault, Spelled, load, save};
+use lab_snap::SavedHub;
 use rv_hart::{HartState, Letters};
 use std::alloc::{AllocError, Global};
 use std::test::Fail;
@@ -259,7 +261,7 @@ fn a_hub_is_its_kind_name_delay_and_members(rt: HostRuntime) -> Result<(), Fail>
         dev: 1,
     };
     let hub = SavedHub {
-        kind: HubKind::Can,
+        kind: Kind::Can,
         name: Text::of(alloc, "bus")?,
         delay: 1000,
         members: Rows::of(one(alloc, member)?),

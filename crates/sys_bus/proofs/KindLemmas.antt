@@ -3,7 +3,8 @@ use Rattle.std.proofs.Common.{◌≡◌, ◌+◌, ◌≤◌, List, [], ◌∷◌
 use Rattle.std.proofs.lemmas.Bool.Decides.{nat_tests}
 use Rattle.dev_core.specs.declared.kind.Kind.{Kind}
 use Rattle.dev_core.specs.declared.kind.Kind.TheVariants.{Uart, Can, Finisher}
-use Rattle.sys_bus.specs.Limits.{is_kind, count_of, are_few_devices}
+use Rattle.dev_core.specs.Kind.{is_kind}
+use Rattle.sys_bus.specs.Limits.{count_of, are_few_devices}
 use Rattle.sys_bus.proofs.CountLemmas.{count_by-cons}
 
 -- a kind more

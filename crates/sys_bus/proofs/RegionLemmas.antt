@@ -9,8 +9,8 @@ use Rattle.sys_bus.specs.declared.region.RegionKind.TheVariants.{Ram, Clint, Pli
 use Rattle.sys_bus.specs.declared.region.Target.TheVariants as to
 use Rattle.sys_bus.specs.Region.{holds, overlaps, count_of_overlaps, are_apart, target, target_by, target_if, target_of}
 use Rattle.sys_bus.specs.Region.{room_if, room_of, further, end_of, are_addressed, HasByte, IsWithin, LiesIn}
-use Rattle.sys_bus.specs.declared.near.Near.{Near}
-use Rattle.sys_bus.specs.declared.near.Place.{Place}
+use Rattle.sys_bus.specs.declared.near.NearMemory.{NearMemory}
+use Rattle.sys_bus.specs.declared.near.MemoryPlace.{MemoryPlace}
 use Rattle.sys_bus.specs.Inner.Near.{IsNear, IsNearPlace}
 use Rattle.sys_bus.specs.Place.{IsPlace}
 use Rattle.sys_bus.proofs.CountLemmas.{filtered_within_count, one_place, some_passes, sole_found, found_passes}
@@ -112,7 +112,7 @@ found_addressed regions at width region addressed found =
 
 -- an access of a memory that is kept belongs to it
 pub near_place :
-    (regions : List Region) (near : Near) (at : ℕ) (place : Option Place) →
+    (regions : List Region) (near : NearMemory) (at : ℕ) (place : Option MemoryPlace) →
     IsNear regions near → IfSome place (IsNearPlace near at) → IfSome place (IsPlace regions at)
 near_place regions near at None kept found = tt
 near_place regions near at (Some place) kept found = λ width wide.
@@ -122,7 +122,7 @@ near_place regions near at (Some place) kept found = λ width wide.
 
 -- a region that was found is kept
 pub near_found :
-    (regions : List Region) (at width part : ℕ) (region : Region) (near : Near) →
+    (regions : List Region) (at width part : ℕ) (region : Region) (near : NearMemory) →
     IsTrue (are_apart regions) → find (holds at width) regions ≡ Some region → region.kind ≡ Ram part →
     near.base ≡ region.base → near.starts ≡ region.size - 3 → near.part ≡ part → IsNear regions near
 near_found regions at width part region near apart found kind base starts part_is = λ i w below wide.

@@ -1,27 +1,18 @@
 -- How many parts a board has, how large they are, and the ranges of its numbers. Each number stands here by itself; the
 -- code has it once more, as a constant, and the proof compares the two.
-use Rattle.std.specs.Prelude.{ℕ, ◌+◌, ◌*◌, ◌%◌, ◌==◌, nat_le, Bool, true, false, ◌&&◌, ◌||◌, if◌then◌else◌, List}
+use Rattle.std.specs.Prelude.{ℕ, ◌+◌, ◌*◌, ◌%◌, ◌==◌, nat_le, Bool, true, ◌&&◌, List}
 use Rattle.std.specs.Prelude.{length, sum, count_by, slice_get, Option, None, Some}
 use Rattle.std.specs.List.{list_all}
 use Rattle.dev_core.specs.declared.kind.Kind.{Kind}
-use Rattle.dev_core.specs.declared.kind.Kind.TheVariants.{Uart, Can, Finisher}
+use Rattle.dev_core.specs.Kind.{is_kind, is_step_of, least_size_of, row_of, rows}
 use Rattle.page_ram.specs.Access.{page_size}
 use Rattle.sys_bus.specs.declared.region.RegionKind.{RegionKind}
 use Rattle.sys_bus.specs.declared.region.RegionKind.TheVariants.{Ram, Clint, Plic, Dev}
 use Rattle.sys_bus.specs.declared.region.Region.{Region}
 use Rattle.sys_bus.specs.declared.plan.PlicSize.{PlicSize}
 
--- The laboratory's own limits of a board: four UARTs, four CAN controllers and one finisher,
-abbrev pub most_uarts : ℕ
-most_uarts = 4
-
-abbrev pub most_cans : ℕ
-most_cans = 4
-
-abbrev pub most_finishers : ℕ
-most_finishers = 1
-
--- one to eight memories, of together at most 64 MiB,
+-- The laboratory's own limits of a board, beside those of its devices (Kind.antt of dev_core): one to eight memories,
+-- of together at most 64 MiB,
 abbrev pub most_memories : ℕ
 most_memories = 8
 
@@ -60,34 +51,16 @@ least_clint = 0xBFF8 + 8
 abbrev pub least_plic : ℕ
 least_plic = 0x20_0000 + 16 * 0x1000
 
--- A UART has eight registers (PC16550D, table II), which lie one byte or four bytes apart.
-abbrev pub least_uart : ℕ
-least_uart = 8
-
-abbrev pub least_wide_uart : ℕ
-least_wide_uart = 8 * 4
-
--- A CAN controller has 32 registers (SJA1000 data sheet, section 6.2.1), and a finisher one word.
-abbrev pub least_can : ℕ
-least_can = 32
-
-abbrev pub least_finisher : ℕ
-least_finisher = 4
-
-abbrev pub is_kind : Kind → Kind → Bool
-is_kind Uart Uart = true
-is_kind Can Can = true
-is_kind Finisher Finisher = true
-is_kind _ _ = false
-
+-- how many devices of a kind there are
 abbrev pub count_of : List Kind → Kind → ℕ
 count_of kinds kind = count_by (is_kind kind) kinds
 
+-- of each kind there are no more than a board may have
+abbrev pub are_few_of : List Kind → Kind → Bool
+are_few_of kinds kind = nat_le (count_of kinds kind) (row_of kind).most
+
 abbrev pub are_few_devices : List Kind → Bool
-are_few_devices kinds =
-    nat_le (count_of kinds Uart) most_uarts
-    && nat_le (count_of kinds Can) most_cans
-    && nat_le (count_of kinds Finisher) most_finishers
+are_few_devices kinds = list_all (λ row. are_few_of kinds row.kind) rows
 
 abbrev pub are_few_memories : List ℕ → Bool
 are_few_memories memories =
@@ -118,23 +91,18 @@ abbrev pub device_in : List Kind → RegionKind → Option Kind
 device_in kinds (Dev i) = slice_get kinds i
 device_in kinds _ = None
 
--- the registers of a UART lie 1 or 4 bytes apart, and those of all else 1
+-- the registers of a device lie as far apart as its kind allows, and those of all else side by side
 abbrev pub is_step : Option Kind → ℕ → Bool
-is_step (Some Uart) step = (step == 1) || (step == 4)
-is_step _ step = step == 1
+is_step (Some kind) step = is_step_of kind step
+is_step None step = step == 1
 
 abbrev pub are_steps : List Kind → List Region → Bool
 are_steps kinds regions = list_all (λ region. is_step (device_in kinds region.kind) region.step) regions
 
 -- the fewest bytes of a region; a memory has whole pages, and at least one
-abbrev pub least_device_size : Kind → ℕ → ℕ
-least_device_size Uart step = if step == 4 then least_wide_uart else least_uart
-least_device_size Can step = least_can
-least_device_size Finisher step = least_finisher
-
 abbrev pub least_size_at : Option Kind → ℕ → ℕ
 least_size_at None step = 0
-least_size_at (Some kind) step = least_device_size kind step
+least_size_at (Some kind) step = least_size_of kind step
 
 abbrev pub least_size : List Kind → RegionKind → ℕ → ℕ
 least_size kinds (Ram i) step = page_size

@@ -22,7 +22,7 @@ pub record IsValid (plan : BoardPlan) : Type 0 where
   pub controller : is_some plan.plic ≡ has_region plan.regions Plic
   -- a memory's region has the memory's size
   pub memory_sizes : IsTrue (have_memory_sizes plan.memories plan.regions)
-  -- a UART's step is 1 or 4, and every other is 1
+  -- a device's step is one that its kind allows, and every other is 1
   pub steps : IsTrue (are_steps plan.kinds plan.regions)
   -- counts, numbers, addresses and sizes are within their limits
   pub few_devices : IsTrue (are_few_devices plan.kinds)

@@ -1,10 +1,10 @@
 -- The wires of interrupts: the CLINT's software and timer lines and the contexts of the PLIC lead to pins of the
--- processors; the line of a UART or a CAN controller to one of these, or to a source of the PLIC.
+-- processors; the line of a device to one of these, or to a source of the PLIC.
 use Rattle.std.specs.Prelude.{ℕ, ◌==◌, nat_lt, nat_le, Bool, true, false, ◌&&◌, ◌||◌, List, slice_get, Option, None}
 use Rattle.std.specs.Prelude.{Some}
 use Rattle.std.specs.List.{list_all}
 use Rattle.dev_core.specs.declared.kind.Kind.{Kind}
-use Rattle.dev_core.specs.declared.kind.Kind.TheVariants.{Uart, Can, Finisher}
+use Rattle.dev_core.specs.Kind.{row_of}
 use Rattle.sys_bus.specs.declared.region.RegionKind.TheVariants.{Clint}
 use Rattle.sys_bus.specs.declared.region.Region.{Region}
 use Rattle.sys_bus.specs.declared.plan.PlicSize.{PlicSize}
@@ -28,11 +28,9 @@ abbrev pub is_context : Option PlicSize → ℕ → Bool
 is_context None context = false
 is_context (Some size) context = nat_lt context size.contexts
 
--- UARTs and CAN controllers have a line
+-- a device of such a kind has a line
 abbrev pub kind_has_line : Option Kind → Bool
-kind_has_line (Some Uart) = true
-kind_has_line (Some Can) = true
-kind_has_line (Some Finisher) = false
+kind_has_line (Some kind) = (row_of kind).has_line
 kind_has_line None = false
 
 abbrev pub has_line : List Kind → ℕ → Bool

@@ -1,6 +1,7 @@
 //! The plan of a board, when it is valid, and the one region that an access belongs to.
 #![tactic(auto)]
 
+pub mod laws;
 mod limits;
 mod name;
 mod near;
@@ -11,14 +12,11 @@ mod regions;
 mod wire;
 
 pub use limits::{
-    LEAST_CLINT, LEAST_PLIC, MOST_CANS, MOST_CONTEXTS, MOST_FINISHERS, MOST_FREQUENCY,
-    MOST_MEMORIES, MOST_MEMORY, MOST_SOURCES, MOST_UARTS, REGION_UNIT, is_speed, least_device_size,
+    LEAST_CLINT, LEAST_PLIC, MOST_CONTEXTS, MOST_FREQUENCY, MOST_MEMORIES, MOST_MEMORY,
+    MOST_SOURCES, REGION_UNIT, is_speed,
 };
-pub use near::Place;
+pub use near::MemoryPlace;
 pub use plan::{BoardPlan, Named, NamedWhat, PlicSize};
 pub use region::{Region, RegionKind, Target};
-pub use regions::{
-    Regions, accesses_belong_to_one_region, an_address_lies_in_one_region,
-    bytes_of_a_region_belong_together, target_of,
-};
+pub use regions::{Regions, target_of};
 pub use wire::{Wire, WireFrom, WirePin, is_context, may_end};

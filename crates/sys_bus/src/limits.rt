@@ -1,19 +1,14 @@
 //! How many parts a board has, how large they are, and the ranges of its numbers.
 ghost use Rattle.std.specs.Prelude.{◌≡◌, ◌<◌, ◌≤◌, length, sum};
+ghost use Rattle.std.specs.List.{list_all};
 ghost use Rattle.sys_bus.specs.Limits as limit;
 
 use crate::plan::PlicSize;
 use crate::region::{Region, RegionKind};
-use dev_core::Kind;
+use dev_core::{KINDS, Kind};
 use lab_num::{MOST_SPEED, Text};
 use page_ram::PAGE_SIZE;
 use rv_hart::MOST_HARTS;
-
-pub const MOST_UARTS: usize = 4;
-
-pub const MOST_CANS: usize = 4;
-
-pub const MOST_FINISHERS: usize = 1;
 
 pub const MOST_MEMORIES: usize = 8;
 
@@ -36,40 +31,31 @@ pub const LEAST_CLINT: u32 = 0xC000;
 /// The fewest bytes of the region of an interrupt controller, up to the words of its contexts.
 pub const LEAST_PLIC: u32 = 0x21_0000;
 
-/// The fewest bytes of the region of a UART: eight registers.
-pub const LEAST_UART: u32 = 8;
-
-/// The fewest bytes of the region of a UART whose registers lie four bytes apart.
-pub const LEAST_WIDE_UART: u32 = 32;
-
-pub const LEAST_CAN: u32 = 32;
-
-pub const LEAST_FINISHER: u32 = 4;
-
-fn is_kind(kind: Kind, other: Kind) -> bool
-    ensures { result ≡ limit.is_kind kind other }
-{
-    match (kind, other) {
-        (Kind::Uart, Kind::Uart) => true,
-        (Kind::Can, Kind::Can) => true,
-        (Kind::Finisher, Kind::Finisher) => true,
-        _ => false,
-    }
-}
-
 fn count_of(kinds: &[Kind], kind: Kind) -> usize
     ensures { result ≡ limit.count_of kinds.now kind }
 {
-    kinds.iter().filter(|other| is_kind(kind, **other)).count()
+    kinds.iter().filter(|other| kind.is(**other)).count()
 }
 
-/// Whether there are no more UARTs, CAN controllers and finishers than a board may have.
+/// Whether there are no more devices of a kind than a board may have.
+fn are_few_of(kinds: &[Kind], kind: Kind) -> bool
+    ensures { result ≡ limit.are_few_of kinds.now kind }
+{
+    count_of(kinds, kind) <= kind.most()
+}
+
+/// Whether there are no more devices of each of these kinds than a board may have.
+fn are_few_of_each(kinds: &[Kind], each: &[Kind]) -> bool
+    ensures { result ≡ list_all (limit.are_few_of kinds.now) each.now }
+{
+    each.iter().all(|kind| are_few_of(kinds, *kind))
+}
+
+/// Whether there are no more devices of each kind than a board may have.
 pub(crate) fn are_few_devices(kinds: &[Kind]) -> bool
     ensures { result ≡ limit.are_few_devices kinds.now }
 {
-    count_of(kinds, Kind::Uart) <= MOST_UARTS
-        && count_of(kinds, Kind::Can) <= MOST_CANS
-        && count_of(kinds, Kind::Finisher) <= MOST_FINISHERS
+    are_few_of_each(kinds, &KINDS)
 }
 
 /// The bytes of all memories together.
@@ -141,33 +127,16 @@ fn is_step(device: Option<Kind>, step: u8) -> bool
     ensures { result ≡ limit.is_step device step }
 {
     match device {
-        Some(Kind::Uart) => step == 1 || step == 4,
-        _ => step == 1,
+        Some(kind) => kind.is_step(step),
+        None => step == 1,
     }
 }
 
-/// Whether a UART's registers lie 1 or 4 bytes apart, and those of all else 1.
+/// Whether the registers of each device lie as far apart as its kind allows, and those of all else side by side.
 pub(crate) fn are_steps(kinds: &[Kind], regions: &[Region]) -> bool
     ensures { result ≡ limit.are_steps kinds.now regions.now }
 {
     regions.iter().all(|region| is_step(device_in(kinds, region.kind), region.step))
-}
-
-/// The fewest bytes of the region of a device whose registers lie `step` bytes apart.
-pub fn least_device_size(kind: Kind, step: u8) -> u32
-    ensures { result ≡ limit.least_device_size kind step }
-{
-    match kind {
-        Kind::Uart => {
-            if step == 4 {
-                LEAST_WIDE_UART
-            } else {
-                LEAST_UART
-            }
-        }
-        Kind::Can => LEAST_CAN,
-        Kind::Finisher => LEAST_FINISHER,
-    }
 }
 
 fn least_size(kinds: &[Kind], kind: RegionKind, step: u8) -> u32
@@ -178,7 +147,7 @@ fn least_size(kinds: &[Kind], kind: RegionKind, step: u8) -> u32
         RegionKind::Clint => LEAST_CLINT,
         RegionKind::Plic => LEAST_PLIC,
         RegionKind::Dev(i) => match kinds.get(usize::from(i)) {
-            Some(&device) => least_device_size(device, step),
+            Some(device) => device.least_size(step),
             None => 0,
         },
     }

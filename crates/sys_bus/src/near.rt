@@ -5,7 +5,7 @@ use crate::region::Region;
 
 /// A place in a memory. `at` counts in bytes from its first.
 #[derive(Clone, Copy, PartialEq, Eq, Debug)]
-pub struct Place {
+pub struct MemoryPlace {
     pub part: u8,
     pub at: u32,
 }
@@ -13,7 +13,7 @@ pub struct Place {
 /// The memory in which an access is sought first, as plain numbers: then one comparison says whether
 /// the access lies there.
 #[derive(Clone, Copy)]
-pub(crate) struct Near {
+pub(crate) struct NearMemory {
     /// The address of its first byte.
     base: u32,
     /// From how many of its places, counted from the first, four bytes of it lie. 0 where no memory
@@ -23,15 +23,15 @@ pub(crate) struct Near {
     ghost addressed: { base + starts ≤ 2 ^ 32 },
 }
 
-impl Near {
+impl NearMemory {
     ghost use Rattle.sys_bus.specs.Region.{end_of};
     ghost use Rattle.sys_bus.specs.Inner.Near.{IsNearPlace};
 
     /// No memory.
-    pub(crate) fn none() -> Near
+    pub(crate) fn none() -> NearMemory
         ensures { result.starts ≡ 0 }
     {
-        Near {
+        NearMemory {
             base: 0,
             starts: 0,
             part: 0,
@@ -39,13 +39,13 @@ impl Near {
     }
 
     /// The memory of this number, in this region.
-    pub(crate) fn of(region: &Region, part: u8) -> Near
+    pub(crate) fn of(region: &Region, part: u8) -> NearMemory
         requires { end_of region.now ≤ 2 ^ 32 }
         ensures base { result.base ≡ region.now.base }
         ensures starts { result.starts ≡ region.now.size - 3 }
         ensures part { result.part ≡ part }
     {
-        Near {
+        NearMemory {
             base: region.base,
             starts: region.size.saturating_sub(3),
             part,
@@ -54,12 +54,12 @@ impl Near {
 
     /// The place of an address in the memory, if four bytes of it lie from there on.
     #[inline(always)]
-    pub(crate) fn place(&self, at: u32) -> Option<Place>
+    pub(crate) fn place(&self, at: u32) -> Option<MemoryPlace>
         ensures { IfSome result (IsNearPlace self.now at) }
     {
         let offset = at.wrapping_sub(self.base);
         if offset < self.starts {
-            Some(Place {
+            Some(MemoryPlace {
                 part: self.part,
                 at: offset,
             })

@@ -5,7 +5,7 @@ ghost use Rattle.sys_bus.specs.Region.{holds, overlaps, count_of_overlaps, are_a
 ghost use Rattle.sys_bus.specs.Region.{HasByte, target_if, room_of, step_of, further, IsWithin, IsWidth};
 ghost use Rattle.sys_bus.specs.Place.{IsPlace};
 
-use crate::near::{Near, Place};
+use crate::near::{MemoryPlace, NearMemory};
 use crate::region::{Region, RegionKind, Target, is_same_part};
 use std::marker::Model;
 
@@ -39,9 +39,9 @@ pub(crate) fn are_addressed(regions: &[Region]) -> bool
 pub struct Regions {
     list: Vec<Region>,
     /// The memory of the last fetch.
-    of_code: Near,
+    of_code: NearMemory,
     /// The memory of the last load or store.
-    of_data: Near,
+    of_data: NearMemory,
 }
 
 impl Model for Regions {
@@ -69,8 +69,8 @@ impl Regions {
     {
         Regions {
             list,
-            of_code: Near::none(),
-            of_data: Near::none(),
+            of_code: NearMemory::none(),
+            of_data: NearMemory::none(),
         }
     }
 
@@ -104,7 +104,7 @@ impl Regions {
     /// The place of an address in the memory of the last fetch that was sought by `find_code`.
     /// `None` says nothing: `find_code` is to be asked.
     #[inline(always)]
-    pub fn near_code(&self, at: u32) -> Option<Place>
+    pub fn near_code(&self, at: u32) -> Option<MemoryPlace>
         ensures { IfSome result (IsPlace self.now at) }
     {
         self.of_code.place(at)
@@ -112,7 +112,7 @@ impl Regions {
 
     /// The same for loads and stores, which `find_data` seeks.
     #[inline(always)]
-    pub fn near_data(&self, at: u32) -> Option<Place>
+    pub fn near_data(&self, at: u32) -> Option<MemoryPlace>
         ensures { IfSome result (IsPlace self.now at) }
     {
         self.of_data.place(at)
@@ -128,7 +128,7 @@ impl Regions {
             return Target::Nothing;
         };
         if let RegionKind::Ram(part) = region.kind {
-            self.of_code = Near::of(&region, part);
+            self.of_code = NearMemory::of(&region, part);
         }
         region.target(at)
     }
@@ -144,7 +144,7 @@ impl Regions {
             return Target::Nothing;
         };
         if let RegionKind::Ram(part) = region.kind {
-            self.of_data = Near::of(&region, part);
+            self.of_data = NearMemory::of(&region, part);
         }
         region.target(at)
     }

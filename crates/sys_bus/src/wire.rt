@@ -67,8 +67,8 @@ fn has_line(kinds: &[Kind], dev: u8) -> bool
     ensures { result ≡ wire_spec.has_line kinds.now dev }
 {
     match kinds.get(usize::from(dev)) {
-        Some(Kind::Uart | Kind::Can) => true,
-        Some(Kind::Finisher) | None => false,
+        Some(kind) => kind.has_line(),
+        None => false,
     }
 }
 

@@ -5,7 +5,7 @@ use Rattle.page_ram.specs.Access.{IsInOnePage}
 use Rattle.plic.specs.declared.state.PlicState.{PlicState}
 use Rattle.plic.specs.State.{Controller, IsPlicState}
 use Rattle.rv_exec.specs.Access.{IsAccess}
-use Rattle.sys_bus.specs.declared.near.Place.{Place}
+use Rattle.sys_bus.specs.declared.near.MemoryPlace.{MemoryPlace}
 use Rattle.sys_bus.specs.declared.region.Target.{Target}
 use Rattle.sys_bus.specs.declared.region.Target.TheVariants.{Ram, Clint, Plic, Dev, Nothing}
 use Rattle.sys_bus.specs.Plan.{IsValid}
@@ -40,13 +40,13 @@ IsInPage width (Plic at) = Unit {0}
 IsInPage width Nothing = Unit {0}
 
 -- each access at an address belongs to this place of a memory
-pub record HoldsAccess (s : Space) (at : ℕ) (place : Place) (width : ℕ) : Type 0 where
+pub record HoldsAccess (s : Space) (at : ℕ) (place : MemoryPlace) (width : ℕ) : Type 0 where
   pub target : target_at s at width ≡ Ram place.part place.at
   pub part : place.part < length s.memories
   pub lies : place.at + width ≤ length (memory_at s place.part)
   pub page : IsInOnePage place.at width
 
-abbrev pub HoldsAccesses : Space → ℕ → Place → Type 0
+abbrev pub HoldsAccesses : Space → ℕ → MemoryPlace → Type 0
 HoldsAccesses s at place = (width : ℕ) → IsAccess at width → HoldsAccess s at place width
 
 -- a state that an interrupt controller can have, where there is one

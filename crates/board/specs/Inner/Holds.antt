@@ -4,10 +4,10 @@ use Rattle.std.specs.List.{range_with_len}
 use Rattle.rv_hart.specs.Core.{Core}
 use Rattle.board.specs.Valid.{IsReservation}
 use Rattle.board.specs.View.{View, State}
-use Rattle.board.specs.Wires.{Wires}
+use Rattle.board.specs.HartBus.{HartBus}
 
--- a board of these processors, of which this one takes the next slot, with these reservations and these wires
-abbrev pub state_of : List Core → ℕ → List (Option ℕ) → Wires → State
+-- a board of these processors, of which this one takes the next slot, with these reservations and this bus
+abbrev pub state_of : List Core → ℕ → List (Option ℕ) → HartBus → State
 state_of cores next watch w = record {
   view = record { numbers = w.numbers; cores = cores; next = next; watch = watch; space = w.space };
   posts = w.posts;
@@ -15,7 +15,7 @@ state_of cores next watch w = record {
 }
 
 -- a board of one processor
-abbrev pub state_alone : Core → List (Option ℕ) → Wires → State
+abbrev pub state_alone : Core → List (Option ℕ) → HartBus → State
 state_alone core watch w = state_of (core ∷ []) 0 watch w
 
 pub record Holds (v : View) : Type 0 where

@@ -10,26 +10,26 @@ use Rattle.rv_atomic.specs.declared.shared.Shared.{Shared}
 use Rattle.rv_atomic.specs.declared.shared.Shared.TheVariants as shared
 use Rattle.rv_atomic.specs.Means.{atomic_of}
 use Rattle.sys_bus.specs.declared.plan.BoardPlan.{BoardPlan}
-use Rattle.board.specs.declared.slot.Ways.{Ways}
+use Rattle.board.specs.declared.slot.Features.{Features}
 use Rattle.board.specs.Idle.{core_passed, turns_of}
-use Rattle.board.specs.HartView.{HartView, HartState, hart_state}
+use Rattle.board.specs.HartView.{HartView, SlotState, slot_state}
 use Rattle.board.specs.Inner.Remembers.{is_wired}
-use Rattle.board.specs.Wires.{Wires}
+use Rattle.board.specs.HartBus.{HartBus}
 
 -- what the processor of a number sees
-abbrev pub seen : ℕ → Core → List (Option ℕ) → Wires → HartView
-seen hart core watch w = (hart_state hart core watch w).view
+abbrev pub seen : ℕ → Core → List (Option ℕ) → HartBus → HartView
+seen hart core watch w = (slot_state hart core watch w).view
 
 -- what is made in a slot comes after what was made before
-abbrev pub behind : HartState → HartState → HartState
+abbrev pub behind : SlotState → SlotState → SlotState
 behind s run = record { view = run.view; posts = s.posts ++ run.posts; entries = s.entries ++ run.entries }
 
 -- whether processors may share words of memory: there are several, or there are atomic instructions
 abbrev pub is_shared : BoardPlan → Bool
 is_shared plan = not (length plan.cpus == 1) || plan.letters.a
 
-abbrev pub ways_of : BoardPlan → Ways
-ways_of plan = record { shared = is_shared plan; wired = is_wired plan; halves = plan.letters.c }
+abbrev pub features_of : BoardPlan → Features
+features_of plan = record { shared = is_shared plan; wired = is_wired plan; halves = plan.letters.c }
 
 -- what a word is on a processor of these letters: an atomic instruction, where it has those, or anything else
 abbrev pub shared_of_word : Letters → ℕ → Shared

@@ -67,7 +67,7 @@ impl<D: Device> Board<D> {
             (mip_of self.old.view.space (timer_up self.old.view.space.timer now.0) hart)) }
         ensures same { self.new ≡ self.old }
     {
-        match self.wires.space.known_lines(wired, hart, now) {
+        match self.bus.space.known_lines(wired, hart, now) {
             Some(lines) => is_idle(&self.harts[usize::from(hart)], lines.mip),
             None => false,
         }
@@ -81,7 +81,7 @@ impl<D: Device> Board<D> {
         ensures still { (t : ℕ) → now.0 ≤ t → t < result.0 →
             timer_up self.now.view.space.timer t ≡ timer_up self.now.view.space.timer now.0 }
     {
-        self.wires.space.timer_stays_until(now, last)
+        self.bus.space.timer_stays_until(now, last)
     }
 
     /// Lets so many slots pass.

@@ -6,7 +6,7 @@ ghost use Rattle.board.specs.Space.{memory_at};
 ghost use Rattle.board.specs.Valid.{IsBoard, IsStateFor};
 
 use super::Board;
-use crate::harts::{bring_all_to, harts_are_sound, states_of};
+use crate::harts::{bring_all_to, sound_harts_law, states_of};
 use crate::state::BoardState;
 use dev_core::Device;
 use lab_num::{NoMemory, Rows};
@@ -42,16 +42,16 @@ impl<D: Device> Board<D> {
     {
         let alloc = *self.harts.allocator();
         Ok(BoardState {
-            speed: self.wires.made.numbers.speed,
+            speed: self.bus.outbox.numbers.speed,
             harts: Rows::of(states_of(alloc, &self.harts)?),
             next: self.next,
             reserved: Rows::of(reserved_of(alloc, &self.watch)?),
-            clint: self.wires.space.timer_state(),
-            plic: self.wires.space.controller_state(),
-            devices: Rows::of(self.wires.space.states(alloc)?),
-            shown: Rows::of(self.wires.space.shown(alloc)?),
-            posted: self.wires.made.numbers.posted,
-            entries: self.wires.made.numbers.entered,
+            clint: self.bus.space.timer_state(),
+            plic: self.bus.space.controller_state(),
+            devices: Rows::of(self.bus.space.states(alloc)?),
+            shown: Rows::of(self.bus.space.shown(alloc)?),
+            posted: self.bus.outbox.numbers.posted,
+            entries: self.bus.outbox.numbers.entered,
         })
     }
 
@@ -60,11 +60,11 @@ impl<D: Device> Board<D> {
         requires { IsStateFor self.old.view.space.plan s.now }
         ensures { self.new ≡ record self.old { view = brought_to self.old.view s.now } }
     {
-        self.wires.made.numbers.bring_to(s);
+        self.bus.outbox.numbers.bring_to(s);
         bring_all_to(&mut self.harts, s.harts.items());
         self.next = s.next;
         reserve_all(&mut self.watch, s.reserved.items());
-        self.wires.space.bring_to(s);
+        self.bus.space.bring_to(s);
     }
 
     /// The bytes of a memory.
@@ -72,7 +72,7 @@ impl<D: Device> Board<D> {
         requires { part < length self.now.view.space.memories }
         ensures { result.now ≡ memory_at self.now.view.space part }
     {
-        self.wires.space.memory(part)
+        self.bus.space.memory(part)
     }
 
     /// Puts another memory of the same size in the place of one, and ends all reservations.
@@ -82,17 +82,17 @@ impl<D: Device> Board<D> {
         ensures { self.new ≡ record self.old { view = with_memory_in self.old.view part memory } }
     {
         self.watch.clear();
-        self.wires.space.put_memory(part, memory);
+        self.bus.space.put_memory(part, memory);
     }
 
     /// At every moment a board is one that there can be. Nothing is changed and told when this
     /// runs: a proof that needs the fact calls it.
-    pub fn is_one_that_can_be(&self)
+    pub fn validity_law(&self)
         ensures { IsBoard self.now.view }
     {
-        let _plan = self.wires.space.plan();
-        harts_are_sound(&self.harts);
-        let _controller = self.wires.space.controller_state();
-        self.wires.space.shown_ones_may_be();
+        let _plan = self.bus.space.plan();
+        sound_harts_law(&self.harts);
+        let _controller = self.bus.space.controller_state();
+        self.bus.space.shown_devices_law();
     }
 }

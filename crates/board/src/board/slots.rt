@@ -3,17 +3,17 @@ ghost use Rattle.std.specs.Prelude.{◌≡◌, ◌+◌, ◌/◌, ◌<◌, ◌≤
 ghost use Rattle.rv_exec.specs.Laws.{IsSameHart};
 ghost use Rattle.board.specs.Inner.Ended.{HasEnded, taken_of};
 ghost use Rattle.board.specs.Inner.Holds.{state_alone};
-ghost use Rattle.board.specs.Inner.Seat.{ways_of};
+ghost use Rattle.board.specs.Inner.Seat.{features_of};
 ghost use Rattle.board.specs.Slot.{slot, number_after};
 ghost use Rattle.board.specs.Stretch.{IsTurn, stretch};
 ghost use Rattle.board.specs.Valid.{IsReservation};
 ghost use Rattle.board.specs.View.{after};
 
 use super::{Board, SlotAt, Turn};
+use crate::hart_bus::HartBus;
 use crate::harts::all_asleep;
 use crate::sharing::shared_slot;
-use crate::slot::{Ways, slot};
-use crate::wires::Wires;
+use crate::slot::{Features, slot};
 use dev_core::Device;
 use lab_num::{Micros, NoMemory};
 use rv_atomic::Watch;
@@ -62,26 +62,26 @@ fn number_after(harts: u8, number: u8) -> u8
 fn slots_alone<const COPY: u8, D: Device>(
     hart: &mut Hart,
     watch: &mut Watch,
-    wires: &mut Wires<D>,
-    ways: Ways,
+    bus: &mut HartBus<D>,
+    features: Features,
     now: Micros,
     count: u64,
 ) -> Ended
-    requires alone { ways.shared ≡ false }
-    requires ways { ways ≡ ways_of wires.old.space.plan }
-    requires letters { hart.old.letters ≡ wires.old.space.plan.letters }
-    requires harts { length watch.old ≡ length wires.old.space.plan.cpus }
-    requires most { count ≤ wires.old.numbers.speed }
+    requires alone { features.shared ≡ false }
+    requires features { features ≡ features_of bus.old.space.plan }
+    requires letters { hart.old.letters ≡ bus.old.space.plan.letters }
+    requires harts { length watch.old ≡ length bus.old.space.plan.cpus }
+    requires most { count ≤ bus.old.numbers.speed }
     ensures ended { HasEnded count result }
-    ensures run { let old = state_alone hart.old watch.old wires.old in
-        state_alone hart.new watch.new wires.new ≡ after old (stretch old.view now.0 0 (taken_of count result)) }
+    ensures run { let old = state_alone hart.old watch.old bus.old in
+        state_alone hart.new watch.new bus.new ≡ after old (stretch old.view now.0 0 (taken_of count result)) }
     ensures same { IsSameHart hart.old hart.new }
     ensures watch { length watch.new ≡ length watch.old }
-    ensures reserved { All (IsReservation wires.old.space.plan) watch.old →
-        All (IsReservation wires.old.space.plan) watch.new }
+    ensures reserved { All (IsReservation bus.old.space.plan) watch.old →
+        All (IsReservation bus.old.space.plan) watch.new }
 {
     for i in 0..count {
-        let Ok(idle) = slot::<COPY, D>(hart, 0, watch, wires, ways, now) else {
+        let Ok(idle) = slot::<COPY, D>(hart, 0, watch, bus, features, now) else {
             return Ended::Starved(i);
         };
         if idle {
@@ -93,13 +93,13 @@ fn slots_alone<const COPY: u8, D: Device>(
 
 impl<D: Device> Board<D> {
     /// What is asked of the plan once in a turn.
-    pub(super) fn ways(&self) -> Ways
-        ensures { result ≡ ways_of self.now.view.space.plan }
+    pub(super) fn features(&self) -> Features
+        ensures { result ≡ features_of self.now.view.space.plan }
     {
-        let plan = self.wires.space.plan();
-        Ways {
+        let plan = self.bus.space.plan();
+        Features {
             shared: plan.cpus.items().len() != 1 || plan.letters.a,
-            wired: self.wires.space.is_wired(),
+            wired: self.bus.space.is_wired(),
             halves: plan.letters.c,
         }
     }
@@ -116,11 +116,11 @@ impl<D: Device> Board<D> {
         n: u64,
     ) -> Turn
         requires time { at.from.0 + (at.first + n) / self.old.view.numbers.speed ≤ 10000000000 }
-        requires ways { record { shared = shared; wired = wired; halves = halves }
-            ≡ ways_of self.old.view.space.plan }
+        requires features { record { shared = shared; wired = wired; halves = halves }
+            ≡ features_of self.old.view.space.plan }
         ensures { IsTurn self.old at.from.0 at.first n result self.new }
     {
-        let ways = Ways {
+        let features = Features {
             shared,
             wired,
             halves,
@@ -131,7 +131,7 @@ impl<D: Device> Board<D> {
         let mut i = 0;
         while i < n {
             let count = u64::min(speed - within, n - i);
-            match self.slots_of::<COPY>(ways, Micros(at.from.0 + micros), count) {
+            match self.slots_of::<COPY>(features, Micros(at.from.0 + micros), count) {
                 Ended::All => {
                     i += count;
                     within += count;
@@ -155,42 +155,42 @@ impl<D: Device> Board<D> {
     /// The next `count` slots, all in this microsecond, or those up to one after which the next ones
     /// may pass by themselves.
     #[inline(always)]
-    fn slots_of<const COPY: u8>(&mut self, ways: Ways, now: Micros, count: u64) -> Ended
-        requires ways { ways ≡ ways_of self.old.view.space.plan }
+    fn slots_of<const COPY: u8>(&mut self, features: Features, now: Micros, count: u64) -> Ended
+        requires features { features ≡ features_of self.old.view.space.plan }
         requires most { count ≤ self.old.view.numbers.speed }
         ensures ended { HasEnded count result }
         ensures run { self.new ≡ after self.old (stretch self.old.view now.0 0 (taken_of count result)) }
     {
-        if ways.shared {
-            self.slots_of_shared(ways, now, count)
+        if features.shared {
+            self.slots_of_shared(features, now, count)
         } else {
-            self.slots_of_one::<COPY>(ways, now, count)
+            self.slots_of_one::<COPY>(features, now, count)
         }
     }
 
     /// The same of a board of one processor without atomic instructions.
     #[inline(always)]
-    fn slots_of_one<const COPY: u8>(&mut self, ways: Ways, now: Micros, count: u64) -> Ended
-        requires alone { ways.shared ≡ false }
-        requires ways { ways ≡ ways_of self.old.view.space.plan }
+    fn slots_of_one<const COPY: u8>(&mut self, features: Features, now: Micros, count: u64) -> Ended
+        requires alone { features.shared ≡ false }
+        requires features { features ≡ features_of self.old.view.space.plan }
         requires most { count ≤ self.old.view.numbers.speed }
         ensures ended { HasEnded count result }
         ensures run { self.new ≡ after self.old (stretch self.old.view now.0 0 (taken_of count result)) }
     {
         let hart = &mut self.harts[0];
-        slots_alone::<COPY, D>(hart, &mut self.watch, &mut self.wires, ways, now, count)
+        slots_alone::<COPY, D>(hart, &mut self.watch, &mut self.bus, features, now, count)
     }
 
     /// The same of any other board. Each kind has a loop of its own.
     #[inline(always)]
-    fn slots_of_shared(&mut self, ways: Ways, now: Micros, count: u64) -> Ended
-        requires shared { ways.shared ≡ true }
-        requires ways { ways ≡ ways_of self.old.view.space.plan }
+    fn slots_of_shared(&mut self, features: Features, now: Micros, count: u64) -> Ended
+        requires shared { features.shared ≡ true }
+        requires features { features ≡ features_of self.old.view.space.plan }
         requires most { count ≤ self.old.view.numbers.speed }
         ensures ended { HasEnded count result }
         ensures run { self.new ≡ after self.old (stretch self.old.view now.0 0 (taken_of count result)) }
     {
-        match (ways.wired, ways.halves) {
+        match (features.wired, features.halves) {
             (false, false) => self.slots_in_turn::<SHARED>(false, false, now, count),
             (true, false) => self.slots_in_turn::<SHARED_WIRED>(true, false, now, count),
             (false, true) => self.slots_in_turn::<SHARED_HALVES>(false, true, now, count),
@@ -208,18 +208,19 @@ impl<D: Device> Board<D> {
         now: Micros,
         count: u64,
     ) -> Ended
-        requires ways { record { shared = true; wired = wired; halves = halves } ≡ ways_of self.old.view.space.plan }
+        requires features { record { shared = true; wired = wired; halves = halves }
+            ≡ features_of self.old.view.space.plan }
         requires most { count ≤ self.old.view.numbers.speed }
         ensures ended { HasEnded count result }
         ensures run { self.new ≡ after self.old (stretch self.old.view now.0 0 (taken_of count result)) }
     {
-        let ways = Ways {
+        let features = Features {
             shared: true,
             wired,
             halves,
         };
         for i in 0..count {
-            let Ok(idle) = self.slot_in_turn::<COPY>(ways, now) else {
+            let Ok(idle) = self.slot_in_turn::<COPY>(features, now) else {
                 return Ended::Starved(i);
             };
             if idle && all_asleep(&self.harts) {
@@ -233,8 +234,12 @@ impl<D: Device> Board<D> {
     /// passed by itself. After an `Err` the board is as before.
     #[inline(always)]
     #[tactic(auto, unfolding(crate::specs::Slot::slot))]
-    fn slot_in_turn<const COPY: u8>(&mut self, ways: Ways, now: Micros) -> Result<bool, NoMemory>
-        requires ways { ways ≡ ways_of self.old.view.space.plan }
+    fn slot_in_turn<const COPY: u8>(
+        &mut self,
+        features: Features,
+        now: Micros,
+    ) -> Result<bool, NoMemory>
+        requires features { features ≡ features_of self.old.view.space.plan }
         ensures ok { OnOk result (self.new ≡ after self.old (slot self.old.view now.0)) }
         ensures err { OnErr result (self.new ≡ self.old) }
     {
@@ -244,8 +249,8 @@ impl<D: Device> Board<D> {
             hart,
             number,
             &mut self.watch,
-            &mut self.wires,
-            ways,
+            &mut self.bus,
+            features,
             now,
         );
         let Ok(idle) = taken else {

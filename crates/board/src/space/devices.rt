@@ -10,7 +10,7 @@ ghost use Rattle.board.specs.Inner.Parts.{AreDevices, AreShown, MayBeShown};
 ghost use Rattle.board.specs.New.{reset_device, reset_space};
 
 use super::Space;
-use crate::fitted::Fitted;
+use crate::board_device::BoardDevice;
 use dev_core::{DevState, Device, Effect, Payload, Taken};
 use lab_num::NoMemory;
 use std::alloc::Global;
@@ -28,7 +28,7 @@ fn register_at(step: u8, at: u32) -> Option<u32>
 }
 
 /// Devices are shown only where they may be.
-fn shown_ones_may_be<D: Device>(devices: &[Fitted<D>])
+fn shown_devices_law<D: Device>(devices: &[BoardDevice<D>])
     ensures { All (λ f. MayBeShown (kind_of f.state) f.shown) devices.now }
 {
     for device in devices {
@@ -37,7 +37,7 @@ fn shown_ones_may_be<D: Device>(devices: &[Fitted<D>])
 }
 
 /// Brings each device to its state, shown or not.
-fn bring_all_to<D: Device>(devices: &mut [Fitted<D>], states: &[DevState], shown: &[bool])
+fn bring_all_to<D: Device>(devices: &mut [BoardDevice<D>], states: &[DevState], shown: &[bool])
     requires devices { AreDevices (map (λ f. kind_of f.state) devices.old) states.now }
     requires shown { AreShown (map (λ f. kind_of f.state) devices.old) shown.now }
     ensures { devices.new ≡ devices_in states.now shown.now }
@@ -110,10 +110,10 @@ impl<D: Device> Space<D> {
     }
 
     /// At every moment a device that is shown is a UART or a CAN controller.
-    pub fn shown_ones_may_be(&self)
+    pub fn shown_devices_law(&self)
         ensures { All (λ f. MayBeShown (kind_of f.state) f.shown) self.now.devices }
     {
-        shown_ones_may_be(&self.devices);
+        shown_devices_law(&self.devices);
     }
 
     /// The states of the devices.

@@ -11,7 +11,7 @@ use super::interrupts::sample;
 use crate::remembered::Remembered;
 use dev_core::Device;
 use lab_num::Micros;
-use plic::{second_samples_change_nothing, sets_have_what_passes};
+use plic::laws;
 use rv_hart::{Lines, MOST_HARTS};
 use sys_bus::{Wire, WireFrom, WirePin};
 
@@ -177,7 +177,7 @@ impl<D: Device> Space<D> {
     fn sources_up(&self) -> u128
         ensures { result ≡ sources_up self.now }
     {
-        sets_have_what_passes();
+        laws::sets_have_what_passes();
         let wires = self.plan.wires.items();
         let mut set = 0;
         for wire in wires {
@@ -191,7 +191,7 @@ impl<D: Device> Space<D> {
         ensures after { self.new ≡ sampled self.old }
         ensures settled { sampled self.new ≡ self.new }
     {
-        second_samples_change_nothing();
+        laws::second_samples_change_nothing();
         let sources = self.sources_up();
         self.remembered = None;
         sample(&mut self.controller, sources);

@@ -2,7 +2,7 @@
 ghost use Rattle.std.specs.Prelude.{◌≡◌, ◌+◌, ◌<◌, ◌≤◌, ◌%◌, length, take, IsTrue, IfOk, OnOk, OnErr};
 ghost use Rattle.page_ram.specs.Bytes.{zeros};
 ghost use Rattle.board.specs.Space.{memory_at, with_memory};
-ghost use Rattle.board.specs.Wires.{word_in};
+ghost use Rattle.board.specs.HartBus.{word_in};
 ghost use Rattle.board.specs.Changes.{in_memory, holds_each, copied};
 ghost use Rattle.board.specs.Inner.Copies.{CopiesPrefix, HasRoom, IsRoom};
 
@@ -10,7 +10,7 @@ use super::Space;
 use dev_core::Device;
 use lab_num::NoMemory;
 use page_ram::PageRam;
-use sys_bus::{Target, bytes_of_a_region_belong_together};
+use sys_bus::{Target, laws};
 
 /// Bytes of a memory, from an address to the memory's end.
 #[derive(Clone, Copy)]
@@ -27,7 +27,7 @@ impl<D: Device> Space<D> {
     fn room_at(&self, at: u64) -> Option<Room>
         ensures { IsRoom self.now at result }
     {
-        bytes_of_a_region_belong_together();
+        laws::bytes_of_a_region_belong_together();
         let regions = &self.regions;
         if at > u64::from(u32::MAX) {
             return None;

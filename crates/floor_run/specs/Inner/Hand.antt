@@ -3,7 +3,7 @@ use Rattle.std.specs.Prelude.{◌≡◌, ℕ, ◌*◌, ◌^◌, ◌<◌, false, 
 use Rattle.floor_run.specs.declared.view.View.{View}
 
 module _ {J : Type 0} where
-  -- the slots that a seat has taken: that of the board that it holds, which is empty
+  -- the cells that a seat has taken: that of the board that it holds, which is empty
   abbrev pub carried : View J → Option J → List (ℕ × Option J)
   carried v None = []
   carried v (Some job) = (v.board, None) ∷ []

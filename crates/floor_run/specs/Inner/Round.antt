@@ -20,7 +20,7 @@ module _ {J S : Type 0} (meaning : J → Job S) (sent : J → List Post)
 
   -- what is made of what lay on a board when the bench was closed
   abbrev pub Finished : Option J → J → Type 0
-  Finished slot done = (job : J) × (slot ≡ Some job) × ((meaning job).unsent ≡ [] → Ended job done)
+  Finished cell done = (job : J) × (cell ≡ Some job) × ((meaning job).unsent ≡ [] → Ended job done)
 
   -- the job after some of its slots
   abbrev pub Partly : J → J → Type 0

@@ -7,12 +7,12 @@ use Rattle.floor_run.specs.declared.view.View.{View}
 use Rattle.floor_run.specs.Rule.{home_word}
 use Rattle.floor_run.specs.View.{empty_handed, after_claim}
 
--- a seat: its view, and the slots that it has taken
+-- a seat: its view, and the cells that it has taken
 abbrev pub Seated : Type 0 → Type 0
 Seated J = Me (Option J) (View J)
 
 module _ {J : Type 0} where
-  -- a report of the job in the slot that the seat has taken: the word counts one report more than the claim found, and
+  -- a report of the job in the cell that the seat has taken: the word counts one report more than the claim found, and
   -- the seat holds nothing then
   abbrev pub reports : (J → ℕ) → Step (Option J) → Seated J → ℕ → Seated J → Type 0
   reports left st m n m' =
@@ -24,7 +24,7 @@ module _ {J : Type 0} where
   Missed i m n m' = ((n % 4 ≡ 1) ⊎ (n % 4 ≡ 3)) × (m' ≡ (after_claim m.0 i n None, m.1))
 
   module _ (left : J → ℕ) (AfterTurns : J → ℕ → J → Type 0) where
-    -- and where it was at home with slots left: the seat has taken the board's slot
+    -- and where it was at home with slots left: the seat has taken the board's cell
     abbrev pub Won : ℕ → Seated J → ℕ → Seated J → Type 0
     Won i m n m' =
         (start : J) × (job : J) × (get_elem? m.0.starts i ≡ some start) × (n % 4 ≡ 0) × AfterTurns start (n / 4) job

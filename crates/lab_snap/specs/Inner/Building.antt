@@ -5,6 +5,7 @@ use Rattle.std.specs.Option.{option_map}
 use Rattle.board.specs.declared.state.BoardState.{BoardState}
 use Rattle.board.specs.New.{new_board}
 use Rattle.board.specs.View.{View}
+use Rattle.dev_core.specs.Kind.{row_of}
 use Rattle.lab_num.specs.Name.{is_name}
 use Rattle.lab_num.specs.Route.{StandOnce}
 use Rattle.lab_state.specs.Board.{Board}
@@ -14,7 +15,6 @@ use Rattle.lab_state.specs.Names.{AreNames, NamesDiffer}
 use Rattle.lab_state.specs.One.{kind_at}
 use Rattle.lab_snap.specs.declared.hub.SavedHub.{SavedHub}
 use Rattle.lab_snap.specs.declared.lab.SavedBoard.{SavedBoard}
-use Rattle.lab_snap.specs.Loaded.{kind_of_hub}
 use Rattle.lab_snap.specs.Machine.{Machine}
 
 -- a board with these memories
@@ -52,9 +52,10 @@ pub record CanBeAdded (boards : List SavedBoard) : Type 0 where
 
 -- hubs that can be created beside these boards in a laboratory without hubs
 pub record CanBeCreated (boards : List Board) (hubs : List SavedHub) : Type 0 where
+  pub kinds : All (λ hub. IsTrue (row_of hub.kind).joins_hubs) hubs
   pub forms : All (λ hub. IsTrue (is_name hub.name)) hubs
   pub delays : All (λ hub. hub.delay ≤ 1000000) hubs
   pub names : AreNames (map (λ board. board.name) boards) (map (λ hub. hub.name) hubs)
   pub few : length hubs < 2 ^ 32
-  pub members : All (λ hub. All (λ m. kind_at boards m ≡ Some (kind_of_hub hub.kind)) hub.members) hubs
+  pub members : All (λ hub. All (λ m. kind_at boards m ≡ Some hub.kind) hub.members) hubs
   pub once : StandOnce (map (λ hub. hub.members) hubs)

@@ -17,7 +17,6 @@ use Rattle.lab_snap.specs.Inner.Parts.{AreBoards, AreHubs, AreOpenIn, AreTimes, 
 use Rattle.lab_snap.specs.Inner.Parts.{IsBoardAt, IsHubIn, IsMachineAt, IsWaitingAt, delay_in, is_open}
 use Rattle.lab_snap.specs.Inner.Parts.{kind_in, machine_at, names_of}
 use Rattle.lab_snap.specs.Inner.ValidPlan.{is_valid_plan, valid_plan_decides}
-use Rattle.lab_snap.specs.Loaded.{kind_of_hub}
 use Rattle.lab_snap.specs.Machine.{IsMachine, Machine}
 
 times_decided : (time quantum : ℕ) → Decided (AreTimes time quantum)
@@ -55,10 +54,10 @@ boards_decided time boards =
 hub_decided : (boards : List SavedBoard) (hub : SavedHub) → Decided (IsHubIn boards hub)
 hub_decided boards hub =
     told_by
-    (three (tested _) (at_most _ _)
-    (each (λ m. has_value same_kind (kind_in boards m) (kind_of_hub hub.kind)) hub.members))
-    (λ (a, b, c). record { own = record { name = a; delay = b }; members = c })
-    (λ h. (h.own.name, h.own.delay, h.members))
+    (four (tested _) (tested _) (at_most _ _)
+    (each (λ m. has_value same_kind (kind_in boards m) hub.kind) hub.members))
+    (λ (a, b, c, d). record { own = record { kind = a; name = b; delay = c }; members = d })
+    (λ h. (h.own.kind, h.own.name, h.own.delay, h.members))
 
 hubs_decided : (boards : List SavedBoard) (hubs : List SavedHub) → Decided (AreHubs boards hubs)
 hubs_decided boards hubs =

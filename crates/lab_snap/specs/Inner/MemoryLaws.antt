@@ -8,8 +8,9 @@ use Rattle.std.proofs.lemmas.List.{length-replicate, replicate-append-replicate,
 use Rattle.std.proofs.Math.Nat.{mul-suc, mul-zero}
 use Rattle.page_ram.specs.Bytes.{zeros}
 use Rattle.page_ram.specs.Pages.{is_zero}
-use Rattle.lab_spell.specs.Form.{IsLawful}
-use Rattle.lab_spell.specs.Inner.Laws.{bytes_lawful, list_lawful, next_lawful, number_lawful, only_lawful, shown_lawful}
+use Rattle.lab_encoding.specs.Form.{IsLawful}
+use Rattle.lab_encoding.specs.Inner.Laws.{bytes_lawful, list_lawful, next_lawful, number_lawful, only_lawful}
+use Rattle.lab_encoding.specs.Inner.Laws.{shown_lawful}
 use Rattle.lab_snap.specs.Inner.Pages.{is_next}
 use Rattle.lab_snap.specs.Page.{page_form}
 use Rattle.lab_snap.specs.Memory.{IsMemory, are_used, memory_form, memory_of, page_at, pages, pages_form, pages_from}

@@ -1,7 +1,7 @@
 -- Writing and reading pages.
 use Rattle.std.specs.Prelude.{ℕ, List, [], Option, Some, None, Bool, not, nat_le, nat_lt, ◌&&◌, if◌then◌else◌}
 use Rattle.page_ram.specs.Pages.{is_zero}
-use Rattle.lab_spell.specs.Combine.{◌>>=◌, parse_times}
+use Rattle.lab_encoding.specs.Combine.{◌>>=◌, parse_times}
 use Rattle.lab_snap.specs.Memory.{are_used, memory_of}
 use Rattle.lab_snap.specs.Page.{page_form}
 

@@ -17,15 +17,13 @@ use Rattle.lab_num.specs.declared.key.Member.{Member}
 use Rattle.lab_num.specs.Key.{same_member}
 use Rattle.lab_num.specs.Name.{is_name}
 use Rattle.lab_num.specs.Route.{StandOnce, has_member}
-use Rattle.sys_bus.specs.Limits.{is_kind}
+use Rattle.dev_core.specs.Kind.{is_kind}
 use Rattle.log_text.specs.declared.line.OpenLine.{OpenLine}
 use Rattle.log_text.specs.Line.{are_unended}
-use Rattle.lab_snap.specs.declared.hub.HubKind.{HubKind}
 use Rattle.lab_snap.specs.declared.hub.SavedHub.{SavedHub}
 use Rattle.lab_snap.specs.declared.lab.SavedBoard.{SavedBoard}
 use Rattle.lab_snap.specs.declared.lab.SavedLab.{SavedLab}
 use Rattle.lab_snap.specs.Hub.{IsHub}
-use Rattle.lab_snap.specs.Loaded.{kind_of_hub}
 use Rattle.lab_snap.specs.Machine.{Machine, IsMachine}
 use Rattle.lab_snap.specs.Rising.{rise}
 
@@ -77,10 +75,10 @@ kind_in boards m = option_and_then (λ machine. slice_get machine.plan.kinds m.d
 -- ---- hubs
 
 -- a device of these boards that can be in a hub of a kind
-abbrev pub IsMemberOf : List SavedBoard → HubKind → Member → Type 0
-IsMemberOf boards kind m = kind_in boards m ≡ Some (kind_of_hub kind)
+abbrev pub IsMemberOf : List SavedBoard → Kind → Member → Type 0
+IsMemberOf boards kind m = kind_in boards m ≡ Some kind
 
--- a hub with a name and a delay that a hub can have, of such devices
+-- a hub that can stand in a laboratory, of such devices
 pub record IsHubIn (boards : List SavedBoard) (hub : SavedHub) : Type 0 where
   pub own : IsHub hub
   pub members : All (IsMemberOf boards hub.kind) hub.members

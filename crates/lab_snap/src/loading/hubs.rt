@@ -1,16 +1,17 @@
 //! The hubs of a saved laboratory are created, and their members connected.
 ghost use Rattle.std.specs.Prelude.{◌≡◌, ◌+◌, ◌++◌, ◌∷◌, ◌<◌, ◌≤◌, ◌^◌, [], false, length, map, All, IsSome, IsTrue};
 ghost use Rattle.std.specs.Prelude.{OnErr, OnOk, Some};
+ghost use Rattle.dev_core.specs.Kind.{row_of};
 ghost use Rattle.lab_num.specs.Name.{is_name};
 ghost use Rattle.lab_num.specs.Route.{is_connected, StandOnce};
 ghost use Rattle.lab_state.specs.Hub.{members_of};
 ghost use Rattle.lab_state.specs.Names.{connected_to, hub_named, is_taken, kind_named};
 ghost use Rattle.lab_state.specs.One.{kind_at};
 ghost use Rattle.lab_snap.specs.Inner.Building.{with_hubs, CanBeCreated};
-ghost use Rattle.lab_snap.specs.Loaded.{kind_of_hub, loaded_hub};
+ghost use Rattle.lab_snap.specs.Loaded.{loaded_hub};
 
-use crate::hub::{HubKind, SavedHub};
-use dev_core::Device;
+use crate::hub::SavedHub;
+use dev_core::{Device, Kind};
 use lab_num::{Member, NoMemory};
 use lab_state::{ConnectFault, HubNameFault, Lab};
 
@@ -18,24 +19,20 @@ use lab_state::{ConnectFault, HubNameFault, Lab};
 fn create_bare<D: Device>(
     lab: &mut Lab<D>,
     name: &str,
-    kind: HubKind,
+    kind: Kind,
     delay: u32,
 ) -> Result<(), NoMemory>
     requires unspent { lab.old.spent ≡ false }
     requires is_name { IsTrue (is_name name.now) }
+    requires kind { IsTrue (row_of kind).joins_hubs }
     requires delay { delay ≤ 1000000 }
     requires room { length lab.old.lab.hubs + 1 < 2 ^ 32 }
     requires free { is_taken lab.old.lab name.now ≡ false }
     ensures ok { OnOk result (lab.new ≡ with_hubs lab.old (lab.old.lab.hubs
-        ++ record { name = name.now; kind = kind_of_hub kind; delay = delay; members = [] } ∷ [])) }
+        ++ record { name = name.now; kind = kind; delay = delay; members = [] } ∷ [])) }
     ensures err { OnErr result (lab.new ≡ lab.old) }
 {
-    let delay = u64::from(delay);
-    let created = match kind {
-        HubKind::Uart => lab.create_uart_hub(name, delay),
-        HubKind::Can => lab.create_can_hub(name, delay),
-    };
-    match created {
+    match lab.create_hub(name, kind, u64::from(delay)) {
         Ok(()) => Ok(()),
         Err(HubNameFault::Memory) => Err(NoMemory),
         Err(HubNameFault::Taken) => unreachable!(),
@@ -64,10 +61,11 @@ fn connect<D: Device>(lab: &mut Lab<D>, member: Member, hub: &str) -> Result<(),
 fn create<D: Device>(lab: &mut Lab<D>, hub: &SavedHub) -> Result<(), NoMemory>
     requires unspent { lab.old.spent ≡ false }
     requires is_name { IsTrue (is_name hub.now.name) }
+    requires kind { IsTrue (row_of hub.now.kind).joins_hubs }
     requires delay { hub.now.delay ≤ 1000000 }
     requires room { length lab.old.lab.hubs + 1 < 2 ^ 32 }
     requires free { is_taken lab.old.lab hub.now.name ≡ false }
-    requires members { All (λ m. kind_at lab.old.lab.boards m ≡ Some (kind_of_hub hub.now.kind)) hub.now.members }
+    requires members { All (λ m. kind_at lab.old.lab.boards m ≡ Some hub.now.kind) hub.now.members }
     requires once { StandOnce (members_of lab.old.lab.hubs ++ hub.now.members ∷ []) }
     ensures ok { OnOk result (lab.new ≡ with_hubs lab.old (lab.old.lab.hubs ++ loaded_hub hub.now ∷ [])) }
     ensures unspent { lab.new.spent ≡ false }

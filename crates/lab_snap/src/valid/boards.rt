@@ -24,7 +24,7 @@ fn is_count(time: Micros, count: u64) -> bool
 fn is_machine(time: Micros, machine: &SavedMachine) -> bool
     ensures { IsTrue result ↔ IsMachineAt time.0 machine.now }
 {
-    machine.is_one_that_can_be();
+    machine.validity_law();
     let state = machine.state();
     state_fits(machine.plan(), state)
         && is_count(time, state.posted)

@@ -7,7 +7,7 @@ ghost use Rattle.lab_num.specs.Key.{same_member};
 ghost use Rattle.lab_snap.specs.Inner.Parts.{AreDelays, AreHubs, IsHubIn, IsMemberOf, places};
 
 use super::boards::kind_in;
-use crate::hub::{HubKind, SavedHub};
+use crate::hub::SavedHub;
 use crate::lab::SavedBoard;
 use dev_core::Kind;
 use indexmap::IndexMap;
@@ -21,12 +21,12 @@ pub type Delays = IndexMap<Member, u32>;
 const TOO_MANY_HUBS: u64 = 1 << 32;
 
 /// Whether a device can be in a hub of a kind.
-fn is_member(boards: &[SavedBoard], kind: HubKind, member: Member) -> bool
+fn is_member(boards: &[SavedBoard], kind: Kind, member: Member) -> bool
     ensures { IsTrue result ↔ IsMemberOf boards.now kind member }
 {
-    match (kind, kind_in(boards, member)) {
-        (HubKind::Uart, Some(Kind::Uart)) | (HubKind::Can, Some(Kind::Can)) => true,
-        _ => false,
+    match kind_in(boards, member) {
+        Some(own) => own == kind,
+        None => false,
     }
 }
 

@@ -1,13 +1,12 @@
 //! The posts that wait in a laboratory.
 ghost use Rattle.std.specs.Prelude.{◌≡◌, ◌+◌, ◌<◌, ◌↔◌, IsTrue};
-ghost use Rattle.board.specs.Sent as sent;
 ghost use Rattle.lab_snap.specs.Inner.Parts.{AreWaiting, HasNumber, HasPayload, IsWaitingAt, delay_by};
 ghost use Rattle.lab_snap.specs.Rising as rising;
 
 use super::boards::{kind_in, machine_at};
 use super::hubs::Delays;
 use crate::lab::{SavedBoard, SavedLab};
-use dev_core::{Kind, Payload, Post};
+use dev_core::Post;
 use lab_num::{Key, Member, Micros};
 
 /// How long what a device sends is held back. A device in no hub sends to nobody.
@@ -22,17 +21,6 @@ fn is_on_its_way(now: Micros, at: Micros, delay: u32) -> bool
     ensures { IsTrue result ↔ ((at.0 < now.0) × (now.0 < at.0 + delay)) }
 {
     at.0 < now.0 && now.0 - at.0 < u64::from(delay)
-}
-
-fn is_of_kind(kind: Kind, payload: Payload) -> bool
-    ensures { result ≡ sent.is_of_kind kind payload }
-{
-    match (kind, payload) {
-        (Kind::Uart, Payload::Byte(_)) => true,
-        (Kind::Can, Payload::Frame(_)) => true,
-        (Kind::Finisher, Payload::Finish(_)) => true,
-        _ => false,
-    }
 }
 
 /// Whether the board of the post's key, if it has a plan, has given the key's number.
@@ -50,7 +38,7 @@ fn has_payload(boards: &[SavedBoard], post: &Post) -> bool
     ensures { IsTrue result ↔ HasPayload boards.now post.now }
 {
     match kind_in(boards, post.from) {
-        Some(kind) => is_of_kind(kind, post.payload),
+        Some(kind) => kind.sends(post.payload),
         None => true,
     }
 }

@@ -5,7 +5,7 @@ use Rattle.std.specs.Option.{option_map_or}
 use Rattle.board.specs.View.{View, quiet}
 use Rattle.hub_mail.specs.Pass.{MailId, fresh as new_pass}
 use Rattle.time_handle.specs.Grant.{Grant, fresh}
-use Rattle.parcel.specs.Parcel.{Parcel}
+use Rattle.board_job.specs.BoardJob.{BoardJob}
 use Rattle.lab_state.specs.Board.{Board}
 
 -- whether a board has a processor that neither waits nor is halted
@@ -15,23 +15,23 @@ is_awake board =
 
 -- a board that has a plan, with its part of a grant of the time from one microsecond to another, and with its pass of a
 -- mail
-abbrev pub parcel_of : MailId → ℕ → ℕ → View → Parcel
-parcel_of mail from to v = record {
+abbrev pub board_job_of : MailId → ℕ → ℕ → View → BoardJob
+board_job_of mail from to v = record {
   board = quiet v;
   grant = fresh from to v.numbers.speed;
   pass = new_pass mail v.numbers.number;
 }
 
 -- what is lent of a board: nothing of one that has no plan
-abbrev pub lent : MailId → ℕ → ℕ → Board → List Parcel
-lent mail from to board = option_map_or (λ v. parcel_of mail from to v ∷ []) board.view []
+abbrev pub lent : MailId → ℕ → ℕ → Board → List BoardJob
+lent mail from to board = option_map_or (λ v. board_job_of mail from to v ∷ []) board.view []
 
 -- what stays of a board that is lent
 abbrev pub away : Board → Board
 away board = record board { view = None }
 
--- the board of a parcel under its name again
-abbrev pub put_back : Board → Parcel → Board
+-- the board of a job under its name again
+abbrev pub put_back : Board → BoardJob → Board
 put_back board p = record board { view = Some p.board.view }
 
 -- a grant of which nothing is used
@@ -44,6 +44,6 @@ each_by f [] ps = []
 each_by f (x ∷ xs) [] = x ∷ xs
 each_by f (x ∷ xs) (p ∷ ps) = f x p ∷ each_by f xs ps
 
--- the grant of a parcel in place of another
-abbrev pub its_grant : Grant → Parcel → Grant
+-- the grant of a job in place of another
+abbrev pub its_grant : Grant → BoardJob → Grant
 its_grant g p = p.grant

@@ -8,7 +8,7 @@ use Rattle.lab_num.specs.Name.{is_name}
 use Rattle.dev_core.specs.declared.kind.Kind.{Kind}
 use Rattle.dev_core.specs.declared.post.Post.{Post}
 use Rattle.dev_core.specs.Device.{kind_of}
-use Rattle.board.specs.Changes.{is_shown_kind}
+use Rattle.dev_core.specs.Kind.{row_of}
 use Rattle.board.specs.Numbers.{Numbers}
 use Rattle.board.specs.Sent.{is_of_kind}
 use Rattle.board.specs.View.{View}
@@ -72,10 +72,10 @@ pub record IsEnough (spares : Spares) (plans : ℕ) : Type 0 where
 abbrev pub AreFormed : List (List ℕ) → Type 0
 AreFormed names = All (λ name. IsTrue (is_name name)) names
 
--- a hub of UARTs or of CAN controllers, whose name has its form
+-- a hub of a kind of devices that joins hubs, whose name has its form
 pub record IsFormed (hub : Hub) : Type 0 where
   pub name : IsTrue (is_name hub.name)
-  pub kind : IsTrue (is_shown_kind hub.kind)
+  pub kind : IsTrue (row_of hub.kind).joins_hubs
 
 -- the hubs hold back for at most a second
 abbrev pub AreShort : List Hub → Type 0

@@ -1,8 +1,8 @@
 -- What reading the words has given.
 use Rattle.std.specs.Prelude.{◌≡◌, Result, Ok, Err}
-use Rattle.lab_words.specs.declared.request.WordsFault.{WordsFault}
-use Rattle.lab_words.specs.declared.request.WordsFault.TheVariants.{Usage, Memory}
-use Rattle.lab_words.specs.Requests.{IsFrom}
+use Rattle.lab_arguments.specs.declared.request.WordsFault.{WordsFault}
+use Rattle.lab_arguments.specs.declared.request.WordsFault.TheVariants.{Usage, Memory}
+use Rattle.lab_arguments.specs.Requests.{IsFrom}
 use Rattle.lab_top.specs.declared.words.Asked.{Asked}
 use Rattle.lab_top.specs.declared.words.Asked.TheVariants.{Script, Generated}
 use Rattle.lab_top.specs.Request.{Request, Refused, Run, Gen}

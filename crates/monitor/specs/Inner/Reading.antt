@@ -1,6 +1,6 @@
 -- What the parts of a command have read of files and of the laboratory.
 use Rattle.std.specs.Prelude.{◌≡◌, ℕ, List, is_some, Result, Ok, Err}
-use Rattle.lab_io.specs.Asked.{Log}
+use Rattle.lab_io.specs.Asked.{AskedNames}
 use Rattle.lab_io.specs.Known.{grown}
 use Rattle.lab_num.specs.declared.key.Member.{Member}
 use Rattle.lab_state.specs.Names.{hub_named}
@@ -15,7 +15,7 @@ use Rattle.monitor.specs.Boards.{load_onto}
 use Rattle.monitor.specs.Inner.Ruling.{IsCarried}
 use Rattle.monitor.specs.Refusal.{◌>>=◌, require}
 use Rattle.monitor.specs.Selected.{entry, equipped, speaker}
-use Rattle.monitor.specs.State.{State, Place}
+use Rattle.monitor.specs.State.{State, LinePlace}
 
 -- the device of the selected board that goes into a hub of this name
 abbrev pub joining : State → List ℕ → List ℕ → Result Member ScriptCause
@@ -27,12 +27,12 @@ joining s dev hub = do
 
 -- the files of a platform were read as this plan, or stop a command that loads them so
 abbrev pub IsPlanRead :
-    Loading → Result BoardPlan Stop → Log → Log → Type 0
+    Loading → Result BoardPlan Stop → AskedNames → AskedNames → Type 0
 IsPlanRead loading (Ok plan) log log' =
     (entries : List Entry)
     × (loading.outcome ≡ Joined entries)
     × (built entries ≡ Ok plan)
     × (log' ≡ grown log loading.names)
 IsPlanRead loading (Err stop) log log' =
-    (s after : State) (place : Place) (b : ℕ) →
+    (s after : State) (place : LinePlace) (b : ℕ) →
     IsCarried (load_onto s place loading (Ok b)) place (Err stop) after log log'

@@ -8,7 +8,7 @@ use Rattle.lab_io.specs.declared.whole.ReadFault.{ReadFault}
 use Rattle.lab_io.specs.declared.whole.ReadFault.TheVariants as read_fault
 use Rattle.lab_io.specs.declared.whole.TextFault.{TextFault}
 use Rattle.lab_io.specs.declared.whole.TextFault.TheVariants as text_fault
-use Rattle.lab_io.specs.Asked.{Log, AsksSome, AsksUpTo}
+use Rattle.lab_io.specs.Asked.{AskedNames, AsksSome, AsksUpTo}
 use Rattle.lab_io.specs.Frame.{OnlyReads}
 use Rattle.lab_io.specs.Held.{Held}
 use Rattle.lab_io.specs.Known.{grown}
@@ -60,7 +60,7 @@ use Rattle.monitor.specs.Command.{Work, OnFiles, OnState, OnStore, Quits}
 use Rattle.monitor.specs.Images.{elf_image, hex_image, load_read}
 use Rattle.monitor.specs.Memory.{write_bytes}
 use Rattle.monitor.specs.Selected.{Equipped}
-use Rattle.monitor.specs.State.{State, Place}
+use Rattle.monitor.specs.State.{State, LinePlace}
 use Rattle.monitor.specs.Step.{Running}
 
 -- why a script stops where a call is refused
@@ -144,7 +144,7 @@ image_by format.Elf bytes = elf_image bytes
 image_by format.Hex bytes = hex_image bytes
 
 -- what comes of bytes that are loaded so onto a board
-abbrev pub loaded_by : Load → State → Place → Equipped → List ℕ → Answer
+abbrev pub loaded_by : Load → State → LinePlace → Equipped → List ℕ → Answer
 loaded_by (load.Image format) s place on bytes = load_read s place on (image_by format bytes)
 loaded_by (load.Bytes at) s place on bytes = answer_at place (write_bytes s on at bytes)
 
@@ -200,12 +200,12 @@ IsRuled ruling (Err Unread) old new = ⊥
 IsRuled ruling (Err Memory) old new = new.ended ≡ old.ended
 
 -- how a command is answered that is for the store
-abbrev pub asks_store : Storing → Place → State → Answer
+abbrev pub asks_store : Storing → LinePlace → State → Answer
 asks_store (storing.Save name) place s = Saves name place s
 asks_store (storing.Load name) place s = Loads name place s
 
 -- a command is answered so, or memory ran out
-abbrev pub IsTold : Place → Answer → Result (Vec ℕ Global) Stop → State → Type 0
+abbrev pub IsTold : LinePlace → Answer → Result (Vec ℕ Global) Stop → State → Type 0
 IsTold place answer (Ok text) after = answer ≡ Goes text.items after
 IsTold place answer (Err (Store asked)) after = answer ≡ asks_store asked place after
 IsTold place answer (Err Quit) after = answer ≡ Ends
@@ -216,7 +216,7 @@ IsTold place answer (Err Unread) after = ⊥
 IsTold place answer (Err Memory) after = Unit {0}
 
 -- a command was carried out or refused as it is and has asked for the names that it reads, or was cut short
-abbrev pub IsCarried : Did → Place → Result (Vec ℕ Global) Stop → State → Log → Log → Type 0
+abbrev pub IsCarried : Did → LinePlace → Result (Vec ℕ Global) Stop → State → AskedNames → AskedNames → Type 0
 IsCarried did place (Ok text) after log log' = (did.answer ≡ Goes text.items after) × (log' ≡ grown log did.names)
 IsCarried did place (Err (Store asked)) after log log' =
     (did.answer ≡ asks_store asked place after) × (log' ≡ grown log did.names)
@@ -244,19 +244,20 @@ Leaves (Err Memory) old new = new.ended ≡ old.ended
 -- it stops the monitor it has changed nothing, unless memory ran out, and else it keeps the lines that are open,
 -- whatever is told of the files; and of files it has only read.
 pub record IsDone
-    {F : Type 0} (files : Ghosts F) (by : Held → Place → Did) (result : Result (Vec ℕ Global) Stop) (old new : Running)
+    {F : Type 0} (files : Ghosts F) (by : Held → LinePlace → Did) (result : Result (Vec ℕ Global) Stop)
+    (old new : Running)
     (before after : F) : Type 0 where
-  pub carried : (place : Place) → ForSome (files.held before)
+  pub carried : (place : LinePlace) → ForSome (files.held before)
       (λ held. IsCarried (by held place) place result new.state (files.asked before) (files.asked after))
   pub leaves : Leaves result old new
   pub open_lines : IfOk result (λ text. KeepsOpen old.state new.state)
   pub reads : OnlyReads files (result ≡ Err Unread) before after
 
 -- a command that is for the store stops the monitor, which asks for what its answer says
-pub record IsForStore (by : Place → Answer) (result : Result (Vec ℕ Global) Stop) (old : Running) : Type 0 where
+pub record IsForStore (by : LinePlace → Answer) (result : Result (Vec ℕ Global) Stop) (old : Running) : Type 0 where
   pub asked : Storing
   pub stop : result ≡ Err (Store asked)
-  pub answer : (place : Place) → by place ≡ asks_store asked place old.state
+  pub answer : (place : LinePlace) → by place ≡ asks_store asked place old.state
 
 -- the same of each sort of command
 abbrev pub IsWorked :

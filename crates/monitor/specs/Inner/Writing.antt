@@ -5,7 +5,7 @@ use Rattle.lab_io.specs.declared.files.Files.{Ghosts}
 use Rattle.lab_io.specs.declared.sink.Sink.{Ghosts as SinkGhosts}
 use Rattle.lab_io.specs.declared.sink.WriteFault.{WriteFault}
 use Rattle.lab_io.specs.declared.sink.WriteFault.TheVariants.{Unwritten}
-use Rattle.lab_io.specs.Asked.{Log}
+use Rattle.lab_io.specs.Asked.{AskedNames}
 use Rattle.lab_io.specs.Frame.{OnlyReads, OnlyWrites}
 use Rattle.lab_io.specs.Held.{Held}
 use Rattle.lab_io.specs.Known.{grown}
@@ -22,7 +22,7 @@ use Rattle.monitor.specs.declared.stop.Stop as why
 use Rattle.monitor.specs.declared.stop.Stop.TheVariants as stop
 use Rattle.monitor.specs.declared.stop.Storing.TheVariants as storing
 use Rattle.monitor.specs.Answer.{Did, Done, Goes, fault_at, told_at}
-use Rattle.monitor.specs.State.{State, Place}
+use Rattle.monitor.specs.State.{State, LinePlace}
 use Rattle.monitor.specs.Step.{Running}
 use Rattle.monitor.specs.Inner.Ruling.{IsCarried, IsOnward, IsRuled, KeepsOpen, Leaves}
 
@@ -58,7 +58,8 @@ IsRunMade ruling (Err (Cut fault)) old new out out' =
 -- a command is answered as it should be and its text written, or a part of the text; or it stops the script, or was cut
 -- short before it says anything
 abbrev pub IsTextWritten :
-    Did → Place → Result (Unit {0}) Halt → State → Log → Log → Option (List ℕ) → Option (List ℕ) → Type 0
+    Did → LinePlace → Result (Unit {0}) Halt → State → AskedNames → AskedNames → Option (List ℕ) → Option (List ℕ) →
+    Type 0
 IsTextWritten did place (Ok done) after log log' out out' =
     (printed : List ℕ) × (did.answer ≡ Goes printed after) × (log' ≡ grown log did.names) × (out' ≡ grown out printed)
 IsTextWritten did place (Err (Stop stop)) after log log' out out' =
@@ -76,9 +77,10 @@ LeavesOff (Err (Cut fault)) old new = new.ended ≡ old.ended
 
 -- What a command has done whose text goes to an output, as `IsDone` says it of one that gives its text.
 pub record IsWritten
-    {F K : Type 0} (files : Ghosts F) (out : SinkGhosts K) (by : Held → Place → Did) (result : Result (Unit {0}) Halt)
+    {F K : Type 0} (files : Ghosts F) (out : SinkGhosts K) (by : Held → LinePlace → Did)
+    (result : Result (Unit {0}) Halt)
     (old new : Running) (before after : F) (start end : K) : Type 0 where
-  pub written : (place : Place) → ForSome (files.held before)
+  pub written : (place : LinePlace) → ForSome (files.held before)
       (λ held. IsTextWritten (by held place) place result new.state (files.asked before) (files.asked after)
       (out.written start) (out.written end))
   pub leaves : LeavesOff result old new
@@ -87,7 +89,7 @@ pub record IsWritten
   pub writes : OnlyWrites out (result ≡ Err (Cut Unwritten)) start end
 
 -- what a step answers at a line after which the monitor does not go on
-abbrev pub progress_of : Place → why.Stop → Progress
+abbrev pub progress_of : LinePlace → why.Stop → Progress
 progress_of place (stop.Store (storing.Save name)) = progress.Save name place.file place.number
 progress_of place (stop.Store (storing.Load name)) = progress.Load name place.file place.number
 progress_of place stop.Quit = progress.End

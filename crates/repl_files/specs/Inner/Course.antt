@@ -10,7 +10,7 @@ use Rattle.repl_files.specs.declared.fault.FileFault.{FileFault}
 use Rattle.repl_files.specs.declared.fault.LoadFault.{LoadFault}
 use Rattle.repl_files.specs.declared.fault.LoadFault.TheVariants.{At, TooLarge, Unread, Memory}
 use Rattle.repl_files.specs.declared.load.Loaded.{Loaded}
-use Rattle.lab_io.specs.Asked.{Log, AsksSome}
+use Rattle.lab_io.specs.Asked.{AskedNames, AsksSome}
 use Rattle.repl_files.specs.Content.{Content, Large, Faulty, Readable}
 use Rattle.repl_files.specs.Loaded.{IsStopped}
 use Rattle.repl_files.specs.Loading.{Joined, Loading}
@@ -36,7 +36,7 @@ IsContent content name opened_by.TooLarge = ⊥
 IsContent content name (opened_by.Stopped fault) = IsFaulty content name fault
 
 -- a file was read and is faulty as was told, or the read was cut short
-abbrev pub IsStoppedAt : Content → List ℕ → LoadFault → Log → Log → Type 0
+abbrev pub IsStoppedAt : Content → List ℕ → LoadFault → AskedNames → AskedNames → Type 0
 IsStoppedAt content name (At fault) log log' =
     (content ≡ Faulty fault.line fault.cause) × (fault.file ≡ name) × (log' ≡ grown log (name ∷ []))
 IsStoppedAt content name TooLarge log log' = ⊥
@@ -44,7 +44,7 @@ IsStoppedAt content name Unread log log' = log' ≡ grown log (name ∷ [])
 IsStoppedAt content name Memory log log' = AsksSome (name ∷ []) log log'
 
 -- a file was read as what it is, or the read was cut short
-abbrev pub IsOpened : Content → List ℕ → Opened → Log → Log → Type 0
+abbrev pub IsOpened : Content → List ℕ → Opened → AskedNames → AskedNames → Type 0
 IsOpened content name (opened_by.Entries entries) log log' =
     (content ≡ Readable entries.items) × (log' ≡ grown log (name ∷ []))
 IsOpened content name opened_by.TooLarge log log' = (content ≡ Large) × (log' ≡ grown log (name ∷ []))
@@ -57,7 +57,7 @@ AreRead opened_by.TooLarge = Unit {0}
 AreRead (opened_by.Stopped fault) = Unit {0}
 
 -- the entries of a loading have been joined to those before
-pub record Adds (loading : Loading) (old new : Loaded) (log log' : Log) : Type 0 where
+pub record Adds (loading : Loading) (old new : Loaded) (log log' : AskedNames) : Type 0 where
   pub added : List Entry
   pub outcome : loading.outcome ≡ Joined added
   pub entries : new.entries.items ≡ old.entries.items ++ added
@@ -65,6 +65,6 @@ pub record Adds (loading : Loading) (old new : Loaded) (log log' : Log) : Type 0
   pub asked : log' ≡ grown log loading.names
 
 -- a loading has gone on as it says, up to where it was cut short, if it was
-abbrev pub IsCourse : Loading → Result (Unit {0}) LoadFault → Loaded → Loaded → Log → Log → Type 0
+abbrev pub IsCourse : Loading → Result (Unit {0}) LoadFault → Loaded → Loaded → AskedNames → AskedNames → Type 0
 IsCourse loading (Ok done) old new log log' = Adds loading old new log log'
 IsCourse loading (Err fault) old new log log' = IsStopped loading fault log log'

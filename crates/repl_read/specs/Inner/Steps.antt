@@ -1,6 +1,6 @@
 -- The course of the reader over the tokens of a line.
 use Rattle.std.specs.Prelude.{◌≡◌, ℕ, ◌<◌, ◌≤◌, ◌==◌, Bool, false, not, List, ◌∷◌, length, drop, Option, None, Some}
-use Rattle.repl_read.specs.declared.tokens.Step.{Step}
+use Rattle.repl_read.specs.declared.tokens.TokenStep.{TokenStep}
 use Rattle.repl_read.specs.declared.tokens.Token.{Token}
 use Rattle.repl_read.specs.Comments.{quote}
 use Rattle.repl_read.specs.Tokens.{tokens_of}
@@ -15,7 +15,7 @@ in_front None tokens = tokens
 in_front (Some token) tokens = token ∷ tokens
 
 -- one token of a line from a place on, or a blank, and where it ends
-pub record IsStep (line : List ℕ) (from : ℕ) (step : Step) : Type 0 where
+pub record IsStep (line : List ℕ) (from : ℕ) (step : TokenStep) : Type 0 where
   pub token : tokens_of false (drop from line) ≡ in_front step.token (tokens_of false (drop step.end line))
   pub further : from < step.end
   pub within : step.end ≤ length line

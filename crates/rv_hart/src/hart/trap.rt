@@ -26,7 +26,7 @@ impl Hart {
     #[tactic(auto, unfolding(crate::specs::Trap::chosen))]
     pub fn pending(&self, mip: u32) -> Option<u8>
         ensures value { result ≡ chosen self.now mip }
-        ensures none { is_none result ≡ (not self.now.on || bit_and mip self.now.mie == 0) }
+        ensures none { is_none result ≡ (not self.now.mstatus_mie || bit_and mip self.now.mie == 0) }
     {
         if !self.state.on {
             return None;

@@ -7,7 +7,7 @@ pub returns-clause-ok : goal.returns-clause-ok
 returns-clause-ok g c =
     let ok = c.in-Ok.ensures {u = tt} in
     awake-instruction c.args.number c.args.hart.now c.instruction.new.hart c.args.watch.now c.instruction.new.watch
-    c.args.wires.now c.begin_slot.new.self c.instruction.new.wires c.args.at.0 c.args.lines
+    c.args.bus.now c.begin_slot.new.self c.instruction.new.bus c.args.at.0 c.args.lines
     (sym c.taken.ensures ∙ c.in_default.is) c.begin_slot.ensures ok.core ok.watch ok.bus
 
 pub returns-clause-watch : goal.returns-clause-watch

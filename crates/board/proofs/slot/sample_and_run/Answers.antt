@@ -2,13 +2,13 @@ use Rattle.std.proofs.Common.{◌≡◌, ◌∙◌, ap, sym, length}
 use Rattle.std.specs.Prelude.{Option, option_map}
 use Rattle.plic.specs.declared.state.PlicState.{PlicState}
 use Rattle.sys_bus.specs.declared.plan.BoardPlan.{BoardPlan}
-use Rattle.board.specs.HartView.{HartState, hart_state}
+use Rattle.board.specs.HartView.{SlotState, slot_state}
 use Rattle.board.specs.BoardState.{controller_to}
-use Rattle.board.specs.Inner.Made.{wires_with}
-use Rattle.board.specs.Inner.Seat.{ways_of}
+use Rattle.board.specs.Inner.Outbox.{bus_with}
+use Rattle.board.specs.Inner.Seat.{features_of}
 use Rattle.board.specs.Lines.{sampled}
 use Rattle.board.specs.Space.{Space}
-use Rattle.board.specs.Wires.{Wires}
+use Rattle.board.specs.HartBus.{HartBus}
 use Rattle.board.proofs.LineLemmas.{still_state, undone}
 use Rattle.board.proofs.slot.sample_and_run.Goals as goal
 
@@ -16,35 +16,35 @@ plan_sampled : (now old : Space) → now ≡ sampled old → now.plan ≡ old.pl
 unfolding sampled
 plan_sampled now old is = ap {A = Space} (λ s. s.plan) is
 
-pub run-requires-clause-ways : goal.run-requires-clause-ways
-run-requires-clause-ways g c =
-    c.requires.ways
-    ∙ ap {A = Wires} (λ w. ways_of w.space.plan) (sym c.wires.view_is)
-    ∙ ap ways_of (sym (plan_sampled _ _ c.sample-lines.ensures.space))
+pub run-requires-clause-features : goal.run-requires-clause-features
+run-requires-clause-features g c =
+    c.requires.features
+    ∙ ap {A = HartBus} (λ w. features_of w.space.plan) (sym c.bus.view_is)
+    ∙ ap features_of (sym (plan_sampled _ _ c.sample-lines.ensures.space))
 
 pub run-requires-clause-letters : goal.run-requires-clause-letters
 run-requires-clause-letters g c =
     c.requires.letters
-    ∙ ap {A = Wires} (λ w. w.space.plan.letters) (sym c.wires.view_is)
+    ∙ ap {A = HartBus} (λ w. w.space.plan.letters) (sym c.bus.view_is)
     ∙ ap {A = BoardPlan} (λ plan. plan.letters) (sym (plan_sampled _ _ c.sample-lines.ensures.space))
 
 pub run-requires-clause-harts : goal.run-requires-clause-harts
 run-requires-clause-harts g c =
     c.requires.harts
-    ∙ ap {A = Wires} (λ w. length w.space.plan.cpus) (sym c.wires.view_is)
+    ∙ ap {A = HartBus} (λ w. length w.space.plan.cpus) (sym c.bus.view_is)
     ∙ ap {A = BoardPlan} (λ plan. length plan.cpus) (sym (plan_sampled _ _ c.sample-lines.ensures.space))
 
 pub put_controller-requires : goal.put_controller-requires
 put_controller-requires g c =
     let err = (c.in_default.ensures {u = tt}).err in
-    let reached : c.wires-2.inside.space ≡ sampled c.wires.inside.space =
-    ap {A = Wires} (λ w. w.space) c.wires-2.view_is
-    ∙ ap {A = HartState} (λ s. s.view.space) err
+    let reached : c.bus-2.inside.space ≡ sampled c.bus.inside.space =
+    ap {A = HartBus} (λ w. w.space) c.bus-2.view_is
+    ∙ ap {A = SlotState} (λ s. s.view.space) err
     ∙ c.sample-lines.ensures.space in
     rw reached (still_state _ _ c.controller_state-before.ensures.valid)
 
 -- the controller is put back
-abbrev put_back : Option PlicState → HartState → HartState
+abbrev put_back : Option PlicState → SlotState → SlotState
 put_back state s =
     record s {
       view = record s.view { space = record s.view.space { controller = controller_to s.view.space.controller state } };
@@ -62,13 +62,13 @@ returns-in_default-clause-err g c =
     let core = c.run.new.hart in
     let watch = c.run.new.watch in
     ap {A = Space}
-    (λ space. hart_state c.args.number core watch
-    (wires_with c.wires-2.inside.made space c.wires-2.inside.at.0)) c.put_controller.ensures
-    ∙ ap {A = Wires} (λ w. put_back state (hart_state c.args.number core watch w)) c.wires-2.view_is
+    (λ space. slot_state c.args.number core watch
+    (bus_with c.bus-2.inside.outbox space c.bus-2.inside.at.0)) c.put_controller.ensures
+    ∙ ap {A = HartBus} (λ w. put_back state (slot_state c.args.number core watch w)) c.bus-2.view_is
     ∙ ap (put_back state) err
     ∙ ap {A = Space}
-    (λ space. hart_state c.args.number c.args.hart.now c.args.watch.now
-    (wires_with c.wires.inside.made space c.wires.inside.at.0))
-    (back c.wires.inside.space c.sample-lines.new.self state c.sample-lines.ensures.space
+    (λ space. slot_state c.args.number c.args.hart.now c.args.watch.now
+    (bus_with c.bus.inside.outbox space c.bus.inside.at.0))
+    (back c.bus.inside.space c.sample-lines.new.self state c.sample-lines.ensures.space
     c.controller_state-before.ensures.value)
-    ∙ ap {A = Wires} (λ w. hart_state c.args.number c.args.hart.now c.args.watch.now w) c.wires.view_is
+    ∙ ap {A = HartBus} (λ w. slot_state c.args.number c.args.hart.now c.args.watch.now w) c.bus.view_is

@@ -11,7 +11,7 @@ none-ready : (core : Core) (mip : ℕ) → is_ready core mip ≡ false → chose
 unfolding chosen most_urgent
 none-ready core mip unready =
     let none : (bit_and mip core.mie == 0) ≡ true = grind (arith, nat_tests, unready) in
-    rw (eqb-true (bit_and mip core.mie) 0 none) (by_on core.on)
+    rw (eqb-true (bit_and mip core.mie) 0 none) (by_on core.mstatus_mie)
   where
     by_on : (on : Bool) → (if on then most_urgent 0 else None) ≡ None
     by_on true = refl

@@ -12,14 +12,14 @@ use Rattle.rv_atomic.specs.Laws.{PlainAlone}
 use Rattle.rv_atomic.specs.Means.{atomic_of}
 use Rattle.rv_atomic.specs.SharedEffect.{shared_effect}
 use Rattle.board.specs.Fetch.{effect_on, fetched_by, word_at_pc}
-use Rattle.board.specs.HartView.{HartView, HartState, still, wires_of}
+use Rattle.board.specs.HartView.{HartView, SlotState, still, bus_of}
 use Rattle.board.specs.Lines.{sampled, lines_of}
 use Rattle.board.specs.Numbers.{Numbers}
 use Rattle.board.specs.Slot.{slot, hart_slot, in_turn, running, sampling, asleep, awake, woken, cycle, carried_out}
 use Rattle.board.specs.Slot.{instruction}
 use Rattle.board.specs.Space.{Space}
 use Rattle.board.specs.View.{View, State, quiet}
-use Rattle.board.specs.Wires.{Wires, fetched}
+use Rattle.board.specs.HartBus.{HartBus, fetched}
 use Rattle.board_laws.specs.Alone as alone
 use Rattle.board_laws.specs.Alone.{alone_slot, awake as awake_alone}
 use Rattle.board_laws.proofs.TurnLemmas.{next_alone}
@@ -36,7 +36,7 @@ hart_of numbers core word space =
 
 -- without atomic instructions it does what it fetches, by the rules of a hart alone
 effect_alone :
-    PlainAlone → (h : HartView) (word : Option ℕ) (w : Wires) (lines : Lines) → h.core.letters.a ≡ false →
+    PlainAlone → (h : HartView) (word : Option ℕ) (w : HartBus) (lines : Lines) → h.core.letters.a ≡ false →
     h.hart ≡ 0 → h.watch ≡ word ∷ [] →
     effect_on h w lines ≡ leaves (effect h.core (fetched_by h.core w) lines) h.watch
 effect_alone law h word w lines plain first reserved =
@@ -52,7 +52,7 @@ effect_alone law h word w lines plain first reserved =
     by_letter true is = absurd (cc)
 
 by_test :
-    (test : Bool) (v : View) (a b : HartState) (a' b' : State) → in_turn v a ≡ a' → in_turn v b ≡ b' →
+    (test : Bool) (v : View) (a b : SlotState) (a' b' : State) → in_turn v a ≡ a' → in_turn v b ≡ b' →
     in_turn v (if test then a else b) ≡ (if test then a' else b')
 by_test true v a b a' b' p q = p
 by_test false v a b a' b' p q = q
@@ -77,8 +77,8 @@ alone_awake law numbers before core word space t lines plain = by_chosen (chosen
         in_turn v (option_map_or (λ n. cycle h (interrupt core n)) taken (instruction h t lines))
         ≡ option_map_or (λ n. alone.cycle v (interrupt core n)) taken (alone.instruction v core t lines)
     by_chosen None =
-        ap (λ does. in_turn v (carried_out 0 (wires_of h t) does))
-        (effect_alone law h word (wires_of h t) lines plain refl refl)
+        ap (λ does. in_turn v (carried_out 0 (bus_of h t) does))
+        (effect_alone law h word (bus_of h t) lines plain refl refl)
     by_chosen (Some n) = refl
 
 alone_of :

@@ -14,10 +14,10 @@ returns-clause-jobs g c =
     (λ job. finished g.J.Job.state_after (g.J.Job.meaning job)) g.J.Job.meaning (λ x y is. is.job_is)
     c.args.jobs.items c.in_ok-done.done.items
     (round g.J.Job.meaning g.J.Job.sent g.J.Job.state_after laws.turns laws.posts c.args.jobs.items
-    c.in_ok-slots.slots.items c.in_ok-done.done.items
+    c.in_ok-cells.cells.items c.in_ok-done.done.items
     (subst (λ (l : List g.row.J.Denot). Closing (slots_left g.J.Job.meaning)
-    (AfterTurns g.J.Job.meaning g.J.Job.sent g.J.Job.state_after) l c.in_ok-slots.slots.items)
-    c.in_ok-bench.ensures.starts c.in_ok-slots.ensures)
+    (AfterTurns g.J.Job.meaning g.J.Job.sent g.J.Job.state_after) l c.in_ok-cells.cells.items)
+    c.in_ok-bench.ensures.starts c.in_ok-cells.ensures)
     c.in_ok-done.ensures)
 
 pub returns-clause-posts : goal.returns-clause-posts
@@ -27,8 +27,8 @@ returns-clause-posts g c =
     (λ job. g.J.Job.sent job ++ made (g.J.Job.meaning job) (left (g.J.Job.meaning job))) g.J.Job.sent
     (λ x y is. is.sent_is) c.args.jobs.items c.in_ok-done.done.items
     (round g.J.Job.meaning g.J.Job.sent g.J.Job.state_after laws.turns laws.posts c.args.jobs.items
-    c.in_ok-slots.slots.items c.in_ok-done.done.items
+    c.in_ok-cells.cells.items c.in_ok-done.done.items
     (subst (λ (l : List g.row.J.Denot). Closing (slots_left g.J.Job.meaning)
-    (AfterTurns g.J.Job.meaning g.J.Job.sent g.J.Job.state_after) l c.in_ok-slots.slots.items)
-    c.in_ok-bench.ensures.starts c.in_ok-slots.ensures)
+    (AfterTurns g.J.Job.meaning g.J.Job.sent g.J.Job.state_after) l c.in_ok-cells.cells.items)
+    c.in_ok-bench.ensures.starts c.in_ok-cells.ensures)
     c.in_ok-done.ensures)

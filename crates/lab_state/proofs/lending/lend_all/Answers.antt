@@ -115,10 +115,10 @@ loop-pass-preserved g c =
           ap (set c.loop-pass.boards i) (c.in_ok-lend.ensures.board ∙ ap away (sym c.index-boards-n.is))
           ∙ map_over_more away boards c.loop-pass.boards i item below c.loop-pass.invariant.boards
           c.index-boards-n.is;
-      parcels =
-          one_more (lent mail from to) [] boards i item below c.loop-pass.invariant.parcels
-          (rw (part, ap (λ (p : Pass). p.mail) is) at c.in_ok-lend.ensures.parcels
-          ∙ ap (λ (board : Board). c.loop-pass.parcels.items ++ lent mail from to board) same);
+      jobs =
+          one_more (lent mail from to) [] boards i item below c.loop-pass.invariant.jobs
+          (rw (part, ap (λ (p : Pass). p.mail) is) at c.in_ok-lend.ensures.jobs
+          ∙ ap (λ (board : Board). c.loop-pass.jobs.items ++ lent mail from to board) same);
     }
 
 pub returns-clause-boards : goal.returns-clause-boards
@@ -131,14 +131,14 @@ returns-clause-boards g c =
     let all : c.loop-pass.n ≡ length boards = omega (arith, end.1, c.loop-pass.invariant.n, c.requires.count) in
     c.loop-pass.invariant.boards ∙ none_stays away boards c.loop-pass.n all
 
-pub returns-clause-parcels : goal.returns-clause-parcels
-returns-clause-parcels g c =
+pub returns-clause-jobs : goal.returns-clause-jobs
+returns-clause-jobs g c =
     let end = YieldsList-end
     (YieldsList-from_vec {s = c.into_iter-pass-iterator.result} c.args.passes.items (search rules) (search rules))
     c.loop-pass.yielded c.loop-pass.pass-iterator c.loop-pass.yielded_by c.next.result c.next.new.self c.in-None.is
     c.next.ensures.steps in
     let boards = c.args.boards.now in
     let all : c.loop-pass.n ≡ length boards = omega (arith, end.1, c.loop-pass.invariant.n, c.requires.count) in
-    c.loop-pass.invariant.parcels
+    c.loop-pass.invariant.jobs
     ∙ ap (flat_map (lent c.args.boss.now.mail c.args.from.0 (c.args.from.0 + c.args.q)))
     (ap (λ n. take n boards) all ∙ take-length boards)

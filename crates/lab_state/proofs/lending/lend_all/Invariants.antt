@@ -8,6 +8,6 @@ abbrev pub invariant-loop-pass : goal.invariant-loop-pass
 invariant-loop-pass g l = record {
   n : l.n ≡ length l.yielded;
   boards : l.boards ≡ map away (take l.n l.fn.boards) ++ drop l.n l.fn.boards;
-  parcels :
-      l.parcels.items ≡ flat_map (lent l.fn.boss.mail l.fn.from.0 (l.fn.from.0 + l.fn.q)) (take l.n l.fn.boards);
+  jobs :
+      l.jobs.items ≡ flat_map (lent l.fn.boss.mail l.fn.from.0 (l.fn.from.0 + l.fn.q)) (take l.n l.fn.boards);
 }

@@ -114,4 +114,4 @@ returns-clause-sent g c =
     )
     (sent-after c.stretches_number.ensures c.stretches_tell_of_devices.ensures.sent from q c.requires.within boards
     c.requires.timed.standing c.elapsed-at.result.0 c.args.hubs.now c.args.pending.now.items
-    c.have_their_devices.ensures c.requires.sent)
+    c.devices_laws.ensures c.requires.sent)

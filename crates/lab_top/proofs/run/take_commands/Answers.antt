@@ -1,6 +1,5 @@
 use Rattle.std.proofs.Common.{◌∙◌, ◌-◌, arith}
-use Rattle.lab_io.proofs.Frames.{reads_as, reads_none, reads_on, stores_as, stores_none, stores_on}
-use Rattle.lab_io.proofs.Frames.{writes_as, writes_none, writes_on}
+use Rattle.lab_top.proofs.Lending.{uses_as, uses_none, uses_on}
 use Rattle.lab_top.proofs.Onward.{at_turn, goes_further, turn_goes}
 use Rattle.lab_top.proofs.run.take_commands.Goals as goal
 
@@ -10,7 +9,7 @@ returns-in-Err-clause-course g c = λ held is kept keeps.
     let on = now.invariant.course held is kept keeps in
     on.course _ _
     (rw (at_turn now._turn held on.now now.monitor.state (omega (arith, now.invariant.counted, now.invariant.few)))
-    (c.in-Err.ensures.course held (now.invariant.files.held ∙ is) on.now on.told (100000 - now._turn)))
+    (c.in-Err.ensures.course held (now.invariant.outside.reads.held ∙ is) on.now on.told (100000 - now._turn)))
 
 pub commands-init : goal.commands-init
 commands-init g c = record {
@@ -18,9 +17,7 @@ commands-init g c = record {
   goes_on = c.requires.goes_on;
   counted = omega arith;
   few = c.requires.few;
-  files = reads_none (λ none. none);
-  output = writes_none (λ none. none);
-  store = stores_none (λ none. none);
+  outside = uses_none (λ status none. none);
 }
 
 pub commands-preserved : goal.commands-preserved
@@ -32,11 +29,9 @@ commands-preserved g c =
           goes_further on
           (turn_goes now._turn held on.now now.monitor.state c.in-Ok.next.state
           (omega (arith, now.invariant.counted, now.invariant.few))
-          (c.in-Ok.ensures.course held (now.invariant.files.held ∙ is) on.now on.told (100000 - now._turn)));
+          (c.in-Ok.ensures.course held (now.invariant.outside.reads.held ∙ is) on.now on.told (100000 - now._turn)));
       goes_on = c.in-Ok.ensures.next.0;
       counted = omega (arith, now.invariant.counted, c.in-Ok.ensures.next);
       few = c.in-Ok.ensures.next.2.1;
-      files = reads_on now.invariant.files (reads_as (λ none. absurd none) c.take_command.ensures.files);
-      output = writes_on now.invariant.output (writes_as (λ none. absurd none) c.take_command.ensures.output);
-      store = stores_on now.invariant.store (stores_as (λ none. absurd none) c.take_command.ensures.store);
+      outside = uses_on now.invariant.outside (uses_as (λ status none. absurd none) c.take_command.ensures.outside);
     }

@@ -1,5 +1,5 @@
 -- The entries, joined and sorted by key, are the listing of the entries.
-use Rattle.std.proofs.Common.{◌≡◌, ◌∙◌, ap, rules}
+use Rattle.std.proofs.Common.{◌≡◌, rules}
 use Rattle.std.specs.List.Sorted.{IsPermutation}
 use Rattle.std.proofs.lemmas.List.Sorted.{answers_always}
 use Rattle.lab_num.specs.Listing.{IsListing}
@@ -12,7 +12,7 @@ returns c =
     let sorted =
     c.in_ok-sort_by_key.ensures.sorted entry_key (answers_always _ _ _ (λ f a r g h. search rules)) in
     let joined : c.in_ok-list.list.items ≡ all_entries c.args.lists.items =
-    c.in_ok-list.ensures ∙ ap all_entries c.deref.ensures.value in
+    c.in_ok-list.ensures in
     let moved : IsPermutation (all_entries c.args.lists.items) c.sort_by_key.new.self.items =
     rw joined at c.in_ok-sort_by_key.ensures.permutation in
     let is : IsListing entry_key (all_entries c.args.lists.items) c.sort_by_key.new.self.items =

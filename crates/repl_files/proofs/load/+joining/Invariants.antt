@@ -6,7 +6,7 @@ use Rattle.std.specs.Vec.Iter.{into_iter_items, into_iter_len}
 use Rattle.repl_read.specs.Entries.{is_entry}
 use Rattle.repl_files.specs.declared.fault.LoadFault.{LoadFault}
 use Rattle.repl_files.specs.declared.load.Loaded.{Loaded}
-use Rattle.lab_io.specs.Asked.{Log}
+use Rattle.lab_io.specs.Asked.{AskedNames}
 use Rattle.lab_io.specs.Frame.{OnlyReads}
 use Rattle.repl_files.specs.Loading.{used, in_order}
 use Rattle.repl_files.specs.Inner.Course.{IsCourse}
@@ -26,7 +26,7 @@ abbrev pub invariant-join_entries-loop-entry : goal.invariant-join_entries-loop-
 invariant-join_entries-loop-entry g l = record {
   course :
       ForSome (g.F.Files.held l.fn.files) (λ held.
-      (result : Result (Unit {0}) LoadFault) (new : Loaded) (log : Log) →
+      (result : Result (Unit {0}) LoadFault) (new : Loaded) (log : AskedNames) →
       IsCourse
       (in_order (used l.room held) l.file l.number (length l.all.names.items) (into_iter_items l.entry-iterator))
       result l.all new (g.F.Files.asked l.files) log →

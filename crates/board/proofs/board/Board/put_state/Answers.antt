@@ -18,6 +18,6 @@ invariant_of-self g c =
     ∙ c.bring_all_to.ensures in
     rw (all, c.bring_to.ensures, c.reserve_all.ensures, c.bring_to-2.ensures, c.items.ensures, c.items-2.ensures)
     (subst
-    (λ (b : Inside g.row.D.Denot). Holds (brought_to (state_of b.harts.items b.next b.watch b.wires).view s))
+    (λ (b : Inside g.row.D.Denot). Holds (brought_to (state_of b.harts.items b.next b.watch b.bus).view s))
     (sym c.self-inside.view_is)
-    (holds_brought (state_of board.harts.items board.next board.watch board.wires).view s fits))
+    (holds_brought (state_of board.harts.items board.next board.watch board.bus).view s fits))

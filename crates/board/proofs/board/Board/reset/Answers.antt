@@ -9,7 +9,7 @@ use Rattle.board.proofs.board.Board.reset.Goals as goal
 
 pub invariant_of-self : goal.invariant_of-self
 invariant_of-self g c =
-    let held = subst (λ (b : Inside g.row.D.Denot). Holds (state_of b.harts.items b.next b.watch b.wires).view)
+    let held = subst (λ (b : Inside g.row.D.Denot). Holds (state_of b.harts.items b.next b.watch b.bus).view)
     (sym c.self-inside.view_is) c.self.invariant in
     let all = whole c.self-inside.inside.0.0.len c.reset_all.new.harts
     (drop (length c.reset_all.new.harts) c.self-inside.inside.0.0.items) (search rules) (search rules)

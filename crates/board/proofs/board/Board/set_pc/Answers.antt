@@ -9,8 +9,8 @@ pub invariant_of-self : goal.invariant_of-self
 invariant_of-self g c =
     let board = c.self.inside in
     let below = subst (λ (s : State). c.args.hart < length s.view.cores) (sym c.self.view_is) c.requires.hart in
-    holds_set (state_of board.harts.items board.next board.watch board.wires).view board.wires.numbers c.from.result
-    board.next c.index_mut.result.now c.set_pc.new.self board.watch board.wires.space c.self.invariant refl refl
+    holds_set (state_of board.harts.items board.next board.watch board.bus).view board.bus.numbers c.from.result
+    board.next c.index_mut.result.now c.set_pc.new.self board.watch board.bus.space c.self.invariant refl refl
     (rw c.from.ensures below) c.index_mut.ensures.value
     (record {
       letters = ap {A = Core} (λ core. core.letters) c.set_pc.ensures;

@@ -1,7 +1,7 @@
 use Rattle.std.proofs.Common.{◌∙◌, ap, sym, subst, refl, arith, add-zero, add_assoc, ℕ, ◌+◌, ◌/◌, ◌≤◌}
 use Rattle.std.proofs.lemmas.Nat.{div-add-mod', mod_below}
-use Rattle.board.specs.declared.slot.Ways.{Ways}
-use Rattle.board.specs.Inner.Seat.{ways_of}
+use Rattle.board.specs.declared.slot.Features.{Features}
+use Rattle.board.specs.Inner.Seat.{features_of}
 use Rattle.board.proofs.NumberLemmas.{plan-stretch, speed-stretch}
 use Rattle.board.proofs.StretchLemmas.{after_none, after_stretch, after_slots, micros_begins}
 use Rattle.board.specs.Inner.Remembers.{is_wired}
@@ -16,10 +16,10 @@ loop-i-init g c = record {
   most = omega arith;
 }
 
-pub slots_of-requires-clause-ways : goal.slots_of-requires-clause-ways
-slots_of-requires-clause-ways g c =
+pub slots_of-requires-clause-features : goal.slots_of-requires-clause-features
+slots_of-requires-clause-features g c =
     let kept = ap {A = State} (λ s. s.view.space.plan) c.loop-i.invariant.run ∙ plan-stretch _ _ _ _ in
-    c.requires.ways ∙ ap ways_of (sym kept)
+    c.requires.features ∙ ap features_of (sym kept)
 
 pub slots_of-requires-clause-most : goal.slots_of-requires-clause-most
 slots_of-requires-clause-most g c =
@@ -64,7 +64,7 @@ pub pass_idle-i-requires-clause-wired : goal.pass_idle-i-requires-clause-wired
 pass_idle-i-requires-clause-wired g c =
     let taken = ap {A = State} (λ s. s.view.space.plan) c.in-Idle.ensures.run ∙ plan-stretch _ _ _ _ in
     let kept = ap {A = State} (λ s. s.view.space.plan) c.loop-i.invariant.run ∙ plan-stretch _ _ _ _ in
-    ap {A = Ways} (λ w. w.wired) c.requires.ways ∙ ap is_wired (sym (taken ∙ kept))
+    ap {A = Features} (λ w. w.wired) c.requires.features ∙ ap is_wired (sym (taken ∙ kept))
 
 pub loop-i-preserved : goal.loop-i-preserved
 loop-i-preserved g c =

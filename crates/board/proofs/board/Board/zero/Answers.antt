@@ -9,7 +9,7 @@ use Rattle.board.proofs.board.Board.zero.Goals as goal
 
 pub invariant_of-self : goal.invariant_of-self
 invariant_of-self g c =
-    let held = subst (λ (b : Inside g.row.D.Denot). Holds (state_of b.harts.items b.next b.watch b.wires).view)
+    let held = subst (λ (b : Inside g.row.D.Denot). Holds (state_of b.harts.items b.next b.watch b.bus).view)
     (sym c.self-inside.view_is) c.self.invariant in
     holds_cleared _ c.clear.new.self c.zero.new.self held
     (ap {A = Space} (λ s. s.plan) c.zero.ensures ∙ plan-copied _ c.args.at (zeros c.args.count)) c.clear.ensures

@@ -6,12 +6,12 @@ use Rattle.board.proofs.NumberLemmas.{plan-stretch}
 use Rattle.board.proofs.StretchLemmas.{after_none, after_next}
 use Rattle.board.proofs.TurnLemmas.{taken_alone}
 use Rattle.board.proofs.WatchLemmas.{reserved_after}
-use Rattle.board.specs.HartView.{hart_state}
-use Rattle.board.specs.Inner.Seat.{behind, ways_of}
+use Rattle.board.specs.HartView.{slot_state}
+use Rattle.board.specs.Inner.Seat.{behind, features_of}
 use Rattle.board.specs.Slot.{hart_slot}
 use Rattle.board.specs.Valid.{IsReservation}
 use Rattle.board.specs.View.{State}
-use Rattle.board.specs.Wires.{Wires}
+use Rattle.board.specs.HartBus.{HartBus}
 use Rattle.board.proofs.board.slots.slots_alone.Goals as goal
 
 pub loop-i-init : goal.loop-i-init
@@ -22,10 +22,10 @@ loop-i-init g c = record {
   reserved = λ all. all;
 }
 
-pub slot-requires-clause-ways : goal.slot-requires-clause-ways
-slot-requires-clause-ways g c =
+pub slot-requires-clause-features : goal.slot-requires-clause-features
+slot-requires-clause-features g c =
     let kept = ap {A = State} (λ s. s.view.space.plan) c.loop-i.invariant.run ∙ plan-stretch _ _ _ _ in
-    c.requires.ways ∙ ap ways_of (sym kept)
+    c.requires.features ∙ ap features_of (sym kept)
 
 pub slot-requires-clause-letters : goal.slot-requires-clause-letters
 slot-requires-clause-letters g c =
@@ -39,10 +39,10 @@ slot-requires-clause-harts g c =
 
 -- the reservations after one slot more
 one_more :
-    (core core' : Core) (watch watch' : List (Option ℕ)) (w w' : Wires) (plan : BoardPlan) (t : ℕ) →
+    (core core' : Core) (watch watch' : List (Option ℕ)) (w w' : HartBus) (plan : BoardPlan) (t : ℕ) →
     w.space.plan ≡ plan → core.letters ≡ plan.letters →
-    hart_state 0 core' watch' w'
-    ≡ behind (hart_state 0 core watch w) (hart_slot (hart_state 0 core watch w).view t) →
+    slot_state 0 core' watch' w'
+    ≡ behind (slot_state 0 core watch w) (hart_slot (slot_state 0 core watch w).view t) →
     All (IsReservation plan) watch → All (IsReservation plan) watch'
 one_more core core' watch watch' w w' plan t same own done =
     subst
@@ -52,21 +52,21 @@ one_more core core' watch watch' w w' plan t same own done =
 pub returns-then-idle-clause-reserved : goal.returns-then-idle-clause-reserved
 returns-then-idle-clause-reserved g c = λ all.
     let kept = ap {A = State} (λ s. s.view.space.plan) c.loop-i.invariant.run ∙ plan-stretch _ _ _ _ in
-    one_more c.loop-i.hart c.slot.new.hart c.loop-i.watch c.slot.new.watch c.loop-i.wires c.slot.new.wires
-    c.args.wires.now.space.plan c.args.now.0 kept (c.loop-i.invariant.same.letters ∙ c.requires.letters)
+    one_more c.loop-i.hart c.slot.new.hart c.loop-i.watch c.slot.new.watch c.loop-i.bus c.slot.new.bus
+    c.args.bus.now.space.plan c.args.now.0 kept (c.loop-i.invariant.same.letters ∙ c.requires.letters)
     c.in-Ok.ensures.ok (c.loop-i.invariant.reserved all)
 
 pub returns-then-idle-clause-run : goal.returns-then-idle-clause-run
 returns-then-idle-clause-run g c =
     after_next _ _ _ _ _ c.loop-i.invariant.run
-    (taken_alone c.loop-i.hart c.slot.new.hart c.loop-i.watch c.slot.new.watch c.loop-i.wires c.slot.new.wires
+    (taken_alone c.loop-i.hart c.slot.new.hart c.loop-i.watch c.slot.new.watch c.loop-i.bus c.slot.new.bus
     c.args.now.0 c.in-Ok.ensures.ok) (omega (arith, c.requires.most, c.loop-i-test.true))
 
 pub loop-i-preserved : goal.loop-i-preserved
 loop-i-preserved g c = record {
   run =
       after_next _ _ _ _ _ c.loop-i.invariant.run
-      (taken_alone c.loop-i.hart c.slot.new.hart c.loop-i.watch c.slot.new.watch c.loop-i.wires c.slot.new.wires
+      (taken_alone c.loop-i.hart c.slot.new.hart c.loop-i.watch c.slot.new.watch c.loop-i.bus c.slot.new.bus
       c.args.now.0 c.in-Ok.ensures.ok) (omega (arith, c.requires.most, c.loop-i-test.true));
   same =
       record {
@@ -76,7 +76,7 @@ loop-i-preserved g c = record {
   watch = c.in-Ok.ensures.watch ∙ c.loop-i.invariant.watch;
   reserved = λ all.
       let kept = ap {A = State} (λ s. s.view.space.plan) c.loop-i.invariant.run ∙ plan-stretch _ _ _ _ in
-      one_more c.loop-i.hart c.slot.new.hart c.loop-i.watch c.slot.new.watch c.loop-i.wires c.slot.new.wires
-      c.args.wires.now.space.plan c.args.now.0 kept (c.loop-i.invariant.same.letters ∙ c.requires.letters)
+      one_more c.loop-i.hart c.slot.new.hart c.loop-i.watch c.slot.new.watch c.loop-i.bus c.slot.new.bus
+      c.args.bus.now.space.plan c.args.now.0 kept (c.loop-i.invariant.same.letters ∙ c.requires.letters)
       c.in-Ok.ensures.ok (c.loop-i.invariant.reserved all);
 }

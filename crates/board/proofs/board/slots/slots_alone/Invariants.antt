@@ -9,11 +9,11 @@ use Rattle.board.proofs.board.slots.slots_alone.Given as goal
 -- The board is as after the slots so far.
 abbrev pub invariant-loop-i : goal.invariant-loop-i
 invariant-loop-i g l =
-    let old = state_alone l.fn.hart l.fn.watch l.fn.wires in
+    let old = state_alone l.fn.hart l.fn.watch l.fn.bus in
     record {
-      run : state_alone l.hart l.watch l.wires ≡ after old (stretch old.view l.now.0 0 l.i);
+      run : state_alone l.hart l.watch l.bus ≡ after old (stretch old.view l.now.0 0 l.i);
       same : IsSameHart l.fn.hart l.hart;
       watch : length l.watch ≡ length l.fn.watch;
       reserved :
-          All (IsReservation l.fn.wires.space.plan) l.fn.watch → All (IsReservation l.fn.wires.space.plan) l.watch;
+          All (IsReservation l.fn.bus.space.plan) l.fn.watch → All (IsReservation l.fn.bus.space.plan) l.watch;
     }

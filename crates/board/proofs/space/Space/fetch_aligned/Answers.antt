@@ -1,7 +1,7 @@
 -- A word that is near lies in its memory, in one page.
 use Rattle.std.proofs.Common.{inr, refl, ap, sym, ◌∙◌}
 use Rattle.std.specs.Prelude.{Some}
-use Rattle.board.specs.Wires.{word_at}
+use Rattle.board.specs.HartBus.{word_at}
 use Rattle.board.proofs.space.Space.fetch_aligned.Goals as goal
 
 pub load_memory-requires : goal.load_memory-requires

@@ -3,13 +3,13 @@ use Rattle.std.proofs.Math.ListN.{drop_of_length-le}
 use Rattle.std.proofs.lemmas.List.{append-nil, take_all, take-append-le}
 use Rattle.std.proofs.lemmas.List.Edits.{map_over_more}
 use Rattle.board.specs.New.{reset_device}
-use Rattle.board.specs.Space.{Space, Fitted}
+use Rattle.board.specs.Space.{Space, BoardDevice}
 use Rattle.board.proofs.FitLemmas.{fit_reset}
 use Rattle.board.proofs.space.Space.reset_devices.Goals as goal
 
 -- after the last device all are reset
 all-reset :
-    (n i : ℕ) (now before inside : List Fitted) →
+    (n i : ℕ) (now before inside : List BoardDevice) →
     now ≡ map reset_device (take i before) ++ drop i before → length before ≤ i → before ≡ inside →
     n ≤ length now → length now ≤ n → take n (now ++ drop (length now) inside) ≡ map reset_device inside
 all-reset n i now before inside done end is most least =

@@ -5,7 +5,7 @@ use Rattle.dev_core.specs.declared.state.DevState.{DevState}
 use Rattle.dev_core.specs.declared.state.DevState.TheVariants.{Finisher}
 use Rattle.dev_core.specs.Device.{kind_of}
 use Rattle.board.specs.New.{hidden}
-use Rattle.board.specs.Space.{Fitted}
+use Rattle.board.specs.Space.{BoardDevice}
 use Rattle.board.proofs.ListLemmas.{set_below}
 use Rattle.board.proofs.PartLemmas.{devices_count}
 use Rattle.board.proofs.StateLemmas.{all_in, kind_there}
@@ -27,7 +27,7 @@ loop-dev-preserved g c =
     let dev = c.loop-dev.dev in
     let there : dev < length c.loop-dev.devices = omega (arith, c.loop-dev-test.true, now.same) in
     let count : length c.args.states.now ≡ length c.args.devices.now =
-    devices_count _ _ c.requires.devices ∙ length-map c.args.devices.now (λ (f : Fitted). kind_of f.state) in
+    devices_count _ _ c.requires.devices ∙ length-map c.args.devices.now (λ (f : BoardDevice). kind_of f.state) in
     let state_is = c.index-states-dev.is
     ∙ get_or_default c.args.states.now dev _ Finisher (omega (arith, c.loop-dev-test.true, now.same, count)) in
     record {
@@ -52,8 +52,8 @@ pub returns : goal.returns
 returns g c =
     let now = c.loop-dev.invariant in
     let count : length c.args.states.now ≡ length c.args.devices.now =
-    devices_count _ _ c.requires.devices ∙ length-map c.args.devices.now (λ (f : Fitted). kind_of f.state) in
+    devices_count _ _ c.requires.devices ∙ length-map c.args.devices.now (λ (f : BoardDevice). kind_of f.state) in
     let flags : length c.args.shown.now ≡ length c.args.devices.now =
-    c.requires.shown.count ∙ length-map c.args.devices.now (λ (f : Fitted). kind_of f.state) in
+    c.requires.shown.count ∙ length-map c.args.devices.now (λ (f : BoardDevice). kind_of f.state) in
     all_in c.loop-dev.devices c.args.states.now c.args.shown.now (hidden Finisher) (flags ∙ sym count)
     (now.same ∙ sym count) (λ k there. now.each k (omega (arith, there, c.loop-dev-test.false)))

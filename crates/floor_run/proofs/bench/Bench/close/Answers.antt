@@ -11,11 +11,11 @@ pub returns : goal.returns
 returns g c =
     let jobs = c.jobs_of.result.items in
     let words : List ℕ = slots_items c.close.result.words in
-    let slots = slots_items c.close.result.slots in
+    let cells = slots_items c.close.result.slots in
     let n = (slots_counts c.close.result.slots).0 in
     subst (λ (l : List g.row.J.Denot). Closing (slots_left g.J.Job.meaning)
     (AfterTurns g.J.Job.meaning g.J.Job.sent g.J.Job.state_after) l jobs)
     (ap (λ (b : BenchModel g.row.J.Denot). b.starts) c.self.view_is)
     (closes (slots_left g.J.Job.meaning) (AfterTurns g.J.Job.meaning g.J.Job.sent g.J.Job.state_after)
-    c.self.inside.table.shared.key.value.items words slots jobs c.close.ensures.values.2 (c.jobs_of.ensures.len ∙ n)
-    (subst (λ (k : ℕ). Takes words slots k jobs) n c.jobs_of.ensures.jobs))
+    c.self.inside.table.shared.key.value.items words cells jobs c.close.ensures.values.2 (c.jobs_of.ensures.len ∙ n)
+    (subst (λ (k : ℕ). Takes words cells k jobs) n c.jobs_of.ensures.jobs))

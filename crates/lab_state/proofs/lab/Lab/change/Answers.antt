@@ -1,7 +1,7 @@
 -- What a change leaves is all that holds of the laboratory.
 use Rattle.std.proofs.Common.{arith}
 use Rattle.lab_state.specs.One.{with_view}
-use Rattle.lab_state.specs.Inner.Change.{changed_by}
+use Rattle.lab_state.specs.Inner.BoardChange.{changed_by}
 use Rattle.lab_state.proofs.SoundLemmas.{planned_at, sound-kept, seen_set}
 use Rattle.lab_state.proofs.ChangeLemmas.{change-leaves}
 use Rattle.lab_state.proofs.lab.Lab.change.Goals as goal

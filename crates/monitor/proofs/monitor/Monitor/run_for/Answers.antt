@@ -7,12 +7,12 @@ use Rattle.monitor.specs.Step.{Running}
 use Rattle.monitor.proofs.RunLemmas.{no_longer, refused_run, run_cut, run_made}
 use Rattle.monitor.proofs.monitor.Monitor.run_for.Goals as goal
 
-pub returns-in_err-may_run-clause-made : goal.returns-in_err-may_run-clause-made
-returns-in_err-may_run-clause-made g c =
+pub returns-in_err-admit_run-clause-made : goal.returns-in_err-admit_run-clause-made
+returns-in_err-admit_run-clause-made g c =
     let exit = err_from_is_err_and c.from_residual.result c.from_residual.ensures.1 in
     rw (← c.self.view_is, exit.1, exit.2) (
-      refused_run run _ c.args.length.0 c.in_err-may_run.field-0.0 _ c.in_err-may_run.ensures.no_plan
-          c.in_err-may_run.ensures.too_long refl,
+      refused_run run _ c.args.length.0 c.in_err-admit_run.field-0.0 _ c.in_err-admit_run.ensures.no_plan
+          c.in_err-admit_run.ensures.too_long refl,
       refl,
     )
 
@@ -20,7 +20,7 @@ pub returns-in-Ok-clause-made : goal.returns-in-Ok-clause-made
 returns-in-Ok-clause-made g c =
     let old = c.args.self.now in
     run_made old c.play.new.self c.args.length.0 c.length_of-played.result.0
-    (rw (← c.self.view_is) c.in_ok-may_run.ensures.ok.0) (rw (← c.self.view_is) c.in_ok-may_run.ensures.ok.1)
+    (rw (← c.self.view_is) c.in_ok-admit_run.ensures.ok.0) (rw (← c.self.view_is) c.in_ok-admit_run.ensures.ok.1)
     c.length_of-played.ensures (c.runs_keep_names.ensures old.state.lab c.length_of-played.result.0)
     (g.K.Sink.written c.args.out.now) (g.K.Sink.written c.play.new.out) c.requires.unspent c.in-Ok.ensures.becomes
     c.in-Ok.ensures.whole
@@ -29,7 +29,7 @@ pub returns-in-Err-clause-made : goal.returns-in-Err-clause-made
 returns-in-Err-clause-made g c =
     let old = c.args.self.now in
     run_cut old c.play.new.self c.args.length.0 c.length_of-played.result.0
-    (rw (← c.self.view_is) c.in_ok-may_run.ensures.ok.0) (rw (← c.self.view_is) c.in_ok-may_run.ensures.ok.1)
+    (rw (← c.self.view_is) c.in_ok-admit_run.ensures.ok.0) (rw (← c.self.view_is) c.in_ok-admit_run.ensures.ok.1)
     c.length_of-played.ensures (c.runs_keep_names.ensures old.state.lab c.length_of-played.result.0) c.in-Err.fault
     (g.K.Sink.written c.args.out.now) (g.K.Sink.written c.play.new.out) c.requires.waits c.in-Err.ensures.ended
     c.in-Err.ensures.part
@@ -39,4 +39,4 @@ play-requires-clause-within g c κs within =
     let s = c.args.self.now.state in
     let short : length_of s c.args.length.0 ≤ c.args.length.0 = no_longer s c.args.length.0 in
     let now = ap (λ (r : Running). r.state.lab.now) c.self.view_is in
-    omega (arith, c.length_of-played.ensures, short, c.in_ok-may_run.ensures.ok.1, now)
+    omega (arith, c.length_of-played.ensures, short, c.in_ok-admit_run.ensures.ok.1, now)

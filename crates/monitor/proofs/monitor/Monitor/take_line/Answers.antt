@@ -4,7 +4,7 @@ use Rattle.lab_state.specs.Run.{run}
 use Rattle.resc_read.specs.Line.{line_of}
 use Rattle.lab_io.specs.declared.sink.WriteFault.TheVariants.{Unwritten}
 use Rattle.monitor.specs.Command.{done_by}
-use Rattle.monitor.specs.State.{Place}
+use Rattle.monitor.specs.State.{LinePlace}
 use Rattle.monitor.specs.Step.{Running}
 use Rattle.monitor.proofs.Ruled.{GoesOn, stop_goes_on}
 use Rattle.monitor.proofs.Writings.{stop_after, stop_is_progress, stop_uncut, stop_unread}
@@ -12,7 +12,7 @@ use Rattle.monitor.proofs.monitor.Monitor.take_line.Goals as goal
 
 pub returns-in-Ok-clause-step : goal.returns-in-Ok-clause-step
 returns-in-Ok-clause-step g c = λ held is.
-    let place : Place = record { file = c.args.file; number = c.args.line } in
+    let place : LinePlace = record { file = c.args.file; number = c.args.line } in
     let written = c.in-Ok.ensures.written place held is in
     rw (ap (λ (r : Running). r.state) c.self.view_is) (written.0, (written.1, written.2), written.3)
 
@@ -24,7 +24,7 @@ returns-in-Ok-clause-output g c = writes_as (λ same. cc same) c.carry_out_line.
 
 pub returns-in-Err-Stop-clause-step : goal.returns-in-Err-Stop-clause-step
 returns-in-Err-Stop-clause-step g c = λ held is.
-    let place : Place = record { file = c.args.file; number = c.args.line } in
+    let place : LinePlace = record { file = c.args.file; number = c.args.line } in
     let done = rw c.in-Err-Stop.field-0-is at c.in-Err-Stop.ensures in
     let written = done.written place held is in
     rw (c.stopped.ensures, ap (λ (r : Running). r.state) c.self.view_is)
@@ -35,7 +35,7 @@ returns-in-Err-Stop-clause-step g c = λ held is.
 
 pub returns-in-Err-Stop-clause-next : goal.returns-in-Err-Stop-clause-next
 returns-in-Err-Stop-clause-next g c =
-    let place : Place = record { file = c.args.file; number = c.args.line } in
+    let place : LinePlace = record { file = c.args.file; number = c.args.line } in
     let done = rw c.in-Err-Stop.field-0-is at c.in-Err-Stop.ensures in
     rw c.stopped.ensures
     (stop_after place c.in-Err-Stop.stop c.args.self.now c.carry_out_line.new.self _ done.leaves c.requires.waits
@@ -43,14 +43,14 @@ returns-in-Err-Stop-clause-next g c =
 
 pub returns-in-Err-Stop-clause-files : goal.returns-in-Err-Stop-clause-files
 returns-in-Err-Stop-clause-files g c =
-    let place : Place = record { file = c.args.file; number = c.args.line } in
+    let place : LinePlace = record { file = c.args.file; number = c.args.line } in
     let done = rw c.in-Err-Stop.field-0-is at c.in-Err-Stop.ensures in
     rw c.stopped.ensures
     (reads_as (λ same. let is = stop_unread place c.in-Err-Stop.stop same in rw is refl) done.reads)
 
 pub returns-in-Err-Stop-clause-output : goal.returns-in-Err-Stop-clause-output
 returns-in-Err-Stop-clause-output g c =
-    let place : Place = record { file = c.args.file; number = c.args.line } in
+    let place : LinePlace = record { file = c.args.file; number = c.args.line } in
     let done = rw c.in-Err-Stop.field-0-is at c.in-Err-Stop.ensures in
     rw c.stopped.ensures (writes_as (λ same. absurd (stop_uncut place c.in-Err-Stop.stop Unwritten same)) done.writes)
 
@@ -69,7 +69,7 @@ invariant_of-self-in-Err-Stop g c =
 
 pub returns-in-Err-Cut-clause-step : goal.returns-in-Err-Cut-clause-step
 returns-in-Err-Cut-clause-step g c = λ held is.
-    let place : Place = record { file = c.args.file; number = c.args.line } in
+    let place : LinePlace = record { file = c.args.file; number = c.args.line } in
     let done = rw c.in-Err-Cut.field-0-is at c.in-Err-Cut.ensures in
     let written = done.written place held is in
     (written.0, written.1, (written.2, written.3), written.4)

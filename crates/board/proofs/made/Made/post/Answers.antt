@@ -1,5 +1,0 @@
-use Rattle.std.proofs.Common.{refl}
-use Rattle.board.proofs.made.Made.post.Goals as goal
-
-pub returns : goal.returns
-returns c = λ s. rw (c.key.ensures s, ← c.self.view_is) refl

@@ -1,9 +1,0 @@
-use Rattle.lab_spell.specs.Inner.Laws.{appended}
-use Rattle.lab_snap.specs.Hub.{hub_form}
-use Rattle.lab_snap.proofs.hub.SavedHubSpelled.put.Goals as goal
-
-pub returns-clause-spelled : goal.returns-clause-spelled
-unfolding hub_form
-returns-clause-spelled c =
-    appended c.in_ok-put.ensures.spelled
-    (appended c.in_ok-put-2.ensures.spelled (appended c.in_ok-put-3.ensures.spelled c.in_ok-put-4.ensures.spelled))

@@ -1,9 +1,0 @@
-use Rattle.std.proofs.Common.{◌≡◌, ◌*◌, length}
-use Rattle.lab_snap.proofs.PageLoops.{IsHalfLoaded}
-use Rattle.lab_snap.proofs.memory.take_pages.Given as goal
-
-abbrev pub invariant-loop : goal.invariant-loop
-invariant-loop l = record {
-  size : length l.memory ≡ 4096 * l.pages;
-  so_far : IsHalfLoaded 4096 l.pages l.count l.fn.source l.fn.memory l.low l.counter l.source l.memory;
-}

@@ -1,9 +1,0 @@
-use Rattle.std.proofs.Common.{◌≡◌, length, take}
-use Rattle.lab_spell.proofs.ListLoops.{IsHalfRead}
-use Rattle.lab_spell.proofs.lists.ArraySpelled.take.Given as goal
-
-abbrev pub invariant-loop-i : goal.invariant-loop-i
-invariant-loop-i g l = record {
-  length : length l.values ≡ g.row.N;
-  so_far : IsHalfRead g.T.Spelled.form g.row.N l.fn.source (take l.i l.values) l.i l.source;
-}

@@ -1,5 +1,0 @@
-use Rattle.lab_spell.proofs.ListLoops.{IsHalfRead}
-use Rattle.lab_spell.proofs.lists.take_times.Given as goal
-
-abbrev pub invariant-loop : goal.invariant-loop
-invariant-loop g l = IsHalfRead g.T.Spelled.form l.count l.fn.source l.items.items l.counter l.source

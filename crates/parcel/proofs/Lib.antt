@@ -1,6 +1,0 @@
--- Lemmas of parcel.
-pub mod PostLemmas
-pub mod RanLemmas
-pub mod SendLemmas
-pub mod SlotLemmas
-pub mod TurnLemmas

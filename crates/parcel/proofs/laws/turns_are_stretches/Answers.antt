@@ -1,5 +1,0 @@
-use Rattle.parcel.proofs.SlotLemmas.{turn_is}
-use Rattle.parcel.proofs.laws.turns_are_stretches.Goals as goal
-
-pub returns : goal.returns
-returns c = turn_is c.stretches_join.ensures c.stretches_number.ensures

@@ -1,7 +1,0 @@
-use Rattle.parcel.proofs.PostLemmas.{one_dropped}
-use Rattle.parcel.proofs.parcel.ParcelJob.drop_post.Goals as goal
-
-pub invariant_of-self : goal.invariant_of-self
-invariant_of-self g c =
-    one_dropped c.self.inside.board c.drop_post.new.self c.self.inside.handle c.self.inside.pass c.self.invariant
-    c.drop_post.ensures
