@@ -1,25 +1,30 @@
 -- What a processor does in its slot, as its board has it.
 use Rattle.std.proofs.Common.{◌≡◌, ◌∙◌, ℕ, ◌<◌, ◌==◌, Bool, true, false, not, List, [], ◌∷◌, length, refl}
-use Rattle.std.proofs.Common.{ap, arith}
-use Rattle.std.specs.Prelude.{Option, None, if◌then◌else◌}
+use Rattle.std.proofs.Common.{ap, sym, arith, OnOk}
+use Rattle.std.specs.Prelude.{Option, None, Result, Ok, Err, if◌then◌else◌}
 use Rattle.std.specs.Option.{option_and_then, option_map_or}
 use Rattle.std.proofs.lemmas.Bool.{eqb-true, or_parts}
 use Rattle.rv_hart.specs.declared.csr.Lines.{Lines}
 use Rattle.rv_hart.specs.Core.{Core}
 use Rattle.rv_hart.specs.Trap.{chosen}
 use Rattle.rv_exec.specs.Effect.{effect, core_after, bus_after}
+use Rattle.rv_exec.specs.Laws.{IsSameHart}
 use Rattle.rv_atomic.specs.declared.shared.Shared.TheVariants as shared
-use Rattle.rv_atomic.specs.AtomicEffect.{leaves}
+use Rattle.rv_atomic.specs.AtomicEffect.{SharedEffect, leaves}
 use Rattle.rv_atomic.specs.Means.{atomic_of}
 use Rattle.rv_atomic.specs.Laws.{PlainAlone}
 use Rattle.rv_atomic.specs.SharedEffect.{shared_effect}
 use Rattle.sys_bus.specs.declared.plan.BoardPlan.{BoardPlan}
 use Rattle.board.specs.Fetch.{effect_on, fetched_by, shared_by, word_at_pc}
 use Rattle.board.specs.HartView.{slot_state}
-use Rattle.board.specs.Inner.Seat.{behind, is_shared, seen}
-use Rattle.board.specs.Slot.{awake}
+use Rattle.board.specs.declared.seat.Seat.{Seat}
+use Rattle.board.specs.declared.slot.Features.{Features}
+use Rattle.board.specs.Inner.Seat.{behind, board_at, is_shared, seen, shared_at, state_at, HasDone, IsSeat}
+use Rattle.board.specs.Slot.{awake, hart_slot, slot}
+use Rattle.board.specs.View.{after}
 use Rattle.board.specs.HartBus.{HartBus, answer, fetched, loaded, stored}
 use Rattle.board.proofs.SlotLemmas.{effect-behind}
+use Rattle.board.proofs.TurnLemmas.{taken_alone}
 
 -- a slot in which an instruction is done, at the beginning and at the end of it
 pub awake-instruction :
@@ -87,3 +92,33 @@ alone_effect law hart core watch w lines shares letters below harts =
         let first : hart ≡ 0 = omega (arith, below) in
         rw first (effect_alone law core word w lines plain)
     by_watch (word ∷ other ∷ words) one below plain = absurd (omega (arith, one))
+
+-- ---- a seat
+
+-- a processor alone has done what it fetches
+pub alone_done :
+    {D T E : Type 0} {features : Features} → PlainAlone → (old new : Seat D) (lines : Lines) (result : Result T E) →
+    is_shared old.bus.now.space.plan ≡ false → IsSeat features old → new.watch.now ≡ old.watch.now →
+    let alone = effect old.hart.now (fetched_by old.hart.now old.bus.now) lines in
+    OnOk result (new.hart.now ≡ core_after answer old.bus.now alone) →
+    OnOk result (new.bus.now ≡ bus_after loaded stored old.bus.now alone) →
+    OnOk result (IsSameHart old.hart.now new.hart.now) → OnOk result (HasDone (shared_at old) lines old new)
+alone_done law old new lines (Ok value) none seat watch core bus same =
+    let is = alone_effect law old.number old.hart.now old.watch.now old.bus.now lines none seat.letters seat.number
+    seat.harts in
+    record {
+      core = core ∙ ap {A = SharedEffect} (λ done. core_after answer old.bus.now done.effect) (sym is);
+      watch = watch ∙ ap {A = SharedEffect} (λ done. done.watch) (sym is);
+      bus = bus ∙ ap {A = SharedEffect} (λ done. bus_after loaded stored old.bus.now done.effect) (sym is);
+      same = same;
+    }
+alone_done law old new lines (Err error) none seat watch core bus same = tt
+
+-- a slot of a board's only processor is one of the board
+pub alone_taken :
+    {D : Type 0} (old new : Seat D) (t : ℕ) → old.number ≡ 0 → new.number ≡ old.number →
+    state_at new ≡ behind (state_at old) (hart_slot (state_at old).view t) →
+    board_at new ≡ after (board_at old) (slot (board_at old).view t)
+alone_taken old new t first same done =
+    taken_alone old.hart.now new.hart.now old.watch.now new.watch.now old.bus.now new.bus.now t
+    (rw (same ∙ first, first) at done)

@@ -3,52 +3,40 @@ ghost use Rattle.std.specs.Prelude.{◌≡◌, ◌<◌, length, true, false, OnO
 ghost use Rattle.rv_atomic.specs.SharedEffect.{IsSharable};
 ghost use Rattle.rv_exec.specs.Effect.{bus_after, core_after, effect};
 ghost use Rattle.rv_exec.specs.Laws.{IsSameHart};
-ghost use Rattle.board.specs.Fetch.{effect_on, fetched_by, shared_by};
-ghost use Rattle.board.specs.Inner.Seat.{seen, shared_of_word, features_of};
+ghost use Rattle.board.specs.Fetch.{fetched_by, shared_by};
+ghost use Rattle.board.specs.Inner.Seat.{shared_at, shared_of_word, HasDone, IsSameSeat, IsSeat};
 ghost use Rattle.board.specs.HartBus.{answer, loaded, stored};
 
 use crate::hart_bus::HartBus;
+use crate::seat::Seat;
 use crate::slot::Features;
 use crate::space::halves::of_half;
 use dev_core::Device;
 use lab_num::NoMemory;
-use rv_atomic::{Shared, Watch, decode_atomic, laws, step_shared};
+use rv_atomic::{Shared, decode_atomic, laws, step_shared};
 use rv_exec::{Fetched, perform};
 use rv_hart::{Hart, Lines};
 
 /// Does the instruction at the processor's pc, or enters the trap of its exception.
 #[inline(always)]
 pub fn instruction<const COPY: u8, D: Device>(
-    hart: &mut Hart,
-    number: u8,
-    watch: &mut Watch,
-    bus: &mut HartBus<D>,
+    seat: &mut Seat<'_, '_, '_, D>,
     features: Features,
     lines: Lines,
 ) -> Result<(), NoMemory>
-    requires features { features ≡ features_of bus.old.space.plan }
-    requires letters { hart.old.letters ≡ bus.old.space.plan.letters }
-    requires number { number < length watch.old }
-    requires harts { length watch.old ≡ length bus.old.space.plan.cpus }
-    ensures core { let shared = effect_on (seen number hart.old watch.old bus.old) bus.old lines in
-        OnOk result (hart.new ≡ core_after answer bus.old shared.effect) }
-    ensures watch { let shared = effect_on (seen number hart.old watch.old bus.old) bus.old lines in
-        OnOk result (watch.new ≡ shared.watch) }
-    ensures bus { let shared = effect_on (seen number hart.old watch.old bus.old) bus.old lines in
-        OnOk result (bus.new ≡ bus_after loaded stored bus.old shared.effect) }
-    ensures same { OnOk result (IsSameHart hart.old hart.new) }
-    ensures core_err { OnErr result (hart.new ≡ hart.old) }
-    ensures watch_err { OnErr result (watch.new ≡ watch.old) }
-    ensures bus_err { OnErr result (bus.new ≡ bus.old) }
+    requires seat { IsSeat features seat.old }
+    ensures ok { OnOk result (HasDone (shared_at seat.old) lines seat.old seat.new) }
+    ensures same { IsSameSeat seat.old seat.new }
+    ensures err { OnErr result (seat.new ≡ seat.old) }
 {
     if features.shared {
-        return by_sharing(hart, number, watch, bus, lines);
+        return by_sharing(lend!(seat), lines);
     }
     laws::alone_as_performed();
     if features.halves {
-        by_halves::<COPY, D>(hart, bus, lines)
+        by_halves::<COPY, D>(seat.hart, seat.bus, lines)
     } else {
-        by_words::<COPY, D>(hart, bus, lines)
+        by_words::<COPY, D>(seat.hart, seat.bus, lines)
     }
 }
 
@@ -107,31 +95,18 @@ fn by_halves<const COPY: u8, D: Device>(
 /// The same of a processor that may share words of memory, whatever it does. It is no part of the loops of a turn.
 #[cold]
 #[inline(never)]
-pub fn by_sharing<D: Device>(
-    hart: &mut Hart,
-    number: u8,
-    watch: &mut Watch,
-    bus: &mut HartBus<D>,
-    lines: Lines,
-) -> Result<(), NoMemory>
-    requires number { number < length watch.old }
-    ensures core { let shared = effect_on (seen number hart.old watch.old bus.old) bus.old lines in
-        OnOk result (hart.new ≡ core_after answer bus.old shared.effect) }
-    ensures watch { let shared = effect_on (seen number hart.old watch.old bus.old) bus.old lines in
-        OnOk result (watch.new ≡ shared.watch) }
-    ensures bus { let shared = effect_on (seen number hart.old watch.old bus.old) bus.old lines in
-        OnOk result (bus.new ≡ bus_after loaded stored bus.old shared.effect) }
-    ensures same { OnOk result (IsSameHart hart.old hart.new) }
-    ensures core_err { OnErr result (hart.new ≡ hart.old) }
-    ensures watch_err { OnErr result (watch.new ≡ watch.old) }
-    ensures bus_err { OnErr result (bus.new ≡ bus.old) }
+pub fn by_sharing<D: Device>(seat: &mut Seat<'_, '_, '_, D>, lines: Lines) -> Result<(), NoMemory>
+    requires number { seat.old.number < length seat.old.watch.now }
+    ensures ok { OnOk result (HasDone (shared_at seat.old) lines seat.old seat.new) }
+    ensures same { IsSameSeat seat.old seat.new }
+    ensures err { OnErr result (seat.new ≡ seat.old) }
 {
-    let what = if hart.letters().c {
-        shared_by_halves(hart, bus)
+    let what = if seat.hart.letters().c {
+        shared_by_halves(seat.hart, seat.bus)
     } else {
-        shared_by_words(hart, bus)
+        shared_by_words(seat.hart, seat.bus)
     };
-    step_shared(hart, number, watch, what, bus, lines)
+    step_shared(seat.hart, seat.number, seat.watch, what, seat.bus, lines)
 }
 
 /// What a processor without compressed instructions does at its pc.

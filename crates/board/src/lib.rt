@@ -2,6 +2,18 @@
 //! virtual time.
 #![tactic(auto)]
 
+/// Lends a seat on, as a seat of its own: the one that a loop of slots has is then never in memory.
+macro_rules! lend {
+    ($seat:ident) => {
+        &mut Seat {
+            hart: &mut *$seat.hart,
+            number: $seat.number,
+            watch: &mut *$seat.watch,
+            bus: &mut *$seat.bus,
+        }
+    };
+}
+
 mod board;
 mod board_device;
 mod hart_bus;
@@ -11,6 +23,7 @@ pub mod laws;
 mod numbers;
 mod outbox;
 mod remembered;
+mod seat;
 mod sharing;
 mod slot;
 mod space;

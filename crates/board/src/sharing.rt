@@ -3,83 +3,67 @@
 //! reserved, and of what is none of the other instructions.
 ghost use Rattle.std.specs.Prelude.{◌≡◌, ◌<◌, length, true, false, OnOk, OnErr};
 ghost use Rattle.rv_atomic.specs.Laws.{EndsNone};
-ghost use Rattle.rv_atomic.specs.SharedEffect.{shared_effect};
 ghost use Rattle.rv_atomic.specs.declared.shared.Shared.TheVariants.{Plain};
-ghost use Rattle.rv_exec.specs.Effect.{bus_after, core_after, of_word};
-ghost use Rattle.rv_exec.specs.Laws.{IsSameHart};
-ghost use Rattle.board.specs.Fetch.{effect_on, of_half};
-ghost use Rattle.board.specs.HartView.{slot_state};
-ghost use Rattle.board.specs.Inner.Seat.{behind, seen, shared_of_word, features_of};
+ghost use Rattle.rv_exec.specs.Effect.{of_word};
+ghost use Rattle.board.specs.Fetch.{of_half};
+ghost use Rattle.board.specs.Inner.Seat.{behind, shared_at, shared_of_word, state_at};
+ghost use Rattle.board.specs.Inner.Seat.{HasDone, IsSameSeat, IsSeat, KeepsHarts};
 ghost use Rattle.board.specs.Slot.{awake, hart_slot, running};
-ghost use Rattle.board.specs.HartBus.{answer, fetched, loaded, stored};
 
-use crate::hart_bus::HartBus;
 use crate::instruction::{by_sharing, of_word};
+use crate::seat::Seat;
 use crate::slot::{Features, enter_interrupt, sample_and_run, taken, wait};
 use crate::space::halves::of_half;
 use dev_core::Device;
 use lab_num::{Micros, NoMemory};
 use rv_atomic::{Shared, Watch, is_store, laws, step_shared};
 use rv_exec::{Fetched, perform};
-use rv_hart::{Hart, Lines};
+use rv_hart::Lines;
 
 /// One slot of the processor of this number, in this microsecond, as `slot` takes it.
 #[inline(always)]
 #[tactic(auto, unfolding(crate::specs::Slot::hart_slot))]
 pub fn shared_slot<const COPY: u8, D: Device>(
-    hart: &mut Hart,
-    number: u8,
-    watch: &mut Watch,
-    bus: &mut HartBus<D>,
+    seat: &mut Seat<'_, '_, '_, D>,
     features: Features,
     at: Micros,
 ) -> Result<bool, NoMemory>
-    requires features { features ≡ features_of bus.old.space.plan }
-    requires letters { hart.old.letters ≡ bus.old.space.plan.letters }
-    requires number { number < length watch.old }
-    requires harts { length watch.old ≡ length bus.old.space.plan.cpus }
-    ensures ok { let old = slot_state number hart.old watch.old bus.old in
-        OnOk result (slot_state number hart.new watch.new bus.new ≡ behind old (hart_slot old.view at.0)) }
-    ensures same { OnOk result (IsSameHart hart.old hart.new) }
-    ensures watch { OnOk result (length watch.new ≡ length watch.old) }
-    ensures err { OnErr result (slot_state number hart.new watch.new bus.new
-        ≡ slot_state number hart.old watch.old bus.old) }
+    requires seat { IsSeat features seat.old }
+    ensures ok { let old = state_at seat.old in
+        OnOk result (state_at seat.new ≡ behind old (hart_slot old.view at.0)) }
+    ensures kept { OnOk result (KeepsHarts seat.old seat.new) }
+    ensures same { IsSameSeat seat.old seat.new }
+    ensures err { OnErr result (state_at seat.new ≡ state_at seat.old) }
 {
-    if hart.halted() {
+    if seat.hart.halted() {
         return Ok(true);
     }
-    match bus.space.known_lines(features.wired, number, at) {
-        Some(lines) => run::<COPY, D>(hart, number, watch, bus, features, at, lines),
-        None => Ok(sample_and_run(hart, number, watch, bus, features, at)?),
+    let bus = &mut *seat.bus;
+    match bus.space.known_lines(features.wired, seat.number, at) {
+        Some(lines) => run::<COPY, D>(seat, features, at, lines),
+        None => Ok(sample_and_run(lend!(seat), features, at)?),
     }
 }
 
 /// The rest of a slot whose lines are these. After an `Err` all is as before.
 #[inline(always)]
 fn run<const COPY: u8, D: Device>(
-    hart: &mut Hart,
-    number: u8,
-    watch: &mut Watch,
-    bus: &mut HartBus<D>,
+    seat: &mut Seat<'_, '_, '_, D>,
     features: Features,
     at: Micros,
     lines: Lines,
 ) -> Result<bool, NoMemory>
-    requires features { features ≡ features_of bus.old.space.plan }
-    requires letters { hart.old.letters ≡ bus.old.space.plan.letters }
-    requires number { number < length watch.old }
-    requires harts { length watch.old ≡ length bus.old.space.plan.cpus }
-    ensures ok { let old = slot_state number hart.old watch.old bus.old in
-        OnOk result (slot_state number hart.new watch.new bus.new ≡ behind old (running old.view at.0 lines)) }
-    ensures same { OnOk result (IsSameHart hart.old hart.new) }
-    ensures watch { OnOk result (length watch.new ≡ length watch.old) }
-    ensures err { OnErr result (slot_state number hart.new watch.new bus.new
-        ≡ slot_state number hart.old watch.old bus.old) }
+    requires seat { IsSeat features seat.old }
+    ensures ok { let old = state_at seat.old in
+        OnOk result (state_at seat.new ≡ behind old (running old.view at.0 lines)) }
+    ensures kept { OnOk result (KeepsHarts seat.old seat.new) }
+    ensures same { IsSameSeat seat.old seat.new }
+    ensures err { OnErr result (state_at seat.new ≡ state_at seat.old) }
 {
-    if hart.waiting() {
-        return Ok(wait(hart, number, watch, bus, features, at, lines)?);
+    if seat.hart.waiting() {
+        return Ok(wait(lend!(seat), features, at, lines)?);
     }
-    act::<COPY, D>(hart, number, watch, bus, features, at, lines)?;
+    act::<COPY, D>(seat, features, at, lines)?;
     Ok(false)
 }
 
@@ -88,31 +72,24 @@ fn run<const COPY: u8, D: Device>(
 #[inline(always)]
 #[tactic(auto, unfolding(crate::specs::Slot::awake))]
 fn act<const COPY: u8, D: Device>(
-    hart: &mut Hart,
-    number: u8,
-    watch: &mut Watch,
-    bus: &mut HartBus<D>,
+    seat: &mut Seat<'_, '_, '_, D>,
     features: Features,
     at: Micros,
     lines: Lines,
 ) -> Result<(), NoMemory>
-    requires features { features ≡ features_of bus.old.space.plan }
-    requires letters { hart.old.letters ≡ bus.old.space.plan.letters }
-    requires number { number < length watch.old }
-    requires harts { length watch.old ≡ length bus.old.space.plan.cpus }
-    ensures ok { let old = slot_state number hart.old watch.old bus.old in
-        OnOk result (slot_state number hart.new watch.new bus.new ≡ behind old (awake old.view at.0 lines)) }
-    ensures same { OnOk result (IsSameHart hart.old hart.new) }
-    ensures watch { OnOk result (length watch.new ≡ length watch.old) }
-    ensures err { OnErr result (slot_state number hart.new watch.new bus.new
-        ≡ slot_state number hart.old watch.old bus.old) }
+    requires seat { IsSeat features seat.old }
+    ensures ok { let old = state_at seat.old in
+        OnOk result (state_at seat.new ≡ behind old (awake old.view at.0 lines)) }
+    ensures kept { OnOk result (KeepsHarts seat.old seat.new) }
+    ensures same { IsSameSeat seat.old seat.new }
+    ensures err { OnErr result (state_at seat.new ≡ state_at seat.old) }
 {
-    if let Some(n) = taken(hart, lines.mip) {
-        enter_interrupt(hart, n);
+    if let Some(n) = taken(seat.hart, lines.mip) {
+        enter_interrupt(seat.hart, n);
         return Ok(());
     }
-    bus.begin_slot(at);
-    let Ok(()) = instruction::<COPY, D>(hart, number, watch, bus, features, lines) else {
+    seat.bus.begin_slot(at);
+    let Ok(()) = instruction::<COPY, D>(seat, features, lines) else {
         return Err(NoMemory);
     };
     Ok(())
@@ -121,60 +98,39 @@ fn act<const COPY: u8, D: Device>(
 /// Does the instruction at the processor's pc, or enters the trap of its exception.
 #[inline(always)]
 fn instruction<const COPY: u8, D: Device>(
-    hart: &mut Hart,
-    number: u8,
-    watch: &mut Watch,
-    bus: &mut HartBus<D>,
+    seat: &mut Seat<'_, '_, '_, D>,
     features: Features,
     lines: Lines,
 ) -> Result<(), NoMemory>
-    requires features { features ≡ features_of bus.old.space.plan }
-    requires letters { hart.old.letters ≡ bus.old.space.plan.letters }
-    requires number { number < length watch.old }
-    ensures core { let shared = effect_on (seen number hart.old watch.old bus.old) bus.old lines in
-        OnOk result (hart.new ≡ core_after answer bus.old shared.effect) }
-    ensures watch { let shared = effect_on (seen number hart.old watch.old bus.old) bus.old lines in
-        OnOk result (watch.new ≡ shared.watch) }
-    ensures bus { let shared = effect_on (seen number hart.old watch.old bus.old) bus.old lines in
-        OnOk result (bus.new ≡ bus_after loaded stored bus.old shared.effect) }
-    ensures same { OnOk result (IsSameHart hart.old hart.new) }
-    ensures core_err { OnErr result (hart.new ≡ hart.old) }
-    ensures watch_err { OnErr result (watch.new ≡ watch.old) }
-    ensures bus_err { OnErr result (bus.new ≡ bus.old) }
+    requires seat { IsSeat features seat.old }
+    ensures ok { OnOk result (HasDone (shared_at seat.old) lines seat.old seat.new) }
+    ensures same { IsSameSeat seat.old seat.new }
+    ensures err { OnErr result (seat.new ≡ seat.old) }
 {
     if features.halves {
-        by_halves::<COPY, D>(hart, number, watch, bus, lines)
+        by_halves::<COPY, D>(seat, lines)
     } else {
-        by_words::<COPY, D>(hart, number, watch, bus, lines)
+        by_words::<COPY, D>(seat, lines)
     }
 }
 
 /// The same of a processor without compressed instructions.
 #[inline(always)]
 fn by_words<const COPY: u8, D: Device>(
-    hart: &mut Hart,
-    number: u8,
-    watch: &mut Watch,
-    bus: &mut HartBus<D>,
+    seat: &mut Seat<'_, '_, '_, D>,
     lines: Lines,
 ) -> Result<(), NoMemory>
-    requires letters { hart.old.letters.c ≡ false }
-    requires number { number < length watch.old }
-    ensures core { let shared = effect_on (seen number hart.old watch.old bus.old) bus.old lines in
-        OnOk result (hart.new ≡ core_after answer bus.old shared.effect) }
-    ensures watch { let shared = effect_on (seen number hart.old watch.old bus.old) bus.old lines in
-        OnOk result (watch.new ≡ shared.watch) }
-    ensures bus { let shared = effect_on (seen number hart.old watch.old bus.old) bus.old lines in
-        OnOk result (bus.new ≡ bus_after loaded stored bus.old shared.effect) }
-    ensures same { OnOk result (IsSameHart hart.old hart.new) }
-    ensures core_err { OnErr result (hart.new ≡ hart.old) }
-    ensures watch_err { OnErr result (watch.new ≡ watch.old) }
-    ensures bus_err { OnErr result (bus.new ≡ bus.old) }
+    requires letters { seat.old.hart.now.letters.c ≡ false }
+    requires number { seat.old.number < length seat.old.watch.now }
+    ensures ok { OnOk result (HasDone (shared_at seat.old) lines seat.old seat.new) }
+    ensures same { IsSameSeat seat.old seat.new }
+    ensures err { OnErr result (seat.new ≡ seat.old) }
 {
-    let at = hart.pc();
+    let at = seat.hart.pc();
+    let bus = &mut *seat.bus;
     match bus.space.fetch_aligned(at) {
-        Some(word) => do_word::<COPY, D>(hart, number, watch, word, bus, lines),
-        None => by_sharing(hart, number, watch, bus, lines),
+        Some(word) => do_word::<COPY, D>(seat, word, lines),
+        None => by_sharing(lend!(seat), lines),
     }
 }
 
@@ -182,35 +138,27 @@ fn by_words<const COPY: u8, D: Device>(
 /// is asked for in it.
 #[inline(always)]
 fn by_halves<const COPY: u8, D: Device>(
-    hart: &mut Hart,
-    number: u8,
-    watch: &mut Watch,
-    bus: &mut HartBus<D>,
+    seat: &mut Seat<'_, '_, '_, D>,
     lines: Lines,
 ) -> Result<(), NoMemory>
-    requires letters { hart.old.letters.c ≡ true }
-    requires number { number < length watch.old }
-    ensures core { let shared = effect_on (seen number hart.old watch.old bus.old) bus.old lines in
-        OnOk result (hart.new ≡ core_after answer bus.old shared.effect) }
-    ensures watch { let shared = effect_on (seen number hart.old watch.old bus.old) bus.old lines in
-        OnOk result (watch.new ≡ shared.watch) }
-    ensures bus { let shared = effect_on (seen number hart.old watch.old bus.old) bus.old lines in
-        OnOk result (bus.new ≡ bus_after loaded stored bus.old shared.effect) }
-    ensures same { OnOk result (IsSameHart hart.old hart.new) }
-    ensures core_err { OnErr result (hart.new ≡ hart.old) }
-    ensures watch_err { OnErr result (watch.new ≡ watch.old) }
-    ensures bus_err { OnErr result (bus.new ≡ bus.old) }
+    requires letters { seat.old.hart.now.letters.c ≡ true }
+    requires number { seat.old.number < length seat.old.watch.now }
+    ensures ok { OnOk result (HasDone (shared_at seat.old) lines seat.old seat.new) }
+    ensures same { IsSameSeat seat.old seat.new }
+    ensures err { OnErr result (seat.new ≡ seat.old) }
 {
-    let at = hart.pc();
+    let at = seat.hart.pc();
+    let bus = &mut *seat.bus;
     let Some(half) = bus.space.half(at) else {
-        return by_sharing(hart, number, watch, bus, lines);
+        return by_sharing(lend!(seat), lines);
     };
     if half % 4 != 3 {
-        return do_half::<COPY, D>(hart, number, watch, half, bus, lines);
+        return do_half::<COPY, D>(seat, half, lines);
     }
+    let bus = &mut *seat.bus;
     match bus.space.word_begun(half, at) {
-        Some(word) => do_word::<COPY, D>(hart, number, watch, word, bus, lines),
-        None => by_sharing(hart, number, watch, bus, lines),
+        Some(word) => do_word::<COPY, D>(seat, word, lines),
+        None => by_sharing(lend!(seat), lines),
     }
 }
 
@@ -225,35 +173,23 @@ fn ends_none(watch: &Watch, word: u32) -> bool
 /// Does a word. Only one that means no other instruction is asked for being an atomic one.
 #[inline(always)]
 fn do_word<const COPY: u8, D: Device>(
-    hart: &mut Hart,
-    number: u8,
-    watch: &mut Watch,
+    seat: &mut Seat<'_, '_, '_, D>,
     word: u32,
-    bus: &mut HartBus<D>,
     lines: Lines,
 ) -> Result<(), NoMemory>
-    requires number { number < length watch.old }
-    ensures core { let what = shared_of_word hart.old.letters word in
-        let shared = shared_effect (fetched bus.old) hart.old number watch.old what lines in
-        OnOk result (hart.new ≡ core_after answer bus.old shared.effect) }
-    ensures watch { let what = shared_of_word hart.old.letters word in
-        let shared = shared_effect (fetched bus.old) hart.old number watch.old what lines in
-        OnOk result (watch.new ≡ shared.watch) }
-    ensures bus { let what = shared_of_word hart.old.letters word in
-        let shared = shared_effect (fetched bus.old) hart.old number watch.old what lines in
-        OnOk result (bus.new ≡ bus_after loaded stored bus.old shared.effect) }
-    ensures same { OnOk result (IsSameHart hart.old hart.new) }
-    ensures core_err { OnErr result (hart.new ≡ hart.old) }
-    ensures watch_err { OnErr result (watch.new ≡ watch.old) }
-    ensures bus_err { OnErr result (bus.new ≡ bus.old) }
+    requires number { seat.old.number < length seat.old.watch.now }
+    ensures ok { let what = shared_of_word seat.old.hart.now.letters word in
+        OnOk result (HasDone what lines seat.old seat.new) }
+    ensures same { IsSameSeat seat.old seat.new }
+    ensures err { OnErr result (seat.new ≡ seat.old) }
 {
-    if !ends_none(watch, word) {
-        return do_word_apart(hart, number, watch, word, bus, lines);
+    if !ends_none(seat.watch, word) {
+        return do_word_apart(lend!(seat), word, lines);
     }
     laws::atomic_words_mean_no_other();
     match Fetched::of_word(word) {
-        Fetched::Bad(_) => do_word_apart(hart, number, watch, word, bus, lines),
-        what => perform(hart, what, bus, lines),
+        Fetched::Bad(_) => do_word_apart(lend!(seat), word, lines),
+        what => perform(seat.hart, what, seat.bus, lines),
     }
 }
 
@@ -261,91 +197,53 @@ fn do_word<const COPY: u8, D: Device>(
 #[cold]
 #[inline(never)]
 fn do_word_apart<D: Device>(
-    hart: &mut Hart,
-    number: u8,
-    watch: &mut Watch,
+    seat: &mut Seat<'_, '_, '_, D>,
     word: u32,
-    bus: &mut HartBus<D>,
     lines: Lines,
 ) -> Result<(), NoMemory>
-    requires { number < length watch.old }
-    ensures core { let what = shared_of_word hart.old.letters word in
-        let shared = shared_effect (fetched bus.old) hart.old number watch.old what lines in
-        OnOk result (hart.new ≡ core_after answer bus.old shared.effect) }
-    ensures watch { let what = shared_of_word hart.old.letters word in
-        let shared = shared_effect (fetched bus.old) hart.old number watch.old what lines in
-        OnOk result (watch.new ≡ shared.watch) }
-    ensures bus { let what = shared_of_word hart.old.letters word in
-        let shared = shared_effect (fetched bus.old) hart.old number watch.old what lines in
-        OnOk result (bus.new ≡ bus_after loaded stored bus.old shared.effect) }
-    ensures same { OnOk result (IsSameHart hart.old hart.new) }
-    ensures core_err { OnErr result (hart.new ≡ hart.old) }
-    ensures watch_err { OnErr result (watch.new ≡ watch.old) }
-    ensures bus_err { OnErr result (bus.new ≡ bus.old) }
+    requires { seat.old.number < length seat.old.watch.now }
+    ensures ok { let what = shared_of_word seat.old.hart.now.letters word in
+        OnOk result (HasDone what lines seat.old seat.new) }
+    ensures same { IsSameSeat seat.old seat.new }
+    ensures err { OnErr result (seat.new ≡ seat.old) }
 {
-    let what = of_word(hart, word);
-    step_shared(hart, number, watch, what, bus, lines)
+    let what = of_word(seat.hart, word);
+    step_shared(seat.hart, seat.number, seat.watch, what, seat.bus, lines)
 }
 
 /// Does a half-word.
 #[inline(always)]
 fn do_half<const COPY: u8, D: Device>(
-    hart: &mut Hart,
-    number: u8,
-    watch: &mut Watch,
+    seat: &mut Seat<'_, '_, '_, D>,
     half: u16,
-    bus: &mut HartBus<D>,
     lines: Lines,
 ) -> Result<(), NoMemory>
-    requires letters { hart.old.letters.c ≡ true }
-    requires number { number < length watch.old }
-    ensures core { let what = Plain (of_half half) in
-        let shared = shared_effect (fetched bus.old) hart.old number watch.old what lines in
-        OnOk result (hart.new ≡ core_after answer bus.old shared.effect) }
-    ensures watch { let what = Plain (of_half half) in
-        let shared = shared_effect (fetched bus.old) hart.old number watch.old what lines in
-        OnOk result (watch.new ≡ shared.watch) }
-    ensures bus { let what = Plain (of_half half) in
-        let shared = shared_effect (fetched bus.old) hart.old number watch.old what lines in
-        OnOk result (bus.new ≡ bus_after loaded stored bus.old shared.effect) }
-    ensures same { OnOk result (IsSameHart hart.old hart.new) }
-    ensures core_err { OnErr result (hart.new ≡ hart.old) }
-    ensures watch_err { OnErr result (watch.new ≡ watch.old) }
-    ensures bus_err { OnErr result (bus.new ≡ bus.old) }
+    requires letters { seat.old.hart.now.letters.c ≡ true }
+    requires number { seat.old.number < length seat.old.watch.now }
+    ensures ok { OnOk result (HasDone (Plain (of_half half)) lines seat.old seat.new) }
+    ensures same { IsSameSeat seat.old seat.new }
+    ensures err { OnErr result (seat.new ≡ seat.old) }
 {
-    if !watch.is_clear() {
-        return do_half_apart(hart, number, watch, half, bus, lines);
+    if !seat.watch.is_clear() {
+        return do_half_apart(lend!(seat), half, lines);
     }
-    perform(hart, of_half(half), bus, lines)
+    perform(seat.hart, of_half(half), seat.bus, lines)
 }
 
 /// The same where it may end a reservation.
 #[cold]
 #[inline(never)]
 fn do_half_apart<D: Device>(
-    hart: &mut Hart,
-    number: u8,
-    watch: &mut Watch,
+    seat: &mut Seat<'_, '_, '_, D>,
     half: u16,
-    bus: &mut HartBus<D>,
     lines: Lines,
 ) -> Result<(), NoMemory>
-    requires letters { hart.old.letters.c ≡ true }
-    requires number { number < length watch.old }
-    ensures core { let what = Plain (of_half half) in
-        let shared = shared_effect (fetched bus.old) hart.old number watch.old what lines in
-        OnOk result (hart.new ≡ core_after answer bus.old shared.effect) }
-    ensures watch { let what = Plain (of_half half) in
-        let shared = shared_effect (fetched bus.old) hart.old number watch.old what lines in
-        OnOk result (watch.new ≡ shared.watch) }
-    ensures bus { let what = Plain (of_half half) in
-        let shared = shared_effect (fetched bus.old) hart.old number watch.old what lines in
-        OnOk result (bus.new ≡ bus_after loaded stored bus.old shared.effect) }
-    ensures same { OnOk result (IsSameHart hart.old hart.new) }
-    ensures core_err { OnErr result (hart.new ≡ hart.old) }
-    ensures watch_err { OnErr result (watch.new ≡ watch.old) }
-    ensures bus_err { OnErr result (bus.new ≡ bus.old) }
+    requires letters { seat.old.hart.now.letters.c ≡ true }
+    requires number { seat.old.number < length seat.old.watch.now }
+    ensures ok { OnOk result (HasDone (Plain (of_half half)) lines seat.old seat.new) }
+    ensures same { IsSameSeat seat.old seat.new }
+    ensures err { OnErr result (seat.new ≡ seat.old) }
 {
     let what = Shared::Plain(of_half(half));
-    step_shared(hart, number, watch, what, bus, lines)
+    step_shared(seat.hart, seat.number, seat.watch, what, seat.bus, lines)
 }

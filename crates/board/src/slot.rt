@@ -1,20 +1,18 @@
 //! One slot of one of a board's processors.
-ghost use Rattle.std.specs.Prelude.{◌≡◌, ◌<◌, true, length, OnOk, OnErr};
+ghost use Rattle.std.specs.Prelude.{◌≡◌, true, OnOk, OnErr};
 ghost use Rattle.rv_exec.specs.Laws.{IsSameHart};
 ghost use Rattle.rv_hart.specs.Trap.{chosen, interrupt};
-ghost use Rattle.board.specs.HartView.{slot_state};
 ghost use Rattle.board.specs.Inner.Fit.{IsStateOf};
 ghost use Rattle.board.specs.BoardState.{controller_to};
-ghost use Rattle.board.specs.Inner.Seat.{behind, seen, features_of};
+ghost use Rattle.board.specs.Inner.Seat.{behind, state_at, IsSameSeat, IsSeat, KeepsHarts};
 ghost use Rattle.board.specs.Lines.{sampled, lines_of};
 ghost use Rattle.board.specs.Slot.{hart_slot, running, sampling, awake, asleep};
 ghost use Rattle.rv_hart.specs.Core.{ticked};
 
-use crate::hart_bus::HartBus;
 use crate::instruction::instruction;
+use crate::seat::Seat;
 use dev_core::Device;
 use lab_num::{Micros, NoMemory};
-use rv_atomic::Watch;
 use rv_hart::{Hart, Lines};
 
 /// The copy of the interpreter for slots that sample or wait. Those of the loops of a turn have
@@ -37,30 +35,24 @@ pub struct Features {
 #[inline(always)]
 #[tactic(auto, unfolding(crate::specs::Slot::hart_slot))]
 pub fn slot<const COPY: u8, D: Device>(
-    hart: &mut Hart,
-    number: u8,
-    watch: &mut Watch,
-    bus: &mut HartBus<D>,
+    seat: &mut Seat<'_, '_, '_, D>,
     features: Features,
     at: Micros,
 ) -> Result<bool, NoMemory>
-    requires features { features ≡ features_of bus.old.space.plan }
-    requires letters { hart.old.letters ≡ bus.old.space.plan.letters }
-    requires number { number < length watch.old }
-    requires harts { length watch.old ≡ length bus.old.space.plan.cpus }
-    ensures ok { let old = slot_state number hart.old watch.old bus.old in
-        OnOk result (slot_state number hart.new watch.new bus.new ≡ behind old (hart_slot old.view at.0)) }
-    ensures same { OnOk result (IsSameHart hart.old hart.new) }
-    ensures watch { OnOk result (length watch.new ≡ length watch.old) }
-    ensures err { OnErr result (slot_state number hart.new watch.new bus.new
-        ≡ slot_state number hart.old watch.old bus.old) }
+    requires seat { IsSeat features seat.old }
+    ensures ok { let old = state_at seat.old in
+        OnOk result (state_at seat.new ≡ behind old (hart_slot old.view at.0)) }
+    ensures kept { OnOk result (KeepsHarts seat.old seat.new) }
+    ensures same { IsSameSeat seat.old seat.new }
+    ensures err { OnErr result (state_at seat.new ≡ state_at seat.old) }
 {
-    if hart.halted() {
+    if seat.hart.halted() {
         return Ok(true);
     }
-    match bus.space.known_lines(features.wired, number, at) {
-        Some(lines) => run::<COPY, D>(hart, number, watch, bus, features, at, lines),
-        None => Ok(sample_and_run(hart, number, watch, bus, features, at)?),
+    let bus = &mut *seat.bus;
+    match bus.space.known_lines(features.wired, seat.number, at) {
+        Some(lines) => run::<COPY, D>(seat, features, at, lines),
+        None => Ok(sample_and_run(lend!(seat), features, at)?),
     }
 }
 
@@ -69,28 +61,23 @@ pub fn slot<const COPY: u8, D: Device>(
 #[cold]
 #[inline(never)]
 pub fn sample_and_run<D: Device>(
-    hart: &mut Hart,
-    number: u8,
-    watch: &mut Watch,
-    bus: &mut HartBus<D>,
+    seat: &mut Seat<'_, '_, '_, D>,
     features: Features,
     at: Micros,
 ) -> Result<bool, NoMemory>
-    requires features { features ≡ features_of bus.old.space.plan }
-    requires letters { hart.old.letters ≡ bus.old.space.plan.letters }
-    requires number { number < length watch.old }
-    requires harts { length watch.old ≡ length bus.old.space.plan.cpus }
-    ensures ok { let old = slot_state number hart.old watch.old bus.old in
-        OnOk result (slot_state number hart.new watch.new bus.new
-        ≡ behind old (running (sampling old.view) at.0 (lines_of (sampled bus.old.space) number at.0))) }
-    ensures same { OnOk result (IsSameHart hart.old hart.new) }
-    ensures watch { OnOk result (length watch.new ≡ length watch.old) }
-    ensures err { OnErr result (slot_state number hart.new watch.new bus.new
-        ≡ slot_state number hart.old watch.old bus.old) }
+    requires seat { IsSeat features seat.old }
+    ensures ok { let old = state_at seat.old in
+        OnOk result (state_at seat.new
+        ≡ behind old (running (sampling old.view) at.0 (lines_of (sampled old.view.space) old.view.hart at.0))) }
+    ensures kept { OnOk result (KeepsHarts seat.old seat.new) }
+    ensures same { IsSameSeat seat.old seat.new }
+    ensures err { OnErr result (state_at seat.new ≡ state_at seat.old) }
 {
+    let bus = &mut *seat.bus;
     let before = bus.space.controller_state();
-    let lines = bus.space.sample(number, at);
-    let Ok(idle) = run::<APART, D>(hart, number, watch, bus, features, at, lines) else {
+    let lines = bus.space.sample(seat.number, at);
+    let Ok(idle) = run::<APART, D>(seat, features, at, lines) else {
+        let bus = &mut *seat.bus;
         bus.space.put_controller(&before);
         return Err(NoMemory);
     };
@@ -100,30 +87,23 @@ pub fn sample_and_run<D: Device>(
 /// The rest of a slot whose lines are these. After an `Err` all is as before.
 #[inline(always)]
 fn run<const COPY: u8, D: Device>(
-    hart: &mut Hart,
-    number: u8,
-    watch: &mut Watch,
-    bus: &mut HartBus<D>,
+    seat: &mut Seat<'_, '_, '_, D>,
     features: Features,
     at: Micros,
     lines: Lines,
 ) -> Result<bool, NoMemory>
-    requires features { features ≡ features_of bus.old.space.plan }
-    requires letters { hart.old.letters ≡ bus.old.space.plan.letters }
-    requires number { number < length watch.old }
-    requires harts { length watch.old ≡ length bus.old.space.plan.cpus }
-    ensures ok { let old = slot_state number hart.old watch.old bus.old in
-        OnOk result (slot_state number hart.new watch.new bus.new ≡ behind old (running old.view at.0 lines)) }
-    ensures same { OnOk result (IsSameHart hart.old hart.new) }
-    ensures watch { OnOk result (length watch.new ≡ length watch.old) }
-    ensures err { OnErr result (slot_state number hart.new watch.new bus.new
-        ≡ slot_state number hart.old watch.old bus.old) }
+    requires seat { IsSeat features seat.old }
+    ensures ok { let old = state_at seat.old in
+        OnOk result (state_at seat.new ≡ behind old (running old.view at.0 lines)) }
+    ensures kept { OnOk result (KeepsHarts seat.old seat.new) }
+    ensures same { IsSameSeat seat.old seat.new }
+    ensures err { OnErr result (state_at seat.new ≡ state_at seat.old) }
 {
-    if hart.waiting() {
+    if seat.hart.waiting() {
         // taken apart, so that other slots test no answer of it
-        return Ok(wait(hart, number, watch, bus, features, at, lines)?);
+        return Ok(wait(lend!(seat), features, at, lines)?);
     }
-    act::<COPY, D>(hart, number, watch, bus, features, at, lines)?;
+    act::<COPY, D>(seat, features, at, lines)?;
     Ok(false)
 }
 
@@ -132,33 +112,26 @@ fn run<const COPY: u8, D: Device>(
 #[cold]
 #[inline(never)]
 pub fn wait<D: Device>(
-    hart: &mut Hart,
-    number: u8,
-    watch: &mut Watch,
-    bus: &mut HartBus<D>,
+    seat: &mut Seat<'_, '_, '_, D>,
     features: Features,
     at: Micros,
     lines: Lines,
 ) -> Result<bool, NoMemory>
-    requires waiting { hart.old.waiting ≡ true }
-    requires features { features ≡ features_of bus.old.space.plan }
-    requires letters { hart.old.letters ≡ bus.old.space.plan.letters }
-    requires number { number < length watch.old }
-    requires harts { length watch.old ≡ length bus.old.space.plan.cpus }
-    ensures ok { let old = slot_state number hart.old watch.old bus.old in
-        OnOk result (slot_state number hart.new watch.new bus.new ≡ behind old (asleep old.view at.0 lines)) }
-    ensures same { OnOk result (IsSameHart hart.old hart.new) }
-    ensures watch { OnOk result (length watch.new ≡ length watch.old) }
-    ensures err { OnErr result (slot_state number hart.new watch.new bus.new
-        ≡ slot_state number hart.old watch.old bus.old) }
+    requires waiting { seat.old.hart.now.waiting ≡ true }
+    requires seat { IsSeat features seat.old }
+    ensures ok { let old = state_at seat.old in
+        OnOk result (state_at seat.new ≡ behind old (asleep old.view at.0 lines)) }
+    ensures kept { OnOk result (KeepsHarts seat.old seat.new) }
+    ensures same { IsSameSeat seat.old seat.new }
+    ensures err { OnErr result (state_at seat.new ≡ state_at seat.old) }
 {
-    if !hart.is_ready(lines.mip) {
-        hart.tick();
+    if !seat.hart.is_ready(lines.mip) {
+        seat.hart.tick();
         return Ok(true);
     }
-    hart.set_waiting(false);
-    let Ok(()) = act::<APART, D>(hart, number, watch, bus, features, at, lines) else {
-        hart.set_waiting(true);
+    seat.hart.set_waiting(false);
+    let Ok(()) = act::<APART, D>(seat, features, at, lines) else {
+        seat.hart.set_waiting(true);
         return Err(NoMemory);
     };
     Ok(false)
@@ -169,31 +142,24 @@ pub fn wait<D: Device>(
 #[inline(always)]
 #[tactic(auto, unfolding(crate::specs::Slot::awake))]
 fn act<const COPY: u8, D: Device>(
-    hart: &mut Hart,
-    number: u8,
-    watch: &mut Watch,
-    bus: &mut HartBus<D>,
+    seat: &mut Seat<'_, '_, '_, D>,
     features: Features,
     at: Micros,
     lines: Lines,
 ) -> Result<(), NoMemory>
-    requires features { features ≡ features_of bus.old.space.plan }
-    requires letters { hart.old.letters ≡ bus.old.space.plan.letters }
-    requires number { number < length watch.old }
-    requires harts { length watch.old ≡ length bus.old.space.plan.cpus }
-    ensures ok { let old = slot_state number hart.old watch.old bus.old in
-        OnOk result (slot_state number hart.new watch.new bus.new ≡ behind old (awake old.view at.0 lines)) }
-    ensures same { OnOk result (IsSameHart hart.old hart.new) }
-    ensures watch { OnOk result (length watch.new ≡ length watch.old) }
-    ensures err { OnErr result (slot_state number hart.new watch.new bus.new
-        ≡ slot_state number hart.old watch.old bus.old) }
+    requires seat { IsSeat features seat.old }
+    ensures ok { let old = state_at seat.old in
+        OnOk result (state_at seat.new ≡ behind old (awake old.view at.0 lines)) }
+    ensures kept { OnOk result (KeepsHarts seat.old seat.new) }
+    ensures same { IsSameSeat seat.old seat.new }
+    ensures err { OnErr result (state_at seat.new ≡ state_at seat.old) }
 {
-    if let Some(n) = taken(hart, lines.mip) {
-        enter_interrupt(hart, n);
+    if let Some(n) = taken(seat.hart, lines.mip) {
+        enter_interrupt(seat.hart, n);
         return Ok(());
     }
-    bus.begin_slot(at);
-    let Ok(()) = instruction::<COPY, D>(hart, number, watch, bus, features, lines) else {
+    seat.bus.begin_slot(at);
+    let Ok(()) = instruction::<COPY, D>(seat, features, lines) else {
         return Err(NoMemory);
     };
     Ok(())

@@ -1,20 +1,28 @@
 -- A processor in its slot, and how the slots of a board are taken.
-use Rattle.std.specs.Prelude.{ℕ, ◌==◌, ◌||◌, ◌++◌, not, Bool, if◌then◌else◌, List, Option, None, length, map}
+use Rattle.std.specs.Prelude.{◌≡◌, ◌<◌, ℕ, ◌==◌, ◌||◌, ◌++◌, not, Bool, if◌then◌else◌, List, Option, None, length, map}
 use Rattle.std.specs.Prelude.{slice_index_or}
 use Rattle.std.specs.List.{range_with_len}
 use Rattle.std.specs.Option.{option_map_or}
 use Rattle.rv_hart.specs.Core.{Core, initial}
 use Rattle.rv_hart.specs.declared.letters.Letters.{Letters}
-use Rattle.rv_exec.specs.Effect.{of_word}
+use Rattle.rv_hart.specs.declared.csr.Lines.{Lines}
+use Rattle.rv_exec.specs.Effect.{bus_after, core_after, of_word}
+use Rattle.rv_exec.specs.Laws.{IsSameHart}
 use Rattle.rv_atomic.specs.declared.shared.Shared.{Shared}
 use Rattle.rv_atomic.specs.declared.shared.Shared.TheVariants as shared
+use Rattle.rv_atomic.specs.AtomicEffect.{SharedEffect}
 use Rattle.rv_atomic.specs.Means.{atomic_of}
+use Rattle.rv_atomic.specs.SharedEffect.{shared_effect}
 use Rattle.sys_bus.specs.declared.plan.BoardPlan.{BoardPlan}
+use Rattle.board.specs.declared.seat.Seat.{Seat}
 use Rattle.board.specs.declared.slot.Features.{Features}
+use Rattle.board.specs.Fetch.{shared_by}
 use Rattle.board.specs.Idle.{core_passed, turns_of}
 use Rattle.board.specs.HartView.{HartView, SlotState, slot_state}
+use Rattle.board.specs.Inner.Holds.{state_alone}
 use Rattle.board.specs.Inner.Remembers.{is_wired}
-use Rattle.board.specs.HartBus.{HartBus}
+use Rattle.board.specs.HartBus.{HartBus, answer, fetched, loaded, stored}
+use Rattle.board.specs.View.{State}
 
 -- what the processor of a number sees
 abbrev pub seen : ℕ → Core → List (Option ℕ) → HartBus → HartView
@@ -41,3 +49,47 @@ abbrev pub all_passed : List Core → ℕ → ℕ → List Core
 all_passed cores next n =
     map (λ hart. core_passed (turns_of (length cores) next n hart) (slice_index_or cores hart initial))
     (range_with_len 0 (length cores))
+
+-- ---- a seat
+
+-- what it shows: the processor and what it reaches
+abbrev pub state_at : {D : Type 0} → Seat D → SlotState
+state_at seat = slot_state seat.number seat.hart.now seat.watch.now seat.bus.now
+
+-- and the board whose only processor it has
+abbrev pub board_at : {D : Type 0} → Seat D → State
+board_at seat = state_alone seat.hart.now seat.watch.now seat.bus.now
+
+-- Its board has these features. Its processor has the letters of the plan and one of its numbers, and each of the
+-- plan's processors may have a reservation.
+pub record IsSeat {D : Type 0} (these : Features) (seat : Seat D) : Type 0 where
+  pub features : these ≡ features_of seat.bus.now.space.plan
+  pub letters : seat.hart.now.letters ≡ seat.bus.now.space.plan.letters
+  pub number : seat.number < length seat.watch.now
+  pub harts : length seat.watch.now ≡ length seat.bus.now.space.plan.cpus
+
+-- the same seat
+pub record IsSameSeat {D : Type 0} (old new : Seat D) : Type 0 where
+  pub hart : new.hart.ghost_name ≡ old.hart.ghost_name
+  pub watch : new.watch.ghost_name ≡ old.watch.ghost_name
+  pub bus : new.bus.ghost_name ≡ old.bus.ghost_name
+  pub number : new.number ≡ old.number
+
+-- with the same processor, and with reservations of as many
+pub record KeepsHarts {D : Type 0} (old new : Seat D) : Type 0 where
+  pub hart : IsSameHart old.hart.now new.hart.now
+  pub count : length new.watch.now ≡ length old.watch.now
+
+-- what its processor does at its pc
+abbrev pub shared_at : {D : Type 0} → Seat D → Shared
+shared_at seat = shared_by seat.hart.now seat.bus.now
+
+abbrev pub effect_of : {D : Type 0} → Seat D → Shared → Lines → SharedEffect
+effect_of seat what lines = shared_effect (fetched seat.bus.now) seat.hart.now seat.number seat.watch.now what lines
+
+-- its processor has done this
+pub record HasDone {D : Type 0} (what : Shared) (lines : Lines) (old new : Seat D) : Type 0 where
+  pub core : new.hart.now ≡ core_after answer old.bus.now (effect_of old what lines).effect
+  pub watch : new.watch.now ≡ (effect_of old what lines).watch
+  pub bus : new.bus.now ≡ bus_after loaded stored old.bus.now (effect_of old what lines).effect
+  pub same : IsSameHart old.hart.now new.hart.now

@@ -1,23 +1,19 @@
 //! The slots of a turn.
 ghost use Rattle.std.specs.Prelude.{◌≡◌, ◌+◌, ◌/◌, ◌<◌, ◌≤◌, true, false, length, All, OnOk, OnErr};
-ghost use Rattle.rv_exec.specs.Laws.{IsSameHart};
 ghost use Rattle.board.specs.Inner.Ended.{HasEnded, taken_of};
-ghost use Rattle.board.specs.Inner.Holds.{state_alone};
-ghost use Rattle.board.specs.Inner.Seat.{features_of};
+ghost use Rattle.board.specs.Inner.Seat.{board_at, features_of, IsSameSeat, IsSeat, KeepsHarts};
 ghost use Rattle.board.specs.Slot.{slot, number_after};
 ghost use Rattle.board.specs.Stretch.{IsTurn, stretch};
 ghost use Rattle.board.specs.Valid.{IsReservation};
 ghost use Rattle.board.specs.View.{after};
 
 use super::{Board, SlotAt, Turn};
-use crate::hart_bus::HartBus;
 use crate::harts::all_asleep;
+use crate::seat::Seat;
 use crate::sharing::shared_slot;
 use crate::slot::{Features, slot};
 use dev_core::Device;
 use lab_num::{Micros, NoMemory};
-use rv_atomic::Watch;
-use rv_hart::Hart;
 
 /// The copies of the interpreter in the loops of a turn, of which each is called from one place, so
 /// that it is inlined there: those of boards of one processor without atomic instructions, which are
@@ -60,28 +56,25 @@ fn number_after(harts: u8, number: u8) -> u8
 /// microsecond, or those up to an idle one.
 #[inline(always)]
 fn slots_alone<const COPY: u8, D: Device>(
-    hart: &mut Hart,
-    watch: &mut Watch,
-    bus: &mut HartBus<D>,
+    seat: &mut Seat<'_, '_, '_, D>,
     features: Features,
     now: Micros,
     count: u64,
 ) -> Ended
     requires alone { features.shared ≡ false }
-    requires features { features ≡ features_of bus.old.space.plan }
-    requires letters { hart.old.letters ≡ bus.old.space.plan.letters }
-    requires harts { length watch.old ≡ length bus.old.space.plan.cpus }
-    requires most { count ≤ bus.old.numbers.speed }
+    requires seat { IsSeat features seat.old }
+    requires first { seat.old.number ≡ 0 }
+    requires most { count ≤ seat.old.bus.now.numbers.speed }
     ensures ended { HasEnded count result }
-    ensures run { let old = state_alone hart.old watch.old bus.old in
-        state_alone hart.new watch.new bus.new ≡ after old (stretch old.view now.0 0 (taken_of count result)) }
-    ensures same { IsSameHart hart.old hart.new }
-    ensures watch { length watch.new ≡ length watch.old }
-    ensures reserved { All (IsReservation bus.old.space.plan) watch.old →
-        All (IsReservation bus.old.space.plan) watch.new }
+    ensures run { let old = board_at seat.old in
+        board_at seat.new ≡ after old (stretch old.view now.0 0 (taken_of count result)) }
+    ensures kept { KeepsHarts seat.old seat.new }
+    ensures same { IsSameSeat seat.old seat.new }
+    ensures reserved { let plan = seat.old.bus.now.space.plan in
+        All (IsReservation plan) seat.old.watch.now → All (IsReservation plan) seat.new.watch.now }
 {
     for i in 0..count {
-        let Ok(idle) = slot::<COPY, D>(hart, 0, watch, bus, features, now) else {
+        let Ok(idle) = slot::<COPY, D>(seat, features, now) else {
             return Ended::Starved(i);
         };
         if idle {
@@ -104,7 +97,7 @@ impl<D: Device> Board<D> {
         }
     }
 
-    /// The next `n` slots of a board whose ways are these. It is a function of its own, so that who
+    /// The next `n` slots of a board with these features. It is a function of its own, so that who
     /// calls `turn` makes no slot dearer.
     #[inline(never)]
     pub(super) fn slots<const COPY: u8>(
@@ -178,7 +171,13 @@ impl<D: Device> Board<D> {
         ensures run { self.new ≡ after self.old (stretch self.old.view now.0 0 (taken_of count result)) }
     {
         let hart = &mut self.harts[0];
-        slots_alone::<COPY, D>(hart, &mut self.watch, &mut self.bus, features, now, count)
+        let seat = &mut Seat {
+            hart,
+            number: 0,
+            watch: &mut self.watch,
+            bus: &mut self.bus,
+        };
+        slots_alone::<COPY, D>(seat, features, now, count)
     }
 
     /// The same of any other board. Each kind has a loop of its own.
@@ -245,15 +244,13 @@ impl<D: Device> Board<D> {
     {
         let number = self.next;
         let hart = &mut self.harts[usize::from(number)];
-        let taken = shared_slot::<COPY, D>(
+        let seat = &mut Seat {
             hart,
             number,
-            &mut self.watch,
-            &mut self.bus,
-            features,
-            now,
-        );
-        let Ok(idle) = taken else {
+            watch: &mut self.watch,
+            bus: &mut self.bus,
+        };
+        let Ok(idle) = shared_slot::<COPY, D>(seat, features, now) else {
             return Err(NoMemory);
         };
         self.next = number_after(self.watch.harts(), number);

@@ -16,29 +16,26 @@ plan_sampled : (now old : Space) → now ≡ sampled old → now.plan ≡ old.pl
 unfolding sampled
 plan_sampled now old is = ap {A = Space} (λ s. s.plan) is
 
-pub run-requires-clause-features : goal.run-requires-clause-features
-run-requires-clause-features g c =
-    c.requires.features
-    ∙ ap {A = HartBus} (λ w. features_of w.space.plan) (sym c.bus.view_is)
-    ∙ ap features_of (sym (plan_sampled _ _ c.sample-lines.ensures.space))
-
-pub run-requires-clause-letters : goal.run-requires-clause-letters
-run-requires-clause-letters g c =
-    c.requires.letters
-    ∙ ap {A = HartBus} (λ w. w.space.plan.letters) (sym c.bus.view_is)
-    ∙ ap {A = BoardPlan} (λ plan. plan.letters) (sym (plan_sampled _ _ c.sample-lines.ensures.space))
-
-pub run-requires-clause-harts : goal.run-requires-clause-harts
-run-requires-clause-harts g c =
-    c.requires.harts
-    ∙ ap {A = HartBus} (λ w. length w.space.plan.cpus) (sym c.bus.view_is)
-    ∙ ap {A = BoardPlan} (λ plan. length plan.cpus) (sym (plan_sampled _ _ c.sample-lines.ensures.space))
+pub run-requires : goal.run-requires
+run-requires g c =
+    let was = ap {A = HartBus} (λ w. w.space.plan) (sym c.bus.view_is)
+    ∙ sym (plan_sampled _ _ c.sample-lines.ensures.space)
+    in
+    record {
+      seat =
+          record {
+            features = c.requires.seat.features ∙ ap features_of was;
+            letters = c.requires.seat.letters ∙ ap {A = BoardPlan} (λ plan. plan.letters) was;
+            number = c.requires.seat.number;
+            harts = c.requires.seat.harts ∙ ap {A = BoardPlan} (λ plan. length plan.cpus) was;
+          };
+    }
 
 pub put_controller-requires : goal.put_controller-requires
 put_controller-requires g c =
     let err = (c.in_default.ensures {u = tt}).err in
-    let reached : c.bus-2.inside.space ≡ sampled c.bus.inside.space =
-    ap {A = HartBus} (λ w. w.space) c.bus-2.view_is
+    let reached : c.bus-in_default.inside.space ≡ sampled c.bus.inside.space =
+    ap {A = HartBus} (λ w. w.space) c.bus-in_default.view_is
     ∙ ap {A = SlotState} (λ s. s.view.space) err
     ∙ c.sample-lines.ensures.space in
     rw reached (still_state _ _ c.controller_state-before.ensures.valid)
@@ -59,16 +56,17 @@ pub returns-in_default-clause-err : goal.returns-in_default-clause-err
 returns-in_default-clause-err g c =
     let err = (c.in_default.ensures {u = tt}).err in
     let state = c.controller_state-before.result in
-    let core = c.run.new.hart in
-    let watch = c.run.new.watch in
+    let old = c.args.seat.now in
+    let new = c.run.new.seat in
     ap {A = Space}
-    (λ space. slot_state c.args.number core watch
-    (bus_with c.bus-2.inside.outbox space c.bus-2.inside.at.0)) c.put_controller.ensures
-    ∙ ap {A = HartBus} (λ w. put_back state (slot_state c.args.number core watch w)) c.bus-2.view_is
+    (λ space. slot_state new.number new.hart.now new.watch.now
+    (bus_with c.bus-in_default.inside.outbox space c.bus-in_default.inside.at.0)) c.put_controller.ensures
+    ∙ ap {A = HartBus} (λ w. put_back state (slot_state new.number new.hart.now new.watch.now w))
+    c.bus-in_default.view_is
     ∙ ap (put_back state) err
     ∙ ap {A = Space}
-    (λ space. slot_state c.args.number c.args.hart.now c.args.watch.now
+    (λ space. slot_state old.number old.hart.now old.watch.now
     (bus_with c.bus.inside.outbox space c.bus.inside.at.0))
     (back c.bus.inside.space c.sample-lines.new.self state c.sample-lines.ensures.space
     c.controller_state-before.ensures.value)
-    ∙ ap {A = HartBus} (λ w. slot_state c.args.number c.args.hart.now c.args.watch.now w) c.bus.view_is
+    ∙ ap {A = HartBus} (λ w. slot_state old.number old.hart.now old.watch.now w) c.bus.view_is

@@ -1,4 +1,4 @@
-use Rattle.std.proofs.Common.{◌≡◌, ◌∙◌, ap, sym, length, arith}
+use Rattle.std.proofs.Common.{◌≡◌, ◌∙◌, ap, sym, length, arith, rules}
 use Rattle.std.proofs.lemmas.List.{get_or_default}
 use Rattle.rv_hart.specs.Core.{initial}
 use Rattle.board.specs.declared.slot.Features.{Features}
@@ -14,20 +14,24 @@ use Rattle.board.proofs.board.Board.slots_of_one.Goals as goal
 pub invariant_of-self : goal.invariant_of-self
 invariant_of-self g c =
     let board = c.self.inside in
+    let new = c.slots_alone.new.seat in
     let run = c.slots_alone.ensures.run in
-    holds_set (state_of board.harts.items board.next board.watch board.bus).view c.slots_alone.new.bus.numbers 0
-    board.next c.index_mut-hart.result.now c.slots_alone.new.hart c.slots_alone.new.watch
-    c.slots_alone.new.bus.space c.self.invariant
+    let kept = c.slots_alone.ensures.kept in
+    let back : c.hart-1.given.0 ≡ new.hart.now = search rules in
+    rw back
+    (holds_set (state_of board.harts.items board.next board.watch board.bus).view new.bus.now.numbers 0 board.next
+    c.index_mut-hart.result.now new.hart.now new.watch.now new.bus.now.space c.self.invariant
     (ap {A = State} (λ s. s.view.numbers.speed) run ∙ speed-stretch _ _ _ _)
     (ap {A = State} (λ s. s.view.space.plan) run ∙ plan-stretch _ _ _ _) (omega (arith, c.self.invariant.next))
-    c.index_mut-hart.ensures.value c.slots_alone.ensures.same c.slots_alone.ensures.watch c.self.invariant.next
-    (c.slots_alone.ensures.reserved c.self.invariant.reserved)
+    c.index_mut-hart.ensures.value kept.hart kept.count c.self.invariant.next
+    (c.slots_alone.ensures.reserved c.self.invariant.reserved))
 
 pub returns-clause-run : goal.returns-clause-run
 returns-clause-run g c =
     let board = c.self.inside in
     let cores = board.harts.items in
     let old = c.index_mut-hart.result.now in
+    let new = c.slots_alone.new.seat in
     let parts = not-shared c.args.self.now.view.space.plan
     (sym (ap {A = Features} (λ w. w.shared) c.requires.features) ∙ c.requires.alone) in
     let one : length cores ≡ 1 =
@@ -35,8 +39,9 @@ returns-clause-run g c =
     let first = c.index_mut-hart.ensures.value ∙ get_or_default cores 0 old initial (omega (arith, one)) in
     let alone = alone_is cores board.next board.watch board.bus one c.self.invariant.next
     ∙ ap (λ core. state_alone core board.watch board.bus) (sym first) in
-    alone_set cores board.next c.slots_alone.new.hart c.slots_alone.new.watch c.slots_alone.new.bus one
-    c.self.invariant.next
+    let back : c.hart-1.given.0 ≡ new.hart.now = search rules in
+    rw back
+    (alone_set cores board.next new.hart.now new.watch.now new.bus.now one c.self.invariant.next
     ∙ c.slots_alone.ensures.run
     ∙ ap {A = State} (λ s. after s (stretch s.view c.args.now.0 0 (taken_of c.args.count c.slots_alone.result)))
-    (sym alone ∙ c.self.view_is)
+    (sym alone ∙ c.self.view_is))

@@ -1,19 +1,18 @@
-use Rattle.std.proofs.Common.{◌≡◌, All, length}
-use Rattle.rv_exec.specs.Laws.{IsSameHart}
+use Rattle.std.proofs.Common.{◌≡◌, All}
+use Rattle.board.specs.Inner.Seat.{board_at, IsSameSeat, KeepsHarts}
 use Rattle.board.specs.Valid.{IsReservation}
 use Rattle.board.specs.View.{after}
 use Rattle.board.specs.Stretch.{stretch}
-use Rattle.board.specs.Inner.Holds.{state_alone}
 use Rattle.board.proofs.board.slots.slots_alone.Given as goal
 
 -- The board is as after the slots so far.
 abbrev pub invariant-loop-i : goal.invariant-loop-i
 invariant-loop-i g l =
-    let old = state_alone l.fn.hart l.fn.watch l.fn.bus in
+    let old = board_at l.fn.seat in
+    let plan = l.fn.seat.bus.now.space.plan in
     record {
-      run : state_alone l.hart l.watch l.bus ≡ after old (stretch old.view l.now.0 0 l.i);
-      same : IsSameHart l.fn.hart l.hart;
-      watch : length l.watch ≡ length l.fn.watch;
-      reserved :
-          All (IsReservation l.fn.bus.space.plan) l.fn.watch → All (IsReservation l.fn.bus.space.plan) l.watch;
+      run : board_at l.seat ≡ after old (stretch old.view l.now.0 0 l.i);
+      kept : KeepsHarts l.fn.seat l.seat;
+      same : IsSameSeat l.fn.seat l.seat;
+      reserved : All (IsReservation plan) l.fn.seat.watch.now → All (IsReservation plan) l.seat.watch.now;
     }
