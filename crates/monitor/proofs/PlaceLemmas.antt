@@ -140,8 +140,8 @@ module _ (s : Space) (valid : IsValid s.plan) (sizes : map length s.memories ≡
       g.region (one_region part (is_below a part at f)) f.found g.found (is_ram part f.region.kind f.kind)
       (is_ram part g.region.kind g.kind) in
       let base : f.region.base ≡ g.region.base = ap (λ region. region.base) same in
-      let first = (and_parts (nat_le f.region.base a) _ (found_passes _ _ f.region f.found).0).0 in
-      let second = (and_parts (nat_le g.region.base b) _ (found_passes _ _ g.region g.found).0).0 in
+      let first = (and_parts (nat_le f.region.base a) _ (found_passes (holds a 1) s.plan.regions f.region f.found).0).0 in
+      let second = (and_parts (nat_le g.region.base b) _ (found_passes (holds b 1) s.plan.regions g.region g.found).0).0 in
       grind (arith, nat_tests, base, first, second, f.place, g.place)
 
   within : (a part at : ℕ) → Found s.plan.regions a part at → at < length (memory_at s part)
@@ -152,7 +152,7 @@ module _ (s : Space) (valid : IsValid s.plan) (sizes : map length s.memories ≡
       let size : (f.region.size == slice_index s.plan.memories part) ≡ true = rw f.kind at here in
       let long : length (memory_at s part) ≡ slice_index s.plan.memories part =
       sized s.memories part there ∙ ap (λ xs. slice_index xs part) sizes in
-      let both = and_parts (nat_le f.region.base a) _ (found_passes _ _ f.region f.found).0 in
+      let both = and_parts (nat_le f.region.base a) _ (found_passes (holds a 1) s.plan.regions f.region f.found).0 in
       rw long (grind (arith, nat_tests, size, both.0, both.1, f.place))
 
   pub stand_apart : StandApart s
