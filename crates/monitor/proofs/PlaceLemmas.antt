@@ -140,8 +140,10 @@ module _ (s : Space) (valid : IsValid s.plan) (sizes : map length s.memories ≡
       g.region (one_region part (is_below a part at f)) f.found g.found (is_ram part f.region.kind f.kind)
       (is_ram part g.region.kind g.kind) in
       let base : f.region.base ≡ g.region.base = ap (λ region. region.base) same in
-      let first = (and_parts (nat_le f.region.base a) _ (found_passes (holds a 1) s.plan.regions f.region f.found).0).0 in
-      let second = (and_parts (nat_le g.region.base b) _ (found_passes (holds b 1) s.plan.regions g.region g.found).0).0 in
+      let first =
+      (and_parts (nat_le f.region.base a) _ (found_passes (holds a 1) s.plan.regions f.region f.found).0).0 in
+      let second =
+      (and_parts (nat_le g.region.base b) _ (found_passes (holds b 1) s.plan.regions g.region g.found).0).0 in
       grind (arith, nat_tests, base, first, second, f.place, g.place)
 
   within : (a part at : ℕ) → Found s.plan.regions a part at → at < length (memory_at s part)
