@@ -43,7 +43,9 @@ use Rattle.lab_state.specs.Lab.{Lab}
 use Rattle.lab_state.specs.Names.{board_named, connected_to, hub_named, is_taken, kind_named}
 use Rattle.lab_state.specs.One.{changed, first_without, fitted, kind_at, with_member, with_view}
 use Rattle.lab_state.specs.Run.{run, still}
+use Rattle.lab_state.proofs.RunLemmas.{run_none}
 use Rattle.lab_num.specs.Change.{change_at}
+use Rattle.lab_num.proofs.ListLemmas.{map-change}
 use Rattle.resc_vars.specs.Bodies.{enter, run_of, source_of}
 use Rattle.resc_vars.specs.Script as script
 use Rattle.resc_vars.specs.declared.cause.ScriptCause.{ScriptCause}
@@ -67,8 +69,8 @@ use Rattle.check_laws.specs.Checked.{IsCheckOf, IsFound}
 use Rattle.check_laws.specs.Standing.{Equipment, Standing, equipment_of, standing}
 use Rattle.check_laws.proofs.KeepLemmas.{Keeps, bytes_keep, halted_keeps, image_keeps, pc_keeps, reset_keeps}
 use Rattle.check_laws.proofs.KeepLemmas.{shown_keeps, speed_keeps, stands}
-use Rattle.check_laws.proofs.ListLemmas.{change_seen, change_unseen}
-use Rattle.check_laws.proofs.RunLemmas.{IsLater, run_none}
+use Rattle.check_laws.proofs.ListLemmas.{change_seen}
+use Rattle.check_laws.proofs.RunLemmas.{IsLater}
 use Rattle.check_laws.proofs.SameLemmas.{AreAlike, DidFound, FoundBy, bare_same, found_at, kind_same, length_same}
 use Rattle.check_laws.proofs.SameLemmas.{loads_found, named_same, selected_same, taken_same, then_equipped, then_on}
 use Rattle.check_laws.proofs.SameLemmas.{then_same, there_same, without_same}
@@ -144,9 +146,9 @@ module _ (s t : State) (alike : IsCheckOf s t) where
     flow = alike.flow;
     selected = alike.selected;
     boards =
-        change_unseen standing (with_view g) (stands g second) t.lab.boards b
+        map-change standing (with_view g) (stands g second) t.lab.boards b
         ∙ alike.boards
-        ∙ sym (change_unseen standing (with_view f) (stands f first) s.lab.boards b);
+        ∙ sym (map-change standing (with_view f) (stands f first) s.lab.boards b);
     hubs = alike.hubs;
     now = alike.now;
     until = alike.until;
