@@ -1,5 +1,4 @@
 //! Files in memory, and real ones.
-ghost use Rattle.std.specs.Prelude.{◌≤◌};
 
 use lab_io::{DiskFiles, Files, MemFiles, ReadAnswer, ReadFault, TextFault, read_file, read_text};
 use std::alloc::{AllocError, Global};

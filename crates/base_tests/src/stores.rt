@@ -1,5 +1,4 @@
 //! Stores in memory, and the real one.
-ghost use Rattle.std.specs.Prelude.{◌≤◌};
 
 use lab_io::{DiskStore, MemStore, ReadAnswer, Store, StoreAnswer};
 use std::alloc::Global;

@@ -1,15 +1,15 @@
 -- Bytes that are put in memories piece by piece.
 use Rattle.std.proofs.Common.{◌≡◌, ℕ, suc, ◌+◌, ◌≤◌, ◌<◌, List, [], ◌∷◌, ◌++◌, length, take, drop, refl, sym, ap, ◌∙◌}
-use Rattle.std.proofs.Common.{arith, add-one, add-zero, append_assoc, length-set}
+use Rattle.std.proofs.Common.{arith, length-set}
 use Rattle.std.specs.Prelude.{slice_index_or, slice_set}
-use Rattle.std.proofs.Math.Seq.{take-suc-set}
 use Rattle.std.proofs.Math.Seq.{take-add}
-use Rattle.std.proofs.lemmas.List.{drop-set-lt, take-append-drop, get_or-set_same, set-get_or, get_or_default}
+use Rattle.std.proofs.lemmas.List.{get_or-set_same, set-get_or, get_or_default, set-set}
 use Rattle.std.proofs.lemmas.List.{length-take, length-take-le, length-drop, take-take, length-replicate}
 use Rattle.std.proofs.lemmas.List.{replicate-append-replicate}
 use Rattle.std.specs.Prelude.{Result, Ok, Err}
 use Rattle.std.specs.Result.{OnErr}
 use Rattle.page_ram.specs.Bytes.{put_bytes, zeros}
+use Rattle.page_ram.proofs.ByteLemmas.{length-put_bytes, put_bytes-cons, put_bytes-nil}
 use Rattle.sys_bus.specs.declared.region.Target.{Target}
 use Rattle.sys_bus.specs.declared.region.Target.TheVariants.{Ram, Clint, Plic, Dev, Nothing}
 use Rattle.sys_bus.specs.Region.{target_of}
@@ -17,19 +17,6 @@ use Rattle.board.specs.Space.{Space, memory_at, with_memory, target_at}
 use Rattle.board.specs.Changes.{put_in, put_byte, copied, in_memory, is_memory}
 use Rattle.board.specs.declared.space.memories.Room.{Room}
 use Rattle.board.specs.Inner.Copies.{CopiesPrefix, HasRoom}
-use Rattle.board.proofs.ListLemmas.{set_set}
-
--- bytes put in a place are the first of them and then the others
-put_bytes-cons :
-    (bytes : List ℕ) (i next byte : ℕ) (part : List ℕ) → next ≡ i + 1 → i < length bytes →
-    put_bytes bytes i (byte ∷ part) ≡ put_bytes (slice_set bytes i byte) next part
-put_bytes-cons bytes i next byte part follows h =
-    let end : i + suc (length part) ≡ i + 1 + length part = omega arith in
-    let same = drop-set-lt (i + 1 + length part) bytes i byte (omega arith) in
-    rw (follows, end, same, add-one i, take-suc-set bytes i byte h, append_assoc) refl
-
-put_bytes-nil : (bytes : List ℕ) (i : ℕ) → put_bytes bytes i [] ≡ bytes
-put_bytes-nil bytes i = rw add-zero (take-append-drop i bytes)
 
 put_bytes-first :
     (bytes : List ℕ) (i byte : ℕ) (part : List ℕ) → i < length bytes →
@@ -38,14 +25,8 @@ put_bytes-first bytes i byte part h =
     let one = put_bytes-cons bytes i (i + 1) byte [] refl h ∙ put_bytes-nil (slice_set bytes i byte) (i + 1) in
     put_bytes-cons bytes i (i + 1) byte part refl h ∙ ap (λ b. put_bytes b (i + 1) part) (sym one)
 
-length-put_one :
-    (bytes : List ℕ) (i byte : ℕ) → i < length bytes → length (put_bytes bytes i (byte ∷ [])) ≡ length bytes
-length-put_one bytes i byte h =
-    ap length (put_bytes-cons bytes i (i + 1) byte [] refl h ∙ put_bytes-nil (slice_set bytes i byte) (i + 1))
-    ∙ length-set bytes i byte
-
 -- the plan stays
-plan-put_in : (s : Space) (byte : ℕ) (target : Target) → (put_in s byte target).plan ≡ s.plan
+pub plan-put_in : (s : Space) (byte : ℕ) (target : Target) → (put_in s byte target).plan ≡ s.plan
 plan-put_in s byte (Ram part at) = refl
 plan-put_in s byte (Dev dev at) = refl
 plan-put_in s byte (Clint at) = refl
@@ -89,7 +70,7 @@ copied_piece s at part place (byte ∷ bytes) there room each =
     let seen : memory_at one part ≡ put_bytes memory place (byte ∷ []) =
     get_or-set_same s.memories part (put_bytes memory place (byte ∷ [])) [] there in
     let size : length (memory_at one part) ≡ length memory =
-    ap length seen ∙ length-put_one memory place byte (omega (arith, room)) in
+    ap length seen ∙ length-put_bytes memory (byte ∷ []) place (omega (arith, room)) in
     let count : length one.memories ≡ length s.memories =
     length-set s.memories part (put_bytes memory place (byte ∷ [])) in
     let rest =
@@ -103,7 +84,7 @@ copied_piece s at part place (byte ∷ bytes) there room each =
     ∙ ap (λ m. with_memory one part (put_bytes m (place + 1) bytes)) seen
     ∙ ap (λ m. with_memory one part m) (sym (put_bytes-first memory place byte bytes (omega (arith, room))))
     ∙ ap (λ memories. record s { memories = memories })
-    (set_set s.memories part (put_bytes memory place (byte ∷ [])) (put_bytes memory place (byte ∷ bytes)))
+    (set-set s.memories part (put_bytes memory place (byte ∷ [])) (put_bytes memory place (byte ∷ bytes)))
 
 -- a piece of a memory
 pub put_piece :

@@ -1,12 +1,10 @@
 -- Where accesses of a valid plan lie.
 use Rattle.std.proofs.Common.{◌≡◌, ℕ, zero, suc, ◌+◌, ◌-◌, ◌%◌, ◌^◌, ◌≤◌, ◌<◌, ◌==◌, Bool, true, false, ◌&&◌, List, []}
-use Rattle.std.proofs.Common.{◌∷◌, length, map, All, slice_get, slice_index, Option, Some, None, ◌⊎◌, inl, inr, nat_le}
+use Rattle.std.proofs.Common.{◌∷◌, length, map, slice_get, slice_index, Option, Some, None, ◌⊎◌, inl, inr, nat_le}
 use Rattle.std.proofs.Common.{◌||◌, nat_lt, refl, sym, ap, ◌∙◌, arith, rules}
 use Rattle.std.specs.Prelude.{slice_index_or, find, option_map}
-use Rattle.std.specs.List.{list_all, range_with_len}
 use Rattle.std.proofs.lemmas.Bool.Decides.{nat_tests}
-use Rattle.std.proofs.lemmas.List.{length-map, length-replicate, get_or-set_same, set-get_or}
-use Rattle.std.proofs.lemmas.Option.{slice_get_within, get_or_from_slice_get}
+use Rattle.std.proofs.lemmas.List.{length-map, length-replicate, get_or-set_same, set-get_or, set-set}
 use Rattle.dev_core.specs.Device.{kind_of, dev_reset, IsValid as IsValidState}
 use Rattle.dev_core.specs.declared.state.DevState.{DevState}
 use Rattle.dev_core.specs.declared.state.DevState.TheVariants as state
@@ -14,7 +12,7 @@ use Rattle.dev_core.specs.declared.kind.Kind.{Kind}
 use Rattle.dev_core.specs.Kind.{row_of}
 use Rattle.dev_core.specs.declared.kind.Kind.TheVariants.{Uart, Can, Finisher}
 use Rattle.clint.specs.Clint.{Timer}
-use Rattle.page_ram.specs.Access.{IsInOnePage, IsRamSize}
+use Rattle.page_ram.specs.Access.{IsInOnePage}
 use Rattle.plic.specs.State.{Controller}
 use Rattle.page_ram.specs.Bytes.{zeros}
 use Rattle.rv_exec.specs.Access.{IsAccess, IsWidth}
@@ -27,8 +25,8 @@ use Rattle.sys_bus.specs.declared.region.Target.{Target}
 use Rattle.sys_bus.specs.declared.region.Target.TheVariants.{Ram, Clint, Plic, Dev, Nothing}
 use Rattle.sys_bus.specs.Region.{IsWithin, target_of, target_if, target_by, step_of, step_if, room_of, room_if, end_of}
 use Rattle.sys_bus.specs.Region.{holds, same_part}
-use Rattle.sys_bus.specs.Part.{is_part, has_memory_size, has_one_each, regions_of}
-use Rattle.sys_bus.specs.Limits.{is_range, is_step, device_in, are_few_memories}
+use Rattle.sys_bus.specs.Part.{is_part, has_memory_size}
+use Rattle.sys_bus.specs.Limits.{is_range, is_step, device_in}
 use Rattle.sys_bus.specs.Plan.{IsValid}
 use Rattle.std.proofs.Math.Seq.{map-set_same}
 use Rattle.board.specs.Changes.{in_memory, is_memory}
@@ -39,10 +37,10 @@ use Rattle.board.specs.Inner.Fit.{IsFit, LiesIn, IsInPage, HoldsAccesses}
 use Rattle.sys_bus.specs.declared.near.MemoryPlace.{MemoryPlace}
 use Rattle.sys_bus.specs.Place.{IsPlace}
 use Rattle.std.specs.Option.{IfSome}
-use Rattle.board.proofs.ListLemmas.{any_at, passes_at, All-by_place, counted_at, found_passes}
-use Rattle.board.proofs.ListLemmas.{range_passes, set_set}
+use Rattle.board.proofs.ListLemmas.{any_at}
 use Rattle.std.proofs.lemmas.List.Elements.{All-map, All-set}
-use Rattle.std.proofs.lemmas.List.Sums.{get_or-le-sum_by}
+use Rattle.std.proofs.lemmas.Bool.{and_parts}
+use Rattle.lab_num.proofs.ListLemmas.{passes_at, found_passes}
 
 -- the bytes of a memory of the plan
 memory-size :
@@ -61,15 +59,6 @@ memory-count s fit = rw (← fit.sizes) (length-map s.memories length)
 device-count : (s : Space) → IsFit s → length s.plan.kinds ≡ length s.devices
 device-count s fit = rw (← fit.kinds) (length-map s.devices (λ f. kind_of f.state))
 
--- of two tests that are passed
-second_of : (a b : Bool) → (a && b) ≡ true → b ≡ true
-second_of true b both = both
-second_of false b both = absurd (cc)
-
-first_one : (a b : Bool) → (a && b) ≡ true → a ≡ true
-first_one true b both = refl
-first_one false b both = absurd (cc)
-
 -- regions stand for memories and devices that there are
 is-part :
     (s : Space) (i : ℕ) (region : Region) → IsFit s → slice_get s.plan.regions i ≡ Some region →
@@ -77,7 +66,7 @@ is-part :
 is-part s i region fit there =
     rw (memory-count s fit, device-count s fit) at
     (passes_at (λ r. is_part (length s.plan.memories) (length s.plan.kinds) r.kind) s.plan.regions i region
-    (second_of _ _ fit.plan.no_others) there)
+    (and_parts _ _ fit.plan.no_others).1 there)
 
 -- what lies in a region lies in what stands there
 pub lies :
@@ -176,41 +165,6 @@ one_or_four s dev fit =
           (passes_at (λ r. is_step (device_in s.plan.kinds r.kind) r.step) s.plan.regions there.1.0 region
           fit.plan.steps there.1.1)
     ] refl
-
--- memories of a valid plan have whole pages, and are not too large
-is-ram : (part : ℕ) (k : RegionKind) → same_part k (kind.Ram part) ≡ true → k ≡ kind.Ram part
-is-ram part (kind.Ram i) same = let is : i ≡ part = grind (arith, nat_tests, same) in ap kind.Ram is
-is-ram part kind.Clint same = absurd (cc)
-is-ram part kind.Plic same = absurd (cc)
-is-ram part (kind.Dev i) same = absurd (cc)
-
-pub ram_sizes : (plan : BoardPlan) → IsValid plan → All IsRamSize plan.memories
-ram_sizes plan valid = All-by_place IsRamSize plan.memories each
-  where
-    each : (i size : ℕ) → slice_get plan.memories i ≡ Some size → IsRamSize size
-    each i size there =
-        let within = slice_get_within plan.memories i size there in
-        let parts : list_all (λ j. has_one_each plan.names plan.regions (kind.Ram j))
-        (range_with_len 0 (length plan.memories)) ≡ true =
-        first_one _ _ (first_one _ _ (first_one _ _ valid.parts)) in
-        let one = range_passes _ 0 (length plan.memories) i parts within in
-        let counted : 1 ≤ regions_of plan.regions (kind.Ram i) = grind (arith, nat_tests, one) in
-        let found = counted_at (λ region. same_part region.kind (kind.Ram i)) plan.regions counted in
-        let region = found.1.0 in
-        let is = is-ram i region.kind found.1.1.1 in
-        let sized : (region.size == slice_index plan.memories i) ≡ true =
-        rw is at (passes_at (λ r. has_memory_size plan.memories r.kind r.size) plan.regions found.0 region
-        valid.memory_sizes found.1.1.0) in
-        let ranged : is_range plan.kinds region ≡ true =
-        passes_at (is_range plan.kinds) plan.regions found.0 region valid.ranges found.1.1.0 in
-        let ranged' = rw is at ranged in
-        let same : slice_index plan.memories i ≡ size = get_or_from_slice_get plan.memories i size 0 there in
-        let few : are_few_memories plan.memories ≡ true = valid.few_memories in
-        let sum' = get_or-le-sum_by (λ n. n) plan.memories i 0 within in (
-          grind (arith, nat_tests, ranged', sized, same),
-          grind (arith, nat_tests, ranged', sized, same),
-          grind (arith, nat_tests, few, sum', same),
-        )
 
 -- one memory or one device was changed
 pub fit_memory :
@@ -378,7 +332,7 @@ put_back_same s dev state there =
     get_or-set_same s.devices dev changed _ there in
     ap (λ f. with_device (with_device s dev changed) dev (record f { state = (device_at s dev).state })) seen
     ∙ ap (λ devices. record s { devices = devices })
-    (set_set s.devices dev changed (device_at s dev) ∙ set-get_or s.devices dev _)
+    (set-set s.devices dev changed (device_at s dev) ∙ set-get_or s.devices dev _)
 
 -- bytes of memories have addresses of 32 bits
 pub memory_below : (s : Space) (at : ℕ) → IsFit s → in_memory s at ≡ true → at < 2 ^ 32

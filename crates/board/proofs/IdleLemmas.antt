@@ -13,6 +13,7 @@ use Rattle.std.proofs.lemmas.List.{get_or-set_other}
 use Rattle.std.proofs.lemmas.List.FromFn.{length-map-range_with_len, get_or-map-range_with_len, fill_by_all}
 use Rattle.std.proofs.lemmas.Nat.{mod_below}
 use Rattle.lab_num.specs.Paid.{slot_at}
+use Rattle.lab_num.proofs.ListLemmas.{passes_each}
 use Rattle.rv_hart.specs.declared.csr.Lines.{Lines}
 use Rattle.rv_hart.specs.Core.{Core, initial, ticked}
 use Rattle.rv_hart.specs.Trap.{is_ready}
@@ -23,7 +24,6 @@ use Rattle.board.specs.Slot.{slot, hart_slot, number_after}
 use Rattle.board.specs.Space.{Space}
 use Rattle.board.specs.Stretch.{stretch}
 use Rattle.board.specs.View.{View, State, quiet, after, core_at}
-use Rattle.board.proofs.ListLemmas.{passes_each}
 use Rattle.board.proofs.SlotLemmas.{slot-halted}
 use Rattle.board.proofs.TurnLemmas.{number_after_is, turns_more}
 

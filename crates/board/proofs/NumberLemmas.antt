@@ -1,7 +1,7 @@
 -- A stretch keeps the plan, the devices and the speed of a board, and numbers what it makes.
 use Rattle.std.proofs.Common.{◌≡◌, ℕ, zero, suc, ◌+◌, ◌^◌, ◌<◌, ◌≤◌, List, [], ◌∷◌, ◌++◌, length, map, refl, ◌∙◌}
 use Rattle.std.proofs.Common.{length-append, add-zero, add-one, arith}
-use Rattle.std.proofs.lemmas.List.{map-append, length-map}
+use Rattle.std.proofs.lemmas.List.{map-append, length-map, length-set}
 use Rattle.lab_num.specs.declared.key.Key.{Key}
 use Rattle.lab_num.specs.Numbered.{AreNumbered}
 use Rattle.lab_num.specs.Paid.{slot_at}
@@ -132,12 +132,22 @@ plan-slot v t = (run_slot v t).kept.plan
 pub speed-slot : (v : View) (t : ℕ) → (slot v t).view.numbers.speed ≡ v.numbers.speed
 speed-slot v t = (run_slot v t).speed
 
+pub cores-slot : (v : View) (t : ℕ) → length (slot v t).view.cores ≡ length v.cores
+unfolding slot
+cores-slot v t = length-set v.cores v.next _
+
 -- a stretch keeps the plan, the devices, and the board's number and speed
 pub kept-stretch : (v : View) (from a n : ℕ) → IsKept v.space (stretch v from a n).view.space
 kept-stretch v from a n = (run_stretch v from a n).kept
 
 pub plan-stretch : (v : View) (from a n : ℕ) → (stretch v from a n).view.space.plan ≡ v.space.plan
 plan-stretch v from a n = (kept-stretch v from a n).plan
+
+pub cores-stretch : (v : View) (from a n : ℕ) → length (stretch v from a n).view.cores ≡ length v.cores
+unfolding stretch
+cores-stretch v from a zero = refl
+cores-stretch v from a (suc n) =
+    cores-slot (stretch v from a n).view (slot_at from v.numbers.speed (a + n)) ∙ cores-stretch v from a n
 
 pub number-stretch : (v : View) (from a n : ℕ) → (stretch v from a n).view.numbers.number ≡ v.numbers.number
 number-stretch v from a n = (run_stretch v from a n).number

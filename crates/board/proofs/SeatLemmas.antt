@@ -1,22 +1,24 @@
 -- What a processor does in its slot, as its board has it.
 use Rattle.std.proofs.Common.{◌≡◌, ◌∙◌, ℕ, ◌<◌, ◌==◌, Bool, true, false, not, List, [], ◌∷◌, length, refl}
-use Rattle.std.proofs.Common.{ap, arith}
-use Rattle.std.specs.Prelude.{Option, None, if◌then◌else◌}
+use Rattle.std.proofs.Common.{ap, sym, arith, OnOk}
+use Rattle.std.specs.Prelude.{Option, None, Result, Ok, Err, if◌then◌else◌}
 use Rattle.std.specs.Option.{option_and_then, option_map_or}
 use Rattle.std.proofs.lemmas.Bool.{eqb-true, or_parts}
 use Rattle.rv_hart.specs.declared.csr.Lines.{Lines}
 use Rattle.rv_hart.specs.Core.{Core}
 use Rattle.rv_hart.specs.Trap.{chosen}
 use Rattle.rv_exec.specs.Effect.{effect, core_after, bus_after}
+use Rattle.rv_exec.specs.Laws.{IsSameHart}
 use Rattle.rv_atomic.specs.declared.shared.Shared.TheVariants as shared
-use Rattle.rv_atomic.specs.AtomicEffect.{leaves}
+use Rattle.rv_atomic.specs.AtomicEffect.{SharedEffect, leaves}
 use Rattle.rv_atomic.specs.Means.{atomic_of}
 use Rattle.rv_atomic.specs.Laws.{PlainAlone}
 use Rattle.rv_atomic.specs.SharedEffect.{shared_effect}
 use Rattle.sys_bus.specs.declared.plan.BoardPlan.{BoardPlan}
 use Rattle.board.specs.Fetch.{effect_on, fetched_by, shared_by, word_at_pc}
 use Rattle.board.specs.HartView.{slot_state}
-use Rattle.board.specs.Inner.Seat.{behind, is_shared, seen}
+use Rattle.board.specs.declared.slot.Features.{Features}
+use Rattle.board.specs.Inner.Seat.{behind, is_shared, seen, shared_at, HasDone, IsSeat, Seat}
 use Rattle.board.specs.Slot.{awake}
 use Rattle.board.specs.HartBus.{HartBus, answer, fetched, loaded, stored}
 use Rattle.board.proofs.SlotLemmas.{effect-behind}
@@ -87,3 +89,21 @@ alone_effect law hart core watch w lines shares letters below harts =
         let first : hart ≡ 0 = omega (arith, below) in
         rw first (effect_alone law core word w lines plain)
     by_watch (word ∷ other ∷ words) one below plain = absurd (omega (arith, one))
+
+-- a processor alone has done what it fetches
+pub alone_done :
+    {T E : Type 0} {features : Features} → PlainAlone → (old new : Seat) (lines : Lines) (result : Result T E) →
+    is_shared old.bus.space.plan ≡ false → IsSeat features old → new.watch ≡ old.watch →
+    let alone = effect old.hart (fetched_by old.hart old.bus) lines in
+    OnOk result (new.hart ≡ core_after answer old.bus alone) →
+    OnOk result (new.bus ≡ bus_after loaded stored old.bus alone) →
+    OnOk result (IsSameHart old.hart new.hart) → OnOk result (HasDone (shared_at old) lines old new)
+alone_done law old new lines (Ok value) none seat watch core bus same =
+    let is = alone_effect law old.number old.hart old.watch old.bus lines none seat.letters seat.number seat.harts in
+    record {
+      core = core ∙ ap {A = SharedEffect} (λ done. core_after answer old.bus done.effect) (sym is);
+      watch = watch ∙ ap {A = SharedEffect} (λ done. done.watch) (sym is);
+      bus = bus ∙ ap {A = SharedEffect} (λ done. bus_after loaded stored old.bus done.effect) (sym is);
+      same = same;
+    }
+alone_done law old new lines (Err error) none seat watch core bus same = tt

@@ -1,6 +1,6 @@
 -- Sets of sources, as the code makes them.
-use Rattle.std.proofs.Common.{◌≡◌, ℕ, zero, suc, ◌+◌, ◌*◌, ◌%◌, ◌^◌, ◌<◌, ◌≤◌, ◌==◌, ◌||◌, Bool, true, false, bit_or}
-use Rattle.std.proofs.Common.{if◌then◌else◌, inl, inr, refl, sym, ap, ◌∙◌, arith, pow-suc}
+use Rattle.std.proofs.Common.{◌≡◌, ℕ, ◌+◌, ◌*◌, ◌%◌, ◌^◌, ◌<◌, ◌≤◌, ◌==◌, ◌||◌, Bool, true, false, bit_or}
+use Rattle.std.proofs.Common.{inl, inr, refl, sym, ap, ◌∙◌, arith}
 use Rattle.std.specs.Int.{w128}
 use Rattle.std.proofs.Common.{List, length, take}
 use Rattle.std.specs.Prelude.{slice_index_or}
@@ -9,7 +9,8 @@ use Rattle.std.proofs.lemmas.List.Folds.{list_any_more}
 use Rattle.std.proofs.lemmas.Bool.{cases_eq, eq-eqb, ne_eqb}
 use Rattle.std.proofs.lemmas.Nat.Bits.{bit_at_set_same, bit_at_set_other}
 use Rattle.plic.specs.Laws.{HasWhatPasses, SameSets}
-use Rattle.plic.specs.Sources.{has, set_below, set_of}
+use Rattle.plic.specs.Sources.{has, set_of}
+use Rattle.plic.proofs.SetLemmas.{set_below-lt}
 
 or_true : (a : Bool) → true ≡ (a || true)
 or_true true = refl
@@ -47,15 +48,6 @@ has_no_more set source s above below =
     rw differs (or_false (has set s))
 
 -- a set that a test gives is the one set in which is what passes the test
-below_more : (b n : ℕ) (t : Bool) → b < 2 ^ n → b + (if t then 2 ^ n else 0) < 2 ^ suc n
-below_more b n true h = omega (arith, pow-suc 2 n)
-below_more b n false h = omega (arith, pow-suc 2 n)
-
-set_below-lt : (test : ℕ → Bool) (n : ℕ) → set_below test n < 2 ^ n
-unfolding set_below
-set_below-lt test zero = omega arith
-set_below-lt test (suc n) = below_more (set_below test n) n (test n) (set_below-lt test n)
-
 pub set_of_test :
     HasWhatPasses → SameSets → (set : ℕ) (test : ℕ → Bool) → set < 2 ^ 128 →
     ((s : ℕ) → s < 128 → has set s ≡ test s) → set ≡ set_of test

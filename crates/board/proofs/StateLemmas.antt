@@ -37,11 +37,11 @@ cores_back : (cores : List Core) → map core_of (map state_of cores) ≡ cores
 cores_back [] = refl
 cores_back (core ∷ cores) = ap (λ rest. core ∷ rest) (cores_back cores)
 
-timer_back : (timer : Option Timer) → timer_to timer (option_map (λ t. t.state) timer) ≡ timer
+pub timer_back : (timer : Option Timer) → timer_to timer (option_map (λ t. t.state) timer) ≡ timer
 timer_back None = refl
 timer_back (Some timer) = refl
 
-controller_back :
+pub controller_back :
     (controller : Option Controller) →
     controller_to controller (option_map (λ c. c.state) controller) ≡ controller
 controller_back None = refl
@@ -62,7 +62,7 @@ brought_back v =
 
 -- ---- the state of a board that was brought to one
 
-states_there : (harts : List HartState) → map state_of (map core_of harts) ≡ harts
+pub states_there : (harts : List HartState) → map state_of (map core_of harts) ≡ harts
 states_there [] = refl
 states_there (hart ∷ harts) = ap (λ rest. hart ∷ rest) (states_there harts)
 
@@ -82,7 +82,7 @@ controller_there (Some controller) (Some state) fits = refl
 controller_there None (Some state) fits = absurd fits
 controller_there (Some controller) None fits = absurd fits
 
-devices_there :
+pub devices_there :
     (states : List DevState) (shown : List Bool) → length shown ≡ length states →
     map (λ f. f.state) (devices_in states shown) ≡ states
 devices_there [] shown same = refl
@@ -91,15 +91,15 @@ devices_there (state ∷ states) (flag ∷ shown) same =
     let rest : length shown ≡ length states = omega (arith, same) in
     ap (λ all. state ∷ all) (devices_there states shown rest)
 
-shown_there :
+pub flags_there :
     (states : List DevState) (shown : List Bool) → length shown ≡ length states →
     map (λ f. f.shown) (devices_in states shown) ≡ shown
-shown_there [] [] same = refl
-shown_there [] (flag ∷ shown) same = absurd (cc)
-shown_there (state ∷ states) [] same = refl
-shown_there (state ∷ states) (flag ∷ shown) same =
+flags_there [] [] same = refl
+flags_there [] (flag ∷ shown) same = absurd (cc)
+flags_there (state ∷ states) [] same = refl
+flags_there (state ∷ states) (flag ∷ shown) same =
     let rest : length shown ≡ length states = omega (arith, same) in
-    ap (λ all. flag ∷ all) (shown_there states shown rest)
+    ap (λ all. flag ∷ all) (flags_there states shown rest)
 
 -- a flag for each device
 flags_count : (plan : BoardPlan) (s : BoardState) → IsStateFor plan s → length s.shown ≡ length s.devices
@@ -114,7 +114,7 @@ state_there v s fits board =
       timer_there v.space.timer s.clint (rw board.timer fits.clint),
       controller_there v.space.controller s.plic (rw board.controller fits.plic),
       devices_there s.devices s.shown flags,
-      shown_there s.devices s.shown flags,
+      flags_there s.devices s.shown flags,
     ) refl
 
 timer_kept :

@@ -34,7 +34,7 @@ use Rattle.board.specs.Space.{Space, BoardDevice, device_at, with_state, target_
 use Rattle.board.specs.Space.{after_load, after_store, device_load, device_store}
 use Rattle.board.specs.View.{View}
 use Rattle.board.specs.HartBus.{note_of, note_if}
-use Rattle.board.proofs.ListLemmas.{passes_at, found_passes}
+use Rattle.lab_num.proofs.ListLemmas.{passes_at, found_passes}
 
 -- ---- what stays
 

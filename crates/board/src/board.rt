@@ -1,8 +1,7 @@
 //! The board, and what may be asked and changed of it.
 ghost use Rattle.std.specs.Prelude.{◌≡◌, ◌≢◌, ℕ, ◌+◌, ◌/◌, ◌%◌, ◌==◌, ◌<◌, ◌≤◌, ◌^◌, ◌||◌, [], true, length, drop};
 ghost use Rattle.std.specs.List.{list_all, range_with_len};
-ghost use Rattle.std.specs.Prelude.{map, All, slice_get, slice_index_or, OnOk, OnErr, IfOk, IfErr, IfSome, IsTrue};
-ghost use Rattle.rv_hart.specs.Trap.{chosen};
+ghost use Rattle.std.specs.Prelude.{map, All, slice_get, slice_index_or, OnOk, OnErr, IfOk, IfErr, IsTrue};
 
 mod idle;
 mod saved;
@@ -70,16 +69,9 @@ impl<D: Device> Board<D> {
     ghost use Rattle.board.specs.Changes.{WritesPrefix, holds_each, word_held, taken_by, handed};
     ghost use Rattle.board.specs.Space.{device_at};
     ghost use Rattle.board.specs.View.{core_at, quiet};
-    ghost use Rattle.board.specs.Inner.Fit.{IsStateOf, with_controller};
-    ghost use Rattle.board.specs.Lines.{sampled, lines_of, timer_up};
-    ghost use Rattle.board.specs.Slot.{slot, running, sampling, awake, asleep, cycle};
-    ghost use Rattle.board.specs.Inner.Ended.{HasEnded, taken_of};
-    ghost use Rattle.board.specs.Inner.Remembers.{is_wired};
-    ghost use Rattle.rv_hart.specs.Trap.{interrupt};
     ghost use Rattle.page_ram.specs.Bytes.{zeros};
     ghost use Rattle.rv_hart.specs.Core.{alignment, reg};
-    ghost use Rattle.board.specs.Stretch.{IsTurn, stretch};
-    ghost use Rattle.board.specs.Idle.{passed, is_idle};
+    ghost use Rattle.board.specs.Stretch.{IsTurn};
 
     /// A board of this number by a plan, at lab time 0, with devices in their reset states and in
     /// the plan's order. Memories are 0, the pc is 0, and no device is shown. `Err` is for want of

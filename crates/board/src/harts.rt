@@ -1,7 +1,6 @@
 //! The processors of a board, one after another.
 ghost use Rattle.std.specs.Prelude.{◌≡◌, ◌<◌, ◌≤◌, ◌^◌, ◌||◌, length, map, All, IfOk};
-ghost use Rattle.std.specs.List.{list_all, range_with_len};
-ghost use Rattle.rv_hart.specs.Core.{initial};
+ghost use Rattle.std.specs.List.{list_all};
 ghost use Rattle.rv_hart.specs.HartState.{core_of, state_of, IsHartState};
 ghost use Rattle.board.specs.Idle.{all_halted, core_passed, is_idle, turns_of};
 ghost use Rattle.board.specs.New.{new_cores, reset_core};

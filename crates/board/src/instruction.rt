@@ -3,8 +3,8 @@ ghost use Rattle.std.specs.Prelude.{◌≡◌, ◌<◌, length, true, false, OnO
 ghost use Rattle.rv_atomic.specs.SharedEffect.{IsSharable};
 ghost use Rattle.rv_exec.specs.Effect.{bus_after, core_after, effect};
 ghost use Rattle.rv_exec.specs.Laws.{IsSameHart};
-ghost use Rattle.board.specs.Fetch.{effect_on, fetched_by, shared_by};
-ghost use Rattle.board.specs.Inner.Seat.{seen, shared_of_word, features_of};
+ghost use Rattle.board.specs.Fetch.{fetched_by, shared_by};
+ghost use Rattle.board.specs.Inner.Seat.{seat, shared_of_word, HasDone, IsSeat};
 ghost use Rattle.board.specs.HartBus.{answer, loaded, stored};
 
 use crate::hart_bus::HartBus;
@@ -26,20 +26,10 @@ pub fn instruction<const COPY: u8, D: Device>(
     features: Features,
     lines: Lines,
 ) -> Result<(), NoMemory>
-    requires features { features ≡ features_of bus.old.space.plan }
-    requires letters { hart.old.letters ≡ bus.old.space.plan.letters }
-    requires number { number < length watch.old }
-    requires harts { length watch.old ≡ length bus.old.space.plan.cpus }
-    ensures core { let shared = effect_on (seen number hart.old watch.old bus.old) bus.old lines in
-        OnOk result (hart.new ≡ core_after answer bus.old shared.effect) }
-    ensures watch { let shared = effect_on (seen number hart.old watch.old bus.old) bus.old lines in
-        OnOk result (watch.new ≡ shared.watch) }
-    ensures bus { let shared = effect_on (seen number hart.old watch.old bus.old) bus.old lines in
-        OnOk result (bus.new ≡ bus_after loaded stored bus.old shared.effect) }
-    ensures same { OnOk result (IsSameHart hart.old hart.new) }
-    ensures core_err { OnErr result (hart.new ≡ hart.old) }
-    ensures watch_err { OnErr result (watch.new ≡ watch.old) }
-    ensures bus_err { OnErr result (bus.new ≡ bus.old) }
+    requires seat { IsSeat features (seat number hart.old watch.old bus.old) }
+    ensures ok { OnOk result (HasDone (shared_by hart.old bus.old) lines (seat number hart.old watch.old bus.old)
+        (seat number hart.new watch.new bus.new)) }
+    ensures err { OnErr result (seat number hart.new watch.new bus.new ≡ seat number hart.old watch.old bus.old) }
 {
     if features.shared {
         return by_sharing(hart, number, watch, bus, lines);
@@ -115,16 +105,9 @@ pub fn by_sharing<D: Device>(
     lines: Lines,
 ) -> Result<(), NoMemory>
     requires number { number < length watch.old }
-    ensures core { let shared = effect_on (seen number hart.old watch.old bus.old) bus.old lines in
-        OnOk result (hart.new ≡ core_after answer bus.old shared.effect) }
-    ensures watch { let shared = effect_on (seen number hart.old watch.old bus.old) bus.old lines in
-        OnOk result (watch.new ≡ shared.watch) }
-    ensures bus { let shared = effect_on (seen number hart.old watch.old bus.old) bus.old lines in
-        OnOk result (bus.new ≡ bus_after loaded stored bus.old shared.effect) }
-    ensures same { OnOk result (IsSameHart hart.old hart.new) }
-    ensures core_err { OnErr result (hart.new ≡ hart.old) }
-    ensures watch_err { OnErr result (watch.new ≡ watch.old) }
-    ensures bus_err { OnErr result (bus.new ≡ bus.old) }
+    ensures ok { OnOk result (HasDone (shared_by hart.old bus.old) lines (seat number hart.old watch.old bus.old)
+        (seat number hart.new watch.new bus.new)) }
+    ensures err { OnErr result (seat number hart.new watch.new bus.new ≡ seat number hart.old watch.old bus.old) }
 {
     let what = if hart.letters().c {
         shared_by_halves(hart, bus)

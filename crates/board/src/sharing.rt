@@ -3,15 +3,13 @@
 //! reserved, and of what is none of the other instructions.
 ghost use Rattle.std.specs.Prelude.{◌≡◌, ◌<◌, length, true, false, OnOk, OnErr};
 ghost use Rattle.rv_atomic.specs.Laws.{EndsNone};
-ghost use Rattle.rv_atomic.specs.SharedEffect.{shared_effect};
 ghost use Rattle.rv_atomic.specs.declared.shared.Shared.TheVariants.{Plain};
-ghost use Rattle.rv_exec.specs.Effect.{bus_after, core_after, of_word};
+ghost use Rattle.rv_exec.specs.Effect.{of_word};
 ghost use Rattle.rv_exec.specs.Laws.{IsSameHart};
-ghost use Rattle.board.specs.Fetch.{effect_on, of_half};
+ghost use Rattle.board.specs.Fetch.{of_half, shared_by};
 ghost use Rattle.board.specs.HartView.{slot_state};
-ghost use Rattle.board.specs.Inner.Seat.{behind, seen, shared_of_word, features_of};
+ghost use Rattle.board.specs.Inner.Seat.{behind, seat, shared_of_word, HasDone, IsSeat};
 ghost use Rattle.board.specs.Slot.{awake, hart_slot, running};
-ghost use Rattle.board.specs.HartBus.{answer, fetched, loaded, stored};
 
 use crate::hart_bus::HartBus;
 use crate::instruction::{by_sharing, of_word};
@@ -34,10 +32,7 @@ pub fn shared_slot<const COPY: u8, D: Device>(
     features: Features,
     at: Micros,
 ) -> Result<bool, NoMemory>
-    requires features { features ≡ features_of bus.old.space.plan }
-    requires letters { hart.old.letters ≡ bus.old.space.plan.letters }
-    requires number { number < length watch.old }
-    requires harts { length watch.old ≡ length bus.old.space.plan.cpus }
+    requires seat { IsSeat features (seat number hart.old watch.old bus.old) }
     ensures ok { let old = slot_state number hart.old watch.old bus.old in
         OnOk result (slot_state number hart.new watch.new bus.new ≡ behind old (hart_slot old.view at.0)) }
     ensures same { OnOk result (IsSameHart hart.old hart.new) }
@@ -65,10 +60,7 @@ fn run<const COPY: u8, D: Device>(
     at: Micros,
     lines: Lines,
 ) -> Result<bool, NoMemory>
-    requires features { features ≡ features_of bus.old.space.plan }
-    requires letters { hart.old.letters ≡ bus.old.space.plan.letters }
-    requires number { number < length watch.old }
-    requires harts { length watch.old ≡ length bus.old.space.plan.cpus }
+    requires seat { IsSeat features (seat number hart.old watch.old bus.old) }
     ensures ok { let old = slot_state number hart.old watch.old bus.old in
         OnOk result (slot_state number hart.new watch.new bus.new ≡ behind old (running old.view at.0 lines)) }
     ensures same { OnOk result (IsSameHart hart.old hart.new) }
@@ -96,10 +88,7 @@ fn act<const COPY: u8, D: Device>(
     at: Micros,
     lines: Lines,
 ) -> Result<(), NoMemory>
-    requires features { features ≡ features_of bus.old.space.plan }
-    requires letters { hart.old.letters ≡ bus.old.space.plan.letters }
-    requires number { number < length watch.old }
-    requires harts { length watch.old ≡ length bus.old.space.plan.cpus }
+    requires seat { IsSeat features (seat number hart.old watch.old bus.old) }
     ensures ok { let old = slot_state number hart.old watch.old bus.old in
         OnOk result (slot_state number hart.new watch.new bus.new ≡ behind old (awake old.view at.0 lines)) }
     ensures same { OnOk result (IsSameHart hart.old hart.new) }
@@ -128,19 +117,10 @@ fn instruction<const COPY: u8, D: Device>(
     features: Features,
     lines: Lines,
 ) -> Result<(), NoMemory>
-    requires features { features ≡ features_of bus.old.space.plan }
-    requires letters { hart.old.letters ≡ bus.old.space.plan.letters }
-    requires number { number < length watch.old }
-    ensures core { let shared = effect_on (seen number hart.old watch.old bus.old) bus.old lines in
-        OnOk result (hart.new ≡ core_after answer bus.old shared.effect) }
-    ensures watch { let shared = effect_on (seen number hart.old watch.old bus.old) bus.old lines in
-        OnOk result (watch.new ≡ shared.watch) }
-    ensures bus { let shared = effect_on (seen number hart.old watch.old bus.old) bus.old lines in
-        OnOk result (bus.new ≡ bus_after loaded stored bus.old shared.effect) }
-    ensures same { OnOk result (IsSameHart hart.old hart.new) }
-    ensures core_err { OnErr result (hart.new ≡ hart.old) }
-    ensures watch_err { OnErr result (watch.new ≡ watch.old) }
-    ensures bus_err { OnErr result (bus.new ≡ bus.old) }
+    requires seat { IsSeat features (seat number hart.old watch.old bus.old) }
+    ensures ok { OnOk result (HasDone (shared_by hart.old bus.old) lines (seat number hart.old watch.old bus.old)
+        (seat number hart.new watch.new bus.new)) }
+    ensures err { OnErr result (seat number hart.new watch.new bus.new ≡ seat number hart.old watch.old bus.old) }
 {
     if features.halves {
         by_halves::<COPY, D>(hart, number, watch, bus, lines)
@@ -160,16 +140,9 @@ fn by_words<const COPY: u8, D: Device>(
 ) -> Result<(), NoMemory>
     requires letters { hart.old.letters.c ≡ false }
     requires number { number < length watch.old }
-    ensures core { let shared = effect_on (seen number hart.old watch.old bus.old) bus.old lines in
-        OnOk result (hart.new ≡ core_after answer bus.old shared.effect) }
-    ensures watch { let shared = effect_on (seen number hart.old watch.old bus.old) bus.old lines in
-        OnOk result (watch.new ≡ shared.watch) }
-    ensures bus { let shared = effect_on (seen number hart.old watch.old bus.old) bus.old lines in
-        OnOk result (bus.new ≡ bus_after loaded stored bus.old shared.effect) }
-    ensures same { OnOk result (IsSameHart hart.old hart.new) }
-    ensures core_err { OnErr result (hart.new ≡ hart.old) }
-    ensures watch_err { OnErr result (watch.new ≡ watch.old) }
-    ensures bus_err { OnErr result (bus.new ≡ bus.old) }
+    ensures ok { OnOk result (HasDone (shared_by hart.old bus.old) lines (seat number hart.old watch.old bus.old)
+        (seat number hart.new watch.new bus.new)) }
+    ensures err { OnErr result (seat number hart.new watch.new bus.new ≡ seat number hart.old watch.old bus.old) }
 {
     let at = hart.pc();
     match bus.space.fetch_aligned(at) {
@@ -190,16 +163,9 @@ fn by_halves<const COPY: u8, D: Device>(
 ) -> Result<(), NoMemory>
     requires letters { hart.old.letters.c ≡ true }
     requires number { number < length watch.old }
-    ensures core { let shared = effect_on (seen number hart.old watch.old bus.old) bus.old lines in
-        OnOk result (hart.new ≡ core_after answer bus.old shared.effect) }
-    ensures watch { let shared = effect_on (seen number hart.old watch.old bus.old) bus.old lines in
-        OnOk result (watch.new ≡ shared.watch) }
-    ensures bus { let shared = effect_on (seen number hart.old watch.old bus.old) bus.old lines in
-        OnOk result (bus.new ≡ bus_after loaded stored bus.old shared.effect) }
-    ensures same { OnOk result (IsSameHart hart.old hart.new) }
-    ensures core_err { OnErr result (hart.new ≡ hart.old) }
-    ensures watch_err { OnErr result (watch.new ≡ watch.old) }
-    ensures bus_err { OnErr result (bus.new ≡ bus.old) }
+    ensures ok { OnOk result (HasDone (shared_by hart.old bus.old) lines (seat number hart.old watch.old bus.old)
+        (seat number hart.new watch.new bus.new)) }
+    ensures err { OnErr result (seat number hart.new watch.new bus.new ≡ seat number hart.old watch.old bus.old) }
 {
     let at = hart.pc();
     let Some(half) = bus.space.half(at) else {
@@ -233,19 +199,10 @@ fn do_word<const COPY: u8, D: Device>(
     lines: Lines,
 ) -> Result<(), NoMemory>
     requires number { number < length watch.old }
-    ensures core { let what = shared_of_word hart.old.letters word in
-        let shared = shared_effect (fetched bus.old) hart.old number watch.old what lines in
-        OnOk result (hart.new ≡ core_after answer bus.old shared.effect) }
-    ensures watch { let what = shared_of_word hart.old.letters word in
-        let shared = shared_effect (fetched bus.old) hart.old number watch.old what lines in
-        OnOk result (watch.new ≡ shared.watch) }
-    ensures bus { let what = shared_of_word hart.old.letters word in
-        let shared = shared_effect (fetched bus.old) hart.old number watch.old what lines in
-        OnOk result (bus.new ≡ bus_after loaded stored bus.old shared.effect) }
-    ensures same { OnOk result (IsSameHart hart.old hart.new) }
-    ensures core_err { OnErr result (hart.new ≡ hart.old) }
-    ensures watch_err { OnErr result (watch.new ≡ watch.old) }
-    ensures bus_err { OnErr result (bus.new ≡ bus.old) }
+    ensures ok { let what = shared_of_word hart.old.letters word in
+        OnOk result (HasDone what lines (seat number hart.old watch.old bus.old)
+        (seat number hart.new watch.new bus.new)) }
+    ensures err { OnErr result (seat number hart.new watch.new bus.new ≡ seat number hart.old watch.old bus.old) }
 {
     if !ends_none(watch, word) {
         return do_word_apart(hart, number, watch, word, bus, lines);
@@ -269,19 +226,10 @@ fn do_word_apart<D: Device>(
     lines: Lines,
 ) -> Result<(), NoMemory>
     requires { number < length watch.old }
-    ensures core { let what = shared_of_word hart.old.letters word in
-        let shared = shared_effect (fetched bus.old) hart.old number watch.old what lines in
-        OnOk result (hart.new ≡ core_after answer bus.old shared.effect) }
-    ensures watch { let what = shared_of_word hart.old.letters word in
-        let shared = shared_effect (fetched bus.old) hart.old number watch.old what lines in
-        OnOk result (watch.new ≡ shared.watch) }
-    ensures bus { let what = shared_of_word hart.old.letters word in
-        let shared = shared_effect (fetched bus.old) hart.old number watch.old what lines in
-        OnOk result (bus.new ≡ bus_after loaded stored bus.old shared.effect) }
-    ensures same { OnOk result (IsSameHart hart.old hart.new) }
-    ensures core_err { OnErr result (hart.new ≡ hart.old) }
-    ensures watch_err { OnErr result (watch.new ≡ watch.old) }
-    ensures bus_err { OnErr result (bus.new ≡ bus.old) }
+    ensures ok { let what = shared_of_word hart.old.letters word in
+        OnOk result (HasDone what lines (seat number hart.old watch.old bus.old)
+        (seat number hart.new watch.new bus.new)) }
+    ensures err { OnErr result (seat number hart.new watch.new bus.new ≡ seat number hart.old watch.old bus.old) }
 {
     let what = of_word(hart, word);
     step_shared(hart, number, watch, what, bus, lines)
@@ -299,19 +247,10 @@ fn do_half<const COPY: u8, D: Device>(
 ) -> Result<(), NoMemory>
     requires letters { hart.old.letters.c ≡ true }
     requires number { number < length watch.old }
-    ensures core { let what = Plain (of_half half) in
-        let shared = shared_effect (fetched bus.old) hart.old number watch.old what lines in
-        OnOk result (hart.new ≡ core_after answer bus.old shared.effect) }
-    ensures watch { let what = Plain (of_half half) in
-        let shared = shared_effect (fetched bus.old) hart.old number watch.old what lines in
-        OnOk result (watch.new ≡ shared.watch) }
-    ensures bus { let what = Plain (of_half half) in
-        let shared = shared_effect (fetched bus.old) hart.old number watch.old what lines in
-        OnOk result (bus.new ≡ bus_after loaded stored bus.old shared.effect) }
-    ensures same { OnOk result (IsSameHart hart.old hart.new) }
-    ensures core_err { OnErr result (hart.new ≡ hart.old) }
-    ensures watch_err { OnErr result (watch.new ≡ watch.old) }
-    ensures bus_err { OnErr result (bus.new ≡ bus.old) }
+    ensures ok { let what = Plain (of_half half) in
+        OnOk result (HasDone what lines (seat number hart.old watch.old bus.old)
+        (seat number hart.new watch.new bus.new)) }
+    ensures err { OnErr result (seat number hart.new watch.new bus.new ≡ seat number hart.old watch.old bus.old) }
 {
     if !watch.is_clear() {
         return do_half_apart(hart, number, watch, half, bus, lines);
@@ -332,19 +271,10 @@ fn do_half_apart<D: Device>(
 ) -> Result<(), NoMemory>
     requires letters { hart.old.letters.c ≡ true }
     requires number { number < length watch.old }
-    ensures core { let what = Plain (of_half half) in
-        let shared = shared_effect (fetched bus.old) hart.old number watch.old what lines in
-        OnOk result (hart.new ≡ core_after answer bus.old shared.effect) }
-    ensures watch { let what = Plain (of_half half) in
-        let shared = shared_effect (fetched bus.old) hart.old number watch.old what lines in
-        OnOk result (watch.new ≡ shared.watch) }
-    ensures bus { let what = Plain (of_half half) in
-        let shared = shared_effect (fetched bus.old) hart.old number watch.old what lines in
-        OnOk result (bus.new ≡ bus_after loaded stored bus.old shared.effect) }
-    ensures same { OnOk result (IsSameHart hart.old hart.new) }
-    ensures core_err { OnErr result (hart.new ≡ hart.old) }
-    ensures watch_err { OnErr result (watch.new ≡ watch.old) }
-    ensures bus_err { OnErr result (bus.new ≡ bus.old) }
+    ensures ok { let what = Plain (of_half half) in
+        OnOk result (HasDone what lines (seat number hart.old watch.old bus.old)
+        (seat number hart.new watch.new bus.new)) }
+    ensures err { OnErr result (seat number hart.new watch.new bus.new ≡ seat number hart.old watch.old bus.old) }
 {
     let what = Shared::Plain(of_half(half));
     step_shared(hart, number, watch, what, bus, lines)

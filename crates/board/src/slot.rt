@@ -3,9 +3,7 @@ ghost use Rattle.std.specs.Prelude.{◌≡◌, ◌<◌, true, length, OnOk, OnEr
 ghost use Rattle.rv_exec.specs.Laws.{IsSameHart};
 ghost use Rattle.rv_hart.specs.Trap.{chosen, interrupt};
 ghost use Rattle.board.specs.HartView.{slot_state};
-ghost use Rattle.board.specs.Inner.Fit.{IsStateOf};
-ghost use Rattle.board.specs.BoardState.{controller_to};
-ghost use Rattle.board.specs.Inner.Seat.{behind, seen, features_of};
+ghost use Rattle.board.specs.Inner.Seat.{behind, seat, IsSeat};
 ghost use Rattle.board.specs.Lines.{sampled, lines_of};
 ghost use Rattle.board.specs.Slot.{hart_slot, running, sampling, awake, asleep};
 ghost use Rattle.rv_hart.specs.Core.{ticked};
@@ -44,10 +42,7 @@ pub fn slot<const COPY: u8, D: Device>(
     features: Features,
     at: Micros,
 ) -> Result<bool, NoMemory>
-    requires features { features ≡ features_of bus.old.space.plan }
-    requires letters { hart.old.letters ≡ bus.old.space.plan.letters }
-    requires number { number < length watch.old }
-    requires harts { length watch.old ≡ length bus.old.space.plan.cpus }
+    requires seat { IsSeat features (seat number hart.old watch.old bus.old) }
     ensures ok { let old = slot_state number hart.old watch.old bus.old in
         OnOk result (slot_state number hart.new watch.new bus.new ≡ behind old (hart_slot old.view at.0)) }
     ensures same { OnOk result (IsSameHart hart.old hart.new) }
@@ -76,10 +71,7 @@ pub fn sample_and_run<D: Device>(
     features: Features,
     at: Micros,
 ) -> Result<bool, NoMemory>
-    requires features { features ≡ features_of bus.old.space.plan }
-    requires letters { hart.old.letters ≡ bus.old.space.plan.letters }
-    requires number { number < length watch.old }
-    requires harts { length watch.old ≡ length bus.old.space.plan.cpus }
+    requires seat { IsSeat features (seat number hart.old watch.old bus.old) }
     ensures ok { let old = slot_state number hart.old watch.old bus.old in
         OnOk result (slot_state number hart.new watch.new bus.new
         ≡ behind old (running (sampling old.view) at.0 (lines_of (sampled bus.old.space) number at.0))) }
@@ -108,10 +100,7 @@ fn run<const COPY: u8, D: Device>(
     at: Micros,
     lines: Lines,
 ) -> Result<bool, NoMemory>
-    requires features { features ≡ features_of bus.old.space.plan }
-    requires letters { hart.old.letters ≡ bus.old.space.plan.letters }
-    requires number { number < length watch.old }
-    requires harts { length watch.old ≡ length bus.old.space.plan.cpus }
+    requires seat { IsSeat features (seat number hart.old watch.old bus.old) }
     ensures ok { let old = slot_state number hart.old watch.old bus.old in
         OnOk result (slot_state number hart.new watch.new bus.new ≡ behind old (running old.view at.0 lines)) }
     ensures same { OnOk result (IsSameHart hart.old hart.new) }
@@ -141,10 +130,7 @@ pub fn wait<D: Device>(
     lines: Lines,
 ) -> Result<bool, NoMemory>
     requires waiting { hart.old.waiting ≡ true }
-    requires features { features ≡ features_of bus.old.space.plan }
-    requires letters { hart.old.letters ≡ bus.old.space.plan.letters }
-    requires number { number < length watch.old }
-    requires harts { length watch.old ≡ length bus.old.space.plan.cpus }
+    requires seat { IsSeat features (seat number hart.old watch.old bus.old) }
     ensures ok { let old = slot_state number hart.old watch.old bus.old in
         OnOk result (slot_state number hart.new watch.new bus.new ≡ behind old (asleep old.view at.0 lines)) }
     ensures same { OnOk result (IsSameHart hart.old hart.new) }
@@ -177,10 +163,7 @@ fn act<const COPY: u8, D: Device>(
     at: Micros,
     lines: Lines,
 ) -> Result<(), NoMemory>
-    requires features { features ≡ features_of bus.old.space.plan }
-    requires letters { hart.old.letters ≡ bus.old.space.plan.letters }
-    requires number { number < length watch.old }
-    requires harts { length watch.old ≡ length bus.old.space.plan.cpus }
+    requires seat { IsSeat features (seat number hart.old watch.old bus.old) }
     ensures ok { let old = slot_state number hart.old watch.old bus.old in
         OnOk result (slot_state number hart.new watch.new bus.new ≡ behind old (awake old.view at.0 lines)) }
     ensures same { OnOk result (IsSameHart hart.old hart.new) }

@@ -1,5 +1,5 @@
 -- One post more is sent.
-use Rattle.std.proofs.Common.{◌≡◌, ◌≢◌, ◌∙◌, ◌<◌, List, [], ◌∷◌, ◌++◌, length, drop, None, Some, slice_get}
+use Rattle.std.proofs.Common.{◌≡◌, ◌≢◌, ◌∙◌, ◌<◌, List, [], ◌∷◌, ◌++◌, length, drop, Some, slice_get}
 use Rattle.std.proofs.Common.{append_assoc, append-nil, arith, refl, sym, ap, subst}
 use Rattle.dev_core.specs.declared.post.Post.{Post}
 use Rattle.board.specs.View.{State}
@@ -22,10 +22,6 @@ begins board pass may = record {
   front = ([], refl, ap (λ l. record pass { posted = l }) (sym (append-nil pass.posted)));
   may = may;
 }
-
-pub none_left : (posts : List Post) → None ≡ slice_get posts 0 → posts ≡ []
-none_left [] is = refl
-none_left (x ∷ posts) is = absurd (cc)
 
 pub some_left : (posts : List Post) (p : Post) → Some p ≡ slice_get posts 0 → posts ≢ []
 some_left [] p is = absurd (cc)

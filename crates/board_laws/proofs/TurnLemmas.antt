@@ -1,29 +1,19 @@
 -- How the processors of a board take its slots in turn.
 use Rattle.std.proofs.Common.{◌≡◌, ℕ, zero, suc, ◌+◌, ◌-◌, ◌*◌, ◌/◌, ◌%◌, ◌<◌, ◌≤◌, ◌==◌, Bool, true, false}
-use Rattle.std.proofs.Common.{length, nat_lt, refl, sym, ◌∙◌, inl, inr, add-one, arith}
+use Rattle.std.proofs.Common.{length, nat_lt, refl, sym, ◌∙◌, add-one, arith}
 use Rattle.std.specs.Prelude.{if◌then◌else◌}
-use Rattle.std.proofs.Math.Nat.{suc-mul, suc-mod, mod-eq_of_lt, mod_self, div-lt_iff_lt-mul, le-div_iff_mul-le}
-use Rattle.std.proofs.lemmas.Bool.{cases_eq}
+use Rattle.std.proofs.Math.Nat.{suc-mul, suc-mod, mod-eq_of_lt, div-lt_iff_lt-mul, le-div_iff_mul-le}
 use Rattle.std.proofs.lemmas.Bool.Decides.{nat_tests}
-use Rattle.std.proofs.lemmas.List.{length-set, map-id}
-use Rattle.std.proofs.lemmas.List.FromFn.{sum_by-map-range_with_len_more}
 use Rattle.std.proofs.lemmas.Nat.{mod_below}
 use Rattle.lab_num.specs.Paid.{slot_at}
 use Rattle.board.specs.Idle.{turns_of}
 use Rattle.board.specs.Slot.{slot, number_after}
 use Rattle.board.specs.Stretch.{stretch}
 use Rattle.board.specs.View.{View}
+use Rattle.board.proofs.NumberLemmas.{cores-stretch}
+use Rattle.board.proofs.TurnLemmas.{number_after_is, turns_more}
 
 -- ---- whose turn is next
-
-number_after_is : (harts hart : ℕ) → hart < harts → number_after harts hart ≡ (hart + 1) % harts
-number_after_is harts hart below = elim (cases_eq (hart + 1) harts) [
-  | inl last ↦ rw last (grind (arith, nat_tests, mod_self harts))
-  | inr other ↦
-      let next : hart + 1 < harts = omega (arith, below, other) in
-      let same : (hart + 1) % harts ≡ hart + 1 = mod-eq_of_lt next in
-      grind (arith, nat_tests, next, same)
-]
 
 -- after one slot more
 next_more : (harts next n : ℕ) → next < harts → (next + suc n) % harts ≡ number_after harts ((next + n) % harts)
@@ -37,19 +27,9 @@ next_none harts next below =
     let none : next + zero ≡ next = omega arith in
     rw none (mod-eq_of_lt below)
 
-cores-slot : (v : View) (t : ℕ) → length (slot v t).view.cores ≡ length v.cores
-unfolding slot
-cores-slot v t = length-set v.cores v.next _
-
 next-slot : (v : View) (t : ℕ) → (slot v t).view.next ≡ number_after (length v.cores) v.next
 unfolding slot
 next-slot v t = refl
-
-cores-stretch : (v : View) (from a n : ℕ) → length (stretch v from a n).view.cores ≡ length v.cores
-unfolding stretch
-cores-stretch v from a zero = refl
-cores-stretch v from a (suc n) =
-    cores-slot (stretch v from a n).view (slot_at from v.numbers.speed (a + n)) ∙ cores-stretch v from a n
 
 pub next-stretch :
     (v : View) (from a n : ℕ) → v.next < length v.cores →
@@ -66,14 +46,6 @@ pub next_alone : (v : View) (t : ℕ) → length v.cores ≡ 1 → v.next ≡ 0 
 next_alone v t one first = next-slot v t ∙ rw (one, first) refl
 
 -- ---- how many slots each takes
-
-turns_more :
-    (harts next n hart : ℕ) →
-    turns_of harts next (suc n) hart
-    ≡ turns_of harts next n hart + (if (next + n) % harts == hart then 1 else 0)
-turns_more harts next n hart =
-    rw (add-one, map-id, map-id) at
-    (sum_by-map-range_with_len_more (λ i. if (next + i) % harts == hart then 1 else 0) (λ i. i) 0 n n (omega arith))
 
 -- the slots until a processor's next one, where the next slot is that of `next`
 abbrev pub until_turn : ℕ → ℕ → ℕ → ℕ

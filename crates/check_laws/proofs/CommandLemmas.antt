@@ -1,5 +1,5 @@
 -- How a check answers each command that a run answers.
-use Rattle.std.proofs.Common.{◌≡◌, ◌∷◌, ◌∙◌, ◌++◌, ◌+◌, ◌-◌, ◌≤◌, ◌^◌, ◌*◌, ◌%◌, ◌||◌, ◌&&◌, ◌==◌, ℕ, nat_lt}
+use Rattle.std.proofs.Common.{◌≡◌, ◌∷◌, ◌∙◌, ◌++◌, ◌+◌, ◌-◌, ◌≤◌, ◌^◌, ◌*◌, ◌%◌, ◌&&◌, ◌==◌, ℕ, nat_lt}
 use Rattle.std.proofs.Common.{nat_le, not}
 use Rattle.std.proofs.Common.{if◌then◌else◌, Bool, true, false, List, [], length, map, Option, None, Some, Result}
 use Rattle.std.proofs.Common.{Ok, Err}
@@ -41,36 +41,38 @@ use Rattle.lab_state.specs.Board.{Board}
 use Rattle.lab_state.specs.Hub.{members_of}
 use Rattle.lab_state.specs.Lab.{Lab}
 use Rattle.lab_state.specs.Names.{board_named, connected_to, hub_named, is_taken, kind_named}
-use Rattle.lab_state.specs.One.{changed, first_without, fitted, kind_at, with_member, with_view}
+use Rattle.lab_state.specs.One.{changed, first_without, kind_at, with_member, with_view}
 use Rattle.lab_state.specs.Run.{run, still}
+use Rattle.lab_state.proofs.RunLemmas.{run_none}
 use Rattle.lab_num.specs.Change.{change_at}
+use Rattle.lab_num.proofs.ListLemmas.{map-change}
 use Rattle.resc_vars.specs.Bodies.{enter, run_of, source_of}
 use Rattle.resc_vars.specs.Script as script
 use Rattle.resc_vars.specs.declared.cause.ScriptCause.{ScriptCause}
 use Rattle.resc_vars.specs.declared.cause.ScriptCause.TheVariants as cause
 use Rattle.monitor.specs.declared.fault.Cause.{Cause}
-use Rattle.monitor.specs.Answer.{Answer, Did, Done, answer_at, leaves, loads, reads, refused, says}
+use Rattle.monitor.specs.Answer.{Done, leaves, reads, says}
 use Rattle.monitor.specs.Bodies.{entered, include, include_text, run_macro}
 use Rattle.monitor.specs.Boards.{board_name, board_of, create, create_as, equip, equip_loaded, load_onto, load_platform}
 use Rattle.monitor.specs.Boards.{made, reset_board, select, with_new_board}
-use Rattle.monitor.specs.Hubs.{agree, connect, hub_for, show, with_hub}
+use Rattle.monitor.specs.Hubs.{agree, connect, hub_for, show}
 use Rattle.monitor.specs.Images.{elf_image, hex_image, is_entry, holds_part, load_elf, load_hex, load_image, load_read}
 use Rattle.monitor.specs.Images.{size, with_entry, with_parts}
 use Rattle.monitor.specs.Memory.{is_word, load_binary, read_word, word_line, write_bytes, write_word}
 use Rattle.monitor.specs.Processor.{halted, halted_on, may_go_at, mips, mips_on, pc, pc_on, speed_of}
 use Rattle.monitor.specs.Refusal.{◌>>=◌, require}
 use Rattle.monitor.specs.Runs.{has_run, length_of, quantum, run_for, start}
-use Rattle.monitor.specs.Selected.{Equipped, bare, entry, entry_in, entry_name, equipped, hart_in, member, processor}
-use Rattle.monitor.specs.Selected.{speaker, with_board}
+use Rattle.monitor.specs.Selected.{Equipped, bare, entry, entry_in, entry_name, hart_in, member, processor}
+use Rattle.monitor.specs.Selected.{speaker}
 use Rattle.monitor.specs.State.{State, LinePlace}
 use Rattle.check_laws.specs.Checked.{IsCheckOf, IsFound}
 use Rattle.check_laws.specs.Standing.{Equipment, Standing, equipment_of, standing}
 use Rattle.check_laws.proofs.KeepLemmas.{Keeps, bytes_keep, halted_keeps, image_keeps, pc_keeps, reset_keeps}
 use Rattle.check_laws.proofs.KeepLemmas.{shown_keeps, speed_keeps, stands}
-use Rattle.check_laws.proofs.ListLemmas.{change_seen, change_unseen}
-use Rattle.check_laws.proofs.RunLemmas.{IsLater, run_none}
+use Rattle.check_laws.proofs.ListLemmas.{change_seen}
+use Rattle.check_laws.proofs.RunLemmas.{IsLater}
 use Rattle.check_laws.proofs.SameLemmas.{AreAlike, DidFound, FoundBy, bare_same, found_at, kind_same, length_same}
-use Rattle.check_laws.proofs.SameLemmas.{loads_found, named_same, selected_same, taken_same, then_equipped, then_on}
+use Rattle.check_laws.proofs.SameLemmas.{loads_found, named_same, taken_same, then_equipped, then_on}
 use Rattle.check_laws.proofs.SameLemmas.{then_same, there_same, without_same}
 
 -- ---- of boards that stand alike
@@ -144,9 +146,9 @@ module _ (s t : State) (alike : IsCheckOf s t) where
     flow = alike.flow;
     selected = alike.selected;
     boards =
-        change_unseen standing (with_view g) (stands g second) t.lab.boards b
+        map-change standing (with_view g) (stands g second) t.lab.boards b
         ∙ alike.boards
-        ∙ sym (change_unseen standing (with_view f) (stands f first) s.lab.boards b);
+        ∙ sym (map-change standing (with_view f) (stands f first) s.lab.boards b);
     hubs = alike.hubs;
     now = alike.now;
     until = alike.until;

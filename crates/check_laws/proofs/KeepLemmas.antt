@@ -1,24 +1,21 @@
 -- Changes of a board that keep its equipment.
-use Rattle.std.proofs.Common.{◌≡◌, ◌∷◌, ◌∙◌, ◌+◌, ℕ, zero, suc, Bool, List, [], length, map, fold, Option, None, Some}
-use Rattle.std.proofs.Common.{refl, ap}
+use Rattle.std.proofs.Common.{◌≡◌, ◌∷◌, ◌∙◌, ℕ, Bool, List, [], fold, Option, None, Some}
+use Rattle.std.proofs.Common.{refl}
 use Rattle.std.proofs.lemmas.List.{length-map, length-set}
 use Rattle.dev_core.specs.declared.payload.Payload.{Payload}
 use Rattle.elf_load.specs.declared.image.Part.{Part}
 use Rattle.elf_load.specs.Map.{contents}
-use Rattle.sys_bus.specs.declared.region.Target.{Target}
-use Rattle.sys_bus.specs.declared.region.Target.TheVariants.{Ram, Clint, Plic, Dev, Nothing}
-use Rattle.board.specs.Changes.{copied, handed, put_byte, put_in, with_bytes, with_halted, with_pc, with_shown}
+use Rattle.board.specs.Changes.{handed, with_bytes, with_halted, with_pc, with_shown}
 use Rattle.board.specs.Changes.{with_speed}
 use Rattle.board.specs.New.{reset, reset_core}
-use Rattle.board.specs.Slot.{slot}
-use Rattle.board.specs.Space.{Space, target_at}
 use Rattle.board.specs.Stretch.{stretch}
 use Rattle.board.specs.View.{View}
-use Rattle.lab_num.specs.Paid.{slot_at}
+use Rattle.board.proofs.CopyLemmas.{plan-copied}
+use Rattle.board.proofs.NumberLemmas.{cores-stretch}
 use Rattle.lab_state.specs.Board.{Board}
 use Rattle.lab_state.specs.One.{with_view}
 use Rattle.monitor.specs.Images.{unreserved, with_each_pc, with_entry, with_part, with_parts}
-use Rattle.check_laws.specs.Standing.{Equipment, equipment_of, standing}
+use Rattle.check_laws.specs.Standing.{equipment_of, standing}
 
 -- a change of a board that keeps its plan and the number of its processors
 abbrev pub Keeps : (View → View) → Type 0
@@ -35,20 +32,8 @@ stands f keeps board = one_stands f keeps board.name board.view
 pub reset_keeps : Keeps reset
 reset_keeps v = rw (length-map v.cores reset_core) refl
 
-put_keeps : (s : Space) (byte : ℕ) (at : Target) → (put_in s byte at).plan ≡ s.plan
-put_keeps s byte (Ram part at) = refl
-put_keeps s byte (Dev dev at) = refl
-put_keeps s byte (Clint at) = refl
-put_keeps s byte (Plic at) = refl
-put_keeps s byte Nothing = refl
-
-copied_keeps : (s : Space) (at : ℕ) (bytes : List ℕ) → (copied s at bytes).plan ≡ s.plan
-copied_keeps s at [] = refl
-copied_keeps s at (byte ∷ bytes) =
-    copied_keeps (put_byte s at byte) (at + 1) bytes ∙ put_keeps s byte (target_at s at 1)
-
 pub bytes_keep : (at : ℕ) (bytes : List ℕ) → Keeps (λ v. with_bytes v at bytes)
-bytes_keep at bytes v = rw (copied_keeps v.space at bytes) refl
+bytes_keep at bytes v = rw (plan-copied v.space at bytes) refl
 
 pub pc_keeps : (hart value : ℕ) → Keeps (λ v. with_pc v hart value)
 pc_keeps hart value v = rw (length-set v.cores hart _) refl
@@ -81,16 +66,6 @@ pub image_keeps : (parts : List Part) (entry : Option ℕ) → Keeps (λ v. with
 image_keeps parts entry v =
     entry_keeps entry (with_parts v parts) ∙ part_keeps parts (unreserved v)
 
-cores_of_slot : (v : View) (t : ℕ) → length (slot v t).view.cores ≡ length v.cores
-unfolding slot
-cores_of_slot v t = length-set v.cores v.next _
-
-cores_stay : (v : View) (from a n : ℕ) → length (stretch v from a n).view.cores ≡ length v.cores
-unfolding stretch
-cores_stay v from a zero = refl
-cores_stay v from a (suc n) =
-    cores_of_slot (stretch v from a n).view (slot_at from v.numbers.speed (a + n)) ∙ cores_stay v from a n
-
 module _ (plans : (v : View) (from a n : ℕ) → (stretch v from a n).view.space.plan ≡ v.space.plan) where
   pub stretch_keeps : (v : View) (from a n : ℕ) → equipment_of (stretch v from a n).view ≡ equipment_of v
-  stretch_keeps v from a n = rw (plans v from a n, cores_stay v from a n) refl
+  stretch_keeps v from a n = rw (plans v from a n, cores-stretch v from a n) refl

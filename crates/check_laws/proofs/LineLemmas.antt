@@ -1,5 +1,5 @@
 -- How a check answers the line that a run answers.
-use Rattle.std.proofs.Common.{◌≡◌, Result, Ok, Err, refl, sym, ap, subst, inr}
+use Rattle.std.proofs.Common.{Result, Ok, Err, refl, sym, subst, inr}
 use Rattle.lab_io.specs.Held.{Held}
 use Rattle.dev_core.specs.declared.kind.Kind.TheVariants.{Uart, Can}
 use Rattle.lab_state.specs.Lab.{Lab}
@@ -20,7 +20,7 @@ use Rattle.monitor.specs.Memory.{read_word, write_word}
 use Rattle.monitor.specs.Processor.{halted, mips, pc}
 use Rattle.monitor.specs.Runs.{run_for, start}
 use Rattle.monitor.specs.State.{State, LinePlace}
-use Rattle.check_laws.specs.Checked.{IsCheckOf, IsFound}
+use Rattle.check_laws.specs.Checked.{IsCheckOf}
 use Rattle.check_laws.proofs.CommandLemmas as of
 use Rattle.check_laws.proofs.RunLemmas.{IsLater}
 use Rattle.check_laws.proofs.SameLemmas.{DidFound, FoundBy, found_at}

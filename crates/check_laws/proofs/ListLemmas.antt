@@ -1,5 +1,5 @@
 -- Places in lists of boards.
-use Rattle.std.proofs.Common.{◌≡◌, ◌∷◌, ◌++◌, ℕ, zero, suc, Bool, List, [], length, map, Option, None, Some, refl, ap}
+use Rattle.std.proofs.Common.{◌≡◌, ◌∷◌, ℕ, zero, suc, Bool, List, [], map, refl, ap}
 use Rattle.std.specs.List.{position}
 use Rattle.std.specs.List as list
 use Rattle.std.proofs.lemmas.List.{length-map}
@@ -20,14 +20,3 @@ module _ {X Y : Type 0} (f : X → Y) where
   change_seen g h seen [] n = refl
   change_seen g h seen (x ∷ xs) zero = ap (λ first. first ∷ map f xs) (seen x)
   change_seen g h seen (x ∷ xs) (suc n) = ap (λ rest. f x ∷ rest) (change_seen g h seen xs n)
-
-  -- a change that is not seen
-  pub change_unseen : (g : X → X) → ((x : X) → f (g x) ≡ f x) → (xs : List X) (n : ℕ) →
-      map f (change_at xs n g) ≡ map f xs
-  change_unseen g seen [] n = refl
-  change_unseen g seen (x ∷ xs) zero = ap (λ first. first ∷ map f xs) (seen x)
-  change_unseen g seen (x ∷ xs) (suc n) = ap (λ rest. f x ∷ rest) (change_unseen g seen xs n)
-
-  pub all_unseen : (g : X → X) → ((x : X) → f (g x) ≡ f x) → (xs : List X) → map f (map g xs) ≡ map f xs
-  all_unseen g seen [] = refl
-  all_unseen g seen (x ∷ xs) = rw (seen x, all_unseen g seen xs) refl

@@ -1,52 +1,33 @@
 -- What a run keeps of a laboratory.
-use Rattle.std.proofs.Common.{◌≡◌, ◌∷◌, ◌∙◌, ◌+◌, ◌≤◌, ℕ, Bool, true, false, List, [], map, arith, refl, ap}
-use Rattle.std.proofs.Common.{le_trans, le_refl, le-add_right}
+use Rattle.std.proofs.Common.{◌≡◌, ◌∷◌, ◌∙◌, ◌+◌, ◌≤◌, ℕ, Bool, true, false, List, [], map, arith, refl}
+use Rattle.std.proofs.Common.{le_trans, le_refl}
 use Rattle.std.specs.List.{flat_map, fold}
 use Rattle.std.specs.Prelude.{is_some}
-use Rattle.std.proofs.Math.Nat.{zero-div, zero-mod}
-use Rattle.dev_core.specs.declared.payload.Payload.{Payload}
 use Rattle.dev_core.specs.declared.post.Post.{Post}
 use Rattle.lab_num.specs.Paid.{paid}
-use Rattle.lab_num.specs.Route.{route}
-use Rattle.lab_num.specs.declared.key.Member.{Member}
+use Rattle.lab_num.proofs.ListLemmas.{map-map_same}
 use Rattle.board.specs.Changes.{handed}
 use Rattle.board.specs.Stretch.{stretch}
 use Rattle.board.specs.View.{View}
 use Rattle.lab_state.specs.Board.{Board}
-use Rattle.lab_state.specs.Boundary.{Handed, to_member, to_route, boundary, due, waiting}
+use Rattle.lab_state.specs.Boundary.{boundary, due, waiting}
 use Rattle.lab_state.specs.Hub.{Hub, members_of}
 use Rattle.lab_state.specs.Lab.{Lab}
-use Rattle.lab_state.specs.One.{with_view}
 use Rattle.lab_state.specs.Round.{Rounded, round, round_by, granted, posts_made, stepped}
 use Rattle.lab_state.specs.Run.{run, run_by, go_on, still, lengths}
+use Rattle.lab_state.proofs.RoundLemmas.{map-routes}
 use Rattle.check_laws.specs.Standing.{Standing, standing}
-use Rattle.check_laws.proofs.ListLemmas.{all_unseen, change_unseen}
 use Rattle.check_laws.proofs.KeepLemmas.{handed_keeps, stands, stretch_keeps}
 
 abbrev pub all_standing : List Board → List Standing
 all_standing boards = map standing boards
 
-to_members_keep : (at : ℕ) (payload : Payload) (members : List Member) (h : Handed) →
-    all_standing (fold (to_member at payload) h members).boards ≡ all_standing h.boards
-to_members_keep at payload [] h = refl
-to_members_keep at payload (m ∷ members) h =
-    to_members_keep at payload members (to_member at payload h m)
-    ∙ change_unseen standing (with_view (λ v. handed v m.dev payload))
-    (stands (λ v. handed v m.dev payload) (handed_keeps m.dev payload)) h.boards m.board.0
-
-to_routes_keep : (at : ℕ) (hubs : List (List Member)) (posts : List Post) (h : Handed) →
-    all_standing (fold (to_route at hubs) h posts).boards ≡ all_standing h.boards
-to_routes_keep at hubs [] h = refl
-to_routes_keep at hubs (post ∷ posts) h =
-    to_routes_keep at hubs posts (to_route at hubs h post)
-    ∙ to_members_keep at post.payload (route hubs post.from) h
-
 boundary_keeps : (at : ℕ) (hubs : List Hub) (boards : List Board) (pending posts : List Post) →
     all_standing (boundary at hubs boards pending posts).boards ≡ all_standing boards
 unfolding boundary
 boundary_keeps at hubs boards pending posts =
-    to_routes_keep at (members_of hubs) (due at hubs (waiting hubs pending posts))
-    (record { boards = boards; notes = [] })
+    map-routes standing (λ dev payload. stands (λ v. handed v dev payload) (handed_keeps dev payload)) at
+    (members_of hubs) (record { boards = boards; notes = [] }) (due at hubs (waiting hubs pending posts))
 
 -- a laboratory after some time: its boards stand as they did, its hubs are the same, and time has not gone back
 pub record IsLater (old new : Lab) : Type 0 where
@@ -64,11 +45,6 @@ later_yet old mid new first second = record {
 same_lab : (lab : Lab) → IsLater lab lab
 same_lab lab = record { boards = refl; hubs = refl; now = le_refl lab.now }
 
--- a run of length 0 has no round
-pub run_none : (lab : Lab) → run lab 0 ≡ still lab
-unfolding run_by
-run_none lab = rw (zero-div lab.quantum, zero-mod lab.quantum) refl
-
 module _ (plans : (v : View) (from a n : ℕ) → (stretch v from a n).view.space.plan ≡ v.space.plan) where
   round_later : (lab : Lab) (q : ℕ) → IsLater lab (round lab q).lab
   unfolding round_by
@@ -80,7 +56,7 @@ module _ (plans : (v : View) (from a n : ℕ) → (stretch v from a n).view.spac
       record {
         boards =
             boundary_keeps to lab.hubs stepped_all lab.pending sent
-            ∙ all_unseen standing (stepped (granted lab.now to))
+            ∙ map-map_same standing (stepped (granted lab.now to))
             (stands (λ v. (granted lab.now to v).view) keeps) lab.boards;
         hubs = refl;
         now = omega arith;

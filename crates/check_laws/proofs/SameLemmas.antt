@@ -1,5 +1,5 @@
 -- What is the same in a run and its check at a line, and how their answers fit together.
-use Rattle.std.proofs.Common.{◌≡◌, ◌∷◌, ◌∙◌, ◌⊎◌, ◌||◌, ◌==◌, ℕ, zero, suc, nat_lt, not, if◌then◌else◌, Bool, true}
+use Rattle.std.proofs.Common.{◌≡◌, ◌∷◌, ◌∙◌, ◌⊎◌, ℕ, zero, suc, nat_lt, if◌then◌else◌, Bool, true}
 use Rattle.std.proofs.Common.{false}
 use Rattle.std.proofs.Common.{List, [], length, map, slice_get, Option, None, Some, Result, Ok, Err, refl, sym, ap}
 use Rattle.std.proofs.Common.{inl, inr}
@@ -7,12 +7,11 @@ use Rattle.std.proofs.Common.{arith, le_refl}
 use Rattle.std.specs.FinMap.{get}
 use Rattle.std.specs.List.{position}
 use Rattle.std.specs.Option.{ok_or, option_map}
-use Rattle.std.specs.Prelude.{is_none, is_some, option_and_then}
+use Rattle.std.specs.Prelude.{is_none, option_and_then}
 use Rattle.std.specs.Str.{bytes_eq}
 use Rattle.std.proofs.lemmas.List.{length-map}
 use Rattle.lab_io.specs.Held.{Held}
 use Rattle.lab_num.specs.declared.key.Member.{Member}
-use Rattle.dev_core.specs.declared.kind.Kind.{Kind}
 use Rattle.board.specs.View.{View}
 use Rattle.lab_state.specs.Board.{Board}
 use Rattle.lab_state.specs.Lab.{Lab}

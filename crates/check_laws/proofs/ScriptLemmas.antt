@@ -1,5 +1,5 @@
 -- What a run is refused for its check is refused for.
-use Rattle.std.proofs.Common.{◌≡◌, ◌≢◌, ◌∷◌, ◌∙◌, ◌++◌, ◌||◌, ◌==◌, ◌≤◌, ℕ, zero, suc, not, if◌then◌else◌, Bool}
+use Rattle.std.proofs.Common.{◌≡◌, ◌∷◌, ◌∙◌, ◌||◌, ◌==◌, ◌≤◌, ℕ, zero, suc, not, if◌then◌else◌, Bool}
 use Rattle.std.proofs.Common.{true, false}
 use Rattle.std.proofs.Common.{List, [], length, map, Option, None, Some, refl, sym, ap, subst, inl, inr, arith}
 use Rattle.std.specs.FinMap.{get, insert}
@@ -20,11 +20,12 @@ use Rattle.monitor.specs.Command.{did}
 use Rattle.monitor.specs.State.{State, LinePlace, bodies_of, joined, started}
 use Rattle.lab_top.specs.Content.{Content, Missing, Faulty, Readable, content_of}
 use Rattle.lab_top.specs.Headline.{calls}
-use Rattle.lab_top.specs.Request.{Request, Run, checking, request_of}
+use Rattle.lab_top.specs.Request.{Request, Run, checking}
 use Rattle.lab_top.specs.Transcript.{Script, Further, Use, answered, begun, from, is_large, is_occupied, loading}
-use Rattle.lab_top.specs.Transcript.{loading_kept, onward, refused, resuming, saving, transcript, use_later, using}
+use Rattle.lab_top.specs.Transcript.{loading_kept, onward, refused, resuming, saving, use_later, using}
+use Rattle.lab_top.proofs.Courses.{calls-later}
 use Rattle.check_laws.specs.Checked.{IsCheckOf, IsFound, IsToBeFound}
-use Rattle.check_laws.specs.Coming.{GetsOld, SavesFit, ScriptFits, Standpoint, after_answer, after_load, after_save}
+use Rattle.check_laws.specs.Coming.{GetsOld, SavesFit, ScriptFits, Standpoint, after_answer}
 use Rattle.check_laws.specs.Coming.{comes_to, standpoint}
 use Rattle.check_laws.proofs.LineLemmas.{did_found}
 use Rattle.check_laws.proofs.RunLemmas.{IsLater}
@@ -32,14 +33,10 @@ use Rattle.check_laws.proofs.SameLemmas.{begins_alike, joined_alike, length_same
 
 -- ---- of calls on a store
 
-calls_later : (n : ℕ) (uses : List Use) → calls (map (use_later n) uses) ≡ calls uses
-calls_later n [] = refl
-calls_later n (made ∷ uses) = ap (λ used. made.call ∷ used) (calls_later n uses)
-
 module _ (old kept : Held) where
   gets_later : (n : ℕ) (uses : List Use) → GetsOld old kept (calls (map (use_later n) uses)) →
       GetsOld old kept (calls uses)
-  gets_later n uses gets = subst (GetsOld old kept) (calls_later n uses) gets
+  gets_later n uses gets = subst (GetsOld old kept) (calls-later n uses) gets
 
   gets_after_put : (name bytes : List ℕ) (used : List StoreUse) → GetsOld old kept (put_of name bytes ∷ used) →
       GetsOld old (insert kept name bytes) used

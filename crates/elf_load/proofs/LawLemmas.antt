@@ -3,7 +3,7 @@ use Rattle.std.proofs.Common.{◌≡◌, ◌∷◌, ◌++◌, ◌+◌, ◌^◌, 
 use Rattle.std.proofs.Common.{false, not, nat_le}
 use Rattle.std.proofs.Common.{Ok, Option, Some, None, refl, ap, sym, arith}
 use Rattle.std.specs.List.{list_any, All, AllByRecursion}
-use Rattle.std.proofs.lemmas.Bool.{and_parts, or_parts, leb-true}
+use Rattle.std.proofs.lemmas.Bool.{and_parts, or_parts, leb-true, not-false}
 use Rattle.std.proofs.lemmas.List.{take-append-drop, length-take, length-drop}
 use Rattle.std.proofs.lemmas.List.Elements.{All-from_recursion}
 use Rattle.elf_load.specs.declared.image.ElfFault.{ElfFault}
@@ -56,17 +56,13 @@ sound_ends file header is =
     let facts = sound_facts file header is in
     simp (length-take, length-drop) (omega arith)
 
-not_false : (b : Bool) → not b ≡ false → b ≡ true
-not_false true is = refl
-not_false false is = absurd (cc)
-
 all_sound : (P : Part → Type 0) (file : List ℕ) (headers : List (List ℕ)) →
     ((header : List ℕ) → is_sound file header ≡ true → P (part_of file header)) →
     list_any (λ header. not (is_sound file header)) headers ≡ false →
     AllByRecursion P (map (part_of file) headers)
 all_sound P file [] each none = tt
 all_sound P file (header ∷ headers) each none =
-    let both = or_parts _ _ none in (each header (not_false _ both.0), all_sound P file headers each both.1)
+    let both = or_parts _ _ none in (each header (not-false _ both.0), all_sound P file headers each both.1)
 
 of_accepted : (P : Part → Type 0) (file : List ℕ) (image : Image) → image_of file ≡ Ok image →
     ((header : List ℕ) → is_sound file header ≡ true → P (part_of file header)) → All P image.parts

@@ -1,5 +1,5 @@
 -- A piece of a piece of a list.
-use Rattle.std.proofs.Common.{◌≡◌, ◌+◌, ◌-◌, ◌≤◌, ◌∙◌, ℕ, List, take, drop, length, sym, ap, min, arith}
+use Rattle.std.proofs.Common.{◌≡◌, ◌+◌, ◌-◌, ◌≤◌, ◌∙◌, ℕ, List, take, drop, length, sym, ap, arith}
 use Rattle.std.proofs.lemmas.List.{drop-drop, drop-take, take-take, length-take}
 
 pub piece_of_piece :

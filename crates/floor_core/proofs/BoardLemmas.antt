@@ -1,8 +1,9 @@
 -- One item of a list, by its place.
 use Rattle.std.proofs.Common.{◌≡◌, ◌≢◌, ◌⊎◌, ◌↔◌, ℕ, zero, suc, ◌<◌, List, [], ◌∷◌, length, get_or, drop}
 use Rattle.std.proofs.Common.{refl, sym, ◌∙◌, ap, subst, inl, inr, arith, Option, Some, None, IsSomeAnd, slice_get, set}
-use Rattle.std.proofs.lemmas.Option.{slice_get_read}
+use Rattle.std.proofs.lemmas.Option.{slice_get_read, same_Some}
 use Rattle.lab_num.specs.Change.{change_at}
+use Rattle.lab_num.proofs.ListLemmas.{set-change}
 
 -- what is said of an item that may be there is said of the item that was read
 pub there :
@@ -20,23 +21,12 @@ within P [] i h = absurd h
 within P (x ∷ xs) zero h = omega arith
 within P (x ∷ xs) (suc i) h = let rest = within P xs i h in omega arith
 
--- to write the changed item is to change it
-pub changed_set :
-    {A : Type 0} (step : A → A) (xs : List A) (i : ℕ) (x : A) →
-    i < length xs → x ≡ get_or xs i x → change_at xs i step ≡ set xs i (step x)
-changed_set step [] i x below read = refl
-changed_set step (y ∷ xs) zero x below read = ap (λ z. step z ∷ xs) (sym read)
-changed_set step (y ∷ xs) (suc i) x below read = ap (λ zs. y ∷ zs) (changed_set step xs i x (omega arith) read)
-
--- to write it where the list is known by another name, as is the place
+-- to write the changed item is to change it, also where the list is known by another name, as is the place
 pub placed :
     {A : Type 0} (step : A → A) (bs items : List A) (k i : ℕ) (x y : A) →
     bs ≡ items → i ≡ k → k < length bs → x ≡ get_or items i x → y ≡ step x → set items i y ≡ change_at bs k step
 placed step bs items k i x y same place below read is =
-    ap (λ z. set items i z) is ∙
-    (sym (changed_set step items i x (subst (λ (l : List _). i < length l) same (subst (λ (j : ℕ). j < length bs)
-    (sym place) below)) read) ∙
-    (λ j. change_at (sym same j) (place j) step))
+    set-change step items i read is ∙ (λ j. change_at (sym same j) (place j) step)
 
 -- what was read at a place is there
 pub read_at :
@@ -50,21 +40,12 @@ pub said_of :
     i ≡ k → k < length items → x ≡ get_or items i x → IsSomeAnd (slice_get items k) P → P x
 said_of P items k i x place below read said = subst (λ o. IsSomeAnd o P) (read_at items k i x place below read) said
 
-pub length-changed :
-    {A : Type 0} (step : A → A) (xs : List A) (i : ℕ) → length (change_at xs i step) ≡ length xs
-length-changed step [] i = refl
-length-changed step (x ∷ xs) zero = refl
-length-changed step (x ∷ xs) (suc i) = ap suc (length-changed step xs i)
-
-unsome : {A : Type 0} (x y : A) → Some x ≡ Some y → x ≡ y
-unsome x y is = cc
-
 -- after a change an item is the changed one, or one that was there
 pub changed_get :
     {A : Type 0} (step : A → A) (xs : List A) (k i : ℕ) (y : A) → slice_get (change_at xs k step) i ≡ Some y →
     ((i ≡ k) × (x : A) × (slice_get xs i ≡ Some x) × (y ≡ step x)) ⊎ ((i ≢ k) × (slice_get xs i ≡ Some y))
 changed_get step [] k i y is = absurd (cc)
-changed_get step (x ∷ xs) zero zero y is = inl (refl, x, refl, sym (unsome (step x) y is))
+changed_get step (x ∷ xs) zero zero y is = inl (refl, x, refl, sym (same_Some (step x) y is))
 changed_get step (x ∷ xs) zero (suc i) y is = inr ((λ h. omega arith), is)
 changed_get step (x ∷ xs) (suc k) zero y is = inr ((λ h. omega arith), is)
 changed_get step (x ∷ xs) (suc k) (suc i) y is =
@@ -81,7 +62,3 @@ changed_get step (x ∷ xs) (suc k) (suc i) y is =
 pub first_of : {A : Type 0} (xs : List A) → xs ≢ [] → (x : A) × (xs ≡ x ∷ drop 1 xs)
 first_of [] some = absurd (some refl)
 first_of (x ∷ xs) some = (x, refl)
-
-pub first_none : {A : Type 0} (xs : List A) → slice_get xs 0 ≡ None → xs ≡ []
-first_none [] is = refl
-first_none (x ∷ xs) is = absurd (cc)

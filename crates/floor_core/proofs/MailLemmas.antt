@@ -1,9 +1,8 @@
 -- The mail of two orders of events has one listing.
 use Rattle.std.proofs.Common.{◌≡◌, ◌≢◌, ◌∙◌, ℕ, zero, suc, ◌+◌, ◌<◌, ◌≤◌, List, [], ◌∷◌, ◌++◌, length, map, inl, inr}
-use Rattle.std.proofs.Common.{refl, sym, ap, subst, arith, Bool, true, false, cond, All, Option, Some, slice_get}
+use Rattle.std.proofs.Common.{refl, sym, ap, subst, arith, false, All, Option, Some, slice_get}
 use Rattle.std.proofs.Common.{eq-eqb, ne_eqb}
-use Rattle.std.proofs.Common.{Ordering, Less, Equal, Greater, nat_cmp, is_eq, nat_lt}
-use Rattle.std.specs.Ordering.{ordering_then, eq_by_cmp}
+use Rattle.std.specs.Ordering.{eq_by_cmp}
 use Rattle.std.specs.List.{IsDistinct, AllByRecursion}
 use Rattle.std.specs.List.Sorted.{IsPermutation}
 use Rattle.std.specs.Cmp.{IsTotalOrder, eq_by_cmp_equiv}
@@ -18,6 +17,8 @@ use Rattle.lab_num.specs.declared.key.Key.{Key}
 use Rattle.lab_num.specs.Key.{key_cmp, KeysDiffer}
 use Rattle.lab_num.specs.Numbered.{AreNumbered}
 use Rattle.lab_num.specs.Listing.{IsListing, listing}
+use Rattle.lab_num.proofs.KeyLemmas.{boards_apart, numbers_apart}
+use Rattle.lab_num.proofs.ListLemmas.{each-append, each-weaker}
 use Rattle.dev_core.specs.declared.post.Post.{Post}
 use Rattle.dev_core.specs.Post.{post_key}
 use Rattle.floor_core.specs.declared.event.Mailed.{Mailed}
@@ -97,36 +98,6 @@ same_gathered (suc n) one other each =
 
 -- ---- the keys of numbered posts differ
 
-is_eq_then : (a b : Ordering) → is_eq a ≡ false → is_eq (ordering_then a b) ≡ false
-is_eq_then Less b is = refl
-is_eq_then Equal b is = absurd (cc)
-is_eq_then Greater b is = refl
-
-is_eq_then_last : (a b : Ordering) → is_eq b ≡ false → is_eq (ordering_then a b) ≡ false
-is_eq_then_last Less b is = refl
-is_eq_then_last Equal b is = is
-is_eq_then_last Greater b is = refl
-
-less_or_greater : (t : Bool) → is_eq (cond t Less Greater) ≡ false
-less_or_greater true = refl
-less_or_greater false = refl
-
-nat_apart : (a b : ℕ) → a ≢ b → is_eq (nat_cmp a b) ≡ false
-nat_apart a b apart = rw (ne_eqb a b apart) (less_or_greater (nat_lt a b))
-
-boards_apart : (a b : Key) → a.board.0 ≢ b.board.0 → eq_by_cmp key_cmp a b ≡ false
-boards_apart a b apart =
-    is_eq_then_last (nat_cmp a.at.0 b.at.0) (ordering_then (nat_cmp a.board.0 b.board.0) (nat_cmp a.number.0
-    b.number.0))
-    (is_eq_then (nat_cmp a.board.0 b.board.0) (nat_cmp a.number.0 b.number.0) (nat_apart a.board.0 b.board.0 apart))
-
-numbers_apart : (a b : Key) → a.number.0 ≢ b.number.0 → eq_by_cmp key_cmp a b ≡ false
-numbers_apart a b apart =
-    is_eq_then_last (nat_cmp a.at.0 b.at.0) (ordering_then (nat_cmp a.board.0 b.board.0) (nat_cmp a.number.0
-    b.number.0))
-    (is_eq_then_last (nat_cmp a.board.0 b.board.0) (nat_cmp a.number.0 b.number.0) (nat_apart a.number.0 b.number.0
-    apart))
-
 -- a key differs from those of later posts
 numbered_later :
     (board first : ℕ) (key : Key) (ps : List Post) → key.number.0 < first → AreNumbered board first (map post_key ps) →
@@ -148,17 +119,6 @@ numbered_boards :
 numbered_boards board first [] are = tt
 numbered_boards board first (p ∷ ps) are = (are.0, numbered_boards board (first + 1) ps are.2)
 
-all_append :
-    {A : Type 0} (P : A → Type 0) (xs ys : List A) → AllByRecursion P xs → AllByRecursion P ys →
-    AllByRecursion P (xs ++ ys)
-all_append P [] ys first second = second
-all_append P (x ∷ xs) ys first second = (first.0, all_append P xs ys first.1 second)
-
-all_weaker :
-    {A : Type 0} (P Q : A → Type 0) → ((x : A) → P x → Q x) → (xs : List A) → AllByRecursion P xs → AllByRecursion Q xs
-all_weaker P Q step [] all = tt
-all_weaker P Q step (x ∷ xs) all = (step x all.0, all_weaker P Q step xs all.1)
-
 -- the key of a post of a lower board differs from those of a board
 below_board :
     (n : ℕ) (key : Key) (ys : List Post) → key.board.0 < n → AllByRecursion (λ p. p.key.board.0 ≡ n) ys →
@@ -175,7 +135,7 @@ unfolding IsDistinct
 differ_append n [] ys below here first second = second
 differ_append n (x ∷ xs) ys below here first second = (
   subst (λ (l : List Key). AllByRecursion (λ y. eq_by_cmp key_cmp x.key y ≡ false) l) (sym (map-append post_key xs ys))
-      (all_append (λ y. eq_by_cmp key_cmp x.key y ≡ false) (map post_key xs) (map post_key ys) first.0
+      (each-append (λ y. eq_by_cmp key_cmp x.key y ≡ false) (map post_key xs) (map post_key ys) first.0
       (below_board n x.key ys below.0 here)),
   differ_append n xs ys below.1 here first.1 second,
 )
@@ -190,10 +150,10 @@ unfolding gathered
 gathered_boards zero mail each = tt
 gathered_boards (suc n) mail each =
     let are = each n (omega arith) in
-    all_append (λ p. p.key.board.0 < suc n) (gathered n mail) (posted_by n mail)
-    (all_weaker (λ p. p.key.board.0 < n) (λ p. p.key.board.0 < suc n) (λ p below. omega arith) (gathered n mail)
+    each-append (λ p. p.key.board.0 < suc n) (gathered n mail) (posted_by n mail)
+    (each-weaker (λ p. p.key.board.0 < n) (λ p. p.key.board.0 < suc n) (λ p below. omega arith) (gathered n mail)
     (gathered_boards n mail (λ i below. each i (omega arith))))
-    (all_weaker (λ p. p.key.board.0 ≡ n) (λ p. p.key.board.0 < suc n) (λ p is. omega arith) (posted_by n mail)
+    (each-weaker (λ p. p.key.board.0 ≡ n) (λ p. p.key.board.0 < suc n) (λ p is. omega arith) (posted_by n mail)
     (numbered_boards n are.0 (posted_by n mail) are.1))
 
 gathered_differ : (n : ℕ) (mail : List Mailed) → Numbered n mail → KeysDiffer post_key (gathered n mail)

@@ -11,11 +11,12 @@ use Rattle.floor_core.specs.declared.event.Event.{Event}
 use Rattle.floor_core.specs.declared.event.Event.TheVariants.{Claim, Post, Report, Close}
 use Rattle.floor_core.specs.declared.event.Mailed.{Mailed}
 use Rattle.lab_num.specs.Change.{change_at}
+use Rattle.lab_num.proofs.ListLemmas.{length-change}
 use Rattle.floor_core.specs.Events.{IsLegal, MayClaim, MayPost, claimed, relieved, at_home, oldest, happened}
 use Rattle.floor_core.specs.Floor.{Board, Floor, fresh, begun, posted_by}
 use Rattle.floor_core.specs.Job.{Job, left, Adds, Rests}
 use Rattle.floor_core.specs.Sound.{IsSound, Sound}
-use Rattle.floor_core.proofs.BoardLemmas.{some_and, changed_get, length-changed, first_of}
+use Rattle.floor_core.proofs.BoardLemmas.{some_and, changed_get, first_of}
 use Rattle.floor_core.proofs.JobLemmas.{sound_claimed, sound_relieved, sound_at_home}
 
 -- what a board posted, after some posts more
@@ -69,7 +70,7 @@ module _ {S : Type 0} (state_after : S → List (Option post.Post) → ℕ → S
       IsSound state_after start (step b) (posted_by k g.mail)) →
       Sound state_after starts g
   sound_changed starts f g k step s boards others this = record {
-    boards = ap (λ (l : List (Board S)). length l) boards ∙ (length-changed step f.boards k ∙ s.boards);
+    boards = ap (λ (l : List (Board S)). length l) boards ∙ (length-change step f.boards k ∙ s.boards);
     each = λ i start b is there.
         elim (changed_get step f.boards k i b (ap (λ (l : List (Board S)). slice_get l i) (sym boards) ∙ there)) [
           | inl h ↦

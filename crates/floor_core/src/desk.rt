@@ -61,7 +61,7 @@ impl<J: Job> Desk<J> {
     }
 
     /// Whether no post is unsent.
-    #[tactic(auto, using(crate::proofs::BoardLemmas::first_none))]
+    #[tactic(auto, using(lab_num::proofs::ListLemmas::first_none))]
     fn is_sent(&self) -> bool
         ensures { IsTrue result ↔ (self.now.job.unsent ≡ []) }
     {

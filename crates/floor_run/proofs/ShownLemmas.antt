@@ -1,6 +1,6 @@
 -- The bench shows a floor, and its steps are the events of that floor.
 use Rattle.std.proofs.Common.{◌≡◌, ◌≢◌, ◌↔◌, ◌∙◌, ◌⊎◌, inl, inr, ℕ, zero, suc, ◌+◌, ◌-◌, ◌*◌, ◌/◌, ◌%◌, ◌<◌, ◌≤◌, ◌==◌}
-use Rattle.std.proofs.Common.{Bool, true, false, List, [], ◌∷◌, ◌++◌, length, min, map, filter, All, get_or, set}
+use Rattle.std.proofs.Common.{Bool, true, false, List, [], ◌∷◌, ◌++◌, length, min, map, All, get_or, set}
 use Rattle.std.proofs.Common.{if◌then◌else◌, refl, sym, ap, subst, arith, add-one, zero-add, length-drop, append-nil}
 use Rattle.std.proofs.Common.{get_or-set_other, get_or-set_same, eq-eqb, ne_eqb}
 use Rattle.std.proofs.Common.{Option, Some, None, IsSomeAnd, slice_get, option_map, option_and_then, option_to_list}
@@ -9,8 +9,8 @@ use mathlib.Core.Logic.{dite}
 use native.Mathlib.Decide.{ℕ_discrete}
 use lib.ListN.{get_elem?}
 use Rattle.std.specs.Int.Bits.{bit_or}
-use Rattle.std.proofs.lemmas.List.{map-append, length-map}
-use Rattle.std.proofs.lemmas.List.Elements.{filter-append}
+use Rattle.std.proofs.lemmas.List.{length-map}
+use Rattle.std.proofs.lemmas.Option.{same_Some}
 use Rattle.atomic_table.proofs.Lists.{at_map, at_longer, set_else, set_here}
 use Rattle.dev_core.specs.declared.post.Post as post
 use Rattle.floor_core.specs.declared.event.Event.{Event}
@@ -23,6 +23,8 @@ use Rattle.floor_core.specs.Floor as floor
 use Rattle.floor_core.specs.Floor.{Board, Floor, begun, posted_by}
 use Rattle.floor_core.specs.Job.{Job, left, made, aside, after}
 use Rattle.floor_core.specs.Sound.{IsSound, Sound}
+use Rattle.floor_core.proofs.SoundLemmas.{posted_more}
+use Rattle.floor_core.proofs.BoardLemmas.{changed_get}
 use Rattle.floor_run.specs.declared.view.View.{View}
 use Rattle.floor_run.specs.Rule.{Whereabouts, home, out, done, word_of, home_word, Tally, Table, Holds, InPlace, Rule}
 use Rattle.floor_run.specs.Shown.{Shows, ShowsBoard, word, turn_slots, opened}
@@ -33,38 +35,26 @@ use Rattle.floor_run.proofs.OpenLemmas.{all_at, got, got_mapped}
 use Rattle.floor_run.proofs.StepLemmas.{there, below, or_even, or_one, or_three, set_there}
 use Rattle.floor_run.proofs.TurnLemmas.{TurnsAdd, PostsAdd, next}
 
--- after a change an item is the changed one, or one that was there
-changed_at :
-    {A : Type 0} (step : A → A) (xs : List A) (k i : ℕ) (y : A) → get_elem? (change_at xs k step) i ≡ some y →
-    ((i ≡ k) × (x : A) × (get_elem? xs i ≡ some x) × (y ≡ step x)) ⊎ ((i ≢ k) × (get_elem? xs i ≡ some y))
-changed_at step [] k i y is = absurd (some-ne-none y (sym is))
-changed_at step (x ∷ xs) zero zero y is = inl (refl, x, refl, sym (some-injective (step x) y is))
-changed_at step (x ∷ xs) zero (suc i) y is = inr ((λ h. omega arith), is)
-changed_at step (x ∷ xs) (suc k) zero y is = inr ((λ h. omega arith), is)
-changed_at step (x ∷ xs) (suc k) (suc i) y is =
-    elim (changed_at step xs k i y is) [
-      | inl h ↦ inl (ap suc h.0, h.1, h.2, h.3)
-      | inr h ↦ inr ((λ e. h.0 (omega arith)), h.1)
-    ]
-
-length-changed : {A : Type 0} (step : A → A) (xs : List A) (i : ℕ) → length (change_at xs i step) ≡ length xs
-length-changed step [] i = refl
-length-changed step (x ∷ xs) zero = refl
-length-changed step (x ∷ xs) (suc i) = ap suc (length-changed step xs i)
-
 -- the same item by either way of reading a list
 read : {A : Type 0} (xs : List A) (i : ℕ) (x : A) → get_elem? xs i ≡ some x → slice_get xs i ≡ Some x
 read [] i x e = absurd (some-ne-none x (sym e))
 read (y ∷ xs) zero x e = ap Some (some-injective y x e)
 read (y ∷ xs) (suc i) x e = read xs i x e
 
-unsome : {A : Type 0} (x y : A) → Some x ≡ Some y → x ≡ y
-unsome x y is = cc
-
 unread : {A : Type 0} (xs : List A) (i : ℕ) (x : A) → slice_get xs i ≡ Some x → get_elem? xs i ≡ some x
 unread [] i x e = let bad : None ≡ Some x = e in absurd (cc)
-unread (y ∷ xs) zero x e = ap some (unsome y x e)
+unread (y ∷ xs) zero x e = ap some (same_Some y x e)
 unread (y ∷ xs) (suc i) x e = unread xs i x e
+
+-- after a change an item is the changed one, or one that was there
+changed_at :
+    {A : Type 0} (step : A → A) (xs : List A) (k i : ℕ) (y : A) → get_elem? (change_at xs k step) i ≡ some y →
+    ((i ≡ k) × (x : A) × (get_elem? xs i ≡ some x) × (y ≡ step x)) ⊎ ((i ≢ k) × (get_elem? xs i ≡ some y))
+changed_at step xs k i y is =
+    elim (changed_get step xs k i y (read (change_at xs k step) i y is)) [
+      | inl h ↦ inl (h.0, h.1, unread xs i h.1 h.2, h.3)
+      | inr h ↦ inr (h.0, unread xs i y h.1)
+    ]
 
 unmapped :
     {A B : Type 0} (g : A → B) (xs : List A) (i : ℕ) (y : B) → get_elem? (map g xs) i ≡ some y →
@@ -78,12 +68,6 @@ home_word_says : (q : ℕ) (b : Bool) → let n = word_of q (if b then done else
     (n / 4 ≡ q) × ((n % 4 ≡ 0) ⊎ (n % 4 ≡ 3))
 home_word_says q true = (omega arith, inr (omega arith))
 home_word_says q false = (omega arith, inl (omega arith))
-
--- what a board posted, after some posts more
-posted_more : (i : ℕ) (xs ys : List Mailed) → posted_by i (xs ++ ys) ≡ posted_by i xs ++ posted_by i ys
-posted_more i xs ys =
-    ap (λ (l : List Mailed). map (λ m. m.post) l) (filter-append (λ m. m.by.0 == i) xs ys) ∙
-    map-append (λ (m : Mailed). m.post) (filter (λ m. m.by.0 == i) xs) (filter (λ m. m.by.0 == i) ys)
 
 -- a post in the mail
 abbrev letter : ℕ → post.Post → Mailed
@@ -302,7 +286,7 @@ module _ {J S : Type 0} (meaning : J → Job S) (sent : J → List post.Post)
               | inr p ↦ absurd (let w = p.word_is in omega arith)
               | inl p ↦
                   let lay : J = p.job.0 in
-                  let same : lay ≡ job = unsome lay job
+                  let same : lay ≡ job = same_Some lay job
                   (some-injective (Some lay) (Some job)
                   (some-injective (some (Some lay)) (some (Some job)) (sym p.job.1 ∙ lies))) in
                   let is : meaning job ≡ b.job = ap meaning (sym same) ∙ p.job.2 in

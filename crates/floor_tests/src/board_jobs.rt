@@ -8,7 +8,7 @@ use dev_core::Post;
 use floor_core::{Job, Turn};
 use floor_run::NoGate;
 use hub_mail::{Boss, Mail};
-use lab_num::{BoardNo, NoMemory};
+use lab_num::BoardNo;
 use std::alloc::Global;
 use std::process::Abort;
 use std::sync::Wait;

@@ -1,17 +1,16 @@
 -- What the order of arrival does not decide.
-use Rattle.std.proofs.Common.{◌≡◌, ◌≢◌, ◌∙◌, ℕ, suc, ◌<◌, ◌==◌, List, [], ◌∷◌, ◌++◌, length, map, get_or, cond}
-use Rattle.std.proofs.Common.{refl, sym, ap, subst, inl, inr, arith, Bool, true, false, ne_eqb}
-use Rattle.std.proofs.Common.{Ordering, Less, Equal, Greater, nat_cmp, is_eq, nat_lt}
-use Rattle.std.specs.Ordering.{ordering_then, eq_by_cmp}
+use Rattle.std.proofs.Common.{◌≡◌, ◌∙◌, ℕ, suc, ◌<◌, ◌==◌, List, [], ◌∷◌, ◌++◌, length, map, get_or}
+use Rattle.std.proofs.Common.{refl, sym, ap, subst, inl, inr, arith, false}
+use Rattle.std.specs.Ordering.{eq_by_cmp}
 use Rattle.std.specs.List.{IsDistinct, AllByRecursion}
 use Rattle.std.specs.List.Sorted.{IsPermutation}
 use Rattle.std.proofs.lemmas.Bool.{cases_eq}
 use Rattle.std.proofs.lemmas.List.Elements.{filter-append}
 use Rattle.std.proofs.lemmas.List.Sorted.{IsPermutation-refl, IsPermutation-sym, IsPermutation-cons}
 use Rattle.std.proofs.lemmas.List.Sorted.{IsPermutation-trans, IsPermutation-middle}
-use Rattle.lab_num.specs.declared.key.Key.{Key}
 use Rattle.lab_num.specs.Key.{key_cmp, KeysDiffer}
 use Rattle.lab_num.specs.Listing.{IsListing, listing}
+use Rattle.lab_num.proofs.KeyLemmas.{boards_apart, numbers_apart}
 use Rattle.dev_core.specs.declared.post.Post.{Post}
 use Rattle.dev_core.specs.Post.{post_key}
 use Rattle.hub_mail.specs.Posts.{of_board, RiseByNumber}
@@ -90,36 +89,6 @@ same_members (x ∷ xs) other same =
     (IsPermutation-cons x xs (f.before ++ f.after) rest) moved)
 
 -- ---- posts that rise by number on each board differ in key
-
-is_eq_then : (a b : Ordering) → is_eq a ≡ false → is_eq (ordering_then a b) ≡ false
-is_eq_then Less b is = refl
-is_eq_then Equal b is = absurd (cc)
-is_eq_then Greater b is = refl
-
-is_eq_then_last : (a b : Ordering) → is_eq b ≡ false → is_eq (ordering_then a b) ≡ false
-is_eq_then_last Less b is = refl
-is_eq_then_last Equal b is = is
-is_eq_then_last Greater b is = refl
-
-less_or_greater : (t : Bool) → is_eq (cond t Less Greater) ≡ false
-less_or_greater true = refl
-less_or_greater false = refl
-
-nat_apart : (a b : ℕ) → a ≢ b → is_eq (nat_cmp a b) ≡ false
-nat_apart a b apart = rw (ne_eqb a b apart) (less_or_greater (nat_lt a b))
-
-boards_apart : (a b : Key) → a.board.0 ≢ b.board.0 → eq_by_cmp key_cmp a b ≡ false
-boards_apart a b apart =
-    is_eq_then_last (nat_cmp a.at.0 b.at.0) (ordering_then (nat_cmp a.board.0 b.board.0) (nat_cmp a.number.0
-    b.number.0))
-    (is_eq_then (nat_cmp a.board.0 b.board.0) (nat_cmp a.number.0 b.number.0) (nat_apart a.board.0 b.board.0 apart))
-
-numbers_apart : (a b : Key) → a.number.0 ≢ b.number.0 → eq_by_cmp key_cmp a b ≡ false
-numbers_apart a b apart =
-    is_eq_then_last (nat_cmp a.at.0 b.at.0) (ordering_then (nat_cmp a.board.0 b.board.0) (nat_cmp a.number.0
-    b.number.0))
-    (is_eq_then_last (nat_cmp a.board.0 b.board.0) (nat_cmp a.number.0 b.number.0) (nat_apart a.number.0 b.number.0
-    apart))
 
 abbrev Above : Post → List Post → Type 0
 Above p = AllByRecursion (λ q. p.key.number.0 < q.key.number.0)

@@ -1,6 +1,6 @@
 -- What the end of a drain tells, where all passes were taken in.
-use Rattle.std.proofs.Common.{◌≡◌, ◌≢◌, ◌⊎◌, ◌∙◌, ℕ, suc, ◌<◌, ◌≤◌, ◌==◌, eqb, leb, if◌then◌else◌, Bool, true, false}
-use Rattle.std.proofs.Common.{List, [], ◌∷◌, ◌++◌, length, refl, sym, ap, subst, inl, inr, ⊎_elim, arith, true≢false}
+use Rattle.std.proofs.Common.{◌≡◌, ◌≢◌, ◌∙◌, ℕ, suc, ◌<◌, ◌≤◌, ◌==◌, eqb, leb, if◌then◌else◌, true, false}
+use Rattle.std.proofs.Common.{List, [], ◌∷◌, ◌++◌, length, refl, sym, ap, subst, ⊎_elim, arith, true≢false}
 use Rattle.std.specs.Cmp.{nat_eq_equiv}
 use Rattle.std.specs.List.{IsDistinct, list_any}
 use Rattle.std.proofs.Math.Bool.{or-false}
@@ -9,6 +9,7 @@ use Rattle.std.proofs.lemmas.List.{append-nil, length-append, length-map}
 use Rattle.std.proofs.lemmas.List.Folds.{list_any-append}
 use Rattle.std.proofs.lemmas.Map.Keys.{IsDistinct-push}
 use Rattle.std.proofs.lemmas.Map.Steps.{length-le_from_distinct_below}
+use Rattle.std.proofs.lemmas.Bool.{cases_Bool}
 use Rattle.crossbeam_queue.specs.Fifo.{Learns}
 use Rattle.dev_core.specs.declared.post.Post.{Post}
 use Rattle.hub_mail.specs.declared.view.Sent.{Sent}
@@ -18,10 +19,6 @@ use Rattle.hub_mail.specs.Posts.{of_board}
 use Rattle.hub_mail.specs.Boss.{posted_by}
 use Rattle.hub_mail.specs.Inner.Mailbox.{AreAll, Mailbox, Told, boards}
 use Rattle.hub_mail.proofs.Places.{Everywhere}
-
-is_either : (b : Bool) → (b ≡ true) ⊎ (b ≡ false)
-is_either true = inl refl
-is_either false = inr refl
 
 posted_found : (board : ℕ) (taken : List Sent) (all : List Post) →
     Everywhere (λ k s. s.posts ≡ of_board s.board all) taken → list_any (eqb board) (boards taken) ≡ true →
@@ -86,7 +83,7 @@ tells_at place count popped taken full items views h at =
       not_in_hand = λ j posts e. let f = h.in_hand j (Sender board posts) e in omega (arith, f.1, beyond);
       not_taken = λ k s e is. let f = h.taken k s e in omega (arith, f.1, beyond, is);
     } ∙ sym (posted_none board h.desk.taken absent))
-    (is_either (list_any (eqb board) (boards h.desk.taken))) in
+    (cases_Bool (list_any (eqb board) (boards h.desk.taken))) in
     let are_all : AreAll h.desk.taken all = record {
       apart = h.apart;
       boards = is_taken;

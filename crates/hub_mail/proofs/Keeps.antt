@@ -17,7 +17,7 @@ use Rattle.hub_mail.specs.declared.view.View.{View}
 use Rattle.hub_mail.specs.declared.view.View.TheVariants.{Owner, Sender, Spent}
 use Rattle.hub_mail.specs.Posts.{of_board, RiseByNumber, IsAbove}
 use Rattle.hub_mail.specs.Inner.Steps.{first, spent, one_more, next_pass, with_post, with_drawn, with_pass}
-use Rattle.hub_mail.specs.Inner.Mailbox.{Desk, Fits, FitsTaken, HasNoPass, Mailbox, boards}
+use Rattle.hub_mail.specs.Inner.Mailbox.{Desk, Fits, FitsTaken, Mailbox, boards}
 use Rattle.hub_mail.proofs.OfBoard.{of_here, of_else, rise_more}
 use Rattle.hub_mail.proofs.Places.{Everywhere, below_length, everywhere_set, everywhere_more, everywhere_one}
 

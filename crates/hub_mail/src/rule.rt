@@ -1,6 +1,6 @@
 //! The rule of the mailbox, and what each step on its queue does to the view of the seat that takes
 //! it. The types here only name these; no value of them is made.
-ghost use Rattle.std.specs.Prelude.{◌≡◌, [], ◌∷◌, ◌++◌, ℕ};
+ghost use Rattle.std.specs.Prelude.{◌≡◌, ℕ};
 
 use crate::view::View;
 use crossbeam_queue::protocol::{Join, Lesson, Outcome, Protocol, Split};

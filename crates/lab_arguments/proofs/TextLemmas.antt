@@ -1,6 +1,6 @@
 -- The texts of numbers and times.
 use Rattle.std.proofs.Common.{◌≡◌, ◌∙◌, ◌<◌, ◌≤◌, ◌^◌, ◌==◌, ◌&&◌, ℕ, Bool, true, false, not, length, [], ◌∷◌}
-use Rattle.std.proofs.Common.{ap, rules, arith, ◌+◌, ◌*◌}
+use Rattle.std.proofs.Common.{ap, arith, ◌+◌, ◌*◌}
 use Rattle.std.proofs.Common.{Option, Some, None, IfOk, Result, Ok, Err, refl, sym, nat_le, nat_lt, cond, ⊎_elim}
 use Rattle.std.specs.Prelude.{is_some, option_and_then}
 use Rattle.std.specs.Char.{is_ascii_digit}
@@ -9,20 +9,17 @@ use Rattle.std.specs.Option.{option_map}
 use Rattle.std.specs.Str.Parse.{ParsesUnsigned, digits_value}
 use Rattle.std.proofs.lemmas.Bool.{and_parts, and_right, cases_lt, cond-false, eqb-true, leb-true, lt-leb}
 use Rattle.std.proofs.lemmas.List.Sums.{take_while-cons}
-use Rattle.std.proofs.lemmas.Str.Parse.{IsNumeralModel, numerals_by_value, parse_digits}
+use Rattle.std.proofs.lemmas.Str.Parse.{parse_digits}
 use Rattle.lab_num.specs.Time.{clock_of, cut, digits, fraction_of, micros_of, sum_of, time_of, with_cut, within_limit}
 use Rattle.lab_num.specs.declared.number.Micros.{Micros}
 use Rattle.lab_num.specs.declared.time.TimeFault.{TimeFault}
 use Rattle.lab_num.specs.declared.time.TimeFault.TheVariants.{Limit}
+use Rattle.lab_num.proofs.DigitLemmas.{decimal_texts}
 use Rattle.lab_arguments.specs.declared.request.UsageCause.TheVariants.{Value}
 use Rattle.lab_arguments.specs.Grammar.{Text, is_dash}
 use Rattle.lab_arguments.specs.Requests.{has_number_form, has_time_form, is_option_text, number_of}
 
 -- ---- numbers
-
--- `list_all` tells the texts of digits
-pub own : IsNumeralModel (λ ds. list_all is_ascii_digit ds ≡ true) (digits_value 10)
-own = numerals_by_value _ (search rules)
 
 -- what the bits do not hold lies past each end that they hold
 pub too_large : {E : Type 0} (e : E) (bits : ℕ) (text : Text) (least most : ℕ) → has_number_form text ≡ true
@@ -30,7 +27,7 @@ pub too_large : {E : Type 0} (e : E) (bits : ℕ) (text : Text) (least most : �
 too_large e bits text least most form fits parsed =
     let parts = and_parts _ (list_all is_ascii_digit text) form in
     let some : 1 ≤ length text = leb-true _ _ (and_parts _ _ parts.0).0 in
-    let fails = parse_digits own bits text (Err e) parsed parts.1 in
+    let fails = parse_digits decimal_texts bits text (Err e) parsed parts.1 in
     let large : 2 ^ bits ≤ digits_value 10 text =
     ⊎_elim (λ below. absurd (fails (some, below))) (λ past. past) (cases_lt (digits_value 10 text) (2 ^ bits)) in
     let past : nat_le (digits_value 10 text) most ≡ false = lt-leb (digits_value 10 text) most (omega arith) in

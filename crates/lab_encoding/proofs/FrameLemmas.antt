@@ -1,22 +1,18 @@
 -- The places of a frame that carry nothing are 0.
 use Rattle.std.proofs.Common.{◌≡◌, ◌∙◌, ◌<◌, ◌≤◌, ◌-◌, ℕ, zero, suc, List, [], ◌∷◌, ◌++◌, length, take, drop}
-use Rattle.std.proofs.Common.{replicate, Bool, true, false, eqb, ◌&&◌, Some, refl, sym, ap, arith}
+use Rattle.std.proofs.Common.{replicate, true, false, eqb, Some, refl, sym, ap, arith}
 use Rattle.std.specs.List.{list_all}
 use Rattle.std.specs.Prelude.{◌==◌}
-use Rattle.std.proofs.lemmas.Bool.{eqb-true, le-leb, lt-ltb}
+use Rattle.std.proofs.lemmas.Bool.{eqb-true, le-leb, lt-ltb, and_parts}
 use Rattle.std.proofs.lemmas.List.{take-append-drop, length-drop, length-take}
 use Rattle.dev_core.specs.Frame.{FrameData, IsFrame, carried, data_frame, remote_frame}
 use Rattle.lab_encoding.specs.Frames.{frame_of, is_frame}
-
-and_true : (a b : Bool) → (a && b) ≡ true → (a ≡ true) × (b ≡ true)
-and_true true b e = (refl, e)
-and_true false b e = absurd cc
 
 -- bytes that are all 0
 zeros_are : (xs : List ℕ) → list_all (λ b. b == 0) xs ≡ true → xs ≡ replicate (length xs) 0
 zeros_are [] e = refl
 zeros_are (x ∷ xs) e =
-    let h = and_true (eqb x 0) (list_all (λ b. b == 0) xs) e in
+    let h = and_parts (eqb x 0) (list_all (λ b. b == 0) xs) e in
     let first : x ≡ 0 = eqb-true x 0 h.0 in
     let others = zeros_are xs h.1 in
     cc

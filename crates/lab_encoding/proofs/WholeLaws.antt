@@ -1,24 +1,20 @@
 -- What is loaded is spelled so, and what is spelled so is loaded.
-use Rattle.std.proofs.Common.{◌≡◌, ◌∙◌, ◌==◌, ℕ, List, [], ◌++◌, length, Some, None, Bool, true, false, cond}
+use Rattle.std.proofs.Common.{◌≡◌, ◌∙◌, ◌==◌, ℕ, List, [], ◌++◌, length, Some}
 use Rattle.std.proofs.Common.{refl, sym, ap, subst}
 use Rattle.std.specs.Prelude.{Result, Ok, Err, MatchResult, IfOk}
 use Rattle.std.proofs.lemmas.Bool.{eqb-true}
 use Rattle.std.proofs.lemmas.List.{append-nil, nil_from_length}
-use Rattle.std.proofs.lemmas.Option.{none-some, same_Some}
+use Rattle.std.proofs.lemmas.Option.{none-some, same_Some, cond_some}
 use Rattle.lab_encoding.specs.declared.fault.SnapFault.{SnapFault}
 use Rattle.lab_encoding.specs.declared.fault.SnapFault.TheVariants.{Bad, Memory}
 use Rattle.lab_encoding.specs.Form.{Form, IsBytes, IsLawful, Spells}
 use Rattle.lab_encoding.specs.Inner.Whole.{Gives, value_of, whole}
 use Rattle.lab_encoding.specs.Inner.Laws.{bind_some}
 
-kept : {X : Type 0} (ended : Bool) (read x : X) → cond ended (Some read) None ≡ Some x → (ended ≡ true) × (read ≡ x)
-kept true read x e = (refl, same_Some read x e)
-kept false read x e = absurd (none-some x e)
-
 whole_spelled : {X : Type 0} (f : Form X) (bytes : List ℕ) (read : X × List ℕ) (x : X) → Spells f bytes read →
     whole read ≡ Some x → f.Fits x × (bytes ≡ f.spell x)
 whole_spelled {X} f bytes read x spelled e =
-    let k = kept (length read.1 == 0) read.0 x e in
+    let k = cond_some (length read.1 == 0) read.0 x e in
     let none : read.1 ≡ [] = nil_from_length read.1 (eqb-true _ _ k.0) in
     let parts : bytes ≡ f.spell read.0 =
     spelled.0 ∙ ap (λ (l : List ℕ). f.spell read.0 ++ l) none ∙ append-nil (f.spell read.0) in

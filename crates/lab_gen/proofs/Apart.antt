@@ -1,5 +1,5 @@
 -- A generated laboratory has no board yet of the next name, nor its UART in the hub, and each of its boards has a plan.
-use Rattle.std.proofs.Common.{◌≡◌, ◌∙◌, ℕ, zero, suc, ◌+◌, ◌<◌, ◌≤◌, ◌==◌, ◌++◌, map, codes, Bool, true, false}
+use Rattle.std.proofs.Common.{◌≡◌, ◌∙◌, ℕ, zero, suc, ◌+◌, ◌<◌, ◌≤◌, ◌==◌, ◌++◌, map, codes, Bool, false}
 use Rattle.std.proofs.Common.{None, refl, arith}
 use Rattle.std.specs.Prelude.{is_none}
 use Rattle.std.specs.Fmt.{decimal}
@@ -9,6 +9,7 @@ use Rattle.std.proofs.lemmas.Bool.Decides.{nat_tests}
 use Rattle.std.proofs.lemmas.Fmt.{decimal_injective}
 use Rattle.std.proofs.lemmas.Iterator.Adapters.{position_from-zero}
 use Rattle.std.proofs.lemmas.Slice.Eq.{bytes_eq-Decides}
+use Rattle.std.proofs.lemmas.Bool.{false_from_ne_true}
 use Rattle.lab_num.specs.Key.{same_member}
 use Rattle.lab_num.specs.Route.{is_connected}
 use Rattle.lab_state.specs.Board.{Board}
@@ -21,16 +22,12 @@ use Rattle.lab_gen.specs.Inner.Steps.{IsWith}
 
 -- ---- names
 
-no_test : (b : Bool) → (b ≡ true → ⊥) → b ≡ false
-no_test true not = absurd (not refl)
-no_test false not = refl
-
 tail_same : (x y : ℕ) → codes "m" ++ decimal x ≡ codes "m" ++ decimal y → decimal x ≡ decimal y
 tail_same x y is = cc
 
 other_name : (i n : ℕ) → i < n → n < 16 → bytes_eq (codes "m" ++ decimal i) (codes "m" ++ decimal n) ≡ false
 other_name i n less few =
-    no_test _ (λ same.
+    false_from_ne_true _ (λ same.
     let is : i ≡ n =
     decimal_injective i n (omega (arith, less, few)) (omega (arith, few))
     (tail_same i n ((bytes_eq-Decides (codes "m" ++ decimal i) (codes "m" ++ decimal n)).0 same)) in

@@ -1,28 +1,27 @@
 -- A board more in a generated laboratory.
-use Rattle.std.proofs.Common.{◌≡◌, ◌∙◌, ℕ, zero, suc, ◌+◌, ◌<◌, ◌^◌, ◌%◌, List, [], ◌∷◌, ◌++◌, length, map, codes}
+use Rattle.std.proofs.Common.{◌≡◌, ◌∙◌, ℕ, ◌+◌, ◌<◌, ◌^◌, List, [], ◌∷◌, ◌++◌, length, map, codes}
 use Rattle.std.proofs.Common.{Option, Some, None, slice_get, true, refl, sym, ap, subst, arith, zero-add}
 use Rattle.std.specs.Prelude.{IsTrue, IsSome}
 use Rattle.std.proofs.Common.{false, length-append}
 use Rattle.std.specs.Fmt.{decimal}
-use Rattle.std.specs.List.{list_all, range_with_len}
+use Rattle.std.specs.List.{range_with_len}
 use Rattle.std.specs.Option.{option_map, ForSome}
 use Rattle.std.proofs.lemmas.Bool.Decides.{nat_tests}
-use Rattle.std.proofs.lemmas.Fmt.{decimal_by_steps}
-use Rattle.std.proofs.lemmas.List.Folds.{list_all-append}
 use Rattle.std.proofs.lemmas.List.FromFn.{length-map-range_with_len, map-range_with_len_more}
-use Rattle.lab_num.specs.Name.{is_name, is_name_byte}
+use Rattle.lab_num.specs.Name.{is_name}
 use Rattle.dev_core.specs.declared.kind.Kind.TheVariants.{Uart}
-use Rattle.sys_bus.specs.declared.region.Target.{Target}
-use Rattle.sys_bus.specs.declared.region.Target.TheVariants.{Ram, Clint, Plic, Dev, Nothing}
-use Rattle.board.specs.Changes.{copied, holds_each, put_byte, put_in, with_bytes, with_pc}
+use Rattle.board.specs.Changes.{holds_each, with_bytes, with_pc}
 use Rattle.board.specs.New.{new_board, new_space}
-use Rattle.board.specs.Space.{Space, target_at}
 use Rattle.board.specs.View.{View}
+use Rattle.board.proofs.CopyLemmas.{plan-copied}
 use Rattle.lab_state.specs.Board.{Board}
 use Rattle.lab_num.specs.Change.{change_at}
+use Rattle.lab_num.proofs.NameLemmas.{digits_are}
+use Rattle.lab_num.proofs.ListLemmas.{change_last}
 use Rattle.lab_state.specs.Lab.{Seen}
 use Rattle.lab_state.specs.Names.{hub_named, kind_named}
 use Rattle.lab_state.specs.One.{view_at, view_of, with_view, changed, connected, fitted, kind_at}
+use Rattle.lab_state.proofs.ChangeLemmas.{view_changed}
 use Rattle.lab_gen.specs.Firmware.{program}
 use Rattle.lab_gen.specs.Generated.{board, generated, uart_of}
 use Rattle.lab_gen.specs.Plan.{plan}
@@ -31,43 +30,17 @@ use Rattle.lab_gen.proofs.Texts.{program_length}
 
 -- ---- names
 
-digit_is : (d : ℕ) → d < 10 → is_name_byte (48 + d) ≡ true
-digit_is d small = grind (arith, nat_tests)
-
-digits_are : (n : ℕ) → n < 2 ^ 64 → list_all is_name_byte (decimal n) ≡ true
-digits_are =
-    decimal_by_steps (λ n ds. list_all is_name_byte ds ≡ true) (λ n small. rw (digit_is n small) refl)
-    (λ n ds large is. rw (list_all-append is_name_byte ds, is, digit_is (n % 10) (omega arith)) refl)
-
 -- `m` and a number
 pub board_name : (n : ℕ) → n < 2 ^ 64 → is_name (codes "m" ++ decimal n) ≡ true
 board_name n small = rw (digits_are n small) (grind (arith, nat_tests))
 
 -- ---- the last of a list
 
-changed_last :
-    {A : Type 0} (xs : List A) (x : A) (f : A → A) → change_at (xs ++ x ∷ []) (length xs) f ≡ xs ++ f x ∷ []
-changed_last [] x f = refl
-changed_last (y ∷ ys) x f = ap (λ l. y ∷ l) (changed_last ys x f)
-
-pub change_last :
-    {A : Type 0} (xs : List A) (i : ℕ) (x : A) (f : A → A) → length xs ≡ i →
-    change_at (xs ++ x ∷ []) i f ≡ xs ++ f x ∷ []
-change_last xs i x f is = rw (sym is) (changed_last xs x f)
-
 pub view_last : (xs : List Board) (x : Board) → view_at (xs ++ x ∷ []) (length xs) ≡ x.view
 view_last [] x = refl
 view_last (y ∷ ys) x = view_last ys x
 
 -- ---- one board
-
--- what stands under the name of a board that was changed
-pub view_changed :
-    (boards : List Board) (b : ℕ) (f : View → View) →
-    view_at (change_at boards b (with_view f)) b ≡ option_map f (view_at boards b)
-view_changed [] b f = refl
-view_changed (board ∷ boards) zero f = refl
-view_changed (board ∷ boards) (suc b) f = view_changed boards b f
 
 still_some : (o : Option View) (f : View → View) → IsSome o → IsSome (option_map f o)
 still_some (Some v) f is = refl
@@ -91,19 +64,6 @@ pub changed_for :
     (boards : List Board) (b : ℕ) (f : View → View) (P : View → Type 0) →
     ForSome (view_at boards b) (λ v. P (f v)) → ForSome (view_at (change_at boards b (with_view f)) b) P
 changed_for boards b f P holds = rw (view_changed boards b f) (for_map (view_at boards b) f P holds)
-
--- bytes that are copied leave the plan
-plan_put : (s : Space) (byte : ℕ) (target : Target) → (put_in s byte target).plan ≡ s.plan
-plan_put s byte (Ram part at) = refl
-plan_put s byte (Dev dev at) = refl
-plan_put s byte (Clint at) = refl
-plan_put s byte (Plic at) = refl
-plan_put s byte Nothing = refl
-
-plan_copied : (s : Space) (at : ℕ) (bytes : List ℕ) → (copied s at bytes).plan ≡ s.plan
-plan_copied s at [] = refl
-plan_copied s at (byte ∷ bytes) =
-    plan_copied (put_byte s at byte) (at + 1) bytes ∙ plan_put s byte (target_at s at 1)
 
 -- ---- a board more
 
@@ -153,7 +113,7 @@ pub fitted_last :
 fitted_last seed n s s' is so =
     rw (so, is)
     (ap (λ l. record { lab = record (generated seed n) { boards = l }; spent = false })
-    (change_last (boards_of seed n) n (bare n) (equip n) (length-map-range_with_len (board seed) 0 n)))
+    (change_last (boards_of seed n) n (bare n) (equip n) (sym (length-map-range_with_len (board seed) 0 n))))
 
 pub fitted_has : (seed n : ℕ) (s : Seen) → IsWith seed n (equip n (bare n)) s → IsSome (view_of s.lab n)
 fitted_has seed n s is = rw (is, last_view seed n (equip n (bare n))) refl
@@ -180,7 +140,7 @@ pub loaded_last :
     } →
     IsWith seed n (board seed n) s'
 loaded_last seed n s s' bytes is are so =
-    let few = length-map-range_with_len (board seed) 0 n in
+    let few = sym (length-map-range_with_len (board seed) 0 n) in
     rw (so, is, are)
     (ap (λ l. record { lab = record (generated seed n) { boards = l }; spent = false })
     (ap (λ l. change_at l n (with_view begin))
@@ -192,7 +152,7 @@ pub last_has_uart :
     (seed n : ℕ) (s : Seen) → IsWith seed n (board seed n) s → kind_at s.lab.boards (uart_of n) ≡ Some Uart
 last_has_uart seed n s is =
     rw (is, last_view seed n (board seed n))
-    (ap (λ plan. slice_get plan.kinds 0) (plan_copied (new_space plan) 0x80000000 (program seed n)))
+    (ap (λ plan. slice_get plan.kinds 0) (plan-copied (new_space plan) 0x80000000 (program seed n)))
 
 pub first_hub :
     (seed n : ℕ) (s : Seen) → IsWith seed n (board seed n) s → hub_named s.lab (codes "hub") ≡ Some 0

@@ -1,5 +1,5 @@
 //! The real store: files of the working folder.
-ghost use Rattle.std.specs.Prelude.{◌≡◌, ◌≢◌, ◌≤◌, [], None, IfOk};
+ghost use Rattle.std.specs.Prelude.{◌≡◌, ◌≤◌, [], None};
 ghost use Rattle.lab_io.specs.Known.{Rose};
 ghost use Rattle.lab_io.specs.Held.{IsReadAs, read_faults};
 ghost use Rattle.lab_io.specs.Store.{kept_after, put_faults};

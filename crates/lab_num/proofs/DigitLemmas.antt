@@ -11,8 +11,8 @@ use Rattle.std.proofs.lemmas.Str.Parse.{IsNumeralModel, numerals_by_value, digit
 use Rattle.lab_num.specs.Time.{are_digits, digits}
 
 -- `list_all` tells the texts of digits
-own : IsNumeralModel (λ ds. list_all is_ascii_digit ds ≡ true) (digits_value 10)
-own = numerals_by_value _ (search rules)
+pub decimal_texts : IsNumeralModel (λ ds. list_all is_ascii_digit ds ≡ true) (digits_value 10)
+decimal_texts = numerals_by_value _ (search rules)
 
 are_digits-from :
     (most : ℕ) (text : List ℕ) →
@@ -31,12 +31,12 @@ digits_fit most text =
     (λ yes.
     let all = and_parts _ _ yes in
     let fits = leb-true _ _ (and_parts _ _ all.0).1 in
-    digits_value_short own text most all.1 fits)
+    digits_value_short decimal_texts text most all.1 fits)
 
 -- what `parse` gives for digits, as an option
 pub digits_parse :
     {E : Type 0} (most : ℕ) (text : List ℕ) (r : Result ℕ E) → ParsesUnsigned 64 10 text r → most ≤ 19 →
     0 < length text → length text ≤ most → list_all is_ascii_digit text ≡ true → result_ok r ≡ digits most text
 digits_parse most text r parsed small some fits all =
-    let below : digits_value 10 text < 10 ^ 19 = digits_value_short own text 19 all (omega arith) in
-    rw (parse_gives own 64 text r parsed all some (omega arith), are_digits-from most text some fits all) refl
+    let below : digits_value 10 text < 10 ^ 19 = digits_value_short decimal_texts text 19 all (omega arith) in
+    rw (parse_gives decimal_texts 64 text r parsed all some (omega arith), are_digits-from most text some fits all) refl

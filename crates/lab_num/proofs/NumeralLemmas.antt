@@ -11,14 +11,14 @@ use Rattle.std.proofs.lemmas.Bool.Decides.{nat_tests}
 use Rattle.lab_num.specs.Numeral.{numeral}
 
 -- bytes that pass a test of digits are digits
-all_digits :
+pub all_digits :
     (test : ℕ → Bool) (radix : ℕ) → ((b : ℕ) → test b ≡ true → digit_value b < radix) →
     (text : List ℕ) → list_all test text ≡ true → AllDigits radix text
 all_digits test radix digit [] all = tt
 all_digits test radix digit (b ∷ bs) all =
     let both = and_parts (test b) (list_all test bs) all in (digit b both.0, all_digits test radix digit bs both.1)
 
-first_passes :
+pub first_passes :
     (test : ℕ → Bool) (text : List ℕ) → list_all test text ≡ true → 0 < length text →
     test (get_or text 0 0) ≡ true
 first_passes test [] all some = absurd (omega arith)

@@ -12,6 +12,7 @@ use Rattle.std.proofs.lemmas.List.Elements.{All-head, All-map, All-tail}
 use Rattle.std.proofs.lemmas.List.Sums.{position_or_len_is}
 use Rattle.lab_num.specs.declared.key.Member.{Member}
 use Rattle.lab_num.specs.Name.{is_name}
+use Rattle.lab_num.proofs.ListLemmas.{change_last, All-unmap}
 use Rattle.dev_core.specs.declared.post.Post.{Post}
 use Rattle.board.specs.declared.state.BoardState.{BoardState}
 use Rattle.board.specs.New.{new_board}
@@ -32,8 +33,7 @@ use Rattle.lab_snap.specs.Inner.Building.{with_memories, CanBeAdded, CanBeCreate
 use Rattle.lab_snap.specs.Inner.Parts.{FitTheirPlans}
 use Rattle.lab_snap.specs.Loaded.{loaded, loaded_boards, loaded_hub, loaded_view}
 use Rattle.lab_snap.specs.Machine.{Machine}
-use Rattle.lab_snap.proofs.LoadedParts.{board_names, hub_names, members_loaded, unmapped}
-use Rattle.lab_snap.proofs.MadeBoard.{change_last}
+use Rattle.lab_snap.proofs.LoadedParts.{board_names, hub_names, members_loaded}
 
 -- ---- names
 
@@ -210,7 +210,7 @@ can_be_added s valid =
     let named : All (λ name. IsTrue (is_name name)) (map (λ board. board.name) s.boards) =
     rw names at (All-map (λ name. IsTrue (is_name name)) (λ (board : Board). board.name) boards valid.board_names) in
     record {
-      names = unmapped (λ name. IsTrue (is_name name)) (λ (board : SavedBoard). board.name) s.boards named;
+      names = All-unmap (λ name. IsTrue (is_name name)) (λ (board : SavedBoard). board.name) s.boards named;
       differ = rw names at valid.names.boards_differ;
       few =
           omega (
@@ -225,7 +225,7 @@ can_be_added s valid =
 pub can_be_created : (s : SavedLab) → IsLab (loaded s) → CanBeCreated (made_boards 0 s.boards) s.hubs
 can_be_created s valid =
     let boards = loaded_boards 0 s.boards in
-    let each = unmapped (IsHub boards) loaded_hub s.hubs valid.hubs in
+    let each = All-unmap (IsHub boards) loaded_hub s.hubs valid.hubs in
     let names : map (λ board. board.name) boards ≡ map (λ board. board.name) (made_boards 0 s.boards) =
     board_names 0 s.boards ∙ sym (names_made 0 s.boards) in
     record {

@@ -7,6 +7,7 @@ use Rattle.std.specs.Map.{keys_of, lookup}
 use Rattle.std.specs.Option.{option_map}
 use Rattle.std.proofs.lemmas.Bool.Decides.{nat_tests}
 use Rattle.std.proofs.lemmas.List.{drop_more, map-append, take-append-drop, take_all, take_more}
+use Rattle.std.proofs.lemmas.Map.Made.{is_some-lookup}
 use Rattle.lab_num.specs.declared.key.Member.{Member}
 use Rattle.lab_num.specs.Key.{same_member}
 use Rattle.lab_num.specs.Route.{StandOnce, has_member}
@@ -16,16 +17,6 @@ use Rattle.lab_snap.proofs.DistinctLemmas.{distinct_front, twice}
 
 pub members_flip : (a b : Member) → same_member a b ≡ same_member b a
 members_flip a b = grind (arith, nat_tests)
-
--- a key that is found is there
-found_key : {K X : Type 0} (test : K → Bool) (es : List (K × X)) → is_some (lookup test es) ≡ list_any test (keys_of es)
-found_key test [] = refl
-found_key {K} {X} test (e ∷ es) = by_test (test e.0) (found_key test es)
-  where
-    by_test : (b : Bool) → is_some (lookup test es) ≡ list_any test (keys_of es) →
-        is_some (cond b (Some e.1) (lookup test es)) ≡ (b || list_any test (keys_of es))
-    by_test true others = refl
-    by_test false others = others
 
 pub keys_joined : {K X : Type 0} (es fs : List (K × X)) → keys_of (es ++ fs) ≡ keys_of es ++ keys_of fs
 keys_joined [] fs = refl
@@ -84,7 +75,7 @@ member_twice es front delay members i d within is found distinct =
     ∙ sym (append_assoc (keys_of front) (take i members) (m ∷ drop (i + 1) members)) in
     twice same_member members_flip (keys_of front ++ take i members) m (drop (i + 1) members)
     (subst (λ keys. list_any (same_member m) keys ≡ true) (added_keys es front delay (take i members) is)
-    (sym (found_key (same_member m) es) ∙ found))
+    (sym (is_some-lookup (same_member m) es) ∙ found))
     (subst (IsDistinct same_member) split distinct)
 
 -- ---- the members of all hubs

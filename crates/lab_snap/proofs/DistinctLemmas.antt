@@ -9,6 +9,7 @@ use Rattle.std.proofs.lemmas.List.Elements.{All-cons, All-head, All-tail, All-ni
 use Rattle.std.proofs.lemmas.List.Kept.{AllPairs-cons}
 use Rattle.std.specs.Cmp.Lexicographic.{nat_list_eq_equiv}
 use Rattle.lab_state.specs.Names.{AreNames}
+use Rattle.lab_num.proofs.ListLemmas.{each-append}
 
 -- ---- what holds of each item
 
@@ -19,11 +20,6 @@ in_front P (x ∷ xs) ys all = (all.0, in_front P xs ys all.1)
 pub at_back : {K : Type 0} (P : K → Type 0) (xs ys : List K) → AllByRecursion P (xs ++ ys) → AllByRecursion P ys
 at_back P [] ys all = all
 at_back P (x ∷ xs) ys all = at_back P xs ys all.1
-
-pub both_parts : {K : Type 0} (P : K → Type 0) (xs ys : List K) → AllByRecursion P xs → AllByRecursion P ys →
-    AllByRecursion P (xs ++ ys)
-both_parts P [] ys front back = back
-both_parts P (x ∷ xs) ys front back = (front.0, both_parts P xs ys front.1 back)
 
 pub by_recursion : {K : Type 0} (P : K → Type 0) (xs : List K) → All P xs → AllByRecursion P xs
 by_recursion P [] all = tt
@@ -140,7 +136,7 @@ joined (board ∷ boards) hubs first second apart =
     let own = All-head (λ board. All (λ hub. bytes_eq hub board ≡ false) hubs) board boards apart in
     let flipped : All (λ hub. bytes_eq board hub ≡ false) hubs =
     λ k d within. nat_list_eq_equiv.symm board _ ∙ own k d within in (
-      both_parts (λ name. bytes_eq board name ≡ false) boards hubs first.0
+      each-append (λ name. bytes_eq board name ≡ false) boards hubs first.0
           (by_recursion (λ hub. bytes_eq board hub ≡ false) hubs flipped),
       joined boards hubs first.1 second
           (All-tail (λ board. All (λ hub. bytes_eq hub board ≡ false) hubs) board boards apart),

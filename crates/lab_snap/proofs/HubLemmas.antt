@@ -12,9 +12,11 @@ use Rattle.std.proofs.lemmas.List.{append-nil, append_assoc, drop_more, get_or-m
 use Rattle.std.proofs.lemmas.List.{length-map, length_push, map-append, map_more, take-append-drop, take-map}
 use Rattle.std.proofs.lemmas.List.Sums.{fails_before_first, position_or_len_is}
 use Rattle.std.proofs.lemmas.Map.Keys.{IsDistinct-head, IsDistinct-tail}
+use Rattle.std.proofs.lemmas.Bool.{or_parts}
 use Rattle.lab_num.specs.declared.key.Member.{Member}
 use Rattle.lab_num.specs.Key.{same_member}
 use Rattle.lab_num.specs.Route.{is_connected, StandOnce}
+use Rattle.lab_num.proofs.ListLemmas.{change_last, get_middle, none_is}
 use Rattle.lab_state.specs.Board.{Board}
 use Rattle.lab_state.specs.Hub.{Hub, members_of}
 use Rattle.lab_state.specs.Lab.{Seen}
@@ -25,7 +27,7 @@ use Rattle.lab_snap.specs.Inner.Building.{with_hubs, CanBeCreated}
 use Rattle.lab_snap.specs.Loaded.{loaded_hub}
 use Rattle.lab_snap.proofs.BoardLemmas.{apart_before, not_found}
 use Rattle.lab_snap.proofs.LoadedParts.{hub_names, members_loaded}
-use Rattle.lab_snap.proofs.MadeBoard.{change_last}
+use Rattle.lab_snap.proofs.DistinctLemmas.{distinct_front}
 
 -- a hub with its first members
 abbrev pub half_hub : SavedHub → List Member → Hub
@@ -48,34 +50,11 @@ found_last p xs x none is =
     (λ within. ap p (get_or_push xs x x (length xs) refl) ∙ is) in
     grind (arith, nat_tests, all, long)
 
-either_false : (a b : Bool) → (a || b) ≡ false → (a ≡ false) × (b ≡ false)
-either_false true b is = absurd (cc)
-either_false false b is = (refl, is)
-
-none_is : {A : Type 0} (o : Option A) → is_some o ≡ false → o ≡ None
-none_is None is = refl
-none_is (Some x) is = absurd (cc)
-
-get_last : {A : Type 0} (xs : List A) (x : A) → slice_get (xs ++ x ∷ []) (length xs) ≡ Some x
-get_last [] x = refl
-get_last (y ∷ ys) x = get_last ys x
-
 -- ---- members that stand once
 
 in_middle : {A : Type 0} (P : A → Type 0) (front rest : List A) (x : A) → AllByRecursion P (front ++ x ∷ rest) → P x
 in_middle P [] rest x all = all.0
 in_middle P (y ∷ front) rest x all = in_middle P front rest x all.1
-
-in_front : {A : Type 0} (P : A → Type 0) (front rest : List A) → AllByRecursion P (front ++ rest) →
-    AllByRecursion P front
-in_front P [] rest all = tt
-in_front P (x ∷ front) rest all = (all.0, in_front P front rest all.1)
-
-distinct_front : (front rest : List Member) → IsDistinct same_member (front ++ rest) → IsDistinct same_member front
-unfolding IsDistinct
-distinct_front [] rest is = tt
-distinct_front (x ∷ front) rest is =
-    (in_front (λ y. same_member x y ≡ false) front rest is.0, distinct_front front rest is.1)
 
 apart_front : (front rest : List Member) (m : Member) → IsDistinct same_member (front ++ m ∷ rest) →
     list_any (λ other. same_member other m) front ≡ false
@@ -90,7 +69,7 @@ any_parts : (p : Member → Bool) (xs ys : List Member) → list_any p (xs ++ ys
     (list_any p xs ≡ false) × (list_any p ys ≡ false)
 any_parts p [] ys is = (refl, is)
 any_parts p (x ∷ xs) ys is =
-    let parts = either_false (p x) (list_any p (xs ++ ys)) is in
+    let parts = or_parts (p x) (list_any p (xs ++ ys)) is in
     let rest = any_parts p xs ys parts.1 in
     (ap (λ b. b || list_any p xs) parts.0 ∙ rest.0, rest.1)
 
@@ -130,14 +109,14 @@ once_before hubs i once =
     let split : flat hubs ≡ flat (take i hubs) ++ flat (drop i hubs) =
     ap flat (sym (take-append-drop i hubs))
     ∙ flat_map-append (λ (hub : List Member). hub) (take i hubs) (drop i hubs) in
-    distinct_front (flat (take i hubs)) (flat (drop i hubs)) (subst (IsDistinct same_member) split once)
+    distinct_front same_member (flat (take i hubs)) (flat (drop i hubs)) (subst (IsDistinct same_member) split once)
 
 -- ---- one hub, and its members one after another
 
 module _ (seen : Seen) (hub : SavedHub) (free : is_taken seen.lab hub.name ≡ false) where
   named : (members : List Member) → hub_named (with_half seen hub members).lab hub.name ≡ Some (length seen.lab.hubs)
   named members =
-      let taken = either_false (is_some (board_named seen.lab hub.name)) (is_some (hub_named seen.lab hub.name)) free in
+      let taken = or_parts (is_some (board_named seen.lab hub.name)) (is_some (hub_named seen.lab hub.name)) free in
       found_last (λ (other : Hub). bytes_eq other.name hub.name) seen.lab.hubs (half_hub hub members)
       (none_is (hub_named seen.lab hub.name) taken.1) (nat_list_eq_equiv.refl hub.name)
 
@@ -148,7 +127,7 @@ module _ (seen : Seen) (hub : SavedHub) (free : is_taken seen.lab hub.name ≡ f
       let found = named members in
       let here : option_map (λ (hub : Hub). hub.kind)
       (slice_get (seen.lab.hubs ++ half_hub hub members ∷ []) (length seen.lab.hubs)) ≡ Some hub.kind =
-      ap (option_map (λ (hub : Hub). hub.kind)) (get_last seen.lab.hubs (half_hub hub members)) in
+      ap (option_map (λ (hub : Hub). hub.kind)) (get_middle seen.lab.hubs (half_hub hub members) []) in
       rw (is, found) (here ∙ sym kind)
 
   pub one_more_member : (members : List Member) (m : Member) {now next : Seen} → now ≡ with_half seen hub members →

@@ -9,7 +9,6 @@ mod LoadedParts
 mod LoadedView
 mod MadeBoard
 mod PageLoops
-mod PlanLemmas
 mod RisingLemmas
 mod SavedLists
 mod SavedParts

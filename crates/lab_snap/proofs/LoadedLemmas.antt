@@ -1,7 +1,6 @@
 -- A laboratory that is saved and loaded is itself, and so is what is loaded and saved.
 use Rattle.std.proofs.Common.{◌≡◌, ◌∙◌, ℕ, suc, ◌+◌, List, [], ◌∷◌, map, refl, sym, ap, subst, arith}
-use Rattle.std.specs.Prelude.{Option, None, Some, IsTrue}
-use Rattle.std.specs.List.{All}
+use Rattle.std.specs.Prelude.{Option, None, Some}
 use Rattle.std.specs.Option.{option_map, ForSome}
 use Rattle.std.proofs.lemmas.List.Elements.{All-cons, All-head, All-tail}
 use Rattle.clint.specs.Clint.{Timer}
@@ -10,6 +9,7 @@ use Rattle.board.specs.BoardState.{board_state, brought_to, controller_to, timer
 use Rattle.board.specs.New.{new_controller, new_timer, size_of}
 use Rattle.board.specs.Valid.{IsBoard, IsStateFor}
 use Rattle.board.specs.View.{View}
+use Rattle.board.proofs.StateLemmas.{controller_back, timer_back}
 use Rattle.log_text.specs.declared.line.OpenLine.{OpenLine}
 use Rattle.lab_state.specs.Board.{Board}
 use Rattle.lab_state.specs.Hub.{Hub}
@@ -37,19 +37,11 @@ timer_again :
 timer_again None = refl
 timer_again (Some timer) = refl
 
-timer_back : (timer : Option Timer) → timer_to timer (option_map (λ t. t.state) timer) ≡ timer
-timer_back None = refl
-timer_back (Some timer) = refl
-
 controller_again :
     (c : Option Controller) →
     controller_to (option_map new_controller (option_map size_of c)) (option_map (λ c. c.state) c) ≡ c
 controller_again None = refl
 controller_again (Some c) = refl
-
-controller_back : (c : Option Controller) → controller_to c (option_map (λ c. c.state) c) ≡ c
-controller_back None = refl
-controller_back (Some c) = refl
 
 view_again : Same → (n : ℕ) (v : View) → IsBoard v → v.numbers.number ≡ n → loaded_view n (saved_machine v) ≡ v
 view_again same n v board is =

@@ -5,13 +5,13 @@ use Rattle.std.specs.Prelude.{Option, None, Some, find, option_and_then, slice_g
 use Rattle.std.specs.List.{All}
 use Rattle.std.specs.Option.{ForSome, option_map}
 use Rattle.std.proofs.lemmas.Bool.{leb-true, le-leb}
-use Rattle.std.proofs.lemmas.List.{get_or-map, length-map}
 use Rattle.std.proofs.lemmas.List.Elements.{All-cons, All-head, All-map, All-nil, All-tail, All-weaker}
 use Rattle.board.specs.Valid.{IsStateFor}
 use Rattle.board.specs.View.{View}
 use Rattle.lab_num.specs.declared.key.Member.{Member}
 use Rattle.lab_num.specs.Name.{is_name}
 use Rattle.lab_num.specs.Route.{has_member}
+use Rattle.lab_num.proofs.ListLemmas.{All-unmap}
 use Rattle.lab_state.specs.Hub.{delay_of, members_of}
 use Rattle.lab_state.specs.One.{kind_at, view_at}
 use Rattle.lab_state.specs.Valid as valid
@@ -153,11 +153,6 @@ hubs_loaded boards hubs all =
           (λ m own. kind_loaded boards m ∙ own) hub.members is.members;
     }) hubs all)
 
--- what holds of all images
-pub unmapped : {X Y : Type 0} (P : Y → Type 0) (f : X → Y) (xs : List X) → All P (map f xs) → All (λ x. P (f x)) xs
-unmapped P f xs all = λ k d within.
-    subst P (get_or-map f xs k d (f d) within) (all k (f d) (omega (arith, within, length-map xs f)))
-
 pub hubs_from : (boards : List SavedBoard) (hubs : List SavedHub) →
     All (valid.IsHub (loaded_boards 0 boards)) (map loaded_hub hubs) → All (IsHubIn boards) hubs
 hubs_from boards hubs all =
@@ -168,4 +163,4 @@ hubs_from boards hubs all =
           All-weaker (λ m. kind_at (loaded_boards 0 boards) m ≡ Some hub.kind)
           (IsMemberOf boards hub.kind)
           (λ m own. sym (kind_loaded boards m) ∙ own) hub.members is.members;
-    }) hubs (unmapped (valid.IsHub (loaded_boards 0 boards)) loaded_hub hubs all)
+    }) hubs (All-unmap (valid.IsHub (loaded_boards 0 boards)) loaded_hub hubs all)

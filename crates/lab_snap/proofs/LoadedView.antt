@@ -1,6 +1,5 @@
 -- A board that was made by a plan and brought to a state.
-use Rattle.std.proofs.Common.{◌≡◌, ◌∙◌, ℕ, zero, suc, Bool, false, ◌&&◌, List, [], ◌∷◌, length, map, refl, sym, ap}
-use Rattle.std.proofs.Common.{arith}
+use Rattle.std.proofs.Common.{◌≡◌, ◌∙◌, ℕ, zero, suc, Bool, false, ◌&&◌, List, [], ◌∷◌, length, refl, sym, ap}
 use Rattle.std.specs.Prelude.{Option, None, Some, option_map, slice_get, slice_index_or}
 use Rattle.std.proofs.lemmas.List.{length-map}
 use Rattle.clint.specs.declared.state.ClintState.{ClintState}
@@ -8,21 +7,16 @@ use Rattle.dev_core.specs.declared.state.DevState.{DevState}
 use Rattle.dev_core.specs.declared.state.DevState.TheVariants.{Finisher}
 use Rattle.dev_core.specs.Device.{kind_of}
 use Rattle.plic.specs.declared.state.PlicState.{PlicState}
-use Rattle.rv_hart.specs.declared.state.HartState.{HartState}
-use Rattle.rv_hart.specs.HartState.{core_of, state_of}
 use Rattle.sys_bus.specs.declared.plan.PlicSize.{PlicSize}
 use Rattle.board.specs.BoardState.{board_state, controller_to, devices_in, timer_to}
 use Rattle.board.specs.New.{new_controller, new_timer, size_of}
 use Rattle.board.specs.Valid.{IsBoard, IsClintFor, IsPlicFor, IsStateFor}
+use Rattle.board.proofs.StateLemmas.{devices_there, flags_there, states_there}
 use Rattle.lab_snap.specs.Inner.Parts.{is_uart, shown_uart}
 use Rattle.lab_snap.specs.Loaded.{loaded_view}
 use Rattle.lab_snap.specs.Machine.{IsMachine, Machine}
 
 -- ---- the state
-
-harts_loaded : (harts : List HartState) → map state_of (map core_of harts) ≡ harts
-harts_loaded [] = refl
-harts_loaded (hart ∷ harts) = ap (λ rest. hart ∷ rest) (harts_loaded harts)
 
 timer_loaded : (frequency : Option ℕ) (clint : Option ClintState) → IsClintFor frequency clint →
     option_map (λ t. t.state) (timer_to (option_map new_timer frequency) clint) ≡ clint
@@ -38,33 +32,16 @@ controller_loaded (Some size) (Some state) fits = refl
 controller_loaded None (Some state) fits = absurd fits
 controller_loaded (Some size) None fits = absurd fits
 
-devices_loaded : (states : List DevState) (shown : List Bool) → length shown ≡ length states →
-    map (λ f. f.state) (devices_in states shown) ≡ states
-devices_loaded [] shown same = refl
-devices_loaded (state ∷ states) [] same = absurd (cc)
-devices_loaded (state ∷ states) (flag ∷ shown) same =
-    let rest : length shown ≡ length states = omega (arith, same) in
-    ap (λ all. state ∷ all) (devices_loaded states shown rest)
-
-shown_loaded : (states : List DevState) (shown : List Bool) → length shown ≡ length states →
-    map (λ f. f.shown) (devices_in states shown) ≡ shown
-shown_loaded [] [] same = refl
-shown_loaded [] (flag ∷ shown) same = absurd (cc)
-shown_loaded (state ∷ states) [] same = refl
-shown_loaded (state ∷ states) (flag ∷ shown) same =
-    let rest : length shown ≡ length states = omega (arith, same) in
-    ap (λ all. flag ∷ all) (shown_loaded states shown rest)
-
 pub state_loaded : (number : ℕ) (m : Machine) → IsStateFor m.plan m.state → board_state (loaded_view number m) ≡ m.state
 state_loaded number m fits =
     let flags : length m.state.shown ≡ length m.state.devices =
     fits.flags ∙ sym (ap length fits.kinds) ∙ length-map m.state.devices kind_of in
     rw (
-      harts_loaded m.state.harts,
+      states_there m.state.harts,
       timer_loaded m.plan.frequency m.state.clint fits.clint,
       controller_loaded m.plan.plic m.state.plic fits.plic,
-      devices_loaded m.state.devices m.state.shown flags,
-      shown_loaded m.state.devices m.state.shown flags,
+      devices_there m.state.devices m.state.shown flags,
+      flags_there m.state.devices m.state.shown flags,
     ) refl
 
 -- ---- the board

@@ -7,6 +7,7 @@ use Rattle.std.proofs.lemmas.Bool.Decides.{nat_tests}
 use Rattle.std.proofs.lemmas.List.{get_or-map, length-map}
 use Rattle.std.proofs.lemmas.List.{length-replicate}
 use Rattle.lab_num.specs.Change.{change_at}
+use Rattle.lab_num.proofs.ListLemmas.{change_twice}
 use Rattle.page_ram.specs.Bytes.{zeros}
 use Rattle.board.specs.Changes.{cleared, with_memory_in}
 use Rattle.board.specs.New.{new_board}
@@ -20,16 +21,6 @@ use Rattle.lab_state.specs.One.{changed, fitted, view_at, view_of, with_view}
 use Rattle.lab_snap.specs.Inner.Building.{with_memories}
 
 -- ---- the last of a list
-
-changed_last :
-    {A : Type 0} (xs : List A) (x : A) (f : A → A) → change_at (xs ++ x ∷ []) (length xs) f ≡ xs ++ f x ∷ []
-changed_last [] x f = refl
-changed_last (y ∷ ys) x f = ap (λ l. y ∷ l) (changed_last ys x f)
-
-pub change_last :
-    {A : Type 0} (xs : List A) (i : ℕ) (x : A) (f : A → A) → i ≡ length xs →
-    change_at (xs ++ x ∷ []) i f ≡ xs ++ f x ∷ []
-change_last xs i x f is = rw is (changed_last xs x f)
 
 -- ---- a board that was made, and its memories
 
@@ -45,17 +36,11 @@ view_fitted [] b v below = absurd (omega arith)
 view_fitted (board ∷ boards) zero v below = refl
 view_fitted (board ∷ boards) (suc b) v below = view_fitted boards b v (omega arith)
 
--- and was changed then
-change_fitted : (boards : List Board) (b : ℕ) (v : View) (f : View → View) →
-    change_at (change_at boards b (λ board. record board { view = Some v })) b (with_view f)
-    ≡ change_at boards b (λ board. record board { view = Some (f v) })
-change_fitted [] b v f = refl
-change_fitted (board ∷ boards) zero v f = refl
-change_fitted (board ∷ boards) (suc b) v f = ap (λ l. board ∷ l) (change_fitted boards b v f)
-
 changed_fitted : (lab : Lab) (b : ℕ) (v : View) (f : View → View) →
     changed (fitted lab b v) b f ≡ fitted lab b (f v)
-changed_fitted lab b v f = ap (λ boards. record lab { boards = boards }) (change_fitted lab.boards b v f)
+changed_fitted lab b v f = ap (λ boards. record lab { boards = boards }) (change_twice lab.boards b
+    (λ board. record board { view = Some v }) (with_view f) (λ board. record board { view = Some (f v) })
+    (λ board. refl))
 
 -- what stands there now
 pub has_fitted : (seen : Seen) (b : ℕ) (v : View) {now : Seen} → now ≡ record seen { lab = fitted seen.lab b v } →
@@ -93,9 +78,6 @@ module _ {A : Type 0} where
 none_reserved : (harts : ℕ) → cleared (replicate harts None) ≡ replicate harts None
 none_reserved harts = ap (λ k. replicate k None) (length-replicate harts None)
 
-length_zeros : (n : ℕ) → length (zeros n) ≡ n
-length_zeros n = length-replicate n 0
-
 module _ (n : ℕ) (plan : BoardPlan) (all memories : List (List ℕ)) (memory : List ℕ)
     (sizes : map length all ≡ plan.memories) (below : length memories < length all)
     (next : memory ≡ get_or all (length memories) memory) where
@@ -117,7 +99,7 @@ module _ (n : ℕ) (plan : BoardPlan) (all memories : List (List ℕ)) (memory :
       let is : get_or blank i [] ≡ zeros (get_or plan.memories i 0) = get_or-map zeros plan.memories i 0 [] within in
       let size : get_or plan.memories i 0 ≡ length (get_or all i memory) =
       ap (λ l. get_or l i 0) (sym sizes) ∙ get_or-map (λ (m : List ℕ). length m) all i memory 0 below in
-      sym (ap length (get_next memories blank [] ∙ is) ∙ length_zeros (get_or plan.memories i 0) ∙ size
+      sym (ap length (get_next memories blank [] ∙ is) ∙ length-replicate (get_or plan.memories i 0) 0 ∙ size
       ∙ ap length (sym next))
 
   pub next_made : with_memory_in (half_made n plan memories) (length memories) memory

@@ -1,24 +1,17 @@
 -- Posts rise where each is before the next.
-use Rattle.std.proofs.Common.{◌≡◌, ◌∙◌, ℕ, zero, suc, ◌+◌, ◌-◌, ◌≤◌, ◌<◌, Bool, true, false, ◌&&◌, List, [], ◌∷◌}
+use Rattle.std.proofs.Common.{◌≡◌, ◌∙◌, ℕ, zero, suc, ◌+◌, ◌-◌, ◌≤◌, ◌<◌, true, ◌&&◌, List, [], ◌∷◌}
 use Rattle.std.proofs.Common.{length, get_or, drop, refl, sym, ap, subst, arith}
 use Rattle.std.proofs.lemmas.List.{drop_more, get_or_default}
 use Rattle.std.specs.List.{list_all}
-use Rattle.std.proofs.lemmas.Bool.{false≢true}
 use Rattle.std.proofs.lemmas.Bool.Decides.{nat_tests}
 use Rattle.lab_num.specs.declared.key.Key.{Key}
+use Rattle.lab_num.proofs.ListLemmas.{implied}
 use Rattle.dev_core.specs.declared.post.Post.{Post}
 use Rattle.lab_snap.specs.Rising.{is_before, rise}
 use Rattle.lab_snap.specs.Inner.PageTests.{all_weaker}
 
 before_trans : (a b c : Key) → is_before a b ≡ true → is_before b c ≡ true → is_before a c ≡ true
 before_trans a b c first second = grind (arith, nat_tests)
-
--- a test that follows from two others is no more
-implied : (p q r s : Bool) → (p ≡ true → r ≡ true → q ≡ true) → ((p && q) && (r && s)) ≡ (p && (r && s))
-implied false q r s follows = refl
-implied true true r s follows = refl
-implied true false true s follows = absurd (false≢true (follows refl refl))
-implied true false false s follows = refl
 
 -- it is enough to compare each post with the next
 rise_two : (a b : Post) (posts : List Post) → rise (a ∷ b ∷ posts) ≡ (is_before a.key b.key && rise (b ∷ posts))

@@ -1,5 +1,5 @@
 //! Whether what a snapshot holds is a laboratory that can go on.
-ghost use Rattle.std.specs.Prelude.{◌≡◌, ◌↔◌, IfOk, IsTrue};
+ghost use Rattle.std.specs.Prelude.{◌↔◌, IfOk, IsTrue};
 ghost use Rattle.lab_state.specs.Valid.{IsValid};
 ghost use Rattle.lab_snap.specs.Loaded.{loaded};
 ghost use Rattle.lab_snap.specs.Inner.Parts.{AreTimes, FitTheirPlans};

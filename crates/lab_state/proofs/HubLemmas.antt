@@ -17,6 +17,7 @@ use Rattle.std.specs.Option.{option_map, option_map_or}
 use Rattle.lab_num.specs.declared.key.Member.{Member}
 use Rattle.lab_num.specs.Route.{has_member, hub_of}
 use Rattle.lab_num.specs.Change.{change_at}
+use Rattle.lab_num.proofs.ListLemmas.{none_is}
 use Rattle.uart_hub.specs.Hub as uart_hub
 use Rattle.lab_state.specs.Hub.{Hub, delay_of}
 use Rattle.lab_state.specs.One.{with_member}
@@ -126,14 +127,10 @@ named-at name names hubs are =
     ∙ position-map (λ (head : Head). head.0) (λ k. bytes_eq k name) names ∙ ap (position named) (sym are)
     ∙ position-map head_of named hubs
 
-none_of : {A : Type 0} (o : Option A) → is_some o ≡ false → o ≡ None
-none_of None is = refl
-none_of (Some x) is = absurd cc
-
 -- a name that stands nowhere among the names has no kind there
 pub none-named :
     {S : Type 0} (names : IndexMap (List ℕ) Kind S) (name : List ℕ) →
     position (bytes_eq name) (keys_of names.entries) ≡ None → get (pointwise nat_eq) names name ≡ None
 none-named names name nowhere =
-    none_of (get (pointwise nat_eq) names name)
+    none_is (get (pointwise nat_eq) names name)
     (sym (some_index (pointwise nat_eq name) names.entries) ∙ ap is_some nowhere)

@@ -8,7 +8,7 @@ use Rattle.std.specs.Ordering.{nat_cmp, is_eq, eq_by_cmp}
 use Rattle.lab_num.specs.declared.key.Key.{Key}
 use Rattle.lab_num.specs.Key.{key_cmp}
 use Rattle.lab_num.specs.Numbered.{AreNumbered}
-use Rattle.lab_state.proofs.ListLemmas.{each-weaker}
+use Rattle.lab_num.proofs.ListLemmas.{each-weaker}
 
 -- a key of this board with at least this number, or of a later board
 abbrev From : ℕ → ℕ → Key → Type 0

@@ -3,13 +3,12 @@ use Rattle.std.proofs.Common.{◌≡◌, ◌∙◌, sym, ap, refl, Bool, true, f
 use Rattle.std.proofs.Common.{[], ◌∷◌, ◌++◌, length, map, set, get_or, take, drop, slice_get, Option, Some, None}
 use Rattle.std.proofs.Common.{subst, arith}
 use Rattle.std.specs.Prelude.{is_some, IsSome}
-use Rattle.std.specs.List.{flat_map, All, AllByRecursion, position, position_or_len}
+use Rattle.std.specs.List.{flat_map, All, position, position_or_len}
 use Rattle.std.specs.Option.{option_map, option_map_or, ForSome}
 use Rattle.std.specs.Ordering.{is_lt}
 use Rattle.std.specs.Str.{bytes_eq}
 use Rattle.std.proofs.lemmas.Bool.Decides.{nat_tests}
 use Rattle.std.proofs.lemmas.Grind.{common_steps}
-use Rattle.std.proofs.lemmas.Simd.{map-map}
 use Rattle.std.proofs.lemmas.List.{take_more, take_all, length-map, flat_map_more}
 use Rattle.std.proofs.lemmas.List.Elements.{All-nil, All-map, All-append, All-push, All-cons, All-head, All-tail}
 use Rattle.std.proofs.lemmas.List.Quantifiers.{all_pairs_push}
@@ -27,39 +26,7 @@ use Rattle.lab_state.specs.One.{view_at}
 use Rattle.lab_state.specs.Names.{NamesDiffer, AreNames}
 use Rattle.lab_state.specs.Inner.Time.{numbers_of}
 
--- ---- a change of one place
-
--- a write of what a change makes of the item that was read
-pub set-change :
-    {A : Type 0} (F : A → A) (xs : List A) (i : ℕ) {old new : A} → old ≡ get_or xs i old → new ≡ F old →
-    set xs i new ≡ change_at xs i F
-set-change F [] i is made = refl
-set-change F (x ∷ xs) zero is made = ap (λ y. y ∷ xs) (made ∙ ap F is)
-set-change F (x ∷ xs) (suc i) is made = ap (λ ys. x ∷ ys) (set-change F xs i is made)
-
-pub length-change : {A : Type 0} (F : A → A) (xs : List A) (i : ℕ) → length (change_at xs i F) ≡ length xs
-length-change F [] i = refl
-length-change F (x ∷ xs) zero = refl
-length-change F (x ∷ xs) (suc i) = ap suc (length-change F xs i)
-
--- a change, and a map, of what a map does not look at
-pub map-change :
-    {A B : Type 0} (g : A → B) (F : A → A) → ((x : A) → g (F x) ≡ g x) → (xs : List A) (i : ℕ) →
-    map g (change_at xs i F) ≡ map g xs
-map-change g F same [] i = refl
-map-change g F same (x ∷ xs) zero = ap (λ y. y ∷ map g xs) (same x)
-map-change g F same (x ∷ xs) (suc i) = ap (λ ys. g x ∷ ys) (map-change g F same xs i)
-
-pub map-map_same :
-    {A B : Type 0} (g : A → B) (F : A → A) → ((x : A) → g (F x) ≡ g x) → (xs : List A) → map g (map F xs) ≡ map g xs
-map-map_same g F same xs = map-map g F xs ∙ (λ i. map (λ x. same x i) xs)
-
 -- ---- items
-
-pub each-weaker :
-    {A : Type 0} (P Q : A → Type 0) → ((x : A) → P x → Q x) → (xs : List A) → AllByRecursion P xs → AllByRecursion Q xs
-each-weaker P Q step [] all = tt
-each-weaker P Q step (x ∷ xs) all = (step x all.0, each-weaker P Q step xs all.1)
 
 -- what holds of each item, where one is changed
 pub All-change :
@@ -71,22 +38,8 @@ All-change P F (x ∷ xs) zero keeps all =
 All-change P F (x ∷ xs) (suc i) keeps all =
     All-cons P x (change_at xs i F) (All-head P x xs all) (All-change P F xs i keeps (All-tail P x xs all))
 
--- what holds of the first items, and of one more
-pub All-one_more :
-    {A : Type 0} (P : A → Type 0) (xs : List A) (i : ℕ) (d : A) → i < length xs → All P (take i xs) →
-    P (get_or xs i d) → All P (take (i + 1) xs)
-All-one_more P xs i d below so_far here =
-    rw (take_more xs i d below) (All-push P (take i xs) (get_or xs i d) so_far here)
-
 pub All-whole : {A : Type 0} (P : A → Type 0) (xs : List A) (i : ℕ) → length xs ≤ i → All P (take i xs) → All P xs
 All-whole P xs i past all = subst (All P) (take_all i xs past) all
-
--- what holds of each item of a map
-pub All-unmap :
-    {A B : Type 0} (P : B → Type 0) (f : A → B) (xs : List A) → All P (map f xs) → All (λ x. P (f x)) xs
-All-unmap P f [] all = All-nil (λ x. P (f x))
-All-unmap P f (x ∷ xs) all =
-    All-cons (λ x. P (f x)) x xs (All-head P (f x) (map f xs) all) (All-unmap P f xs (All-tail P (f x) (map f xs) all))
 
 -- what holds of each item holds of each that is listed
 module _ {T : Type 0} (key : T → Key) (P : T → Type 0) where

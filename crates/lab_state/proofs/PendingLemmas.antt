@@ -19,6 +19,7 @@ use Rattle.lab_num.specs.Change.{change_at}
 use Rattle.lab_num.specs.Key.{key_cmp, same_member, KeysDiffer}
 use Rattle.lab_num.specs.Listing.{IsListing, insert_by_key, listing}
 use Rattle.lab_num.specs.Route.{has_member, is_connected}
+use Rattle.lab_num.proofs.KeyLemmas.{member_is}
 use Rattle.dev_core.specs.declared.post.Post.{Post}
 use Rattle.dev_core.specs.Post.{post_key}
 use Rattle.lab_state.specs.Boundary.{waiting, not_due}
@@ -90,13 +91,6 @@ delay-none (h ∷ hs) m out = by_test (has_member h.members m) out (delay-none h
     by_test true out rest = absurd (cc)
     by_test false out rest = rest out
 
--- members that are the same
-pub same_is : (m other : Member) → same_member m other ≡ true → m ≡ other
-same_is m other is =
-    let board : m.board.0 ≡ other.board.0 = grind (arith, nat_tests) in
-    let dev : m.dev ≡ other.dev = grind (arith, nat_tests) in
-    λ i. record { board = record { 0 = board i }; dev = dev i }
-
 -- and is another than one that has one
 unlike :
     (hubs : List Hub) (m other : Member) → is_connected (members_of hubs) m ≡ false → IsSome (delay_of hubs other) →
@@ -107,7 +101,7 @@ unlike hubs m other out some = by_test (same_member m other) refl
     by_test false is = is
     by_test true is =
         let none : delay_of hubs other ≡ None =
-        subst (λ (m : Member). delay_of hubs m ≡ None) (same_is m other is) (delay-none hubs m out) in
+        subst (λ (m : Member). delay_of hubs m ≡ None) (member_is m other is) (delay-none hubs m out) in
         let wrong : false ≡ true = sym (ap is_some none) ∙ some in
         absurd (cc)
 

@@ -13,6 +13,7 @@ use Rattle.lab_num.specs.declared.key.Member.{Member}
 use Rattle.lab_num.specs.declared.number.BoardNo.{BoardNo}
 use Rattle.lab_num.specs.Key.{same_member}
 use Rattle.lab_num.specs.Route.{has_member}
+use Rattle.lab_num.proofs.KeyLemmas.{member_is}
 use Rattle.dev_core.specs.Kind.{row_of}
 use Rattle.dev_core.specs.declared.kind.Kind.{Kind}
 use Rattle.dev_core.specs.declared.kind.Kind.TheVariants.{Uart, Can, Finisher}
@@ -41,7 +42,6 @@ use Rattle.lab_state.specs.Inner.Time.{number_of, numbers_of, speed_of, IsStandi
 use Rattle.lab_state.proofs.ChangeLemmas.{outline-view}
 use Rattle.lab_state.proofs.LendLemmas.{next_by, by_more}
 use Rattle.lab_state.proofs.ListLemmas.{numbers_at, numbered_at}
-use Rattle.lab_state.proofs.PendingLemmas.{same_is}
 use Rattle.lab_state.proofs.SoundLemmas.{kind-outlines}
 
 -- ---- the boards in their states
@@ -163,7 +163,7 @@ member_kind boards kind (x ∷ xs) m all is =
         (b : Bool) → same_member x m ≡ b → (b || has_member xs m) ≡ true →
         (has_member xs m ≡ true → kind_at boards m ≡ Some kind) → kind_at boards m ≡ Some kind
     by_test true same is rest =
-        subst (λ (m : Member). kind_at boards m ≡ Some kind) (same_is x m same)
+        subst (λ (m : Member). kind_at boards m ≡ Some kind) (member_is x m same)
         (All-head (λ m. kind_at boards m ≡ Some kind) x xs all)
     by_test false same is rest = rest is
 

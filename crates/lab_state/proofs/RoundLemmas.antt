@@ -23,6 +23,7 @@ use Rattle.lab_num.specs.Paid.{paid, slot_at}
 use Rattle.std.proofs.lemmas.Nat.{div_below}
 use Rattle.lab_state.proofs.PendingLemmas.{AreOfRound}
 use Rattle.lab_num.specs.Route.{route, hub_of, has_member, others}
+use Rattle.lab_num.proofs.ListLemmas.{map-change, map-map_same}
 use Rattle.dev_core.specs.declared.payload.Payload.{Payload}
 use Rattle.dev_core.specs.declared.post.Post.{Post}
 use Rattle.dev_core.specs.Post.{post_key, entry_key}
@@ -41,7 +42,7 @@ use Rattle.lab_state.specs.Inner.End.{Played, in_round, played}
 use Rattle.lab_state.specs.Inner.Standing.{Outline, outline, outlines}
 use Rattle.lab_state.specs.Inner.Standing.{kind_of_outline, kind_in, IsDevice, AreMembers, AreDevices}
 use Rattle.lab_state.specs.Inner.Time.{number_of, numbers_of, speed_of, IsStanding, StandsAt, AreStanding}
-use Rattle.lab_state.proofs.ListLemmas.{map-change, map-map_same, not_yet, position-map}
+use Rattle.lab_state.proofs.ListLemmas.{not_yet, position-map}
 use Rattle.lab_state.proofs.KeyLemmas.{Ascend, none_ascend, after_board}
 use Rattle.lab_state.proofs.TimeLemmas.{few_slots}
 use Rattle.lab_state.proofs.ChangeLemmas.{same_part, outline-view}

@@ -10,7 +10,7 @@ use Rattle.std.proofs.lemmas.List.Folds.{sum_by-replicate}
 use Rattle.std.proofs.lemmas.List.Sums.{fold-append, sum_by-append, sum_by-cons}
 use Rattle.std.proofs.lemmas.Nat.{div-add-mod'}
 use Rattle.std.proofs.Math.Nat.{mul-add-mod_self_left, mul-add-div, div-add-mod, div-eq_of_lt, mod-eq_of_lt}
-use Rattle.std.proofs.Math.Nat.{add-div_left, add-mod_left}
+use Rattle.std.proofs.Math.Nat.{add-div_left, add-mod_left, zero-div, zero-mod}
 use Rattle.std.specs.List.Sorted.{IsPermutation}
 use Rattle.std.proofs.lemmas.List.Sorted.{IsPermutation-sym, IsPermutation-trans}
 use Rattle.lab_num.specs.declared.key.Key.{Key}
@@ -50,7 +50,7 @@ on_followed false a b more =
     ap (λ items. record { lab = more.lab; items = items; paused = more.paused })
     (append_assoc a.items b.items more.items)
 
-fold-followed :
+pub fold-followed :
     (a b : Rounded) (qs : List ℕ) →
     fold (go_on round) (followed_by a b) qs ≡ followed_by a (fold (go_on round) b qs)
 fold-followed a b [] = refl
@@ -112,12 +112,12 @@ none_left q some =
     let rest : 0 % q ≡ 0 = omega (arith, div-add-mod 0 q) in
     rw (whole, rest) refl
 
-pub run-none : (lab : Lab) → 0 < lab.quantum → run lab 0 ≡ still lab
+pub run_none : (lab : Lab) → run lab 0 ≡ still lab
 unfolding run_by
-run-none lab some = ap (fold (go_on round) (still lab)) (none_left lab.quantum some)
+run_none lab = rw (zero-div lab.quantum, zero-mod lab.quantum) refl
 
 -- the first round of a run
-first_length :
+pub first_length :
     (q d : ℕ) {n : ℕ} → 0 < q → 0 < d → n ≡ min d q → lengths q d ≡ n ∷ lengths q (d - n)
 first_length q d {n = n} some more least = elim (cases_lt d q) [
   | inl short ↦

@@ -12,6 +12,7 @@ use Rattle.lab_num.specs.declared.key.Key.{Key}
 use Rattle.lab_num.specs.Listing.{listing}
 use Rattle.lab_num.specs.Numbered.{AreNumbered}
 use Rattle.lab_num.specs.Paid.{paid}
+use Rattle.lab_num.proofs.ListLemmas.{All-unmap}
 use Rattle.dev_core.specs.declared.post.Post.{Post}
 use Rattle.dev_core.specs.declared.state.DevState.TheVariants.{Finisher}
 use Rattle.dev_core.specs.Device.{kind_of}
@@ -31,7 +32,7 @@ use Rattle.lab_state.specs.Round.{stepped, posts_made}
 use Rattle.lab_state.specs.Inner.End.{in_round}
 use Rattle.lab_state.specs.Inner.Standing.{outlines, kind_in, HasDevices, IsFromBoard}
 use Rattle.lab_state.specs.Inner.Time.{numbers_of, IsStanding, AreStanding}
-use Rattle.lab_state.proofs.ListLemmas.{All-unmap, All-listing, each_view, each_made, numbers_at, numbered_at}
+use Rattle.lab_state.proofs.ListLemmas.{All-listing, each_view, each_made, numbers_at, numbered_at}
 use Rattle.lab_state.proofs.RoundLemmas.{Numbering, numbered}
 use Rattle.lab_state.proofs.SenderLemmas.{KeepCounts, from_later}
 use Rattle.lab_state.proofs.SoundLemmas.{kind-outlines}

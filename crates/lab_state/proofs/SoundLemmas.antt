@@ -27,6 +27,7 @@ use Rattle.lab_state.specs.Board.{Board}
 use Rattle.lab_num.specs.Change.{change_at}
 use Rattle.lab_num.specs.Name.{is_name}
 use Rattle.lab_num.specs.Route.{is_connected}
+use Rattle.lab_num.proofs.ListLemmas.{none_is, set-change, map-change}
 use Rattle.lab_state.specs.Hub.{Hub, members_of}
 use Rattle.lab_state.specs.Lab.{Lab, Seen}
 use Rattle.lab_state.specs.Names.{is_taken}
@@ -37,7 +38,7 @@ use Rattle.lab_state.specs.Inner.Spares.{Spares, full, HasFor, AreTaken}
 use Rattle.lab_state.specs.Inner.Standing.{Outline, outline, outlines, kind_of_outline, kind_in, AreMembers, AreDevices}
 use Rattle.lab_state.specs.Inner.Standing.{count_of_plans, IsFormed, IsSound}
 use Rattle.lab_state.specs.Inner.Time.{number_of, numbers_of}
-use Rattle.lab_state.proofs.ListLemmas.{set-change, map-change, All-change, each-set, each-push}
+use Rattle.lab_state.proofs.ListLemmas.{All-change, each-set, each-push}
 use Rattle.lab_state.proofs.ListLemmas.{none_has, board_more, hub_more, planned_below}
 use Rattle.lab_state.proofs.ChangeLemmas.{same_part, outline-view, Leaves}
 use Rattle.lab_state.proofs.PendingLemmas.{none_pending, pending-hub, pending-member}
@@ -324,10 +325,7 @@ small plan valid = record {
 pub bare :
     {lab now : Lab} {planned : Bool} (i : ℕ) → lab ≡ now → planned ≡ is_some (view_of now i) → planned ≡ false →
     view_at lab.boards i ≡ None
-bare {lab = lab} i same asked unplanned = none_of (view_at lab.boards i) (rw same (sym asked ∙ unplanned))
-  where
-    none_of : (o : Option View) → is_some o ≡ false → o ≡ None
-    none_of o is = grind (arith, common_steps)
+bare {lab = lab} i same asked unplanned = none_is (view_at lab.boards i) (rw same (sym asked ∙ unplanned))
 
 bare_at :
     (boards : List Board) (i : ℕ) → view_at boards i ≡ None →

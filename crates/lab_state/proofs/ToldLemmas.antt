@@ -15,6 +15,7 @@ use Rattle.lab_num.specs.declared.number.Micros.{Micros}
 use Rattle.lab_num.specs.Listing.{listing}
 use Rattle.lab_num.specs.Paid.{paid}
 use Rattle.lab_num.specs.Route.{route}
+use Rattle.lab_num.proofs.ListLemmas.{All-unmap, map-map_same}
 use Rattle.dev_core.specs.declared.kind.Kind.TheVariants.{Uart}
 use Rattle.dev_core.specs.declared.payload.Finish.{Finish}
 use Rattle.dev_core.specs.declared.payload.Payload.{Payload}
@@ -50,7 +51,7 @@ use Rattle.lab_state.specs.Run.{lengths, followed_by, go_on, still, run_by, run}
 use Rattle.lab_state.specs.Valid.{is_shown_uart, is_shown_before, IsOpen}
 use Rattle.lab_state.specs.Inner.End.{in_round}
 use Rattle.lab_state.specs.Inner.Time.{numbers_of, AreStanding}
-use Rattle.lab_state.proofs.ListLemmas.{map-map_same, All-unmap, All-listing, each_made, numbers_at}
+use Rattle.lab_state.proofs.ListLemmas.{All-listing, each_made, numbers_at}
 use Rattle.lab_state.proofs.RoundLemmas.{Numbering, numbered, standing, map-routes, numbers-routes, slot_within}
 use Rattle.lab_state.proofs.RunLemmas.{sum-lengths}
 use Rattle.lab_state.proofs.SentLemmas.{IsBelow, keys_below}

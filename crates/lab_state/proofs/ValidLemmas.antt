@@ -8,6 +8,7 @@ use Rattle.std.proofs.lemmas.Option.{same_Some}
 use Rattle.std.proofs.lemmas.Simd.{map-map}
 use Rattle.lab_num.specs.Name.{is_name}
 use Rattle.lab_num.specs.Route.{StandOnce}
+use Rattle.lab_num.proofs.ListLemmas.{All-unmap}
 use Rattle.dev_core.specs.declared.kind.Kind.{Kind}
 use Rattle.dev_core.specs.declared.post.Post.{Post}
 use Rattle.board.specs.Numbers.{Numbers}
@@ -25,7 +26,7 @@ use Rattle.lab_state.specs.Valid.{IsLab, IsWaiting}
 use Rattle.lab_state.specs.Inner.Spares.{Spares}
 use Rattle.lab_state.specs.Inner.Standing.{outline, outlines, IsFromBoard, IsSound}
 use Rattle.lab_state.specs.Inner.Time.{numbers_of}
-use Rattle.lab_state.proofs.ListLemmas.{All-unmap, each_view, numbers_at}
+use Rattle.lab_state.proofs.ListLemmas.{each_view, numbers_at}
 use Rattle.lab_state.proofs.SoundLemmas.{kind-outlines}
 
 -- a post that waits rightly and has been sent by a board

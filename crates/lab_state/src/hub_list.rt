@@ -1,6 +1,6 @@
 //! The hubs of a laboratory.
 ghost use Rattle.std.specs.Prelude.{◌≡◌, ◌+◌, ◌^◌, ◌<◌, ◌↔◌, ◌++◌, ◌∷◌, [], length, position, slice_get, Some, IsTrue};
-ghost use Rattle.std.specs.Prelude.{None, nat_eq, OnOk, OnErr, IfOk, IfSome};
+ghost use Rattle.std.specs.Prelude.{None, nat_eq, OnOk, OnErr, IfSome};
 ghost use Rattle.std.specs.Cmp.Lexicographic.{pointwise};
 ghost use Rattle.std.specs.Option.{option_map, option_map_or};
 ghost use Rattle.std.specs.Str.{bytes_eq};

@@ -30,13 +30,13 @@ names_read-later : (n : ℕ) (reads : List Read) → names_read (map (read_later
 names_read-later n [] = refl
 names_read-later n (read ∷ reads) = ap (λ rest. read.name ∷ rest) (names_read-later n reads)
 
-names_read-after :
+pub names_read-after :
     (names : List (List ℕ)) (n : ℕ) (reads : List Read) →
     names_read (map read_now names ++ map (read_later n) reads) ≡ names ++ names_read reads
 names_read-after names n reads = rw (map-append, names_read-now, names_read-later) refl
 
 -- and so do the calls on the store
-calls-later : (n : ℕ) (uses : List Use) → calls (map (use_later n) uses) ≡ calls uses
+pub calls-later : (n : ℕ) (uses : List Use) → calls (map (use_later n) uses) ≡ calls uses
 calls-later n [] = refl
 calls-later n (made ∷ uses) = ap (λ rest. made.call ∷ rest) (calls-later n uses)
 

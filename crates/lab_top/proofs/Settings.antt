@@ -2,11 +2,10 @@
 use Rattle.std.proofs.Common.{◌≡◌, ◌∙◌, ℕ, ◌+◌, ◌^◌, nat_le, List, [], Bool, true, false}
 use Rattle.std.proofs.Common.{None, Result, Ok, refl, sym, ap}
 use Rattle.std.specs.Prelude.{is_none}
-use Rattle.std.proofs.Math.Nat.{zero-div, zero-mod}
 use Rattle.lab_io.specs.Held.{Held}
-use Rattle.lab_state.specs.Lab.{Lab}
 use Rattle.lab_state.specs.One.{first_without}
-use Rattle.lab_state.specs.Run.{Play, run, run_by, still}
+use Rattle.lab_state.specs.Run.{Play, run}
+use Rattle.lab_state.proofs.RunLemmas.{run_none}
 use Rattle.monitor.specs.declared.setting.Setting.{Setting}
 use Rattle.resc_vars.specs.declared.cause.ScriptCause.{ScriptCause}
 use Rattle.resc_vars.specs.declared.cause.ScriptCause.TheVariants.{LabTime, Platform}
@@ -29,13 +28,8 @@ begun_workers play held kept script setting workers Missing = refl
 begun_workers play held kept script setting workers (Faulty fault) = refl
 begun_workers play held kept script setting workers (Readable text) = refl
 
--- a run of length 0 has no round
-run_none : (lab : Lab) → run lab 0 ≡ still lab
-unfolding run_by
-run_none lab = rw (zero-div lab.quantum, zero-mod lab.quantum) refl
-
 -- what two tests let pass
-passed : {A : Type 0} (a b : Bool) (x y : A) →
+pub passed : {A : Type 0} (a b : Bool) (x y : A) →
     (do
       one ← require a Platform
       two ← require b LabTime

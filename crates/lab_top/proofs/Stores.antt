@@ -1,6 +1,6 @@
 -- What became of a command for the store, in the transcript and in the course.
-use Rattle.std.proofs.Common.{◌≡◌, ◌<◌, ◌≤◌, ◌∙◌, ℕ, Bool, true, false, nat_lt, List, [], ◌∷◌, length}
-use Rattle.std.proofs.Common.{◌==◌, ◌||◌, not, cond, true≢false, Option, None, Some, Result, Ok, Err}
+use Rattle.std.proofs.Common.{◌≡◌, ◌<◌, ◌≤◌, ◌∙◌, ℕ, true, false, List, [], ◌∷◌, length}
+use Rattle.std.proofs.Common.{◌==◌, not, cond, true≢false, Option, None, Some, Result, Ok, Err}
 use Rattle.std.proofs.Common.{refl, sym, ap, arith}
 use Rattle.std.specs.FinMap.{get, insert, get-insert}
 use Rattle.std.specs.Cmp.{eq_by_cmp_equiv}
@@ -9,6 +9,7 @@ use Rattle.std.specs.List.{All}
 use Rattle.std.specs.Prelude.{IsSomeAnd}
 use Rattle.std.proofs.lemmas.Bool.Decides.{nat_tests}
 use Rattle.std.proofs.lemmas.List.Elements.{All-head}
+use Rattle.std.proofs.lemmas.Bool.{or_parts, le-ltb, lt-ltb}
 use Rattle.lab_io.specs.Held.{Held}
 use Rattle.lab_io.specs.Known.{grown}
 use Rattle.lab_io.specs.Store.{StoreUse, get_of, put_of}
@@ -33,27 +34,17 @@ use Rattle.lab_top.proofs.Courses.{course_none, course_unstored, course_using}
 
 -- ---- the tests
 
-not_below : (n k : ℕ) → n ≤ k → nat_lt k n ≡ false
-not_below n k within = grind (arith, nat_tests)
-
-below : (n k : ℕ) → k < n → nat_lt k n ≡ true
-below n k beyond = grind (arith, nat_tests)
-
 small : (bytes : List ℕ) → length bytes ≤ 67108864 → is_large bytes ≡ false
-small bytes within = not_below (length bytes) 67108864 within
+small bytes within = le-ltb 67108864 (length bytes) within
 
 large : (bytes : List ℕ) → 67108864 < length bytes → is_large bytes ≡ true
-large bytes beyond = below (length bytes) 67108864 beyond
+large bytes beyond = lt-ltb 67108864 (length bytes) beyond
 
 -- a name keeps what was put under it
 kept_now : (kept : Held) (name bytes : List ℕ) → get (insert kept name bytes) name ≡ Some bytes
 kept_now kept name bytes =
     get-insert nat_list_cmp_total kept name bytes name
     ∙ ap (λ same. cond same (Some bytes) (get kept name)) ((eq_by_cmp_equiv nat_list_cmp_total).refl name)
-
-neither : (a b : Bool) → (a || b) ≡ false → (a ≡ false) × (b ≡ false)
-neither true b is = absurd (true≢false is)
-neither false b is = (refl, is)
 
 none_there : {A : Type 0} (xs : List A) → not (length xs == 0) ≡ false → xs ≡ []
 none_there [] is = refl
@@ -67,8 +58,8 @@ pub record IsNew (lab : Lab) : Type 0 where
 
 pub is_new : (lab : Lab) → is_occupied lab ≡ false → IsNew lab
 is_new lab free =
-    let made = neither _ _ free in
-    let first = neither _ _ made.0 in
+    let made = or_parts _ _ free in
+    let first = or_parts _ _ made.0 in
     record {
       boards = none_there lab.boards first.0;
       hubs = none_there lab.hubs first.1;

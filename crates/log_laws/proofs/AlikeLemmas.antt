@@ -20,22 +20,14 @@ use Rattle.lab_top.specs.Content.{Content, Missing, Faulty, Readable, content_of
 use Rattle.lab_top.specs.Headline.{names_read}
 use Rattle.lab_top.specs.Request.{Request, Refused, Run, Gen, request_of}
 use Rattle.lab_top.specs.Transcript.{Absent, Done, Script}
-use Rattle.lab_top.specs.Transcript.{Transcript, Read, Use, Further, read_now, read_later, use_later, after, ended}
+use Rattle.lab_top.specs.Transcript.{Transcript, Use, Further, read_now, read_later, use_later, after, ended}
 use Rattle.lab_top.specs.Transcript.{using}
 use Rattle.lab_top.specs.Transcript.{onward, from, saving, loading, loading_kept, resuming, refused, is_large}
 use Rattle.lab_top.specs.Transcript.{is_occupied, begun, run_of, answered, transcript_by}
+use Rattle.lab_top.proofs.Courses.{names_read-after}
 use Rattle.log_laws.specs.Agreement.{IsAlike, names_used}
 use Rattle.log_laws.proofs.AgreementLemmas.{Same, same_front, same_behind, same_after}
 use Rattle.log_laws.proofs.CommandLemmas.{did_stays}
-
-later_names : (n : ℕ) (reads : List Read) → names_read (map (read_later n) reads) ≡ names_read reads
-later_names n [] = refl
-later_names n (read ∷ reads) = ap (λ names. read.name ∷ names) (later_names n reads)
-
-all_names : (n : ℕ) (names : List (List ℕ)) (reads : List Read) →
-    names_read (map read_now names ++ map (read_later n) reads) ≡ names ++ names_read reads
-all_names n [] reads = later_names n reads
-all_names n (name ∷ names) reads = ap (λ more. name ∷ more) (all_names n names reads)
 
 later_uses : (n : ℕ) (uses : List Use) → names_used (map (use_later n) uses) ≡ names_used uses
 later_uses n [] = refl
@@ -56,14 +48,14 @@ module _ (held other : Held) where
       Looks kept stored (after names written rest) → Same held other names
   looks_names kept stored names written rest looks =
       same_front held other names (names_read rest.reads)
-      (subst (Same held other) (all_names (length written) names rest.reads) looks.reads)
+      (subst (Same held other) (names_read-after names (length written) rest.reads) looks.reads)
 
   looks_rest : (kept stored : Held) (names : List (List ℕ)) (written : List ℕ) (rest : Transcript) →
       Looks kept stored (after names written rest) → Looks kept stored rest
   looks_rest kept stored names written rest looks = record {
     reads =
         same_behind held other names (names_read rest.reads)
-        (subst (Same held other) (all_names (length written) names rest.reads) looks.reads);
+        (subst (Same held other) (names_read-after names (length written) rest.reads) looks.reads);
     uses = subst (Same kept stored) (later_uses (length written) rest.uses) looks.uses;
   }
 

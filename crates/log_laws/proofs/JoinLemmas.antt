@@ -10,21 +10,11 @@ use Rattle.lab_state.specs.Names.{names}
 use Rattle.lab_state.specs.Round.{Rounded}
 use Rattle.lab_state.specs.Run.{run, followed_by}
 use Rattle.monitor.specs.Answer.{Done, leaves}
-use Rattle.monitor.specs.Refusal.{◌>>=◌, require}
+use Rattle.monitor.specs.Refusal.{◌>>=◌}
 use Rattle.monitor.specs.Runs.{has_run, length_of, run_for}
 use Rattle.monitor.specs.State.{State}
-use Rattle.resc_vars.specs.declared.cause.ScriptCause.TheVariants.{LabTime, Platform}
-use Rattle.log_laws.proofs.StillLemmas.{run_none}
-
--- what two tests let pass
-passed : {A : Type 0} (a b : Bool) (x y : A) →
-    (do
-      one ← require a Platform
-      two ← require b LabTime
-      Ok x) ≡ Ok y → y ≡ x
-passed true true x y is = cc
-passed true false x y is = cc
-passed false b x y is = cc
+use Rattle.lab_state.proofs.RunLemmas.{run_none}
+use Rattle.lab_top.proofs.Settings.{passed}
 
 -- what a run that is not refused has done
 ran : (s : State) (length : ℕ) (done : Done) → run_for run s length ≡ Ok done →

@@ -7,5 +7,4 @@ pub mod OrderLemmas
 pub mod JoinLemmas
 pub mod CheckLemmas
 pub mod DryLemmas
-pub mod StillLemmas
 pub mod FileLemmas

@@ -21,6 +21,7 @@ use Rattle.lab_top.specs.Transcript.{Transcript, Outcome, Read, Use, Further, re
 use Rattle.lab_top.specs.Transcript.{ended}
 use Rattle.lab_top.specs.Transcript.{using, onward, from, saving, loading, loading_kept, resuming, refused, is_large}
 use Rattle.lab_top.specs.Transcript.{is_occupied, begun, answered, transcript_by}
+use Rattle.lab_top.proofs.Courses.{calls-later}
 use Rattle.log_laws.specs.Places.{Rises}
 
 abbrev read_places : List Read → List ℕ
@@ -63,14 +64,10 @@ uses_after : (n last : ℕ) (uses : List Use) → Rises 0 (use_places uses) last
 uses_after n last uses rises =
     rises_from 0 (n + 0) (n + last) (use_places (map (use_later n) uses)) (omega arith) (uses_later n 0 last uses rises)
 
-calls_later : (n : ℕ) (uses : List Use) → calls (map (use_later n) uses) ≡ calls uses
-calls_later n [] = refl
-calls_later n (made ∷ uses) = ap (λ more. made.call ∷ more) (calls_later n uses)
-
 after_orderly : (kept : Held) (names : List (List ℕ)) (written : List ℕ) (rest : Transcript) → IsOrderly kept rest →
     IsOrderly kept (after names written rest)
 after_orderly kept names written rest is = record {
-  keeps = is.keeps ∙ ap (λ made. kept_by kept made) (sym (calls_later (length written) rest.uses));
+  keeps = is.keeps ∙ ap (λ made. kept_by kept made) (sym (calls-later (length written) rest.uses));
   reads =
       rw (length-append written rest.bytes)
       (reads_after (length written) (length rest.bytes) names rest.reads is.reads);

@@ -4,12 +4,15 @@ use Rattle.std.proofs.Common.{Option, unwrap_or, List, [], ◌∷◌, ◌++◌, 
 use Rattle.std.proofs.Common.{subst, inl, inr, append_assoc, arith, length-append, set}
 use Rattle.std.proofs.lemmas.List.{drop_at, drop_more, get_or_default, length-take-le, set_split, set-get_or, take_at}
 use Rattle.std.specs.List.{list_all, list_any}
-use Rattle.std.proofs.lemmas.Bool.{cases_Bool, and_parts, and_from, and_cases, ltb-true, ltb-false, false≢true}
+use Rattle.std.proofs.lemmas.Bool.{cases_Bool, and_parts, and_from, and_cases, ltb-true, ltb-false}
 use Rattle.std.proofs.lemmas.Bool.Decides.{nat_tests}
 use Rattle.std.proofs.lemmas.List.Folds.{list_all-append, list_any-append}
+use Rattle.std.proofs.lemmas.Bool.{not-true}
 use Rattle.lab_num.specs.declared.key.Member.{Member}
 use Rattle.lab_num.specs.declared.number.Micros.{Micros}
 use Rattle.lab_num.specs.Key.{same_member}
+use Rattle.lab_num.proofs.KeyLemmas.{same_itself, member_is}
+use Rattle.lab_num.proofs.ListLemmas.{implied}
 use Rattle.log_text.specs.declared.line.OpenLine.{OpenLine}
 use Rattle.log_text.specs.Line.{are_unended, blank, gathered, higher, is_ending, is_lower, is_unended, lower, own, rise}
 use Rattle.log_text.specs.Line.{with_byte}
@@ -48,18 +51,6 @@ higher_not_lower a m is = grind (arith, nat_tests)
 
 not_lower_itself : (m : Member) → not (is_lower m m) ≡ true
 not_lower_itself m = grind (arith, nat_tests)
-
-same_itself : (m : Member) → same_member m m ≡ true
-same_itself m = grind (arith, nat_tests)
-
-same_numbers : (a m : Member) → same_member a m ≡ true → (a.board.0 ≡ m.board.0) × (a.dev ≡ m.dev)
-same_numbers a m is = grind (arith, nat_tests)
-
-pub member_is : (a m : Member) → same_member a m ≡ true → a ≡ m
-member_is a m is =
-    let same = same_numbers a m is in
-    ap (λ (n : ℕ). record { board = record { 0 = n }; dev = a.dev }) same.0
-    ∙ ap (λ (n : ℕ). record { board = record { 0 = m.board.0 }; dev = n }) same.1
 
 -- ---- what stands before and after a member's own line
 
@@ -116,14 +107,6 @@ rise-append m (line ∷ front) back up_front up_back below above =
     ∙ and_from (list_all (λ later. is_lower line.member later.member) front)
     (list_all (λ later. is_lower line.member later.member) back) up.0 beyond)
     (rise-append m front back up.1 up_back lows.1 above)
-
--- a test that follows from two others is no more
-implied :
-    (p q r s : Bool) → (p ≡ true → r ≡ true → q ≡ true) → ((p && q) && (r && s)) ≡ (p && (r && s))
-implied false q r s follows = refl
-implied true true r s follows = refl
-implied true false true s follows = absurd (false≢true (follows refl refl))
-implied true false false s follows = refl
 
 -- it is enough to compare each line with the next
 rise_two :
@@ -258,10 +241,6 @@ pub kept :
     set lines n after ≡ lines
 kept lines n line after is same = ap (set lines n) (same ∙ is) ∙ set-get_or lines n line
 
-not_true : (b : Bool) → not b ≡ true → b ≡ false
-not_true false is = refl
-not_true true is = absurd (false≢true is)
-
 -- ---- taking a member's own line out, and putting one in
 
 module _ (m : Member) (lines : List OpenLine) (n : ℕ) (at : n ≡ place_of m lines) (are : are_unended lines ≡ true) where
@@ -365,7 +344,7 @@ module _ (m : Member) (lines : List OpenLine) (n : ℕ) (at : n ≡ place_of m l
     goes_parts : (stands_at m lines n ≡ true) × (is_ending (get_or lines n (blank m)) byte ≡ false)
     goes_parts =
         let parts = and_parts (stands_at m lines n) (not (is_ending (get_or lines n (blank m)) byte)) goes in
-        (parts.0, not_true (is_ending (get_or lines n (blank m)) byte) parts.1)
+        (parts.0, not-true (is_ending (get_or lines n (blank m)) byte) parts.1)
 
     pub goes_within : n < length lines
     goes_within = (stands_parts m lines n at are goes_parts.0).0

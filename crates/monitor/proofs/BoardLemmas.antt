@@ -1,5 +1,5 @@
 -- Facts of boards as commands meet them.
-use Rattle.std.proofs.Common.{◌≡◌, ℕ, List, [], Option, Some, Result, Ok, Bool, true, false, refl, find}
+use Rattle.std.proofs.Common.{◌≡◌, ℕ, List, [], Option, Result, Ok, Bool, true, false, refl, find}
 use Rattle.std.specs.Option.{ForSome, ok_or, option_map}
 use Rattle.std.specs.Str.{bytes_eq}
 use Rattle.sys_bus.specs.declared.plan.BoardPlan.{BoardPlan}
@@ -13,9 +13,6 @@ use Rattle.monitor.specs.Inner.Ruling.{IsBoard, IsOnward}
 use Rattle.monitor.specs.Refusal.{◌>>=◌, require}
 use Rattle.monitor.specs.Selected.{Equipped, entry, entry_name, equipped, processor, with_board}
 use Rattle.monitor.specs.Step.{Running}
-
-pub of_some : {A : Type 0} {x y : A} → Some x ≡ Some y → x ≡ y
-of_some is = cc is
 
 -- what a search for a name in a plan says of a word
 pub entry_is :

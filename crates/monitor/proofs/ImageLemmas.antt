@@ -14,29 +14,22 @@ use Rattle.std.proofs.lemmas.List.Sums.{fold_more}
 use Rattle.elf_load.specs.declared.image.Image.{Image}
 use Rattle.elf_load.specs.declared.image.Part.{Part}
 use Rattle.elf_load.specs.Map.{contents}
-use Rattle.sys_bus.specs.declared.region.Target.{Target}
-use Rattle.sys_bus.specs.declared.region.Target.TheVariants.{Ram, Clint, Plic, Dev, Nothing}
 use Rattle.sys_bus.specs.Region.{target_of}
-use Rattle.board.specs.Changes.{cleared, copied, holds_each, in_memory, is_memory, put_byte, put_in, with_bytes}
-use Rattle.board.specs.Space.{Space, target_at}
+use Rattle.board.specs.Changes.{cleared, copied, holds_each, in_memory, is_memory, with_bytes}
+use Rattle.board.specs.Space.{Space}
 use Rattle.board.specs.View.{View}
+use Rattle.board.proofs.CopyLemmas.{copied-append, plan-copied}
 use Rattle.rv_hart.specs.Core.{alignment}
 use Rattle.lab_state.specs.Board.{Board}
 use Rattle.lab_num.specs.Change.{change_at}
+use Rattle.lab_num.proofs.ListLemmas.{change_twice}
 use Rattle.lab_state.specs.Lab.{Lab}
 use Rattle.lab_state.specs.One.{changed, view_at, view_of, with_view}
+use Rattle.lab_state.proofs.ChangeLemmas.{view_changed}
 use Rattle.monitor.specs.Images.{holds_part, is_entry, load_image, size, unreserved, with_entry, with_part}
 use Rattle.monitor.specs.Images.{with_parts}
 use Rattle.monitor.specs.Inner.Ruling.{IsChanged, IsOnward}
 use Rattle.monitor.specs.Step.{Running}
-
--- a place of a list that is changed twice
-change_twice :
-    {A : Type 0} (xs : List A) (i : ℕ) (f g h : A → A) → ((x : A) → g (f x) ≡ h x) →
-    change_at (change_at xs i f) i g ≡ change_at xs i h
-change_twice [] i f g h same = refl
-change_twice (x ∷ xs) zero f g h same = ap (λ y. y ∷ xs) (same x)
-change_twice (x ∷ xs) (suc i) f g h same = ap (λ ys. x ∷ ys) (change_twice xs i f g h same)
 
 map_twice :
     {A : Type 0} (x : Option A) (f g h : A → A) → ((a : A) → g (f a) ≡ h a) →
@@ -53,17 +46,10 @@ changed_twice lab b f g h same =
     (change_twice lab.boards b (with_view f) (with_view g) (with_view h)
     (λ board. ap (λ view. record board { view = view }) (map_twice board.view f g h same)))
 
-view_at_changed :
-    (boards : List Board) (b : ℕ) (f : View → View) →
-    view_at (change_at boards b (with_view f)) b ≡ option_map f (view_at boards b)
-view_at_changed [] b f = refl
-view_at_changed (board ∷ boards) zero f = refl
-view_at_changed (board ∷ boards) (suc b) f = view_at_changed boards b f
-
 -- what stands under the number of a board that was changed
 pub view_of_changed :
     (lab : Lab) (b : ℕ) (f : View → View) → view_of (changed lab b f) b ≡ option_map f (view_of lab b)
-view_of_changed lab b f = view_at_changed lab.boards b f
+view_of_changed lab b f = view_changed lab.boards b f
 
 -- a board that is changed to what it is
 change_none : {A : Type 0} (xs : List A) (i : ℕ) (f : A → A) → ((x : A) → f x ≡ x) → change_at xs i f ≡ xs
@@ -160,42 +146,12 @@ pub no_entry : (entry : Option ℕ) (v : View) → ((pc : ℕ) → entry ≡ Som
 no_entry None v none = refl
 no_entry (Some pc) v none = absurd (none pc refl)
 
--- of items that all pass each does
-pub each_of_all :
-    {A : Type 0} (p : A → Bool) (xs : List A) (i : ℕ) (d : A) → list_all p xs ≡ true → i < length xs →
-    p (get_or xs i d) ≡ true
-each_of_all p [] i d all within = absurd (omega (arith, within))
-each_of_all p (x ∷ xs) zero d all within = (and_parts (p x) (list_all p xs) all).0
-each_of_all p (x ∷ xs) (suc i) d all within =
-    each_of_all p xs i d (and_parts (p x) (list_all p xs) all).1 (omega (arith, within))
-
--- bytes that are copied leave the plan, and so what holds a byte
-pub plan_put : (s : Space) (byte : ℕ) (target : Target) → (put_in s byte target).plan ≡ s.plan
-plan_put s byte (Ram part at) = refl
-plan_put s byte (Dev dev at) = refl
-plan_put s byte (Clint at) = refl
-plan_put s byte (Plic at) = refl
-plan_put s byte Nothing = refl
-
-pub plan_copied : (s : Space) (at : ℕ) (bytes : List ℕ) → (copied s at bytes).plan ≡ s.plan
-plan_copied s at [] = refl
-plan_copied s at (byte ∷ bytes) =
-    plan_copied (put_byte s at byte) (at + 1) bytes ∙ plan_put s byte (target_at s at 1)
-
 pub still_held :
     (s : Space) (from : ℕ) (bytes : List ℕ) (at count : ℕ) →
     holds_each (copied s from bytes) at count ≡ holds_each s at count
 still_held s from bytes at count =
     ap (λ plan. list_all (λ a. is_memory (target_of plan.regions a 1)) (range_with_len at count))
-    (plan_copied s from bytes)
-
--- bytes, and others after them
-pub copied_behind :
-    (s : Space) (at : ℕ) (xs ys : List ℕ) → copied s at (xs ++ ys) ≡ copied (copied s at xs) (at + length xs) ys
-copied_behind s at [] ys = let same : at + 0 ≡ at = omega arith in rw same refl
-copied_behind s at (x ∷ xs) ys =
-    let same : at + suc (length xs) ≡ at + 1 + length xs = omega arith in
-    rw same (copied_behind (put_byte s at x) (at + 1) xs ys)
+    (plan-copied s from bytes)
 
 -- a range of addresses in two pieces
 pub held_pieces :
@@ -245,7 +201,7 @@ pub part_of_pieces :
     ≡ with_part v part
 part_of_pieces v part = λ i. record v {
   watch = cleared_twice v.watch i;
-  space = sym (copied_behind v.space part.at part.bytes (replicate part.zeros 0)) i;
+  space = sym (copied-append v.space part.at part.bytes (replicate part.zeros 0)) i;
 }
 
 pub part_without_zeros :
@@ -279,7 +235,7 @@ parts_still parts v other = each_still parts (unreserved v) other
 plan_parts : (parts : List Part) (v : View) → (fold with_part v parts).space.plan ≡ v.space.plan
 plan_parts [] v = refl
 plan_parts (part ∷ parts) v =
-    plan_parts parts (with_part v part) ∙ plan_copied v.space part.at (contents part)
+    plan_parts parts (with_part v part) ∙ plan-copied v.space part.at (contents part)
 
 pub entry_still :
     (parts : List Part) (v : View) (entry : Option ℕ) → is_entry (with_parts v parts) entry ≡ is_entry v entry

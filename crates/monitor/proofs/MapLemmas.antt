@@ -3,46 +3,27 @@ use Rattle.std.proofs.Common.{◌≡◌, ◌∙◌, ℕ, zero, suc, ◌+◌, ◌
 use Rattle.std.proofs.Common.{nat_lt, nat_le, Bool, true, false, cond}
 use Rattle.std.proofs.Common.{List, [], ◌∷◌, length, slice_get, Option, None, Some}
 use Rattle.std.proofs.Common.{refl, sym, ap, subst, arith}
-use Rattle.std.specs.Prelude.{if◌then◌else◌, slice_index_or, slice_set}
+use Rattle.std.specs.Prelude.{if◌then◌else◌}
 use Rattle.std.specs.List.{fold, list_all, range_with_len}
 use Rattle.std.specs.Option.{option_or}
 use Rattle.std.proofs.lemmas.Bool.{and_parts}
 use Rattle.std.proofs.lemmas.Bool.Decides.{nat_tests}
-use Rattle.std.proofs.lemmas.List.{length-replicate}
+use Rattle.std.proofs.lemmas.List.{length-replicate, get_or-set_other, get_or-set_same, length-set}
 use Rattle.std.proofs.Common.{length-append}
 use Rattle.elf_load.specs.declared.image.Part.{Part}
 use Rattle.elf_load.specs.Map.{byte_at, byte_in, contents}
 use Rattle.page_ram.specs.Bytes.{put_bytes}
+use Rattle.page_ram.proofs.ByteLemmas.{length-put_bytes}
 use Rattle.sys_bus.specs.declared.region.Target.{Target}
 use Rattle.sys_bus.specs.declared.region.Target.TheVariants.{Ram, Clint, Plic, Dev, Nothing}
 use Rattle.board.specs.Changes.{cleared, copied, holds_each, in_memory, is_memory, put_byte, put_in}
 use Rattle.sys_bus.specs.Region.{target_of}
 use Rattle.board.specs.Space.{Space, memory_at, target_at, with_memory}
 use Rattle.board.specs.View.{View}
+use Rattle.board.proofs.CopyLemmas.{plan-copied, plan-put_in}
 use Rattle.monitor.specs.Inner.Places.{StandApart}
 use Rattle.monitor.specs.Images.{byte_held, byte_of, holds_part, size, unreserved, with_part, with_parts}
-use Rattle.monitor.proofs.ImageLemmas.{cleared_twice, part_still, plan_copied, plan_put}
-
--- one item of a list
-index_set_same :
-    {A : Type 0} (xs : List A) (i : ℕ) (x d : A) → i < length xs → slice_index_or (slice_set xs i x) i d ≡ x
-index_set_same [] i x d within = absurd (omega (arith, within))
-index_set_same (y ∷ ys) zero x d within = refl
-index_set_same (y ∷ ys) (suc i) x d within = index_set_same ys i x d (omega (arith, within))
-
-index_set_other :
-    {A : Type 0} (xs : List A) (i j : ℕ) (x d : A) → (i ≡ j → ⊥) →
-    slice_index_or (slice_set xs i x) j d ≡ slice_index_or xs j d
-index_set_other [] i j x d other = refl
-index_set_other (y ∷ ys) zero zero x d other = absurd (other refl)
-index_set_other (y ∷ ys) zero (suc j) x d other = refl
-index_set_other (y ∷ ys) (suc i) zero x d other = refl
-index_set_other (y ∷ ys) (suc i) (suc j) x d other = index_set_other ys i j x d (λ same. other (ap suc same))
-
-length_set : {A : Type 0} (xs : List A) (i : ℕ) (x : A) → length (slice_set xs i x) ≡ length xs
-length_set [] i x = refl
-length_set (y ∷ ys) zero x = refl
-length_set (y ∷ ys) (suc i) x = ap suc (length_set ys i x)
+use Rattle.monitor.proofs.ImageLemmas.{cleared_twice, part_still}
 
 -- one byte of a memory
 get_put_same :
@@ -63,12 +44,6 @@ get_put_other (y ∷ m) (suc i) (suc j) x within other =
     let next : suc i + 1 ≡ suc (i + 1) = omega arith in
     rw next (get_put_other m i j x (omega (arith, within)) (λ same. other (ap suc same)))
 
-length_put : (m : List ℕ) (i x : ℕ) → i < length m → length (put_bytes m i (x ∷ [])) ≡ length m
-length_put [] i x within = absurd (omega (arith, within))
-length_put (y ∷ m) zero x within = refl
-length_put (y ∷ m) (suc i) x within =
-    let next : suc i + 1 ≡ suc (i + 1) = omega arith in rw next (ap suc (length_put m i x (omega (arith, within))))
-
 -- one byte of a space
 abbrev put_at : Space → ℕ → ℕ → ℕ → Space
 put_at s part i x = with_memory s part (put_bytes (memory_at s part) i (x ∷ []))
@@ -76,11 +51,11 @@ put_at s part i x = with_memory s part (put_bytes (memory_at s part) i (x ∷ []
 memory_same :
     (s : Space) (part i x : ℕ) → part < length s.memories →
     memory_at (put_at s part i x) part ≡ put_bytes (memory_at s part) i (x ∷ [])
-memory_same s part i x there = index_set_same s.memories part _ [] there
+memory_same s part i x there = get_or-set_same s.memories part _ [] there
 
 memory_other :
     (s : Space) (part other i x : ℕ) → (part ≡ other → ⊥) → memory_at (put_at s part i x) other ≡ memory_at s other
-memory_other s part other i x differ = index_set_other s.memories part other _ [] differ
+memory_other s part other i x differ = get_or-set_other s.memories part other _ [] (λ same. differ (sym same))
 
 same_byte :
     (s : Space) (part i x : ℕ) → part < length s.memories → i < length (memory_at s part) →
@@ -143,7 +118,7 @@ still_apart :
 still_apart s part i x at apart is = record {
   apart = apart.apart;
   part = λ a q j there.
-      rw (length_set s.memories part (put_bytes (memory_at s part) i (x ∷ []))) (apart.part a q j there);
+      rw (length-set s.memories part (put_bytes (memory_at s part) i (x ∷ []))) (apart.part a q j there);
   held = λ a q j there. sized q j (apart.held a q j there) (part == q) refl;
 }
   where
@@ -153,7 +128,7 @@ still_apart s part i x at apart is = record {
         let same : part ≡ q = grind (arith, nat_tests, equal) in
         let size : length (memory_at (put_at s part i x) part) ≡ length (memory_at s part) =
         ap length (memory_same s part i x (apart.part at part i is))
-        ∙ length_put (memory_at s part) i x (apart.held at part i is) in
+        ∙ length-put_bytes (memory_at s part) (x ∷ []) i (omega (arith, apart.held at part i is)) in
         subst (λ n. j < length (memory_at (put_at s part i x) n)) same
         (subst (λ n. j < n) (sym size) (subst (λ n. j < length (memory_at s n)) (sym same) below))
     sized q j below false differ =
@@ -230,7 +205,7 @@ bytes_held (x ∷ xs) s at a apart held =
     let place = place_of (target_at s at 1) both.0 in
     let put = put_is s at x place.0 place.1.0 place.1.1 in
     let next = subst StandApart (sym put) (still_apart s place.0 place.1.0 x at apart place.1.1) in
-    let plan = plan_put s x (target_at s at 1) in
+    let plan = plan-put_in s x (target_at s at 1) in
     let there : holds_each (put_byte s at x) (at + 1) (length xs) ≡ true =
     ap (λ plan. list_all (λ b. is_memory (target_of plan.regions b 1)) (range_with_len (at + 1) (length xs))) plan
     ∙ both.1 in
@@ -257,7 +232,7 @@ apart_copied (x ∷ xs) s at apart held =
     let next = subst StandApart (sym put) (still_apart s place.0 place.1.0 x at apart place.1.1) in
     let there : holds_each (put_byte s at x) (at + 1) (length xs) ≡ true =
     ap (λ plan. list_all (λ b. is_memory (target_of plan.regions b 1)) (range_with_len (at + 1) (length xs)))
-    (plan_put s x (target_at s at 1))
+    (plan-put_in s x (target_at s at 1))
     ∙ both.1 in
     apart_copied xs (put_byte s at x) (at + 1) next there
 
@@ -276,7 +251,7 @@ part_held :
     (v : View) (part : Part) (a : ℕ) → StandApart v.space → holds_part v part ≡ true →
     byte_held (with_part v part) a ≡ option_or (byte_in part a) (byte_held v a)
 part_held v part a apart is =
-    let plan = plan_copied v.space part.at (contents part) in
+    let plan = plan-copied v.space part.at (contents part) in
     ap (λ plan. byte_of (copied v.space part.at (contents part)) (target_of plan.regions a 1)) plan
     ∙ bytes_held (contents part) v.space part.at a apart (has_places v part is)
 

@@ -1,27 +1,25 @@
 -- A run changes no name that the log prints.
-use Rattle.std.proofs.Common.{◌≡◌, ◌∷◌, ◌∙◌, ◌+◌, ℕ, zero, suc, Bool, true, false, List, [], map}
+use Rattle.std.proofs.Common.{◌≡◌, ◌∷◌, ◌∙◌, ◌+◌, ℕ, Bool, true, false, List, [], map}
 use Rattle.std.proofs.Common.{Option, None, Some, refl, ap}
 use Rattle.std.specs.List.{flat_map, fold}
 use Rattle.std.specs.Prelude.{is_some}
-use Rattle.dev_core.specs.declared.payload.Payload.{Payload}
 use Rattle.dev_core.specs.declared.post.Post.{Post}
-use Rattle.lab_num.specs.Change.{change_at}
 use Rattle.lab_num.specs.Paid.{paid}
-use Rattle.lab_num.specs.Route.{route}
-use Rattle.lab_num.specs.declared.key.Member.{Member}
+use Rattle.lab_num.proofs.ListLemmas.{map-map_same}
 use Rattle.log_merge.specs.declared.names.BoardNames.{BoardNames}
 use Rattle.log_merge.specs.declared.names.Names.{Names}
 use Rattle.board.specs.Changes.{handed}
 use Rattle.board.specs.Stretch.{stretch}
 use Rattle.board.specs.View.{View}
 use Rattle.lab_state.specs.Board.{Board}
-use Rattle.lab_state.specs.Boundary.{Handed, to_member, to_route, boundary, due, waiting}
+use Rattle.lab_state.specs.Boundary.{boundary, due, waiting}
 use Rattle.lab_state.specs.Hub.{Hub, members_of}
 use Rattle.lab_state.specs.Lab.{Lab}
 use Rattle.lab_state.specs.Names.{board_names, names}
 use Rattle.lab_state.specs.One.{with_view}
 use Rattle.lab_state.specs.Round.{Rounded, round, round_by, granted, posts_made, stepped}
 use Rattle.lab_state.specs.Run.{run, run_by, go_on, still, lengths}
+use Rattle.lab_state.proofs.RoundLemmas.{map-routes}
 
 abbrev all_names : List Board → List BoardNames
 all_names boards = map board_names boards
@@ -38,38 +36,16 @@ one_keeps f keeps name (Some v) = rw (keeps v) refl
 board_keeps : (f : View → View) → KeepsPlan f → (board : Board) → board_names (with_view f board) ≡ board_names board
 board_keeps f keeps board = one_keeps f keeps board.name board.view
 
-change_keeps : (f : View → View) → KeepsPlan f → (boards : List Board) (n : ℕ) →
-    all_names (change_at boards n (with_view f)) ≡ all_names boards
-change_keeps f keeps [] n = refl
-change_keeps f keeps (board ∷ boards) zero = ap (λ first. first ∷ all_names boards) (board_keeps f keeps board)
-change_keeps f keeps (board ∷ boards) (suc n) = ap (λ rest. board_names board ∷ rest) (change_keeps f keeps boards n)
-
 map_keeps : (f : View → View) → KeepsPlan f → (boards : List Board) →
     all_names (map (with_view f) boards) ≡ all_names boards
-map_keeps f keeps [] = refl
-map_keeps f keeps (board ∷ boards) =
-    rw (board_keeps f keeps board, map_keeps f keeps boards) refl
-
-to_members_keep : (at : ℕ) (payload : Payload) (members : List Member) (h : Handed) →
-    all_names (fold (to_member at payload) h members).boards ≡ all_names h.boards
-to_members_keep at payload [] h = refl
-to_members_keep at payload (m ∷ members) h =
-    to_members_keep at payload members (to_member at payload h m)
-    ∙ change_keeps (λ v. handed v m.dev payload) (λ v. refl) h.boards m.board.0
-
-to_routes_keep : (at : ℕ) (hubs : List (List Member)) (posts : List Post) (h : Handed) →
-    all_names (fold (to_route at hubs) h posts).boards ≡ all_names h.boards
-to_routes_keep at hubs [] h = refl
-to_routes_keep at hubs (post ∷ posts) h =
-    to_routes_keep at hubs posts (to_route at hubs h post)
-    ∙ to_members_keep at post.payload (route hubs post.from) h
+map_keeps f keeps boards = map-map_same board_names (with_view f) (board_keeps f keeps) boards
 
 boundary_keeps : (at : ℕ) (hubs : List Hub) (boards : List Board) (pending posts : List Post) →
     all_names (boundary at hubs boards pending posts).boards ≡ all_names boards
 unfolding boundary
 boundary_keeps at hubs boards pending posts =
-    to_routes_keep at (members_of hubs) (due at hubs (waiting hubs pending posts))
-    (record { boards = boards; notes = [] })
+    map-routes board_names (λ dev payload. board_keeps (λ v. handed v dev payload) (λ v. refl)) at (members_of hubs)
+    (record { boards = boards; notes = [] }) (due at hubs (waiting hubs pending posts))
 
 abbrev names_with : List BoardNames → Names
 names_with all = record { boards = all }

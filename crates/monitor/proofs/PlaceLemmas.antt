@@ -3,7 +3,7 @@ use Rattle.std.proofs.Common.{◌≡◌, ◌∙◌, ℕ, zero, suc, ◌+◌, ◌
 use Rattle.std.proofs.Common.{nat_lt, nat_le, Bool, true, false, cond}
 use Rattle.std.proofs.Common.{List, [], ◌∷◌, length, map, find, Option, None, Some, refl, sym, ap, subst, arith}
 use Rattle.std.specs.Prelude.{count_by, slice_index, slice_index_or}
-use Rattle.std.specs.List.{list_all, range_with_len}
+use Rattle.std.specs.List.{list_all}
 use Rattle.std.proofs.lemmas.Bool.{and_parts}
 use Rattle.std.proofs.lemmas.Bool.Decides.{nat_tests}
 use Rattle.std.proofs.lemmas.List.{length-map}
@@ -18,32 +18,16 @@ use Rattle.sys_bus.specs.Plan.{IsValid}
 use Rattle.sys_bus.specs.Region.{holds, same_part, target_by, target_if}
 use Rattle.board.specs.Space.{Space, memory_at, target_at}
 use Rattle.monitor.specs.Inner.Places.{StandApart}
+use Rattle.lab_num.proofs.ListLemmas.{found_passes, passes_at, range_passes}
 
 count_more :
     {A : Type 0} (p : A → Bool) (x : A) (xs : List A) → count_by p (x ∷ xs) ≡ cond (p x) 1 0 + count_by p xs
 count_more p x xs = sum_by-cons (λ x. cond (p x) 1 0) x xs
 
--- what is found passes
-passes : {A : Type 0} (p : A → Bool) (xs : List A) (x : A) → find p xs ≡ Some x → p x ≡ true
-passes p [] x is = cc is
-passes p (y ∷ ys) x is = tested (p y) refl is (passes p ys x)
-  where
-    tested : (b : Bool) → p y ≡ b → cond b (Some y) (find p ys) ≡ Some x → (find p ys ≡ Some x → p x ≡ true) →
-        p x ≡ true
-    tested true first is later = let same : y ≡ x = cc is in subst (λ z. p z ≡ true) same first
-    tested false none is later = later is
-
 -- what all pass, what is found does
 all_found :
     {A : Type 0} (p q : A → Bool) (xs : List A) (x : A) → list_all q xs ≡ true → find p xs ≡ Some x → q x ≡ true
-all_found p q [] x all is = cc is
-all_found p q (y ∷ ys) x all is =
-    let both = and_parts (q y) (list_all q ys) all in tested both.0 (p y) is (all_found p q ys x both.1)
-  where
-    tested : q y ≡ true → (b : Bool) → cond b (Some y) (find p ys) ≡ Some x →
-        (find p ys ≡ Some x → q x ≡ true) → q x ≡ true
-    tested first true is later = let same : y ≡ x = cc is in subst (λ z. q z ≡ true) same first
-    tested first false is later = later is
+all_found p q xs x all is = let at = (found_passes p xs x is).1 in passes_at q xs at.0 x all at.1
 
 -- what is found counts
 counts : {A : Type 0} (p q : A → Bool) (xs : List A) (x : A) → find q xs ≡ Some x → p x ≡ true → 1 ≤ count_by p xs
@@ -112,16 +96,6 @@ found_by regions a part at (Some region) is there = by_kind region.kind refl the
     by_kind Plic same there = cc there
     by_kind (Dev i) same there = cc there
 
-all_at :
-    (p : ℕ → Bool) (from count i : ℕ) → list_all p (range_with_len from count) ≡ true → i < count →
-    p (from + i) ≡ true
-all_at p from zero i all within = absurd (omega (arith, within))
-all_at p from (suc count) zero all within =
-    let same : from + 0 ≡ from = omega arith in rw same (and_parts (p from) _ all).0
-all_at p from (suc count) (suc i) all within =
-    let same : from + suc i ≡ from + 1 + i = omega arith in
-    rw same (all_at p (from + 1) count i (and_parts (p from) _ all).1 (omega (arith, within)))
-
 sized : (memories : List (List ℕ)) (i : ℕ) → i < length memories →
     length (slice_index_or memories i []) ≡ slice_index (map length memories) i
 sized [] i within = absurd (omega (arith, within))
@@ -149,7 +123,7 @@ module _ (s : Space) (valid : IsValid s.plan) (sizes : map length s.memories ≡
   one_region part within =
       let all = (and_parts _ _ (and_parts _ _ (and_parts _ _ valid.parts).0).0).0 in
       let each =
-      all_at (λ i. has_one_each s.plan.names s.plan.regions (Ram i)) 0 (length s.plan.memories) part all within in
+      range_passes (λ i. has_one_each s.plan.names s.plan.regions (Ram i)) 0 (length s.plan.memories) part all within in
       let same : 0 + part ≡ part = omega arith in
       let one : (regions_of s.plan.regions (Ram part) == 1) ≡ true =
       (and_parts (names_of s.plan.names (Ram part) == 1) (regions_of s.plan.regions (Ram part) == 1)
@@ -166,8 +140,10 @@ module _ (s : Space) (valid : IsValid s.plan) (sizes : map length s.memories ≡
       g.region (one_region part (is_below a part at f)) f.found g.found (is_ram part f.region.kind f.kind)
       (is_ram part g.region.kind g.kind) in
       let base : f.region.base ≡ g.region.base = ap (λ region. region.base) same in
-      let first = (and_parts (nat_le f.region.base a) _ (passes (holds a 1) s.plan.regions f.region f.found)).0 in
-      let second = (and_parts (nat_le g.region.base b) _ (passes (holds b 1) s.plan.regions g.region g.found)).0 in
+      let first =
+      (and_parts (nat_le f.region.base a) _ (found_passes (holds a 1) s.plan.regions f.region f.found).0).0 in
+      let second =
+      (and_parts (nat_le g.region.base b) _ (found_passes (holds b 1) s.plan.regions g.region g.found).0).0 in
       grind (arith, nat_tests, base, first, second, f.place, g.place)
 
   within : (a part at : ℕ) → Found s.plan.regions a part at → at < length (memory_at s part)
@@ -178,7 +154,7 @@ module _ (s : Space) (valid : IsValid s.plan) (sizes : map length s.memories ≡
       let size : (f.region.size == slice_index s.plan.memories part) ≡ true = rw f.kind at here in
       let long : length (memory_at s part) ≡ slice_index s.plan.memories part =
       sized s.memories part there ∙ ap (λ xs. slice_index xs part) sizes in
-      let both = and_parts (nat_le f.region.base a) _ (passes (holds a 1) s.plan.regions f.region f.found) in
+      let both = and_parts (nat_le f.region.base a) _ (found_passes (holds a 1) s.plan.regions f.region f.found).0 in
       rw long (grind (arith, nat_tests, size, both.0, both.1, f.place))
 
   pub stand_apart : StandApart s

@@ -1,12 +1,9 @@
 -- A run, round by round: what it prints is what its rounds print.
-use Rattle.std.proofs.Common.{◌≡◌, ◌∙◌, sym, ap, refl, subst, arith, Bool, true, false, ℕ, ◌+◌, ◌-◌}
-use Rattle.std.proofs.Common.{◌/◌, ◌%◌, ◌<◌, ◌≤◌, min, inl, inr, List, [], ◌∷◌, ◌++◌, length, take, fold}
-use Rattle.std.proofs.Common.{Option, add-one, append_assoc}
-use Rattle.std.specs.Prelude.{if◌then◌else◌, is_some}
-use Rattle.std.proofs.lemmas.Bool.{cases_lt}
-use Rattle.std.proofs.lemmas.Bool.Decides.{nat_tests}
+use Rattle.std.proofs.Common.{◌≡◌, ◌∙◌, sym, ap, refl, subst, arith, true, false, ℕ, ◌+◌, ◌-◌}
+use Rattle.std.proofs.Common.{◌<◌, ◌≤◌, min, List, [], ◌++◌, length, take, fold}
+use Rattle.std.proofs.Common.{Option, append_assoc}
+use Rattle.std.specs.Prelude.{is_some}
 use Rattle.std.proofs.lemmas.List.{append-nil, take_min}
-use Rattle.std.proofs.Math.Nat.{div-add-mod, div-eq_of_lt, mod-eq_of_lt, add-div_left, add-mod_left}
 use Rattle.std.proofs.Math.Seq.{take-append-add, take-append-le}
 use Rattle.std.specs.Prelude.{Ok, Err, IsErrOf}
 use Rattle.lab_io.specs.declared.sink.Sink.{Ghosts}
@@ -19,8 +16,9 @@ use Rattle.lab_io.proofs.Frames.{writes_none}
 use Rattle.lab_io.proofs.Grown.{grown-append, grown-nil}
 use Rattle.lab_num.specs.declared.key.Key.{Key}
 use Rattle.lab_state.specs.Lab.{Lab}
-use Rattle.lab_state.specs.Round.{Rounded, round, round_by}
-use Rattle.lab_state.specs.Run.{Play, rest_of, lengths, followed_by, go_on}
+use Rattle.lab_state.specs.Round.{Rounded, round}
+use Rattle.lab_state.specs.Run.{lengths, followed_by, go_on}
+use Rattle.lab_state.proofs.RunLemmas.{after_pause, first_length, fold-followed, none_left}
 use Rattle.log_merge.specs.declared.item.LogItem.{LogItem}
 use Rattle.log_merge.specs.declared.names.Names.{Names}
 use Rattle.log_text.specs.declared.line.OpenLine.{OpenLine}
@@ -29,47 +27,6 @@ use Rattle.monitor.specs.Step.{Running}
 use Rattle.monitor.specs.Inner.Writing.{IsPlayed, played}
 
 -- ---- the rounds of a run
-
--- a run of no length
-none_left : (q : ℕ) → 0 < q → lengths q 0 ≡ []
-none_left q some =
-    let whole : 0 / q ≡ 0 = omega (arith, div-add-mod 0 q) in
-    let rest : 0 % q ≡ 0 = omega (arith, div-add-mod 0 q) in
-    rw (whole, rest) refl
-
--- the first round of a run
-first_length :
-    (q d : ℕ) {n : ℕ} → 0 < q → 0 < d → n ≡ min d q → lengths q d ≡ n ∷ lengths q (d - n)
-first_length q d {n = n} some more least = elim (cases_lt d q) [
-  | inl short ↦
-      let all : n ≡ d = omega arith in
-      let none : d - d ≡ 0 = omega arith in
-      let one : rest_of d ≡ d ∷ [] = grind (arith, nat_tests) in
-      rw (all, none, none_left q some, div-eq_of_lt short, mod-eq_of_lt short) one
-  | inr long ↦
-      let quantum : n ≡ q = omega arith in
-      let parts : d ≡ q + (d - q) = omega arith in
-      let count : d / q ≡ (d - q) / q + 1 = ap (λ d. d / q) parts ∙ add-div_left (d - q) some in
-      let rest : d % q ≡ (d - q) % q = ap (λ d. d % q) parts ∙ add-mod_left q (d - q) in
-      rw (quantum, count, rest, add-one) refl
-]
-
-on_followed :
-    (paused : Bool) (a b more : Rounded) →
-    (if paused then followed_by a b else followed_by (followed_by a b) more)
-    ≡ followed_by a (if paused then b else followed_by b more)
-on_followed true a b more = refl
-on_followed false a b more =
-    ap (λ items. record { lab = more.lab; items = items; paused = more.paused })
-    (append_assoc a.items b.items more.items)
-
-fold-followed :
-    (a b : Rounded) (qs : List ℕ) →
-    fold (go_on round) (followed_by a b) qs ≡ followed_by a (fold (go_on round) b qs)
-fold-followed a b [] = refl
-fold-followed a b (q ∷ qs) =
-    ap (λ run. fold (go_on round) run qs) (on_followed (is_some b.paused) a b (round b.lab q))
-    ∙ fold-followed a (go_on round b q) qs
 
 -- a laboratory between two rounds of a run, and the pause of the earlier one
 abbrev pub between : Lab → Option Key → Rounded
@@ -99,23 +56,11 @@ one_round longest left lab paused {q = q} some more none least =
     (unpaused lab paused q none ∙ followed-between made)
     ∙ fold-followed made (between made.lab made.paused) (lengths longest (left - q))
 
--- the time after a round
-pub round_time : (lab : Lab) (q : ℕ) → (round lab q).lab.now ≡ lab.now + q
-unfolding round_by
-round_time lab q = refl
-
 -- nothing is left
 pub none_of : (longest left : ℕ) (lab : Lab) (paused : Option Key) → 0 < longest → left ≡ 0 →
     left_of longest left lab paused ≡ between lab paused
 none_of longest left lab paused some zero =
     ap (fold (go_on round) (between lab paused)) (ap (lengths longest) zero ∙ none_left longest some)
-
-after_pause :
-    (play : Play) (run : Rounded) (qs : List ℕ) → is_some run.paused ≡ true → fold (go_on play) run qs ≡ run
-after_pause play run [] is = refl
-after_pause play run (q ∷ qs) is =
-    let stays : go_on play run q ≡ run = rw is refl in
-    ap (λ run. fold (go_on play) run qs) stays ∙ after_pause play run qs is
 
 -- a pause ends it
 pub none_after : (longest left : ℕ) (lab : Lab) (paused : Option Key) → is_some paused ≡ true →

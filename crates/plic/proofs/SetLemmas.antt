@@ -78,7 +78,7 @@ below_more : (b n : ℕ) (t : Bool) → b < 2 ^ n → b + (if t then 2 ^ n else 
 below_more b n true h = omega (arith, pow-suc 2 n)
 below_more b n false h = omega (arith, pow-suc 2 n)
 
-set_below-lt : (test : ℕ → Bool) (n : ℕ) → set_below test n < 2 ^ n
+pub set_below-lt : (test : ℕ → Bool) (n : ℕ) → set_below test n < 2 ^ n
 unfolding set_below
 set_below-lt test zero = omega arith
 set_below-lt test (suc n) = below_more (set_below test n) n (test n) (set_below-lt test n)

@@ -9,6 +9,8 @@ use Rattle.std.proofs.lemmas.List.Quantifiers.{position-Some}
 use Rattle.std.proofs.lemmas.Slice.Eq.{bytes_eq-Decides}
 use Rattle.std.specs.List.{flat_map, fold, list_all}
 use Rattle.std.specs.Str.{bytes_eq}
+use Rattle.std.proofs.lemmas.Bool.{and_parts}
+use Rattle.std.proofs.lemmas.Option.{same_Some}
 use Rattle.repl_read.specs.declared.entry.Ends.{Ends}
 use Rattle.repl_read.specs.declared.entry.Ends.TheVariants.{Absent, Irq, Spans}
 use Rattle.repl_read.specs.declared.entry.Entry.{Entry}
@@ -53,12 +55,12 @@ use Rattle.repl_build.specs.Wires.{wired_ends, has_ends, item_wires, placed_wire
 use Rattle.repl_build.proofs.EntryLemmas.{entries_tell}
 use Rattle.repl_build.proofs.NoneLemmas.{no_fault, first_none, unbroken}
 use Rattle.repl_build.proofs.ProcessorLemmas.{cpu_at, hart_absent, hart_found}
-use Rattle.repl_build.proofs.RangeLemmas.{and_true}
 use Rattle.repl_build.proofs.RegionLemmas.{each_append}
 use Rattle.repl_build.proofs.SoundLemmas.{Sound, sound}
 use Rattle.repl_build.proofs.TypeLemmas.{is_type_same}
 use Rattle.repl_build.proofs.ValidLemmas.{made}
-use Rattle.repl_build.proofs.WireValid.{ok_then, same_ok, same_some, given}
+use Rattle.repl_build.proofs.WireValid.{ok_then, same_ok, given}
+use Rattle.lab_num.proofs.ListLemmas.{get_middle}
 
 -- ---- lists of connections
 
@@ -88,10 +90,6 @@ one_connected names cpus c ws led = (ws, ([], (sym (append-nil ws), (led, refl))
 
 -- ---- what names stand for
 
-get_here : {X : Type 0} (xs : List X) (y : X) (ys : List X) → slice_get (xs ++ y ∷ ys) (length xs) ≡ Some y
-get_here [] y ys = refl
-get_here (x ∷ xs) y ys = get_here xs y ys
-
 named_at :
     (all before : List Peripheral) (p : Peripheral) (ps : List Peripheral) (w : NamedWhat) → all ≡ before ++ p ∷ ps →
     what_of before p.kind ≡ Some w → StandsFor (each name_of [] all) p.name w
@@ -102,7 +100,7 @@ named_at all before p ps w whole is =
     let here : name_of before p ≡ n ∷ [] = rw is refl in
     let split : each name_of [] all ≡ front ++ n ∷ rest =
     ap (each name_of []) whole ∙ each_append name_of [] before (p ∷ ps) ∙ ap (λ mine. front ++ (mine ++ rest)) here in
-    (length front, rw split (get_here front n rest))
+    (length front, rw split (get_middle front n rest))
 
 stands_of :
     (all before xs : List Peripheral) (k : PeripheralType) (w : NamedWhat) (name : List ℕ) →
@@ -113,7 +111,7 @@ stands_of all before (p ∷ ps) k w name stands whole there =
     elim (is_type k p.kind && bytes_eq p.name name) as (λ b. (is_type k p.kind && bytes_eq p.name name) ≡ b →
     (b || names_a k ps name) ≡ true → StandsFor (each name_of [] all) name w) [
       | true ↦ λ hit there.
-          let parts = and_true (is_type k p.kind) (bytes_eq p.name name) hit in
+          let parts = and_parts (is_type k p.kind) (bytes_eq p.name name) hit in
           let same : p.name ≡ name = (bytes_eq-Decides p.name name).0 parts.1 in
           rw (← same) (named_at all before p ps w whole (ap (what_of before) (is_type_same k p.kind parts.0)
           ∙ stands before))
@@ -197,7 +195,7 @@ wire_is plic n (Some from) pin wire is =
     elim (may_end plic n from pin) as (λ b.
     cond {A = Option Wire} b (Some (record { from = from; pin = pin })) None ≡ Some wire →
     (let o : Option WireFrom = Some from in o ≡ Some wire.from) × (pin ≡ wire.pin)) [
-      | true ↦ λ is. rw (← same_some _ _ is) (refl, refl)
+      | true ↦ λ is. rw (← same_Some _ _ is) (refl, refl)
       | false ↦ λ is. absurd (cc)
     ] is
 
@@ -231,14 +229,14 @@ put_led :
 put_led names cpus source target line pin lines pins None more wires one rest is = absurd (cc)
 put_led names cpus source target line pin lines pins (Some wire) None wires one rest is = absurd (cc)
 put_led names cpus source target line pin lines pins (Some wire) (Some ws) wires one rest is =
-    rw (← same_some _ _ is) (one wire refl, rest ws refl)
+    rw (← same_Some _ _ is) (one wire refl, rest ws refl)
 
 wired_led :
     (names : List Named) (cpus : List (List ℕ)) (source target : List ℕ) (f : ℕ → ℕ → Option Wire) →
     Leading names cpus source target f →
     (lines pins : List ℕ) (wires : List Wire) → wired f lines pins ≡ Some wires →
     AreLed names cpus source target lines pins wires
-wired_led names cpus source target f one [] [] wires is = rw (← same_some _ _ is) tt
+wired_led names cpus source target f one [] [] wires is = rw (← same_Some _ _ is) tt
 wired_led names cpus source target f one [] (pin ∷ pins) wires is = absurd (cc)
 wired_led names cpus source target f one (line ∷ lines) [] wires is = absurd (cc)
 wired_led names cpus source target f one (line ∷ lines) (pin ∷ pins) wires is =
@@ -246,12 +244,12 @@ wired_led names cpus source target f one (line ∷ lines) (pin ∷ pins) wires i
     (λ ws same. wired_led names cpus source target f one lines pins ws same) is
 
 ends_numbers : (e : Ends) (ns : List ℕ) → ends_of e ≡ Some ns → ns ≡ numbers e
-ends_numbers Absent ns is = sym (same_some _ _ is)
-ends_numbers Irq ns is = sym (same_some _ _ is)
+ends_numbers Absent ns is = sym (same_Some _ _ is)
+ends_numbers Irq ns is = sym (same_Some _ _ is)
 ends_numbers (Spans spans) ns is =
     elim (list_all is_low spans) as (λ b.
     cond {A = Option (List ℕ)} b (Some (flat_map numbers_of spans)) None ≡ Some ns →
-    ns ≡ flat_map numbers_of spans) [ true ↦ λ is. sym (same_some _ _ is) | false ↦ λ is. absurd (cc) ] is
+    ns ≡ flat_map numbers_of spans) [ true ↦ λ is. sym (same_Some _ _ is) | false ↦ λ is. absurd (cc) ] is
 
 ends_led :
     (names : List Named) (cpus : List (List ℕ)) (source target : List ℕ) (f : ℕ → ℕ → Option Wire) →
@@ -269,7 +267,7 @@ item_connected :
     (what : ItemWhat) (wires : List Wire) → Begins (each name_of [] all) plic t dev name →
     refers_to_none all what ≡ false → item_wires plic all t dev what ≡ Some wires →
     AreConnected (each name_of [] all) (cpus_of all) (connection name what) wires
-item_connected all plic t dev name (item.Attribute key value) wires begin refers is = sym (same_some _ _ is)
+item_connected all plic t dev name (item.Attribute key value) wires begin refers is = sym (same_Some _ _ is)
 item_connected all plic t dev name (item.Wire from to pins) wires begin refers is =
     let names = each name_of [] all in
     let cpus = cpus_of all in

@@ -3,6 +3,7 @@ use Rattle.std.proofs.Common.{◌≡◌, ℕ, ◌+◌, ◌<◌, ◌≤◌, ◌�
 use Rattle.std.proofs.Common.{Option, None, Some, nat_le, arith, append_assoc, if◌then◌else◌}
 use Rattle.std.proofs.lemmas.Bool.Decides.{nat_tests}
 use Rattle.std.proofs.lemmas.List.{append-nil}
+use Rattle.std.proofs.lemmas.Bool.{or_parts}
 use Rattle.dev_core.specs.declared.kind.Kind.TheVariants.{Uart, Can, Finisher}
 use Rattle.repl_build.specs.declared.merge.Peripheral.{Peripheral}
 use Rattle.repl_build.specs.declared.rules.Rule.TheVariants.{Counts}
@@ -13,7 +14,7 @@ use Rattle.repl_build.specs.First.{first_fault}
 use Rattle.repl_build.specs.Numbers.{AreFew, devices_of, is_device}
 use Rattle.repl_build.specs.Rules.{peripheral_fault, broken}
 use Rattle.repl_build.specs.Types.{is_type}
-use Rattle.repl_build.proofs.ListLemmas.{count_cons, count_push, or_false}
+use Rattle.repl_build.proofs.ListLemmas.{count_cons, count_push}
 use Rattle.repl_build.proofs.NoneLemmas.{first_none, unbroken}
 use Rattle.repl_build.proofs.TypeLemmas.{is_type_same}
 
@@ -34,7 +35,7 @@ one_more before x k few fits =
     count_of (before ++ x ∷ []) k ≤ most_of k) [
       | true ↦ λ is more.
           let below = room before k x.kind (is_type_same k x.kind is)
-          (or_false (are_as_many_as_may_be before x.kind) (passes_memory before x) fits).0 in
+          (or_parts (are_as_many_as_may_be before x.kind) (passes_memory before x) fits).0 in
           omega (arith, more, below)
       | false ↦ λ is more. omega (arith, more, few)
     ] refl push

@@ -1,13 +1,11 @@
 -- Lists and counts.
-use Rattle.std.proofs.Common.{◌≡◌, ℕ, ◌+◌, ◌<◌, ◌≤◌, ◌∙◌, Bool, true, false, ◌&&◌, refl, sym, ap, List, [], ◌∷◌, ◌++◌}
-use Rattle.std.proofs.Common.{count_by, if◌then◌else◌, arith, zero, suc, ◌||◌, cond}
+use Rattle.std.proofs.Common.{◌≡◌, ℕ, ◌+◌, ◌<◌, ◌≤◌, ◌∙◌, Bool, true, false, refl, sym, ap, List, [], ◌∷◌, ◌++◌}
+use Rattle.std.proofs.Common.{count_by, if◌then◌else◌, arith, zero, suc, cond}
 use Rattle.std.proofs.Common.{append_assoc, subst}
 use Rattle.std.proofs.lemmas.List.Folds.{list_all-append, list_any-append}
 use Rattle.std.proofs.lemmas.List.Sums.{sum_by-append, sum_by-cons, sum_by_push}
 use Rattle.std.specs.List.{list_all, list_any, range_with_len}
-
-pub both_true : (a b : Bool) → a ≡ true → b ≡ true → (a && b) ≡ true
-both_true a b one two = rw (one, two) refl
+use Rattle.std.proofs.lemmas.Bool.{and_from, or_parts}
 
 pub count_push :
     {X : Type 0} (p : X → Bool) (xs : List X) (x : X) →
@@ -27,27 +25,23 @@ pub all_in_range :
     (p : ℕ → Bool) (a n : ℕ) → ((i : ℕ) → a ≤ i → i < a + n → p i ≡ true) → list_all p (range_with_len a n) ≡ true
 all_in_range p a zero each = refl
 all_in_range p a (suc n) each =
-    both_true (p a) _ (each a (omega arith) (omega arith))
+    and_from (p a) _ (each a (omega arith) (omega arith))
     (all_in_range p (a + 1) n (λ i low high. each i (omega arith) (omega arith)))
 
 pub all_append :
     {X : Type 0} (p : X → Bool) (xs ys : List X) → list_all p xs ≡ true → list_all p ys ≡ true →
     list_all p (xs ++ ys) ≡ true
-all_append p xs ys one two = list_all-append p xs ys ∙ both_true _ _ one two
+all_append p xs ys one two = list_all-append p xs ys ∙ and_from _ _ one two
 
 -- no element passes the test with one before it
 abbrev pub NoneBefore : {X : Type 0} → (X → X → Bool) → List X → List X → Type 0
 NoneBefore q before [] = Unit {0}
 NoneBefore q before (x ∷ xs) = (list_any (q x) before ≡ false) × NoneBefore q (before ++ x ∷ []) xs
 
-pub or_false : (a b : Bool) → (a || b) ≡ false → (a ≡ false) × (b ≡ false)
-or_false true b is = absurd (cc)
-or_false false b is = (refl, is)
-
 any_none : {X : Type 0} (p : X → Bool) (xs : List X) → list_any p xs ≡ false → count_by p xs ≡ 0
 any_none p [] none = refl
 any_none p (x ∷ xs) none =
-    let parts = or_false (p x) (list_any p xs) none in
+    let parts = or_parts (p x) (list_any p xs) none in
     let one : cond {A = ℕ} (p x) 1 0 ≡ 0 = rw parts.0 refl in
     let rest = any_none p xs parts.1 in
     let sum = count_cons p x xs in
@@ -58,9 +52,9 @@ none_later :
     NoneBefore q (front ++ x ∷ back) xs → count_by (q x) xs ≡ 0
 none_later q same front x back [] none = refl
 none_later q same front x back (y ∷ ys) none =
-    let split = or_false (list_any (q y) front) (list_any (q y) (x ∷ back))
+    let split = or_parts (list_any (q y) front) (list_any (q y) (x ∷ back))
     (sym (list_any-append (q y) front (x ∷ back)) ∙ none.0) in
-    let here : q x y ≡ false = same x y ∙ (or_false (q y x) (list_any (q y) back) split.1).0 in
+    let here : q x y ≡ false = same x y ∙ (or_parts (q y x) (list_any (q y) back) split.1).0 in
     let one : cond {A = ℕ} (q x y) 1 0 ≡ 0 = rw here refl in
     let later = none_later q same front x (back ++ y ∷ []) ys
     (subst (λ before. NoneBefore q before ys) (append_assoc front (x ∷ back) (y ∷ [])) none.1) in
@@ -80,5 +74,5 @@ self_alone q same test before (x ∷ xs) whole one is none =
     let three = count_cons (q x) x xs in
     let all = ap (count_by (q x)) is in
     let here : count_by (q x) whole ≡ cond {A = ℕ} (q x x) 1 0 = omega (arith, early, late, two, three, all) in
-    both_true (test x) (list_all test xs) (one x here)
+    and_from (test x) (list_all test xs) (one x here)
     (self_alone q same test (before ++ x ∷ []) xs whole one (is ∙ sym (append_assoc before (x ∷ []) xs)) none.1)

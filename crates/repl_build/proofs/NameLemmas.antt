@@ -1,8 +1,7 @@
 -- The names of a plan, and what stands for what.
 use Rattle.std.proofs.Common.{◌≡◌, ℕ, ◌<◌, ◌==◌, ◌∙◌, Bool, true, false, ◌||◌, refl, sym, ap, List, []}
-use Rattle.std.proofs.Common.{◌∷◌, ◌++◌, Option, None, Some, nat_lt, cond, count_by, arith, is_some, append_assoc}
+use Rattle.std.proofs.Common.{◌∷◌, ◌++◌, Option, None, Some, cond, count_by, arith, is_some, append_assoc}
 use Rattle.std.proofs.Common.{subst}
-use Rattle.std.proofs.lemmas.Bool.Decides.{nat_tests}
 use Rattle.std.proofs.lemmas.List.{append-nil}
 use Rattle.std.proofs.lemmas.List.Folds.{list_any-append}
 use Rattle.std.proofs.lemmas.Grind.{flat_map-append}
@@ -10,6 +9,7 @@ use Rattle.std.proofs.lemmas.Slice.Eq.{bytes_eq-Decides}
 use Rattle.std.specs.List.{list_all, list_any, flat_map}
 use Rattle.std.specs.Option.{option_map}
 use Rattle.std.specs.Str.{bytes_eq}
+use Rattle.std.proofs.lemmas.Bool.{and_from, or_parts, and_parts, lt-ltb}
 use Rattle.repl_read.specs.Entries.{is_entry, is_head, are_items}
 use Rattle.lab_num.specs.Name.{is_identifier}
 use Rattle.repl_read.specs.Words.{is_dotted_name}
@@ -26,7 +26,7 @@ use Rattle.sys_bus.specs.Part.{is_part, names_part, has_no_others, has_region}
 use Rattle.sys_bus.specs.Region.{same_part}
 use Rattle.repl_build.specs.declared.merge.Peripheral.{Peripheral}
 use Rattle.repl_build.specs.declared.types.PeripheralType.{PeripheralType}
-use Rattle.repl_build.specs.declared.types.PeripheralType.TheVariants.{Cpu, Memory, Clint, Plic, Device}
+use Rattle.repl_build.specs.declared.types.PeripheralType.TheVariants.{Cpu, Memory, Clint, Plic}
 use Rattle.repl_build.specs.Counts.{count_of, first_with, has_type}
 use Rattle.repl_build.specs.First.{first_fault}
 use Rattle.repl_build.specs.Merge.{peripheral_by, peripheral_of, merged}
@@ -34,10 +34,9 @@ use Rattle.repl_build.specs.Names.{is_named, are_named, types_name, is_typed, re
 use Rattle.repl_build.specs.Numbers.{devices_of, what_of, is_device}
 use Rattle.repl_build.specs.Plan.{each, name_by, name_of, region_by, region_of}
 use Rattle.repl_build.specs.Types.{is_type}
-use Rattle.repl_build.proofs.ListLemmas.{count_cons, count_append, both_true, all_append, or_false, NoneBefore}
+use Rattle.repl_build.proofs.ListLemmas.{count_cons, count_append, all_append, NoneBefore}
 use Rattle.repl_build.proofs.ListLemmas.{self_alone}
 use Rattle.repl_build.proofs.NoneLemmas.{no_fault, first_none}
-use Rattle.repl_build.proofs.RangeLemmas.{and_true}
 use Rattle.repl_build.proofs.RegionLemmas.{each_append, regions_pass}
 use Rattle.repl_build.proofs.SoundLemmas.{Sound}
 use Rattle.repl_build.proofs.WhatLemmas.{same_part_of, device_cons}
@@ -53,9 +52,6 @@ names_pass test all before (p ∷ ps) one whole =
     all_append test (name_of before p) (each name_of (before ++ p ∷ []) ps)
     (one before p ps (what_of before p.kind) whole refl)
     (names_pass test all (before ++ p ∷ []) ps one (whole ∙ sym (append_assoc before (p ∷ []) ps)))
-
-below : (m n : ℕ) → m < n → nat_lt m n ≡ true
-below m n lt = grind (arith, nat_tests)
 
 memory_before :
     (all before : List Peripheral) (p : Peripheral) (ps : List Peripheral) → all ≡ before ++ p ∷ ps →
@@ -84,10 +80,10 @@ in_parts :
     is_part m d k ≡ true
 in_parts None before k m d is memory device = absurd (cc)
 in_parts (Some Cpu) before k m d is memory device = absurd (cc)
-in_parts (Some Memory) before k m d is memory device = rw (same_part_of _ _ is) (below _ _ (memory refl))
+in_parts (Some Memory) before k m d is memory device = rw (same_part_of _ _ is) (lt-ltb _ _ (memory refl))
 in_parts (Some Clint) before k m d is memory device = rw (same_part_of _ _ is) refl
 in_parts (Some Plic) before k m d is memory device = rw (same_part_of _ _ is) refl
-in_parts _ before k m d is memory device = rw (same_part_of _ _ is) (below _ _ (device refl))
+in_parts _ before k m d is memory device = rw (same_part_of _ _ is) (lt-ltb _ _ (device refl))
 
 part_one :
     (all before : List Peripheral) (p : Peripheral) (ps : List Peripheral) (k : RegionKind) → all ≡ before ++ p ∷ ps →
@@ -103,7 +99,7 @@ name_part :
     list_all (λ n. names_part (count_of all Memory) (devices_of all) n.what) (name_by p.name o) ≡ true
 name_part all before p ps None whole is = refl
 name_part all before p ps (Some what.Cpu) whole is = refl
-name_part all before p ps (Some (what.Part k)) whole is = both_true _ _ (part_one all before p ps k whole is) refl
+name_part all before p ps (Some (what.Part k)) whole is = and_from _ _ (part_one all before p ps k whole is) refl
 
 region_part :
     (all before : List Peripheral) (p : Peripheral) (ps : List Peripheral) (o : Option NamedWhat) →
@@ -112,14 +108,14 @@ region_part :
     list_all (λ region. is_part (count_of all Memory) (devices_of all) region.kind) (region_by p o) ≡ true
 region_part all before p ps None whole is = refl
 region_part all before p ps (Some what.Cpu) whole is = refl
-region_part all before p ps (Some (what.Part k)) whole is = both_true _ _ (part_one all before p ps k whole is) refl
+region_part all before p ps (Some (what.Part k)) whole is = and_from _ _ (part_one all before p ps k whole is) refl
 
 -- there is no further name or region
 pub no_others :
     (all : List Peripheral) → Sound all [] all →
     has_no_others (each name_of [] all) (each region_of [] all) (count_of all Memory) (devices_of all) ≡ true
 no_others all sound =
-    both_true _ _ (names_pass _ all [] all (name_part all) refl)
+    and_from _ _ (names_pass _ all [] all (name_part all) refl)
     (regions_pass _ all [] all (λ before p ps o fits whole is. region_part all before p ps o whole is) refl sound)
 
 -- a type that is there has a region
@@ -190,7 +186,7 @@ other_names : (p : Peripheral) (n : Named) → n.name ≡ p.name → (before xs 
     list_any (called_same p) xs ≡ false → list_any (same_name n) (each name_of before xs) ≡ false
 other_names p n is before [] none = refl
 other_names p n is before (q ∷ qs) none =
-    let parts = or_false (called_same p q) (list_any (called_same p) qs) none in
+    let parts = or_parts (called_same p q) (list_any (called_same p) qs) none in
     let one = other_name p q.name (what_of before q.kind) n is parts.0 in
     let rest = other_names p n is (before ++ q ∷ []) qs parts.1 in
     list_any-append (same_name n) (name_of before q) (each name_of (before ++ q ∷ []) qs) ∙ (rw (one, rest) refl)
@@ -276,13 +272,13 @@ good_entry :
     list_all (λ p. is_identifier p.name) (peripheral_by all e head) ≡ true
 good_entry all e (Using file) good = refl
 good_entry all e (Update n) good = refl
-good_entry all e (Typed n kind at) good = both_true _ _ good refl
+good_entry all e (Typed n kind at) good = and_from _ _ good refl
 
 good_merged : (all xs : List Entry) → are_named xs ≡ true →
     list_all (λ p. is_identifier p.name) (flat_map (peripheral_of all) xs) ≡ true
 good_merged all [] good = refl
 good_merged all (e ∷ es) good =
-    let parts = and_true (is_named e.head) (are_named es) good in
+    let parts = and_parts (is_named e.head) (are_named es) good in
     all_append _ (peripheral_of all e) (flat_map (peripheral_of all) es)
     (good_entry all e e.head parts.0) (good_merged all es parts.1)
 
@@ -290,13 +286,13 @@ good_names : (before xs : List Peripheral) → list_all (λ p. is_identifier p.n
     are_names (each name_of before xs) ≡ true
 good_names before [] good = refl
 good_names before (p ∷ ps) good =
-    let parts = and_true (is_identifier p.name) (list_all (λ p. is_identifier p.name) ps) good in
+    let parts = and_parts (is_identifier p.name) (list_all (λ p. is_identifier p.name) ps) good in
     all_append _ (name_of before p) (each name_of (before ++ p ∷ []) ps) (one (what_of before p.kind) parts.0)
     (good_names (before ++ p ∷ []) ps parts.1)
   where
     one : (o : Option NamedWhat) → is_identifier p.name ≡ true → are_names (name_by p.name o) ≡ true
     one None good = refl
-    one (Some what) good = both_true _ _ good refl
+    one (Some what) good = and_from _ _ good refl
 
 pub names_good : (entries : List Entry) → are_named entries ≡ true →
     are_names (each name_of [] (merged entries)) ≡ true
@@ -306,11 +302,11 @@ names_good entries good = good_names [] (merged entries) (good_merged entries en
 pub text_named : (entries : List Entry) → list_all is_entry entries ≡ true → are_named entries ≡ true
 text_named [] good = refl
 text_named (e ∷ es) good =
-    let parts = and_true (is_entry e) (list_all is_entry es) good in
-    both_true (is_named e.head) (are_named es) (head_named e.head (and_true (is_head e.head) (are_items e.items)
+    let parts = and_parts (is_entry e) (list_all is_entry es) good in
+    and_from (is_named e.head) (are_named es) (head_named e.head (and_parts (is_head e.head) (are_items e.items)
     parts.0).0) (text_named es parts.1)
   where
     head_named : (head : Head) → is_head head ≡ true → is_named head ≡ true
     head_named (Using file) good = refl
     head_named (Update n) good = refl
-    head_named (Typed n kind at) good = (and_true (is_identifier n) (is_dotted_name kind) good).0
+    head_named (Typed n kind at) good = (and_parts (is_identifier n) (is_dotted_name kind) good).0

@@ -6,6 +6,7 @@ use Rattle.std.proofs.lemmas.Bool.Decides.{nat_tests}
 use Rattle.std.proofs.lemmas.List.{append-nil}
 use Rattle.std.proofs.lemmas.List.Sums.{sum_by-cons, sum_by_push}
 use Rattle.std.specs.List.{cons_option, sum_by}
+use Rattle.std.proofs.lemmas.Bool.{and_from}
 use Rattle.dev_core.specs.declared.kind.Kind.{Kind}
 use Rattle.dev_core.specs.Kind.{is_kind}
 use Rattle.sys_bus.specs.Limits.{most_memory}
@@ -23,7 +24,7 @@ use Rattle.repl_build.specs.Numbers.{devices_of, is_device}
 use Rattle.repl_build.specs.Places.{size_of}
 use Rattle.repl_build.specs.Plan.{each, name_of, region_of, kind_by, kinds_of, memories_of}
 use Rattle.repl_build.specs.Types.{is_type}
-use Rattle.repl_build.proofs.ListLemmas.{count_cons, both_true, all_in_range}
+use Rattle.repl_build.proofs.ListLemmas.{count_cons, all_in_range}
 use Rattle.repl_build.proofs.PartCounts.{names_hits, regions_hits, one_each, memories_numbered, devices_numbered}
 use Rattle.repl_build.proofs.PartCounts.{clint_hits}
 use Rattle.repl_build.proofs.PartCounts.{plic_hits}
@@ -131,14 +132,14 @@ each_one :
     regions_of (each region_of [] all) k ≡ n → n ≡ 1 →
     has_one_each (each name_of [] all) (each region_of [] all) k ≡ true
 each_one all k n names regions one =
-    both_true _ _ (equal _ 1 (names ∙ one)) (equal _ 1 (regions ∙ one))
+    and_from _ _ (equal _ 1 (names ∙ one)) (equal _ 1 (regions ∙ one))
 
 most_one :
     (names : List Named) (regions : List Region) (k : RegionKind) (n : ℕ) → names_of names k ≡ n →
     regions_of regions k ≡ n →
     n ≤ 1 → has_at_most_one_each names regions k ≡ true
 most_one names regions k n is at few =
-    both_true _ _ (below (regions_of regions k) 1 (omega (arith, at, few))) (equal _ _ (is ∙ sym at))
+    and_from _ _ (below (regions_of regions k) 1 (omega (arith, at, few))) (equal _ _ (is ∙ sym at))
   where
     below : (m n : ℕ) → m ≤ n → nat_le m n ≡ true
     below m n le = grind (arith, nat_tests)
@@ -155,7 +156,7 @@ parts all clints plics =
     (let inside : i < devices_of all = omega (arith, high, devices_count all) in
     let one = one_each _ part.Dev _ devices_numbered i [] all (omega arith) inside in
     each_one all (part.Dev i) _ (names_hits (part.Dev i) [] all) (regions_hits (part.Dev i) [] all) one) in
-    both_true _ _ (both_true _ _ (both_true _ _
+    and_from _ _ (and_from _ _ (and_from _ _
     (all_in_range _ 0 (length (memories_of all)) memory) (all_in_range _ 0 (length (kinds_of all)) device))
     (most_one (each name_of [] all) (each region_of [] all) part.Clint (count_of all Clint)
     (names_hits part.Clint [] all ∙ clint_hits [] all)

@@ -8,6 +8,7 @@ use Rattle.std.proofs.lemmas.List.Quantifiers.{position-Some}
 use Rattle.std.proofs.lemmas.Slice.Eq.{bytes_eq-Decides}
 use Rattle.std.specs.List.{list_any, position_or_len}
 use Rattle.std.specs.Str.{bytes_eq}
+use Rattle.std.proofs.lemmas.Bool.{and_parts}
 use Rattle.sys_bus.specs.declared.plan.Named.{Named}
 use Rattle.sys_bus.specs.Name.{is_processor, processors}
 use Rattle.repl_build.specs.declared.merge.Peripheral.{Peripheral}
@@ -20,7 +21,6 @@ use Rattle.repl_build.specs.Processors.{cpus_of, hart_of, is_cpu}
 use Rattle.repl_build.specs.References.{names_a}
 use Rattle.repl_build.specs.Types.{is_type}
 use Rattle.repl_build.proofs.ListLemmas.{count_cons}
-use Rattle.repl_build.proofs.RangeLemmas.{and_true}
 use Rattle.repl_build.proofs.TypeLemmas.{is_type_same}
 
 pub cpus_count : (all : List Peripheral) → length (cpus_of all) ≡ count_of all Cpu
@@ -120,7 +120,7 @@ hart_found (q ∷ qs) name hart is = by_place (position (is_cpu name) (q ∷ qs)
         let all = q ∷ qs in
         let there = position-Some (is_cpu name) all i q found in
         let p = get_or all i q in
-        let parts = and_true (is_type Cpu p.kind) (bytes_eq p.name name) there.1 in
+        let parts = and_parts (is_type Cpu p.kind) (bytes_eq p.name name) there.1 in
         record {
           before = take i all;
           p = p;

@@ -3,6 +3,7 @@ use Rattle.std.proofs.Common.{◌≡◌, ℕ, ◌%◌, ◌==◌, ◌∙◌, Bool
 use Rattle.std.proofs.Common.{◌++◌}
 use Rattle.std.proofs.Common.{Option, None, Some, nat_le, cond, codes, slice_get}
 use Rattle.std.specs.List.{list_all}
+use Rattle.std.proofs.lemmas.Bool.{and_parts, and_from}
 use Rattle.dev_core.specs.declared.kind.Kind.{Kind}
 use Rattle.dev_core.specs.declared.kind.Kind.TheVariants.{Uart, Can, Finisher}
 use Rattle.dev_core.specs.Kind.{least_size_of, row_of}
@@ -24,17 +25,12 @@ use Rattle.repl_build.specs.Places.{is_registered, has_range, has_required, step
 use Rattle.repl_build.specs.Places.{usual_size, size_at, base_at}
 use Rattle.repl_build.specs.Plan.{each, region_by, region_of, kinds_of, kind_by}
 use Rattle.repl_build.specs.Types.{is_type}
-use Rattle.repl_build.proofs.ListLemmas.{both_true}
 use Rattle.repl_build.proofs.NumberLemmas.{memory_sized}
 use Rattle.repl_build.proofs.PartLemmas.{any_found}
 use Rattle.repl_build.proofs.RegionLemmas.{regions_pass}
 use Rattle.repl_build.proofs.SoundLemmas.{Fits, Sound}
 use Rattle.repl_build.proofs.TypeLemmas.{is_type_same}
 use Rattle.repl_build.proofs.WhatLemmas.{same_part_of, kind_at}
-
-pub and_true : (a b : Bool) → (a && b) ≡ true → (a ≡ true) × (b ≡ true)
-and_true true b is = (refl, is)
-and_true false b is = absurd (cc)
 
 record IsPlaced (t : Option PeripheralType) (at : Place) (items : List PlacedItem) : Type 0 where
   base : (base_at at % region_unit == 0) ≡ true
@@ -58,8 +54,8 @@ ranged :
     (t : Option PeripheralType) (base size : ℕ) (items : List PlacedItem) →
     is_place t (step_of t items) (Range base size) ≡ true → IsPlaced t (Range base size) items
 ranged t base size items good =
-    let first = and_true ((base % region_unit == 0) && is_unit t size) _ good in
-    let second = and_true (base % region_unit == 0) (is_unit t size) first.0 in
+    let first = and_parts ((base % region_unit == 0) && is_unit t size) _ good in
+    let second = and_parts (base % region_unit == 0) (is_unit t size) first.0 in
     record { base = second.0; unit = second.1; least = first.1 }
 
 placed :
@@ -72,7 +68,7 @@ placed None at items before part is memory registered good = absurd (cc)
 placed (Some Cpu) at items before part is memory registered good = absurd (cc)
 placed t (Range base size) items before part is memory registered good = ranged t base size items good
 placed (Some Memory) (Address base) items before part is memory registered good =
-    let size = and_true (number_of (codes "size") 0 items % page_size == 0) _ (memory refl refl) in
+    let size = and_parts (number_of (codes "size") 0 items % page_size == 0) _ (memory refl refl) in
     record { base = good; unit = size.0; least = size.1 }
 placed (Some (Device kind)) (Address base) items before part is memory registered good =
     record { base = good; unit = usual_unit kind; least = usual_enough kind (is_set (codes "wideRegisters") items) }
@@ -81,7 +77,7 @@ placed _ (Address base) items before part is memory registered good =
 placed _ _ items before part is memory registered good = absurd (cc)
 
 all_three : (a b c : Bool) → a ≡ true → b ≡ true → c ≡ true → (a && b && c) ≡ true
-all_three a b c one two last = both_true (a && b) c (both_true a b one two) last
+all_three a b c one two last = and_from (a && b) c (and_from a b one two) last
 
 range_of :
     (t : Option PeripheralType) (at : Place) (items : List PlacedItem) (before : List Peripheral) (part : RegionKind)
@@ -127,7 +123,7 @@ ranged_one all before p ps (Some (what.Part part)) fits whole is =
     let good = placed p.kind p.at p.items before part is memory fits.registered fits.placed in
     let found : is_device p.kind ≡ true → slice_get (kinds_of all) (devices_of before) ≡ kind_by p.kind =
     λ device. ap (λ ps. slice_get (kinds_of ps) (devices_of before)) whole ∙ kind_at before p ps device in
-    both_true _ _ (range_of p.kind p.at p.items before part (kinds_of all) is found good) refl
+    and_from _ _ (range_of p.kind p.at p.items before part (kinds_of all) is found good) refl
 
 -- each region has an address and a size that may be
 pub ranges : (all : List Peripheral) → Sound all [] all → are_ranges (kinds_of all) (each region_of [] all) ≡ true

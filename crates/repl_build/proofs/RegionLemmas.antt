@@ -12,6 +12,7 @@ use Rattle.sys_bus.specs.declared.region.RegionKind.{RegionKind}
 use Rattle.sys_bus.specs.Limits.{device_in, is_step, are_steps}
 use Rattle.sys_bus.specs.Part.{has_memory_size, have_memory_sizes}
 use Rattle.std.specs.Prelude.{slice_index}
+use Rattle.std.proofs.lemmas.Bool.{and_from, or_parts}
 use Rattle.dev_core.specs.Kind.{row_of}
 use Rattle.sys_bus.specs.declared.plan.NamedWhat.{NamedWhat}
 use Rattle.sys_bus.specs.declared.plan.NamedWhat.TheVariants as what
@@ -26,7 +27,7 @@ use Rattle.repl_build.specs.Places as place
 use Rattle.repl_build.specs.Plan.{each, region_by, region_of, memories_of, kinds_of, kind_by}
 use Rattle.repl_build.specs.Types.{is_type}
 use Rattle.repl_build.proofs.WhatLemmas.{same_part_of, memory_at, kind_at}
-use Rattle.repl_build.proofs.ListLemmas.{both_true, all_append, or_false, NoneBefore, self_alone}
+use Rattle.repl_build.proofs.ListLemmas.{all_append, NoneBefore, self_alone}
 use Rattle.repl_build.proofs.SoundLemmas.{Fits, Sound}
 
 same_number : (n : ℕ) → (n == n) ≡ true
@@ -52,7 +53,7 @@ addressed_one all before p (Some what.Cpu) fits = refl
 addressed_one all before p (Some (what.Part part)) fits =
     let low : nat_le (place.base_of p + place.size_of p) (2 ^ 32) ≡ true =
     below (2 ^ 32) (place.base_of p + place.size_of p) fits.addressed in
-    both_true _ _ low refl
+    and_from _ _ low refl
   where
     below : (m n : ℕ) → nat_lt m n ≡ false → nat_le n m ≡ true
     below m n is = grind (arith, nat_tests)
@@ -83,7 +84,7 @@ sized_one :
 sized_one all before p ps None whole is = refl
 sized_one all before p ps (Some what.Cpu) whole is = refl
 sized_one all before p ps (Some (what.Part part)) whole is =
-    both_true _ _ (rw whole (size_one p.kind p before ps part refl is)) refl
+    and_from _ _ (rw whole (size_one p.kind p before ps part refl is)) refl
 
 -- a memory's region has the memory's size
 pub memory_sizes :
@@ -119,7 +120,7 @@ stepped_one :
 stepped_one all before p ps None whole is = refl
 stepped_one all before p ps (Some what.Cpu) whole is = refl
 stepped_one all before p ps (Some (what.Part part)) whole is =
-    both_true _ _ (rw whole (step_one p.kind p before ps part refl is)) refl
+    and_from _ _ (rw whole (step_one p.kind p before ps part refl is)) refl
 
 pub steps : (all : List Peripheral) → Sound all [] all → are_steps (kinds_of all) (each region_of [] all) ≡ true
 steps all sound =
@@ -159,7 +160,7 @@ regions_apart :
     list_any (place.overlaps p) xs ≡ false → list_any (overlaps r) (each region_of before xs) ≡ false
 regions_apart p r base size before [] none = refl
 regions_apart p r base size before (q ∷ qs) none =
-    let parts = or_false (place.overlaps p q) (list_any (place.overlaps p) qs) none in
+    let parts = or_parts (place.overlaps p q) (list_any (place.overlaps p) qs) none in
     let one = apart_one p q (what_of before q.kind) parts.0 r base size in
     let rest = regions_apart p r base size (before ++ q ∷ []) qs parts.1 in
     list_any-append (overlaps r) (region_of before q) (each region_of (before ++ q ∷ []) qs) ∙ (rw (one, rest) refl)

@@ -1,6 +1,7 @@
 -- What each peripheral meets that stands after others, where all rules are kept.
-use Rattle.std.proofs.Common.{◌≡◌, ◌^◌, Bool, true, false, not, refl, List, [], ◌∷◌, ◌++◌, None, nat_lt, is_none}
+use Rattle.std.proofs.Common.{◌≡◌, ◌^◌, true, false, List, [], ◌∷◌, ◌++◌, None, nat_lt, is_none}
 use Rattle.std.specs.List.{list_any}
+use Rattle.std.proofs.lemmas.Bool.{not-false, or_parts}
 use Rattle.repl_build.specs.declared.merge.Peripheral.{Peripheral}
 use Rattle.repl_build.specs.declared.rules.Rule.TheVariants.{Types, Required, Values, Counts, Apart}
 use Rattle.repl_build.specs.Counts.{passes_memory, are_as_many_as_may_be}
@@ -8,7 +9,6 @@ use Rattle.repl_build.specs.First.{first_fault}
 use Rattle.repl_build.specs.Places.{is_registered, has_required, is_place, is_misplaced, step_of, overlaps, end_of}
 use Rattle.repl_build.specs.Processors.{is_out_of_step}
 use Rattle.repl_build.specs.Rules.{items_fault, peripheral_fault}
-use Rattle.repl_build.proofs.ListLemmas.{or_false}
 use Rattle.repl_build.proofs.NoneLemmas.{first_none, unbroken}
 use Rattle.repl_build.proofs.PartLemmas.{complete}
 use Rattle.repl_build.proofs.TestedLemmas.{Keeps}
@@ -28,10 +28,6 @@ abbrev pub Sound : List Peripheral → List Peripheral → List Peripheral → T
 Sound all before [] = Unit {0}
 Sound all before (p ∷ ps) = Fits all before p × Sound all (before ++ p ∷ []) ps
 
-not_false : (b : Bool) → not b ≡ false → b ≡ true
-not_false true is = refl
-not_false false is = absurd (cc)
-
 sound_from :
     (all before xs : List Peripheral) → first_fault (peripheral_fault Types all) before xs ≡ None →
     first_fault (peripheral_fault Required all) before xs ≡ None →
@@ -47,18 +43,18 @@ sound_from all before (p ∷ ps) types required values counts apart =
     let a = first_none _ _ apart in
     let whole = complete p (unbroken Required all before p r.0).0 in
     let value = unbroken Values all before p v.0 in
-    let parts = or_false (is_misplaced p) (is_out_of_step before p) value.0 in
-    let collides = or_false (nat_lt (2 ^ 32) (end_of p)) (list_any (overlaps p) before)
+    let parts = or_parts (is_misplaced p) (is_out_of_step before p) value.0 in
+    let collides = or_parts (nat_lt (2 ^ 32) (end_of p)) (list_any (overlaps p) before)
     (unbroken Apart all before p a.0).0 in
     let fits : Fits all before p =
     record {
       known = (unbroken Types all before p t.0).0;
       registered = whole.0;
       required = whole.1;
-      placed = not_false (is_place p.kind (step_of p.kind p.items) p.at) parts.0;
+      placed = not-false (is_place p.kind (step_of p.kind p.items) p.at) parts.0;
       values = value.1;
       step = parts.1;
-      few = (or_false (are_as_many_as_may_be before p.kind) (passes_memory before p)
+      few = (or_parts (are_as_many_as_may_be before p.kind) (passes_memory before p)
           (unbroken Counts all before p c.0).0).1;
       apart = collides.1;
       addressed = collides.0;

@@ -1,6 +1,6 @@
 -- The processors of peripherals that keep all rules are equally fast.
 use Rattle.std.proofs.Common.{◌≡◌, ◌∙◌, ℕ, ◌+◌, ◌*◌, ◌%◌, ◌==◌, ◌≤◌, Bool, true, false, not, ◌&&◌, ◌||◌, refl, sym, ap}
-use Rattle.std.proofs.Common.{List, [], ◌∷◌, ◌++◌, Option, None, Some, arith, cond, codes, nat_le, nat_lt, suc}
+use Rattle.std.proofs.Common.{List, [], ◌∷◌, ◌++◌, Option, None, Some, arith, cond, codes, nat_lt, suc}
 use Rattle.std.proofs.Common.{append_assoc, subst}
 use Rattle.std.proofs.lemmas.Bool.Decides.{nat_tests}
 use Rattle.std.proofs.lemmas.List.{append-nil}
@@ -9,6 +9,7 @@ use Rattle.std.proofs.lemmas.List.Sums.{sum_by_push}
 use Rattle.std.proofs.Math.Nat.{mul-mod_right, suc-mul}
 use Rattle.std.specs.List.{sum_by}
 use Rattle.std.specs.Option.{option_or}
+use Rattle.std.proofs.lemmas.Bool.{and_from, le-leb}
 use Rattle.sys_bus.specs.Limits as limit
 use Rattle.sys_bus.specs.Limits.{most_speed}
 use Rattle.repl_build.specs.declared.merge.Peripheral.{Peripheral}
@@ -21,7 +22,7 @@ use Rattle.repl_build.specs.Names.{has_key}
 use Rattle.repl_build.specs.Processors.{speed_of, is_refused_in, has_no_speed, has_other_speed}
 use Rattle.repl_build.specs.Rules.{item_fault, items_fault}
 use Rattle.repl_build.specs.Types.{is_type}
-use Rattle.repl_build.proofs.ListLemmas.{both_true, count_push}
+use Rattle.repl_build.proofs.ListLemmas.{count_push}
 use Rattle.repl_build.proofs.NoneLemmas.{no_fault, found_sound}
 use Rattle.repl_build.proofs.NumberLemmas.{IsBetween, number_within}
 use Rattle.repl_build.proofs.SoundLemmas.{Fits, Sound}
@@ -145,12 +146,9 @@ speed_within :
 speed_within None count sum even few some = absurd (omega (arith, even.0, some))
 speed_within (Some first) count sum even few some =
     let one : 1 ≤ sum = rw even.0 (positive count (speed_of first) some even.1) in
-    both_true _ _ (both_true _ _ (at_most 1 sum one) (at_most sum most_speed few))
+    and_from _ _ (and_from _ _ (le-leb 1 sum one) (le-leb sum most_speed few))
     (rw even.0 (mod_none count (speed_of first)))
   where
-    at_most : (m n : ℕ) → m ≤ n → nat_le m n ≡ true
-    at_most m n le = grind (arith, nat_tests)
-
     positive : (m n : ℕ) → 1 ≤ m → 1 ≤ n → 1 ≤ m * n
     positive m n one two = grind arith
 

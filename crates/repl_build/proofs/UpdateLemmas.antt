@@ -5,6 +5,7 @@ use Rattle.std.proofs.lemmas.List.Sums.{fold-append}
 use Rattle.std.proofs.lemmas.Slice.Eq.{bytes_eq-Decides}
 use Rattle.std.specs.List.{flat_map, fold, list_any}
 use Rattle.std.specs.Str.{bytes_eq}
+use Rattle.std.proofs.lemmas.Bool.{or_parts}
 use Rattle.repl_read.specs.declared.entry.Entry.{Entry}
 use Rattle.repl_read.specs.declared.entry.Head.{Head}
 use Rattle.repl_read.specs.declared.entry.Head.TheVariants.{Using, Typed, Update}
@@ -17,7 +18,6 @@ use Rattle.repl_build.specs.Names.{types_name, is_typed}
 use Rattle.repl_build.specs.Plan.{plan_of, built}
 use Rattle.repl_build.specs.Types.{type_of}
 use Rattle.repl_build.specs.Updates.{IsWrittenIn, is_updated, KeepNames}
-use Rattle.repl_build.proofs.ListLemmas.{or_false}
 use Rattle.repl_build.proofs.NameLemmas.{bytes_eq_comm}
 
 none_made :
@@ -25,7 +25,7 @@ none_made :
     list_any p xs ≡ false → flat_map g xs ≡ []
 none_made g p [] one none = refl
 none_made g p (x ∷ xs) one none =
-    let parts = or_false (p x) (list_any p xs) none in
+    let parts = or_parts (p x) (list_any p xs) none in
     rw (one x parts.0, none_made g p xs one parts.1) refl
 
 same_made :
@@ -33,7 +33,7 @@ same_made :
     list_any p xs ≡ false → flat_map f xs ≡ flat_map g xs
 same_made f g p [] one none = refl
 same_made f g p (x ∷ xs) one none =
-    let parts = or_false (p x) (list_any p xs) none in
+    let parts = or_parts (p x) (list_any p xs) none in
     rw (one x parts.0, same_made f g p xs one parts.1) refl
 
 -- entries with the two apart, and with the two in one

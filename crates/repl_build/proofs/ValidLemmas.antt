@@ -1,8 +1,8 @@
 -- The plan of entries without a fault is valid.
 use Rattle.std.proofs.Common.{◌≡◌, ℕ, ◌≤◌, ◌∙◌, true, ◌&&◌, refl, sym, List, Option, None, Some, Result, Ok, Err}
 use Rattle.std.proofs.Common.{nat_le, length, sum, arith, [], IfOk, IsTrue}
-use Rattle.std.proofs.lemmas.Bool.Decides.{nat_tests}
 use Rattle.std.specs.Option.{option_map}
+use Rattle.std.proofs.lemmas.Bool.{and_from, le-leb}
 use Rattle.dev_core.specs.declared.kind.Kind.{Kind}
 use Rattle.dev_core.specs.declared.kind.Kind.TheVariants.{Uart, Can, Finisher}
 use Rattle.repl_read.specs.declared.entry.Entry.{Entry}
@@ -22,7 +22,6 @@ use Rattle.repl_build.specs.Names.{are_named, repeated, untyped}
 use Rattle.repl_build.specs.Plan.{memories_of, kinds_of, clint_frequency, plic_size_of}
 use Rattle.repl_build.specs.Plan.{wires_of, plan_with, tested, built, Gives}
 use Rattle.repl_build.proofs.CountLemmas.{few_of}
-use Rattle.repl_build.proofs.ListLemmas.{both_true}
 use Rattle.repl_build.proofs.NameLemmas.{names_good, differ, distinct, no_others, clint_there, plic_there}
 use Rattle.repl_build.proofs.NameLemmas.{found_type}
 use Rattle.repl_build.proofs.NumberLemmas.{IsBetween}
@@ -37,19 +36,16 @@ use Rattle.repl_build.proofs.SpeedLemmas.{speed_good}
 use Rattle.repl_build.proofs.TestedLemmas.{Keeps, keeps, passed}
 use Rattle.repl_build.proofs.WireValid.{ok_then, same_ok, wires_good}
 
-at_most : (m n : ℕ) → m ≤ n → nat_le m n ≡ true
-at_most m n le = grind (arith, nat_tests)
-
 within : (least most n : ℕ) → IsBetween least most n → (nat_le least n && nat_le n most) ≡ true
-within least most n is = both_true _ _ (at_most least n is.0) (at_most n most is.1)
+within least most n is = and_from _ _ (le-leb least n is.0) (le-leb n most is.1)
 
 processors_few : (all : List Peripheral) → Keeps all → 1 ≤ count_of all Cpu →
     limit.are_few_processors (cpus_of all) ≡ true
 processors_few all keeps some =
     let few = few_of all Cpu keeps.counts in
     let count = cpus_count all in
-    both_true _ _ (at_most 1 (length (cpus_of all)) (omega (arith, some, count)))
-    (at_most (length (cpus_of all)) 4 (omega (arith, few, count)))
+    and_from _ _ (le-leb 1 (length (cpus_of all)) (omega (arith, some, count)))
+    (le-leb (length (cpus_of all)) 4 (omega (arith, few, count)))
 
 frequency_good : (all : List Peripheral) (o : Option Peripheral) → Keeps all → first_with Clint all ≡ o →
     limit.is_frequency (option_map clint_frequency o) ≡ true
@@ -61,14 +57,14 @@ plic_good : (all : List Peripheral) (o : Option Peripheral) → Keeps all → fi
 plic_good all None keeps found = refl
 plic_good all (Some p) keeps found =
     let numbers = plic_numbers all p keeps found in
-    both_true _ _ (both_true _ _ (within 1 127 _ numbers.0) (at_most 1 _ numbers.1.0)) (at_most _ 15 numbers.1.1)
+    and_from _ _ (and_from _ _ (within 1 127 _ numbers.0) (le-leb 1 _ numbers.1.0)) (le-leb _ 15 numbers.1.1)
 
 devices_few : (all : List Peripheral) → Keeps all → limit.are_few_devices (kinds_of all) ≡ true
 devices_few all keeps =
-    both_true _ _ (few Uart) (both_true _ _ (few Can) (both_true _ _ (few Finisher) refl))
+    and_from _ _ (few Uart) (and_from _ _ (few Can) (and_from _ _ (few Finisher) refl))
   where
     few : (kind : Kind) → limit.are_few_of (kinds_of all) kind ≡ true
-    few kind = at_most _ _ (omega (arith, few_of all (Device kind) keeps.counts, kinds_count kind all))
+    few kind = le-leb _ _ (omega (arith, few_of all (Device kind) keeps.counts, kinds_count kind all))
 
 memories_few : (all : List Peripheral) → Keeps all → has_type Memory all ≡ true →
     limit.are_few_memories (memories_of all) ≡ true
@@ -78,10 +74,10 @@ memories_few all keeps there =
     let bytes = few_bytes all (sound all keeps) in
     let count = memories_count all in
     let total = memories_sum all in
-    both_true _ _
-    (both_true _ _ (at_most 1 (length (memories_of all)) (omega (arith, some, count)))
-    (at_most (length (memories_of all)) 8 (omega (arith, few, count))))
-    (at_most (sum (memories_of all)) most_memory (omega (arith, bytes, total)))
+    and_from _ _
+    (and_from _ _ (le-leb 1 (length (memories_of all)) (omega (arith, some, count)))
+    (le-leb (length (memories_of all)) 8 (omega (arith, few, count))))
+    (le-leb (sum (memories_of all)) most_memory (omega (arith, bytes, total)))
 
 plan_valid :
     (entries : List Entry) (wires : List Wire) → are_named entries ≡ true → repeated entries ≡ None →

@@ -3,6 +3,8 @@ use Rattle.std.proofs.Common.{◌≡◌, ℕ, ◌==◌, ◌∙◌, Bool, true, f
 use Rattle.std.proofs.Common.{Option}
 use Rattle.std.proofs.Common.{None, Some, Result, Ok, Err, cond, slice_get, append_assoc, length}
 use Rattle.std.specs.List.{list_all}
+use Rattle.std.proofs.lemmas.Bool.{and_from}
+use Rattle.std.proofs.lemmas.Option.{same_Some}
 use Rattle.dev_core.specs.Kind.{row_of}
 use Rattle.dev_core.specs.declared.kind.Kind.{Kind}
 use Rattle.repl_read.specs.declared.entry.ItemWhat.{ItemWhat}
@@ -29,7 +31,7 @@ use Rattle.repl_build.specs.Processors.{cpus_of, hart_of}
 use Rattle.repl_build.specs.Types.{is_type}
 use Rattle.repl_build.specs.Wires.{ends_of, line_of, pin_by, wire_by, wire_at, in_front, wired, wired_ends, has_ends}
 use Rattle.repl_build.specs.Wires.{item_wires, wires_or, placed_wires, items_wires}
-use Rattle.repl_build.proofs.ListLemmas.{both_true, all_append}
+use Rattle.repl_build.proofs.ListLemmas.{all_append}
 use Rattle.repl_build.proofs.NameLemmas.{clint_there}
 use Rattle.repl_build.proofs.ProcessorLemmas.{cpus_count}
 use Rattle.repl_build.proofs.WhatLemmas.{kind_at}
@@ -43,9 +45,6 @@ ok_then (Err fault) f y is = absurd (cc)
 
 pub same_ok : {A : Type 0} (x y : A) → (let r : Result A PlatFault = Ok x in r) ≡ Ok y → x ≡ y
 same_ok x y is = cc
-
-pub same_some : {A : Type 0} (x y : A) → (let r : Option A = Some x in r) ≡ Some y → x ≡ y
-same_some x y is = cc
 
 abbrev good : List Kind → List Region → Option PlicSize → ℕ → Wire → Bool
 good kinds regions plic n wire = is_from kinds regions plic wire.from && may_end plic n wire.from wire.pin
@@ -66,8 +65,8 @@ wire_good kinds regions plic n (Some from) pin wire lines is =
     cond {A = Option Wire} b (Some (record { from = from; pin = pin })) None ≡ Some wire →
     good kinds regions plic n wire ≡ true) [
       | true ↦ λ ends is.
-          let same = same_some _ _ is in
-          rw (← same) (both_true (is_from kinds regions plic from) (may_end plic n from pin) (lines from refl) ends)
+          let same = same_Some _ _ is in
+          rw (← same) (and_from (is_from kinds regions plic from) (may_end plic n from pin) (lines from refl) ends)
       | false ↦ λ ends is. absurd (cc)
     ] refl is
 
@@ -79,14 +78,14 @@ put_wire :
 put_wire test None more wires one rest is = absurd (cc)
 put_wire test (Some wire) None wires one rest is = absurd (cc)
 put_wire test (Some wire) (Some ws) wires one rest is =
-    let same = same_some _ _ is in
-    rw (← same) (both_true (test wire) (list_all test ws) (one wire refl) (rest ws refl))
+    let same = same_Some _ _ is in
+    rw (← same) (and_from (test wire) (list_all test ws) (one wire refl) (rest ws refl))
 
 wired_good :
     (test : Wire → Bool) (f : ℕ → ℕ → Option Wire) → ((line pin : ℕ) (wire : Wire) → f line pin ≡ Some wire →
     test wire ≡ true) →
     (lines pins : List ℕ) (wires : List Wire) → wired f lines pins ≡ Some wires → list_all test wires ≡ true
-wired_good test f one [] [] wires is = rw (← same_some _ _ is) refl
+wired_good test f one [] [] wires is = rw (← same_Some _ _ is) refl
 wired_good test f one [] (pin ∷ pins) wires is = absurd (cc)
 wired_good test f one (line ∷ lines) [] wires is = absurd (cc)
 wired_good test f one (line ∷ lines) (pin ∷ pins) wires is =
@@ -107,7 +106,7 @@ item_good :
     (t : Option PeripheralType)
     (dev : ℕ) (what : ItemWhat) (wires : List Wire) → LinesAre kinds regions plic t dev →
     item_wires plic all t dev what ≡ Some wires → list_all (good kinds regions plic (count_of all Cpu)) wires ≡ true
-item_good kinds regions plic all t dev (item.Attribute key value) wires lines is = rw (← same_some _ _ is) refl
+item_good kinds regions plic all t dev (item.Attribute key value) wires lines is = rw (← same_Some _ _ is) refl
 item_good kinds regions plic all t dev (item.Wire from to pins) wires lines is =
     let n = count_of all Cpu in
     let hart = hart_of all to in
@@ -154,11 +153,11 @@ lines_by :
 lines_by (Some Clint) kinds regions plic dev clint device line from is =
     elim (line == 0) as (λ a. cond {A = Option WireFrom} a (Some Soft)
     (cond {A = Option WireFrom} (line == 1) (Some Timer) None) ≡ Some from → is_from kinds regions plic from ≡ true) [
-      | true ↦ λ is. rw (← same_some _ _ is) (clint refl)
+      | true ↦ λ is. rw (← same_Some _ _ is) (clint refl)
       | false ↦ λ is.
           elim (line == 1) as (λ b. cond {A = Option WireFrom} b (Some Timer) None ≡ Some from →
           is_from kinds regions plic from ≡ true) [
-            | true ↦ λ is. rw (← same_some _ _ is) (clint refl)
+            | true ↦ λ is. rw (← same_Some _ _ is) (clint refl)
             | false ↦ λ is. absurd (cc)
           ] is
     ] is
@@ -166,7 +165,7 @@ lines_by (Some Plic) kinds regions plic dev clint device line from is =
     elim (is_context plic line) as (λ b. is_context plic line ≡ b →
     cond {A = Option WireFrom} b (Some (Context line)) None ≡ Some from →
     is_from kinds regions plic from ≡ true) [
-      | true ↦ λ there is. rw (← same_some _ _ is) there
+      | true ↦ λ there is. rw (← same_Some _ _ is) there
       | false ↦ λ there is. absurd (cc)
     ] refl is
 lines_by (Some (Device own)) kinds regions plic dev clint device line from is =
@@ -175,7 +174,7 @@ lines_by (Some (Device own)) kinds regions plic dev clint device line from is =
     by_line : (has first : Bool) → has_line kinds dev ≡ has →
         cond {A = Option WireFrom} (has && first) (Some (Dev dev)) None ≡ Some from →
         is_from kinds regions plic from ≡ true
-    by_line true true here is = rw (← same_some _ _ is) here
+    by_line true true here is = rw (← same_Some _ _ is) here
     by_line true false here is = absurd (cc)
     by_line false first here is = absurd (cc)
 lines_by _ kinds regions plic dev clint device line from is = absurd (cc)

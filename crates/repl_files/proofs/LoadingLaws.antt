@@ -18,6 +18,7 @@ use Rattle.repl_files.specs.Content.{Content, Missing, Large, Faulty, Readable, 
 use Rattle.repl_files.specs.Laws.{IsHeld, AllHeld, EndsBy, IsFrom, AllFrom}
 use Rattle.repl_files.specs.Loading.{Gives, Use, Loading, Outcome, Joined, Refused, Oversized, Absent, stopped}
 use Rattle.repl_files.specs.Loading.{refused_at, joined, go_on, used_file, one_by, one, in_order, file_read, used, load}
+use Rattle.lab_num.proofs.ListLemmas.{get_middle}
 
 -- these names stand in a whole list after so many others
 record Within (all : List (List ℕ)) (count : ℕ) (names : List (List ℕ)) : Type 0 where
@@ -44,13 +45,9 @@ within_rest all count names more is = record {
   counted = length-append is.before names ∙ ap (λ n. n + length names) is.counted;
 }
 
-at_front : (before rest : List (List ℕ)) (name : List ℕ) → slice_get (before ++ name ∷ rest) (length before) ≡ Some name
-at_front [] rest name = refl
-at_front (x ∷ before) rest name = at_front before rest name
-
 first_at : (all : List (List ℕ)) (count : ℕ) (name : List ℕ) (more : List (List ℕ)) →
     Within all count (name ∷ more) → slice_get all count ≡ Some name
-first_at all count name more is = rw (is.whole, ← is.counted) (at_front is.before (more ++ is.behind) name)
+first_at all count name more is = rw (is.whole, ← is.counted) (get_middle is.before name (more ++ is.behind))
 
 -- what a name holds, by what it is to a loading
 HeldBy : Content → Option (List ℕ) → Type 0

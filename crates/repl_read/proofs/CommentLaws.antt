@@ -2,7 +2,7 @@
 use Rattle.std.proofs.Common.{◌≡◌, ℕ, ◌+◌, ◌==◌, ◌&&◌, ◌||◌, ◌∙◌, Bool, true, false, zero, suc, refl, ap, List, [], ◌∷◌}
 use Rattle.std.proofs.Common.{◌++◌, length, get_or, arith}
 use Rattle.std.specs.List.{list_all}
-use Rattle.std.proofs.lemmas.Bool.{and_parts}
+use Rattle.std.proofs.lemmas.Bool.{and_parts, or_parts}
 use Rattle.std.proofs.lemmas.Bool.Decides.{nat_tests}
 use Rattle.repl_read.specs.declared.comments.Inside.TheVariants.{Nothing, Words, Line, Block}
 use Rattle.repl_read.specs.Comments.{closes, blanked}
@@ -52,10 +52,6 @@ next_open b [] rest open_ = either (b == 42)
     either true = refl
     either false = refl
 next_open b (c ∷ words) rest open_ = open_
-
-or_parts : (x y : Bool) → (x || y) ≡ false → (x ≡ false) × (y ≡ false)
-or_parts true y none = cc
-or_parts false y none = (refl, none)
 
 block_words :
     (words rest : List ℕ) → list_all stays_on_line words ≡ true → closes words ≡ false →

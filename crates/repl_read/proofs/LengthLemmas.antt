@@ -1,33 +1,15 @@
 -- A text has at most one line more than bytes.
-use Rattle.std.proofs.Common.{◌≡◌, ℕ, ◌+◌, ◌≤◌, ◌^◌, ◌==◌, suc, refl, List, [], ◌∷◌, ◌++◌, length, Bool, true, false}
+use Rattle.std.proofs.Common.{◌≡◌, ℕ, ◌+◌, ◌≤◌, ◌^◌, suc, refl, List, [], ◌∷◌, ◌++◌, length, Bool, true, false}
 use Rattle.std.proofs.Common.{cond, Option, None, Some, arith}
-use Rattle.std.specs.List.{slice_split}
 use Rattle.std.specs.Option.{option_map_or}
-use Rattle.std.specs.Str.Lines.{lines, lines_of_parts}
+use Rattle.std.specs.Str.Lines.{lines}
 use Rattle.std.proofs.lemmas.List.{length-append, length-map}
-use Rattle.std.proofs.lemmas.List.Sums.{count_by-le-length}
-use Rattle.std.proofs.lemmas.List.Splits.{length-slice_split}
 use Rattle.repl_read.specs.declared.comments.Inside.{Inside}
 use Rattle.repl_read.specs.declared.comments.Inside.TheVariants.{Nothing, Words, Line, Block}
 use Rattle.repl_read.specs.Comments.{turn_at, after_sign, seen, closes, marks, blanked}
 use Rattle.repl_read.specs.Platform.{token_lines}
 use Rattle.repl_read.specs.Tokens.{token_line}
-
-lines_of_parts-le : (parts : List (List ℕ)) → length (lines_of_parts parts) ≤ length parts
-lines_of_parts-le [] = omega arith
-lines_of_parts-le (x ∷ []) = one (length x == 0)
-  where
-    one : (b : Bool) → length (cond b [] (x ∷ [])) ≤ length (x ∷ [])
-    one true = omega arith
-    one false = omega arith
-lines_of_parts-le (x ∷ y ∷ more) =
-    let rest = lines_of_parts-le (y ∷ more) in omega (arith, rest)
-
-lines-le : (text : List ℕ) → length (lines text) ≤ length text + 1
-lines-le text =
-    let parts = slice_split (λ b. b == 10) text in
-    omega
-    (arith, lines_of_parts-le parts, length-slice_split (λ b. b == 10) text, count_by-le-length (λ b. b == 10) text)
+use Rattle.lab_num.proofs.LineLemmas.{lines-le}
 
 length-marks : (inside : Inside) (rest : List ℕ) → length (marks inside rest) ≡ 2
 length-marks Nothing rest = refl

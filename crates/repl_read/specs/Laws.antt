@@ -1,5 +1,5 @@
 -- What the laws of platform text speak of.
-use Rattle.std.specs.Prelude.{◌≡◌, ℕ, ◌<◌, ◌⊎◌, ◌==◌, ◌&&◌, not, replicate, Bool, if◌then◌else◌, List, [], ◌∷◌, Result}
+use Rattle.std.specs.Prelude.{◌≡◌, ℕ, ◌<◌, ◌⊎◌, ◌==◌, ◌&&◌, not, replicate, Bool, List, Result}
 use Rattle.std.specs.Prelude.{Ok, Err}
 use Rattle.std.specs.Str.{byte}
 use Rattle.repl_read.specs.declared.fault.PlatCause.TheVariants.{Form, Feature}

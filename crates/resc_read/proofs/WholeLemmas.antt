@@ -1,7 +1,7 @@
 -- Each line is put together of its words.
 use Rattle.std.proofs.Common.{◌≡◌, ℕ, zero, suc, ◌+◌, ◌<◌, ◌++◌, ◌&&◌, ◌⊎◌, inl, inr, ◌∙◌, not, Bool, true, false, List}
 use Rattle.std.proofs.Common.{[], ◌∷◌, length, filter, refl, sym, ap, append-nil, length-append, arith}
-use Rattle.std.proofs.lemmas.Bool.{and_parts}
+use Rattle.std.proofs.lemmas.Bool.{and_parts, not-true}
 use Rattle.resc_read.specs.Words.{is_blank, is_some_text, quoted_after, pieces, gaps, words}
 use Rattle.resc_read.specs.Laws.{quoted_behind, IsWord, IsLine}
 use Rattle.resc_read.proofs.LineLemmas.{kept}
@@ -18,10 +18,6 @@ HasFirst quoted line =
     (piece : List ℕ) × (others : List (List ℕ)) × (pieces quoted line ≡ piece ∷ others) × (gaps quoted piece ≡ [])
     × Cuts quoted line piece others
 
-closed : (quoted : Bool) → not quoted ≡ true → quoted ≡ false
-closed true is = sym is
-closed false is = refl
-
 cut_more :
     (quoted : Bool) (b : ℕ) (line piece : List ℕ) (others : List (List ℕ)) →
     Cuts (quoted_after quoted b) line piece others → Cuts quoted (b ∷ line) (b ∷ piece) others
@@ -34,7 +30,7 @@ first_more :
     HasFirst (quoted_after quoted b) line → HasFirst quoted (b ∷ line)
 first_more quoted b line true is first =
     let both = and_parts (not quoted) (is_blank b) is in
-    ([], pieces false line, rw is refl, refl, inr (b, line, refl, both.1, closed quoted both.0, refl))
+    ([], pieces false line, rw is refl, refl, inr (b, line, refl, both.1, not-true quoted both.0, refl))
 first_more quoted b line false is first =
     (b ∷ first.0, first.1, rw (is, first.2) refl, rw is first.3, cut_more quoted b line first.0 first.1 first.4)
 

@@ -1,6 +1,5 @@
 pub mod ItemLemmas
 mod FlowLemmas
-mod LengthLemmas
 mod LineLemmas
 mod RestLemmas
 mod VariableLemmas

@@ -3,7 +3,7 @@ ghost use Rattle.std.specs.Prelude.{◌≡◌, ◌∷◌, ◌≤◌, ◌<◌, �
 ghost use Rattle.std.specs.Str.{IsCharBoundary};
 ghost use Rattle.std.specs.Str.Lines.{lines, strip_carriage_return};
 ghost use Rattle.std.specs.String.{string_bytes};
-ghost use Rattle.resc_vars.specs.Inner.Rest.{EndsWith, First, Follows, lines_of};
+ghost use Rattle.resc_vars.specs.Inner.Rest.{EndsWith, Follows, lines_of};
 ghost use Rattle.resc_vars.specs.Inner.Steps.{Takes};
 ghost use Rattle.resc_vars.specs.Items.{items};
 ghost use Rattle.resc_vars.specs.Numbered.{numbered, numbers_fit, shown};

@@ -1,32 +1,19 @@
 -- What std reads of a text of digits.
 use Rattle.std.proofs.Common.{◌≡◌, ℕ, ◌^◌, ◌<◌, ◌≤◌, Bool, true, false, ◌==◌, ◌%◌, refl, sym, ◌∙◌, ap, inl, inr, ◌⊎◌}
-use Rattle.std.proofs.Common.{List, [], ◌∷◌, length, get_or, min, Option, Some, None, Result, Ok, Err, arith}
+use Rattle.std.proofs.Common.{List, [], ◌∷◌, length, min, Option, Some, None, Result, Ok, Err, arith}
 use Rattle.std.specs.Prelude.{nat_le, nat_eq, if◌then◌else◌}
 use Rattle.std.specs.List.{list_all, starts_with}
 use Rattle.std.specs.Result.{result_unwrap_or, OkIff}
 use Rattle.std.specs.Char.{digit_value}
-use Rattle.std.specs.Str.Parse.{digits_value, AllDigits, IsNumeral, ParsesUnsigned}
+use Rattle.std.specs.Str.Parse.{digits_value, IsNumeral, ParsesUnsigned}
 use Rattle.std.proofs.lemmas.Str.Parse.{without_leading_plus_none}
-use Rattle.std.proofs.lemmas.Bool.{and_parts, cases_lt, cases_Bool}
+use Rattle.std.proofs.lemmas.Bool.{cases_lt, cases_Bool}
 use Rattle.std.proofs.lemmas.Bool.Decides.{nat_tests}
 use Rattle.rv_asm.specs.Numbers.{numeral, in_field, even_in_field}
 use Rattle.rv_asm.specs.Inner.Saturated.{most, saturated, is_digit_of}
 use Rattle.rv_asm.specs.declared.numbers.Number.{Number}
 use Rattle.std.specs.Option.{option_map}
-
--- bytes that pass a test of digits are digits
-all_digits :
-    (test : ℕ → Bool) (radix : ℕ) → ((b : ℕ) → test b ≡ true → digit_value b < radix) →
-    (text : List ℕ) → list_all test text ≡ true → AllDigits radix text
-all_digits test radix digit [] all = tt
-all_digits test radix digit (b ∷ bs) all =
-    let both = and_parts (test b) (list_all test bs) all in (digit b both.0, all_digits test radix digit bs both.1)
-
-first_passes :
-    (test : ℕ → Bool) (text : List ℕ) → list_all test text ≡ true → 0 < length text →
-    test (get_or text 0 0) ≡ true
-first_passes test [] all some = absurd (omega arith)
-first_passes test (b ∷ bs) all some = (and_parts (test b) (list_all test bs) all).0
+use Rattle.lab_num.proofs.NumeralLemmas.{all_digits, first_passes}
 
 not_below : (v : ℕ) → (v < 2 ^ 64 → ⊥) → 2 ^ 64 ≤ v
 not_below v above = omega arith

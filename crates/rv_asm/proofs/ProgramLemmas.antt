@@ -20,6 +20,7 @@ use Rattle.rv_asm.specs.Lines.{gives_word, label_of}
 use Rattle.rv_asm.specs.Places.{is_label}
 use Rattle.rv_asm.specs.Program.{lines_of}
 use Rattle.rv_asm.specs.Inner.Scan.{place_from, word_from, at_line, words_from, Fails, ◌>>=◌}
+use Rattle.lab_num.proofs.ListLemmas.{none_is}
 
 -- the texts of lines
 abbrev pub texts : List (Bor (List ℕ)) → List (List ℕ)
@@ -50,11 +51,6 @@ option_or-if None true address later = refl
 option_or-if None false address later = refl
 option_or-if (Some x) here address later = refl
 
--- a label that had no place has one
-none_from : (o : Option ℕ) → is_some o ≡ false → o ≡ None
-none_from None absent = refl
-none_from (Some x) absent = cc
-
 option_or-none : (o : Option ℕ) → option_or o None ≡ o
 option_or-none None = refl
 option_or-none (Some x) = refl
@@ -67,7 +63,7 @@ update-absent old label name address absent =
     elim (cases_Bool (bytes_eq label name)) [
       | inl same ↦
           let one : label ≡ name = (bytes_eq-Decides label name).0 same in
-          let before : old name ≡ None = rw (← one) (none_from (old label) absent) in
+          let before : old name ≡ None = rw (← one) (none_is (old label) absent) in
           rw (same, before) refl
       | inr other ↦ rw other (sym (option_or-none (old name)))
     ]

@@ -4,6 +4,7 @@ use Rattle.std.proofs.Common.{[], ◌∷◌, arith}
 use Rattle.std.specs.Prelude.{Option, Some, None, nat_lt, if◌then◌else◌, find, Contains}
 use Rattle.std.proofs.lemmas.Bool.{cases_Bool}
 use Rattle.std.specs.Option.{option_map}
+use Rattle.std.proofs.lemmas.Option.{same_Some}
 use Rattle.rv_decode.specs.declared.instruction.Op.{Op}
 use Rattle.rv_decode.specs.declared.instruction.Format.{Format}
 use Rattle.rv_decode.specs.declared.instruction.Format.TheVariants.{R, I, IShift, IUnsigned, S, B, U, J, Fixed}
@@ -12,6 +13,7 @@ use Rattle.rv_decode.specs.Immediate.{field, sign_extended}
 use Rattle.rv_decode.specs.Table.{Row, table, matches, matched_row, row_of}
 use Rattle.rv_decode.specs.FixedBits.{fixed_of}
 use Rattle.rv_decode.specs.Means.{means, fields_by}
+use Rattle.rv_decode.proofs.Formats.{op-fields_by}
 use Rattle.rv_asm.specs.Encoded.{encoded, encoded_by, placed_s, placed_b, placed_j}
 
 -- the fixed bits of the fixed bits
@@ -79,22 +81,6 @@ put_together J op w fits =
     (omega arith) (omega arith))
     (omega arith)
 put_together Fixed op w fits = refl
-
--- what the fields of a word keep
-op-fields_by : (f : Format) (op : Op) (w : ℕ) → (fields_by f op w).op ≡ op
-op-fields_by R op w = refl
-op-fields_by I op w = refl
-op-fields_by IShift op w = refl
-op-fields_by IUnsigned op w = refl
-op-fields_by S op w = refl
-op-fields_by B op w = refl
-op-fields_by U op w = refl
-op-fields_by J op w = refl
-op-fields_by Fixed op w = refl
-
--- two answers that are one
-pub Some-is : {m n : ℕ} → Some m ≡ Some n → m ≡ n
-Some-is is = cc
 
 -- a row that is found is in the table
 Contains-found : (p : Row → Bool) (rs : List Row) (r : Row) → find p rs ≡ Some r → Contains rs r
@@ -180,7 +166,7 @@ found_fields :
 found_fields None i f a b c some p q r s = cc
 found_fields (Some row) i f a b c some p q r s =
     let format : row.format ≡ f = cc in
-    rw (format, fixed_of-fields f row.bits some, Some-is q, Some-is r, Some-is s) refl
+    rw (format, fixed_of-fields f row.bits some, same_Some _ _ q, same_Some _ _ r, same_Some _ _ s) refl
 
 -- the word of an instruction of a format with fields
 pub encoded-fields :

@@ -1,6 +1,6 @@
 //! From a text to its words: once over the lines for the labels, and once for the words.
-ghost use Rattle.std.specs.Prelude.{◌≡◌, ◌+◌, ◌^◌, ◌≤◌, [], ◌∷◌, ◌++◌, Some, None, map};
-ghost use Rattle.std.specs.Prelude.{length, IfOk, IfErr, OnOk};
+ghost use Rattle.std.specs.Prelude.{◌≡◌, ◌+◌, ◌^◌, ◌≤◌, Some, map};
+ghost use Rattle.std.specs.Prelude.{length, IfOk, OnOk};
 ghost use Rattle.rv_asm.specs.Places.{place_in, HasPlaces, with_label};
 ghost use Rattle.rv_asm.specs.Lines.{label_of};
 ghost use Rattle.rv_asm.specs.Program.{lines_of, Assembles};

@@ -1,7 +1,7 @@
 //! Parts of a line: comments, blanks, words, names and registers.
 ghost use Rattle.std.specs.Prelude.{◌≡◌, ◌-◌, ◌<◌, ◌≤◌, true, length, drop, slice_index};
 ghost use Rattle.std.specs.Option.{option_map};
-ghost use Rattle.std.specs.List.{list_all, prefix_len, suffix_len, position_or_len, before_first};
+ghost use Rattle.std.specs.List.{prefix_len, suffix_len, position_or_len, before_first};
 ghost use Rattle.rv_asm.specs.Texts.{is_blank, trimmed, cut, code_of, register_of};
 
 /// Whether the byte is a space or a tab.

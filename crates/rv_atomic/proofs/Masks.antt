@@ -4,14 +4,7 @@ use Rattle.std.specs.Prelude.{bit_and}
 use Rattle.std.proofs.lemmas.Nat.{and_mask, and_block}
 use Rattle.std.proofs.lemmas.Bool.Decides.{nat_tests}
 use Rattle.rv_decode.specs.Immediate.{field}
-
--- the low twelve bits, and those above
-mask_funct3 : (w : ℕ) → bit_and w 0x707F ≡ field w 0 7 + field w 12 3 * 2 ^ 12
-mask_funct3 w =
-    let split : w ≡ w / 2 ^ 12 * 2 ^ 12 + w % 2 ^ 12 = omega arith in
-    let whole = and_block 12 (w / 2 ^ 12) 7 (w % 2 ^ 12) 127 (omega arith) (omega arith) in
-    ap (λ v. bit_and v 0x707F) split ∙ whole ∙
-    rw (and_mask (w / 2 ^ 12) 3, and_mask (w % 2 ^ 12) 7) (omega arith)
+use Rattle.rv_decode.proofs.Masks.{mask_funct3}
 
 -- the low 20 bits, and rs2 above them
 mask_rs2 : (w : ℕ) → bit_and w 0x1F0707F ≡ field w 0 7 + field w 12 3 * 2 ^ 12 + field w 20 5 * 2 ^ 20

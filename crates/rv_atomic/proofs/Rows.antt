@@ -1,11 +1,12 @@
 -- The test of a row's mask is a test of the fields that the mask covers, for each row of the table.
-use Rattle.std.proofs.Common.{◌≡◌, ℕ, ◌+◌, ◌*◌, ◌^◌, ◌<◌, Bool, true, ◌&&◌, ◌||◌, ◌==◌, refl, ap, ◌∙◌, sym, List, []}
-use Rattle.std.proofs.Common.{◌∷◌, inl, inr, arith, rules}
-use Rattle.std.specs.Prelude.{bit_and, find, Option, Some, None}
+use Rattle.std.proofs.Common.{◌≡◌, ℕ, ◌+◌, ◌*◌, ◌^◌, ◌<◌, Bool, true, ◌&&◌, ◌||◌, ◌==◌, refl, ap, ◌∙◌, sym}
+use Rattle.std.proofs.Common.{inl, inr, arith, rules}
+use Rattle.std.specs.Prelude.{bit_and, Option, Some, None}
 use Rattle.std.specs.Option.{option_map}
 use Rattle.std.specs.List.{list_all}
 use Rattle.std.proofs.lemmas.Bool.{eqb-true, and_parts, cases_Bool}
 use Rattle.rv_decode.specs.Immediate.{field}
+use Rattle.rv_decode.proofs.Tests.{find-same}
 use Rattle.rv_atomic.specs.declared.atomic.AtomicOp.{AtomicOp}
 use Rattle.rv_atomic.specs.Table.{Row, matches, matched_row, table}
 use Rattle.rv_atomic.specs.Means.{atomic_of, registers_of}
@@ -72,15 +73,6 @@ matches-fields w r fits regular =
       | inr off ↦ free-fields w r fits (rw off at regular)
     ]
 
--- tests that agree on regular rows find the same
-find-same :
-    (p q : Row → Bool) (rs : List Row) → ((r : Row) → is_regular r ≡ true → p r ≡ q r) →
-    list_all is_regular rs ≡ true → find p rs ≡ find q rs
-find-same p q [] same all = refl
-find-same p q (r ∷ rs) same all =
-    let parts = and_parts (is_regular r) (list_all is_regular rs) all in
-    rw (same r parts.0, find-same p q rs same parts.1) refl
-
 -- the search of the table by masks is the search by fields
 matched_row-by :
     (w : ℕ) → w < 2 ^ 32 →
@@ -89,7 +81,7 @@ matched_row-by :
 unfolding matched_row op_by
 matched_row-by w fits =
     ap (option_map (λ row. row.op))
-    (find-same _ _ table (λ r regular. matches-fields w r fits regular) is_regular-table)
+    (find-same is_regular _ _ table (λ r regular. matches-fields w r fits regular) is_regular-table)
 
 with_registers :
     (w : ℕ) (found : Option Row) →

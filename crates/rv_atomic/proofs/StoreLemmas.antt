@@ -4,12 +4,10 @@ use Rattle.std.specs.Prelude.{Option, Some, None, find, option_and_then}
 use Rattle.std.specs.Option.{is_none, option_map, option_map_or}
 use Rattle.std.specs.List.{list_all}
 use Rattle.std.proofs.lemmas.Bool.{and_parts, cases_Bool, eqb-true}
-use Rattle.rv_decode.specs.declared.instruction.Format.{Format}
-use Rattle.rv_decode.specs.declared.instruction.Format.TheVariants.{R, I, IShift, IUnsigned, S, B, U, J, Fixed}
-use Rattle.rv_decode.specs.declared.instruction.Op.{Op}
 use Rattle.rv_decode.specs.Immediate.{field}
 use Rattle.rv_decode.specs.Means.{fields_by, means}
 use Rattle.rv_decode.specs.Table.{Row, matches, matched_row, table}
+use Rattle.rv_decode.proofs.Formats.{op-fields_by}
 use Rattle.rv_hart.specs.declared.csr.Lines.{Lines}
 use Rattle.rv_hart.specs.Core.{Core}
 use Rattle.rv_exec.specs.declared.fetched.Fetched.TheVariants.{Bad, Good}
@@ -51,17 +49,6 @@ no_width w (r ∷ rs) all other row is =
       | inr off ↦ no_width w rs parts.1 other row (rw off at is)
     ]
 
-op-fields : (format : Format) (op : Op) (w : ℕ) → (fields_by format op w).op ≡ op
-op-fields R op w = refl
-op-fields I op w = refl
-op-fields IShift op w = refl
-op-fields IUnsigned op w = refl
-op-fields S op w = refl
-op-fields B op w = refl
-op-fields U op w = refl
-op-fields J op w = refl
-op-fields Fixed op w = refl
-
 -- what is no store stores nothing
 no_span :
     (w : ℕ) (core : Core) (lines : Lines) → (field w 0 7 == 0x23) ≡ false →
@@ -78,7 +65,7 @@ no_span w core lines other = by_found (find (matches w) table) (no_width w table
     by_found None none = refl
     by_found (Some row) none =
         let i = fields_by row.format row.op w in
-        let width : store_width i.op ≡ None = ap store_width (op-fields row.format row.op w) ∙ none row refl in
+        let width : store_width i.op ≡ None = ap store_width (op-fields_by row.format row.op w) ∙ none row refl in
         sym (span-by i.op core i 4 w lines) ∙ ap (option_and_then (aligned_span (address core i))) width
 
 pub other_ends_none :

@@ -14,6 +14,7 @@ use Rattle.rv_decode.specs.SameOp.{is_same_op}
 use Rattle.rv_decode.specs.Table.{Row, row, matches, matched_row, row_of, table}
 use Rattle.rv_decode.specs.Means.{means, fields_by}
 use Rattle.rv_decode.proofs.Tests.{holds-row, holds-found}
+use Rattle.rv_decode.specs.declared.instruction.Format.TheVariants.{R, I, IShift, IUnsigned, S, B, U, J, Fixed}
 
 -- whether a row that is found is this row
 abbrev is_row : Row → Option Row → Bool
@@ -87,3 +88,15 @@ unfolding means matched_row is_own row_of
 means-some w op f is has =
     means_row (matched_row w) w op f
     (λ r found. same_row r (row_of r.op) (holds-found (matches w) is_own table r is_own-table found)) is has
+
+-- what the fields of a word keep
+pub op-fields_by : (f : Format) (o : Op) (w : ℕ) → (fields_by f o w).op ≡ o
+op-fields_by R o w = refl
+op-fields_by I o w = refl
+op-fields_by IShift o w = refl
+op-fields_by IUnsigned o w = refl
+op-fields_by S o w = refl
+op-fields_by B o w = refl
+op-fields_by U o w = refl
+op-fields_by J o w = refl
+op-fields_by Fixed o w = refl

@@ -1,5 +1,6 @@
 -- The lemmas of this crate.
 pub mod Tests
+pub mod Apart
 pub mod Masks
 pub mod Sole
 pub mod Rows

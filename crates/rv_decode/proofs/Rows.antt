@@ -1,7 +1,7 @@
 -- The test of a row's mask is a test of the fields that the mask covers, for each row of the table.
-use Rattle.std.proofs.Common.{◌≡◌, ℕ, ◌+◌, ◌*◌, ◌^◌, ◌<◌, ◌↔◌, Bool, true, ◌&&◌, ◌==◌, refl, ap, ◌∙◌, sym, List, []}
-use Rattle.std.proofs.Common.{◌∷◌, arith}
-use Rattle.std.specs.Prelude.{bit_and, find, Contains, Some}
+use Rattle.std.proofs.Common.{◌≡◌, ℕ, ◌+◌, ◌*◌, ◌^◌, ◌<◌, ◌↔◌, Bool, true, ◌&&◌, ◌==◌, refl, ap, ◌∙◌, sym}
+use Rattle.std.proofs.Common.{arith}
+use Rattle.std.specs.Prelude.{bit_and, Contains, Some}
 use Rattle.std.specs.Option.{option_map}
 use Rattle.std.specs.List.{list_all}
 use Rattle.std.proofs.lemmas.Bool.{eqb-true, eq-eqb, and_parts}
@@ -11,7 +11,7 @@ use Rattle.rv_decode.specs.Immediate.{field}
 use Rattle.rv_decode.specs.FixedBits.{fixed_of}
 use Rattle.rv_decode.specs.Table.{Row, matches, matched_row, table}
 use Rattle.rv_decode.specs.Inner.ByFields.{has_fields, op_by}
-use Rattle.rv_decode.proofs.Tests.{holds-row, found-passes}
+use Rattle.rv_decode.proofs.Tests.{holds-row, found-passes, find-same}
 use Rattle.rv_decode.proofs.Sole.{matched_row-is}
 use Rattle.rv_decode.proofs.Masks.{mask_opcode, mask_funct3, mask_funct7, mask_word, two_fields, three_fields}
 use Rattle.rv_decode.proofs.Masks.{same_word}
@@ -94,15 +94,6 @@ matches-fields w r fits regular =
     matches-fixed w r fits regular ∙
     (ap (λ v. fixed_of r.format w == v) (sym own) ∙ same_fields r.format w r.bits)
 
--- tests that agree on regular rows find the same
-find-same :
-    (p q : Row → Bool) (rs : List Row) → ((r : Row) → is_regular r ≡ true → p r ≡ q r) →
-    list_all is_regular rs ≡ true → find p rs ≡ find q rs
-find-same p q [] same all = refl
-find-same p q (r ∷ rs) same all =
-    let parts = and_parts (is_regular r) (list_all is_regular rs) all in
-    rw (same r parts.0, find-same p q rs same parts.1) refl
-
 -- the search of the table by masks is the search by fields
 pub matched_row-by :
     (w : ℕ) → w < 2 ^ 32 →
@@ -110,7 +101,7 @@ pub matched_row-by :
 unfolding matched_row op_by
 matched_row-by w fits =
     ap (option_map (λ row. row.op))
-    (find-same _ _ table (λ r regular. matches-fields w r fits regular) is_regular-table)
+    (find-same is_regular _ _ table (λ r regular. matches-fields w r fits regular) is_regular-table)
 
 pub row_matches :
     (w : ℕ) (r : Row) → w < 2 ^ 32 → Contains table r →

@@ -1,5 +1,5 @@
 -- What a test that passes on a whole list says of each of its elements.
-use Rattle.std.proofs.Common.{◌≡◌, Bool, true, false, sym, subst, inl, inr, List, [], ◌∷◌}
+use Rattle.std.proofs.Common.{◌≡◌, Bool, true, false, sym, subst, inl, inr, List, [], ◌∷◌, refl}
 use Rattle.std.specs.Prelude.{find, Contains, Some}
 use Rattle.std.specs.List.{list_all}
 use Rattle.std.proofs.lemmas.Bool.{and_parts, both_ways, cases_Bool}
@@ -46,3 +46,12 @@ found-passes {X} p (y ∷ ys) x found =
           subst P same here
       | inr other ↦ found-passes p ys x (rw other at found)
     ]
+
+-- tests that agree on what is regular find the same
+pub find-same :
+    {X : Type 0} (is_regular p q : X → Bool) (xs : List X) → ((x : X) → is_regular x ≡ true → p x ≡ q x) →
+    list_all is_regular xs ≡ true → find p xs ≡ find q xs
+find-same is_regular p q [] same all = refl
+find-same is_regular p q (x ∷ xs) same all =
+    let parts = and_parts (is_regular x) (list_all is_regular xs) all in
+    rw (same x parts.0, find-same is_regular p q xs same parts.1) refl

@@ -1,5 +1,5 @@
 -- Each instruction does the same with compressed instructions and without.
-use Rattle.std.proofs.Common.{◌≡◌, ◌≢◌, ℕ, ◌%◌, ◌==◌, ◌||◌, Bool, true, false, arith, inl, inr, refl, ap}
+use Rattle.std.proofs.Common.{◌≡◌, ◌≢◌, ℕ, ◌%◌, ◌==◌, Bool, true, false, arith, inl, inr, refl, ap}
 use Rattle.std.specs.Prelude.{Option, Some, None, IfSome, if◌then◌else◌, option_map, option_and_then, unwrap_or}
 use Rattle.std.proofs.lemmas.Bool.{cases_Bool, eq-eqb}
 use Rattle.std.proofs.lemmas.Grind.{common_steps}
@@ -15,7 +15,7 @@ use Rattle.rv_hart.specs.Cause.{illegal_instruction}
 use Rattle.rv_hart.specs.Core.{Core, reg, next, finish, jump}
 use Rattle.rv_hart.specs.Trap as trap
 use Rattle.rv_hart.specs.Trap.{enter, leave}
-use Rattle.rv_hart.specs.Csr.{csr_read, csr_written, counter_of}
+use Rattle.rv_hart.specs.Csr.{csr_read, csr_written}
 use Rattle.rv_exec.specs.declared.access.Shape.{Shape}
 use Rattle.rv_exec.specs.declared.access.Shape.TheVariants.{Unsigned, SignedByte, SignedHalf}
 use Rattle.rv_exec.specs.declared.csr.CsrChange.{CsrChange}
@@ -24,7 +24,7 @@ use Rattle.rv_exec.specs.declared.ending.Ending.TheVariants.{Retired}
 use Rattle.rv_exec.specs.declared.fetched.Fetched.TheVariants.{Good}
 use Rattle.rv_exec.specs.Word.{add}
 use Rattle.rv_exec.specs.Outcome.{Outcome, outcome, traps}
-use Rattle.rv_exec.specs.Csr.{accessed, after_write, changed, old_value, reads, writes}
+use Rattle.rv_exec.specs.Csr.{after_write, changed, old_value, reads, writes}
 use Rattle.rv_exec.specs.Compressed.{IsPlain, IsSame, accesses_csr, outcome_with_c, with_c, target_by}
 use Rattle.rv_exec.specs.Effect.{Done, address, branches, changes, effect, effect_by, jumps, loads, stores}
 

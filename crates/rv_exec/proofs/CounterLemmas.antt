@@ -1,7 +1,6 @@
 -- No instruction changes a counter but by writing a half of it, and none the letters or the number.
 use Rattle.std.proofs.Common.{◌≡◌, ◌≢◌, ℕ, ◌+◌, ◌%◌, ◌^◌, ◌==◌, ◌||◌, Bool, true, false, arith, inl, inr, refl, ap}
 use Rattle.std.specs.Prelude.{Option, Some, None, if◌then◌else◌, option_map, option_and_then, unwrap_or}
-use Rattle.std.specs.Option.{option_map_or}
 use Rattle.std.proofs.lemmas.Bool.{cases_Bool}
 use Rattle.std.proofs.lemmas.Grind.{common_steps}
 use Rattle.rv_decode.specs.declared.instruction.Op.{Op}
@@ -9,7 +8,6 @@ use Rattle.rv_decode.specs.declared.instruction.Op.TheVariants.{Jal, Jalr, Beq, 
 use Rattle.rv_decode.specs.declared.instruction.Op.TheVariants.{Lbu, Lhu, Sb, Sh, Sw, Csrrw, Csrrs, Csrrc, Csrrwi}
 use Rattle.rv_decode.specs.declared.instruction.Op.TheVariants.{Csrrsi, Csrrci}
 use Rattle.rv_decode.specs.declared.instruction.Instr.{Instr}
-use Rattle.rv_decode.specs.Means.{means}
 use Rattle.rv_hart.specs.declared.csr.Lines.{Lines}
 use Rattle.rv_hart.specs.declared.numbers.Counter.{Counter}
 use Rattle.rv_hart.specs.declared.numbers.Counter.TheVariants.{Mcycle, Minstret}
@@ -26,7 +24,7 @@ use Rattle.rv_exec.specs.declared.fetched.Fetched.{Fetched}
 use Rattle.rv_exec.specs.declared.fetched.Fetched.TheVariants.{Fault, Bad, Good}
 use Rattle.rv_exec.specs.Outcome.{Outcome, outcome, traps, counted, counted_by}
 use Rattle.rv_exec.specs.Csr.{changed, old_value, writes}
-use Rattle.rv_exec.specs.Effect.{Done, address, branches, changes, effect, effect_by, jumps, loads}
+use Rattle.rv_exec.specs.Effect.{address, branches, changes, effect, effect_by, jumps, loads}
 use Rattle.rv_exec.specs.Effect.{outcome_with, stores}
 use Rattle.rv_exec.specs.Laws.{IsSameHart, RaisesMcycle, RaisesMinstret, KeepsMinstret}
 

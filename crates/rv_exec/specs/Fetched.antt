@@ -1,5 +1,4 @@
 -- What may be performed of what was fetched.
-use Rattle.std.specs.Prelude.{ℕ}
 use Rattle.rv_decode.specs.Means.{IsValid}
 use Rattle.rv_hart.specs.declared.letters.Letters.{Letters}
 use Rattle.rv_hart.specs.Core.{IsSize}

@@ -1,12 +1,13 @@
 -- The search of the table by masks is the search by fields.
-use Rattle.std.proofs.Common.{◌≡◌, ℕ, ◌-◌, ◌/◌, ◌^◌, ◌<◌, Bool, true, ◌&&◌, ◌==◌, refl, ap, ◌∙◌, List, []}
-use Rattle.std.proofs.Common.{◌∷◌, arith}
-use Rattle.std.specs.Prelude.{None, bit_and, find, nat_lt}
+use Rattle.std.proofs.Common.{◌≡◌, ℕ, ◌-◌, ◌/◌, ◌^◌, ◌<◌, Bool, true, ◌&&◌, ◌==◌, refl, ap, ◌∙◌}
+use Rattle.std.proofs.Common.{arith}
+use Rattle.std.specs.Prelude.{None, bit_and, nat_lt}
 use Rattle.std.specs.Int.Bits.{and_lt}
 use Rattle.std.specs.Option.{option_map}
 use Rattle.std.specs.List.{list_all}
 use Rattle.std.proofs.lemmas.Bool.{eqb-true, ltb-true, and_parts}
 use Rattle.rv_decode.specs.Immediate.{field}
+use Rattle.rv_decode.proofs.Tests.{find-same}
 use Rattle.rvc_decode.specs.Immediate.{immediate_of}
 use Rattle.rvc_decode.specs.Table.{Row, matches, matched_row, meets, table}
 use Rattle.rvc_decode.specs.Means.{expanded, expansion}
@@ -91,21 +92,12 @@ matches-fields half row fits regular =
     (whole_field half row.mask row.bits 13 3 (omega arith) funct3.0)
     (bit_12 half row twelve.0) (five_7 half row fives.0) (five_2 half row fives.1))
 
--- tests that agree on regular rows find the same
-find-same :
-    (p q : Row → Bool) (rows : List Row) → ((row : Row) → is_regular row ≡ true → p row ≡ q row) →
-    list_all is_regular rows ≡ true → find p rows ≡ find q rows
-find-same p q [] same all = refl
-find-same p q (row ∷ rows) same all =
-    let parts = and_parts (is_regular row) (list_all is_regular rows) all in
-    rw (same row parts.0, find-same p q rows same parts.1) refl
-
 pub expansion-by_fields :
     (half : ℕ) → half < 2 ^ 16 → expansion half ≡ expansion_by (field half 0 2) (field half 13 3) half
 unfolding expansion matched_row expansion_by
 expansion-by_fields half fits =
     ap (option_map (λ row. expanded row half))
-    (find-same _ _ table (λ row regular. matches-fields half row fits regular) is_regular-table)
+    (find-same is_regular _ _ table (λ row regular. matches-fields half row fits regular) is_regular-table)
 
 -- a half-word whose low two bits are 11 is the lower half of an instruction of four bytes
 none_long : (quadrant funct3 half : ℕ) → quadrant ≡ 3 → expansion_by quadrant funct3 half ≡ None

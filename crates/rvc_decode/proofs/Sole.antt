@@ -1,24 +1,14 @@
 -- No half-word matches two rows of the table.
 use Rattle.std.proofs.Common.{◌≡◌, ℕ, ◌≤◌, Bool, true, false, not, ◌&&◌, ◌||◌, ◌==◌, refl, ap, ◌∙◌, sym}
-use Rattle.std.proofs.Common.{List, [], ◌∷◌, inl, inr, arith}
+use Rattle.std.proofs.Common.{arith}
 use Rattle.std.specs.Prelude.{bit_and, count_by}
-use Rattle.std.specs.List.{list_all}
-use Rattle.std.proofs.lemmas.Nat.Bits.{bit_at_and, same_from_bits}
-use Rattle.std.proofs.lemmas.Bool.{eqb-true, eq-eqb, and_parts, false_from_ne_true, both_ways, cases_Bool}
-use Rattle.std.proofs.lemmas.List.Sums.{sum_by-cons}
+use Rattle.std.proofs.lemmas.Bool.{eqb-true, eq-eqb, and_parts, false_from_ne_true, both_ways}
 use Rattle.rv_decode.specs.Immediate.{field}
+use Rattle.rv_decode.proofs.Apart.{all_apart, at_most_one, masks_agree}
 use Rattle.rvc_decode.specs.Immediate.{immediate_of}
 use Rattle.rvc_decode.specs.Table.{Condition, Always, ImmNot0, RdNot0, Rs2Not0, RdNot2ImmNot0, Row, meets, matches}
 use Rattle.rvc_decode.specs.Table.{table}
 use Rattle.rvc_decode.proofs.Masks.{field_and, all_bits}
-
--- the order of two masks is free
-and_swap : (w a b : ℕ) → bit_and (bit_and w a) b ≡ bit_and (bit_and w b) a
-and_swap w a b =
-    same_from_bits _ _
-    (λ i.
-    rw (bit_at_and (bit_and w a) b i, bit_at_and w a i, bit_at_and (bit_and w b) a i, bit_at_and w b i)
-    (omega arith))
 
 -- a register that a row fixes
 fixed_register :
@@ -64,11 +54,6 @@ abbrev is_apart : Row → Row → Bool
 is_apart r s =
     not (bit_and r.bits s.mask == bit_and s.bits r.mask) || (refuses r.condition s || refuses s.condition r)
 
--- each row is apart from those after it
-abbrev all_apart : List Row → Bool
-all_apart [] = true
-all_apart (r ∷ rs) = list_all (is_apart r) rs && all_apart rs
-
 -- a half-word with a row's bits that meets its condition
 has_bits : (half : ℕ) (r : Row) → matches half r ≡ true → bit_and half r.mask ≡ r.bits
 has_bits half r is =
@@ -86,34 +71,12 @@ not_refused half r s p q =
 is_apart-matched :
     (half : ℕ) (r s : Row) → matches half r ≡ true → matches half s ≡ true → is_apart r s ≡ false
 is_apart-matched half r s p q =
-    let same : bit_and r.bits s.mask ≡ bit_and s.bits r.mask =
-    rw (← has_bits half r p, ← has_bits half s q) (and_swap half r.mask s.mask) in
+    let same = masks_agree half r.mask s.mask r.bits s.bits (has_bits half r p) (has_bits half s q) in
     rw (eq-eqb _ _ same, not_refused half r s p q, not_refused half s r q p) refl
 
--- a half-word that matches a row matches none that is apart from it
-count_by-apart :
-    (half : ℕ) (r : Row) (rs : List Row) →
-    matches half r ≡ true → list_all (is_apart r) rs ≡ true → count_by (matches half) rs ≡ 0
-count_by-apart half r [] p h = refl
-count_by-apart half r (s ∷ rs) p h =
-    let parts = and_parts (is_apart r s) (list_all (is_apart r) rs) h in
-    let off =
-    false_from_ne_true (matches half s)
-    (λ q. both_ways (is_apart r s) (is_apart-matched half r s p q) parts.0) in
-    rw (sum_by-cons, off) (omega (arith, count_by-apart half r rs p parts.1))
-
 -- computed over all pairs of rows
-all_apart-table : all_apart table ≡ true
+all_apart-table : all_apart is_apart table ≡ true
 all_apart-table = refl
 
-at_most_one : (half : ℕ) (rs : List Row) → all_apart rs ≡ true → count_by (matches half) rs ≤ 1
-at_most_one half [] h = omega arith
-at_most_one half (r ∷ rs) h =
-    let parts = and_parts (list_all (is_apart r) rs) (all_apart rs) h in
-    elim (cases_Bool (matches half r)) [
-      | inl p ↦ rw (sum_by-cons, p) (omega (arith, count_by-apart half r rs p parts.0))
-      | inr q ↦ rw (sum_by-cons, q) (omega (arith, at_most_one half rs parts.1))
-    ]
-
 pub sole_row : (half : ℕ) → count_by (matches half) table ≤ 1
-sole_row half = at_most_one half table all_apart-table
+sole_row half = at_most_one is_apart (matches half) (is_apart-matched half) table all_apart-table

@@ -12,7 +12,6 @@ use Rattle.lab_state.specs.Run.{Play}
 use Rattle.log_text.specs.declared.line.OpenLine.{OpenLine}
 use Rattle.resc_vars.specs.declared.cause.ScriptCause.TheVariants.{Size, Occupied}
 use Rattle.resc_vars.specs.Behind.{main_file}
-use Rattle.resc_vars.specs.Script.{Kept}
 use Rattle.resc_vars.specs.Script as script
 use Rattle.monitor.specs.declared.fault.ScriptFault.{ScriptFault}
 use Rattle.monitor.specs.Answer.{Answer, Goes, Saves, Loads, Ends, Faults, Misses, Did}

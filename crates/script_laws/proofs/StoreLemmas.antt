@@ -30,7 +30,7 @@ use Rattle.sys_bus.specs.declared.plan.BoardPlan.{BoardPlan}
 use Rattle.elf_load.specs.declared.image.Image.{Image}
 use Rattle.monitor.specs.declared.fault.Cause.{Cause}
 use Rattle.monitor.specs.declared.fault.ScriptFault.{ScriptFault}
-use Rattle.monitor.specs.Answer.{Answer, Goes, Saves, Loads, Ends, Faults, Misses, Did, answer_at, loads, reads}
+use Rattle.monitor.specs.Answer.{Answer, Goes, Saves, Loads, Ends, Faults, Misses, answer_at, loads, reads}
 use Rattle.monitor.specs.Answer.{with_file}
 use Rattle.monitor.specs.Answer as answer
 use Rattle.monitor.specs.Bodies.{entered, include_text}

@@ -74,17 +74,6 @@ one_place p (z ∷ zs) (suc i) (suc j) x y few at_i passes at_j also =
     fewer true z zs few = omega arith
     fewer false z zs few = few
 
--- what is found is among the items, and passes
-pub found_passes : {X : Type 0} (p : X → Bool) (xs : List X) (x : X) →
-    find p xs ≡ Some x → (p x ≡ true) × ((i : ℕ) × (slice_get xs i ≡ Some x))
-found_passes p [] x found = absurd (cc)
-found_passes {X} p (y ∷ ys) x found =
-    elim (p y) as (λ b. p y ≡ b → cond {A = Option X} b (Some y) (find p ys) ≡ Some x →
-    (p x ≡ true) × ((i : ℕ) × (slice_get (y ∷ ys) i ≡ Some x))) [
-      | true ↦ λ passes same. (rw (← same_Some _ _ same) passes, (0, same))
-      | false ↦ λ fails later. let rest = found_passes p ys x later in (rest.0, (suc rest.1.0, rest.1.1))
-    ] refl found
-
 -- the one item that passes is the one that is found
 pub sole_found : {X : Type 0} (p : X → Bool) (xs : List X) (i : ℕ) (x : X) →
     length (filter p xs) ≤ 1 → slice_get xs i ≡ Some x → p x ≡ true → find p xs ≡ Some x
@@ -100,18 +89,3 @@ sole_found {X} p (y ∷ ys) (suc i) x few there passes =
       | true ↦ λ h. absurd (omega (arith, h, more))
       | false ↦ λ h. sole_found p ys i x h there passes
     ] few
-
--- what all items pass, each of them does
-pub passes_at : {X : Type 0} (p : X → Bool) (xs : List X) (i : ℕ) (x : X) →
-    list_all p xs ≡ true → slice_get xs i ≡ Some x → p x ≡ true
-passes_at p [] i x all there = absurd (cc)
-passes_at p (y ∷ ys) zero x all there =
-    elim (p y) as (λ b. p y ≡ b → (b && list_all p ys) ≡ true → p x ≡ true) [
-      | true ↦ λ is rest. rw (← same_Some _ _ there) is
-      | false ↦ λ is never. absurd (cc)
-    ] refl all
-passes_at p (y ∷ ys) (suc i) x all there =
-    elim (p y) as (λ b. (b && list_all p ys) ≡ true → p x ≡ true) [
-      | true ↦ λ rest. passes_at p ys i x rest there
-      | false ↦ λ never. absurd (cc)
-    ] all

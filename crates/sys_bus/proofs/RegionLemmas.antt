@@ -13,8 +13,8 @@ use Rattle.sys_bus.specs.declared.near.NearMemory.{NearMemory}
 use Rattle.sys_bus.specs.declared.near.MemoryPlace.{MemoryPlace}
 use Rattle.sys_bus.specs.Inner.Near.{IsNear, IsNearPlace}
 use Rattle.sys_bus.specs.Place.{IsPlace}
-use Rattle.sys_bus.proofs.CountLemmas.{filtered_within_count, one_place, some_passes, sole_found, found_passes}
-use Rattle.sys_bus.proofs.CountLemmas.{passes_at}
+use Rattle.sys_bus.proofs.CountLemmas.{filtered_within_count, one_place, some_passes, sole_found}
+use Rattle.lab_num.proofs.ListLemmas.{found_passes, passes_at}
 
 -- two regions that hold an access overlap
 both_hold : (at width : ℕ) (a b : Region) →

@@ -1,6 +1,6 @@
 -- The wires of interrupts: the CLINT's software and timer lines and the contexts of the PLIC lead to pins of the
 -- processors; the line of a device to one of these, or to a source of the PLIC.
-use Rattle.std.specs.Prelude.{ℕ, ◌==◌, nat_lt, nat_le, Bool, true, false, ◌&&◌, ◌||◌, List, slice_get, Option, None}
+use Rattle.std.specs.Prelude.{ℕ, ◌==◌, nat_lt, nat_le, Bool, false, ◌&&◌, ◌||◌, List, slice_get, Option, None}
 use Rattle.std.specs.Prelude.{Some}
 use Rattle.std.specs.List.{list_all}
 use Rattle.dev_core.specs.declared.kind.Kind.{Kind}

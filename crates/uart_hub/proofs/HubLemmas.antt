@@ -1,7 +1,7 @@
 -- Hubs and the lists of their members. Where a member is connected that was in no hub, no member is in the hubs twice.
 use Rattle.std.proofs.Common.{◌≡◌, ◌∙◌, ap, refl, ℕ, zero, suc, ◌<◌, Bool, true, false}
 use Rattle.std.proofs.Common.{◌||◌, List, [], ◌∷◌, ◌++◌, length}
-use Rattle.std.proofs.Common.{append_assoc, set, get_or, find, unwrap_or, cond, Some, arith}
+use Rattle.std.proofs.Common.{append_assoc, find, unwrap_or, cond, Some, arith}
 use Rattle.std.specs.Prelude.{is_some}
 use Rattle.std.specs.Option.{option_map_or}
 use Rattle.std.specs.Cmp.{IsEquivalence}
@@ -91,14 +91,6 @@ route-found (h ∷ hs) m = by_test (has_member h.members m) (route-found hs m)
         ≡ others (unwrap_or (cond here (Some h.members) (find (λ hub. has_member hub m) (members_of hs))) []) m
     by_test true rest = refl
     by_test false rest = rest
-
--- a write of a hub with a member more
-pub set-member :
-    (hubs : List Hub) (i : ℕ) (m : Member) {old new : Hub} → old ≡ get_or hubs i old → new ≡ with_member m old →
-    set hubs i new ≡ change_at hubs i (with_member m)
-set-member [] i m is made = refl
-set-member (x ∷ xs) zero m is made = ap (λ y. y ∷ xs) (made ∙ ap (with_member m) is)
-set-member (x ∷ xs) (suc i) m is made = ap (λ ys. x ∷ ys) (set-member xs i m is made)
 
 -- and its members
 pub members-connected :

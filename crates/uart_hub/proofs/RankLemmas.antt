@@ -1,9 +1,9 @@
 -- The ranks of members, where hubs are made and members are connected.
-use Rattle.std.proofs.Common.{◌≡◌, ◌∙◌, ap, sym, refl, ℕ, zero, suc, ◌+◌, ◌-◌, ◌*◌, ◌<◌, ◌≤◌, Bool, true, false, ◌||◌}
+use Rattle.std.proofs.Common.{◌≡◌, ◌∙◌, ap, sym, refl, ℕ, zero, suc, ◌+◌, ◌-◌, ◌<◌, ◌≤◌, Bool, true, false, ◌||◌}
 use Rattle.std.proofs.Common.{List, [], ◌∷◌, ◌++◌, length, set, get_or, find, cond, slice_get, Option, Some, None}
 use Rattle.std.proofs.Common.{◌≢◌, subst, inl, inr, arith}
-use Rattle.std.specs.List.{list_any, flat_map, IsDistinct}
-use Rattle.std.proofs.lemmas.Bool.{cases_Bool}
+use Rattle.std.specs.List.{flat_map, IsDistinct}
+use Rattle.std.proofs.lemmas.Bool.{cases_Bool, or_parts}
 use Rattle.std.proofs.lemmas.Bool.Decides.{nat_tests}
 use Rattle.std.proofs.lemmas.List.{get_or-set_other, get_or-set_same}
 use Rattle.std.proofs.lemmas.Option.{slice_get-get_or}
@@ -12,6 +12,7 @@ use Rattle.lab_num.specs.declared.key.Member.{Member}
 use Rattle.lab_num.specs.Key.{same_member}
 use Rattle.lab_num.specs.Change.{change_at}
 use Rattle.lab_num.specs.Route.{has_member, is_connected, StandOnce}
+use Rattle.lab_num.proofs.KeyLemmas.{same_itself, member_is}
 use Rattle.uart_hub.specs.Hub.{Hub, members_of, with_member}
 use Rattle.uart_hub.specs.Inner.Rank.{place, passed, rank, AreRanks}
 
@@ -94,13 +95,6 @@ or_true : (b c : Bool) → c ≡ true → (b || (c || false)) ≡ true
 or_true true c is = refl
 or_true false c is = rw is refl
 
-same_itself : (m : Member) → same_member m m ≡ true
-same_itself m = grind (arith, nat_tests)
-
-or_parts : (b c : Bool) → (b || c) ≡ false → (b ≡ false) × (c ≡ false)
-or_parts false c not = (refl, not)
-or_parts true c not = absurd (grind (arith, nat_tests))
-
 pub rank_connected :
     (hubs : List Hub) (i : ℕ) (m : Member) → is_connected (members_of hubs) m ≡ false → i < length hubs →
     rank (change_at hubs i (with_member m)) m ≡ suc i
@@ -122,15 +116,6 @@ rank_other (h ∷ hs) (suc i) m other not =
     ap (λ (n : ℕ). cond (has_member h.members other) 1 (passed n)) (rank_other hs i m other not)
 
 -- ---- the numbers of all members
-
-same_numbers : (a m : Member) → same_member a m ≡ true → (a.board.0 ≡ m.board.0) × (a.dev ≡ m.dev)
-same_numbers a m is = grind (arith, nat_tests)
-
-member_is : (a m : Member) → same_member a m ≡ true → a ≡ m
-member_is a m is =
-    let same = same_numbers a m is in
-    ap (λ (n : ℕ). record { board = record { 0 = n }; dev = a.dev }) same.0
-    ∙ ap (λ (n : ℕ). record { board = record { 0 = m.board.0 }; dev = n }) same.1
 
 apart :
     (a m : Member) → a.board.0 < 256 → m.board.0 < 256 → same_member a m ≡ false → place m ≢ place a

@@ -1,5 +1,5 @@
 //! In which hub each member is.
-ghost use Rattle.std.specs.Prelude.{◌≡◌, ◌<◌, ◌==◌, ℕ, [], length, slice_index_or, slice_set, OnOk};
+ghost use Rattle.std.specs.Prelude.{◌≡◌, ◌<◌, ℕ, [], length, slice_index_or, slice_set, OnOk};
 ghost use Rattle.uart_hub.specs.Inner.Rank.{place};
 
 use lab_num::{Member, NoMemory};

@@ -3,7 +3,7 @@ ghost use Rattle.std.specs.Prelude.{◌≡◌, ◌+◌, ◌/◌, ◌<◌, ◌≤
 ghost use Rattle.rv_exec.specs.Laws.{IsSameHart};
 ghost use Rattle.board.specs.Inner.Ended.{HasEnded, taken_of};
 ghost use Rattle.board.specs.Inner.Holds.{state_alone};
-ghost use Rattle.board.specs.Inner.Seat.{features_of};
+ghost use Rattle.board.specs.Inner.Seat.{features_of, seat, IsSeat};
 ghost use Rattle.board.specs.Slot.{slot, number_after};
 ghost use Rattle.board.specs.Stretch.{IsTurn, stretch};
 ghost use Rattle.board.specs.Valid.{IsReservation};
@@ -68,9 +68,7 @@ fn slots_alone<const COPY: u8, D: Device>(
     count: u64,
 ) -> Ended
     requires alone { features.shared ≡ false }
-    requires features { features ≡ features_of bus.old.space.plan }
-    requires letters { hart.old.letters ≡ bus.old.space.plan.letters }
-    requires harts { length watch.old ≡ length bus.old.space.plan.cpus }
+    requires seat { IsSeat features (seat 0 hart.old watch.old bus.old) }
     requires most { count ≤ bus.old.numbers.speed }
     ensures ended { HasEnded count result }
     ensures run { let old = state_alone hart.old watch.old bus.old in

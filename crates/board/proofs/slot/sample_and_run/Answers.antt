@@ -16,23 +16,20 @@ plan_sampled : (now old : Space) → now ≡ sampled old → now.plan ≡ old.pl
 unfolding sampled
 plan_sampled now old is = ap {A = Space} (λ s. s.plan) is
 
-pub run-requires-clause-features : goal.run-requires-clause-features
-run-requires-clause-features g c =
-    c.requires.features
-    ∙ ap {A = HartBus} (λ w. features_of w.space.plan) (sym c.bus.view_is)
-    ∙ ap features_of (sym (plan_sampled _ _ c.sample-lines.ensures.space))
-
-pub run-requires-clause-letters : goal.run-requires-clause-letters
-run-requires-clause-letters g c =
-    c.requires.letters
-    ∙ ap {A = HartBus} (λ w. w.space.plan.letters) (sym c.bus.view_is)
-    ∙ ap {A = BoardPlan} (λ plan. plan.letters) (sym (plan_sampled _ _ c.sample-lines.ensures.space))
-
-pub run-requires-clause-harts : goal.run-requires-clause-harts
-run-requires-clause-harts g c =
-    c.requires.harts
-    ∙ ap {A = HartBus} (λ w. length w.space.plan.cpus) (sym c.bus.view_is)
-    ∙ ap {A = BoardPlan} (λ plan. length plan.cpus) (sym (plan_sampled _ _ c.sample-lines.ensures.space))
+pub run-requires : goal.run-requires
+run-requires g c =
+    let was = ap {A = HartBus} (λ w. w.space.plan) (sym c.bus.view_is)
+    ∙ sym (plan_sampled _ _ c.sample-lines.ensures.space)
+    in
+    record {
+      seat =
+          record {
+            features = c.requires.seat.features ∙ ap features_of was;
+            letters = c.requires.seat.letters ∙ ap {A = BoardPlan} (λ plan. plan.letters) was;
+            number = c.requires.seat.number;
+            harts = c.requires.seat.harts ∙ ap {A = BoardPlan} (λ plan. length plan.cpus) was;
+          };
+    }
 
 pub put_controller-requires : goal.put_controller-requires
 put_controller-requires g c =

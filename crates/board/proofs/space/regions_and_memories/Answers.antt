@@ -1,4 +1,4 @@
-use Rattle.board.proofs.FitLemmas.{ram_sizes}
+use Rattle.sys_bus.proofs.PlanLemmas.{ram_sizes}
 use Rattle.board.proofs.space.regions_and_memories.Goals as goal
 
 pub memories_of-requires : goal.memories_of-requires

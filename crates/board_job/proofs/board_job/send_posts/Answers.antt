@@ -1,7 +1,8 @@
-use Rattle.std.proofs.Common.{ap}
+use Rattle.std.proofs.Common.{ap, sym}
 use Rattle.board.specs.View.{State}
-use Rattle.board_job.proofs.SendLemmas.{begins, fewer_left, goes, may_go, none_left, some_left}
+use Rattle.board_job.proofs.SendLemmas.{begins, fewer_left, goes, may_go, some_left}
 use Rattle.board_job.proofs.board_job.send_posts.Goals as goal
+use Rattle.lab_num.proofs.ListLemmas.{first_none}
 
 pub loop-post-init : goal.loop-post-init
 loop-post-init g c = begins c.args.board.now c.args.pass.now c.requires
@@ -31,4 +32,4 @@ loop-post-preserved g c =
 
 -- no post is left
 pub returns-clause-all : goal.returns-clause-all
-returns-clause-all g c = λ _. none_left c.loop-post.board.posts c.in_default.ensures
+returns-clause-all g c = λ _. first_none c.loop-post.board.posts (sym c.in_default.ensures)

@@ -1,4 +1,4 @@
-use Rattle.lab_snap.proofs.PlanLemmas.{ram_sizes}
+use Rattle.sys_bus.proofs.PlanLemmas.{ram_sizes}
 use Rattle.lab_snap.proofs.machine.have_whole_pages.Goals as goal
 
 pub returns : goal.returns

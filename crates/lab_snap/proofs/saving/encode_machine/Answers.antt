@@ -1,7 +1,7 @@
 use Rattle.std.proofs.Common.{◌≡◌, ◌∙◌, ap}
 use Rattle.lab_encoding.specs.Inner.Laws.{appended}
 use Rattle.lab_snap.specs.MachineForm.{machine_form, valid_plan_form}
-use Rattle.lab_snap.proofs.PlanLemmas.{ram_sizes}
+use Rattle.sys_bus.proofs.PlanLemmas.{ram_sizes}
 use Rattle.lab_snap.proofs.saving.encode_machine.Goals as goal
 
 pub encode_memories-requires-clause-whole : goal.encode_memories-requires-clause-whole

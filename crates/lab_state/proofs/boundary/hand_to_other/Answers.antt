@@ -4,11 +4,11 @@ use Rattle.std.specs.Prelude.{option_and_then}
 use Rattle.std.specs.Option.{option_map, option_to_list}
 use Rattle.std.proofs.lemmas.Option.{slice_get-get_or}
 use Rattle.lab_num.specs.Key.{same_member}
+use Rattle.lab_num.proofs.ListLemmas.{set-change}
 use Rattle.board.specs.Changes.{handed}
 use Rattle.lab_state.specs.Board.{Board}
 use Rattle.lab_state.specs.Boundary.{Handed, note_item, note_by, to_member}
 use Rattle.lab_state.specs.One.{with_view}
-use Rattle.lab_state.proofs.ListLemmas.{set-change}
 use Rattle.lab_state.proofs.RoundLemmas.{can_take}
 use Rattle.lab_state.proofs.boundary.hand_to_other.Goals as goal
 

@@ -1,6 +1,6 @@
 use Rattle.lab_state.specs.Run.{run}
 use Rattle.log_laws.proofs.CheckLemmas.{transcript_same}
-use Rattle.log_laws.proofs.StillLemmas.{run_none}
+use Rattle.lab_state.proofs.RunLemmas.{run_none}
 use Rattle.log_laws.proofs.checking.checks_take_no_slot.Goals as goal
 
 pub returns : goal.returns

@@ -2,8 +2,9 @@
 use Rattle.std.proofs.Common.{◌≡◌, ◌∙◌, sym, subst, ℕ, false}
 use Rattle.std.specs.Prelude.{Some, IsTrue}
 use Rattle.std.proofs.lemmas.Bool.{false≢true}
+use Rattle.std.proofs.lemmas.Option.{same_Some}
 use Rattle.rv_decode.specs.Means.{means}
-use Rattle.rv_asm.proofs.RoundTrip.{encoded-means, Some-is}
+use Rattle.rv_asm.proofs.RoundTrip.{encoded-means}
 use Rattle.rv_asm.proofs.encoder.is_valid.Goals as goal
 
 pub returns-then-fits : goal.returns-then-fits
@@ -13,7 +14,7 @@ returns-then-fits c = (
       let encoded =
       encoded-means valid.0 c.args.i.now valid.1 c.rows_differ.ensures.instructions
       c.rows_match_fields.ensures valid.2 in
-      let is : c.word_with.result ≡ valid.0 = Some-is (sym c.word_with.ensures ∙ encoded) in
+      let is : c.word_with.result ≡ valid.0 = same_Some _ _ (sym c.word_with.ensures ∙ encoded) in
       let P : ℕ → Type 0 = λ word. means word ≡ Some c.args.i.now in
       c.is_meant.ensures.1 (subst P (sym is) valid.2),
 )

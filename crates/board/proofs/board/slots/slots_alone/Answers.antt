@@ -22,20 +22,20 @@ loop-i-init g c = record {
   reserved = λ all. all;
 }
 
-pub slot-requires-clause-features : goal.slot-requires-clause-features
-slot-requires-clause-features g c =
-    let kept = ap {A = State} (λ s. s.view.space.plan) c.loop-i.invariant.run ∙ plan-stretch _ _ _ _ in
-    c.requires.features ∙ ap features_of (sym kept)
-
-pub slot-requires-clause-letters : goal.slot-requires-clause-letters
-slot-requires-clause-letters g c =
-    let kept = ap {A = State} (λ s. s.view.space.plan) c.loop-i.invariant.run ∙ plan-stretch _ _ _ _ in
-    c.loop-i.invariant.same.letters ∙ c.requires.letters ∙ ap {A = BoardPlan} (λ plan. plan.letters) (sym kept)
-
-pub slot-requires-clause-harts : goal.slot-requires-clause-harts
-slot-requires-clause-harts g c =
-    let kept = ap {A = State} (λ s. s.view.space.plan) c.loop-i.invariant.run ∙ plan-stretch _ _ _ _ in
-    c.loop-i.invariant.watch ∙ c.requires.harts ∙ ap {A = BoardPlan} (λ plan. length plan.cpus) (sym kept)
+pub slot-requires : goal.slot-requires
+slot-requires g c =
+    let plan = sym (ap {A = State} (λ s. s.view.space.plan) c.loop-i.invariant.run ∙ plan-stretch _ _ _ _) in
+    let seat = c.requires.seat in
+    record {
+      seat =
+          record {
+            features = seat.features ∙ ap features_of plan;
+            letters =
+                c.loop-i.invariant.same.letters ∙ seat.letters ∙ ap {A = BoardPlan} (λ plan. plan.letters) plan;
+            number = rw c.loop-i.invariant.watch seat.number;
+            harts = c.loop-i.invariant.watch ∙ seat.harts ∙ ap {A = BoardPlan} (λ plan. length plan.cpus) plan;
+          };
+    }
 
 -- the reservations after one slot more
 one_more :
@@ -53,7 +53,7 @@ pub returns-then-idle-clause-reserved : goal.returns-then-idle-clause-reserved
 returns-then-idle-clause-reserved g c = λ all.
     let kept = ap {A = State} (λ s. s.view.space.plan) c.loop-i.invariant.run ∙ plan-stretch _ _ _ _ in
     one_more c.loop-i.hart c.slot.new.hart c.loop-i.watch c.slot.new.watch c.loop-i.bus c.slot.new.bus
-    c.args.bus.now.space.plan c.args.now.0 kept (c.loop-i.invariant.same.letters ∙ c.requires.letters)
+    c.args.bus.now.space.plan c.args.now.0 kept (c.loop-i.invariant.same.letters ∙ c.requires.seat.letters)
     c.in-Ok.ensures.ok (c.loop-i.invariant.reserved all)
 
 pub returns-then-idle-clause-run : goal.returns-then-idle-clause-run
@@ -77,6 +77,6 @@ loop-i-preserved g c = record {
   reserved = λ all.
       let kept = ap {A = State} (λ s. s.view.space.plan) c.loop-i.invariant.run ∙ plan-stretch _ _ _ _ in
       one_more c.loop-i.hart c.slot.new.hart c.loop-i.watch c.slot.new.watch c.loop-i.bus c.slot.new.bus
-      c.args.bus.now.space.plan c.args.now.0 kept (c.loop-i.invariant.same.letters ∙ c.requires.letters)
+      c.args.bus.now.space.plan c.args.now.0 kept (c.loop-i.invariant.same.letters ∙ c.requires.seat.letters)
       c.in-Ok.ensures.ok (c.loop-i.invariant.reserved all);
 }

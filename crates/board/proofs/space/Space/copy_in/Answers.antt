@@ -2,8 +2,8 @@ use Rattle.std.proofs.Common.{◌≡◌, ◌+◌, ◌-◌, ◌∙◌, arith, tak
 use Rattle.std.proofs.lemmas.List.{length-drop, take_all}
 use Rattle.board.specs.Changes.{in_memory}
 use Rattle.board.proofs.CopyLemmas.{one_more, front_of, on_err, still_memory}
-use Rattle.board.proofs.ListLemmas.{range_passes}
 use Rattle.board.proofs.space.Space.copy_in.Goals as goal
+use Rattle.lab_num.proofs.ListLemmas.{range_passes}
 
 pub copy_piece-requires-clause-memory : goal.copy_piece-requires-clause-memory
 copy_piece-requires-clause-memory g c =

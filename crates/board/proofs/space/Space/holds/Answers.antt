@@ -1,7 +1,8 @@
 use Rattle.std.proofs.Common.{◌≡◌, ◌+◌, ◌-◌, ◌∙◌, sym, ap, arith}
 use Rattle.board.specs.Changes.{is_memory, in_memory, holds_each}
-use Rattle.board.proofs.ListLemmas.{all_of_range, all_of_parts}
+use Rattle.board.proofs.ListLemmas.{all_of_parts}
 use Rattle.board.proofs.space.Space.holds.Goals as goal
+use Rattle.lab_num.proofs.ListLemmas.{all_of_range}
 
 pub returns-then-left-room : goal.returns-then-left-room
 returns-then-left-room g c =

@@ -2,8 +2,8 @@ use Rattle.std.proofs.Common.{◌+◌, ◌∙◌, arith}
 use Rattle.page_ram.specs.Bytes.{zeros}
 use Rattle.board.specs.Changes.{in_memory}
 use Rattle.board.proofs.CopyLemmas.{more_zeros, still_memory}
-use Rattle.board.proofs.ListLemmas.{range_passes}
 use Rattle.board.proofs.space.Space.zero.Goals as goal
+use Rattle.lab_num.proofs.ListLemmas.{range_passes}
 
 pub zero_piece-done-requires-clause-memory : goal.zero_piece-done-requires-clause-memory
 zero_piece-done-requires-clause-memory g c =

@@ -1,5 +1,5 @@
 -- A piece of a piece.
-use Rattle.std.proofs.Common.{◌≡◌, ◌+◌, ◌≤◌, ◌∙◌, ap, sym, take, drop, length, arith, rules}
+use Rattle.std.proofs.Common.{◌≡◌, ◌+◌, ◌≤◌, ap, sym, take, drop, length, arith, rules}
 use Rattle.elf_load.proofs.PieceLemmas.{piece_of_piece, take-le}
 use Rattle.elf_load.proofs.bytes.Bytes.piece.Goals as goal
 

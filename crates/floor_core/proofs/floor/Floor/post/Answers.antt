@@ -1,9 +1,10 @@
 use Rattle.std.proofs.Common.{◌≡◌, ◌∙◌, ◌++◌, refl, ap, sym}
 use Rattle.floor_core.specs.Events.{MayPost, relieved, oldest}
 use Rattle.floor_core.specs.Floor.{Floor}
-use Rattle.floor_core.proofs.BoardLemmas.{placed, within, read_at, said_of, first_none}
+use Rattle.floor_core.proofs.BoardLemmas.{placed, within, read_at, said_of}
 use Rattle.floor_core.proofs.SoundLemmas.{oldest_is}
 use Rattle.floor_core.proofs.floor.Floor.post.Goals as goal
+use Rattle.lab_num.proofs.ListLemmas.{first_none}
 
 pub returns-in_ok-push-in-Some-clause-posted : goal.returns-in_ok-push-in-Some-clause-posted
 returns-in_ok-push-in-Some-clause-posted g c =

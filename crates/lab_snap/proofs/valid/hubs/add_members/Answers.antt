@@ -1,13 +1,10 @@
-use Rattle.std.proofs.Common.{◌≡◌, ◌∙◌, ℕ, false, refl, sym, ap}
-use Rattle.std.specs.Prelude.{Option, None, Some, is_some}
+use Rattle.std.proofs.Common.{◌∙◌, false, sym, ap}
+use Rattle.std.specs.Prelude.{is_some}
 use Rattle.indexmap.proofs.CallerLemmas.{insert_entry-new}
 use Rattle.lab_num.specs.Key.{same_member}
+use Rattle.lab_num.proofs.ListLemmas.{none_is}
 use Rattle.lab_snap.proofs.DelayLemmas.{added_one, member_twice}
 use Rattle.lab_snap.proofs.valid.hubs.add_members.Goals as goal
-
-none : (o : Option ℕ) → is_some o ≡ false → o ≡ None
-none None is = refl
-none (Some value) is = absurd (cc)
 
 pub returns-then-is_some-clause-twice : goal.returns-then-is_some-clause-twice
 returns-then-is_some-clause-twice c = λ yes distinct.
@@ -19,7 +16,7 @@ returns-then-is_some-clause-twice c = λ yes distinct.
 pub loop-member-preserved : goal.loop-member-preserved
 loop-member-preserved c =
     let absent = sym c.in_ok-insert.ensures.old
-    ∙ none c.in_ok-insert.field-0 (sym c.is_some.ensures ∙ c.if-is_some.false) in
+    ∙ none_is c.in_ok-insert.field-0 (sym c.is_some.ensures ∙ c.if-is_some.false) in
     record {
       entries =
           c.in_ok-insert.ensures.entries

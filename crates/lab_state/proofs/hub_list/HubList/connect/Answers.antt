@@ -3,9 +3,9 @@ use Rattle.std.proofs.Common.{◌≡◌, ◌∙◌, ap, ℕ, List, length, Resul
 use Rattle.std.specs.Prelude.{OnErr}
 use Rattle.lab_num.specs.declared.key.Member.{Member}
 use Rattle.uart_hub.specs.Hub as uart_hub
-use Rattle.lab_state.proofs.ListLemmas.{length-change}
 use Rattle.std.proofs.lemmas.Result.{on_ok_weaker}
 use Rattle.lab_num.specs.Change.{change_at}
+use Rattle.lab_num.proofs.ListLemmas.{length-change}
 use Rattle.lab_state.specs.One.{with_member}
 use Rattle.lab_state.specs.Inner.Hubs.{hubs_of}
 use Rattle.lab_state.proofs.HubLemmas.{parts, hubs-connected}

@@ -1,7 +1,6 @@
 -- The hubs have the members and the delays in their order.
-use Rattle.std.proofs.Common.{◌≡◌, ◌∙◌, sym, ap, refl, Option, None, Some, List, []}
+use Rattle.std.proofs.Common.{◌≡◌, ◌∙◌, sym, ap, refl, Option, None, Some, []}
 use Rattle.std.specs.Option.{option_map, option_map_or}
-use Rattle.lab_num.specs.declared.key.Member.{Member}
 use Rattle.lab_num.specs.Route.{hub_of}
 use Rattle.uart_hub.specs.Hub.{Hub}
 use Rattle.lab_state.specs.Hub.{members_of, delay_of}

@@ -1,7 +1,8 @@
 use Rattle.std.proofs.Common.{◌≡◌, ◌∙◌, ◌<◌, ap, arith, length, refl, subst, sym, take, true}
 use Rattle.monitor.specs.Images.{holds_part, with_part, with_parts}
-use Rattle.monitor.proofs.ImageLemmas.{changed_more, each_of_all, for_changed, parts_more, parts_still, some_changed}
+use Rattle.monitor.proofs.ImageLemmas.{changed_more, for_changed, parts_more, parts_still, some_changed}
 use Rattle.monitor.proofs.monitor.Monitor.load_parts.Goals as goal
+use Rattle.lab_num.proofs.ListLemmas.{passes_each}
 
 pub loop-part-init : goal.loop-part-init
 loop-part-init g c = rw (← c.self.view_is, c.zero.ensures) refl
@@ -23,7 +24,7 @@ load_part-requires-clause-holds g c =
     (λ v seen.
     parts_still (take i parts) v part
     ∙ subst (λ item. holds_part v item ≡ true) (sym c.part-item.is)
-    (each_of_all (holds_part v) parts i part (c.requires.holds v seen) inside))
+    (passes_each (holds_part v) parts i part (c.requires.holds v seen) inside))
 
 pub loop-part-preserved : goal.loop-part-preserved
 loop-part-preserved g c =

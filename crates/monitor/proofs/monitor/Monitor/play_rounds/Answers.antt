@@ -4,9 +4,10 @@ use Rattle.std.proofs.lemmas.Result.{err_from_is_err_and}
 use Rattle.lab_io.proofs.Frames.{writes_as, writes_none, writes_on}
 use Rattle.lab_state.specs.Round.{round}
 use Rattle.lab_state.specs.Run.{run}
+use Rattle.lab_state.proofs.RunLemmas.{round_time}
 use Rattle.monitor.specs.Step.{Running}
 use Rattle.monitor.proofs.Rounds.{becomes_all, come_more, come_none, come_on, come_part, lab_after, left_of}
-use Rattle.monitor.proofs.Rounds.{lines_after, none_after, none_of, one_round, round_time, same_but, whole_written}
+use Rattle.monitor.proofs.Rounds.{lines_after, none_after, none_of, one_round, same_but, whole_written}
 use Rattle.monitor.proofs.monitor.Monitor.play_rounds.Goals as goal
 
 pub rounds-init : goal.rounds-init

@@ -3,8 +3,9 @@ use Rattle.std.proofs.Common.{◌≡◌, ◌∙◌, ◌<◌, false, length, ap, 
 use Rattle.std.proofs.lemmas.List.{length-map}
 use Rattle.lab_num.specs.Change.{change_at}
 use Rattle.lab_num.specs.Route.{is_connected}
+use Rattle.lab_num.proofs.ListLemmas.{set-change}
 use Rattle.uart_hub.specs.Hub.{Hub, members_of, with_member}
-use Rattle.uart_hub.proofs.HubLemmas.{connected_once, set-member, members-connected}
+use Rattle.uart_hub.proofs.HubLemmas.{connected_once, members-connected}
 use Rattle.uart_hub.proofs.RankLemmas.{ranks_connected, ranks_kept}
 use Rattle.uart_hub.proofs.hubs.UartHubs.connect.Goals as goal
 
@@ -20,7 +21,7 @@ invariant_of-self-2 c =
     ∙ c.if-is_connected.false in
     let low = c.reach.ensures.low in
     rw (
-      set-member hubs i m c.index_mut.ensures.value c.in_ok-push.ensures.ok,
+      set-change (with_member m) hubs i c.index_mut.ensures.value c.in_ok-push.ensures.ok,
       members-connected hubs i m,
       c.put.ensures,
     ) (
@@ -32,6 +33,6 @@ invariant_of-self-2 c =
 
 pub returns-clause-ok : goal.returns-clause-ok
 returns-clause-ok c =
-    set-member c.self.inside.hubs.items c.args.hub c.args.member c.index_mut.ensures.value
+    set-change (with_member c.args.member) c.self.inside.hubs.items c.args.hub c.index_mut.ensures.value
     (c.in_ok-push.ensures.ok)
     ∙ ap (λ hubs. change_at hubs c.args.hub (with_member c.args.member)) c.self.view_is
