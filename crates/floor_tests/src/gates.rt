@@ -50,7 +50,7 @@ impl Gate for Turnstile {
 }
 
 /// A gate that holds each of so many turns, but the last, until the next one enters. An `enter` that
-/// has looked 20,000,000 times in vain gives up, and no further one is held.
+/// has looked 100,000,000 times in vain gives up, and no further one is held.
 ///
 /// Two workers on two boards of as many turns each: while one is held, its board is out, so the other
 /// goes over both boards and wins none but its own.
@@ -84,7 +84,7 @@ impl Gate for Relay {
     fn enter(&self, _board: BoardNo) {
         let before = self.entered.fetch_add(1, Ordering::SeqCst);
         let awaited = before.saturating_add(2).min(self.turns);
-        for _ in 0..20_000_000_u64 {
+        for _ in 0..100_000_000_u64 {
             if self.entered() >= awaited || self.gave_up() {
                 return;
             }
@@ -95,7 +95,7 @@ impl Gate for Relay {
 }
 
 /// A gate that holds each one who enters until another comes: two and two go on together. An `enter`
-/// that has looked 20,000,000 times in vain gives up.
+/// that has looked 100,000,000 times in vain gives up.
 #[derive(Drop)]
 pub struct Pairs {
     entered: AtomicU64,
@@ -124,7 +124,7 @@ impl Gate for Pairs {
     fn enter(&self, _board: BoardNo) {
         let before = self.entered.fetch_add(1, Ordering::SeqCst);
         let awaited = (before | 1).saturating_add(1);
-        for _ in 0..20_000_000_u64 {
+        for _ in 0..100_000_000_u64 {
             if self.entered() >= awaited {
                 return;
             }

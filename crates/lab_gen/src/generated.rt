@@ -39,10 +39,10 @@ fn play<R: Threads + Wait + Copy + Send + Sync, D: Device + Send, G: Gate>(
     }
 }
 
-/// Makes the laboratory of a seed, of 1 to 16 boards, has 1 to 8 workers run it for 100,000 microseconds,
-/// and answers the bytes of its summary: a line for each board and one for all, each with its line feed.
-/// The number of workers changes nothing in them. Where several run several boards, each enters the gate
-/// before each turn.
+/// Makes the laboratory of a seed, of 1 to 16 boards, has at most `workers` workers, 1 to 8, run it for
+/// 100,000 microseconds, and answers the bytes of its summary: a line for each board and one for all, each
+/// with its line feed. The number of workers changes nothing in them. Where several run several boards, each
+/// enters the gate before each turn.
 #[tactic(auto, unfolding(crate::specs::Summary::summary_of))]
 pub fn generate<R: Threads + Wait + Copy + Send + Sync, D: Device + Send, G: Gate>(
     rt: &R,

@@ -398,9 +398,10 @@ impl<D: Device + Send> Lab<D> {
         Ok(log)
     }
 
-    /// Runs one round of `q` microseconds. Where two boards or more are awake, several workers take
-    /// turns of the boards, on threads, and enter the gate before each; else board after board takes
-    /// its slots, and nobody enters the gate. `LabFault::Memory` spends the laboratory.
+    /// Runs one round of `q` microseconds. Where two boards or more are awake, and have slots enough
+    /// for it or a gate that is not open, several workers take turns of the boards, on threads, and
+    /// enter the gate before each; else board after board takes its slots, and nobody enters the
+    /// gate. `LabFault::Memory` spends the laboratory.
     pub fn round<R: Threads + Wait + Copy + Send + Sync, G: Gate>(
         &mut self,
         rt: &R,

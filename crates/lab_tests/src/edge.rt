@@ -14,7 +14,7 @@ fn the_first_of_all_words_is_the_programs_name(rt: HostRuntime) -> Result<(), Fa
 }
 
 #[test]
-fn a_run_that_finds_no_memory_for_its_words_ends_with_1(rt: HostRuntime) -> Result<(), Fail> {
+fn each_end_but_a_refused_script_has_its_exit_code(rt: HostRuntime) -> Result<(), Fail> {
     let codes = [
         exit_code(&Ok(Status::Done)),
         exit_code(&Ok(Status::Memory)),

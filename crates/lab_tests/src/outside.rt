@@ -191,8 +191,8 @@ fn is_whole_or_starved<R: Threads + Wait + Copy + Send + Sync>(
 }
 
 #[test]
-fn a_run_that_finds_no_memory_has_written_a_front_of_the_log(rt: HostRuntime) {
-    // By `rt try --test --fail-alloc N` the Nth allocation fails.
+fn a_run_writes_its_log_or_finds_no_memory_and_writes_a_front_of_it(rt: HostRuntime) {
+    // By `rt try --test --fail-alloc N` the Nth allocation fails; else none does.
     let found = is_whole_or_starved(&rt, rt.alloc(), b"[0.000002] m0/uart: A\n");
     assert!(rt; found.unwrap_or(true));
 }

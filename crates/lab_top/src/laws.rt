@@ -21,7 +21,7 @@ ghost use Rattle.lab_top.specs.Transcript.{transcript_by, using};
 use lab_snap::snapshots_are_what_they_spell;
 
 /// However the boards take the slots of their grants in turns, the program writes the same bytes,
-/// ends in the same way and reads the same files.
+/// ends in the same way, reads the same files, and makes the same calls on the store, which keeps the same.
 pub fn transcripts_agree()
     ensures { (cut : Cut) → IsWhole cut → (words : List (List ℕ)) (held kept : Held) →
         transcript_by (run_in_turns cut) words held kept ≡ transcript words held kept }
@@ -30,7 +30,7 @@ pub fn transcripts_agree()
 }
 
 /// Words that ask for the same run by another number of workers make the program write the same
-/// bytes, end in the same way and read the same files.
+/// bytes, end in the same way, read the same files, and make the same calls on the store, which keeps the same.
 pub fn workers_agree()
     ensures { (words others : List (List ℕ)) (script : List ℕ) (setting : Setting) (workers : ℕ) (held kept : Held) →
         request_of words ≡ Run script setting →

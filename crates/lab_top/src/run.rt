@@ -42,8 +42,8 @@ use std::thread::Threads;
 const MOST_STEPS: u32 = 100_001;
 
 /// Runs the program for its command words, reading from `files`, writing to `out`, and keeping snapshots in
-/// `store`. As many workers as the words name run the boards. Where several run several boards, each enters
-/// the gate before each turn.
+/// `store`. At most as many workers as the words name run the boards. Where several run several boards, each
+/// enters the gate before each turn.
 pub fn run_lab<
     R: Threads + Wait + Copy + Send + Sync,
     D: Device + Send,

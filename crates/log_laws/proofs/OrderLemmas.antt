@@ -90,11 +90,6 @@ put_orderly kept name bytes rest is = record { keeps = is.keeps; reads = is.read
 abbrev AreOrderly : Further → Type 0
 AreOrderly further = (kept : Held) (s : State) → IsOrderly kept (further kept s)
 
-refused_orderly : (kept : Held) (place : LinePlace) (s : State) (bytes : List ℕ) (outcome : Outcome) →
-    IsOrderly kept (after [] bytes (ended kept outcome))
-refused_orderly kept place s bytes outcome =
-    after_orderly kept [] bytes (ended kept outcome) (ended_orderly kept outcome)
-
 module _ (further : Further) (are : AreOrderly further) (kept : Held) (place : LinePlace) where
   saving_by : (a b : Bool) (name bytes : List ℕ) (s : State) →
       IsOrderly kept
