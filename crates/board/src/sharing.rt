@@ -1,6 +1,6 @@
-//! One slot of a processor that may share words of memory with others, in the loops of a turn. What can end and make no
-//! reservation is done as on a processor alone. That is asked of an instruction that stores, for which nothing may be
-//! reserved, and of what is none of the other instructions.
+//! One slot of a processor that may share words of memory with others, in the loops of a turn. An instruction that can
+//! end and make no reservation is done as on a processor alone. So of one that stores it is asked whether anything is
+//! reserved, and of a word that means no other instruction whether it means an atomic one.
 ghost use Rattle.std.specs.Prelude.{◌≡◌, ◌<◌, length, true, false, OnOk, OnErr};
 ghost use Rattle.rv_atomic.specs.Laws.{EndsNone};
 ghost use Rattle.rv_atomic.specs.declared.shared.Shared.TheVariants.{Plain};
