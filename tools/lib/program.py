@@ -21,8 +21,10 @@ def name_of_script() -> str:
 
 def end_wrong(text: object, status: int = 2) -> NoReturn:
     """Ends the script with a line on the standard error."""
-    with contextlib.suppress(OSError):
-        print(f"{name_of_script()}: {text}", file=sys.stderr, flush=True)
+    # It may be full, or closed: it is none then.
+    with contextlib.suppress(OSError, AttributeError):
+        sys.stderr.write(f"{name_of_script()}: {text}\n")
+        sys.stderr.flush()
     raise SystemExit(status)
 
 
