@@ -74,7 +74,7 @@ def open_output() -> None:
 
 def drop_output() -> None:
     """Lets what could not be written go, so that nothing is told of it at the end."""
-    with contextlib.suppress(OSError):
+    with contextlib.suppress(OSError, AttributeError):
         os.dup2(os.open(os.devnull, os.O_WRONLY), sys.stdout.fileno())
 
 
