@@ -1,4 +1,5 @@
 """Runs a copy of a script up to a lab time, or to its end, and keeps the laboratory there in a snapshot."""
+import os
 import pathlib
 import re
 import subprocess
@@ -164,7 +165,8 @@ def program() -> str:
     try:
         return path_of_program()
     except SystemExit as ended:
-        raise NoRun(f"there is no program to run: ./lab ended with {ended.code}") from ended
+        cause = "LAB names none" if os.environ.get("LAB") else f"./lab ended with {ended.code}"
+        raise NoRun(f"there is no program to run: {cause}") from ended
 
 
 def missing(script: str) -> str:
