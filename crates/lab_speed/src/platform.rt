@@ -59,13 +59,19 @@ fn count_of_parts(wired: bool) -> usize {
     if wired { PARTS.len() } else { 3 }
 }
 
-fn names(alloc: Global, form: Form) -> Option<Vec<Named>> {
+fn part_names(alloc: Global, wired: bool) -> Option<Vec<Named>> {
     let mut names = Vec::new(alloc);
-    for (name, kind, _, _) in PARTS.into_iter().take(count_of_parts(form.wired)) {
+    for (name, kind, _, _) in PARTS.into_iter().take(count_of_parts(wired)) {
         let what = NamedWhat::Part(kind);
         let name = Text::of(alloc, name).ok()?;
         names.push(Named { name, what }).ok()?;
     }
+    Some(names)
+}
+
+/// The names of the parts, and behind them those of the processors.
+fn names(alloc: Global, form: Form) -> Option<Vec<Named>> {
+    let mut names = part_names(alloc, form.wired)?;
     for name in CPUS.into_iter().take(form.harts) {
         let what = NamedWhat::Cpu;
         let name = Text::of(alloc, name).ok()?;
