@@ -10,6 +10,8 @@ FUNCTION = re.compile(r"\s*(?:pub(?:\([a-z ]+\))? )?(?:const )?(?:unsafe )?fn (\
 CLAUSE = re.compile(r"\s*ensures (?:(\w+) )?\{")
 TYPE = re.compile(r"^(?:pub(?:\([a-z ]+\))? )?(?:struct|enum|trait|type|union) (\w+)", re.MULTILINE)
 DEFINITION = re.compile(r"^(?:\w+ )*pub (?:record |data |type )?([\w≡≢]+)(?=[ \n])", re.MULTILINE)
+# Where the edits of a crate stand: those that each gate tries, and the others.
+EDITS = "must-fail", "wrong"
 
 
 @dataclasses.dataclass(frozen=True)
@@ -79,7 +81,7 @@ def crates_below(top: pathlib.Path) -> Dict[str, Crate]:
     """Returns all crates of the repository by their names."""
     crates = {}
     for folder in sorted(it for it in (top / "crates").iterdir() if (it / "src").is_dir()):
-        crate = Crate([], set(), set(), {it.stem for it in folder.glob("must-fail/*.edit")})
+        crate = Crate([], set(), set(), {it.stem for name in EDITS for it in folder.glob(f"{name}/*.edit")})
         for path in sorted(folder.glob("src/**/*.rt")):
             text = path.read_text(encoding="utf-8")
             crate.functions += functions_of(folder.name, text)
