@@ -47,17 +47,41 @@ static COUNTS: [Row; 5] = [
 
 /// Names are apart, have their form, and are those of the parts and processors that there are.
 static NAMES: [Row; 11] = [
-    (Change::Name(1, "Uart_0", NamedWhat::Part(RegionKind::Dev(0)), "cpu"), true),
-    (Change::Name(1, "ram", NamedWhat::Part(RegionKind::Dev(0)), "cpu"), false),
-    (Change::Name(1, "", NamedWhat::Part(RegionKind::Dev(0)), "cpu"), false),
-    (Change::Name(1, "0uart", NamedWhat::Part(RegionKind::Dev(0)), "cpu"), false),
-    (Change::Name(1, "_uart", NamedWhat::Part(RegionKind::Dev(0)), "cpu"), false),
-    (Change::Name(1, "uart-0", NamedWhat::Part(RegionKind::Dev(0)), "cpu"), false),
+    (
+        Change::Name(1, "Uart_0", NamedWhat::Part(RegionKind::Dev(0)), "cpu"),
+        true,
+    ),
+    (
+        Change::Name(1, "ram", NamedWhat::Part(RegionKind::Dev(0)), "cpu"),
+        false,
+    ),
+    (
+        Change::Name(1, "", NamedWhat::Part(RegionKind::Dev(0)), "cpu"),
+        false,
+    ),
+    (
+        Change::Name(1, "0uart", NamedWhat::Part(RegionKind::Dev(0)), "cpu"),
+        false,
+    ),
+    (
+        Change::Name(1, "_uart", NamedWhat::Part(RegionKind::Dev(0)), "cpu"),
+        false,
+    ),
+    (
+        Change::Name(1, "uart-0", NamedWhat::Part(RegionKind::Dev(0)), "cpu"),
+        false,
+    ),
     (Change::Name(3, "hart", NamedWhat::Cpu, "cpu"), false),
     (Change::Name(3, "hart", NamedWhat::Cpu, "hart"), true),
     (Change::Name(1, "uart", NamedWhat::Cpu, "cpu"), false),
-    (Change::Name(1, "uart", NamedWhat::Part(RegionKind::Dev(1)), "cpu"), false),
-    (Change::Name(1, "uart", NamedWhat::Part(RegionKind::Clint), "cpu"), false),
+    (
+        Change::Name(1, "uart", NamedWhat::Part(RegionKind::Dev(1)), "cpu"),
+        false,
+    ),
+    (
+        Change::Name(1, "uart", NamedWhat::Part(RegionKind::Clint), "cpu"),
+        false,
+    ),
 ];
 
 /// Each processor has its name, and their speeds are alike.
@@ -72,28 +96,67 @@ static PROCESSORS: [Row; 14] = [
     (Change::Processors(2, &["cpu0"], 2), false),
     (Change::Processors(2, &["cpu0", "cpu1", "cpu2"], 6), false),
     (Change::Processors(3, &["cpu0", "cpu1", "cpu2"], 999), true),
-    (Change::Processors(3, &["cpu0", "cpu1", "cpu2"], 1000), false),
-    (Change::Processors(4, &["cpu0", "cpu1", "cpu2", "cpu3"], 4), true),
-    (Change::Processors(4, &["cpu0", "cpu1", "cpu2", "cpu2"], 4), false),
-    (Change::Processors(4, &["cpu0", "cpu1", "cpu2", "cpu3"], 0), false),
+    (
+        Change::Processors(3, &["cpu0", "cpu1", "cpu2"], 1000),
+        false,
+    ),
+    (
+        Change::Processors(4, &["cpu0", "cpu1", "cpu2", "cpu3"], 4),
+        true,
+    ),
+    (
+        Change::Processors(4, &["cpu0", "cpu1", "cpu2", "cpu2"], 4),
+        false,
+    ),
+    (
+        Change::Processors(4, &["cpu0", "cpu1", "cpu2", "cpu3"], 0),
+        false,
+    ),
 ];
 
 /// Regions lie apart, below 2^32 and within their limits.
 static SMALL_RANGES: [Row; 17] = [
-    (Change::SmallRange(0, 0xFFFF_0000, 0x1_0000, 1, 0x1_0000), true),
-    (Change::SmallRange(0, 0xFFFF_0004, 0x1_0000, 1, 0x1_0000), false),
-    (Change::SmallRange(0, 0x8000_0004, 0x1_0000, 1, 0x1_0000), true),
-    (Change::SmallRange(0, 0x8000_0002, 0x1_0000, 1, 0x1_0000), false),
-    (Change::SmallRange(0, 0x8000_0000, 0x1_0000, 1, 0x1_1000), false),
-    (Change::SmallRange(0, 0x8000_0000, 0x1_0004, 1, 0x1_0004), false),
+    (
+        Change::SmallRange(0, 0xFFFF_0000, 0x1_0000, 1, 0x1_0000),
+        true,
+    ),
+    (
+        Change::SmallRange(0, 0xFFFF_0004, 0x1_0000, 1, 0x1_0000),
+        false,
+    ),
+    (
+        Change::SmallRange(0, 0x8000_0004, 0x1_0000, 1, 0x1_0000),
+        true,
+    ),
+    (
+        Change::SmallRange(0, 0x8000_0002, 0x1_0000, 1, 0x1_0000),
+        false,
+    ),
+    (
+        Change::SmallRange(0, 0x8000_0000, 0x1_0000, 1, 0x1_1000),
+        false,
+    ),
+    (
+        Change::SmallRange(0, 0x8000_0000, 0x1_0004, 1, 0x1_0004),
+        false,
+    ),
     (Change::SmallRange(0, 0x8000_0000, 0x0, 1, 0x0), false),
-    (Change::SmallRange(0, 0x8000_0000, 0x400_0000, 1, 0x400_0000), true),
-    (Change::SmallRange(0, 0x8000_0000, 0x400_1000, 1, 0x400_1000), false),
+    (
+        Change::SmallRange(0, 0x8000_0000, 0x400_0000, 1, 0x400_0000),
+        true,
+    ),
+    (
+        Change::SmallRange(0, 0x8000_0000, 0x400_1000, 1, 0x400_1000),
+        false,
+    ),
     (Change::SmallRange(1, 0x1000_0000, 0x8, 1, 0x1_0000), true),
     (Change::SmallRange(1, 0x1000_0000, 0x4, 1, 0x1_0000), false),
     (Change::SmallRange(1, 0x1000_0000, 0x20, 4, 0x1_0000), true),
     (Change::SmallRange(1, 0x1000_0000, 0x1C, 4, 0x1_0000), false),
-    (Change::SmallRange(1, 0x1000_0000, 0x100, 2, 0x1_0000), false),
+    (
+        Change::SmallRange(1, 0x1000_0000, 0x100, 2, 0x1_0000),
+        false,
+    ),
     (Change::SmallRange(2, 0x1000_0100, 0x4, 1, 0x1_0000), true),
     (Change::SmallRange(2, 0x1000_00FC, 0x4, 1, 0x1_0000), false),
     (Change::SmallRange(2, 0x10_0000, 0x20, 4, 0x1_0000), false),

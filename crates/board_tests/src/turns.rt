@@ -257,18 +257,20 @@ fn takes_turns(board: &mut Board<Uart>, row: &Turns) -> Result<bool, NoMemory> {
     }
     let is_so = loads(board, BASE, &SELF)?;
     let asks = loads(board, BASE + 0x40, &READ)?;
-    Ok(is_so
-        && asks
-        && all_go_to(board, BASE)
-        && halts_one(board, halted, true)
-        && takes(board, 0, a)
-        && takes(board, a, b)
-        && takes(board, a + b, c)
-        && have_retired(board, harts, counts)
-        && halts_one(board, halted, false)
-        && all_go_to(board, BASE + 0x40)
-        && takes(board, a + b + c, 12)
-        && have_read(board, harts, counts))
+    Ok(
+        is_so
+            && asks
+            && all_go_to(board, BASE)
+            && halts_one(board, halted, true)
+            && takes(board, 0, a)
+            && takes(board, a, b)
+            && takes(board, a + b, c)
+            && have_retired(board, harts, counts)
+            && halts_one(board, halted, false)
+            && all_go_to(board, BASE + 0x40)
+            && takes(board, a + b + c, 12)
+            && have_read(board, harts, counts),
+    )
 }
 
 #[test]
@@ -412,14 +414,16 @@ fn receives(board: &mut Board<Uart>) -> bool {
 fn is_woken(board: &mut Board<Uart>, row: &Wait) -> Result<bool, NoMemory> {
     let &(program, _, first, byte, second, count, x8, x10) = row;
     let is_so = loads(board, BASE, program)?;
-    Ok(is_so
-        && goes_to(board, 0, BASE)
-        && takes(board, 0, first)
-        && (!byte || receives(board))
-        && takes(board, first, second)
-        && retired(board, 0, count)
-        && reads(board, 0, 8, x8)
-        && reads(board, 0, 10, x10))
+    Ok(
+        is_so
+            && goes_to(board, 0, BASE)
+            && takes(board, 0, first)
+            && (!byte || receives(board))
+            && takes(board, first, second)
+            && retired(board, 0, count)
+            && reads(board, 0, 8, x8)
+            && reads(board, 0, 10, x10),
+    )
 }
 
 type Waiting = (u32, [bool; 3], u64, u64, [u32; 2]);
@@ -456,11 +460,13 @@ fn wakes(board: &mut Board<Uart>, row: &Waiting) -> Result<bool, NoMemory> {
         && halts(board, 0, first)
         && halts(board, 1, second)
         && halts(board, 2, third);
-    Ok(ready
-        && takes_by(board, slots, each)
-        && has_woken(board, 0, first, woken)
-        && has_woken(board, 1, second, woken)
-        && retired(board, 2, if third { 0 } else { slots / 3 }))
+    Ok(
+        ready
+            && takes_by(board, slots, each)
+            && has_woken(board, 0, first, woken)
+            && has_woken(board, 1, second, woken)
+            && retired(board, 2, if third { 0 } else { slots / 3 }),
+    )
 }
 
 #[test]
