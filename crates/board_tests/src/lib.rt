@@ -1,17 +1,23 @@
-//! Tests of boards and of their plans.
+//! What no script shows of instructions, boards and their plans.
 #![tactic(auto)]
 
 #[cfg(test)]
+mod assembler;
+#[cfg(test)]
 mod boards;
 #[cfg(test)]
-mod halves;
+mod half_words;
 #[cfg(test)]
-mod harts;
+mod memory;
 #[cfg(test)]
 mod parts;
 #[cfg(test)]
 mod plans;
 #[cfg(test)]
-mod states;
+mod refused;
 #[cfg(test)]
-mod waits;
+mod regions;
+#[cfg(test)]
+mod turns;
+#[cfg(test)]
+mod words;

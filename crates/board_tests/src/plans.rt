@@ -1,4 +1,4 @@
-//! Plans of two boards and of boards that are nearly right, and accesses at the ends of regions.
+//! Plans of boards that are right or nearly right.
 use crate::parts::{set_cpus, set_kinds, set_memories, set_names, set_regions, set_wires};
 use dev_core::Kind;
 use lab_num::NoMemory;
@@ -10,304 +10,187 @@ use sample_boards::{
 use std::alloc::Global;
 use std::process::Abort;
 use std::test::Fail;
-use sys_bus::{
-    BoardPlan, MemoryPlace, NamedWhat, PlicSize, Region, RegionKind, Regions, Target, Wire,
-    WireFrom, WirePin,
-};
+use sys_bus::{BoardPlan, NamedWhat, PlicSize, Region, RegionKind, Wire, WireFrom, WirePin};
 
-/// Each row: how many names, regions, memories and devices of the small board there are.
-static COUNTS: [(usize, usize, usize, usize, bool); 5] = [
-    (4, 3, 1, 2, true),
-    (3, 3, 1, 2, false),
-    (4, 2, 1, 2, false),
-    (4, 3, 0, 2, false),
-    (4, 3, 1, 1, false),
+/// What is another in the plan of a board.
+#[derive(Clone, Copy, Debug)]
+enum Change {
+    /// How many names, regions, memories and devices of the small board there are.
+    Counts(usize, usize, usize, usize),
+    /// An entry of the small board, its name and what it is, and the name of the processor.
+    Name(usize, &'static str, NamedWhat, &'static str),
+    /// How many processors have entries, the names of those that there are, and the speed of all together.
+    Processors(usize, &'static [&'static str], u32),
+    /// A region of the small board, its base, size and step, and the size of the memory.
+    SmallRange(usize, u32, u32, u8, u32),
+    /// A region of the usual board, its base and size.
+    UsualRange(usize, u32, u32),
+    /// The frequency, sources, contexts and speed of the usual board.
+    Numbers(Option<u32>, u8, u8, u32),
+    /// The only wire of the usual board, or of the small one.
+    UsualWire(WireFrom, WirePin),
+    SmallWire(WireFrom, WirePin),
+    /// The devices of the small board.
+    Kinds(Kind, Kind),
+}
+
+type Row = (Change, bool);
+
+/// A board has as many names as parts, and as many memories and devices as regions of them.
+static COUNTS: [Row; 5] = [
+    (Change::Counts(4, 3, 1, 2), true),
+    (Change::Counts(3, 3, 1, 2), false),
+    (Change::Counts(4, 2, 1, 2), false),
+    (Change::Counts(4, 3, 0, 2), false),
+    (Change::Counts(4, 3, 1, 1), false),
 ];
 
-/// Each row: an entry of the small board that is another, and the name of the processor.
-static NAMES: [(usize, &str, NamedWhat, &str, bool); 11] = [
+/// Names are apart, have their form, and are those of the parts and processors that there are.
+static NAMES: [Row; 11] = [
     (
-        1,
-        "Uart_0",
-        NamedWhat::Part(RegionKind::Dev(0)),
-        "cpu",
+        Change::Name(1, "Uart_0", NamedWhat::Part(RegionKind::Dev(0)), "cpu"),
         true,
     ),
-    (1, "ram", NamedWhat::Part(RegionKind::Dev(0)), "cpu", false),
-    (1, "", NamedWhat::Part(RegionKind::Dev(0)), "cpu", false),
     (
-        1,
-        "0uart",
-        NamedWhat::Part(RegionKind::Dev(0)),
-        "cpu",
+        Change::Name(1, "ram", NamedWhat::Part(RegionKind::Dev(0)), "cpu"),
         false,
     ),
     (
-        1,
-        "_uart",
-        NamedWhat::Part(RegionKind::Dev(0)),
-        "cpu",
+        Change::Name(1, "", NamedWhat::Part(RegionKind::Dev(0)), "cpu"),
         false,
     ),
     (
-        1,
-        "uart-0",
-        NamedWhat::Part(RegionKind::Dev(0)),
-        "cpu",
+        Change::Name(1, "0uart", NamedWhat::Part(RegionKind::Dev(0)), "cpu"),
         false,
     ),
-    (3, "hart", NamedWhat::Cpu, "cpu", false),
-    (3, "hart", NamedWhat::Cpu, "hart", true),
-    (1, "uart", NamedWhat::Cpu, "cpu", false),
-    (1, "uart", NamedWhat::Part(RegionKind::Dev(1)), "cpu", false),
-    (1, "uart", NamedWhat::Part(RegionKind::Clint), "cpu", false),
+    (
+        Change::Name(1, "_uart", NamedWhat::Part(RegionKind::Dev(0)), "cpu"),
+        false,
+    ),
+    (
+        Change::Name(1, "uart-0", NamedWhat::Part(RegionKind::Dev(0)), "cpu"),
+        false,
+    ),
+    (Change::Name(3, "hart", NamedWhat::Cpu, "cpu"), false),
+    (Change::Name(3, "hart", NamedWhat::Cpu, "hart"), true),
+    (Change::Name(1, "uart", NamedWhat::Cpu, "cpu"), false),
+    (
+        Change::Name(1, "uart", NamedWhat::Part(RegionKind::Dev(1)), "cpu"),
+        false,
+    ),
+    (
+        Change::Name(1, "uart", NamedWhat::Part(RegionKind::Clint), "cpu"),
+        false,
+    ),
 ];
 
-/// Each row: how many processors have entries, the names of those that there are, and the speed of
-/// all together.
-static PROCESSORS: [(usize, &[&str], u32, bool); 14] = [
-    (1, &["cpu0"], 1000, true),
-    (1, &["cpu0"], 1001, false),
-    (1, &[], 1, false),
-    (2, &["cpu0", "cpu1"], 2, true),
-    (2, &["cpu0", "cpu1"], 1000, true),
-    (2, &["cpu0", "cpu1"], 3, false),
-    (2, &["cpu1", "cpu0"], 2, false),
-    (2, &["cpu0"], 2, false),
-    (2, &["cpu0", "cpu1", "cpu2"], 6, false),
-    (3, &["cpu0", "cpu1", "cpu2"], 999, true),
-    (3, &["cpu0", "cpu1", "cpu2"], 1000, false),
-    (4, &["cpu0", "cpu1", "cpu2", "cpu3"], 4, true),
-    (4, &["cpu0", "cpu1", "cpu2", "cpu2"], 4, false),
-    (4, &["cpu0", "cpu1", "cpu2", "cpu3"], 0, false),
+/// Each processor has its name, and their speeds are alike.
+static PROCESSORS: [Row; 14] = [
+    (Change::Processors(1, &["cpu0"], 1000), true),
+    (Change::Processors(1, &["cpu0"], 1001), false),
+    (Change::Processors(1, &[], 1), false),
+    (Change::Processors(2, &["cpu0", "cpu1"], 2), true),
+    (Change::Processors(2, &["cpu0", "cpu1"], 1000), true),
+    (Change::Processors(2, &["cpu0", "cpu1"], 3), false),
+    (Change::Processors(2, &["cpu1", "cpu0"], 2), false),
+    (Change::Processors(2, &["cpu0"], 2), false),
+    (Change::Processors(2, &["cpu0", "cpu1", "cpu2"], 6), false),
+    (Change::Processors(3, &["cpu0", "cpu1", "cpu2"], 999), true),
+    (
+        Change::Processors(3, &["cpu0", "cpu1", "cpu2"], 1000),
+        false,
+    ),
+    (
+        Change::Processors(4, &["cpu0", "cpu1", "cpu2", "cpu3"], 4),
+        true,
+    ),
+    (
+        Change::Processors(4, &["cpu0", "cpu1", "cpu2", "cpu2"], 4),
+        false,
+    ),
+    (
+        Change::Processors(4, &["cpu0", "cpu1", "cpu2", "cpu3"], 0),
+        false,
+    ),
 ];
 
-/// Whether a plan is valid with so many names, regions, memories and devices of the small board.
-fn are_counts_valid(
-    plan: &mut BoardPlan,
-    alloc: Global,
-    names: usize,
-    regions: usize,
-    memories: usize,
-    kinds: usize,
-) -> Result<bool, NoMemory> {
-    set_names(plan, alloc, &SMALL_NAMES[..names.min(4)])?;
-    set_regions(plan, alloc, &SMALL_REGIONS[..regions.min(3)])?;
-    set_memories(plan, alloc, &MEMORIES[..memories.min(1)])?;
-    set_kinds(plan, alloc, &SMALL_KINDS[..kinds.min(2)])?;
-    Ok(plan.is_valid())
-}
-
-fn is_counted(
-    alloc: Global,
-    names: usize,
-    regions: usize,
-    memories: usize,
-    kinds: usize,
-) -> Result<bool, NoMemory> {
-    let mut plan = small_board(alloc)?;
-    are_counts_valid(&mut plan, alloc, names, regions, memories, kinds)
-}
-
-/// Whether a plan is valid with these names.
-fn are_names_valid(
-    plan: &mut BoardPlan,
-    alloc: Global,
-    names: &[(&str, NamedWhat)],
-    cpus: &[&str],
-) -> Result<bool, NoMemory> {
-    set_names(plan, alloc, names)?;
-    set_cpus(plan, alloc, cpus)?;
-    Ok(plan.is_valid())
-}
-
-fn is_named(
-    alloc: Global,
-    i: usize,
-    name: &'static str,
-    what: NamedWhat,
-    cpu: &str,
-) -> Result<bool, NoMemory> {
-    let mut names = SMALL_NAMES;
-    names[i % 4] = (name, what);
-    let mut plan = small_board(alloc)?;
-    are_names_valid(&mut plan, alloc, &names, &[cpu])
-}
-
-/// Whether a plan is valid with so many processors, of these names and this speed.
-fn are_processors(
-    alloc: Global,
-    harts: usize,
-    cpus: &[&str],
-    speed: u32,
-) -> Result<bool, NoMemory> {
-    let letters = Letters { a: false, c: false };
-    let mut plan = harts_board(alloc, harts, letters, speed)?;
-    are_names_valid(&mut plan, alloc, &HARTS_NAMES[..3 + harts.min(4)], cpus)
-}
-
-fn assert_processors(
-    rt: &impl Abort,
-    alloc: Global,
-    rows: &[(usize, &[&str], u32, bool)],
-) -> Result<(), NoMemory> {
-    for (harts, cpus, speed, valid) in rows {
-        assert!(rt; are_processors(alloc, *harts, cpus, *speed)? == *valid);
-    }
-    Ok(())
-}
-
-fn assert_counts(
-    rt: &impl Abort,
-    alloc: Global,
-    rows: &[(usize, usize, usize, usize, bool)],
-) -> Result<(), NoMemory> {
-    for (names, regions, memories, kinds, valid) in rows {
-        let is_valid = is_counted(alloc, *names, *regions, *memories, *kinds)?;
-        assert!(rt; is_valid == *valid);
-    }
-    Ok(())
-}
-
-fn assert_names(
-    rt: &impl Abort,
-    alloc: Global,
-    rows: &[(usize, &'static str, NamedWhat, &str, bool)],
-) -> Result<(), NoMemory> {
-    for (i, name, what, cpu, valid) in rows {
-        let is_valid = is_named(alloc, *i, name, *what, cpu)?;
-        assert!(rt; is_valid == *valid);
-    }
-    Ok(())
-}
-
-#[test]
-fn each_part_has_one_name_and_one_region(rt: HostRuntime) -> Result<(), Fail> {
-    assert_counts(&rt, rt.alloc(), &COUNTS)?;
-    assert_names(&rt, rt.alloc(), &NAMES)?;
-    assert_processors(&rt, rt.alloc(), &PROCESSORS)?;
-    Ok(())
-}
-
-/// Each row: a region of the small board with another base, size and step, and the size of the
-/// memory.
-static SMALL_RANGES: [(usize, u32, u32, u8, u32, bool); 17] = [
-    (0, 0xFFFF_0000, 0x1_0000, 1, 0x1_0000, true),
-    (0, 0xFFFF_0004, 0x1_0000, 1, 0x1_0000, false),
-    (0, 0x8000_0004, 0x1_0000, 1, 0x1_0000, true),
-    (0, 0x8000_0002, 0x1_0000, 1, 0x1_0000, false),
-    (0, 0x8000_0000, 0x1_0000, 1, 0x1_1000, false),
-    (0, 0x8000_0000, 0x1_0004, 1, 0x1_0004, false),
-    (0, 0x8000_0000, 0x0, 1, 0x0, false),
-    (0, 0x8000_0000, 0x400_0000, 1, 0x400_0000, true),
-    (0, 0x8000_0000, 0x400_1000, 1, 0x400_1000, false),
-    (1, 0x1000_0000, 0x8, 1, 0x1_0000, true),
-    (1, 0x1000_0000, 0x4, 1, 0x1_0000, false),
-    (1, 0x1000_0000, 0x20, 4, 0x1_0000, true),
-    (1, 0x1000_0000, 0x1C, 4, 0x1_0000, false),
-    (1, 0x1000_0000, 0x100, 2, 0x1_0000, false),
-    (2, 0x1000_0100, 0x4, 1, 0x1_0000, true),
-    (2, 0x1000_00FC, 0x4, 1, 0x1_0000, false),
-    (2, 0x10_0000, 0x20, 4, 0x1_0000, false),
+/// Regions lie apart, below 2^32 and within their limits.
+static SMALL_RANGES: [Row; 17] = [
+    (
+        Change::SmallRange(0, 0xFFFF_0000, 0x1_0000, 1, 0x1_0000),
+        true,
+    ),
+    (
+        Change::SmallRange(0, 0xFFFF_0004, 0x1_0000, 1, 0x1_0000),
+        false,
+    ),
+    (
+        Change::SmallRange(0, 0x8000_0004, 0x1_0000, 1, 0x1_0000),
+        true,
+    ),
+    (
+        Change::SmallRange(0, 0x8000_0002, 0x1_0000, 1, 0x1_0000),
+        false,
+    ),
+    (
+        Change::SmallRange(0, 0x8000_0000, 0x1_0000, 1, 0x1_1000),
+        false,
+    ),
+    (
+        Change::SmallRange(0, 0x8000_0000, 0x1_0004, 1, 0x1_0004),
+        false,
+    ),
+    (Change::SmallRange(0, 0x8000_0000, 0x0, 1, 0x0), false),
+    (
+        Change::SmallRange(0, 0x8000_0000, 0x400_0000, 1, 0x400_0000),
+        true,
+    ),
+    (
+        Change::SmallRange(0, 0x8000_0000, 0x400_1000, 1, 0x400_1000),
+        false,
+    ),
+    (Change::SmallRange(1, 0x1000_0000, 0x8, 1, 0x1_0000), true),
+    (Change::SmallRange(1, 0x1000_0000, 0x4, 1, 0x1_0000), false),
+    (Change::SmallRange(1, 0x1000_0000, 0x20, 4, 0x1_0000), true),
+    (Change::SmallRange(1, 0x1000_0000, 0x1C, 4, 0x1_0000), false),
+    (
+        Change::SmallRange(1, 0x1000_0000, 0x100, 2, 0x1_0000),
+        false,
+    ),
+    (Change::SmallRange(2, 0x1000_0100, 0x4, 1, 0x1_0000), true),
+    (Change::SmallRange(2, 0x1000_00FC, 0x4, 1, 0x1_0000), false),
+    (Change::SmallRange(2, 0x10_0000, 0x20, 4, 0x1_0000), false),
 ];
 
-/// The same for the timer and the interrupt controller of the usual board.
-static USUAL_RANGES: [(usize, u32, u32, bool); 4] = [
-    (1, 0x200_0000, 0xC000, true),
-    (1, 0x200_0000, 0xBFFC, false),
-    (2, 0xC00_0000, 0x21_0000, true),
-    (2, 0xC00_0000, 0x20_FFFC, false),
+/// The same of the timer and the interrupt controller.
+static USUAL_RANGES: [Row; 4] = [
+    (Change::UsualRange(1, 0x200_0000, 0xC000), true),
+    (Change::UsualRange(1, 0x200_0000, 0xBFFC), false),
+    (Change::UsualRange(2, 0xC00_0000, 0x21_0000), true),
+    (Change::UsualRange(2, 0xC00_0000, 0x20_FFFC), false),
 ];
 
-fn with_range(region: Region, base: u32, size: u32, step: u8) -> Region {
-    Region {
-        base,
-        size,
-        kind: region.kind,
-        step,
-    }
-}
+/// Numbers have their limits.
+static NUMBERS: [Row; 12] = [
+    (Change::Numbers(Some(1), 1, 1, 1), true),
+    (Change::Numbers(Some(1_000_000_000), 127, 15, 1000), true),
+    (Change::Numbers(None, 31, 1, 25), false),
+    (Change::Numbers(Some(0), 31, 1, 25), false),
+    (Change::Numbers(Some(1_000_000_001), 31, 1, 25), false),
+    (Change::Numbers(Some(1), 0, 1, 25), false),
+    (Change::Numbers(Some(1), 128, 1, 25), false),
+    (Change::Numbers(Some(1), 31, 0, 25), false),
+    (Change::Numbers(Some(1), 31, 16, 25), false),
+    (Change::Numbers(Some(1), 31, 1, 0), false),
+    (Change::Numbers(Some(1), 31, 1, 1001), false),
+    (Change::Numbers(Some(1), 31, 1, 25), true),
+];
 
-/// Whether a plan is valid with these regions and memories.
-fn are_regions_valid(
-    plan: &mut BoardPlan,
-    alloc: Global,
-    regions: &[Region],
-    memories: &[u32],
-) -> Result<bool, NoMemory> {
-    set_regions(plan, alloc, regions)?;
-    set_memories(plan, alloc, memories)?;
-    Ok(plan.is_valid())
-}
-
-fn is_small_range(
-    alloc: Global,
-    i: usize,
-    range: (u32, u32, u8),
-    memory: u32,
-) -> Result<bool, NoMemory> {
-    let mut regions = SMALL_REGIONS;
-    regions[i % 3] = with_range(regions[i % 3], range.0, range.1, range.2);
-    let mut plan = small_board(alloc)?;
-    are_regions_valid(&mut plan, alloc, &regions, &[memory])
-}
-
-fn is_usual_range(alloc: Global, i: usize, base: u32, size: u32) -> Result<bool, NoMemory> {
-    let mut regions = USUAL_REGIONS;
-    regions[i % 4] = with_range(regions[i % 4], base, size, 1);
-    let mut plan = usual_board(alloc)?;
-    are_regions_valid(&mut plan, alloc, &regions, &MEMORIES)
-}
-
-fn assert_small_ranges(
-    rt: &impl Abort,
-    alloc: Global,
-    rows: &[(usize, u32, u32, u8, u32, bool)],
-) -> Result<(), NoMemory> {
-    for (i, base, size, step, memory, valid) in rows {
-        let is_valid = is_small_range(alloc, *i, (*base, *size, *step), *memory)?;
-        assert!(rt; is_valid == *valid);
-    }
-    Ok(())
-}
-
-fn assert_usual_ranges(
-    rt: &impl Abort,
-    alloc: Global,
-    rows: &[(usize, u32, u32, bool)],
-) -> Result<(), NoMemory> {
-    for (i, base, size, valid) in rows {
-        let is_valid = is_usual_range(alloc, *i, *base, *size)?;
-        assert!(rt; is_valid == *valid);
-    }
-    Ok(())
-}
-
-#[test]
-fn regions_lie_apart_within_their_limits(rt: HostRuntime) -> Result<(), Fail> {
-    assert_small_ranges(&rt, rt.alloc(), &SMALL_RANGES)?;
-    assert_usual_ranges(&rt, rt.alloc(), &USUAL_RANGES)?;
-    Ok(())
-}
-
-fn plic(sources: u8, contexts: u8) -> Option<PlicSize> {
-    Some(PlicSize { sources, contexts })
-}
-
-/// Each row: the frequency, sources, contexts and speed of the usual board.
-static NUMBERS: [(Option<u32>, u8, u8, u32, bool); 12] = [
-    (Some(1), 1, 1, 1, true),
-    (Some(1_000_000_000), 127, 15, 1000, true),
-    (None, 31, 1, 25, false),
-    (Some(0), 31, 1, 25, false),
-    (Some(1_000_000_001), 31, 1, 25, false),
-    (Some(1), 0, 1, 25, false),
-    (Some(1), 128, 1, 25, false),
-    (Some(1), 31, 0, 25, false),
-    (Some(1), 31, 16, 25, false),
-    (Some(1), 31, 1, 0, false),
-    (Some(1), 31, 1, 1001, false),
-    (Some(1), 31, 1, 25, true),
+/// There is one finisher at most.
+static KINDS: [Row; 3] = [
+    (Change::Kinds(Kind::Can, Kind::Finisher), true),
+    (Change::Kinds(Kind::Can, Kind::Can), true),
+    (Change::Kinds(Kind::Finisher, Kind::Finisher), false),
 ];
 
 /// Each row: a wire, and whether the usual board and the small one may have it.
@@ -375,86 +258,107 @@ static WIRES: [(WireFrom, WirePin, bool, bool); 16] = [
     ),
 ];
 
-/// The kinds of the small board's devices.
-static KINDS: [(Kind, Kind, bool); 3] = [
-    (Kind::Can, Kind::Finisher, true),
-    (Kind::Can, Kind::Can, true),
-    (Kind::Finisher, Kind::Finisher, false),
-];
-
-fn has_numbers(
-    alloc: Global,
-    frequency: Option<u32>,
-    sources: u8,
-    contexts: u8,
-    speed: u32,
-) -> Result<bool, NoMemory> {
-    let mut plan = usual_board(alloc)?;
-    plan.frequency = frequency;
-    plan.plic = plic(sources, contexts);
-    plan.speed = speed;
-    Ok(plan.is_valid())
+/// The board whose plan is changed.
+fn start(alloc: Global, change: Change) -> Result<BoardPlan, NoMemory> {
+    let letters = Letters { a: false, c: false };
+    match change {
+        Change::UsualRange(..) | Change::Numbers(..) | Change::UsualWire(..) => usual_board(alloc),
+        Change::Processors(harts, _, speed) => harts_board(alloc, harts, letters, speed),
+        _ => small_board(alloc),
+    }
 }
 
-/// Whether a plan is valid with one wire.
-fn is_wire_valid(
+fn with_range(region: Region, base: u32, size: u32, step: u8) -> Region {
+    Region {
+        base,
+        size,
+        kind: region.kind,
+        step,
+    }
+}
+
+fn set_counts(
     plan: &mut BoardPlan,
     alloc: Global,
-    from: WireFrom,
-    pin: WirePin,
-) -> Result<bool, NoMemory> {
-    set_wires(plan, alloc, &[Wire { from, pin }])?;
+    [names, regions, memories, kinds]: [usize; 4],
+) -> Result<(), NoMemory> {
+    set_names(plan, alloc, &SMALL_NAMES[..names.min(4)])?;
+    set_regions(plan, alloc, &SMALL_REGIONS[..regions.min(3)])?;
+    set_memories(plan, alloc, &MEMORIES[..memories.min(1)])?;
+    set_kinds(plan, alloc, &SMALL_KINDS[..kinds.min(2)])
+}
+
+fn set_entries(
+    plan: &mut BoardPlan,
+    alloc: Global,
+    names: &[(&str, NamedWhat)],
+    cpus: &[&str],
+) -> Result<(), NoMemory> {
+    set_names(plan, alloc, names)?;
+    set_cpus(plan, alloc, cpus)
+}
+
+fn set_small_range(
+    plan: &mut BoardPlan,
+    alloc: Global,
+    regions: &[Region],
+    memory: u32,
+) -> Result<(), NoMemory> {
+    set_regions(plan, alloc, regions)?;
+    set_memories(plan, alloc, &[memory])
+}
+
+fn set_numbers(plan: &mut BoardPlan, frequency: Option<u32>, size: PlicSize, speed: u32) {
+    plan.frequency = frequency;
+    plan.plic = Some(size);
+    plan.speed = speed;
+}
+
+fn make(plan: &mut BoardPlan, alloc: Global, change: Change) -> Result<(), NoMemory> {
+    match change {
+        Change::Counts(names, regions, memories, kinds) => {
+            set_counts(plan, alloc, [names, regions, memories, kinds])
+        }
+        Change::Name(i, name, what, cpu) => {
+            let mut names = SMALL_NAMES;
+            names[i % 4] = (name, what);
+            set_entries(plan, alloc, &names, &[cpu])
+        }
+        Change::Processors(harts, cpus, _) => {
+            set_entries(plan, alloc, &HARTS_NAMES[..3 + harts.min(4)], cpus)
+        }
+        Change::SmallRange(i, base, size, step, memory) => {
+            let mut regions = SMALL_REGIONS;
+            regions[i % 3] = with_range(regions[i % 3], base, size, step);
+            set_small_range(plan, alloc, &regions, memory)
+        }
+        Change::UsualRange(i, base, size) => {
+            let mut regions = USUAL_REGIONS;
+            regions[i % 4] = with_range(regions[i % 4], base, size, 1);
+            set_regions(plan, alloc, &regions)
+        }
+        Change::Numbers(frequency, sources, contexts, speed) => {
+            set_numbers(plan, frequency, PlicSize { sources, contexts }, speed);
+            Ok(())
+        }
+        Change::UsualWire(from, pin) | Change::SmallWire(from, pin) => {
+            set_wires(plan, alloc, &[Wire { from, pin }])
+        }
+        Change::Kinds(first, second) => set_kinds(plan, alloc, &[first, second]),
+    }
+}
+
+fn is_valid_with(alloc: Global, change: Change) -> Result<bool, NoMemory> {
+    let mut plan = start(alloc, change)?;
+    make(&mut plan, alloc, change)?;
     Ok(plan.is_valid())
 }
 
-fn has_usual_wire(alloc: Global, from: WireFrom, pin: WirePin) -> Result<bool, NoMemory> {
-    let mut plan = usual_board(alloc)?;
-    is_wire_valid(&mut plan, alloc, from, pin)
-}
-
-fn has_small_wire(alloc: Global, from: WireFrom, pin: WirePin) -> Result<bool, NoMemory> {
-    let mut plan = small_board(alloc)?;
-    is_wire_valid(&mut plan, alloc, from, pin)
-}
-
-/// Whether a plan is valid with these devices.
-fn are_kinds_valid(plan: &mut BoardPlan, alloc: Global, kinds: &[Kind]) -> Result<bool, NoMemory> {
-    set_kinds(plan, alloc, kinds)?;
-    Ok(plan.is_valid())
-}
-
-fn has_kinds(alloc: Global, first: Kind, second: Kind) -> Result<bool, NoMemory> {
-    let mut plan = small_board(alloc)?;
-    are_kinds_valid(&mut plan, alloc, &[first, second])
-}
-
-fn assert_numbers(
-    rt: &impl Abort,
-    alloc: Global,
-    rows: &[(Option<u32>, u8, u8, u32, bool)],
-) -> Result<(), NoMemory> {
-    for (frequency, sources, contexts, speed, valid) in rows {
-        let is_valid = has_numbers(alloc, *frequency, *sources, *contexts, *speed)?;
-        assert!(rt; is_valid == *valid);
+fn assert_rows(rt: &impl Abort, alloc: Global, rows: &[Row]) -> Result<(), NoMemory> {
+    for &(change, valid) in rows {
+        let is_valid = is_valid_with(alloc, change)?;
+        assert!(rt; is_valid == valid, "{change:?}");
     }
-    Ok(())
-}
-
-fn assert_kinds(
-    rt: &impl Abort,
-    alloc: Global,
-    rows: &[(Kind, Kind, bool)],
-) -> Result<(), NoMemory> {
-    for (first, second, valid) in rows {
-        assert!(rt; has_kinds(alloc, *first, *second)? == *valid);
-    }
-    Ok(())
-}
-
-#[test]
-fn numbers_and_kinds_are_those_that_may_be(rt: HostRuntime) -> Result<(), Fail> {
-    assert_numbers(&rt, rt.alloc(), &NUMBERS)?;
-    assert_kinds(&rt, rt.alloc(), &KINDS)?;
     Ok(())
 }
 
@@ -463,100 +367,27 @@ fn assert_wires(
     alloc: Global,
     rows: &[(WireFrom, WirePin, bool, bool)],
 ) -> Result<(), NoMemory> {
-    for (from, pin, on_usual, on_small) in rows {
-        let may_be = (
-            has_usual_wire(alloc, *from, *pin)?,
-            has_small_wire(alloc, *from, *pin)?,
-        );
-        assert!(rt; may_be == (*on_usual, *on_small));
+    for &(from, pin, on_usual, on_small) in rows {
+        let usual = is_valid_with(alloc, Change::UsualWire(from, pin))?;
+        let small = is_valid_with(alloc, Change::SmallWire(from, pin))?;
+        assert!(rt; (usual, small) == (on_usual, on_small), "{from:?} {pin:?}");
     }
     Ok(())
 }
 
 #[test]
-fn wires_are_those_that_may_be(rt: HostRuntime) -> Result<(), Fail> {
+fn a_plan_is_valid_where_each_part_is_within_its_limits(rt: HostRuntime) -> Result<(), Fail> {
+    for rows in [
+        &COUNTS[..],
+        &NAMES,
+        &PROCESSORS,
+        &SMALL_RANGES,
+        &USUAL_RANGES,
+        &NUMBERS,
+        &KINDS,
+    ] {
+        assert_rows(&rt, rt.alloc(), rows)?;
+    }
     assert_wires(&rt, rt.alloc(), &WIRES)?;
-    Ok(())
-}
-
-/// Accesses of the usual board, at both ends of each region and past them.
-static ACCESSES: [(u32, u8, Target); 17] = [
-    (0x7FFF_FFFE, 4, Target::Nothing),
-    (0x7FFF_FFFF, 1, Target::Nothing),
-    (0x8000_0000, 4, Target::Ram { part: 0, at: 0 }),
-    (
-        0x8000_FFFC,
-        4,
-        Target::Ram {
-            part: 0,
-            at: 0xFFFC,
-        },
-    ),
-    (
-        0x8000_FFFF,
-        1,
-        Target::Ram {
-            part: 0,
-            at: 0xFFFF,
-        },
-    ),
-    (0x8000_FFFE, 4, Target::Nothing),
-    (0x8001_0000, 1, Target::Nothing),
-    (0x0200_0000, 4, Target::Clint { at: 0 }),
-    (0x0200_FFFC, 4, Target::Clint { at: 0xFFFC }),
-    (0x0201_0000, 4, Target::Nothing),
-    (0x0FFF_FFFC, 4, Target::Plic { at: 0x3FF_FFFC }),
-    (0x0FFF_FFFE, 4, Target::Nothing),
-    (0x1000_0000, 1, Target::Dev { dev: 0, at: 0 }),
-    (0x1000_00FE, 2, Target::Dev { dev: 0, at: 0xFE }),
-    (0x1000_00FF, 2, Target::Nothing),
-    (0xFFFF_FFFF, 4, Target::Nothing),
-    (0x0000_0000, 1, Target::Nothing),
-];
-
-/// Addresses, and their places in the memory of the usual board once it was found: those from which
-/// four bytes of it lie.
-static PLACES: [(u32, Option<MemoryPlace>); 6] = [
-    (0x7FFF_FFFF, None),
-    (0x8000_0000, Some(MemoryPlace { part: 0, at: 0 })),
-    (
-        0x8000_FFFC,
-        Some(MemoryPlace {
-            part: 0,
-            at: 0xFFFC,
-        }),
-    ),
-    (0x8000_FFFD, None),
-    (0x8001_0000, None),
-    (0x1000_0000, None),
-];
-
-/// The access belongs to this target, also where what is kept of the last one is tried first.
-fn assert_accesses(rt: &impl Abort, regions: &mut Regions, rows: &[(u32, u8, Target)]) {
-    for (at, width, target) in rows {
-        let (at, width) = (*at, *width);
-        assert!(rt; width == 1 || width == 2 || width == 4);
-        assert_eq!(rt; regions.find(at, width), *target);
-        assert_eq!(rt; regions.find_data(at, width), *target);
-    }
-}
-
-fn assert_places(rt: &impl Abort, regions: &Regions, rows: &[(u32, Option<MemoryPlace>)]) {
-    for (at, place) in rows {
-        assert!(rt; regions.near_code(*at) == *place);
-        assert!(rt; regions.near_data(*at) == *place);
-    }
-}
-
-#[test]
-fn an_access_belongs_to_the_region_that_holds_it_whole(rt: HostRuntime) -> Result<(), Fail> {
-    let usual = usual_board(rt.alloc())?;
-    assert!(rt; usual.is_valid());
-    let mut regions = Regions::new(usual.regions.into_items());
-    assert_accesses(&rt, &mut regions, &ACCESSES);
-    assert!(rt; regions.near_code(0x8000_0000).is_none());
-    let target = Target::Ram { part: 0, at: 0x10 };
-    assert!(rt; regions.find_code(0x8000_0010) == target);
-    assert_places(&rt, &regions, &PLACES);
     Ok(())
 }

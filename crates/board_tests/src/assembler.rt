@@ -5,8 +5,72 @@ use rv_asm::{AsmCause, AsmFault, assemble};
 use std::alloc::Global;
 use std::test::Fail;
 
+/// The number of the first line with a fault, and the cause.
+fn fault_of(alloc: Global, text: &str) -> Option<(u32, AsmCause)>
+    requires { length text.now ≤ 100 }
+{
+    match assemble(alloc, text) {
+        Err(AsmFault::Line { n, cause }) => Some((n, cause)),
+        _ => None,
+    }
+}
+
+/// A text, the first line with a fault, and the cause.
+static FAULTS: [(&str, u32, AsmCause); 44] = [
+    ("addi x5, x5, 2048", 1, AsmCause::Range),
+    ("addx x1", 1, AsmCause::Name),
+    ("addi x5, x5, -2049", 1, AsmCause::Range),
+    ("addi x5, x5, 99999999999999999999999", 1, AsmCause::Range),
+    ("slli x1, x1, 32", 1, AsmCause::Range),
+    ("slli x1, x1, -1", 1, AsmCause::Range),
+    ("lui x1, 0x100000", 1, AsmCause::Range),
+    ("lui x1, -1", 1, AsmCause::Range),
+    ("lw x1, 2048(x2)", 1, AsmCause::Range),
+    ("csrrw x1, 4096, x2", 1, AsmCause::Range),
+    ("csrrwi x1, 0x300, 32", 1, AsmCause::Range),
+    ("beq x0, x0, 4096", 1, AsmCause::Range),
+    ("beq x0, x0, 3", 1, AsmCause::Range),
+    ("jal x0, -1", 1, AsmCause::Range),
+    ("jal x0, 1048576", 1, AsmCause::Range),
+    (".word 0x100000000", 1, AsmCause::Range),
+    (".word -2147483649", 1, AsmCause::Range),
+    ("add x1, x2", 1, AsmCause::Form),
+    ("add x1, x2, x3, x4", 1, AsmCause::Form),
+    ("add x1, x2, x32", 1, AsmCause::Form),
+    ("add x1, x2, x03", 1, AsmCause::Form),
+    ("addi x1, x2, 0X10", 1, AsmCause::Form),
+    ("addi x1, x2, +1", 1, AsmCause::Form),
+    ("addi x1, x2, 0x", 1, AsmCause::Form),
+    ("lw x1, x2", 1, AsmCause::Form),
+    ("lw x1, 4(x2) 5", 1, AsmCause::Form),
+    ("ecall 1", 1, AsmCause::Form),
+    ("beq x0, x0, 1a", 1, AsmCause::Form),
+    ("a:", 1, AsmCause::Form),
+    ("nop: # alone", 1, AsmCause::Form),
+    ("1a: ecall", 1, AsmCause::Form),
+    (": ecall", 1, AsmCause::Form),
+    ("a-b: ecall", 1, AsmCause::Form),
+    ("ecall\r\n", 1, AsmCause::Name),
+    ("ADD x1, x2, x3", 1, AsmCause::Name),
+    ("add\u{A0}x1, x2, x3", 1, AsmCause::Name),
+    ("jal x0, nowhere", 1, AsmCause::Label),
+    ("a: ecall\na: ecall", 2, AsmCause::Label),
+    // two faults on one line
+    ("1a: nop", 1, AsmCause::Name),
+    ("1a: beq x0, x0, nowhere", 1, AsmCause::Form),
+    ("a: ecall\na: add x1", 2, AsmCause::Form),
+    ("a: ecall\na: addi x1, x1, 2048", 2, AsmCause::Label),
+    // two lines with a fault
+    ("\necall\naddi x5, x5, 2048\nnop", 3, AsmCause::Range),
+    ("jal x0, a\na: ecall\na: nop", 3, AsmCause::Name),
+];
+
+fn has_fault(alloc: Global, (text, n, cause): (&str, u32, AsmCause)) -> bool {
+    text.len() <= 100 && fault_of(alloc, text) == Some((n, cause))
+}
+
 #[test]
-fn a_program_with_each_shape_of_operands(rt: HostRuntime) -> Result<(), Fail> {
+fn a_text_has_its_words_or_its_first_fault(rt: HostRuntime) -> Result<(), Fail> {
     let text = "loop: addi x5, x5, -1\n\
          bne x5, x0, loop\n\
          # a program\n\
@@ -100,77 +164,8 @@ fn a_program_with_each_shape_of_operands(rt: HostRuntime) -> Result<(), Fail> {
     ];
     let words = assemble(rt.alloc(), text)?;
     assert_eq!(rt; words.as_slice(), meant.as_slice());
-    Ok(())
-}
-
-/// The number of the first line with a fault, and the cause.
-fn fault_of(alloc: Global, text: &str) -> Option<(u32, AsmCause)>
-    requires { length text.now ≤ 100 }
-{
-    match assemble(alloc, text) {
-        Err(AsmFault::Line { n, cause }) => Some((n, cause)),
-        _ => None,
-    }
-}
-
-/// A text, the first line with a fault, and the cause.
-static FAULTS: [(&str, u32, AsmCause); 44] = [
-    ("addi x5, x5, 2048", 1, AsmCause::Range),
-    ("addx x1", 1, AsmCause::Name),
-    ("addi x5, x5, -2049", 1, AsmCause::Range),
-    ("addi x5, x5, 99999999999999999999999", 1, AsmCause::Range),
-    ("slli x1, x1, 32", 1, AsmCause::Range),
-    ("slli x1, x1, -1", 1, AsmCause::Range),
-    ("lui x1, 0x100000", 1, AsmCause::Range),
-    ("lui x1, -1", 1, AsmCause::Range),
-    ("lw x1, 2048(x2)", 1, AsmCause::Range),
-    ("csrrw x1, 4096, x2", 1, AsmCause::Range),
-    ("csrrwi x1, 0x300, 32", 1, AsmCause::Range),
-    ("beq x0, x0, 4096", 1, AsmCause::Range),
-    ("beq x0, x0, 3", 1, AsmCause::Range),
-    ("jal x0, -1", 1, AsmCause::Range),
-    ("jal x0, 1048576", 1, AsmCause::Range),
-    (".word 0x100000000", 1, AsmCause::Range),
-    (".word -2147483649", 1, AsmCause::Range),
-    ("add x1, x2", 1, AsmCause::Form),
-    ("add x1, x2, x3, x4", 1, AsmCause::Form),
-    ("add x1, x2, x32", 1, AsmCause::Form),
-    ("add x1, x2, x03", 1, AsmCause::Form),
-    ("addi x1, x2, 0X10", 1, AsmCause::Form),
-    ("addi x1, x2, +1", 1, AsmCause::Form),
-    ("addi x1, x2, 0x", 1, AsmCause::Form),
-    ("lw x1, x2", 1, AsmCause::Form),
-    ("lw x1, 4(x2) 5", 1, AsmCause::Form),
-    ("ecall 1", 1, AsmCause::Form),
-    ("beq x0, x0, 1a", 1, AsmCause::Form),
-    ("a:", 1, AsmCause::Form),
-    ("nop: # alone", 1, AsmCause::Form),
-    ("1a: ecall", 1, AsmCause::Form),
-    (": ecall", 1, AsmCause::Form),
-    ("a-b: ecall", 1, AsmCause::Form),
-    ("ecall\r\n", 1, AsmCause::Name),
-    ("ADD x1, x2, x3", 1, AsmCause::Name),
-    ("add\u{A0}x1, x2, x3", 1, AsmCause::Name),
-    ("jal x0, nowhere", 1, AsmCause::Label),
-    ("a: ecall\na: ecall", 2, AsmCause::Label),
-    // two faults on one line
-    ("1a: nop", 1, AsmCause::Name),
-    ("1a: beq x0, x0, nowhere", 1, AsmCause::Form),
-    ("a: ecall\na: add x1", 2, AsmCause::Form),
-    ("a: ecall\na: addi x1, x1, 2048", 2, AsmCause::Label),
-    // two lines with a fault
-    ("\necall\naddi x5, x5, 2048\nnop", 3, AsmCause::Range),
-    ("jal x0, a\na: ecall\na: nop", 3, AsmCause::Name),
-];
-
-fn has_fault(alloc: Global, (text, n, cause): (&str, u32, AsmCause)) -> bool {
-    text.len() <= 100 && fault_of(alloc, text) == Some((n, cause))
-}
-
-#[test]
-fn the_first_fault_of_a_text(rt: HostRuntime) {
-    let alloc = rt.alloc();
     for row in &FAULTS {
-        assert!(rt; has_fault(alloc, *row), "{row:?}");
+        assert!(rt; has_fault(rt.alloc(), *row), "{row:?}");
     }
+    Ok(())
 }

@@ -1,8 +1,10 @@
-//! Words from an assembler, and words that mean nothing.
+//! Words of an assembler and the instructions that they mean, which are encoded as the same words again.
+use rv_asm::{encode, is_valid};
+use rv_atomic::{Atomic, AtomicOp, decode_atomic, is_store};
 use rv_decode::{Instr, Op, decode};
 
 /// A word and its instruction: the name, rd, rs1, rs2 and the immediate.
-pub static WORDS: [(u32, Op, u8, u8, u8, u32); 66] = [
+static WORDS: [(u32, Op, u8, u8, u8, u32); 66] = [
     (0x100002B7, Op::Lui, 5, 0, 0, 0x10000000), // lui x5, 0x10000
     (0xFFFFFFB7, Op::Lui, 31, 0, 0, 0xFFFFF000), // lui x31, 0xfffff
     (0x80001517, Op::Auipc, 10, 0, 0, 0x80001000), // auipc x10, 0x80001
@@ -71,60 +73,65 @@ pub static WORDS: [(u32, Op, u8, u8, u8, u32); 66] = [
     (0x10500073, Op::Wfi, 0, 0, 0, 0), // wfi
 ];
 
+/// An atomic one: the name, rd, rs1 and rs2.
+static ATOMIC_WORDS: [(u32, AtomicOp, u8, u8, u8); 21] = [
+    (0x1005_A52F, AtomicOp::Lr, 10, 11, 0), // lr.w x10, (x11)
+    (0x1405_A52F, AtomicOp::Lr, 10, 11, 0), // lr.w.aq x10, (x11)
+    (0x120F_2FAF, AtomicOp::Lr, 31, 30, 0), // lr.w.rl x31, (x30)
+    (0x1600_202F, AtomicOp::Lr, 0, 0, 0), // lr.w.aqrl x0, (x0)
+    (0x18C5_A52F, AtomicOp::Sc, 10, 11, 12), // sc.w x10, x12, (x11)
+    (0x1C21_A0AF, AtomicOp::Sc, 1, 3, 2), // sc.w.aq x1, x2, (x3)
+    (0x1AC5_A52F, AtomicOp::Sc, 10, 11, 12), // sc.w.rl x10, x12, (x11)
+    (0x1FEE_AFAF, AtomicOp::Sc, 31, 29, 30), // sc.w.aqrl x31, x30, (x29)
+    (0x0821_A0AF, AtomicOp::Swap, 1, 3, 2), // amoswap.w x1, x2, (x3)
+    (0x0E52_A2AF, AtomicOp::Swap, 5, 5, 5), // amoswap.w.aqrl x5, x5, (x5)
+    (0x0062_A02F, AtomicOp::Add, 0, 5, 6), // amoadd.w x0, x6, (x5)
+    (0x0421_A0AF, AtomicOp::Add, 1, 3, 2), // amoadd.w.aq x1, x2, (x3)
+    (0x2053_222F, AtomicOp::Xor, 4, 6, 5), // amoxor.w x4, x5, (x6)
+    (0x6084_A3AF, AtomicOp::And, 7, 9, 8), // amoand.w x7, x8, (x9)
+    (0x6284_A3AF, AtomicOp::And, 7, 9, 8), // amoand.w.rl x7, x8, (x9)
+    (0x40B6_252F, AtomicOp::Or, 10, 12, 11), // amoor.w x10, x11, (x12)
+    (0x80E7_A6AF, AtomicOp::Min, 13, 15, 14), // amomin.w x13, x14, (x15)
+    (0xA119_282F, AtomicOp::Max, 16, 18, 17), // amomax.w x16, x17, (x18)
+    (0xC14A_A9AF, AtomicOp::Minu, 19, 21, 20), // amominu.w x19, x20, (x21)
+    (0xC7EE_AFAF, AtomicOp::Minu, 31, 29, 30), // amominu.w.aqrl x31, x30, (x29)
+    (0xE17C_2B2F, AtomicOp::Maxu, 22, 24, 23), // amomaxu.w x22, x23, (x24)
+];
+
 fn means((word, op, rd, rs1, rs2, imm): (u32, Op, u8, u8, u8, u32)) -> bool {
-    decode(word)
-        == Some(Instr {
-            op,
-            rd,
-            rs1,
-            rs2,
-            imm,
-        })
+    let instr = Instr {
+        op,
+        rd,
+        rs1,
+        rs2,
+        imm,
+    };
+    decode(word) == Some(instr) && is_valid(&instr) && encode(&instr) == word
 }
 
-#[test]
-fn words_of_an_assembler_mean_their_instructions(rt: HostRuntime) {
-    for row in &WORDS {
-        assert!(rt; means(*row), "{row:?}");
-    }
+fn means_atomic((word, op, rd, rs1, rs2): (u32, AtomicOp, u8, u8, u8)) -> bool {
+    decode_atomic(word) == Some(Atomic { op, rd, rs1, rs2 })
 }
 
-static OTHERS: [u32; 30] = [
-    0x00000000, // all zeros
-    0xFFFFFFFF, // all ones
-    0x00000057, // an opcode of no row
-    0x100002B6, // lui without its lowest bit
-    0x00013083, // ld x1, 0(x2), of RV64
-    0x00016083, // lwu x1, 0(x2), of RV64
-    0x00113023, // sd x1, 0(x2), of RV64
-    0x02061593, // slli x11, x12, 32, of RV64: slli with funct7 1
-    0x02075693, // srli x13, x14, 32, of RV64
-    0x42185793, // srai x15, x16, 33, of RV64
-    0x2118D793, // srai x15, x17, 17 with funct7 0x10
-    0x80E6D693, // srli x13, x13, 14 with funct7 0x40
-    0x0031009B, // addiw x1, x2, 3, of RV64
-    0x003100BB, // addw x1, x2, x3, of RV64
-    0x023100BB, // mulw x1, x2, x3, of RV64
-    0x10200073, // sret
-    0x00200073, // uret
-    0x12000073, // sfence.vma x0, x0
-    0x000000F3, // ecall with rd 1
-    0x00008073, // ecall with rs1 1
-    0x00004073, // the opcode SYSTEM with funct3 4
-    0x00001067, // jalr with funct3 1
-    0x00002063, // a branch with funct3 2
-    0x00007003, // a load with funct3 7
-    0x0000200F, // a fence with funct3 2
-    0x40001033, // sll with funct7 0x20
-    0x04000033, // add with funct7 2
-    0x00012087, // flw f1, 0(x2)
-    0x0021A0AF, // amoadd.w x1, x2, (x3)
-    0x003170D3, // fadd.s f1, f2, f3
+/// Words, and whether each has the opcode of stores.
+static STORES: [(u32, bool); 6] = [
+    (0x0020_8023, true), // sb x2, 0(x1)
+    (0x0020_9023, true), // sh x2, 0(x1)
+    (0x0020_A023, true), // sw x2, 0(x1)
+    (0x0000_A183, false), // lw x3, 0(x1)
+    (0x1820_A1AF, false), // sc.w x3, x2, (x1)
+    (0x0020_A1AF, false), // amoadd.w x3, x2, (x1)
 ];
 
 #[test]
-fn other_words_mean_nothing(rt: HostRuntime) {
-    for word in &OTHERS {
-        assert!(rt; decode(*word).is_none(), "{word:x}");
+fn words_mean_their_instructions(rt: HostRuntime) {
+    for row in &WORDS {
+        assert!(rt; means(*row), "{row:?}");
+    }
+    for row in &ATOMIC_WORDS {
+        assert!(rt; means_atomic(*row), "{row:?}");
+    }
+    for &(word, wanted) in &STORES {
+        assert!(rt; is_store(word) == wanted, "{word:x}");
     }
 }
