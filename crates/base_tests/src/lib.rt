@@ -1,5 +1,5 @@
-//! Tests of what all crates stand on: numbers, names, files, outputs, stores, states of devices, hubs and
-//! merged lists.
+//! Tests of what all crates stand on, where no script reaches it: numbers, files, outputs, stores, and states of devices;
+//! lines that a script keeps, and words of the command line.
 #![tactic(auto)]
 
 #[cfg(test)]
@@ -7,12 +7,12 @@ mod devices;
 #[cfg(test)]
 mod files;
 #[cfg(test)]
-mod hubs;
-#[cfg(test)]
-mod merge;
+mod lines;
 #[cfg(test)]
 mod numbers;
 #[cfg(test)]
 mod sinks;
 #[cfg(test)]
 mod stores;
+#[cfg(test)]
+mod words;

@@ -1,111 +1,58 @@
-//! Numerals, times, names and lists of rows.
-use lab_num::{Micros, Rows, Text, TimeFault, is_name, number_of, read_time};
+//! What no script shows of numerals, times, names and lists of rows.
+use lab_num::{Rows, Text, TimeFault, is_name, number_of, read_time};
 use std::test::Fail;
 
-/// A text, and the number that it is.
-static NUMERALS: [(&str, Option<u32>); 18] = [
-    ("0", Some(0)),
-    ("007", Some(7)),
-    ("4294967295", Some(4_294_967_295)),
-    ("4294967296", None),
-    ("0x0", Some(0)),
-    ("0x80000000", Some(0x8000_0000)),
-    ("0xffffFFFF", Some(4_294_967_295)),
-    ("0x0000000001", Some(1)),
-    ("0x100000000", None),
-    ("", None),
-    ("0x", None),
-    ("0X10", None),
-    ("+1", None),
-    ("-1", None),
-    ("1_000", None),
-    ("ff", None),
-    ("0xg", None),
-    ("1 ", None),
-];
+/// Texts that no script hands on as a numeral or as a name: empty, with a blank or an end of a line behind them, or with
+/// quotes.
+static OTHERS: [&str; 4] = ["", "1 ", "\"a\"", "a\n"];
+
+fn is_neither(text: &str) -> bool {
+    number_of(text).is_none() && !is_name(text)
+}
 
 #[test]
-fn reads_numerals_below_two_to_the_thirty_second(rt: HostRuntime) {
-    for (text, expected) in &NUMERALS {
-        assert_eq!(rt; number_of(text), *expected, "{text}");
+fn texts_that_no_script_hands_on_are_neither_numerals_nor_names(rt: HostRuntime) {
+    for text in &OTHERS {
+        assert!(rt; is_neither(text), "{text}");
     }
 }
 
-/// A text, and the time that it is.
-static TIMES: [(&str, Result<Micros, TimeFault>); 40] = [
-    ("0", Ok(Micros(0))),
-    ("0.5", Ok(Micros(500_000))),
-    ("0.0003", Ok(Micros(300))),
-    ("0.000070", Ok(Micros(70))),
-    ("0.000001", Ok(Micros(1))),
-    ("3", Ok(Micros(3_000_000))),
-    ("10000", Ok(Micros(10_000_000_000))),
-    ("0000010000", Ok(Micros(10_000_000_000))),
-    ("1:00:00", Ok(Micros(3_600_000_000))),
-    ("0:0:1.25", Ok(Micros(1_250_000))),
-    ("0000:59:59", Ok(Micros(3_599_000_000))),
-    ("2:46:40.000000", Ok(Micros(10_000_000_000))),
-    ("", Err(TimeFault::Form)),
-    ("3s", Err(TimeFault::Form)),
-    ("+1", Err(TimeFault::Form)),
-    ("-1", Err(TimeFault::Form)),
-    (" 1", Err(TimeFault::Form)),
-    ("1 ", Err(TimeFault::Form)),
-    ("0.0000001", Err(TimeFault::Form)),
-    ("1.", Err(TimeFault::Form)),
-    (".5", Err(TimeFault::Form)),
-    ("1.5.0", Err(TimeFault::Form)),
-    ("1,5", Err(TimeFault::Form)),
-    ("0x10", Err(TimeFault::Form)),
-    ("00000000001", Err(TimeFault::Form)),
-    ("0:60:00", Err(TimeFault::Form)),
-    ("0:00:60", Err(TimeFault::Form)),
-    ("1:00", Err(TimeFault::Form)),
-    ("1:2:3:4", Err(TimeFault::Form)),
-    ("00000:00:01", Err(TimeFault::Form)),
-    ("1:000:00", Err(TimeFault::Form)),
-    ("1::1", Err(TimeFault::Form)),
-    (":1:1", Err(TimeFault::Form)),
-    ("1:1:1.", Err(TimeFault::Form)),
-    ("0.5:1:1", Err(TimeFault::Form)),
-    ("10000.000001", Err(TimeFault::Limit)),
-    ("10001", Err(TimeFault::Limit)),
-    ("9999999999", Err(TimeFault::Limit)),
-    ("2:46:41", Err(TimeFault::Limit)),
-    ("9999:59:59.999999", Err(TimeFault::Limit)),
+/// A text that is no time, and whether its form or its length is why: a refusal is the same for both.
+static FAULTS: [(&str, TimeFault); 28] = [
+    ("", TimeFault::Form),
+    ("3s", TimeFault::Form),
+    ("+1", TimeFault::Form),
+    ("-1", TimeFault::Form),
+    (" 1", TimeFault::Form),
+    ("1 ", TimeFault::Form),
+    ("0.0000001", TimeFault::Form),
+    ("1.", TimeFault::Form),
+    (".5", TimeFault::Form),
+    ("1.5.0", TimeFault::Form),
+    ("1,5", TimeFault::Form),
+    ("0x10", TimeFault::Form),
+    ("00000000001", TimeFault::Form),
+    ("0:60:00", TimeFault::Form),
+    ("0:00:60", TimeFault::Form),
+    ("1:00", TimeFault::Form),
+    ("1:2:3:4", TimeFault::Form),
+    ("00000:00:01", TimeFault::Form),
+    ("1:000:00", TimeFault::Form),
+    ("1::1", TimeFault::Form),
+    (":1:1", TimeFault::Form),
+    ("1:1:1.", TimeFault::Form),
+    ("0.5:1:1", TimeFault::Form),
+    ("10000.000001", TimeFault::Limit),
+    ("10001", TimeFault::Limit),
+    ("9999999999", TimeFault::Limit),
+    ("2:46:41", TimeFault::Limit),
+    ("9999:59:59.999999", TimeFault::Limit),
 ];
 
 #[test]
-fn reads_times_of_each_form_and_no_others(rt: HostRuntime) {
-    for (text, expected) in &TIMES {
-        assert_eq!(rt; read_time(text), *expected, "{text}");
-    }
-}
-
-/// A text, and whether it is a name.
-static NAMES: [(&str, bool); 16] = [
-    ("m", true),
-    ("m0", true),
-    ("machine-0", true),
-    ("A_b-9", true),
-    ("-", true),
-    ("_", true),
-    ("0", true),
-    ("", false),
-    (" ", false),
-    ("a b", false),
-    ("a.b", false),
-    ("$a", false),
-    ("a/b", false),
-    ("\"a\"", false),
-    ("\u{e9}", false),
-    ("a\n", false),
-];
-
-#[test]
-fn tells_names_from_other_texts(rt: HostRuntime) {
-    for (text, expected) in &NAMES {
-        assert_eq!(rt; is_name(text), *expected, "{text}");
+fn a_time_of_no_form_is_told_from_a_long_one(rt: HostRuntime) {
+    for (text, fault) in &FAULTS {
+        assert!(rt; read_time(text) == Err(*fault), "{text}");
     }
 }
 
