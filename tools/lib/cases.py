@@ -9,7 +9,7 @@ from typing import Dict, Iterator, List, Tuple, Union
 Files = Dict[str, bytes]
 ESCAPE = re.compile(rb"\\(x[0-9A-Fa-f]{2}|.)", re.DOTALL)
 ESCAPES = {b"n": b"\n", b"r": b"\r", b"t": b"\t", b"\\": b"\\"}
-FORM = re.compile(r"(?P<more>\+ )?(?P<name>\S+)(?: (?P<how>x|as|after|in) (?P<what>\S+))?")
+FORM = re.compile(r"(?P<more>\+ )?(?P<name>\S+)(?: (?P<how>x|as|after|in|is) (?P<what>\S+))?")
 EACH = re.compile(r"each (.*?): lab (.*?)(?:, snapshot .*)?")
 CUT = re.compile(r"( = \d+)?( with \S+ of \d+ to \d+ bytes)?$")
 
@@ -28,16 +28,24 @@ def unescaped(text: bytes) -> bytes:
     return ESCAPE.sub(lambda m: ESCAPES[m[1]] if len(m[1]) == 1 else bytes([int(m[1][1:], 16)]), text)
 
 
+def without_notes(lines: List[str]) -> List[str]:
+    return [word for line in lines for word in line.partition("#")[0].split()]
+
+
 def words_to_bytes(lines: List[str]) -> bytes:
-    words = [word for line in lines for word in line.partition("#")[0].split()]
-    return b"".join(int(word, 16).to_bytes(4, "little") for word in words)
+    return b"".join(int(word, 16).to_bytes(4, "little") for word in without_notes(lines))
+
+
+def times_to_bytes(lines: List[str]) -> bytes:
+    parted = [word.partition("x") for word in without_notes(lines)]
+    return b"".join(bytes([int(byte, 16)]) * int(count or 1) for byte, _, count in parted)
 
 
 def changed(held: bytes, lines: List[str]) -> bytes:
     """Returns bytes with the words and the length that the lines say."""
     new = bytearray(held)
     for line in lines:
-        place, value = line.split(":")
+        place, value = line.partition("#")[0].split(":")
         if place == "length":
             new = new[: int(value)].ljust(int(value), b"\0")
         else:
@@ -47,6 +55,15 @@ def changed(held: bytes, lines: List[str]) -> bytes:
 
 def text_of(lines: List[str]) -> bytes:
     return "".join(f"{line}\n" for line in lines).encode()
+
+
+def from_form(form: str, lines: List[str]) -> bytes:
+    """Returns the bytes of a part that has them in words, in bytes or in escapes."""
+    if form == "words":
+        return words_to_bytes(lines)
+    if form == "bytes":
+        return times_to_bytes(lines)
+    return unescaped("".join(lines).encode())
 
 
 def furnish(files: Files, heading: str, lines: List[str]) -> None:
@@ -63,8 +80,8 @@ def furnish(files: Files, heading: str, lines: List[str]) -> None:
     elif how == "after":
         files[name] = files[what] + text_of(lines)
     elif how == "in":
-        files[name] = words_to_bytes(lines) if what == "words" else unescaped("".join(lines).encode())
-    else:
+        files[name] = from_form(what, lines)
+    elif how != "is":
         files[name] = text_of(lines)
 
 
@@ -116,11 +133,14 @@ def runs_of_part(files: Files, heading: str, lines: List[str]) -> Iterator[Run]:
 
 
 def parts_of(path: Union[str, "os.PathLike[str]"]) -> Iterator[Tuple[str, List[str]]]:
-    """Yields the heading and the lines of each part."""
+    """Yields the heading and the lines of each part, and of those of other files whose parts it has."""
     with open(path, encoding="utf-8", newline="") as file:
         parts = re.split(r"^-- (.+) --\n", file.read(), flags=re.MULTILINE)
     for heading, text in zip(parts[1::2], parts[2::2]):
-        yield heading, text.split("\n")[:-1]
+        if heading.startswith("parts of "):
+            yield from parts_of(os.path.join(os.path.dirname(path), heading[len("parts of ") :]))
+        else:
+            yield heading, text.split("\n")[:-1]
 
 
 def runs_of(path: Union[str, "os.PathLike[str]"]) -> Iterator[Run]:

@@ -1,15 +1,11 @@
-//! Tests of the devices of a board and of its memory, each by itself.
+//! Tests of devices, of a memory and of spellings: of what no program and no script of a laboratory can show.
 #![tactic(auto)]
 
 #[cfg(test)]
-mod can;
+mod accesses;
 #[cfg(test)]
-mod finisher;
-#[cfg(test)]
-mod interrupt_controller;
+mod devices;
 #[cfg(test)]
 mod memory;
 #[cfg(test)]
-mod timer;
-#[cfg(test)]
-mod uart;
+mod spellings;
