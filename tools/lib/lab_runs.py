@@ -30,8 +30,8 @@ class Ran:
 
 
 class Runs:
-    """Runs of a program in one folder, each at most so many seconds long, and its log so many bytes. Several threads may
-    use it."""
+    """Runs of a program in one folder, each of so many seconds at most, and its log of so many bytes. Several threads
+    may use it."""
 
     def __init__(self, program: str, folder: pathlib.Path, seconds: float, most: int) -> None:
         self.program = program

@@ -1,5 +1,6 @@
-"""Reads and replaces files of a project, whatever stands at their paths: nothing here waits for the other end of a pipe,
-no device is read, and no more than was asked for. What cannot be done is an OSError, whose `strerror` says why."""
+"""Reads and replaces files of a project, whatever stands at their paths: nothing here waits for the other end of a
+pipe, no device is read, and no more than was asked for. What cannot be done is an OSError, whose `strerror` says
+why."""
 import contextlib
 import errno
 import os
