@@ -6,16 +6,15 @@ ends with 0 where one has, and else with 1. Paths are taken from the folder in w
 """
 import pathlib
 import re
-import subprocess
 import sys
 
+import plain_files
 import reads
+import snapshot
+from machine import there
 
-SNAPSHOT = pathlib.Path(__file__).resolve().parent.parent / "snapshot"
-
-# The line of a platform file that makes a finisher, and that of tools/snapshot which tells of one.
-MADE = re.compile(r"^\s*\w+\s*:\s*Miscellaneous\.SiFiveTest\b", re.MULTILINE)
-HELD = re.compile(r"\.plan\.kinds\[\d+\] finisher$", re.MULTILINE)
+# The line of a platform file that makes a finisher.
+MADE = re.compile(r"^[ \t]*\w+[ \t]*:[ \t]*Miscellaneous\.SiFiveTest\b", re.MULTILINE)
 
 
 def has_finisher(script: str, folder: pathlib.Path) -> bool:
@@ -24,16 +23,19 @@ def has_finisher(script: str, folder: pathlib.Path) -> bool:
 
 
 def makes_finisher(kind: str, file: pathlib.Path) -> bool:
-    """Whether a file of this kind makes a board with a finisher."""
-    if kind == "platform":
-        return MADE.search(reads.content_of(file).decode("utf-8", "replace")) is not None
-    return kind == "snapshot" and HELD.search(held_in(file)) is not None
+    """Whether a file of this kind makes a board with a finisher. One that cannot be read makes none."""
+    try:
+        if kind == "platform":
+            return MADE.search(plain_files.content_of(file, reads.FILE_LIMIT).decode("utf-8", "replace")) is not None
+        return kind == "snapshot" and holds_finisher(plain_files.content_of(file, reads.SNAPSHOT_LIMIT))
+    except (OSError, snapshot.NoSnapshot):
+        return False
 
 
-def held_in(snapshot: pathlib.Path) -> str:
-    """What a snapshot holds, a line a value."""
-    words = [sys.executable, "-B", str(SNAPSHOT), str(snapshot)]
-    return subprocess.run(words, check=False, stdout=subprocess.PIPE, encoding="utf-8").stdout
+def holds_finisher(kept: bytes) -> bool:
+    """Whether a board of a snapshot has a finisher."""
+    machines = [there(board["machine"]) for board in snapshot.read(kept)[0]["boards"]]
+    return any(kind == "finisher" for machine in machines if machine for kind, _ in machine["plan"]["kinds"])
 
 
 if __name__ == "__main__":

@@ -1,57 +1,60 @@
-"""Runs of lab, several at a time, each with a time after which it is ended."""
+"""Runs of lab, several at a time, each with a time and a length of its log at which it is ended."""
+import contextlib
 import dataclasses
 import os
 import pathlib
+import selectors
 import signal
 import subprocess
+import tempfile
 import threading
 import time
-from typing import Optional, Set
+from typing import BinaryIO, Iterator, Optional, Set
 
-import kept_logs
+# What has ended a run that did not end by itself.
+TIME, SIZE = "time", "size"
+
+PART = 2**16
 
 
 @dataclasses.dataclass(frozen=True)
 class Ran:
-    """How a run has ended. The status is none where the run was ended since its time was over, and below 0 where a
-    signal has ended it."""
+    """How a run has ended. The status is below 0 where a signal has ended it, and none where it was ended here, since
+    its time was over or it has printed too much: `ended_by` says which. The log is a file without a name, which goes
+    when nobody holds it."""
 
     status: Optional[int]
-    log: bytes
-    told: str
+    ended_by: str
+    log: BinaryIO
     seconds: float
-
-    @property
-    def text(self) -> str:
-        return kept_logs.text_of(self.log)
 
 
 class Runs:
-    """Runs of a program in one folder, each at most so many seconds long. Several threads may use it."""
+    """Runs of a program in one folder, each of so many seconds at most, and its log of so many bytes. Several threads
+    may use it."""
 
-    def __init__(self, program: str, folder: pathlib.Path, seconds: float) -> None:
+    def __init__(self, program: str, folder: pathlib.Path, seconds: float, most: int) -> None:
         self.program = program
         self.folder = folder
         self.seconds = seconds
-        self.lock = threading.Lock()
+        self.most = most
+        self.lock = threading.RLock()
         self.under_way: Set["subprocess.Popen[bytes]"] = set()
         self.is_ended = False
 
-    def run(self, script: str) -> Ran:
-        """Runs a script. An OSError says that the program cannot be started."""
+    @contextlib.contextmanager
+    def run(self, script: str) -> Iterator[Ran]:
+        """Runs a script; its log may be read as long as this is open. An OSError says that the program cannot be
+        started, or that there is no room for what it prints."""
         begun = time.monotonic()
-        process = self.start(script)
-        try:
-            log, told = process.communicate(timeout=self.seconds)
-            status: Optional[int] = process.returncode
-        except subprocess.TimeoutExpired:
-            end(process)
-            log, told = process.communicate()
-            status = None
-        finally:
-            with self.lock:
-                self.under_way.discard(process)
-        return Ran(status, log, kept_logs.text_of(told), time.monotonic() - begun)
+        with tempfile.TemporaryFile() as log:
+            process = self.start(script)
+            try:
+                ended_by = self.wait(process, log, begun + self.seconds)
+            finally:
+                self.end(process)
+            status = None if ended_by else process.returncode
+            yield Ran(status, ended_by, log, time.monotonic() - begun)
 
     def start(self, script: str) -> "subprocess.Popen[bytes]":
         """Starts a process with a group of its own, so that what it starts is ended with it."""
@@ -59,27 +62,59 @@ class Runs:
             if self.is_ended:
                 raise InterruptedError("no run is started any more")
             process = subprocess.Popen(
-                [self.program, "run", script],
+                [self.program, "run", "--", script],
                 cwd=str(self.folder),
                 stdin=subprocess.DEVNULL,
                 stdout=subprocess.PIPE,
-                stderr=subprocess.PIPE,
+                stderr=subprocess.DEVNULL,
                 start_new_session=True,
             )
             self.under_way.add(process)
         return process
+
+    def wait(self, process: "subprocess.Popen[bytes]", log: BinaryIO, until: float) -> str:
+        """Waits for the end of a process, and writes what it prints into the log. Returns why it is to be ended, or
+        nothing where it has ended."""
+        assert process.stdout is not None
+        room = self.most
+        with selectors.DefaultSelector() as ready:
+            ready.register(process.stdout, selectors.EVENT_READ)
+            while ready.select(max(until - time.monotonic(), 0)):
+                part = os.read(process.stdout.fileno(), PART)
+                log.write(part[:room])
+                room -= len(part)
+                if not part or room < 0:
+                    break
+            else:
+                return TIME
+        if room < 0:
+            return SIZE
+        try:
+            process.wait(max(until - time.monotonic(), 0))
+        except subprocess.TimeoutExpired:
+            return TIME
+        return ""
+
+    def end(self, process: "subprocess.Popen[bytes]") -> None:
+        """Ends a process that has not ended, and all that it has started, and forgets it."""
+        with self.lock:
+            if process.poll() is None:
+                kill(process)
+            self.under_way.discard(process)
+        if process.stdout is not None:
+            process.stdout.close()
+        process.wait()
 
     def end_all(self) -> None:
         """Ends all runs that are under way, and starts no other one."""
         with self.lock:
             self.is_ended = True
             for process in self.under_way:
-                end(process)
+                if process.returncode is None:
+                    kill(process)
 
 
-def end(process: "subprocess.Popen[bytes]") -> None:
+def kill(process: "subprocess.Popen[bytes]") -> None:
     """Ends a process and all that it has started."""
-    try:
+    with contextlib.suppress(ProcessLookupError):
         os.killpg(process.pid, signal.SIGKILL)
-    except ProcessLookupError:
-        pass

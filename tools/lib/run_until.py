@@ -8,6 +8,7 @@ from typing import Any, Dict, Iterator, List, Optional, Sequence, Tuple
 
 import reads
 import resc
+import rooms
 import snapshot
 from program import path_of_program
 
@@ -175,13 +176,13 @@ def missing(script: str) -> str:
     return f": {lost[0].path} is not there, for {lost[0].asked_by}" if lost else ""
 
 
-def run(file: str, steps: List[Step], until: int, room: pathlib.Path) -> Tuple[Held, List[int]]:
+def run(file: str, steps: List[Step], until: int, room: rooms.Room) -> Tuple[Held, List[int]]:
     """Runs these commands of a script. Returns what the laboratory is then, and when finishers have ended runs."""
-    script, kept, log = room / "copy.resc", room / "kept", room / "log"
+    script, kept, log = room.path / "copy.resc", room.path / "kept", room.path / "log"
     script.write_text("".join(f"{step.text}\n" for step in steps) + f"Save @{kept}\n", encoding="utf-8")
     words = [program(), "run", str(script), "--until", time_text(until)]
     with log.open("wb") as printed:
-        status = subprocess.run(words, stdout=printed, stdin=subprocess.DEVNULL, check=False).returncode
+        status = room.start(words, stdout=printed, stdin=subprocess.DEVNULL).wait()
     with log.open("rb") as printed:
         if status != 0:
             raise NoRun(fault_of(file, status, steps, printed.readlines()[-1:]))
@@ -203,9 +204,9 @@ def fault_of(script: str, status: int, steps: List[Step], last: List[bytes]) -> 
     return f"lab refused {refused[1].decode()}:{at}: {cause}"
 
 
-def laboratory_at(script: str, at: Optional[int], until: int, room: pathlib.Path) -> Tuple[Held, List[Step]]:
+def laboratory_at(script: str, at: Optional[int], until: int, room: rooms.Room) -> Tuple[Held, List[Step]]:
     """Returns the laboratory of a script at a lab time in microseconds, or at its end, and the commands up to there.
-    `room` is an empty folder for what is written. Finishers that end runs are known from the log, so that the script is
+    `room` is a new folder for what is written. Finishers that end runs are known from the log, so that the script is
     run again where one came before that time."""
     steps = steps_of(script)
     if at is None:

@@ -2,13 +2,11 @@
 import dataclasses
 import json
 import pathlib
-import re
 from typing import Iterator, List, Sequence, TextIO
 from xml.etree import ElementTree
 
 import suite_tests
-
-NO_TEXT = re.compile("[^\t\n\x20-\x7e\x85\xa0-\ud7ff\ue000-\ufefe\uff00-\ufffd\U00010000-\U0010ffff]")
+from escapes import shown, shown_lines
 
 
 @dataclasses.dataclass(frozen=True)
@@ -29,17 +27,12 @@ class Outcome:
         return self.finding.result == suite_tests.ERROR
 
 
-def plain(text: str) -> str:
-    """The text with each character that neither XML nor YAML can hold as `\\xNN`."""
-    return NO_TEXT.sub(lambda it: f"\\x{ord(it[0]):02x}", text)
-
-
 def in_words(outcome: Outcome) -> str:
     """What a reader wants to see of a test that has not passed."""
     parts = [outcome.finding.difference]
     if outcome.last_lines:
         parts.append(f"the last lines that were printed:\n{outcome.last_lines}")
-    return plain("\n".join(part for part in parts if part))
+    return shown_lines("\n".join(part for part in parts if part))
 
 
 def junit_of(outcomes: Sequence[Outcome]) -> ElementTree.Element:
@@ -63,13 +56,13 @@ def case_of(outcome: Outcome) -> ElementTree.Element:
     path = pathlib.PurePosixPath(outcome.script)
     folder = ".".join(part for part in path.parent.parts if part not in ("/", ".", ".."))
     words = {"classname": folder or "lab", "name": path.stem, "file": outcome.script, "time": f"{outcome.seconds:.3f}"}
-    case = ElementTree.Element("testcase", {key: plain(word) for key, word in words.items()})
+    case = ElementTree.Element("testcase", {key: shown(word) for key, word in words.items()})
     if not outcome.is_passed:
         finding = outcome.finding
-        told = {"message": plain(finding.cause), "type": finding.kind}
+        told = {"message": shown(finding.cause), "type": finding.kind}
         ElementTree.SubElement(case, "error" if outcome.is_error else "failure", told).text = in_words(outcome)
     if outcome.last_lines:
-        ElementTree.SubElement(case, "system-out").text = plain(outcome.last_lines)
+        ElementTree.SubElement(case, "system-out").text = shown_lines(outcome.last_lines)
     return case
 
 
@@ -90,7 +83,7 @@ class Tap:
     def tell(self, outcome: Outcome) -> None:
         self.number += 1
         told = "ok" if outcome.is_passed else "not ok"
-        name = plain(outcome.script).replace("\\", "\\\\").replace("#", "\\#")
+        name = shown(outcome.script).replace("\\", "\\\\").replace("#", "\\#")
         lines = [f"{told} {self.number} - {name}", *("  " + it for it in diagnostics(outcome))]
         print("\n".join(lines), file=self.output, flush=True)
 
@@ -104,7 +97,7 @@ def diagnostics(outcome: Outcome) -> List[str]:
     lines = ["---", f"duration_ms: {1000 * outcome.seconds:.0f}"]
     if not outcome.is_passed:
         lines.append(f"severity: {'error' if outcome.is_error else 'fail'}")
-        lines.append(f"message: {json.dumps(plain(finding.cause), ensure_ascii=False)}")
+        lines.append(f"message: {json.dumps(shown(finding.cause), ensure_ascii=False)}")
         lines += [*block("difference", finding.difference), *block("last_lines", outcome.last_lines)]
     return [*lines, "..."]
 
@@ -113,4 +106,4 @@ def block(key: str, text: str) -> Iterator[str]:
     """A text of several lines as a value of YAML, if there is any."""
     if text:
         yield f"{key}: |2"
-        yield from (f"  {line}" for line in plain(text).rstrip("\n").split("\n"))
+        yield from (f"  {line}" for line in shown_lines(text).rstrip("\n").split("\n"))

@@ -1,15 +1,16 @@
 """Tests of a suite: what a script's lines `# suite: ..` say, and whether a run has passed."""
 import dataclasses
 import pathlib
-import re
-from typing import Optional, Tuple
+from typing import BinaryIO, List, Optional, Tuple
 
 import kept_logs
 import lab_runs
+import plain_files
 import reads
+from escapes import shown
 
 EXACT, NOTIMES, VERDICT = MODES = ("exact", "notimes", "verdict")
-SAYS = re.compile(r"\s*#\s*suite:\s*(.*?)\s*")
+MARK = "suite:"
 
 PASSED, FAILED, ERROR = "passed", "failed", "error"
 
@@ -45,45 +46,73 @@ class Finding:
     difference: str = ""
 
 
+def unread(path: object, fault: OSError) -> Undone:
+    """Says that a file cannot be read."""
+    return Undone(f"{path} cannot be read: {fault.strerror}")
+
+
 def wishes_of(script: str, folder: pathlib.Path) -> Wishes:
     """Reads what a script of a project says of itself."""
     try:
-        text = kept_logs.text_of((folder / script).read_bytes())
+        text = kept_logs.text_of(plain_files.content_of(folder / script, reads.FILE_LIMIT))
     except OSError as fault:
-        raise Undone(f"{script} cannot be read: {fault.strerror}") from fault
-    modes, after = [], []
+        raise unread(script, fault) from fault
+    modes: List[str] = []
+    after: List[str] = []
     for number, line in enumerate(kept_logs.lines_of(text), 1):
-        said = SAYS.fullmatch(line)
-        if said is None:
-            continue
-        words = said[1].split()
-        if len(words) == 1 and words[0] in MODES:
-            modes.append(words[0])
-        elif len(words) == 2 and words[0] == "after":
-            after.append(words[1])
-        else:
-            raise Undone(f"{script}:{number}: `# suite:` says {', '.join(MODES)} or `after SCRIPT`, and not {said[1]}")
+        said = said_in(line)
+        if said is not None and not take(said.split(), modes, after):
+            says = f"{', '.join(MODES)} or `after SCRIPT`, and not {short(said)}"
+            raise Undone(f"{script}:{number}: `# suite:` says {says}")
     if len(modes) > 1:
-        raise Undone(f"{script}: `# suite:` names {' and '.join(modes)}, and takes one of them")
-    return Wishes(modes[0] if modes else EXACT, tuple(after))
+        raise Undone(f"{script}: `# suite:` names {short(' and '.join(modes))}, and takes one of them")
+    return Wishes(modes[0] if modes else EXACT, tuple(dict.fromkeys(after)))
+
+
+def said_in(line: str) -> Optional[str]:
+    """What a line `# suite: ..` says, and nothing where it is another one."""
+    comment = line.lstrip()
+    if not comment.startswith("#"):
+        return None
+    text = comment[1:].lstrip()
+    return text[len(MARK) :].strip() if text.startswith(MARK) else None
+
+
+def take(words: List[str], modes: List[str], after: List[str]) -> bool:
+    """Adds what these words say to one of the lists, if they say anything."""
+    if len(words) == 1 and words[0] in MODES:
+        modes.append(words[0])
+    elif len(words) == 2 and words[0] == "after":
+        after.append(words[1])
+    else:
+        return False
+    return True
+
+
+def short(text: str, most: int = 200) -> str:
+    """The beginning of a text that may be long."""
+    return text if len(text) <= most else f"{text[:most]} .."
 
 
 def fault_of(ran: lab_runs.Ran, script: str, runs: lab_runs.Runs) -> Optional[Finding]:
     """What is wrong with a run of a script that is not done, whatever it has printed."""
-    if ran.status is None:
+    if ran.ended_by == lab_runs.TIME:
         return Finding(FAILED, "timeout", f"not done after {runs.seconds:g} s")
-    if ran.status == 0:
-        return None
-    lines = kept_logs.lines_of(ran.text)
-    if ran.status == 3 and lines:
-        cause = lines[-1]
-    elif ran.status < 0:
-        cause = f"signal {-ran.status}"
-    else:
-        cause = STATUSES.get(ran.status, "see docs/SCRIPTS.md")
-    if ran.status in (4, 6):
-        cause += missing_file(script, runs.folder)
-    return Finding(ERROR, "lab", f"lab ended with {ran.status}: {cause}")
+    if ran.ended_by == lab_runs.SIZE:
+        polls = ": it polls where nothing stands?" if kept_logs.polls_nothing(ran.log) else ""
+        return Finding(FAILED, "size", f"printed more than {runs.most} bytes{polls}")
+    return None if ran.status == 0 else Finding(ERROR, "lab", f"lab ended with {ran.status}: {why(ran, script, runs)}")
+
+
+def why(ran: lab_runs.Ran, script: str, runs: lab_runs.Runs) -> str:
+    """Why a run has ended with another status than 0."""
+    last = kept_logs.lines_of(kept_logs.last_lines(ran.log, 1))
+    if ran.status == 3 and last:
+        return short(last[0], 1000)
+    if ran.status is not None and ran.status < 0:
+        return f"signal {-ran.status}"
+    cause = STATUSES.get(ran.status or 0, "see docs/SCRIPTS.md")
+    return cause + missing_file(script, runs.folder) if ran.status in (4, 6) else cause
 
 
 def missing_file(script: str, folder: pathlib.Path) -> str:
@@ -93,26 +122,29 @@ def missing_file(script: str, folder: pathlib.Path) -> str:
     return f", {missing[0].path} ({missing[0].asked_by})" if missing else ""
 
 
-def finding_of(mode: str, name: str, kept: Optional[bytes], ran: lab_runs.Ran) -> Finding:
+def finding_of(mode: str, name: str, kept: BinaryIO, ran: lab_runs.Ran) -> Finding:
     """What is to be said of a run that is done, beside the log that was kept under this name. A test by its verdict
-    alone needs no log."""
-    log = "" if mode == VERDICT or kept is None else kept_logs.text_of(kept)
-    failures = [line for line in kept_logs.failures_of(ran.text) if line not in kept_logs.lines_of(log)]
-    is_wanted = mode == VERDICT or bool(kept_logs.verdicts_of(log))
-    difference = "" if mode == VERDICT else difference_of(mode, name, log, ran.text)
-    if failures:
-        return Finding(FAILED, "fail", f"a test has failed: {failures[0]}", difference)
-    if is_wanted and not kept_logs.verdicts_of(ran.text):
-        return Finding(FAILED, "no verdict", "no verdict: it hangs?", difference)
-    if not difference:
+    alone is not compared with it."""
+    if mode == EXACT and kept_logs.are_equal(kept, ran.log):
         return Finding(PASSED)
-    if kept_logs.differ_by_times(log, ran.text):
+    log = None if mode == VERDICT else kept
+    failure = kept_logs.new_failure(log, ran.log)
+    is_wanted = log is None or kept_logs.has_verdict(log)
+    difference = "" if log is None else difference_of(mode, name, log, ran.log)
+    if failure is not None:
+        return Finding(FAILED, "fail", f"a test has failed: {failure}", difference)
+    if is_wanted and not kept_logs.has_verdict(ran.log):
+        return Finding(FAILED, "no verdict", "no verdict: it hangs?", difference)
+    if log is None or not difference:
+        return Finding(PASSED)
+    if mode == EXACT and kept_logs.differ_by_times(log, ran.log):
         return Finding(FAILED, "times", "the times alone differ: `# suite: notimes` leaves them out", difference)
     return Finding(FAILED, "difference", "the log differs", difference)
 
 
-def difference_of(mode: str, name: str, kept: str, printed: str) -> str:
+def difference_of(mode: str, name: str, kept: BinaryIO, printed: BinaryIO) -> str:
     """The differences between a kept log and what was printed, as the mode compares them."""
-    if mode == NOTIMES:
-        kept, printed = kept_logs.without_times(kept), kept_logs.without_times(printed)
-    return kept_logs.difference(name, kept, "this run", printed)
+    if mode == EXACT:
+        return kept_logs.difference(shown(name), kept, "this run", printed)
+    with kept_logs.without_times(kept) as one, kept_logs.without_times(printed) as other:
+        return kept_logs.difference(shown(name), one, "this run", other)

@@ -1,0 +1,55 @@
+"""A folder for what a script writes in passing, which goes with the script however that ends.
+
+A signal ends a Python program without a word to it. So a second process keeps the folder: it waits at a pipe, whose
+other end is closed when the script ends, for whatever cause. Then it removes the folder, and ends what was started
+beside it.
+"""
+import contextlib
+import os
+import pathlib
+import subprocess
+import tempfile
+from typing import Any, Sequence
+
+# The folder takes another name first, under which nobody puts anything into it.
+KEEPER = """\
+trap '' HUP INT TERM
+read -r _
+mv -- "$1" "$1.gone" && rm -rf -- "$1.gone"
+kill -KILL 0
+"""
+
+
+class Room:
+    """The folder, until this process ends or calls `close`. Made by the first thread, before others are there."""
+
+    def __init__(self, prefix: str) -> None:
+        self.path = pathlib.Path(tempfile.mkdtemp(prefix=prefix))
+        end, self.end = os.pipe()
+        self.keeper = subprocess.Popen(
+            ["sh", "-c", KEEPER, "sh", str(self.path)],
+            stdin=end,
+            stdout=subprocess.DEVNULL,
+            stderr=subprocess.DEVNULL,
+            preexec_fn=os.setpgrp,
+        )
+        os.close(end)
+
+    def start(self, words: Sequence[str], **how: Any) -> "subprocess.Popen[bytes]":
+        """Starts a process that ends with the folder. No other thread may be there."""
+        group = self.keeper.pid
+        return subprocess.Popen(words, preexec_fn=lambda: os.setpgid(0, group), **how)
+
+    def close(self) -> None:
+        """Removes the folder, and ends what was started beside it. The handler of a signal may call it while it runs."""
+        end, self.end = self.end, -1
+        if end >= 0:
+            os.close(end)
+        with contextlib.suppress(ChildProcessError):
+            os.waitpid(self.keeper.pid, 0)
+
+    def __enter__(self) -> "Room":
+        return self
+
+    def __exit__(self, *_: object) -> None:
+        self.close()
