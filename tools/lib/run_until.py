@@ -1,4 +1,5 @@
 """Runs a copy of a script up to a lab time, or to its end, and keeps the laboratory there in a snapshot."""
+import errno
 import os
 import pathlib
 import re
@@ -6,6 +7,7 @@ import subprocess
 from dataclasses import dataclass
 from typing import Any, Dict, Iterator, List, Optional, Sequence, Tuple
 
+import kept_labs
 import reads
 import resc
 import snapshot
@@ -111,7 +113,11 @@ class Walk:
 
 
 def lines_in(path: str) -> List[resc.Line]:
-    return resc.numbered(pathlib.Path(path).read_bytes().decode("utf-8"))
+    """Returns the lines of a script. One that is too long for lab is an OSError, as one that cannot be read."""
+    content = kept_labs.bytes_of(path, reads.FILE_LIMIT)
+    if len(content) > reads.FILE_LIMIT:
+        raise OSError(errno.EFBIG, os.strerror(errno.EFBIG), path)
+    return resc.numbered(content.decode("utf-8"))
 
 
 def steps_of(script: str) -> List[Step]:
@@ -131,7 +137,11 @@ def time_text(micros: int) -> str:
 
 def loaded(step: Step) -> Held:
     """Returns what the snapshot of a `Load` holds."""
-    return snapshot.read(pathlib.Path(str(step.arguments[0])).read_bytes())[0]
+    path = str(step.arguments[0])
+    try:
+        return snapshot.read(kept_labs.bytes_of(path))[0]
+    except snapshot.NoSnapshot as fault:
+        raise NoRun(f"{path}, for {step.file}:{step.number}: no snapshot of lab: {fault}") from fault
 
 
 def length_of(step: Step, time: int, until: int) -> int:
@@ -197,10 +207,10 @@ def fault_of(script: str, status: int, steps: List[Step], last: List[bytes]) -> 
         hint = ": stop before that with --at TIME" if status == 1 else missing(script)
         return f"lab ended with {status}{hint}"
     lines = [step for step in steps for _ in step.text.splitlines()]
-    at, cause = int(refused[2]), refused[3].decode()
+    at, cause = int(refused[2]), refused[3].decode(errors="replace")
     if refused[1].endswith(b"/copy.resc") and at <= len(lines):
         return f"lab refused {lines[at - 1].file}:{lines[at - 1].number}: {cause}"
-    return f"lab refused {refused[1].decode()}:{at}: {cause}"
+    return f"lab refused {refused[1].decode(errors='replace')}:{at}: {cause}"
 
 
 def laboratory_at(script: str, at: Optional[int], until: int, room: pathlib.Path) -> Tuple[Held, List[Step]]:
