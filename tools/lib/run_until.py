@@ -128,7 +128,7 @@ def steps_of(script: str) -> List[Step]:
     except OSError as fault:
         raise NoRun(f"{script}: {fault.strerror}") from fault
     except UnicodeDecodeError as fault:
-        raise NoRun(f"{script}: it is no text") from fault
+        raise NoRun(f"{script}: no text, and no snapshot of lab") from fault
 
 
 def time_text(micros: int) -> str:
