@@ -251,6 +251,5 @@ def images_of(steps: List[Step]) -> Dict[str, List[str]]:
 
 def board_of(word: str, names: List[str]) -> str:
     """Returns the name of the board that `mach set` selects: the one of that name, or else of that number."""
-    if word not in names and word.isdigit() and int(word) < len(names):
-        return names[int(word)]
-    return word
+    number = resc.number_of(word)
+    return names[number] if word not in names and number is not None and number < len(names) else word
