@@ -35,8 +35,8 @@ def reading_of(path: str, data: bytes) -> Union[elf_binutils.Reading, elf_pyelft
 
 
 class Elf:
-    """An ELF file. `fault` is what is wrong with the rest where the sections and the names of code can be read: with its
-    frames, or with its lines, which are read when they are asked for."""
+    """An ELF file whose sections and names of code can be read. `fault` is what is wrong with the rest, or None: with its
+    frames, or with its lines, which are read when somebody asks for them."""
 
     def __init__(self, path: str) -> None:
         self.path = path

@@ -1,5 +1,5 @@
-"""Snapshots as `lab` takes them. Their form is looked at here; whether a laboratory can be so is asked of `lab`, where a
-program of it stands, and is not known where none does."""
+"""Snapshots as `lab` takes them. Their form is looked at here. Whether a laboratory can be so is asked of `lab`, where
+a program of it stands, and is not known where none does."""
 import contextlib
 import os
 import re

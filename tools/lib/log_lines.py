@@ -1,8 +1,8 @@
 """The lines of a log, by docs/SCRIPTS.md ("The log"), and runs of equal accesses.
 
 A log does not say which device is a UART and which a CAN controller: a device all of whose lines have the form of
-frames is taken for a controller. Lab time ends at 10,000 seconds, so a longer number is no time, and its line, which lab
-has not printed, is one of the script.
+frames is taken for a controller. Lab time ends at 10,000 seconds, so a longer number is no time. `lab` has not printed
+such a line, and it is taken for one of the script.
 """
 import re
 from dataclasses import dataclass, field, replace

@@ -62,8 +62,8 @@ def path_of_program() -> str:
 
 
 def standing_program() -> Optional[str]:
-    """Returns the path in LAB, or else that of the program that ./lab runs. None is built: where none stands, or it does
-    not stand the test of its sum, it returns nothing."""
+    """Returns the path in LAB, or else that of the program that ./lab runs. It builds none, and returns None where no
+    program stands or ./lab finds it damaged."""
     given = os.environ.get("LAB")
     if given:
         return shutil.which(given)

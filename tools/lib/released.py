@@ -1,5 +1,5 @@
-"""The file NAME.sources beside a built program. Its first line is the sum of the sources that the program was built from.
-That of bin/lab has a second line, the sum (sha256) of the program itself, so that a damaged one is seen."""
+"""The file NAME.sources beside a built program. Its first line is the sum of the sources that the program was built
+from. That of bin/lab has a second line, the sum (sha256) of the program itself, which shows a damaged one."""
 import hashlib
 import pathlib
 from dataclasses import dataclass
