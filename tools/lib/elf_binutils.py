@@ -23,6 +23,7 @@ CIE = re.compile(r"(?P<at>[0-9a-f]+) [0-9a-f]+ [0-9a-f]+ CIE ")
 FDE = re.compile(
     r"[0-9a-f]+ [0-9a-f]+ [0-9a-f]+ FDE cie=(?P<cie>[0-9a-f]+) pc=(?P<first>[0-9a-f]+)\.\.(?P<end>[0-9a-f]+)"
 )
+ADDRESS = re.compile("[0-9a-f]+")
 LINE = re.compile(r"(?P<file>.*):(?P<line>\d+|\?)(?: \(discriminator \d+\))?")
 TOOLS = ("readelf", "addr2line")
 
@@ -121,12 +122,13 @@ def frames_in(text: str) -> Iterator[Frames]:
 
 
 def read_rows(lines: Iterable[str]) -> Iterator[Row]:
-    """Yields the rows of a table of which the first line names the columns."""
+    """Yields the rows of a table of which the first line names the columns. What it says of an operation that it does
+    not know is no row."""
     names: List[str] = []
     for words in map(str.split, lines):
         if words[:2] == ["LOC", "CFA"]:
             names = words[2:]
-        elif len(words) == 2 + len(names):
+        elif len(words) == 2 + len(names) and ADDRESS.fullmatch(words[0]):
             rules = dict(zip(names, words[2:]))
             saved = {name: int(rule[1:]) for name, rule in rules.items() if re.fullmatch(r"c[+-]\d+", rule)}
             base = re.fullmatch(r"(\w+)([+-]\d+)", words[1])
