@@ -1,13 +1,29 @@
 """What functions and lines of an ELF file are at addresses. binutils read it, or pyelftools where there are none."""
 import bisect
+import os
 import pathlib
-from typing import Dict, Iterable, List, Optional, Union
+from typing import Any, Callable, Dict, Iterable, List, Optional, Union
 
 import elf_binutils
+import elf_form
 import elf_pyelftools
 from elf_parts import Line, NoElf, Row, Symbol
 
 NO_READER = "no readelf, addr2line, riscv*-readelf or pyelftools is there: install binutils"
+
+
+def content_of(path: str) -> bytes:
+    """Returns what an ELF file holds."""
+    try:
+        if os.path.exists(path) and not os.path.isfile(path):
+            raise NoElf(f"{path}: it is no plain file")
+        data = pathlib.Path(path).read_bytes()
+    except OSError as fault:
+        raise NoElf(f"{path}: {fault.strerror}") from fault
+    fault = elf_form.fault_of(data)
+    if fault:
+        raise NoElf(f"{path}: {fault}")
+    return data
 
 
 def reading_of(path: str, data: bytes) -> Union[elf_binutils.Reading, elf_pyelftools.Reading]:
@@ -19,18 +35,25 @@ def reading_of(path: str, data: bytes) -> Union[elf_binutils.Reading, elf_pyelft
 
 
 class Elf:
-    """An ELF file."""
+    """An ELF file whose sections and names of code can be read. `fault` is what is wrong with the rest, or None: with its
+    frames, or with its lines, which are read when somebody asks for them."""
 
     def __init__(self, path: str) -> None:
         self.path = path
-        try:
-            data = pathlib.Path(path).read_bytes()
-        except OSError as fault:
-            raise NoElf(f"{path}: {fault.strerror}") from fault
-        self.reading = reading_of(path, data)
+        self.fault: Optional[str] = None
+        self.reading = reading_of(path, content_of(path))
         self.sections = self.reading.sections
         self.symbols = best_of(self.reading.symbols)
+        self.frames = self.told(self.reading.read_frames)
         self.lines: Dict[int, List[Line]] = {}
+
+    def told(self, read: Callable[[], List[Any]]) -> List[Any]:
+        """Returns what can be read, and nothing where there is a fault, of which the first is kept."""
+        try:
+            return read()
+        except NoElf as fault:
+            self.fault = self.fault or str(fault)
+            return []
 
     def function_at(self, address: int) -> Optional[Symbol]:
         """Returns the function, or the label, in which an address lies."""
@@ -45,15 +68,15 @@ class Elf:
 
     def row_at(self, address: int) -> Optional[Row]:
         """Returns how the frame is laid out at an address, or None where the file does not say it."""
-        for frames in self.reading.frames:
+        for frames in self.frames:
             if frames.first <= address < frames.end and frames.rows:
-                return [row for row in frames.rows if row.address <= address][-1]
+                return next((row for row in reversed(frames.rows) if row.address <= address), None)
         return None
 
     def lines_at(self, address: int) -> List[Line]:
         """Returns the source of an address, the innermost of inlined functions first."""
         if address not in self.lines:
-            self.lines[address] = self.reading.lines_at(address)
+            self.lines[address] = self.told(lambda: self.reading.lines_at(address))
         return self.lines[address]
 
 

@@ -8,6 +8,7 @@ import subprocess
 from typing import Dict, Iterable, Iterator, List, Optional
 
 from elf_parts import Frames, Line, NoElf, Row, Section, Segment, Symbol, is_code_name, load_address, short
+from machine import ABI_NAMES
 
 SECTION = re.compile(
     r" *\[ *(?P<number>\d+)\] (?P<name>\S+) +(?P<type>\S+) +(?P<address>[0-9a-f]{8}) (?P<offset>[0-9a-f]+)"
@@ -22,6 +23,7 @@ CIE = re.compile(r"(?P<at>[0-9a-f]+) [0-9a-f]+ [0-9a-f]+ CIE ")
 FDE = re.compile(
     r"[0-9a-f]+ [0-9a-f]+ [0-9a-f]+ FDE cie=(?P<cie>[0-9a-f]+) pc=(?P<first>[0-9a-f]+)\.\.(?P<end>[0-9a-f]+)"
 )
+ADDRESS = re.compile("[0-9a-f]+")
 LINE = re.compile(r"(?P<file>.*):(?P<line>\d+|\?)(?: \(discriminator \d+\))?")
 TOOLS = ("readelf", "addr2line")
 
@@ -40,27 +42,31 @@ def is_there() -> bool:
 
 
 def printed(tool: str, *words: str) -> str:
-    """Returns what a program of binutils prints. The last word is the path of the ELF file."""
+    """Returns what a program of binutils prints. The last word is the path of the ELF file. What it says of faults is
+    left alone where it ends well, but for that lines cannot be read, since those are missing then."""
     settings = {**os.environ, "LC_ALL": "C"}
-    command = [program(tool) or tool, *words]
+    # So that no path is taken for an option, or for a file with options.
+    path = f"./{words[-1]}" if words[-1].startswith(("-", "@")) else words[-1]
+    command = [program(tool) or tool, *words[:-1], path]
     ran = subprocess.run(command, capture_output=True, text=True, errors="replace", env=settings, check=False)
-    if ran.returncode != 0:
-        raise NoElf(f"{words[-1]}: {(ran.stderr.strip() or f'{tool} ended with {ran.returncode}').splitlines()[-1]}")
+    if ran.returncode != 0 or "DWARF error: " in ran.stderr:
+        said = (ran.stderr.strip() or f"{tool} ended with {ran.returncode}").splitlines()[-1]
+        raise NoElf(f"{words[-1]}: cannot be read: {said}")
     return ran.stdout
 
 
 class Reading:
-    """What binutils tell of a file: what is loaded, the names of its code, and the frames of its functions."""
+    """What binutils tell of a file: what is loaded, the names of its code, the frames of its functions, and lines."""
 
     def __init__(self, path: str, data: bytes) -> None:
         self.path = path
-        text = printed("readelf", "-W", "-h", "-S", "-l", "-s", path)
-        if not (re.search(r"Class: +ELF32\n", text) and re.search(r"Machine: +RISC-V\n", text)):
-            raise NoElf(f"{path}: it is no ELF file of 32 bits for RISC-V")
+        text = printed("readelf", "-W", "-S", "-l", "-s", path)
         found = [match.groupdict() for match in map(SECTION.match, text.splitlines()) if match]
         self.sections = list(read_sections(data, found, read_segments(text)))
         self.symbols = list(read_symbols(text, [it["number"] for it in found if "X" in it["flags"]]))
-        self.frames = list(read_frames(printed("readelf", "-W", "--debug-dump=frames-interp", path)))
+
+    def read_frames(self) -> List[Frames]:
+        return list(frames_in(printed("readelf", "-W", "--debug-dump=frames-interp", self.path)))
 
     def lines_at(self, address: int) -> List[Line]:
         """Returns the source of an address, the innermost of inlined functions first."""
@@ -101,7 +107,7 @@ def read_symbols(text: str, code: List[str]) -> Iterator[Symbol]:
             yield Symbol(address, size, match["name"], match["kind"] == "FUNC", match["binding"] == "GLOBAL")
 
 
-def read_frames(text: str) -> Iterator[Frames]:
+def frames_in(text: str) -> Iterator[Frames]:
     """Yields what `readelf --debug-dump=frames-interp` prints of .debug_frame and .eh_frame."""
     shared: Dict[int, List[Row]] = {}
     for block in re.split(r"\n\s*\n", text):
@@ -116,13 +122,15 @@ def read_frames(text: str) -> Iterator[Frames]:
 
 
 def read_rows(lines: Iterable[str]) -> Iterator[Row]:
-    """Yields the rows of a table of which the first line names the columns."""
+    """Yields the rows of a table of which the first line names the columns. What it says of an operation that it does
+    not know is no row."""
     names: List[str] = []
     for words in map(str.split, lines):
         if words[:2] == ["LOC", "CFA"]:
             names = words[2:]
-        elif len(words) == 2 + len(names):
+        elif len(words) == 2 + len(names) and ADDRESS.fullmatch(words[0]):
             rules = dict(zip(names, words[2:]))
             saved = {name: int(rule[1:]) for name, rule in rules.items() if re.fullmatch(r"c[+-]\d+", rule)}
             base = re.fullmatch(r"(\w+)([+-]\d+)", words[1])
-            yield Row(int(words[0], 16), (base[1], int(base[2])) if base else None, saved)
+            is_sum = base is not None and base[1] in ABI_NAMES
+            yield Row(int(words[0], 16), (base[1], int(base[2])) if base and is_sum else None, saved)

@@ -1,4 +1,5 @@
-"""Reads ELF files by pyelftools, where there are no binutils."""
+"""Reads ELF files by pyelftools, where there are no binutils. Whatever fault pyelftools find is told as NoElf."""
+import contextlib
 import importlib
 import io
 import os
@@ -19,32 +20,42 @@ def is_there() -> bool:
     return True
 
 
-def opened(path: str, data: bytes) -> Any:
-    """Returns the file as pyelftools gives it."""
-    module = importlib.import_module("elftools.elf.elffile")
-    fault = importlib.import_module("elftools.common.exceptions").ELFError
+@contextlib.contextmanager
+def faults_told(path: str) -> Iterator[None]:
+    """Tells a fault of pyelftools by its words. On a damaged file these end with whatever error of Python comes."""
     try:
-        elf = module.ELFFile(io.BytesIO(data))
-    except fault as found:
-        raise NoElf(f"{path}: it is no ELF file: {found}") from found
-    if elf.elfclass != 32 or elf["e_machine"] != "EM_RISCV":
-        raise NoElf(f"{path}: it is no ELF file of 32 bits for RISC-V")
-    return elf
+        yield
+    except Exception as fault:
+        raise NoElf(f"{path}: cannot be read: {type(fault).__name__}: {fault}") from fault
 
 
 class Reading:
-    """What pyelftools tell of a file: what is loaded, the names of its code, and the frames of its functions."""
+    """What pyelftools tell of a file: what is loaded, the names of its code, the frames of its functions, and lines. A
+    fault of the frames or of the list of units leaves no lines."""
 
     def __init__(self, path: str, data: bytes) -> None:
-        elf = opened(path, data)
-        self.sections = list(read_sections(elf))
-        self.symbols = list(read_symbols(elf))
-        self.dwarf = elf.get_dwarf_info() if elf.has_dwarf_info() else None
-        self.frames = list(read_frames(self.dwarf)) if self.dwarf else []
-        self.units = list(self.dwarf.iter_CUs()) if self.dwarf and self.dwarf.has_debug_info else []
+        self.path = path
+        with faults_told(path):
+            elf = importlib.import_module("elftools.elf.elffile").ELFFile(io.BytesIO(data))
+            self.sections = list(read_sections(elf))
+            self.symbols = list(read_symbols(elf))
+        self.elf = elf
+        self.dwarf: Any = None
+        self.units: List[Any] = []
+
+    def read_frames(self) -> List[Frames]:
+        with faults_told(self.path):
+            self.dwarf = self.elf.get_dwarf_info() if self.elf.has_dwarf_info() else None
+            frames = list(frames_in(self.dwarf)) if self.dwarf else []
+            self.units = list(self.dwarf.iter_CUs()) if self.dwarf and self.dwarf.has_debug_info else []
+        return frames
 
     def lines_at(self, address: int) -> List[Line]:
         """Returns the source of an address, the innermost of inlined functions first."""
+        with faults_told(self.path):
+            return self.lines_in_units(address)
+
+    def lines_in_units(self, address: int) -> List[Line]:
         for unit in self.units:
             program = self.dwarf.line_program_for_CU(unit)
             state = state_at(program, address) if program else None
@@ -76,7 +87,7 @@ def read_symbols(elf: Any) -> Iterator[Symbol]:
             yield Symbol(it["st_value"], it["st_size"], it.name, is_function, is_global)
 
 
-def read_frames(dwarf: Any) -> Iterator[Frames]:
+def frames_in(dwarf: Any) -> Iterator[Frames]:
     """Yields what .debug_frame and .eh_frame say."""
     entries = [
         *(dwarf.CFI_entries() if dwarf.has_CFI() else []),

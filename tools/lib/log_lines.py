@@ -1,13 +1,14 @@
 """The lines of a log, by docs/SCRIPTS.md ("The log"), and runs of equal accesses.
 
 A log does not say which device is a UART and which a CAN controller: a device all of whose lines have the form of
-frames is taken for a controller.
+frames is taken for a controller. Lab time ends at 10,000 seconds, so a longer number is no time. `lab` has not printed
+such a line, and it is taken for one of the script.
 """
 import re
 from dataclasses import dataclass, field, replace
 from typing import Dict, Iterable, List, Optional, Tuple
 
-LINE = re.compile(r"\[(\d+)\.(\d{6})\] (pause )?([A-Za-z0-9_-]+)/([A-Za-z][A-Za-z0-9_]*): (.*)")
+LINE = re.compile(r"\[(\d{1,5})\.(\d{6})\] (pause )?([A-Za-z0-9_-]+)/([A-Za-z][A-Za-z0-9_]*): (.*)")
 FRAME = re.compile(r"(tx|rx|lost) ([0-7][0-9a-f]{2}) (?:data ([0-8])(?: ((?:[0-9a-f]{2}){1,8}))?|remote ([0-8]))")
 
 

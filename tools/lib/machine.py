@@ -2,6 +2,7 @@
 from dataclasses import dataclass
 from typing import Any, Dict, List, Optional, Set, Tuple
 
+import references
 from snapshot import PAGE
 
 # Registers of the processor by their ABI names, in order.
@@ -176,6 +177,10 @@ class Machine:
 
 
 def machine_of(board: Dict[str, Any], time: int) -> Optional[Machine]:
-    """Returns what a board of a snapshot is made of, or None where it has no platform."""
+    """Returns what a board of a snapshot is made of, or None where it has no platform. NoSnapshot tells of a part that
+    is named and not there."""
     held = there(board["machine"])
-    return None if held is None else Machine(held, time)
+    if held is None:
+        return None
+    references.check(board["name"], held)
+    return Machine(held, time)

@@ -61,6 +61,25 @@ def path_of_program() -> str:
     return said.stdout.rstrip("\n")
 
 
+def standing_program() -> Optional[str]:
+    """Returns the path in LAB, or else that of the program that ./lab runs. It builds none, and returns None where no
+    program stands or ./lab finds it damaged."""
+    given = os.environ.get("LAB")
+    if given:
+        return shutil.which(given)
+    lab = str(TOP / "lab")
+    with contextlib.suppress(OSError, subprocess.CalledProcessError):
+        if b", of which no program is built yet" not in said_by(lab, "--version"):
+            return os.fsdecode(said_by(lab, "--program")).rstrip("\n")
+    return None
+
+
+def said_by(*words: str) -> bytes:
+    """Returns what a command prints that ends with 0."""
+    how = {"stdin": subprocess.DEVNULL, "stdout": subprocess.PIPE, "stderr": subprocess.DEVNULL}
+    return subprocess.run(words, check=True, **how).stdout
+
+
 def end_with_reader() -> None:
     """From now on this script ends in silence where nobody reads on what it prints, as with `| head`."""
     signal.signal(signal.SIGPIPE, signal.SIG_DFL)

@@ -15,6 +15,8 @@ VARIABLE = re.compile(r"\$([A-Za-z_][A-Za-z0-9_]*)")
 MACRO_NAME = re.compile(r"[A-Za-z_][A-Za-z0-9_]*")
 NAME = re.compile(r"[A-Za-z0-9_-]+")
 NUMBER = re.compile(r"0x([0-9A-Fa-f]+)|([0-9]+)")
+# The digits of 2^32 - 1.
+DIGITS = 10
 CLOCK = re.compile(r"(?:([0-9]{1,4}):([0-9]{1,2}):([0-9]{1,2})|([0-9]{1,10}))(?:\.([0-9]{1,6}))?")
 
 
@@ -220,7 +222,10 @@ def number_of(word: str) -> Optional[int]:
     match = NUMBER.fullmatch(word)
     if not match:
         return None
-    number = int(match.group(1), 16) if match.group(1) else int(match.group(2))
+    digits, base = (match.group(1), 16) if match.group(1) else (match.group(2), 10)
+    digits = digits.lstrip("0") or "0"
+    # (Python reads no number of more than 4,300 digits)
+    number = int(digits, base) if len(digits) <= DIGITS else 2**32
     return number if number < 2**32 else None
 
 

@@ -1,4 +1,5 @@
 """Runs a copy of a script up to a lab time, or to its end, and keeps the laboratory there in a snapshot."""
+import errno
 import os
 import pathlib
 import re
@@ -6,6 +7,7 @@ import subprocess
 from dataclasses import dataclass
 from typing import Any, Dict, Iterator, List, Optional, Sequence, Tuple
 
+import kept_labs
 import reads
 import resc
 import rooms
@@ -112,7 +114,11 @@ class Walk:
 
 
 def lines_in(path: str) -> List[resc.Line]:
-    return resc.numbered(pathlib.Path(path).read_bytes().decode("utf-8"))
+    """Returns the lines of a script. One that is too long for lab is an OSError, as one that cannot be read."""
+    content = kept_labs.bytes_of(path, reads.FILE_LIMIT)
+    if len(content) > reads.FILE_LIMIT:
+        raise OSError(errno.EFBIG, os.strerror(errno.EFBIG), path)
+    return resc.numbered(content.decode("utf-8"))
 
 
 def steps_of(script: str) -> List[Step]:
@@ -123,7 +129,7 @@ def steps_of(script: str) -> List[Step]:
     except OSError as fault:
         raise NoRun(f"{script}: {fault.strerror}") from fault
     except UnicodeDecodeError as fault:
-        raise NoRun(f"{script}: it is no text") from fault
+        raise NoRun(f"{script}: no text, and no snapshot of lab") from fault
 
 
 def time_text(micros: int) -> str:
@@ -132,7 +138,11 @@ def time_text(micros: int) -> str:
 
 def loaded(step: Step) -> Held:
     """Returns what the snapshot of a `Load` holds."""
-    return snapshot.read(pathlib.Path(str(step.arguments[0])).read_bytes())[0]
+    path = str(step.arguments[0])
+    try:
+        return snapshot.read(kept_labs.bytes_of(path))[0]
+    except snapshot.NoSnapshot as fault:
+        raise NoRun(f"{path}, for {step.file}:{step.number}: no snapshot of lab: {fault}") from fault
 
 
 def length_of(step: Step, time: int, until: int) -> int:
@@ -198,10 +208,10 @@ def fault_of(script: str, status: int, steps: List[Step], last: List[bytes]) -> 
         hint = ": stop before that with --at TIME" if status == 1 else missing(script)
         return f"lab ended with {status}{hint}"
     lines = [step for step in steps for _ in step.text.splitlines()]
-    at, cause = int(refused[2]), refused[3].decode()
+    at, cause = int(refused[2]), refused[3].decode(errors="replace")
     if refused[1].endswith(b"/copy.resc") and at <= len(lines):
         return f"lab refused {lines[at - 1].file}:{lines[at - 1].number}: {cause}"
-    return f"lab refused {refused[1].decode()}:{at}: {cause}"
+    return f"lab refused {refused[1].decode(errors='replace')}:{at}: {cause}"
 
 
 def laboratory_at(script: str, at: Optional[int], until: int, room: rooms.Room) -> Tuple[Held, List[Step]]:
@@ -242,6 +252,5 @@ def images_of(steps: List[Step]) -> Dict[str, List[str]]:
 
 def board_of(word: str, names: List[str]) -> str:
     """Returns the name of the board that `mach set` selects: the one of that name, or else of that number."""
-    if word not in names and word.isdigit() and int(word) < len(names):
-        return names[int(word)]
-    return word
+    number = resc.number_of(word)
+    return names[number] if word not in names and number is not None and number < len(names) else word

@@ -1,7 +1,17 @@
-"""Reads snapshots. docs/SNAPSHOTS.md has the format; whether a laboratory can be so, which `lab` asks, is not asked."""
-from typing import Any, Callable, Dict, List, Tuple
+"""Reads snapshots. docs/SNAPSHOTS.md has the format. Whether a laboratory can be so is not asked here, but of `lab`:
+kept_labs.py does. Of some lists it is known how many items they may have, so that a wrong count is told at once.
+"""
+from typing import Any, Callable, Dict, List, Optional, Tuple
 
 PAGE = 4096
+# How many boards there are at most, and what a board has at most (docs/PLATFORMS.md). Its devices are UARTs, CAN
+# controllers and a finisher; at addresses stand these, its memories, a timer and an interrupt controller.
+BOARDS = 16
+PROCESSORS, MEMORIES, UARTS, CANS = 4, 8, 4, 4
+DEVICES = UARTS + CANS + 1
+REGIONS = MEMORIES + DEVICES + 2
+# The bytes of an open line, by docs/SNAPSHOTS.md.
+LINE = 127
 
 Read = Callable[[str], Any]
 Fields = List[Tuple[str, Read]]
@@ -80,13 +90,21 @@ class Reader:
     def struct(self, *fields: Tuple[str, Read]) -> Read:
         return lambda path: self.fields(path, list(fields))
 
-    def count(self, path: str) -> int:
-        self.counts.append(self.at)
-        return int(self.number(8)(f"{path}.count"))
+    def count(self, path: str, most: Optional[int]) -> int:
+        at = self.at
+        self.counts.append(at)
+        count = int(self.number(8)(f"{path}.count"))
+        if most is not None and count > most:
+            raise NoSnapshot(f"{path}: there can be {most}, and not {count} at {at}")
+        if count > len(self.data) - self.at:
+            raise NoSnapshot(f"{path}: more items than bytes, {count} at {at}")
+        return count
 
-    def list_of(self, read: Read) -> Read:
+    def list_of(self, read: Read, most: Optional[int] = None) -> Read:
+        """A list of at most so many items, each of which has a byte at least."""
+
         def read_all(path: str) -> List[Any]:
-            count = self.count(path)
+            count = self.count(path, most)
             values = []
             for n in range(count):
                 values.append(read(f"{path}[{n}]"))
@@ -137,15 +155,15 @@ def plan(r: Reader) -> Read:
     ends = r.variant(("processor", [("number", u8), ("pin", u8)]), ("source", [("number", u8)]))
     named = r.struct(("name", r.text), ("what", r.variant(("processor", []), ("part", [("", part)]))))
     return r.struct(
-        ("names", r.list_of(named)),
-        ("regions", r.list_of(r.struct(("base", address), ("size", u32), ("what", part), ("step", u8)))),
-        ("memories", r.list_of(u32)),
-        ("kinds", r.list_of(r.variant(("uart", []), ("can", []), ("finisher", [])))),
+        ("names", r.list_of(named, PROCESSORS + REGIONS)),
+        ("regions", r.list_of(r.struct(("base", address), ("size", u32), ("what", part), ("step", u8)), REGIONS)),
+        ("memories", r.list_of(u32, MEMORIES)),
+        ("kinds", r.list_of(r.variant(("uart", []), ("can", []), ("finisher", [])), DEVICES)),
         ("frequency", r.optional(u32)),
         ("controller", r.optional(r.struct(("sources", u8), ("contexts", u8)))),
         ("wires", r.list_of(r.struct(("from", begins), ("to", ends)))),
         ("speed", u32),
-        ("processors", r.list_of(r.text)),
+        ("processors", r.list_of(r.text, PROCESSORS)),
         ("letters", letters(r)),
     )
 
@@ -204,13 +222,13 @@ def state(r: Reader) -> Read:
     u64 = r.number(8)
     return r.struct(
         ("speed", r.number(4)),
-        ("processors", r.list_of(processor(r))),
+        ("processors", r.list_of(processor(r), PROCESSORS)),
         ("next", r.number(1)),
-        ("reservations", r.list_of(r.optional(r.bits(4)))),
+        ("reservations", r.list_of(r.optional(r.bits(4)), PROCESSORS)),
         ("timer", r.optional(r.struct(("msip", r.flag), ("mtimecmp", u64), ("offset", u64)))),
         ("controller", r.optional(controller(r))),
-        ("devices", r.list_of(r.variant(("uart", uart(r)), ("can", can(r)), ("finisher", [])))),
-        ("shown", r.list_of(r.flag)),
+        ("devices", r.list_of(r.variant(("uart", uart(r)), ("can", can(r)), ("finisher", [])), DEVICES)),
+        ("shown", r.list_of(r.flag, DEVICES)),
         ("posts", u64),
         ("entries", u64),
     )
@@ -226,17 +244,17 @@ def post(r: Reader) -> Read:
 def laboratory(r: Reader) -> Read:
     """Reads a whole laboratory."""
     u64 = r.number(8)
-    machine = r.struct(("plan", plan(r)), ("state", state(r)), ("memories", r.list_of(r.list_of(r.page))))
+    machine = r.struct(("plan", plan(r)), ("state", state(r)), ("memories", r.list_of(r.list_of(r.page), MEMORIES)))
     kind = r.variant(("uart", []), ("can", []))
     hub = r.struct(("kind", kind), ("name", r.text), ("delay", r.number(4)), ("members", r.list_of(member(r))))
-    line = r.struct(("of", member(r)), ("at", u64), ("bytes", r.list_of(r.number(1))))
+    line = r.struct(("of", member(r)), ("at", u64), ("bytes", r.list_of(r.number(1), LINE)))
     return r.struct(
         ("time", u64),
         ("quantum", u64),
-        ("boards", r.list_of(r.struct(("name", r.text), ("machine", r.optional(machine))))),
+        ("boards", r.list_of(r.struct(("name", r.text), ("machine", r.optional(machine))), BOARDS)),
         ("hubs", r.list_of(hub)),
         ("under_way", r.list_of(post(r))),
-        ("open_lines", r.list_of(line)),
+        ("open_lines", r.list_of(line, BOARDS * UARTS)),
     )
 
 

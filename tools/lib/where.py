@@ -266,10 +266,12 @@ def board_report(held: Dict[str, Any], time: int, paths: List[str]) -> BoardRepo
     if not paths:
         warnings.append(f"no ELF file is known of it: say {held['name']}=FILE")
     board = Board(machine, elves)
+    harts = [board.hart(hart) for hart in machine.harts]
+    warnings += [elf.fault for elf in elves if elf.fault]
     return BoardReport(
         name=held["name"],
         images=paths,
-        harts=[board.hart(hart) for hart in machine.harts],
+        harts=harts,
         devices=[waiting(device) for device in machine.devices if device.kind != "finisher"],
         claimed=board.claims(),
         warnings=warnings + board.memory_warnings(),

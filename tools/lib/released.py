@@ -1,0 +1,36 @@
+"""The file NAME.sources beside a built program. Its first line is the sum of the sources that the program was built
+from. That of bin/lab has a second line, the sum (sha256) of the program itself, which shows a damaged one."""
+import hashlib
+import pathlib
+from dataclasses import dataclass
+from typing import Optional
+
+
+@dataclass(frozen=True)
+class Sums:
+    """What is kept of a program; nothing of what is not."""
+
+    sources: str = ""
+    program: str = ""
+
+    @property
+    def text(self) -> str:
+        return f"{self.sources}\n{self.program}\n"
+
+
+def sum_of(program: bytes) -> str:
+    return hashlib.sha256(program).hexdigest()
+
+
+def sums_kept_with(program: pathlib.Path) -> Sums:
+    """Returns what the file beside a program says."""
+    kept = program.with_name(f"{program.name}.sources")
+    return Sums(*kept.read_text(encoding="ascii").split()[:2]) if kept.is_file() else Sums()
+
+
+def fault_of(program: pathlib.Path) -> Optional[str]:
+    """Returns what is wrong with a program that has to have the sum that is kept with it, or None."""
+    wanted, found = sums_kept_with(program).program, sum_of(program.read_bytes())
+    if not wanted:
+        return f"{program}.sources has no second line, the sum of the program"
+    return None if found == wanted else f"{program} is damaged: its sum is {found}, and not {wanted}"
