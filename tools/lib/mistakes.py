@@ -105,8 +105,8 @@ def name(sight: Sight) -> List[str]:
         hub, hubs = hub_of(sight.words), list(sight.scene.hubs)
         is_lost = hub is not None and hub not in hubs
         return [f"no hub is `{hub}`; there are: {listed(hubs) or 'none'}"] if is_lost else []
-    held = listed(part.name for part in parts if part.kind in kinds) or "none of the kind"
-    return [f"the board `{board.name}` has {held}, and no `{asked}`", *owners(sight, asked)]
+    held = [f"`{part.name}`" for part in parts if part.kind in kinds] or ["no UART and no CAN controller"]
+    return [f"the board `{board.name}` has {', '.join(held)}, and no `{asked}`", *owners(sight, asked)]
 
 
 def owners(sight: Sight, asked: str) -> List[str]:
@@ -297,9 +297,10 @@ def seen_once(program: str, refused: Refused, scene: Scene) -> List[str]:
     return look(Sight(program, refused, scene)) if look else []
 
 
-def seen(program: str, refused: Refused) -> List[str]:
-    """What can be seen of a refused line: of the first time that it is taken of which anything can be."""
+def seen(program: str, refused: Refused) -> Tuple[reads.Chain, List[str]]:
+    """What can be seen of a refused line, of the first time that it is taken of which anything can be, and the lines
+    that lead to it then."""
     if refused.code in OF_LINES:
-        return OF_LINES[refused.code](refused)
-    found = (seen_once(program, refused, scene) for scene in refused.scenes)
-    return next((told for told in found if told), [])
+        return refused.chain, OF_LINES[refused.code](refused)
+    found = ((scene.chain, seen_once(program, refused, scene)) for scene in refused.scenes)
+    return next(((chain, told) for chain, told in found if told), (refused.chain, []))

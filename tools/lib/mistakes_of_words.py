@@ -34,31 +34,33 @@ def listed(names: Iterable[str]) -> str:
 # ---- no command (S1)
 
 
-def openings() -> List[str]:
-    """How commands begin, but for those that begin with the name of a processor."""
-    return [" ".join(row.opening) for row in resc.ROWS if row.opening[0] != "*"] + ["macro"]
+def openings(count: int) -> List[str]:
+    """How commands begin by so many words, but for those that begin with the name of a processor."""
+    rows = [row.opening for row in resc.ROWS if row.opening[0] != "*"] + [("macro",)]
+    return [" ".join(opening) for opening in rows if len(opening) == count]
 
 
 def of_processors() -> List[str]:
     return [row.opening[1] for row in resc.ROWS if row.opening[0] == "*"]
 
 
-def without_front(words: Sequence[str]) -> Optional[str]:
-    """The command whose second word stands alone here, as `LoadELF`."""
-    return next((opening for opening in openings() if opening.split()[1:] == list(words[:1])), None)
+def without_blank(word: str) -> Optional[str]:
+    """The command whose second word stands alone, as `LoadELF`, or behind a point, as `sysbus.LoadELF`."""
+    own = word.lower().split(".")[-2:]
+    pairs = [opening for opening in openings(2) if opening != "using sysbus"]
+    return next((opening for opening in pairs if opening.lower().split()[-len(own) :] == own), None)
 
 
 def near_command(words: Sequence[str]) -> Optional[List[str]]:
     """The words that are nearly a command's, and the command."""
-    two, one = " ".join(words[:2]), words[0]
-    opening = near(two, openings()) if len(words) > 1 else None
-    if opening:
-        return [two, opening]
-    second = near(words[1], of_processors()) if len(words) > 1 else None
-    if second:
-        return [words[1], second]
-    opening = near(one, openings()) or without_front(words)
-    return [one, opening] if opening else None
+    two = " ".join(words[:2]) if len(words) > 1 else ""
+    pairs = (
+        (words[0], without_blank(words[0])),
+        (two, near(two, openings(2))),
+        (words[0], near(words[0], openings(1))),
+        ("".join(words[1:2]), near("".join(words[1:2]), of_processors())),
+    )
+    return next(([own, other] for own, other in pairs if other), None)
 
 
 def unknown(scene: Scene) -> List[str]:
@@ -88,7 +90,12 @@ def form_of(words: Sequence[str]) -> Optional[str]:
 def fixed_of(form: str) -> List[str]:
     """The words of a form before the first that is to be replaced."""
     words = form.split()
-    return list(itertools.takewhile(lambda word: word in ("CPU", "PC") or not (word[0] in "[@$" or word.isupper()), words))
+    return list(itertools.takewhile(is_fixed, words))
+
+
+def is_fixed(word: str) -> bool:
+    """Whether a word of a form is no place for another one; the name of a processor counts as such."""
+    return word in ("CPU", "PC") or not (word[0] in "[@$" or word.isupper())
 
 
 def path_fault(word: str) -> List[str]:
@@ -164,7 +171,7 @@ def of_assignment(words: Sequence[str]) -> List[str]:
     """What is wrong with a line that sets a variable."""
     if len(words) != 3:
         return ["one word stands behind the sign: a text with blanks in quotes, and nothing after it"]
-    return []
+    return path_fault(words[2]) if words[2].startswith(("@", '"@')) else []
 
 
 def arguments(scene: Scene) -> List[str]:

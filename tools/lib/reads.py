@@ -25,6 +25,8 @@ FILE_LIMIT = 16 * 2**20
 SNAPSHOT_LIMIT = 64 * 2**20
 TIME_LIMIT = 10**10
 DEFAULT_UNTIL = 10**6
+# How many scenes of a line are kept: the first ones, and always the last.
+SCENE_LIMIT = 100
 COMMAND_LIMIT = 100_000
 DEPTH_LIMIT = 8
 PLATFORM_LIMIT = 64
@@ -121,7 +123,7 @@ class Reading:
     """What a script reads. `saves` has the files of `Save`, each with whether its folder is there. `runs` counts the
     commands that run the boards, `starts` those of them that are `start`, and `time` is how long all do in
     microseconds, where no finisher ends one. `past_limit` is the first run that would end too late then, and after how
-    many commands. `scenes` has one each time that the watched line is taken."""
+    many commands. `scenes` has those of the watched line."""
 
     files: List[FileRead] = field(default_factory=list)
     saves: List[FileRead] = field(default_factory=list)
@@ -256,7 +258,7 @@ class Walk:
         self.here = Step(f"{file}:{item.line.number}", item.line.text.strip(" \t"))
         self.asking = self.chain + (self.here,)
         if self.here.place == self.watched:
-            self.reading.scenes.append(self.scene(item.line.text))
+            self.watch(self.scene(item.line.text))
         if isinstance(item, resc.Unclosed):
             raise self.refuse("S17 unclosed")
         if self.taken == COMMAND_LIMIT:
@@ -268,6 +270,12 @@ class Walk:
             self.assign(item)
         else:
             self.command(item)
+
+    def watch(self, scene: Scene) -> None:
+        scenes = self.reading.scenes
+        if len(scenes) == SCENE_LIMIT:
+            scenes.pop()
+        scenes.append(scene)
 
     def scene(self, text: str) -> Scene:
         """What stands before a line is taken."""

@@ -17,8 +17,8 @@ REFUSED = re.compile(r"error: (.*):(\d+): (\S+ .*)")
 
 @dataclass(frozen=True)
 class Refused:
-    """A line by its place FILE:LINE, its text and its cause as lab prints it, the lines that lead to it, and a scene for
-    each time that it was taken. The place is empty where it is not known."""
+    """A line by its place FILE:LINE, its text and its cause as lab prints it, the lines that lead to it, and the scenes
+    at one of which it was refused. The place is empty where it is not known."""
 
     place: str
     text: str
@@ -74,7 +74,10 @@ def steps_to(told: Told, reading: reads.Reading) -> reads.Chain:
 
 
 def of_check(told: Told, reading: reads.Reading) -> Refused:
-    return Refused(told.place, text_at(told), told.cause, steps_to(told, reading), reading.scenes)
+    """The refused line. Where the reading has ended there too it was the last time that the line was taken."""
+    is_last = reading.refusal is not None and reading.refusal.place == told.place
+    scenes = reading.scenes[-1:] if is_last else reading.scenes
+    return Refused(told.place, text_at(told), told.cause, steps_to(told, reading), scenes)
 
 
 def is_taken_first(told: Told, reading: reads.Reading) -> bool:
@@ -83,9 +86,12 @@ def is_taken_first(told: Told, reading: reads.Reading) -> bool:
     is_of_both = refusal is not None and refusal.place == told.place
     if limit is not None:
         return bool(scenes) and scenes[-1 if is_of_both else 0].taken <= limit[1]
+    if refusal is None or refusal.cause != "S21 occupied":
+        return True
+    if is_of_both:
+        return told.cause == refusal.cause
     is_of_platform = told.cause.startswith("P") and any(read.path == told.file for read in reading.files)
-    is_by_time = refusal is not None and refusal.cause == "S21 occupied"
-    return is_of_both or bool(scenes) or is_of_platform or not is_by_time
+    return bool(scenes) or is_of_platform
 
 
 def of_line(refusal: reads.Refusal) -> Refused:

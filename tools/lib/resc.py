@@ -335,7 +335,7 @@ def row_of(words: Sequence[str]) -> Optional[Row]:
 
 
 def sides_of(text: str) -> List[str]:
-    """The words of a line, of which one that sets a variable has its sign apart: `$name`, `=` or `?=`, and the value."""
+    """The words of a line. In one that sets a variable the sign is a word: `$name`, `=` or `?=`, and the value."""
     sides = left_of(text)
     left = words_of(sides[0]) if sides else []
     if sides is None or len(left) != 1 or variable_of(left[0]) is None:
