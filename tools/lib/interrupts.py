@@ -64,7 +64,8 @@ class Controller:
 
     def devices_of(self, number: int) -> List[Device]:
         names = self.machine.owners(number)
-        return [device for device in self.machine.devices if device.name in names]
+        linked = [device for device in self.machine.devices if device.kind in ("uart", "can")]
+        return [device for device in linked if device.name in names]
 
     def source(self, number: int) -> Source:
         return Source(

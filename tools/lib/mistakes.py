@@ -192,8 +192,9 @@ def address(sight: Sight) -> List[str]:
     number = resc.number_of(words[2])
     if number is None:
         return []
-    if number % 4:
-        return [f"0x{number:08x} is no multiple of 4: 0x{number & ~3:08x} is the one before it"]
+    step = 2 if words[1] == "PC" and sight.scene.board and sight.scene.board.has_compressed else 4
+    if number % step:
+        return [f"0x{number:08x} is no multiple of {step}: 0x{number - number % step:08x} is the one before it"]
     fault = range_fault(number, 4, parts) if words[0] == "sysbus" else None
     return [fault] if fault else []
 

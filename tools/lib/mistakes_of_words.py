@@ -167,6 +167,15 @@ def swapped(words: Sequence[str], scene: Scene) -> List[str]:
     return [f"the device stands first, and then the hub: `connector Connect {words[3]} {words[2]}`"]
 
 
+def too_fast(words: Sequence[str], scene: Scene) -> List[str]:
+    """A speed that is too much for all processors of the board together."""
+    count = scene.board.processors if scene.board else 0
+    speed = resc.number_of(words[2]) if len(words) == 3 and words[1] == "PerformanceInMips" else None
+    if not speed or speed > 1000 or speed * count <= 1000:
+        return []
+    return [f"{count} processors of {speed} do {count * speed} instructions in a microsecond, and 1000 are the most"]
+
+
 def of_assignment(words: Sequence[str]) -> List[str]:
     """What is wrong with a line that sets a variable."""
     if len(words) != 3:
@@ -176,7 +185,7 @@ def of_assignment(words: Sequence[str]) -> List[str]:
 
 def arguments(scene: Scene) -> List[str]:
     words = scene.words
-    told = quote_faults(words) or swapped(words, scene)
+    told = quote_faults(words) or swapped(words, scene) or too_fast(words, scene)
     if told:
         return told
     if len(words) > 1 and words[1] in ("=", "?="):

@@ -94,6 +94,13 @@ class Board:
     ran_with: Optional[FileRead] = None
     plan: Optional[Dict[str, Any]] = None
 
+    @property
+    def has_compressed(self) -> bool:
+        """Whether its processors take compressed instructions."""
+        if self.plan is not None:
+            return bool(self.plan["letters"]["c"])
+        return "c" in self.cpu_type.partition("_")[0][4:]
+
     def run(self) -> None:
         if self.files and self.files[-1].is_image and not self.has_pc:
             self.ran_with = self.files[-1]

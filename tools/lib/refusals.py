@@ -116,12 +116,13 @@ def by_run_alone(program: str, reading: reads.Reading, is_check_refused: bool) -
     return Refused(place, text, "S19 size", asked[:-1], [])
 
 
-def found(program: str, script: str, until: int) -> Optional[Refused]:
-    """The line at which a run of the script is refused, where `start` runs to a lab time in microseconds."""
+def found(program: str, script: str, until: Optional[int]) -> Optional[Refused]:
+    """The line at which a run of the script is refused, where `start` runs to a lab time in microseconds; without such
+    a time the one at which a check is."""
     if not os.path.isfile(script):
         return None
     told = told_by_check(program, script)
-    reading = reads.follow(script, HERE, until, told.place if told else "")
-    if told and is_taken_first(told, reading):
+    reading = reads.follow(script, HERE, until or 0, told.place if told else "")
+    if told and (until is None or is_taken_first(told, reading)):
         return of_check(told, reading)
     return by_run_alone(program, reading, told is not None)
