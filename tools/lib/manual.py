@@ -40,6 +40,12 @@ class NoTable(Exception):
     """A document without a table that the page is made from: its heading."""
 
 
+def cells_of(line: str) -> List[str]:
+    """Returns the cells of a row of a table. A bar within a cell has a backslash before it."""
+    cells = re.split(r"(?<!\\)\|", line.strip().strip("|"))
+    return [cell.strip().replace("\\|", "|") for cell in cells]
+
+
 def rows_after(document: str, heading: str) -> List[List[str]]:
     """Returns the cells of the rows of the table with this heading line."""
     lines = iter(document.split("\n"))
@@ -50,7 +56,7 @@ def rows_after(document: str, heading: str) -> List[List[str]]:
     for line in lines:
         if not line.startswith("| "):
             break
-        rows.append([cell.strip() for cell in line.strip("|").split("|")])
+        rows.append(cells_of(line))
     return rows
 
 

@@ -13,8 +13,8 @@ such a line lab reads no more, and the list goes on. Of S20 the form of the snap
 """
 import os
 import pathlib
-from dataclasses import dataclass, field
-from typing import Any, Callable, Dict, List, Optional, Sequence, Set, Tuple, Union
+from dataclasses import dataclass, field, replace
+from typing import Any, Callable, Dict, List, Optional, Sequence, Tuple, Union
 
 import repl
 import resc
@@ -24,6 +24,9 @@ from resc import Line, Refused
 FILE_LIMIT = 16 * 2**20
 SNAPSHOT_LIMIT = 64 * 2**20
 TIME_LIMIT = 10**10
+DEFAULT_UNTIL = 10**6
+# How many scenes of a line are kept: the first ones, and always the last.
+SCENE_LIMIT = 100
 COMMAND_LIMIT = 100_000
 DEPTH_LIMIT = 8
 PLATFORM_LIMIT = 64
@@ -79,8 +82,8 @@ class Refusal:
 @dataclass
 class Board:
     """A board, and what the script has done with it. `cpu_type` is what its platform files say last, and `processors`
-    how many they have, which is not known of a board of a snapshot. `ran_with` is the last image that it had when it
-    was run before any line had set a pc."""
+    how many they have, which is not known of a board of a snapshot; `plan` is what the snapshot says of it. `ran_with`
+    is the last image that it had when it was run before any line had set a pc."""
 
     name: str
     has_platform: bool = False
@@ -89,24 +92,55 @@ class Board:
     files: List[FileRead] = field(default_factory=list)
     has_pc: bool = False
     ran_with: Optional[FileRead] = None
+    plan: Optional[Dict[str, Any]] = None
+
+    @property
+    def has_compressed(self) -> bool:
+        """Whether its processors take compressed instructions."""
+        if self.plan is not None:
+            return bool(self.plan["letters"]["c"])
+        return "c" in self.cpu_type.partition("_")[0][4:]
 
     def run(self) -> None:
         if self.files and self.files[-1].is_image and not self.has_pc:
             self.ran_with = self.files[-1]
 
 
+@dataclass(frozen=True)
+class Scene:
+    """What stood as a watched line was taken: the lines that lead to it, its words with their variables replaced as far
+    as they are set, the selected board, all boards, the hubs by name with their kinds, the hub and the line by which a
+    device of a board was joined, the line that has made each name, the variables, the macros, and how many commands
+    were taken before."""
+
+    chain: Chain
+    words: List[str]
+    board: Optional[Board]
+    boards: List[Board]
+    hubs: Dict[str, str]
+    joined: Dict[Tuple[str, str], Tuple[str, str]]
+    names: Dict[str, str]
+    variables: List[str]
+    macros: List[str]
+    taken: int
+
+
 @dataclass
 class Reading:
     """What a script reads. `saves` has the files of `Save`, each with whether its folder is there. `runs` counts the
-    commands that run the boards, and `time` is how long they do in microseconds, where no finisher ends one and `start`
-    runs to a second."""
+    commands that run the boards, `starts` those of them that are `start`, and `time` is how long all do in
+    microseconds, where no finisher ends one. `past_limit` is the first run that would end too late then, and after how
+    many commands. `scenes` has those of the watched line."""
 
     files: List[FileRead] = field(default_factory=list)
     saves: List[FileRead] = field(default_factory=list)
     boards: List[Board] = field(default_factory=list)
     runs: int = 0
+    starts: int = 0
     time: int = 0
     refusal: Optional[Refusal] = None
+    past_limit: Optional[Tuple[Refusal, int]] = None
+    scenes: List[Scene] = field(default_factory=list)
 
 
 @dataclass(frozen=True)
@@ -155,15 +189,19 @@ def bad_line(content: bytes) -> int:
 class Walk:
     """Takes the commands of a script one after another."""
 
-    def __init__(self, folder: pathlib.Path) -> None:
+    def __init__(self, folder: pathlib.Path, until: int, watched: str) -> None:
         self.folder = folder
+        self.until = until
+        self.watched = watched
         self.reading = Reading()
         self.variables: Dict[str, Value] = {}
         self.macros: Dict[str, Macro] = {}
         self.taken = 0
         self.depth = 0
-        self.names: Set[str] = set()
-        self.hubs = 0
+        # the place of the line that has made each board and each hub, and the kinds of the hubs
+        self.names: Dict[str, str] = {}
+        self.hubs: Dict[str, str] = {}
+        self.joined: Dict[Tuple[str, str], Tuple[str, str]] = {}
         self.selected: Optional[Board] = None
         # what the lines of the open bodies have in front of their own place
         self.chain: Chain = ()
@@ -226,6 +264,8 @@ class Walk:
     def take(self, file: str, item: resc.Item) -> None:
         self.here = Step(f"{file}:{item.line.number}", item.line.text.strip(" \t"))
         self.asking = self.chain + (self.here,)
+        if self.here.place == self.watched:
+            self.watch(self.scene(item.line.text))
         if isinstance(item, resc.Unclosed):
             raise self.refuse("S17 unclosed")
         if self.taken == COMMAND_LIMIT:
@@ -237,6 +277,30 @@ class Walk:
             self.assign(item)
         else:
             self.command(item)
+
+    def watch(self, scene: Scene) -> None:
+        scenes = self.reading.scenes
+        if len(scenes) == SCENE_LIMIT:
+            scenes.pop()
+        scenes.append(scene)
+
+    def scene(self, text: str) -> Scene:
+        """What stands before a line is taken."""
+        words = resc.sides_of(text)
+        own = 2 if resc.names_macro(words) else 0
+        values = {f"${name}": value.word for name, value in self.variables.items()}
+        return Scene(
+            self.chain,
+            words[:own] + [values.get(word, word) for word in words[own:]],
+            replace(self.selected, files=list(self.selected.files)) if self.selected else None,
+            [replace(board) for board in self.reading.boards],
+            dict(self.hubs),
+            dict(self.joined),
+            dict(self.names),
+            list(self.variables),
+            list(self.macros),
+            self.taken,
+        )
 
     def assign(self, item: resc.Assign) -> None:
         value = Value(item.value, (self.here,))
@@ -294,7 +358,7 @@ class Walk:
     def take_name(self, name: str) -> None:
         if name in self.names:
             raise self.refuse("S6 taken")
-        self.names.add(name)
+        self.names[name] = self.here.place
 
     def create(self, _: str, values: List[Any]) -> None:
         name = values[0] if values else f"machine-{len(self.reading.boards)}"
@@ -315,9 +379,13 @@ class Walk:
             raise self.refuse("S5 board")
         self.selected = named[0]
 
-    def hub(self, _: str, values: List[Any]) -> None:
+    def hub(self, command: str, values: List[Any]) -> None:
         self.take_name(values[0])
-        self.hubs += 1
+        self.hubs[values[0]] = "uart" if command == "emulation CreateUARTHub" else "can"
+
+    def connect(self, _: str, values: List[Any]) -> None:
+        board = self.equipped()
+        self.joined.setdefault((board.name, resc.entry_of(values[0])), (values[1], self.here.place))
 
     def platform(self, _: str, values: List[Any]) -> None:
         board = self.board()
@@ -357,10 +425,13 @@ class Walk:
 
     # ---- the whole laboratory
 
-    def run(self, _: str, values: List[Any]) -> None:
+    def run(self, command: str, values: List[Any]) -> None:
         if not all(board.has_platform for board in self.reading.boards):
             raise self.refuse("S15 platform")
-        until = self.reading.time + values[0] if values else max(self.reading.time, 10**6)
+        self.reading.starts += command == "start"
+        until = self.reading.time + values[0] if values else max(self.reading.time, self.until)
+        if until > TIME_LIMIT and self.reading.past_limit is None:
+            self.reading.past_limit = self.refuse("S14 lab time").refusal, self.taken - 1
         if until > self.reading.time:
             self.reading.runs += 1
             self.reading.time = until
@@ -387,11 +458,15 @@ class Walk:
 
     def resume(self, held: Dict[str, Any]) -> None:
         """Goes on with what a snapshot holds."""
-        self.reading.boards = [Board(board["name"], True, has_pc=True) for board in held["boards"]]
-        self.names = {part["name"] for part in held["boards"] + held["hubs"]}
-        self.hubs = len(held["hubs"])
+        self.reading.boards = [self.resumed(board) for board in held["boards"]]
+        self.names = {part["name"]: self.here.place for part in held["boards"] + held["hubs"]}
+        self.hubs = {hub["name"]: hub["kind"][0] for hub in held["hubs"]}
         self.reading.time = held["time"]
         self.selected = None
+
+    def resumed(self, held: Dict[str, Any]) -> Board:
+        machine = held["machine"][1].get("")
+        return Board(held["name"], True, has_pc=True, plan=machine["plan"] if machine else None)
 
     def include(self, _: str, values: List[Any]) -> None:
         if self.depth == DEPTH_LIMIT:
@@ -468,13 +543,16 @@ DOES: Dict[str, Callable[[Walk, str, List[Any]], None]] = {
     "emulation RunFor": Walk.run,
     "emulation CreateUARTHub": Walk.hub,
     "emulation CreateCANHub": Walk.hub,
-    "connector Connect": Walk.on_board,
+    "connector Connect": Walk.connect,
 }
 
 
-def follow(script: Union[str, pathlib.Path], folder: pathlib.Path) -> Reading:
-    """All that a script reads, where lab is started in this folder."""
-    walk = Walk(folder)
+def follow(
+    script: Union[str, pathlib.Path], folder: pathlib.Path, until: int = DEFAULT_UNTIL, watched: str = ""
+) -> Reading:
+    """All that a script reads, where lab is started in this folder, and `start` runs to a lab time in microseconds. The
+    reading has a scene for each time that the line at a place FILE:LINE is taken, if one is watched."""
+    walk = Walk(folder, until, watched)
     try:
         walk.script(os.fspath(script))
     except Ended:

@@ -52,6 +52,11 @@ def text_of(word: str) -> Optional[str]:
     return word[1:-1] if is_quoted else None
 
 
+def entry_of(text: str) -> str:
+    """The name of an entry, which may have `sysbus.` before it."""
+    return text[len("sysbus.") :] if text.startswith("sysbus.") else text
+
+
 def path_of(word: str) -> Optional[str]:
     """The path of a word `@path`."""
     path = word[1:]
@@ -332,6 +337,15 @@ def row_of(words: Sequence[str]) -> Optional[Row]:
     second = words[1] if len(words) > 1 else ""
     openings = (("*", second), (words[0],), (words[0], second))
     return next((BY_OPENING[opening] for opening in openings if opening in BY_OPENING), None)
+
+
+def sides_of(text: str) -> List[str]:
+    """The words of a line. In one that sets a variable the sign is a word: `$name`, `=` or `?=`, and the value."""
+    sides = left_of(text)
+    left = words_of(sides[0]) if sides else []
+    if sides is None or len(left) != 1 or variable_of(left[0]) is None:
+        return words_of(text)
+    return [left[0], "?=" if sides[1] else "=", *words_of(sides[2])]
 
 
 def sets_variable(words: Sequence[str]) -> bool:

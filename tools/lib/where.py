@@ -2,12 +2,15 @@
 from dataclasses import dataclass, field
 from typing import Any, Dict, List, Optional, Tuple
 
+import interrupts
+import stacks
+import traps
 from elf import Elf
 from elf_parts import Line, NoElf, Section
 from machine import ABI_NAMES, PINS, Device, Hart, Machine, machine_of
+from traps import INTERRUPT
 from unwind import SP, Code, Stack
 
-INTERRUPT = 1 << 31
 # How the plan of a board names the interrupt controller.
 CONTROLLER: Tuple[str, Dict[str, Any]] = ("part", {"": ("controller", {})})
 EXCEPTIONS = {
@@ -108,6 +111,7 @@ class BoardReport:
     harts: List[HartReport] = field(default_factory=list)
     devices: List[Waiting] = field(default_factory=list)
     claimed: List[Claim] = field(default_factory=list)
+    sources: List[interrupts.Source] = field(default_factory=list)
     warnings: List[str] = field(default_factory=list)
 
 
@@ -124,6 +128,8 @@ class Board:
 
     def __init__(self, machine: Machine, elves: List[Elf]) -> None:
         self.machine, self.memory, self.code = machine, machine.memory, Code(elves)
+        self.stacks = {hart.number: Stack(hart, self.memory, self.code) for hart in machine.harts}
+        self.frames = {number: stack.frames() for number, stack in self.stacks.items()}
 
     def place(self, address: int, inside: Optional[int] = None) -> Place:
         """Returns what is known of an address. The function and the lines are those of `inside` where that is given."""
@@ -139,8 +145,7 @@ class Board:
         return Place(address, name, offset, known, self.memory.is_there(inside))
 
     def hart(self, hart: Hart) -> HartReport:
-        state = hart.state
-        frames = Stack(hart, self.memory, self.code).frames()
+        state, frames = hart.state, self.frames[hart.number]
         enabled = [name for pin, name in PINS.items() if state["mie"] >> pin & 1]
         up = self.machine.pending(hart)
         return HartReport(
@@ -189,18 +194,19 @@ class Board:
         return []
 
     def trap_warnings(self, hart: Hart) -> List[str]:
-        state = hart.state
-        base = state["mtvec"] & ~3
-        is_exception = not state["mcause"] & INTERRUPT and (state["mcause"] or state["mtval"] or state["mepc"])
-        if is_exception and hart.pc == base == state["mepc"]:
-            return ["it traps at the first instruction of its handler, again and again: where it was before is lost"]
-        return []
+        loop = traps.loop_of(hart, self.stacks[hart.number], self.frames[hart.number])
+        return [traps.text_of(loop)] if loop else []
 
     def stack_warnings(self, hart: Hart) -> List[str]:
         value = hart.registers[SP]
         if hart.state["minstret"] == 0 or self.memory.is_stack(value):
             return []
         return [f"sp is 0x{value:08x}, and no memory is there"]
+
+    def shared_stacks(self) -> List[str]:
+        """Returns which processors have one stack."""
+        harts = [hart for hart in self.machine.harts if stacks.has_stack(hart, self.memory)]
+        return stacks.shared([stacks.extent_of(hart, self.frames[hart.number]) for hart in harts])
 
     def memory_warnings(self) -> List[str]:
         """Returns which sections that no program should change are otherwise in memory than in the ELF file."""
@@ -274,7 +280,8 @@ def board_report(held: Dict[str, Any], time: int, paths: List[str]) -> BoardRepo
         harts=harts,
         devices=[waiting(device) for device in machine.devices if device.kind != "finisher"],
         claimed=board.claims(),
-        warnings=warnings + board.memory_warnings(),
+        sources=interrupts.sources_of(machine),
+        warnings=warnings + board.shared_stacks() + board.memory_warnings(),
     )
 
 

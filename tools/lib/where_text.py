@@ -1,7 +1,8 @@
 """Prints what the module `where` says, for people."""
 from typing import Iterator, List
 
-from where import BoardReport, Claim, HartReport, Interrupts, Place, Report, StackFrame, Waiting
+from interrupts import Source
+from where import BoardReport, HartReport, Interrupts, Place, Report, StackFrame, Waiting
 
 REGISTERS_IN_A_LINE = 4
 MARKS = {"now": "", "calls": "", "trapped": ", where the trap came"}
@@ -74,9 +75,19 @@ def waiting_line(device: Waiting) -> str:
     return f"  {device.name}: " + "; ".join(told + ["some were lost"] * device.overrun)
 
 
-def claim_line(claim: Claim) -> str:
-    of = f", of {' and '.join(claim.devices)}," if claim.devices else ""
-    return f"  {claim.controller}: source {claim.source}{of} was claimed and is not completed"
+def source_lines(source: Source) -> Iterator[str]:
+    """Yields what the interrupt controller has to do with a source, and why no interrupt of it comes."""
+    of = f" of {' and '.join(source.devices)}" if source.devices else ""
+    states = [
+        f"line {'up' if source.is_up else 'down'}",
+        *["pending"] * source.is_pending,
+        *["claimed and not completed"] * source.is_claimed,
+        f"priority {source.priority}",
+        *[f"enabled in context {taker.context} (threshold {taker.threshold})" for taker in source.takers],
+        *["enabled in no context"] * (not source.takers),
+    ]
+    yield f"  {source.controller}: source {source.number}{of}: {', '.join(states)}"
+    yield f"    no interrupt comes: {source.why}" if source.why else "    an interrupt comes in the next slot"
 
 
 def board_lines(board: BoardReport) -> Iterator[str]:
@@ -87,8 +98,8 @@ def board_lines(board: BoardReport) -> Iterator[str]:
     for device in board.devices:
         if device.received or device.overrun:
             yield waiting_line(device)
-    for claim in board.claimed:
-        yield claim_line(claim)
+    for source in board.sources:
+        yield from source_lines(source)
     for warning in board.warnings:
         yield f"  warning: {warning}"
 
