@@ -19,7 +19,7 @@ _lab() {
     mapfile -t COMPREPLY < <(compgen -W "${offered[*]}" -- "$word")
   elif [ "${COMP_WORDS[1]}" != gen ] && [ "$before" != --until ]; then
     compopt -o filenames 2>/dev/null
-    mapfile -t COMPREPLY < <(compgen -d -- "$word" && compgen -f -X '!*.resc' -- "$word"; :)
+    mapfile -t COMPREPLY < <(compgen -d -- "$word"; compgen -f -X '!*.resc' -- "$word")
   fi
 }
 
