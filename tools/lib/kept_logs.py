@@ -5,6 +5,8 @@ import subprocess
 import tempfile
 from typing import List, Tuple
 
+import folded
+
 LINE = re.compile(r"\[\d+\.\d{6}\] ((?:pause )?([\w-]+/\w+): .*)")
 VERDICT = re.compile(r"\[\d+\.\d{6}\] pause [\w-]+/\w+: (pass|fail \d+)")
 
@@ -48,7 +50,7 @@ def differ_by_times(kept: str, printed: str) -> bool:
 
 
 def difference(kept_name: str, kept: str, printed_name: str, printed: str) -> str:
-    """The differences of two texts, as `diff -u` prints them; empty where there are none."""
+    """The differences of two texts, as `diff -u` prints them and with equal accesses folded, or nothing."""
     if kept == printed:
         return ""
     with tempfile.TemporaryDirectory(prefix="lab-diff-") as room:
@@ -56,7 +58,8 @@ def difference(kept_name: str, kept: str, printed_name: str, printed: str) -> st
         for file, text in zip(files, (kept, printed)):
             file.write_bytes(text.encode())
         words = ["diff", "-a", "-u", "--label", kept_name, "--label", printed_name, *map(str, files)]
-        return subprocess.run(words, stdout=subprocess.PIPE, check=False).stdout.decode("utf-8", "replace")
+        told = subprocess.run(words, stdout=subprocess.PIPE, check=False).stdout.decode("utf-8", "replace")
+    return "".join(f"{line}\n" for line in folded.difference(lines_of(told)))
 
 
 def last_lines(log: str, count: int = 20) -> str:
