@@ -64,8 +64,8 @@ def closed(row: Row[Item], latest: Dict[str, Row[Item]]) -> Row[Item]:
 
 
 class Hunks:
-    """Finds the accesses in the lines of a difference. Those of two hunks are never equal, since there are lines between
-    them that are not shown."""
+    """Finds the accesses in the lines of a difference. Those of two hunks never are equal: lines that are not shown
+    stand between them."""
 
     def __init__(self) -> None:
         self.count = 0
