@@ -21,10 +21,10 @@ table.sort(words)
 print(table.concat(words, " "))
 
 local fibonacci = coroutine.wrap(function()
-  local last, next = 0, 1
+  local last, following = 0, 1
   while true do
     coroutine.yield(last)
-    last, next = next, last + next
+    last, following = following, last + following
   end
 end)
 local number

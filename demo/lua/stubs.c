@@ -1,9 +1,10 @@
-/* What picolibc leaves to the board: its standard streams and the calls of a system, for a board with a UART, a finisher
- * and the bytes of one file in memory. There are no processes, no clock of the day and no other files, and a call for
- * one of these fails as POSIX says. The UART is polled: a program that does not read for a while loses what comes then.
+/* What picolibc leaves to the board: its standard streams and the calls of a system, for a board with a UART, a
+ * finisher and the bytes of one file in memory. There are no processes, no clock of the day and no other files, and a
+ * call for one of these fails as POSIX says. The UART is polled: a program that does not read for a while loses what
+ * comes then.
  *
- * Define FILE_NAME and FILE_AT, if the firmware reads a file: a script puts it there, with a byte 0 behind it, as memory
- * is at first. MIPS is the PerformanceInMips of the processor. */
+ * Define FILE_NAME and FILE_AT, if the firmware reads a file: a script puts it there, with a byte 0 behind it, as
+ * memory is at first. MIPS is the PerformanceInMips of the processor. */
 #include <errno.h>
 #include <fcntl.h>
 #include <signal.h>
