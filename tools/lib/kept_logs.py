@@ -9,6 +9,7 @@ import tempfile
 from collections import Counter, deque
 from typing import BinaryIO, Deque, Iterator, List, Optional, Tuple
 
+import folded
 import log_lines
 
 LINE = re.compile(rb"\[\d+\.\d{6}\] ((?:pause )?([\w-]+/\w+): .*)", re.DOTALL)
@@ -161,13 +162,14 @@ def difference(kept_name: str, kept: BinaryIO, printed_name: str, printed: Binar
 
 
 def printed_difference(kept_name: str, kept: bytes, printed_name: str, printed: bytes) -> str:
-    """What `diff -u` prints of two texts."""
+    """What `diff -u` prints of two texts, with equal accesses folded."""
     with tempfile.TemporaryDirectory(prefix="lab-diff-") as room:
         files = [pathlib.Path(room, name) for name in ("kept", "printed")]
         for file, text in zip(files, (kept, printed)):
             file.write_bytes(text)
         words = ["diff", "-a", "-u", "--label", kept_name, "--label", printed_name, *map(str, files)]
-        return text_of(subprocess.run(words, stdout=subprocess.PIPE, check=False).stdout)
+        told = text_of(subprocess.run(words, stdout=subprocess.PIPE, check=False).stdout)
+    return "".join(f"{line}\n" for line in folded.difference(lines_of(told)))
 
 
 def moved(told: str, count: int) -> str:

@@ -6,7 +6,9 @@ such a line, and it is taken for one of the script.
 """
 import re
 from dataclasses import dataclass, field, replace
-from typing import Dict, Iterable, List, Optional, Tuple
+from typing import Dict, Iterable, Iterator, List, Optional, Tuple
+
+import folded
 
 LINE = re.compile(r"\[(\d{1,5})\.(\d{6})\] (pause )?([A-Za-z0-9_-]+)/([A-Za-z][A-Za-z0-9_]*): (.*)")
 FRAME = re.compile(r"(tx|rx|lost) ([0-7][0-9a-f]{2}) (?:data ([0-8])(?: ((?:[0-9a-f]{2}){1,8}))?|remote ([0-8]))")
@@ -83,11 +85,10 @@ class Reader:
             self.log.lanes.append(lane)
         return lane
 
-    def take(self, number: int, text: str) -> None:
+    def take(self, number: int, text: str) -> Line:
         match = LINE.fullmatch(text)
         if not match:
-            self.put(number, self.lane("", "script", "script"), text)
-            return
+            return self.made(number, self.lane("", "script", "script"), text)
         seconds, micros, pause, board, device, said = match.groups()
         self.time = int(seconds) * 10**6 + int(micros)
         kind = "finisher" if pause else "bus" if device == "sysbus" else ""
@@ -95,36 +96,29 @@ class Reader:
         if not kind:
             is_frame = lane.kind in ("", "can") and frame_of(said) is not None
             lane.kind = "can" if is_frame else "uart"
-        self.put(number, lane, said)
+        return self.made(number, lane, said)
 
-    def put(self, number: int, lane: Lane, text: str) -> None:
-        self.log.lines.append(Line(number, self.time, self.time, lane, text))
+    def made(self, number: int, lane: Lane, text: str) -> Line:
+        return Line(number, self.time, self.time, lane, text)
 
 
-def read(name: str, text: Iterable[str]) -> Log:
-    """The log of these lines."""
+def read(name: str, text: Iterable[str], is_folded: bool = False) -> Log:
+    """The log of these lines, or the log with its equal accesses folded, which keeps none but the first of them."""
     reader = Reader(name)
-    for number, line in enumerate(text, 1):
-        reader.take(number, line.rstrip("\n"))
+    lines = (reader.take(number, line.rstrip("\n")) for number, line in enumerate(text, 1))
+    reader.log.lines = list(fold(lines) if is_folded else lines)
     return reader.log
 
 
-def folded(log: Log) -> List[Line]:
+def fold(lines: Iterable[Line]) -> Iterator[Line]:
     """The lines of a log, in order of their beginnings, where equal accesses of a board that follow each other are one,
     whatever its devices say between them."""
-    lines: List[Line] = []
-    last: Dict[str, Line] = {}
-    for line in log.lines:
-        before = last.get(line.lane.board)
-        if line.lane.kind != "bus":
-            lines.append(line)
-        elif before and before.text == line.text:
-            before.end = line.end
-            before.count += 1
-        else:
-            last[line.lane.board] = replace(line)
-            lines.append(last[line.lane.board])
-    return lines
+    for row in folded.rows(lines, access_of):
+        yield replace(row.first, end=row.last.end, count=row.count)
+
+
+def access_of(line: Line) -> Optional[folded.Access]:
+    return (line.lane.board, line.text) if line.lane.kind == "bus" else None
 
 
 def time_text(micros: int) -> str:

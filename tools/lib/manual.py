@@ -1,6 +1,9 @@
-"""The manual page lab(1), made from the tables of docs/SCRIPTS.md."""
+"""The manual pages: lab(1), made from the tables of docs/SCRIPTS.md, and one of each script of tools/, made from what
+it answers to --help. They know nothing besides."""
 import re
-from typing import List, Tuple
+from typing import List, Sequence, Tuple
+
+import heads
 
 HEAD = """.TH LAB 1 "" "lab VERSION" "User commands"
 .SH NAME
@@ -29,10 +32,8 @@ prints the path of the program itself.
 """
 TAIL = """.SH SEE ALSO
 The documents that come with it: FIRST_BOARD.md begins from nothing, SCRIPTS.md has the commands of scripts, the log and
-the refusals, PLATFORMS.md the boards, and TROUBLESHOOTING.md what to do where nothing is printed. Scripts beside the
-program answer \\-\\-help with what they do:
-.BR expect ,
-for one, uses a log as a test.
+the refusals, PLATFORMS.md the boards, and TROUBLESHOOTING.md what to do where nothing is printed. These scripts stand
+beside the program, and answer \\-\\-help with what they do:
 """
 
 
@@ -83,11 +84,34 @@ def exits_of(document: str) -> List[Tuple[str, str]]:
     return [(row[0], row[1]) for row in rows]
 
 
-def manual_page(document: str, version: str) -> str:
-    """Returns the page, from docs/SCRIPTS.md."""
+def block(lines: Sequence[str]) -> str:
+    """Returns a paragraph as it is: a table by its rows, and other indented lines below each other."""
+    rows = heads.table_of(list(lines))
+    if rows:
+        return "".join(f".TP\n.B {plain(what)}\n{formatted(said)}\n" for what, said in rows)
+    if lines[0].startswith(" "):
+        return ".PP\n.nf\n" + "".join(f"{plain(line)}\n" for line in lines) + ".fi\n"
+    return f".PP\n{formatted(' '.join(lines))}\n"
+
+
+def page_of_script(name: str, answer: str, version: str) -> str:
+    """Returns the page of a script, by its name and by what it answers to --help."""
+    head = heads.read(answer)
+    synopsis = "\n.br\n".join(f".B {plain(form.words)}" for form in head.forms)
+    forms = block([f"  {form.words}  {form.does}" for form in head.forms]) if head.forms[0].does else ""
+    return (
+        f'.TH {plain(name.upper())} 1 "" "lab {version}" "User commands"\n'
+        f".SH NAME\n{plain(name)} \\- {plain(head.summary[0].lower() + head.summary[1:])}\n"
+        f".SH SYNOPSIS\n{synopsis}\n.SH DESCRIPTION\n{forms}"
+        f"{''.join(block(it) for it in head.paragraphs)}.SH SEE ALSO\n.BR lab (1)\n"
+    )
+
+
+def manual_page(document: str, version: str, scripts: str) -> str:
+    """Returns the page of lab, from docs/SCRIPTS.md, which names the scripts beside it in these words."""
     words = words_of(document)
     synopsis = "\n.br\n".join(f".B lab {plain(form)}" for form, _ in words)
     commands = "".join(f".TP\n.B lab {plain(form)}\n{formatted(does)}.\n" for form, does in words)
     exits = "".join(f".TP\n.B {number}\nThe run {formatted(says)}.\n" for number, says in exits_of(document))
     head = HEAD.replace("VERSION", version).replace("SYNOPSIS\nSYNOPSIS", f"SYNOPSIS\n{synopsis}")
-    return head + commands + OPTIONS + exits + TAIL
+    return f"{head}{commands}{OPTIONS}{exits}{TAIL}{plain(scripts)}.\n"

@@ -8,13 +8,39 @@ import shutil
 import signal
 import subprocess
 import sys
-from typing import Callable, NoReturn, Optional
+from typing import Callable, Collection, NoReturn, Optional
 
 TOP = pathlib.Path(__file__).resolve().parent.parent.parent
 
 
+# A script of tools/ and ./lab as texts name them, but not as the ends of longer paths.
+NAMED = re.compile(r"(?<![\w./)}-])tools/([a-z]+)\b(?!\.)")
+LAB = re.compile(r"(?<![\w./])\./lab\b(?![\w./-])")
+
+
+def named_as_installed(text: str, scripts: Collection[str]) -> str:
+    """Returns a text in which these scripts and ./lab have the names that they have where a package is installed: lab
+    for ./lab, and lab-log for tools/log."""
+    text = NAMED.sub(lambda it: f"lab-{it[1]}" if it[1] in scripts else it[0], text)
+    return LAB.sub("lab", text)
+
+
+def is_called_as_installed() -> bool:
+    return os.path.basename(sys.argv[0]).startswith("lab-")
+
+
+def as_called(text: Optional[str]) -> str:
+    """Returns a text of the script that runs, in which commands have the names by which this one was called."""
+    if not is_called_as_installed():
+        return text or ""
+    return named_as_installed(text or "", {it.name for it in (TOP / "tools").iterdir() if it.is_file()})
+
+
 def name_of_script() -> str:
-    """Returns the name of the script that runs, as tools/log, or its path where it stands elsewhere."""
+    """Returns the name of the script that runs: tools/log, or lab-log where it was called so, or its path where it
+    stands elsewhere."""
+    if is_called_as_installed():
+        return os.path.basename(sys.argv[0])
     path = pathlib.Path(sys.argv[0]).resolve()
     return str(path.relative_to(TOP)) if TOP in path.parents else sys.argv[0]
 
@@ -116,4 +142,4 @@ def end_with(main: Callable[[], Optional[int]], failed: int = 1) -> NoReturn:
 def answer_help(head: Optional[str], failed: int = 1) -> None:
     """Where the one word is --help, prints the head of the script and ends it."""
     if sys.argv[1:] == ["--help"]:
-        end_with(lambda: print((head or "").strip()), failed)
+        end_with(lambda: print(as_called(head).strip()), failed)
