@@ -1,7 +1,7 @@
 //! One round: every board takes the slots that its grant pays, and then what they have sent is
 //! handed over as far as it is due.
-ghost use Rattle.std.specs.Prelude.{◌≡◌, ◌+◌, ◌*◌, ◌<◌, ◌≤◌, ◌++◌, map, filter, length, true, false, None, IfOk, OnOk};
-ghost use Rattle.std.specs.Prelude.{All, OnErr};
+ghost use Rattle.std.specs.Prelude.{◌≡◌, ◌+◌, ◌-◌, ◌*◌, ◌^◌, ◌<◌, ◌≤◌, ◌++◌, map, filter, length, true, false, None, IfOk, OnOk};
+ghost use Rattle.std.specs.Prelude.{All, OnErr, min};
 ghost use Rattle.std.specs.Option.{option_map};
 ghost use Rattle.std.specs.List.{flat_map};
 ghost use Rattle.lab_num.specs.Key.{KeysDiffer};
@@ -9,13 +9,14 @@ ghost use Rattle.lab_num.specs.Listing.{listing};
 ghost use Rattle.dev_core.specs.Post.{entry_key, post_key};
 ghost use Rattle.log_merge.specs.Merge.{all_entries};
 ghost use Rattle.lab_state.specs.Inner.End.{Played, in_round, played};
-ghost use Rattle.lab_state.specs.Inner.Lending.{is_awake};
 ghost use Rattle.lab_state.specs.Inner.Standing.{outlines, AreDevices, IsFromBoard};
 ghost use Rattle.lab_state.specs.Inner.Time.{numbers_of, AreStanding, IsTimed, part_of, used_up};
 ghost use Rattle.lab_state.specs.One.{first_without, HaveAllPlans};
 ghost use Rattle.lab_state.specs.Pending.{ArePending};
 ghost use Rattle.lab_state.specs.Round as round_spec;
 ghost use Rattle.lab_state.specs.Round.{stepped, posts_made, entries_made, slot_items};
+ghost use Rattle.lab_state.specs.Workers as workers_spec;
+ghost use Rattle.lab_state.specs.Workers.{is_awake, least_shared};
 
 use crate::boards::devices_laws;
 use crate::boundary::{hand_over_due, pause_of, push_pause};
@@ -165,8 +166,10 @@ fn count_awake<D: Device>(boards: &[NamedBoard<D>]) -> usize
     boards.iter().filter(|board| board.is_awake()).count()
 }
 
-/// How many slots the boards that are awake take in so many microseconds.
-pub(crate) fn awake_slots<D: Device>(boards: &[NamedBoard<D>], q: u64) -> u64 {
+/// How many slots the boards that are awake take in so many microseconds, or the greatest number where they are more.
+pub(crate) fn awake_slots<D: Device>(boards: &[NamedBoard<D>], q: u64) -> u64
+    ensures { result ≡ min (workers_spec.awake_slots boards.now q) (2 ^ 64 - 1) }
+{
     boards
         .iter()
         .filter(|board| board.is_awake())
@@ -188,6 +191,9 @@ fn sharers<D: Device + Send, G: Gate>(
     requires few { length boards.now ≤ 16 }
     ensures some { 1 ≤ result }
     ensures most { result ≤ workers }
+    ensures awake { 1 < result → result ≤ length (filter is_awake boards.now) }
+    ensures all { 2 ≤ length (filter is_awake boards.now) → least_shared team.now ≤ workers_spec.awake_slots boards.now q
+        → result ≡ min workers (length (filter is_awake boards.now)) }
     ensures boards { 1 < result → 1 ≤ length boards.now }
 {
     if workers == 1 {
