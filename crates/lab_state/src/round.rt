@@ -1,7 +1,7 @@
 //! One round: every board takes the slots that its grant pays, and then what they have sent is
 //! handed over as far as it is due.
-ghost use Rattle.std.specs.Prelude.{◌≡◌, ◌+◌, ◌-◌, ◌*◌, ◌^◌, ◌<◌, ◌≤◌, ◌++◌, map, filter, length, true, false, None, IfOk, OnOk};
-ghost use Rattle.std.specs.Prelude.{All, OnErr, min};
+ghost use Rattle.std.specs.Prelude.{◌≡◌, ◌+◌, ◌*◌, ◌<◌, ◌≤◌, ◌++◌, map, filter, length, true, false, None, IfOk, OnOk};
+ghost use Rattle.std.specs.Prelude.{All, OnErr};
 ghost use Rattle.std.specs.Option.{option_map};
 ghost use Rattle.std.specs.List.{flat_map};
 ghost use Rattle.lab_num.specs.Key.{KeysDiffer};
@@ -15,7 +15,6 @@ ghost use Rattle.lab_state.specs.One.{first_without, HaveAllPlans};
 ghost use Rattle.lab_state.specs.Pending.{ArePending};
 ghost use Rattle.lab_state.specs.Round as round_spec;
 ghost use Rattle.lab_state.specs.Round.{stepped, posts_made, entries_made, slot_items};
-ghost use Rattle.lab_state.specs.Workers as workers_spec;
 ghost use Rattle.lab_state.specs.Workers.{is_awake, least_shared};
 
 use crate::boards::devices_laws;
@@ -166,16 +165,21 @@ fn count_awake<D: Device>(boards: &[NamedBoard<D>]) -> usize
     boards.iter().filter(|board| board.is_awake()).count()
 }
 
-/// How many slots the boards that are awake take in so many microseconds, or the greatest number where they are more.
-pub(crate) fn awake_slots<D: Device>(boards: &[NamedBoard<D>], q: u64) -> u64
-    ensures { result ≡ min (workers_spec.awake_slots boards.now q) (2 ^ 64 - 1) }
-{
+/// How many slots the boards that are awake take in so many microseconds.
+pub(crate) fn awake_slots<D: Device>(boards: &[NamedBoard<D>], q: u64) -> u64 {
     boards
         .iter()
         .filter(|board| board.is_awake())
         .fold(0_u64, |slots, board| {
             slots.saturating_add(u64::from(board.speed()).saturating_mul(q))
         })
+}
+
+/// Whether a round of so many slots of boards that are awake is shared. It is where the gate may hold someone.
+fn is_shared<D: Device + Send, G: Gate>(team: &Team<D>, gate: &G, slots: u64) -> bool
+    ensures { least_shared team.now ≤ slots → result ≡ true }
+{
+    !gate.is_open() || slots >= team.least_shared()
 }
 
 /// How many workers share a round: no more than boards are awake, since a board that is asleep passes over
@@ -192,18 +196,13 @@ fn sharers<D: Device + Send, G: Gate>(
     ensures some { 1 ≤ result }
     ensures most { result ≤ workers }
     ensures awake { 1 < result → result ≤ length (filter is_awake boards.now) }
-    ensures all { 2 ≤ length (filter is_awake boards.now) → least_shared team.now ≤ workers_spec.awake_slots boards.now q
-        → result ≡ min workers (length (filter is_awake boards.now)) }
     ensures boards { 1 < result → 1 ≤ length boards.now }
 {
     if workers == 1 {
         return 1;
     }
     let awake = count_awake(boards);
-    if awake <= 1 {
-        return 1;
-    }
-    if gate.is_open() && awake_slots(boards, q) < team.least_shared() {
+    if awake <= 1 || !is_shared(team, gate, awake_slots(boards, q)) {
         return 1;
     }
     workers.min(awake as u8)

@@ -39,7 +39,13 @@ const GENERATED_LOG: &str = "\
 m0 posts 7440 retired 1000000 sum 0x23b09310\nm1 posts 7647 retired 1000000 sum 0x835718a0\ntotal 15087\n";
 
 /// Words, the script that they may name, how many boards it has, how many turns they take, and what is written.
-type Row = (&'static [&'static str], &'static str, u64, u64, &'static str);
+type Row = (
+    &'static [&'static str],
+    &'static str,
+    u64,
+    u64,
+    &'static str,
+);
 
 const EIGHT_WORKERS: &[&str] = &["run", "s.resc", "--workers", "8"];
 
