@@ -245,7 +245,7 @@ impl<D: Device> Board<D> {
             (self.new ≡ record self.old { view = with_bytes self.old.view at bytes.now }) }
         ensures err { OnErr result (WritesPrefix self.old self.new at bytes.now) }
     {
-        self.watch.clear(); // where there are no bytes too
+        self.watch.clear();
         self.bus.space.copy_in(at, bytes)
     }
 

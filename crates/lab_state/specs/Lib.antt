@@ -14,3 +14,4 @@ pub mod Run
 pub mod Turns
 pub mod Undelayed
 pub mod Valid
+pub mod Workers

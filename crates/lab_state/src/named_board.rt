@@ -13,12 +13,13 @@ ghost use Rattle.time_handle.specs.Grant.{fresh};
 ghost use Rattle.lab_state.specs.Boundary as boundary_spec;
 ghost use Rattle.lab_state.specs.Boundary.{note_by};
 ghost use Rattle.lab_state.specs.Inner.BoardChange.{changed_by, MayChange};
-ghost use Rattle.lab_state.specs.Inner.Lending.{is_awake, lent, away, put_back};
+ghost use Rattle.lab_state.specs.Inner.Lending.{lent, away, put_back};
 ghost use Rattle.lab_state.specs.Inner.Standing.{HasDevices};
 ghost use Rattle.lab_state.specs.Inner.Time.{number_of, part_of, speed_of};
 ghost use Rattle.lab_state.specs.One.{with_view};
 ghost use Rattle.lab_state.specs.Resumed.{resumed_board};
 ghost use Rattle.lab_state.specs.Round.{granted, stepped, posts_made, entries_made};
+ghost use Rattle.lab_state.specs.Workers.{is_awake};
 
 use crate::board_change::BoardChange;
 use board::{Board, BoardState, SlotAt, Turn};

@@ -9,13 +9,13 @@ ghost use Rattle.lab_num.specs.Listing.{listing};
 ghost use Rattle.dev_core.specs.Post.{entry_key, post_key};
 ghost use Rattle.log_merge.specs.Merge.{all_entries};
 ghost use Rattle.lab_state.specs.Inner.End.{Played, in_round, played};
-ghost use Rattle.lab_state.specs.Inner.Lending.{is_awake};
 ghost use Rattle.lab_state.specs.Inner.Standing.{outlines, AreDevices, IsFromBoard};
 ghost use Rattle.lab_state.specs.Inner.Time.{numbers_of, AreStanding, IsTimed, part_of, used_up};
 ghost use Rattle.lab_state.specs.One.{first_without, HaveAllPlans};
 ghost use Rattle.lab_state.specs.Pending.{ArePending};
 ghost use Rattle.lab_state.specs.Round as round_spec;
 ghost use Rattle.lab_state.specs.Round.{stepped, posts_made, entries_made, slot_items};
+ghost use Rattle.lab_state.specs.Workers.{is_awake, least_shared};
 
 use crate::boards::devices_laws;
 use crate::boundary::{hand_over_due, pause_of, push_pause};
@@ -175,6 +175,13 @@ pub(crate) fn awake_slots<D: Device>(boards: &[NamedBoard<D>], q: u64) -> u64 {
         })
 }
 
+/// Whether a round of so many slots of boards that are awake is shared. It is where the gate may hold someone.
+fn is_shared<D: Device + Send, G: Gate>(team: &Team<D>, gate: &G, slots: u64) -> bool
+    ensures { least_shared team.now ≤ slots → result ≡ true }
+{
+    !gate.is_open() || slots >= team.least_shared()
+}
+
 /// How many workers share a round: no more than boards are awake, since a board that is asleep passes over
 /// its slots in one step, and one alone where the boards have too few slots for it and the gate holds nobody.
 fn sharers<D: Device + Send, G: Gate>(
@@ -188,16 +195,14 @@ fn sharers<D: Device + Send, G: Gate>(
     requires few { length boards.now ≤ 16 }
     ensures some { 1 ≤ result }
     ensures most { result ≤ workers }
+    ensures awake { 1 < result → result ≤ length (filter is_awake boards.now) }
     ensures boards { 1 < result → 1 ≤ length boards.now }
 {
     if workers == 1 {
         return 1;
     }
     let awake = count_awake(boards);
-    if awake <= 1 {
-        return 1;
-    }
-    if gate.is_open() && awake_slots(boards, q) < team.least_shared() {
+    if awake <= 1 || !is_shared(team, gate, awake_slots(boards, q)) {
         return 1;
     }
     workers.min(awake as u8)

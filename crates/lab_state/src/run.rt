@@ -5,6 +5,7 @@ ghost use Rattle.lab_state.specs.One.{first_without, HaveAllPlans};
 ghost use Rattle.lab_state.specs.Round.{round};
 ghost use Rattle.lab_state.specs.Run as run_spec;
 ghost use Rattle.lab_state.specs.Run.{go_on, lengths, still};
+ghost use Rattle.lab_state.specs.Workers.{AreHandsFor};
 
 use crate::faults::{LabFault, RunCause, RunFault};
 use crate::lab::Lab;
@@ -126,7 +127,9 @@ impl<D: Device + Send> Lab<D> {
     /// The helpers of a run of `d` microseconds by so many workers, where it is worth them: its boards have slots
     /// enough, or it has so many rounds that boards which are asleep may wake up meanwhile, or the gate may hold
     /// someone. Who leads the run has them `help` beside it, and dismisses them.
-    pub fn team_for<G: Gate>(&self, d: u64, workers: u8, gate: &G) -> Team<D> {
+    pub fn team_for<G: Gate>(&self, d: u64, workers: u8, gate: &G) -> Team<D>
+        ensures { AreHandsFor self.now.lab d workers result.hands }
+    {
         if workers == 1 || self.boards.len() <= 1 {
             return Team::none();
         }
@@ -164,7 +167,7 @@ impl<D: Device + Send> Lab<D> {
         self.rounds_beside(rt, &team, d, workers, gate)
     }
 
-    /// The rounds of a run beside the helpers of a team, who are let go at its end.
+    /// The rounds of a run beside the helpers of a team with hands for it, who are let go at its end.
     fn rounds_beside<R: Threads + Wait + Copy + Send + Sync, G: Gate>(
         &mut self,
         rt: &R,
@@ -174,6 +177,7 @@ impl<D: Device + Send> Lab<D> {
         gate: &G,
     ) -> Result<RoundLog, LabFault>
         requires unspent { self.old.spent ≡ false }
+        requires hands { AreHandsFor self.old.lab d workers team.now.hands }
         requires workers { (1 ≤ workers) × (workers ≤ 8) }
         requires plans { HaveAllPlans self.old.lab }
         requires within { self.old.lab.now + d ≤ 10000000000 }

@@ -1,13 +1,15 @@
 //! The helpers of a run.
-ghost use Rattle.std.specs.Prelude.{◌≡◌, ◌≤◌, ◌+◌, ◌<◌, ◌^◌, [], length, map, All, IfOk};
+ghost use Rattle.std.specs.Prelude.{◌≡◌, ◌≤◌, ◌+◌, ◌<◌, ◌^◌, [], length, map, All, IfOk, false};
 ghost use Rattle.time_handle.specs.Grant.{left};
 ghost use Rattle.board_job.specs.Ran.{ran};
+ghost use Rattle.lab_state.specs.Workers as workers_spec;
 
 use board_job::{BoxedBoardJob, run_board_jobs, run_board_jobs_with};
 use dev_core::Device;
 use floor_run::{Gate, Helpers};
 use lab_num::NoMemory;
 use std::alloc::Global;
+use std::marker::Model;
 use std::sync::Wait;
 use std::thread::Threads;
 
@@ -25,9 +27,21 @@ pub struct Team<D: Device + Send> {
     workers: u8,
 }
 
+impl<D: Device + Send> Model for Team<D> {
+    ghost use Rattle.std.specs.Prelude.{is_some};
+    ghost use Rattle.lab_state.specs.Workers.{Team};
+
+    ghost Value = { Team };
+
+    ghost view = { λ t. record { has_helpers = is_some t.helpers; hands = t.workers } };
+}
+
 impl<D: Device + Send> Team<D> {
     /// No helpers.
-    pub(crate) fn none() -> Team<D> {
+    pub(crate) fn none() -> Team<D>
+        ensures helpers { result.has_helpers ≡ false }
+        ensures hands { result.hands ≡ 1 }
+    {
         Team {
             helpers: None,
             workers: 1,
@@ -35,7 +49,9 @@ impl<D: Device + Send> Team<D> {
     }
 
     /// Helpers that make so many workers with their leader, or none where no memory is found for them.
-    pub(crate) fn new(alloc: Global, workers: u8) -> Team<D> {
+    pub(crate) fn new(alloc: Global, workers: u8) -> Team<D>
+        ensures { result.hands ≡ workers }
+    {
         Team {
             helpers: Helpers::new(alloc).ok(),
             workers,
@@ -43,7 +59,9 @@ impl<D: Device + Send> Team<D> {
     }
 
     /// Whether anyone is to `help`.
-    pub fn has_helpers(&self) -> bool {
+    pub fn has_helpers(&self) -> bool
+        ensures { result ≡ self.now.has_helpers }
+    {
         self.helpers.is_some()
     }
 
@@ -68,7 +86,9 @@ impl<D: Device + Send> Team<D> {
     }
 
     /// The fewest slots of a round that is worth more than one worker.
-    pub(crate) fn least_shared(&self) -> u64 {
+    pub(crate) fn least_shared(&self) -> u64
+        ensures { result ≡ workers_spec.least_shared self.now }
+    {
         match self.helpers {
             Some(_) => WORTH_HELPERS,
             None => WORTH_THREADS,

@@ -17,7 +17,7 @@ use log_merge::{LogItem, Member0, Names};
 use sample_boards::small_board;
 use std::alloc::Global;
 use std::sync::Wait;
-use std::sync::atomic::{AtomicU32, Ordering};
+use std::sync::atomic::Ordering;
 use std::test::Fail;
 use std::thread::Threads;
 
@@ -239,10 +239,10 @@ fn succeeds_counted<R: Threads + Wait + Copy + Send + Sync>(
 /// once.
 #[test]
 fn a_laboratory_calls_the_devices_of_its_stock_in_order(rt: HostRuntime) -> Result<(), Fail> {
-    let counts = [AtomicU32::new(0), AtomicU32::new(0), AtomicU32::new(0)];
+    let counts = Counts::awaiting(0);
     let has_succeeded = succeeds_counted(&rt, rt.alloc(), &counts)?;
     assert!(rt; has_succeeded);
-    for (count, calls) in counts.iter().zip([1, 2, 1]) {
+    for (count, calls) in counts.calls.iter().zip([1, 2, 1]) {
         assert_eq!(rt; count.load(Ordering::SeqCst), calls);
     }
     Ok(())

@@ -199,7 +199,8 @@ impl Lines {
         requires place { place ≡ place_spec.place_of member self.old }
         requires unended { IsTrue (line_spec.are_unended self.old) }
         requires goes_on { place_spec.goes_on member self.old place byte ≡ true }
-        ensures { OnOk result (self.new ≡ line_spec.with_byte self.old member at byte) }
+        ensures ok { OnOk result (self.new ≡ line_spec.with_byte self.old member at byte) }
+        ensures err { OnErr result (self.new ≡ self.old) }
     {
         gather(self.alloc, &mut self.lines[place], at, byte)?;
         Ok(())

@@ -9,10 +9,8 @@ use Rattle.sys_bus.specs.declared.near.MemoryPlace.{MemoryPlace}
 use Rattle.sys_bus.specs.declared.region.Target.{Target}
 use Rattle.sys_bus.specs.declared.region.Target.TheVariants.{Ram, Clint, Plic, Dev, Nothing}
 use Rattle.sys_bus.specs.Plan.{IsValid}
-use Rattle.board.specs.BoardState.{controller_to}
 use Rattle.board.specs.New.{size_of}
 use Rattle.board.specs.Space.{Space, memory_at, target_at}
-use Rattle.board.specs.View.{View}
 
 -- memories, timer, interrupt controller and devices are those of the plan
 pub record IsFit (s : Space) : Type 0 where
@@ -54,7 +52,3 @@ abbrev pub IsStateOf : Option Controller → Option PlicState → Type 0
 IsStateOf (Some c) (Some state) = IsPlicState c.sources c.contexts state
 IsStateOf (Some c) None = Unit {0}
 IsStateOf None state = Unit {0}
-
-abbrev pub with_controller : View → Option PlicState → View
-with_controller v state =
-    record v { space = record v.space { controller = controller_to v.space.controller state } }

@@ -1,17 +1,11 @@
 -- Boards that are lent to the workers of a round, each with its grant and its pass.
-use Rattle.std.specs.Prelude.{ℕ, Bool, false, not, ◌||◌, List, [], ◌∷◌, None, Some}
-use Rattle.std.specs.List.{list_all}
+use Rattle.std.specs.Prelude.{ℕ, List, [], ◌∷◌, Some, None}
 use Rattle.std.specs.Option.{option_map_or}
 use Rattle.board.specs.View.{View, quiet}
 use Rattle.hub_mail.specs.Pass.{MailId, fresh as new_pass}
 use Rattle.time_handle.specs.Grant.{Grant, fresh}
 use Rattle.board_job.specs.BoardJob.{BoardJob}
 use Rattle.lab_state.specs.Board.{Board}
-
--- whether a board has a processor that neither waits nor is halted
-abbrev pub is_awake : Board → Bool
-is_awake board =
-    option_map_or (λ v. not (list_all (λ core. core.halted || core.waiting) v.cores)) board.view false
 
 -- a board that has a plan, with its part of a grant of the time from one microsecond to another, and with its pass of a
 -- mail

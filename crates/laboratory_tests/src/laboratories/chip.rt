@@ -1,22 +1,25 @@
-//! Devices that count how often they are called.
+//! Devices that count how often they are called, and may wait for each other then.
 use can_sja1000::Can;
 use dev_core::{DevState, Device, Effect, Kind, Payload, Stock, Taken};
 use lab_num::NoMemory;
+use sample_boards::Meeting;
 use std::alloc::Global;
 use std::sync::atomic::{AtomicU32, Ordering};
 use test_finisher::Finisher;
 use uart_16550::Uart;
 
-/// A device that counts its loads and stores.
+/// A device that counts its loads and stores, and comes to a meeting with each.
 #[derive(Drop)]
 pub struct Counted<'a, D> {
     device: D,
     calls: &'a AtomicU32,
+    meeting: &'a Meeting,
 }
 
 impl<'a, D> Counted<'a, D> {
     fn count(&self) {
         self.calls.fetch_add(1, Ordering::SeqCst);
+        self.meeting.come();
     }
 }
 
@@ -61,8 +64,25 @@ impl<'a, D: Device> Device for Counted<'a, D> {
 /// A device of a stock.
 pub type Chip<'a> = Counted<'a, Box<dyn Device + Send>>;
 
-/// The calls of the first UART of a stock, of the second, and of all other devices.
-pub type Counts = [AtomicU32; 3];
+/// The calls of the devices of a stock.
+#[derive(Drop)]
+pub struct Counts {
+    /// Those of the first UART, of the second, and of all other devices.
+    pub calls: [AtomicU32; 3],
+
+    /// Where all of them meet.
+    pub meeting: Meeting,
+}
+
+impl Counts {
+    /// No calls. The first ones wait until so many are made, each by a thread of its own.
+    pub fn awaiting(calls: u64) -> Counts {
+        Counts {
+            calls: [AtomicU32::new(0), AtomicU32::new(0), AtomicU32::new(0)],
+            meeting: Meeting::of(calls),
+        }
+    }
+}
 
 fn device(alloc: Global, kind: Kind) -> Result<Box<dyn Device + Send>, NoMemory> {
     match kind {
@@ -82,12 +102,16 @@ fn add<'a>(
 ) -> Result<(), NoMemory> {
     for n in 0..number {
         let calls = match (kind, n) {
-            (Kind::Uart, 0) => &counts[0],
-            (Kind::Uart, 1) => &counts[1],
-            _ => &counts[2],
+            (Kind::Uart, 0) => &counts.calls[0],
+            (Kind::Uart, 1) => &counts.calls[1],
+            _ => &counts.calls[2],
         };
         let device = device(alloc, kind)?;
-        chips.push(Counted { device, calls })?;
+        chips.push(Counted {
+            device,
+            calls,
+            meeting: &counts.meeting,
+        })?;
     }
     Ok(())
 }

@@ -9,7 +9,6 @@ use lab_state::Lab;
 use log_merge::{LogItem, Note};
 use std::alloc::Global;
 use std::sync::Wait;
-use std::sync::atomic::AtomicU32;
 use std::test::Fail;
 use std::thread::Threads;
 
@@ -304,7 +303,7 @@ fn holds<R: Threads + Wait + Copy + Send + Sync>(
     alloc: Global,
     case: &Case,
 ) -> Result<bool, NoMemory> {
-    let counts: Counts = [AtomicU32::new(0), AtomicU32::new(0), AtomicU32::new(0)];
+    let counts = Counts::awaiting(0);
     let stock = stock(alloc, &counts)?;
     holds_on(rt, alloc, stock, case)
 }

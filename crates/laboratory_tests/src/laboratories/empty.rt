@@ -7,7 +7,6 @@ use lab_num::{Micros, NoMemory};
 use lab_state::Lab;
 use std::alloc::Global;
 use std::sync::Wait;
-use std::sync::atomic::AtomicU32;
 use std::test::Fail;
 use std::thread::Threads;
 
@@ -54,7 +53,7 @@ fn passes_counted<R: Threads + Wait + Copy + Send + Sync>(
     alloc: Global,
     has_hubs: bool,
 ) -> Result<bool, NoMemory> {
-    let counts: Counts = [AtomicU32::new(0), AtomicU32::new(0), AtomicU32::new(0)];
+    let counts = Counts::awaiting(0);
     let stock = stock(alloc, &counts)?;
     passes_on(rt, alloc, stock, has_hubs)
 }

@@ -10,7 +10,6 @@ use std::alloc::Global;
 use std::fs;
 use std::rt::Files;
 use std::sync::Wait;
-use std::sync::atomic::AtomicU32;
 use std::test::Fail;
 use std::thread::Threads;
 
@@ -123,22 +122,37 @@ fn runs_on<R: Threads + Wait + Copy + Send + Sync, D: Device + Send>(
     Ok((0..4).all(|n| has_run(&lab, BoardNo(n))))
 }
 
+/// Whether a round, or a run, of four boards by so many workers does what it is to, and so many boards call their
+/// UART at once.
 fn runs<R: Threads + Wait + Copy + Send + Sync>(
     rt: &R,
     alloc: Global,
     workers: u8,
     as_run: bool,
+    at_once: u64,
 ) -> Result<bool, NoMemory> {
-    let counts: Counts = [AtomicU32::new(0), AtomicU32::new(0), AtomicU32::new(0)];
+    let counts = Counts::awaiting(at_once);
     let stock = stock(alloc, &counts)?;
-    runs_on(rt, alloc, stock, workers, as_run)
+    Ok(runs_on(rt, alloc, stock, workers, as_run)? && counts.meeting.have_met())
 }
 
 #[test]
 fn a_round_logs_the_same_whatever_the_number_of_workers(rt: HostRuntime) -> Result<(), Fail> {
     for workers in [1, 2, 8] {
-        let same = runs(&rt, rt.alloc(), workers, false)?;
+        let same = runs(&rt, rt.alloc(), workers, false, 0)?;
         assert!(rt; same);
+    }
+    Ok(())
+}
+
+/// A UART waits for as many calls as there are workers, and each board makes one call. No gate holds anyone.
+#[test]
+fn as_many_workers_are_at_work_at_once(rt: HostRuntime) -> Result<(), Fail> {
+    for as_run in [false, true] {
+        for workers in [2_u8, 3, 4] {
+            let have_met = runs(&rt, rt.alloc(), workers, as_run, u64::from(workers))?;
+            assert!(rt; have_met, "{workers} workers, as a run: {as_run}");
+        }
     }
     Ok(())
 }
@@ -158,7 +172,7 @@ fn no_thread_outlives_a_run(rt: HostRuntime) -> Result<(), Fail> {
     let before = threads(&rt);
     assert!(rt; before.is_some());
     for workers in [1, 2, 8] {
-        let same = runs(&rt, rt.alloc(), workers, true)?;
+        let same = runs(&rt, rt.alloc(), workers, true, 0)?;
         assert!(rt; same);
         // the system may count a thread for a moment more
         assert!(rt; (0..10_000).any(|_| threads(&rt) == before));
