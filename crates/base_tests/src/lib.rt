@@ -1,5 +1,5 @@
-//! Tests of what all crates stand on, where no script reaches it: numbers, files, outputs, stores, and states of devices;
-//! lines that a script keeps, and words of the command line.
+//! Tests of what all crates stand on, where no script reaches it: numbers, files, outputs, stores, and states of
+//! devices; lines that a script keeps, and words of the command line.
 #![tactic(auto)]
 
 #[cfg(test)]

@@ -2,8 +2,8 @@
 use lab_num::{Rows, Text, TimeFault, is_name, number_of, read_time};
 use std::test::Fail;
 
-/// Texts that no script hands on as a numeral or as a name: empty, with a blank or an end of a line behind them, or with
-/// quotes.
+/// Texts that no script hands on as a numeral or as a name: empty, with a blank or an end of a line behind them, or
+/// with quotes.
 static OTHERS: [&str; 4] = ["", "1 ", "\"a\"", "a\n"];
 
 fn is_neither(text: &str) -> bool {

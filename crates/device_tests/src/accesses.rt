@@ -18,7 +18,9 @@ fn is_no_register_of_a_timer(at: u32) -> bool {
     let now = Micros(0x5_0000_0009);
     let mut timer = Clint::new(1_000_000);
     timer.store(at, 4, 0xF234_5679, now);
-    timer.state() == ClintState::reset() && timer.mtime(now) == 0x5_0000_0009 && timer.load(at, 4, now) == 0
+    timer.state() == ClintState::reset()
+        && timer.mtime(now) == 0x5_0000_0009
+        && timer.load(at, 4, now) == 0
 }
 
 /// Whether an interrupt controller reads 0 here after a store of a word of ones, and where source 1 has its priority.
@@ -48,7 +50,13 @@ static ENDS: [(u32, u64, u64, u64, bool); 4] = [
     (32_768, 7, u64::MAX, 327_680_007, false),
     (1_000_000, 0, u64::MAX, 10_000_000_000, false),
     (1_000_000, 7, 10_000_000_000, 10_000_000_007, true),
-    (1_000_000_000, 0, 10_000_000_000_000, 10_000_000_000_000, true),
+    (
+        1_000_000_000,
+        0,
+        10_000_000_000_000,
+        10_000_000_000_000,
+        true,
+    ),
 ];
 
 fn ends((frequency, offset, mtimecmp, mtime, up): (u32, u64, u64, u64, bool)) -> bool {

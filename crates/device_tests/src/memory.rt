@@ -62,7 +62,9 @@ fn holds(pages: &TwoPages, value: u32) -> bool {
 
 /// Where the allocator refuses the page (docs/TESTING.md), nothing has changed.
 #[test]
-fn a_refused_page_changes_nothing_and_a_dropped_one_leaves_nothing(rt: HostRuntime) -> Result<(), Fail> {
+fn a_refused_page_changes_nothing_and_a_dropped_one_leaves_nothing(
+    rt: HostRuntime,
+) -> Result<(), Fail> {
     let mut pages = two_pages(rt.alloc())?;
     let refused = store(&mut pages, 4100, 2, 0xBEEF).is_err();
     let loaded = if refused { 0 } else { 0xBEEF };
