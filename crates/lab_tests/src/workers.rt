@@ -1,10 +1,12 @@
 //! Workers that run beside each other.
 use crate::bench::{files, run};
+use floor_run::Gate;
 use lab_io::{MemSink, MemStore};
-use lab_num::NoMemory;
-use sample_boards::Meeting;
+use lab_num::{BoardNo, NoMemory};
 use std::alloc::Global;
+use std::hint::spin_loop;
 use std::sync::Wait;
+use std::sync::atomic::{AtomicBool, AtomicU64, Ordering};
 use std::test::Fail;
 use std::thread::Threads;
 
@@ -33,33 +35,39 @@ const TAKEN_BACK: &str = "Load @x\nemulation RunFor \"0.0001\"\n";
 
 const TAKEN_BACK_LOG: &str = "[0.000002] machine-0/uart: A\n[0.000002] machine-1/uart: A\n";
 
-/// Two boards of the generated laboratory, as the case of that laboratory has them. In each of a thousand rounds each
-/// takes one turn, of a thousand slots.
-const GENERATED_LOG: &str = "\
-m0 posts 7440 retired 1000000 sum 0x23b09310\nm1 posts 7647 retired 1000000 sum 0x835718a0\ntotal 15087\n";
+/// The number of workers, a script, how many boards it has, how many turns they take, and what it writes.
+type Row = (&'static str, &'static str, u64, u64, &'static str);
 
-/// Words, the script that they may name, how many boards it has, how many turns they take, and what is written.
-type Row = (
-    &'static [&'static str],
-    &'static str,
-    u64,
-    u64,
-    &'static str,
-);
-
-const EIGHT_WORKERS: &[&str] = &["run", "s.resc", "--workers", "8"];
-
-const TWO_WORKERS: &[&str] = &["run", "s.resc", "--workers", "2"];
-
-const GENERATED: &[&str] = &["gen", "7", "2", "--workers", "2"];
-
-/// The third row takes back what the one before it has saved.
-static ROWS: [Row; 4] = [
-    (EIGHT_WORKERS, EIGHT, 8, 16, EIGHT_LOG),
-    (TWO_WORKERS, TWO, 2, 2, TWO_LOG),
-    (TWO_WORKERS, TAKEN_BACK, 2, 2, TAKEN_BACK_LOG),
-    (GENERATED, "", 2, 2000, GENERATED_LOG),
+/// The last script takes back what the one before it has saved.
+static ROWS: [Row; 3] = [
+    ("8", EIGHT, 8, 16, EIGHT_LOG),
+    ("2", TWO, 2, 2, TWO_LOG),
+    ("2", TAKEN_BACK, 2, 2, TAKEN_BACK_LOG),
 ];
+
+/// A gate that holds each of so many boards until all have entered. An `enter` that has looked
+/// 100,000,000 times in vain gives up, and no further one is held.
+#[derive(Drop)]
+struct Meeting {
+    boards: u64,
+    entered: AtomicU64,
+    gave_up: AtomicBool,
+}
+
+impl Gate for Meeting {
+    fn enter(&self, _board: BoardNo) {
+        self.entered.fetch_add(1, Ordering::SeqCst);
+        for _ in 0..100_000_000_u64 {
+            if self.entered.load(Ordering::SeqCst) >= self.boards
+                || self.gave_up.load(Ordering::SeqCst)
+            {
+                return;
+            }
+            spin_loop();
+        }
+        self.gave_up.store(true, Ordering::SeqCst);
+    }
+}
 
 /// Whether each board of a run has a worker of its own in the first round, and the run ends as the
 /// row says.
@@ -69,12 +77,18 @@ fn is_row<R: Threads + Wait + Copy + Send + Sync>(
     store: &mut MemStore,
     row: &Row,
 ) -> Result<bool, NoMemory> {
-    let (words, script, boards, turns, log) = *row;
-    let gate = Meeting::of(boards);
+    let (workers, script, boards, turns, log) = *row;
+    let gate = Meeting {
+        boards,
+        entered: AtomicU64::new(0),
+        gave_up: AtomicBool::new(false),
+    };
+    let words = ["run", "s.resc", "--workers", workers];
     let mut files = files(alloc, script)?;
     let mut out = MemSink::new(alloc, 4096);
-    let status = run(rt, alloc, words, &mut files, &mut out, store, &gate)?;
-    let have_met = gate.have_met() && gate.count() == turns;
+    let status = run(rt, alloc, &words, &mut files, &mut out, store, &gate)?;
+    let have_met = gate.entered.load(Ordering::SeqCst) == turns
+        && !gate.gave_up.load(Ordering::SeqCst);
     Ok(status.number() == 0 && out.bytes() == log.as_bytes() && have_met)
 }
 

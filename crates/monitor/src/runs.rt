@@ -5,7 +5,6 @@ ghost use Rattle.lab_state.specs.Names.{names as names_of};
 ghost use Rattle.lab_state.specs.One.{HaveAllPlans};
 ghost use Rattle.lab_state.specs.Round.{round};
 ghost use Rattle.lab_state.specs.Run.{run};
-ghost use Rattle.lab_state.specs.Workers.{AreHandsFor};
 ghost use Rattle.log_text.specs.Log.{open_lines, text};
 ghost use Rattle.monitor.specs.Runs as runs;
 ghost use Rattle.monitor.specs.Inner.Ruling.{IsOnward};
@@ -176,7 +175,6 @@ impl<D: Device + Send> Monitor<D> {
         gate: &G,
     ) -> Result<(), WriteFault>
         requires unspent { self.old.spent ≡ false }
-        requires hands { AreHandsFor self.old.state.lab d self.old.workers team.now.hands }
         requires waits { self.old.ended ≡ true }
         requires plans { HaveAllPlans self.old.state.lab }
         requires within { self.old.state.lab.now + d ≤ 10000000000 }
