@@ -1,4 +1,4 @@
-//! Tests of what all crates stand on, where no script reaches it: numbers, files, outputs, stores, and states of devices;
+//! Tests of what all crates stand on, where no script reaches it: numbers, files, outputs, stores, states of devices,
 //! lines that a script keeps, and words of the command line.
 #![tactic(auto)]
 
