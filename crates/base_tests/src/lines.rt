@@ -1,4 +1,4 @@
-//! Lines that no script hands on: blank ones, notes, variables and assignments. Read all the same, they are no commands.
+//! Lines that no script hands on: blank ones, notes, variables and assignments. As commands they have a fault.
 use resc_read::{LineFault, read_line};
 
 /// Each row: a line, and its fault.
