@@ -2,7 +2,7 @@
 use lab_num::{Rows, Text, TimeFault, is_name, number_of, read_time};
 use std::test::Fail;
 
-/// Texts that no script hands on as a numeral or as a name: empty, with a blank or an end of a line behind them, or with
+/// Texts that no script hands on as a numeral or as a name: empty, with a blank or the end of a line behind it, or in
 /// quotes.
 static OTHERS: [&str; 4] = ["", "1 ", "\"a\"", "a\n"];
 
