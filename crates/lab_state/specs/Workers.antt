@@ -1,5 +1,5 @@
 -- How many workers run the boards. No result of a round or a run depends on it.
-use Rattle.std.specs.Prelude.{ℕ, ◌≡◌, ◌≤◌, ◌*◌, Bool, false, not, ◌||◌, if◌then◌else◌, List, length, min, max}
+use Rattle.std.specs.Prelude.{ℕ, ◌≡◌, ◌≤◌, ◌*◌, Bool, false, not, ◌||◌, if◌then◌else◌, length, min, max}
 use Rattle.std.specs.List.{list_all}
 use Rattle.std.specs.Option.{option_map_or}
 use Rattle.lab_state.specs.Board.{Board}
