@@ -41,7 +41,7 @@ class Room:
         return subprocess.Popen(words, preexec_fn=lambda: os.setpgid(0, group), **how)
 
     def close(self) -> None:
-        """Removes the folder, and ends what was started beside it. The handler of a signal may call it while it runs."""
+        """Removes the folder, and ends what was started beside it. A signal's handler may call it while it runs."""
         end, self.end = self.end, -1
         if end >= 0:
             os.close(end)
