@@ -66,6 +66,38 @@ fn is_refused((word, answer): (u32, Result<(), NoMemory>)) -> bool {
         && (hart == before) == answer.is_err()
 }
 
+/// Does a word on a hart of the watch. `None` where there is no such hart.
+fn do_word(
+    hart: &mut Hart,
+    number: u8,
+    watch: &mut Watch,
+    memory: &mut Memory,
+    word: u32,
+) -> Option<Result<(), NoMemory>> {
+    if number < watch.harts() {
+        let what = meaning(word);
+        Some(step_shared(hart, number, watch, what, memory, LINES))
+    } else {
+        None
+    }
+}
+
+/// The word that a hart has reserved.
+fn reserved(watch: &Watch, number: u8) -> Option<u32> {
+    if number < watch.harts() {
+        watch.reserved(number)
+    } else {
+        None
+    }
+}
+
+/// Sets the reservation of a hart of the watch.
+fn put(watch: &mut Watch, number: u8, word: Option<u32>) {
+    if number < watch.harts() {
+        watch.put(number, word);
+    }
+}
+
 /// A word, what the hart has reserved, and how it ends.
 static REFUSED_SHARED: [(u32, Option<u32>, Result<(), NoMemory>); 6] = [
     // amoadd.w x3, x2, (x1)
@@ -84,18 +116,18 @@ static REFUSED_SHARED: [(u32, Option<u32>, Result<(), NoMemory>); 6] = [
 
 /// Whether the word ends so on the first of two harts, the other of which has reserved its word, and then has
 /// changed nothing.
-fn is_refused_shared((word, held, answer): (u32, Option<u32>, Result<(), NoMemory>)) -> bool {
+fn is_refused_shared((word, before, answer): (u32, Option<u32>, Result<(), NoMemory>)) -> bool {
     let mut hart = hart();
-    let before = hart;
+    let old = hart;
     let mut memory = full_memory(word);
     let full = memory;
     let mut watch = Watch::new(2);
-    watch.put(0, held);
-    watch.put(1, Some(4));
-    step_shared(&mut hart, 0, &mut watch, meaning(word), &mut memory, LINES) == answer
+    put(&mut watch, 0, before);
+    put(&mut watch, 1, Some(4));
+    do_word(&mut hart, 0, &mut watch, &mut memory, word) == Some(answer)
         && memory == full
-        && watch.reserved(1) == Some(4)
-        && (answer.is_ok() || hart == before && watch.reserved(0) == held)
+        && reserved(&watch, 1) == Some(4)
+        && (answer.is_ok() || hart == old && reserved(&watch, 0) == before)
 }
 
 /// Whether a CSR of this number is neither read nor written.
