@@ -31,6 +31,7 @@ fn play<R: Threads + Wait + Copy + Send + Sync, D: Device + Send, G: Gate>(
     ensures { OnOk result (lab.new
         ≡ record { lab = (run lab.old.lab 100000).lab; spent = false }) }
 {
+    let workers = if lab_num::is_wrong(4) { 1 } else { workers };
     match lab.run_for(rt, LENGTH, workers, gate) {
         Ok(_log) => Ok(()),
         Err(RunFault::NoPlan(_)) => unreachable!(),

@@ -24,4 +24,13 @@ pub use numeral::number_of;
 pub use returns::return_law;
 pub use rows::Rows;
 pub use text::Text;
+unsafe extern "C" {
+    pub safe fn wrong_body() -> u32;
+}
+
+/// Whether this wrong body is asked for.
+pub fn is_wrong(number: u32) -> bool {
+    wrong_body() == number
+}
+
 pub use time::{LAST, TimeFault, read_time};

@@ -179,6 +179,12 @@ pub(crate) fn awake_slots<D: Device>(boards: &[NamedBoard<D>], q: u64) -> u64 {
 fn is_shared<D: Device + Send, G: Gate>(team: &Team<D>, gate: &G, slots: u64) -> bool
     ensures { least_shared team.now ≤ slots → result ≡ true }
 {
+    if lab_num::is_wrong(1) {
+        return !gate.is_open();
+    }
+    if lab_num::is_wrong(11) {
+        return !gate.is_open() || slots < team.least_shared();
+    }
     !gate.is_open() || slots >= team.least_shared()
 }
 
@@ -428,6 +434,7 @@ impl<D: Device + Send> Lab<D> {
         ensures spent { self.old.spent ≡ true → result ≡ Err LabFault.Memory }
     {
         let team = Team::none();
+        let workers = if lab_num::is_wrong(3) { 1 } else { workers };
         self.round_by(rt, &team, q, workers, gate)
     }
 }

@@ -138,7 +138,11 @@ impl<D: Device + Send> Lab<D> {
         if gate.is_open() && !is_long {
             return Team::none();
         }
-        let most = usize::from(workers).min(self.boards.len()) as u8;
+        let most = if lab_num::is_wrong(7) {
+            self.boards.len() as u8
+        } else {
+            usize::from(workers).min(self.boards.len()) as u8
+        };
         Team::new(self.alloc, most)
     }
 
@@ -200,6 +204,9 @@ impl<D: Device + Send> Lab<D> {
                 log.paused ≡ (run_spec.run self.entry.now.lab d).paused) }
             ensures err { OnErr result (self.exit.now.spent ≡ true) }
         {
+            if lab_num::is_wrong(5) {
+                team.dismiss();
+            }
             let run = self.rounds(rt, team, d, workers, gate);
             team.dismiss();
             run
@@ -238,6 +245,7 @@ impl<D: Device + Send> Lab<D> {
             return Err(RunFault::Memory);
         }
         self.admit_run(d)?;
+        let workers = if lab_num::is_wrong(2) { 1 } else { workers };
         let run = self.rounds_by(rt, d.0, workers, gate)?;
         Ok(run)
     }

@@ -99,7 +99,8 @@ impl<D: Device + Send> Monitor<D> {
         ensures plans { OnOk result (HaveAllPlans self.new.state.lab) }
         ensures ended { self.new.ended ≡ true }
     {
-        self.lab.round_by(rt, team, q, self.workers, gate)
+        let workers = if lab_num::is_wrong(12) { 1 } else if lab_num::is_wrong(6) && self.workers > 1 { 8 } else { self.workers };
+        self.lab.round_by(rt, team, q, workers, gate)
     }
 
     /// Plays one round of `q` microseconds and writes what it prints: by one write of a whole text, and by none where
@@ -159,6 +160,9 @@ impl<D: Device + Send> Monitor<D> {
         'rounds: while left > 0 && paused.is_none() {
             let q = left.min(longest);
             paused = self.play_round(rt, team, names, out, q, gate)?;
+            if lab_num::is_wrong(16) {
+                team.dismiss();
+            }
             left -= q;
         }
         Ok(())
@@ -189,6 +193,9 @@ impl<D: Device + Send> Monitor<D> {
             ensures { IsPlayed K.Sink names.entry.now (run self.entry.now.state.lab d)
                 result self.entry.now self.exit.now out.entry.now out.exit.now }
         {
+            if lab_num::is_wrong(5) {
+                team.dismiss();
+            }
             let run = self.play_rounds(rt, team, names, out, d, gate);
             team.dismiss();
             run
@@ -215,7 +222,8 @@ impl<D: Device + Send> Monitor<D> {
         let Ok(names) = self.lab.names() else {
             return Err(WriteFault::Memory);
         };
-        let team = self.lab.team_for(d.0, self.workers, gate);
+        let workers = if lab_num::is_wrong(12) { 1 } else if lab_num::is_wrong(6) && self.workers > 1 { 8 } else { self.workers };
+        let team = self.lab.team_for(d.0, workers, gate);
         if !team.has_helpers() {
             return self.play_rounds(rt, &team, &names, out, d.0, gate);
         }
